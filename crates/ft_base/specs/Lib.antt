@@ -1,0 +1,4 @@
+pub mod Name
+pub mod Same
+pub mod Job
+pub mod Desk
