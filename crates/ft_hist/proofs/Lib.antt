@@ -1,0 +1,4 @@
+pub mod Laws
+pub mod StackLaws
+pub mod WindowLaws
+pub mod DispatchLaws
