@@ -1,19 +1,13 @@
 -- A call in its dispatch, on desks that may change under it: who is still to be called.
-use Rattle.std.proofs.Common.{◌≡◌, ℕ, ◌⊎◌, Bool, true, false, not, ◌&&◌, ◌||◌, ◌==◌, List, ◌∷◌, refl, sym, ◌∙◌, subst, inl, inr, ne_eqb}
+use Rattle.std.proofs.Common.{◌≡◌, ℕ, ◌⊎◌, Bool, true, false, not, ◌&&◌, ◌==◌, List, ◌∷◌, sym, ◌∙◌, subst, inl, inr, ne_eqb}
 use Rattle.std.proofs.lemmas.Bool.{cases_eq}
 use Rattle.ft_base.specs.declared.number.CallNo.{CallNo}
 use Rattle.ft_base.specs.declared.item.Item.{Item}
 use Rattle.ft_base.specs.Job.{Job}
 use Rattle.ft_base.specs.Desk.{desk, is_on}
+use Rattle.ft_base.proofs.Small.{false_true}
 use Rattle.ft_hist.specs.Rules.{InWindow, IsUnmet}
 use Rattle.ft_hist.proofs.WindowLaws.{InWindow-more, met-more, is_enter, is_meeting}
-
-false_true : {A : Type 0} → false ≡ true → A
-false_true e = absurd cc
-
-or-false_both : (a b : Bool) → (a || b) ≡ false → (a ≡ false) × (b ≡ false)
-or-false_both true b e = false_true (sym e)
-or-false_both false b e = (refl, e)
 
 -- a user was off at some command of the window so far
 abbrev pub WasOff : Job → CallNo → ℕ → ℕ → List Item → Type 0

@@ -10,6 +10,7 @@ use Rattle.ft_base.specs.Same.{same_call}
 use Rattle.ft_base.specs.Job.{Job}
 use Rattle.ft_base.specs.declared.plan.TaskAct.{TaskAct}
 use Rattle.ft_base.specs.declared.plan.TaskAct.TheVariants.{Call, Ret as RetAct, Raise, Lower, After}
+use Rattle.ft_base.proofs.Small.{==-refl}
 use Rattle.ft_hist.specs.Plain.{plain, reads, PlainTask, same_top, ahead, Ahead, below_top}
 use Rattle.ft_hist.specs.Past.{is_of, done, entry_of}
 use Rattle.ft_hist.specs.Rules.{IsLegal, IsLegalPast, MayFollow}
@@ -27,10 +28,6 @@ IsLegal-push job items item legal may = rw (reverse-append items (item ∷ [])) 
 pub entry_of-enter : (c : CallNo) (ctx : Ctx) (f : FuncNo) (caller : Option CallNo) (past : List Item)
     → entry_of c (Enter c ctx f caller ∷ past) ≡ record { ctx = ctx; func = f.0; caller = caller; from = done past }
 entry_of-enter c ctx f caller past = rw (same_call-refl c) refl
-
--- on a number itself
-pub ==-refl : (n : ℕ) → (n == n) ≡ true
-==-refl n = search rules
 
 -- the plain run after one more item of the task
 pub plain-own : (job : Job) (past : List Item) (item : Item) (t : ℕ) (s : PlainTask)

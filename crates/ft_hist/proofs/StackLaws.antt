@@ -10,9 +10,6 @@ use Rattle.ft_base.specs.Desk.{spec_at}
 use Rattle.ft_hist.specs.Past.{is_open}
 use Rattle.ft_hist.specs.Plain.{PlainTask, Frame, Phase, Dispatch, InBack, Running, Leaving, InExit, on_call, on_top, in_phase, begins_back, owed_by}
 
-false_true : {A : Type 0} → false ≡ true → A
-false_true e = absurd cc
-
 -- a frame of the task whose call has been numbered, and is open
 pub record IsSound (t next : ℕ) (past : List Item) (f : Frame) : Type 0 where
   pub task : f.call.task.0 ≡ t

@@ -1,6 +1,7 @@
 -- How many items a scripted call can make, with all its callbacks and their acts, and with its return.
-use Rattle.std.proofs.Common.{cond, ◌≡◌, ℕ, zero, suc, ◌+◌, ◌*◌, ◌≤◌, Bool, true, false, not, ◌&&◌, ◌||◌, List, [], ◌∷◌, ◌++◌, length, Option, Some, None, is_some, refl, sym, ap, ◌∙◌, subst, arith, inl, inr}
-use Rattle.std.specs.List.{filter}
+use Rattle.std.proofs.Common.{cond, ◌≡◌, ℕ, zero, suc, ◌+◌, ◌*◌, ◌≤◌, Bool, true, false, not, ◌&&◌, ◌||◌, List, [], ◌∷◌, ◌++◌, length, Option, Some, None, is_some, refl, sym, ap, ◌∙◌, subst, arith, inl, inr, ◌≢◌, ◌==◌, ◌<◌, nat_lt, get_or, ltb-true, ltb-false}
+use Rattle.std.specs.List.{filter, AllByRecursion as Each}
+use Rattle.std.proofs.lemmas.Bool.Decides.{eqb_tells}
 use Rattle.ft_base.specs.declared.number.CallNo.{CallNo}
 use Rattle.ft_base.specs.declared.context.Ctx.{Ctx}
 use Rattle.ft_base.specs.declared.item.Reason.{Reason}
@@ -8,21 +9,14 @@ use Rattle.ft_base.specs.declared.item.Item.{Item}
 use Rattle.ft_base.specs.declared.item.Item.TheVariants.{Enter, Back, Miss, Leave, Exit, ExitEnd}
 use Rattle.ft_base.specs.declared.plan.Act.{Act}
 use Rattle.ft_base.specs.Job.{Job}
-use Rattle.ft_base.specs.Desk.{Desk, is_live, spec_at, user_at, is_on, is_allowed}
+use Rattle.ft_base.specs.Desk.{Desk, is_live, spec_at, user_at, is_on, is_allowed, UserState, unseen}
+use Rattle.ft_base.proofs.Small.{false_true, or-false_both, or-true, ==-refl}
+use Rattle.ft_base.specs.Order.{has, IsFalling, IsBelow, IsOrder}
 use Rattle.ft_hist.specs.Past.{cancels, has_depth}
 use Rattle.ft_hist.specs.Plain.{Owed, owed_by}
-use Rattle.plain_machine.specs.State.{Nested, Around, Walk, FrameUser, whole, walked, tried, refusal, refusal_by, is_held, is_deep, by_act, inside, backed, misses_frame, takes_frame, joined, exited, refused, dispatched, on_users, call_of}
+use Rattle.ft_hist.specs.Frames.{FrameUser}
+use Rattle.plain_machine.specs.State.{Nested, Around, Walk, whole, walked, tried, refusal, refusal_by, is_held, is_deep, by_act, inside, backed, misses_frame, takes_frame, joined, exited, refused, dispatched, on_users, call_of}
 use Rattle.plain_machine.proofs.Calls.{Suffices, suffices}
-use Rattle.plain_machine.proofs.RunLaws.{false_true}
-use Rattle.std.proofs.Common.{◌≢◌, ◌==◌, ◌<◌, nat_lt, get_or, ltb-true, ltb-false, rules}
-use Rattle.std.proofs.lemmas.Bool.Decides.{eqb_tells}
-use Rattle.std.specs.List.{AllByRecursion as Each}
-use Rattle.ft_base.specs.Desk.{UserState, unseen}
-use Rattle.plain_machine.specs.Rule.{has, IsFalling, IsBelow, IsOrder}
-use Rattle.plain_machine.proofs.Meet.{or-false_both, or-true}
-
-==-refl : (n : ℕ) → (n == n) ≡ true
-==-refl n = search rules
 
 module _ (job : Job) where
   abbrev pub has_act : ℕ → Bool

@@ -7,14 +7,16 @@ use Rattle.ft_base.specs.declared.item.Item.{Item}
 use Rattle.ft_base.specs.declared.item.Item.TheVariants.{Back, Refuse}
 use Rattle.ft_base.specs.Job.{Job}
 use Rattle.ft_base.specs.Desk.{desk, is_on, user_at, spec_at}
+use Rattle.ft_base.specs.Order.{IsFalling}
+use Rattle.ft_base.proofs.Small.{Each-weaker, Each-snoc, or-false_both}
 use Rattle.ft_hist.specs.Past.{Entered, done, begun, entered, entry_of, is_open, is_dispatched, exits, meetings, meeting, Meeting, met, held, cancels}
 use Rattle.ft_hist.specs.Rules.{replacement, backs_with_replacement, MayMeet}
 use Rattle.ft_hist.proofs.Laws.{same_call-refl}
 use Rattle.ft_hist.proofs.DispatchLaws.{Watches}
-use Rattle.plain_machine.specs.State.{FrameUser, Walk, Around, takes_frame, joined, or_runs, refused}
-use Rattle.plain_machine.specs.Rule.{IsFalling, keeps_frame, FrameOf}
-use Rattle.plain_machine.proofs.Since.{Untouched, watches-untouched}
-use Rattle.plain_machine.proofs.Meet.{MetOf, Sinks, Each-weaker, Each-snoc, or-false_both, read_at-same, unmet, runs-back, runs-refuse, frame-none, frame-joined}
+use Rattle.ft_hist.specs.Frames.{FrameUser, or_runs, keeps_frame, FrameOf}
+use Rattle.ft_hist.proofs.Since.{Untouched, watches-untouched}
+use Rattle.ft_hist.proofs.Meet.{MetOf, Sinks, read_at-same, unmet, runs-back, runs-refuse, frame-none, frame-joined}
+use Rattle.plain_machine.specs.State.{Walk, Around, takes_frame, joined, refused}
 
 -- who is still to come for a walker, at any command of the window: nothing here speaks of one desk
 module _ (job : Job) (a : Around) (call : CallNo) (e : Entered) where

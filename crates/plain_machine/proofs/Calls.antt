@@ -1,5 +1,5 @@
 -- A call's dispatch on the plain machine, item by item, and a call that an act makes, whole.
-use Rattle.std.proofs.Common.{cond, ◌≡◌, ℕ, zero, suc, ◌<◌, ◌≤◌, ◌⊎◌, Bool, true, false, not, ◌&&◌, ◌||◌, ◌==◌, nat_lt, nat_le, List, [], ◌∷◌, length, get_or, Option, Some, None, IsSome, refl, sym, ap, ◌∙◌, subst, arith, rules, inl, inr, ltb-true, ltb-false, leb-false, leb-true}
+use Rattle.std.proofs.Common.{cond, ◌≡◌, ℕ, zero, suc, ◌<◌, ◌≤◌, ◌⊎◌, Bool, true, false, not, ◌&&◌, ◌||◌, ◌==◌, nat_lt, nat_le, List, [], ◌∷◌, length, get_or, Option, Some, None, IsSome, refl, sym, ap, ◌∙◌, subst, arith, inl, inr, ltb-true, ltb-false, leb-false, leb-true}
 use Rattle.std.proofs.lemmas.Bool.Decides.{eqb_tells}
 use Rattle.std.specs.List.{filter, list_any, AllByRecursion as Each}
 use Rattle.ft_base.specs.declared.number.CallNo.{CallNo}
@@ -15,26 +15,25 @@ use Rattle.ft_base.specs.declared.plan.Act.{Act}
 use Rattle.ft_base.specs.declared.plan.Act.TheVariants.{CallIn, IrqIn}
 use Rattle.ft_base.specs.Same.{same_call, rank}
 use Rattle.ft_base.specs.Job.{Job, funcs}
-use Rattle.ft_base.specs.Desk.{desk, is_on, is_allowed, user_at, spec_at, plain_spec}
+use Rattle.ft_base.specs.Desk.{desk, is_on, is_allowed, user_at, spec_at, plain_spec, sited, is_sited, target}
+use Rattle.ft_base.proofs.DeskLaws.{has_sited}
+use Rattle.ft_base.specs.Order.{IsFalling, OneModifies, has, IsOrder}
+use Rattle.ft_base.specs.WellFormed.{IsJob, IsActNamed}
+use Rattle.ft_base.proofs.Small.{false_true, or-false_both, ==-refl, and_both}
 use Rattle.ft_hist.specs.Past.{Entered, Callback, is_of, done, begun, entered, entry_of, callbacks, is_in, is_guarded, is_open, is_dispatched, exits, meetings, met, held, has_depth, has_exit, miss_due}
 use Rattle.ft_hist.specs.Plain.{plain, reads, PlainTask, Frame, Phase, Owed, Dispatch, InBack, Running, in_phase, owed_by}
 use Rattle.ft_hist.specs.Rules.{IsLegalPast, MayStand, MayBack, MayMeet, MayRefuse, PassesPid, MayBody, InWindow}
-use Rattle.ft_base.proofs.DeskLaws.{has_sited}
-use Rattle.ft_base.specs.Desk.{sited, is_sited, target}
 use Rattle.ft_hist.proofs.DispatchLaws.{WasOff, watches-at_end}
 use Rattle.ft_hist.proofs.WindowLaws.{met-more}
 use Rattle.ft_hist.proofs.Laws.{same_call-refl, run_more}
+use Rattle.ft_hist.specs.Frames.{FrameOf}
+use Rattle.ft_hist.proofs.RunLaws.{calls_on, Sound}
+use Rattle.ft_hist.proofs.Since.{Since, since-trans, since-item, since-later, touches, untouched-item, IsOlder, holding, holding-since, holds, holds-by}
+use Rattle.ft_hist.proofs.HeldLaws.{held-is, opens as opens-law}
+use Rattle.ft_hist.proofs.Meet.{only_those, at_most_one}
+use Rattle.ft_hist.proofs.Lists.{Each-passes, has-passes, falling-filter, none_met}
 use Rattle.plain_machine.specs.State.{Walk, Around, Nested, Made, takes_frame, misses_frame, is_deep, refusal, refusal_by, is_held, called, refused, tried, walked, backed, by_act, inside, call_of, on_users}
-use Rattle.plain_machine.specs.Rule.{IsFalling, IsJob, IsActNamed, OneModifies, has, FrameOf, IsOrder}
-use Rattle.plain_machine.proofs.RunLaws.{false_true, calls_on, Sound}
-use Rattle.plain_machine.proofs.Since.{Since, since-trans, since-item, since-later, touches, untouched-item, IsOlder, holding, holding-since, holds, holds-by}
-use Rattle.plain_machine.proofs.HeldLaws.{held-is, opens as opens-law}
-use Rattle.plain_machine.proofs.Meet.{or-false_both, only_those, at_most_one}
-use Rattle.plain_machine.proofs.Lists.{Each-passes, has-passes, falling-filter, none_met}
 use Rattle.plain_machine.proofs.CallSo.{CallSo, MetSo, so-untouched, so-refused, so-called, may_meet, entry-is, order-now, met-more', reg-now, met-back, met-refuse}
-
-==-refl : (n : ℕ) → (n == n) ≡ true
-==-refl n = search rules
 
 each-get : {A : Type 0} (P : A → Type 0) (xs : List A) (i : ℕ) (d : A) → P d → Each P xs → P (get_or xs i d)
 each-get P [] i d h e = h
@@ -108,7 +107,7 @@ pub record Ready (job : Job) (k : ℕ) (a : Around) (o : Owed) (p : PlainTask) (
   pub guards : (y : Ctx) → guarded_by a.task.0 opens y ≡ is_held a.guards y
   pub level : holding job past (f.call ∷ calls_on below) ≡ a.level
   pub few : a.level ≤ job.frames
-  pub within : o.func < (funcs job)
+  pub within : o.func < funcs job
 
 -- and has been made
 pub record Whole (job : Job) (k : ℕ) (a : Around) (p : PlainTask) (f : Frame) (below : List Frame) (u : ℕ) (past : List Item) (opens : List Callback) (made : Made) : Type 0 where
@@ -136,10 +135,6 @@ verdict false true deep = (refl, refl)
 verdict false false true = (refl, refl, refl)
 verdict false false false = (refl, refl, refl)
 
-and_both : (x y : Bool) → (x && y) ≡ true → (x ≡ true) × (y ≡ true)
-and_both true y e = (refl, e)
-and_both false y e = false_true e
-
 not_true : (b : Bool) → not b ≡ true → b ≡ false
 not_true true x = false_true x
 not_true false x = refl
@@ -165,7 +160,7 @@ pub record Ground (job : Job) (k : ℕ) (n : ℕ) (a : Around) (n0 : ℕ) (e : E
   pub few : a.level ≤ job.frames
   pub elders : Each (IsOlder a.task.0 n0) (calls_on below)
   pub from : e.from ≡ k
-  pub within : e.func < (funcs job)
+  pub within : e.func < funcs job
   pub enough : Suffices n e.ctx a.guards
 
 module _ (job : Job) (k : ℕ) (is : IsJob job) (one : OneModifies job (desk job k)) (nested : Nested) (n : ℕ) (makes : Makes job k n nested)
@@ -406,16 +401,16 @@ module _ (job : Job) (k : ℕ) (is : IsJob job) (one : OneModifies job (desk job
     abbrev within_act : Around
     within_act = inside a e.ctx after.framed
 
-    named : (x : Ctx) (act : Option Act) (o : Owed) → owed_by x act ≡ Some o → IsActNamed job act → o.func < (funcs job)
+    named : (x : Ctx) (act : Option Act) (o : Owed) → owed_by x act ≡ Some o → IsActNamed job act → o.func < funcs job
     named x None o y i = absurd cc
-    named x (Some (CallIn f)) o y i = subst (λ z. z < (funcs job)) (ap func_or y) i
+    named x (Some (CallIn f)) o y i = subst (λ z. z < funcs job) (ap func_or y) i
       where
         func_or : Option Owed → ℕ
         func_or None = f.0
         func_or (Some z) = z.func
     named x (Some (IrqIn f)) o y i =
-        elim (nat_lt (rank x) 2) as (λ b. cond b (Some (record { ctx = Irq; func = f.0 })) None ≡ Some o → o.func < (funcs job)) [
-          | true ↦ λ z. subst (λ q. q < (funcs job)) (ap func_or z) i
+        elim (nat_lt (rank x) 2) as (λ b. cond b (Some (record { ctx = Irq; func = f.0 })) None ≡ Some o → o.func < funcs job) [
+          | true ↦ λ z. subst (λ q. q < funcs job) (ap func_or z) i
           | false ↦ λ z. absurd cc
         ] y
       where

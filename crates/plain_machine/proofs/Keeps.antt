@@ -1,5 +1,5 @@
 -- The other rows, the steps, and the law: every history is legal, and whole where all are at their ends.
-use Rattle.std.proofs.Common.{cond, ◌≡◌, ℕ, zero, suc, ◌+◌, ◌<◌, ◌≤◌, Bool, true, false, not, ◌||◌, ◌&&◌, ◌==◌, nat_le, List, [], ◌∷◌, ◌++◌, length, get_or, set, map, reverse, Option, Some, None, IsSome, IfSome, refl, sym, ap, ◌∙◌, subst, arith, leb-true, rules}
+use Rattle.std.proofs.Common.{cond, ◌≡◌, ℕ, zero, suc, ◌+◌, ◌<◌, ◌≤◌, Bool, true, false, not, ◌||◌, nat_le, List, [], ◌∷◌, ◌++◌, length, get_or, set, map, reverse, Option, Some, None, IsSome, IfSome, refl, sym, ap, ◌∙◌, subst, arith, leb-true}
 use Rattle.std.specs.Prelude.{slice_get}
 use Rattle.std.proofs.lemmas.Option.{slice_get_within}
 use Rattle.std.proofs.lemmas.List.{reverse-reverse}
@@ -14,27 +14,26 @@ use Rattle.ft_base.specs.declared.plan.TaskAct.TheVariants.{Call, Ret as RetAct,
 use Rattle.ft_base.specs.Job.{Job, Task, Spec, Command, Unregister, Disable, commands, commands_in, Ctl, Run, Until, funcs}
 use Rattle.ft_base.specs.Desk.{desk, answer_on, unseen}
 use Rattle.ft_base.proofs.DeskLaws.{length-desk, desk-suc}
+use Rattle.ft_base.specs.declared.turn.Actor.{Actor}
+use Rattle.ft_base.specs.declared.turn.Actor.TheVariants.{Control, Cpu}
+use Rattle.ft_base.specs.WellFormed.{IsJob, IsNamed, IsScript}
+use Rattle.ft_base.proofs.Small.{false_true, Each-weaker, Each-snoc, or-false_both, and_both}
+use Rattle.ft_base.proofs.Order.{after_command}
+use Rattle.ft_base.proofs.Modifiers.{named-at}
 use Rattle.ft_hist.specs.Past.{done, begun, met}
 use Rattle.ft_hist.specs.Plain.{plain, reads, PlainTask, Frame, Running, Leaving, ahead, Ahead, top_call, below_top, in_phase, no_task, at_start}
 use Rattle.ft_hist.specs.Rules.{IsLegal, IsWhole, HasEnded, IsLegalPast, MayFollow, IsStill, passed, waits_before, HasWaited}
 use Rattle.ft_hist.proofs.Laws.{same_call-refl, run_still, ahead-more}
-use Rattle.ft_base.specs.declared.turn.Actor.{Actor}
-use Rattle.ft_base.specs.declared.turn.Actor.TheVariants.{Control, Cpu}
-use Rattle.plain_machine.specs.State.{State, TaskState, CpuState, FrameUser, task_at, with_task, idle, frames_of, passed_act, returned_by, exited, left, is_nil, acted, act_of, switched, cpu_step, cpu_at, with_cpu, is_waiting, is_left, next_task, control_step, step, start, run, tasks_at_start, is_over, has_acts, played}
-use Rattle.plain_machine.specs.Rule.{IsJob, IsNamed, IsScript, Stacked, TaskOk, Rule}
-use Rattle.plain_machine.proofs.RunLaws.{false_true, calls_on}
-use Rattle.plain_machine.proofs.HeldLaws.{opens as opens-law}
-use Rattle.plain_machine.proofs.Since.{since-refl, Untouched, untouched-item, untouched-trans}
-use Rattle.plain_machine.proofs.Meet.{Each-weaker, Each-snoc, or-false_both}
+use Rattle.ft_hist.specs.Frames.{FrameUser, is_nil}
+use Rattle.ft_hist.proofs.RunLaws.{calls_on}
+use Rattle.ft_hist.proofs.HeldLaws.{opens as opens-law}
+use Rattle.ft_hist.proofs.Since.{since-refl, Untouched, untouched-item, untouched-trans}
+use Rattle.plain_machine.specs.State.{State, TaskState, CpuState, task_at, with_task, idle, frames_of, passed_act, returned_by, exited, left, acted, act_of, switched, cpu_step, cpu_at, with_cpu, is_waiting, is_left, next_task, control_step, step, start, run, tasks_at_start, is_over, has_acts, played}
+use Rattle.plain_machine.specs.Rule.{Stacked, TaskOk, Rule}
 use Rattle.plain_machine.proofs.Calls.{push}
 use Rattle.plain_machine.proofs.Returns.{all_exited, returns}
 use Rattle.plain_machine.proofs.WholeCall.{leaves_of}
-use Rattle.plain_machine.proofs.Order.{after_command}
-use Rattle.plain_machine.proofs.Modifiers.{named-at}
 use Rattle.plain_machine.proofs.Rows.{row_call, rule-after, now-of, within-tasks, stacked-untouched}
-
-==-refl : (n : ℕ) → (n == n) ≡ true
-==-refl n = search rules
 
 -- ## a return
 
@@ -390,10 +389,6 @@ module _ (job : Job) (is : IsJob job) where
   always_legal actors = rw reverse-reverse (run_keeps actors (start job) start_keeps).legal
 
   -- ## where all are at their ends
-
-  and_both : (x y : Bool) → (x && y) ≡ true → (x ≡ true) × (y ≡ true)
-  and_both true y e = (refl, e)
-  and_both false y e = false_true e
 
   nil-is : {A : Type 0} (xs : List A) → is_nil xs ≡ true → xs ≡ []
   nil-is [] e = refl

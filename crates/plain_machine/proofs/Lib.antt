@@ -1,17 +1,8 @@
-pub mod RunLaws
-pub mod Since
-pub mod HeldLaws
-pub mod Meet
-pub mod Lists
 pub mod CallSo
 pub mod Calls
-pub mod Exits
 pub mod Returns
 pub mod WholeCall
-pub mod Order
-pub mod Modifiers
 pub mod Rows
 pub mod Keeps
-pub mod WordLaws
 pub mod Bounds
 pub mod PlainUsers

@@ -1,28 +1,18 @@
 -- A call's return: the exits of its frame's users in order, as far as their registrations are live, and the Ret.
-use Rattle.std.proofs.Common.{cond, ◌≡◌, ℕ, Bool, true, false, ◌&&◌, ◌||◌, ◌==◌, List, [], ◌∷◌, Some, None, refl, arith, rules, inl}
+use Rattle.std.proofs.Common.{cond, ◌≡◌, ℕ, true, false, ◌==◌, List, [], ◌∷◌, Some, None, refl, arith, inl}
 use Rattle.ft_base.specs.declared.item.Item.{Item}
 use Rattle.ft_base.specs.declared.item.Item.TheVariants.{Exit, ExitEnd, Ret}
 use Rattle.ft_base.specs.Job.{Job}
 use Rattle.ft_base.specs.Desk.{desk, is_live}
+use Rattle.ft_base.proofs.Small.{==-refl}
 use Rattle.ft_hist.specs.Past.{Callback, done, callbacks, left_at, meetings, Meeting, miss_due}
 use Rattle.ft_hist.specs.Plain.{plain, reads, PlainTask, Frame, Phase, Leaving, InExit, in_phase, top_call}
 use Rattle.ft_hist.proofs.Laws.{same_call-refl, same_top-refl}
-use Rattle.plain_machine.specs.State.{FrameUser, exited}
-use Rattle.plain_machine.proofs.RunLaws.{false_true}
-use Rattle.plain_machine.proofs.Since.{Since, since-trans, since-item, untouched-item}
-use Rattle.plain_machine.proofs.Exits.{ExitsSo, exits-may, exits-after, exits-dead, exits-untouched, exits-lacks}
+use Rattle.ft_hist.specs.Frames.{FrameUser}
+use Rattle.ft_hist.proofs.Since.{Since, since-trans, since-item, untouched-item}
+use Rattle.ft_hist.proofs.Exits.{ExitsSo, exits-may, exits-after, exits-dead, exits-untouched, exits-lacks}
+use Rattle.plain_machine.specs.State.{exited}
 use Rattle.plain_machine.proofs.Calls.{Now, push}
-
-==-refl : (n : ℕ) → (n == n) ≡ true
-==-refl n = search rules
-
-and_both : (x y : Bool) → (x && y) ≡ true → (x ≡ true) × (y ≡ true)
-and_both true y e = (refl, e)
-and_both false y e = false_true e
-
-or-true : (b : Bool) → (b || true) ≡ true
-or-true true = refl
-or-true false = refl
 
 module _ (job : Job) (k : ℕ) (f : Frame) (p : PlainTask) (below : List Frame) (opens : List Callback) (past0 : List Item) (ms : List Meeting) where
   abbrev t : ℕ

@@ -1,5 +1,5 @@
 -- Each row of the step table keeps the rule.
-use Rattle.std.proofs.Common.{◌≡◌, ℕ, zero, suc, ◌<◌, ◌≤◌, Bool, true, false, not, ◌||◌, ◌&&◌, ◌==◌, List, [], ◌∷◌, length, get_or, set, Some, None, refl, sym, ap, ◌∙◌, subst, arith, inl, inr, rules}
+use Rattle.std.proofs.Common.{◌≡◌, ℕ, zero, suc, ◌<◌, ◌≤◌, Bool, true, false, not, ◌||◌, ◌&&◌, ◌==◌, List, [], ◌∷◌, length, get_or, set, Some, None, refl, sym, ap, ◌∙◌, subst, arith, inl, inr}
 use Rattle.std.proofs.lemmas.Bool.Decides.{eqb_tells}
 use Rattle.std.proofs.lemmas.List.{get_or-set_same, get_or-set_other}
 use Rattle.std.specs.List.{list_any, AllByRecursion as Each}
@@ -13,20 +13,19 @@ use Rattle.ft_base.specs.declared.plan.TaskAct.TheVariants.{Call}
 use Rattle.ft_base.specs.Same.{rank}
 use Rattle.ft_base.specs.Job.{Job}
 use Rattle.ft_base.specs.Desk.{desk, target, spec_at}
+use Rattle.ft_base.specs.WellFormed.{IsJob}
+use Rattle.ft_base.proofs.Small.{false_true, Each-weaker, ==-refl}
+use Rattle.ft_base.proofs.Modifiers.{one_modifies}
 use Rattle.ft_hist.specs.Past.{cancels, entered, done, Entered, met, Meeting, miss_due}
 use Rattle.ft_hist.specs.Plain.{reads, PlainTask, Frame, Dispatch, Running, ahead, context, top_call, enters_over}
 use Rattle.ft_hist.proofs.Laws.{same_call-refl, same_top-refl}
-use Rattle.plain_machine.specs.State.{State, TaskState, FrameUser, Walk, Nested, task_at, idle, frames_of, passed_act, called_by, around, call_of, whole, fuel, walked, on_users, left}
-use Rattle.plain_machine.specs.Rule.{IsJob, FrameOf, RunningCall, Stacked, TaskOk, CtlAt, Rule}
-use Rattle.plain_machine.proofs.RunLaws.{false_true, calls_on, sound}
-use Rattle.plain_machine.proofs.Since.{Since, Untouched, since-item, IsOlder, holding, holds-by}
-use Rattle.plain_machine.proofs.Meet.{Each-weaker}
+use Rattle.ft_hist.specs.Frames.{FrameUser, FrameOf}
+use Rattle.ft_hist.proofs.RunLaws.{calls_on, sound}
+use Rattle.ft_hist.proofs.Since.{Since, Untouched, since-item, IsOlder, holding, holds-by}
+use Rattle.plain_machine.specs.State.{State, TaskState, Walk, Nested, task_at, idle, frames_of, passed_act, called_by, around, call_of, whole, fuel, walked, on_users, left}
+use Rattle.plain_machine.specs.Rule.{RunningCall, Stacked, TaskOk, CtlAt, Rule}
 use Rattle.plain_machine.proofs.Calls.{Now, push, Ground, Busy, in_body, all_walked, entering, at_enter, in_call}
 use Rattle.plain_machine.proofs.WholeCall.{makes}
-use Rattle.plain_machine.proofs.Modifiers.{one_modifies}
-
-==-refl : (n : ℕ) → (n == n) ≡ true
-==-refl n = search rules
 
 -- ## tasks
 

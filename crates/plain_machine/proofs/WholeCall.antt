@@ -1,25 +1,24 @@
 -- A call from its Enter to its Body, and a call that an act makes, whole.
-use Rattle.std.proofs.Common.{◌≡◌, ℕ, zero, suc, ◌<◌, Bool, true, false, ◌==◌, List, [], ◌∷◌, Some, None, refl, subst, arith, rules}
+use Rattle.std.proofs.Common.{◌≡◌, ℕ, zero, suc, ◌<◌, Bool, false, List, [], ◌∷◌, Some, None, refl, subst, arith}
 use Rattle.ft_base.specs.declared.number.CallNo.{CallNo}
 use Rattle.ft_base.specs.declared.item.Item.{Item}
 use Rattle.ft_base.specs.declared.item.Item.TheVariants.{Enter, Body, Leave}
 use Rattle.ft_base.specs.Same.{rank}
 use Rattle.ft_base.specs.Job.{Job}
 use Rattle.ft_base.specs.Desk.{desk, target}
+use Rattle.ft_base.specs.WellFormed.{IsJob}
+use Rattle.ft_base.specs.Order.{IsOrder, OneModifies}
+use Rattle.ft_base.proofs.Small.{Each-weaker, ==-refl}
 use Rattle.ft_hist.specs.Past.{Entered, Callback, done, entered, met, exits}
 use Rattle.ft_hist.specs.Plain.{plain, reads, PlainTask, Frame, Owed, Dispatch, InBack, Running, Leaving, in_phase}
 use Rattle.ft_hist.proofs.Laws.{same_call-refl}
-use Rattle.plain_machine.specs.State.{Walk, Around, Nested, FrameUser, whole, walked, exited, on_users, call_of}
-use Rattle.plain_machine.specs.Rule.{IsJob, IsOrder, OneModifies, FrameOf}
-use Rattle.plain_machine.proofs.RunLaws.{calls_on, sound}
-use Rattle.plain_machine.proofs.Since.{Since, since-trans, since-item, IsOlder}
-use Rattle.plain_machine.proofs.Meet.{Each-weaker}
+use Rattle.ft_hist.specs.Frames.{FrameUser, FrameOf}
+use Rattle.ft_hist.proofs.RunLaws.{calls_on, sound}
+use Rattle.ft_hist.proofs.Since.{Since, since-trans, since-item, IsOlder}
+use Rattle.ft_hist.proofs.Exits.{exits-start}
+use Rattle.plain_machine.specs.State.{Walk, Around, Nested, whole, walked, exited, on_users, call_of}
 use Rattle.plain_machine.proofs.Calls.{Now, push, Ground, Suffices, Makes, Busy, in_body, all_walked, entering, at_enter, in_call}
-use Rattle.plain_machine.proofs.Exits.{exits-start}
 use Rattle.plain_machine.proofs.Returns.{Leaves, all_exited, returns}
-
-==-refl : (n : ℕ) → (n == n) ≡ true
-==-refl n = search rules
 
 -- a call leaves its body: what it owes then
 pub leaves_of : (job : Job) (k : ℕ) (f : Frame) (p : PlainTask) (below : List Frame) (opens : List Callback) (past0 past : List Item) (users : List FrameUser)

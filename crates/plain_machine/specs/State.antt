@@ -14,16 +14,12 @@ use Rattle.ft_base.specs.declared.plan.TaskAct.TheVariants.{Call, Ret as RetAct,
 use Rattle.ft_base.specs.declared.turn.Actor.{Actor}
 use Rattle.ft_base.specs.declared.turn.Actor.TheVariants.{Control, Cpu}
 use Rattle.ft_base.specs.Same.{same_ctx}
-use Rattle.ft_base.specs.Job.{Job, Task, Command, Register, Unregister, Ctl, Run, Until}
+use Rattle.ft_base.specs.Job.{Job, Task, Ctl, Run, Until}
 use Rattle.ft_base.specs.Desk.{Desk, desk, is_on, is_live, is_allowed, target, answer_on, is_accepted, spec_at, user_at}
 use Rattle.ft_hist.specs.Past.{has_depth, has_exit, cancels}
 use Rattle.ft_hist.specs.Plain.{PlainTask, Frame, Running, Owed, owed_by, context, below_top, top_call, at_start}
-
--- a user whose exit a call's frame owes: its registration, and the place of its Back
-pub record FrameUser : Type 0 where
-  pub user : ℕ
-  pub reg : ℕ
-  pub entry : ℕ
+use Rattle.ft_hist.specs.Frames.{FrameUser, is_nil, or_runs}
+use Rattle.ft_base.specs.Order.{order_after}
 
 -- where a task stands: its plain run, and beside each call of the stack the users of its frame, in the order of their Backs
 pub record TaskState : Type 0 where
@@ -109,10 +105,6 @@ inside a x framed = record { task = a.task; guards = x ∷ a.guards; level = if 
 abbrev pub by_act : Nested → Around → Option Owed → CallNo → List Item → ℕ → Made
 by_act nested a None call past next = record { past = past; next = next }
 by_act nested a (Some o) call past next = nested a o call past next
-
-abbrev pub or_runs : FuncNo → Option FuncNo → FuncNo
-or_runs g None = g
-or_runs g (Some f) = f
 
 -- the users of a call's frame after one more Back
 abbrev pub joined : Job → Around → ℕ → ℕ → ℕ → List FrameUser → List FrameUser
@@ -304,11 +296,6 @@ cpu_step job c x s =
 
 -- ## control
 
-abbrev pub order_after : List ℕ → Command → List ℕ
-order_after order (Register u) = u ∷ order
-order_after order (Unregister u) = filter (λ v. not (v == u)) order
-order_after order _ = order
-
 -- a command whole, or a wait
 abbrev pub control_step : Job → State → List Ctl → State
 control_step job s [] = s
@@ -346,10 +333,6 @@ run job [] s = s
 run job (a ∷ rest) s = run job rest (step job a s)
 
 -- ## where all are at their ends
-
-abbrev pub is_nil : {A : Type 0} → List A → Bool
-is_nil [] = true
-is_nil (x ∷ xs) = false
 
 unfoldable pub is_over : State → Bool
 is_over s = is_nil s.left && not (list_any (λ x. has_acts x.run.acts) s.tasks)

@@ -4,7 +4,7 @@
 ghost use Rattle.std.specs.Prelude.{◌≡◌, true, List, reverse};
 ghost use Rattle.ft_base.specs.Job.{Job as PlainJob};
 ghost use Rattle.ft_hist.specs.Rules.{IsLegal, IsWhole};
-ghost use Rattle.plain_machine.specs.Rule.{IsJob};
+ghost use Rattle.ft_base.specs.WellFormed.{IsJob};
 ghost use Rattle.ft_base.specs.declared.turn.Actor.{Actor};
 ghost use Rattle.plain_machine.specs.State.{start, run, is_over};
 

@@ -1,7 +1,6 @@
 -- What items leave alone: the words on a call over items that don't touch it, and all that is older than a call.
-use Rattle.std.proofs.Common.{cond, ◌≡◌, ℕ, suc, ◌<◌, ◌≤◌, Bool, true, false, not, ◌&&◌, ◌||◌, ◌==◌, List, [], ◌∷◌, length, refl, sym, ap, ◌∙◌, arith}
+use Rattle.std.proofs.Common.{cond, ◌≡◌, ℕ, suc, ◌<◌, ◌≤◌, Bool, true, false, not, ◌&&◌, ◌||◌, ◌==◌, List, [], ◌∷◌, length, refl, sym, ap, ◌∙◌, arith, inl, inr}
 use Rattle.std.proofs.lemmas.Bool.Decides.{eqb_tells}
-use Rattle.std.proofs.Common.{inl, inr}
 use Rattle.std.specs.List.{filter, list_any, AllByRecursion as Each}
 use Rattle.ft_base.specs.declared.number.CallNo.{CallNo}
 use Rattle.ft_base.specs.declared.item.Item.{Item}
@@ -103,10 +102,6 @@ apart t n call c own le old =
           rw (e.0, ne) refl
       | inr e ↦ rw e.0 refl
     ]
-
-and-false : (b : Bool) → (b && false) ≡ false
-and-false true = refl
-and-false false = refl
 
 misses-other : (job : Job) (v : ℕ) (item : Item) (past : List Item) → is_of v item ≡ false → miss_due job v (item ∷ past) ≡ miss_due job v past
 misses-other job v (Back c u) past e = rw e refl

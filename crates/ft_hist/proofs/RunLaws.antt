@@ -1,5 +1,5 @@
 -- What a plain run says of its past: how an item moves it, and that its calls are numbered.
-use Rattle.std.proofs.Common.{cond, ◌≡◌, ℕ, suc, ◌<◌, Bool, true, false, ◌&&◌, ◌==◌, List, [], ◌∷◌, Option, Some, None, refl, sym, ap, ◌∙◌, subst, arith, eqb-true, rules, inl, inr, ◌≤◌}
+use Rattle.std.proofs.Common.{cond, ◌≡◌, ℕ, suc, ◌<◌, Bool, true, false, ◌==◌, List, [], ◌∷◌, Option, Some, None, refl, sym, ap, ◌∙◌, subst, arith, eqb-true, inl, inr, ◌≤◌}
 use Rattle.std.proofs.lemmas.Bool.Decides.{eqb_tells}
 use Rattle.std.specs.List.{AllByRecursion as Each}
 use Rattle.ft_base.specs.declared.number.CallNo.{CallNo}
@@ -10,14 +10,9 @@ use Rattle.ft_base.specs.declared.plan.TaskAct.{TaskAct}
 use Rattle.ft_base.specs.declared.plan.TaskAct.TheVariants.{Call, Ret as RetAct}
 use Rattle.ft_base.specs.Same.{same_call}
 use Rattle.ft_base.specs.Job.{Job}
+use Rattle.ft_base.proofs.Small.{false_true, ==-refl, and_both, and-false, Each-weaker}
 use Rattle.ft_hist.specs.Past.{is_of, done, meetings, Meeting, is_dispatched, exits}
 use Rattle.ft_hist.specs.Plain.{plain, reads, read_on, PlainTask, Frame, Phase, Owed, Dispatch, InBack, Running, Leaving, InExit, on_call, on_top, in_phase, begins_back, ends_back, misses, stays, begins_body, leaves, leaves_ahead, leaves_by_script, begins_exit, ends_exit, returns, enters_over, enters_owed, enters_by_script, ahead, top_call, same_top}
-
-pub false_true : {A : Type 0} → false ≡ true → A
-false_true e = absurd cc
-
-==-refl : (n : ℕ) → (n == n) ≡ true
-==-refl n = search rules
 
 pub if_some : {A : Type 0} (b : Bool) (o : Option A) (y : A) → cond b o None ≡ Some y → (b ≡ true) × (o ≡ Some y)
 if_some true o y e = (refl, e)
@@ -25,10 +20,6 @@ if_some false o y e = absurd cc
 
 pub some_inj : {A : Type 0} (x y : A) → Some x ≡ Some y → x ≡ y
 some_inj x y e = cc
-
-pub and_both : (a b : Bool) → (a && b) ≡ true → (a ≡ true) × (b ≡ true)
-and_both true b e = (refl, e)
-and_both false b e = false_true e
 
 abbrev call_with : ℕ → ℕ → CallNo
 call_with t n = record { task = record { 0 = t }; n = n }
@@ -198,20 +189,12 @@ module _ (job : Job) (d : ℕ) (s s' : PlainTask) where
 ne_b : (a b : ℕ) → a < b → (a == b) ≡ false
 ne_b a b lt = elim (eqb_tells a b) [ inl x ↦ (let y : a ≡ b = x.1 in absurd (omega arith)) | inr x ↦ x.0 ]
 
-and-false : (b : Bool) → (b && false) ≡ false
-and-false true = refl
-and-false false = refl
-
 -- the calls of a task's stack are numbered, the latest first, and no call that is still to come has met anybody
 pub record Sound (job : Job) (t : ℕ) (past : List Item) (next : ℕ) (calls : List CallNo) : Type 0 where
   pub task : Each (λ c. c.task.0 ≡ t) calls
   pub number : Each (λ c. c.n < next) calls
   pub met : Each (λ m. m.call.task.0 ≡ t → m.call.n < next) (meetings job past)
   pub fresh : (c : CallNo) → c.task.0 ≡ t → next ≤ c.n → (is_dispatched c past ≡ false) × (exits c past ≡ [])
-
-Each-weaker : {X : Type 0} (P Q : X → Type 0) (xs : List X) → ((x : X) → P x → Q x) → Each P xs → Each Q xs
-Each-weaker P Q [] f h = tt
-Each-weaker P Q (x ∷ xs) f h = (f x h.0, Each-weaker P Q xs f h.1)
 
 -- a meeting of another task's call
 abbrev pub IsNumbered : ℕ → ℕ → Meeting → Type 0

@@ -8,19 +8,12 @@ use Rattle.ft_base.specs.declared.item.Item.TheVariants.{Begin, Return, Enter, B
 use Rattle.ft_base.specs.Same.{same_call}
 use Rattle.ft_base.specs.Job.{Job}
 use Rattle.ft_base.specs.Desk.{spec_at}
+use Rattle.ft_base.proofs.Small.{false_true, and-false, Each-weaker}
 use Rattle.ft_hist.specs.Past.{is_of, done, is_open, calls, held, meetings, is_dispatched, has_frame_user, cancels}
 use Rattle.ft_hist.specs.Plain.{plain, read_on, PlainTask, at_start}
 use Rattle.ft_hist.proofs.Laws.{same_call-refl}
-use Rattle.plain_machine.proofs.RunLaws.{false_true, some_inj, calls_on, Keeps, Moves, moves}
-use Rattle.plain_machine.proofs.Since.{IsOlder, apart, holding, holds}
-
-Each-weaker : {X : Type 0} (P Q : X → Type 0) (xs : List X) → ((x : X) → P x → Q x) → Each P xs → Each Q xs
-Each-weaker P Q [] f h = tt
-Each-weaker P Q (x ∷ xs) f h = (f x h.0, Each-weaker P Q xs f h.1)
-
-and-false : (b : Bool) → (b && false) ≡ false
-and-false true = refl
-and-false false = refl
+use Rattle.ft_hist.proofs.RunLaws.{some_inj, calls_on, Keeps, Moves, moves}
+use Rattle.ft_hist.proofs.Since.{IsOlder, apart, holding, holds}
 
 filter-ext : {X : Type 0} (p q : X → Bool) (xs : List X) → Each (λ x. p x ≡ q x) xs → filter p xs ≡ filter q xs
 filter-ext p q [] h = refl

@@ -1,5 +1,5 @@
 -- What the word machine needs besides: where desks change under a call, a user's registration is read later and later, so whoever stands below all that were met hasn't been met.
-use Rattle.std.proofs.Common.{cond, ◌≡◌, ◌≢◌, ℕ, zero, suc, ◌<◌, ◌≤◌, ◌⊎◌, Bool, true, false, ◌||◌, ◌==◌, nat_le, List, [], ◌∷◌, length, get_or, map, Option, Some, None, refl, sym, ap, ◌∙◌, subst, arith, inl, inr, eqb-true, leb-true, leb-false}
+use Rattle.std.proofs.Common.{cond, ◌≡◌, ◌≢◌, ℕ, zero, suc, ◌<◌, ◌≤◌, ◌⊎◌, Bool, true, false, ◌||◌, ◌==◌, nat_le, List, [], ◌∷◌, length, get_or, map, Option, Some, None, refl, sym, ap, ◌∙◌, subst, arith, inl, inr, eqb-true, leb-true, leb-false, IsSome}
 use Rattle.std.specs.Prelude.{slice_get, ◌&&◌, is_some}
 use Rattle.std.proofs.lemmas.Bool.Decides.{eqb_tells}
 use Rattle.std.specs.List.{list_any, AllByRecursion as Each}
@@ -10,19 +10,15 @@ use Rattle.ft_base.specs.Same.{same_call}
 use Rattle.ft_base.specs.Job.{Job, Spec, Command, Register, Unregister, Filter, Notrace, Pid, NoPid, Enable, Disable, MaxDepth, commands, funcs}
 use Rattle.ft_base.specs.Desk.{Desk, UserState, desk, after, changed, user_at, unseen, with_user, is_on, is_accepted, answer_on, is_matching, spec_at, registered_as, unregistered_as, edited}
 use Rattle.ft_base.proofs.DeskLaws.{length-desk, user_at-same, user_at-other}
+use Rattle.ft_base.specs.WellFormed.{IsJob, IsNamed}
+use Rattle.ft_base.proofs.Small.{false_true, Each-weaker, or-false_both, ==-refl}
+use Rattle.ft_base.proofs.Modifiers.{named-at, lone}
 use Rattle.ft_hist.specs.Past.{done, begun, entry_of, meetings, meeting, Meeting, met, read_at}
 use Rattle.ft_hist.specs.Rules.{IsLegalPast, IsUnmet, AtEither, MayMeet, OneReplaces, backs_with_replacement}
 use Rattle.ft_hist.proofs.WindowLaws.{legal-counts, entry_of-more}
-use Rattle.plain_machine.specs.Rule.{IsJob, IsNamed}
-use Rattle.std.proofs.Common.{IsSome, rules}
 use Rattle.ft_hist.specs.Plain.{plain, reads, read_on, PlainTask}
-use Rattle.plain_machine.proofs.Lists.{none_met}
-use Rattle.plain_machine.proofs.RunLaws.{false_true, moves, sound, same_call-eq}
-use Rattle.plain_machine.proofs.Modifiers.{named-at, lone}
-use Rattle.plain_machine.proofs.Meet.{Each-weaker, or-false_both}
-
-==-refl : (n : ℕ) → (n == n) ≡ true
-==-refl n = search rules
+use Rattle.ft_hist.proofs.Lists.{none_met}
+use Rattle.ft_hist.proofs.RunLaws.{moves, sound, same_call-eq}
 
 module _ (job : Job) (is : IsJob job) where
   abbrev since_at : ℕ → ℕ → ℕ
@@ -219,7 +215,7 @@ module _ (job : Job) (is : IsJob job) where
   Either k u f = (modifies (desk job k) u f ≡ true) ⊎ (modifies (desk job (suc k)) u f ≡ true)
 
   -- two users that replace, each registered and matching on one of two desks side by side, are one
-  pub lone-either : (k f u v : ℕ) → f < (funcs job) → Either k u f → Either k v f → u ≡ v
+  pub lone-either : (k f u v : ℕ) → f < funcs job → Either k u f → Either k v f → u ≡ v
   lone-either k f u v lt a b =
       let s = step-one k in
       elim (eqb_tells u s.0) [
@@ -288,7 +284,7 @@ module _ (job : Job) (is : IsJob job) where
           ] refl
 
   -- at a Body: where each user that replaces and was called back is registered and matches at either command, there is one at most
-  pub one-replaces : (call : CallNo) (f : ℕ) (past : List Item) → f < (funcs job) → IsLegalPast job past
+  pub one-replaces : (call : CallNo) (f : ℕ) (past : List Item) → f < funcs job → IsLegalPast job past
       → Each (λ m. replaces m ≡ true → AtEither past (λ k. modifies (desk job k) m.user f ≡ true)) (met job call past)
       → OneReplaces (backs_with_replacement job (met job call past))
   one-replaces call f past lt legal h = one-of (λ u. AtEither past (λ k. modifies (desk job k) u f ≡ true)) same (met job call past) h (met-distinct call past legal)

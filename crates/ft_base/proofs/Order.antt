@@ -1,30 +1,13 @@
 -- The list of registered users, the latest first, and what a command makes of it.
-use Rattle.std.proofs.Common.{cond, ◌≡◌, ◌≢◌, ℕ, suc, ◌<◌, ◌≤◌, Bool, true, false, not, ◌||◌, ◌&&◌, ◌==◌, List, [], ◌∷◌, length, Some, rules, refl, sym, ap, ◌∙◌, subst, arith, inl, inr, eqb-true}
+use Rattle.std.proofs.Common.{cond, ◌≡◌, ◌≢◌, ℕ, suc, ◌<◌, ◌≤◌, Bool, true, false, not, ◌||◌, ◌&&◌, ◌==◌, List, [], ◌∷◌, length, Some, refl, sym, ap, ◌∙◌, subst, arith, inl, inr, eqb-true}
 use Rattle.std.proofs.lemmas.Bool.Decides.{eqb_tells}
 use Rattle.std.specs.List.{filter, AllByRecursion as Each}
 use Rattle.ft_base.specs.Job.{Job, Command, Register, Unregister, Filter, Notrace, Pid, NoPid, Enable, Disable, MaxDepth}
 use Rattle.ft_base.specs.Desk.{Desk, UserState, after, changed, user_at, answer_on, is_accepted, registered_as, unregistered_as, with_user, register_answer}
 use Rattle.ft_base.proofs.DeskLaws.{user_at-same, user_at-other}
-use Rattle.plain_machine.specs.Rule.{IsBelow, IsFalling, IsOrder, has, IsNamed}
-use Rattle.plain_machine.specs.State.{order_after}
-
-pub Each-weaker : {X : Type 0} (P Q : X → Type 0) (xs : List X) → ((x : X) → P x → Q x) → Each P xs → Each Q xs
-Each-weaker P Q [] f h = tt
-Each-weaker P Q (x ∷ xs) f h = (f x h.0, Each-weaker P Q xs f h.1)
-
-pub Each-filter : {X : Type 0} (P : X → Type 0) (p : X → Bool) (xs : List X) → Each P xs → Each P (filter p xs)
-Each-filter P p [] h = tt
-Each-filter P p (x ∷ xs) h = elim (p x) as (λ b. Each P (cond b (x ∷ filter p xs) (filter p xs))) [ true ↦ (h.0, Each-filter P p xs h.1) | false ↦ Each-filter P p xs h.1 ]
-
-pub false_true : {A : Type 0} → false ≡ true → A
-false_true e = absurd cc
-
-or-false_both : (a b : Bool) → (a || b) ≡ false → (a ≡ false) × (b ≡ false)
-or-false_both true b e = false_true (sym e)
-or-false_both false b e = (refl, e)
-
-==-refl : (n : ℕ) → (n == n) ≡ true
-==-refl n = search rules
+use Rattle.ft_base.specs.Order.{IsBelow, IsFalling, IsOrder, has, order_after}
+use Rattle.ft_base.specs.WellFormed.{IsNamed}
+use Rattle.ft_base.proofs.Small.{false_true, ==-refl, or-false_both, Each-weaker, Each-filter}
 
 -- the members of a list from which u is missing keep what only u loses
 pub falling-other : (d d' : Desk) (u : ℕ) (us : List ℕ) → has u us ≡ false → ((v : ℕ) → v ≢ u → (user_at d' v).since ≡ (user_at d v).since) → IsFalling d us → IsFalling d' us

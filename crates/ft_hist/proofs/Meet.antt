@@ -1,48 +1,17 @@
 -- One more meeting of a call: what it makes of what is known of those met.
-use Rattle.std.proofs.Common.{cond, ◌≡◌, ℕ, suc, ◌<◌, ◌≤◌, Bool, true, false, not, ◌&&◌, ◌||◌, ◌==◌, List, [], ◌∷◌, ◌++◌, length, Option, Some, None, is_some, refl, sym, ap, ◌∙◌, arith, eqb-true, rules}
-use Rattle.std.specs.Prelude.{Contains}
-use Rattle.std.specs.List.{filter, list_any, AllByRecursion as Each}
+use Rattle.std.proofs.Common.{cond, ◌≡◌, ℕ, ◌<◌, ◌≤◌, Bool, true, false, not, ◌&&◌, ◌||◌, ◌==◌, List, [], ◌∷◌, ◌++◌, length, Option, Some, None, is_some, refl, sym, ap, ◌∙◌, arith, eqb-true}
+use Rattle.std.specs.List.{list_any, AllByRecursion as Each}
 use Rattle.ft_base.specs.declared.number.CallNo.{CallNo}
 use Rattle.ft_base.specs.declared.number.FuncNo.{FuncNo}
 use Rattle.ft_base.specs.declared.item.Ran.TheVariants.{Own, List as ByList}
 use Rattle.ft_base.specs.declared.item.Item.{Item}
 use Rattle.ft_base.specs.Job.{Job}
 use Rattle.ft_base.specs.Desk.{Desk, desk, is_on, user_at, spec_at, target_by}
+use Rattle.ft_base.specs.Order.{IsBelow, has}
+use Rattle.ft_base.proofs.Small.{false_true, ==-refl, or-true, and-false, Each-weaker, Each-snoc, Contains-head, Contains-more}
 use Rattle.ft_hist.specs.Past.{done, begun, entry_of, Meeting, read_at, cancels}
 use Rattle.ft_hist.specs.Rules.{OnlyThose, backs_with_replacement, replacement, HasExit}
-use Rattle.plain_machine.specs.State.{FrameUser, or_runs, is_nil}
-use Rattle.plain_machine.specs.Rule.{IsBelow, has, IsOwed, is_user_of, is_among, Rises, keeps_frame, FrameOf}
-use Rattle.plain_machine.proofs.RunLaws.{false_true}
-
-pub Each-weaker : {X : Type 0} (P Q : X → Type 0) (xs : List X) → ((x : X) → P x → Q x) → Each P xs → Each Q xs
-Each-weaker P Q [] f h = tt
-Each-weaker P Q (x ∷ xs) f h = (f x h.0, Each-weaker P Q xs f h.1)
-
-pub Each-snoc : {X : Type 0} (P : X → Type 0) (xs : List X) (y : X) → Each P xs → P y → Each P (xs ++ y ∷ [])
-Each-snoc P [] y h p = (p, tt)
-Each-snoc P (x ∷ xs) y h p = (h.0, Each-snoc P xs y h.1 p)
-
-pub Each-filter : {X : Type 0} (P : X → Type 0) (p : X → Bool) (xs : List X) → Each P xs → Each P (filter p xs)
-Each-filter P p [] h = tt
-Each-filter P p (x ∷ xs) h = elim (p x) as (λ b. Each P (cond b (x ∷ filter p xs) (filter p xs))) [ true ↦ (h.0, Each-filter P p xs h.1) | false ↦ Each-filter P p xs h.1 ]
-
-pub Contains-head : {X : Type 0} (x : X) (xs : List X) → Contains (x ∷ xs) x
-Contains-head x xs = (0, omega arith, refl)
-
-pub Contains-more : {X : Type 0} (y x : X) (xs : List X) → Contains xs x → Contains (y ∷ xs) x
-Contains-more y x xs c = (suc c.0, (let l = c.1 in omega arith), c.2)
-
-pub or-false_both : (a b : Bool) → (a || b) ≡ false → (a ≡ false) × (b ≡ false)
-or-false_both true b e = false_true (sym e)
-or-false_both false b e = (refl, e)
-
-pub and-false : (b : Bool) → (b && false) ≡ false
-and-false true = refl
-and-false false = refl
-
-pub or-true : (b : Bool) → (b || true) ≡ true
-or-true true = refl
-or-true false = refl
+use Rattle.ft_hist.specs.Frames.{FrameUser, or_runs, is_nil, IsOwed, is_user_of, is_among, Rises, keeps_frame, FrameOf}
 
 -- a meeting on this desk, of a user that is on, registered after each of those to come
 pub record MetOf (d : Desk) (f : ℕ) (todo : List ℕ) (m : Meeting) : Type 0 where
@@ -139,9 +108,6 @@ pub runs-refuse : (job : Job) (f : ℕ) (runs : FuncNo) (m : Meeting) (ms : List
 runs-refuse job f runs m ms back h = let r : replaces job m ≡ false = ap (λ b. b && is_some (spec_at job m.user).ipmodify) back in rw r h
 
 -- ## frames
-
-==-refl : (n : ℕ) → (n == n) ≡ true
-==-refl n = search rules
 
 among-snoc : (m : Meeting) (xs : List FrameUser) (y : FrameUser) → is_among m xs ≡ true → is_among m (xs ++ y ∷ []) ≡ true
 among-snoc m [] y h = false_true h

@@ -7,12 +7,9 @@ use Rattle.ft_base.specs.declared.item.Answer.TheVariants.{Accepted, Already, In
 use Rattle.ft_base.specs.Job.{Job, Spec, Marks, Edit, Command, Register, Unregister, Filter, Notrace, Pid, NoPid, Enable, Disable, MaxDepth, commands, is_bare, funcs}
 use Rattle.ft_base.specs.Desk.{Desk, UserState, desk, after, changed, user_at, unseen, spec_at, is_matching, matches_by, is_sited, answer_on, is_accepted, with_user, lowest, conflicts, other_modifier, holder_at, busy_or, claim, register_answer, edit_answer, edited, registered_as, unregistered_as}
 use Rattle.ft_base.proofs.DeskLaws.{user_at-same, user_at-other, length-desk}
-use Rattle.plain_machine.specs.Rule.{IsNamed, IsJob, OneModifies}
-use Rattle.plain_machine.proofs.RunLaws.{false_true}
-
-and_both : (x y : Bool) → (x && y) ≡ true → (x ≡ true) × (y ≡ true)
-and_both true y e = (refl, e)
-and_both false y e = false_true e
+use Rattle.ft_base.specs.WellFormed.{IsNamed, IsJob}
+use Rattle.ft_base.specs.Order.{OneModifies}
+use Rattle.ft_base.proofs.Small.{false_true, and_both}
 
 -- ## the lowest number
 
@@ -45,7 +42,7 @@ lowest-none p from (suc n) e i le lt =
 -- ## what an accepted claim says
 
 module _ (job : Job) (d : Desk) (u : ℕ) (filter notrace : Marks) where
-  claim-free : is_accepted (claim job d u filter notrace) ≡ true → (f v : ℕ) → f < (funcs job) → matches_by filter notrace f ≡ true → v < length job.users → other_modifier job d u f v ≡ false
+  claim-free : is_accepted (claim job d u filter notrace) ≡ true → (f v : ℕ) → f < funcs job → matches_by filter notrace f ≡ true → v < length job.users → other_modifier job d u f v ≡ false
   claim-free e f v lt m lv = by (lowest (conflicts job d u filter notrace) 0 (funcs job)) refl e
     where
       busy : (x : ℕ) (o : Option ℕ) → is_some o ≡ true → is_accepted (busy_or (Some x) o Accepted) ≡ true → {A : Type 0} → A
@@ -69,7 +66,7 @@ modifies job d u f = (user_at d u).registered && is_some (spec_at job u).ipmodif
 
 -- at most one registered user that replaces matches a function
 abbrev pub Lone : Job → Desk → Type 0
-Lone job d = (f u v : ℕ) → f < (funcs job) → modifies job d u f ≡ true → modifies job d v f ≡ true → u ≡ v
+Lone job d = (f u v : ℕ) → f < funcs job → modifies job d u f ≡ true → modifies job d v f ≡ true → u ≡ v
 
 module _ (job : Job) (d : Desk) (size : length d.users ≡ length job.users) (h : Lone job d) where
   registered-within : (us : List UserState) (v : ℕ) → (get_or us v (unseen 0)).registered ≡ true → v < length us
@@ -79,7 +76,7 @@ module _ (job : Job) (d : Desk) (size : length d.users ≡ length job.users) (h 
 
   -- nobody else stands where this user is to be
   abbrev IsClear : ℕ → UserState → Type 0
-  IsClear u s = (f v : ℕ) → f < (funcs job) → v < length job.users → s.registered ≡ true → is_some (spec_at job u).ipmodify ≡ true → is_matching s f ≡ true → other_modifier job d u f v ≡ false
+  IsClear u s = (f v : ℕ) → f < funcs job → v < length job.users → s.registered ≡ true → is_some (spec_at job u).ipmodify ≡ true → is_matching s f ≡ true → other_modifier job d u f v ≡ false
 
   lone-with : (u : ℕ) (s : UserState) → u < length job.users → IsClear u s → Lone job (with_user d u s)
   lone-with u s w clear f x y lt mx my =
@@ -114,7 +111,7 @@ module _ (job : Job) (d : Desk) (size : length d.users ≡ length job.users) (h 
   stays : (u : ℕ) (s : UserState) → u < length job.users → (s.registered ≡ true → (user_at d u).registered ≡ true) → s.filter ≡ (user_at d u).filter → s.notrace ≡ (user_at d u).notrace → Lone job (with_user d u s)
   stays u s w r e1 e2 = lone-with u s w (λ f v lt lv reg ip m. clear f v lt reg ip m)
     where
-      clear : (f v : ℕ) → f < (funcs job) → s.registered ≡ true → is_some (spec_at job u).ipmodify ≡ true → is_matching s f ≡ true → other_modifier job d u f v ≡ false
+      clear : (f v : ℕ) → f < funcs job → s.registered ≡ true → is_some (spec_at job u).ipmodify ≡ true → is_matching s f ≡ true → other_modifier job d u f v ≡ false
       clear f v lt reg ip m = by (other_modifier job d u f v) refl
         where
           by : (b : Bool) → other_modifier job d u f v ≡ b → other_modifier job d u f v ≡ false

@@ -1,23 +1,18 @@
 -- Facts on lists of users and meetings.
-use Rattle.std.proofs.Common.{cond, ◌≡◌, ℕ, ◌<◌, ◌⊎◌, Bool, true, false, ◌||◌, ◌==◌, List, [], ◌∷◌, refl, sym, ap, ◌∙◌, arith, inl, inr, eqb-true}
+use Rattle.std.proofs.Common.{cond, ◌≡◌, ℕ, ◌<◌, Bool, true, false, ◌==◌, List, [], ◌∷◌, refl, sym, ap, ◌∙◌, arith, inl, inr, eqb-true}
 use Rattle.std.proofs.lemmas.Bool.Decides.{eqb_tells}
 use Rattle.std.specs.List.{filter, AllByRecursion as Each}
 use Rattle.ft_base.specs.declared.number.CallNo.{CallNo}
 use Rattle.ft_base.specs.Same.{same_call}
 use Rattle.ft_base.specs.Desk.{Desk}
+use Rattle.ft_base.specs.Order.{IsBelow, IsFalling, has}
+use Rattle.ft_base.proofs.Small.{Each-filter, and-false, or-true, false_true, or-true_either}
 use Rattle.ft_hist.specs.Past.{Meeting}
-use Rattle.plain_machine.specs.Rule.{IsBelow, IsFalling, has}
-use Rattle.plain_machine.proofs.Meet.{Each-filter, and-false, or-true}
-use Rattle.plain_machine.proofs.RunLaws.{false_true}
 
 pub Each-passes : (p : ℕ → Bool) (us : List ℕ) → Each (λ u. p u ≡ true) (filter p us)
 Each-passes p [] = tt
 Each-passes p (u ∷ us) =
     elim (p u) as (λ b. p u ≡ b → Each (λ v. p v ≡ true) (cond b (u ∷ filter p us) (filter p us))) [ true ↦ λ e. (e, Each-passes p us) | false ↦ λ e. Each-passes p us ] refl
-
-pub or-true_either : (a b : Bool) → (a || b) ≡ true → (a ≡ true) ⊎ (b ≡ true)
-or-true_either true b e = inl refl
-or-true_either false b e = inr e
 
 pub has-passes : (p : ℕ → Bool) (u : ℕ) (us : List ℕ) → has u us ≡ true → p u ≡ true → has u (filter p us) ≡ true
 has-passes p u [] h pass = h

@@ -6,15 +6,13 @@ use Rattle.ft_base.specs.declared.item.Item.{Item}
 use Rattle.ft_base.specs.declared.item.Item.TheVariants.{Leave, Exit}
 use Rattle.ft_base.specs.Job.{Job}
 use Rattle.ft_base.specs.Desk.{desk, is_live}
+use Rattle.ft_base.proofs.Small.{false_true, and_both, Each-weaker, or-true}
 use Rattle.ft_hist.specs.Past.{begun, exits, left_at, met, Meeting}
 use Rattle.ft_hist.specs.Rules.{AtEither, MayExit, LacksOnlyDead, HasExit}
 use Rattle.ft_hist.proofs.Laws.{same_call-refl}
 use Rattle.ft_hist.proofs.WindowLaws.{met-more}
-use Rattle.plain_machine.specs.State.{FrameUser}
-use Rattle.plain_machine.specs.Rule.{IsOwed, is_user_of, is_among, Rises, FrameOf}
-use Rattle.plain_machine.proofs.RunLaws.{false_true, and_both}
-use Rattle.plain_machine.proofs.Since.{Untouched}
-use Rattle.plain_machine.proofs.Meet.{Each-weaker, or-true}
+use Rattle.ft_hist.specs.Frames.{FrameUser, IsOwed, is_user_of, is_among, Rises, FrameOf}
+use Rattle.ft_hist.proofs.Since.{Untouched}
 
 module _ (job : Job) (call : CallNo) (ms : List Meeting) where
   -- a registration was not live at some command since the Leave
