@@ -4,3 +4,4 @@ pub mod Job
 pub mod Desk
 pub mod Order
 pub mod WellFormed
+pub mod Schedule

@@ -1,7 +1,8 @@
-ghost use Rattle.std.specs.Prelude.{◌≡◌};
-ghost use Rattle.ft_machine.specs.First.{IsWithin, first_job};
-ghost use Rattle.ft_machine.specs.Kept.{parts_of};
+ghost use Rattle.std.specs.Prelude.{◌≡◌, IfOk};
+ghost use Rattle.ft_machine.specs.First.{parts_of, IsWithin, first_job};
 
+use ft_base::NoMemory;
+use std::alloc::AllocError;
 use std::marker::Model;
 
 /// What a script of the first form declares: one function, one user of kind function, one CPU with
@@ -23,10 +24,25 @@ pub struct JobParts {
     pub ctls: Vec<bool>,
 }
 
+impl JobParts {
+    /// Equal parts.
+    fn copy(&self) -> Result<JobParts, AllocError>
+        ensures { IfOk result (λ p. parts_of p ≡ parts_of self.now) }
+    {
+        Ok(JobParts {
+            func: self.func.clone()?,
+            user: self.user.clone()?,
+            quantum: self.quantum,
+            pid: self.pid,
+            calls: self.calls,
+            ctls: self.ctls.clone()?,
+        })
+    }
+}
+
 impl Model for Job {
     ghost use Rattle.ft_base.specs.Job.{Job as PlainJob};
-    ghost use Rattle.ft_machine.specs.First.{IsWithin, first_job};
-    ghost use Rattle.ft_machine.specs.Kept.{parts_of};
+    ghost use Rattle.ft_machine.specs.First.{parts_of, IsWithin, first_job};
 
     ghost Value = { PlainJob };
 
@@ -48,6 +64,13 @@ impl Job {
         ensures { result ≡ first_job (parts_of parts) }
     {
         Job { parts }
+    }
+
+    /// Equal parts for a machine to keep.
+    pub(crate) fn copy_parts(&self) -> Result<JobParts, NoMemory>
+        ensures { IfOk result (λ p. (first_job (parts_of p) ≡ self.now) × IsWithin (parts_of p)) }
+    {
+        self.parts.copy().map_err(|_| NoMemory)
     }
 
     /// The parts that it was made of.

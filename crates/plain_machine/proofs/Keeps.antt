@@ -426,7 +426,7 @@ module _ (job : Job) (is : IsJob job) where
         ok.run.stack ∙ no_frames x.stack script,
       )
 
-  whole-of : (s : State) (items : List Item) → reverse items ≡ s.past → is_over s ≡ true → Rule job s → IsWhole job items
+  pub whole-of : (s : State) (items : List Item) → reverse items ≡ s.past → is_over s ≡ true → Rule job s → IsWhole job items
   unfolding IsLegal is_over
   whole-of s items e over r =
       let both = and_both (is_nil s.left) (not (list_any (λ x. has_acts x.run.acts) s.tasks)) over in

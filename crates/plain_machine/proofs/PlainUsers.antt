@@ -34,14 +34,18 @@ abbrev pub called_in : CallNo → List ℕ → List Item → List Item
 called_in call [] past = past
 called_in call (u ∷ us) past = called_in call us (BackEnd call (record { 0 = u }) ∷ Back call (record { 0 = u }) ∷ past)
 
-module _ (job : Job) (plain_users : (u : ℕ) → spec_at job u ≡ plain_spec) (nested : Nested) (d : Desk) (a : Around) (call : CallNo) (x : Ctx) (top : a.guards ≡ []) where
+-- a user of kind function with no flag and no act
+abbrev pub IsPlainUser : Spec → Type 0
+IsPlainUser s = s ≡ record plain_spec { name = s.name }
+
+module _ (job : Job) (plain_users : (u : ℕ) → IsPlainUser (spec_at job u)) (nested : Nested) (d : Desk) (a : Around) (call : CallNo) (x : Ctx) (top : a.guards ≡ []) where
   refused-none : (u : ℕ) → refusal job d a x u ≡ None
   refused-none u = rw (plain_users u, top) refl
 
   called-plain : (u : ℕ) (w : Walk) → called nested job d a call x u w ≡ record w { past = BackEnd call (record { 0 = u }) ∷ Back call (record { 0 = u }) ∷ w.past }
   called-plain u w = by (spec_at job u) (plain_users u)
     where
-      by : (s : Spec) → s ≡ plain_spec → called_as nested job d a call x u s w ≡ record w { past = BackEnd call (record { 0 = u }) ∷ Back call (record { 0 = u }) ∷ w.past }
+      by : (s : Spec) → IsPlainUser s → called_as nested job d a call x u s w ≡ record w { past = BackEnd call (record { 0 = u }) ∷ Back call (record { 0 = u }) ∷ w.past }
       by s e = rw (e, or-false w.framed) refl
 
   plain-one : (u : ℕ) (w : Walk) → tried nested job d a call x u (refusal job d a x u) w ≡ record w { past = BackEnd call (record { 0 = u }) ∷ Back call (record { 0 = u }) ∷ w.past }

@@ -20,6 +20,7 @@ use Rattle.ft_hist.specs.Past.{has_depth, has_exit, cancels}
 use Rattle.ft_hist.specs.Plain.{PlainTask, Frame, Running, Owed, owed_by, context, below_top, top_call, at_start}
 use Rattle.ft_hist.specs.Frames.{FrameUser, is_nil, or_runs}
 use Rattle.ft_base.specs.Order.{order_after}
+use Rattle.ft_base.specs.Schedule.{actors_of}
 
 -- where a task stands: its plain run, and beside each call of the stack the users of its frame, in the order of their Backs
 pub record TaskState : Type 0 where
@@ -332,8 +333,14 @@ unfoldable pub run : Job → List Actor → State → State
 run job [] s = s
 run job (a ∷ rest) s = run job rest (step job a s)
 
--- ## where all are at their ends
+-- ## ends
 
+-- control is at its end behind its last line, a CPU behind the last act of its last task
+unfoldable pub is_at_end : Job → Actor → State → Bool
+is_at_end job Control s = is_nil s.left
+is_at_end job (Cpu c) s = not (list_any (λ t. is_left s t) (tasks_of job c.0))
+
+-- every actor is at its end
 unfoldable pub is_over : State → Bool
 is_over s = is_nil s.left && not (list_any (λ x. has_acts x.run.acts) s.tasks)
 
@@ -342,11 +349,6 @@ unfoldable pub played : Job → List Actor → State → State
 played job [] s = s
 played job (a ∷ rest) s = if is_over s then s else played job rest (step job a s)
 
-abbrev pub every_cpu : ℕ → List ℕ → List Actor
-every_cpu c [] = []
-every_cpu c (q ∷ rest) = Cpu (record { 0 = c }) ∷ every_cpu (suc c) rest
-
--- a step of control and then of each CPU, so many times
-unfoldable pub rounds : Job → ℕ → List Actor
-rounds job zero = []
-rounds job (suc n) = Control ∷ (every_cpu 0 job.quanta ++ rounds job n)
+-- the replay of the job's schedule
+unfoldable pub play : Job → State
+play job = played job (actors_of job) (start job)
