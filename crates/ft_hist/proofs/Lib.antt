@@ -9,3 +9,4 @@ pub mod Lists
 pub mod Meet
 pub mod Exits
 pub mod WordLaws
+pub mod Splitting

@@ -3,5 +3,6 @@
 #![tactic(auto)]
 
 mod history;
+pub mod theorems;
 
 pub use history::History;
