@@ -1,0 +1,13 @@
+//! Where the program's bytes come from and go to, and what its threads pass at each step.
+//!
+//! A *source* gives bytes and a *sink* takes them; each keeps a count of its faults, by which a
+//! caller sees that a failure had a cause. A *gate* is passed by a running thread before each step.
+#![tactic(auto)]
+
+mod gate;
+mod sink;
+mod source;
+
+pub use gate::{Gate, OpenGate};
+pub use sink::{Sink, WriteFail, write_all};
+pub use source::{Failed, LIMIT, ReadFail, Source, read_all};
