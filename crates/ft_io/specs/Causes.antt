@@ -2,9 +2,13 @@
 use Rattle.std.specs.Prelude.{ℕ, ◌+◌, ◌-◌, ◌^◌, ◌≤◌, ◌<◌, ◌≡◌, min, List, ◌++◌, length, Result, OnErr, Option}
 use Rattle.std.specs.Io.KnownBytes.{Consumes, Appends}
 
+-- a count of faults after one more, which stays at the last value of its type
+abbrev pub raised : ℕ → ℕ
+raised faults = min (faults + 1) (2 ^ 64 - 1)
+
 -- a count of faults rose, or stands at the last value of its type
 abbrev pub Rose : ℕ → ℕ → Type 0
-Rose before now = min (before + 1) (2 ^ 64 - 1) ≤ now
+Rose before now = raised before ≤ now
 
 -- a call counts no fault less, and fails only where it counted one
 pub record HasCause {T E : Type 0} (before now : ℕ) (result : Result T E) : Type 0 where
