@@ -19,3 +19,6 @@ pub use memory_source::MemSource;
 pub use sink::{Sink, WriteFail, write_all};
 pub use source::{Failed, LIMIT, ReadFail, Source, read_all};
 pub use standard::{StdSink, StdSource};
+
+#[cfg(test)]
+mod tests;
