@@ -28,9 +28,15 @@ impl Model for MemSink {
 
     ghost Value = { Holding };
 
-    ghost view = { λ s. record { held = s.held.items; portion = s.portion; room = s.room; calls = s.calls } };
+    ghost view = { λ s. record {
+      held = s.held.items;
+      portion = s.portion;
+      room = s.room;
+      calls = s.calls;
+    } };
 
-    ghost invariant = { λ s. (vec_len s.held ≤ s.room) × (s.room ≤ vec_capacity s.held) × (1 ≤ s.portion) };
+    ghost invariant = { λ s. (vec_len s.held ≤ s.room) × (s.room ≤ vec_capacity s.held)
+        × (1 ≤ s.portion) };
 }
 
 impl MemSink {
@@ -45,7 +51,12 @@ impl MemSink {
         fails: Vec<u32>,
     ) -> Result<MemSink, AllocError>
         requires { 1 ≤ take }
-        ensures { IfOk result (λ sink. sink ≡ record { held = []; portion = take; room = room; calls = no_calls fails.items }) }
+        ensures { IfOk result (λ sink. sink ≡ record {
+          held = [];
+          portion = take;
+          room = room;
+          calls = no_calls fails.items;
+        }) }
     {
         let held = Vec::with_capacity(alloc, room)?;
         Ok(MemSink {
@@ -73,7 +84,8 @@ impl Sink for MemSink {
         ensures bound { WritesAtMost result piece.now }
         ensures bytes { WriteAppends (Some self.old.held) (Some self.new.held) result piece.now }
         ensures cause { HasCause self.old.calls.faults self.new.calls.faults result }
-        ensures stuck { result ≡ Ok 0 → 0 < length piece.now → Rose self.old.calls.faults self.new.calls.faults }
+        ensures stuck { result ≡ Ok 0 → 0 < length piece.now
+            → Rose self.old.calls.faults self.new.calls.faults }
         ensures answer { result ≡ write_answer self.old piece.now }
         ensures after { self.new ≡ after_write self.old piece.now }
     {

@@ -26,7 +26,11 @@ impl Model for MemSource {
 
     ghost Value = { Giving };
 
-    ghost view = { λ s. record { left = drop s.given s.bytes.items; give = s.give; calls = s.calls } };
+    ghost view = { λ s. record {
+      left = drop s.given s.bytes.items;
+      give = s.give;
+      calls = s.calls;
+    } };
 
     ghost invariant = { λ s. (s.given ≤ length s.bytes.items) × (1 ≤ s.give) };
 }
@@ -37,7 +41,11 @@ impl MemSource {
     /// not counted and do not fail.
     pub fn new(bytes: Vec<u8>, give: usize, fails: Vec<u32>) -> MemSource
         requires { 1 ≤ give }
-        ensures { result ≡ record { left = bytes.items; give = give; calls = no_calls fails.items } }
+        ensures { result ≡ record {
+          left = bytes.items;
+          give = give;
+          calls = no_calls fails.items;
+        } }
     {
         MemSource {
             bytes,

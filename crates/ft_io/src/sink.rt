@@ -22,7 +22,8 @@ pub trait Sink {
         ensures bound { WritesAtMost result piece.now }
         ensures bytes { WriteAppends (holds self.old) (holds self.new) result piece.now }
         ensures cause { HasCause (faults self.old) (faults self.new) result }
-        ensures stuck { result ≡ Ok 0 → 0 < length piece.now → Rose (faults self.old) (faults self.new) };
+        ensures stuck { result ≡ Ok 0 → 0 < length piece.now
+            → Rose (faults self.old) (faults self.new) };
 }
 
 /// Not all bytes were written: the sink's count of faults rose, and a beginning of the bytes was
@@ -36,7 +37,7 @@ pub fn write_all<K: Sink>(sink: &mut K, bytes: &[u8]) -> Result<(), WriteFail>
     ensures all { OnOk result (Appends (K.holds sink.old) (K.holds sink.new) bytes.now) }
     ensures front { OnErr result (AppendsFront (K.holds sink.old) (K.holds sink.new) bytes.now) }
     ensures fault { OnErr result (Rose (K.faults sink.old) (K.faults sink.new)) }
-    ensures later { K.faults sink.old ≤ K.faults sink.new }
+    ensures faults { K.faults sink.old ≤ K.faults sink.new }
 {
     let mut at = 0;
     while at < bytes.len() {

@@ -52,13 +52,16 @@ pub enum ReadFail {
 
 /// Reads all bytes up to the source's end. Each turn takes at least one byte or ends the loop.
 pub fn read_all<S: Source>(alloc: Global, source: &mut S) -> Result<Vec<u8>, ReadFail>
-    ensures all { IfOk result (λ v. Consumes (S.left source.old) (S.left source.new) v.items × IsAtEnd (S.left source.new)) }
+    ensures all { IfOk result (λ v. Consumes (S.left source.old) (S.left source.new) v.items
+        × IsAtEnd (S.left source.new)) }
     ensures short { IfOk result (λ v. length v.items ≤ LIMIT) }
     ensures fault { result ≡ Err ReadFail.Fault → Rose (S.faults source.old) (S.faults source.new) }
-    // With `short` and `within`: TooLong comes exactly where one byte more than the limit was given.
-    ensures too_long { result ≡ Err ReadFail.TooLong → GaveMore LIMIT (S.left source.old) (S.left source.new) }
-    ensures within { IfErr result (λ fail. fail ≢ ReadFail.TooLong → GaveAtMost LIMIT (S.left source.old) (S.left source.new)) }
-    ensures later { S.faults source.old ≤ S.faults source.new }
+    // With `short` and `within`: exactly where one byte more than the limit was given.
+    ensures too_long { result ≡ Err ReadFail.TooLong
+        → GaveMore LIMIT (S.left source.old) (S.left source.new) }
+    ensures within { IfErr result (λ fail. fail ≢ ReadFail.TooLong
+        → GaveAtMost LIMIT (S.left source.old) (S.left source.new)) }
+    ensures faults { S.faults source.old ≤ S.faults source.new }
 {
     let mut bytes = Vec::new(alloc);
     let mut piece = [0u8; PIECE];

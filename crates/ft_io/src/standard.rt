@@ -38,7 +38,8 @@ impl<I: Read> Source for StdSource<I> {
         ensures bound { ReadsAtMost result buf.new }
         ensures cause { HasCause (read_faults self.old) (read_faults self.new) result }
         ensures counted { read_faults self.new ≡ counted (is_err result) (read_faults self.old) }
-        ensures input { ReadConsumes (I.remaining (input_of self.old)) (I.remaining (input_of self.new)) result buf.new }
+        ensures input { ReadConsumes (I.remaining (input_of self.old))
+            (I.remaining (input_of self.new)) result buf.new }
     {
         let Ok(n) = self.input.read(buf) else {
             raise(&mut self.faults);
@@ -77,9 +78,12 @@ impl<O: Write> Sink for StdSink<O> {
     fn write(&mut self, piece: &[u8]) -> Result<usize, Failed>
         ensures bound { WritesAtMost result piece.now }
         ensures cause { HasCause (write_faults self.old) (write_faults self.new) result }
-        ensures stuck { result ≡ Ok 0 → 0 < length piece.now → Rose (write_faults self.old) (write_faults self.new) }
-        ensures counted { write_faults self.new ≡ counted (is_fault result piece.now) (write_faults self.old) }
-        ensures output { PassesOn (O.contents (output_of self.old)) (O.contents (output_of self.new)) result piece.now }
+        ensures stuck { result ≡ Ok 0 → 0 < length piece.now
+            → Rose (write_faults self.old) (write_faults self.new) }
+        ensures counted { write_faults self.new
+            ≡ counted (is_fault result piece.now) (write_faults self.old) }
+        ensures output { PassesOn (O.contents (output_of self.old))
+            (O.contents (output_of self.new)) result piece.now }
     {
         let Ok(n) = self.output.write(piece) else {
             raise(&mut self.faults);

@@ -2,7 +2,29 @@ use crate::{
     Failed, Gate, LIMIT, MemSink, MemSource, OpenGate, ReadFail, Sink, Source, StdSink, StdSource,
     WriteFail, read_all, write_all,
 };
+use std::io;
+use std::io::{ErrorKind, Read, Write};
 use std::test::Fail;
+
+// A reader and a writer that fail: the reads, and the flushes.
+#[derive(Drop)]
+struct Broken;
+
+impl Read for Broken {
+    fn read(&mut self, _buf: &mut [u8]) -> io::Result<usize> {
+        Err(ErrorKind::Other.into())
+    }
+}
+
+impl Write for Broken {
+    fn write(&mut self, buf: &[u8]) -> io::Result<usize> {
+        Ok(buf.len())
+    }
+
+    fn flush(&mut self) -> io::Result<()> {
+        Err(ErrorKind::Other.into())
+    }
+}
 
 #[test]
 fn reads_to_the_end_a_byte_at_a_time(rt: HostRuntime) -> Result<(), Fail> {
@@ -102,6 +124,14 @@ fn a_full_standard_writer_is_a_fault(rt: HostRuntime) -> Result<(), Fail> {
     assert_eq!(rt; sink.write(b"abcd"), Ok(3));
     assert_eq!(rt; write_all(&mut sink, b"d"), Err(WriteFail));
     Ok(())
+}
+
+#[test]
+fn errors_of_standard_ends_are_faults(rt: HostRuntime) {
+    let mut source = StdSource::new(Broken);
+    assert_eq!(rt; read_all(rt.alloc(), &mut source), Err(ReadFail::Fault));
+    let mut sink = StdSink::new(Broken);
+    assert_eq!(rt; write_all(&mut sink, b"end\n"), Err(WriteFail));
 }
 
 #[test]
