@@ -1,0 +1,2 @@
+use crate::{Edit, SiteSet};
+use std::test::Fail;
