@@ -1,11 +1,11 @@
 -- Members of sets as marks: what a reader of the contracts may rely on.
-use Rattle.std.proofs.Common.{◌≡◌, ◌≢◌, ℕ, zero, suc, ◌+◌, ◌*◌, ◌<◌, ◌≤◌, ◌==◌, ◌&&◌, ◌||◌, not, Bool, true, false, List, [], ◌∷◌, Option, Some, None, length, get_or, set, take, drop, replicate, cond, refl, sym, ap, ap₂, ◌∙◌, inl, inr, if◌then◌else◌, ◌/◌, ◌%◌, count_ones, map, map-id, arith, length-take, length-drop, ext_get_or, position, nat_lt, count_by, get_or-set_same, get_or-set_other}
-use Rattle.std.specs.List.{zip, position_or_len, list_any}
+use Rattle.std.proofs.Common.{◌≡◌, ◌≢◌, ℕ, zero, suc, ◌+◌, ◌*◌, ◌<◌, ◌≤◌, ◌==◌, ◌&&◌, ◌||◌, not, Bool, true, false, [], ◌∷◌, Some, None, length, get_or, set, take, drop, replicate, cond, refl, sym, ap, ap₂, ◌∙◌, inl, inr, if◌then◌else◌, ◌/◌, ◌%◌, count_ones, map-id, arith, length-take, ext_get_or, nat_lt, count_by, get_or-set_same, get_or-set_other}
+use Rattle.std.specs.List.{zip, position_or_len}
 use Rattle.std.specs.Int.{bit_at}
 use Rattle.std.proofs.Math.Bool.{or-false, and-true}
-use Rattle.std.proofs.lemmas.Bool.{cases_eq, cases_lt, lt-ltb, le-ltb}
+use Rattle.std.proofs.lemmas.Bool.{cases_lt, lt-ltb, le-ltb}
 use Rattle.std.proofs.lemmas.List.{get_or_past, get_or-drop, get_or-take}
-use Rattle.std.proofs.lemmas.List.Sums.{position_or_len_is, fails_before_first, passes_at_first, sum_by-cons}
+use Rattle.std.proofs.lemmas.List.Sums.{position_or_len_is}
 use Rattle.std.proofs.lemmas.Slice.Zip.{length-zip, get_or-zip}
 use Rattle.std.proofs.lemmas.Nat.Bits.{bit_at_lowest, bit_at-suc, bit_at-zero}
 use Rattle.std.proofs.lemmas.Simd.{ones-mask_l}

@@ -1,6 +1,5 @@
 -- What a write to one word does to the marks.
-use Rattle.std.proofs.Common.{◌≡◌, ◌≢◌, ℕ, ◌+◌, ◌*◌, ◌/◌, ◌%◌, ◌<◌, ◌≤◌, ◌==◌, Bool, true, false, List, length, get_or, set, map, refl, sym, ap, ◌∙◌, inl, inr, arith, replicate, ◌-◌, ◌^◌, bit_or, bit_and, w64, length-set, get_or-set_same, get_or-set_other, ext_get_or}
-use Rattle.std.specs.List.{range_with_len}
+use Rattle.std.proofs.Common.{◌≡◌, ◌≢◌, ℕ, ◌+◌, ◌*◌, ◌/◌, ◌%◌, ◌<◌, ◌==◌, Bool, true, false, List, length, get_or, set, sym, ap, ◌∙◌, inl, inr, arith, replicate, ◌-◌, ◌^◌, bit_or, bit_and, w64, length-set, get_or-set_same, get_or-set_other, ext_get_or}
 use Rattle.std.specs.Int.{bit_at}
 use Rattle.std.proofs.lemmas.Bool.{cases_eq, cases_lt}
 use Rattle.std.proofs.lemmas.List.{length-replicate, get_or_read, get_or_past, get_or-replicate}

@@ -1,16 +1,16 @@
 -- Whole words against the marks: a word as a number, how many members there are, and whether there is one.
-use Rattle.std.proofs.Common.{◌≡◌, ◌≢◌, ℕ, zero, suc, ◌+◌, ◌-◌, ◌*◌, ◌/◌, ◌%◌, ◌^◌, ◌<◌, ◌≤◌, ◌==◌, ◌&&◌, not, Bool, true, false, List, [], ◌∷◌, ◌++◌, length, get_or, take, drop, count_by, count_ones, refl, sym, ap, ap₂, subst, ◌∙◌, inl, inr, arith, length-take, length-drop, eq-eqb, if◌then◌else◌}
-use Rattle.std.specs.List.{list_all, list_any}
+use Rattle.std.proofs.Common.{◌≡◌, ℕ, zero, suc, ◌+◌, ◌*◌, ◌/◌, ◌%◌, ◌^◌, ◌<◌, ◌≤◌, ◌==◌, ◌&&◌, Bool, true, false, List, [], ◌∷◌, length, get_or, take, drop, count_by, count_ones, refl, sym, ap, ap₂, subst, ◌∙◌, inl, inr, arith, length-take, eq-eqb, if◌then◌else◌}
+use Rattle.std.specs.List.{list_all}
 use Rattle.std.specs.Int.{bit_at}
 use Rattle.std.proofs.Math.Seq.{take-add}
 use Rattle.std.proofs.lemmas.Bool.{cases_lt, eqb-true}
-use Rattle.std.proofs.lemmas.List.{get_or_past, take_all}
+use Rattle.std.proofs.lemmas.List.{get_or_read, take_all}
 use Rattle.std.proofs.lemmas.List.Sums.{sum_by-append, count_by-le-length}
 use Rattle.std.proofs.lemmas.Nat.Bits.{bit_at-lt, bit_at-zero, bit_at_above, same_from_bits}
-use Rattle.site_set.specs.Packed.{has_bit, marks_of, IsPacked}
-use Rattle.site_set.specs.Marks.{Marks, has, is_bare, word_of, number_of, IsEmpty}
+use Rattle.site_set.specs.Packed.{marks_of, IsPacked}
+use Rattle.site_set.specs.Marks.{Marks, has, is_bare, word_of, IsEmpty}
 use Rattle.site_set.proofs.PackedLemmas.{length-marks_of, has-marks_of_any}
-use Rattle.site_set.proofs.MarksLemmas.{and_first, and_second, bit_at-number_of, bit_at-word_of, bit_at-word_of_above, ones-word_of, IsEmpty-is_bare, is_bare-IsEmpty}
+use Rattle.site_set.proofs.MarksLemmas.{and_first, and_second, bit_at-word_of, bit_at-word_of_above, ones-word_of, IsEmpty-is_bare, is_bare-IsEmpty}
 
 -- a bit is known from its test
 same_bit : (a b : ℕ) → a < 2 → b < 2 → (a == 1) ≡ (b == 1) → a ≡ b
@@ -81,10 +81,11 @@ module _ (size : ℕ) (ws : List ℕ) (p : IsPacked size ws) where
 
 -- ---- at the slice xs of the words of a set s
 
-pub word_of-slice : (size w : ℕ) (ws xs : List ℕ) (s : Marks) → IsPacked size ws → marks_of size ws ≡ s → xs ≡ ws → get_or xs w 0 < 2 ^ 64
-    → get_or xs w 0 ≡ word_of s w
-word_of-slice size w ws xs s p view is fits =
-    let same = ap (λ (ys : List ℕ). get_or ys w 0) is in
+pub word_of-read : (size w x : ℕ) (ws : List ℕ) (s : Marks) → IsPacked size ws → marks_of size ws ≡ s → 64 * w < length s → x ≡ get_or ws w x → x < 2 ^ 64
+    → x ≡ word_of s w
+word_of-read size w x ws s p view low read fits =
+    let within : w < length ws = omega (arith, length-marks_of size ws, ap length view, p.count) in
+    let same = get_or_read ws w x within read 0 in
     let fit : get_or ws w 0 < 2 ^ 64 = omega (arith, same) in
     same ∙ sym (word_of-marks_of size ws p w fit) ∙ ap (λ m. word_of m w) view
 

@@ -4,7 +4,7 @@ ghost use Rattle.std.specs.Prelude.{◌≡◌, ℕ, ◌+◌, ◌*◌, ◌<◌, �
 ghost use Rattle.std.specs.Int.{bit_at};
 ghost use Rattle.site_set.specs.Marks.{has, bare, is_bare, union, difference, least_common, word_of, IsEmpty, AreDisjoint, IsLeastCommon};
 
-use crate::words::{and_not_words, are_zero, lowest_common_bit, or_words, word_at};
+use crate::words::{and_not_words, are_zero, lowest_common_bit, or_words};
 use std::alloc::{AllocError, Global};
 use std::marker::Model;
 
@@ -30,7 +30,8 @@ impl Model for SiteSet {
 impl SiteSet {
     /// The empty set of numbers below `size`. The error says that no memory was found.
     pub fn empty(alloc: Global, size: u32) -> Result<SiteSet, AllocError>
-        ensures { IfOk result (λ set. set ≡ bare size) }
+        ensures members { IfOk result (λ set. set ≡ bare size) }
+        ensures size { IfOk result (λ set. length set ≡ size) }
     {
         let words = vec![in alloc; 0u64; (size as usize).div_ceil(64)]?;
         Ok(SiteSet { words, size })
@@ -147,6 +148,6 @@ impl SiteSet {
         ensures value { result ≡ word_of self.now w }
         ensures bits { (i : ℕ) → i < 64 → (bit_at result i == 1) ≡ has self.now (64 * w + i) }
     {
-        word_at(self.words.as_slice(), w as usize)
+        self.words[w as usize]
     }
 }

@@ -4,15 +4,6 @@ ghost use Rattle.std.specs.Prelude.{◌≡◌, ℕ, slice_index, ◌-◌, ◌<�
 ghost use Rattle.std.specs.List.{zip, list_all};
 ghost use Rattle.site_set.specs.Packed.{IsLowestBit};
 
-/// The word at `w`.
-pub(crate) fn word_at(words: &[u64], w: usize) -> u64
-    requires { w < length words.now }
-    ensures fits { slice_index words.now w < 2 ^ 64 }
-    ensures value { result ≡ slice_index words.now w }
-{
-    words[w]
-}
-
 /// Sets in each word the bits of the other's.
 pub(crate) fn or_words(words: &mut [u64], others: &[u64])
     requires { length words.old ≡ length others.now }

@@ -1,4 +1,4 @@
-use Rattle.std.proofs.Common.{◌≡◌, ◌<◌, ◌^◌, ℕ, bit_and, w64, arith}
+use Rattle.std.proofs.Common.{◌<◌, ◌^◌, bit_and, w64, arith}
 use Rattle.std.proofs.lemmas.Nat.{and_le_l}
 use Rattle.std.proofs.lemmas.Nat.Bits.{bit_at-trailing_zeros}
 use Rattle.site_set.proofs.words.lowest_common_bit.Goals as goal

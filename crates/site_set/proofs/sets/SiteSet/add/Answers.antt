@@ -1,4 +1,4 @@
-use Rattle.std.proofs.Common.{◌≡◌, ◌<◌, ℕ, arith, ap, set, sym, ◌∙◌, length, true, false}
+use Rattle.std.proofs.Common.{◌<◌, arith, ap, set, ◌∙◌, length, true}
 use Rattle.site_set.proofs.PackedLemmas.{word_within, length-marks_of, IsPacked-added, marks_of-added}
 use Rattle.site_set.proofs.sets.SiteSet.add.Goals as goal
 

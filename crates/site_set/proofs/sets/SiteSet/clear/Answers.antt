@@ -1,4 +1,4 @@
-use Rattle.std.proofs.Common.{◌≡◌, ap, sym, ◌∙◌, length}
+use Rattle.std.proofs.Common.{ap, sym, ◌∙◌, length}
 use Rattle.site_set.specs.Packed.{marks_of}
 use Rattle.site_set.specs.Marks.{bare}
 use Rattle.site_set.proofs.PackedLemmas.{length-marks_of, marks_of-zeros}

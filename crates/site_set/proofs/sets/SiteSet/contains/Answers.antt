@@ -1,4 +1,4 @@
-use Rattle.std.proofs.Common.{◌≡◌, ◌<◌, ℕ, arith, ap, get_or, ◌∙◌, length, false}
+use Rattle.std.proofs.Common.{◌<◌, arith, ap, get_or, ◌∙◌, length, false}
 use Rattle.site_set.proofs.PackedLemmas.{word_within, length-marks_of, has-read}
 use Rattle.site_set.proofs.sets.SiteSet.contains.Goals as goal
 

@@ -6,8 +6,12 @@ pub overflow_add-count : goal.overflow_add-count
 overflow_add-count c =
     let w = c.loop-word.word-index in
     let fits : get_or c.deref-word-items.result.now w 0 < 2 ^ 64 = omega (arith, c.type_inv.word-items w) in
-    omega (arith, c.loop-word.invariant, count_below-lt _ _ _ c.self.invariant c.self.view_is (w + 1),
-    count_below_more _ _ _ _ c.self.invariant c.self.view_is c.deref-word-items.ensures.value w fits)
+    omega (
+      arith,
+      c.loop-word.invariant,
+      count_below-lt _ _ _ c.self.invariant c.self.view_is (w + 1),
+      count_below_more _ _ _ _ c.self.invariant c.self.view_is c.deref-word-items.ensures.value w fits,
+    )
 
 pub loop-word-preserved : goal.loop-word-preserved
 loop-word-preserved c =

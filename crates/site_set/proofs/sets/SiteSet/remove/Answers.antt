@@ -1,4 +1,4 @@
-use Rattle.std.proofs.Common.{◌≡◌, ◌<◌, ℕ, arith, ap, set, sym, ◌∙◌, length, true, false}
+use Rattle.std.proofs.Common.{◌<◌, arith, ap, set, ◌∙◌, length, false}
 use Rattle.site_set.proofs.PackedLemmas.{word_within, length-marks_of, IsPacked-removed, marks_of-removed}
 use Rattle.site_set.proofs.sets.SiteSet.remove.Goals as goal
 
