@@ -22,16 +22,19 @@ pub and_second : (a b : Bool) → (a && b) ≡ true → b ≡ true
 and_second true b e = e
 and_second false b e = absurd cc
 
--- ---- the empty set
+-- ---- the empty set, `bare n`
 
+-- it has the size
 pub length-bare : (n : ℕ) → length (bare n) ≡ n
 length-bare zero = refl
 length-bare (suc n) = ap suc (length-bare n)
 
+-- it is std's list of one mark, so many times
 pub bare-replicate : (n : ℕ) → bare n ≡ replicate n false
 bare-replicate zero = refl
 bare-replicate (suc n) = ap (λ (s : Marks). false ∷ s) (bare-replicate n)
 
+-- it has no member
 pub has-bare : (n f : ℕ) → has (bare n) f ≡ false
 has-bare zero f = refl
 has-bare (suc n) zero = refl
@@ -42,32 +45,36 @@ is_bare-bare zero = refl
 is_bare-bare (suc n) = is_bare-bare n
 
 -- a set is bare exactly where no number is a member
-pub IsEmpty-is_bare : (s : Marks) → is_bare s ≡ true → IsEmpty s
-IsEmpty-is_bare [] e f = refl
-IsEmpty-is_bare (true ∷ s) e f = absurd cc
-IsEmpty-is_bare (false ∷ s) e zero = refl
-IsEmpty-is_bare (false ∷ s) e (suc f) = IsEmpty-is_bare s e f
+pub IsEmpty-from_is_bare : (s : Marks) → is_bare s ≡ true → IsEmpty s
+IsEmpty-from_is_bare [] e f = refl
+IsEmpty-from_is_bare (true ∷ s) e f = absurd cc
+IsEmpty-from_is_bare (false ∷ s) e zero = refl
+IsEmpty-from_is_bare (false ∷ s) e (suc f) = IsEmpty-from_is_bare s e f
 
-pub is_bare-IsEmpty : (s : Marks) → IsEmpty s → is_bare s ≡ true
-is_bare-IsEmpty [] h = refl
-is_bare-IsEmpty (true ∷ s) h = let no : true ≡ false = h zero in absurd cc
-is_bare-IsEmpty (false ∷ s) h = is_bare-IsEmpty s (λ f. h (suc f))
+pub is_bare-from_IsEmpty : (s : Marks) → IsEmpty s → is_bare s ≡ true
+is_bare-from_IsEmpty [] h = refl
+is_bare-from_IsEmpty (true ∷ s) h = let no : true ≡ false = h zero in absurd cc
+is_bare-from_IsEmpty (false ∷ s) h = is_bare-from_IsEmpty s (λ f. h (suc f))
 
 -- ---- a member more or less
 
-pub has-add_same : (s : Marks) (f : ℕ) (b : Bool) → f < length s → has (set s f b) f ≡ b
-has-add_same s f b h = get_or-set_same s f b false h
+-- f is a member where its mark says so
+pub has-set_same : (s : Marks) (f : ℕ) (b : Bool) → f < length s → has (set s f b) f ≡ b
+has-set_same s f b h = get_or-set_same s f b false h
 
-pub has-add_other : (s : Marks) (f g : ℕ) (b : Bool) → g ≢ f → has (set s f b) g ≡ has s g
-has-add_other s f g b h = get_or-set_other s f g b false h
+-- every other number stays as it was
+pub has-set_other : (s : Marks) (f g : ℕ) (b : Bool) → g ≢ f → has (set s f b) g ≡ has s g
+has-set_other s f g b h = get_or-set_other s f g b false h
 
 -- ---- union and difference
 
+-- the size of a union is that of the first set
 pub length-union : (s t : Marks) → length (union s t) ≡ length s
 length-union [] t = refl
 length-union (x ∷ s) [] = refl
 length-union (x ∷ s) (y ∷ t) = ap suc (length-union s t)
 
+-- a number is in a union where it is in either set
 pub has-union : (s t : Marks) → length t ≤ length s → (f : ℕ) → has (union s t) f ≡ (has s f || has t f)
 has-union [] [] h f = refl
 has-union [] (y ∷ t) h f = absurd (omega arith)
@@ -75,16 +82,23 @@ has-union (x ∷ s) [] h f = sym (or-false (has (x ∷ s) f))
 has-union (x ∷ s) (y ∷ t) h zero = refl
 has-union (x ∷ s) (y ∷ t) h (suc f) = has-union s t (omega arith) f
 
+-- the size of a difference is that of the first set
 pub length-difference : (s t : Marks) → length (difference s t) ≡ length s
 length-difference [] t = refl
 length-difference (x ∷ s) [] = refl
 length-difference (x ∷ s) (y ∷ t) = ap suc (length-difference s t)
 
+-- a number is in a difference where it is in the first set alone
 pub has-difference : (s t : Marks) (f : ℕ) → has (difference s t) f ≡ (has s f && not (has t f))
 has-difference [] t f = refl
 has-difference (x ∷ s) [] f = sym (and-true (has (x ∷ s) f))
 has-difference (x ∷ s) (y ∷ t) zero = refl
 has-difference (x ∷ s) (y ∷ t) (suc f) = has-difference s t f
+
+-- the members of a set, and none beside them
+pub union-bare : (t : Marks) → union (bare (length t)) t ≡ t
+union-bare [] = refl
+union-bare (y ∷ t) = ap (λ (s : Marks). y ∷ s) (union-bare t)
 
 -- two sets of one size with the same members are one set
 pub same_members : (s t : Marks) → length s ≡ length t → ((f : ℕ) → f < length s → has s f ≡ has t f) → s ≡ t
@@ -105,15 +119,17 @@ both_at s t e f = elim (cases_lt f (length s)) [
       ∙ sym (ap₂ (λ a b. a && b) (get_or_past s f false h) (get_or_past t f false (omega arith)))
 ]
 
-pub least_common-none : (s t : Marks) → length s ≡ length t → AreDisjoint s t → least_common s t ≡ None
-least_common-none s t e apart =
+-- there is no least number where no number is in both
+pub least_common-from_AreDisjoint : (s t : Marks) → length s ≡ length t → AreDisjoint s t → least_common s t ≡ None
+least_common-from_AreDisjoint s t e apart =
     let pairs = zip s t in
     let all : position_or_len both pairs ≡ length pairs =
     position_or_len_is both pairs (length pairs) (false, false) (omega arith) (λ k h. both_at s t e k ∙ apart k) (λ h. absurd (omega arith)) in
     ap (λ i. cond (nat_lt i (length pairs)) (Some i) None) all ∙ ap (λ b. cond b (Some (length pairs)) None) (le-ltb _ _ (omega arith))
 
-pub least_common-some : (s t : Marks) → length s ≡ length t → (f : ℕ) → IsLeastCommon s t f → least_common s t ≡ Some f
-least_common-some s t e f l =
+-- and where a number is the least in both, it is that
+pub least_common-from_IsLeastCommon : (s t : Marks) → length s ≡ length t → (f : ℕ) → IsLeastCommon s t f → least_common s t ≡ Some f
+least_common-from_IsLeastCommon s t e f l =
     let pairs = zip s t in
     let within : f < length pairs = elim (cases_lt f (length s)) [
       | inl h ↦ omega (arith, length-pairs s t e)
@@ -134,6 +150,7 @@ low : (b : Bool) (n : ℕ) → ((if b then 1 else 0) + 2 * n) % 2 ≡ (if b then
 low true n = omega arith
 low false n = omega arith
 
+-- a bit of the number is the mark at its place
 pub bit_at-number_of : (bs : Marks) (i : ℕ) → bit_at (number_of bs) i ≡ (if has bs i then 1 else 0)
 bit_at-number_of [] i = bit_at-zero i
 bit_at-number_of (b ∷ bs) zero = bit_at_lowest (number_of (b ∷ bs)) ∙ low b (number_of bs)
@@ -163,5 +180,5 @@ pub ones-word_of : (s : Marks) (w : ℕ) → count_ones (word_of s w) ≡ count_
 ones-word_of s w = ones_of_number (take 64 (drop (64 * w) s))
 
 -- a number in both sets tells them from two that have none
-pub IsLeastCommon-not_disjoint : (s t : Marks) (f : ℕ) → IsLeastCommon s t f → AreDisjoint s t → ⊥
-IsLeastCommon-not_disjoint s t f l apart = let no : true ≡ false = sym (ap₂ (λ a b. a && b) l.first l.second) ∙ apart f in absurd cc
+pub not_disjoint-from_IsLeastCommon : (s t : Marks) (f : ℕ) → IsLeastCommon s t f → AreDisjoint s t → ⊥
+not_disjoint-from_IsLeastCommon s t f l apart = let no : true ≡ false = sym (ap₂ (λ a b. a && b) l.first l.second) ∙ apart f in absurd cc

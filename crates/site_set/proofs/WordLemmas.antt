@@ -10,7 +10,7 @@ use Rattle.std.proofs.lemmas.Nat.Bits.{bit_at-lt, bit_at-zero, bit_at_above, sam
 use Rattle.site_set.specs.Packed.{marks_of, IsPacked}
 use Rattle.site_set.specs.Marks.{Marks, has, is_bare, word_of, IsEmpty}
 use Rattle.site_set.proofs.PackedLemmas.{length-marks_of, has-marks_of_any}
-use Rattle.site_set.proofs.MarksLemmas.{and_first, and_second, bit_at-word_of, bit_at-word_of_above, ones-word_of, IsEmpty-is_bare, is_bare-IsEmpty}
+use Rattle.site_set.proofs.MarksLemmas.{and_first, and_second, bit_at-word_of, bit_at-word_of_above, ones-word_of, IsEmpty-from_is_bare, is_bare-from_IsEmpty}
 
 -- a bit is known from its test
 same_bit : (a b : ℕ) → a < 2 → b < 2 → (a == 1) ≡ (b == 1) → a ≡ b
@@ -72,7 +72,7 @@ module _ (size : ℕ) (ws : List ℕ) (p : IsPacked size ws) where
       all_zero (x ∷ xs) z = ap₂ (λ a b. a && b) (eq-eqb x 0 (z zero)) (all_zero xs (λ k. z (suc k)))
 
   pub is_bare-zero : ((k : ℕ) → get_or ws k 0 < 2 ^ 64) → is_bare (marks_of size ws) ≡ list_all (λ word. word == 0) ws
-  is_bare-zero fits = same_test _ _ (λ e. zero-IsEmpty fits (IsEmpty-is_bare _ e)) (λ e. is_bare-IsEmpty _ (IsEmpty-zero e))
+  is_bare-zero fits = same_test _ _ (λ e. zero-IsEmpty fits (IsEmpty-from_is_bare _ e)) (λ e. is_bare-from_IsEmpty _ (IsEmpty-zero e))
     where
       same_test : (a b : Bool) → (a ≡ true → b ≡ true) → (b ≡ true → a ≡ true) → a ≡ b
       same_test true b f g = sym (f refl)

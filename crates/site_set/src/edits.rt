@@ -2,15 +2,15 @@
 
 use crate::sets::SiteSet;
 
-/// A change of a filter: which functions it names, and what becomes of them (ftrace.rst, Filter
-/// commands and "set_ftrace_filter").
+/// A change of a filter: which functions a text selects, and what becomes of them (ftrace.rst,
+/// dynamic ftrace and Filter commands).
 #[derive(Debug, Drop)]
 pub struct Edit {
-    /// Start from the filter as it is (`>>`), and not from the empty set (`>`).
+    /// The edit starts from the filter as it is (`>>`), and not from the empty set (`>`).
     pub append: bool,
-    /// Take the functions of `set` away (a leading `!`), and do not add them.
+    /// The functions of `set` are taken away (a leading `!`), and not added.
     pub remove: bool,
-    /// Leave no function: an edit by `>` without a text.
+    /// The edit leaves the empty set: `>` and no text.
     pub clear: bool,
     /// The functions that the text selects.
     pub set: SiteSet,
