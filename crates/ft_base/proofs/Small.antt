@@ -1,0 +1,49 @@
+-- Small facts on tests and lists that many proofs use.
+use Rattle.std.proofs.Common.{cond, ◌≡◌, ℕ, suc, ◌⊎◌, Bool, true, false, ◌&&◌, ◌||◌, ◌==◌, List, [], ◌∷◌, ◌++◌, refl, sym, arith, rules, inl, inr}
+use Rattle.std.specs.Prelude.{Contains}
+use Rattle.std.specs.List.{filter, AllByRecursion as Each}
+
+pub false_true : {A : Type 0} → false ≡ true → A
+false_true e = absurd cc
+
+pub and_both : (a b : Bool) → (a && b) ≡ true → (a ≡ true) × (b ≡ true)
+and_both true b e = (refl, e)
+and_both false b e = false_true e
+
+-- on a number itself
+pub ==-refl : (n : ℕ) → (n == n) ≡ true
+==-refl n = search rules
+
+pub Each-weaker : {X : Type 0} (P Q : X → Type 0) (xs : List X) → ((x : X) → P x → Q x) → Each P xs → Each Q xs
+Each-weaker P Q [] f h = tt
+Each-weaker P Q (x ∷ xs) f h = (f x h.0, Each-weaker P Q xs f h.1)
+
+pub Each-snoc : {X : Type 0} (P : X → Type 0) (xs : List X) (y : X) → Each P xs → P y → Each P (xs ++ y ∷ [])
+Each-snoc P [] y h p = (p, tt)
+Each-snoc P (x ∷ xs) y h p = (h.0, Each-snoc P xs y h.1 p)
+
+pub Each-filter : {X : Type 0} (P : X → Type 0) (p : X → Bool) (xs : List X) → Each P xs → Each P (filter p xs)
+Each-filter P p [] h = tt
+Each-filter P p (x ∷ xs) h = elim (p x) as (λ b. Each P (cond b (x ∷ filter p xs) (filter p xs))) [ true ↦ (h.0, Each-filter P p xs h.1) | false ↦ Each-filter P p xs h.1 ]
+
+pub Contains-head : {X : Type 0} (x : X) (xs : List X) → Contains (x ∷ xs) x
+Contains-head x xs = (0, omega arith, refl)
+
+pub Contains-more : {X : Type 0} (y x : X) (xs : List X) → Contains xs x → Contains (y ∷ xs) x
+Contains-more y x xs c = (suc c.0, (let l = c.1 in omega arith), c.2)
+
+pub or-false_both : (a b : Bool) → (a || b) ≡ false → (a ≡ false) × (b ≡ false)
+or-false_both true b e = false_true (sym e)
+or-false_both false b e = (refl, e)
+
+pub and-false : (b : Bool) → (b && false) ≡ false
+and-false true = refl
+and-false false = refl
+
+pub or-true : (b : Bool) → (b || true) ≡ true
+or-true true = refl
+or-true false = refl
+
+pub or-true_either : (a b : Bool) → (a || b) ≡ true → (a ≡ true) ⊎ (b ≡ true)
+or-true_either true b e = inl refl
+or-true_either false b e = inr e

@@ -1,0 +1,200 @@
+-- The desk: the users' state after the first commands of a job, and the answer of each command.
+use Rattle.std.specs.Prelude.{ℕ, zero, suc, Bool, true, false, not, ◌||◌, ◌&&◌, ◌==◌, List, [], ◌∷◌, get_or, set, length, map, Option, Some, None, is_some, if◌then◌else◌, slice_get}
+use Rattle.std.specs.List.{list_any}
+use Rattle.ft_base.specs.declared.item.Ran.{Ran}
+use Rattle.ft_base.specs.declared.item.Ran.TheVariants.{Nop, List as ByList, Own}
+use Rattle.ft_base.specs.declared.item.Answer.{Answer}
+use Rattle.ft_base.specs.declared.item.Answer.TheVariants.{Accepted, Already, NotThere, Invalid, NoMatch, Busy}
+use Rattle.ft_base.specs.declared.plan.Kind.{Kind}
+use Rattle.ft_base.specs.declared.plan.Kind.TheVariants.{Function, Fprobe}
+use Rattle.ft_base.specs.Job.{Marks, holds, is_bare, united, without, bare, Spec, Edit, Command, Register, Unregister, Filter, Notrace, Pid, NoPid, Enable, Disable, MaxDepth, Job, commands, funcs}
+
+-- one user on a desk
+pub record UserState : Type 0 where
+  pub registered : Bool
+  pub reg : ℕ
+  pub since : ℕ
+  pub enabled : Bool
+  pub filter : Marks
+  pub notrace : Marks
+  pub slot : Option ℕ
+
+pub record Desk : Type 0 where
+  pub users : List UserState
+  pub only : Marks
+  pub not_these : Marks
+  pub depth : ℕ
+
+abbrev pub unseen : ℕ → UserState
+unseen size = record { registered = false; reg = 0; since = 0; enabled = false; filter = bare size; notrace = bare size; slot = None }
+
+abbrev pub user_at : Desk → ℕ → UserState
+user_at desk u = get_or desk.users u (unseen 0)
+
+abbrev pub plain_spec : Spec
+plain_spec = record { name = []; kind = Function; regs = false; ipmodify = None; pid = false; act = None }
+
+abbrev pub spec_at : Job → ℕ → Spec
+spec_at job u = get_or job.users u plain_spec
+
+-- a user matches a function: its filter is empty or holds it, and its notrace set doesn't
+abbrev pub matches_by : Marks → Marks → ℕ → Bool
+matches_by filter notrace f = (is_bare filter || holds filter f) && not (holds notrace f)
+
+abbrev pub is_matching : UserState → ℕ → Bool
+is_matching s f = matches_by s.filter s.notrace f
+
+abbrev pub is_sited : Desk → ℕ → ℕ → Bool
+is_sited desk u f = (user_at desk u).registered && is_matching (user_at desk u) f
+
+abbrev pub is_on : Desk → ℕ → ℕ → Bool
+is_on desk u f = is_sited desk u f && (user_at desk u).enabled
+
+abbrev pub is_live : Desk → ℕ → ℕ → Bool
+is_live desk u r = (user_at desk u).registered && (user_at desk u).enabled && ((user_at desk u).reg == r)
+
+abbrev pub is_allowed : Desk → ℕ → Bool
+is_allowed desk t = (is_bare desk.only || holds desk.only t) && not (holds desk.not_these t)
+
+-- the lowest number from a start on, among so many, that passes
+abbrev pub lowest : (ℕ → Bool) → ℕ → ℕ → Option ℕ
+lowest p from zero = None
+lowest p from (suc n) = if p from then Some from else lowest p (suc from) n
+
+-- the users sited at f, of the first n, the lowest first
+abbrev pub sited_from : Desk → ℕ → ℕ → List UserState → List ℕ
+sited_from desk f u [] = []
+sited_from desk f u (s ∷ rest) = if s.registered && is_matching s f then u ∷ sited_from desk f (suc u) rest else sited_from desk f (suc u) rest
+
+abbrev pub sited : Desk → ℕ → List ℕ
+sited desk f = sited_from desk f 0 desk.users
+
+-- what a call site of f should be: nothing, one user's own trampoline, or the list
+abbrev pub target_by : Desk → List ℕ → Ran
+target_by desk [] = Nop
+target_by desk (u ∷ []) = if is_some (user_at desk u).slot then Own (record { 0 = u }) else ByList
+target_by desk (u ∷ v ∷ rest) = ByList
+
+abbrev pub target : Desk → ℕ → Ran
+target desk f = target_by desk (sited desk f)
+
+-- the set after an edit
+abbrev pub edited : ℕ → Marks → Edit → Marks
+edited size old e =
+    if e.clear then bare size else
+    (if e.remove then without (if e.append then old else bare size) e.set else united (if e.append then old else bare size) e.set)
+
+-- another registered user with ipmodify matches f
+abbrev pub other_modifier : Job → Desk → ℕ → ℕ → ℕ → Bool
+other_modifier job desk u f v = not (v == u) && (user_at desk v).registered && is_some (spec_at job v).ipmodify && is_matching (user_at desk v) f
+
+-- `Busy` for the function and its first holder, where there is one
+abbrev pub busy_or : Option ℕ → Option ℕ → Answer → Answer
+busy_or (Some f) (Some v) otherwise = Busy (record { 0 = f }) (record { 0 = v })
+busy_or _ _ otherwise = otherwise
+
+abbrev pub holder_at : Job → Desk → ℕ → Option ℕ → Option ℕ
+holder_at job desk u None = None
+holder_at job desk u (Some f) = lowest (other_modifier job desk u f) 0 (length job.users)
+
+abbrev pub conflicts : Job → Desk → ℕ → Marks → Marks → ℕ → Bool
+conflicts job desk u filter notrace f = matches_by filter notrace f && is_some (lowest (other_modifier job desk u f) 0 (length job.users))
+
+-- what stands in the way of a user with ipmodify and these sets: the lowest function, and its holder
+abbrev pub claim : Job → Desk → ℕ → Marks → Marks → Answer
+claim job desk u filter notrace =
+    let f = lowest (conflicts job desk u filter notrace) 0 (funcs job) in
+    busy_or f (holder_at job desk u f) Accepted
+
+abbrev pub register_answer : Job → Desk → ℕ → Answer
+register_answer job desk u =
+    let s = user_at desk u in
+    let modifies = is_some (spec_at job u).ipmodify in
+    if s.registered then Already else
+    (if modifies && (not (spec_at job u).regs || is_bare s.filter) then Invalid else
+    (if modifies then claim job desk u s.filter s.notrace else Accepted))
+
+abbrev pub edit_answer : Job → Desk → ℕ → Edit → Marks → Marks → Answer
+edit_answer job desk u e filter notrace =
+    let binds = (user_at desk u).registered && is_some (spec_at job u).ipmodify in
+    let selects = e.clear || not (is_bare e.set) in
+    if binds && selects && is_bare filter then Invalid else
+    (if not selects then NoMatch else
+    (if binds then claim job desk u filter notrace else Accepted))
+
+abbrev pub is_fprobe : Kind → Bool
+is_fprobe (Fprobe exit cancel) = true
+is_fprobe _ = false
+
+abbrev pub switch_answer : Job → Desk → ℕ → Answer
+switch_answer job desk u =
+    if not (user_at desk u).registered then NotThere else
+    (if not (is_fprobe (spec_at job u).kind) then Invalid else Accepted)
+
+-- the answer of a command on a desk
+abbrev pub answer_on : Job → Desk → Command → Answer
+answer_on job desk (Register u) = register_answer job desk u
+answer_on job desk (Unregister u) = if (user_at desk u).registered then Accepted else NotThere
+answer_on job desk (Filter u e) = edit_answer job desk u e (edited (funcs job) (user_at desk u).filter e) (user_at desk u).notrace
+answer_on job desk (Notrace u e) = edit_answer job desk u e (user_at desk u).filter (edited (funcs job) (user_at desk u).notrace e)
+answer_on job desk (Pid only) = Accepted
+answer_on job desk (NoPid not_these) = Accepted
+answer_on job desk (Enable u) = switch_answer job desk u
+answer_on job desk (Disable u) = switch_answer job desk u
+answer_on job desk (MaxDepth depth) = Accepted
+
+abbrev pub has_slot : ℕ → Option ℕ → Bool
+has_slot s None = false
+has_slot s (Some t) = s == t
+
+-- nobody has this trampoline
+abbrev pub is_free : Desk → ℕ → Bool
+is_free desk s = not (list_any (λ v. v.registered && has_slot s v.slot) desk.users)
+
+abbrev pub with_user : Desk → ℕ → UserState → Desk
+with_user desk u s = record desk { users = set desk.users u s }
+
+-- a user that the k-th command registers: it takes the lowest free trampoline
+abbrev pub registered_as : Job → Desk → ℕ → UserState → UserState
+registered_as job desk k s = record s { registered = true; reg = suc s.reg; since = k; enabled = true; slot = lowest (is_free desk) 0 job.tramps }
+
+abbrev pub unregistered_as : UserState → UserState
+unregistered_as s = record s { registered = false; slot = None }
+
+-- the desk after the k-th command, which was accepted
+abbrev pub changed : Job → Desk → ℕ → Command → Desk
+changed job desk k (Register u) = with_user desk u (registered_as job desk k (user_at desk u))
+changed job desk k (Unregister u) = with_user desk u (unregistered_as (user_at desk u))
+changed job desk k (Filter u e) = let s = user_at desk u in with_user desk u (record s { filter = edited (funcs job) s.filter e })
+changed job desk k (Notrace u e) = let s = user_at desk u in with_user desk u (record s { notrace = edited (funcs job) s.notrace e })
+changed job desk k (Pid only) = record desk { only = only }
+changed job desk k (NoPid not_these) = record desk { not_these = not_these }
+changed job desk k (Enable u) = with_user desk u (record (user_at desk u) { enabled = true })
+changed job desk k (Disable u) = with_user desk u (record (user_at desk u) { enabled = false })
+changed job desk k (MaxDepth depth) = record desk { depth = depth }
+
+abbrev pub is_accepted : Answer → Bool
+is_accepted Accepted = true
+is_accepted _ = false
+
+-- the desk after the k-th command, where there is one
+abbrev pub after : Job → Desk → ℕ → Option Command → Desk
+after job desk k None = desk
+after job desk k (Some c) = if is_accepted (answer_on job desk c) then changed job desk k c else desk
+
+abbrev pub opening : Job → Desk
+opening job = record {
+  users = map (λ s. unseen (funcs job)) job.users;
+  only = bare (length job.tasks);
+  not_these = bare (length job.tasks);
+  depth = 0;
+}
+
+-- the desk after the first k commands of the job
+unfoldable pub desk : Job → ℕ → Desk
+desk job zero = opening job
+desk job (suc k) = after job (desk job k) (suc k) (slice_get (commands job) k)
+
+-- the answer of the command at this index, on the desk before it
+abbrev pub answer_at : Job → ℕ → Command → Answer
+answer_at job k c = answer_on job (desk job k) c

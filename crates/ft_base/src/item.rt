@@ -1,0 +1,117 @@
+use crate::context::Ctx;
+use crate::number::{CallNo, FuncNo, UserNo};
+
+/// Why a user that is on at a call's function was not called back.
+#[derive(Clone, Copy, Debug, PartialEq, Eq)]
+pub enum Reason {
+    /// It has a pid filter, which the task doesn't pass (`ftrace.rst`, `set_ftrace_pid`).
+    Pid,
+    /// A callback of the same task and context is open (`ftrace-uses.rst`, "Protect your callback").
+    Recursion,
+    /// The shadow stack is full, or the graph depth is reached (`ftrace.rst`, `max_graph_depth`).
+    Depth,
+}
+
+/// What was fetched at a call site.
+#[derive(Clone, Copy, Debug, PartialEq, Eq)]
+pub enum Ran {
+    /// The nop: nobody traces the function.
+    Nop,
+    /// A call of the list caller, which goes through all users.
+    List,
+    /// A call of this user's own trampoline.
+    Own(UserNo),
+}
+
+/// The answer of a command. All but `Accepted` are refusals, and a refused command changes nothing.
+#[derive(Clone, Copy, Debug, PartialEq, Eq)]
+pub enum Answer {
+    Accepted,
+    /// The user is registered already.
+    Already,
+    /// The user isn't registered.
+    NotThere,
+    /// The command doesn't go with the user's flags, kind or filter.
+    Invalid,
+    /// The text selects no function.
+    NoMatch,
+    /// Another registered user replaces this function already (`ftrace-uses.rst`,
+    /// `FTRACE_OPS_FL_IPMODIFY`).
+    Busy { func: FuncNo, holder: UserNo },
+}
+
+/// One item of a history. Its place in the history is the value of the trace clock `counter`
+/// (`ftrace.rst`, `trace_clock`).
+#[derive(Clone, Copy, Debug, PartialEq, Eq)]
+pub enum Item {
+    /// Command `k`, from 1, begins.
+    Begin {
+        k: u32,
+    },
+    /// Command `k` returns.
+    Return {
+        k: u32,
+        answer: Answer,
+    },
+    /// The task calls the function; `caller` is the enclosing call.
+    Enter {
+        call: CallNo,
+        ctx: Ctx,
+        func: FuncNo,
+        caller: Option<CallNo>,
+    },
+    /// The entry callback of the user begins.
+    Back {
+        call: CallNo,
+        user: UserNo,
+    },
+    /// The entry callback of the user ends.
+    BackEnd {
+        call: CallNo,
+        user: UserNo,
+    },
+    /// The user matched and was refused.
+    Refuse {
+        call: CallNo,
+        user: UserNo,
+        reason: Reason,
+    },
+    /// The exit of the user couldn't be set up (`fprobe.rst`, "The missed counter").
+    Miss {
+        call: CallNo,
+        user: UserNo,
+    },
+    /// The dispatch is over and the body of `func` runs; `ran` is what was fetched.
+    Body {
+        call: CallNo,
+        func: FuncNo,
+        ran: Ran,
+    },
+    /// The body is over.
+    Leave {
+        call: CallNo,
+    },
+    /// The exit callback of the user begins; `entry` is the place of its entry callback.
+    Exit {
+        call: CallNo,
+        user: UserNo,
+        entry: u32,
+    },
+    /// The exit callback of the user ends.
+    ExitEnd {
+        call: CallNo,
+        user: UserNo,
+    },
+    /// The return has reached the call `to`, or the outermost level.
+    Ret {
+        call: CallNo,
+        to: Option<CallNo>,
+    },
+}
+
+/// An item and its place in the history.
+#[derive(Clone, Copy, Debug, PartialEq, Eq)]
+pub struct Stamped {
+    pub place: u32,
+    pub item: Item,
+}

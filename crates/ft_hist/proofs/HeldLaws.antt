@@ -1,0 +1,195 @@
+-- The open calls of a task are its plain stack, and so the frames held are counted on that stack.
+use Rattle.std.proofs.Common.{cond, ◌≡◌, ℕ, ◌<◌, Bool, true, false, not, ◌&&◌, ◌||◌, ◌==◌, List, [], ◌∷◌, length, Some, None, refl, sym, ap, ◌∙◌, subst, arith, eqb-true, rules, inl, inr}
+use Rattle.std.proofs.lemmas.Bool.Decides.{eqb_tells}
+use Rattle.std.specs.List.{filter, AllByRecursion as Each}
+use Rattle.ft_base.specs.declared.number.CallNo.{CallNo}
+use Rattle.ft_base.specs.declared.item.Item.{Item}
+use Rattle.ft_base.specs.declared.item.Item.TheVariants.{Begin, Return, Enter, Back, BackEnd, Refuse, Miss, Body, Leave, Exit, ExitEnd, Ret}
+use Rattle.ft_base.specs.Same.{same_call}
+use Rattle.ft_base.specs.Job.{Job}
+use Rattle.ft_base.specs.Desk.{spec_at}
+use Rattle.ft_base.proofs.Small.{false_true, and-false, Each-weaker}
+use Rattle.ft_hist.specs.Past.{is_of, done, is_open, calls, held, meetings, is_dispatched, has_frame_user, cancels}
+use Rattle.ft_hist.specs.Plain.{plain, read_on, PlainTask, at_start}
+use Rattle.ft_hist.proofs.Laws.{same_call-refl}
+use Rattle.ft_hist.proofs.RunLaws.{some_inj, calls_on, Keeps, Moves, moves}
+use Rattle.ft_hist.proofs.Since.{IsOlder, apart, holding, holds}
+
+filter-ext : {X : Type 0} (p q : X → Bool) (xs : List X) → Each (λ x. p x ≡ q x) xs → filter p xs ≡ filter q xs
+filter-ext p q [] h = refl
+filter-ext p q (x ∷ xs) h =
+    rw h.0 (elim (q x) as (λ b. cond b (x ∷ filter p xs) (filter p xs) ≡ cond b (x ∷ filter q xs) (filter q xs)) [
+      | true ↦ ap (λ ys. x ∷ ys) (filter-ext p q xs h.1)
+      | false ↦ filter-ext p q xs h.1
+    ])
+
+filter-all : {X : Type 0} (p : X → Bool) (xs : List X) → Each (λ x. p x ≡ true) xs → filter p xs ≡ xs
+filter-all p [] h = refl
+filter-all p (x ∷ xs) h = rw h.0 (ap (λ ys. x ∷ ys) (filter-all p xs h.1))
+
+filter-both : {X : Type 0} (a n o : X → Bool) (xs : List X) → filter (λ x. a x && (n x && o x)) xs ≡ filter n (filter (λ x. a x && o x) xs)
+filter-both a n o [] = refl
+filter-both a n o (x ∷ xs) =
+    elim (a x) as (λ b. cond (b && (n x && o x)) (x ∷ filter (λ y. a y && (n y && o y)) xs) (filter (λ y. a y && (n y && o y)) xs) ≡ filter n (cond (b && o x) (x ∷ filter (λ y. a y && o y) xs) (filter (λ y. a y && o y) xs))) [
+      | false ↦ filter-both a n o xs
+      | true ↦ elim (o x) as (λ b. cond (n x && b) (x ∷ filter (λ y. a y && (n y && o y)) xs) (filter (λ y. a y && (n y && o y)) xs) ≡ filter n (cond b (x ∷ filter (λ y. a y && o y) xs) (filter (λ y. a y && o y) xs))) [
+        | false ↦ rw (and-false (n x)) (filter-both a n o xs)
+        | true ↦ elim (n x) as (λ b. cond (b && true) (x ∷ filter (λ y. a y && (n y && o y)) xs) (filter (λ y. a y && (n y && o y)) xs) ≡ cond b (x ∷ filter n (filter (λ y. a y && o y) xs)) (filter n (filter (λ y. a y && o y) xs))) [
+          | true ↦ ap (λ ys. x ∷ ys) (filter-both a n o xs)
+          | false ↦ filter-both a n o xs
+        ]
+      ]
+    ]
+
+filter-nest : {X : Type 0} (a n o q : X → Bool) (xs : List X) → filter (λ x. a x && n x && (o x && q x)) xs ≡ filter (λ x. n x && (o x && q x)) (filter (λ x. a x && o x) xs)
+filter-nest a n o q [] = refl
+filter-nest a n o q (x ∷ xs) =
+    let more = filter-nest a n o q xs in
+    elim (a x) as (λ b. cond (b && n x && (o x && q x)) (x ∷ filter (λ y. a y && n y && (o y && q y)) xs) (filter (λ y. a y && n y && (o y && q y)) xs) ≡ filter (λ y. n y && (o y && q y)) (cond (b && o x) (x ∷ filter (λ y. a y && o y) xs) (filter (λ y. a y && o y) xs))) [
+      | false ↦ more
+      | true ↦ elim (o x) as (λ b. o x ≡ b → cond (n x && (b && q x)) (x ∷ filter (λ y. a y && n y && (o y && q y)) xs) (filter (λ y. a y && n y && (o y && q y)) xs) ≡ filter (λ y. n y && (o y && q y)) (cond b (x ∷ filter (λ y. a y && o y) xs) (filter (λ y. a y && o y) xs))) [
+        | false ↦ λ e. rw (and-false (n x)) more
+        | true ↦ λ e. rw e (elim (n x && q x) as (λ b. cond b (x ∷ filter (λ y. a y && n y && (o y && q y)) xs) (filter (λ y. a y && n y && (o y && q y)) xs) ≡ cond b (x ∷ filter (λ y. n y && (o y && q y)) (filter (λ y. a y && o y) xs)) (filter (λ y. n y && (o y && q y)) (filter (λ y. a y && o y) xs))) [
+          | true ↦ ap (λ ys. x ∷ ys) more
+          | false ↦ more
+        ])
+      ] refl
+    ]
+
+-- each call has a greater number than those below it
+abbrev pub Falls : List CallNo → Type 0
+Falls [] = Unit {0}
+Falls (c ∷ cs) = Each (λ d. d.n < c.n) cs × Falls cs
+
+-- the task's open calls, the latest first
+abbrev pub open_calls : ℕ → List Item → List CallNo
+open_calls t past = filter (λ c. (c.task.0 == t) && is_open c past) (calls past)
+
+pub record Opens (t : ℕ) (past : List Item) (next : ℕ) (stack : List CallNo) : Type 0 where
+  pub number : Each (λ c. c.n < next) stack
+  pub falls : Falls stack
+  pub made : Each (IsOlder t next) (calls past)
+  pub open' : open_calls t past ≡ stack
+
+ne_n : (a b : ℕ) → a < b → (b == a) ≡ false
+ne_n a b lt = elim (eqb_tells b a) [ inl x ↦ (let y : b ≡ a = x.1 in absurd (omega arith)) | inr x ↦ x.0 ]
+
+ne_m : (a b : ℕ) → a < b → (a == b) ≡ false
+ne_m a b lt = elim (eqb_tells a b) [ inl x ↦ (let y : a ≡ b = x.1 in absurd (omega arith)) | inr x ↦ x.0 ]
+
+not_same : (call c : CallNo) → c.n < call.n → same_call call c ≡ false
+not_same call c lt = rw (ne_n c.n call.n lt) (and-false (call.task.0 == c.task.0))
+
+not_same' : (call c : CallNo) → c.n < call.n → same_call c call ≡ false
+not_same' call c lt = rw (ne_m c.n call.n lt) (and-false (c.task.0 == call.task.0))
+
+module _ (t : ℕ) (past : List Item) where
+  kept : (s s' : PlainTask) (call : CallNo) (item : Item) → calls (item ∷ past) ≡ calls past → open_calls t (item ∷ past) ≡ open_calls t past → Keeps s s' call
+      → Opens t past s.next (calls_on s.stack) → Opens t (item ∷ past) s'.next (calls_on s'.stack)
+  kept s s' call item same still k h = record {
+    number = rw (k.calls, k.next) h.number;
+    falls = rw k.calls h.falls;
+    made = rw (same, k.next) h.made;
+    open' = rw (still, k.calls) h.open';
+  }
+
+  -- which calls are open after an Enter or a Ret of the task
+  enter_same : (call : CallNo) (next : ℕ) (cs : List CallNo) → call.task.0 ≡ t → call.n ≡ next → Each (IsOlder t next) cs
+      → Each (λ c. ((c.task.0 == t) && (same_call call c || is_open c past)) ≡ ((c.task.0 == t) && is_open c past)) cs
+  enter_same call next [] own num h = tt
+  enter_same call next (c ∷ cs) own num h =
+      (rw (apart t call.n call c own (omega arith) (λ e. rw num (h.0 e))) refl, enter_same call next cs own num h.1)
+
+  opens-own : (s s' : PlainTask) (item : Item) → is_of t item ≡ true → Moves s s' item → Opens t past s.next (calls_on s.stack)
+      → Opens t (item ∷ past) s'.next (calls_on s'.stack)
+  opens-own s s' (Begin k) own m h = false_true own
+  opens-own s s' (Return k a) own m h = false_true own
+  opens-own s s' (Enter call x f caller) own m h = record {
+    number = rw m.calls (rw (m.number, m.next) (omega arith), Each-weaker (λ c. c.n < s.next) (λ c. c.n < s'.next) (calls_on s.stack) (λ c lt. rw m.next (omega arith)) h.number);
+    falls = rw m.calls (Each-weaker (λ c. c.n < s.next) (λ c. c.n < call.n) (calls_on s.stack) (λ c lt. rw m.number lt) h.number, h.falls);
+    made = (λ e. rw (m.number, m.next) (omega arith), Each-weaker (IsOlder t s.next) (IsOlder t s'.next) (calls past) (λ c old e. (let lt = old e in rw m.next (omega arith))) h.made);
+    open' = rw (own, same_call-refl call) (ap (λ cs. call ∷ cs) (filter-ext (λ c. (c.task.0 == t) && (same_call call c || is_open c past)) (λ c. (c.task.0 == t) && is_open c past) (calls past)
+        (enter_same call s.next (calls past) (eqb-true call.task.0 t own) m.number h.made) ∙ h.open') ∙ sym m.calls);
+  }
+  opens-own s s' (Ret call to) own m h =
+      let numbers = rw m.calls at h.number in
+      let falls = rw m.calls at h.falls in
+      record {
+        number = rw m.next numbers.1;
+        falls = falls.1;
+        made = rw m.next h.made;
+        open' = filter-both (λ c. c.task.0 == t) (λ c. not (same_call call c)) (λ c. is_open c past) (calls past)
+            ∙ ap (λ cs. filter (λ c. not (same_call call c)) cs) (h.open' ∙ m.calls)
+            ∙ rw (same_call-refl call) (filter-all (λ c. not (same_call call c)) (calls_on s'.stack)
+            (Each-weaker (λ d. d.n < call.n) (λ d. not (same_call call d) ≡ true) (calls_on s'.stack) (λ d lt. rw (not_same call d lt) refl) falls.0));
+      }
+  opens-own s s' (Back call u) own m h = kept s s' call (Back call u) refl refl m h
+  opens-own s s' (BackEnd call u) own m h = kept s s' call (BackEnd call u) refl refl m h
+  opens-own s s' (Refuse call u reason) own m h = kept s s' call (Refuse call u reason) refl refl m h
+  opens-own s s' (Miss call u) own m h = kept s s' call (Miss call u) refl refl m h
+  opens-own s s' (Body call g ran) own m h = kept s s' call (Body call g ran) refl refl m h
+  opens-own s s' (Leave call) own m h = kept s s' call (Leave call) refl refl m h
+  opens-own s s' (Exit call u entry) own m h = kept s s' call (Exit call u entry) refl refl m h
+  opens-own s s' (ExitEnd call u) own m h = kept s s' call (ExitEnd call u) refl refl m h
+
+  -- and after one of another task
+  foreign : (call : CallNo) → (call.task.0 == t) ≡ false → (c : CallNo) (b : Bool) → ((c.task.0 == t) && (same_call call c || b)) ≡ ((c.task.0 == t) && b)
+  foreign call other c b =
+      elim (eqb_tells c.task.0 t) [
+        | inl e ↦ rw (subst (λ x. (call.task.0 == x) ≡ false) (sym e.1) other) refl
+        | inr e ↦ rw e.0 refl
+      ]
+
+  foreign' : (call : CallNo) → (call.task.0 == t) ≡ false → (c : CallNo) (b : Bool) → ((c.task.0 == t) && (not (same_call call c) && b)) ≡ ((c.task.0 == t) && b)
+  foreign' call other c b =
+      elim (eqb_tells c.task.0 t) [
+        | inl e ↦ rw (subst (λ x. (call.task.0 == x) ≡ false) (sym e.1) other) refl
+        | inr e ↦ rw e.0 refl
+      ]
+
+  each-all : {X : Type 0} (P : X → Type 0) (xs : List X) → ((x : X) → P x) → Each P xs
+  each-all P [] f = tt
+  each-all P (x ∷ xs) f = (f x, each-all P xs f)
+
+  opens-other : (next : ℕ) (stack : List CallNo) (item : Item) → is_of t item ≡ false → Opens t past next stack → Opens t (item ∷ past) next stack
+  opens-other next stack (Enter call x f caller) other h = record {
+    number = h.number;
+    falls = h.falls;
+    made = (λ e. false_true (sym other ∙ (rw e (==-refl t))), h.made);
+    open' = rw other (filter-ext (λ c. (c.task.0 == t) && (same_call call c || is_open c past)) (λ c. (c.task.0 == t) && is_open c past) (calls past) (each-all _ (calls past) (λ c. foreign call other c (is_open c past))) ∙ h.open');
+  }
+    where
+      ==-refl : (n : ℕ) → (n == n) ≡ true
+      ==-refl n = search rules
+  opens-other next stack (Ret call to) other h = record {
+    number = h.number;
+    falls = h.falls;
+    made = h.made;
+    open' = filter-ext (λ c. (c.task.0 == t) && (not (same_call call c) && is_open c past)) (λ c. (c.task.0 == t) && is_open c past) (calls past) (each-all _ (calls past) (λ c. foreign' call other c (is_open c past))) ∙ h.open';
+  }
+  opens-other next stack _ other h = record { number = h.number; falls = h.falls; made = h.made; open' = h.open' }
+
+pub opens : (job : Job) (t : ℕ) (past : List Item) (s : PlainTask) → plain job t past ≡ Some s → Opens t past s.next (calls_on s.stack)
+unfolding plain
+opens job t [] s e = subst (λ (x : PlainTask). Opens t [] x.next (calls_on x.stack)) (some_inj (at_start job t) s e) (record { number = tt; falls = tt; made = tt; open' = refl })
+opens job t (item ∷ past) s e =
+    elim (is_of t item) as (λ b. is_of t item ≡ b → cond b (read_on job (done past) item (plain job t past)) (plain job t past) ≡ Some s → Opens t (item ∷ past) s.next (calls_on s.stack)) [
+      | true ↦ λ own x. elim (plain job t past) as (λ o. plain job t past ≡ o → read_on job (done past) item o ≡ Some s → Opens t (item ∷ past) s.next (calls_on s.stack)) [
+        | None ↦ λ here y. absurd cc
+        | Some p ↦ λ here y. opens-own t past p s item own (moves job (done past) p s item y) (opens job t past p here)
+      ] refl x
+      | false ↦ λ other x. opens-other t past s.next (calls_on s.stack) item other (opens job t past s x)
+    ] refl e
+
+-- the frames that a task's top call finds are those of the calls below it
+pub held-is : (job : Job) (past : List Item) (s : PlainTask) (call : CallNo) (below : List CallNo) → plain job call.task.0 past ≡ Some s → calls_on s.stack ≡ call ∷ below → held job call past ≡ holding job past below
+held-is job past s call below here top =
+    let o = opens job call.task.0 past s here in
+    let falls = rw top at o.falls in
+    let frame : CallNo → Bool = λ c. cond (is_dispatched c past) (has_frame_user c (λ m. not (cancels (spec_at job m.user).kind)) (meetings job past)) (has_frame_user c (λ m. true) (meetings job past)) in
+    ap length (
+    filter-nest (λ c. c.task.0 == call.task.0) (λ c. not (same_call c call)) (λ c. is_open c past) frame (calls past)
+    ∙ ap (λ cs. filter (λ c. not (same_call c call) && (is_open c past && frame c)) cs) (o.open' ∙ top)
+    ∙ rw (same_call-refl call) (filter-ext (λ c. not (same_call c call) && holds job past c) (λ c. holds job past c) below
+    (Each-weaker (λ d. d.n < call.n) (λ d. (not (same_call d call) && holds job past d) ≡ holds job past d) below (λ d lt. rw (not_same' call d lt) refl) falls.0))
+    )

@@ -1,0 +1,11 @@
+pub mod Laws
+pub mod StackLaws
+pub mod WindowLaws
+pub mod DispatchLaws
+pub mod RunLaws
+pub mod Since
+pub mod HeldLaws
+pub mod Lists
+pub mod Meet
+pub mod Exits
+pub mod WordLaws

@@ -1,0 +1,62 @@
+-- How the words on a past go on over one more item, of whichever actor.
+use Rattle.std.proofs.Common.{◌≡◌, ℕ, suc, ◌≤◌, Bool, false, List, [], ◌∷◌, refl, arith}
+use Rattle.ft_base.specs.declared.number.CallNo.{CallNo}
+use Rattle.ft_base.specs.declared.item.Item.{Item}
+use Rattle.ft_base.specs.declared.item.Item.TheVariants.{Begin, Return, Enter, Back, Refuse}
+use Rattle.ft_base.specs.Same.{same_call}
+use Rattle.ft_base.specs.Job.{Job}
+use Rattle.ft_hist.specs.Past.{done, begun, entered, entry_of, meetings, met}
+use Rattle.ft_hist.specs.Rules.{InWindow, IsLegalPast}
+
+-- the counts never fall
+pub done-more : (item : Item) (past : List Item) → done past ≤ done (item ∷ past)
+done-more (Return k a) past = omega arith
+done-more _ past = omega arith
+
+pub begun-more : (item : Item) (past : List Item) → begun past ≤ begun (item ∷ past)
+begun-more (Begin k) past = omega arith
+begun-more _ past = omega arith
+
+-- whether an item enters this call
+abbrev pub is_enter : CallNo → Item → Bool
+is_enter call (Enter c ctx f caller) = same_call c call
+is_enter call _ = false
+
+-- a call keeps its Enter
+pub entered-more : (call : CallNo) (item : Item) (past : List Item) → is_enter call item ≡ false → entered call (item ∷ past) ≡ entered call past
+entered-more call (Enter c ctx f caller) past other = rw other refl
+entered-more call _ past other = refl
+
+pub entry_of-more : (call : CallNo) (item : Item) (past : List Item) → is_enter call item ≡ false → entry_of call (item ∷ past) ≡ entry_of call past
+entry_of-more call (Enter c ctx f caller) past other = rw other refl
+entry_of-more call _ past other = refl
+
+-- what held at a command of the window so far still does
+pub InWindow-more : (call : CallNo) (item : Item) (past : List Item) (P : ℕ → Type 0) → is_enter call item ≡ false → InWindow call past P → InWindow call (item ∷ past) P
+InWindow-more call item past P other w =
+    let e : entry_of call (item ∷ past) ≡ entry_of call past = entry_of-more call item past other in
+    let b : begun past ≤ begun (item ∷ past) = begun-more item past in
+    (w.0, rw e w.1, (let c = w.2 in omega (arith, b)), w.3)
+
+-- whether an item is a Back or a Refuse of this call
+abbrev pub is_meeting : CallNo → Item → Bool
+is_meeting call (Back c u) = same_call c call
+is_meeting call (Refuse c u reason) = same_call c call
+is_meeting call _ = false
+
+-- the meetings of a call stay over any other item
+pub met-more : (job : Job) (call : CallNo) (item : Item) (past : List Item) → is_meeting call item ≡ false → met job call (item ∷ past) ≡ met job call past
+unfolding meetings
+met-more job call (Back c u) past other = rw other refl
+met-more job call (Refuse c u reason) past other = rw other refl
+met-more job call _ past other = refl
+
+-- in a legal history at most one command is under way
+pub legal-counts : (job : Job) (past : List Item) → IsLegalPast job past → (done past ≤ begun past) × (begun past ≤ suc (done past))
+unfolding IsLegalPast
+legal-counts job [] l = (omega arith, omega arith)
+legal-counts job (Begin k ∷ past) l =
+    let e : begun past ≡ done past = l.0.rule.0.follows in (omega arith, omega arith)
+legal-counts job (Return k a ∷ past) l =
+    let e : begun past ≡ suc (done past) = l.0.rule.follows in (omega arith, omega arith)
+legal-counts job (_ ∷ past) l = legal-counts job past l.1

@@ -1,0 +1,211 @@
+-- What a history tells at a place. Each word takes the items before that place, the latest first: its past.
+use Rattle.std.specs.Prelude.{ℕ, suc, Bool, true, false, not, ◌||◌, ◌&&◌, ◌==◌, nat_lt, List, [], ◌∷◌, length, Option, Some, None, if◌then◌else◌}
+use Rattle.std.specs.List.{list_any, filter}
+use Rattle.ft_base.specs.declared.number.CallNo.{CallNo}
+use Rattle.ft_base.specs.declared.context.Ctx.{Ctx}
+use Rattle.ft_base.specs.declared.context.Ctx.TheVariants.{Normal}
+use Rattle.ft_base.specs.declared.item.Item.{Item}
+use Rattle.ft_base.specs.declared.item.Item.TheVariants.{Begin, Return, Enter, Back, BackEnd, Refuse, Miss, Body, Leave, Exit, ExitEnd, Ret}
+use Rattle.ft_base.specs.declared.plan.Kind.{Kind}
+use Rattle.ft_base.specs.declared.plan.Kind.TheVariants.{Graph, Fprobe, Profile}
+use Rattle.ft_base.specs.Same.{same_call, same_ctx}
+use Rattle.ft_base.specs.Job.{Job}
+use Rattle.ft_base.specs.Desk.{spec_at, desk, is_on, user_at}
+
+-- whose item it is
+abbrev pub is_of : ℕ → Item → Bool
+is_of t (Begin k) = false
+is_of t (Return k a) = false
+is_of t (Enter call ctx f caller) = call.task.0 == t
+is_of t (Back call u) = call.task.0 == t
+is_of t (BackEnd call u) = call.task.0 == t
+is_of t (Refuse call u reason) = call.task.0 == t
+is_of t (Miss call u) = call.task.0 == t
+is_of t (Body call g ran) = call.task.0 == t
+is_of t (Leave call) = call.task.0 == t
+is_of t (Exit call u entry) = call.task.0 == t
+is_of t (ExitEnd call u) = call.task.0 == t
+is_of t (Ret call to) = call.task.0 == t
+
+-- how many commands have returned
+abbrev pub done : List Item → ℕ
+done [] = 0
+done (Return k a ∷ past) = suc (done past)
+done (_ ∷ past) = done past
+
+-- how many commands have begun
+abbrev pub begun : List Item → ℕ
+begun [] = 0
+begun (Begin k ∷ past) = suc (begun past)
+begun (_ ∷ past) = begun past
+
+-- a call as its Enter tells it, with the number of commands that had returned there
+pub record Entered : Type 0 where
+  pub ctx : Ctx
+  pub func : ℕ
+  pub caller : Option CallNo
+  pub from : ℕ
+
+-- the Enter of a call
+abbrev pub entered : CallNo → List Item → Option Entered
+entered call [] = None
+entered call (Enter c ctx f caller ∷ past) =
+    if same_call c call then Some (record { ctx = ctx; func = f.0; caller = caller; from = done past }) else entered call past
+entered call (_ ∷ past) = entered call past
+
+-- a callback that is open: an entry callback, or an exit callback
+pub record Callback : Type 0 where
+  pub call : CallNo
+  pub user : ℕ
+  pub ctx : Option Ctx
+
+abbrev pub ctx_of : CallNo → List Item → Option Ctx
+ctx_of call past = ctx_in (entered call past)
+  where
+    ctx_in : Option Entered → Option Ctx
+    ctx_in None = None
+    ctx_in (Some e) = Some e.ctx
+
+-- the same without the latest callback of that call and user
+abbrev pub ended : CallNo → ℕ → List Callback → List Callback
+ended call u [] = []
+ended call u (b ∷ open') = if same_call b.call call && (b.user == u) then open' else b ∷ ended call u open'
+
+-- the callbacks that are open
+abbrev pub callbacks : List Item → List Callback
+callbacks [] = []
+callbacks (Back c u ∷ past) = record { call = c; user = u.0; ctx = ctx_of c past } ∷ callbacks past
+callbacks (BackEnd c u ∷ past) = ended c u.0 (callbacks past)
+callbacks (Exit c u p ∷ past) = record { call = c; user = u.0; ctx = ctx_of c past } ∷ callbacks past
+callbacks (ExitEnd c u ∷ past) = ended c u.0 (callbacks past)
+callbacks (_ ∷ past) = callbacks past
+
+abbrev pub is_in : Option Ctx → Ctx → Bool
+is_in None x = false
+is_in (Some y) x = same_ctx y x
+
+-- whether a callback of this task and context is open
+abbrev pub is_guarded : ℕ → Ctx → List Item → Bool
+is_guarded t x past = list_any (λ b. (b.call.task.0 == t) && is_in b.ctx x) (callbacks past)
+
+-- whether a callback of this user is open
+abbrev pub is_called : ℕ → List Item → Bool
+is_called u past = list_any (λ b. b.user == u) (callbacks past)
+
+-- what is used where a call has no Enter, which a plain run rules out
+abbrev pub never : Entered
+never = record { ctx = Normal; func = 0; caller = None; from = 0 }
+
+abbrev pub entry_of : CallNo → List Item → Entered
+entry_of call past = or_never (entered call past)
+  where
+    or_never : Option Entered → Entered
+    or_never None = never
+    or_never (Some e) = e
+
+-- whether a call is open
+abbrev pub is_open : CallNo → List Item → Bool
+is_open call [] = false
+is_open call (Enter c ctx f caller ∷ past) = same_call c call || is_open call past
+is_open call (Ret c to ∷ past) = not (same_call c call) && is_open call past
+is_open call (_ ∷ past) = is_open call past
+
+-- whether a call's dispatch is over
+abbrev pub is_dispatched : CallNo → List Item → Bool
+is_dispatched call [] = false
+is_dispatched call (Body c g ran ∷ past) = same_call c call || is_dispatched call past
+is_dispatched call (_ ∷ past) = is_dispatched call past
+
+-- the calls that were entered, the latest first
+abbrev pub calls : List Item → List CallNo
+calls [] = []
+calls (Enter c ctx f caller ∷ past) = c ∷ calls past
+calls (_ ∷ past) = calls past
+
+-- an entry callback or a refusal: of which registration, at which place, and whether it wants a frame
+pub record Meeting : Type 0 where
+  pub call : CallNo
+  pub user : ℕ
+  pub reg : ℕ
+  pub since : ℕ
+  pub place : ℕ
+  pub back : Bool
+  pub wants : Bool
+
+abbrev pub has_depth : Kind → Bool
+has_depth Graph = true
+has_depth Profile = true
+has_depth _ = false
+
+abbrev pub has_exit : Kind → Bool
+has_exit (Fprobe exit cancel) = exit
+has_exit _ = false
+
+abbrev pub cancels : Kind → Bool
+cancels (Fprobe exit cancel) = cancel
+cancels _ = false
+
+-- among these meetings, one of the call that wants a frame and passes
+abbrev pub has_frame_user : CallNo → (Meeting → Bool) → List Meeting → Bool
+has_frame_user call passes ms = list_any (λ m. same_call m.call call && m.wants && passes m) ms
+
+-- whether a call holds a frame, after these meetings
+abbrev pub holds_frame : Job → CallNo → List Item → List Meeting → Bool
+holds_frame job call past ms =
+    is_open call past
+    && (if is_dispatched call past then has_frame_user call (λ m. not (cancels (spec_at job m.user).kind)) ms else has_frame_user call (λ m. true) ms)
+
+-- how many other calls of the task hold a frame, after these meetings
+abbrev pub held_after : Job → CallNo → List Item → List Meeting → ℕ
+held_after job call past ms =
+    length (filter (λ c. (c.task.0 == call.task.0) && not (same_call c call) && holds_frame job c past ms) (calls past))
+
+abbrev pub wants_frame : Job → CallNo → ℕ → List Item → List Meeting → Bool
+wants_frame job call u past ms =
+    has_depth (spec_at job u).kind || (has_exit (spec_at job u).kind && nat_lt (held_after job call past ms) job.frames)
+
+-- the command up to which a user's registration is read: where it is on when the last has returned, that, else the last that has begun
+abbrev pub read_at : Job → CallNo → ℕ → List Item → ℕ
+read_at job call u past = if is_on (desk job (done past)) u (entry_of call past).func then done past else begun past
+
+abbrev pub meeting : Job → CallNo → ℕ → List Item → List Meeting → Bool → Meeting
+meeting job call u past ms back =
+    let s = user_at (desk job (read_at job call u past)) u in
+    record { call = call; user = u; reg = s.reg; since = s.since; place = length past; back = back; wants = back && wants_frame job call u past ms }
+
+-- the entry callbacks and refusals, the latest first
+unfoldable pub meetings : Job → List Item → List Meeting
+meetings job [] = []
+meetings job (Back c u ∷ past) = meeting job c u.0 past (meetings job past) true ∷ meetings job past
+meetings job (Refuse c u reason ∷ past) = meeting job c u.0 past (meetings job past) false ∷ meetings job past
+meetings job (_ ∷ past) = meetings job past
+
+abbrev pub held : Job → CallNo → List Item → ℕ
+held job call past = held_after job call past (meetings job past)
+
+-- those of one call
+abbrev pub met : Job → CallNo → List Item → List Meeting
+met job call past = filter (λ m. same_call m.call call) (meetings job past)
+
+-- the Miss that has to be the task's next item: that of an fprobe with an exit whose latest Back found no room for a frame
+abbrev pub miss_due : Job → ℕ → List Item → Option Callback
+miss_due job t [] = None
+miss_due job t (Back c u ∷ past) =
+    if c.task.0 == t
+    then (if has_exit (spec_at job u.0).kind && (held job c past == job.frames) then Some (record { call = c; user = u.0; ctx = None }) else None)
+    else miss_due job t past
+miss_due job t (Begin k ∷ past) = miss_due job t past
+miss_due job t (Return k a ∷ past) = miss_due job t past
+miss_due job t (item ∷ past) = if is_of t item then None else miss_due job t past
+
+-- the places of the Backs whose exits the call has had, the latest first
+abbrev pub exits : CallNo → List Item → List ℕ
+exits call [] = []
+exits call (Exit c u entry ∷ past) = if same_call c call then entry ∷ exits call past else exits call past
+exits call (_ ∷ past) = exits call past
+
+-- how many commands had returned at the call's Leave
+abbrev pub left_at : CallNo → List Item → ℕ
+left_at call [] = 0
+left_at call (Leave c ∷ past) = if same_call c call then done past else left_at call past
+left_at call (_ ∷ past) = left_at call past

@@ -1,0 +1,204 @@
+-- The plain run of a task: its acts on an ordinary stack of calls, read off the task's items one by one.
+use Rattle.std.specs.Prelude.{ℕ, suc, Bool, true, false, ◌&&◌, ◌==◌, nat_lt, nat_le, List, [], ◌∷◌, get_or, Option, Some, None, if◌then◌else◌}
+use Rattle.ft_base.specs.declared.number.CallNo.{CallNo}
+use Rattle.ft_base.specs.declared.context.Ctx.{Ctx}
+use Rattle.ft_base.specs.declared.context.Ctx.TheVariants.{Normal, Irq}
+use Rattle.ft_base.specs.declared.item.Item.{Item}
+use Rattle.ft_base.specs.declared.item.Item.TheVariants.{Enter, Back, BackEnd, Refuse, Miss, Body, Leave, Exit, ExitEnd, Ret}
+use Rattle.ft_base.specs.declared.plan.TaskAct.{TaskAct}
+use Rattle.ft_base.specs.declared.plan.TaskAct.TheVariants.{Call, Ret as RetAct, Raise, Lower, After}
+use Rattle.ft_base.specs.declared.plan.Act.{Act}
+use Rattle.ft_base.specs.declared.plan.Act.TheVariants.{CallIn, IrqIn}
+use Rattle.ft_base.specs.Same.{same_call, same_ctx, rank}
+use Rattle.ft_base.specs.Job.{Job, Task}
+use Rattle.ft_base.specs.Desk.{spec_at}
+use Rattle.ft_hist.specs.Past.{done, is_of}
+
+-- a call that a user's act owes: in which context, of which function
+pub record Owed : Type 0 where
+  pub ctx : Ctx
+  pub func : ℕ
+
+pub data Phase : Type 0 where
+  Dispatch : Phase
+  InBack : (user : ℕ) → (owed : Option Owed) → (fresh : Bool) → Phase
+  Running : Phase
+  Leaving : Phase
+  InExit : (user : ℕ) → Phase
+
+-- a call on the plain stack. It is scripted, or made by a user's act
+pub record Frame : Type 0 where
+  pub call : CallNo
+  pub ctx : Ctx
+  pub func : ℕ
+  pub scripted : Bool
+  pub phase : Phase
+
+pub record PlainTask : Type 0 where
+  pub next : ℕ
+  pub acts : List TaskAct
+  pub gone : ℕ
+  pub contexts : List Ctx
+  pub stack : List Frame
+
+abbrev pub context : List Ctx → Ctx
+context [] = Normal
+context (c ∷ rest) = c
+
+abbrev pub below_top : List Ctx → List Ctx
+below_top [] = []
+below_top (c ∷ rest) = rest
+
+-- what is left after the acts that give no items, as far as their waits are met, with the contexts then and how many there were
+pub record Ahead : Type 0 where
+  pub acts : List TaskAct
+  pub contexts : List Ctx
+  pub gone : ℕ
+
+abbrev pub ahead : ℕ → List TaskAct → List Ctx → ℕ → Ahead
+ahead returned [] cs gone = record { acts = []; contexts = cs; gone = gone }
+ahead returned (Call f ∷ rest) cs gone = record { acts = Call f ∷ rest; contexts = cs; gone = gone }
+ahead returned (RetAct ∷ rest) cs gone = record { acts = RetAct ∷ rest; contexts = cs; gone = gone }
+ahead returned (Raise c ∷ rest) cs gone = ahead returned rest (c ∷ cs) (suc gone)
+ahead returned (Lower ∷ rest) cs gone = ahead returned rest (below_top cs) (suc gone)
+ahead returned (After n ∷ rest) cs gone =
+    if nat_le n returned then ahead returned rest cs (suc gone) else record { acts = After n ∷ rest; contexts = cs; gone = gone }
+
+abbrev pub top_call : List Frame → Option CallNo
+top_call [] = None
+top_call (t ∷ below) = Some t.call
+
+abbrev pub same_top : Option CallNo → Option CallNo → Bool
+same_top None None = true
+same_top (Some a) (Some b) = same_call a b
+same_top _ _ = false
+
+-- what a user's act owes at a callback in this context
+abbrev pub owed_by : Ctx → Option Act → Option Owed
+owed_by x None = None
+owed_by x (Some (CallIn f)) = Some (record { ctx = x; func = f.0 })
+owed_by x (Some (IrqIn f)) = if nat_lt (rank x) (rank Irq) then Some (record { ctx = Irq; func = f.0 }) else None
+
+abbrev pub in_phase : Frame → Phase → Frame
+in_phase t p = record t { phase = p }
+
+abbrev pub on_top : PlainTask → Frame → List Frame → PlainTask
+on_top s t below = record s { stack = t ∷ below }
+
+-- a scripted call: the next act that gives items is that call
+abbrev pub enters_by_script : PlainTask → List TaskAct → List Ctx → ℕ → CallNo → Ctx → ℕ → Option PlainTask
+enters_by_script s (Call g ∷ rest) cs gone call ctx f =
+    if (g.0 == f) && same_ctx ctx (context cs)
+    then Some (record {
+      next = suc s.next;
+      acts = rest;
+      gone = suc gone;
+      contexts = cs;
+      stack = record { call = call; ctx = ctx; func = f; scripted = true; phase = Dispatch } ∷ s.stack;
+    }) else None
+enters_by_script s _ cs gone call ctx f = None
+
+abbrev pub enters_ahead : PlainTask → Ahead → CallNo → Ctx → ℕ → Option PlainTask
+enters_ahead s a call ctx f = enters_by_script s a.acts a.contexts a.gone call ctx f
+
+-- a call that a user's act owes
+abbrev pub enters_owed : PlainTask → Frame → List Frame → ℕ → Option Owed → CallNo → Ctx → ℕ → Option PlainTask
+enters_owed s t below u None call ctx f = None
+enters_owed s t below u (Some o) call ctx f =
+    if (o.func == f) && same_ctx o.ctx ctx
+    then Some (record s {
+      next = suc s.next;
+      stack = record { call = call; ctx = ctx; func = f; scripted = false; phase = Dispatch } ∷ in_phase t (InBack u None false) ∷ below;
+    }) else None
+
+-- the call may be entered over this stack
+abbrev pub enters_over : ℕ → PlainTask → List Frame → CallNo → Ctx → ℕ → Option PlainTask
+enters_over returned s [] call ctx f = enters_ahead s (ahead returned s.acts s.contexts s.gone) call ctx f
+enters_over returned s (t ∷ below) call ctx f = by_phase t.phase
+  where
+    by_phase : Phase → Option PlainTask
+    by_phase Running = if t.scripted then enters_ahead s (ahead returned s.acts s.contexts s.gone) call ctx f else None
+    by_phase (InBack u owed fresh) = enters_owed s t below u owed call ctx f
+    by_phase _ = None
+
+-- with the top call in a phase, the task goes on to another
+abbrev pub begins_back : Job → PlainTask → Frame → List Frame → ℕ → Phase → Option PlainTask
+begins_back job s t below u Dispatch = Some (on_top s (in_phase t (InBack u (owed_by t.ctx (spec_at job u).act) true)) below)
+begins_back job s t below u _ = None
+
+abbrev pub misses : PlainTask → Frame → List Frame → ℕ → Phase → Option PlainTask
+misses s t below u (InBack v owed true) = if u == v then Some (on_top s (in_phase t (InBack v owed false)) below) else None
+misses s t below u _ = None
+
+abbrev pub ends_back : PlainTask → Frame → List Frame → ℕ → Phase → Option PlainTask
+ends_back s t below u (InBack v None fresh) = if u == v then Some (on_top s (in_phase t Dispatch) below) else None
+ends_back s t below u _ = None
+
+abbrev pub stays : PlainTask → Phase → Option PlainTask
+stays s Dispatch = Some s
+stays s _ = None
+
+abbrev pub begins_body : PlainTask → Frame → List Frame → Phase → Option PlainTask
+begins_body s t below Dispatch = Some (on_top s (in_phase t Running) below)
+begins_body s t below _ = None
+
+abbrev pub leaves_by_script : PlainTask → Frame → List Frame → List TaskAct → List Ctx → ℕ → Option PlainTask
+leaves_by_script s t below (RetAct ∷ rest) cs gone =
+    Some (record { next = s.next; acts = rest; gone = suc gone; contexts = cs; stack = in_phase t Leaving ∷ below })
+leaves_by_script s t below _ cs gone = None
+
+abbrev pub leaves_ahead : PlainTask → Frame → List Frame → Ahead → Option PlainTask
+leaves_ahead s t below a = leaves_by_script s t below a.acts a.contexts a.gone
+
+abbrev pub leaves : ℕ → PlainTask → Frame → List Frame → Phase → Option PlainTask
+leaves returned s t below Running =
+    if t.scripted then leaves_ahead s t below (ahead returned s.acts s.contexts s.gone)
+    else Some (on_top s (in_phase t Leaving) below)
+leaves returned s t below _ = None
+
+abbrev pub begins_exit : PlainTask → Frame → List Frame → ℕ → Phase → Option PlainTask
+begins_exit s t below u Leaving = Some (on_top s (in_phase t (InExit u)) below)
+begins_exit s t below u _ = None
+
+abbrev pub ends_exit : PlainTask → Frame → List Frame → ℕ → Phase → Option PlainTask
+ends_exit s t below u (InExit v) = if u == v then Some (on_top s (in_phase t Leaving) below) else None
+ends_exit s t below u _ = None
+
+abbrev pub returns : PlainTask → List Frame → Option CallNo → Phase → Option PlainTask
+returns s below to Leaving = if same_top to (top_call below) then Some (record s { stack = below }) else None
+returns s below to _ = None
+
+-- the task goes on by an item of its top call
+abbrev pub on_call : List Frame → CallNo → (Frame → List Frame → Option PlainTask) → Option PlainTask
+on_call [] call next = None
+on_call (t ∷ below) call next = if same_call t.call call then next t below else None
+
+-- the task after one more item, where a plain run may have it there
+unfoldable pub reads : Job → ℕ → PlainTask → Item → Option PlainTask
+reads job returned s (Enter call ctx f caller) =
+    if (call.n == s.next) && same_top caller (top_call s.stack) then enters_over returned s s.stack call ctx f.0 else None
+reads job returned s (Back call u) = on_call s.stack call (λ t below. begins_back job s t below u.0 t.phase)
+reads job returned s (BackEnd call u) = on_call s.stack call (λ t below. ends_back s t below u.0 t.phase)
+reads job returned s (Refuse call u reason) = on_call s.stack call (λ t below. stays s t.phase)
+reads job returned s (Miss call u) = on_call s.stack call (λ t below. misses s t below u.0 t.phase)
+reads job returned s (Body call g ran) = on_call s.stack call (λ t below. begins_body s t below t.phase)
+reads job returned s (Leave call) = on_call s.stack call (λ t below. leaves returned s t below t.phase)
+reads job returned s (Exit call u entry) = on_call s.stack call (λ t below. begins_exit s t below u.0 t.phase)
+reads job returned s (ExitEnd call u) = on_call s.stack call (λ t below. ends_exit s t below u.0 t.phase)
+reads job returned s (Ret call to) = on_call s.stack call (λ t below. returns s below to t.phase)
+reads job returned s _ = Some s
+
+abbrev pub no_task : Task
+no_task = record { pid = 0; cpu = 0; acts = [] }
+
+abbrev pub at_start : Job → ℕ → PlainTask
+at_start job t = record { next = 1; acts = (get_or job.tasks t no_task).acts; gone = 0; contexts = []; stack = [] }
+
+abbrev pub read_on : Job → ℕ → Item → Option PlainTask → Option PlainTask
+read_on job returned item None = None
+read_on job returned item (Some s) = reads job returned s item
+
+-- where a task is on its plain run after these items, if that run has them
+unfoldable pub plain : Job → ℕ → List Item → Option PlainTask
+plain job t [] = Some (at_start job t)
+plain job t (item ∷ past) = if is_of t item then read_on job (done past) item (plain job t past) else plain job t past

@@ -1,0 +1,60 @@
+ghost use Rattle.std.specs.Prelude.{◌≡◌, ℕ, ◌+◌, ◌-◌, ◌<◌, ◌≤◌, ◌^◌, List, [], ◌∷◌, ◌++◌, length, IfOk, slice_get};
+
+use ft_base::{Item, NoMemory};
+use std::alloc::Global;
+use std::marker::Model;
+
+/// A history, which contracts see as its items and the room that is left for more.
+#[derive(Drop)]
+pub struct History {
+    kept: Vec<Item>,
+    room: u32,
+}
+
+impl Model for History {
+    ghost use Rattle.std.specs.Prelude.{◌-◌, ◌≤◌, ◌<◌, ◌^◌, vec_len, vec_capacity};
+    ghost use Rattle.ft_hist.specs.Seen.{Seen};
+
+    ghost Value = { Seen };
+
+    ghost view = { λ h. record { items = h.kept.items; spare = h.room - vec_len h.kept } };
+
+    ghost invariant = { λ h. (vec_len h.kept ≤ h.room) × (h.room ≤ vec_capacity h.kept) × (h.room < 2 ^ 32) };
+}
+
+impl History {
+    /// An empty history with room for so many items.
+    pub fn with_room(alloc: Global, n: u32) -> Result<History, NoMemory>
+        ensures empty { IfOk result (λ h. h.items ≡ []) }
+        ensures room { IfOk result (λ h. n ≤ h.spare) }
+    {
+        match Vec::with_capacity(alloc, n as usize) {
+            Ok(kept) => Ok(History { kept, room: n }),
+            Err(_) => Err(NoMemory),
+        }
+    }
+
+    /// How many items it has.
+    pub fn len(&self) -> u32
+        ensures { result ≡ length self.now.items }
+    {
+        self.kept.len() as u32
+    }
+
+    /// The item at a place.
+    pub fn item(&self, p: u32) -> &Item
+        requires { p < length self.now.items }
+        ensures { slice_get self.now.items p ≡ Some result.now }
+    {
+        &self.kept[p as usize]
+    }
+
+    /// Adds an item at the end.
+    pub fn push(&mut self, item: Item)
+        requires { 0 < self.old.spare }
+        ensures added { self.new.items ≡ self.old.items ++ item ∷ [] }
+        ensures room { self.old.spare ≤ self.new.spare + 1 }
+    {
+        let _ = self.kept.push(item);
+    }
+}

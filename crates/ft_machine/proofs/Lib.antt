@@ -1,0 +1,4 @@
+pub mod FirstJob
+pub mod Rows
+pub mod KeptLaws
+pub mod PlayLaws

@@ -1,0 +1,4 @@
+pub mod First
+pub mod Running
+pub mod Places
+pub mod Kept

@@ -1,0 +1,13 @@
+//! The tracing machine: a job, the machine that steps it, and the replay of its schedule. The
+//! machine is the plain one, whose step is a command whole or an act whole; what it does is a
+//! definition of the crate `plain_machine`.
+#![tactic(auto)]
+
+mod job;
+mod machine;
+mod place;
+mod play;
+
+pub use job::{Job, JobParts};
+pub use machine::Machine;
+pub use play::{Outcome, replay};

@@ -1,0 +1,182 @@
+-- What is known of a call in its dispatch by the words on its past, and how it goes on over one more meeting and over items that don't touch the call.
+use Rattle.std.proofs.Common.{cond, ◌≡◌, ℕ, suc, ◌<◌, ◌≤◌, Bool, true, false, not, ◌&&◌, ◌||◌, ◌==◌, List, [], ◌∷◌, ◌++◌, length, Some, refl, ap, ◌∙◌, subst, arith, inl, inr}
+use Rattle.std.specs.List.{list_any, AllByRecursion as Each}
+use Rattle.ft_base.specs.declared.number.CallNo.{CallNo}
+use Rattle.ft_base.specs.declared.item.Reason.{Reason}
+use Rattle.ft_base.specs.declared.item.Item.{Item}
+use Rattle.ft_base.specs.declared.item.Item.TheVariants.{Back, Refuse}
+use Rattle.ft_base.specs.Job.{Job}
+use Rattle.ft_base.specs.Desk.{desk, is_on, user_at, spec_at}
+use Rattle.ft_base.specs.Order.{IsFalling}
+use Rattle.ft_base.proofs.Small.{Each-weaker, Each-snoc, or-false_both}
+use Rattle.ft_hist.specs.Past.{Entered, done, begun, entered, entry_of, is_open, is_dispatched, exits, meetings, meeting, Meeting, met, held, cancels}
+use Rattle.ft_hist.specs.Rules.{replacement, backs_with_replacement, MayMeet}
+use Rattle.ft_hist.proofs.Laws.{same_call-refl}
+use Rattle.ft_hist.proofs.DispatchLaws.{Watches}
+use Rattle.ft_hist.specs.Frames.{FrameUser, or_runs, keeps_frame, FrameOf}
+use Rattle.ft_hist.proofs.Since.{Untouched, watches-untouched}
+use Rattle.ft_hist.proofs.Meet.{MetOf, Sinks, read_at-same, unmet, runs-back, runs-refuse, frame-none, frame-joined}
+use Rattle.plain_machine.specs.State.{Walk, Around, takes_frame, joined, refused}
+
+-- who is still to come for a walker, at any command of the window: nothing here speaks of one desk
+module _ (job : Job) (a : Around) (call : CallNo) (e : Entered) where
+  pub record CallSo (w : Walk) (todo : ℕ → Bool) (past : List Item) : Type 0 where
+    pub known : entered call past ≡ Some e
+    pub opened : is_open call past ≡ true
+    pub undone : is_dispatched call past ≡ false
+    pub unexited : exits call past ≡ []
+    pub sinks : Sinks (met job call past)
+    pub watch : Watches job call e.func past todo
+    pub runs : w.runs.0 ≡ replacement job e.func (backs_with_replacement job (met job call past))
+    pub framed : list_any (λ m. m.wants && true) (met job call past) ≡ w.framed
+    pub frame : FrameOf job (met job call past) w.users
+    pub places : Each (λ x. x.entry < length past) w.users
+    pub room : w.framed ≡ true → a.level < job.frames
+
+  pub so-untouched : (w : Walk) (todo : ℕ → Bool) (past past' : List Item) → Untouched job call past past' → begun past ≤ begun past' → length past ≤ length past'
+      → CallSo w todo past → CallSo w todo past'
+  so-untouched w todo past past' u le longer h = record {
+    known = u.entered ∙ h.known;
+    opened = u.open' ∙ h.opened;
+    undone = u.dispatched ∙ h.undone;
+    unexited = u.exits ∙ h.unexited;
+    sinks = rw u.met h.sinks;
+    watch = watches-untouched job call e.func past past' todo u le h.watch;
+    runs = rw u.met h.runs;
+    framed = rw u.met h.framed;
+    frame = rw u.met h.frame;
+    places = Each-weaker (λ x. x.entry < length past) (λ x. x.entry < length past') w.users (λ x lt. omega arith) h.places;
+    room = h.room;
+  }
+
+  pub entry-is : (past : List Item) → entered call past ≡ Some e → entry_of call past ≡ e
+  entry-is past h = rw h refl
+
+  abbrev pub met_now : ℕ → List Item → Bool → Meeting
+  met_now u past back = meeting job call u past (meetings job past) back
+
+  pub met-back : (u : ℕ) (past : List Item) → met job call (Back call (record { 0 = u }) ∷ past) ≡ met_now u past true ∷ met job call past
+  unfolding meetings
+  met-back u past = rw (same_call-refl call) refl
+
+  pub met-refuse : (u : ℕ) (past : List Item) (r : Reason) → met job call (Refuse call (record { 0 = u }) r ∷ past) ≡ met_now u past false ∷ met job call past
+  unfolding meetings
+  met-refuse u past r = rw (same_call-refl call) refl
+
+  or-swap : (x y : Bool) → ((x && true) || y) ≡ (y || x)
+  or-swap true true = refl
+  or-swap true false = refl
+  or-swap false true = refl
+  or-swap false false = refl
+
+  -- one more meeting: the user was registered before those met, and is taken off those to come
+  module _ (w : Walk) (u : ℕ) (todo todo' : ℕ → Bool) (past : List Item)
+      (order : Each (λ m. (met_now u past true).since < m.since) (met job call past))
+      (takes_off : (v : ℕ) → (u == v) ≡ false → todo v ≡ true → todo' v ≡ true) (h : CallSo w todo past) where
+    watch : (item : Item) (back : Bool) → met job call (item ∷ past) ≡ met_now u past back ∷ met job call past
+        → entry_of call (item ∷ past) ≡ entry_of call past → begun past ≤ begun (item ∷ past)
+        → Watches job call e.func (item ∷ past) todo'
+    watch item back m same le v un =
+        let both = or-false_both (u == v) (list_any (λ x. x.user == v) (met job call past)) (rw m at un) in
+        elim (h.watch v both.1) [
+          | inl there ↦ inl (takes_off v both.0 there)
+          | inr x ↦ inr (x.0, rw same x.1, (let c = x.2 in omega (arith, c, le)), x.3)
+        ]
+
+    places-more : Each (λ x. x.entry < suc (length past)) w.users
+    places-more = Each-weaker (λ x. x.entry < length past) (λ x. x.entry < suc (length past)) w.users (λ x lt. omega arith) h.places
+
+    pub so-refused : (r : Reason) → CallSo (refused call u r w) todo' (Refuse call (record { 0 = u }) r ∷ past)
+    so-refused r = record {
+      known = h.known;
+      opened = h.opened;
+      undone = h.undone;
+      unexited = h.unexited;
+      sinks = rw (met-refuse u past r) (order, h.sinks);
+      watch = watch (Refuse call (record { 0 = u }) r) false (met-refuse u past r) refl (omega arith);
+      runs = rw (met-refuse u past r) (runs-refuse job e.func w.runs (met_now u past false) (met job call past) refl h.runs);
+      framed = rw (met-refuse u past r) h.framed;
+      frame = rw (met-refuse u past r) (frame-none job (met_now u past false) (met job call past) w.users refl h.frame);
+      places = places-more;
+      room = h.room;
+    }
+
+    module _ (level : held job call past ≡ a.level) (has_room : takes_frame job a u ≡ true → a.level < job.frames) (reg : ℕ) (of_reg : (met_now u past true).reg ≡ reg) where
+      wants : (met_now u past true).wants ≡ takes_frame job a u
+      wants = rw level refl
+
+      room : (w.framed || takes_frame job a u) ≡ true → a.level < job.frames
+      room t = elim w.framed as (λ x. w.framed ≡ x → (x || takes_frame job a u) ≡ true → a.level < job.frames) [
+        | true ↦ λ y z. h.room y
+        | false ↦ λ y z. has_room z
+      ] refl t
+
+      abbrev joins : Bool
+      joins = takes_frame job a u && not (cancels (spec_at job u).kind)
+
+      keeps : keeps_frame job (met_now u past true) ≡ joins
+      keeps = ap (λ x. x && not (cancels (spec_at job u).kind)) wants
+
+      abbrev new_user : ℕ → FrameUser
+      new_user r = record { user = u; reg = r; entry = length past }
+
+      abbrev users_by : Bool → List FrameUser
+      users_by x = cond x (w.users ++ new_user reg ∷ []) w.users
+
+      frame : FrameOf job (met_now u past true ∷ met job call past) (joined job a u reg (length past) w.users)
+      frame = elim joins as (λ x. joins ≡ x → FrameOf job (met_now u past true ∷ met job call past) (users_by x)) [
+        | true ↦ λ x. subst (λ y. FrameOf job (met_now u past true ∷ met job call past) (w.users ++ new_user y ∷ [])) of_reg
+            (frame-joined job (met_now u past true) (met job call past) w.users refl (keeps ∙ x) h.places h.frame)
+        | false ↦ λ x. frame-none job (met_now u past true) (met job call past) w.users (keeps ∙ x) h.frame
+      ] refl
+
+      places : Each (λ x. x.entry < suc (length past)) (joined job a u reg (length past) w.users)
+      places = elim joins as (λ x. Each (λ y. y.entry < suc (length past)) (users_by x)) [
+        | true ↦ Each-snoc (λ y. y.entry < suc (length past)) w.users (new_user reg) places-more (omega arith)
+        | false ↦ places-more
+      ]
+
+      pub so-called : (made : Walk) → made.runs ≡ or_runs w.runs (spec_at job u).ipmodify → made.framed ≡ (w.framed || takes_frame job a u)
+          → made.users ≡ joined job a u reg (length past) w.users
+          → CallSo made todo' (Back call (record { 0 = u }) ∷ past)
+      so-called made r f us' = record {
+        known = h.known;
+        opened = h.opened;
+        undone = h.undone;
+        unexited = h.unexited;
+        sinks = rw (met-back u past) (order, h.sinks);
+        watch = watch (Back call (record { 0 = u })) true (met-back u past) refl (omega arith);
+        runs = rw (met-back u past, r) (runs-back job e.func w.runs (met_now u past true) (met job call past) refl h.runs);
+        framed = rw (met-back u past, f, wants, h.framed) (or-swap (takes_frame job a u) w.framed);
+        frame = rw (met-back u past, us') frame;
+        places = rw us' places;
+        room = rw f room;
+      }
+
+-- on one desk: those met so far are on there, and registered after each of those to come
+abbrev pub MetSo : Job → ℕ → CallNo → ℕ → List ℕ → List Item → Type 0
+MetSo job k call f todo past = Each (MetOf (desk job k) f todo) (met job call past)
+
+module _ (job : Job) (k : ℕ) (a : Around) (call : CallNo) (e : Entered) (u : ℕ) (us : List ℕ) (past : List Item) (d : done past ≡ k) (b : begun past ≡ k)
+    (on : is_on (desk job k) u e.func ≡ true) (h : MetSo job k call e.func (u ∷ us) past) where
+  pub order-now : Each (λ m. (met_now job a call e u past true).since < m.since) (met job call past)
+  order-now = rw (read_at-same job call u k past d b)
+      (Each-weaker (MetOf (desk job k) e.func (u ∷ us)) (λ m. (user_at (desk job k) u).since < m.since) (met job call past) (λ m x. rw x.since x.below.0) h)
+
+  -- the next user may be met
+  pub may_meet : entered call past ≡ Some e → MayMeet job past call u
+  may_meet known = record {
+    on = inl (rw (d, entry-is job a call e past known) on);
+    once = unmet (desk job k) e.func u us (met job call past) h;
+    order = order-now;
+  }
+
+  pub met-more' : IsFalling (desk job k) (u ∷ us) → (back : Bool) → Each (MetOf (desk job k) e.func us) (met_now job a call e u past back ∷ met job call past)
+  met-more' falls back = (
+    record { since = rw (read_at-same job call u k past d b) refl; on = on; below = falls.0 },
+    Each-weaker (MetOf (desk job k) e.func (u ∷ us)) (MetOf (desk job k) e.func us) (met job call past)
+        (λ m x. record { since = x.since; on = x.on; below = x.below.1 }) h,
+  )
+
+  pub reg-now : (met_now job a call e u past true).reg ≡ (user_at (desk job k) u).reg
+  reg-now = ap (λ (x : ℕ). (user_at (desk job x) u).reg) (read_at-same job call u k past d b)
