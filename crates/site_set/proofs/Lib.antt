@@ -1,0 +1,4 @@
+pub mod MarksLemmas
+pub mod MergeLemmas
+pub mod PackedLemmas
+pub mod WordLemmas

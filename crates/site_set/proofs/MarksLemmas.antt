@@ -1,0 +1,184 @@
+-- Members of sets as marks: what a reader of the contracts may rely on.
+use Rattle.std.proofs.Common.{◌≡◌, ◌≢◌, ℕ, zero, suc, ◌+◌, ◌*◌, ◌<◌, ◌≤◌, ◌==◌, ◌&&◌, ◌||◌, not, Bool, true, false, [], ◌∷◌, Some, None, length, get_or, set, take, drop, replicate, cond, refl, sym, ap, ap₂, ◌∙◌, inl, inr, if◌then◌else◌, ◌/◌, ◌%◌, count_ones, map-id, arith, length-take, ext_get_or, nat_lt, count_by, get_or-set_same, get_or-set_other}
+use Rattle.std.specs.List.{zip, position_or_len}
+use Rattle.std.specs.Int.{bit_at}
+use Rattle.std.proofs.Math.Bool.{or-false, and-true}
+use Rattle.std.proofs.lemmas.Bool.{cases_lt, lt-ltb, le-ltb}
+use Rattle.std.proofs.lemmas.List.{get_or_past, get_or-drop, get_or-take}
+use Rattle.std.proofs.lemmas.List.Sums.{position_or_len_is}
+use Rattle.std.proofs.lemmas.Slice.Zip.{length-zip, get_or-zip}
+use Rattle.std.proofs.lemmas.Nat.Bits.{bit_at_lowest, bit_at-suc, bit_at-zero}
+use Rattle.std.proofs.lemmas.Simd.{ones-mask_l}
+use lib.Lanes.{mask_l}
+use Rattle.site_set.specs.Marks.{Marks, has, bare, is_bare, union, difference, least_common, number_of, word_of, IsEmpty, AreDisjoint, IsLeastCommon}
+
+-- ---- tests
+
+pub and_first : (a b : Bool) → (a && b) ≡ true → a ≡ true
+and_first true b e = refl
+and_first false b e = e
+
+pub and_second : (a b : Bool) → (a && b) ≡ true → b ≡ true
+and_second true b e = e
+and_second false b e = absurd cc
+
+-- ---- the empty set, `bare n`
+
+-- it has the size
+pub length-bare : (n : ℕ) → length (bare n) ≡ n
+length-bare zero = refl
+length-bare (suc n) = ap suc (length-bare n)
+
+-- it is std's list of one mark, so many times
+pub bare-replicate : (n : ℕ) → bare n ≡ replicate n false
+bare-replicate zero = refl
+bare-replicate (suc n) = ap (λ (s : Marks). false ∷ s) (bare-replicate n)
+
+-- it has no member
+pub has-bare : (n f : ℕ) → has (bare n) f ≡ false
+has-bare zero f = refl
+has-bare (suc n) zero = refl
+has-bare (suc n) (suc f) = has-bare n f
+
+pub is_bare-bare : (n : ℕ) → is_bare (bare n) ≡ true
+is_bare-bare zero = refl
+is_bare-bare (suc n) = is_bare-bare n
+
+-- a set is bare exactly where no number is a member
+pub IsEmpty-from_is_bare : (s : Marks) → is_bare s ≡ true → IsEmpty s
+IsEmpty-from_is_bare [] e f = refl
+IsEmpty-from_is_bare (true ∷ s) e f = absurd cc
+IsEmpty-from_is_bare (false ∷ s) e zero = refl
+IsEmpty-from_is_bare (false ∷ s) e (suc f) = IsEmpty-from_is_bare s e f
+
+pub is_bare-from_IsEmpty : (s : Marks) → IsEmpty s → is_bare s ≡ true
+is_bare-from_IsEmpty [] h = refl
+is_bare-from_IsEmpty (true ∷ s) h = let no : true ≡ false = h zero in absurd cc
+is_bare-from_IsEmpty (false ∷ s) h = is_bare-from_IsEmpty s (λ f. h (suc f))
+
+-- ---- a member more or less
+
+-- f is a member where its mark says so
+pub has-set_same : (s : Marks) (f : ℕ) (b : Bool) → f < length s → has (set s f b) f ≡ b
+has-set_same s f b h = get_or-set_same s f b false h
+
+-- every other number stays as it was
+pub has-set_other : (s : Marks) (f g : ℕ) (b : Bool) → g ≢ f → has (set s f b) g ≡ has s g
+has-set_other s f g b h = get_or-set_other s f g b false h
+
+-- ---- union and difference
+
+-- the size of a union is that of the first set
+pub length-union : (s t : Marks) → length (union s t) ≡ length s
+length-union [] t = refl
+length-union (x ∷ s) [] = refl
+length-union (x ∷ s) (y ∷ t) = ap suc (length-union s t)
+
+-- a number is in a union where it is in either set
+pub has-union : (s t : Marks) → length t ≤ length s → (f : ℕ) → has (union s t) f ≡ (has s f || has t f)
+has-union [] [] h f = refl
+has-union [] (y ∷ t) h f = absurd (omega arith)
+has-union (x ∷ s) [] h f = sym (or-false (has (x ∷ s) f))
+has-union (x ∷ s) (y ∷ t) h zero = refl
+has-union (x ∷ s) (y ∷ t) h (suc f) = has-union s t (omega arith) f
+
+-- the size of a difference is that of the first set
+pub length-difference : (s t : Marks) → length (difference s t) ≡ length s
+length-difference [] t = refl
+length-difference (x ∷ s) [] = refl
+length-difference (x ∷ s) (y ∷ t) = ap suc (length-difference s t)
+
+-- a number is in a difference where it is in the first set alone
+pub has-difference : (s t : Marks) (f : ℕ) → has (difference s t) f ≡ (has s f && not (has t f))
+has-difference [] t f = refl
+has-difference (x ∷ s) [] f = sym (and-true (has (x ∷ s) f))
+has-difference (x ∷ s) (y ∷ t) zero = refl
+has-difference (x ∷ s) (y ∷ t) (suc f) = has-difference s t f
+
+-- the members of a set, and none beside them
+pub union-bare : (t : Marks) → union (bare (length t)) t ≡ t
+union-bare [] = refl
+union-bare (y ∷ t) = ap (λ (s : Marks). y ∷ s) (union-bare t)
+
+-- two sets of one size with the same members are one set
+pub same_members : (s t : Marks) → length s ≡ length t → ((f : ℕ) → f < length s → has s f ≡ has t f) → s ≡ t
+same_members s t e h = ext_get_or false s t e h
+
+-- ---- the least number in both sets
+
+abbrev both : Bool × Bool → Bool
+both p = p.0 && p.1
+
+length-pairs : (s t : Marks) → length s ≡ length t → length (zip s t) ≡ length s
+length-pairs s t e = length-zip s t ∙ omega arith
+
+both_at : (s t : Marks) → length s ≡ length t → (f : ℕ) → both (get_or (zip s t) f (false, false)) ≡ (has s f && has t f)
+both_at s t e f = elim (cases_lt f (length s)) [
+  | inl h ↦ ap both (get_or-zip s t f (false, false) h (omega arith))
+  | inr h ↦ ap both (get_or_past (zip s t) f (false, false) (omega (arith, length-pairs s t e)))
+      ∙ sym (ap₂ (λ a b. a && b) (get_or_past s f false h) (get_or_past t f false (omega arith)))
+]
+
+-- there is no least number where no number is in both
+pub least_common-from_AreDisjoint : (s t : Marks) → length s ≡ length t → AreDisjoint s t → least_common s t ≡ None
+least_common-from_AreDisjoint s t e apart =
+    let pairs = zip s t in
+    let all : position_or_len both pairs ≡ length pairs =
+    position_or_len_is both pairs (length pairs) (false, false) (omega arith) (λ k h. both_at s t e k ∙ apart k) (λ h. absurd (omega arith)) in
+    ap (λ i. cond (nat_lt i (length pairs)) (Some i) None) all ∙ ap (λ b. cond b (Some (length pairs)) None) (le-ltb _ _ (omega arith))
+
+-- and where a number is the least in both, it is that
+pub least_common-from_IsLeastCommon : (s t : Marks) → length s ≡ length t → (f : ℕ) → IsLeastCommon s t f → least_common s t ≡ Some f
+least_common-from_IsLeastCommon s t e f l =
+    let pairs = zip s t in
+    let within : f < length pairs = elim (cases_lt f (length s)) [
+      | inl h ↦ omega (arith, length-pairs s t e)
+      | inr h ↦ (let no : false ≡ true = sym (get_or_past s f false h) ∙ l.first in absurd cc)
+    ] in
+    let at : position_or_len both pairs ≡ f =
+    position_or_len_is both pairs f (false, false) (omega arith) (λ k h. both_at s t e k ∙ l.least k h)
+    (λ h. both_at s t e f ∙ ap₂ (λ a b. a && b) l.first l.second) in
+    ap (λ i. cond (nat_lt i (length pairs)) (Some i) None) at ∙ ap (λ b. cond b (Some f) None) (lt-ltb _ _ within)
+
+-- ---- the word of marks
+
+half : (b : Bool) (n : ℕ) → ((if b then 1 else 0) + 2 * n) / 2 ≡ n
+half true n = omega arith
+half false n = omega arith
+
+low : (b : Bool) (n : ℕ) → ((if b then 1 else 0) + 2 * n) % 2 ≡ (if b then 1 else 0)
+low true n = omega arith
+low false n = omega arith
+
+-- a bit of the number is the mark at its place
+pub bit_at-number_of : (bs : Marks) (i : ℕ) → bit_at (number_of bs) i ≡ (if has bs i then 1 else 0)
+bit_at-number_of [] i = bit_at-zero i
+bit_at-number_of (b ∷ bs) zero = bit_at_lowest (number_of (b ∷ bs)) ∙ low b (number_of bs)
+bit_at-number_of (b ∷ bs) (suc i) = bit_at-suc (number_of (b ∷ bs)) i ∙ ap (λ n. bit_at n i) (half b (number_of bs)) ∙ bit_at-number_of bs i
+
+is_one : (b : Bool) → ((if b then 1 else 0) == 1) ≡ b
+is_one true = refl
+is_one false = refl
+
+-- a bit of a set's word is a mark of the set
+pub bit_at-word_of : (s : Marks) (w i : ℕ) → i < 64 → (bit_at (word_of s w) i == 1) ≡ has s (64 * w + i)
+bit_at-word_of s w i h = ap (λ n. n == 1) (bit_at-number_of (take 64 (drop (64 * w) s)) i) ∙ is_one _
+    ∙ get_or-take 64 (drop (64 * w) s) i false h ∙ get_or-drop (64 * w) s i false
+
+-- no bit of a word is above 63
+pub bit_at-word_of_above : (s : Marks) (w i : ℕ) → 64 ≤ i → bit_at (word_of s w) i ≡ 0
+bit_at-word_of_above s w i h = bit_at-number_of (take 64 (drop (64 * w) s)) i
+    ∙ ap (λ b. if b then 1 else 0) (get_or_past (take 64 (drop (64 * w) s)) i false (omega (arith, length-take 64 (drop (64 * w) s))))
+
+-- ---- how many
+
+ones_of_number : (bs : Marks) → count_ones (number_of bs) ≡ count_by (λ b. b) bs
+ones_of_number bs = ap (λ xs. count_ones (mask_l xs)) (sym (map-id bs)) ∙ ones-mask_l (λ (b : Bool). b) bs
+
+-- the set bits of a set's word are the members that it stands for
+pub ones-word_of : (s : Marks) (w : ℕ) → count_ones (word_of s w) ≡ count_by (λ b. b) (take 64 (drop (64 * w) s))
+ones-word_of s w = ones_of_number (take 64 (drop (64 * w) s))
+
+-- a number in both sets tells them from two that have none
+pub not_disjoint-from_IsLeastCommon : (s t : Marks) (f : ℕ) → IsLeastCommon s t f → AreDisjoint s t → ⊥
+not_disjoint-from_IsLeastCommon s t f l apart = let no : true ≡ false = sym (ap₂ (λ a b. a && b) l.first l.second) ∙ apart f in absurd cc
