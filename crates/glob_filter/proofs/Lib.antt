@@ -1,0 +1,4 @@
+pub mod Fitting
+pub mod Ranges
+pub mod Texts
+pub mod Tries
