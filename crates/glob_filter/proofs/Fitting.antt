@@ -1,27 +1,8 @@
 -- The test `is_fit` passes exactly where the name fits.
-use Rattle.std.proofs.Common.{◌≡◌, ◌↔◌, ℕ, List, [], ◌∷◌, ◌++◌, refl, sym, ap, subst, ◌∙◌, drop, Bool, true, false, true≢false, IsTrue, ◌||◌, ◌&&◌}
+use Rattle.std.proofs.Common.{◌≡◌, ◌↔◌, ℕ, List, [], ◌∷◌, ◌++◌, refl, sym, ap, subst, ◌∙◌, drop, Bool, true, false, true≢false, IsTrue, ◌||◌}
+use Rattle.std.proofs.lemmas.Bool.{and_from, and_parts, or_left, or_right}
 use Rattle.glob_filter.specs.Items.{Item, byte, any, star, class}
 use Rattle.glob_filter.specs.Fits.{takes, some_rest, Fits, is_fit}
-
-or_left : (a b : Bool) → IsTrue a → IsTrue (a || b)
-or_left true b h = refl
-or_left false b h = absurd (true≢false (sym h))
-
-or_right : (a b : Bool) → IsTrue b → IsTrue (a || b)
-or_right true b h = refl
-or_right false b h = h
-
-and_both : (a b : Bool) → IsTrue a → IsTrue b → IsTrue (a && b)
-and_both true b h k = k
-and_both false b h k = h
-
-and_left : (a b : Bool) → IsTrue (a && b) → IsTrue a
-and_left true b h = refl
-and_left false b h = h
-
-and_right : (a b : Bool) → IsTrue (a && b) → IsTrue b
-and_right true b h = h
-and_right false b h = absurd (true≢false (sym h))
 
 -- the test passes at what is left behind some front of the name
 abbrev SomeRest : (List ℕ → Bool) → List ℕ → Type 0
@@ -53,12 +34,12 @@ Fits-from_is_fit (star ∷ items) name h =
     (s.0, s.1, s.2, Fits-from_is_fit items s.1 s.3)
 Fits-from_is_fit (byte a ∷ items) [] h = absurd (true≢false (sym h))
 Fits-from_is_fit (byte a ∷ items) (b ∷ name) h =
-    (b, name, refl, and_left (takes (byte a) b) (is_fit items name) h, Fits-from_is_fit items name (and_right (takes (byte a) b) (is_fit items name) h))
+    (b, name, refl, (and_parts (takes (byte a) b) (is_fit items name) h).0, Fits-from_is_fit items name (and_parts (takes (byte a) b) (is_fit items name) h).1)
 Fits-from_is_fit (any ∷ items) [] h = absurd (true≢false (sym h))
 Fits-from_is_fit (any ∷ items) (b ∷ name) h = (b, name, refl, refl, Fits-from_is_fit items name h)
 Fits-from_is_fit (class negated ranges ∷ items) [] h = absurd (true≢false (sym h))
 Fits-from_is_fit (class negated ranges ∷ items) (b ∷ name) h =
-    (b, name, refl, and_left (takes (class negated ranges) b) (is_fit items name) h, Fits-from_is_fit items name (and_right (takes (class negated ranges) b) (is_fit items name) h))
+    (b, name, refl, (and_parts (takes (class negated ranges) b) (is_fit items name) h).0, Fits-from_is_fit items name (and_parts (takes (class negated ranges) b) (is_fit items name) h).1)
 
 -- what fits passes the test
 pub is_fit-from_Fits : (items : List Item) (name : List ℕ) → Fits items name → IsTrue (is_fit items name)
@@ -66,11 +47,11 @@ is_fit-from_Fits [] name f = subst (λ n. IsTrue (is_fit [] n)) (sym f) refl
 is_fit-from_Fits (star ∷ items) name f =
     subst (λ n. IsTrue (some_rest (is_fit items) n)) (sym f.2) (some_rest-from (is_fit items) f.0 f.1 (is_fit-from_Fits items f.1 f.3))
 is_fit-from_Fits (byte a ∷ items) name f =
-    subst (λ n. IsTrue (is_fit (byte a ∷ items) n)) (sym f.2) (and_both (takes (byte a) f.0) (is_fit items f.1) f.3 (is_fit-from_Fits items f.1 f.4))
+    subst (λ n. IsTrue (is_fit (byte a ∷ items) n)) (sym f.2) (and_from (takes (byte a) f.0) (is_fit items f.1) f.3 (is_fit-from_Fits items f.1 f.4))
 is_fit-from_Fits (any ∷ items) name f =
     subst (λ n. IsTrue (is_fit (any ∷ items) n)) (sym f.2) (is_fit-from_Fits items f.1 f.4)
 is_fit-from_Fits (class negated ranges ∷ items) name f =
-    subst (λ n. IsTrue (is_fit (class negated ranges ∷ items) n)) (sym f.2) (and_both (takes (class negated ranges) f.0) (is_fit items f.1) f.3 (is_fit-from_Fits items f.1 f.4))
+    subst (λ n. IsTrue (is_fit (class negated ranges ∷ items) n)) (sym f.2) (and_from (takes (class negated ranges) f.0) (is_fit items f.1) f.3 (is_fit-from_Fits items f.1 f.4))
 
 -- the test and the relation are one
 pub is_fit-Fits : (items : List Item) (name : List ℕ) → IsTrue (is_fit items name) ↔ Fits items name

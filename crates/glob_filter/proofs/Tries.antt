@@ -1,5 +1,6 @@
 -- The steps of the search that matches items against a name.
 use Rattle.std.proofs.Common.{◌≡◌, ℕ, List, [], ◌∷◌, refl, sym, ap, subst, ◌∙◌, drop, Bool, true, false, true≢false, zero, suc, ◌||◌, ◌&&◌, add-one}
+use Rattle.std.proofs.lemmas.Bool.{and_right, or_parts}
 use Rattle.std.proofs.lemmas.List.{drop-drop}
 use Rattle.glob_filter.specs.Items.{Item, byte, any, star, class}
 use Rattle.glob_filter.specs.Fits.{takes, some_rest, is_fit}
@@ -22,15 +23,11 @@ some_rest-none test [] h = h 0
 some_rest-none test (b ∷ name) h =
     some_rest-next test b name (h 0) ∙ some_rest-none test name (λ k. h (suc k))
 
-or_false : (a b : Bool) → (a || b) ≡ false → b ≡ false
-or_false true b h = absurd (true≢false h)
-or_false false b h = h
-
 -- where no rest passes, none of a shorter name does
 pub some_rest-drop : (test : List ℕ → Bool) (name : List ℕ) → some_rest test name ≡ false → (k : ℕ) → some_rest test (drop k name) ≡ false
 some_rest-drop test name h zero = h
 some_rest-drop test [] h (suc k) = h
-some_rest-drop test (b ∷ name) h (suc k) = some_rest-drop test name (or_false (test (b ∷ name)) (some_rest test name) h) k
+some_rest-drop test (b ∷ name) h (suc k) = some_rest-drop test name (or_parts (test (b ∷ name)) (some_rest test name) h).1 k
 
 -- ---- an item that matches one byte
 
@@ -41,19 +38,15 @@ is_fit-one any items b name t = refl
 is_fit-one star items b name t = absurd (true≢false (sym t))
 is_fit-one (class negated ranges) items b name t = ap (λ v. v && is_fit items name) t
 
-and_false : (a b : Bool) → b ≡ false → (a && b) ≡ false
-and_false true b h = h
-and_false false b h = refl
-
 -- where the items behind it fail behind the first byte, the item fails too
 is_fit-one_false : (item : Item) (items : List Item) (b : ℕ) (name : List ℕ) → takes item b ≡ true → is_fit items (drop 1 name) ≡ false → is_fit (item ∷ items) name ≡ false
 is_fit-one_false star items b name t h = absurd (true≢false (sym t))
 is_fit-one_false (byte a) items b [] t h = refl
-is_fit-one_false (byte a) items b (x ∷ name) t h = and_false (takes (byte a) x) (is_fit items name) h
+is_fit-one_false (byte a) items b (x ∷ name) t h = and_right (takes (byte a) x) (is_fit items name) h
 is_fit-one_false any items b [] t h = refl
 is_fit-one_false any items b (x ∷ name) t h = h
 is_fit-one_false (class negated ranges) items b [] t h = refl
-is_fit-one_false (class negated ranges) items b (x ∷ name) t h = and_false (takes (class negated ranges) x) (is_fit items name) h
+is_fit-one_false (class negated ranges) items b (x ∷ name) t h = and_right (takes (class negated ranges) x) (is_fit items name) h
 
 -- a try of the items behind it is a try of the item too
 pub one_step : (item : Item) (items : List Item) (b : ℕ) (name : List ℕ) (r : Attempt) → takes item b ≡ true → IsAttempt r items name → IsAttempt r (item ∷ items) (b ∷ name)

@@ -19,7 +19,7 @@ pub enum Attempt {
     Never,
 }
 
-/// Whether the items match the name, in at most as many tries as there are items times bytes.
+/// Whether the items match the name.
 pub fn is_fit(tokens: &[Token], name: &[u8]) -> bool
     ensures { result ≡ is_fit (items_kept tokens.now) name.now }
 {
@@ -30,8 +30,8 @@ pub fn is_fit(tokens: &[Token], name: &[u8]) -> bool
     }
 }
 
-/// Tries the items at the whole name. A `*` that has failed at each place answers `Never`, so no earlier `*` tries
-/// again: no two tries of a `*` are made at one place, nor any behind a try of a later `*`.
+/// Tries the items at the whole name. A `*` answers `Yes` or `Never`, and never `No`: what it answers is final, and no
+/// `*` before it goes on. So each item is tried at each place of the name at most once.
 #[cycle(search_by_items)]
 fn try_at(tokens: &[Token], name: &[u8]) -> Attempt
     ensures { IsAttempt result (items_kept tokens.now) name.now }

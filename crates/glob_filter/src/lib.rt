@@ -16,5 +16,5 @@ mod tests;
 mod token;
 
 pub use fault::PatternFault;
-pub use laws::test_is_the_relation;
+pub use laws::{grammar_gives_the_items, test_is_the_relation};
 pub use pattern::Pattern;

@@ -45,8 +45,7 @@ impl Pattern {
         Ok(Pattern { tokens })
     }
 
-    /// Whether the pattern matches the name, whole and byte by byte. It takes no memory, and at most as many tries as
-    /// there are items times bytes.
+    /// Whether the pattern matches the whole name. It takes no memory.
     pub fn matches(&self, name: &str) -> bool
         ensures test { result ≡ is_fit self.now name.now }
         ensures relation { IsTrue result ↔ Fits self.now name.now }
