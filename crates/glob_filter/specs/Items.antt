@@ -40,12 +40,12 @@ ranges_of (a ∷ []) = (a, a) ∷ []
 ranges_of (a ∷ d ∷ []) = (a, a) ∷ (d, d) ∷ []
 ranges_of (a ∷ d ∷ b ∷ rest) = if d == hyphen then (a, b) ∷ ranges_of rest else (a, a) ∷ ranges_of (d ∷ b ∷ rest)
 
--- how many bytes of the content stand between its first and the `]` that ends the class, if one does
+-- how many bytes stand between a content's first byte and the `]` that ends its class, if one does
 abbrev pub class_end : List ℕ → Option ℕ
 class_end content = position (λ b. b == close_bracket) (drop 1 content)
 
--- the class of a content that stands so far behind the `[`, or the byte `[` where no `]` ends it,
--- and how many bytes behind the `[` it takes
+-- the class whose content stands `before` bytes behind its `[`, or the byte `[` where no `]` ends one; and how many
+-- bytes behind the `[` belong to it
 abbrev pub class_to : Bool → ℕ → List ℕ → Option ℕ → Item × ℕ
 class_to negated before content None = (byte open_bracket, 0)
 class_to negated before content (Some end) = (class negated (ranges_of (take (end + 1) content)), before + (end + 2))
@@ -65,7 +65,7 @@ first_item b text = if b == asterisk then (star, 0)
     else (if b == question_mark then (any, 0)
     else (if b == open_bracket then class_at text else (byte b, 0)))
 
--- the items of a text whose first bytes, so many, belong to an item before
+-- the items of a text whose first `taken` bytes belong to the item before it
 abbrev pub items_after : ℕ → List ℕ → List Item
 items_after taken [] = []
 items_after zero (b ∷ text) = (first_item b text).0 ∷ items_after (first_item b text).1 text

@@ -9,7 +9,7 @@ use thiserror::Error;
 /// The most bytes that a pattern may have.
 const LONGEST: usize = 255;
 
-/// Why a text is refused as a pattern. Where several causes hold, the first in this order is the answer.
+/// Why a text is refused as a pattern. Where several causes hold, the first of them in this order is the answer.
 #[derive(Clone, Copy, Debug, PartialEq, Eq, Drop, Error)]
 pub enum PatternFault {
     /// The text is empty.
@@ -21,7 +21,7 @@ pub enum PatternFault {
     /// The text has more than 255 bytes.
     #[error("the pattern is longer than 255 bytes")]
     TooLong,
-    /// Memory ran out. Any text may be refused so.
+    /// Memory ran out. It is the answer only where no other cause holds.
     #[error("out of memory")]
     NoMemory,
 }
