@@ -1,5 +1,5 @@
 -- The test `is_fit` passes exactly where the name fits.
-use Rattle.std.proofs.Common.{◌≡◌, ◌↔◌, ℕ, List, [], ◌∷◌, ◌++◌, refl, sym, ap, subst, ◌∙◌, drop, Bool, true, false, true≢false, IsTrue, ◌||◌}
+use Rattle.std.proofs.Common.{◌≡◌, ◌↔◌, ℕ, List, [], ◌∷◌, ◌++◌, refl, sym, ap, subst, Bool, true, false, true≢false, IsTrue, ◌||◌}
 use Rattle.std.proofs.lemmas.Bool.{and_from, and_parts, or_left, or_right}
 use Rattle.glob_filter.specs.Items.{Item, byte, any, star, class}
 use Rattle.glob_filter.specs.Fits.{takes, some_rest, Fits, is_fit}

@@ -1,7 +1,7 @@
 -- The items of a text are the items that the grammar gives it.
-use Rattle.std.proofs.Common.{◌≡◌, ◌≢◌, ◌⊎◌, ◌↔◌, inl, inr, ℕ, ◌+◌, ◌<◌, ◌≤◌, List, [], ◌∷◌, ◌++◌, length, take, drop, get_or, zero, suc, refl, sym, ap, subst, ◌∙◌, Bool, true, false, not, cond, eqb, nat_lt, Option, Some, None, position, arith, length-append, zero-add}
+use Rattle.std.proofs.Common.{◌≡◌, ◌≢◌, ◌⊎◌, ◌↔◌, inl, inr, ℕ, ◌+◌, ◌<◌, ◌≤◌, List, [], ◌∷◌, ◌++◌, length, take, drop, get_or, zero, suc, refl, sym, ap, subst, ◌∙◌, Bool, true, false, not, cond, eqb, nat_lt, Some, None, arith, length-append, zero-add}
 use Rattle.std.specs.List.{Contains, position_or_len}
-use Rattle.std.proofs.lemmas.Bool.{cases_eq, eq-eqb, ne_eqb, lt-ltb, le-ltb}
+use Rattle.std.proofs.lemmas.Bool.{cases_eq, ne_eqb, lt-ltb, le-ltb}
 use Rattle.std.proofs.lemmas.List.{drop_at, take_at, drop-drop}
 use Rattle.glob_filter.specs.Items.{Item, byte, any, star, class, asterisk, question_mark, open_bracket, close_bracket, exclamation_mark, is_negated, ranges_of, class_end, class_to, class_at, first_item, items_after, items_of}
 use Rattle.glob_filter.specs.Grammar.{content_of, BeginsClass, HasItems, end, a_star, a_question_mark, a_class, a_negated_class, a_bracket, a_byte}

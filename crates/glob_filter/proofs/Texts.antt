@@ -1,7 +1,7 @@
 -- One item more of a text.
-use Rattle.std.proofs.Common.{◌≡◌, ℕ, ◌+◌, List, [], ◌∷◌, ◌++◌, drop, zero, suc, refl, sym, ap, subst, ◌∙◌, append_assoc, add_comm, add-one}
+use Rattle.std.proofs.Common.{◌≡◌, ℕ, ◌+◌, List, [], ◌∷◌, ◌++◌, drop, zero, suc, refl, sym, ap, ◌∙◌, append_assoc, add_comm, add-one}
 use Rattle.std.proofs.lemmas.List.{map_push}
-use Rattle.glob_filter.specs.Items.{Item, first_item, items_after, items_of}
+use Rattle.glob_filter.specs.Items.{first_item, items_after, items_of}
 use Rattle.glob_filter.specs.Kept.{item_of, items_kept}
 use Rattle.glob_filter.specs.declared.token.Token.{Token}
 

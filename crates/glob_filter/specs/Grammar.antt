@@ -1,5 +1,5 @@
 -- The grammar of patterns: what it is that a text is written as a list of items, by one rule for each form of item.
-use Rattle.std.specs.Prelude.{ℕ, Bool, true, false, List, [], ◌∷◌, ◌++◌, ◌≢◌, drop, Contains, if◌then◌else◌}
+use Rattle.std.specs.Prelude.{ℕ, true, false, List, [], ◌∷◌, ◌++◌, ◌≢◌, drop, Contains, if◌then◌else◌}
 use Rattle.glob_filter.specs.Items.{Item, byte, any, star, class, asterisk, question_mark, open_bracket, close_bracket, exclamation_mark, is_negated, ranges_of}
 
 -- what stands behind a `[` and an optional `!`

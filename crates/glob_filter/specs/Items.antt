@@ -1,5 +1,5 @@
 -- The items of a pattern, and which items a text is written as.
-use Rattle.std.specs.Prelude.{◌≡◌, ◌==◌, ◌+◌, ℕ, zero, suc, Bool, true, false, List, [], ◌∷◌, take, drop, position, Option, Some, None, if◌then◌else◌}
+use Rattle.std.specs.Prelude.{◌==◌, ◌+◌, ℕ, zero, suc, Bool, true, false, List, [], ◌∷◌, take, drop, position, Option, Some, None, if◌then◌else◌}
 
 -- `byte b` matches the byte b, `any` one byte, `star` any bytes, also none, and `class negated ranges` one byte
 -- that is in one of the ranges or, negated, in none; a range is given by its first and its last byte

@@ -1,4 +1,4 @@
-use Rattle.std.proofs.Common.{◌≡◌, [], ◌∷◌, ◌∙◌, ap, sym, subst, List, ℕ, false}
+use Rattle.std.proofs.Common.{◌≡◌, [], ◌∷◌, ◌∙◌, ap, sym, subst, false}
 use Rattle.std.proofs.lemmas.List.{nil_from_length}
 use Rattle.glob_filter.specs.Items.{star}
 use Rattle.glob_filter.specs.Fits.{is_fit}
