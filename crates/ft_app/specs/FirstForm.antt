@@ -18,6 +18,7 @@ ended_lines [] = None
 ended_lines (part ∷ []) = if length part == 0 then Some [] else None
 ended_lines (part ∷ next ∷ parts) = option_map (λ lines. part ∷ lines) (ended_lines (next ∷ parts))
 
+-- a line feed
 abbrev pub is_feed : ℕ → Bool
 is_feed b = b == 10
 
@@ -25,6 +26,7 @@ is_feed b = b == 10
 abbrev pub lines_of : Text → Option (List Text)
 lines_of text = ended_lines (slice_split is_feed text)
 
+-- a space
 abbrev pub is_space : ℕ → Bool
 is_space b = b == 32
 
@@ -79,6 +81,7 @@ pairs func (first ∷ second ∷ below) =
     if bytes_eq first (codes "call " ++ func) && bytes_eq second (codes "ret") then suc (pairs func below) else 0
 pairs func _ = 0
 
+-- a command before others, where all of them are read
 abbrev pub command_before : Option Bool → Option (List Bool) → Option (List Bool)
 command_before (Some command) (Some commands) = Some (command ∷ commands)
 command_before _ _ = None
@@ -109,6 +112,7 @@ abbrev pub with_acts : Option Parts → List Text → Option Parts
 with_acts None below = None
 with_acts (Some head) below = with_calls head below (pairs head.func below)
 
+-- the lines of the first form
 abbrev pub form_of : Option (List Text) → Option Parts
 form_of (Some (version ∷ func ∷ user ∷ cpu ∷ task ∷ wait ∷ below)) =
     if bytes_eq version (codes "ftrace 1") && bytes_eq wait (codes "after 1")

@@ -19,6 +19,7 @@ use Rattle.ft_base.specs.Desk.{spec_at}
 abbrev pub Word : Type 0
 Word = List ℕ
 
+-- what stands for a function that the job doesn't have
 abbrev pub nameless : Func
 nameless = record { name = []; owner = None }
 
@@ -46,12 +47,14 @@ abbrev pub caller_word : Job → Option CallNo → Word
 caller_word job None = codes "-"
 caller_word job (Some call) = call_word job call
 
+-- a context
 abbrev pub context_word : Ctx → Word
 context_word Normal = codes "normal"
 context_word Softirq = codes "softirq"
 context_word Irq = codes "irq"
 context_word Nmi = codes "nmi"
 
+-- the reason of a refusal
 abbrev pub reason_word : Reason → Word
 reason_word Pid = codes "pid"
 reason_word Recursion = codes "recursion"

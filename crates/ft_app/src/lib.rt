@@ -7,3 +7,6 @@ mod status;
 mod top;
 
 pub use top::ft_main;
+
+#[cfg(test)]
+mod tests;

@@ -104,5 +104,6 @@ commands_in [] = []
 commands_in (Run c ∷ rest) = c ∷ commands_in rest
 commands_in (Until t n ∷ rest) = commands_in rest
 
+-- the commands of a job, which are numbered from 1
 abbrev pub commands : Job → List Command
 commands job = commands_in job.ctls
