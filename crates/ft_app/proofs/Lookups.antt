@@ -1,8 +1,8 @@
 -- The names and the pid of a job of the first form, by number.
 use Rattle.std.proofs.Common.{◌≡◌, ◌≢◌, ℕ, zero, suc, [], refl, ap}
 use Rattle.ft_base.specs.Job.{Job}
-use Rattle.ft_machine.specs.First.{Parts, first_job}
 use Rattle.ft_app.specs.LogText.{function_word, user_word, pid_at}
+use Rattle.ft_machine.specs.First.{Parts, first_job}
 
 module _ (p : Parts) (job : Job) (is : first_job p ≡ job) where
   pub function_word-first : (n : ℕ) → n ≡ 0 → p.func ≡ function_word job n

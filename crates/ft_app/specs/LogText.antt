@@ -12,27 +12,20 @@ use Rattle.ft_base.specs.declared.item.Reason.{Reason}
 use Rattle.ft_base.specs.declared.item.Reason.TheVariants.{Pid, Recursion, Depth}
 use Rattle.ft_base.specs.declared.item.Answer.{Answer}
 use Rattle.ft_base.specs.declared.item.Answer.TheVariants.{Accepted, Already, NotThere, Invalid, NoMatch, Busy}
-use Rattle.ft_base.specs.Job.{Job, Func, Task}
+use Rattle.ft_base.specs.Job.{Job, Func, Task, no_task, no_func}
 use Rattle.ft_base.specs.Desk.{spec_at}
 
 -- the bytes of a word
 abbrev pub Word : Type 0
 Word = List ℕ
 
--- what stands for a function that the job doesn't have
-abbrev pub nameless : Func
-nameless = record { name = []; owner = None }
-
 -- the name of a function, empty for a number that the job doesn't have
 abbrev pub function_word : Job → ℕ → Word
-function_word job f = (get_or job.functions f nameless).name
+function_word job f = (get_or job.functions f no_func).name
 
 -- the name of a user, empty for a number that the job doesn't have
 abbrev pub user_word : Job → ℕ → Word
 user_word job u = (spec_at job u).name
-
-abbrev pub no_task : Task
-no_task = record { pid = 0; cpu = 0; acts = [] }
 
 -- the pid of a task, 0 for a number that the job doesn't have
 abbrev pub pid_at : Job → ℕ → ℕ

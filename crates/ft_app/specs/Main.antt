@@ -4,10 +4,10 @@ use Rattle.std.specs.Io.KnownBytes.{Consumes, Appends, IsAtEnd}
 use Rattle.ft_base.specs.declared.item.Item.{Item}
 use Rattle.ft_base.specs.Job.{Job}
 use Rattle.ft_hist.specs.Rules.{IsLegal, IsWhole}
+use Rattle.ft_app.specs.LogText.{log_text}
 use Rattle.plain_machine.specs.State.{play, is_over}
 use Rattle.ft_io.specs.Causes.{AppendsFront}
 use Rattle.ft_app.specs.FirstForm.{first_form_job}
-use Rattle.ft_app.specs.LogText.{log_text}
 
 -- the command's language: the one word `replay`
 abbrev pub IsLanguage : List (List ℕ) → Type 0

@@ -5,9 +5,9 @@ use Rattle.ft_base.specs.declared.item.Ran.{Ran}
 use Rattle.ft_base.specs.declared.item.Ran.TheVariants.{Nop, List as ByList, Own}
 use Rattle.ft_base.specs.declared.item.Answer.{Answer}
 use Rattle.ft_base.specs.declared.item.Answer.TheVariants.{Accepted, Already, NotThere, Invalid, NoMatch, Busy}
-use Rattle.ft_base.specs.declared.plan.Kind.{Kind}
-use Rattle.ft_base.specs.declared.plan.Kind.TheVariants.{Function, Fprobe}
+use Rattle.ft_base.specs.declared.plan.Kind.TheVariants.{Function}
 use Rattle.ft_base.specs.Job.{Marks, holds, is_bare, united, without, bare, Spec, Edit, Command, Register, Unregister, Filter, Notrace, Pid, NoPid, Enable, Disable, MaxDepth, Job, commands, funcs}
+use Rattle.ft_base.specs.Kinds.{is_fprobe}
 
 -- one user on a desk: whether it is registered, its registration number, the number of its last accepted register
 -- command, whether it is enabled, its filter and notrace sets, and its trampoline slot
@@ -145,10 +145,6 @@ edit_answer job desk u e filter notrace =
     if binds && selects && is_bare filter then Invalid else
     (if not selects then NoMatch else
     (if binds then claim job desk u filter notrace else Accepted))
-
-abbrev pub is_fprobe : Kind → Bool
-is_fprobe (Fprobe exit cancel) = true
-is_fprobe _ = false
 
 -- the answer to enable and disable, which are for fprobes alone (fprobe.rst, The usage of fprobe)
 abbrev pub switch_answer : Job → Desk → ℕ → Answer

@@ -6,11 +6,10 @@ use Rattle.ft_base.specs.declared.context.Ctx.{Ctx}
 use Rattle.ft_base.specs.declared.context.Ctx.TheVariants.{Normal}
 use Rattle.ft_base.specs.declared.item.Item.{Item}
 use Rattle.ft_base.specs.declared.item.Item.TheVariants.{Begin, Return, Enter, Back, BackEnd, Refuse, Miss, Body, Leave, Exit, ExitEnd, Ret}
-use Rattle.ft_base.specs.declared.plan.Kind.{Kind}
-use Rattle.ft_base.specs.declared.plan.Kind.TheVariants.{Graph, Fprobe, Profile}
 use Rattle.ft_base.specs.Same.{same_call, same_ctx}
 use Rattle.ft_base.specs.Job.{Job}
 use Rattle.ft_base.specs.Desk.{spec_at, desk, is_on, user_at}
+use Rattle.ft_base.specs.Kinds.{has_depth, has_exit, cancels}
 
 -- whose item it is
 abbrev pub is_of : ℕ → Item → Bool
@@ -134,19 +133,6 @@ pub record Meeting : Type 0 where
   pub place : ℕ
   pub back : Bool
   pub wants : Bool
-
-abbrev pub has_depth : Kind → Bool
-has_depth Graph = true
-has_depth Profile = true
-has_depth _ = false
-
-abbrev pub has_exit : Kind → Bool
-has_exit (Fprobe exit cancel) = exit
-has_exit _ = false
-
-abbrev pub cancels : Kind → Bool
-cancels (Fprobe exit cancel) = cancel
-cancels _ = false
 
 -- among these meetings, one of the call that wants a frame and passes
 abbrev pub has_frame_user : CallNo → (Meeting → Bool) → List Meeting → Bool

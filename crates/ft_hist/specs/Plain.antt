@@ -10,7 +10,7 @@ use Rattle.ft_base.specs.declared.plan.TaskAct.TheVariants.{Call, Ret as RetAct,
 use Rattle.ft_base.specs.declared.plan.Act.{Act}
 use Rattle.ft_base.specs.declared.plan.Act.TheVariants.{CallIn, IrqIn}
 use Rattle.ft_base.specs.Same.{same_call, same_ctx, rank}
-use Rattle.ft_base.specs.Job.{Job, Task}
+use Rattle.ft_base.specs.Job.{Job, no_task}
 use Rattle.ft_base.specs.Desk.{spec_at}
 use Rattle.ft_hist.specs.Past.{done, is_of}
 
@@ -209,9 +209,6 @@ reads job returned s (Exit call u entry) = on_call s.stack call (λ t below. beg
 reads job returned s (ExitEnd call u) = on_call s.stack call (λ t below. ends_exit s t below u.0 t.phase)
 reads job returned s (Ret call to) = on_call s.stack call (λ t below. returns s below to t.phase)
 reads job returned s _ = Some s
-
-abbrev pub no_task : Task
-no_task = record { pid = 0; cpu = 0; acts = [] }
 
 -- a task before its first act
 abbrev pub at_start : Job → ℕ → PlainTask

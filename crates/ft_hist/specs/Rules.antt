@@ -14,7 +14,8 @@ use Rattle.ft_base.specs.declared.item.Item.{Item}
 use Rattle.ft_base.specs.declared.item.Item.TheVariants.{Begin, Return, Enter, Back, BackEnd, Refuse, Miss, Body, Leave, Exit, ExitEnd, Ret}
 use Rattle.ft_base.specs.Job.{Job, Command, Unregister, Disable, commands, Ctl, Run, Until}
 use Rattle.ft_base.specs.Desk.{spec_at, desk, is_on, is_live, is_allowed, target, answer_on, is_accepted, user_at}
-use Rattle.ft_hist.specs.Past.{done, begun, entry_of, is_guarded, is_called, met, held, Meeting, read_at, has_depth, miss_due, exits, left_at, cancels}
+use Rattle.ft_base.specs.Kinds.{has_depth, cancels}
+use Rattle.ft_hist.specs.Past.{done, begun, entry_of, is_guarded, is_called, met, held, Meeting, read_at, miss_due, exits, left_at}
 use Rattle.ft_hist.specs.Plain.{plain, ahead, PlainTask, Frame, Phase, Running}
 
 -- a fact at the last returned command or at the last begun one

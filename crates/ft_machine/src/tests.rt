@@ -22,6 +22,7 @@ fn steps_to_the_end(rt: HostRuntime) -> Result<(), Fail> {
     let job = job(alloc)?;
     assert_eq!(rt; job.parts().calls, 2);
     let mut machine = Machine::start(alloc, &job)?;
+    assert!(rt; 0 < job.cpus());
     assert!(rt; !machine.all_end());
     machine.step(Actor::Control);
     assert_eq!(rt; machine.history().len(), 2);

@@ -2,12 +2,11 @@
 use Rattle.std.proofs.Common.{◌≡◌, ℕ, ◌≤◌, true, false, List, [], ◌∷◌, ◌++◌, Some, None, reverse, refl, sym, subst, arith, inl, inr, ap}
 use Rattle.std.specs.Prelude.{Contains, slice_index_or}
 use Rattle.ft_base.specs.declared.context.Ctx.TheVariants.{Normal}
-use Rattle.ft_base.specs.declared.item.Ran.TheVariants.{Nop}
+use Rattle.ft_base.specs.declared.item.Ran.TheVariants.{Nop, Own}
 use Rattle.ft_base.specs.declared.item.Reason.TheVariants.{Depth}
 use Rattle.ft_base.specs.declared.item.Answer.TheVariants.{Accepted}
 use Rattle.ft_base.specs.declared.item.Item.{Item}
 use Rattle.ft_base.specs.declared.item.Item.TheVariants.{Begin, Return, Enter, Back, BackEnd, Refuse, Body, Leave, Exit, Ret}
-use Rattle.ft_base.specs.declared.item.Ran.TheVariants.{Own}
 use Rattle.ft_base.specs.Job.{Job, Command, Unregister}
 use Rattle.ft_base.specs.Desk.{desk, is_on, is_live, target}
 use Rattle.ft_base.proofs.Small.{false_true}

@@ -4,13 +4,13 @@ use Rattle.std.specs.List.{AllByRecursion as Each}
 use Rattle.ft_base.specs.declared.item.Item.{Item}
 use Rattle.ft_base.specs.Job.{Job, commands, commands_in}
 use Rattle.ft_base.specs.Desk.{desk}
+use Rattle.ft_base.specs.WellFormed.{IsScript}
+use Rattle.ft_base.specs.Order.{IsOrder}
 use Rattle.ft_hist.specs.Past.{done, begun, callbacks, met, is_open, is_dispatched, exits, miss_due}
 use Rattle.ft_hist.specs.Plain.{plain, PlainTask, Frame, Running, ahead}
 use Rattle.ft_hist.specs.Rules.{IsLegalPast, waits_before}
 use Rattle.ft_hist.specs.Frames.{FrameUser, FrameOf}
 use Rattle.plain_machine.specs.State.{State, TaskState, task_at, frames_of}
-use Rattle.ft_base.specs.WellFormed.{IsScript}
-use Rattle.ft_base.specs.Order.{IsOrder}
 
 -- a task's plain run is where the machine is, up to acts without items
 pub record RunsAs (job : Job) (past : List Item) (t : ℕ) (s : PlainTask) : Type 0 where

@@ -16,11 +16,11 @@ use Rattle.ft_base.specs.declared.turn.Actor.TheVariants.{Control, Cpu}
 use Rattle.ft_base.specs.Same.{same_ctx}
 use Rattle.ft_base.specs.Job.{Job, Task, Ctl, Run, Until}
 use Rattle.ft_base.specs.Desk.{Desk, desk, is_on, is_live, is_allowed, target, answer_on, is_accepted, spec_at, user_at}
-use Rattle.ft_hist.specs.Past.{has_depth, has_exit, cancels}
-use Rattle.ft_hist.specs.Plain.{PlainTask, Frame, Running, Owed, owed_by, context, below_top, top_call, at_start}
-use Rattle.ft_hist.specs.Frames.{FrameUser, is_nil, or_runs}
+use Rattle.ft_base.specs.Kinds.{has_depth, has_exit, cancels}
 use Rattle.ft_base.specs.Order.{order_after}
 use Rattle.ft_base.specs.Schedule.{actors_of}
+use Rattle.ft_hist.specs.Plain.{PlainTask, Frame, Running, Owed, owed_by, context, below_top, top_call, at_start}
+use Rattle.ft_hist.specs.Frames.{FrameUser, is_nil, or_runs}
 
 -- where a task stands: its plain run, and beside each call of the stack the users of its frame, in the order of their Backs
 pub record TaskState : Type 0 where
@@ -99,10 +99,6 @@ refused call u reason w = record w { past = Refuse call (record { 0 = u }) reaso
 abbrev pub backed : Job → Around → CallNo → ℕ → List Item → List Item
 backed job a call u past =
     if misses_frame job a u then Miss call (record { 0 = u }) ∷ Back call (record { 0 = u }) ∷ past else Back call (record { 0 = u }) ∷ past
-
-abbrev pub one_if : Bool → ℕ
-one_if true = 1
-one_if false = 0
 
 -- the surroundings of a call that a callback in context x makes
 abbrev pub inside : Around → Ctx → Bool → Around
