@@ -12,7 +12,7 @@ use Rattle.ft_base.specs.declared.item.Reason.{Reason}
 use Rattle.ft_base.specs.declared.item.Reason.TheVariants.{Pid, Recursion, Depth}
 use Rattle.ft_base.specs.declared.item.Answer.{Answer}
 use Rattle.ft_base.specs.declared.item.Answer.TheVariants.{Accepted, Already, NotThere, Invalid, NoMatch, Busy}
-use Rattle.ft_base.specs.Job.{Job, Func, Task, no_task, no_func}
+use Rattle.ft_base.specs.Job.{Job, no_task, no_func}
 use Rattle.ft_base.specs.Desk.{spec_at}
 
 -- the bytes of a word

@@ -6,7 +6,6 @@ ghost use Rattle.std.specs.List.{list_all, slice_split};
 ghost use Rattle.std.specs.Option.{option_copied};
 ghost use Rattle.std.specs.Str.{bytes_eq};
 ghost use Rattle.std.specs.Char.{is_ascii_digit};
-ghost use Rattle.ft_base.specs.Name.{is_name_text};
 ghost use Rattle.ft_machine.specs.First.{IsWithin};
 ghost use Rattle.ft_machine.specs.First.{parts_of};
 ghost use Rattle.ft_app.specs.FirstForm.{is_feed, lines_of, words_of, name_in, is_number, number_to, func_line, user_line, cpu_line, task_line, declared, pairs, ctl_line, ctl_lines, with_acts, form_of, first_form, first_form_job};
@@ -81,10 +80,10 @@ fn is_joined(line: &[u8], front: &str, back: &str) -> bool
 fn read_name(word: &[u8]) -> Option<&str>
     ensures { option_copied result ≡ name_in word.entry.now }
 {
-    match str::from_utf8(word) {
-        Ok(text) => { if is_name(text) { Some(text) } else { None } }
-        Err(_) => None,
-    }
+    let Ok(text) = str::from_utf8(word) else {
+        return None;
+    };
+    if is_name(text) { Some(text) } else { None }
 }
 
 fn are_digits(word: &[u8]) -> bool
@@ -105,10 +104,10 @@ fn read_digits(digits: &str, limit: u32) -> Option<u32>
     requires { is_number digits.now ≡ true }
     ensures { result ≡ number_to limit digits.now }
 {
-    match digits.parse::<u32>() {
-        Ok(n) => { if 1 <= n && n <= limit { Some(n) } else { None } }
-        Err(_) => None,
-    }
+    let Ok(n) = digits.parse::<u32>() else {
+        return None;
+    };
+    if 1 <= n && n <= limit { Some(n) } else { None }
 }
 
 /// The number that a word writes, where it is from 1 to this limit.
@@ -118,10 +117,10 @@ fn read_number(word: &[u8], limit: u32) -> Option<u32>
     if !is_number(word) {
         return None;
     }
-    match str::from_utf8(word) {
-        Ok(digits) => read_digits(digits, limit),
-        Err(_) => None,
-    }
+    let Ok(digits) = str::from_utf8(word) else {
+        return None;
+    };
+    read_digits(digits, limit)
 }
 
 /// The name in the line `func F`.

@@ -1,8 +1,8 @@
 //! The text of a history, form log: a line for each item, and a last line.
 
-ghost use Rattle.std.specs.Prelude.{◌≡◌, ◌++◌, IfOk, OnOk, Some, string_bytes, codes, get_or};
+ghost use Rattle.std.specs.Prelude.{◌≡◌, ◌++◌, IfOk, OnOk, Some, string_bytes, codes};
 ghost use Rattle.std.specs.Fmt.{decimal};
-ghost use Rattle.ft_app.specs.LogText.{function_word, user_word, pid_at, call_word, caller_word, context_word, reason_word, ran_words, answer_words, joined, item_words, log_line, last_line, log_text};
+ghost use Rattle.ft_app.specs.LogText.{function_word, user_word, pid_at, caller_word, context_word, reason_word, ran_words, answer_words, joined, item_words, log_line, last_line, log_text};
 
 use ft_base::{Answer, CallNo, Ctx, FuncNo, Item, NoMemory, Ran, Reason, TaskNo, UserNo};
 use ft_hist::History;

@@ -36,7 +36,13 @@ fn is_language(words: &[&str]) -> bool
 /// - 5: the sink failed; a beginning of the text or the line was written
 /// - 6: no memory was found
 /// - 7: the source gave more than 16,777,216 bytes
-pub fn ft_main<S: Source, K: Sink, G: Gate>(alloc: Global, words: &[&str], source: &mut S, sink: &mut K, gate: &G) -> u8
+pub fn ft_main<S: Source, K: Sink, G: Gate>(
+    alloc: Global,
+    words: &[&str],
+    source: &mut S,
+    sink: &mut K,
+    gate: &G,
+) -> u8
     ensures language { result ≡ 2 ↔ ¬ IsLanguage (map (λ word. word.now) words.now) }
     ensures unread { result ≡ 2 → source.new ≡ source.old }
     // The text of the replay of the script's job, whose history is legal.
