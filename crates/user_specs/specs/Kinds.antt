@@ -1,18 +1,7 @@
 -- What a user's kind says of its frames.
-use Rattle.std.specs.Prelude.{Bool, true, false, ◌||◌}
+use Rattle.std.specs.Prelude.{Bool, ◌||◌}
 use Rattle.ft_base.specs.declared.plan.Kind.{Kind}
-use Rattle.ft_base.specs.declared.plan.Kind.TheVariants.{Graph, Fprobe, Profile}
-
--- graph and profile users, for which the graph depth holds (`ftrace.rst`, max_graph_depth)
-abbrev pub has_depth : Kind → Bool
-has_depth Graph = true
-has_depth Profile = true
-has_depth _ = false
-
--- an fprobe with an exit handler (`fprobe.rst`)
-abbrev pub has_exit : Kind → Bool
-has_exit (Fprobe exit cancel) = exit
-has_exit _ = false
+use Rattle.ft_base.specs.Kinds.{has_depth, has_exit}
 
 -- those whose entry callback wants a frame of the shadow stack
 abbrev pub wants_frame : Kind → Bool

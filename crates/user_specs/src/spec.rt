@@ -1,5 +1,6 @@
 ghost use Rattle.std.specs.Prelude.{◌≡◌};
-ghost use Rattle.user_specs.specs.Kinds.{has_depth, wants_frame};
+ghost use Rattle.ft_base.specs.Kinds.{has_depth};
+ghost use Rattle.user_specs.specs.Kinds.{wants_frame};
 
 use ft_base::{Act, FuncNo, Kind};
 
