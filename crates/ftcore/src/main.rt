@@ -24,7 +24,11 @@ fn run(rt: &HostRuntime) -> u8 {
     let Ok(owned) = args.skip(1).collect::<Vec<String>>(alloc) else {
         return NO_MEMORY;
     };
-    let Ok(words) = owned.iter().map(|word| word.as_str()).collect::<Vec<&str>>(alloc) else {
+    let Ok(words) = owned
+        .iter()
+        .map(|word| word.as_str())
+        .collect::<Vec<&str>>(alloc)
+    else {
         return NO_MEMORY;
     };
     let mut source = StdSource::new(rt.stdin());
