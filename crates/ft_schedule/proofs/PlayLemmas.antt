@@ -1,5 +1,5 @@
 -- The actors that are still to come.
-use Rattle.std.proofs.Common.{◌≡◌, ℕ, zero, suc, ◌+◌, ◌-◌, ◌<◌, ◌≤◌, ◌↔◌, arith, List, [], ◌∷◌, ◌++◌, drop, slice_get, length, Option, Some, None, IsNone, true, false, true≢false, refl, ap, ◌∙◌, sym, append_assoc}
+use Rattle.std.proofs.Common.{◌≡◌, ℕ, zero, suc, ◌+◌, ◌-◌, ◌<◌, ◌≤◌, ◌↔◌, arith, List, [], ◌∷◌, ◌++◌, drop, slice_get, length, Some, IsNone, true≢false, refl, ap, ◌∙◌, sym, append_assoc}
 use Rattle.ft_base.specs.declared.turn.Actor.{Actor}
 use Rattle.ft_base.specs.declared.turn.Actor.TheVariants.{Cpu}
 use Rattle.ft_base.specs.declared.turn.Who.{Who}

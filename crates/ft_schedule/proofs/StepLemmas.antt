@@ -1,5 +1,5 @@
 -- The turns of items that have no cause: their steps, counts and CPUs.
-use Rattle.std.proofs.Common.{◌≡◌, ℕ, zero, suc, ◌+◌, ◌*◌, ◌<◌, ◌≤◌, ◌||◌, ◌==◌, arith, Bool, true, false, true≢false, nat_lt, nat_le, All, List, [], ◌∷◌, ◌++◌, length, map, get_or, sum_by, Option, Some, None, refl, ap, ap₂, ◌∙◌, sym, subst, if◌then◌else◌}
+use Rattle.std.proofs.Common.{◌≡◌, ℕ, zero, suc, ◌+◌, ◌*◌, ◌<◌, ◌≤◌, ◌||◌, ◌==◌, arith, Bool, true, false, true≢false, nat_lt, All, List, [], ◌∷◌, length, map, sum_by, Option, Some, None, refl, ap, ap₂, ◌∙◌, sym, subst, if◌then◌else◌}
 use Rattle.std.specs.List.{list_any}
 use Rattle.std.proofs.lemmas.List.{length-append}
 use Rattle.std.proofs.lemmas.List.Sums.{sum_by-cons}
@@ -13,7 +13,7 @@ use Rattle.ft_schedule.specs.declared.item.Item.{Item}
 use Rattle.ft_schedule.specs.declared.faults.SchedFault.{SchedFault}
 use Rattle.ft_schedule.specs.declared.faults.SchedFault.TheVariants.{Limit, Unknown}
 use Rattle.ft_schedule.specs.Items.{turn_from}
-use Rattle.ft_schedule.specs.Causes.{IsTurn, actors_at, is_bad, is_over, is_no_cpu, is_unknown, has_unknown, steps_of, cause_in}
+use Rattle.ft_schedule.specs.Causes.{IsTurn, actors_at, is_bad, is_over, is_unknown, has_unknown, steps_of, cause_in}
 
 length-every_cpu : (c n : ℕ) → length (every_cpu c n) ≡ n
 length-every_cpu c zero = refl

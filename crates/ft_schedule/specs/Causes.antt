@@ -2,7 +2,7 @@
 use Rattle.std.specs.Prelude.{◌≡◌, ℕ, ◌<◌, ◌==◌, ◌||◌, ◌+◌, ◌*◌, nat_le, nat_lt, Bool, false, List, sum_by, Option, Some, None, ◌⊎◌, if◌then◌else◌}
 use Rattle.std.specs.List.{list_any}
 use Rattle.ft_base.specs.declared.turn.Who.{Who}
-use Rattle.ft_base.specs.declared.turn.Who.TheVariants.{Control, Cpu, All}
+use Rattle.ft_base.specs.declared.turn.Who.TheVariants.{Cpu, All}
 use Rattle.ft_base.specs.declared.turn.Turn.{Turn}
 use Rattle.ft_schedule.specs.declared.item.Item.{Item}
 use Rattle.ft_schedule.specs.declared.faults.SchedFault.{SchedFault}

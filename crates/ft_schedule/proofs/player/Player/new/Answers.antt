@@ -1,4 +1,4 @@
-use Rattle.std.proofs.Common.{◌≡◌, ◌++◌, List, arith, ap, ◌∙◌}
+use Rattle.std.proofs.Common.{◌++◌, arith, ap, ◌∙◌}
 use Rattle.ft_base.specs.Schedule.{turn_of, actors_in}
 use Rattle.ft_base.specs.declared.turn.Who.TheVariants.{Control}
 use Rattle.ft_schedule.proofs.PlayLemmas.{all_of-over, repeated-zero}

@@ -1,7 +1,5 @@
 use Rattle.std.proofs.Common.{◌≡◌, [], ◌∷◌, drop, slice_get, is_some, ◌+◌, ◌-◌, sym, ap, ap₂, ◌∙◌, arith}
-use Rattle.ft_base.specs.declared.turn.Actor.{Actor}
 use Rattle.ft_base.specs.declared.turn.Actor.TheVariants.{Cpu}
-use Rattle.ft_schedule.specs.Coming.{coming}
 use Rattle.ft_schedule.proofs.PlayLemmas.{all_of, all_of-cpu, all_of-count, all_of-entry, all_of-end, is_empty, given-value, given-rest, given-not_empty}
 use Rattle.ft_schedule.proofs.player.Player.next_actor.Goals as goal
 
