@@ -1,5 +1,5 @@
 -- What an edit makes of a set.
-use Rattle.std.proofs.Common.{◌≡◌, ℕ, ◌&&◌, ◌||◌, not, Bool, true, false, cond, length, refl, sym, ap, ap₂, ◌∙◌, arith, if◌then◌else◌}
+use Rattle.std.proofs.Common.{◌≡◌, ℕ, ◌&&◌, ◌||◌, not, Bool, true, false, cond, length, refl, ap, ◌∙◌, arith, if◌then◌else◌}
 use Rattle.site_set.proofs.MarksLemmas.{length-bare, has-bare, is_bare-bare, IsEmpty-from_is_bare, is_bare-from_IsEmpty, length-union, has-union, length-difference, has-difference}
 use Rattle.ft_base.specs.Job.{Marks, Edit, holds, is_bare, bare, united, without}
 use Rattle.ft_base.specs.Desk.{edited}

@@ -1,5 +1,5 @@
 -- The set of all matched functions.
-use Rattle.std.proofs.Common.{◌≡◌, ℕ, ◌<◌, ◌&&◌, ◌||◌, not, Bool, true, false, length, replicate, refl, sym, ap, ap₂, ◌∙◌, arith}
+use Rattle.std.proofs.Common.{◌≡◌, ℕ, ◌<◌, ◌&&◌, ◌||◌, not, true, false, length, replicate, refl, sym, ap, ap₂, ◌∙◌, arith}
 use Rattle.std.proofs.lemmas.List.{get_or-replicate}
 use Rattle.std.proofs.lemmas.List.FromFn.{length-map-range_with_len, get_or-map-range_with_len}
 use Rattle.site_set.proofs.MarksLemmas.{has-bare, length-bare, has-union, length-difference, has-difference, same_members}
@@ -8,9 +8,11 @@ use Rattle.ft_base.specs.Desk.{matches_by}
 use Rattle.filter_hash.specs.Pair.{Pair, size_of, matched}
 
 pub length-matched : (pair : Pair) → length (matched pair) ≡ size_of pair
+unfolding matched
 length-matched pair = length-map-range_with_len (matches_by pair.filter pair.notrace) 0 (size_of pair)
 
 pub holds-matched : (pair : Pair) (f : ℕ) → f < size_of pair → holds (matched pair) f ≡ matches_by pair.filter pair.notrace f
+unfolding matched
 holds-matched pair f h = get_or-map-range_with_len (matches_by pair.filter pair.notrace) 0 (size_of pair) f f false h (omega arith)
 
 -- what the filter lets through, below the size

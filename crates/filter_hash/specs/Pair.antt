@@ -1,5 +1,5 @@
 -- A user's two sets of functions.
-use Rattle.std.specs.Prelude.{ℕ, List, map, length}
+use Rattle.std.specs.Prelude.{ℕ, map, length}
 use Rattle.std.specs.List.{range_with_len}
 use Rattle.ft_base.specs.declared.plan.Half.{Half}
 use Rattle.ft_base.specs.declared.plan.Half.TheVariants.{Filter, Notrace}
@@ -35,5 +35,5 @@ abbrev pub plain : SetEdit → Edit
 plain edit = record { append = edit.append; remove = edit.remove; clear = edit.clear; set = edit.set }
 
 -- the matched functions
-abbrev pub matched : Pair → Marks
+unfoldable pub matched : Pair → Marks
 matched pair = map (matches_by pair.filter pair.notrace) (range_with_len 0 (size_of pair))

@@ -55,17 +55,8 @@ fn follows_a_table_of_edits(rt: HostRuntime) -> Result<(), Fail> {
         };
         assert!(rt; edit.set.size() == pair.size() && 0 < pair.size());
         pair.edit(*half, &edit);
-        assert_eq!(rt;
-            pair.word(Half::Filter, 0),
-            *filter,
-            "filter after row {row}"
-        );
-        assert_eq!(rt;
-            pair.word(Half::Notrace, 0),
-            *notrace,
-            "notrace after row {row}"
-        );
-        assert_eq!(rt; pair.is_open(), *filter == 0, "open after row {row}");
+        let words = (pair.word(Half::Filter, 0), pair.word(Half::Notrace, 0));
+        assert_eq!(rt; words, (*filter, *notrace), "after row {row}");
         for f in 0..3 {
             assert!(rt; f < pair.size());
             assert_eq!(rt;
@@ -79,33 +70,44 @@ fn follows_a_table_of_edits(rt: HostRuntime) -> Result<(), Fail> {
 }
 
 #[test]
-fn matches_across_a_word(rt: HostRuntime) -> Result<(), Fail> {
+fn matches_all_across_a_word(rt: HostRuntime) -> Result<(), Fail> {
     let alloc = rt.alloc();
-    let mut pair = HashPair::new(alloc, 65)?;
-    let mut matched = SiteSet::empty(alloc, 65)?;
-    pair.matched_into(&mut matched);
-    assert_eq!(rt; (matched.count(), matched.word(1)), (65, 1));
+    // the size, and the second word of the set of all functions
+    for (size, word) in [(65u32, 1u64), (128, u64::MAX)] {
+        let pair = HashPair::new(alloc, size)?;
+        let mut matched = SiteSet::empty(alloc, size)?;
+        pair.matched_into(&mut matched);
+        assert!(rt; pair.is_open() && matched.count() == size);
+        assert!(rt; 64 < matched.size() && matched.word(1) == word);
+    }
+    Ok(())
+}
 
-    let mut set = SiteSet::empty(alloc, 65)?;
-    set.add(0);
-    set.add(64);
-    let mut edit = Edit {
-        append: true,
-        remove: false,
-        clear: false,
-        set,
-    };
-    pair.edit(Half::Filter, &edit);
-    pair.matched_into(&mut matched);
-    assert_eq!(rt; (matched.word(0), matched.word(1)), (1, 1));
+#[test]
+fn keeps_out_across_a_word(rt: HostRuntime) -> Result<(), Fail> {
+    let alloc = rt.alloc();
+    for size in [65u32, 128] {
+        assert!(rt; 64 < size);
+        let mut set = SiteSet::empty(alloc, size)?;
+        set.add(0);
+        set.add(size - 1);
+        let mut edit = Edit {
+            append: true,
+            remove: false,
+            clear: false,
+            set,
+        };
+        let mut pair = HashPair::new(alloc, size)?;
+        let mut matched = SiteSet::empty(alloc, size)?;
+        pair.edit(Half::Filter, &edit);
+        pair.matched_into(&mut matched);
+        assert!(rt; matched.count() == 2 && matched.contains(size - 1));
 
-    edit.set.remove(0);
-    pair.edit(Half::Notrace, &edit);
-    pair.matched_into(&mut matched);
-    assert_eq!(rt; (matched.word(0), matched.word(1)), (1, 0));
-    assert_eq!(rt; pair.set(Half::Notrace).first_common(&edit.set), Some(64));
-
-    let copied = pair.copy()?;
-    assert!(rt; copied.matches(0) && !copied.matches(64) && copied.size() == 65);
+        edit.set.remove(0);
+        pair.edit(Half::Notrace, &edit);
+        let copied = pair.copy()?;
+        copied.matched_into(&mut matched);
+        assert!(rt; matched.count() == 1 && !matched.contains(size - 1));
+    }
     Ok(())
 }

@@ -1,4 +1,4 @@
-use Rattle.std.proofs.Common.{◌≡◌, length, ap, ◌∙◌}
+use Rattle.std.proofs.Common.{◌≡◌, length}
 use Rattle.filter_hash.specs.Pair.{plain}
 use Rattle.filter_hash.proofs.EditLaws.{start, start-as_it_is, start-anew, edited-removes, edited-adds}
 use Rattle.filter_hash.proofs.pair.edit_set.Goals as goal

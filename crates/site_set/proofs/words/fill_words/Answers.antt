@@ -1,6 +1,6 @@
-use Rattle.std.proofs.Common.{◌≡◌, ℕ, ◌%◌, ◌/◌, ◌-◌, ◌^◌, set, nat_lt, ap, ◌∙◌, arith}
+use Rattle.std.proofs.Common.{◌%◌, ◌/◌, ◌-◌, ◌^◌, set, ap, ◌∙◌, arith}
 use Rattle.site_set.specs.Packed.{has_bit}
-use Rattle.site_set.proofs.FillLemmas.{has_bit-whole, has_bit-part, last}
+use Rattle.site_set.proofs.FillLemmas.{has_bit-whole, has_bit-part}
 use Rattle.site_set.proofs.words.fill_words.Goals as goal
 
 pub returns-then-rest-gt0-clause-bits : goal.returns-then-rest-gt0-clause-bits

@@ -1,4 +1,4 @@
-use Rattle.std.proofs.Common.{◌≡◌, length, ap, ap₂, ◌∙◌}
+use Rattle.std.proofs.Common.{ap, ap₂, ◌∙◌}
 use Rattle.ft_base.specs.Job.{united}
 use Rattle.filter_hash.specs.Pair.{Pair}
 use Rattle.filter_hash.proofs.MatchLaws.{IsLet, IsLet-all, IsLet-held, matches-from_IsLet, matched-from_IsLet}
