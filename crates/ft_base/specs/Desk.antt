@@ -5,11 +5,12 @@ use Rattle.ft_base.specs.declared.item.Ran.{Ran}
 use Rattle.ft_base.specs.declared.item.Ran.TheVariants.{Nop, List as ByList, Own}
 use Rattle.ft_base.specs.declared.item.Answer.{Answer}
 use Rattle.ft_base.specs.declared.item.Answer.TheVariants.{Accepted, Already, NotThere, Invalid, NoMatch, Busy}
-use Rattle.ft_base.specs.declared.plan.Kind.{Kind}
-use Rattle.ft_base.specs.declared.plan.Kind.TheVariants.{Function, Fprobe}
+use Rattle.ft_base.specs.declared.plan.Kind.TheVariants.{Function}
 use Rattle.ft_base.specs.Job.{Marks, holds, is_bare, united, without, bare, Spec, Edit, Command, Register, Unregister, Filter, Notrace, Pid, NoPid, Enable, Disable, MaxDepth, Job, commands, funcs}
+use Rattle.ft_base.specs.Kinds.{is_fprobe}
 
--- one user on a desk
+-- one user on a desk: whether it is registered, its registration number, the number of its last accepted register
+-- command, whether it is enabled, its filter and notrace sets, and its trampoline slot
 pub record UserState : Type 0 where
   pub registered : Bool
   pub reg : ℕ
@@ -19,40 +20,53 @@ pub record UserState : Type 0 where
   pub notrace : Marks
   pub slot : Option ℕ
 
+-- all users, the lists of pids that alone are traced and that are not, as sets of tasks, and the graph depth, 0 for no limit
+-- (ftrace.rst, The File System: set_ftrace_pid, set_ftrace_notrace_pid, max_graph_depth)
 pub record Desk : Type 0 where
   pub users : List UserState
   pub only : Marks
   pub not_these : Marks
   pub depth : ℕ
 
+-- a user that was never registered, with the empty sets of functions below a size
 abbrev pub unseen : ℕ → UserState
 unseen size = record { registered = false; reg = 0; since = 0; enabled = false; filter = bare size; notrace = bare size; slot = None }
 
+-- the user of a number
 abbrev pub user_at : Desk → ℕ → UserState
 user_at desk u = get_or desk.users u (unseen 0)
 
+-- a user of kind function without a name, a flag or an act, which stands for a number that the job does not have
 abbrev pub plain_spec : Spec
 plain_spec = record { name = []; kind = Function; regs = false; ipmodify = None; pid = false; act = None }
 
+-- what the job declares of a user
 abbrev pub spec_at : Job → ℕ → Spec
 spec_at job u = get_or job.users u plain_spec
 
--- a user matches a function: its filter is empty or holds it, and its notrace set doesn't
+-- a user matches a function where its filter is empty or holds it, and its notrace set does not hold it
+-- (ftrace.rst, The File System: set_ftrace_filter, set_ftrace_notrace; ftrace-uses.rst, Filtering which functions to trace)
 abbrev pub matches_by : Marks → Marks → ℕ → Bool
 matches_by filter notrace f = (is_bare filter || holds filter f) && not (holds notrace f)
 
+-- the user in this state matches the function
 abbrev pub is_matching : UserState → ℕ → Bool
 is_matching s f = matches_by s.filter s.notrace f
 
+-- the user is registered and matches the function, so that the site of the function is patched for it
 abbrev pub is_sited : Desk → ℕ → ℕ → Bool
 is_sited desk u f = (user_at desk u).registered && is_matching (user_at desk u) f
 
+-- it is enabled besides, so that a call of the function calls it back
 abbrev pub is_on : Desk → ℕ → ℕ → Bool
 is_on desk u f = is_sited desk u f && (user_at desk u).enabled
 
+-- the user is registered and enabled, under this registration number
 abbrev pub is_live : Desk → ℕ → ℕ → Bool
 is_live desk u r = (user_at desk u).registered && (user_at desk u).enabled && ((user_at desk u).reg == r)
 
+-- a task is traced for users with the pid flag: the pid list is empty or holds it, and the nopid list does not hold it
+-- (ftrace.rst, The File System: set_ftrace_pid; set_ftrace_notrace_pid "takes precedence")
 abbrev pub is_allowed : Desk → ℕ → Bool
 is_allowed desk t = (is_bare desk.only || holds desk.only t) && not (holds desk.not_these t)
 
@@ -66,25 +80,29 @@ abbrev pub sited_from : Desk → ℕ → ℕ → List UserState → List ℕ
 sited_from desk f u [] = []
 sited_from desk f u (s ∷ rest) = if s.registered && is_matching s f then u ∷ sited_from desk f (suc u) rest else sited_from desk f (suc u) rest
 
+-- the users sited at a function, the lowest first
 abbrev pub sited : Desk → ℕ → List ℕ
 sited desk f = sited_from desk f 0 desk.users
 
--- what a call site of f should be: nothing, one user's own trampoline, or the list
+-- what a call site should be, by those sited at its function: nothing, one user's own trampoline, or the list caller
+-- (ftrace.rst, dynamic ftrace; The File System: enabled_functions)
 abbrev pub target_by : Desk → List ℕ → Ran
 target_by desk [] = Nop
 target_by desk (u ∷ []) = if is_some (user_at desk u).slot then Own (record { 0 = u }) else ByList
 target_by desk (u ∷ v ∷ rest) = ByList
 
+-- what the call site of a function should be
 abbrev pub target : Desk → ℕ → Ran
 target desk f = target_by desk (sited desk f)
 
--- the set after an edit
+-- the set after an edit: `>` starts from the empty set and `>>` from the set as it is; the selected functions are added,
+-- or with `!` taken away (ftrace.rst, dynamic ftrace; Filter commands)
 abbrev pub edited : ℕ → Marks → Edit → Marks
 edited size old e =
     if e.clear then bare size else
     (if e.remove then without (if e.append then old else bare size) e.set else united (if e.append then old else bare size) e.set)
 
--- another registered user with ipmodify matches f
+-- another registered user that replaces functions matches this one
 abbrev pub other_modifier : Job → Desk → ℕ → ℕ → ℕ → Bool
 other_modifier job desk u f v = not (v == u) && (user_at desk v).registered && is_some (spec_at job v).ipmodify && is_matching (user_at desk v) f
 
@@ -93,19 +111,24 @@ abbrev pub busy_or : Option ℕ → Option ℕ → Answer → Answer
 busy_or (Some f) (Some v) otherwise = Busy (record { 0 = f }) (record { 0 = v })
 busy_or _ _ otherwise = otherwise
 
+-- the first such user at a function
 abbrev pub holder_at : Job → Desk → ℕ → Option ℕ → Option ℕ
 holder_at job desk u None = None
 holder_at job desk u (Some f) = lowest (other_modifier job desk u f) 0 (length job.users)
 
+-- a user with these sets matches the function, and another that replaces functions does too
 abbrev pub conflicts : Job → Desk → ℕ → Marks → Marks → ℕ → Bool
 conflicts job desk u filter notrace f = matches_by filter notrace f && is_some (lowest (other_modifier job desk u f) 0 (length job.users))
 
--- what stands in the way of a user with ipmodify and these sets: the lowest function, and its holder
+-- what stands in the way of a user that replaces functions and has these sets: the lowest function that another one holds,
+-- and that one (ftrace-uses.rst, The ftrace FLAGS: FTRACE_OPS_FL_IPMODIFY)
 abbrev pub claim : Job → Desk → ℕ → Marks → Marks → Answer
 claim job desk u filter notrace =
     let f = lowest (conflicts job desk u filter notrace) 0 (funcs job) in
     busy_or f (holder_at job desk u f) Accepted
 
+-- the answer to register: a user that replaces functions needs the regs flag and a filter that is not empty
+-- (ftrace-uses.rst, The ftrace FLAGS: IPMODIFY requires SAVE_REGS)
 abbrev pub register_answer : Job → Desk → ℕ → Answer
 register_answer job desk u =
     let s = user_at desk u in
@@ -114,6 +137,7 @@ register_answer job desk u =
     (if modifies && (not (spec_at job u).regs || is_bare s.filter) then Invalid else
     (if modifies then claim job desk u s.filter s.notrace else Accepted))
 
+-- the answer to an edit that would leave the user with these sets
 abbrev pub edit_answer : Job → Desk → ℕ → Edit → Marks → Marks → Answer
 edit_answer job desk u e filter notrace =
     let binds = (user_at desk u).registered && is_some (spec_at job u).ipmodify in
@@ -122,16 +146,13 @@ edit_answer job desk u e filter notrace =
     (if not selects then NoMatch else
     (if binds then claim job desk u filter notrace else Accepted))
 
-abbrev pub is_fprobe : Kind → Bool
-is_fprobe (Fprobe exit cancel) = true
-is_fprobe _ = false
-
+-- the answer to enable and disable, which are for fprobes alone (fprobe.rst, The usage of fprobe)
 abbrev pub switch_answer : Job → Desk → ℕ → Answer
 switch_answer job desk u =
     if not (user_at desk u).registered then NotThere else
     (if not (is_fprobe (spec_at job u).kind) then Invalid else Accepted)
 
--- the answer of a command on a desk
+-- the answer of a command on a desk: the first that holds, from left to right. A refused command changes nothing
 abbrev pub answer_on : Job → Desk → Command → Answer
 answer_on job desk (Register u) = register_answer job desk u
 answer_on job desk (Unregister u) = if (user_at desk u).registered then Accepted else NotThere
@@ -143,6 +164,7 @@ answer_on job desk (Enable u) = switch_answer job desk u
 answer_on job desk (Disable u) = switch_answer job desk u
 answer_on job desk (MaxDepth depth) = Accepted
 
+-- this is the slot
 abbrev pub has_slot : ℕ → Option ℕ → Bool
 has_slot s None = false
 has_slot s (Some t) = s == t
@@ -151,13 +173,16 @@ has_slot s (Some t) = s == t
 abbrev pub is_free : Desk → ℕ → Bool
 is_free desk s = not (list_any (λ v. v.registered && has_slot s v.slot) desk.users)
 
+-- the desk with one user changed
 abbrev pub with_user : Desk → ℕ → UserState → Desk
 with_user desk u s = record desk { users = set desk.users u s }
 
--- a user that the k-th command registers: it takes the lowest free trampoline
+-- a user that the k-th command registers: its registration number goes up by 1, it is enabled, and takes the lowest free
+-- trampoline slot, or none where none is free
 abbrev pub registered_as : Job → Desk → ℕ → UserState → UserState
 registered_as job desk k s = record s { registered = true; reg = suc s.reg; since = k; enabled = true; slot = lowest (is_free desk) 0 job.tramps }
 
+-- a user that is unregistered: its slot is free again. Its registration number stays, and so do its sets
 abbrev pub unregistered_as : UserState → UserState
 unregistered_as s = record s { registered = false; slot = None }
 
@@ -173,6 +198,7 @@ changed job desk k (Enable u) = with_user desk u (record (user_at desk u) { enab
 changed job desk k (Disable u) = with_user desk u (record (user_at desk u) { enabled = false })
 changed job desk k (MaxDepth depth) = record desk { depth = depth }
 
+-- the command was accepted
 abbrev pub is_accepted : Answer → Bool
 is_accepted Accepted = true
 is_accepted _ = false
@@ -182,6 +208,7 @@ abbrev pub after : Job → Desk → ℕ → Option Command → Desk
 after job desk k None = desk
 after job desk k (Some c) = if is_accepted (answer_on job desk c) then changed job desk k c else desk
 
+-- the desk before any command: nobody is registered, all lists and sets are empty, and there is no limit of depth
 abbrev pub opening : Job → Desk
 opening job = record {
   users = map (λ s. unseen (funcs job)) job.users;

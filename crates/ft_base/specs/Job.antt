@@ -1,5 +1,5 @@
 -- A job as plain data: what a script declares, as lists, sets and numbers.
-use Rattle.std.specs.Prelude.{ℕ, zero, suc, Bool, false, not, ◌||◌, ◌&&◌, List, [], ◌∷◌, get_or, length, Option}
+use Rattle.std.specs.Prelude.{ℕ, zero, suc, Bool, false, not, ◌||◌, ◌&&◌, List, [], ◌∷◌, get_or, length, Option, None}
 use Rattle.std.specs.List.{list_any}
 use Rattle.ft_base.specs.declared.number.FuncNo.{FuncNo}
 use Rattle.ft_base.specs.declared.plan.Kind.{Kind}
@@ -82,6 +82,14 @@ pub record Task : Type 0 where
   pub cpu : ℕ
   pub acts : List TaskAct
 
+-- what stands for the number of a function that a job doesn't have
+abbrev pub no_func : Func
+no_func = record { name = []; owner = None }
+
+-- what stands for the number of a task that a job doesn't have
+abbrev pub no_task : Task
+no_task = record { pid = 0; cpu = 0; acts = [] }
+
 -- a job: functions, users, the frames of each task's shadow stack, trampoline slots, the quantum of each CPU, tasks,
 -- control's lines and the schedule
 pub record Job : Type 0 where
@@ -104,5 +112,6 @@ commands_in [] = []
 commands_in (Run c ∷ rest) = c ∷ commands_in rest
 commands_in (Until t n ∷ rest) = commands_in rest
 
+-- the commands of a job, which are numbered from 1
 abbrev pub commands : Job → List Command
 commands job = commands_in job.ctls

@@ -19,3 +19,6 @@ pub use name::is_name;
 pub use number::{CallNo, CpuNo, FuncNo, TaskNo, UserNo};
 pub use plan::{Act, Half, Kind, TaskAct};
 pub use turn::{Actor, Turn, Who};
+
+#[cfg(test)]
+mod tests;

@@ -9,7 +9,8 @@ use Rattle.ft_base.specs.Same.{same_call}
 use Rattle.ft_base.specs.Job.{Job}
 use Rattle.ft_base.specs.Desk.{spec_at}
 use Rattle.ft_base.proofs.Small.{false_true, and-false, Each-weaker}
-use Rattle.ft_hist.specs.Past.{is_of, done, is_open, calls, held, meetings, is_dispatched, has_frame_user, cancels}
+use Rattle.ft_base.specs.Kinds.{cancels}
+use Rattle.ft_hist.specs.Past.{is_of, done, is_open, calls, held, meetings, is_dispatched, has_frame_user}
 use Rattle.ft_hist.specs.Plain.{plain, read_on, PlainTask, at_start}
 use Rattle.ft_hist.proofs.Laws.{same_call-refl}
 use Rattle.ft_hist.proofs.RunLaws.{some_inj, calls_on, Keeps, Moves, moves}

@@ -9,7 +9,8 @@ use Rattle.ft_base.specs.Job.{Job}
 use Rattle.ft_base.specs.Desk.{Desk, desk, is_on, user_at, spec_at, target_by}
 use Rattle.ft_base.specs.Order.{IsBelow, has}
 use Rattle.ft_base.proofs.Small.{false_true, ==-refl, or-true, and-false, Each-weaker, Each-snoc, Contains-head, Contains-more}
-use Rattle.ft_hist.specs.Past.{done, begun, entry_of, Meeting, read_at, cancels}
+use Rattle.ft_base.specs.Kinds.{cancels}
+use Rattle.ft_hist.specs.Past.{done, begun, entry_of, Meeting, read_at}
 use Rattle.ft_hist.specs.Rules.{OnlyThose, backs_with_replacement, replacement, HasExit}
 use Rattle.ft_hist.specs.Frames.{FrameUser, or_runs, is_nil, IsOwed, is_user_of, is_among, Rises, keeps_frame, FrameOf}
 

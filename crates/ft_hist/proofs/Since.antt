@@ -8,7 +8,8 @@ use Rattle.ft_base.specs.declared.item.Item.TheVariants.{Begin, Return, Enter, B
 use Rattle.ft_base.specs.Same.{same_call}
 use Rattle.ft_base.specs.Job.{Job}
 use Rattle.ft_base.specs.Desk.{spec_at}
-use Rattle.ft_hist.specs.Past.{is_of, done, begun, entered, entry_of, is_open, is_dispatched, meetings, met, exits, left_at, miss_due, Meeting, holds_frame, cancels}
+use Rattle.ft_base.specs.Kinds.{cancels}
+use Rattle.ft_hist.specs.Past.{is_of, done, begun, entered, entry_of, is_open, is_dispatched, meetings, met, exits, left_at, miss_due, Meeting, holds_frame}
 use Rattle.ft_hist.specs.Plain.{plain}
 use Rattle.ft_hist.proofs.DispatchLaws.{Watches}
 

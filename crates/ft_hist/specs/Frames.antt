@@ -4,7 +4,8 @@ use Rattle.std.specs.List.{list_any, AllByRecursion as Each}
 use Rattle.ft_base.specs.declared.number.FuncNo.{FuncNo}
 use Rattle.ft_base.specs.Job.{Job}
 use Rattle.ft_base.specs.Desk.{spec_at}
-use Rattle.ft_hist.specs.Past.{Meeting, cancels}
+use Rattle.ft_base.specs.Kinds.{cancels}
+use Rattle.ft_hist.specs.Past.{Meeting}
 use Rattle.ft_hist.specs.Rules.{HasExit}
 
 -- a user whose exit a call's frame owes: its registration, and the place of its Back

@@ -6,11 +6,10 @@ use Rattle.ft_base.specs.declared.context.Ctx.{Ctx}
 use Rattle.ft_base.specs.declared.context.Ctx.TheVariants.{Normal}
 use Rattle.ft_base.specs.declared.item.Item.{Item}
 use Rattle.ft_base.specs.declared.item.Item.TheVariants.{Begin, Return, Enter, Back, BackEnd, Refuse, Miss, Body, Leave, Exit, ExitEnd, Ret}
-use Rattle.ft_base.specs.declared.plan.Kind.{Kind}
-use Rattle.ft_base.specs.declared.plan.Kind.TheVariants.{Graph, Fprobe, Profile}
 use Rattle.ft_base.specs.Same.{same_call, same_ctx}
 use Rattle.ft_base.specs.Job.{Job}
 use Rattle.ft_base.specs.Desk.{spec_at, desk, is_on, user_at}
+use Rattle.ft_base.specs.Kinds.{has_depth, has_exit, cancels}
 
 -- whose item it is
 abbrev pub is_of : ℕ → Item → Bool
@@ -59,6 +58,7 @@ pub record Callback : Type 0 where
   pub user : ℕ
   pub ctx : Option Ctx
 
+-- the context of a call, where it has an Enter
 abbrev pub ctx_of : CallNo → List Item → Option Ctx
 ctx_of call past = ctx_in (entered call past)
   where
@@ -80,6 +80,7 @@ callbacks (Exit c u p ∷ past) = record { call = c; user = u.0; ctx = ctx_of c 
 callbacks (ExitEnd c u ∷ past) = ended c u.0 (callbacks past)
 callbacks (_ ∷ past) = callbacks past
 
+-- the context is this one
 abbrev pub is_in : Option Ctx → Ctx → Bool
 is_in None x = false
 is_in (Some y) x = same_ctx y x
@@ -96,6 +97,7 @@ is_called u past = list_any (λ b. b.user == u) (callbacks past)
 abbrev pub never : Entered
 never = record { ctx = Normal; func = 0; caller = None; from = 0 }
 
+-- what the Enter of a call tells
 abbrev pub entry_of : CallNo → List Item → Entered
 entry_of call past = or_never (entered call past)
   where
@@ -132,19 +134,6 @@ pub record Meeting : Type 0 where
   pub back : Bool
   pub wants : Bool
 
-abbrev pub has_depth : Kind → Bool
-has_depth Graph = true
-has_depth Profile = true
-has_depth _ = false
-
-abbrev pub has_exit : Kind → Bool
-has_exit (Fprobe exit cancel) = exit
-has_exit _ = false
-
-abbrev pub cancels : Kind → Bool
-cancels (Fprobe exit cancel) = cancel
-cancels _ = false
-
 -- among these meetings, one of the call that wants a frame and passes
 abbrev pub has_frame_user : CallNo → (Meeting → Bool) → List Meeting → Bool
 has_frame_user call passes ms = list_any (λ m. same_call m.call call && m.wants && passes m) ms
@@ -160,6 +149,8 @@ abbrev pub held_after : Job → CallNo → List Item → List Meeting → ℕ
 held_after job call past ms =
     length (filter (λ c. (c.task.0 == call.task.0) && not (same_call c call) && holds_frame job c past ms) (calls past))
 
+-- a Back of the user wants a frame on the shadow stack: always for a graph or profile user, and for an fprobe with an exit
+-- where the other calls leave room for one (ftrace.rst, function graph tracer; fprobe.rst, The missed counter)
 abbrev pub wants_frame : Job → CallNo → ℕ → List Item → List Meeting → Bool
 wants_frame job call u past ms =
     has_depth (spec_at job u).kind || (has_exit (spec_at job u).kind && nat_lt (held_after job call past ms) job.frames)
@@ -168,6 +159,7 @@ wants_frame job call u past ms =
 abbrev pub read_at : Job → CallNo → ℕ → List Item → ℕ
 read_at job call u past = if is_on (desk job (done past)) u (entry_of call past).func then done past else begun past
 
+-- what a Back or a Refuse of a user in a call is, on the past before it
 abbrev pub meeting : Job → CallNo → ℕ → List Item → List Meeting → Bool → Meeting
 meeting job call u past ms back =
     let s = user_at (desk job (read_at job call u past)) u in
@@ -180,6 +172,7 @@ meetings job (Back c u ∷ past) = meeting job c u.0 past (meetings job past) tr
 meetings job (Refuse c u reason ∷ past) = meeting job c u.0 past (meetings job past) false ∷ meetings job past
 meetings job (_ ∷ past) = meetings job past
 
+-- how many other calls of the task hold a frame now
 abbrev pub held : Job → CallNo → List Item → ℕ
 held job call past = held_after job call past (meetings job past)
 

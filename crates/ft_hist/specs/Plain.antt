@@ -10,7 +10,7 @@ use Rattle.ft_base.specs.declared.plan.TaskAct.TheVariants.{Call, Ret as RetAct,
 use Rattle.ft_base.specs.declared.plan.Act.{Act}
 use Rattle.ft_base.specs.declared.plan.Act.TheVariants.{CallIn, IrqIn}
 use Rattle.ft_base.specs.Same.{same_call, same_ctx, rank}
-use Rattle.ft_base.specs.Job.{Job, Task}
+use Rattle.ft_base.specs.Job.{Job, no_task}
 use Rattle.ft_base.specs.Desk.{spec_at}
 use Rattle.ft_hist.specs.Past.{done, is_of}
 
@@ -19,6 +19,8 @@ pub record Owed : Type 0 where
   pub ctx : Ctx
   pub func : ℕ
 
+-- where a call stands: in its dispatch, in an entry callback that may owe a call and may have a Miss directly after its Back,
+-- in its body, in its return, or in an exit callback
 pub data Phase : Type 0 where
   Dispatch : Phase
   InBack : (user : ℕ) → (owed : Option Owed) → (fresh : Bool) → Phase
@@ -34,6 +36,8 @@ pub record Frame : Type 0 where
   pub scripted : Bool
   pub phase : Phase
 
+-- a task on its plain run: the number of its next call, its acts to come, how many acts are behind it, its raised contexts,
+-- the latest first, and its stack of calls, the top first
 pub record PlainTask : Type 0 where
   pub next : ℕ
   pub acts : List TaskAct
@@ -41,10 +45,12 @@ pub record PlainTask : Type 0 where
   pub contexts : List Ctx
   pub stack : List Frame
 
+-- the present context
 abbrev pub context : List Ctx → Ctx
 context [] = Normal
 context (c ∷ rest) = c
 
+-- the contexts after the latest is left
 abbrev pub below_top : List Ctx → List Ctx
 below_top [] = []
 below_top (c ∷ rest) = rest
@@ -55,6 +61,7 @@ pub record Ahead : Type 0 where
   pub contexts : List Ctx
   pub gone : ℕ
 
+-- the acts to come without those that give no items, as far as their waits are met by so many returned commands
 abbrev pub ahead : ℕ → List TaskAct → List Ctx → ℕ → Ahead
 ahead returned [] cs gone = record { acts = []; contexts = cs; gone = gone }
 ahead returned (Call f ∷ rest) cs gone = record { acts = Call f ∷ rest; contexts = cs; gone = gone }
@@ -64,10 +71,12 @@ ahead returned (Lower ∷ rest) cs gone = ahead returned rest (below_top cs) (su
 ahead returned (After n ∷ rest) cs gone =
     if nat_le n returned then ahead returned rest cs (suc gone) else record { acts = After n ∷ rest; contexts = cs; gone = gone }
 
+-- the call on the top of a stack
 abbrev pub top_call : List Frame → Option CallNo
 top_call [] = None
 top_call (t ∷ below) = Some t.call
 
+-- two callers are the same
 abbrev pub same_top : Option CallNo → Option CallNo → Bool
 same_top None None = true
 same_top (Some a) (Some b) = same_call a b
@@ -79,9 +88,11 @@ owed_by x None = None
 owed_by x (Some (CallIn f)) = Some (record { ctx = x; func = f.0 })
 owed_by x (Some (IrqIn f)) = if nat_lt (rank x) (rank Irq) then Some (record { ctx = Irq; func = f.0 }) else None
 
+-- a call in another phase
 abbrev pub in_phase : Frame → Phase → Frame
 in_phase t p = record t { phase = p }
 
+-- the task with this call on the top of its stack
 abbrev pub on_top : PlainTask → Frame → List Frame → PlainTask
 on_top s t below = record s { stack = t ∷ below }
 
@@ -98,6 +109,7 @@ enters_by_script s (Call g ∷ rest) cs gone call ctx f =
     }) else None
 enters_by_script s _ cs gone call ctx f = None
 
+-- a scripted call, behind the acts that give no items
 abbrev pub enters_ahead : PlainTask → Ahead → CallNo → Ctx → ℕ → Option PlainTask
 enters_ahead s a call ctx f = enters_by_script s a.acts a.contexts a.gone call ctx f
 
@@ -126,44 +138,54 @@ abbrev pub begins_back : Job → PlainTask → Frame → List Frame → ℕ → 
 begins_back job s t below u Dispatch = Some (on_top s (in_phase t (InBack u (owed_by t.ctx (spec_at job u).act) true)) below)
 begins_back job s t below u _ = None
 
+-- a Miss stands directly after the Back of its user
 abbrev pub misses : PlainTask → Frame → List Frame → ℕ → Phase → Option PlainTask
 misses s t below u (InBack v owed true) = if u == v then Some (on_top s (in_phase t (InBack v owed false)) below) else None
 misses s t below u _ = None
 
+-- an entry callback ends where its user's act owes nothing more
 abbrev pub ends_back : PlainTask → Frame → List Frame → ℕ → Phase → Option PlainTask
 ends_back s t below u (InBack v None fresh) = if u == v then Some (on_top s (in_phase t Dispatch) below) else None
 ends_back s t below u _ = None
 
+-- a refusal stands in the dispatch and changes nothing
 abbrev pub stays : PlainTask → Phase → Option PlainTask
 stays s Dispatch = Some s
 stays s _ = None
 
+-- the dispatch is over
 abbrev pub begins_body : PlainTask → Frame → List Frame → Phase → Option PlainTask
 begins_body s t below Dispatch = Some (on_top s (in_phase t Running) below)
 begins_body s t below _ = None
 
+-- a scripted return: the next act that gives items is `ret`
 abbrev pub leaves_by_script : PlainTask → Frame → List Frame → List TaskAct → List Ctx → ℕ → Option PlainTask
 leaves_by_script s t below (RetAct ∷ rest) cs gone =
     Some (record { next = s.next; acts = rest; gone = suc gone; contexts = cs; stack = in_phase t Leaving ∷ below })
 leaves_by_script s t below _ cs gone = None
 
+-- a scripted return, behind the acts that give no items
 abbrev pub leaves_ahead : PlainTask → Frame → List Frame → Ahead → Option PlainTask
 leaves_ahead s t below a = leaves_by_script s t below a.acts a.contexts a.gone
 
+-- the body is over: by the script, or at once in a call that a user's act made
 abbrev pub leaves : ℕ → PlainTask → Frame → List Frame → Phase → Option PlainTask
 leaves returned s t below Running =
     if t.scripted then leaves_ahead s t below (ahead returned s.acts s.contexts s.gone)
     else Some (on_top s (in_phase t Leaving) below)
 leaves returned s t below _ = None
 
+-- an exit callback stands in the return
 abbrev pub begins_exit : PlainTask → Frame → List Frame → ℕ → Phase → Option PlainTask
 begins_exit s t below u Leaving = Some (on_top s (in_phase t (InExit u)) below)
 begins_exit s t below u _ = None
 
+-- the exit callback that is open ends
 abbrev pub ends_exit : PlainTask → Frame → List Frame → ℕ → Phase → Option PlainTask
 ends_exit s t below u (InExit v) = if u == v then Some (on_top s (in_phase t Leaving) below) else None
 ends_exit s t below u _ = None
 
+-- the return reaches the call below on the stack, which is the true caller
 abbrev pub returns : PlainTask → List Frame → Option CallNo → Phase → Option PlainTask
 returns s below to Leaving = if same_top to (top_call below) then Some (record s { stack = below }) else None
 returns s below to _ = None
@@ -188,12 +210,11 @@ reads job returned s (ExitEnd call u) = on_call s.stack call (λ t below. ends_e
 reads job returned s (Ret call to) = on_call s.stack call (λ t below. returns s below to t.phase)
 reads job returned s _ = Some s
 
-abbrev pub no_task : Task
-no_task = record { pid = 0; cpu = 0; acts = [] }
-
+-- a task before its first act
 abbrev pub at_start : Job → ℕ → PlainTask
 at_start job t = record { next = 1; acts = (get_or job.tasks t no_task).acts; gone = 0; contexts = []; stack = [] }
 
+-- the run goes on by one more item, where it came so far
 abbrev pub read_on : Job → ℕ → Item → Option PlainTask → Option PlainTask
 read_on job returned item None = None
 read_on job returned item (Some s) = reads job returned s item

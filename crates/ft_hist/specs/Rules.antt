@@ -14,7 +14,8 @@ use Rattle.ft_base.specs.declared.item.Item.{Item}
 use Rattle.ft_base.specs.declared.item.Item.TheVariants.{Begin, Return, Enter, Back, BackEnd, Refuse, Miss, Body, Leave, Exit, ExitEnd, Ret}
 use Rattle.ft_base.specs.Job.{Job, Command, Unregister, Disable, commands, Ctl, Run, Until}
 use Rattle.ft_base.specs.Desk.{spec_at, desk, is_on, is_live, is_allowed, target, answer_on, is_accepted, user_at}
-use Rattle.ft_hist.specs.Past.{done, begun, entry_of, is_guarded, is_called, met, held, Meeting, read_at, has_depth, miss_due, exits, left_at, cancels}
+use Rattle.ft_base.specs.Kinds.{has_depth, cancels}
+use Rattle.ft_hist.specs.Past.{done, begun, entry_of, is_guarded, is_called, met, held, Meeting, read_at, miss_due, exits, left_at}
 use Rattle.ft_hist.specs.Plain.{plain, ahead, PlainTask, Frame, Phase, Running}
 
 -- a fact at the last returned command or at the last begun one
@@ -39,6 +40,8 @@ pub record MayMeet (job : Job) (past : List Item) (call : CallNo) (u : ℕ) : Ty
 abbrev pub PassesPid : Job → List Item → CallNo → ℕ → Type 0
 PassesPid job past call u = (spec_at job u).pid ≡ true → AtEither past (λ k. is_allowed (desk job k) call.task.0 ≡ true)
 
+-- an entry callback: the user may be met, passes the pid rule, its guard is free (ftrace-uses.rst, Protect your callback), and
+-- a graph or profile user finds a frame and is above the graph depth (ftrace.rst, The File System: max_graph_depth)
 pub record MayBack (job : Job) (past : List Item) (call : CallNo) (u : ℕ) : Type 0 where
   pub meets : MayMeet job past call u
   pub pid : PassesPid job past call u
@@ -67,6 +70,7 @@ OnlyThose (Own u) ms = Each (λ m. m.user ≡ u.0) ms
 abbrev pub backs_with_replacement : Job → List Meeting → List Meeting
 backs_with_replacement job ms = filter (λ m. m.back && is_some (spec_at job m.user).ipmodify) ms
 
+-- at most one such callback
 abbrev pub OneReplaces : List Meeting → Type 0
 OneReplaces ms = length ms ≤ 1
 
@@ -79,6 +83,8 @@ replacement job f (m ∷ ms) = by_option (spec_at job m.user).ipmodify
     by_option None = f
     by_option (Some g) = g.0
 
+-- a Body: whoever was not met was off at some command of the window, what was fetched was the site's target at some command
+-- of it and lets in those who were met, at most one user replaced the function, and its replacement runs
 pub record MayBody (job : Job) (past : List Item) (call : CallNo) (g : ℕ) (ran : Ran) : Type 0 where
   pub silent : (u : ℕ) → u < length job.users → IsUnmet job call u past → InWindow call past (λ k. is_on (desk job k) u (entry_of call past).func ≡ false)
   pub fetched : InWindow call past (λ k. ran ≡ target (desk job k) (entry_of call past).func)
@@ -92,11 +98,14 @@ IsStill past (Unregister u) = is_called u past ≡ false
 IsStill past (Disable u) = is_called u past ≡ false
 IsStill past _ = Unit {0}
 
+-- a Return: of the command under way, with its answer, and where that takes a user off no callback of the user is open
+-- (ftrace-uses.rst, The ftrace_ops structure; fprobe.rst)
 pub record MayReturn (job : Job) (past : List Item) (k : ℕ) (answer : Answer) : Type 0 where
   pub number : k ≡ suc (done past)
   pub follows : begun past ≡ suc (done past)
   pub command : (c : Command) × (slice_get (commands job) (done past) ≡ Some c) × (answer ≡ answer_on job (desk job (done past)) c) × (is_accepted answer ≡ true → IsStill past c)
 
+-- a Begin: of the next command, where none is under way
 pub record MayBegin (job : Job) (past : List Item) (k : ℕ) : Type 0 where
   pub number : k ≡ suc (begun past)
   pub follows : begun past ≡ done past
@@ -152,6 +161,7 @@ waits_before n (Until t acts ∷ rest) = (t, acts) ∷ waits_before n rest
 waits_before zero (Run c ∷ rest) = []
 waits_before (suc n) (Run c ∷ rest) = waits_before n rest
 
+-- the waits before control's next command are met
 abbrev pub HasWaited : Job → List Item → Type 0
 HasWaited job past = Each (λ w. IfSome (plain job w.0 past) (λ s. w.1 ≤ passed s)) (waits_before (begun past) job.ctls)
 

@@ -6,3 +6,6 @@ mod history;
 pub mod theorems;
 
 pub use history::History;
+
+#[cfg(test)]
+mod tests;

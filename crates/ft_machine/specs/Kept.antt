@@ -43,6 +43,7 @@ abbrev pub stack_of : Place → List Frame
 stack_of (Within n) = record { call = call_of n; ctx = Normal; func = 0; scripted = true; phase = InBody } ∷ []
 stack_of _ = []
 
+-- the only task, at a place and with so many calls
 abbrev pub task_of : Place → ℕ → TaskState
 task_of place calls = record {
   run = record { next = suc (entered_by place); acts = acts_left place calls; gone = acts_gone place; contexts = []; stack = stack_of place };
@@ -54,6 +55,7 @@ abbrev pub order_of : Bool → List ℕ
 order_of false = []
 order_of true = 0 ∷ []
 
+-- the job of a machine's parts
 abbrev pub job_of : Inside → Job
 job_of m = first_job (parts_of m.parts)
 
@@ -69,9 +71,11 @@ state_by p past ran registered place count = record {
   cpus = record { present = 0; count = count } ∷ [];
 }
 
+-- the state that a machine's fields stand for
 abbrev pub state_of : Inside → State
 state_of m = state_by (parts_of m.parts) (reverse m.history.items) m.ran m.registered m.place m.count
 
+-- what contracts see of a machine
 abbrev pub view_of : Inside → Running
 view_of m = record { job = job_of m; state = state_of m }
 
@@ -103,6 +107,7 @@ owed Waiting calls = 6 * calls
 owed (Between n) calls = 6 * (calls - n)
 owed (Within n) calls = 6 * (calls - n) + 2
 
+-- what is true of a machine's fields
 pub record IsKept (m : Inside) : Type 0 where
   pub within : IsWithin (parts_of m.parts)
   pub rule : Rule (job_of m) (state_of m)

@@ -1,4 +1,4 @@
-ghost use Rattle.std.specs.Prelude.{◌≡◌, IfOk};
+ghost use Rattle.std.specs.Prelude.{◌≡◌, length, IfOk};
 ghost use Rattle.ft_machine.specs.First.{parts_of, IsWithin, first_job};
 
 use ft_base::NoMemory;
@@ -71,6 +71,15 @@ impl Job {
         ensures { IfOk result (λ p. (first_job (parts_of p) ≡ self.now) × IsWithin (parts_of p)) }
     {
         self.parts.copy().map_err(|_| NoMemory)
+    }
+
+    /// How many CPUs it has. A job of the first form has one.
+    #[tactic(auto, unfolding(crate::specs::First::first_job))]
+    pub fn cpus(&self) -> u32
+        ensures { result ≡ length self.now.quanta }
+    {
+        let _ = &self.parts;
+        1
     }
 
     /// The parts that it was made of.

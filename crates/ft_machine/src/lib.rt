@@ -11,3 +11,6 @@ mod play;
 pub use job::{Job, JobParts};
 pub use machine::Machine;
 pub use play::{Outcome, replay};
+
+#[cfg(test)]
+mod tests;

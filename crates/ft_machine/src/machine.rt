@@ -92,7 +92,11 @@ fn count_after(left: bool, count: u32, quantum: u32) -> u32
     requires { count < quantum }
     ensures { result ≡ counted left quantum count }
 {
-    if !left || quantum <= count + 1 { 0 } else { count + 1 }
+    if !left || quantum <= count + 1 {
+        0
+    } else {
+        count + 1
+    }
 }
 
 /// The plain machine of a job. Contracts see its job, and its state as the definition has it.

@@ -12,7 +12,7 @@ use Rattle.ft_base.specs.Job.{Job}
 use Rattle.ft_base.specs.Desk.{Desk, is_live, spec_at, user_at, is_on, is_allowed, UserState, unseen}
 use Rattle.ft_base.proofs.Small.{false_true, or-false_both, or-true, ==-refl}
 use Rattle.ft_base.specs.Order.{has, IsFalling, IsBelow, IsOrder}
-use Rattle.ft_hist.specs.Past.{cancels, has_depth}
+use Rattle.ft_base.specs.Kinds.{cancels, has_depth}
 use Rattle.ft_hist.specs.Plain.{Owed, owed_by}
 use Rattle.ft_hist.specs.Frames.{FrameUser}
 use Rattle.plain_machine.specs.State.{Nested, Around, Walk, whole, walked, tried, refusal, refusal_by, is_held, is_deep, by_act, inside, backed, misses_frame, takes_frame, joined, exited, refused, dispatched, on_users, call_of}

@@ -9,7 +9,8 @@ use Rattle.ft_base.specs.Job.{Job}
 use Rattle.ft_base.specs.Desk.{desk, is_on, user_at, spec_at}
 use Rattle.ft_base.specs.Order.{IsFalling}
 use Rattle.ft_base.proofs.Small.{Each-weaker, Each-snoc, or-false_both}
-use Rattle.ft_hist.specs.Past.{Entered, done, begun, entered, entry_of, is_open, is_dispatched, exits, meetings, meeting, Meeting, met, held, cancels}
+use Rattle.ft_base.specs.Kinds.{cancels}
+use Rattle.ft_hist.specs.Past.{Entered, done, begun, entered, entry_of, is_open, is_dispatched, exits, meetings, meeting, Meeting, met, held}
 use Rattle.ft_hist.specs.Rules.{replacement, backs_with_replacement, MayMeet}
 use Rattle.ft_hist.proofs.Laws.{same_call-refl}
 use Rattle.ft_hist.proofs.DispatchLaws.{Watches}

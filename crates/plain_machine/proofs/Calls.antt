@@ -20,7 +20,8 @@ use Rattle.ft_base.proofs.DeskLaws.{has_sited}
 use Rattle.ft_base.specs.Order.{IsFalling, OneModifies, has, IsOrder}
 use Rattle.ft_base.specs.WellFormed.{IsJob, IsActNamed}
 use Rattle.ft_base.proofs.Small.{false_true, or-false_both, ==-refl, and_both}
-use Rattle.ft_hist.specs.Past.{Entered, Callback, is_of, done, begun, entered, entry_of, callbacks, is_in, is_guarded, is_open, is_dispatched, exits, meetings, met, held, has_depth, has_exit, miss_due}
+use Rattle.ft_base.specs.Kinds.{has_depth, has_exit}
+use Rattle.ft_hist.specs.Past.{Entered, Callback, is_of, done, begun, entered, entry_of, callbacks, is_in, is_guarded, is_open, is_dispatched, exits, meetings, met, held, miss_due}
 use Rattle.ft_hist.specs.Plain.{plain, reads, PlainTask, Frame, Phase, Owed, Dispatch, InBack, Running, in_phase, owed_by}
 use Rattle.ft_hist.specs.Rules.{IsLegalPast, MayStand, MayBack, MayMeet, MayRefuse, PassesPid, MayBody, InWindow}
 use Rattle.ft_hist.proofs.DispatchLaws.{WasOff, watches-at_end}

@@ -11,7 +11,7 @@ use Rattle.ft_base.specs.declared.item.Item.TheVariants.{Begin, Return, Leave, R
 use Rattle.ft_base.specs.declared.item.Answer.{Answer}
 use Rattle.ft_base.specs.declared.plan.TaskAct.{TaskAct}
 use Rattle.ft_base.specs.declared.plan.TaskAct.TheVariants.{Call, Ret as RetAct, Raise, Lower, After}
-use Rattle.ft_base.specs.Job.{Job, Task, Spec, Command, Unregister, Disable, commands, commands_in, Ctl, Run, Until, funcs}
+use Rattle.ft_base.specs.Job.{Job, Task, Spec, Command, Unregister, Disable, commands, commands_in, Ctl, Run, Until, funcs, no_task}
 use Rattle.ft_base.specs.Desk.{desk, answer_on, unseen}
 use Rattle.ft_base.proofs.DeskLaws.{length-desk, desk-suc}
 use Rattle.ft_base.specs.declared.turn.Actor.{Actor}
@@ -21,7 +21,7 @@ use Rattle.ft_base.proofs.Small.{false_true, Each-weaker, Each-snoc, or-false_bo
 use Rattle.ft_base.proofs.Order.{after_command}
 use Rattle.ft_base.proofs.Modifiers.{named-at}
 use Rattle.ft_hist.specs.Past.{done, begun, met}
-use Rattle.ft_hist.specs.Plain.{plain, reads, PlainTask, Frame, Running, Leaving, ahead, Ahead, top_call, below_top, in_phase, no_task, at_start}
+use Rattle.ft_hist.specs.Plain.{plain, reads, PlainTask, Frame, Running, Leaving, ahead, Ahead, top_call, below_top, in_phase, at_start}
 use Rattle.ft_hist.specs.Rules.{IsLegal, IsWhole, HasEnded, IsLegalPast, MayFollow, IsStill, passed, waits_before, HasWaited}
 use Rattle.ft_hist.proofs.Laws.{same_call-refl, run_still, ahead-more}
 use Rattle.ft_hist.specs.Frames.{FrameUser, is_nil}

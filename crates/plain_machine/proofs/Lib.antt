@@ -6,3 +6,10 @@ pub mod Rows
 pub mod Keeps
 pub mod Bounds
 pub mod PlainUsers
+pub mod Plays
+pub mod RowSamples
+pub mod RandomSamples1
+pub mod RandomSamples2
+pub mod RandomSamples3
+pub mod RowsLegal
+pub mod NotLegal

@@ -6,7 +6,7 @@ use Rattle.ft_base.specs.declared.item.Item.{Item}
 use Rattle.ft_base.specs.declared.item.Item.TheVariants.{Back, BackEnd, Miss}
 use Rattle.ft_base.specs.Job.{Job, Spec}
 use Rattle.ft_base.specs.Desk.{Desk, spec_at, plain_spec, user_at}
-use Rattle.ft_hist.specs.Past.{has_depth, has_exit, cancels}
+use Rattle.ft_base.specs.Kinds.{has_depth, has_exit, cancels}
 use Rattle.ft_hist.specs.Plain.{owed_by}
 use Rattle.ft_hist.specs.Frames.{or_runs}
 use Rattle.plain_machine.specs.State.{Nested, Around, Walk, walked, tried, refusal, called, by_act, inside}

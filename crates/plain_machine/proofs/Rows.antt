@@ -16,7 +16,8 @@ use Rattle.ft_base.specs.Desk.{desk, target, spec_at}
 use Rattle.ft_base.specs.WellFormed.{IsJob}
 use Rattle.ft_base.proofs.Small.{false_true, Each-weaker, ==-refl}
 use Rattle.ft_base.proofs.Modifiers.{one_modifies}
-use Rattle.ft_hist.specs.Past.{cancels, entered, done, Entered, met, Meeting, miss_due}
+use Rattle.ft_base.specs.Kinds.{cancels}
+use Rattle.ft_hist.specs.Past.{entered, done, Entered, met, Meeting, miss_due}
 use Rattle.ft_hist.specs.Plain.{reads, PlainTask, Frame, Dispatch, Running, ahead, context, top_call, enters_over}
 use Rattle.ft_hist.proofs.Laws.{same_call-refl, same_top-refl}
 use Rattle.ft_hist.specs.Frames.{FrameUser, FrameOf}

@@ -4,13 +4,13 @@ use Rattle.std.specs.List.{AllByRecursion as Each}
 use Rattle.ft_base.specs.declared.item.Item.{Item}
 use Rattle.ft_base.specs.Job.{Job, commands, commands_in}
 use Rattle.ft_base.specs.Desk.{desk}
+use Rattle.ft_base.specs.WellFormed.{IsScript}
+use Rattle.ft_base.specs.Order.{IsOrder}
 use Rattle.ft_hist.specs.Past.{done, begun, callbacks, met, is_open, is_dispatched, exits, miss_due}
 use Rattle.ft_hist.specs.Plain.{plain, PlainTask, Frame, Running, ahead}
 use Rattle.ft_hist.specs.Rules.{IsLegalPast, waits_before}
 use Rattle.ft_hist.specs.Frames.{FrameUser, FrameOf}
 use Rattle.plain_machine.specs.State.{State, TaskState, task_at, frames_of}
-use Rattle.ft_base.specs.WellFormed.{IsScript}
-use Rattle.ft_base.specs.Order.{IsOrder}
 
 -- a task's plain run is where the machine is, up to acts without items
 pub record RunsAs (job : Job) (past : List Item) (t : ℕ) (s : PlainTask) : Type 0 where
@@ -32,11 +32,14 @@ pub record RunningCall (job : Job) (past : List Item) (t : ℕ) (f : Frame) (use
   pub exits : exits f.call past ≡ []
   pub frame : FrameOf job (met job f.call past) users
 
+-- each call of the stack runs its body, with the users of its frame beside it
 abbrev pub Stacked : Job → List Item → ℕ → List Frame → List (List FrameUser) → Type 0
 Stacked job past t [] [] = Unit {0}
 Stacked job past t (f ∷ fs) (us ∷ rest) = RunningCall job past t f us × Stacked job past t fs rest
 Stacked job past t _ _ = ⊥
 
+-- a task stands where its plain run is, its calls run, no more of them hold frames than there are, and its acts to come are
+-- balanced over its open calls
 pub record TaskOk (job : Job) (past : List Item) (t : ℕ) (x : TaskState) : Type 0 where
   pub run : RunsAs job past t x.run
   pub stack : Stacked job past t x.run.stack x.frames
@@ -53,6 +56,8 @@ pub record CtlAt (job : Job) (s : State) : Type 0 where
   pub most : s.ran ≤ length (commands job)
   pub commands : (n : ℕ) → slice_get (commands job) (s.ran + n) ≡ slice_get (commands_in s.left) n
 
+-- what holds between any two steps: the history is legal so far, no command and no callback is under way, and each actor
+-- stands where its items say
 pub record Rule (job : Job) (s : State) : Type 0 where
   pub legal : IsLegalPast job s.past
   pub returned : done s.past ≡ s.ran

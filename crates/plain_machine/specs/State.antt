@@ -16,11 +16,11 @@ use Rattle.ft_base.specs.declared.turn.Actor.TheVariants.{Control, Cpu}
 use Rattle.ft_base.specs.Same.{same_ctx}
 use Rattle.ft_base.specs.Job.{Job, Task, Ctl, Run, Until}
 use Rattle.ft_base.specs.Desk.{Desk, desk, is_on, is_live, is_allowed, target, answer_on, is_accepted, spec_at, user_at}
-use Rattle.ft_hist.specs.Past.{has_depth, has_exit, cancels}
-use Rattle.ft_hist.specs.Plain.{PlainTask, Frame, Running, Owed, owed_by, context, below_top, top_call, at_start}
-use Rattle.ft_hist.specs.Frames.{FrameUser, is_nil, or_runs}
+use Rattle.ft_base.specs.Kinds.{has_depth, has_exit, cancels}
 use Rattle.ft_base.specs.Order.{order_after}
 use Rattle.ft_base.specs.Schedule.{actors_of}
+use Rattle.ft_hist.specs.Plain.{PlainTask, Frame, Running, Owed, owed_by, context, below_top, top_call, at_start}
+use Rattle.ft_hist.specs.Frames.{FrameUser, is_nil, or_runs}
 
 -- where a task stands: its plain run, and beside each call of the stack the users of its frame, in the order of their Backs
 pub record TaskState : Type 0 where
@@ -66,6 +66,7 @@ pub record Made : Type 0 where
 abbrev pub Nested : Type 0
 Nested = Around → Owed → CallNo → List Item → ℕ → Made
 
+-- the other calls hold as many frames as there are, or reach the graph depth
 abbrev pub is_deep : Job → Desk → ℕ → Bool
 is_deep job d level = nat_le job.frames level || (not (d.depth == 0) && nat_le d.depth level)
 
@@ -73,9 +74,11 @@ is_deep job d level = nat_le job.frames level || (not (d.depth == 0) && nat_le d
 abbrev pub refusal_by : Bool → Bool → Bool → Option Reason
 refusal_by pid held deep = if pid then Some ByPid else (if held then Some Recursion else (if deep then Some Depth else None))
 
+-- the guard of a context is held
 abbrev pub is_held : List Ctx → Ctx → Bool
 is_held guards x = list_any (λ y. same_ctx y x) guards
 
+-- why a user that is on is refused, if it is: the pid rule comes first, then recursion, then depth
 abbrev pub refusal : Job → Desk → Around → Ctx → ℕ → Option Reason
 refusal job d a x u =
     refusal_by ((spec_at job u).pid && not (is_allowed d a.task.0)) (is_held a.guards x) (has_depth (spec_at job u).kind && is_deep job d a.level)
@@ -84,9 +87,11 @@ refusal job d a x u =
 abbrev pub takes_frame : Job → Around → ℕ → Bool
 takes_frame job a u = has_depth (spec_at job u).kind || (has_exit (spec_at job u).kind && nat_lt a.level job.frames)
 
+-- the user wants an exit, and there is no room for a frame
 abbrev pub misses_frame : Job → Around → ℕ → Bool
 misses_frame job a u = has_exit (spec_at job u).kind && not (nat_lt a.level job.frames)
 
+-- a refusal
 abbrev pub refused : CallNo → ℕ → Reason → Walk → Walk
 refused call u reason w = record w { past = Refuse call (record { 0 = u }) reason ∷ w.past }
 
@@ -95,14 +100,11 @@ abbrev pub backed : Job → Around → CallNo → ℕ → List Item → List Ite
 backed job a call u past =
     if misses_frame job a u then Miss call (record { 0 = u }) ∷ Back call (record { 0 = u }) ∷ past else Back call (record { 0 = u }) ∷ past
 
-abbrev pub one_if : Bool → ℕ
-one_if true = 1
-one_if false = 0
-
 -- the surroundings of a call that a callback in context x makes
 abbrev pub inside : Around → Ctx → Bool → Around
 inside a x framed = record { task = a.task; guards = x ∷ a.guards; level = if framed then suc a.level else a.level }
 
+-- what the act of a user makes
 abbrev pub by_act : Nested → Around → Option Owed → CallNo → List Item → ℕ → Made
 by_act nested a None call past next = record { past = past; next = next }
 by_act nested a (Some o) call past next = nested a o call past next
@@ -125,6 +127,7 @@ called nested job d a call x u w =
       users = joined job a u (user_at d u).reg (length w.past) w.users;
     }
 
+-- a user that is on is refused, or called back
 abbrev pub tried : Nested → Job → Desk → Around → CallNo → Ctx → ℕ → Option Reason → Walk → Walk
 tried nested job d a call x u None w = called nested job d a call x u w
 tried nested job d a call x u (Some reason) w = refused call u reason w
@@ -134,6 +137,7 @@ abbrev pub walked : Nested → Job → Desk → Around → CallNo → Ctx → Li
 walked nested job d a call x [] w = w
 walked nested job d a call x (u ∷ us) w = walked nested job d a call x us (tried nested job d a call x u (refusal job d a x u) w)
 
+-- the users that are on at a function, in the order of the list
 abbrev pub on_users : Desk → ℕ → List ℕ → List ℕ
 on_users d f order = filter (λ u. is_on d u f) order
 
@@ -156,6 +160,7 @@ exited d call (m ∷ ms) past =
 abbrev pub left : Desk → CallNo → Option CallNo → List FrameUser → List Item → List Item
 left d call to users past = Ret call to ∷ exited d call users (Leave call ∷ past)
 
+-- the call of a task by its number
 abbrev pub call_of : TaskNo → ℕ → CallNo
 call_of t n = record { task = t; n = n }
 
@@ -169,12 +174,15 @@ whole (suc n) job d order a o caller past next =
 
 -- ## an act
 
+-- a task without acts, which stands for a number that the job does not have
 abbrev pub idle : TaskState
 idle = record { run = record { next = 1; acts = []; gone = 0; contexts = []; stack = [] }; frames = [] }
 
+-- where a task stands
 abbrev pub task_at : State → ℕ → TaskState
 task_at s t = get_or s.tasks t idle
 
+-- the state with one task changed
 abbrev pub with_task : State → ℕ → TaskState → State
 with_task s t x = record s { tasks = set s.tasks t x }
 
@@ -184,9 +192,11 @@ frames_of [] = 0
 frames_of ([] ∷ rest) = frames_of rest
 frames_of ((m ∷ ms) ∷ rest) = suc (frames_of rest)
 
+-- a task behind an act that gives no items
 abbrev pub passed_act : PlainTask → List TaskAct → List Ctx → PlainTask
 passed_act p rest cs = record p { acts = rest; gone = suc p.gone; contexts = cs }
 
+-- a task behind a call, whose dispatch came to this
 abbrev pub calls_by : State → ℕ → TaskState → List TaskAct → Ctx → ℕ → Walk → State
 calls_by s t x rest ctx f w =
     record s {
@@ -203,6 +213,7 @@ calls_by s t x rest ctx f w =
       });
     }
 
+-- what surrounds a scripted call: no callback is open between two steps
 abbrev pub around : ℕ → TaskState → Around
 around t x = record { task = record { 0 = t }; guards = []; level = frames_of x.frames }
 
@@ -210,6 +221,7 @@ around t x = record { task = record { 0 = t }; guards = []; level = frames_of x.
 abbrev pub fuel : ℕ
 fuel = 2
 
+-- a scripted call up to its Body
 abbrev pub called_by : Job → State → ℕ → TaskState → List TaskAct → ℕ → State
 called_by job s t x rest f =
     let d = desk job s.ran in
@@ -217,14 +229,17 @@ called_by job s t x rest f =
     calls_by s t x rest ctx f
     (dispatched (whole fuel job d s.order) job d s.order (around t x) (call_of (record { 0 = t }) x.run.next) ctx f (top_call x.run.stack) s.past (suc x.run.next))
 
+-- the users of the top call's frame
 abbrev pub first_or : List (List FrameUser) → List FrameUser
 first_or [] = []
 first_or (ms ∷ rest) = ms
 
+-- the frames of the calls below the top
 abbrev pub rest_of : List (List FrameUser) → List (List FrameUser)
 rest_of [] = []
 rest_of (ms ∷ rest) = rest
 
+-- a scripted return of the top call
 abbrev pub returned_by : Job → State → ℕ → TaskState → List TaskAct → List Frame → State
 returned_by job s t x rest [] = s
 returned_by job s t x rest (f ∷ below) =
@@ -242,15 +257,18 @@ acted job s t x (Raise c ∷ rest) = with_task s t (record x { run = passed_act 
 acted job s t x (Lower ∷ rest) = with_task s t (record x { run = passed_act x.run rest (below_top x.run.contexts) })
 acted job s t x (After n ∷ rest) = if nat_le n s.ran then with_task s t (record x { run = passed_act x.run rest x.run.contexts }) else s
 
+-- the next act of a task whole
 abbrev pub act_of : Job → ℕ → State → State
 act_of job t s = acted job s t (task_at s t) (task_at s t).run.acts
 
 -- ## a CPU
 
+-- an act is left
 abbrev pub has_acts : List TaskAct → Bool
 has_acts [] = false
 has_acts (a ∷ rest) = true
 
+-- a task has an act left
 abbrev pub is_left : State → ℕ → Bool
 is_left s t = has_acts (task_at s t).run.acts
 
@@ -259,9 +277,11 @@ abbrev pub tasks_from : ℕ → ℕ → List Task → List ℕ
 tasks_from c n [] = []
 tasks_from c n (t ∷ rest) = if t.cpu == c then n ∷ tasks_from c (suc n) rest else tasks_from c (suc n) rest
 
+-- the tasks of a CPU
 abbrev pub tasks_of : Job → ℕ → List ℕ
 tasks_of job c = tasks_from c 0 job.tasks
 
+-- the first of these tasks that has an act left, or else this one
 abbrev pub first_left : State → ℕ → List ℕ → ℕ
 first_left s otherwise [] = otherwise
 first_left s otherwise (t ∷ rest) = if is_left s t then t else first_left s otherwise rest
@@ -279,6 +299,7 @@ is_waiting ran _ = false
 abbrev pub cpu_at : Job → State → ℕ → CpuState
 cpu_at job s c = get_or s.cpus c (record { present = length job.tasks; count = 0 })
 
+-- the state with one CPU changed
 abbrev pub with_cpu : ℕ → CpuState → State → State
 with_cpu c x s = record s { cpus = set s.cpus c x }
 
@@ -289,6 +310,7 @@ switched job c x waits s =
     then with_cpu c (record { present = next_task job c x.present s; count = 0 }) s
     else with_cpu c (record { present = x.present; count = suc x.count }) s
 
+-- a step of a CPU: an act of its present task whole, and perhaps a switch; nothing where no task of it has an act left
 abbrev pub cpu_step : Job → ℕ → CpuState → State → State
 cpu_step job c x s =
     if is_left s x.present
@@ -310,21 +332,26 @@ control_step job s (Run c ∷ rest) =
       order = if is_accepted answer then order_after s.order c else s.order;
     }
 
+-- a step of an actor
 unfoldable pub step : Job → Actor → State → State
 step job Control s = control_step job s s.left
 step job (Cpu c) s = cpu_step job c.0 (cpu_at job s c.0) s
 
+-- all tasks before their first acts
 abbrev pub tasks_at_start : Job → ℕ → List Task → List TaskState
 tasks_at_start job n [] = []
 tasks_at_start job n (t ∷ rest) = record { run = at_start job n; frames = [] } ∷ tasks_at_start job (suc n) rest
 
+-- the opening state but for the CPUs
 abbrev pub bare_state : Job → State
 bare_state job = record { past = []; ran = 0; left = job.ctls; order = []; tasks = tasks_at_start job 0 job.tasks; cpus = [] }
 
+-- each CPU runs the first of its tasks that has an act
 abbrev pub cpus_at_start : Job → ℕ → List ℕ → List CpuState
 cpus_at_start job c [] = []
 cpus_at_start job c (q ∷ rest) = record { present = first_left (bare_state job) (length job.tasks) (tasks_of job c); count = 0 } ∷ cpus_at_start job (suc c) rest
 
+-- the opening state
 unfoldable pub start : Job → State
 start job = record (bare_state job) { cpus = cpus_at_start job 0 job.quanta }
 

@@ -1,0 +1,25 @@
+-- Kinds of users.
+use Rattle.std.specs.Prelude.{Bool, true, false}
+use Rattle.ft_base.specs.declared.plan.Kind.{Kind}
+use Rattle.ft_base.specs.declared.plan.Kind.TheVariants.{Graph, Fprobe, Profile}
+
+-- an fprobe, which alone can be disabled and enabled (fprobe.rst, The usage of fprobe)
+abbrev pub is_fprobe : Kind → Bool
+is_fprobe (Fprobe exit cancel) = true
+is_fprobe _ = false
+
+-- a user that the depth rule binds
+abbrev pub has_depth : Kind → Bool
+has_depth Graph = true
+has_depth Profile = true
+has_depth _ = false
+
+-- an fprobe with an exit handler
+abbrev pub has_exit : Kind → Bool
+has_exit (Fprobe exit cancel) = exit
+has_exit _ = false
+
+-- an fprobe whose entry handler cancels the exit (fprobe.rst, The fprobe entry/exit handler)
+abbrev pub cancels : Kind → Bool
+cancels (Fprobe exit cancel) = cancel
+cancels _ = false

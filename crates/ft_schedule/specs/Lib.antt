@@ -1,0 +1,5 @@
+pub mod Words
+pub mod Items
+pub mod Causes
+pub mod Coming
+pub mod Counts

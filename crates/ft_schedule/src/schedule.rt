@@ -1,0 +1,129 @@
+//! Turns, and the text that they are read from.
+
+ghost use Rattle.std.specs.Prelude.{◌≡◌, ◌≤◌, ◌*◌, All, Some, None, false, length, map, option_map, IfOk, OnOk, IfErr};
+ghost use Rattle.std.specs.List.{list_any};
+ghost use Rattle.ft_base.specs.Schedule.{actors_in};
+ghost use Rattle.ft_schedule.specs.Items.{turn_from, turns_in, items_in, some_items_of};
+ghost use Rattle.ft_schedule.specs.Causes.{IsTurn, is_bad, steps_of, is_over, is_unknown, has_unknown, cause_in, cause_of, IsCause};
+
+use crate::faults::SchedFault;
+use crate::item::{Item, read_items};
+use crate::words::words;
+use ft_base::{Turn, Who, limits};
+use std::alloc::{AllocError, Global};
+
+/// Whose turn it is: the turns of each entry, one after the other.
+#[derive(Debug, PartialEq, Eq, Drop)]
+pub struct Schedule {
+    pub turns: Vec<Turn>,
+}
+
+/// Reads the items of a schedule, of which there are one or more, with blanks between them. An item
+/// is `k` for control, a digit from `0` to `7` for that CPU, or `all` for control and then each of
+/// the CPUs in order; behind it `*COUNT` may stand, which says how often.
+///
+/// `Syntax` says that there is no item, or one of another form. `Limit` says that a count is 0 or
+/// above 4,294,967,295, or that the items have more than 4,000,000 steps, where each count of `all`
+/// is a step of control and one of each CPU. `Unknown` says that an item names a CPU that isn't
+/// below `cpus`. The first of these in this order counts, over the whole text. `NoMemory` says that
+/// no memory was found, and may come in the place of any other answer.
+pub fn read_sched(alloc: Global, text: &str, cpus: u32) -> Result<Schedule, SchedFault>
+    ensures turns { IfOk result (λ schedule. turns_in text.now ≡ Some schedule.turns.items) }
+    ensures no_cause { OnOk result (cause_of cpus text.now ≡ None) }
+    ensures err { IfErr result (IsCause cpus text.now) }
+    ensures few { IfOk result (λ schedule. length (actors_in cpus schedule.turns.items) ≤ 4000000) }
+    ensures each { IfOk result (λ schedule. All (IsTurn cpus) schedule.turns.items) }
+{
+    let Some(items) = read_text(alloc, text).map_err(|_| SchedFault::NoMemory)? else {
+        return Err(SchedFault::Syntax);
+    };
+    if let Some(fault) = judge(items.as_slice(), cpus) {
+        return Err(fault);
+    }
+    let turns = turns(alloc, items.as_slice()).map_err(|_| SchedFault::NoMemory)?;
+    Ok(Schedule { turns })
+}
+
+/// The items of a text. `Ok(None)` says that there is none, or that one has none of the forms.
+#[tactic(auto, unfolding(crate::specs::Items::items_in))]
+fn read_text(alloc: Global, text: &str) -> Result<Option<Vec<Item>>, AllocError>
+    ensures { IfOk result (λ r. option_map (λ v. v.items) r ≡ items_in text.now) }
+{
+    let words = words(alloc, text.as_bytes())?;
+    if words.is_empty() {
+        return Ok(None);
+    }
+    read_items(alloc, words.as_slice())
+}
+
+/// The first cause to refuse the items.
+fn judge(items: &[Item], cpus: u32) -> Option<SchedFault>
+    ensures { result ≡ cause_in cpus items.now }
+{
+    if is_over(items, cpus) {
+        return Some(SchedFault::Limit);
+    }
+    if has_unknown(items, cpus) {
+        return Some(SchedFault::Unknown);
+    }
+    None
+}
+
+/// The steps of an item.
+fn steps_of(item: &Item, cpus: u32) -> u64
+    requires { is_bad item.now ≡ false }
+    ensures value { result ≡ steps_of cpus item.now }
+    ensures small { result ≤ 4294967295 * 4294967296 }
+{
+    match item.who {
+        Who::Control | Who::Cpu(_) => item.count,
+        Who::All => item.count * (1 + cpus as u64),
+    }
+}
+
+/// Whether a count can't be, or there are too many steps.
+fn is_over(items: &[Item], cpus: u32) -> bool
+    ensures { result ≡ is_over cpus items.now }
+{
+    let mut steps: u64 = 0;
+    for item in items {
+        if item.count == 0 || item.count > u32::MAX as u64 {
+            return true;
+        }
+        steps += steps_of(item, cpus);
+        if steps > limits::STEPS as u64 {
+            return true;
+        }
+    }
+    false
+}
+
+fn is_unknown(item: &Item, cpus: u32) -> bool
+    ensures { result ≡ is_unknown cpus item.now }
+{
+    match item.who {
+        Who::Control | Who::All => false,
+        Who::Cpu(cpu) => cpu.0 >= cpus,
+    }
+}
+
+fn has_unknown(items: &[Item], cpus: u32) -> bool
+    ensures { result ≡ has_unknown cpus items.now }
+{
+    items.iter().any(|item| is_unknown(item, cpus))
+}
+
+/// The turns of items whose counts fit.
+fn turns(alloc: Global, items: &[Item]) -> Result<Vec<Turn>, AllocError>
+    requires { list_any is_bad items.now ≡ false }
+    ensures { IfOk result (λ v. v.items ≡ map turn_from items.now) }
+{
+    let mut turns = Vec::new(alloc);
+    for item in items {
+        turns.push(Turn {
+            who: item.who,
+            count: item.count as u32,
+        })?;
+    }
+    Ok(turns)
+}

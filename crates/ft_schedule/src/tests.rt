@@ -1,0 +1,149 @@
+use crate::{Actor, Player, SchedFault, Schedule, Turn, Who, read_sched};
+use ft_base::CpuNo;
+use std::test::Fail;
+
+#[test]
+fn reads_items(rt: HostRuntime) -> Result<(), Fail> {
+    let schedule = read_sched(rt.alloc(), "k*9 0*13\t  all*1000 1 k all 3*0000000007", 4)?;
+    let turns = [
+        Turn {
+            who: Who::Control,
+            count: 9,
+        },
+        Turn {
+            who: Who::Cpu(CpuNo(0)),
+            count: 13,
+        },
+        Turn {
+            who: Who::All,
+            count: 1_000,
+        },
+        Turn {
+            who: Who::Cpu(CpuNo(1)),
+            count: 1,
+        },
+        Turn {
+            who: Who::Control,
+            count: 1,
+        },
+        Turn {
+            who: Who::All,
+            count: 1,
+        },
+        Turn {
+            who: Who::Cpu(CpuNo(3)),
+            count: 7,
+        },
+    ];
+    assert_eq!(rt; schedule.turns.as_slice(), &turns[..]);
+    Ok(())
+}
+
+#[test]
+fn accepts_good_texts(rt: HostRuntime) -> Result<(), Fail> {
+    let rows = [
+        ("k", 0),
+        ("all", 0),
+        (" k ", 0),
+        ("\tall*2", 2),
+        ("7", 8),
+        ("k*4000000", 0),
+        ("all*4000000", 0),
+        ("all*2000000", 1),
+        ("all*444444 0*4", 8),
+        ("k*3999999 0", 1),
+    ];
+    for (text, cpus) in rows {
+        assert!(rt; read_sched(rt.alloc(), text, cpus).is_ok(), "{text}");
+    }
+    Ok(())
+}
+
+#[test]
+fn refuses_bad_texts(rt: HostRuntime) -> Result<(), Fail> {
+    let rows = [
+        // not an item
+        ("", 8, SchedFault::Syntax),
+        (" \t ", 8, SchedFault::Syntax),
+        ("8", 8, SchedFault::Syntax),
+        ("00", 8, SchedFault::Syntax),
+        ("07", 8, SchedFault::Syntax),
+        ("K", 8, SchedFault::Syntax),
+        ("kk", 8, SchedFault::Syntax),
+        ("ALL", 8, SchedFault::Syntax),
+        ("k*", 8, SchedFault::Syntax),
+        ("*3", 8, SchedFault::Syntax),
+        ("k*3*4", 8, SchedFault::Syntax),
+        ("k*+3", 8, SchedFault::Syntax),
+        ("k*3x", 8, SchedFault::Syntax),
+        ("k *3", 8, SchedFault::Syntax),
+        ("k*12345678901", 8, SchedFault::Syntax),
+        ("k\n", 8, SchedFault::Syntax),
+        ("k,0", 8, SchedFault::Syntax),
+        // a count, or too many steps
+        ("k*0", 8, SchedFault::Limit),
+        ("all*0", 8, SchedFault::Limit),
+        ("k*4000001", 8, SchedFault::Limit),
+        ("k*4294967296", 8, SchedFault::Limit),
+        ("k*9999999999", 8, SchedFault::Limit),
+        ("all*2000001", 1, SchedFault::Limit),
+        ("all*444445", 8, SchedFault::Limit),
+        ("k*4000000 k", 8, SchedFault::Limit),
+        // no such CPU
+        ("0", 0, SchedFault::Unknown),
+        ("1*5", 1, SchedFault::Unknown),
+        ("k all 7", 7, SchedFault::Unknown),
+        // the first of several causes
+        ("k*0 x", 8, SchedFault::Syntax),
+        ("1 k*0", 1, SchedFault::Limit),
+        ("1*4000001", 1, SchedFault::Limit),
+        ("1 x", 1, SchedFault::Syntax),
+    ];
+    for (text, cpus, fault) in rows {
+        let refused = read_sched(rt.alloc(), text, cpus).err();
+        assert_eq!(rt; refused, Some(fault), "{text} with {cpus} CPUs");
+    }
+    Ok(())
+}
+
+#[test]
+fn plays_a_schedule(rt: HostRuntime) -> Result<(), Fail> {
+    let schedule = read_sched(rt.alloc(), "k*2 0 all*2", 2)?;
+    let (first, second) = (Actor::Cpu(CpuNo(0)), Actor::Cpu(CpuNo(1)));
+    let actors = [
+        Actor::Control,
+        Actor::Control,
+        first,
+        Actor::Control,
+        first,
+        second,
+        Actor::Control,
+        first,
+        second,
+    ];
+    let mut player = Player::new(&schedule, 2);
+    for actor in actors {
+        assert_eq!(rt; player.next_actor(), Some(actor));
+    }
+    assert_eq!(rt; player.next_actor(), None);
+    assert_eq!(rt; player.next_actor(), None);
+    Ok(())
+}
+
+#[test]
+fn passes_over_counts_of_zero(rt: HostRuntime) -> Result<(), Fail> {
+    let none = Turn {
+        who: Who::All,
+        count: 0,
+    };
+    let one = Turn {
+        who: Who::Control,
+        count: 1,
+    };
+    let turns = vec![in rt.alloc(); none, none, one, none]?;
+    let schedule = Schedule { turns };
+    let mut player = Player::new(&schedule, 2);
+    assert_eq!(rt; player.next_actor(), Some(Actor::Control));
+    assert_eq!(rt; player.next_actor(), None);
+    Ok(())
+}

@@ -1,0 +1,5 @@
+pub mod Fitting
+pub mod GrammarLemmas
+pub mod Ranges
+pub mod Texts
+pub mod Tries

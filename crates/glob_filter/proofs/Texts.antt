@@ -1,0 +1,28 @@
+-- One item more of a text.
+use Rattle.std.proofs.Common.{◌≡◌, ℕ, ◌+◌, List, [], ◌∷◌, ◌++◌, drop, zero, suc, refl, sym, ap, ◌∙◌, append_assoc, add_comm, add-one}
+use Rattle.std.proofs.lemmas.List.{map_push}
+use Rattle.glob_filter.specs.Items.{first_item, items_after, items_of}
+use Rattle.glob_filter.specs.Kept.{item_of, items_kept}
+use Rattle.glob_filter.specs.declared.token.Token.{Token}
+
+-- the bytes that belong to an item before are passed over
+pub items_after-drop : (taken : ℕ) (text : List ℕ) → items_after taken text ≡ items_of (drop taken text)
+items_after-drop zero text = refl
+items_after-drop (suc taken) [] = refl
+items_after-drop (suc taken) (b ∷ text) = items_after-drop taken text
+
+-- one byte more is dropped
+pub drop_one_more : (b : ℕ) (text : List ℕ) (n : ℕ) → drop (1 + n) (b ∷ text) ≡ drop n text
+drop_one_more b text n = ap (λ k. drop k (b ∷ text)) (add_comm 1 n ∙ add-one n)
+
+-- where the items so far and those of the rest are the text's, so are they with the rest's first item read
+pub one_more : (text : List ℕ) (tokens : List Token) (token : Token) (rest : List ℕ) (b : ℕ) (others after : List ℕ)
+    → rest ≡ b ∷ others → item_of token ≡ (first_item b others).0 → after ≡ drop (first_item b others).1 others
+    → items_kept tokens ++ items_of rest ≡ items_of text → items_kept (tokens ++ token ∷ []) ++ items_of after ≡ items_of text
+one_more text tokens token rest b others after rest_is token_is after_is so_far =
+    let pushed : items_kept (tokens ++ token ∷ []) ++ items_of after ≡ items_kept tokens ++ (item_of token ∷ items_of after) =
+    ap (λ items. items ++ items_of after) (map_push item_of tokens token) ∙ append_assoc (items_kept tokens) (item_of token ∷ []) (items_of after) in
+    let first : item_of token ∷ items_of after ≡ items_of (b ∷ others) =
+    ap (λ item. item ∷ items_of after) token_is
+    ∙ ap (λ items. (first_item b others).0 ∷ items) (ap items_of after_is ∙ sym (items_after-drop (first_item b others).1 others)) in
+    pushed ∙ ap (λ items. items_kept tokens ++ items) (first ∙ ap items_of (sym rest_is)) ∙ so_far

@@ -1,0 +1,6 @@
+pub mod Attempt
+pub mod Causes
+pub mod Fits
+pub mod Grammar
+pub mod Items
+pub mod Kept

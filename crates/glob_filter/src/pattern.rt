@@ -1,0 +1,55 @@
+//! A pattern, read from a text and matched against names.
+
+ghost use Rattle.std.specs.Prelude.{◌≡◌, ◌↔◌, IsTrue, IfOk, IfErr, OnOk, Some, None};
+ghost use Rattle.glob_filter.specs.Items.{items_of};
+ghost use Rattle.glob_filter.specs.Fits.{Fits, is_fit};
+ghost use Rattle.glob_filter.specs.Causes.{first_cause, IsCause};
+
+use crate::attempt::is_fit;
+use crate::fault::{PatternFault, find_cause};
+use crate::reading::read_tokens;
+use crate::token::Token;
+use std::alloc::Global;
+use std::marker::Model;
+
+/// A glob pattern. Contracts see the list of its items.
+#[derive(Debug, Drop)]
+pub struct Pattern {
+    tokens: Vec<Token>,
+}
+
+impl Model for Pattern {
+    ghost use Rattle.std.specs.Prelude.{List};
+    ghost use Rattle.glob_filter.specs.Items.{Item};
+
+    ghost Value = { List Item };
+
+    ghost use Rattle.glob_filter.specs.Kept.{items_kept};
+
+    ghost view = { λ p. items_kept p.tokens.items };
+}
+
+impl Pattern {
+    /// Reads a text of 1 to 255 bytes with no backslash as a pattern.
+    pub fn read(alloc: Global, text: &str) -> Result<Pattern, PatternFault>
+        ensures items { IfOk result (λ pattern. pattern ≡ items_of text.now) }
+        ensures ok { OnOk result (first_cause text.now ≡ None) }
+        // A text that has a cause is refused for it, whatever memory there is.
+        ensures refused { (fault : PatternFault) → first_cause text.now ≡ Some fault → result ≡ Err fault }
+        ensures err { IfErr result (IsCause text.now) }
+    {
+        if let Some(cause) = find_cause(text) {
+            return Err(cause);
+        }
+        let tokens = read_tokens(alloc, text.as_bytes()).map_err(|_| PatternFault::NoMemory)?;
+        Ok(Pattern { tokens })
+    }
+
+    /// Whether the pattern matches the whole name. It takes no memory.
+    pub fn matches(&self, name: &str) -> bool
+        ensures test { result ≡ is_fit self.now name.now }
+        ensures relation { IsTrue result ↔ Fits self.now name.now }
+    {
+        is_fit(self.tokens.as_slice(), name.as_bytes())
+    }
+}

@@ -1,0 +1,67 @@
+//! The patterns of the manual with their names, the refusals in their order, and a hostile pattern.
+
+use crate::{Pattern, PatternFault};
+use std::alloc::{AllocError, Global};
+use std::test::Fail;
+
+/// The text, so many times.
+fn repeated(alloc: Global, text: &str, count: usize) -> Result<String, AllocError> {
+    let mut whole = String::new(alloc);
+    for _ in 0..count {
+        whole.push_str(text)?;
+    }
+    Ok(whole)
+}
+
+#[test]
+fn matches_as_the_table_says(rt: HostRuntime) -> Result<(), Fail> {
+    let rows = [
+        ("sched*", "sched_fork", true),
+        ("*lock*", "spin_lock_irq", true),
+        ("a*b", "ab", true),
+        ("a*b", "abc", false),
+        ("a?c", "ac", false),
+        ("[a-c]x", "bx", true),
+        ("[!a-c]x", "bx", false),
+        ("[]]", "]", true),
+        ("[a", "[a", true),
+        ("[c-a]", "b", false),
+        ("*", "", true),
+    ];
+    for (text, name, fits) in rows.iter() {
+        let pattern = Pattern::read(rt.alloc(), text)?;
+        assert_eq!(rt; pattern.matches(name), *fits, "{text} against {name}");
+    }
+    Ok(())
+}
+
+#[test]
+fn refuses_in_order(rt: HostRuntime) -> Result<(), Fail> {
+    let alloc = rt.alloc();
+    let longest = repeated(alloc, "a", 255)?;
+    let too_long = repeated(alloc, "a", 256)?;
+    let long_with_backslash = repeated(alloc, "\\", 256)?;
+    let rows = [
+        ("", Some(PatternFault::Empty)),
+        ("\\", Some(PatternFault::Backslash)),
+        ("a\\b", Some(PatternFault::Backslash)),
+        (long_with_backslash.as_str(), Some(PatternFault::Backslash)),
+        (too_long.as_str(), Some(PatternFault::TooLong)),
+        (longest.as_str(), None),
+    ];
+    for (text, fault) in rows.iter() {
+        assert_eq!(rt; Pattern::read(alloc, text).err(), *fault, "{text}");
+    }
+    Ok(())
+}
+
+/// A search that goes back to every `*` would need more tries here than can be made.
+#[test]
+fn ends_at_once_on_a_hostile_pattern(rt: HostRuntime) -> Result<(), Fail> {
+    let alloc = rt.alloc();
+    let mut text = repeated(alloc, "*a", 127)?;
+    text.push_str("b")?;
+    let name = repeated(alloc, "a", 63)?;
+    assert_eq!(rt; Pattern::read(alloc, &text)?.matches(&name), false);
+    Ok(())
+}

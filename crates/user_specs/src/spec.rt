@@ -1,0 +1,40 @@
+ghost use Rattle.std.specs.Prelude.{◌≡◌};
+ghost use Rattle.ft_base.specs.Kinds.{has_depth};
+ghost use Rattle.user_specs.specs.Kinds.{wants_frame};
+
+use ft_base::{Act, FuncNo, Kind};
+
+/// A user of the tracer as a script declares it (`ftrace-uses.rst`, "The ftrace FLAGS").
+#[derive(Debug, PartialEq, Eq, Drop)]
+pub struct Spec {
+    pub name: String,
+    pub kind: Kind,
+    /// Whether its callbacks are given the registers.
+    pub regs: bool,
+    /// The function that runs in the place of those that it traces, where it replaces them.
+    pub ipmodify: Option<FuncNo>,
+    /// Whether it traces only the tasks that the pid lists allow.
+    pub pid: bool,
+    /// What it does at each of its entry callbacks, beside tracing.
+    pub act: Option<Act>,
+}
+
+/// Whether the user's entry callback wants a frame of the shadow stack, which its exit callback
+/// needs: a graph or profile user, or an fprobe with an exit handler.
+pub fn wants_frame(spec: &Spec) -> bool
+    ensures { result ≡ wants_frame spec.now.kind }
+{
+    match spec.kind {
+        Kind::Function => false,
+        Kind::Graph | Kind::Profile => true,
+        Kind::Fprobe { exit, .. } => exit,
+    }
+}
+
+/// Whether the graph depth holds for the user (`ftrace.rst`, `max_graph_depth`): a graph or profile
+/// user.
+pub fn has_depth(spec: &Spec) -> bool
+    ensures { result ≡ has_depth spec.now.kind }
+{
+    matches!(&spec.kind, Kind::Graph | Kind::Profile)
+}

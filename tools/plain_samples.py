@@ -1,0 +1,357 @@
+#!/usr/bin/env python3
+"""Writes samples of the plain machine as a proof file.
+
+    plain_samples.py REFERENCE rows FILE            the worked examples below
+    plain_samples.py REFERENCE random FIRST COUNT FILE   random jobs, from the seed FIRST on
+
+REFERENCE is a program that was written from the same rules by other hands and prints the history
+of a script on its plain machine (`REFERENCE --machine e1 --features none replay < script`). Each
+script becomes a job, its printed history a list of items, and the proof says by computation that
+the definition of the plain machine gives that history and that end.
+"""
+import random
+import subprocess
+import sys
+
+HEAD = "cpu 0 quantum 100;task 10 cpu 0"
+ROWS = {
+    "first_path": f"ftrace 1;func a;user tr function;{HEAD};after 1;call a;ret;ctl register tr",
+    "list_then_own": f"ftrace 1;func a;user t1 function;user t2 function;{HEAD};after 2;call a;ret;after 3;call a;ret;"
+    "ctl register t1;ctl register t2;ctl until 10 3;ctl unregister t1",
+    "repeated_commands": "ftrace 1;func a;user t function;ctl register t;ctl register t;ctl unregister t;ctl unregister t",
+    "two_ipmodify_users": "ftrace 1;func a;func b;func c;func d;user p function regs ipmodify d;user q function regs ipmodify d;"
+    f"{HEAD};after 7;call b;ret;ctl filter p > a;ctl filter p >> b;ctl filter q > [bc];ctl register p;ctl register q;"
+    "ctl unregister p;ctl register q",
+    "notrace_wins": "ftrace 1;func ext3_read ext3;func ext3_write ext3;func vfs_read;user t function;"
+    f"{HEAD};after 3;call ext3_write;ret;call ext3_read;ret;ctl filter t > ext3_*;ctl notrace t > ext3_w*;ctl register t",
+    "recursion": f"ftrace 1;func a;func b;user t1 function call b;{HEAD};after 1;call a;ret;ctl register t1",
+    "recursion_in_irq": f"ftrace 1;func a;func b;user t1 function irq b;{HEAD};after 1;call a;ret;ctl register t1",
+    "full_shadow_stack": f"ftrace 1;func a;func b;func c;depth 2;user g graph;{HEAD};after 1;call a;call b;call c;ret;ret;ret;"
+    "ctl register g",
+    "fprobe_misses": f"ftrace 1;func a;func b;depth 1;user p fprobe exit;{HEAD};after 1;call a;call b;ret;ret;ctl register p",
+    "fprobe_cancels": f"ftrace 1;func a;func b;depth 1;user p fprobe exit cancel;{HEAD};after 1;call a;call b;ret;ret;ctl register p",
+    "registered_again": f"ftrace 1;func a;user g graph;{HEAD};after 1;call a;after 3;ret;call a;ret;ctl register g;"
+    "ctl until 10 2;ctl unregister g;ctl register g",
+    "no_trampolines": f"ftrace 1;func a;tramps 0;user tr function;{HEAD};after 1;call a;ret;ctl register tr",
+    "pids": f"ftrace 1;func a;user t function pid;{HEAD};after 2;call a;ret;task 11 cpu 0;after 3;call a;ret;ctl register t;"
+    "ctl pid 10;ctl until 10 3;ctl maxdepth 0",
+    "excluded_pids": f"ftrace 1;func a;user t function pid;{HEAD};after 2;call a;ret;task 11 cpu 0;after 3;call a;ret;"
+    "ctl register t;ctl nopid 10;ctl until 10 3;ctl maxdepth 0",
+    "disabled_fprobe": f"ftrace 1;func a;user p fprobe exit;{HEAD};after 1;call a;after 2;ret;call a;ret;ctl register p;"
+    "ctl until 10 2;ctl disable p",
+    "invalid_commands": "ftrace 1;func a;user r function ipmodify a;user q function regs ipmodify a;user t function;ctl register r;"
+    "ctl register q;ctl enable t;ctl register t;ctl enable t;ctl filter q > a;ctl register q;ctl filter q >",
+    "unregistered_in_call": f"ftrace 1;func a;user tr function;{HEAD};after 1;call a;ret;ctl register tr;ctl until 10 1;"
+    "ctl unregister tr",
+    "profile_user": f"ftrace 1;func a;func b;user p profile;{HEAD};after 1;call a;call b;ret;ret;ctl register p",
+    "two_cpus": "ftrace 1;func a;func b x;cpu 0 quantum 9;cpu 1 quantum 9;task 10 cpu 0;call a;ret;task 11 cpu 1;call b;ret;"
+    "sched 1 0*2 1",
+    "stopped_early": "ftrace 1;func a;func b x;cpu 0 quantum 9;cpu 1 quantum 9;task 10 cpu 0;call a;ret;task 11 cpu 1;call b;ret;"
+    "sched 1 0*2",
+}
+USUAL_TURNS = 60  # the rows have no schedule of their own: so many full turns end each of them
+
+
+def random_script(rng):
+    """A random valid script with users of all kinds, on up to two CPUs."""
+    funcs = "abcd"[: rng.randint(1, 4)]
+    lines = ["ftrace 1"] + [f"func {f}" + rng.choice(["", " m"]) for f in funcs]
+    lines += [f"depth {rng.choice([1, 2, 3, 50])}", f"tramps {rng.choice([0, 1, 16])}"]
+    users = rng.randint(1, 4)
+    for u in range(users):
+        kind = rng.choice(["function", "function", "graph", "profile", "fprobe", "fprobe exit", "fprobe exit cancel"])
+        replaces = kind == "function" and rng.random() < 0.4
+        regs = replaces or rng.random() < 0.4
+        words = [f"user u{u} {kind}"] + ["regs"] * regs + [f"ipmodify {rng.choice(funcs)}"] * replaces
+        words += ["pid"] * (rng.random() < 0.3)
+        words += [f"{rng.choice(['call', 'irq'])} {rng.choice(funcs)}"] * (rng.random() < 0.5)
+        lines.append(" ".join(words))
+    cpus = rng.randint(1, 2)
+    lines += [f"cpu {c} quantum {rng.randint(1, 4)}" for c in range(cpus)]
+    commands = rng.randint(2, 7)
+    tasks = []
+    for t in range(rng.randint(1, 3)):
+        lines.append(f"task {10 + t} cpu {rng.randrange(cpus)}")
+        acts = random_acts(rng, funcs, commands)
+        tasks.append(len(acts))
+        lines += acts
+    for _ in range(commands):
+        t = rng.randrange(len(tasks))
+        if rng.random() < 0.2 and tasks[t]:
+            lines.append(f"ctl until {10 + t} {rng.randint(1, tasks[t])}")
+        lines.append(random_command(rng, funcs, users, len(tasks)))
+    turns = [rng.choice(["k"] + [str(c) for c in range(cpus)]) for _ in range(rng.randint(0, 12))]
+    lines.append("sched " + " ".join(turns + [f"all*{USUAL_TURNS}"]))
+    return "\n".join(lines) + "\n"
+
+
+def random_acts(rng, funcs, commands):
+    order = ["softirq", "irq", "nmi"]
+    acts, levels = [], [["normal", 0]]
+    if rng.random() < 0.6:
+        acts.append(f"after {rng.randint(1, commands)}")
+
+    def close():
+        while levels[-1][1]:
+            acts.append("ret")
+            levels[-1][1] -= 1
+
+    for _ in range(rng.randint(2, 9)):
+        pick = rng.random()
+        if pick < 0.45:
+            acts.append(f"call {rng.choice(funcs)}")
+            levels[-1][1] += 1
+        elif pick < 0.7 and levels[-1][1]:
+            acts.append("ret")
+            levels[-1][1] -= 1
+        elif pick < 0.8:
+            now = levels[-1][0]
+            above = [c for c in order if now == "normal" or order.index(c) > order.index(now)]
+            if above:
+                acts.append(rng.choice(above))
+                levels.append([acts[-1], 0])
+        elif pick < 0.9 and len(levels) > 1:
+            close()
+            acts.append("iret")
+            levels.pop()
+        elif pick < 0.95:
+            acts.append(f"after {rng.randint(1, commands)}")
+    close()
+    while len(levels) > 1:
+        acts.append("iret")
+        levels.pop()
+        close()
+    return acts
+
+
+def random_command(rng, funcs, users, tasks):
+    user, pick = f"u{rng.randrange(users)}", rng.random()
+    if pick < 0.4:
+        return f"ctl register {user}"
+    if pick < 0.52:
+        return f"ctl unregister {user}"
+    if pick < 0.66:
+        arrow, minus = rng.choice([">", ">>"]), rng.choice(["", "", "!"])
+        return f"ctl {rng.choice(['filter', 'notrace'])} {user} {arrow} {minus}{rng.choice(funcs)}"
+    if pick < 0.74:
+        pids = [str(10 + t) for t in range(tasks) if rng.random() < 0.5]
+        return " ".join([f"ctl {rng.choice(['pid', 'nopid'])}"] + pids)
+    if pick < 0.9:
+        return f"ctl {rng.choice(['enable', 'disable'])} {user}"
+    return f"ctl maxdepth {rng.randint(0, 2)}"
+
+
+def reference(program, script):
+    run = subprocess.run([program, "--machine", "e1", "--features", "none", "replay"], input=script.encode(), capture_output=True)
+    return run.stdout.decode().split("\n")[:-1] if run.returncode == 0 else None
+
+
+def listed(parts):
+    return " ∷ ".join(list(parts) + ["[]"])
+
+
+def number(n):
+    return "(record { 0 = %d })" % n
+
+
+def fits(items, name):
+    """Whether a glob fits a name; enough of globs for the rows."""
+    if not items:
+        return not name
+    if items[0] == "*":
+        return any(fits(items[1:], name[k:]) for k in range(len(name) + 1))
+    if items[0] == "[":
+        end = items.index("]")
+        return bool(name) and name[0] in items[1:end] and fits(items[end + 1 :], name[1:])
+    return bool(name) and name[0] == items[0] and fits(items[1:], name[1:])
+
+
+class Script:
+    """A script's lines as the parts of a job."""
+
+    def __init__(self, text):
+        self.funcs, self.users, self.quanta, self.tasks, self.ctls, self.turns = [], [], [], [], [], []
+        self.depth, self.tramps = 50, 16
+        for line in text.split("\n")[1:-1]:
+            words = line.split()
+            reader = getattr(self, "read_" + words[0], None)
+            if reader:
+                reader(words[1:])
+            else:
+                self.tasks[-1][2].append(self.act(words))
+        if not self.turns:
+            self.turns = ["record { who = All; count = %d }" % USUAL_TURNS]
+
+    def func(self, name):
+        return number([f[0] for f in self.funcs].index(name))
+
+    def user(self, name):
+        return [u[0] for u in self.users].index(name)
+
+    def task(self, pid):
+        return [t[0] for t in self.tasks].index(pid)
+
+    def read_func(self, words):
+        self.funcs.append((words[0], words[1] if words[1:] else None))
+
+    def read_depth(self, words):
+        self.depth = int(words[0])
+
+    def read_tramps(self, words):
+        self.tramps = int(words[0])
+
+    def read_user(self, words):
+        name, rest = words[0], words[1:]
+        exits, cancels = rest[1:2] == ["exit"], rest[1:3] == ["exit", "cancel"]
+        kind = {"function": "Function", "graph": "Graph", "profile": "Profile"}.get(rest[0])
+        kind = kind or f"Fprobe {str(exits).lower()} {str(cancels).lower()}"
+        after = dict(zip(rest, rest[1:]))
+        replaced = f"Some {self.func(after['ipmodify'])}" if "ipmodify" in rest else "None"
+        act = next((f"Some ({made} {self.func(after[word])})" for word, made in (("call", "CallIn"), ("irq", "IrqIn")) if word in rest), "None")
+        flags = (str("regs" in rest).lower(), replaced, str("pid" in rest).lower(), act)
+        self.users.append((name, kind) + flags)
+
+    def read_cpu(self, words):
+        self.quanta.append(words[2])
+
+    def read_task(self, words):
+        self.tasks.append((words[0], words[2], []))
+
+    def act(self, words):
+        if words[0] == "call":
+            return "Call " + self.func(words[1])
+        if words[0] == "after":
+            return "After " + words[1]
+        return {"ret": "RetAct", "iret": "Lower"}.get(words[0]) or "Raise " + words[0].capitalize()
+
+    def edit(self, words):
+        append, text = str(words[1] == ">>").lower(), words[2] if words[2:] else None
+        glob = (text or "").removeprefix("!")
+        marks = listed(str(text is not None and fits(glob, f[0])).lower() for f in self.funcs)
+        fields = (append, str((text or "").startswith("!")).lower(), str(text is None).lower(), marks)
+        return f"{self.user(words[0])} (record {{ append = %s; remove = %s; clear = %s; set = %s }})" % fields
+
+    def read_ctl(self, words):
+        key, rest = words[0], words[1:]
+        if key == "until":
+            self.ctls.append(f"Until {self.task(rest[0])} {rest[1]}")
+            return
+        if key in ("filter", "notrace"):
+            command = f"{key.capitalize()} {self.edit(rest)}"
+        elif key in ("pid", "nopid"):
+            marks = listed(str(t[0] in rest).lower() for t in self.tasks)
+            command = f"{'Pid' if key == 'pid' else 'NoPid'} ({marks})"
+        elif key == "maxdepth":
+            command = f"MaxDepth {rest[0]}"
+        else:
+            command = f"{key.capitalize()} {self.user(rest[0])}"
+        self.ctls.append(f"Run ({command})")
+
+    def read_sched(self, words):
+        for word in words:
+            who, _, count = word.partition("*")
+            who = {"k": "OfControl", "all": "All"}.get(who) or f"OfCpu {number(int(who))}"
+            self.turns.append(f"record {{ who = {who}; count = {count or 1} }}")
+
+    def job(self):
+        funcs = listed('named (codes "%s") %s' % (n, f'(Some (codes "{o}"))' if o else "None") for n, o in self.funcs)
+        fields = 'record { name = codes "%s"; kind = %s; regs = %s; ipmodify = %s; pid = %s; act = %s }'
+        users = listed(fields % u for u in self.users)
+        tasks = listed(f"record {{ pid = {p}; cpu = {c}; acts = {listed(a)} }}" for p, c, a in self.tasks)
+        head = f"functions = {funcs}; users = {users}; frames = {self.depth}; tramps = {self.tramps}; quanta = {listed(self.quanta)}"
+        return f"record {{ {head}; tasks = {tasks}; ctls = {listed(self.ctls)}; schedule = {listed(self.turns)} }}"
+
+    def call(self, word):
+        if word == "-":
+            return "None"
+        pid, n = word.split(".")
+        return f"(call_in {self.task(pid)} {n})"
+
+    def item(self, line):
+        w = line.split()
+        user = lambda name: number(self.user(name))
+        key = w[1]
+        if key == "begin":
+            return f"Begin {w[2]}"
+        if key == "return":
+            plain = {"ok": "Accepted", "already": "Already", "not-there": "NotThere", "invalid": "Invalid", "no-match": "NoMatch"}
+            return f"Return {w[2]} " + (plain.get(w[3]) or f"(Busy {self.func(w[4])} {user(w[5])})")
+        call = self.call(w[2])
+        outer = lambda word: "None" if word == "-" else f"(Some {self.call(word)})"
+        if key == "enter":
+            return f"Enter {call} {w[3].capitalize()} {self.func(w[4])} {outer(w[5])}"
+        if key == "body":
+            ran = {"nop": "Nop", "list": "ByList"}.get(w[4]) or f"(Own {user(w[5])})"
+            return f"Body {call} {self.func(w[3])} {ran}"
+        if key == "refuse":
+            return f"Refuse {call} {user(w[3])} " + {"pid": "ByPid", "recursion": "Recursion", "depth": "Depth"}[w[4]]
+        if key == "ret":
+            return f"Ret {call} {outer(w[3])}"
+        if key == "leave":
+            return f"Leave {call}"
+        if key == "exit":
+            return f"Exit {call} {user(w[3])} {w[4]}"
+        made = {"back": "Back", "back-end": "BackEnd", "miss": "Miss", "exit-end": "ExitEnd"}[key]
+        return f"{made} {call} {user(w[3])}"
+
+
+def sample(name, text, log):
+    script = Script(text)
+    items = listed(script.item(line) for line in log[:-1])
+    ended = str(log[-1] == "end").lower()
+    return (
+        f"abbrev pub {name} : Job\n{name} = {script.job()}\n\n"
+        f"abbrev pub {name}-items : List Item\n{name}-items = {items}\n\n"
+        f"pub {name}-plays : Plays {name} {name}-items {ended}\n"
+        "unfolding actors_of repeated start played play is_over step whole desk\n"
+        f"{name}-plays = (refl, refl)\n\n"
+    )
+
+
+IMPORTS = """use Rattle.std.proofs.Common.{ℕ, Bool, true, false, List, [], ◌∷◌, Some, None, codes, refl}
+use Rattle.ft_base.specs.declared.context.Ctx.TheVariants.{Normal, Softirq, Irq, Nmi}
+use Rattle.ft_base.specs.declared.item.Ran.TheVariants.{Own, Nop, List as ByList}
+use Rattle.ft_base.specs.declared.item.Reason.TheVariants.{Depth, Recursion, Pid as ByPid}
+use Rattle.ft_base.specs.declared.item.Answer.TheVariants.{Accepted, Already, NotThere, Invalid, NoMatch, Busy}
+use Rattle.ft_base.specs.declared.item.Item.{Item}
+use Rattle.ft_base.specs.declared.item.Item.TheVariants.{Begin, Return, Enter, Back, BackEnd, Refuse, Miss, Body, Leave, Exit, ExitEnd, Ret}
+use Rattle.ft_base.specs.declared.plan.Kind.TheVariants.{Graph, Function, Fprobe, Profile}
+use Rattle.ft_base.specs.declared.plan.Act.TheVariants.{CallIn, IrqIn}
+use Rattle.ft_base.specs.declared.plan.TaskAct.TheVariants.{Call, Ret as RetAct, After, Raise, Lower}
+use Rattle.ft_base.specs.declared.turn.Who.TheVariants.{Control as OfControl, Cpu as OfCpu, All}
+use Rattle.ft_base.specs.Job.{Job, Register, Unregister, Filter, Notrace, Enable, Disable, Pid, NoPid, MaxDepth, Run, Until}
+use Rattle.ft_base.specs.Desk.{desk}
+use Rattle.ft_base.specs.Schedule.{actors_of, repeated}
+use Rattle.plain_machine.specs.State.{start, played, play, is_over, step, whole}
+use Rattle.plain_machine.proofs.Plays.{Plays, named, call_in}
+
+"""
+
+
+def main():
+    program, what = sys.argv[1], sys.argv[2]
+    if what == "rows":
+        head = "-- The plain machine at worked examples, beside the histories that another program printed, which was written from the same rules.\n"
+        body = ""
+        for name, script in ROWS.items():
+            text = script.replace(";", "\n") + "\n"
+            if "sched" not in script:
+                text += f"sched all*{USUAL_TURNS}\n"
+            body += sample(name, text, reference(program, text))
+    else:
+        head = "-- The plain machine at random jobs, beside the histories that another program printed, which was written from the same rules.\n"
+        seed, count = int(sys.argv[3]), int(sys.argv[4])
+        body, done = "", 0
+        while done < count:
+            text = random_script(random.Random(seed))
+            log = reference(program, text)
+            if log and len(log) >= 12:
+                body += sample(f"job_{seed}", text, log)
+                done += 1
+            seed += 1
+    with open(sys.argv[-1], "w") as out:
+        out.write(head + IMPORTS + body.rstrip("\n") + "\n")
+
+
+if __name__ == "__main__":
+    main()
