@@ -75,7 +75,8 @@ impl HashPair {
     /// the empty set (`ftrace.rst`, Filter commands).
     pub fn edit(&mut self, half: Half, edit: &Edit)
         requires { length edit.now.set ≡ size_of self.old }
-        ensures pair { self.new ≡ with_set self.old half (edited (size_of self.old) (set_of self.old half) (plain edit.now)) }
+        ensures pair { self.new
+            ≡ with_set self.old half (edited (size_of self.old) (set_of self.old half) (plain edit.now)) }
         ensures size { size_of self.new ≡ size_of self.old }
     {
         match half {
@@ -96,7 +97,8 @@ impl HashPair {
     pub fn matched_into(&self, out: &mut SiteSet)
         requires { length out.old ≡ size_of self.now }
         ensures set { out.new ≡ matched self.now }
-        ensures members { (f : ℕ) → f < size_of self.now → holds out.new f ≡ matches_by self.now.filter self.now.notrace f }
+        ensures members { (f : ℕ) → f < size_of self.now
+            → holds out.new f ≡ matches_by self.now.filter self.now.notrace f }
         ensures size { length out.new ≡ length out.old }
     {
         if self.is_open() {
@@ -114,7 +116,8 @@ impl HashPair {
     pub fn word(&self, half: Half, w: u32) -> u64
         requires { 64 * w < size_of self.now }
         ensures value { result ≡ word_of (set_of self.now half) w }
-        ensures bits { (i : ℕ) → i < 64 → (bit_at result i == 1) ≡ holds (set_of self.now half) (64 * w + i) }
+        ensures bits { (i : ℕ) → i < 64
+            → (bit_at result i == 1) ≡ holds (set_of self.now half) (64 * w + i) }
     {
         match half {
             Half::Filter => self.filter.word(w),
