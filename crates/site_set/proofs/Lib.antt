@@ -1,3 +1,4 @@
+pub mod FillLemmas
 pub mod MarksLemmas
 pub mod MergeLemmas
 pub mod PackedLemmas

@@ -5,12 +5,12 @@ use Rattle.std.specs.Vec.{with_items}
 use Rattle.std.proofs.lemmas.List.{with_items_is}
 use Rattle.std.specs.Int.{bit_at}
 use Rattle.std.proofs.lemmas.Bool.{cases_lt}
-use Rattle.std.proofs.lemmas.List.{get_or_past, get_or_read, get_or-map, length-map}
+use Rattle.std.proofs.lemmas.List.{get_or_read, get_or-map, length-map}
 use Rattle.std.proofs.lemmas.Slice.Zip.{length-zip, get_or-zip}
 use Rattle.std.proofs.lemmas.Nat.Bits.{bit_at-lt, bit_at-zero, bit_at_or, bit_at_and, bit_at_not}
 use Rattle.site_set.specs.Packed.{has_bit, marks_of, IsPacked, IsLowestBit}
 use Rattle.site_set.specs.Marks.{Marks, has, union, difference, AreDisjoint, IsLeastCommon}
-use Rattle.site_set.proofs.PackedLemmas.{length-marks_of, has-marks_of, has-marks_of_any, word_within}
+use Rattle.site_set.proofs.PackedLemmas.{length-marks_of, has-marks_of, has-marks_of_any, has_bit_past, word_within}
 use Rattle.site_set.proofs.MarksLemmas.{and_first, and_second, length-union, has-union, length-difference, has-difference}
 
 -- ---- a bit of `|` and of `& !`
@@ -85,11 +85,9 @@ module _ (op : ℕ → ℕ → ℕ) (test : Bool → Bool → Bool) (join : Mark
     has_bit-merged : (f : ℕ) → has_bit (merged ws vs) f ≡ test (has_bit ws f) (has_bit vs f)
     has_bit-merged f = elim (cases_lt (f / 64) (length ws)) [
       | inl h ↦ ap (λ y. bit_at y (f % 64) == 1) (get_or-merged (f / 64) h) ∙ bits _ _ (f % 64) (fits (f / 64)) (omega arith)
-      | inr h ↦ off (merged ws vs) f (omega (arith, length-merged)) ∙ sym none ∙ sym (ap₂ test (off ws f h) (off vs f (omega (arith, same))))
+      | inr h ↦ has_bit_past (merged ws vs) f (omega (arith, length-merged)) ∙ sym none
+          ∙ sym (ap₂ test (has_bit_past ws f h) (has_bit_past vs f (omega (arith, same))))
     ]
-      where
-        off : (xs : List ℕ) (g : ℕ) → length xs ≤ g / 64 → has_bit xs g ≡ false
-        off xs g past = ap (λ y. bit_at y (g % 64) == 1) (get_or_past xs (g / 64) 0 past) ∙ ap (λ b. b == 1) (bit_at-zero (g % 64))
 
     IsPacked-merged : IsPacked size (merged ws vs)
     IsPacked-merged = record {

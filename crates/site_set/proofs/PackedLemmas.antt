@@ -1,5 +1,5 @@
 -- What a write to one word does to the marks.
-use Rattle.std.proofs.Common.{◌≡◌, ◌≢◌, ℕ, ◌+◌, ◌*◌, ◌/◌, ◌%◌, ◌<◌, ◌==◌, Bool, true, false, List, length, get_or, set, sym, ap, ◌∙◌, inl, inr, arith, replicate, ◌-◌, ◌^◌, bit_or, bit_and, w64, length-set, get_or-set_same, get_or-set_other, ext_get_or}
+use Rattle.std.proofs.Common.{◌≡◌, ◌≢◌, ℕ, ◌+◌, ◌*◌, ◌/◌, ◌%◌, ◌<◌, ◌≤◌, ◌==◌, Bool, true, false, List, length, get_or, set, sym, ap, ◌∙◌, inl, inr, arith, replicate, ◌-◌, ◌^◌, bit_or, bit_and, w64, length-set, get_or-set_same, get_or-set_other, ext_get_or}
 use Rattle.std.specs.Int.{bit_at}
 use Rattle.std.proofs.lemmas.Bool.{cases_eq, cases_lt}
 use Rattle.std.proofs.lemmas.List.{length-replicate, get_or_read, get_or_past, get_or-replicate}
@@ -25,6 +25,10 @@ has-marks_of_any size ws f p = elim (cases_lt f size) [
 -- the word of a number below the size is there
 pub word_within : (size f n : ℕ) → n ≡ (size + 63) / 64 → f < size → f / 64 < n
 word_within size f n e h = omega arith
+
+-- no bit is set past the last word
+pub has_bit_past : (ws : List ℕ) (f : ℕ) → length ws ≤ f / 64 → has_bit ws f ≡ false
+has_bit_past ws f h = ap (λ y. bit_at y (f % 64) == 1) (get_or_past ws (f / 64) 0 h) ∙ ap (λ b. b == 1) (bit_at-zero (f % 64))
 
 pub has_bit-set_same : (ws : List ℕ) (f x : ℕ) → f / 64 < length ws → has_bit (set ws (f / 64) x) f ≡ (bit_at x (f % 64) == 1)
 has_bit-set_same ws f x h = ap (λ y. bit_at y (f % 64) == 1) (get_or-set_same ws (f / 64) x 0 h)

@@ -1,10 +1,10 @@
 //! A set of numbers below a size.
 
-ghost use Rattle.std.specs.Prelude.{◌≡◌, ℕ, ◌+◌, ◌*◌, ◌<◌, ◌==◌, ◌↔◌, length, true, false, IfOk, IfSome, IsNone, IsTrue, count_by, slice_set};
+ghost use Rattle.std.specs.Prelude.{◌≡◌, ℕ, ◌+◌, ◌*◌, ◌<◌, ◌==◌, ◌↔◌, length, true, false, IfOk, IfSome, IsNone, IsTrue, count_by, replicate, slice_set};
 ghost use Rattle.std.specs.Int.{bit_at};
 ghost use Rattle.site_set.specs.Marks.{has, bare, is_bare, union, difference, least_common, word_of, IsEmpty, AreDisjoint, IsLeastCommon};
 
-use crate::words::{and_not_words, are_zero, lowest_common_bit, or_words};
+use crate::words::{and_not_words, are_zero, fill_words, lowest_common_bit, or_words};
 use std::alloc::{AllocError, Global};
 use std::marker::Model;
 
@@ -87,6 +87,14 @@ impl SiteSet {
         ensures size { length self.new ≡ length self.old }
     {
         self.words.fill(0);
+    }
+
+    /// Makes each number below the size a member.
+    pub fn fill(&mut self)
+        ensures members { self.new ≡ replicate (length self.old) true }
+        ensures size { length self.new ≡ length self.old }
+    {
+        fill_words(self.words.as_mut_slice(), self.size);
     }
 
     /// Makes each member of `other` a member.

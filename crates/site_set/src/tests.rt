@@ -59,6 +59,12 @@ fn fills_its_words(rt: HostRuntime) -> Result<(), Fail> {
         if last < 64 && 64 * last < all.size() {
             assert_eq!(rt; all.word(last), word, "last word at {size}");
         }
+        let mut filled = SiteSet::empty(rt.alloc(), size)?;
+        filled.fill();
+        assert_eq!(rt; filled.count(), size, "filled at {size}");
+        if last < 64 && 64 * last < filled.size() {
+            assert_eq!(rt; filled.word(last), word, "last word filled at {size}");
+        }
     }
     Ok(())
 }

@@ -1,8 +1,8 @@
 //! Slices of 64-bit words as sets of bits, a whole word at a time.
 
-ghost use Rattle.std.specs.Prelude.{◌≡◌, ℕ, slice_index, ◌-◌, ◌<◌, ◌^◌, ◌==◌, map, bit_or, bit_and, length, IfNone, IfSome};
+ghost use Rattle.std.specs.Prelude.{◌≡◌, ℕ, slice_index, ◌+◌, ◌-◌, ◌/◌, ◌<◌, ◌^◌, ◌==◌, nat_lt, map, bit_or, bit_and, length, IfNone, IfSome};
 ghost use Rattle.std.specs.List.{zip, list_all};
-ghost use Rattle.site_set.specs.Packed.{IsLowestBit};
+ghost use Rattle.site_set.specs.Packed.{IsLowestBit, has_bit};
 
 /// Sets in each word the bits of the other's.
 pub(crate) fn or_words(words: &mut [u64], others: &[u64])
@@ -23,6 +23,19 @@ pub(crate) fn and_not_words(words: &mut [u64], others: &[u64])
 {
     for (w, other) in others.iter().enumerate() {
         words[w] &= !*other;
+    }
+}
+
+/// Sets the bit of each number below the size, and clears the others.
+pub(crate) fn fill_words(words: &mut [u64], size: u32)
+    requires { length words.old ≡ (size + 63) / 64 }
+    ensures bits { (f : ℕ) → has_bit words.new f ≡ nat_lt f size }
+    ensures size { length words.new ≡ length words.old }
+{
+    words.fill(u64::MAX);
+    let rest = size % 64;
+    if rest > 0 {
+        words[(size / 64) as usize] = u64::MAX >> (64 - rest);
     }
 }
 
