@@ -1,0 +1,4 @@
+pub mod Forms
+pub mod Causes
+pub mod Edits
+pub mod Kept
