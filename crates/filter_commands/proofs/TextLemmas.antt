@@ -1,5 +1,5 @@
 -- The bytes of a text: its mark, its `:` and its number.
-use Rattle.std.proofs.Common.{◌≡◌, ◌≢◌, ℕ, suc, ◌+◌, ◌<◌, ◌^◌, ◌==◌, ◌&&◌, ◌||◌, not, cond, arith, rules, Bool, true, false, List, [], ◌∷◌, length, Result, Err, refl, sym, inl, inr, ap, ◌∙◌, nat_lt}
+use Rattle.std.proofs.Common.{◌≡◌, ◌≢◌, ℕ, suc, ◌+◌, ◌<◌, ◌^◌, ◌==◌, ◌||◌, not, cond, arith, rules, Bool, true, false, List, [], ◌∷◌, length, Result, Err, refl, inl, inr, ap}
 use Rattle.std.specs.List.{list_all, list_any, position_or_len}
 use Rattle.std.specs.Char.{is_ascii_digit}
 use Rattle.std.specs.Str.Parse.{digits_value, ParsesUnsigned}

@@ -1,5 +1,5 @@
 -- What a filter text means over a list of functions: which of them it selects, and what edit it is.
-use Rattle.std.specs.Prelude.{ℕ, ◌-◌, ◌&&◌, Bool, true, false, not, List, [], ◌∷◌, map, length, slice_set, Option, Some, None, if◌then◌else◌}
+use Rattle.std.specs.Prelude.{◌-◌, ◌&&◌, Bool, true, false, not, List, [], ◌∷◌, map, length, slice_set, Option, Some, None, if◌then◌else◌}
 use Rattle.glob_filter.specs.Items.{Item, items_of}
 use Rattle.glob_filter.specs.Fits.{is_fit}
 use Rattle.ft_base.specs.Job.{Func, Edit, Marks, bare}

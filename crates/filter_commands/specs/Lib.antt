@@ -2,3 +2,4 @@ pub mod Forms
 pub mod Causes
 pub mod Edits
 pub mod Kept
+pub mod Grammar

@@ -7,6 +7,7 @@
 
 mod edits;
 mod faults;
+mod laws;
 mod lines;
 mod rules;
 #[cfg(test)]
@@ -15,3 +16,4 @@ mod texts;
 
 pub use edits::read_edit;
 pub use faults::EditFault;
+pub use laws::grammar_gives_the_form;

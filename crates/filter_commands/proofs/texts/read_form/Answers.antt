@@ -1,4 +1,4 @@
-use Rattle.std.proofs.Common.{◌≡◌, ◌==◌, false, sym, rules}
+use Rattle.std.proofs.Common.{◌≡◌, ◌==◌, false, rules}
 use Rattle.std.specs.List.{list_any}
 use Rattle.filter_commands.proofs.TextLemmas.{list_any-past}
 use Rattle.filter_commands.proofs.texts.read_form.Goals as goal
