@@ -1,7 +1,6 @@
 -- The form of a text is the form that the grammar gives it.
-use Rattle.std.proofs.Common.{◌≡◌, ◌↔◌, ℕ, suc, ◌+◌, ◌==◌, ◌||◌, ◌++◌, not, cond, arith, Bool, true, false, List, [], ◌∷◌, length, take, drop, codes, Option, Some, None, refl, sym, subst, inl, inr, ap, ap₂, ◌∙◌, nat_eq}
-use Rattle.std.specs.List.{list_any, position_or_len, before_first, after_first, starts_with}
-use Rattle.std.specs.Str.{bytes_eq}
+use Rattle.std.proofs.Common.{◌≡◌, ◌↔◌, ℕ, suc, ◌+◌, ◌==◌, ◌||◌, ◌++◌, not, cond, arith, Bool, true, false, [], ◌∷◌, length, take, drop, codes, Some, None, refl, sym, subst, inl, inr, ap, ap₂, ◌∙◌, nat_eq}
+use Rattle.std.specs.List.{position_or_len, before_first, after_first, starts_with}
 use Rattle.std.specs.Str.Parse.{digits_value}
 use Rattle.std.proofs.lemmas.Bool.{ne_eqb}
 use Rattle.std.proofs.lemmas.Bool.Decides.{eqb_tells}

@@ -1,6 +1,6 @@
 //! The edit of a filter text.
 
-ghost use Rattle.std.specs.Prelude.{◌≡◌, [], length, true, false, IfOk, OnOk, IfErr, Some, None, if◌then◌else◌};
+ghost use Rattle.std.specs.Prelude.{◌≡◌, ◌↔◌, [], length, true, false, IfOk, OnOk, IfErr, IsErrOf, Some, None, Err, if◌then◌else◌};
 ghost use Rattle.std.specs.Str.Parse.{digits_value};
 ghost use Rattle.ft_base.specs.Job.{bare};
 ghost use Rattle.filter_commands.specs.Forms.{line, is_number, form_of};
@@ -31,6 +31,7 @@ fn select_line(alloc: Global, digits: &str, table: &FuncTable) -> Result<SiteSet
     ensures set { IfOk result (λ set. set ≡ selected table.now.functions (line (digits_value 10 digits.now))) }
     ensures size { IfOk result (λ set. length set ≡ length table.now.functions) }
     ensures ok { OnOk result (has_no_line (length table.now.functions) (digits_value 10 digits.now) ≡ false) }
+    ensures refused { has_no_line (length table.now.functions) (digits_value 10 digits.now) ≡ true → result ≡ Err EditFault.Index }
     ensures err { IfErr result (IsCause (if has_no_line (length table.now.functions) (digits_value 10 digits.now) then Some EditFault.Index else None)) }
 {
     let Some(f) = read_line(digits, table.len()) else {
@@ -46,6 +47,8 @@ fn select(alloc: Global, text: &str, table: &FuncTable) -> Result<SiteSet, EditF
     ensures set { IfOk result (λ set. set ≡ selected_by table.now.functions (form_of text.now)) }
     ensures size { IfOk result (λ set. length set ≡ length table.now.functions) }
     ensures ok { OnOk result (form_cause (length table.now.functions) (form_of text.now) ≡ None) }
+    ensures command { form_cause (length table.now.functions) (form_of text.now) ≡ Some EditFault.Command → result ≡ Err EditFault.Command }
+    ensures index { form_cause (length table.now.functions) (form_of text.now) ≡ Some EditFault.Index → result ≡ Err EditFault.Index }
     ensures err { IfErr result (IsCause (form_cause (length table.now.functions) (form_of text.now))) }
 {
     match read_form(text) {
@@ -98,6 +101,8 @@ pub fn read_edit(
     ensures edit { IfOk result (λ edit. plain_edit edit ≡ edit_of table.now.functions append text.now) }
     ensures size { IfOk result (λ edit. length edit.set ≡ length table.now.functions) }
     ensures ok { OnOk result (first_cause (length table.now.functions) append text.now ≡ None) }
+    ensures command { IsErrOf result EditFault.Command ↔ (first_cause (length table.now.functions) append text.now ≡ Some EditFault.Command) }
+    ensures index { IsErrOf result EditFault.Index ↔ (first_cause (length table.now.functions) append text.now ≡ Some EditFault.Index) }
     ensures err { IfErr result (IsCause (first_cause (length table.now.functions) append text.now)) }
 {
     if text.is_empty() {
