@@ -1,0 +1,5 @@
+pub mod Forms
+pub mod Causes
+pub mod Edits
+pub mod Kept
+pub mod Grammar
