@@ -10,3 +10,4 @@ pub mod Meet
 pub mod Exits
 pub mod WordLaws
 pub mod Splitting
+pub mod Headline

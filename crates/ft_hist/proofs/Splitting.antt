@@ -6,7 +6,7 @@ use Rattle.ft_base.specs.Job.{Job}
 use Rattle.ft_hist.specs.Rules.{IsLegal, IsLegalPast, MayFollow}
 
 -- a history that is split at an item, the latest first
-split-reverse : (before : List Item) (item : Item) (after : List Item) → reverse (before ++ item ∷ after) ≡ reverse after ++ item ∷ reverse before
+pub split-reverse : (before : List Item) (item : Item) (after : List Item) → reverse (before ++ item ∷ after) ≡ reverse after ++ item ∷ reverse before
 split-reverse before item after =
     reverse-append before (item ∷ after)
     ∙ ap (λ (xs : List Item). xs ++ reverse before) (reverse-append (item ∷ []) after)

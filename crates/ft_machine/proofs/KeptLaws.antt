@@ -248,3 +248,10 @@ pub seen-first-cpu : (m : Inside) (v : Running) (j : Job) → view_of m ≡ v �
 seen-first-cpu m v j e same =
     let one : length v.job.quanta ≡ 1 = subst (λ (w : Running). length w.job.quanta ≡ 1) e (one-cpu m) in
     rw same (omega (arith, one))
+
+-- ## sites
+
+-- the job has one function
+pub seen-func : (m : Inside) (v : Running) (f : ℕ) → view_of m ≡ v → f < length v.job.functions → f < 4096
+unfolding first_job
+seen-func m v f e below = let one : length v.job.functions ≡ 1 = subst (λ (w : Running). length w.job.functions ≡ 1) e refl in omega arith

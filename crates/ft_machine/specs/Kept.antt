@@ -10,6 +10,8 @@ use Rattle.ft_base.specs.Desk.{Desk, desk, UserState}
 use Rattle.ft_hist.specs.Plain.{Frame, Running as InBody}
 use Rattle.plain_machine.specs.State.{State, TaskState}
 use Rattle.plain_machine.specs.Rule.{Rule}
+use Rattle.site_bytes.specs.declared.insn.Insn.{Insn}
+use Rattle.site_bytes.specs.declared.insn.Insn.TheVariants.{Nop as NopInsn, Own as CallOwn}
 use Rattle.ft_machine.specs.First.{Parts, IsWithin, first_job, pairs, line, parts_of}
 use Rattle.ft_machine.specs.Running.{Running}
 use Rattle.ft_machine.specs.declared.place.Place.{Place}
@@ -116,3 +118,8 @@ pub record IsKept (m : Inside) : Type 0 where
   pub place : IsPlace m.place m.parts.calls
   pub count : m.count < m.parts.quantum
   pub room : 2 * length m.parts.ctls.items + owed m.place m.parts.calls ≤ m.history.spare + 2 * m.ran
+
+-- the only site's instruction
+abbrev pub insn_first : Bool → Insn
+insn_first true = CallOwn 0
+insn_first false = NopInsn

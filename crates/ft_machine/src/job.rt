@@ -82,6 +82,15 @@ impl Job {
         1
     }
 
+    /// How many functions it has. A job of the first form has one.
+    #[tactic(auto, unfolding(crate::specs::First::first_job))]
+    pub fn funcs(&self) -> u32
+        ensures { result ≡ length self.now.functions }
+    {
+        let _ = &self.parts;
+        1
+    }
+
     /// The parts that it was made of.
     pub fn parts(&self) -> &JobParts
         ensures job { first_job (parts_of result.now) ≡ self.now }

@@ -2,7 +2,8 @@ ghost use Rattle.std.specs.Prelude.{◌≡◌, ℕ, ◌+◌, ◌<◌, ◌≤◌,
 ghost use Rattle.ft_base.specs.Schedule.{IsActor, actors_of};
 ghost use Rattle.ft_hist.specs.Rules.{IsLegal, IsWhole};
 ghost use Rattle.plain_machine.specs.State.{start, played, is_over, is_at_end};
-ghost use Rattle.ft_machine.specs.Kept.{call_of};
+ghost use Rattle.ft_machine.specs.Kept.{call_of, insn_first};
+ghost use Rattle.ft_machine.specs.Sites.{site_of};
 ghost use Rattle.ft_machine.specs.First.{answer_first, target_first, called_first, entered_first, left_first, counted};
 
 use crate::job::{Job, JobParts};
@@ -10,6 +11,7 @@ use crate::place::Place;
 use ft_base::limits::USUAL_TURNS;
 use ft_base::{Actor, Answer, CallNo, CpuNo, Ctx, FuncNo, Item, NoMemory, Ran, TaskNo, UserNo};
 use ft_hist::History;
+use site_bytes::{Insn, encode};
 use std::alloc::Global;
 use std::marker::Model;
 
@@ -42,6 +44,14 @@ fn target(registered: bool) -> Ran
     ensures { result ≡ target_first registered }
 {
     if registered { Ran::Own(USER) } else { Ran::Nop }
+}
+
+/// The instruction of the function's site: a call of the user's trampoline, which has the lowest
+/// slot, or the nop.
+fn insn(registered: bool) -> Insn
+    ensures { result ≡ insn_first registered }
+{
+    if registered { Insn::Own(0) } else { Insn::Nop }
 }
 
 /// Calls the user back, where it is registered.
@@ -248,6 +258,15 @@ impl Machine {
     {
         let Machine { history, .. } = self;
         history
+    }
+
+    /// The five bytes of the call site of a function: those of its target after the commands that
+    /// have returned (`ftrace.rst`, dynamic ftrace).
+    pub fn site(&self, f: FuncNo) -> [u8; 5]
+        requires { f.0 < length self.now.job.functions }
+        ensures { result ≡ site_of self.now.job self.now.state f.0 }
+    {
+        encode(f, insn(self.registered))
     }
 
     /// What happened so far.

@@ -1,5 +1,5 @@
 use crate::{Job, JobParts, Machine, replay};
-use ft_base::{Actor, Answer, CpuNo, Item};
+use ft_base::{Actor, Answer, CpuNo, FuncNo, Item};
 use std::alloc::Global;
 use std::test::Fail;
 
@@ -23,8 +23,12 @@ fn steps_to_the_end(rt: HostRuntime) -> Result<(), Fail> {
     assert_eq!(rt; job.parts().calls, 2);
     let mut machine = Machine::start(alloc, &job)?;
     assert!(rt; 0 < job.cpus());
+    assert!(rt; 0 < job.funcs());
     assert!(rt; !machine.all_end());
+    assert_eq!(rt; machine.site(FuncNo(0)), [0x0F, 0x1F, 0x44, 0x00, 0x00]);
     machine.step(Actor::Control);
+    // The trampoline at 0x100000, less the address behind the five bytes at 0x1000.
+    assert_eq!(rt; machine.site(FuncNo(0)), [0xE8, 0xFB, 0xEF, 0x0F, 0x00]);
     assert_eq!(rt; machine.history().len(), 2);
     machine.step(Actor::Cpu(CpuNo(0)));
     machine.step(Actor::Control);
