@@ -1,4 +1,4 @@
-// The work of docs/BENCH.md as a plain Rust program: rustc -O tools/bench_baseline.rs, then bench_baseline glob 1000 or hash 1000000.
+// The work of docs/BENCH.md as a plain Rust program: rustc -O tools/bench_baseline.rs, then bench_baseline glob 10000 or hash 100000000.
 use std::env;
 fn fits(p: &[u8], s: &[u8]) -> bool {
     let (mut i, mut j, mut star) = (0, 0, None);

@@ -7,7 +7,8 @@
 REFERENCE is a program that was written from the same rules by other hands and prints the history
 of a script on its plain machine (`REFERENCE --machine e1 --features none replay < script`). Each
 script becomes a job, its printed history a list of items, and the proof says by computation that
-the definition of the plain machine gives that history and that end.
+the definition of the plain machine gives that history and that end. A random script that REFERENCE
+refuses, or whose history has fewer than eleven items, is passed over, and the next seed is taken.
 """
 import random
 import subprocess
