@@ -1,4 +1,4 @@
--- What a history tells at a place. Each word takes the items before that place, the latest first: its past.
+-- What a history tells at a place. Each definition takes the items before that place, the latest first: its past.
 use Rattle.std.specs.Prelude.{ℕ, suc, Bool, true, false, not, ◌||◌, ◌&&◌, ◌==◌, nat_lt, List, [], ◌∷◌, length, Option, Some, None, if◌then◌else◌}
 use Rattle.std.specs.List.{list_any, filter}
 use Rattle.ft_base.specs.declared.number.CallNo.{CallNo}
@@ -86,8 +86,8 @@ is_in None x = false
 is_in (Some y) x = same_ctx y x
 
 -- whether a callback of this task and context is open
-abbrev pub is_guarded : ℕ → Ctx → List Item → Bool
-is_guarded t x past = list_any (λ b. (b.call.task.0 == t) && is_in b.ctx x) (callbacks past)
+abbrev pub is_in_callback : ℕ → Ctx → List Item → Bool
+is_in_callback t x past = list_any (λ b. (b.call.task.0 == t) && is_in b.ctx x) (callbacks past)
 
 -- whether a callback of this user is open
 abbrev pub is_called : ℕ → List Item → Bool

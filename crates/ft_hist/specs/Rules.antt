@@ -15,7 +15,7 @@ use Rattle.ft_base.specs.declared.item.Item.TheVariants.{Begin, Return, Enter, B
 use Rattle.ft_base.specs.Job.{Job, Command, Unregister, Disable, commands, Ctl, Run, Until}
 use Rattle.ft_base.specs.Desk.{spec_at, desk, is_on, is_live, is_allowed, target, answer_on, is_accepted, user_at}
 use Rattle.ft_base.specs.Kinds.{has_depth, cancels}
-use Rattle.ft_hist.specs.Past.{done, begun, entry_of, is_guarded, is_called, met, held, Meeting, read_at, miss_due, exits, left_at}
+use Rattle.ft_hist.specs.Past.{done, begun, entry_of, is_in_callback, is_called, met, held, Meeting, read_at, miss_due, exits, left_at}
 use Rattle.ft_hist.specs.Plain.{plain, ahead, PlainTask, Frame, Phase, Running}
 
 -- a fact at the last returned command or at the last begun one
@@ -40,12 +40,13 @@ pub record MayMeet (job : Job) (past : List Item) (call : CallNo) (u : ℕ) : Ty
 abbrev pub PassesPid : Job → List Item → CallNo → ℕ → Type 0
 PassesPid job past call u = (spec_at job u).pid ≡ true → AtEither past (λ k. is_allowed (desk job k) call.task.0 ≡ true)
 
--- an entry callback: the user may be met, passes the pid rule, its guard is free (ftrace-uses.rst, Protect your callback), and
--- a graph or profile user finds a frame and is above the graph depth (ftrace.rst, The File System: max_graph_depth)
+-- an entry callback: the user may be met and passes the pid rule, no callback of the task and context is open
+-- (ftrace-uses.rst, Protect your callback), and a graph or profile user finds a frame and is within the graph depth
+-- (ftrace.rst, The File System: max_graph_depth)
 pub record MayBack (job : Job) (past : List Item) (call : CallNo) (u : ℕ) : Type 0 where
   pub meets : MayMeet job past call u
   pub pid : PassesPid job past call u
-  pub free : is_guarded call.task.0 (entry_of call past).ctx past ≡ false
+  pub free : is_in_callback call.task.0 (entry_of call past).ctx past ≡ false
   pub room : has_depth (spec_at job u).kind ≡ true → held job call past < job.frames
   pub level : has_depth (spec_at job u).kind ≡ true → AtEither past (λ k. ((desk job k).depth ≡ 0) ⊎ (held job call past < (desk job k).depth))
 
@@ -54,9 +55,9 @@ abbrev pub MayRefuse : Job → List Item → CallNo → ℕ → Reason → Type 
 MayRefuse job past call u ByPid =
     ((spec_at job u).pid ≡ true) × AtEither past (λ k. is_allowed (desk job k) call.task.0 ≡ false)
 MayRefuse job past call u Recursion =
-    PassesPid job past call u × (is_guarded call.task.0 (entry_of call past).ctx past ≡ true)
+    PassesPid job past call u × (is_in_callback call.task.0 (entry_of call past).ctx past ≡ true)
 MayRefuse job past call u Depth =
-    PassesPid job past call u × (is_guarded call.task.0 (entry_of call past).ctx past ≡ false)
+    PassesPid job past call u × (is_in_callback call.task.0 (entry_of call past).ctx past ≡ false)
     × (has_depth (spec_at job u).kind ≡ true)
     × ((held job call past ≡ job.frames) ⊎ AtEither past (λ k. (0 < (desk job k).depth) × ((desk job k).depth ≤ held job call past)))
 

@@ -21,7 +21,7 @@ use Rattle.ft_base.specs.Order.{IsFalling, OneModifies, has, IsOrder}
 use Rattle.ft_base.specs.WellFormed.{IsJob, IsActNamed}
 use Rattle.ft_base.proofs.Small.{false_true, or-false_both, ==-refl, and_both}
 use Rattle.ft_base.specs.Kinds.{has_depth, has_exit}
-use Rattle.ft_hist.specs.Past.{Entered, Callback, is_of, done, begun, entered, entry_of, callbacks, is_in, is_guarded, is_open, is_dispatched, exits, meetings, met, held, miss_due}
+use Rattle.ft_hist.specs.Past.{Entered, Callback, is_of, done, begun, entered, entry_of, callbacks, is_in, is_in_callback, is_open, is_dispatched, exits, meetings, met, held, miss_due}
 use Rattle.ft_hist.specs.Plain.{plain, reads, PlainTask, Frame, Phase, Owed, Dispatch, InBack, Running, in_phase, owed_by}
 use Rattle.ft_hist.specs.Rules.{IsLegalPast, MayStand, MayBack, MayMeet, MayRefuse, PassesPid, MayBody, InWindow}
 use Rattle.ft_hist.proofs.DispatchLaws.{WasOff, watches-at_end}
@@ -208,7 +208,7 @@ module _ (job : Job) (k : ℕ) (is : IsJob job) (one : OneModifies job (desk job
   So w todo past = CallSo job a call e w (λ v. has v todo) past
 
   guard-is : (past : List Item) (next : ℕ) (phase : Phase) (due : Option Callback) (w : Walk) (todo : List ℕ) → Busy past next phase opens due → So w todo past
-      → is_guarded a.task.0 (entry_of call past).ctx past ≡ is_held a.guards e.ctx
+      → is_in_callback a.task.0 (entry_of call past).ctx past ≡ is_held a.guards e.ctx
   guard-is past next phase due w todo h so = rw (entry-is job a call e past so.known, h.now.still) (g.guards e.ctx)
 
   module _ (u : ℕ) where
@@ -236,7 +236,7 @@ module _ (job : Job) (k : ℕ) (is : IsJob job) (one : OneModifies job (desk job
         positive (suc m) y = omega arith
 
     -- why a user is refused
-    may_refuse : (r : Reason) (past : List Item) → Now job k past opens → is_guarded a.task.0 (entry_of call past).ctx past ≡ is_held a.guards e.ctx → held job call past ≡ a.level
+    may_refuse : (r : Reason) (past : List Item) → Now job k past opens → is_in_callback a.task.0 (entry_of call past).ctx past ≡ is_held a.guards e.ctx → held job call past ≡ a.level
         → Verdict pid_bars (is_held a.guards e.ctx) too_deep (Some r) → MayRefuse job past call u r
     may_refuse ByPid past now guard l v = let both = and_both (spec_at job u).pid (not (is_allowed (desk job k) a.task.0)) v in
         (both.0, inl (rw now.returned (not_true (is_allowed (desk job k) a.task.0) both.1)))
@@ -244,7 +244,7 @@ module _ (job : Job) (k : ℕ) (is : IsJob job) (one : OneModifies job (desk job
     may_refuse Depth past now guard l v = let both = and_both (has_depth (spec_at job u).kind) (is_deep job (desk job k) a.level) v.2 in
         (passes past now.returned v.0, guard ∙ v.1, both.0, deep-why past now.returned l both.1)
 
-    may_back : (past : List Item) → Now job k past opens → MayMeet job past call u → is_guarded a.task.0 (entry_of call past).ctx past ≡ is_held a.guards e.ctx → held job call past ≡ a.level
+    may_back : (past : List Item) → Now job k past opens → MayMeet job past call u → is_in_callback a.task.0 (entry_of call past).ctx past ≡ is_held a.guards e.ctx → held job call past ≡ a.level
         → Verdict pid_bars (is_held a.guards e.ctx) too_deep None → MayBack job past call u
     may_back past now meets guard l v = record {
       meets = meets;
