@@ -1,5 +1,5 @@
 ghost use Rattle.std.specs.Prelude.{◌≡◌, ◌↔◌, true, map, string_bytes, IfOk, OnOk};
-ghost use Rattle.ft_io.specs.Causes.{Rose, GaveMore, AppendsFront};
+ghost use Rattle.ft_io.specs.Causes.{Rose, GaveMore, GaveAtMost, AppendsFront};
 ghost use Rattle.ft_app.specs.Main.{IsLanguage, HasRun, HasRefused, HasBegun, HasReplayed, IsQuiet, IsRunStatus, IsStatus, history_of, replay_text};
 ghost use Rattle.ft_hist.specs.Rules.{IsLegal, IsWhole};
 ghost use Rattle.plain_machine.specs.State.{play, is_over};
@@ -52,6 +52,8 @@ pub fn ft_main<S: Source, K: Sink, G: Gate>(
     ensures write_fault { result ≡ 5 → Rose (K.faults sink.old) (K.faults sink.new) }
     ensures begun { result ≡ 5 → HasBegun (S.left source.old) (S.left source.new) (K.holds sink.old) (K.holds sink.new) }
     ensures too_long { result ≡ 7 → GaveMore LIMIT (S.left source.old) (S.left source.new) }
+    // With what 0, 3 and 5 say of the script: 7 comes exactly where one byte more than the limit was given.
+    ensures within { result ≡ 4 → GaveAtMost LIMIT (S.left source.old) (S.left source.new) }
     ensures nothing { IsQuiet result → sink.new ≡ sink.old }
     ensures known { IsStatus result }
 {
