@@ -1,0 +1,27 @@
+-- The command line as the parser is told it: a mode word, and an option with a value.
+use Rattle.std.specs.Prelude.{List, Option, Some, codes, true, Bool}
+use Rattle.clap.specs.Words.{App, Rule, Text, new_app, new_rule, with_rule, takes, matches_of, first_of}
+
+-- the mode, which is a word and must be there
+abbrev pub mode_rule : Rule
+mode_rule = record (new_rule (codes "mode")) { required = true }
+
+-- the option `--print`
+abbrev pub print_rule : Rule
+print_rule = record (new_rule (codes "print")) { long = Some (codes "print") }
+
+-- a command without the program's name among its words, and without an option for help
+abbrev pub bare : App
+bare = record (new_app (codes "ftcore")) { top = record (new_app (codes "ftcore")).top { no_binary_name = true; disable_help_flag = true } }
+
+-- all that the parser is told
+unfoldable pub app : App
+app = with_rule (with_rule bare mode_rule) print_rule
+
+-- the parser takes the words, and fails only for want of memory
+unfoldable pub is_taken : List Text → Bool
+is_taken words = takes app words
+
+-- the value that the parser finds for an argument
+unfoldable pub value_in : Text → List Text → Option Text
+value_in id words = first_of id (matches_of app words)

@@ -1,0 +1,50 @@
+//! The parser: how it is told the command line, and what it finds in words.
+
+ghost use Rattle.std.specs.Prelude.{◌≡◌, IfOk, map, false, codes};
+ghost use Rattle.std.specs.Option.{option_copied};
+ghost use Rattle.clap.specs.Words.{app_of};
+ghost use Rattle.ft_words.specs.Command.{app, is_taken, value_in};
+
+use crate::order::WordsFault;
+use clap::error::ErrorKind;
+use clap::{Arg, Command};
+use std::alloc::{AllocError, Global};
+
+/// The command line, as the parser is told it.
+pub fn command<'a>(alloc: Global) -> Result<Command<'a>, AllocError>
+    ensures { IfOk result (λ c. app_of c ≡ app) }
+{
+    let mode = Arg::new(alloc, "mode").required(true);
+    let print = Arg::new(alloc, "print").long("print");
+    Command::new(alloc, "ftcore")
+        .no_binary_name(true)
+        .disable_help_flag(true)
+        .arg(mode)?
+        .arg(print)
+}
+
+/// What the parser found in the words.
+#[derive(Clone, Copy)]
+pub struct Found<'a> {
+    pub mode: Option<&'a str>,
+    pub print: Option<&'a str>,
+}
+
+/// Runs the parser.
+pub fn find<'a>(command: Command<'a>, words: &'a [&'a str]) -> Result<Found<'a>, WordsFault>
+    requires { app_of command ≡ app }
+    ensures mode { IfOk result (λ f. option_copied f.mode ≡ value_in (codes "mode") (map (λ w. w.now) words.entry.now)) }
+    ensures print { IfOk result (λ f. option_copied f.print ≡ value_in (codes "print") (map (λ w. w.now) words.entry.now)) }
+    ensures language { result ≡ Err WordsFault.Language → is_taken (map (λ w. w.now) words.entry.now) ≡ false }
+{
+    match command.try_get_matches_from(words) {
+        Ok(matches) => Ok(Found {
+            mode: matches.get_str("mode"),
+            print: matches.get_str("print"),
+        }),
+        Err(error) => match error.kind() {
+            ErrorKind::OutOfMemory => Err(WordsFault::NoMemory),
+            _ => Err(WordsFault::Language),
+        },
+    }
+}

@@ -1,0 +1,74 @@
+//! Whether words are one of the ways to say a mode and an option's value.
+
+ghost use Rattle.std.specs.Prelude.{◌≡◌, ◌↔◌, [], ◌∷◌, IfOk, IsTrue, map};
+ghost use Rattle.std.specs.Option.{option_copied};
+ghost use Rattle.ft_words.specs.Language.{IsOneOf, lines_of, lines_with, Spells, SpellsWith};
+
+use std::alloc::{AllocError, Global};
+
+/// Whether the words are these.
+fn is_line(words: &[&str], line: &[&str]) -> bool
+    ensures { IsTrue result ↔ (map (λ w. w.now) words.now ≡ map (λ w. w.now) line.now) }
+{
+    words == line
+}
+
+/// Whether the words say the mode and no option.
+fn spells_alone(words: &[&str], mode: &str) -> bool
+    ensures { IsTrue result ↔ IsOneOf (map (λ w. w.now) words.now) (lines_of mode.now) }
+{
+    is_line(words, &[mode]) || is_line(words, &["--", mode]) || is_line(words, &[mode, "--"])
+}
+
+/// Whether the words say the mode, and the option in one word.
+fn spells_joined(words: &[&str], mode: &str, option: &str) -> bool
+    ensures { IsTrue result ↔ IsOneOf (map (λ w. w.now) words.now) (lines_with mode.now (option.now ∷ [])) }
+{
+    is_line(words, &[option, mode])
+        || is_line(words, &[option, "--", mode])
+        || is_line(words, &[option, mode, "--"])
+        || is_line(words, &[mode, option])
+        || is_line(words, &[mode, option, "--"])
+}
+
+/// Whether the words say the mode, and the option in two words.
+fn spells_apart(words: &[&str], mode: &str, name: &str, value: &str) -> bool
+    ensures { IsTrue result
+        ↔ IsOneOf (map (λ w. w.now) words.now) (lines_with mode.now (name.now ∷ value.now ∷ [])) }
+{
+    is_line(words, &[name, value, mode])
+        || is_line(words, &[name, value, "--", mode])
+        || is_line(words, &[name, value, mode, "--"])
+        || is_line(words, &[mode, name, value])
+        || is_line(words, &[mode, name, value, "--"])
+}
+
+/// Whether the words say this mode, and this value of the option.
+fn spells_with(
+    alloc: Global,
+    words: &[&str],
+    mode: &str,
+    name: &str,
+    value: &str,
+) -> Result<bool, AllocError>
+    ensures { IfOk result (λ b. IsTrue b ↔ SpellsWith (map (λ w. w.now) words.now) mode.now name.now value.now) }
+{
+    let joined = format!(in alloc; "{name}={value}")?;
+    Ok(spells_apart(words, mode, name, value) || spells_joined(words, mode, joined.as_str()))
+}
+
+/// Whether the words say this mode, and this value of `--print` where there is one.
+pub fn spells(
+    alloc: Global,
+    words: &[&str],
+    mode: &str,
+    print: Option<&str>,
+) -> Result<bool, AllocError>
+    ensures { IfOk result (λ b. IsTrue b
+        ↔ Spells (map (λ w. w.now) words.now) mode.now (option_copied print.entry)) }
+{
+    match print {
+        None => Ok(spells_alone(words, mode)),
+        Some(form) => spells_with(alloc, words, mode, "--print", form),
+    }
+}
