@@ -1,8 +1,8 @@
 -- The items of a text, read one after the other.
 use Rattle.std.proofs.Common.{◌≡◌, ℕ, suc, ◌+◌, ◌<◌, ◌≤◌, List, [], ◌∷◌, ◌++◌, length, map, drop, get_or, Option, Some, None, refl, ap, ◌∙◌, sym, append_assoc, add-one, drop-cons}
 use Rattle.std.proofs.lemmas.List.{append-nil, drop_all}
+use Rattle.script_text.specs.Lines.{Word}
 use Rattle.ft_schedule.specs.declared.item.Item.{Item}
-use Rattle.ft_schedule.specs.Words.{Word}
 use Rattle.ft_schedule.specs.Items.{item_of, items_of, item_before}
 
 -- items that stand before others, if there are others

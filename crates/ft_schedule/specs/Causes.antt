@@ -26,6 +26,14 @@ steps_of cpus item = item.count * actors_at cpus item.who
 abbrev pub is_over : ℕ → List Item → Bool
 is_over cpus items = list_any is_bad items || nat_lt 4000000 (sum_by (steps_of cpus) items)
 
+-- a bad count, or more than 4,000,000 steps with those that stand before
+abbrev pub is_over_behind : ℕ → ℕ → List Item → Bool
+is_over_behind cpus steps items = list_any is_bad items || nat_lt 4000000 (steps + sum_by (steps_of cpus) items)
+
+-- so many steps and those of the items, where no count is bad and they aren't more than 4,000,000
+abbrev pub steps_with : ℕ → ℕ → List Item → Option ℕ
+steps_with cpus steps items = if is_over_behind cpus steps items then None else Some (steps + sum_by (steps_of cpus) items)
+
 abbrev pub is_no_cpu : ℕ → Who → Bool
 is_no_cpu cpus (Cpu c) = nat_le cpus c.0
 is_no_cpu cpus _ = false

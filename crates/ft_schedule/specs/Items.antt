@@ -4,8 +4,9 @@ use Rattle.std.specs.Str.{bytes_eq}
 use Rattle.ft_base.specs.declared.turn.Who.{Who}
 use Rattle.ft_base.specs.declared.turn.Who.TheVariants.{Control, Cpu, All}
 use Rattle.ft_base.specs.declared.turn.Turn.{Turn}
+use Rattle.script_text.specs.Lines.{Word, words_of}
+use Rattle.script_text.specs.Names.{number_of}
 use Rattle.ft_schedule.specs.declared.item.Item.{Item}
-use Rattle.ft_schedule.specs.Words.{Word, words_of, number_of}
 
 -- a CPU is one digit from 0 to 7
 abbrev pub cpu_of : Word → Option Who

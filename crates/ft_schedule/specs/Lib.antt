@@ -1,4 +1,3 @@
-pub mod Words
 pub mod Items
 pub mod Causes
 pub mod Coming

@@ -3,14 +3,16 @@
 ghost use Rattle.std.specs.Prelude.{◌≡◌, ◌==◌, map, option_map, position, IfOk};
 ghost use Rattle.ft_schedule.specs.Items.{cpu_of, who_of, item_of, items_of};
 
-use crate::words::{is, number};
 use ft_base::{CpuNo, Who};
+use script_text::{is, number};
 use std::alloc::{AllocError, Global};
 
-/// An item as it is written: its count may be too large for a turn.
-#[derive(Clone, Copy, Debug)]
+/// An item as it is written.
+#[derive(Clone, Copy, Debug, PartialEq, Eq)]
 pub struct Item {
+    /// Whose turn it is. The CPU may be one that isn't there.
     pub who: Who,
+    /// How often. A turn's count is from 1 to 4,294,967,295; an item may have any of 10 digits.
     pub count: u64,
 }
 
@@ -65,7 +67,8 @@ fn read_item(word: &[u8]) -> Option<Item>
     }
 }
 
-/// The items that the words write. `Ok(None)` says that one of them has none of the forms.
+/// The items that the words write, each of which is `k` for control, a digit from `0` to `7` for that
+/// CPU, or `all`, with `*COUNT` behind it or not. `Ok(None)` says that a word has none of these forms.
 pub fn read_items(alloc: Global, words: &[&[u8]]) -> Result<Option<Vec<Item>>, AllocError>
     ensures { IfOk result (λ r. option_map (λ v. v.items) r ≡ items_of (map (λ w. w.now) words.now)) }
 {

@@ -1,15 +1,16 @@
 //! Turns, and the text that they are read from.
 
-ghost use Rattle.std.specs.Prelude.{◌≡◌, ◌≤◌, ◌*◌, All, Some, None, false, length, map, option_map, IfOk, OnOk, IfErr};
+ghost use Rattle.std.specs.Prelude.{◌≡◌, ◌≤◌, ◌++◌, All, Some, None, false, length, map, option_map, IfOk, OnOk, OnErr, IfErr};
 ghost use Rattle.std.specs.List.{list_any};
 ghost use Rattle.ft_base.specs.Schedule.{actors_in};
 ghost use Rattle.ft_schedule.specs.Items.{turn_from, turns_in, items_in, some_items_of};
-ghost use Rattle.ft_schedule.specs.Causes.{IsTurn, is_bad, steps_of, is_over, is_unknown, has_unknown, cause_in, cause_of, IsCause};
+ghost use Rattle.ft_schedule.specs.Causes.{IsTurn, is_bad, cause_in, cause_of, IsCause};
 
+use crate::causes::{has_unknown, is_over};
 use crate::faults::SchedFault;
 use crate::item::{Item, read_items};
-use crate::words::words;
-use ft_base::{Turn, Who, limits};
+use ft_base::Turn;
+use script_text::words;
 use std::alloc::{AllocError, Global};
 
 /// Whose turn it is: the turns of each entry, one after the other.
@@ -40,7 +41,8 @@ pub fn read_sched(alloc: Global, text: &str, cpus: u32) -> Result<Schedule, Sche
     if let Some(fault) = judge(items.as_slice(), cpus) {
         return Err(fault);
     }
-    let turns = turns(alloc, items.as_slice()).map_err(|_| SchedFault::NoMemory)?;
+    let mut turns = Vec::new(alloc);
+    push_turns(&mut turns, items.as_slice()).map_err(|_| SchedFault::NoMemory)?;
     Ok(Schedule { turns })
 }
 
@@ -69,61 +71,23 @@ fn judge(items: &[Item], cpus: u32) -> Option<SchedFault>
     None
 }
 
-/// The steps of an item.
-fn steps_of(item: &Item, cpus: u32) -> u64
-    requires { is_bad item.now ≡ false }
-    ensures value { result ≡ steps_of cpus item.now }
-    ensures small { result ≤ 4294967295 * 4294967296 }
-{
-    match item.who {
-        Who::Control | Who::Cpu(_) => item.count,
-        Who::All => item.count * (1 + cpus as u64),
-    }
-}
-
-/// Whether a count can't be, or there are too many steps.
-fn is_over(items: &[Item], cpus: u32) -> bool
-    ensures { result ≡ is_over cpus items.now }
-{
-    let mut steps: u64 = 0;
-    for item in items {
-        if item.count == 0 || item.count > u32::MAX as u64 {
-            return true;
-        }
-        steps += steps_of(item, cpus);
-        if steps > limits::STEPS as u64 {
-            return true;
-        }
-    }
-    false
-}
-
-fn is_unknown(item: &Item, cpus: u32) -> bool
-    ensures { result ≡ is_unknown cpus item.now }
-{
-    match item.who {
-        Who::Control | Who::All => false,
-        Who::Cpu(cpu) => cpu.0 >= cpus,
-    }
-}
-
-fn has_unknown(items: &[Item], cpus: u32) -> bool
-    ensures { result ≡ has_unknown cpus items.now }
-{
-    items.iter().any(|item| is_unknown(item, cpus))
-}
-
-/// The turns of items whose counts fit.
-fn turns(alloc: Global, items: &[Item]) -> Result<Vec<Turn>, AllocError>
+/// Puts the turns of these items last, where their counts are those of turns. After an `Err` the
+/// turns are as before.
+pub fn push_turns(turns: &mut Vec<Turn>, items: &[Item]) -> Result<(), AllocError>
     requires { list_any is_bad items.now ≡ false }
-    ensures { IfOk result (λ v. v.items ≡ map turn_from items.now) }
+    ensures ok { OnOk result (turns.new.items ≡ turns.old.items ++ map turn_from items.now) }
+    ensures err { OnErr result (turns.new.items ≡ turns.old.items) }
 {
-    let mut turns = Vec::new(alloc);
+    let before = turns.len();
     for item in items {
-        turns.push(Turn {
+        let turn = Turn {
             who: item.who,
             count: item.count as u32,
-        })?;
+        };
+        if turns.push(turn).is_err() {
+            turns.truncate(before);
+            return Err(AllocError);
+        }
     }
-    Ok(turns)
+    Ok(())
 }

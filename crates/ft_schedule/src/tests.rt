@@ -1,6 +1,18 @@
-use crate::{Actor, Player, SchedFault, Schedule, Turn, Who, read_sched};
+use crate::{
+    Actor, Item, Player, SchedFault, Schedule, Turn, Who, has_unknown, push_turns, read_items,
+    read_sched, steps_with,
+};
 use ft_base::CpuNo;
+use script_text::words;
+use std::alloc::Global;
 use std::test::Fail;
+
+/// The items of a line, which is well formed.
+fn items(alloc: Global, line: &str) -> Result<Vec<Item>, Fail> {
+    let words = words(alloc, line.as_bytes())?;
+    let items = read_items(alloc, words.as_slice())?;
+    Ok(items.ok_or("a word is no item")?)
+}
 
 #[test]
 fn reads_items(rt: HostRuntime) -> Result<(), Fail> {
@@ -103,6 +115,42 @@ fn refuses_bad_texts(rt: HostRuntime) -> Result<(), Fail> {
         let refused = read_sched(rt.alloc(), text, cpus).err();
         assert_eq!(rt; refused, Some(fault), "{text} with {cpus} CPUs");
     }
+    Ok(())
+}
+
+#[test]
+fn counts_line_by_line(rt: HostRuntime) -> Result<(), Fail> {
+    let rows = [
+        (0, "k 0 all*2", 3, Some(10)),
+        (3_999_990, "k 0 all*2", 3, Some(4_000_000)),
+        (3_999_991, "k 0 all*2", 3, None),
+        (4_000_000, "k", 8, None),
+        (5, "7*9", 0, Some(14)),
+        (5, "k*0", 8, None),
+        (5, "k*4294967296", 8, None),
+    ];
+    for (steps, line, cpus, total) in rows {
+        let items = items(rt.alloc(), line)?;
+        assert_eq!(rt;
+            steps_with(steps, items.as_slice(), cpus),
+            total,
+            "{line} behind {steps}"
+        );
+    }
+    Ok(())
+}
+
+#[test]
+fn puts_turns_last(rt: HostRuntime) -> Result<(), Fail> {
+    let mut turns = Vec::new(rt.alloc());
+    for line in ["k*2 3", "all*5"] {
+        let items = items(rt.alloc(), line)?;
+        assert!(rt; steps_with(0, items.as_slice(), 4).is_some());
+        assert!(rt; !has_unknown(items.as_slice(), 4));
+        push_turns(&mut turns, items.as_slice())?;
+    }
+    let schedule = read_sched(rt.alloc(), "k*2 3 all*5", 4)?;
+    assert_eq!(rt; turns.as_slice(), schedule.turns.as_slice());
     Ok(())
 }
 

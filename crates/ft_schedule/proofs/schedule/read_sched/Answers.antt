@@ -9,11 +9,11 @@ fine : (c : goal.After-drop-items-2) → cause_in c.args.cpus c.in-Some.items.it
 fine c = search rules
 
 -- the turns are those of the items
-same : (c : goal.After-drop-items-2) → c.in_ok-turns.turns.items ≡ map turn_from c.in-Some.items.items
+same : (c : goal.After-drop-items-2) → c.push_turns.new.turns.items ≡ map turn_from c.in-Some.items.items
 same c = search rules
 
 pub returns-clause-few : goal.returns-clause-few
-returns-clause-few c = few-actors c.args.cpus c.in-Some.items.items (fine c) c.in_ok-turns.turns.items (same c)
+returns-clause-few c = few-actors c.args.cpus c.in-Some.items.items (fine c) c.push_turns.new.turns.items (same c)
 
 pub returns-clause-each : goal.returns-clause-each
-returns-clause-each c = each-turn c.args.cpus c.in-Some.items.items (fine c) c.in_ok-turns.turns.items (same c)
+returns-clause-each c = each-turn c.args.cpus c.in-Some.items.items (fine c) c.push_turns.new.turns.items (same c)

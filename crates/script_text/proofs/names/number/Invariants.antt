@@ -1,6 +1,6 @@
 use Rattle.std.proofs.Common.{◌≡◌, ◌<◌, ◌^◌, drop}
-use Rattle.ft_schedule.specs.Words.{value_after}
-use Rattle.ft_schedule.proofs.words.number.Given as goal
+use Rattle.script_text.specs.Names.{value_after}
+use Rattle.script_text.proofs.names.number.Given as goal
 
 abbrev pub invariant-loop-byte : goal.invariant-loop-byte
 invariant-loop-byte l = record {
