@@ -1,0 +1,4 @@
+pub mod Forms
+pub mod Users
+pub mod Lines
+pub mod Read

@@ -1,0 +1,4 @@
+pub mod Runs
+pub mod Least
+pub mod Unique
+pub mod Stuck
