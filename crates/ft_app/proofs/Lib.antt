@@ -1,9 +1,3 @@
-pub mod Commands
-pub mod Texts
-pub mod Lines
-pub mod Within
-pub mod Long
 pub mod Lookups
 pub mod LogLines
 pub mod Replayed
-pub mod Words

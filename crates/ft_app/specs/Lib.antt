@@ -1,3 +1,2 @@
-pub mod FirstForm
 pub mod LogText
 pub mod Main

@@ -15,24 +15,32 @@ use std::fmt::Write;
 fn function_name(job: &Job, function: FuncNo) -> &str
     ensures { result.now ≡ function_word job.now function.0 }
 {
-    let parts = job.parts();
-    if function.0 == 0 { &parts.func } else { "" }
+    let table = job.table();
+    if function.0 < table.len() {
+        table.name(function)
+    } else {
+        ""
+    }
 }
 
 /// The name of a user. Empty where the job doesn't have the number.
 fn user_name(job: &Job, user: UserNo) -> &str
     ensures { result.now ≡ user_word job.now user.0 }
 {
-    let parts = job.parts();
-    if user.0 == 0 { &parts.user } else { "" }
+    match job.specs().get(user.0 as usize) {
+        Some(spec) => spec.name.as_str(),
+        None => "",
+    }
 }
 
 /// The pid of a task. 0 where the job doesn't have the number.
 fn pid_of(job: &Job, task: TaskNo) -> u32
     ensures { result ≡ pid_at job.now task.0 }
 {
-    let parts = job.parts();
-    if task.0 == 0 { parts.pid } else { 0 }
+    match job.pid(task) {
+        Some(pid) => pid,
+        None => 0,
+    }
 }
 
 /// A call as the text names it: the pid of its task, a dot and its number.

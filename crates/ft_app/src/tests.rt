@@ -2,6 +2,8 @@
 
 ghost use Rattle.std.specs.Prelude.{◌≤◌};
 
+mod scripts;
+
 use crate::ft_main;
 use ft_io::{MemSink, MemSource, OpenGate};
 use std::alloc::Global;
@@ -41,8 +43,6 @@ fn replays_scripts(rt: HostRuntime) -> Result<(), Fail> {
     let rows = [
         (FIRST_PATH, 0, FIRST_PATH_LOG),
         (off_again, 0, off_again_log),
-        ("ftrace 1\nfunc a\nfunc b\n", 3, "line 1: later\n"),
-        ("", 3, "line 1: later\n"),
     ];
     for (script, status, text) in rows.iter() {
         for piece in [1, 4096] {
@@ -71,27 +71,43 @@ fn memory_is_found(rt: HostRuntime) -> Result<(), Fail> {
     Ok(())
 }
 
+/// Nothing is read or written for words that aren't in the language.
 #[test]
-fn refuses_other_words(rt: HostRuntime) -> Result<(), Fail> {
+fn words(rt: HostRuntime) -> Result<(), Fail> {
     let alloc = rt.alloc();
-    let rows: [&[&str]; 6] = [
+    let bad: [&[&str]; 11] = [
         &["frob"],
         &[],
         &["replay", "run"],
         &["bulk", "--print", "log"],
         &["replay", "--print=xml"],
         &["replay "],
+        &["run"],
+        &["replay", "--print", "graph"],
+        &["replay", "--print", "log", "--print", "log"],
+        &["--help"],
+        &["-h"],
     ];
-    for words in rows.iter() {
+    for words in bad.iter() {
         let mut source = source_of(alloc, FIRST_PATH, 4096, &[])?;
         let mut sink = sink_of(alloc, 4096, &[])?;
-        assert_eq!(rt;
-            ft_main(alloc, words, &mut source, &mut sink, &OpenGate),
-            2,
-            "{words:?}"
-        );
+        let status = ft_main(alloc, words, &mut source, &mut sink, &OpenGate);
+        assert_eq!(rt; status, 2, "{words:?}");
         assert_eq!(rt; source.left(), FIRST_PATH.as_bytes());
         assert_eq!(rt; sink.bytes(), b"".as_slice());
+    }
+    let good: [&[&str]; 4] = [
+        &["--print=log", "--", "replay"],
+        &["replay", "--print", "log"],
+        &["--print", "log", "replay"],
+        &["replay", "--"],
+    ];
+    for words in good.iter() {
+        let mut source = source_of(alloc, FIRST_PATH, 4096, &[])?;
+        let mut sink = sink_of(alloc, 4096, &[])?;
+        let status = ft_main(alloc, words, &mut source, &mut sink, &OpenGate);
+        assert_eq!(rt; status, 0, "{words:?}");
+        assert_eq!(rt; sink.bytes(), FIRST_PATH_LOG.as_bytes());
     }
     Ok(())
 }

@@ -1,37 +1,28 @@
-ghost use Rattle.std.specs.Prelude.{◌≡◌, ◌↔◌, true, map, string_bytes, IfOk, OnOk};
+ghost use Rattle.std.specs.Prelude.{◌≡◌, ◌≢◌, ◌≤◌, ◌⊎◌, length, true, map, string_bytes, IfOk, OnOk};
+ghost use Rattle.std.specs.Io.KnownBytes.{Appends};
 ghost use Rattle.ft_io.specs.Causes.{Rose, GaveMore, GaveAtMost, AppendsFront};
-ghost use Rattle.ft_app.specs.Main.{IsLanguage, HasRun, HasRefused, HasBegun, HasReplayed, IsQuiet, IsRunStatus, IsStatus, history_of, replay_text};
+ghost use Rattle.ft_app.specs.Main.{IsLanguage, HasRun, HasRefused, HasBegun, HasReplayed, IsQuiet, IsRunStatus, IsRefusalStatus, IsScriptStatus, IsStatus, Played, Refused, Begun, history_of, replay_text, refusal_text};
+ghost use Rattle.ft_script.specs.Script.{no_memory};
 ghost use Rattle.ft_hist.specs.Rules.{IsLegal, IsWhole};
 ghost use Rattle.plain_machine.specs.State.{play, is_over};
 
-use crate::first_form::read_first_job;
 use crate::log_text::print_log;
 use crate::status::{DONE, LANGUAGE, NO_MEMORY, READ_FAULT, REFUSED, TOO_LONG, WRITE_FAULT};
 use ft_base::NoMemory;
 use ft_io::{Gate, LIMIT, ReadFail, Sink, Source, read_all, write_all};
 use ft_machine::{Job, replay};
-use std::alloc::Global;
-
-/// What is written for a script that isn't of the first form.
-const LATER: &[u8] = b"line 1: later\n";
-
-/// Whether the words are in the command's language.
-fn is_language(words: &[&str]) -> bool
-    ensures { result ≡ true ↔ IsLanguage (map (λ word. word.now) words.now) }
-{
-    match words {
-        [word] => *word == "replay",
-        _ => false,
-    }
-}
+use ft_script::{Cause, ScriptFault, read_script};
+use ft_words::{Form, Order, WordsFault, read_words};
+use std::alloc::{AllocError, Global};
 
 /// Reads a script from the source, replays it and writes the text of its history to the sink. The
 /// words are the command's, without the program's name; the gate is for running threads. It gives
 /// the status, and writes nothing elsewhere:
 ///
 /// - 0: the source was read to its end, and the text was written whole
-/// - 2: the words aren't in the language, which is the one word `replay`
-/// - 3: the source was read to its end, the script is refused, and the line that says so was written
+/// - 2: the words aren't in the command's language (`ft_words`)
+/// - 3: the source was read to its end, the script is refused, and the line that says where and why
+///   was written
 /// - 4: the source failed
 /// - 5: the sink failed; a beginning of the text or the line was written
 /// - 6: no memory was found
@@ -43,7 +34,9 @@ pub fn ft_main<S: Source, K: Sink, G: Gate>(
     sink: &mut K,
     gate: &G,
 ) -> u8
-    ensures language { result ≡ 2 ↔ ¬ IsLanguage (map (λ word. word.now) words.now) }
+    ensures language { result ≡ 2 → ¬ IsLanguage (map (λ word. word.now) words.now) }
+    // Want of memory may come in the place of 2, and no other status.
+    ensures unspoken { ¬ IsLanguage (map (λ word. word.now) words.now) → (result ≡ 2) ⊎ (result ≡ 6) }
     ensures unread { result ≡ 2 → source.new ≡ source.old }
     // The text of the replay of the script's job, whose history is legal.
     ensures run { result ≡ 0 → HasRun (S.left source.old) (S.left source.new) (K.holds sink.old) (K.holds sink.new) }
@@ -58,8 +51,10 @@ pub fn ft_main<S: Source, K: Sink, G: Gate>(
     ensures known { IsStatus result }
 {
     let _ = gate;
-    if !is_language(words) {
-        return LANGUAGE;
+    match read_words(alloc, words) {
+        Ok(Order::Replay(Form::Log)) => {}
+        Err(WordsFault::Language) => return LANGUAGE,
+        Err(WordsFault::NoMemory) => return NO_MEMORY,
     }
     let bytes = match read_all(alloc, source) {
         Ok(bytes) => bytes,
@@ -67,13 +62,22 @@ pub fn ft_main<S: Source, K: Sink, G: Gate>(
         Err(ReadFail::TooLong) => return TOO_LONG,
         Err(ReadFail::NoMemory) => return NO_MEMORY,
     };
-    match read_first_job(alloc, &bytes) {
-        Err(_) => NO_MEMORY,
-        Ok(None) => match write_all(sink, LATER) {
-            Ok(()) => REFUSED,
-            Err(_) => WRITE_FAULT,
-        },
-        Ok(Some(job)) => run_job(alloc, &job, sink),
+    run_script(alloc, &bytes, sink)
+}
+
+/// Replays a script and writes the text of its history, or writes the line of its refusal.
+fn run_script<K: Sink>(alloc: Global, script: &[u8], sink: &mut K) -> u8
+    requires { length script.now ≤ LIMIT }
+    ensures run { result ≡ 0 → Played script.now (K.holds sink.old) (K.holds sink.new) }
+    ensures refused { result ≡ 3 → Refused script.now (K.holds sink.old) (K.holds sink.new) }
+    ensures write_fault { result ≡ 5 → Rose (K.faults sink.old) (K.faults sink.new) }
+    ensures begun { result ≡ 5 → Begun script.now (K.holds sink.old) (K.holds sink.new) }
+    ensures nothing { result ≡ 6 → sink.new ≡ sink.old }
+    ensures known { IsScriptStatus result }
+{
+    match read_script(alloc, script) {
+        Ok(job) => run_job(alloc, &job, sink),
+        Err(fault) => refuse(alloc, fault, sink),
     }
 }
 
@@ -100,6 +104,34 @@ fn run_job<K: Sink>(alloc: Global, job: &Job, sink: &mut K) -> u8
     };
     match write_all(sink, text.as_bytes()) {
         Ok(()) => DONE,
+        Err(_) => WRITE_FAULT,
+    }
+}
+
+/// The line that says where a script is refused, and why.
+fn refusal_line(alloc: Global, fault: ScriptFault) -> Result<String, AllocError>
+    ensures { IfOk result (λ text. string_bytes text ≡ refusal_text fault) }
+{
+    format!(in alloc; "{fault}\n")
+}
+
+/// Writes the line of a refusal. Want of memory is none.
+fn refuse<K: Sink>(alloc: Global, fault: ScriptFault, sink: &mut K) -> u8
+    ensures refused { result ≡ 3 → Appends (K.holds sink.old) (K.holds sink.new) (refusal_text fault) }
+    ensures real { (result ≡ 3) ⊎ (result ≡ 5) → fault ≢ no_memory }
+    ensures write_fault { result ≡ 5 → Rose (K.faults sink.old) (K.faults sink.new) }
+    ensures begun { result ≡ 5 → AppendsFront (K.holds sink.old) (K.holds sink.new) (refusal_text fault) }
+    ensures nothing { result ≡ 6 → sink.new ≡ sink.old }
+    ensures known { IsRefusalStatus result }
+{
+    if fault.cause == Cause::NoMemory {
+        return NO_MEMORY;
+    }
+    let Ok(line) = refusal_line(alloc, fault) else {
+        return NO_MEMORY;
+    };
+    match write_all(sink, line.as_bytes()) {
+        Ok(()) => REFUSED,
         Err(_) => WRITE_FAULT,
     }
 }

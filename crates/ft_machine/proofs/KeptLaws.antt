@@ -1,232 +1,92 @@
 -- What is true of a machine's fields stays true over each of its steps.
-use Rattle.std.proofs.Common.{cond, ◌≡◌, ℕ, suc, ◌+◌, ◌*◌, ◌<◌, ◌≤◌, Bool, true, false, not, ◌||◌, ◌&&◌, List, [], ◌∷◌, ◌++◌, length, map, drop, reverse, Some, refl, sym, ap, ◌∙◌, subst, arith, nat_le, nat_lt, leb-true, leb-false, le-leb, add-one, zero}
-use Rattle.std.specs.Prelude.{slice_get}
-use Rattle.std.proofs.lemmas.Bool.{lt-leb, ltb-true, ltb-false}
-use Rattle.std.proofs.lemmas.List.{reverse-append}
-use Rattle.ft_base.specs.declared.item.Item.{Item}
-use Rattle.ft_base.specs.declared.item.Item.TheVariants.{Begin, Return}
+use Rattle.std.proofs.Common.{◌≡◌, ℕ, zero, suc, ◌+◌, ◌<◌, ◌≤◌, Bool, true, List, [], ◌∷◌, length, map, drop, reverse, Some, get_or, refl, sym, ap, ◌∙◌, subst, arith, add-one}
+use Rattle.std.specs.Prelude.{slice_get, Option, None}
+use Rattle.std.specs.Option.{option_copied}
+use Rattle.std.specs.Slice.{IsItemAt}
+use Rattle.std.specs.Borrow.{Bor}
+use Rattle.std.proofs.lemmas.Bool.{ltb-true, ltb-false}
+use Rattle.std.proofs.lemmas.List.{length-map}
+use Rattle.std.proofs.lemmas.Option.{slice_get_read, slice_get_past}
 use Rattle.ft_base.specs.declared.turn.Actor.{Actor}
-use Rattle.ft_base.specs.declared.turn.Actor.TheVariants.{Control, Cpu}
-use Rattle.ft_base.specs.Job.{Job}
-use Rattle.ft_base.specs.declared.number.CpuNo.{CpuNo}
-use Rattle.ft_hist.specs.Frames.{is_nil}
+use Rattle.ft_base.specs.declared.turn.Actor.TheVariants.{Control}
+use Rattle.ft_base.specs.Job.{Ctl, Run, Until, commands}
 use Rattle.ft_hist.specs.Seen.{Seen}
 use Rattle.ft_hist.specs.Rules.{IsLegal, IsWhole}
-use Rattle.plain_machine.specs.State.{State, step, start, is_over, is_at_end, has_acts}
+use Rattle.plain_machine.specs.State.{State, step, is_over}
 use Rattle.plain_machine.specs.Rule.{Rule}
-use Rattle.plain_machine.proofs.Keeps.{start_keeps, step_keeps, whole-of}
-use Rattle.ft_machine.specs.declared.job.JobParts.{JobParts}
-use Rattle.ft_machine.specs.declared.place.Place.{Place}
-use Rattle.ft_machine.specs.declared.place.Place.TheVariants.{Waiting, Between, Within}
-use Rattle.ft_machine.specs.declared.machine.Machine.TheInside.{Inside}
-use Rattle.ft_machine.specs.First.{line, IsWithin, first_job, parts_of, answer_first, entered_first, left_first, counted}
-use Rattle.ft_machine.specs.Places.{is_last_by}
+use Rattle.plain_machine.proofs.Keeps.{step_keeps, whole-of}
+use Rattle.ft_machine.specs.declared.ctl.FirstCtl.{FirstCtl}
+use Rattle.ft_machine.specs.Parts.{ctl_of}
 use Rattle.ft_machine.specs.Running.{Running}
-use Rattle.ft_machine.specs.Kept.{state_of, job_of, view_of, IsPlace, owed, call_of, IsKept, acts_left}
-use Rattle.ft_machine.proofs.FirstJob.{is_job, users-start, users-next}
-use Rattle.ft_machine.proofs.Rows.{cpu, command-row, wait-row, unmet-row, leave-row, enter-row, none-row, left-after}
+use Rattle.ft_machine.specs.Kept.{state_of, view_of, IsKept}
+use Rattle.ft_machine.specs.declared.machine.Machine.TheInside.{Inside}
+use Rattle.ft_machine.specs.Orders.{command_of}
+use Rattle.ft_machine.specs.Acts.{fresh, answer_by, commanded}
+use Rattle.ft_machine.proofs.FirstDesk.{next-desk}
+use Rattle.ft_machine.proofs.CtlRows.{left-at, left-within, command-at, command-row, met-row, unmet-row, none-row}
 
--- two pushes, the latest first
-two_pushes : (items : List Item) (x y : Item) → reverse ((items ++ x ∷ []) ++ y ∷ []) ≡ y ∷ x ∷ reverse items
-two_pushes items x y = reverse-append (items ++ x ∷ []) (y ∷ []) ∙ ap (λ (l : List Item). y ∷ l) (reverse-append items (x ∷ []))
-
--- the count stays below the quantum
-counted-below : (left : Bool) (quantum count : ℕ) → count < quantum → counted left quantum count < quantum
-counted-below left quantum count lt =
-    elim (not left || nat_le quantum (suc count)) as (λ b. (not left || nat_le quantum (suc count)) ≡ b → cond b 0 (suc count) < quantum) [
-      | true ↦ λ e. omega arith
-      | false ↦ λ e. by left e
-    ] refl
-  where
-    by : (left : Bool) → (not left || nat_le quantum (suc count)) ≡ false → suc count < quantum
-    by true e = leb-false quantum (suc count) e
-    by false e = absurd (let no : true ≡ false = e in cc)
+next-line : (ls : List FirstCtl) (n : ℕ) (l : FirstCtl) → slice_get ls n ≡ Some l → slice_get (drop n (map ctl_of ls)) 0 ≡ Some (ctl_of l)
+next-line [] n l e = absurd cc
+next-line (x ∷ ls) zero l e = let s : x ≡ l = cc in rw s refl
+next-line (x ∷ ls) (suc n) l e = next-line ls n l e
 
 -- a step keeps the rule
-rule-step : (m : Inside) (a : Actor) (s : State) → IsKept m → s ≡ step (job_of m) a (state_of m) → Rule (job_of m) s
-rule-step m a s kept e = rw e (step_keeps (job_of m) (is_job (parts_of m.parts)) a (state_of m) kept.rule)
+pub rule-step : (m : Inside) (a : Actor) (s : State) → IsKept m → s ≡ step m.job a (state_of m) → Rule m.job s
+rule-step m a s kept e = rw e (step_keeps m.job kept.known.job a (state_of m) kept.rule)
 
 -- ## control
 
 abbrev pub after_command : Inside → Bool → Seen → Inside
-after_command m r h = record m { ran = m.ran + 1; registered = r; history = h }
+after_command m r h = record m { line = m.line + 1; ran = m.ran + 1; registered = r; history = h }
 
-module _ (m : Inside) (kept : IsKept m) (r : Bool) (h : Seen) (here : slice_get m.parts.ctls.items m.ran ≡ Some r)
-    (items : h.items ≡ (m.history.items ++ Begin (m.ran + 1) ∷ []) ++ Return (m.ran + 1) (answer_first r m.registered) ∷ []) where
-  pub command-state : state_of (after_command m r h) ≡ step (job_of m) Control (state_of m)
-  command-state =
-      rw (items, two_pushes m.history.items (Begin (m.ran + 1)) (Return (m.ran + 1) (answer_first r m.registered)), add-one m.ran)
-      (command-row (parts_of m.parts) (reverse m.history.items) m.ran m.registered m.place m.count r here kept.user)
-
-  pub command-kept : m.ran < length m.parts.ctls.items → m.history.spare ≤ h.spare + 2 → IsKept (after_command m r h)
-  command-kept below room = record {
-    within = kept.within;
-    rule = rule-step m Control (state_of (after_command m r h)) kept command-state;
-    user = rw (add-one m.ran) (users-next (parts_of m.parts) m.ran r m.registered here kept.user);
-    ran = omega arith;
-    place = kept.place;
-    count = kept.count;
-    room = let g = kept.room in omega arith;
-  }
-
--- ## the CPU
-
-abbrev pub after_act : Inside → Place → ℕ → Seen → Inside
-after_act m place count h = record m { place = place; count = count; history = h }
+abbrev pub after_wait : Inside → Inside
+after_wait m = record m { line = m.line + 1 }
 
 module _ (m : Inside) (kept : IsKept m) where
-  -- a step of the CPU that leaves the task at this place
-  act-kept : (place : Place) (count : ℕ) (h : Seen) → state_of (after_act m place count h) ≡ step (job_of m) cpu (state_of m)
-      → IsPlace place m.parts.calls → count < m.parts.quantum → m.history.spare + owed place m.parts.calls ≤ h.spare + owed m.place m.parts.calls
-      → IsKept (after_act m place count h)
-  act-kept place count h state is_place below room = record {
-    within = kept.within;
-    rule = rule-step m cpu (state_of (after_act m place count h)) kept state;
-    user = kept.user;
-    ran = kept.ran;
-    place = is_place;
-    count = below;
-    room = let g = kept.room in omega arith;
-  }
+  module _ (r : Bool) (next : slice_get (drop m.line m.job.ctls) 0 ≡ Some (Run (command_of r))) where
+    pub command-room : 2 ≤ m.history.spare
+    command-room = let l = left-within m.job.ctls m.line (Run (command_of r)) next in let g = kept.room in omega arith
 
-  module _ (at : m.place ≡ Waiting) where
-    pub unmet-state : m.ran ≡ 0 → state_of (after_act m m.place 0 m.history) ≡ step (job_of m) cpu (state_of m)
-    unmet-state none = rw at (unmet-row (parts_of m.parts) (reverse m.history.items) m.ran m.registered m.count none)
+    named : slice_get (commands m.job) m.ran ≡ Some (command_of r)
+    named = command-at m.job (state_of m) (drop (suc m.line) m.job.ctls) (command_of r) kept.rule (left-at m.job.ctls m.line (Run (command_of r)) next)
 
-    pub wait-state : 1 ≤ m.ran → state_of (after_act m (Between 0) (counted (nat_lt 0 m.parts.calls) m.parts.quantum m.count) m.history) ≡ step (job_of m) cpu (state_of m)
-    wait-state enough = rw at (wait-row (parts_of m.parts) (reverse m.history.items) m.ran m.registered m.count enough)
+    module _ (h : Seen) (items : reverse h.items ≡ commanded (m.ran + 1) (answer_by r m.registered) (reverse m.history.items)) where
+      pub command-state : state_of (after_command m r h) ≡ step m.job Control (state_of m)
+      command-state = rw items (command-row m.job kept.known (reverse m.history.items) m.line m.ran m.registered m.tasks.items m.counts.items r next named kept.user)
 
-    pub unmet-kept : m.ran ≡ 0 → IsKept (after_act m m.place 0 m.history)
-    unmet-kept none = act-kept m.place 0 m.history (unmet-state none) kept.place (let l = kept.count in omega arith) (omega arith)
+      pub command-kept : m.history.spare ≤ h.spare + 2 → IsKept (after_command m r h)
+      command-kept room = record {
+        known = kept.known;
+        rule = rule-step m Control (state_of (after_command m r h)) kept command-state;
+        user = rw (add-one m.ran) (next-desk m.job kept.known m.ran m.registered r named kept.user);
+        line = let l = left-within m.job.ctls m.line (Run (command_of r)) next in omega arith;
+        ran = let l = kept.ran in omega arith;
+        tasks = kept.tasks;
+        counts = kept.counts;
+        room = let g = kept.room in omega arith;
+      }
 
-    pub wait-kept : 1 ≤ m.ran → IsKept (after_act m (Between 0) (counted (nat_lt 0 m.parts.calls) m.parts.quantum m.count) m.history)
-    wait-kept enough =
-        act-kept (Between 0) (counted (nat_lt 0 m.parts.calls) m.parts.quantum m.count) m.history (wait-state enough) (omega arith)
-        (counted-below (nat_lt 0 m.parts.calls) m.parts.quantum m.count kept.count) (rw at (omega arith))
+  module _ (t n : ℕ) (next : slice_get (drop m.line m.job.ctls) 0 ≡ Some (Until t n)) where
+    pub met-state : n ≤ (get_or m.tasks.items t (fresh 0)).gone → state_of (after_wait m) ≡ step m.job Control (state_of m)
+    met-state met = met-row m.job kept.known (reverse m.history.items) m.line m.ran m.registered m.tasks.items m.counts.items t n kept.tasks next met
 
-  module _ (n : ℕ) (at : m.place ≡ Within n) (h : Seen) (items : reverse h.items ≡ left_first (call_of n) (reverse m.history.items)) where
-    pub leave-state : state_of (after_act m (Between n) (counted (nat_lt n m.parts.calls) m.parts.quantum m.count) h) ≡ step (job_of m) cpu (state_of m)
-    leave-state = rw (at, items) (leave-row (parts_of m.parts) (reverse m.history.items) m.ran m.registered m.count n)
+    pub unmet-state : (get_or m.tasks.items t (fresh 0)).gone < n → state_of m ≡ step m.job Control (state_of m)
+    unmet-state unmet = unmet-row m.job kept.known (reverse m.history.items) m.line m.ran m.registered m.tasks.items m.counts.items t n kept.tasks next unmet
 
-    pub leave-kept : m.history.spare ≤ h.spare + 2 → IsKept (after_act m (Between n) (counted (nat_lt n m.parts.calls) m.parts.quantum m.count) h)
-    leave-kept room =
-        let place : IsPlace (Within n) m.parts.calls = subst (λ (x : Place). IsPlace x m.parts.calls) at kept.place in
-        act-kept (Between n) (counted (nat_lt n m.parts.calls) m.parts.quantum m.count) h leave-state place.1
-        (counted-below (nat_lt n m.parts.calls) m.parts.quantum m.count kept.count) (rw at (omega arith))
+    pub met-kept : n ≤ (get_or m.tasks.items t (fresh 0)).gone → IsKept (after_wait m)
+    met-kept met = record {
+      known = kept.known;
+      rule = rule-step m Control (state_of (after_wait m)) kept (met-state met);
+      user = kept.user;
+      line = let l = left-within m.job.ctls m.line (Until t n) next in omega arith;
+      ran = let l = kept.ran in omega arith;
+      tasks = kept.tasks;
+      counts = kept.counts;
+      room = let g = kept.room in omega arith;
+    }
 
-  module _ (n : ℕ) (at : m.place ≡ Between n) (more : n < m.parts.calls) (h : Seen)
-      (items : reverse h.items ≡ entered_first (call_of (n + 1)) m.registered (reverse m.history.items)) where
-    pub enter-state : state_of (after_act m (Within (n + 1)) (counted true m.parts.quantum m.count) h) ≡ step (job_of m) cpu (state_of m)
-    enter-state = rw (at, items, add-one n) (enter-row (parts_of m.parts) (reverse m.history.items) m.ran m.registered m.count n more kept.user)
-
-    pub enter-kept : m.history.spare ≤ h.spare + 4 → IsKept (after_act m (Within (n + 1)) (counted true m.parts.quantum m.count) h)
-    enter-kept room =
-        act-kept (Within (n + 1)) (counted true m.parts.quantum m.count) h enter-state (omega arith, omega arith)
-        (counted-below true m.parts.quantum m.count kept.count) (rw at (omega arith))
-
-  pub none-state : (n : ℕ) → m.place ≡ Between n → m.parts.calls ≤ n → state_of m ≡ step (job_of m) cpu (state_of m)
-  none-state n at past = rw at (none-row (parts_of m.parts) (reverse m.history.items) m.ran m.registered m.count n past)
-
--- ## what contracts see
-
--- a step that the fields make is the step that contracts see
-pub seen : (m : Inside) (v : Running) (a : Actor) (x : State) → view_of m ≡ v → x ≡ step (job_of m) a (state_of m) → x ≡ step v.job a v.state
-seen m v a x e h = subst (λ (w : Running). x ≡ step w.job a w.state) e h
-
-pub seen-same : (m : Inside) (v : Running) (a : Actor) → view_of m ≡ v → state_of m ≡ step (job_of m) a (state_of m) → v.state ≡ step v.job a v.state
-seen-same m v a e h = subst (λ (w : Running). w.state ≡ step w.job a w.state) e h
-
--- the job has one CPU
-pub one-cpu : (m : Inside) → length (job_of m).quanta ≡ 1
-unfolding first_job
-one-cpu m = refl
-
-pub only-cpu : (m : Inside) (v : Running) (c : CpuNo) → view_of m ≡ v → c.0 < length v.job.quanta → cpu ≡ Cpu c
-only-cpu m v c e lt =
-    let one : length v.job.quanta ≡ 1 = subst (λ (w : Running). length w.job.quanta ≡ 1) e (one-cpu m) in
-    let none : 0 ≡ c.0 = omega arith in
-    ap (λ (n : ℕ). Cpu (record { 0 = n })) none
-
-pub seen-cpu : (m : Inside) (v : Running) (x : State) → view_of m ≡ v → x ≡ step (job_of m) cpu (state_of m) → (c : CpuNo) → c.0 < length v.job.quanta → x ≡ step v.job (Cpu c) v.state
-seen-cpu m v x e h c lt = subst (λ (a : Actor). x ≡ step v.job a v.state) (only-cpu m v c e lt) (seen m v cpu x e h)
-
-pub seen-cpu-same : (m : Inside) (v : Running) → view_of m ≡ v → state_of m ≡ step (job_of m) cpu (state_of m) → (c : CpuNo) → c.0 < length v.job.quanta → v.state ≡ step v.job (Cpu c) v.state
-seen-cpu-same m v e h c lt = subst (λ (a : Actor). v.state ≡ step v.job a v.state) (only-cpu m v c e lt) (seen-same m v cpu e h)
-
--- ## ends
-
-nil-lines : (ls : List Bool) (ran : ℕ) → is_nil (drop ran (map line ls)) ≡ nat_le (length ls) ran
-nil-lines [] zero = refl
-nil-lines [] (suc ran) = sym (le-leb 0 (suc ran) (omega arith))
-nil-lines (x ∷ ls) zero = sym (lt-leb (suc (length ls)) 0 (omega arith))
-nil-lines (x ∷ ls) (suc ran) = nil-lines ls ran ∙ same-leb (nat_le (length ls) ran) (length ls) ran refl
-  where
-    same-leb : (b : Bool) (n k : ℕ) → nat_le n k ≡ b → b ≡ nat_le (suc n) (suc k)
-    same-leb true n k e = let l : n ≤ k = leb-true n k e in sym (le-leb (suc n) (suc k) (omega arith))
-    same-leb false n k e = let l : k < n = leb-false n k e in sym (lt-leb (suc n) (suc k) (omega arith))
-
-last-by : (n calls : ℕ) (b : Bool) → nat_lt n calls ≡ b → not (b || false) ≡ nat_le calls n
-last-by n calls true e = let l : n < calls = ltb-true n calls e in sym (lt-leb calls n l)
-last-by n calls false e = let l : calls ≤ n = ltb-false n calls e in sym (le-leb calls n l)
-
-none-left : (place : Place) (calls : ℕ) → not (has_acts (acts_left place calls) || false) ≡ is_last_by place calls
-none-left Waiting calls = refl
-none-left (Within n) calls = refl
-none-left (Between n) calls = rw (left-after n calls) (last-by n calls (nat_lt n calls) refl)
-
-over-is : (m : Inside) → is_over (state_of m) ≡ (nat_le (length m.parts.ctls.items) m.ran && is_last_by m.place m.parts.calls)
-unfolding is_over
-over-is m = rw (nil-lines m.parts.ctls.items m.ran, none-left m.place m.parts.calls) refl
-
-pub over-last : (m : Inside) (v : Running) → view_of m ≡ v → length m.parts.ctls.items ≤ m.ran → is_last_by m.place m.parts.calls ≡ is_over v.state
-over-last m v e none =
-    subst (λ (w : Running). is_last_by m.place m.parts.calls ≡ is_over w.state) e
-    (sym (over-is m ∙ (let yes : nat_le (length m.parts.ctls.items) m.ran ≡ true = le-leb (length m.parts.ctls.items) m.ran none in rw yes refl)))
-
-pub over-not : (m : Inside) (v : Running) → view_of m ≡ v → m.ran < length m.parts.ctls.items → false ≡ is_over v.state
-over-not m v e more =
-    subst (λ (w : Running). false ≡ is_over w.state) e
-    (sym (over-is m ∙ (let no : nat_le (length m.parts.ctls.items) m.ran ≡ false = lt-leb (length m.parts.ctls.items) m.ran more in rw no refl)))
-
-control-end : (m : Inside) → is_at_end (job_of m) Control (state_of m) ≡ nat_le (length m.parts.ctls.items) m.ran
-unfolding is_at_end
-control-end m = nil-lines m.parts.ctls.items m.ran
-
-cpu-end : (m : Inside) → is_at_end (job_of m) cpu (state_of m) ≡ is_last_by m.place m.parts.calls
-unfolding is_at_end first_job
-cpu-end m = none-left m.place m.parts.calls
-
-pub seen-control-end : (m : Inside) (v : Running) → view_of m ≡ v → nat_le (length m.parts.ctls.items) m.ran ≡ is_at_end v.job Control v.state
-seen-control-end m v e = subst (λ (w : Running). nat_le (length m.parts.ctls.items) m.ran ≡ is_at_end w.job Control w.state) e (sym (control-end m))
-
-pub seen-cpu-end : (m : Inside) (v : Running) (c : CpuNo) → view_of m ≡ v → c.0 < length v.job.quanta → is_last_by m.place m.parts.calls ≡ is_at_end v.job (Cpu c) v.state
-seen-cpu-end m v c e lt =
-    subst (λ (a : Actor). is_last_by m.place m.parts.calls ≡ is_at_end v.job a v.state) (only-cpu m v c e lt)
-    (subst (λ (w : Running). is_last_by m.place m.parts.calls ≡ is_at_end w.job cpu w.state) e (sym (cpu-end m)))
-
--- ## the start
-
-abbrev pub opened : JobParts → Seen → Inside
-opened parts h = record { parts = parts; ran = 0; registered = false; place = Waiting; count = 0; history = h }
-
-module _ (parts : JobParts) (h : Seen) (none : h.items ≡ []) where
-  pub opened-state : state_of (opened parts h) ≡ start (first_job (parts_of parts))
-  unfolding first_job start
-  opened-state = rw none refl
-
-  pub opened-kept : IsWithin (parts_of parts) → 2 * length parts.ctls.items + 6 * parts.calls ≤ h.spare → IsKept (opened parts h)
-  opened-kept within room = record {
-    within = within;
-    rule = rw opened-state (start_keeps (first_job (parts_of parts)) (is_job (parts_of parts)));
-    user = users-start (parts_of parts);
-    ran = omega arith;
-    place = omega arith;
-    count = let q = within.quantum.0 in omega arith;
-    room = omega arith;
-  }
-
-pub seen-start : (j k : Job) (x : State) → j ≡ k → x ≡ start j → x ≡ start k
-seen-start j k x e h = subst (λ (i : Job). x ≡ start i) e h
+  pub idle-state : length m.job.ctls ≤ m.line → state_of m ≡ step m.job Control (state_of m)
+  idle-state none = none-row m.job kept.known (reverse m.history.items) m.line m.ran m.registered m.tasks.items m.counts.items none
 
 -- ## the history
 
@@ -237,21 +97,43 @@ kept-legal m v e kept = subst (λ (w : Running). IsLegal w.job m.history.items) 
 pub kept-whole : (m : Inside) (v : Running) → view_of m ≡ v → IsKept m → is_over v.state ≡ true → IsWhole v.job m.history.items
 kept-whole m v e kept =
     subst (λ (w : Running). is_over w.state ≡ true → IsWhole w.job m.history.items) e
-    (λ over. whole-of (job_of m) (is_job (parts_of m.parts)) (state_of m) m.history.items refl over kept.rule)
+    (λ over. whole-of m.job kept.known.job (state_of m) m.history.items refl over kept.rule)
 
--- the job that contracts see is one of the first form
-pub seen-job : (m : Inside) (v : Running) → view_of m ≡ v → first_job (parts_of m.parts) ≡ v.job
-seen-job m v e = ap (λ (w : Running). w.job) e
+-- ## what contracts see
 
--- and has a CPU
-pub seen-first-cpu : (m : Inside) (v : Running) (j : Job) → view_of m ≡ v → j ≡ v.job → 0 < length j.quanta
-seen-first-cpu m v j e same =
-    let one : length v.job.quanta ≡ 1 = subst (λ (w : Running). length w.job.quanta ≡ 1) e (one-cpu m) in
-    rw same (omega (arith, one))
+-- a step that the fields make is the step that contracts see
+pub seen : (m : Inside) (v : Running) (a : Actor) (x : State) → view_of m ≡ v → x ≡ step m.job a (state_of m) → x ≡ step v.job a v.state
+seen m v a x e h = subst (λ (w : Running). x ≡ step w.job a w.state) e h
 
--- ## sites
+pub seen-same : (m : Inside) (v : Running) (a : Actor) → view_of m ≡ v → state_of m ≡ step m.job a (state_of m) → v.state ≡ step v.job a v.state
+seen-same m v a e h = subst (λ (w : Running). w.state ≡ step w.job a w.state) e h
 
--- the job has one function
-pub seen-func : (m : Inside) (v : Running) (f : ℕ) → view_of m ≡ v → f < length v.job.functions → f < 4096
-unfolding first_job
-seen-func m v f e below = let one : length v.job.functions ≡ 1 = subst (λ (w : Running). length w.job.functions ≡ 1) e refl in omega arith
+-- the line that contracts see next is the next of the fields
+pub seen-left : (m : Inside) (v : Running) (c : Ctl) → view_of m ≡ v → slice_get v.state.left 0 ≡ Some c → slice_get (drop m.line m.job.ctls) 0 ≡ Some c
+seen-left m v c e h = subst (λ (w : Running). slice_get w.state.left 0 ≡ Some c) (sym e) h
+
+-- and the other way round
+pub next-seen : (m : Inside) (v : Running) (ls : List FirstCtl) (l : FirstCtl) → view_of m ≡ v → map ctl_of ls ≡ m.job.ctls → slice_get ls m.line ≡ Some l → slice_get v.state.left 0 ≡ Some (ctl_of l)
+next-seen m v ls l e same here = subst (λ (w : Running). slice_get w.state.left 0 ≡ Some (ctl_of l)) e (rw (sym same) (next-line ls m.line l here))
+
+-- no line is left
+none-seen : (m : Inside) (v : Running) (ls : List FirstCtl) → view_of m ≡ v → IsKept m → map ctl_of ls ≡ m.job.ctls → length ls ≤ m.line → v.state ≡ step v.job Control v.state
+none-seen m v ls e kept same past =
+    let lines : length m.job.ctls ≡ length ls = ap (λ (cs : List Ctl). length cs) (sym same) ∙ length-map ls ctl_of in
+    seen-same m v Control e (idle-state m kept (omega arith))
+
+-- a line that was copied out of the list is the list's
+copied-line : (ls : List FirstCtl) (n : ℕ) (o : Option (Bor FirstCtl)) → IsItemAt ls n o → option_copied o ≡ slice_get ls n
+copied-line ls n None k = sym (slice_get_past ls n (ltb-false n (length ls) (sym k.0)))
+copied-line ls n (Some b) k = sym (slice_get_read ls (length ls) n b.now refl (ltb-true n (length ls) (sym k.0)) k.1)
+
+-- a line that was read is the next that contracts see
+pub read-seen : (m : Inside) (v : Running) (ls : List FirstCtl) (o : Option (Bor FirstCtl)) (l : FirstCtl) → view_of m ≡ v → map ctl_of ls ≡ m.job.ctls
+    → IsItemAt ls m.line o → option_copied o ≡ Some l → slice_get v.state.left 0 ≡ Some (ctl_of l)
+read-seen m v ls o l e same read is = next-seen m v ls l e same (sym (copied-line ls m.line o read) ∙ is)
+
+-- where none was read, none is left
+pub unread-seen : (m : Inside) (v : Running) (ls : List FirstCtl) (o : Option (Bor FirstCtl)) → view_of m ≡ v → IsKept m → map ctl_of ls ≡ m.job.ctls
+    → IsItemAt ls m.line o → option_copied o ≡ None → v.state ≡ step v.job Control v.state
+unread-seen m v ls None e kept same read is = none-seen m v ls e kept same (ltb-false m.line (length ls) (sym read.0))
+unread-seen m v ls (Some b) e kept same read is = absurd cc

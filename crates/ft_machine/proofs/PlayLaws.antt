@@ -1,17 +1,15 @@
--- A replay of a schedule of full turns with one CPU, turn by turn.
-use Rattle.std.proofs.Common.{◌≡◌, ℕ, suc, ◌+◌, ◌-◌, ◌<◌, ◌≤◌, true, false, List, [], ◌∷◌, refl, sym, ap, subst, ◌∙◌, arith, append-nil}
+-- A replay of a schedule, actor by actor.
+use Rattle.std.proofs.Common.{◌≡◌, ℕ, ◌<◌, true, false, List, [], ◌∷◌, length, map, drop, Some, refl, sym, ap, ◌∙◌, arith}
+use Rattle.std.specs.Prelude.{slice_get}
+use Rattle.std.proofs.lemmas.List.{length-map}
 use Rattle.ft_base.specs.declared.turn.Actor.{Actor}
-use Rattle.ft_base.specs.declared.turn.Actor.TheVariants.{Control}
-use Rattle.ft_base.specs.declared.turn.Who.TheVariants.{All}
+use Rattle.ft_base.specs.declared.turn.Turn.{Turn}
 use Rattle.ft_base.specs.Job.{Job}
-use Rattle.ft_base.specs.Schedule.{repeated, turn_of, actors_of}
+use Rattle.ft_base.specs.Schedule.{actors_in, actors_of}
+use Rattle.user_specs.specs.Plain.{PlainCpu, cpu_of}
+use Rattle.user_specs.specs.declared.plan.CpuPlan.{CpuPlan}
 use Rattle.plain_machine.specs.State.{State, step, is_over, played, play, start}
-use Rattle.ft_machine.specs.First.{Parts, first_job}
-use Rattle.ft_machine.proofs.Rows.{cpu}
-
--- so many full turns
-abbrev pub turns : ℕ → List Actor
-turns n = repeated n (turn_of 1 All)
+use Rattle.ft_machine.specs.Parts.{quanta_of}
 
 played-over : (j : Job) (actors : List Actor) (s : State) → is_over s ≡ true → played j actors s ≡ s
 unfolding played
@@ -22,41 +20,45 @@ played-step : (j : Job) (a : Actor) (rest : List Actor) (s : State) → is_over 
 unfolding played
 played-step j a rest s more = rw more refl
 
-turns-more : (n i : ℕ) → i < n → turns (n - i) ≡ Control ∷ cpu ∷ turns (n - (i + 1))
-unfolding repeated
-turns-more n i lt = let e : n - i ≡ suc (n - (i + 1)) = omega arith in ap turns e
+played-none : (j : Job) (s : State) → played j [] s ≡ s
+unfolding played
+played-none j s = refl
 
--- a turn that all actors' ends cut off before it, in it, and one that is whole
-pub stops_before : (j : Job) (actors : List Actor) (s t : State) → is_over s ≡ true → played j actors s ≡ t → s ≡ t
-stops_before j actors s t over e = sym (played-over j actors s over) ∙ e
+first-rest : (actors : List Actor) (a : Actor) → Some a ≡ slice_get actors 0 → actors ≡ a ∷ drop 1 actors
+first-rest [] a e = absurd cc
+first-rest (b ∷ rest) a e = let s : b ≡ a = cc in ap (λ (x : Actor). x ∷ rest) s
 
-pub stops_within : (j : Job) (n i : ℕ) (s s1 t : State) → i < n → is_over s ≡ false → s1 ≡ step j Control s → is_over s1 ≡ true → played j (turns (n - i)) s ≡ t → s1 ≡ t
-stops_within j n i s s1 t lt more first over e =
-    let r : played j (Control ∷ cpu ∷ turns (n - (i + 1))) s ≡ t = rw (turns-more n i lt) at e in
-    let p : played j (cpu ∷ turns (n - (i + 1))) s1 ≡ t = rw first (sym (played-step j Control (cpu ∷ turns (n - (i + 1))) s more) ∙ r) in
-    stops_before j (cpu ∷ turns (n - (i + 1))) s1 t over p
+-- all actors are at their ends
+pub stops_over : (j : Job) (actors : List Actor) (s t : State) → is_over s ≡ true → played j actors s ≡ t → s ≡ t
+stops_over j actors s t over e = sym (played-over j actors s over) ∙ e
 
-pub goes_round : (j : Job) (n i : ℕ) (s s1 s2 t : State) → i < n → is_over s ≡ false → s1 ≡ step j Control s → is_over s1 ≡ false → s2 ≡ step j cpu s1
-    → played j (turns (n - i)) s ≡ t → played j (turns (n - (i + 1))) s2 ≡ t
-goes_round j n i s s1 s2 t lt more first more1 second e =
-    let r : played j (Control ∷ cpu ∷ turns (n - (i + 1))) s ≡ t = rw (turns-more n i lt) at e in
-    let p : played j (cpu ∷ turns (n - (i + 1))) s1 ≡ t = rw first (sym (played-step j Control (cpu ∷ turns (n - (i + 1))) s more) ∙ r) in
-    rw second (sym (played-step j cpu (turns (n - (i + 1))) s1 more1) ∙ p)
+-- no actor is left
+pub stops_used_up : (j : Job) (actors : List Actor) (s t : State) → actors ≡ [] → played j actors s ≡ t → s ≡ t
+stops_used_up j actors s t none e = sym (played-none j s) ∙ (let h : played j [] s ≡ t = rw none at e in h)
 
-pub all_turns : (j : Job) (n i : ℕ) (s t : State) → n ≤ i → played j (turns (n - i)) s ≡ t → s ≡ t
-unfolding played repeated
-all_turns j n i s t le e = let z : n - i ≡ 0 = omega arith in rw z at e
+-- one actor steps
+pub goes_on : (j : Job) (actors rest : List Actor) (a : Actor) (s s1 t : State) → is_over s ≡ false → Some a ≡ slice_get actors 0 → rest ≡ drop 1 actors → s1 ≡ step j a s
+    → played j actors s ≡ t → played j rest s1 ≡ t
+goes_on j actors rest a s s1 t more first behind stepped e =
+    let cut : actors ≡ a ∷ rest = first-rest actors a first ∙ ap (λ (l : List Actor). a ∷ l) (sym behind) in
+    let h : played j (a ∷ rest) s ≡ t = rw cut at e in
+    rw stepped (sym (played-step j a rest s more) ∙ h)
 
--- the schedule of such a job
-first-actors : (p : Parts) → actors_of (first_job p) ≡ turns 400000
-unfolding first_job actors_of
-first-actors p = append-nil (turns 400000)
+-- fewer are left
+pub fewer : (actors rest : List Actor) (a : Actor) → Some a ≡ slice_get actors 0 → rest ≡ drop 1 actors → length rest < length actors
+fewer actors rest a first behind =
+    let n = ap (λ (l : List Actor). length l) (first-rest actors a first) in
+    let k = ap (λ (l : List Actor). length l) behind in omega (arith, n, k)
 
--- such a schedule, for the job that contracts see
-pub seen-actors : (p : Parts) (j : Job) (s : State) → first_job p ≡ j → played j (turns 400000) s ≡ played j (actors_of j) s
-seen-actors p j s e = subst (λ (i : Job). played i (turns 400000) s ≡ played i (actors_of i) s) e (rw (first-actors p) refl)
+-- the actors of a job's schedule
+pub all-actors : (j : Job) (cpus : List CpuPlan) (turns : List Turn) (n : ℕ) → quanta_of (map cpu_of cpus) ≡ j.quanta → turns ≡ j.schedule → n ≡ length cpus → actors_in n turns ≡ actors_of j
+unfolding actors_of
+all-actors j cpus turns n quanta same count =
+    let many : n ≡ length j.quanta =
+    count ∙ sym (length-map cpus cpu_of) ∙ sym (length-map (map cpu_of cpus) (λ (c : PlainCpu). c.quantum)) ∙ ap (λ (qs : List ℕ). length qs) quanta in
+    rw (many, same) refl
 
 -- a machine that was started and has played the schedule of its job
-pub play-is : (j k : Job) (s t : State) → k ≡ j → s ≡ start j → t ≡ played k (actors_of k) s → t ≡ play j
+pub play-is : (j k : Job) (actors : List Actor) (s t : State) → actors ≡ actors_of j → k ≡ j → s ≡ start j → t ≡ played k actors s → t ≡ play j
 unfolding play
-play-is j k s t same first e = rw (same, first) at e
+play-is j k actors s t all same first e = rw (all, same, first) at e

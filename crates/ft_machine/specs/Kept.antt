@@ -1,125 +1,122 @@
 -- What a machine's fields stand for, and what is true of them.
-use Rattle.std.specs.Prelude.{ℕ, suc, ◌≡◌, ◌+◌, ◌*◌, ◌-◌, ◌<◌, ◌≤◌, Bool, true, false, ◌||◌, List, [], ◌∷◌, drop, length, map, reverse, Some, None, if◌then◌else◌}
+use Rattle.std.specs.Prelude.{ℕ, suc, ◌≡◌, ◌+◌, ◌*◌, ◌-◌, ◌<◌, ◌≤◌, Bool, true, false, ◌||◌, List, [], ◌∷◌, drop, length, map, sum_by, reverse, Some, None, ◌⊎◌, if◌then◌else◌}
 use Rattle.ft_base.specs.declared.context.Ctx.TheVariants.{Normal}
-use Rattle.ft_base.specs.declared.number.CallNo.{CallNo}
 use Rattle.ft_base.specs.declared.item.Item.{Item}
 use Rattle.ft_base.specs.declared.plan.TaskAct.{TaskAct}
-use Rattle.ft_base.specs.declared.plan.TaskAct.TheVariants.{Ret, After}
-use Rattle.ft_base.specs.Job.{Job, bare}
+use Rattle.ft_base.specs.Job.{Job, Task, bare, funcs}
 use Rattle.ft_base.specs.Desk.{Desk, desk, UserState}
 use Rattle.ft_hist.specs.Plain.{Frame, Running as InBody}
-use Rattle.plain_machine.specs.State.{State, TaskState}
+use Rattle.plain_machine.specs.State.{State, TaskState, CpuState, first_left, bare_state, tasks_of as numbers_on}
 use Rattle.plain_machine.specs.Rule.{Rule}
-use Rattle.site_bytes.specs.declared.insn.Insn.{Insn}
-use Rattle.site_bytes.specs.declared.insn.Insn.TheVariants.{Nop as NopInsn, Own as CallOwn}
-use Rattle.ft_machine.specs.First.{Parts, IsWithin, first_job, pairs, line, parts_of}
+use Rattle.ft_machine.specs.Known.{IsKnown}
 use Rattle.ft_machine.specs.Running.{Running}
-use Rattle.ft_machine.specs.declared.place.Place.{Place}
-use Rattle.ft_machine.specs.declared.place.Place.TheVariants.{Waiting, Between, Within}
+use Rattle.ft_machine.specs.declared.stack.OpenCall.{OpenCall}
+use Rattle.ft_machine.specs.declared.progress.Progress.{Progress}
 use Rattle.ft_machine.specs.declared.machine.Machine.TheInside.{Inside}
 
--- the only task's call of this number
-abbrev pub call_of : ℕ → CallNo
-call_of n = record { task = record { 0 = 0 }; n = n }
+-- an open call on the plain stack: its body runs
+abbrev pub frame_of : OpenCall → Frame
+frame_of o = record { call = o.call; ctx = Normal; func = o.func.0; scripted = true; phase = InBody }
 
--- its acts to come
-abbrev pub acts_left : Place → ℕ → List TaskAct
-acts_left Waiting calls = After 1 ∷ pairs calls
-acts_left (Between n) calls = pairs (calls - n)
-acts_left (Within n) calls = Ret ∷ pairs (calls - n)
-
--- how many acts are behind it
-abbrev pub acts_gone : Place → ℕ
-acts_gone Waiting = 0
-acts_gone (Between n) = suc (2 * n)
-acts_gone (Within n) = 2 * n
-
--- how many calls it has entered
-abbrev pub entered_by : Place → ℕ
-entered_by Waiting = 0
-entered_by (Between n) = n
-entered_by (Within n) = n
-
--- its stack of calls
-abbrev pub stack_of : Place → List Frame
-stack_of (Within n) = record { call = call_of n; ctx = Normal; func = 0; scripted = true; phase = InBody } ∷ []
-stack_of _ = []
-
--- the only task, at a place and with so many calls
-abbrev pub task_of : Place → ℕ → TaskState
-task_of place calls = record {
-  run = record { next = suc (entered_by place); acts = acts_left place calls; gone = acts_gone place; contexts = []; stack = stack_of place };
-  frames = map (λ f. []) (stack_of place);
+-- a task with these acts that is so far; no call holds a frame
+abbrev pub task_state : List TaskAct → Progress → TaskState
+task_state acts x = record {
+  run = record { next = x.next; acts = drop x.gone acts; gone = x.gone; contexts = []; stack = map frame_of x.stack.calls };
+  frames = map (λ o. []) x.stack.calls;
 }
+
+-- the tasks, by number
+abbrev pub tasks_by : List Task → List Progress → List TaskState
+tasks_by [] xs = []
+tasks_by (t ∷ ts) [] = []
+tasks_by (t ∷ ts) (x ∷ xs) = task_state t.acts x ∷ tasks_by ts xs
+
+-- the task that a CPU with at most one task runs, from the start on
+abbrev pub home : Job → ℕ → ℕ
+home job c = first_left (bare_state job) (length job.tasks) (numbers_on job c)
+
+-- the CPUs from c on, with these counts
+abbrev pub cpus_by : Job → ℕ → List ℕ → List CpuState
+cpus_by job c [] = []
+cpus_by job c (k ∷ ks) = record { present = home job c; count = k } ∷ cpus_by job (suc c) ks
 
 -- the registered users, the latest first
 abbrev pub order_of : Bool → List ℕ
 order_of false = []
 order_of true = 0 ∷ []
 
--- the job of a machine's parts
-abbrev pub job_of : Inside → Job
-job_of m = first_job (parts_of m.parts)
-
--- the state of such a job by what has happened, the commands done, whether the user is registered, the task's place and
--- the CPU's count
-abbrev pub state_by : Parts → List Item → ℕ → Bool → Place → ℕ → State
-state_by p past ran registered place count = record {
+-- the state of a job by what has happened, how many of control's lines and of the commands are done, whether the user is
+-- registered, how far each task is, and each CPU's count
+abbrev pub state_by : Job → List Item → ℕ → ℕ → Bool → List Progress → List ℕ → State
+state_by job past line ran registered xs counts = record {
   past = past;
   ran = ran;
-  left = drop ran (map line p.ctls);
+  left = drop line job.ctls;
   order = order_of registered;
-  tasks = task_of place p.calls ∷ [];
-  cpus = record { present = 0; count = count } ∷ [];
+  tasks = tasks_by job.tasks xs;
+  cpus = cpus_by job 0 counts;
 }
 
 -- the state that a machine's fields stand for
 abbrev pub state_of : Inside → State
-state_of m = state_by (parts_of m.parts) (reverse m.history.items) m.ran m.registered m.place m.count
+state_of m = state_by m.job (reverse m.history.items) m.line m.ran m.registered m.tasks.items m.counts.items
 
 -- what contracts see of a machine
 abbrev pub view_of : Inside → Running
-view_of m = record { job = job_of m; state = state_of m }
+view_of m = record { job = m.job; state = state_of m }
 
--- the only user on a desk; it was enabled by its first registration
-abbrev pub only_user : Bool → Bool → ℕ → ℕ → UserState
-only_user registered was reg since = record {
+-- ## what is true of the fields
+
+-- the only user on a desk for so many functions; it was enabled by its first registration
+abbrev pub only_user : ℕ → Bool → Bool → ℕ → ℕ → UserState
+only_user size registered was reg since = record {
   registered = registered;
   reg = reg;
   since = since;
   enabled = registered || was;
-  filter = bare 1;
-  notrace = bare 1;
+  filter = bare size;
+  notrace = bare size;
   slot = if registered then Some 0 else None;
 }
 
 -- a desk has that user alone
-abbrev pub HasUser : Bool → Desk → Type 0
-HasUser registered d = (was : Bool) × (reg : ℕ) × (since : ℕ) × (d.users ≡ only_user registered was reg since ∷ [])
+abbrev pub HasUser : ℕ → Bool → Desk → Type 0
+HasUser size registered d = (was : Bool) × (reg : ℕ) × (since : ℕ) × (d.users ≡ only_user size registered was reg since ∷ [])
 
--- the task hasn't entered more calls than it has
-abbrev pub IsPlace : Place → ℕ → Type 0
-IsPlace Waiting calls = 0 ≤ calls
-IsPlace (Between n) calls = n ≤ calls
-IsPlace (Within n) calls = (1 ≤ n) × (n ≤ calls)
+-- or it has nobody
+abbrev pub HasDesk : ℕ → Bool → Desk → Type 0
+HasDesk size registered d = ((registered ≡ false) × (d.users ≡ [])) ⊎ HasUser size registered d
 
--- the items that the task has still to make at most
-abbrev pub owed : Place → ℕ → ℕ
-owed Waiting calls = 6 * calls
-owed (Between n) calls = 6 * (calls - n)
-owed (Within n) calls = 6 * (calls - n) + 2
+-- a task with these acts can be so far
+pub record IsSoFar (all : List TaskAct) (x : Progress) : Type 0 where
+  pub acts : x.acts ≡ length all
+  pub gone : x.gone ≤ x.acts
+  pub next : x.next ≤ x.gone + 1
+  pub spare : x.acts ≤ x.gone + x.stack.spare
 
--- what is true of a machine's fields
+-- each task can be so far
+abbrev pub AreSoFar : List Task → List Progress → Type 0
+AreSoFar [] [] = Unit {0}
+AreSoFar (t ∷ ts) (x ∷ xs) = IsSoFar t.acts x × AreSoFar ts xs
+AreSoFar _ _ = ⊥
+
+-- each CPU's count is below its quantum
+abbrev pub AreCounts : List ℕ → List ℕ → Type 0
+AreCounts [] [] = Unit {0}
+AreCounts (q ∷ qs) (k ∷ ks) = (k < q) × AreCounts qs ks
+AreCounts _ _ = ⊥
+
+-- how many acts the tasks have left
+abbrev pub acts_left : List Progress → ℕ
+acts_left xs = sum_by (λ x. x.acts - x.gone) xs
+
+-- what is true of a machine's fields. An act makes at most 4 items, and a command 2
 pub record IsKept (m : Inside) : Type 0 where
-  pub within : IsWithin (parts_of m.parts)
-  pub rule : Rule (job_of m) (state_of m)
-  pub user : HasUser m.registered (desk (job_of m) m.ran)
-  pub ran : m.ran ≤ length m.parts.ctls.items
-  pub place : IsPlace m.place m.parts.calls
-  pub count : m.count < m.parts.quantum
-  pub room : 2 * length m.parts.ctls.items + owed m.place m.parts.calls ≤ m.history.spare + 2 * m.ran
-
--- the only site's instruction
-abbrev pub insn_first : Bool → Insn
-insn_first true = CallOwn 0
-insn_first false = NopInsn
+  pub known : IsKnown m.job
+  pub rule : Rule m.job (state_of m)
+  pub user : HasDesk (funcs m.job) m.registered (desk m.job m.ran)
+  pub line : m.line ≤ length m.job.ctls
+  pub ran : m.ran ≤ m.line
+  pub tasks : AreSoFar m.job.tasks m.tasks.items
+  pub counts : AreCounts m.job.quanta m.counts.items
+  pub room : 2 * length m.job.ctls + 4 * acts_left m.tasks.items ≤ m.history.spare + 2 * m.line

@@ -1,5 +1,9 @@
-pub mod First
+pub mod Parts
+pub mod Known
+pub mod Lists
+pub mod Orders
 pub mod Running
-pub mod Places
-pub mod Kept
 pub mod Sites
+pub mod Stacked
+pub mod Acts
+pub mod Kept

@@ -1,52 +1,48 @@
-ghost use Rattle.std.specs.Prelude.{◌≡◌, length, IfOk};
-ghost use Rattle.ft_machine.specs.First.{parts_of, IsWithin, first_job};
+ghost use Rattle.std.specs.Prelude.{◌≡◌, ◌<◌, map, length, get_or, slice_get, option_map, IfOk, IfSome};
+ghost use Rattle.ft_base.specs.Job.{no_task};
+ghost use Rattle.plain_machine.specs.State.{tasks_of as numbers_on};
+ghost use Rattle.user_specs.specs.Plain.{spec_of, cpu_of};
+ghost use Rattle.ft_machine.specs.Parts.{parts_of, quanta_of, cpus_from, ctl_of, IsWithin, job_of};
+ghost use Rattle.ft_machine.specs.Known.{IsKnown};
+ghost use Rattle.ft_machine.specs.Lists.{as_list};
 
-use ft_base::NoMemory;
-use std::alloc::AllocError;
+use crate::copy::copy_parts;
+use crate::ctl::FirstCtl;
+use crate::find::{count, find};
+use ft_base::{CpuNo, NoMemory, TaskAct, TaskNo};
+use ft_schedule::Schedule;
+use func_table::FuncTable;
+use std::alloc::Global;
 use std::marker::Model;
+use user_specs::{CpuPlan, Spec, TaskPlan};
 
-/// What a script of the first form declares: one function, one user of kind function, one CPU with
-/// one task, which waits for one command and then makes its calls one after the other, and
-/// commands that register the user or unregister it.
+/// What a script declares. For now there is at most one user, of kind function, with no flag and no
+/// act, and each CPU has at most one task.
 #[derive(Drop)]
 pub struct JobParts {
-    /// The function's name.
-    pub func: String,
-    /// The user's name.
-    pub user: String,
-    /// The CPU's quantum in acts, 1 to 1,000,000.
-    pub quantum: u32,
-    /// The task's pid, 1 to 4,194,304.
-    pub pid: u32,
-    /// How often the task calls the function, at most 9,999 times. Each call returns at once.
-    pub calls: u32,
-    /// The commands in order, 1 to 1,024: true registers the user, false unregisters it.
-    pub ctls: Vec<bool>,
-}
-
-impl JobParts {
-    /// Equal parts.
-    fn copy(&self) -> Result<JobParts, AllocError>
-        ensures { IfOk result (λ p. parts_of p ≡ parts_of self.now) }
-    {
-        Ok(JobParts {
-            func: self.func.clone()?,
-            user: self.user.clone()?,
-            quantum: self.quantum,
-            pid: self.pid,
-            calls: self.calls,
-            ctls: self.ctls.clone()?,
-        })
-    }
+    /// The traceable functions.
+    pub table: FuncTable,
+    /// The users.
+    pub specs: Vec<Spec>,
+    /// Frames of each task's shadow stack.
+    pub frames: u32,
+    /// Trampoline slots.
+    pub tramps: u8,
+    /// The CPUs in order, each with its tasks. Tasks are numbered from 0 over all CPUs.
+    pub cpus: Vec<CpuPlan>,
+    /// What control does, in order.
+    pub ctls: Vec<FirstCtl>,
+    /// Whose turn it is, step by step.
+    pub schedule: Schedule,
 }
 
 impl Model for Job {
     ghost use Rattle.ft_base.specs.Job.{Job as PlainJob};
-    ghost use Rattle.ft_machine.specs.First.{parts_of, IsWithin, first_job};
+    ghost use Rattle.ft_machine.specs.Parts.{parts_of, IsWithin, job_of};
 
     ghost Value = { PlainJob };
 
-    ghost view = { λ j. first_job (parts_of j.parts) };
+    ghost view = { λ j. job_of (parts_of j.parts) };
 
     ghost invariant = { λ j. IsWithin (parts_of j.parts) };
 }
@@ -61,40 +57,121 @@ impl Job {
     /// The job of these parts.
     pub fn new(parts: JobParts) -> Job
         requires { IsWithin (parts_of parts) }
-        ensures { result ≡ first_job (parts_of parts) }
+        ensures { result ≡ job_of (parts_of parts) }
     {
         Job { parts }
     }
 
-    /// Equal parts for a machine to keep.
-    pub(crate) fn copy_parts(&self) -> Result<JobParts, NoMemory>
-        ensures { IfOk result (λ p. (first_job (parts_of p) ≡ self.now) × IsWithin (parts_of p)) }
+    /// An equal job.
+    pub(crate) fn copy(&self, alloc: Global) -> Result<Job, NoMemory>
+        ensures { IfOk result (λ j. j ≡ self.now) }
     {
-        self.parts.copy().map_err(|_| NoMemory)
+        let parts = copy_parts(alloc, &self.parts)?;
+        Ok(Job::new(parts))
     }
 
-    /// How many CPUs it has. A job of the first form has one.
-    #[tactic(auto, unfolding(crate::specs::First::first_job))]
-    pub fn cpus(&self) -> u32
-        ensures { result ≡ length self.now.quanta }
+    /// The traceable functions.
+    #[tactic(auto, unfolding(crate::specs::Parts::job_of))]
+    pub fn table(&self) -> &FuncTable
+        ensures { result.now.functions ≡ self.now.functions }
     {
-        let _ = &self.parts;
-        1
+        &self.parts.table
     }
 
-    /// How many functions it has. A job of the first form has one.
-    #[tactic(auto, unfolding(crate::specs::First::first_job))]
-    pub fn funcs(&self) -> u32
-        ensures { result ≡ length self.now.functions }
+    /// The users.
+    #[tactic(auto, unfolding(crate::specs::Parts::job_of))]
+    pub fn specs(&self) -> &[Spec]
+        ensures { map spec_of result.now ≡ self.now.users }
     {
-        let _ = &self.parts;
-        1
+        self.parts.specs.as_slice()
     }
 
-    /// The parts that it was made of.
-    pub fn parts(&self) -> &JobParts
-        ensures job { first_job (parts_of result.now) ≡ self.now }
+    /// Frames of each task's shadow stack.
+    #[tactic(auto, unfolding(crate::specs::Parts::job_of))]
+    pub fn frames(&self) -> u32
+        ensures { result ≡ self.now.frames }
     {
-        &self.parts
+        self.parts.frames
+    }
+
+    /// Trampoline slots.
+    #[tactic(auto, unfolding(crate::specs::Parts::job_of))]
+    pub fn tramps(&self) -> u8
+        ensures { result ≡ self.now.tramps }
+    {
+        self.parts.tramps
+    }
+
+    /// The CPUs in order, each with its quantum and its tasks.
+    #[tactic(auto, unfolding(crate::specs::Parts::job_of))]
+    pub fn cpus(&self) -> &[CpuPlan]
+        ensures quanta { quanta_of (map cpu_of result.now) ≡ self.now.quanta }
+        ensures tasks { map cpu_of result.now ≡ cpus_from 0 self.now.quanta self.now.tasks }
+    {
+        self.parts.cpus.as_slice()
+    }
+
+    /// What control does, in order.
+    #[tactic(auto, unfolding(crate::specs::Parts::job_of))]
+    pub fn ctls(&self) -> &[FirstCtl]
+        ensures { map ctl_of result.now ≡ self.now.ctls }
+    {
+        self.parts.ctls.as_slice()
+    }
+
+    /// Whose turn it is, step by step.
+    #[tactic(auto, unfolding(crate::specs::Parts::job_of))]
+    pub fn schedule(&self) -> &Schedule
+        ensures { result.now.turns.items ≡ self.now.schedule }
+    {
+        &self.parts.schedule
+    }
+
+    /// The pid of the task of this number. `None` exactly where there is no such task.
+    pub fn pid(&self, task: TaskNo) -> Option<u32>
+        ensures { result ≡ option_map (λ t. t.pid) (slice_get self.now.tasks task.0) }
+    {
+        match find(self.parts.cpus.as_slice(), task) {
+            Some(plan) => Some(plan.pid),
+            None => None,
+        }
+    }
+
+    /// How many tasks there are, over all CPUs.
+    pub fn tasks(&self) -> u32
+        ensures count { result ≡ length self.now.tasks }
+        ensures known { IsKnown self.now }
+    {
+        count(self.parts.cpus.as_slice())
+    }
+
+    /// The acts of a task; none where there is no such task.
+    pub(crate) fn acts(&self, task: TaskNo) -> &[TaskAct]
+        ensures { result.now ≡ (get_or self.now.tasks task.0 no_task).acts }
+    {
+        match find(self.parts.cpus.as_slice(), task) {
+            Some(plan) => plan.acts.as_slice(),
+            None => &[],
+        }
+    }
+
+    /// The quantum of a CPU.
+    pub(crate) fn quantum(&self, cpu: CpuNo) -> u32
+        requires { cpu.0 < length self.now.quanta }
+        ensures { result ≡ get_or self.now.quanta cpu.0 1 }
+    {
+        self.parts.cpus[cpu.0 as usize].quantum
+    }
+
+    /// The only task of a CPU, where it has one. A CPU that the job doesn't have has none.
+    pub(crate) fn task_on(&self, cpu: CpuNo) -> Option<&TaskPlan>
+        ensures on { numbers_on self.now cpu.0 ≡ as_list (option_map (λ p. p.now.task.0) result) }
+        ensures acts { IfSome result (λ p. p.now.acts.items ≡ (get_or self.now.tasks p.now.task.0 no_task).acts) }
+        ensures within { IfSome result (λ p. (p.now.task.0 < length self.now.tasks) × (cpu.0 < length self.now.quanta)) }
+    {
+        match self.parts.cpus.get(cpu.0 as usize) {
+            Some(plan) => plan.tasks.first(),
+            None => None,
+        }
     }
 }

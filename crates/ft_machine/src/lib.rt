@@ -3,11 +3,17 @@
 //! definition of the crate `plain_machine`.
 #![tactic(auto)]
 
+mod act;
+mod copy;
+mod ctl;
+mod find;
 mod job;
 mod machine;
-mod place;
 mod play;
+mod progress;
+mod stack;
 
+pub use ctl::FirstCtl;
 pub use job::{Job, JobParts};
 pub use machine::Machine;
 pub use play::{Outcome, replay};

@@ -1,122 +1,50 @@
-ghost use Rattle.std.specs.Prelude.{◌≡◌, ℕ, ◌+◌, ◌<◌, ◌≤◌, length, true, reverse, IfOk};
-ghost use Rattle.ft_base.specs.Schedule.{IsActor, actors_of};
+ghost use Rattle.std.specs.Prelude.{◌≡◌, ◌<◌, ◌≤◌, ◌+◌, ◌*◌, replicate, sum_by, true, reverse, length, slice_get, Some, IfOk};
+ghost use Rattle.ft_base.specs.Job.{Run, Until as Waits};
 ghost use Rattle.ft_hist.specs.Rules.{IsLegal, IsWhole};
-ghost use Rattle.plain_machine.specs.State.{start, played, is_over, is_at_end};
-ghost use Rattle.ft_machine.specs.Kept.{call_of, insn_first};
+ghost use Rattle.plain_machine.specs.State.{start, is_over, is_at_end};
 ghost use Rattle.ft_machine.specs.Sites.{site_of};
-ghost use Rattle.ft_machine.specs.First.{answer_first, target_first, called_first, entered_first, left_first, counted};
+ghost use Rattle.ft_machine.specs.Orders.{command_of};
 
-use crate::job::{Job, JobParts};
-use crate::place::Place;
-use ft_base::limits::USUAL_TURNS;
-use ft_base::{Actor, Answer, CallNo, CpuNo, Ctx, FuncNo, Item, NoMemory, Ran, TaskNo, UserNo};
+use crate::act::{answer, command, count_after, insn, perform, waits};
+use crate::ctl::FirstCtl;
+use crate::job::Job;
+use crate::progress::{Progress, all_acts, any_left, at_start, gone_of};
+use ft_base::{Actor, CpuNo, FuncNo, NoMemory, TaskNo};
 use ft_hist::History;
-use site_bytes::{Insn, encode};
+use site_bytes::encode;
 use std::alloc::Global;
 use std::marker::Model;
 
-/// The only function of a job of the first form.
-const FUNC: FuncNo = FuncNo(0);
-
-/// Its only user.
-const USER: UserNo = UserNo(0);
-
-/// The answer of a command to the user, by whether it registers, and whether the user is registered.
-fn answer(registers: bool, registered: bool) -> Answer
-    ensures { result ≡ answer_first registers registered }
+/// So many zeros.
+fn zeros(alloc: Global, n: usize) -> Result<Vec<u32>, NoMemory>
+    ensures { IfOk result (λ v. v.items ≡ replicate n 0) }
 {
-    match (registers, registered) {
-        (true, true) => Answer::Already,
-        (true, false) | (false, true) => Answer::Accepted,
-        (false, false) => Answer::NotThere,
-    }
+    vec![in alloc; 0; n].map_err(|_| NoMemory)
 }
 
-/// The call of this number of the only task.
-fn call_no(n: u32) -> CallNo
-    ensures { result ≡ call_of n }
+/// How many items a job of these tasks can make at most: two a line of control, and four an act.
+fn room(job: &Job, tasks: &[Progress]) -> u32
+    requires lines { length job.now.ctls ≤ 2048 }
+    requires acts { sum_by (λ x. x.acts) tasks.now ≤ 20000 }
+    ensures { result ≡ 2 * length job.now.ctls + 4 * sum_by (λ x. x.acts) tasks.now }
 {
-    CallNo { task: TaskNo(0), n }
-}
-
-/// What the function's site is.
-fn target(registered: bool) -> Ran
-    ensures { result ≡ target_first registered }
-{
-    if registered { Ran::Own(USER) } else { Ran::Nop }
-}
-
-/// The instruction of the function's site: a call of the user's trampoline, which has the lowest
-/// slot, or the nop.
-fn insn(registered: bool) -> Insn
-    ensures { result ≡ insn_first registered }
-{
-    if registered { Insn::Own(0) } else { Insn::Nop }
-}
-
-/// Calls the user back, where it is registered.
-fn call_back(history: &mut History, call: CallNo, registered: bool)
-    requires { 2 ≤ history.old.spare }
-    ensures past { reverse history.new.items ≡ called_first call registered (reverse history.old.items) }
-    ensures room { history.old.spare ≤ history.new.spare + 2 }
-{
-    if registered {
-        history.push(Item::Back { call, user: USER });
-        history.push(Item::BackEnd { call, user: USER });
-    }
-}
-
-/// The items of a call up to its Body.
-fn enter(history: &mut History, call: CallNo, registered: bool)
-    requires { 4 ≤ history.old.spare }
-    ensures past { reverse history.new.items ≡ entered_first call registered (reverse history.old.items) }
-    ensures room { history.old.spare ≤ history.new.spare + 4 }
-{
-    history.push(Item::Enter {
-        call,
-        ctx: Ctx::Normal,
-        func: FUNC,
-        caller: None,
-    });
-    call_back(history, call, registered);
-    history.push(Item::Body {
-        call,
-        func: FUNC,
-        ran: target(registered),
-    });
-}
-
-/// The items of a call's return.
-fn leave(history: &mut History, call: CallNo)
-    requires { 2 ≤ history.old.spare }
-    ensures past { reverse history.new.items ≡ left_first call (reverse history.old.items) }
-    ensures room { history.old.spare ≤ history.new.spare + 2 }
-{
-    history.push(Item::Leave { call });
-    history.push(Item::Ret { call, to: None });
-}
-
-/// The CPU's count of acts after one more: it begins anew where the task has no act left, or the
-/// quantum is used up.
-fn count_after(left: bool, count: u32, quantum: u32) -> u32
-    requires { count < quantum }
-    ensures { result ≡ counted left quantum count }
-{
-    if !left || quantum <= count + 1 {
-        0
-    } else {
-        count + 1
-    }
+    2 * job.ctls().len() as u32 + 4 * all_acts(tasks)
 }
 
 /// The plain machine of a job. Contracts see its job, and its state as the definition has it.
 #[derive(Drop)]
 pub struct Machine {
-    parts: JobParts,
+    job: Job,
+    /// How many of control's lines are done.
+    line: u32,
+    /// How many commands are done.
     ran: u32,
+    /// Whether the only user is registered.
     registered: bool,
-    place: Place,
-    count: u32,
+    /// The tasks, by number.
+    tasks: Vec<Progress>,
+    /// How many acts each CPU has done since its last switch.
+    counts: Vec<u32>,
     history: History,
 }
 
@@ -134,32 +62,51 @@ impl Model for Machine {
 impl Machine {
     ghost use Rattle.plain_machine.specs.State.{step};
 
-    /// The opening state of a job, with room for every item that the job can make.
+    /// The opening state of a job, of which the machine keeps a copy, with room for every item that
+    /// the job can make.
     pub fn start(alloc: Global, job: &Job) -> Result<Machine, NoMemory>
         ensures state { IfOk result (λ m. m.state ≡ start job.now) }
         ensures job { IfOk result (λ m. m.job ≡ job.now) }
     {
-        let parts = job.copy_parts()?;
-        let room = 2 * parts.ctls.len() as u32 + 6 * parts.calls;
-        let history = History::with_room(alloc, room)?;
+        let tasks = at_start(alloc, job)?;
+        let counts = zeros(alloc, job.cpus().len())?;
+        let history = History::with_room(alloc, room(job, tasks.as_slice()))?;
+        let job = job.copy(alloc)?;
         Ok(Machine {
-            parts,
+            job,
+            line: 0,
             ran: 0,
             registered: false,
-            place: Place::Waiting,
-            count: 0,
+            tasks,
+            counts,
             history,
         })
     }
 
-    /// Whether this actor is at its end. The actor is one of the job's.
+    /// Whether control has done all its lines.
+    fn is_last(&self) -> bool
+        ensures { result ≡ is_at_end self.now.job Actor.Control self.now.state }
+    {
+        self.job.ctls().len() <= self.line as usize
+    }
+
+    /// Whether this actor is at its end. A CPU that the job doesn't have is at its end.
     pub fn at_end(&self, actor: Actor) -> bool
-        requires { IsActor self.now.job actor }
         ensures { result ≡ is_at_end self.now.job actor self.now.state }
     {
         match actor {
-            Actor::Control => self.ran as usize >= self.parts.ctls.len(),
-            Actor::Cpu(_) => self.place.is_last(self.parts.calls),
+            Actor::Control => self.is_last(),
+            Actor::Cpu(cpu) => self.is_idle(cpu),
+        }
+    }
+
+    /// Whether no task of a CPU has an act left.
+    fn is_idle(&self, cpu: CpuNo) -> bool
+        ensures { result ≡ is_at_end self.now.job (Actor.Cpu cpu) self.now.state }
+    {
+        match self.job.task_on(cpu) {
+            Some(plan) => !self.tasks[plan.task.0 as usize].is_left(),
+            None => true,
         }
     }
 
@@ -167,86 +114,87 @@ impl Machine {
     pub fn all_end(&self) -> bool
         ensures { result ≡ is_over self.now.state }
     {
-        self.ran as usize >= self.parts.ctls.len() && self.place.is_last(self.parts.calls)
+        self.is_last() && !any_left(self.tasks.as_slice())
     }
 
-    /// One step of control: a command whole.
-    fn command(&mut self)
+    /// A command of control whole.
+    fn command(&mut self, registers: bool)
+        requires { slice_get self.old.state.left 0 ≡ Some (Run (command_of registers)) }
         ensures state { self.new.state ≡ step self.old.job Actor.Control self.old.state }
         ensures job { self.new.job ≡ self.old.job }
     {
-        if (self.ran as usize) < self.parts.ctls.len() {
-            let k = self.ran + 1;
-            let registers = self.parts.ctls[self.ran as usize];
-            let answer = answer(registers, self.registered);
-            self.history.push(Item::Begin { k });
-            self.history.push(Item::Return { k, answer });
-            self.registered = registers;
-            self.ran = k;
-        }
+        let k = self.ran + 1;
+        command(&mut self.history, k, answer(registers, self.registered));
+        self.registered = registers;
+        self.ran = k;
+        self.line += 1;
     }
 
-    /// One step of the CPU: an act whole, and whether the CPU's turn ends with it. With one task a
-    /// switch leads back to it.
-    fn act(&mut self)
-        ensures state { (c : CpuNo) → c.0 < length self.old.job.quanta → self.new.state ≡ step self.old.job (Actor.Cpu c) self.old.state }
+    /// A wait of control: it goes on where the task has finished so many acts.
+    fn wait(&mut self, task: TaskNo, acts: u32)
+        requires { slice_get self.old.state.left 0 ≡ Some (Waits task.0 acts) }
+        ensures state { self.new.state ≡ step self.old.job Actor.Control self.old.state }
         ensures job { self.new.job ≡ self.old.job }
     {
-        let calls = self.parts.calls;
-        let quantum = self.parts.quantum;
-        match self.place {
-            Place::Waiting => {
-                if self.ran == 0 {
-                    self.count = 0;
-                } else {
-                    self.place = Place::Between { entered: 0 };
-                    self.count = count_after(calls > 0, self.count, quantum);
-                }
-            }
-            Place::Within { entered } => {
-                leave(&mut self.history, call_no(entered));
-                self.place = Place::Between { entered };
-                self.count = count_after(entered < calls, self.count, quantum);
-            }
-            Place::Between { entered } => {
-                if entered < calls {
-                    let entered = entered + 1;
-                    enter(&mut self.history, call_no(entered), self.registered);
-                    self.place = Place::Within { entered };
-                    self.count = count_after(true, self.count, quantum);
-                }
+        if acts <= gone_of(self.tasks.as_slice(), task) {
+            self.line += 1;
+        }
+    }
+
+    /// One step of control: a command whole, or a wait. Nothing where no line is left.
+    fn control(&mut self)
+        ensures state { self.new.state ≡ step self.old.job Actor.Control self.old.state }
+        ensures job { self.new.job ≡ self.old.job }
+    {
+        let ctl = self.job.ctls().get(self.line as usize).copied();
+        match ctl {
+            Some(FirstCtl::Register) => self.command(true),
+            Some(FirstCtl::Unregister) => self.command(false),
+            Some(FirstCtl::Until { task, acts }) => self.wait(task, acts),
+            None => {}
+        }
+    }
+
+    /// One step of a CPU: an act of its task whole, and whether its turn ends with it. With one task
+    /// a switch leads back to it. Nothing where the CPU has no task, or its task no act left.
+    fn act(&mut self, cpu: CpuNo)
+        ensures state { self.new.state ≡ step self.old.job (Actor.Cpu cpu) self.old.state }
+        ensures job { self.new.job ≡ self.old.job }
+    {
+        if let Some(plan) = self.job.task_on(cpu) {
+            let number = plan.task.0 as usize;
+            if self.tasks[number].is_left() {
+                let task = &mut self.tasks[number];
+                let act = plan.acts[task.gone as usize];
+                perform(
+                    task,
+                    &mut self.history,
+                    plan.task,
+                    act,
+                    self.ran,
+                    self.registered,
+                );
+                let left = task.is_left();
+                let count = self.counts[cpu.0 as usize];
+                let waits = waits(self.ran, act);
+                self.counts[cpu.0 as usize] = count_after(
+                    left,
+                    waits,
+                    self.job.quantum(cpu),
+                    count,
+                );
             }
         }
     }
 
-    /// One step of an actor; nothing where it is at its end. The actor is one of the job's. It
-    /// takes no memory.
+    /// One step of an actor; nothing where it is at its end. It takes no memory.
     pub fn step(&mut self, actor: Actor)
-        requires { IsActor self.old.job actor }
         ensures state { self.new.state ≡ step self.old.job actor self.old.state }
         ensures job { self.new.job ≡ self.old.job }
     {
         match actor {
-            Actor::Control => self.command(),
-            Actor::Cpu(_) => self.act(),
-        }
-    }
-
-    /// The job's whole schedule, up to the first moment when every actor is at its end.
-    pub(crate) fn play(&mut self)
-        ensures state { self.new.state ≡ played self.old.job (actors_of self.old.job) self.old.state }
-        ensures job { self.new.job ≡ self.old.job }
-    {
-        let _ = &self.parts;
-        for turn in 0..USUAL_TURNS {
-            if self.all_end() {
-                return;
-            }
-            self.step(Actor::Control);
-            if self.all_end() {
-                return;
-            }
-            self.step(Actor::Cpu(CpuNo(0)));
+            Actor::Control => self.control(),
+            Actor::Cpu(cpu) => self.act(cpu),
         }
     }
 

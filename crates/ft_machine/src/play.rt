@@ -1,11 +1,12 @@
 ghost use Rattle.std.specs.Prelude.{◌≡◌, true, reverse, IfOk};
 ghost use Rattle.ft_hist.specs.Rules.{IsLegal, IsWhole};
-ghost use Rattle.plain_machine.specs.State.{play, is_over};
+ghost use Rattle.plain_machine.specs.State.{play, played, is_over};
 
 use crate::job::Job;
 use crate::machine::Machine;
 use ft_base::NoMemory;
 use ft_hist::History;
+use ft_schedule::Player;
 use std::alloc::Global;
 
 /// What a replay came to.
@@ -17,6 +18,19 @@ pub struct Outcome {
     pub ended: bool,
 }
 
+/// Lets the actors of a player step, up to the first moment when every actor is at its end.
+fn play(machine: &mut Machine, mut player: Player)
+    ensures state { machine.new.state ≡ played machine.old.job player.entry machine.old.state }
+    ensures job { machine.new.job ≡ machine.old.job }
+{
+    while !machine.all_end() {
+        let Some(actor) = player.next_actor() else {
+            return;
+        };
+        machine.step(actor);
+    }
+}
+
 /// Plays the job's schedule up to the first moment when every actor is at its end, or else to the
 /// schedule's end.
 pub fn replay(alloc: Global, job: &Job) -> Result<Outcome, NoMemory>
@@ -26,7 +40,8 @@ pub fn replay(alloc: Global, job: &Job) -> Result<Outcome, NoMemory>
     ensures whole { IfOk result (λ o. o.ended ≡ true → IsWhole job.now o.history.items) }
 {
     let mut machine = Machine::start(alloc, job)?;
-    machine.play();
+    let player = Player::new(job.schedule(), job.cpus().len() as u32);
+    play(&mut machine, player);
     let ended = machine.all_end();
     Ok(Outcome {
         history: machine.finish(),

@@ -1,15 +1,17 @@
 use super::print_log;
-use crate::first_form::read_first_job;
 use ft_base::{Answer, CallNo, Ctx, FuncNo, Item, Ran, Reason, TaskNo, UserNo};
 use ft_hist::History;
 use ft_machine::Job;
+use ft_script::read_script;
 use std::alloc::Global;
 use std::test::Fail;
 
 fn job(alloc: Global) -> Result<Job, Fail> {
     let script =
         "ftrace 1\nfunc do_fork\nuser tr function\ncpu 0 quantum 100\ntask 10 cpu 0\nafter 1\ncall do_fork\nret\nctl register tr\n";
-    let job = read_first_job(alloc, script.as_bytes())?.ok_or("not read")?;
+    let job = read_script(alloc, script.as_bytes())
+        .ok()
+        .ok_or("not read")?;
     Ok(job)
 }
 

@@ -1,0 +1,65 @@
+-- A search of the CPUs for a task, CPU by CPU.
+use Rattle.std.proofs.Common.{cond, ◌≡◌, ℕ, suc, ◌+◌, ◌<◌, Bool, true, false, ◌==◌, List, [], ◌∷◌, length, get_or, drop, map, Option, Some, None, is_some, refl, sym, ap, ◌∙◌, subst, add-one}
+use Rattle.std.specs.Prelude.{option_map}
+use Rattle.std.proofs.lemmas.List.{drop_more}
+use Rattle.ft_base.specs.Job.{Task}
+use Rattle.ft_base.proofs.Small.{false_true}
+use Rattle.user_specs.specs.Plain.{PlainTask, task_of, cpu_of}
+use Rattle.user_specs.specs.declared.plan.CpuPlan.{CpuPlan}
+use Rattle.ft_machine.specs.Parts.{found_on, or_else, found_in}
+
+-- the pid and the acts of a task are the same on any CPU
+pub pid-on : (n c : ℕ) (ts : List PlainTask) → option_map (λ t. t.pid) (found_on n c ts) ≡ option_map (λ t. t.pid) (found_on n 0 ts)
+pid-on n c [] = refl
+pid-on n c (t ∷ ts) =
+    elim (t.task == n) as (λ b. option_map (λ u. u.pid) (cond b (Some (record { pid = t.pid; cpu = c; acts = t.acts })) (found_on n c ts))
+    ≡ option_map (λ u. u.pid) (cond b (Some (record { pid = t.pid; cpu = 0; acts = t.acts })) (found_on n 0 ts))) [
+      | true ↦ refl
+      | false ↦ pid-on n c ts
+    ]
+
+pub acts-on : (n c : ℕ) (ts : List PlainTask) → option_map (λ t. t.acts) (found_on n c ts) ≡ option_map (λ t. t.acts) (found_on n 0 ts)
+acts-on n c [] = refl
+acts-on n c (t ∷ ts) =
+    elim (t.task == n) as (λ b. option_map (λ u. u.acts) (cond b (Some (record { pid = t.pid; cpu = c; acts = t.acts })) (found_on n c ts))
+    ≡ option_map (λ u. u.acts) (cond b (Some (record { pid = t.pid; cpu = 0; acts = t.acts })) (found_on n 0 ts))) [
+      | true ↦ refl
+      | false ↦ acts-on n c ts
+    ]
+
+some-map : {A B : Type 0} (f : A → B) (o : Option A) → is_some (option_map f o) ≡ is_some o
+some-map f None = refl
+some-map f (Some a) = refl
+
+none-is : {A : Type 0} (o : Option A) → is_some o ≡ false → o ≡ None
+none-is None e = refl
+none-is (Some a) e = false_true (sym e)
+
+first-some : (a b : Option Task) → is_some a ≡ true → or_else a b ≡ a
+first-some None b e = false_true e
+first-some (Some t) b e = refl
+
+module _ (cpus : List CpuPlan) (n i : ℕ) (x : CpuPlan) (so : found_in n i (map cpu_of (drop i cpus)) ≡ found_in n 0 (map cpu_of cpus)) (lt : i < length cpus) (read : x ≡ get_or cpus i x) where
+  cut : found_in n 0 (map cpu_of cpus) ≡ or_else (found_on n i (map task_of x.tasks.items)) (found_in n (suc i) (map cpu_of (drop (i + 1) cpus)))
+  cut = sym so ∙ ap (λ (l : List CpuPlan). found_in n i (map cpu_of l)) (drop_more cpus i x lt ∙ ap (λ (y : CpuPlan). y ∷ drop (i + 1) cpus) (sym read))
+
+  module _ {X : Type 0} (f : Task → X) (same : option_map f (found_on n i (map task_of x.tasks.items)) ≡ option_map f (found_on n 0 (map task_of x.tasks.items)))
+      (o : Option X) (is : o ≡ option_map f (found_on n 0 (map task_of x.tasks.items))) where
+    there : is_some (found_on n i (map task_of x.tasks.items)) ≡ is_some o
+    there = sym (some-map f (found_on n i (map task_of x.tasks.items))) ∙ ap (λ (p : Option X). is_some p) (same ∙ sym is)
+
+    -- the task is on this CPU
+    pub found-here : is_some o ≡ true → o ≡ option_map f (found_in n 0 (map cpu_of cpus))
+    found-here some = is ∙ sym same ∙ ap (λ (p : Option Task). option_map f p) (sym (cut ∙ first-some _ _ (there ∙ some)))
+
+    -- or on a later one
+    pub found-later : is_some o ≡ false → found_in n (i + 1) (map cpu_of (drop (i + 1) cpus)) ≡ found_in n 0 (map cpu_of cpus)
+    found-later none =
+        let off : found_on n i (map task_of x.tasks.items) ≡ None = none-is _ (there ∙ none) in
+        subst (λ (k : ℕ). found_in n k (map cpu_of (drop (i + 1) cpus)) ≡ found_in n 0 (map cpu_of cpus)) (sym (add-one i)) (sym (rw off at cut))
+
+pub some-pids : {A B : Type 0} (f : A → B) (o : Option A) (b : Bool) → b ≡ is_some o → b ≡ true → is_some (option_map f o) ≡ true
+some-pids f o b e some = some-map f o ∙ sym e ∙ some
+
+pub none-pids : {A B : Type 0} (f : A → B) (o : Option A) (b : Bool) → b ≡ is_some o → b ≡ false → is_some (option_map f o) ≡ false
+none-pids f o b e none = some-map f o ∙ sym e ∙ none

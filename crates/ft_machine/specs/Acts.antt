@@ -1,0 +1,109 @@
+-- What a command and an act make: items, and how far the task is.
+use Rattle.std.specs.Prelude.{ℕ, ◌+◌, Bool, true, false, not, ◌||◌, nat_le, nat_lt, List, [], ◌∷◌, Option, if◌then◌else◌}
+use Rattle.ft_base.specs.declared.context.Ctx.TheVariants.{Normal}
+use Rattle.ft_base.specs.declared.item.Answer.{Answer}
+use Rattle.ft_base.specs.declared.item.Answer.TheVariants.{Accepted, Already, NotThere}
+use Rattle.ft_base.specs.declared.item.Item.{Item}
+use Rattle.ft_base.specs.declared.item.Item.TheVariants.{Begin, Return, Enter, Back, BackEnd, Body, Leave, Ret as RetItem}
+use Rattle.ft_base.specs.declared.item.Ran.{Ran}
+use Rattle.ft_base.specs.declared.item.Ran.TheVariants.{Nop, Own}
+use Rattle.ft_base.specs.declared.number.CallNo.{CallNo}
+use Rattle.ft_base.specs.declared.number.FuncNo.{FuncNo}
+use Rattle.ft_base.specs.declared.number.TaskNo.{TaskNo}
+use Rattle.ft_base.specs.declared.plan.TaskAct.{TaskAct}
+use Rattle.ft_base.specs.declared.plan.TaskAct.TheVariants.{Call, Ret, After}
+use Rattle.ft_machine.specs.declared.stack.OpenCall.{OpenCall}
+use Rattle.ft_machine.specs.declared.progress.Progress.{Progress}
+use Rattle.ft_machine.specs.Stacked.{top_of, pushed, popped}
+use Rattle.site_bytes.specs.declared.insn.Insn.{Insn}
+use Rattle.site_bytes.specs.declared.insn.Insn.TheVariants.{Nop as NopInsn, Own as CallOwn}
+
+-- ## a command
+
+-- the answer of a command, by whether it registers and whether the user is registered
+abbrev pub answer_by : Bool → Bool → Answer
+answer_by true true = Already
+answer_by true false = Accepted
+answer_by false true = Accepted
+answer_by false false = NotThere
+
+-- a past after the k-th command
+abbrev pub commanded : ℕ → Answer → List Item → List Item
+commanded k answer past = Return k answer ∷ Begin k ∷ past
+
+-- ## sites
+
+-- the target of each site, by whether the user is registered
+abbrev pub target_by : Bool → Ran
+target_by true = Own (record { 0 = 0 })
+target_by false = Nop
+
+-- its instruction
+abbrev pub insn_by : Bool → Insn
+insn_by true = CallOwn 0
+insn_by false = NopInsn
+
+-- ## items of a call
+
+-- a past after the user's callback, where it is registered
+abbrev pub backed_by : CallNo → Bool → List Item → List Item
+backed_by call false past = past
+backed_by call true past = BackEnd call (record { 0 = 0 }) ∷ Back call (record { 0 = 0 }) ∷ past
+
+-- a past after a call up to its Body
+abbrev pub entered_by : CallNo → FuncNo → Option CallNo → Bool → List Item → List Item
+entered_by call f caller registered past = Body call f (target_by registered) ∷ backed_by call registered (Enter call Normal f caller ∷ past)
+
+-- a past after a call's return
+abbrev pub left_by : CallNo → Option CallNo → List Item → List Item
+left_by call to past = RetItem call to ∷ Leave call ∷ past
+
+-- ## an act
+
+-- a task of so many acts before its first act
+abbrev pub fresh : ℕ → Progress
+fresh acts = record { acts = acts; gone = 0; next = 1; stack = record { calls = []; spare = acts } }
+
+-- the task has an act left
+abbrev pub has_left : Progress → Bool
+has_left x = nat_lt x.gone x.acts
+
+-- the next call of a task
+abbrev pub next_call : TaskNo → Progress → CallNo
+next_call t x = record { task = t; n = x.next }
+
+-- the task has entered its next call
+abbrev pub has_entered : TaskNo → FuncNo → Progress → Progress
+has_entered t f x = record { acts = x.acts; gone = x.gone + 1; next = x.next + 1; stack = pushed (record { call = next_call t x; func = f }) x.stack }
+
+-- its latest call of these has returned
+abbrev pub has_returned : List OpenCall → Progress → Progress
+has_returned [] x = x
+has_returned (o ∷ below) x = record x { gone = x.gone + 1; stack = popped (o ∷ below) x.stack }
+
+-- the past after that
+abbrev pub returned_past : List OpenCall → List Item → List Item
+returned_past [] past = past
+returned_past (o ∷ below) past = left_by o.call (top_of below) past
+
+-- the act is a wait for more commands than have returned
+abbrev pub is_wait : ℕ → TaskAct → Bool
+is_wait ran (After n) = not (nat_le n ran)
+is_wait ran _ = false
+
+-- a task behind an act, where so many commands have returned; a wait that isn't over stays
+abbrev pub progress_after : TaskNo → ℕ → TaskAct → Progress → Progress
+progress_after t ran (Call f) x = has_entered t f x
+progress_after t ran Ret x = has_returned x.stack.calls x
+progress_after t ran (After n) x = if nat_le n ran then record x { gone = x.gone + 1 } else x
+progress_after t ran _ x = x
+
+-- the past behind it
+abbrev pub past_after : TaskNo → Bool → TaskAct → Progress → List Item → List Item
+past_after t registered (Call f) x past = entered_by (next_call t x) f (top_of x.stack.calls) registered past
+past_after t registered Ret x past = returned_past x.stack.calls past
+past_after t registered _ x past = past
+
+-- the CPU's count of acts after one more: it begins anew where the task has no act left or waits, or the quantum is used up
+abbrev pub counted : Bool → Bool → ℕ → ℕ → ℕ
+counted left waits quantum count = if not left || waits || nat_le quantum (count + 1) then 0 else count + 1

@@ -1,0 +1,47 @@
+//! Tasks of CPUs, by number.
+
+ghost use Rattle.std.specs.Prelude.{◌≡◌, ◌≤◌, map, length, sum_by, option_map};
+ghost use Rattle.user_specs.specs.Plain.{task_of, cpu_of};
+ghost use Rattle.ft_machine.specs.Parts.{found_on, found_in};
+
+use ft_base::TaskNo;
+use user_specs::{CpuPlan, TaskPlan};
+
+/// How many tasks the CPUs have.
+pub(crate) fn count(cpus: &[CpuPlan]) -> u32
+    requires { sum_by (λ c. length c.tasks) (map cpu_of cpus.now) ≤ 64 }
+    ensures { result ≡ sum_by (λ c. length c.tasks) (map cpu_of cpus.now) }
+{
+    let mut count: u32 = 0;
+    for cpu in cpus {
+        count += cpu.tasks.len() as u32;
+    }
+    count
+}
+
+/// The task of this number among those of one CPU.
+fn find_on(tasks: &[TaskPlan], task: TaskNo) -> Option<&TaskPlan>
+    ensures pid { option_map (λ p. p.now.pid) result ≡ option_map (λ t. t.pid) (found_on task.0 0 (map task_of tasks.now)) }
+    ensures acts { option_map (λ p. p.now.acts.items) result ≡ option_map (λ t. t.acts) (found_on task.0 0 (map task_of tasks.now)) }
+{
+    for plan in tasks {
+        if plan.task == task {
+            return Some(plan);
+        }
+    }
+    None
+}
+
+/// The task of this number. There are few CPUs, each with few tasks.
+pub(crate) fn find(cpus: &[CpuPlan], task: TaskNo) -> Option<&TaskPlan>
+    ensures pid { option_map (λ p. p.now.pid) result ≡ option_map (λ t. t.pid) (found_in task.0 0 (map cpu_of cpus.now)) }
+    ensures acts { option_map (λ p. p.now.acts.items) result ≡ option_map (λ t. t.acts) (found_in task.0 0 (map cpu_of cpus.now)) }
+{
+    for cpu in cpus {
+        let found = find_on(cpu.tasks.as_slice(), task);
+        if found.is_some() {
+            return found;
+        }
+    }
+    None
+}

@@ -1,0 +1,7 @@
+pub mod FaultText
+pub mod Levels
+pub mod Above
+pub mod Causes
+pub mod Script
+pub mod Kept
+pub mod Holds
