@@ -3,14 +3,15 @@ use Rattle.std.proofs.Common.{◌≡◌, ℕ, zero, suc, ◌+◌, ◌<◌, ◌�
 use Rattle.std.proofs.lemmas.Bool.{cases_lt}
 use Rattle.std.proofs.lemmas.List.{get_or-set_same, get_or-set_other, length-set}
 use Rattle.std.proofs.lemmas.Option.{slice_get-map, get_or_from_slice_get}
-use Rattle.ft_base.specs.Job.{Func, bare}
-use Rattle.site_set.specs.Marks.{Marks, has, bare as no_marks}
-use Rattle.site_set.proofs.MarksLemmas.{has-bare, length-bare}
+use Rattle.ft_base.specs.Marks.{empty}
+use Rattle.ft_base.specs.Job.{Func}
+use Rattle.ft_base.specs.Marks.{Marks, holds, empty as no_marks}
+use Rattle.site_set.proofs.MarksLemmas.{holds-empty, length-empty}
 
 -- the empty set, as both crates below say it
-pub bare-bare : (n : ℕ) → no_marks n ≡ bare n
-bare-bare zero = refl
-bare-bare (suc n) = ap (λ (s : Marks). false ∷ s) (bare-bare n)
+pub empty-empty : (n : ℕ) → no_marks n ≡ empty n
+empty-empty zero = refl
+empty-empty (suc n) = ap (λ (s : Marks). false ∷ s) (empty-empty n)
 
 -- the function whose name and module these are
 function_at : (o : Option Func) (name : List ℕ) (owner : Option (List ℕ)) → option_map (λ f. f.name) o ≡ Some name → option_map (λ f. f.owner) o ≡ Some owner → o ≡ Some (record { name = name; owner = owner })
@@ -21,7 +22,7 @@ function_at (Some f) name owner n m =
     ap₂ (λ (x : List ℕ) (y : Option (List ℕ)). Some (record { name = x; owner = y })) same_name same_owner
 
 -- the mark of a function in the set of those that pass a test
-pub has-map : (test : Func → Bool) (fs : List Func) (k : ℕ) (name : List ℕ) (owner : Option (List ℕ)) → slice_get (map (λ f. f.name) fs) k ≡ Some name → slice_get (map (λ f. f.owner) fs) k ≡ Some owner → has (map test fs) k ≡ test (record { name = name; owner = owner })
+pub has-map : (test : Func → Bool) (fs : List Func) (k : ℕ) (name : List ℕ) (owner : Option (List ℕ)) → slice_get (map (λ f. f.name) fs) k ≡ Some name → slice_get (map (λ f. f.owner) fs) k ≡ Some owner → holds (map test fs) k ≡ test (record { name = name; owner = owner })
 has-map test fs k name owner n m =
     let here = function_at (slice_get fs k) name owner (sym (slice_get-map (λ (f : Func). f.name) fs k) ∙ n) (sym (slice_get-map (λ (f : Func). f.owner) fs k) ∙ m) in
     get_or_from_slice_get (map test fs) k (test (record { name = name; owner = owner })) false (slice_get-map test fs k ∙ ap (option_map test) here)
@@ -29,14 +30,14 @@ has-map test fs k name owner n m =
 -- below f the set is as these marks say, and from f on it has no member
 pub record IsUpTo (marks set : Marks) (f : ℕ) : Type 0 where
   pub size : length set ≡ length marks
-  pub done : (k : ℕ) → k < f → has set k ≡ has marks k
-  pub left : (k : ℕ) → f ≤ k → has set k ≡ false
+  pub done : (k : ℕ) → k < f → holds set k ≡ has marks k
+  pub left : (k : ℕ) → f ≤ k → holds set k ≡ false
 
-pub IsUpTo-bare : (marks : Marks) (n : ℕ) → n ≡ length marks → IsUpTo marks (no_marks n) 0
-IsUpTo-bare marks n e = record {
-  size = length-bare n ∙ e;
+pub IsUpTo-empty : (marks : Marks) (n : ℕ) → n ≡ length marks → IsUpTo marks (no_marks n) 0
+IsUpTo-empty marks n e = record {
+  size = length-empty n ∙ e;
   done = λ k below. absurd (omega arith);
-  left = λ k from. has-bare n k;
+  left = λ k from. holds-empty n k;
 }
 
 pub IsUpTo-add : (marks set : Marks) (f : ℕ) → f < length marks → has marks f ≡ true → IsUpTo marks set f → IsUpTo marks (slice_set set f true) (f + 1)
@@ -45,7 +46,7 @@ IsUpTo-add marks set f within passes is = record {
   done = λ k below. elim (cases_lt k f) [
     | inl h ↦ get_or-set_other set f k true false (omega arith) ∙ is.done k h
     | inr h ↦ let same : f ≡ k = omega arith in
-        ap (λ i. has (slice_set set f true) i) (sym same) ∙ get_or-set_same set f true false (let e = is.size in omega arith) ∙ sym passes ∙ ap (has marks) same
+        ap (λ i. holds (slice_set set f true) i) (sym same) ∙ get_or-set_same set f true false (let e = is.size in omega arith) ∙ sym passes ∙ ap (has marks) same
   ];
   left = λ k from. get_or-set_other set f k true false (omega arith) ∙ is.left k (omega arith);
 }
@@ -56,7 +57,7 @@ IsUpTo-skip marks set f fails is = record {
   done = λ k below. elim (cases_lt k f) [
     | inl h ↦ is.done k h
     | inr h ↦ let same : f ≡ k = omega arith in
-        ap (has set) (sym same) ∙ is.left f (omega arith) ∙ sym fails ∙ ap (has marks) same
+        ap (holds set) (sym same) ∙ is.left f (omega arith) ∙ sym fails ∙ ap (has marks) same
   ];
   left = λ k from. is.left k (omega arith);
 }

@@ -5,7 +5,7 @@ use Rattle.filter_commands.specs.Forms.{Text, Form, line, named, in_module, unma
 use Rattle.filter_commands.specs.declared.faults.EditFault.{EditFault}
 use Rattle.filter_commands.specs.declared.faults.EditFault.TheVariants.{Pattern, Index, Command, NoMemory}
 
--- the text has a `:` and isn't of the module form
+-- the text holds a `:` and isn't of the module form
 abbrev pub is_misformed : Option Form → Bool
 is_misformed None = true
 is_misformed (Some form) = false

@@ -2,7 +2,8 @@
 use Rattle.std.specs.Prelude.{◌-◌, ◌&&◌, Bool, true, false, not, List, [], ◌∷◌, map, length, slice_set, Option, Some, None, if◌then◌else◌}
 use Rattle.glob_filter.specs.Items.{Item, items_of}
 use Rattle.glob_filter.specs.Fits.{is_fit}
-use Rattle.ft_base.specs.Job.{Func, Edit, Marks, bare}
+use Rattle.ft_base.specs.Marks.{Marks, empty}
+use Rattle.ft_base.specs.Job.{Func, Edit}
 use Rattle.filter_commands.specs.Forms.{Text, Form, line, named, in_module, unmarked, form_of, glob_or_all}
 
 -- whether there is a module and its name matches
@@ -16,18 +17,18 @@ passes negated items owner = if negated then not (is_in items owner) else is_in 
 
 -- the functions that a text of this form selects
 abbrev pub selected : List Func → Form → Marks
-selected functions (line number) = slice_set (bare (length functions)) (number - 1) true
+selected functions (line number) = slice_set (empty (length functions)) (number - 1) true
 selected functions (named glob) = map (λ f. is_fit (items_of glob) f.name) functions
 selected functions (in_module glob negated owner) = map (λ f. is_fit (items_of (glob_or_all glob)) f.name && passes negated (items_of owner) f.owner) functions
 
 -- a text of no form selects nothing
 abbrev pub selected_by : List Func → Option Form → Marks
-selected_by functions None = bare (length functions)
+selected_by functions None = empty (length functions)
 selected_by functions (Some form) = selected functions form
 
 -- the edit of a text over these functions: a clear where it is empty, else what it selects, added or, behind a `!`, removed
 abbrev pub edit_of : List Func → Bool → Text → Edit
-edit_of functions append [] = record { append = append; remove = false; clear = true; set = bare (length functions) }
+edit_of functions append [] = record { append = append; remove = false; clear = true; set = empty (length functions) }
 edit_of functions append (b ∷ text) = record {
   append = append;
   remove = (unmarked (b ∷ text)).0;

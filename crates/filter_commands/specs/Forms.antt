@@ -44,7 +44,7 @@ module_form glob behind =
     else (if has_colon (drop 4 behind) then None
     else module_with glob (unmarked (drop 4 behind)))
 
--- the form of a text without its mark. None where it has a `:` and isn't GLOB, `:mod:` and MODULE
+-- the form of a text without its mark. None where it holds a `:` and isn't GLOB, `:mod:` and MODULE
 abbrev pub form_of : Text → Option Form
 form_of text =
     if has_colon text then module_form (before_first (λ b. b == colon) text) (after_first (λ b. b == colon) text)

@@ -2,7 +2,7 @@
 
 ghost use Rattle.std.specs.Prelude.{◌≡◌, ◌↔◌, [], length, true, false, IfOk, OnOk, IfErr, IsErrOf, Some, None, Err, if◌then◌else◌};
 ghost use Rattle.std.specs.Str.Parse.{digits_value};
-ghost use Rattle.ft_base.specs.Job.{bare};
+ghost use Rattle.ft_base.specs.Marks.{empty};
 ghost use Rattle.filter_commands.specs.Forms.{line, is_number, form_of};
 ghost use Rattle.filter_commands.specs.Causes.{has_no_line, form_cause, first_cause, IsCause};
 ghost use Rattle.filter_commands.specs.Edits.{selected, selected_by, edit_of};
@@ -18,7 +18,7 @@ use std::alloc::Global;
 
 /// The set of no function of the table.
 fn empty_set(alloc: Global, table: &FuncTable) -> Result<SiteSet, EditFault>
-    ensures set { IfOk result (λ set. set ≡ bare (length table.now.functions)) }
+    ensures set { IfOk result (λ set. set ≡ empty (length table.now.functions)) }
     ensures size { IfOk result (λ set. length set ≡ length table.now.functions) }
     ensures err { IfErr result (λ fault. fault ≡ EditFault.NoMemory) }
 {
@@ -87,7 +87,7 @@ fn read_nothing(alloc: Global, append: bool, table: &FuncTable) -> Result<Edit, 
 /// The edit that a text makes of a set of functions of the table: of the set as it is, where
 /// `append` holds, or of the empty set. The empty text clears the set. A text may select nothing.
 ///
-/// A text is refused with `Command` exactly where it has a `:` and isn't of the form GLOB, `:mod:`
+/// A text is refused with `Command` exactly where it holds a `:` and isn't of the form GLOB, `:mod:`
 /// and MODULE; with `Index` exactly where it is digits alone, behind an optional `!`, and the
 /// number is 0 or above the table's length; with `Pattern` exactly where a glob of it is refused,
 /// or it is empty and `append` holds. `NoMemory` says that no memory was found, and may come in the

@@ -12,7 +12,7 @@ pub enum EditFault {
     /// The text is the number of a line, from 1, that the table of functions doesn't have.
     #[error("no function has this line number")]
     Index,
-    /// The text has a `:` and isn't GLOB, `:mod:` and MODULE.
+    /// The text holds a `:` and isn't GLOB, `:mod:` and MODULE.
     #[error("the text isn't a known filter command")]
     Command,
     /// Memory was wanted and not found.

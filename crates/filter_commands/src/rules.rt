@@ -3,7 +3,7 @@
 ghost use Rattle.std.specs.Prelude.{◌≡◌, ◌<◌, map, length, false, IfOk, OnOk, IfErr, Some, None, if◌then◌else◌};
 ghost use Rattle.std.specs.Option.{option_copied};
 ghost use Rattle.glob_filter.specs.Items.{items_of};
-ghost use Rattle.site_set.specs.Marks.{has};
+ghost use Rattle.ft_base.specs.Marks.{holds};
 ghost use Rattle.filter_commands.specs.Causes.{is_bad_glob, has_bad_glob, IsCause};
 ghost use Rattle.filter_commands.specs.Forms.{named, in_module, glob_or_all};
 ghost use Rattle.filter_commands.specs.Edits.{passes};
@@ -62,7 +62,7 @@ impl Rule {
     /// Whether the function of this number is selected.
     fn takes_function(&self, table: &FuncTable, f: FuncNo) -> bool
         requires { f.0 < length table.now.functions }
-        ensures { result ≡ has (map (takes self.now) table.now.functions) f.0 }
+        ensures { result ≡ holds (map (takes self.now) table.now.functions) f.0 }
     {
         self.takes(table.name(f), table.module(f))
     }

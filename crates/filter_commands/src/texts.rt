@@ -72,7 +72,7 @@ fn read_module_form<'a>(glob: &'a str, behind: &'a str) -> Option<FilterText<'a>
     })
 }
 
-/// The form of a text without its mark. `None` exactly where it has a `:` and isn't GLOB, `:mod:`
+/// The form of a text without its mark. `None` exactly where it holds a `:` and isn't GLOB, `:mod:`
 /// and MODULE, an optional `!` and a glob that isn't empty.
 pub fn read_form(text: &str) -> Option<FilterText<'_>>
     ensures form { option_map form_read result ≡ form_of text.entry.now }

@@ -1,35 +1,36 @@
 -- What an edit makes of a set.
 use Rattle.std.proofs.Common.{◌≡◌, ℕ, ◌&&◌, ◌||◌, not, Bool, true, false, cond, length, refl, ap, ◌∙◌, arith, if◌then◌else◌}
-use Rattle.site_set.proofs.MarksLemmas.{length-bare, has-bare, is_bare-bare, IsEmpty-from_is_bare, is_bare-from_IsEmpty, length-union, has-union, length-difference, has-difference}
-use Rattle.ft_base.specs.Job.{Marks, Edit, holds, is_bare, bare, united, without}
+use Rattle.site_set.proofs.MarksLemmas.{length-empty, holds-empty, is_empty-empty, IsEmpty-from_is_bare, is_empty-from_IsEmpty, length-union, holds-union, length-difference, holds-difference}
+use Rattle.ft_base.specs.Marks.{Marks, holds, is_empty, empty, union, difference}
+use Rattle.ft_base.specs.Job.{Edit}
 use Rattle.ft_base.specs.Desk.{edited}
 
 -- where an edit starts: from the set as it is, or from the empty set
 abbrev pub start : Bool → ℕ → Marks → Marks
-start append size old = if append then old else bare size
+start append size old = if append then old else empty size
 
 length-start : (append : Bool) (size : ℕ) (old : Marks) → length old ≡ size → length (start append size old) ≡ size
 length-start true size old h = h
-length-start false size old h = length-bare size
+length-start false size old h = length-empty size
 
 holds-start : (append : Bool) (size : ℕ) (old : Marks) (f : ℕ) → holds (start append size old) f ≡ (append && holds old f)
 holds-start true size old f = refl
-holds-start false size old f = has-bare size f
+holds-start false size old f = holds-empty size f
 
 -- ---- the steps of an edit that doesn't clear
 
 pub start-as_it_is : (size : ℕ) (old now : Marks) (append : Bool) → append ≡ true → now ≡ old → now ≡ start append size old
 start-as_it_is size old now append e is = rw e is
 
-pub start-anew : (size : ℕ) (old now : Marks) (append : Bool) → append ≡ false → now ≡ bare size → now ≡ start append size old
+pub start-anew : (size : ℕ) (old now : Marks) (append : Bool) → append ≡ false → now ≡ empty size → now ≡ start append size old
 start-anew size old now append e is = rw e is
 
 pub edited-removes : (size : ℕ) (old now new : Marks) (edit : Edit) → edit.clear ≡ false → edit.remove ≡ true → now ≡ start edit.append size old
-    → new ≡ without now edit.set → new ≡ edited size old edit
+    → new ≡ difference now edit.set → new ≡ edited size old edit
 edited-removes size old now new edit kept removes from is = rw (kept, removes, ← from) is
 
 pub edited-adds : (size : ℕ) (old now new : Marks) (edit : Edit) → edit.clear ≡ false → edit.remove ≡ false → now ≡ start edit.append size old
-    → new ≡ united now edit.set → new ≡ edited size old edit
+    → new ≡ union now edit.set → new ≡ edited size old edit
 edited-adds size old now new edit kept adds from is = rw (kept, adds, ← from) is
 
 -- ---- an edit as a whole
@@ -40,8 +41,8 @@ length-edited size old edit h =
     by_parts edit.clear edit.remove
   where
     by_parts : (clear remove : Bool)
-        → length (cond clear (bare size) (cond remove (without (start edit.append size old) edit.set) (united (start edit.append size old) edit.set))) ≡ size
-    by_parts true remove = length-bare size
+        → length (cond clear (empty size) (cond remove (difference (start edit.append size old) edit.set) (union (start edit.append size old) edit.set))) ≡ size
+    by_parts true remove = length-empty size
     by_parts false true = length-difference (start edit.append size old) edit.set ∙ length-start edit.append size old h
     by_parts false false = length-union (start edit.append size old) edit.set ∙ length-start edit.append size old h
 
@@ -58,11 +59,11 @@ holds-edited size f old edit h k =
     was : Bool
     was = edit.append && holds old f
 
-    by_parts : (clear remove : Bool) → holds (cond clear (bare size) (cond remove (without (start edit.append size old) edit.set) (united (start edit.append size old) edit.set))) f
+    by_parts : (clear remove : Bool) → holds (cond clear (empty size) (cond remove (difference (start edit.append size old) edit.set) (union (start edit.append size old) edit.set))) f
         ≡ (not clear && cond remove ((edit.append && holds old f) && not (holds edit.set f)) ((edit.append && holds old f) || holds edit.set f))
-    by_parts true remove = has-bare size f
-    by_parts false true = has-difference (start edit.append size old) edit.set f ∙ ap (λ b. b && not (holds edit.set f)) (holds-start edit.append size old f)
-    by_parts false false = has-union (start edit.append size old) edit.set (omega (arith, length-start edit.append size old h)) f
+    by_parts true remove = holds-empty size f
+    by_parts false true = holds-difference (start edit.append size old) edit.set f ∙ ap (λ b. b && not (holds edit.set f)) (holds-start edit.append size old f)
+    by_parts false false = holds-union (start edit.append size old) edit.set (omega (arith, length-start edit.append size old h)) f
         ∙ ap (λ b. b || holds edit.set f) (holds-start edit.append size old f)
 
 -- what was there is gone where it is taken away
@@ -72,19 +73,19 @@ gone true false taken h = refl
 gone true true taken h = rw (h refl) refl
 
 -- a removal of each function that a set holds makes it empty
-pub is_bare-removed : (size : ℕ) (old : Marks) (edit : Edit) → edit.remove ≡ true → ((f : ℕ) → holds old f ≡ true → holds edit.set f ≡ true)
-    → is_bare (edited size old edit) ≡ true
-is_bare-removed size old edit removes all = rw removes (by_clear edit.clear)
+pub is_empty-removed : (size : ℕ) (old : Marks) (edit : Edit) → edit.remove ≡ true → ((f : ℕ) → holds old f ≡ true → holds edit.set f ≡ true)
+    → is_empty (edited size old edit) ≡ true
+is_empty-removed size old edit removes all = rw removes (by_clear edit.clear)
   where
-    none : (f : ℕ) → holds (without (start edit.append size old) edit.set) f ≡ false
-    none f = has-difference (start edit.append size old) edit.set f ∙ ap (λ b. b && not (holds edit.set f)) (holds-start edit.append size old f)
+    none : (f : ℕ) → holds (difference (start edit.append size old) edit.set) f ≡ false
+    none f = holds-difference (start edit.append size old) edit.set f ∙ ap (λ b. b && not (holds edit.set f)) (holds-start edit.append size old f)
         ∙ gone edit.append (holds old f) (holds edit.set f) (all f)
 
-    by_clear : (clear : Bool) → is_bare (cond clear (bare size) (without (start edit.append size old) edit.set)) ≡ true
-    by_clear true = is_bare-bare size
-    by_clear false = is_bare-from_IsEmpty (without (start edit.append size old) edit.set) none
+    by_clear : (clear : Bool) → is_empty (cond clear (empty size) (difference (start edit.append size old) edit.set)) ≡ true
+    by_clear true = is_empty-empty size
+    by_clear false = is_empty-from_IsEmpty (difference (start edit.append size old) edit.set) none
 
 -- a removal from an empty set leaves it empty
-pub is_bare-still : (size : ℕ) (old : Marks) (edit : Edit) → edit.remove ≡ true → is_bare old ≡ true → is_bare (edited size old edit) ≡ true
-is_bare-still size old edit removes empty = is_bare-removed size old edit removes
+pub is_empty-still : (size : ℕ) (old : Marks) (edit : Edit) → edit.remove ≡ true → is_empty old ≡ true → is_empty (edited size old edit) ≡ true
+is_empty-still size old edit removes empty = is_empty-removed size old edit removes
     (λ f held. let not_held : holds old f ≡ false = IsEmpty-from_is_bare old empty f in absurd cc)

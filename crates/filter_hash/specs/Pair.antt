@@ -1,9 +1,10 @@
 -- A user's two sets of functions.
 use Rattle.std.specs.Prelude.{ℕ, map, length}
 use Rattle.std.specs.List.{range_with_len}
-use Rattle.ft_base.specs.declared.plan.Half.{Half}
-use Rattle.ft_base.specs.declared.plan.Half.TheVariants.{Filter, Notrace}
-use Rattle.ft_base.specs.Job.{Marks, Edit, bare}
+use Rattle.ft_base.specs.declared.user.Half.{Half}
+use Rattle.ft_base.specs.declared.user.Half.TheVariants.{Filter, Notrace}
+use Rattle.ft_base.specs.Marks.{Marks, empty}
+use Rattle.ft_base.specs.Job.{Edit}
 use Rattle.ft_base.specs.Desk.{matches_by}
 use Rattle.site_set.specs.declared.edits.Edit.{Edit as SetEdit}
 
@@ -17,8 +18,8 @@ abbrev pub size_of : Pair → ℕ
 size_of pair = length pair.filter
 
 -- nothing in either set
-abbrev pub bare_pair : ℕ → Pair
-bare_pair size = record { filter = bare size; notrace = bare size }
+abbrev pub empty_pair : ℕ → Pair
+empty_pair size = record { filter = empty size; notrace = empty size }
 
 -- the set of one half
 abbrev pub set_of : Pair → Half → Marks

@@ -1,7 +1,8 @@
 //! Laws of filters, for readers of the definitions and for the layers above.
 
 ghost use Rattle.std.specs.Prelude.{◌≡◌, ℕ, ◌&&◌, ◌||◌, not, true, false, length, if◌then◌else◌};
-ghost use Rattle.ft_base.specs.Job.{Marks, Edit, holds, is_bare};
+ghost use Rattle.ft_base.specs.Marks.{Marks, holds, is_empty};
+ghost use Rattle.ft_base.specs.Job.{Edit};
 ghost use Rattle.ft_base.specs.Desk.{edited, matches_by};
 
 /// What an edit makes of each function: one that clears takes it out, one with `!` takes it out
@@ -18,20 +19,20 @@ pub fn edit_of_each_function()
 /// A removal from an empty set leaves it empty: an empty filter still means all functions.
 pub fn removal_from_an_empty_set()
     ensures { (size : ℕ) (old : Marks) (edit : Edit) → edit.remove ≡ true
-        → is_bare old ≡ true → is_bare (edited size old edit) ≡ true }
+        → is_empty old ≡ true → is_empty (edited size old edit) ≡ true }
 {}
 
 /// A removal of each function that a set holds makes it empty.
 pub fn removal_of_all()
     ensures { (size : ℕ) (old : Marks) (edit : Edit) → edit.remove ≡ true
         → ((f : ℕ) → holds old f ≡ true → holds edit.set f ≡ true)
-        → is_bare (edited size old edit) ≡ true }
+        → is_empty (edited size old edit) ≡ true }
 {}
 
 /// An empty filter, also one that a removal has made empty, matches each function that the
 /// notrace set doesn't hold.
 pub fn empty_filter_means_all()
-    ensures { (filter notrace : Marks) (f : ℕ) → is_bare filter ≡ true
+    ensures { (filter notrace : Marks) (f : ℕ) → is_empty filter ≡ true
         → matches_by filter notrace f ≡ not (holds notrace f) }
 {}
 

@@ -2,10 +2,10 @@
 
 ghost use Rattle.std.specs.Prelude.{◌≡◌, ℕ, ◌+◌, ◌*◌, ◌<◌, ◌==◌, length, IfOk};
 ghost use Rattle.std.specs.Int.{bit_at};
-ghost use Rattle.ft_base.specs.Job.{holds, is_bare};
+ghost use Rattle.ft_base.specs.Marks.{holds, is_empty};
 ghost use Rattle.ft_base.specs.Desk.{edited, matches_by};
 ghost use Rattle.site_set.specs.Marks.{word_of};
-ghost use Rattle.filter_hash.specs.Pair.{size_of, bare_pair, set_of, with_set, plain, matched};
+ghost use Rattle.filter_hash.specs.Pair.{size_of, empty_pair, set_of, with_set, plain, matched};
 
 use ft_base::{Half, NoMemory};
 use site_set::{Edit, SiteSet};
@@ -34,7 +34,7 @@ impl Model for HashPair {
 impl HashPair {
     /// Two empty sets of functions below `size`. The error says that no memory was found.
     pub fn new(alloc: Global, size: u32) -> Result<HashPair, NoMemory>
-        ensures pair { IfOk result (λ pair. pair ≡ bare_pair size) }
+        ensures pair { IfOk result (λ pair. pair ≡ empty_pair size) }
         ensures size { IfOk result (λ pair. size_of pair ≡ size) }
     {
         let filter = SiteSet::empty(alloc, size).map_err(|_| NoMemory)?;
@@ -127,7 +127,7 @@ impl HashPair {
 
     /// Whether the filter is empty, and so means all functions.
     pub fn is_open(&self) -> bool
-        ensures { result ≡ is_bare self.now.filter }
+        ensures { result ≡ is_empty self.now.filter }
     {
         self.filter.is_empty()
     }

@@ -5,7 +5,7 @@ use Rattle.ft_base.specs.declared.item.Item.{Item}
 use Rattle.ft_base.specs.Job.{Job}
 use Rattle.ft_hist.specs.Rules.{IsLegal, IsWhole}
 use Rattle.ft_app.specs.LogText.{log_text}
-use Rattle.plain_machine.specs.State.{play, is_over}
+use Rattle.plain_machine.specs.State.{play, all_end}
 use Rattle.ft_io.specs.Causes.{AppendsFront}
 use Rattle.ft_words.specs.declared.order.Order.{Order}
 use Rattle.ft_words.specs.Language.{Gives}
@@ -23,7 +23,7 @@ history_of job = reverse (play job).past
 
 -- the text of the replay of a job
 unfoldable pub replay_text : Job → List ℕ
-replay_text job = log_text job (history_of job) (is_over (play job))
+replay_text job = log_text job (history_of job) (all_end (play job))
 
 -- the line that says where a script is refused, and why
 abbrev pub refusal_text : ScriptFault → List ℕ
@@ -39,7 +39,7 @@ pub record ReadWhole (left left' : Option (List ℕ)) (script : List ℕ) : Type
 pub record HasReplayed (job : Job) (holds holds' : Option (List ℕ)) : Type 0 where
   pub written : Appends holds holds' (replay_text job)
   pub legal : IsLegal job (history_of job)
-  pub whole : is_over (play job) ≡ true → IsWhole job (history_of job)
+  pub whole : all_end (play job) ≡ true → IsWhole job (history_of job)
 
 -- the text is a script, and the text of its job's replay was appended
 pub record Played (script : List ℕ) (holds holds' : Option (List ℕ)) : Type 0 where

@@ -4,7 +4,7 @@ ghost use Rattle.ft_io.specs.Causes.{Rose, GaveMore, GaveAtMost, AppendsFront};
 ghost use Rattle.ft_app.specs.Main.{IsLanguage, HasRun, HasRefused, HasBegun, HasReplayed, IsQuiet, IsRunStatus, IsRefusalStatus, IsScriptStatus, IsStatus, Played, Refused, Begun, history_of, replay_text, refusal_text};
 ghost use Rattle.ft_script.specs.Script.{no_memory};
 ghost use Rattle.ft_hist.specs.Rules.{IsLegal, IsWhole};
-ghost use Rattle.plain_machine.specs.State.{play, is_over};
+ghost use Rattle.plain_machine.specs.State.{play, all_end};
 
 use crate::log_text::print_log;
 use crate::status::{DONE, LANGUAGE, NO_MEMORY, READ_FAULT, REFUSED, TOO_LONG, WRITE_FAULT};
@@ -85,7 +85,7 @@ fn run_script<K: Sink>(alloc: Global, script: &[u8], sink: &mut K) -> u8
 fn replay_job(alloc: Global, job: &Job) -> Result<String, NoMemory>
     ensures text { IfOk result (λ text. string_bytes text ≡ replay_text job.now) }
     ensures legal { OnOk result (IsLegal job.now (history_of job.now)) }
-    ensures whole { OnOk result (is_over (play job.now) ≡ true → IsWhole job.now (history_of job.now)) }
+    ensures whole { OnOk result (all_end (play job.now) ≡ true → IsWhole job.now (history_of job.now)) }
 {
     let outcome = replay(alloc, job)?;
     print_log(alloc, job, &outcome.history, outcome.ended)

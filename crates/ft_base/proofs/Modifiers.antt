@@ -4,10 +4,11 @@ use Rattle.std.specs.Prelude.{slice_get}
 use Rattle.std.specs.List.{AllByRecursion as Each}
 use Rattle.std.proofs.lemmas.Bool.Decides.{eqb_tells}
 use Rattle.ft_base.specs.declared.item.Answer.TheVariants.{Accepted, Already, Invalid, NoMatch}
-use Rattle.ft_base.specs.Job.{Job, Spec, Marks, Edit, Command, Register, Unregister, Filter, Notrace, Pid, NoPid, Enable, Disable, MaxDepth, commands, is_bare, funcs}
+use Rattle.ft_base.specs.Marks.{Marks, is_empty}
+use Rattle.ft_base.specs.Job.{Job, Spec, Edit, Command, Register, Unregister, Filter, Notrace, Pid, NoPid, Enable, Disable, MaxDepth, commands, funcs}
 use Rattle.ft_base.specs.Desk.{Desk, UserState, desk, after, changed, user_at, unseen, spec_at, is_matching, matches_by, is_sited, answer_on, is_accepted, with_user, lowest, conflicts, other_modifier, holder_at, busy_or, claim, register_answer, edit_answer, edited, registered_as, unregistered_as}
 use Rattle.ft_base.proofs.DeskLaws.{user_at-same, user_at-other, length-desk}
-use Rattle.ft_base.specs.WellFormed.{IsNamed, IsJob}
+use Rattle.ft_base.specs.WellFormed.{IsNamed, IsWellFormed}
 use Rattle.ft_base.specs.Order.{OneModifies}
 use Rattle.ft_base.proofs.Small.{false_true, and_both}
 
@@ -126,7 +127,7 @@ module _ (job : Job) (d : Desk) (size : length d.users ≡ length job.users) (h 
               false_true (ap not (sym eq) ∙ a3.0)
 
   register-claims : (u : ℕ) → is_some (spec_at job u).ipmodify ≡ true → is_accepted (register_answer job d u) ≡ true → is_accepted (claim job d u (user_at d u).filter (user_at d u).notrace) ≡ true
-  register-claims u ip e = by (user_at d u).registered (not (spec_at job u).regs || is_bare (user_at d u).filter) (rw ip at e)
+  register-claims u ip e = by (user_at d u).registered (not (spec_at job u).regs || is_empty (user_at d u).filter) (rw ip at e)
     where
       by : (a b : Bool) → is_accepted (cond a Already (cond b Invalid (claim job d u (user_at d u).filter (user_at d u).notrace))) ≡ true → is_accepted (claim job d u (user_at d u).filter (user_at d u).notrace) ≡ true
       by true b x = false_true x
@@ -134,7 +135,7 @@ module _ (job : Job) (d : Desk) (size : length d.users ≡ length job.users) (h 
       by false false x = x
 
   edit-claims : (u : ℕ) (e : Edit) (f n : Marks) → (user_at d u).registered ≡ true → is_some (spec_at job u).ipmodify ≡ true → is_accepted (edit_answer job d u e f n) ≡ true → is_accepted (claim job d u f n) ≡ true
-  edit-claims u e f n reg ip x = by (e.clear || not (is_bare e.set)) (is_bare f) (rw (reg, ip) at x)
+  edit-claims u e f n reg ip x = by (e.clear || not (is_empty e.set)) (is_empty f) (rw (reg, ip) at x)
     where
       by : (a b : Bool) → is_accepted (cond (a && b) Invalid (cond (not a) NoMatch (claim job d u f n))) ≡ true → is_accepted (claim job d u f n) ≡ true
       by true true y = false_true y
@@ -160,7 +161,7 @@ named-at P [] k x e h = absurd cc
 named-at P (y ∷ xs) zero x e h = let same : y ≡ x = cc in subst P same h.0
 named-at P (y ∷ xs) (suc k) x e h = named-at P xs k x e h.1
 
-module _ (job : Job) (is : IsJob job) where
+module _ (job : Job) (is : IsWellFormed job) where
   start-registered : (us : List Spec) (u : ℕ) → (get_or (map (λ s. unseen (funcs job)) us) u (unseen 0)).registered ≡ false
   start-registered [] u = refl
   start-registered (x ∷ us) zero = refl

@@ -5,8 +5,9 @@ use Rattle.ft_base.specs.declared.item.Ran.{Ran}
 use Rattle.ft_base.specs.declared.item.Ran.TheVariants.{Nop, List as ByList, Own}
 use Rattle.ft_base.specs.declared.item.Answer.{Answer}
 use Rattle.ft_base.specs.declared.item.Answer.TheVariants.{Accepted, Already, NotThere, Invalid, NoMatch, Busy}
-use Rattle.ft_base.specs.declared.plan.Kind.TheVariants.{Function}
-use Rattle.ft_base.specs.Job.{Marks, holds, is_bare, united, without, bare, Spec, Edit, Command, Register, Unregister, Filter, Notrace, Pid, NoPid, Enable, Disable, MaxDepth, Job, commands, funcs}
+use Rattle.ft_base.specs.declared.user.Kind.TheVariants.{Function}
+use Rattle.ft_base.specs.Marks.{Marks, holds, is_empty, union, difference, empty}
+use Rattle.ft_base.specs.Job.{Spec, Edit, Command, Register, Unregister, Filter, Notrace, Pid, NoPid, Enable, Disable, MaxDepth, Job, commands, funcs}
 use Rattle.ft_base.specs.Kinds.{is_fprobe}
 
 -- one user on a desk: whether it is registered, its registration number, the number of its last accepted register
@@ -24,13 +25,13 @@ pub record UserState : Type 0 where
 -- (ftrace.rst, The File System: set_ftrace_pid, set_ftrace_notrace_pid, max_graph_depth)
 pub record Desk : Type 0 where
   pub users : List UserState
-  pub only : Marks
-  pub not_these : Marks
+  pub pids : Marks
+  pub nopids : Marks
   pub depth : ℕ
 
 -- a user that was never registered, with the empty sets of functions below a size
 abbrev pub unseen : ℕ → UserState
-unseen size = record { registered = false; reg = 0; since = 0; enabled = false; filter = bare size; notrace = bare size; slot = None }
+unseen size = record { registered = false; reg = 0; since = 0; enabled = false; filter = empty size; notrace = empty size; slot = None }
 
 -- the user of a number
 abbrev pub user_at : Desk → ℕ → UserState
@@ -47,13 +48,13 @@ spec_at job u = get_or job.users u plain_spec
 -- a user matches a function where its filter is empty or holds it, and its notrace set does not hold it
 -- (ftrace.rst, The File System: set_ftrace_filter, set_ftrace_notrace; ftrace-uses.rst, Filtering which functions to trace)
 abbrev pub matches_by : Marks → Marks → ℕ → Bool
-matches_by filter notrace f = (is_bare filter || holds filter f) && not (holds notrace f)
+matches_by filter notrace f = (is_empty filter || holds filter f) && not (holds notrace f)
 
 -- the user in this state matches the function
 abbrev pub is_matching : UserState → ℕ → Bool
 is_matching s f = matches_by s.filter s.notrace f
 
--- the user is registered and matches the function, so that the site of the function is patched for it
+-- the user is registered and matches the function, so the site of the function is patched for it
 abbrev pub is_sited : Desk → ℕ → ℕ → Bool
 is_sited desk u f = (user_at desk u).registered && is_matching (user_at desk u) f
 
@@ -68,7 +69,7 @@ is_live desk u r = (user_at desk u).registered && (user_at desk u).enabled && ((
 -- a task is traced for users with the pid flag: the pid list is empty or holds it, and the nopid list does not hold it
 -- (ftrace.rst, The File System: set_ftrace_pid; set_ftrace_notrace_pid "takes precedence")
 abbrev pub is_allowed : Desk → ℕ → Bool
-is_allowed desk t = (is_bare desk.only || holds desk.only t) && not (holds desk.not_these t)
+is_allowed desk t = (is_empty desk.pids || holds desk.pids t) && not (holds desk.nopids t)
 
 -- the lowest number from a start on, among so many, that passes
 abbrev pub lowest : (ℕ → Bool) → ℕ → ℕ → Option ℕ
@@ -99,8 +100,8 @@ target desk f = target_by desk (sited desk f)
 -- or with `!` taken away (ftrace.rst, dynamic ftrace; Filter commands)
 abbrev pub edited : ℕ → Marks → Edit → Marks
 edited size old e =
-    if e.clear then bare size else
-    (if e.remove then without (if e.append then old else bare size) e.set else united (if e.append then old else bare size) e.set)
+    if e.clear then empty size else
+    (if e.remove then difference (if e.append then old else empty size) e.set else union (if e.append then old else empty size) e.set)
 
 -- another registered user that replaces functions matches this one
 abbrev pub other_modifier : Job → Desk → ℕ → ℕ → ℕ → Bool
@@ -134,15 +135,15 @@ register_answer job desk u =
     let s = user_at desk u in
     let modifies = is_some (spec_at job u).ipmodify in
     if s.registered then Already else
-    (if modifies && (not (spec_at job u).regs || is_bare s.filter) then Invalid else
+    (if modifies && (not (spec_at job u).regs || is_empty s.filter) then Invalid else
     (if modifies then claim job desk u s.filter s.notrace else Accepted))
 
 -- the answer to an edit that would leave the user with these sets
 abbrev pub edit_answer : Job → Desk → ℕ → Edit → Marks → Marks → Answer
 edit_answer job desk u e filter notrace =
     let binds = (user_at desk u).registered && is_some (spec_at job u).ipmodify in
-    let selects = e.clear || not (is_bare e.set) in
-    if binds && selects && is_bare filter then Invalid else
+    let selects = e.clear || not (is_empty e.set) in
+    if binds && selects && is_empty filter then Invalid else
     (if not selects then NoMatch else
     (if binds then claim job desk u filter notrace else Accepted))
 
@@ -158,8 +159,8 @@ answer_on job desk (Register u) = register_answer job desk u
 answer_on job desk (Unregister u) = if (user_at desk u).registered then Accepted else NotThere
 answer_on job desk (Filter u e) = edit_answer job desk u e (edited (funcs job) (user_at desk u).filter e) (user_at desk u).notrace
 answer_on job desk (Notrace u e) = edit_answer job desk u e (user_at desk u).filter (edited (funcs job) (user_at desk u).notrace e)
-answer_on job desk (Pid only) = Accepted
-answer_on job desk (NoPid not_these) = Accepted
+answer_on job desk (Pid pids) = Accepted
+answer_on job desk (NoPid nopids) = Accepted
 answer_on job desk (Enable u) = switch_answer job desk u
 answer_on job desk (Disable u) = switch_answer job desk u
 answer_on job desk (MaxDepth depth) = Accepted
@@ -192,8 +193,8 @@ changed job desk k (Register u) = with_user desk u (registered_as job desk k (us
 changed job desk k (Unregister u) = with_user desk u (unregistered_as (user_at desk u))
 changed job desk k (Filter u e) = let s = user_at desk u in with_user desk u (record s { filter = edited (funcs job) s.filter e })
 changed job desk k (Notrace u e) = let s = user_at desk u in with_user desk u (record s { notrace = edited (funcs job) s.notrace e })
-changed job desk k (Pid only) = record desk { only = only }
-changed job desk k (NoPid not_these) = record desk { not_these = not_these }
+changed job desk k (Pid pids) = record desk { pids = pids }
+changed job desk k (NoPid nopids) = record desk { nopids = nopids }
 changed job desk k (Enable u) = with_user desk u (record (user_at desk u) { enabled = true })
 changed job desk k (Disable u) = with_user desk u (record (user_at desk u) { enabled = false })
 changed job desk k (MaxDepth depth) = record desk { depth = depth }
@@ -212,8 +213,8 @@ after job desk k (Some c) = if is_accepted (answer_on job desk c) then changed j
 abbrev pub opening : Job → Desk
 opening job = record {
   users = map (λ s. unseen (funcs job)) job.users;
-  only = bare (length job.tasks);
-  not_these = bare (length job.tasks);
+  pids = empty (length job.tasks);
+  nopids = empty (length job.tasks);
   depth = 0;
 }
 

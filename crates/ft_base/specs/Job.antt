@@ -1,40 +1,11 @@
 -- A job as plain data: what a script declares, as lists, sets and numbers.
-use Rattle.std.specs.Prelude.{ℕ, zero, suc, Bool, false, not, ◌||◌, ◌&&◌, List, [], ◌∷◌, get_or, length, Option, None}
-use Rattle.std.specs.List.{list_any}
+use Rattle.std.specs.Prelude.{ℕ, Bool, List, [], ◌∷◌, length, Option, None}
+use Rattle.ft_base.specs.Marks.{Marks}
 use Rattle.ft_base.specs.declared.number.FuncNo.{FuncNo}
-use Rattle.ft_base.specs.declared.plan.Kind.{Kind}
-use Rattle.ft_base.specs.declared.plan.Act.{Act}
-use Rattle.ft_base.specs.declared.plan.TaskAct.{TaskAct}
+use Rattle.ft_base.specs.declared.user.Kind.{Kind}
+use Rattle.ft_base.specs.declared.user.Act.{Act}
+use Rattle.ft_base.specs.declared.task.TaskAct.{TaskAct}
 use Rattle.ft_base.specs.declared.turn.Turn.{Turn}
-
--- a set of numbers below a size: a mark for each number, true where it is in the set
-abbrev pub Marks : Type 0
-Marks = List Bool
-
--- whether a number is in the set
-abbrev pub holds : Marks → ℕ → Bool
-holds set n = get_or set n false
-
--- whether nothing is in the set
-abbrev pub is_bare : Marks → Bool
-is_bare set = not (list_any (λ b. b) set)
-
--- what is in one of two sets of one size
-abbrev pub united : Marks → Marks → Marks
-united [] ys = []
-united (x ∷ xs) [] = x ∷ xs
-united (x ∷ xs) (y ∷ ys) = (x || y) ∷ united xs ys
-
--- what is in the first of two sets of one size and not in the second
-abbrev pub without : Marks → Marks → Marks
-without [] ys = []
-without (x ∷ xs) [] = x ∷ xs
-without (x ∷ xs) (y ∷ ys) = (x && not y) ∷ without xs ys
-
--- no number below the size
-abbrev pub bare : ℕ → Marks
-bare zero = []
-bare (suc n) = false ∷ bare n
 
 -- a traceable function: its name, and its module where it has one
 pub record Func : Type 0 where
@@ -65,13 +36,13 @@ pub data Command : Type 0 where
   Unregister : (user : ℕ) → Command
   Filter : (user : ℕ) → (edit : Edit) → Command
   Notrace : (user : ℕ) → (edit : Edit) → Command
-  Pid : (only : Marks) → Command
-  NoPid : (not_these : Marks) → Command
+  Pid : (pids : Marks) → Command
+  NoPid : (nopids : Marks) → Command
   Enable : (user : ℕ) → Command
   Disable : (user : ℕ) → Command
   MaxDepth : (depth : ℕ) → Command
 
--- one line of control: a command, or a wait until a task has finished so many acts
+-- one line of control: a command, or a wait until a task has finished this many acts
 pub data Ctl : Type 0 where
   Run : (command : Command) → Ctl
   Until : (task : ℕ) → (acts : ℕ) → Ctl

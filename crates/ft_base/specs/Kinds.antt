@@ -1,7 +1,7 @@
 -- Kinds of users.
 use Rattle.std.specs.Prelude.{Bool, true, false}
-use Rattle.ft_base.specs.declared.plan.Kind.{Kind}
-use Rattle.ft_base.specs.declared.plan.Kind.TheVariants.{Graph, Fprobe, Profile}
+use Rattle.ft_base.specs.declared.user.Kind.{Kind}
+use Rattle.ft_base.specs.declared.user.Kind.TheVariants.{Graph, Fprobe, Profile}
 
 -- an fprobe, which alone can be disabled and enabled (fprobe.rst, The usage of fprobe)
 abbrev pub is_fprobe : Kind → Bool

@@ -1,5 +1,7 @@
 pub mod Name
 pub mod Same
+pub mod Marks
+pub mod Address
 pub mod Job
 pub mod Kinds
 pub mod Desk

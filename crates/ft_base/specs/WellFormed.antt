@@ -1,10 +1,10 @@
 -- What a script's rules give of its job: each number names something, and each task's returns have their calls.
 use Rattle.std.specs.Prelude.{ℕ, zero, suc, ◌≡◌, ◌<◌, List, [], ◌∷◌, length, Option, Some, None}
 use Rattle.std.specs.List.{AllByRecursion as Each}
-use Rattle.ft_base.specs.declared.plan.Act.{Act}
-use Rattle.ft_base.specs.declared.plan.Act.TheVariants.{CallIn, IrqIn}
-use Rattle.ft_base.specs.declared.plan.TaskAct.{TaskAct}
-use Rattle.ft_base.specs.declared.plan.TaskAct.TheVariants.{Call, Ret as RetAct, Raise, Lower, After}
+use Rattle.ft_base.specs.declared.user.Act.{Act}
+use Rattle.ft_base.specs.declared.user.Act.TheVariants.{CallIn, IrqIn}
+use Rattle.ft_base.specs.declared.task.TaskAct.{TaskAct}
+use Rattle.ft_base.specs.declared.task.TaskAct.TheVariants.{Call, Ret as RetAct, Raise, Lower, After}
 use Rattle.ft_base.specs.Job.{Job, Command, Register, Unregister, Filter, Notrace, Enable, Disable, commands, funcs}
 
 -- the user that a command names is one of the job's
@@ -34,7 +34,7 @@ IsScript job n (Lower ∷ rest) = IsScript job n rest
 IsScript job n (After m ∷ rest) = IsScript job n rest
 
 -- a job whose lines name users and functions that it has
-pub record IsJob (job : Job) : Type 0 where
+pub record IsWellFormed (job : Job) : Type 0 where
   pub commands : Each (IsNamed job) (commands job)
   pub acts : Each (λ s. IsActNamed job s.act) job.users
   pub tasks : Each (λ t. IsScript job 0 t.acts) job.tasks

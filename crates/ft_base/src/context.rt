@@ -1,3 +1,5 @@
+//! The contexts that a call can run in.
+
 ghost use Rattle.std.specs.Prelude.{◌≡◌, Option, Some, None, if◌then◌else◌, nat_lt};
 ghost use Rattle.ft_base.specs.Same.{rank, raised};
 

@@ -1,3 +1,5 @@
+//! Items of a history, and what they carry: answers, reasons, and what was fetched.
+
 use crate::context::Ctx;
 use crate::number::{CallNo, FuncNo, UserNo};
 

@@ -1,4 +1,5 @@
-//! What a script may have at most, and what holds where it says nothing.
+//! What a script may have at most, and what holds if it says nothing. Each limit has its one name
+//! here, which code, clauses and definitions cite.
 
 /// CPUs.
 pub const CPUS: u32 = 8;
@@ -9,11 +10,14 @@ pub const TASKS: u32 = 64;
 /// Users.
 pub const USERS: u32 = 16;
 
-/// Trampoline slots, also where a script doesn't say.
-pub const TRAMPS: u8 = 16;
+/// Trampoline slots, also if a script doesn't say.
+pub const TRAMPS: u32 = 16;
 
 /// Functions.
 pub const FUNCS: u32 = 1_024;
+
+/// Functions that a table can number, and so those that have an address.
+pub const TABLE_FUNCS: u32 = 4_096;
 
 /// Commands.
 pub const COMMANDS: u32 = 1_024;
@@ -30,17 +34,23 @@ pub const LEVELS: u32 = 512;
 /// Frames of a task's shadow stack.
 pub const FRAMES: u32 = 64;
 
-/// Frames of a task's shadow stack where a script doesn't say.
+/// Frames of a task's shadow stack if a script doesn't say.
 pub const USUAL_FRAMES: u32 = 50;
 
 /// The greatest graph depth.
 pub const GRAPH_DEPTH: u32 = 512;
+
+/// Users for whom the most items of a call are reckoned, which is also the most users of a frame.
+pub const BOUND_USERS: u32 = 64;
 
 /// Items that the scripted calls can make, by the bound for one call.
 pub const ITEMS: u32 = 4_000_000;
 
 /// Steps of a schedule.
 pub const STEPS: u32 = 4_000_000;
+
+/// Turns of control and of each CPU if a script has no schedule.
+pub const USUAL_TURNS: u32 = 400_000;
 
 /// The greatest quantum of a CPU, in steps.
 pub const QUANTUM: u32 = 1_000_000;
@@ -49,7 +59,10 @@ pub const QUANTUM: u32 = 1_000_000;
 pub const PID: u32 = 4_194_304;
 
 /// Bytes of a name.
-pub const NAME: usize = 63;
+pub const NAME_BYTES: u32 = 63;
 
-/// Turns of control and of each CPU where a script has no schedule.
-pub const USUAL_TURNS: u32 = 400_000;
+/// Bytes of a glob.
+pub const PATTERN_BYTES: u32 = 255;
+
+/// Bytes of a script.
+pub const INPUT_BYTES: u32 = 16_777_216;

@@ -1,3 +1,5 @@
+//! Whose turn it is.
+
 use crate::number::CpuNo;
 
 /// Who steps: control, which carries out the commands, or a CPU.

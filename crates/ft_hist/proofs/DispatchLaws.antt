@@ -6,22 +6,22 @@ use Rattle.ft_base.specs.declared.item.Item.{Item}
 use Rattle.ft_base.specs.Job.{Job}
 use Rattle.ft_base.specs.Desk.{desk, is_on}
 use Rattle.ft_base.proofs.Small.{false_true}
-use Rattle.ft_hist.specs.Rules.{InWindow, IsUnmet}
-use Rattle.ft_hist.proofs.WindowLaws.{InWindow-more, met-more, is_enter, is_meeting}
+use Rattle.ft_hist.specs.Rules.{InWindow, IsUnvisited}
+use Rattle.ft_hist.proofs.WindowLaws.{InWindow-more, visits-more, is_enter, is_visit}
 
 -- a user was off at some command of the window so far
 abbrev pub WasOff : Job → CallNo → ℕ → ℕ → List Item → Type 0
 WasOff job call f u past = InWindow call past (λ k. is_on (desk job k) u f ≡ false)
 
--- whoever has not been met is still to come, or was off at some command of the window so far
+-- whoever has not been visited is still to come, or was off at some command of the window so far
 abbrev pub Watches : Job → CallNo → ℕ → List Item → (ℕ → Bool) → Type 0
-Watches job call f past todo = (u : ℕ) → IsUnmet job call u past → (todo u ≡ true) ⊎ WasOff job call f u past
+Watches job call f past todo = (u : ℕ) → IsUnvisited job call u past → (todo u ≡ true) ⊎ WasOff job call f u past
 
 module _ (job : Job) (call : CallNo) (f : ℕ) (past : List Item) (todo : ℕ → Bool) (w : Watches job call f past todo) where
   -- any other item, of whichever actor
-  pub watches-other : (item : Item) → is_enter call item ≡ false → is_meeting call item ≡ false → Watches job call f (item ∷ past) todo
-  watches-other item no_enter no_meeting u un =
-      elim (w u (rw (met-more job call item past no_meeting) at un)) [
+  pub watches-other : (item : Item) → is_enter call item ≡ false → is_visit call item ≡ false → Watches job call f (item ∷ past) todo
+  watches-other item no_enter no_visit u un =
+      elim (w u (rw (visits-more job call item past no_visit) at un)) [
         | inl x ↦ inl x
         | inr x ↦ inr (InWindow-more call item past (λ k. is_on (desk job k) u f ≡ false) no_enter x)
       ]
@@ -35,5 +35,5 @@ module _ (job : Job) (call : CallNo) (f : ℕ) (past : List Item) (todo : ℕ �
       ]
 
   -- a list that has grown by users that were off
-  pub watches-at_end : ((u : ℕ) → todo u ≡ false) → (u : ℕ) → IsUnmet job call u past → WasOff job call f u past
+  pub watches-at_end : ((u : ℕ) → todo u ≡ false) → (u : ℕ) → IsUnvisited job call u past → WasOff job call f u past
   watches-at_end none u un = elim (w u un) [ inl x ↦ false_true (sym (none u) ∙ x) | inr x ↦ x ]

@@ -7,46 +7,46 @@ use Rattle.ft_base.specs.declared.item.Item.TheVariants.{Leave, Exit}
 use Rattle.ft_base.specs.Job.{Job}
 use Rattle.ft_base.specs.Desk.{desk, is_live}
 use Rattle.ft_base.proofs.Small.{false_true, and_both, Each-weaker, or-true}
-use Rattle.ft_hist.specs.Past.{begun, exits, left_at, met, Meeting}
-use Rattle.ft_hist.specs.Rules.{AtEither, MayExit, LacksOnlyDead, HasExit}
+use Rattle.ft_hist.specs.Past.{begun, exits, done_at_leave, visits, Visit}
+use Rattle.ft_hist.specs.Rules.{AtReturnedOrBegun, MayExit, LacksOnlyDead, HasExit}
 use Rattle.ft_hist.proofs.Laws.{same_call-refl}
-use Rattle.ft_hist.proofs.WindowLaws.{met-more}
+use Rattle.ft_hist.proofs.WindowLaws.{visits-more}
 use Rattle.ft_hist.specs.Frames.{FrameUser, IsOwed, is_user_of, is_among, Rises, FrameOf}
 use Rattle.ft_hist.proofs.Since.{Untouched}
 
-module _ (job : Job) (call : CallNo) (ms : List Meeting) where
+module _ (job : Job) (call : CallNo) (ms : List Visit) where
   -- a registration was not live at some command since the Leave
   abbrev pub IsDead : ℕ → ℕ → List Item → Type 0
-  IsDead u r past = (j : ℕ) × (left_at call past ≤ j) × (j ≤ begun past) × (is_live (desk job j) u r ≡ false)
+  IsDead u r past = (j : ℕ) × (done_at_leave call past ≤ j) × (j ≤ begun past) × (is_live (desk job j) u r ≡ false)
 
   -- an exit is still to come, or stands, or is lacking for a reason
-  abbrev pub Fate : Meeting → List FrameUser → List Item → Type 0
+  abbrev pub Fate : Visit → List FrameUser → List Item → Type 0
   Fate m rest past = (is_among m rest ≡ true) ⊎ ((list_any (λ e. e == m.place) (exits call past) ≡ true) ⊎ IsDead m.user m.reg past)
 
   pub record ExitsSo (past : List Item) (rest : List FrameUser) : Type 0 where
-    pub those : met job call past ≡ ms
+    pub those : visits job call past ≡ ms
     pub owed : Each (IsOwed job ms) rest
     pub rises : Rises rest
     pub before : Each (λ e. Each (λ y. e < y.entry) rest) (exits call past)
     pub all : Each (λ m. HasExit job m → Fate m rest past) ms
 
   -- the next exit may stand where its registration is live at either command
-  pub exits-may : (x : FrameUser) (rest : List FrameUser) (past : List Item) → AtEither past (λ k. is_live (desk job k) x.user x.reg ≡ true) → ExitsSo past (x ∷ rest) → MayExit job past call x.user x.entry
+  pub exits-may : (x : FrameUser) (rest : List FrameUser) (past : List Item) → AtReturnedOrBegun past (λ k. is_live (desk job k) x.user x.reg ≡ true) → ExitsSo past (x ∷ rest) → MayExit job past call x.user x.entry
   exits-may x rest past live h =
       let o = h.owed.0 in
       record {
-        of = (o.0, rw h.those o.1, o.2, o.3, o.5, subst (λ r. AtEither past (λ k. is_live (desk job k) x.user r ≡ true)) (sym o.4) live);
+        of = (o.0, rw h.those o.1, o.2, o.3, o.5, subst (λ r. AtReturnedOrBegun past (λ k. is_live (desk job k) x.user r ≡ true)) (sym o.4) live);
         order = Each-weaker (λ e. Each (λ y. e < y.entry) (x ∷ rest)) (λ e. e < x.entry) (exits call past) (λ e b. b.0) h.before;
       }
 
-  parts : (m : Meeting) (x : FrameUser) → is_user_of m x ≡ true → (x.user ≡ m.user) × (x.reg ≡ m.reg) × ((x.entry == m.place) ≡ true)
+  parts : (m : Visit) (x : FrameUser) → is_user_of m x ≡ true → (x.user ≡ m.user) × (x.reg ≡ m.reg) × ((x.entry == m.place) ≡ true)
   parts m x e =
       let a = and_both ((x.user == m.user) && (x.reg == m.reg)) (x.entry == m.place) e in
       let b = and_both (x.user == m.user) (x.reg == m.reg) a.0 in
       (eqb-true x.user m.user b.0, eqb-true x.reg m.reg b.1, a.1)
 
   -- one user less to come
-  taken : (m : Meeting) (x : FrameUser) (rest : List FrameUser) (past past' : List Item)
+  taken : (m : Visit) (x : FrameUser) (rest : List FrameUser) (past past' : List Item)
       → (is_user_of m x ≡ true → (list_any (λ e. e == m.place) (exits call past') ≡ true) ⊎ IsDead m.user m.reg past')
       → (list_any (λ e. e == m.place) (exits call past) ≡ true → list_any (λ e. e == m.place) (exits call past') ≡ true)
       → (IsDead m.user m.reg past → IsDead m.user m.reg past')
@@ -67,7 +67,7 @@ module _ (job : Job) (call : CallNo) (ms : List Meeting) where
   exits-after x rest past h =
       let now_exits : exits call (exit_of x ∷ past) ≡ x.entry ∷ exits call past = rw (same_call-refl call) refl in
       record {
-        those = met-more job call (exit_of x) past refl ∙ h.those;
+        those = visits-more job call (exit_of x) past refl ∙ h.those;
         owed = h.owed.1;
         rises = h.rises.1;
         before = rw now_exits (h.rises.0, Each-weaker (λ e. Each (λ y. e < y.entry) (x ∷ rest)) (λ e. Each (λ y. e < y.entry) rest) (exits call past) (λ e b. b.1) h.before);
@@ -90,14 +90,14 @@ module _ (job : Job) (call : CallNo) (ms : List Meeting) where
   -- over items that don't touch the call, of whichever actor
   pub exits-untouched : (rest : List FrameUser) (past past' : List Item) → Untouched job call past past' → begun past ≤ begun past' → ExitsSo past rest → ExitsSo past' rest
   exits-untouched rest past past' u le h = record {
-    those = u.met ∙ h.those;
+    those = u.visits ∙ h.those;
     owed = h.owed;
     rises = h.rises;
     before = rw u.exits h.before;
     all = Each-weaker (λ m. HasExit job m → Fate m rest past) (λ m. HasExit job m → Fate m rest past') ms (λ m g i. later m (g i)) h.all;
   }
     where
-      later : (m : Meeting) → Fate m rest past → Fate m rest past'
+      later : (m : Visit) → Fate m rest past → Fate m rest past'
       later m (inl a) = inl a
       later m (inr (inl a)) = inr (inl (rw u.exits a))
       later m (inr (inr d)) = inr (inr (d.0, rw u.left d.1, (let b = d.2 in omega (arith, b, le)), d.3))
@@ -106,18 +106,18 @@ module _ (job : Job) (call : CallNo) (ms : List Meeting) where
   pub exits-lacks : (past : List Item) → ExitsSo past [] → LacksOnlyDead job past call
   exits-lacks past h = rw h.those (Each-weaker (λ m. HasExit job m → Fate m [] past) _ ms (λ m g i lack. dead m lack (g i)) h.all)
     where
-      dead : (m : Meeting) → list_any (λ e. e == m.place) (exits call past) ≡ false → Fate m [] past → IsDead m.user m.reg past
+      dead : (m : Visit) → list_any (λ e. e == m.place) (exits call past) ≡ false → Fate m [] past → IsDead m.user m.reg past
       dead m lack (inl a) = false_true a
       dead m lack (inr (inl a)) = false_true (sym lack ∙ a)
       dead m lack (inr (inr d)) = d
 
 -- at the Leave all users of the frame are owed
-pub exits-start : (job : Job) (call : CallNo) (past : List Item) (users : List FrameUser) → FrameOf job (met job call past) users → exits call past ≡ []
-    → ExitsSo job call (met job call past) (Leave call ∷ past) users
+pub exits-start : (job : Job) (call : CallNo) (past : List Item) (users : List FrameUser) → FrameOf job (visits job call past) users → exits call past ≡ []
+    → ExitsSo job call (visits job call past) (Leave call ∷ past) users
 exits-start job call past users frame none = record {
-  those = met-more job call (Leave call) past refl;
+  those = visits-more job call (Leave call) past refl;
   owed = frame.owed;
   rises = frame.rises;
   before = rw none tt;
-  all = Each-weaker (λ m. HasExit job m → is_among m users ≡ true) _ (met job call past) (λ m g i. inl (g i)) frame.all;
+  all = Each-weaker (λ m. HasExit job m → is_among m users ≡ true) _ (visits job call past) (λ m g i. inl (g i)) frame.all;
 }

@@ -12,24 +12,24 @@ use Rattle.ft_base.specs.declared.item.Item.{Item}
 use Rattle.ft_base.specs.declared.item.Item.TheVariants.{Return, Back, Body}
 use Rattle.ft_base.specs.Job.{Job, Command, Register, Unregister, Filter, Notrace, Pid, NoPid, Enable, Disable, MaxDepth, commands}
 use Rattle.ft_base.specs.Desk.{Desk, UserState, desk, after, changed, user_at, is_on, is_sited, is_matching, is_accepted, answer_on, registered_as, unregistered_as}
-use Rattle.ft_base.specs.WellFormed.{IsJob, IsNamed}
+use Rattle.ft_base.specs.WellFormed.{IsWellFormed, IsNamed}
 use Rattle.ft_base.proofs.Small.{false_true, and_both}
 use Rattle.ft_base.proofs.DeskLaws.{desk-suc, length-desk, user_at-same, user_at-other}
 use Rattle.ft_base.proofs.Order.{user-part}
 use Rattle.ft_base.proofs.Modifiers.{named-at}
-use Rattle.ft_hist.specs.Past.{done, begun, entry_of, met}
+use Rattle.ft_hist.specs.Past.{done, begun, entry_of, visits}
 use Rattle.ft_hist.specs.Rules.{IsLegal}
 use Rattle.ft_hist.proofs.Splitting.{splits, legal-front, split-reverse}
 use Rattle.ft_hist.proofs.WindowLaws.{legal-counts, done-more}
 
 module _ (job : Job) where
-  -- whoever was on at each command of a call's window is met in it
-  pub met_who_was_on : (items before after' : List Item) (call : CallNo) (g : FuncNo) (ran : Ran) (u : ℕ) → IsLegal job items → items ≡ before ++ Body call g ran ∷ after' → u < length job.users
+  -- whoever was on at each command of a call's window is visited in it
+  pub visits_who_was_on : (items before after' : List Item) (call : CallNo) (g : FuncNo) (ran : Ran) (u : ℕ) → IsLegal job items → items ≡ before ++ Body call g ran ∷ after' → u < length job.users
       → ((k : ℕ) → (entry_of call (reverse before)).from ≤ k → k ≤ begun (reverse before) → is_on (desk job k) u (entry_of call (reverse before)).func ≡ true)
-      → list_any (λ m. m.user == u) (met job call (reverse before)) ≡ true
-  met_who_was_on items before after' call g ran u legal e within on = by (list_any (λ m. m.user == u) (met job call (reverse before))) refl
+      → list_any (λ m. m.user == u) (visits job call (reverse before)) ≡ true
+  visits_who_was_on items before after' call g ran u legal e within on = by (list_any (λ m. m.user == u) (visits job call (reverse before))) refl
     where
-      by : (b : Bool) → list_any (λ m. m.user == u) (met job call (reverse before)) ≡ b → list_any (λ m. m.user == u) (met job call (reverse before)) ≡ true
+      by : (b : Bool) → list_any (λ m. m.user == u) (visits job call (reverse before)) ≡ b → list_any (λ m. m.user == u) (visits job call (reverse before)) ≡ true
       by true x = x
       by false x =
           let w = (splits job items before (Body call g ran) after' legal e).rule.0.silent u within x in
@@ -52,7 +52,7 @@ module _ (job : Job) where
   off-changed d k u (NoPid only) size named other off = off
   off-changed d k u (MaxDepth n) size named other off = off
 
-  module _ (is : IsJob job) (u : ℕ) where
+  module _ (is : IsWellFormed job) (u : ℕ) where
     off-after : (d : Desk) (k : ℕ) (c : Option Command) → length d.users ≡ length job.users → ((x : Command) → c ≡ Some x → IsNamed job x) → (c ≡ Some (Register u) → ⊥)
         → (user_at d u).registered ≡ false → (user_at (after job d k c) u).registered ≡ false
     off-after d k None size named other off = off
@@ -84,7 +84,7 @@ module _ (job : Job) where
     off-unregistered d k within accepted = rw accepted (ap (λ (s : UserState). s.registered) (user_at-same d u (unregistered_as (user_at d u)) within))
 
   -- where a user's unregistration has returned and no registration of it has begun since, no callback of it begins
-  module _ (is : IsJob job) (items first second third : List Item) (k : ℕ) (call : CallNo) (user : UserNo) (legal : IsLegal job items)
+  module _ (is : IsWellFormed job) (items first second third : List Item) (k : ℕ) (call : CallNo) (user : UserNo) (legal : IsLegal job items)
       (e : items ≡ first ++ Return (suc k) Accepted ∷ (second ++ Back call user ∷ third)) (command : slice_get (commands job) k ≡ Some (Unregister user.0)) where
     abbrev pub before : List Item
     before = first ++ Return (suc k) Accepted ∷ second
@@ -122,7 +122,7 @@ module _ (job : Job) where
 
     pub no_callback : NoneBetween is user.0 (suc k) (begun (reverse before)) → ⊥
     no_callback none =
-        let on = (splits job items before (Back call user) third legal split).rule.0.meets.on in
+        let on = (splits job items before (Back call user) third legal split).rule.0.visit.on in
         let f = (entry_of call (reverse before)).func in
         let c = counts in
         let l = later in

@@ -10,8 +10,8 @@ use Rattle.ft_base.specs.Job.{Job}
 use Rattle.ft_base.specs.Desk.{spec_at}
 use Rattle.ft_base.proofs.Small.{false_true, and-false, Each-weaker}
 use Rattle.ft_base.specs.Kinds.{cancels}
-use Rattle.ft_hist.specs.Past.{is_of, done, is_open, calls, held, meetings, is_dispatched, has_frame_user}
-use Rattle.ft_hist.specs.Plain.{plain, read_on, PlainTask, at_start}
+use Rattle.ft_hist.specs.Past.{is_of, done, is_open, calls, held, all_visits, is_dispatched, has_frame_user}
+use Rattle.ft_hist.specs.Plain.{plain, after_next, PlainTask, at_start}
 use Rattle.ft_hist.proofs.Laws.{same_call-refl}
 use Rattle.ft_hist.proofs.RunLaws.{some_inj, calls_on, Keeps, Moves, moves}
 use Rattle.ft_hist.proofs.Since.{IsOlder, apart, holding, holds}
@@ -174,8 +174,8 @@ pub opens : (job : Job) (t : ℕ) (past : List Item) (s : PlainTask) → plain j
 unfolding plain
 opens job t [] s e = subst (λ (x : PlainTask). Opens t [] x.next (calls_on x.stack)) (some_inj (at_start job t) s e) (record { number = tt; falls = tt; made = tt; open' = refl })
 opens job t (item ∷ past) s e =
-    elim (is_of t item) as (λ b. is_of t item ≡ b → cond b (read_on job (done past) item (plain job t past)) (plain job t past) ≡ Some s → Opens t (item ∷ past) s.next (calls_on s.stack)) [
-      | true ↦ λ own x. elim (plain job t past) as (λ o. plain job t past ≡ o → read_on job (done past) item o ≡ Some s → Opens t (item ∷ past) s.next (calls_on s.stack)) [
+    elim (is_of t item) as (λ b. is_of t item ≡ b → cond b (after_next job (done past) item (plain job t past)) (plain job t past) ≡ Some s → Opens t (item ∷ past) s.next (calls_on s.stack)) [
+      | true ↦ λ own x. elim (plain job t past) as (λ o. plain job t past ≡ o → after_next job (done past) item o ≡ Some s → Opens t (item ∷ past) s.next (calls_on s.stack)) [
         | None ↦ λ here y. absurd cc
         | Some p ↦ λ here y. opens-own t past p s item own (moves job (done past) p s item y) (opens job t past p here)
       ] refl x
@@ -187,7 +187,7 @@ pub held-is : (job : Job) (past : List Item) (s : PlainTask) (call : CallNo) (be
 held-is job past s call below here top =
     let o = opens job call.task.0 past s here in
     let falls = rw top at o.falls in
-    let frame : CallNo → Bool = λ c. cond (is_dispatched c past) (has_frame_user c (λ m. not (cancels (spec_at job m.user).kind)) (meetings job past)) (has_frame_user c (λ m. true) (meetings job past)) in
+    let frame : CallNo → Bool = λ c. cond (is_dispatched c past) (has_frame_user c (λ m. not (cancels (spec_at job m.user).kind)) (all_visits job past)) (has_frame_user c (λ m. true) (all_visits job past)) in
     ap length (
     filter-nest (λ c. c.task.0 == call.task.0) (λ c. not (same_call c call)) (λ c. is_open c past) frame (calls past)
     ∙ ap (λ cs. filter (λ c. not (same_call c call) && (is_open c past && frame c)) cs) (o.open' ∙ top)

@@ -8,10 +8,10 @@ use Rattle.ft_base.specs.declared.item.Item.{Item}
 use Rattle.ft_base.specs.declared.item.Item.TheVariants.{Enter}
 use Rattle.ft_base.specs.Same.{same_call}
 use Rattle.ft_base.specs.Job.{Job}
-use Rattle.ft_base.specs.declared.plan.TaskAct.{TaskAct}
-use Rattle.ft_base.specs.declared.plan.TaskAct.TheVariants.{Call, Ret as RetAct, Raise, Lower, After}
+use Rattle.ft_base.specs.declared.task.TaskAct.{TaskAct}
+use Rattle.ft_base.specs.declared.task.TaskAct.TheVariants.{Call, Ret as RetAct, Raise, Lower, After}
 use Rattle.ft_base.proofs.Small.{==-refl}
-use Rattle.ft_hist.specs.Plain.{plain, reads, PlainTask, same_top, ahead, Ahead, below_top}
+use Rattle.ft_hist.specs.Plain.{plain, after_item, PlainTask, same_top, ahead, Ahead, below_top}
 use Rattle.ft_hist.specs.Past.{is_of, done, entry_of}
 use Rattle.ft_hist.specs.Rules.{IsLegal, IsLegalPast, MayFollow}
 
@@ -31,7 +31,7 @@ entry_of-enter c ctx f caller past = rw (same_call-refl c) refl
 
 -- the plain run after one more item of the task
 pub plain-own : (job : Job) (past : List Item) (item : Item) (t : ℕ) (s : PlainTask)
-    → is_of t item ≡ true → plain job t past ≡ Some s → plain job t (item ∷ past) ≡ reads job (done past) s item
+    → is_of t item ≡ true → plain job t past ≡ Some s → plain job t (item ∷ past) ≡ after_item job (done past) s item
 unfolding plain
 plain-own job past item t s own here = rw (own, here) refl
 
@@ -44,7 +44,7 @@ plain-other job past item t other = rw other refl
 -- a task goes on by an item of its own, and the other tasks stay
 pub run_more : (job : Job) (past : List Item) (item : Item) (t : ℕ) (s s' : PlainTask)
     → ((v : ℕ) → is_of v item ≡ (t == v)) → ((v : ℕ) → IsSome (plain job v past))
-    → plain job t past ≡ Some s → reads job (done past) s item ≡ Some s'
+    → plain job t past ≡ Some s → after_item job (done past) s item ≡ Some s'
     → ((v : ℕ) → IsSome (plain job v (item ∷ past))) × (plain job t (item ∷ past) ≡ Some s')
 run_more job past item t s s' own all here next =
     let same : plain job t (item ∷ past) ≡ Some s' = plain-own job past item t s (own t ∙ ==-refl t) here ∙ next in (

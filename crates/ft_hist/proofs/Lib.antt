@@ -6,7 +6,7 @@ pub mod RunLaws
 pub mod Since
 pub mod HeldLaws
 pub mod Lists
-pub mod Meet
+pub mod Visiting
 pub mod Exits
 pub mod WordLaws
 pub mod Splitting

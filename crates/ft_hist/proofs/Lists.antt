@@ -1,4 +1,4 @@
--- Facts on lists of users and meetings.
+-- Facts on lists of users and visits.
 use Rattle.std.proofs.Common.{cond, ◌≡◌, ℕ, ◌<◌, Bool, true, false, ◌==◌, List, [], ◌∷◌, refl, sym, ap, ◌∙◌, arith, inl, inr, eqb-true}
 use Rattle.std.proofs.lemmas.Bool.Decides.{eqb_tells}
 use Rattle.std.specs.List.{filter, AllByRecursion as Each}
@@ -7,7 +7,7 @@ use Rattle.ft_base.specs.Same.{same_call}
 use Rattle.ft_base.specs.Desk.{Desk}
 use Rattle.ft_base.specs.Order.{IsBelow, IsFalling, has}
 use Rattle.ft_base.proofs.Small.{Each-filter, and-false, or-true, false_true, or-true_either}
-use Rattle.ft_hist.specs.Past.{Meeting}
+use Rattle.ft_hist.specs.Past.{Visit}
 
 pub Each-passes : (p : ℕ → Bool) (us : List ℕ) → Each (λ u. p u ≡ true) (filter p us)
 Each-passes p [] = tt
@@ -33,12 +33,12 @@ falling-filter d p (v ∷ us) h =
       | false ↦ falling-filter d p us h.1
     ]
 
--- a call whose number is still to come has met nobody
-pub none_met : (call : CallNo) (ms : List Meeting) → Each (λ m. m.call.task.0 ≡ call.task.0 → m.call.n < call.n) ms → filter (λ m. same_call m.call call) ms ≡ []
-none_met call [] h = refl
-none_met call (m ∷ ms) h =
+-- a call whose number is still to come has visited nobody
+pub none_visited : (call : CallNo) (ms : List Visit) → Each (λ m. m.call.task.0 ≡ call.task.0 → m.call.n < call.n) ms → filter (λ m. same_call m.call call) ms ≡ []
+none_visited call [] h = refl
+none_visited call (m ∷ ms) h =
     let apart : same_call m.call call ≡ false = elim (eqb_tells m.call.task.0 call.task.0) [
       | inl t ↦ (let lt = h.0 t.1 in let ne : (m.call.n == call.n) ≡ false = elim (eqb_tells m.call.n call.n) [ inl x ↦ (let y = x.1 in absurd (omega arith)) | inr x ↦ x.0 ] in rw (ne, and-false (m.call.task.0 == call.task.0)) refl)
       | inr f ↦ rw f.0 refl
     ] in
-    rw apart (none_met call ms h.1)
+    rw apart (none_visited call ms h.1)

@@ -9,7 +9,7 @@ use Rattle.ft_base.specs.Same.{same_call}
 use Rattle.ft_base.specs.Job.{Job}
 use Rattle.ft_base.specs.Desk.{spec_at}
 use Rattle.ft_base.specs.Kinds.{cancels}
-use Rattle.ft_hist.specs.Past.{is_of, done, begun, entered, entry_of, is_open, is_dispatched, meetings, met, exits, left_at, miss_due, Meeting, holds_frame}
+use Rattle.ft_hist.specs.Past.{is_of, done, begun, entered, entry_of, is_open, is_dispatched, all_visits, visits, exits, done_at_leave, miss_due, Visit, holds_frame}
 use Rattle.ft_hist.specs.Plain.{plain}
 use Rattle.ft_hist.proofs.DispatchLaws.{Watches}
 
@@ -29,33 +29,33 @@ pub record Untouched (job : Job) (c : CallNo) (past past' : List Item) : Type 0 
   pub entered : entered c past' ≡ entered c past
   pub open' : is_open c past' ≡ is_open c past
   pub dispatched : is_dispatched c past' ≡ is_dispatched c past
-  pub met : met job c past' ≡ met job c past
+  pub visits : visits job c past' ≡ visits job c past
   pub exits : exits c past' ≡ exits c past
-  pub left : left_at c past' ≡ left_at c past
+  pub left : done_at_leave c past' ≡ done_at_leave c past
 
 pub untouched-refl : (job : Job) (c : CallNo) (past : List Item) → Untouched job c past past
-untouched-refl job c past = record { entered = refl; open' = refl; dispatched = refl; met = refl; exits = refl; left = refl }
+untouched-refl job c past = record { entered = refl; open' = refl; dispatched = refl; visits = refl; exits = refl; left = refl }
 
 pub untouched-trans : (job : Job) (c : CallNo) (a b d : List Item) → Untouched job c a b → Untouched job c b d → Untouched job c a d
 untouched-trans job c a b d x y = record {
   entered = y.entered ∙ x.entered;
   open' = y.open' ∙ x.open';
   dispatched = y.dispatched ∙ x.dispatched;
-  met = y.met ∙ x.met;
+  visits = y.visits ∙ x.visits;
   exits = y.exits ∙ x.exits;
   left = y.left ∙ x.left;
 }
 
 pub untouched-item : (job : Job) (c : CallNo) (past : List Item) (item : Item) → touches c item ≡ false → Untouched job c past (item ∷ past)
-unfolding meetings
-untouched-item job c past (Enter call x f caller) e = record { entered = rw e refl; open' = rw e refl; dispatched = refl; met = refl; exits = refl; left = refl }
-untouched-item job c past (Back call u) e = record { entered = refl; open' = refl; dispatched = refl; met = rw e refl; exits = refl; left = refl }
-untouched-item job c past (Refuse call u reason) e = record { entered = refl; open' = refl; dispatched = refl; met = rw e refl; exits = refl; left = refl }
-untouched-item job c past (Body call g ran) e = record { entered = refl; open' = refl; dispatched = rw e refl; met = refl; exits = refl; left = refl }
-untouched-item job c past (Leave call) e = record { entered = refl; open' = refl; dispatched = refl; met = refl; exits = refl; left = rw e refl }
-untouched-item job c past (Exit call u entry) e = record { entered = refl; open' = refl; dispatched = refl; met = refl; exits = rw e refl; left = refl }
-untouched-item job c past (Ret call to) e = record { entered = refl; open' = rw e refl; dispatched = refl; met = refl; exits = refl; left = refl }
-untouched-item job c past _ e = record { entered = refl; open' = refl; dispatched = refl; met = refl; exits = refl; left = refl }
+unfolding all_visits
+untouched-item job c past (Enter call x f caller) e = record { entered = rw e refl; open' = rw e refl; dispatched = refl; visits = refl; exits = refl; left = refl }
+untouched-item job c past (Back call u) e = record { entered = refl; open' = refl; dispatched = refl; visits = rw e refl; exits = refl; left = refl }
+untouched-item job c past (Refuse call u reason) e = record { entered = refl; open' = refl; dispatched = refl; visits = rw e refl; exits = refl; left = refl }
+untouched-item job c past (Body call g ran) e = record { entered = refl; open' = refl; dispatched = rw e refl; visits = refl; exits = refl; left = refl }
+untouched-item job c past (Leave call) e = record { entered = refl; open' = refl; dispatched = refl; visits = refl; exits = refl; left = rw e refl }
+untouched-item job c past (Exit call u entry) e = record { entered = refl; open' = refl; dispatched = refl; visits = refl; exits = rw e refl; left = refl }
+untouched-item job c past (Ret call to) e = record { entered = refl; open' = rw e refl; dispatched = refl; visits = refl; exits = refl; left = refl }
+untouched-item job c past _ e = record { entered = refl; open' = refl; dispatched = refl; visits = refl; exits = refl; left = refl }
 
 -- ## what is older
 
@@ -134,7 +134,7 @@ since-item job t n call item past own le is touch d b = record {
 -- ## frames
 
 abbrev pub holds : Job → List Item → CallNo → Bool
-holds job past c = holds_frame job c past (meetings job past)
+holds job past c = holds_frame job c past (all_visits job past)
 
 -- how many of these calls hold a frame
 abbrev pub holding : Job → List Item → List CallNo → ℕ
@@ -147,16 +147,16 @@ any-filter p q r (x ∷ xs) = elim (p x) as (λ b. ((b && q x && r x) || list_an
   | false ↦ any-filter p q r xs
 ]
 
--- by the meetings of the call alone
-abbrev pub holds_by : Job → Bool → Bool → List Meeting → Bool
+-- by the visits of the call alone
+abbrev pub holds_by : Job → Bool → Bool → List Visit → Bool
 holds_by job open' dispatched ms = open' && (cond dispatched (list_any (λ m. m.wants && not (cancels (spec_at job m.user).kind)) ms) (list_any (λ m. m.wants && true) ms))
 
-pub holds-by : (job : Job) (past : List Item) (c : CallNo) → holds job past c ≡ holds_by job (is_open c past) (is_dispatched c past) (met job c past)
+pub holds-by : (job : Job) (past : List Item) (c : CallNo) → holds job past c ≡ holds_by job (is_open c past) (is_dispatched c past) (visits job c past)
 holds-by job past c =
-    rw (any-filter (λ m. same_call m.call c) (λ m. m.wants) (λ m. not (cancels (spec_at job m.user).kind)) (meetings job past), any-filter (λ m. same_call m.call c) (λ m. m.wants) (λ m. true) (meetings job past)) refl
+    rw (any-filter (λ m. same_call m.call c) (λ m. m.wants) (λ m. not (cancels (spec_at job m.user).kind)) (all_visits job past), any-filter (λ m. same_call m.call c) (λ m. m.wants) (λ m. true) (all_visits job past)) refl
 
 pub holds-untouched : (job : Job) (c : CallNo) (past past' : List Item) → Untouched job c past past' → holds job past' c ≡ holds job past c
-holds-untouched job c past past' u = holds-by job past' c ∙ rw (u.open', u.dispatched, u.met) refl ∙ sym (holds-by job past c)
+holds-untouched job c past past' u = holds-by job past' c ∙ rw (u.open', u.dispatched, u.visits) refl ∙ sym (holds-by job past c)
 
 pub holding-since : (job : Job) (t n : ℕ) (past past' : List Item) (cs : List CallNo) → Since job t n past past' → Each (IsOlder t n) cs → holding job past' cs ≡ holding job past cs
 holding-since job t n past past' [] s h = refl
@@ -176,7 +176,7 @@ entry-untouched job c past past' u = rw u.entered refl
 pub watches-untouched : (job : Job) (call : CallNo) (f : ℕ) (past past' : List Item) (todo : ℕ → Bool) → Untouched job call past past' → begun past ≤ begun past'
     → Watches job call f past todo → Watches job call f past' todo
 watches-untouched job call f past past' todo u le w v un =
-    elim (w v (rw u.met at un)) [
+    elim (w v (rw u.visits at un)) [
       | inl x ↦ inl x
       | inr x ↦ inr (x.0, rw (entry-untouched job call past past' u) x.1, (let b = x.2 in omega (arith, b, le)), x.3)
     ]

@@ -3,12 +3,12 @@ use Rattle.std.proofs.Common.{cond, ◌≡◌, ℕ, ◌<◌, true, false, List, 
 use Rattle.ft_base.specs.declared.number.CallNo.{CallNo}
 use Rattle.ft_base.specs.declared.context.Ctx.{Ctx}
 use Rattle.ft_base.specs.declared.item.Item.{Item}
-use Rattle.ft_base.specs.declared.plan.TaskAct.{TaskAct}
+use Rattle.ft_base.specs.declared.task.TaskAct.{TaskAct}
 use Rattle.ft_base.specs.Same.{same_call}
 use Rattle.ft_base.specs.Job.{Job}
 use Rattle.ft_base.specs.Desk.{spec_at}
 use Rattle.ft_hist.specs.Past.{is_open}
-use Rattle.ft_hist.specs.Plain.{PlainTask, Frame, Phase, Dispatch, InBack, Running, Leaving, InExit, on_call, on_top, in_phase, begins_back, owed_by}
+use Rattle.ft_hist.specs.Plain.{PlainTask, Frame, Phase, Dispatch, InBack, Running, Leaving, InExit, on_call, on_top, in_phase, after_back, owed_by}
 
 -- a frame of the task whose call has been numbered, and is open
 pub record IsSound (t next : ℕ) (past : List Item) (f : Frame) : Type 0 where
@@ -32,10 +32,10 @@ on_call-inv (t ∷ below) call next s' e =
       | false ↦ λ other here. absurd cc
     ] refl e
 
-begins_back-inv : (job : Job) (s : PlainTask) (t : Frame) (below : List Frame) (u : ℕ) (p : Phase) (s' : PlainTask) → begins_back job s t below u p ≡ Some s'
+after_back-inv : (job : Job) (s : PlainTask) (t : Frame) (below : List Frame) (u : ℕ) (p : Phase) (s' : PlainTask) → after_back job s t below u p ≡ Some s'
     → s' ≡ on_top s (in_phase t (InBack u (owed_by t.ctx (spec_at job u).act) true)) below
-begins_back-inv job s t below u Dispatch s' e = cc
-begins_back-inv job s t below u (InBack v o f) s' e = absurd cc
-begins_back-inv job s t below u Running s' e = absurd cc
-begins_back-inv job s t below u Leaving s' e = absurd cc
-begins_back-inv job s t below u (InExit v) s' e = absurd cc
+after_back-inv job s t below u Dispatch s' e = cc
+after_back-inv job s t below u (InBack v o f) s' e = absurd cc
+after_back-inv job s t below u Running s' e = absurd cc
+after_back-inv job s t below u Leaving s' e = absurd cc
+after_back-inv job s t below u (InExit v) s' e = absurd cc

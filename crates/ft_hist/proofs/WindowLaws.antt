@@ -5,7 +5,7 @@ use Rattle.ft_base.specs.declared.item.Item.{Item}
 use Rattle.ft_base.specs.declared.item.Item.TheVariants.{Begin, Return, Enter, Back, Refuse}
 use Rattle.ft_base.specs.Same.{same_call}
 use Rattle.ft_base.specs.Job.{Job}
-use Rattle.ft_hist.specs.Past.{done, begun, entered, entry_of, meetings, met}
+use Rattle.ft_hist.specs.Past.{done, begun, entered, entry_of, all_visits, visits}
 use Rattle.ft_hist.specs.Rules.{InWindow, IsLegalPast}
 
 -- the counts never fall
@@ -39,17 +39,17 @@ InWindow-more call item past P other w =
     (w.0, rw e w.1, (let c = w.2 in omega (arith, b)), w.3)
 
 -- whether an item is a Back or a Refuse of this call
-abbrev pub is_meeting : CallNo → Item → Bool
-is_meeting call (Back c u) = same_call c call
-is_meeting call (Refuse c u reason) = same_call c call
-is_meeting call _ = false
+abbrev pub is_visit : CallNo → Item → Bool
+is_visit call (Back c u) = same_call c call
+is_visit call (Refuse c u reason) = same_call c call
+is_visit call _ = false
 
--- the meetings of a call stay over any other item
-pub met-more : (job : Job) (call : CallNo) (item : Item) (past : List Item) → is_meeting call item ≡ false → met job call (item ∷ past) ≡ met job call past
-unfolding meetings
-met-more job call (Back c u) past other = rw other refl
-met-more job call (Refuse c u reason) past other = rw other refl
-met-more job call _ past other = refl
+-- the visits of a call stay over any other item
+pub visits-more : (job : Job) (call : CallNo) (item : Item) (past : List Item) → is_visit call item ≡ false → visits job call (item ∷ past) ≡ visits job call past
+unfolding all_visits
+visits-more job call (Back c u) past other = rw other refl
+visits-more job call (Refuse c u reason) past other = rw other refl
+visits-more job call _ past other = refl
 
 -- in a legal history at most one command is under way
 pub legal-counts : (job : Job) (past : List Item) → IsLegalPast job past → (done past ≤ begun past) × (begun past ≤ suc (done past))

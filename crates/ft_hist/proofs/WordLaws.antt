@@ -1,4 +1,4 @@
--- What the word machine needs besides: where desks change under a call, a user's registration is read later and later, so whoever stands below all that were met hasn't been met.
+-- What the word machine needs besides: where desks change under a call, a user's registration is read later and later, so whoever stands below all that were visited hasn't been met.
 use Rattle.std.proofs.Common.{cond, ◌≡◌, ◌≢◌, ℕ, zero, suc, ◌<◌, ◌≤◌, ◌⊎◌, Bool, true, false, ◌||◌, ◌==◌, nat_le, List, [], ◌∷◌, length, get_or, map, Option, Some, None, refl, sym, ap, ◌∙◌, subst, arith, inl, inr, eqb-true, leb-true, leb-false, IsSome}
 use Rattle.std.specs.Prelude.{slice_get, ◌&&◌, is_some}
 use Rattle.std.proofs.lemmas.Bool.Decides.{eqb_tells}
@@ -10,17 +10,17 @@ use Rattle.ft_base.specs.Same.{same_call}
 use Rattle.ft_base.specs.Job.{Job, Spec, Command, Register, Unregister, Filter, Notrace, Pid, NoPid, Enable, Disable, MaxDepth, commands, funcs}
 use Rattle.ft_base.specs.Desk.{Desk, UserState, desk, after, changed, user_at, unseen, with_user, is_on, is_accepted, answer_on, is_matching, spec_at, registered_as, unregistered_as, edited}
 use Rattle.ft_base.proofs.DeskLaws.{length-desk, user_at-same, user_at-other}
-use Rattle.ft_base.specs.WellFormed.{IsJob, IsNamed}
+use Rattle.ft_base.specs.WellFormed.{IsWellFormed, IsNamed}
 use Rattle.ft_base.proofs.Small.{false_true, Each-weaker, or-false_both, ==-refl}
 use Rattle.ft_base.proofs.Modifiers.{named-at, lone}
-use Rattle.ft_hist.specs.Past.{done, begun, entry_of, meetings, meeting, Meeting, met, read_at}
-use Rattle.ft_hist.specs.Rules.{IsLegalPast, IsUnmet, AtEither, MayMeet, OneReplaces, backs_with_replacement}
+use Rattle.ft_hist.specs.Past.{done, begun, entry_of, all_visits, visit, Visit, visits, registration_at}
+use Rattle.ft_hist.specs.Rules.{IsLegalPast, IsUnvisited, AtReturnedOrBegun, MayVisit, OneReplaces, backs_with_replacement}
 use Rattle.ft_hist.proofs.WindowLaws.{legal-counts, entry_of-more}
-use Rattle.ft_hist.specs.Plain.{plain, reads, read_on, PlainTask}
-use Rattle.ft_hist.proofs.Lists.{none_met}
+use Rattle.ft_hist.specs.Plain.{plain, after_item, after_next, PlainTask}
+use Rattle.ft_hist.proofs.Lists.{none_visited}
 use Rattle.ft_hist.proofs.RunLaws.{moves, sound, same_call-eq}
 
-module _ (job : Job) (is : IsJob job) where
+module _ (job : Job) (is : IsWellFormed job) where
   abbrev since_at : ℕ → ℕ → ℕ
   since_at k u = (user_at (desk job k) u).since
 
@@ -90,13 +90,13 @@ module _ (job : Job) (is : IsJob job) where
             | false ↦ λ e. let lt : y < x = leb-false x y e in absurd (ne (omega arith))
           ] refl
 
-  -- a meeting was read at some command that has begun, and so was of no later registration
-  abbrev WasRead : ℕ → ℕ → ℕ → Meeting → Type 0
+  -- a visit was read at some command that has begun, and so was of no later registration
+  abbrev WasRead : ℕ → ℕ → ℕ → Visit → Type 0
   WasRead f d b m = (j : ℕ) × (j ≤ b) × (m.since ≡ since_at j m.user) × ((j ≤ d) ⊎ (is_on (desk job d) m.user f ≡ false))
 
-  -- the next meeting of a user that was met is read no earlier
-  pub once-by-order : (call : CallNo) (u : ℕ) (past : List Item) (ms : List Meeting) → Each (WasRead (entry_of call past).func (done past) (begun past)) ms
-      → Each (λ m. since_at (read_at job call u past) u < m.since) ms → list_any (λ m. m.user == u) ms ≡ false
+  -- the next visit of a user that was visited is read no earlier
+  pub once-by-order : (call : CallNo) (u : ℕ) (past : List Item) (ms : List Visit) → Each (WasRead (entry_of call past).func (done past) (begun past)) ms
+      → Each (λ m. since_at (registration_at job call u past) u < m.since) ms → list_any (λ m. m.user == u) ms ≡ false
   once-by-order call u past [] h o = refl
   once-by-order call u past (m ∷ ms) h o =
       elim (m.user == u) as (λ b. (m.user == u) ≡ b → (b || list_any (λ x. x.user == u) ms) ≡ false) [
@@ -105,43 +105,43 @@ module _ (job : Job) (is : IsJob job) where
             let lt = o.0 in
             let read : m.since ≡ since_at h.0.0 u = h.0.2 ∙ ap (λ v. since_at h.0.0 v) same in
             let off : (h.0.0 ≤ done past) ⊎ (is_on (desk job (done past)) u (entry_of call past).func ≡ false) = subst (λ v. (h.0.0 ≤ done past) ⊎ (is_on (desk job (done past)) v (entry_of call past).func ≡ false)) same h.0.3 in
-            let le = since-more h.0.0 (read_at job call u past) u (no_earlier h.0.0 h.0.1 off) in
+            let le = since-more h.0.0 (registration_at job call u past) u (no_earlier h.0.0 h.0.1 off) in
             absurd (omega (arith, lt, read, le))
         | false ↦ λ e. once-by-order call u past ms h.1 o.1
       ] refl
     where
-      no_earlier : (j : ℕ) → j ≤ begun past → (j ≤ done past) ⊎ (is_on (desk job (done past)) u (entry_of call past).func ≡ false) → j ≤ read_at job call u past
+      no_earlier : (j : ℕ) → j ≤ begun past → (j ≤ done past) ⊎ (is_on (desk job (done past)) u (entry_of call past).func ≡ false) → j ≤ registration_at job call u past
       no_earlier j le (inr off) = rw off le
       no_earlier j le (inl early) = elim (is_on (desk job (done past)) u (entry_of call past).func) as (λ b. j ≤ cond b (done past) (begun past)) [ true ↦ early | false ↦ le ]
 
   -- ## in a legal past
 
   abbrev Reads : CallNo → List Item → Type 0
-  Reads call past = Each (WasRead (entry_of call past).func (done past) (begun past)) (met job call past)
+  Reads call past = Each (WasRead (entry_of call past).func (done past) (begun past)) (visits job call past)
 
-  -- a call that is entered now has met nobody
-  none-before : (call : CallNo) (x : _) (f : _) (caller : _) (past : List Item) → IsSome (plain job call.task.0 (Enter call x f caller ∷ past)) → met job call past ≡ []
+  -- a call that is entered now has visited nobody
+  none-before : (call : CallNo) (x : _) (f : _) (caller : _) (past : List Item) → IsSome (plain job call.task.0 (Enter call x f caller ∷ past)) → visits job call past ≡ []
   unfolding plain
   none-before call x f caller past some = by (plain job call.task.0 past) refl (rw (==-refl call.task.0) at some)
     where
-      by : (o : Option PlainTask) → plain job call.task.0 past ≡ o → IsSome (read_on job (done past) (Enter call x f caller) o) → met job call past ≡ []
+      by : (o : Option PlainTask) → plain job call.task.0 past ≡ o → IsSome (after_next job (done past) (Enter call x f caller) o) → visits job call past ≡ []
       by None here q = false_true q
-      by (Some p) here q = of-some (reads job (done past) p (Enter call x f caller)) refl q
+      by (Some p) here q = of-some (after_item job (done past) p (Enter call x f caller)) refl q
         where
-          of-some : (o : Option PlainTask) → reads job (done past) p (Enter call x f caller) ≡ o → IsSome o → met job call past ≡ []
+          of-some : (o : Option PlainTask) → after_item job (done past) p (Enter call x f caller) ≡ o → IsSome o → visits job call past ≡ []
           of-some None e r = false_true r
           of-some (Some p') e r =
               let m = moves job (done past) p p' (Enter call x f caller) e in
               let so = sound job call.task.0 past p here in
-              none_met call (meetings job past) (rw m.number so.met)
+              none_visited call (all_visits job past) (rw m.number so.visits)
 
-  more-read : (f d b d' b' : ℕ) (ms : List Meeting) → b ≤ b' → ((j : ℕ) (v : ℕ) → j ≤ b → (j ≤ d) ⊎ (is_on (desk job d) v f ≡ false) → (j ≤ d') ⊎ (is_on (desk job d') v f ≡ false))
+  more-read : (f d b d' b' : ℕ) (ms : List Visit) → b ≤ b' → ((j : ℕ) (v : ℕ) → j ≤ b → (j ≤ d) ⊎ (is_on (desk job d) v f ≡ false) → (j ≤ d') ⊎ (is_on (desk job d') v f ≡ false))
       → Each (WasRead f d b) ms → Each (WasRead f d' b') ms
   more-read f d b d' b' ms le g h = Each-weaker (WasRead f d b) (WasRead f d' b') ms (λ m w. (w.0, (let l = w.1 in omega arith), w.2, g w.0 m.user w.1 w.3)) h
 
-  read-now : (call : CallNo) (u : ℕ) (past : List Item) (back : Bool) → (done past ≤ begun past) → WasRead (entry_of call past).func (done past) (begun past) (meeting job call u past (meetings job past) back)
+  read-now : (call : CallNo) (u : ℕ) (past : List Item) (back : Bool) → (done past ≤ begun past) → WasRead (entry_of call past).func (done past) (begun past) (visit job call u past (all_visits job past) back)
   read-now call u past back le = (
-    read_at job call u past,
+    registration_at job call u past,
     elim on as (λ b. cond b (done past) (begun past) ≤ begun past) [ true ↦ le | false ↦ omega arith ],
     refl,
     elim on as (λ b. on ≡ b → (cond b (done past) (begun past) ≤ done past) ⊎ (on ≡ false)) [ true ↦ λ e. inl (omega arith) | false ↦ λ e. inr e ] refl,
@@ -151,37 +151,37 @@ module _ (job : Job) (is : IsJob job) where
       on = is_on (desk job (done past)) u (entry_of call past).func
 
   one-read : (call c : CallNo) (u : ℕ) (past : List Item) (back : Bool) → done past ≤ begun past → Reads call past
-      → Each (WasRead (entry_of call past).func (done past) (begun past)) (cond (same_call c call) (meeting job c u past (meetings job past) back ∷ met job call past) (met job call past))
+      → Each (WasRead (entry_of call past).func (done past) (begun past)) (cond (same_call c call) (visit job c u past (all_visits job past) back ∷ visits job call past) (visits job call past))
   one-read call c u past back le h =
-      elim (same_call c call) as (λ b. same_call c call ≡ b → Each (WasRead (entry_of call past).func (done past) (begun past)) (cond b (meeting job c u past (meetings job past) back ∷ met job call past) (met job call past))) [
-        | true ↦ λ e. (subst (λ z. WasRead (entry_of call past).func (done past) (begun past) (meeting job z u past (meetings job past) back)) (sym (same_call-eq c call e)) (read-now call u past back le), h)
+      elim (same_call c call) as (λ b. same_call c call ≡ b → Each (WasRead (entry_of call past).func (done past) (begun past)) (cond b (visit job c u past (all_visits job past) back ∷ visits job call past) (visits job call past))) [
+        | true ↦ λ e. (subst (λ z. WasRead (entry_of call past).func (done past) (begun past) (visit job z u past (all_visits job past) back)) (sym (same_call-eq c call e)) (read-now call u past back le), h)
         | false ↦ λ e. h
       ] refl
 
-  pub met-read : (call : CallNo) (past : List Item) → IsLegalPast job past → Reads call past
-  unfolding IsLegalPast meetings
-  met-read call [] l = tt
-  met-read call (Begin k ∷ past) l = more-read (entry_of call past).func (done past) (begun past) (done past) (suc (begun past)) (met job call past) (omega arith) (λ j v a b. b) (met-read call past l.1)
-  met-read call (Return k a ∷ past) l =
+  pub visits-read : (call : CallNo) (past : List Item) → IsLegalPast job past → Reads call past
+  unfolding IsLegalPast all_visits
+  visits-read call [] l = tt
+  visits-read call (Begin k ∷ past) l = more-read (entry_of call past).func (done past) (begun past) (done past) (suc (begun past)) (visits job call past) (omega arith) (λ j v a b. b) (visits-read call past l.1)
+  visits-read call (Return k a ∷ past) l =
       let follows = l.0.rule.follows in
-      more-read (entry_of call past).func (done past) (begun past) (suc (done past)) (begun past) (met job call past) (omega arith) (λ j v x b. inl (omega arith)) (met-read call past l.1)
-  met-read call (Enter c x f caller ∷ past) l =
+      more-read (entry_of call past).func (done past) (begun past) (suc (done past)) (begun past) (visits job call past) (omega arith) (λ j v x b. inl (omega arith)) (visits-read call past l.1)
+  visits-read call (Enter c x f caller ∷ past) l =
       elim (same_call c call) as (λ b. same_call c call ≡ b → Reads call (Enter c x f caller ∷ past)) [
         | true ↦ λ e.
             let same : c ≡ call = same_call-eq c call e in
-            rw (subst (λ z. met job z past ≡ []) same (none-before c x f caller past (l.0.run c.task.0))) tt
-        | false ↦ λ e. rw (entry_of-more call (Enter c x f caller) past e) (met-read call past l.1)
+            rw (subst (λ z. visits job z past ≡ []) same (none-before c x f caller past (l.0.run c.task.0))) tt
+        | false ↦ λ e. rw (entry_of-more call (Enter c x f caller) past e) (visits-read call past l.1)
       ] refl
-  met-read call (Back c u ∷ past) l = one-read call c u.0 past true (legal-counts job past l.1).0 (met-read call past l.1)
-  met-read call (Refuse c u reason ∷ past) l = one-read call c u.0 past false (legal-counts job past l.1).0 (met-read call past l.1)
-  met-read call (_ ∷ past) l = met-read call past l.1
+  visits-read call (Back c u ∷ past) l = one-read call c u.0 past true (legal-counts job past l.1).0 (visits-read call past l.1)
+  visits-read call (Refuse c u reason ∷ past) l = one-read call c u.0 past false (legal-counts job past l.1).0 (visits-read call past l.1)
+  visits-read call (_ ∷ past) l = visits-read call past l.1
 
-  -- so on any machine: whoever is on at either desk, and was registered before all that were met, may be met
-  pub may_meet-by-order : (call : CallNo) (u : ℕ) (past : List Item) → IsLegalPast job past
-      → AtEither past (λ k. is_on (desk job k) u (entry_of call past).func ≡ true)
-      → Each (λ m. (user_at (desk job (read_at job call u past)) u).since < m.since) (met job call past)
-      → MayMeet job past call u
-  may_meet-by-order call u past legal on order = record { on = on; once = once-by-order call u past (met job call past) (met-read call past legal) order; order = order }
+  -- so on any machine: whoever is on at either desk, and was registered before all that were visited, may be visited
+  pub may_visit-by-order : (call : CallNo) (u : ℕ) (past : List Item) → IsLegalPast job past
+      → AtReturnedOrBegun past (λ k. is_on (desk job k) u (entry_of call past).func ≡ true)
+      → Each (λ m. (user_at (desk job (registration_at job call u past)) u).since < m.since) (visits job call past)
+      → MayVisit job past call u
+  may_visit-by-order call u past legal on order = record { on = on; once = once-by-order call u past (visits job call past) (visits-read call past legal) order; order = order }
 
   -- ## users that replace, on two desks side by side
 
@@ -240,31 +240,31 @@ module _ (job : Job) (is : IsJob job) where
       forth x ne (inl y) = rw ((step-one k).1 x ne) y
       forth x ne (inr y) = y
 
-  -- ## nobody is met twice, so of those that replace there is one
+  -- ## nobody is visited twice, so of those that replace there is one
 
-  abbrev Distinct : List Meeting → Type 0
+  abbrev Distinct : List Visit → Type 0
   Distinct [] = Unit {0}
   Distinct (m ∷ ms) = (list_any (λ x. x.user == m.user) ms ≡ false) × Distinct ms
 
-  distinct-one : (call c : CallNo) (u : ℕ) (past : List Item) (back : Bool) → IsUnmet job c u past → Distinct (met job call past)
-      → Distinct (cond (same_call c call) (meeting job c u past (meetings job past) back ∷ met job call past) (met job call past))
+  distinct-one : (call c : CallNo) (u : ℕ) (past : List Item) (back : Bool) → IsUnvisited job c u past → Distinct (visits job call past)
+      → Distinct (cond (same_call c call) (visit job c u past (all_visits job past) back ∷ visits job call past) (visits job call past))
   distinct-one call c u past back un h =
-      elim (same_call c call) as (λ b. same_call c call ≡ b → Distinct (cond b (meeting job c u past (meetings job past) back ∷ met job call past) (met job call past))) [
-        | true ↦ λ e. (subst (λ z. IsUnmet job z u past) (same_call-eq c call e) un, h)
+      elim (same_call c call) as (λ b. same_call c call ≡ b → Distinct (cond b (visit job c u past (all_visits job past) back ∷ visits job call past) (visits job call past))) [
+        | true ↦ λ e. (subst (λ z. IsUnvisited job z u past) (same_call-eq c call e) un, h)
         | false ↦ λ e. h
       ] refl
 
-  pub met-distinct : (call : CallNo) (past : List Item) → IsLegalPast job past → Distinct (met job call past)
-  unfolding IsLegalPast meetings
-  met-distinct call [] l = tt
-  met-distinct call (Back c u ∷ past) l = distinct-one call c u.0 past true l.0.rule.0.meets.once (met-distinct call past l.1)
-  met-distinct call (Refuse c u reason ∷ past) l = distinct-one call c u.0 past false l.0.rule.0.once (met-distinct call past l.1)
-  met-distinct call (_ ∷ past) l = met-distinct call past l.1
+  pub visits-distinct : (call : CallNo) (past : List Item) → IsLegalPast job past → Distinct (visits job call past)
+  unfolding IsLegalPast all_visits
+  visits-distinct call [] l = tt
+  visits-distinct call (Back c u ∷ past) l = distinct-one call c u.0 past true l.0.rule.0.visit.once (visits-distinct call past l.1)
+  visits-distinct call (Refuse c u reason ∷ past) l = distinct-one call c u.0 past false l.0.rule.0.once (visits-distinct call past l.1)
+  visits-distinct call (_ ∷ past) l = visits-distinct call past l.1
 
-  abbrev replaces : Meeting → Bool
+  abbrev replaces : Visit → Bool
   replaces m = m.back && is_some (spec_at job m.user).ipmodify
 
-  one-of : (P : ℕ → Type 0) → ((u v : ℕ) → P u → P v → u ≡ v) → (ms : List Meeting) → Each (λ m. replaces m ≡ true → P m.user) ms → Distinct ms → length (backs_with_replacement job ms) ≤ 1
+  one-of : (P : ℕ → Type 0) → ((u v : ℕ) → P u → P v → u ≡ v) → (ms : List Visit) → Each (λ m. replaces m ≡ true → P m.user) ms → Distinct ms → length (backs_with_replacement job ms) ≤ 1
   one-of P one [] h d = omega arith
   one-of P one (m ∷ ms) h d =
       elim (replaces m) as (λ b. replaces m ≡ b → length (cond b (m ∷ backs_with_replacement job ms) (backs_with_replacement job ms)) ≤ 1) [
@@ -272,7 +272,7 @@ module _ (job : Job) (is : IsJob job) where
         | false ↦ λ e. one-of P one ms h.1 d.1
       ] refl
     where
-      none : (xs : List Meeting) → P m.user → Each (λ x. replaces x ≡ true → P x.user) xs → list_any (λ x. x.user == m.user) xs ≡ false → backs_with_replacement job xs ≡ []
+      none : (xs : List Visit) → P m.user → Each (λ x. replaces x ≡ true → P x.user) xs → list_any (λ x. x.user == m.user) xs ≡ false → backs_with_replacement job xs ≡ []
       none [] p k no' = refl
       none (x ∷ xs) p k no' =
           let both = or-false_both (x.user == m.user) (list_any (λ y. y.user == m.user) xs) no' in
@@ -285,14 +285,14 @@ module _ (job : Job) (is : IsJob job) where
 
   -- at a Body: where each user that replaces and was called back is registered and matches at either command, there is one at most
   pub one-replaces : (call : CallNo) (f : ℕ) (past : List Item) → f < funcs job → IsLegalPast job past
-      → Each (λ m. replaces m ≡ true → AtEither past (λ k. modifies (desk job k) m.user f ≡ true)) (met job call past)
-      → OneReplaces (backs_with_replacement job (met job call past))
-  one-replaces call f past lt legal h = one-of (λ u. AtEither past (λ k. modifies (desk job k) u f ≡ true)) same (met job call past) h (met-distinct call past legal)
+      → Each (λ m. replaces m ≡ true → AtReturnedOrBegun past (λ k. modifies (desk job k) m.user f ≡ true)) (visits job call past)
+      → OneReplaces (backs_with_replacement job (visits job call past))
+  one-replaces call f past lt legal h = one-of (λ u. AtReturnedOrBegun past (λ k. modifies (desk job k) u f ≡ true)) same (visits job call past) h (visits-distinct call past legal)
     where
       counts : (done past ≤ begun past) × (begun past ≤ suc (done past))
       counts = legal-counts job past legal
 
-      spread : (u : ℕ) → AtEither past (λ k. modifies (desk job k) u f ≡ true) → Either (done past) u f
+      spread : (u : ℕ) → AtReturnedOrBegun past (λ k. modifies (desk job k) u f ≡ true) → Either (done past) u f
       spread u (inl x) = inl x
       spread u (inr x) =
           elim (eqb_tells (begun past) (done past)) [
@@ -309,5 +309,5 @@ module _ (job : Job) (is : IsJob job) where
                 | false ↦ λ e. let gt : done past < begun past = leb-false (begun past) (done past) e in omega (arith, b, gt)
               ] refl
 
-      same : (u v : ℕ) → AtEither past (λ k. modifies (desk job k) u f ≡ true) → AtEither past (λ k. modifies (desk job k) v f ≡ true) → u ≡ v
+      same : (u v : ℕ) → AtReturnedOrBegun past (λ k. modifies (desk job k) u f ≡ true) → AtReturnedOrBegun past (λ k. modifies (desk job k) v f ≡ true) → u ≡ v
       same u v x y = lone-either (done past) f u v lt (spread u x) (spread v y)

@@ -5,7 +5,7 @@ use Rattle.ft_base.specs.declared.number.FuncNo.{FuncNo}
 use Rattle.ft_base.specs.Job.{Job}
 use Rattle.ft_base.specs.Desk.{spec_at}
 use Rattle.ft_base.specs.Kinds.{cancels}
-use Rattle.ft_hist.specs.Past.{Meeting}
+use Rattle.ft_hist.specs.Past.{Visit}
 use Rattle.ft_hist.specs.Rules.{HasExit}
 
 -- a user whose exit a call's frame owes: its registration, and the place of its Back
@@ -15,9 +15,9 @@ pub record FrameUser : Type 0 where
   pub entry : ℕ
 
 -- the function that runs after one more user was called back
-abbrev pub or_runs : FuncNo → Option FuncNo → FuncNo
-or_runs g None = g
-or_runs g (Some f) = f
+abbrev pub runs_after : FuncNo → Option FuncNo → FuncNo
+runs_after g None = g
+runs_after g (Some f) = f
 
 -- whether a list has nothing
 abbrev pub is_nil : {A : Type 0} → List A → Bool
@@ -25,15 +25,15 @@ is_nil [] = true
 is_nil (x ∷ xs) = false
 
 -- a user of a frame comes from a Back of the call that wants its exit
-abbrev pub IsOwed : Job → List Meeting → FrameUser → Type 0
-IsOwed job ms x = (m : Meeting) × Contains ms m × (m.user ≡ x.user) × (m.place ≡ x.entry) × (m.reg ≡ x.reg) × HasExit job m
+abbrev pub IsOwed : Job → List Visit → FrameUser → Type 0
+IsOwed job ms x = (m : Visit) × Contains ms m × (m.user ≡ x.user) × (m.place ≡ x.entry) × (m.reg ≡ x.reg) × HasExit job m
 
--- whether a user of a frame is that of a meeting
-abbrev pub is_user_of : Meeting → FrameUser → Bool
+-- whether a user of a frame is that of a visit
+abbrev pub is_user_of : Visit → FrameUser → Bool
 is_user_of m x = (x.user == m.user) && (x.reg == m.reg) && (x.entry == m.place)
 
--- whether the user of a meeting is in a frame
-abbrev pub is_among : Meeting → List FrameUser → Bool
+-- whether the user of a visit is in a frame
+abbrev pub is_among : Visit → List FrameUser → Bool
 is_among m users = list_any (λ x. is_user_of m x) users
 
 -- the Backs stand in this order
@@ -41,12 +41,12 @@ abbrev pub Rises : List FrameUser → Type 0
 Rises [] = Unit {0}
 Rises (x ∷ xs) = Each (λ y. x.entry < y.entry) xs × Rises xs
 
--- whether a meeting keeps the call's frame past the Body
-abbrev pub keeps_frame : Job → Meeting → Bool
+-- whether a visit keeps the call's frame past the Body
+abbrev pub keeps_frame : Job → Visit → Bool
 keeps_frame job m = m.wants && not (cancels (spec_at job m.user).kind)
 
 -- a frame's users are those whose exits the call owes
-pub record FrameOf (job : Job) (ms : List Meeting) (users : List FrameUser) : Type 0 where
+pub record FrameOf (job : Job) (ms : List Visit) (users : List FrameUser) : Type 0 where
   pub owed : Each (IsOwed job ms) users
   pub all : Each (λ m. HasExit job m → is_among m users ≡ true) ms
   pub rises : Rises users

@@ -81,29 +81,29 @@ callbacks (ExitEnd c u ∷ past) = ended c u.0 (callbacks past)
 callbacks (_ ∷ past) = callbacks past
 
 -- the context is this one
-abbrev pub is_in : Option Ctx → Ctx → Bool
-is_in None x = false
-is_in (Some y) x = same_ctx y x
+abbrev pub is_ctx : Option Ctx → Ctx → Bool
+is_ctx None x = false
+is_ctx (Some y) x = same_ctx y x
 
 -- whether a callback of this task and context is open
 abbrev pub is_in_callback : ℕ → Ctx → List Item → Bool
-is_in_callback t x past = list_any (λ b. (b.call.task.0 == t) && is_in b.ctx x) (callbacks past)
+is_in_callback t x past = list_any (λ b. (b.call.task.0 == t) && is_ctx b.ctx x) (callbacks past)
 
 -- whether a callback of this user is open
 abbrev pub is_called : ℕ → List Item → Bool
 is_called u past = list_any (λ b. b.user == u) (callbacks past)
 
 -- what is used where a call has no Enter, which a plain run rules out
-abbrev pub never : Entered
-never = record { ctx = Normal; func = 0; caller = None; from = 0 }
+abbrev pub unentered : Entered
+unentered = record { ctx = Normal; func = 0; caller = None; from = 0 }
 
 -- what the Enter of a call tells
 abbrev pub entry_of : CallNo → List Item → Entered
-entry_of call past = or_never (entered call past)
+entry_of call past = or_unentered (entered call past)
   where
-    or_never : Option Entered → Entered
-    or_never None = never
-    or_never (Some e) = e
+    or_unentered : Option Entered → Entered
+    or_unentered None = unentered
+    or_unentered (Some e) = e
 
 -- whether a call is open
 abbrev pub is_open : CallNo → List Item → Bool
@@ -125,7 +125,7 @@ calls (Enter c ctx f caller ∷ past) = c ∷ calls past
 calls (_ ∷ past) = calls past
 
 -- an entry callback or a refusal: of which registration, at which place, and whether it wants a frame
-pub record Meeting : Type 0 where
+pub record Visit : Type 0 where
   pub call : CallNo
   pub user : ℕ
   pub reg : ℕ
@@ -134,51 +134,51 @@ pub record Meeting : Type 0 where
   pub back : Bool
   pub wants : Bool
 
--- among these meetings, one of the call that wants a frame and passes
-abbrev pub has_frame_user : CallNo → (Meeting → Bool) → List Meeting → Bool
+-- among these visits, one of the call that wants a frame and passes
+abbrev pub has_frame_user : CallNo → (Visit → Bool) → List Visit → Bool
 has_frame_user call passes ms = list_any (λ m. same_call m.call call && m.wants && passes m) ms
 
--- whether a call holds a frame, after these meetings
-abbrev pub holds_frame : Job → CallNo → List Item → List Meeting → Bool
+-- whether a call holds a frame, after these visits
+abbrev pub holds_frame : Job → CallNo → List Item → List Visit → Bool
 holds_frame job call past ms =
     is_open call past
     && (if is_dispatched call past then has_frame_user call (λ m. not (cancels (spec_at job m.user).kind)) ms else has_frame_user call (λ m. true) ms)
 
--- how many other calls of the task hold a frame, after these meetings
-abbrev pub held_after : Job → CallNo → List Item → List Meeting → ℕ
+-- how many other calls of the task hold a frame, after these visits
+abbrev pub held_after : Job → CallNo → List Item → List Visit → ℕ
 held_after job call past ms =
     length (filter (λ c. (c.task.0 == call.task.0) && not (same_call c call) && holds_frame job c past ms) (calls past))
 
 -- a Back of the user wants a frame on the shadow stack: always for a graph or profile user, and for an fprobe with an exit
 -- where the other calls leave room for one (ftrace.rst, function graph tracer; fprobe.rst, The missed counter)
-abbrev pub wants_frame : Job → CallNo → ℕ → List Item → List Meeting → Bool
+abbrev pub wants_frame : Job → CallNo → ℕ → List Item → List Visit → Bool
 wants_frame job call u past ms =
     has_depth (spec_at job u).kind || (has_exit (spec_at job u).kind && nat_lt (held_after job call past ms) job.frames)
 
--- the command up to which a user's registration is read: where it is on when the last has returned, that, else the last that has begun
-abbrev pub read_at : Job → CallNo → ℕ → List Item → ℕ
-read_at job call u past = if is_on (desk job (done past)) u (entry_of call past).func then done past else begun past
+-- the number of commands after which a user's registration is read: those that have returned if it is on then, else those that have begun
+abbrev pub registration_at : Job → CallNo → ℕ → List Item → ℕ
+registration_at job call u past = if is_on (desk job (done past)) u (entry_of call past).func then done past else begun past
 
 -- what a Back or a Refuse of a user in a call is, on the past before it
-abbrev pub meeting : Job → CallNo → ℕ → List Item → List Meeting → Bool → Meeting
-meeting job call u past ms back =
-    let s = user_at (desk job (read_at job call u past)) u in
+abbrev pub visit : Job → CallNo → ℕ → List Item → List Visit → Bool → Visit
+visit job call u past ms back =
+    let s = user_at (desk job (registration_at job call u past)) u in
     record { call = call; user = u; reg = s.reg; since = s.since; place = length past; back = back; wants = back && wants_frame job call u past ms }
 
 -- the entry callbacks and refusals, the latest first
-unfoldable pub meetings : Job → List Item → List Meeting
-meetings job [] = []
-meetings job (Back c u ∷ past) = meeting job c u.0 past (meetings job past) true ∷ meetings job past
-meetings job (Refuse c u reason ∷ past) = meeting job c u.0 past (meetings job past) false ∷ meetings job past
-meetings job (_ ∷ past) = meetings job past
+unfoldable pub all_visits : Job → List Item → List Visit
+all_visits job [] = []
+all_visits job (Back c u ∷ past) = visit job c u.0 past (all_visits job past) true ∷ all_visits job past
+all_visits job (Refuse c u reason ∷ past) = visit job c u.0 past (all_visits job past) false ∷ all_visits job past
+all_visits job (_ ∷ past) = all_visits job past
 
 -- how many other calls of the task hold a frame now
 abbrev pub held : Job → CallNo → List Item → ℕ
-held job call past = held_after job call past (meetings job past)
+held job call past = held_after job call past (all_visits job past)
 
 -- those of one call
-abbrev pub met : Job → CallNo → List Item → List Meeting
-met job call past = filter (λ m. same_call m.call call) (meetings job past)
+abbrev pub visits : Job → CallNo → List Item → List Visit
+visits job call past = filter (λ m. same_call m.call call) (all_visits job past)
 
 -- the Miss that has to be the task's next item: that of an fprobe with an exit whose latest Back found no room for a frame
 abbrev pub miss_due : Job → ℕ → List Item → Option Callback
@@ -198,7 +198,7 @@ exits call (Exit c u entry ∷ past) = if same_call c call then entry ∷ exits 
 exits call (_ ∷ past) = exits call past
 
 -- how many commands had returned at the call's Leave
-abbrev pub left_at : CallNo → List Item → ℕ
-left_at call [] = 0
-left_at call (Leave c ∷ past) = if same_call c call then done past else left_at call past
-left_at call (_ ∷ past) = left_at call past
+abbrev pub done_at_leave : CallNo → List Item → ℕ
+done_at_leave call [] = 0
+done_at_leave call (Leave c ∷ past) = if same_call c call then done past else done_at_leave call past
+done_at_leave call (_ ∷ past) = done_at_leave call past

@@ -5,10 +5,10 @@ use Rattle.ft_base.specs.declared.context.Ctx.{Ctx}
 use Rattle.ft_base.specs.declared.context.Ctx.TheVariants.{Normal, Irq}
 use Rattle.ft_base.specs.declared.item.Item.{Item}
 use Rattle.ft_base.specs.declared.item.Item.TheVariants.{Enter, Back, BackEnd, Refuse, Miss, Body, Leave, Exit, ExitEnd, Ret}
-use Rattle.ft_base.specs.declared.plan.TaskAct.{TaskAct}
-use Rattle.ft_base.specs.declared.plan.TaskAct.TheVariants.{Call, Ret as RetAct, Raise, Lower, After}
-use Rattle.ft_base.specs.declared.plan.Act.{Act}
-use Rattle.ft_base.specs.declared.plan.Act.TheVariants.{CallIn, IrqIn}
+use Rattle.ft_base.specs.declared.task.TaskAct.{TaskAct}
+use Rattle.ft_base.specs.declared.task.TaskAct.TheVariants.{Call, Ret as RetAct, Raise, Lower, After}
+use Rattle.ft_base.specs.declared.user.Act.{Act}
+use Rattle.ft_base.specs.declared.user.Act.TheVariants.{CallIn, IrqIn}
 use Rattle.ft_base.specs.Same.{same_call, same_ctx, rank}
 use Rattle.ft_base.specs.Job.{Job, no_task}
 use Rattle.ft_base.specs.Desk.{spec_at}
@@ -97,8 +97,8 @@ abbrev pub on_top : PlainTask → Frame → List Frame → PlainTask
 on_top s t below = record s { stack = t ∷ below }
 
 -- a scripted call: the next act that gives items is that call
-abbrev pub enters_by_script : PlainTask → List TaskAct → List Ctx → ℕ → CallNo → Ctx → ℕ → Option PlainTask
-enters_by_script s (Call g ∷ rest) cs gone call ctx f =
+abbrev pub after_scripted_enter : PlainTask → List TaskAct → List Ctx → ℕ → CallNo → Ctx → ℕ → Option PlainTask
+after_scripted_enter s (Call g ∷ rest) cs gone call ctx f =
     if (g.0 == f) && same_ctx ctx (context cs)
     then Some (record {
       next = suc s.next;
@@ -107,16 +107,16 @@ enters_by_script s (Call g ∷ rest) cs gone call ctx f =
       contexts = cs;
       stack = record { call = call; ctx = ctx; func = f; scripted = true; phase = Dispatch } ∷ s.stack;
     }) else None
-enters_by_script s _ cs gone call ctx f = None
+after_scripted_enter s _ cs gone call ctx f = None
 
 -- a scripted call, behind the acts that give no items
-abbrev pub enters_ahead : PlainTask → Ahead → CallNo → Ctx → ℕ → Option PlainTask
-enters_ahead s a call ctx f = enters_by_script s a.acts a.contexts a.gone call ctx f
+abbrev pub after_enter_ahead : PlainTask → Ahead → CallNo → Ctx → ℕ → Option PlainTask
+after_enter_ahead s a call ctx f = after_scripted_enter s a.acts a.contexts a.gone call ctx f
 
 -- a call that a user's act owes
-abbrev pub enters_owed : PlainTask → Frame → List Frame → ℕ → Option Owed → CallNo → Ctx → ℕ → Option PlainTask
-enters_owed s t below u None call ctx f = None
-enters_owed s t below u (Some o) call ctx f =
+abbrev pub after_owed_enter : PlainTask → Frame → List Frame → ℕ → Option Owed → CallNo → Ctx → ℕ → Option PlainTask
+after_owed_enter s t below u None call ctx f = None
+after_owed_enter s t below u (Some o) call ctx f =
     if (o.func == f) && same_ctx o.ctx ctx
     then Some (record s {
       next = suc s.next;
@@ -124,71 +124,71 @@ enters_owed s t below u (Some o) call ctx f =
     }) else None
 
 -- the call may be entered over this stack
-abbrev pub enters_over : ℕ → PlainTask → List Frame → CallNo → Ctx → ℕ → Option PlainTask
-enters_over returned s [] call ctx f = enters_ahead s (ahead returned s.acts s.contexts s.gone) call ctx f
-enters_over returned s (t ∷ below) call ctx f = by_phase t.phase
+abbrev pub after_enter : ℕ → PlainTask → List Frame → CallNo → Ctx → ℕ → Option PlainTask
+after_enter returned s [] call ctx f = after_enter_ahead s (ahead returned s.acts s.contexts s.gone) call ctx f
+after_enter returned s (t ∷ below) call ctx f = by_phase t.phase
   where
     by_phase : Phase → Option PlainTask
-    by_phase Running = if t.scripted then enters_ahead s (ahead returned s.acts s.contexts s.gone) call ctx f else None
-    by_phase (InBack u owed fresh) = enters_owed s t below u owed call ctx f
+    by_phase Running = if t.scripted then after_enter_ahead s (ahead returned s.acts s.contexts s.gone) call ctx f else None
+    by_phase (InBack u owed fresh) = after_owed_enter s t below u owed call ctx f
     by_phase _ = None
 
 -- with the top call in a phase, the task goes on to another
-abbrev pub begins_back : Job → PlainTask → Frame → List Frame → ℕ → Phase → Option PlainTask
-begins_back job s t below u Dispatch = Some (on_top s (in_phase t (InBack u (owed_by t.ctx (spec_at job u).act) true)) below)
-begins_back job s t below u _ = None
+abbrev pub after_back : Job → PlainTask → Frame → List Frame → ℕ → Phase → Option PlainTask
+after_back job s t below u Dispatch = Some (on_top s (in_phase t (InBack u (owed_by t.ctx (spec_at job u).act) true)) below)
+after_back job s t below u _ = None
 
 -- a Miss stands directly after the Back of its user
-abbrev pub misses : PlainTask → Frame → List Frame → ℕ → Phase → Option PlainTask
-misses s t below u (InBack v owed true) = if u == v then Some (on_top s (in_phase t (InBack v owed false)) below) else None
-misses s t below u _ = None
+abbrev pub after_miss : PlainTask → Frame → List Frame → ℕ → Phase → Option PlainTask
+after_miss s t below u (InBack v owed true) = if u == v then Some (on_top s (in_phase t (InBack v owed false)) below) else None
+after_miss s t below u _ = None
 
 -- an entry callback ends where its user's act owes nothing more
-abbrev pub ends_back : PlainTask → Frame → List Frame → ℕ → Phase → Option PlainTask
-ends_back s t below u (InBack v None fresh) = if u == v then Some (on_top s (in_phase t Dispatch) below) else None
-ends_back s t below u _ = None
+abbrev pub after_back_end : PlainTask → Frame → List Frame → ℕ → Phase → Option PlainTask
+after_back_end s t below u (InBack v None fresh) = if u == v then Some (on_top s (in_phase t Dispatch) below) else None
+after_back_end s t below u _ = None
 
 -- a refusal stands in the dispatch and changes nothing
-abbrev pub stays : PlainTask → Phase → Option PlainTask
-stays s Dispatch = Some s
-stays s _ = None
+abbrev pub after_refusal : PlainTask → Phase → Option PlainTask
+after_refusal s Dispatch = Some s
+after_refusal s _ = None
 
 -- the dispatch is over
-abbrev pub begins_body : PlainTask → Frame → List Frame → Phase → Option PlainTask
-begins_body s t below Dispatch = Some (on_top s (in_phase t Running) below)
-begins_body s t below _ = None
+abbrev pub after_body : PlainTask → Frame → List Frame → Phase → Option PlainTask
+after_body s t below Dispatch = Some (on_top s (in_phase t Running) below)
+after_body s t below _ = None
 
 -- a scripted return: the next act that gives items is `ret`
-abbrev pub leaves_by_script : PlainTask → Frame → List Frame → List TaskAct → List Ctx → ℕ → Option PlainTask
-leaves_by_script s t below (RetAct ∷ rest) cs gone =
+abbrev pub after_scripted_leave : PlainTask → Frame → List Frame → List TaskAct → List Ctx → ℕ → Option PlainTask
+after_scripted_leave s t below (RetAct ∷ rest) cs gone =
     Some (record { next = s.next; acts = rest; gone = suc gone; contexts = cs; stack = in_phase t Leaving ∷ below })
-leaves_by_script s t below _ cs gone = None
+after_scripted_leave s t below _ cs gone = None
 
 -- a scripted return, behind the acts that give no items
-abbrev pub leaves_ahead : PlainTask → Frame → List Frame → Ahead → Option PlainTask
-leaves_ahead s t below a = leaves_by_script s t below a.acts a.contexts a.gone
+abbrev pub after_leave_ahead : PlainTask → Frame → List Frame → Ahead → Option PlainTask
+after_leave_ahead s t below a = after_scripted_leave s t below a.acts a.contexts a.gone
 
 -- the body is over: by the script, or at once in a call that a user's act made
-abbrev pub leaves : ℕ → PlainTask → Frame → List Frame → Phase → Option PlainTask
-leaves returned s t below Running =
-    if t.scripted then leaves_ahead s t below (ahead returned s.acts s.contexts s.gone)
+abbrev pub after_leave : ℕ → PlainTask → Frame → List Frame → Phase → Option PlainTask
+after_leave returned s t below Running =
+    if t.scripted then after_leave_ahead s t below (ahead returned s.acts s.contexts s.gone)
     else Some (on_top s (in_phase t Leaving) below)
-leaves returned s t below _ = None
+after_leave returned s t below _ = None
 
 -- an exit callback stands in the return
-abbrev pub begins_exit : PlainTask → Frame → List Frame → ℕ → Phase → Option PlainTask
-begins_exit s t below u Leaving = Some (on_top s (in_phase t (InExit u)) below)
-begins_exit s t below u _ = None
+abbrev pub after_exit : PlainTask → Frame → List Frame → ℕ → Phase → Option PlainTask
+after_exit s t below u Leaving = Some (on_top s (in_phase t (InExit u)) below)
+after_exit s t below u _ = None
 
 -- the exit callback that is open ends
-abbrev pub ends_exit : PlainTask → Frame → List Frame → ℕ → Phase → Option PlainTask
-ends_exit s t below u (InExit v) = if u == v then Some (on_top s (in_phase t Leaving) below) else None
-ends_exit s t below u _ = None
+abbrev pub after_exit_end : PlainTask → Frame → List Frame → ℕ → Phase → Option PlainTask
+after_exit_end s t below u (InExit v) = if u == v then Some (on_top s (in_phase t Leaving) below) else None
+after_exit_end s t below u _ = None
 
 -- the return reaches the call below on the stack, which is the true caller
-abbrev pub returns : PlainTask → List Frame → Option CallNo → Phase → Option PlainTask
-returns s below to Leaving = if same_top to (top_call below) then Some (record s { stack = below }) else None
-returns s below to _ = None
+abbrev pub after_ret : PlainTask → List Frame → Option CallNo → Phase → Option PlainTask
+after_ret s below to Leaving = if same_top to (top_call below) then Some (record s { stack = below }) else None
+after_ret s below to _ = None
 
 -- the task goes on by an item of its top call
 abbrev pub on_call : List Frame → CallNo → (Frame → List Frame → Option PlainTask) → Option PlainTask
@@ -196,30 +196,30 @@ on_call [] call next = None
 on_call (t ∷ below) call next = if same_call t.call call then next t below else None
 
 -- the task after one more item, where a plain run may have it there
-unfoldable pub reads : Job → ℕ → PlainTask → Item → Option PlainTask
-reads job returned s (Enter call ctx f caller) =
-    if (call.n == s.next) && same_top caller (top_call s.stack) then enters_over returned s s.stack call ctx f.0 else None
-reads job returned s (Back call u) = on_call s.stack call (λ t below. begins_back job s t below u.0 t.phase)
-reads job returned s (BackEnd call u) = on_call s.stack call (λ t below. ends_back s t below u.0 t.phase)
-reads job returned s (Refuse call u reason) = on_call s.stack call (λ t below. stays s t.phase)
-reads job returned s (Miss call u) = on_call s.stack call (λ t below. misses s t below u.0 t.phase)
-reads job returned s (Body call g ran) = on_call s.stack call (λ t below. begins_body s t below t.phase)
-reads job returned s (Leave call) = on_call s.stack call (λ t below. leaves returned s t below t.phase)
-reads job returned s (Exit call u entry) = on_call s.stack call (λ t below. begins_exit s t below u.0 t.phase)
-reads job returned s (ExitEnd call u) = on_call s.stack call (λ t below. ends_exit s t below u.0 t.phase)
-reads job returned s (Ret call to) = on_call s.stack call (λ t below. returns s below to t.phase)
-reads job returned s _ = Some s
+unfoldable pub after_item : Job → ℕ → PlainTask → Item → Option PlainTask
+after_item job returned s (Enter call ctx f caller) =
+    if (call.n == s.next) && same_top caller (top_call s.stack) then after_enter returned s s.stack call ctx f.0 else None
+after_item job returned s (Back call u) = on_call s.stack call (λ t below. after_back job s t below u.0 t.phase)
+after_item job returned s (BackEnd call u) = on_call s.stack call (λ t below. after_back_end s t below u.0 t.phase)
+after_item job returned s (Refuse call u reason) = on_call s.stack call (λ t below. after_refusal s t.phase)
+after_item job returned s (Miss call u) = on_call s.stack call (λ t below. after_miss s t below u.0 t.phase)
+after_item job returned s (Body call g ran) = on_call s.stack call (λ t below. after_body s t below t.phase)
+after_item job returned s (Leave call) = on_call s.stack call (λ t below. after_leave returned s t below t.phase)
+after_item job returned s (Exit call u entry) = on_call s.stack call (λ t below. after_exit s t below u.0 t.phase)
+after_item job returned s (ExitEnd call u) = on_call s.stack call (λ t below. after_exit_end s t below u.0 t.phase)
+after_item job returned s (Ret call to) = on_call s.stack call (λ t below. after_ret s below to t.phase)
+after_item job returned s _ = Some s
 
 -- a task before its first act
 abbrev pub at_start : Job → ℕ → PlainTask
 at_start job t = record { next = 1; acts = (get_or job.tasks t no_task).acts; gone = 0; contexts = []; stack = [] }
 
 -- the run goes on by one more item, where it came so far
-abbrev pub read_on : Job → ℕ → Item → Option PlainTask → Option PlainTask
-read_on job returned item None = None
-read_on job returned item (Some s) = reads job returned s item
+abbrev pub after_next : Job → ℕ → Item → Option PlainTask → Option PlainTask
+after_next job returned item None = None
+after_next job returned item (Some s) = after_item job returned s item
 
 -- where a task is on its plain run after these items, if that run has them
 unfoldable pub plain : Job → ℕ → List Item → Option PlainTask
 plain job t [] = Some (at_start job t)
-plain job t (item ∷ past) = if is_of t item then read_on job (done past) item (plain job t past) else plain job t past
+plain job t (item ∷ past) = if is_of t item then after_next job (done past) item (plain job t past) else plain job t past

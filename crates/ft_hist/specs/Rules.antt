@@ -1,8 +1,15 @@
--- Which item may stand after a past, and which histories are legal.
+-- Which item may come after a past, and which histories are legal. The parts, in the order of docs/RULES.md:
+--   callbacks   MayVisit, IsStill                 a user is on, once in a call, the latest registered first; none is open at its end
+--   silence     MayBody.silent                    whoever was not visited was off at some command of the window
+--   refusals    PassesPid, MayBack, MayRefuse     pid, recursion, depth
+--   exits       MayMiss, MayExit, LacksOnlyDead   misses, exits in order, exits that lack
+--   fetches     MayBody                           what was fetched, whom it lets in, what runs
+--   commands    MayBegin, MayReturn, HasWaited    numbers, answers, waits of control
+-- MayStand is the rule of one item, and MayFollow adds that its task is on its plain run.
 use Rattle.std.specs.Prelude.{if◌then◌else◌, ℕ, suc, ◌≡◌, ◌<◌, ◌≤◌, ◌⊎◌, true, false, ◌&&◌, ◌==◌, List, [], ◌∷◌, length, reverse, Option, Some, None, is_some, slice_get, zero, ◌-◌, IfSome, IsSome, Contains}
 use Rattle.std.specs.List.{list_any, AllByRecursion as Each, filter}
-use Rattle.ft_base.specs.declared.plan.TaskAct.{TaskAct}
-use Rattle.ft_base.specs.declared.plan.TaskAct.TheVariants.{Call, Ret as RetAct}
+use Rattle.ft_base.specs.declared.task.TaskAct.{TaskAct}
+use Rattle.ft_base.specs.declared.task.TaskAct.TheVariants.{Call, Ret as RetAct}
 use Rattle.ft_base.specs.declared.number.CallNo.{CallNo}
 use Rattle.ft_base.specs.declared.number.FuncNo.{FuncNo}
 use Rattle.ft_base.specs.declared.item.Reason.{Reason}
@@ -13,70 +20,70 @@ use Rattle.ft_base.specs.declared.item.Answer.{Answer}
 use Rattle.ft_base.specs.declared.item.Item.{Item}
 use Rattle.ft_base.specs.declared.item.Item.TheVariants.{Begin, Return, Enter, Back, BackEnd, Refuse, Miss, Body, Leave, Exit, ExitEnd, Ret}
 use Rattle.ft_base.specs.Job.{Job, Command, Unregister, Disable, commands, Ctl, Run, Until}
-use Rattle.ft_base.specs.Desk.{spec_at, desk, is_on, is_live, is_allowed, target, answer_on, is_accepted, user_at}
+use Rattle.ft_base.specs.Desk.{spec_at, desk, is_on, is_live, is_allowed, target, answer_at, is_accepted, user_at}
 use Rattle.ft_base.specs.Kinds.{has_depth, cancels}
-use Rattle.ft_hist.specs.Past.{done, begun, entry_of, is_in_callback, is_called, met, held, Meeting, read_at, miss_due, exits, left_at}
+use Rattle.ft_hist.specs.Past.{done, begun, entry_of, is_in_callback, is_called, visits, held, Visit, registration_at, miss_due, exits, done_at_leave}
 use Rattle.ft_hist.specs.Plain.{plain, ahead, PlainTask, Frame, Phase, Running}
 
--- a fact at the last returned command or at the last begun one
-abbrev pub AtEither : List Item → (ℕ → Type 0) → Type 0
-AtEither past P = P (done past) ⊎ P (begun past)
+-- a fact after the commands that have returned, or after those that have begun
+abbrev pub AtReturnedOrBegun : List Item → (ℕ → Type 0) → Type 0
+AtReturnedOrBegun past P = P (done past) ⊎ P (begun past)
 
 -- a fact at some command between the last returned at the call's Enter and the last begun by now
 abbrev pub InWindow : CallNo → List Item → (ℕ → Type 0) → Type 0
 InWindow call past P = (k : ℕ) × ((entry_of call past).from ≤ k) × (k ≤ begun past) × P k
 
 -- the user has had no callback and no refusal in the call
-abbrev pub IsUnmet : Job → CallNo → ℕ → List Item → Type 0
-IsUnmet job call u past = list_any (λ m. m.user == u) (met job call past) ≡ false
+abbrev pub IsUnvisited : Job → CallNo → ℕ → List Item → Type 0
+IsUnvisited job call u past = list_any (λ m. m.user == u) (visits job call past) ≡ false
 
--- a callback or a refusal: the user is on, for the first time in the call, and was registered before those it met
-pub record MayMeet (job : Job) (past : List Item) (call : CallNo) (u : ℕ) : Type 0 where
-  pub on : AtEither past (λ k. is_on (desk job k) u (entry_of call past).func ≡ true)
-  pub once : IsUnmet job call u past
-  pub order : Each (λ m. (user_at (desk job (read_at job call u past)) u).since < m.since) (met job call past)
+-- a callback or a refusal: the user is on, for the first time in the call, and was registered before those visited so far
+pub record MayVisit (job : Job) (past : List Item) (call : CallNo) (u : ℕ) : Type 0 where
+  pub on : AtReturnedOrBegun past (λ k. is_on (desk job k) u (entry_of call past).func ≡ true)
+  pub once : IsUnvisited job call u past
+  pub order : Each (λ m. (user_at (desk job (registration_at job call u past)) u).since < m.since) (visits job call past)
 
 -- the pid rule where the user is not refused for it
 abbrev pub PassesPid : Job → List Item → CallNo → ℕ → Type 0
-PassesPid job past call u = (spec_at job u).pid ≡ true → AtEither past (λ k. is_allowed (desk job k) call.task.0 ≡ true)
+PassesPid job past call u = (spec_at job u).pid ≡ true → AtReturnedOrBegun past (λ k. is_allowed (desk job k) call.task.0 ≡ true)
 
--- an entry callback: the user may be met and passes the pid rule, no callback of the task and context is open
+-- an entry callback: the user may be visited and passes the pid rule, no callback of the task and context is open
 -- (ftrace-uses.rst, Protect your callback), and a graph or profile user finds a frame and is within the graph depth
 -- (ftrace.rst, The File System: max_graph_depth)
 pub record MayBack (job : Job) (past : List Item) (call : CallNo) (u : ℕ) : Type 0 where
-  pub meets : MayMeet job past call u
+  pub visit : MayVisit job past call u
   pub pid : PassesPid job past call u
   pub free : is_in_callback call.task.0 (entry_of call past).ctx past ≡ false
   pub room : has_depth (spec_at job u).kind ≡ true → held job call past < job.frames
-  pub level : has_depth (spec_at job u).kind ≡ true → AtEither past (λ k. ((desk job k).depth ≡ 0) ⊎ (held job call past < (desk job k).depth))
+  pub level : has_depth (spec_at job u).kind ≡ true → AtReturnedOrBegun past (λ k. ((desk job k).depth ≡ 0) ⊎ (held job call past < (desk job k).depth))
 
 -- the reason of a refusal
 abbrev pub MayRefuse : Job → List Item → CallNo → ℕ → Reason → Type 0
 MayRefuse job past call u ByPid =
-    ((spec_at job u).pid ≡ true) × AtEither past (λ k. is_allowed (desk job k) call.task.0 ≡ false)
+    ((spec_at job u).pid ≡ true) × AtReturnedOrBegun past (λ k. is_allowed (desk job k) call.task.0 ≡ false)
 MayRefuse job past call u Recursion =
     PassesPid job past call u × (is_in_callback call.task.0 (entry_of call past).ctx past ≡ true)
 MayRefuse job past call u Depth =
     PassesPid job past call u × (is_in_callback call.task.0 (entry_of call past).ctx past ≡ false)
     × (has_depth (spec_at job u).kind ≡ true)
-    × ((held job call past ≡ job.frames) ⊎ AtEither past (λ k. (0 < (desk job k).depth) × ((desk job k).depth ≤ held job call past)))
+    × ((held job call past ≡ job.frames) ⊎ AtReturnedOrBegun past (λ k. (0 < (desk job k).depth) × ((desk job k).depth ≤ held job call past)))
 
 -- whom a fetched instruction lets in
-abbrev pub OnlyThose : Ran → List Meeting → Type 0
+abbrev pub OnlyThose : Ran → List Visit → Type 0
 OnlyThose Nop ms = ms ≡ []
 OnlyThose ByList ms = Unit {0}
 OnlyThose (Own u) ms = Each (λ m. m.user ≡ u.0) ms
 
 -- the entry callbacks in a call of users that replace the function
-abbrev pub backs_with_replacement : Job → List Meeting → List Meeting
+abbrev pub backs_with_replacement : Job → List Visit → List Visit
 backs_with_replacement job ms = filter (λ m. m.back && is_some (spec_at job m.user).ipmodify) ms
 
 -- at most one such callback
-abbrev pub OneReplaces : List Meeting → Type 0
+abbrev pub OneReplaces : List Visit → Type 0
 OneReplaces ms = length ms ≤ 1
 
 -- what runs: the replacement of the user that was called back, else the function
-abbrev pub replacement : Job → ℕ → List Meeting → ℕ
+abbrev pub replacement : Job → ℕ → List Visit → ℕ
 replacement job f [] = f
 replacement job f (m ∷ ms) = by_option (spec_at job m.user).ipmodify
   where
@@ -84,14 +91,14 @@ replacement job f (m ∷ ms) = by_option (spec_at job m.user).ipmodify
     by_option None = f
     by_option (Some g) = g.0
 
--- a Body: whoever was not met was off at some command of the window, what was fetched was the site's target at some command
--- of it and lets in those who were met, at most one user replaced the function, and its replacement runs
+-- a Body: whoever was not visited was off at some command of the window, what was fetched was the site's target at some command
+-- of it and lets in those who were visited, at most one user replaced the function, and its replacement runs
 pub record MayBody (job : Job) (past : List Item) (call : CallNo) (g : ℕ) (ran : Ran) : Type 0 where
-  pub silent : (u : ℕ) → u < length job.users → IsUnmet job call u past → InWindow call past (λ k. is_on (desk job k) u (entry_of call past).func ≡ false)
+  pub silent : (u : ℕ) → u < length job.users → IsUnvisited job call u past → InWindow call past (λ k. is_on (desk job k) u (entry_of call past).func ≡ false)
   pub fetched : InWindow call past (λ k. ran ≡ target (desk job k) (entry_of call past).func)
-  pub only : OnlyThose ran (met job call past)
-  pub one : OneReplaces (backs_with_replacement job (met job call past))
-  pub runs : g ≡ replacement job (entry_of call past).func (backs_with_replacement job (met job call past))
+  pub only : OnlyThose ran (visits job call past)
+  pub one : OneReplaces (backs_with_replacement job (visits job call past))
+  pub runs : g ≡ replacement job (entry_of call past).func (backs_with_replacement job (visits job call past))
 
 -- no callback of a user is open where its unregistration or disabling returns
 abbrev pub IsStill : List Item → Command → Type 0
@@ -104,7 +111,7 @@ IsStill past _ = Unit {0}
 pub record MayReturn (job : Job) (past : List Item) (k : ℕ) (answer : Answer) : Type 0 where
   pub number : k ≡ suc (done past)
   pub follows : begun past ≡ suc (done past)
-  pub command : (c : Command) × (slice_get (commands job) (done past) ≡ Some c) × (answer ≡ answer_on job (desk job (done past)) c) × (is_accepted answer ≡ true → IsStill past c)
+  pub command : (c : Command) × (slice_get (commands job) (done past) ≡ Some c) × (answer ≡ answer_at job (done past) c) × (is_accepted answer ≡ true → IsStill past c)
 
 -- a Begin: of the next command, where none is under way
 pub record MayBegin (job : Job) (past : List Item) (k : ℕ) : Type 0 where
@@ -122,37 +129,37 @@ MayMiss job past call u =
     IfSome (miss_due job call.task.0 past) (λ m. (m.call ≡ call) × (m.user ≡ u)) × IsSome (miss_due job call.task.0 past)
 
 -- the Back that set up an exit
-abbrev pub HasExit : Job → Meeting → Type 0
+abbrev pub HasExit : Job → Visit → Type 0
 HasExit job m = (m.back ≡ true) × (m.wants ≡ true) × (cancels (spec_at job m.user).kind ≡ false)
 
 -- an exit: of a Back of that user in the call, after the exits of earlier Backs, while its registration is live
 pub record MayExit (job : Job) (past : List Item) (call : CallNo) (u entry : ℕ) : Type 0 where
-  pub of : (m : Meeting) × Contains (met job call past) m × (m.user ≡ u) × (m.place ≡ entry) × HasExit job m
-      × AtEither past (λ k. is_live (desk job k) u m.reg ≡ true)
+  pub of : (m : Visit) × Contains (visits job call past) m × (m.user ≡ u) × (m.place ≡ entry) × HasExit job m
+      × AtReturnedOrBegun past (λ k. is_live (desk job k) u m.reg ≡ true)
   pub order : Each (λ e. e < entry) (exits call past)
 
 -- at a Ret, an exit is lacking only of a registration that was not live at some command since the Leave
 abbrev pub LacksOnlyDead : Job → List Item → CallNo → Type 0
 LacksOnlyDead job past call =
     Each (λ m. HasExit job m → list_any (λ e. e == m.place) (exits call past) ≡ false
-    → (k : ℕ) × (left_at call past ≤ k) × (k ≤ begun past) × (is_live (desk job k) m.user m.reg ≡ false)) (met job call past)
+    → (k : ℕ) × (done_at_leave call past ≤ k) × (k ≤ begun past) × (is_live (desk job k) m.user m.reg ≡ false)) (visits job call past)
 
 -- how many acts of a task are behind it, those without items counted as soon as they are next
-abbrev pub passed : PlainTask → ℕ
-passed s = passed_with s.gone s.acts s.stack
+abbrev pub acts_passed : PlainTask → ℕ
+acts_passed s = acts_passed_with s.gone s.acts s.stack
   where
-    silent : ℕ → List TaskAct → ℕ
-    silent n [] = n
-    silent n (Call f ∷ rest) = n
-    silent n (RetAct ∷ rest) = n
-    silent n (_ ∷ rest) = silent (suc n) rest
+    past_silent : ℕ → List TaskAct → ℕ
+    past_silent n [] = n
+    past_silent n (Call f ∷ rest) = n
+    past_silent n (RetAct ∷ rest) = n
+    past_silent n (_ ∷ rest) = past_silent (suc n) rest
 
-    passed_with : ℕ → List TaskAct → List Frame → ℕ
-    passed_with n acts [] = silent n acts
-    passed_with n acts (t ∷ below) = by_phase t.phase
+    acts_passed_with : ℕ → List TaskAct → List Frame → ℕ
+    acts_passed_with n acts [] = past_silent n acts
+    acts_passed_with n acts (t ∷ below) = by_phase t.phase
       where
         by_phase : Phase → ℕ
-        by_phase Running = if t.scripted then silent n acts else n - 1
+        by_phase Running = if t.scripted then past_silent n acts else n - 1
         by_phase _ = n - 1
 
 -- the waits of control that stand before its command of this number, from 0
@@ -164,7 +171,7 @@ waits_before (suc n) (Run c ∷ rest) = waits_before n rest
 
 -- the waits before control's next command are met
 abbrev pub HasWaited : Job → List Item → Type 0
-HasWaited job past = Each (λ w. IfSome (plain job w.0 past) (λ s. w.1 ≤ passed s)) (waits_before (begun past) job.ctls)
+HasWaited job past = Each (λ w. IfSome (plain job w.0 past) (λ s. w.1 ≤ acts_passed s)) (waits_before (begun past) job.ctls)
 
 -- the rule of one item
 abbrev pub MayStand : Job → List Item → Item → Type 0
@@ -173,7 +180,7 @@ MayStand job past (Return k answer) = MayReturn job past k answer
 MayStand job past (Enter call ctx f caller) = NoMissDue job past call
 MayStand job past (Back call u) = MayBack job past call u.0 × NoMissDue job past call
 MayStand job past (BackEnd call u) = NoMissDue job past call
-MayStand job past (Refuse call u reason) = MayMeet job past call u.0 × MayRefuse job past call u.0 reason × NoMissDue job past call
+MayStand job past (Refuse call u reason) = MayVisit job past call u.0 × MayRefuse job past call u.0 reason × NoMissDue job past call
 MayStand job past (Miss call u) = MayMiss job past call u.0
 MayStand job past (Body call g ran) = MayBody job past call g.0 ran × NoMissDue job past call
 MayStand job past (Leave call) = NoMissDue job past call

@@ -13,9 +13,9 @@ pub struct History {
 
 impl Model for History {
     ghost use Rattle.std.specs.Prelude.{◌-◌, ◌≤◌, ◌<◌, ◌^◌, vec_len, vec_capacity};
-    ghost use Rattle.ft_hist.specs.Seen.{Seen};
+    ghost use Rattle.ft_hist.specs.Shown.{Shown};
 
-    ghost Value = { Seen };
+    ghost Value = { Shown };
 
     ghost view = { λ h. record { items = h.kept.items; spare = h.room - vec_len h.kept } };
 

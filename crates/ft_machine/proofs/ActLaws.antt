@@ -5,9 +5,9 @@ use Rattle.std.specs.Global.{Vec}
 use Rattle.std.proofs.lemmas.Bool.{ltb-true, ltb-false}
 use Rattle.std.proofs.lemmas.List.{drop_more, drop_all, get_or_read}
 use Rattle.std.proofs.lemmas.Option.{get_or_from_slice_get, slice_get_read}
-use Rattle.ft_base.specs.declared.plan.TaskAct.{TaskAct}
+use Rattle.ft_base.specs.declared.task.TaskAct.{TaskAct}
 use Rattle.ft_base.specs.Job.{no_task}
-use Rattle.ft_hist.specs.Seen.{Seen}
+use Rattle.ft_hist.specs.Shown.{Shown}
 use Rattle.plain_machine.specs.State.{step, tasks_of as numbers_on}
 use Rattle.ft_machine.specs.declared.progress.Progress.{Progress}
 use Rattle.ft_machine.specs.Parts.{IsBuilt}
@@ -19,12 +19,12 @@ use Rattle.ft_machine.proofs.Rooms.{GoesOn, goes-on, left-after, left-some, acts
 use Rattle.ft_machine.proofs.ActRows.{task_no, cpu_no, no-task, none-left, act-row}
 use Rattle.ft_machine.proofs.KeptLaws.{rule-step}
 
-abbrev pub after_act : Inside → Vec Progress → Vec ℕ → Seen → Inside
+abbrev pub after_act : Inside → Vec Progress → Vec ℕ → Shown → Inside
 after_act m xs ks h = record m { tasks = xs; counts = ks; history = h }
 
 module _ (m : Inside) (kept : IsKept m) where
   pub no-task-state : (c : ℕ) → numbers_on m.job c ≡ [] → state_of m ≡ step m.job (cpu_no c) (state_of m)
-  no-task-state c on = no-task m.job kept.known (reverse m.history.items) m.line m.ran m.registered m.tasks.items m.counts.items kept.user kept.tasks c on
+  no-task-state c on = no-task m.job kept.known (reverse m.history.items) m.line m.commands_done m.registered m.tasks.items m.counts.items kept.user kept.tasks c on
 
   module _ (c t : ℕ) (on : numbers_on m.job c ≡ t ∷ []) (lt : t < length m.job.tasks) (below : c < length m.job.quanta) where
     pub within-tasks : t < length m.tasks.items
@@ -44,7 +44,7 @@ module _ (m : Inside) (kept : IsKept m) where
       none-state none =
           let over : x.acts ≤ x.gone = ltb-false x.gone x.acts none in
           let same = so.acts in
-          none-left m.job kept.known (reverse m.history.items) m.line m.ran m.registered m.tasks.items m.counts.items kept.user kept.tasks c t on lt within-counts x here
+          none-left m.job kept.known (reverse m.history.items) m.line m.commands_done m.registered m.tasks.items m.counts.items kept.user kept.tasks c t on lt within-counts x here
           (drop_all x.gone own (omega arith))
 
       module _ (more : has_left x ≡ true) where
@@ -74,11 +74,11 @@ module _ (m : Inside) (kept : IsKept m) where
           pub ready-built : IsBuilt a
           ready-built = built-at m.job.tasks t kept.known.acts x.gone a at
 
-          module _ (y : Progress) (is : y ≡ progress_after (task_no t) m.ran a x) (h : Seen) (items : reverse h.items ≡ past_after (task_no t) m.registered a x (reverse m.history.items))
-              (k : ℕ) (k_is : k ≡ counted (has_left y) (is_wait m.ran a) (get_or m.job.quanta c 1) (get_or m.counts.items c 0))
+          module _ (y : Progress) (is : y ≡ progress_after (task_no t) m.commands_done a x) (h : Shown) (items : reverse h.items ≡ past_after (task_no t) m.registered a x (reverse m.history.items))
+              (k : ℕ) (k_is : k ≡ counted (has_left y) (is_wait m.commands_done a) (get_or m.job.quanta c 1) (get_or m.counts.items c 0))
               (xs : Vec Progress) (xs_is : xs.items ≡ set m.tasks.items t y) (ks : Vec ℕ) (ks_is : ks.items ≡ set m.counts.items c k) where
-            goes : GoesOn own x (progress_after (task_no t) m.ran a x)
-            goes = goes-on own x so left (task_no t) m.ran a
+            goes : GoesOn own x (progress_after (task_no t) m.commands_done a x)
+            goes = goes-on own x so left (task_no t) m.commands_done a
 
             next : drop x.gone own ≡ a ∷ drop (x.gone + 1) own
             next = drop_more own x.gone a ready-act ∙ ap (λ (b : TaskAct). b ∷ drop (x.gone + 1) own) (get_or_from_slice_get own x.gone a a at)
@@ -86,7 +86,7 @@ module _ (m : Inside) (kept : IsKept m) where
             pub act-state : state_of (after_act m xs ks h) ≡ step m.job (cpu_no c) (state_of m)
             act-state =
                 rw (xs_is, ks_is, items, k_is, is)
-                (act-row m.job kept.known (reverse m.history.items) m.line m.ran m.registered m.tasks.items m.counts.items kept.user kept.tasks c t on lt within-counts x here a (drop (x.gone + 1) own) ready-built next goes.so)
+                (act-row m.job kept.known (reverse m.history.items) m.line m.commands_done m.registered m.tasks.items m.counts.items kept.user kept.tasks c t on lt within-counts x here a (drop (x.gone + 1) own) ready-built next goes.so)
 
             pub act-kept : m.history.spare + 4 * x.gone ≤ h.spare + 4 * y.gone → IsKept (after_act m xs ks h)
             act-kept room = record {
@@ -94,9 +94,9 @@ module _ (m : Inside) (kept : IsKept m) where
               rule = rule-step m (cpu_no c) (state_of (after_act m xs ks h)) kept act-state;
               user = kept.user;
               line = kept.line;
-              ran = kept.ran;
-              tasks = rw (xs_is, is) (so-far-set m.job.tasks m.tasks.items t (progress_after (task_no t) m.ran a x) kept.tasks lt goes.so);
-              counts = rw (ks_is, k_is) (count-set m.job.quanta m.counts.items c _ kept.counts below (counted-below (has_left y) (is_wait m.ran a) _ _ ready-count));
+              ran = kept.commands_done;
+              tasks = rw (xs_is, is) (so-far-set m.job.tasks m.tasks.items t (progress_after (task_no t) m.commands_done a x) kept.tasks lt goes.so);
+              counts = rw (ks_is, k_is) (count-set m.job.quanta m.counts.items c _ kept.counts below (counted-below (has_left y) (is_wait m.commands_done a) _ _ ready-count));
               room =
                   let on_it : GoesOn own x y = rw is goes in
                   let acts = on_it.acts in let gone = on_it.gone in let most = on_it.so.gone in

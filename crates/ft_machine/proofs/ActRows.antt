@@ -6,8 +6,8 @@ use Rattle.ft_base.specs.declared.item.Item.{Item}
 use Rattle.ft_base.specs.declared.number.CallNo.{CallNo}
 use Rattle.ft_base.specs.declared.number.FuncNo.{FuncNo}
 use Rattle.ft_base.specs.declared.number.TaskNo.{TaskNo}
-use Rattle.ft_base.specs.declared.plan.TaskAct.{TaskAct}
-use Rattle.ft_base.specs.declared.plan.TaskAct.TheVariants.{Call, Ret as RetAct, Raise, Lower, After}
+use Rattle.ft_base.specs.declared.task.TaskAct.{TaskAct}
+use Rattle.ft_base.specs.declared.task.TaskAct.TheVariants.{Call, Ret as RetAct, Raise, Lower, After}
 use Rattle.ft_base.specs.declared.turn.Actor.{Actor}
 use Rattle.ft_base.specs.declared.turn.Actor.TheVariants.{Cpu}
 use Rattle.ft_base.specs.Job.{Job, no_task, funcs}
@@ -24,7 +24,7 @@ use Rattle.ft_machine.specs.Acts.{fresh, has_left, is_wait, backed_by, progress_
 use Rattle.ft_machine.specs.Kept.{frame_of, task_state, state_by, order_of, home, cpus_by, HasDesk, IsSoFar, AreSoFar}
 use Rattle.ft_machine.proofs.FirstDesk.{on-desk, target-desk}
 use Rattle.ft_machine.proofs.Places.{task-by, task-past, set-by, so-far-set, so-far-length, drop-rest, has-left, cpu-by, cpu-past, set-cpu}
-use Rattle.ft_machine.proofs.Switch.{home-is, home-none, home-bare, switched-same}
+use Rattle.ft_machine.proofs.Switch.{home-is, home-none, home-empty, switched-same}
 
 -- the task of this number
 abbrev pub task_no : ℕ → TaskNo
@@ -140,7 +140,7 @@ has-some (b ∷ more) rest n a e = refl
 
 -- a step of a CPU whose task has this act next
 cpu-goes : (j : Job) (c : ℕ) (x : CpuState) (s s' : State) (acts : List TaskAct) (waits : Bool) → (task_at s x.present).run.acts ≡ acts → has_acts acts ≡ true
-    → is_waiting s.ran acts ≡ waits → acted j s x.present (task_at s x.present) acts ≡ s' → cpu_step j c x s ≡ switched j c x waits s'
+    → is_waiting s.commands_done acts ≡ waits → acted j s x.present (task_at s x.present) acts ≡ s' → cpu_step j c x s ≡ switched j c x waits s'
 cpu-goes j c x s s' acts waits here more w e = rw (here, more, w, e) refl
 
 -- and of one whose task has none left
@@ -163,7 +163,7 @@ module _ (j : Job) (known : IsKnown j) (past : List Item) (line ran : ℕ) (regi
       at : (cpu_at j present_state c).present ≡ length j.tasks
       at = elim (either (length ks) c) [
         | inl le ↦ ap (λ (x : CpuState). x.present) (cpu-past j 0 ks c (record { present = length j.tasks; count = 0 }) le)
-        | inr lt ↦ ap (λ (x : CpuState). x.present) (cpu-by j 0 ks c (record { present = length j.tasks; count = 0 }) lt) ∙ home-bare j (0 + c) (let z : 0 + c ≡ c = omega arith in rw z on)
+        | inr lt ↦ ap (λ (x : CpuState). x.present) (cpu-by j 0 ks c (record { present = length j.tasks; count = 0 }) lt) ∙ home-empty j (0 + c) (let z : 0 + c ≡ c = omega arith in rw z on)
       ]
 
   module _ (c t : ℕ) (on : numbers_on j c ≡ t ∷ []) (lt : t < length j.tasks) (below : c < length ks) (x : Progress) (here : get_or xs t (fresh 0) ≡ x) where
@@ -185,7 +185,7 @@ module _ (j : Job) (known : IsKnown j) (past : List Item) (line ran : ℕ) (regi
       where
         by : (b : Bool) → has_acts own ≡ b → is_left present_state (home j c) ≡ false
         by true more = rw (home-is j c t on lt more, this-task, none) refl
-        by false bare = rw (home-none j c t on lt bare, task-past j.tasks xs (length j.tasks) (omega arith)) refl
+        by false empty = rw (home-none j c t on lt empty, task-past j.tasks xs (length j.tasks) (omega arith)) refl
 
     -- an act, and perhaps a switch
     module _ (a : TaskAct) (rest : List TaskAct) (built : IsBuilt a) (e : drop x.gone own ≡ a ∷ rest) (so' : IsSoFar own (progress_after (task_no t) ran a x)) where

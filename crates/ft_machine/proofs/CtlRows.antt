@@ -37,10 +37,10 @@ left-past (x ∷ ls) zero h = absurd (omega arith)
 left-past (x ∷ ls) (suc n) h = left-past ls n (omega arith)
 
 -- the next command is that of the next line
-pub command-at : (j : Job) (s : State) (rest : List Ctl) (c : Command) → Rule j s → s.left ≡ Run c ∷ rest → slice_get (commands j) s.ran ≡ Some c
+pub command-at : (j : Job) (s : State) (rest : List Ctl) (c : Command) → Rule j s → s.remaining ≡ Run c ∷ rest → slice_get (commands j) s.commands_done ≡ Some c
 command-at j s rest c r e =
-    let here : slice_get (commands j) (s.ran + 0) ≡ slice_get (commands_in s.left) 0 = r.control.commands 0 in
-    let there : slice_get (commands_in s.left) 0 ≡ Some c = rw e refl in
+    let here : slice_get (commands j) (s.commands_done + 0) ≡ slice_get (commands_in s.remaining) 0 = r.control.commands 0 in
+    let there : slice_get (commands_in s.remaining) 0 ≡ Some c = rw e refl in
     rw add-zero at here ∙ there
 
 module _ (j : Job) (known : IsKnown j) (past : List Item) (line ran : ℕ) (registered : Bool) (xs : List Progress) (ks : List ℕ) where

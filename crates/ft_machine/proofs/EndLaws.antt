@@ -12,9 +12,9 @@ use Rattle.ft_machine.specs.Parts.{quanta_of}
 use Rattle.ft_base.specs.declared.turn.Actor.TheVariants.{Control}
 use Rattle.ft_base.specs.Job.{Job, Task, Ctl, no_task}
 use Rattle.ft_hist.specs.Frames.{is_nil}
-use Rattle.ft_hist.specs.Seen.{Seen}
+use Rattle.ft_hist.specs.Shown.{Shown}
 use Rattle.ft_base.specs.Desk.{desk}
-use Rattle.plain_machine.specs.State.{TaskState, CpuState, start, is_over, is_at_end, has_acts, tasks_at_start, cpus_at_start, tasks_of as numbers_on}
+use Rattle.plain_machine.specs.State.{TaskState, CpuState, start, all_end, is_at_end, has_acts, tasks_at_start, cpus_at_start, tasks_of as numbers_on}
 use Rattle.plain_machine.proofs.Keeps.{start_keeps}
 use Rattle.ft_machine.specs.declared.progress.Progress.{Progress}
 use Rattle.ft_machine.specs.Parts.{IsQuantum}
@@ -55,22 +55,22 @@ any-left [] (x ∷ xs) k = absurd k
 any-left (t ∷ ts) [] k = absurd k
 any-left (t ∷ ts) (x ∷ xs) k = rw (has-left t.acts x k.0.acts, any-left ts xs k.1) refl
 
-over-is : (m : Inside) → IsKept m → is_over (state_of m) ≡ (is_at_end m.job Control (state_of m) && not (list_any has_left m.tasks.items))
-unfolding is_over is_at_end
+over-is : (m : Inside) → IsKept m → all_end (state_of m) ≡ (is_at_end m.job Control (state_of m) && not (list_any has_left m.tasks.items))
+unfolding all_end is_at_end
 over-is m kept = rw (any-left m.job.tasks m.tasks.items kept.tasks) refl
 
 pub seen-control-end : (m : Inside) (v : Running) → view_of m ≡ v → nat_le (length m.job.ctls) m.line ≡ is_at_end v.job Control v.state
 seen-control-end m v e = subst (λ (w : Running). nat_le (length m.job.ctls) m.line ≡ is_at_end w.job Control w.state) e (sym (control-end m))
 
-pub seen-over : (m : Inside) (v : Running) → view_of m ≡ v → IsKept m → is_over v.state ≡ (is_at_end v.job Control v.state && not (list_any has_left m.tasks.items))
-seen-over m v e kept = subst (λ (w : Running). is_over w.state ≡ (is_at_end w.job Control w.state && not (list_any has_left m.tasks.items))) e (over-is m kept)
+pub seen-over : (m : Inside) (v : Running) → view_of m ≡ v → IsKept m → all_end v.state ≡ (is_at_end v.job Control v.state && not (list_any has_left m.tasks.items))
+seen-over m v e kept = subst (λ (w : Running). all_end w.state ≡ (is_at_end w.job Control w.state && not (list_any has_left m.tasks.items))) e (over-is m kept)
 
 -- where control is at its end
-pub seen-over-last : (m : Inside) (v : Running) (b : Bool) → view_of m ≡ v → IsKept m → b ≡ is_at_end v.job Control v.state → b ≡ true → not (list_any has_left m.tasks.items) ≡ is_over v.state
+pub seen-over-last : (m : Inside) (v : Running) (b : Bool) → view_of m ≡ v → IsKept m → b ≡ is_at_end v.job Control v.state → b ≡ true → not (list_any has_left m.tasks.items) ≡ all_end v.state
 seen-over-last m v b e kept last over = sym (seen-over m v e kept ∙ (let at : is_at_end v.job Control v.state ≡ true = sym last ∙ over in rw at refl))
 
 -- and where it isn't
-pub seen-over-not : (m : Inside) (v : Running) (b : Bool) → view_of m ≡ v → IsKept m → b ≡ is_at_end v.job Control v.state → b ≡ false → b ≡ is_over v.state
+pub seen-over-not : (m : Inside) (v : Running) (b : Bool) → view_of m ≡ v → IsKept m → b ≡ is_at_end v.job Control v.state → b ≡ false → b ≡ all_end v.state
 seen-over-not m v b e kept last more = more ∙ sym (seen-over m v e kept ∙ (let at : is_at_end v.job Control v.state ≡ false = sym last ∙ more in rw at refl))
 
 no-end : (m : Inside) (c : ℕ) → numbers_on m.job c ≡ [] → true ≡ is_at_end m.job (cpu_no c) (state_of m)
@@ -140,10 +140,10 @@ counts-of cpus j ks quanta is =
     sym (length-map cpus cpu_of) ∙ sym (length-map (map cpu_of cpus) (λ (c : PlainCpu). c.quantum)) ∙ ap (λ (qs : List ℕ). length qs) quanta in
     rw many at is
 
-abbrev pub opened : Job → Vec Progress → Vec ℕ → Seen → Inside
-opened j xs ks h = record { job = j; line = 0; ran = 0; registered = false; tasks = xs; counts = ks; history = h }
+abbrev pub opened : Job → Vec Progress → Vec ℕ → Shown → Inside
+opened j xs ks h = record { job = j; line = 0; commands_done = 0; registered = false; tasks = xs; counts = ks; history = h }
 
-module _ (j : Job) (xs : Vec Progress) (ks : Vec ℕ) (h : Seen) (none : h.items ≡ []) (fresh_tasks : xs.items ≡ all_fresh j.tasks) (fresh_counts : ks.items ≡ replicate (length j.quanta) 0) where
+module _ (j : Job) (xs : Vec Progress) (ks : Vec ℕ) (h : Shown) (none : h.items ≡ []) (fresh_tasks : xs.items ≡ all_fresh j.tasks) (fresh_counts : ks.items ≡ replicate (length j.quanta) 0) where
   pub opened-state : state_of (opened j xs ks h) ≡ start j
   unfolding start
   opened-state =
@@ -166,7 +166,7 @@ module _ (j : Job) (xs : Vec Progress) (ks : Vec ℕ) (h : Seen) (none : h.items
 pub seen-site : (m : Inside) (v : Running) (f : ℕ) → view_of m ≡ v → IsKept m → bytes_of f (insn_by m.registered) ≡ site_of v.job v.state f
 seen-site m v f e kept =
     subst (λ (w : Running). bytes_of f (insn_by m.registered) ≡ site_of w.job w.state f) e
-    (rw (target-desk m.job kept.known (desk m.job m.ran) m.registered f kept.user, insn-desk m.job kept.known (desk m.job m.ran) m.registered kept.user) refl)
+    (rw (target-desk m.job kept.known (desk m.job m.commands_done) m.registered f kept.user, insn-desk m.job kept.known (desk m.job m.commands_done) m.registered kept.user) refl)
 
 -- its function has a place in memory
 pub seen-func : (m : Inside) (v : Running) (f : ℕ) → view_of m ≡ v → IsKept m → f < length v.job.functions → f < 4096

@@ -2,7 +2,8 @@
 use Rattle.std.proofs.Common.{cond, ◌≡◌, ℕ, zero, suc, ◌≤◌, Bool, true, false, List, [], ◌∷◌, length, get_or, Option, Some, None, refl, sym, ap, ◌∙◌, arith, inl, inr}
 use Rattle.std.specs.Prelude.{slice_get}
 use Rattle.std.specs.List.{list_any}
-use Rattle.ft_base.specs.Job.{Job, Spec, Command, bare, funcs, commands}
+use Rattle.ft_base.specs.Marks.{empty}
+use Rattle.ft_base.specs.Job.{Job, Spec, Command, funcs, commands}
 use Rattle.ft_base.specs.Desk.{Desk, UserState, desk, after, answer_on, is_accepted, spec_at, target, lowest}
 use Rattle.ft_base.specs.Order.{order_after}
 use Rattle.ft_base.specs.WellFormed.{IsNamed}
@@ -16,14 +17,14 @@ use Rattle.ft_machine.specs.Sites.{insn_of}
 use Rattle.ft_machine.specs.Kept.{only_user, order_of, HasUser, HasDesk}
 
 -- nothing is in a bare set
-bare-any : (n : ℕ) → list_any (λ b. b) (bare n) ≡ false
-bare-any zero = refl
-bare-any (suc n) = bare-any n
+empty-any : (n : ℕ) → list_any (λ b. b) (empty n) ≡ false
+empty-any zero = refl
+empty-any (suc n) = empty-any n
 
-bare-holds : (n f : ℕ) → get_or (bare n) f false ≡ false
-bare-holds zero f = refl
-bare-holds (suc n) zero = refl
-bare-holds (suc n) (suc f) = bare-holds n f
+empty-holds : (n f : ℕ) → get_or (empty n) f false ≡ false
+empty-holds zero f = refl
+empty-holds (suc n) zero = refl
+empty-holds (suc n) (suc f) = empty-holds n f
 
 -- the first slot, where it is free
 lowest-first : (p : ℕ → Bool) (n : ℕ) → 1 ≤ n → p 0 ≡ true → lowest p 0 n ≡ Some 0
@@ -67,14 +68,14 @@ module _ (j : Job) (k : IsKnown j) where
     on-user f = by registered e
       where
         by : (registered : Bool) → d.users ≡ only_user (funcs j) registered was reg since ∷ [] → on_users d f (order_of registered) ≡ order_of registered
-        by true e = rw (e, bare-any (funcs j), bare-holds (funcs j) f) refl
+        by true e = rw (e, empty-any (funcs j), empty-holds (funcs j) f) refl
         by false e = refl
 
     target-user : (f : ℕ) → target d f ≡ target_by registered
     target-user f = by registered e
       where
         by : (registered : Bool) → d.users ≡ only_user (funcs j) registered was reg since ∷ [] → target d f ≡ target_by registered
-        by true e = rw (e, bare-any (funcs j), bare-holds (funcs j) f) refl
+        by true e = rw (e, empty-any (funcs j), empty-holds (funcs j) f) refl
         by false e = rw e refl
 
   -- the user is there where a command names it

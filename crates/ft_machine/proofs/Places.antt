@@ -1,7 +1,7 @@
 -- The tasks and the CPUs of a state, by number.
 use Rattle.std.proofs.Common.{◌≡◌, ℕ, zero, suc, ◌+◌, ◌<◌, ◌≤◌, Bool, true, false, List, [], ◌∷◌, length, get_or, set, drop, refl, sym, ap, ◌∙◌, arith, nat_lt, add-zero}
 use Rattle.std.proofs.lemmas.Bool.{lt-ltb, le-ltb, ltb-true, ltb-false}
-use Rattle.ft_base.specs.declared.plan.TaskAct.{TaskAct}
+use Rattle.ft_base.specs.declared.task.TaskAct.{TaskAct}
 use Rattle.ft_base.specs.Job.{Job, Task, no_task}
 use Rattle.plain_machine.specs.State.{TaskState, CpuState, idle, has_acts}
 use Rattle.ft_machine.specs.declared.progress.Progress.{Progress}

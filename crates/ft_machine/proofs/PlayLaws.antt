@@ -8,15 +8,15 @@ use Rattle.ft_base.specs.Job.{Job}
 use Rattle.ft_base.specs.Schedule.{actors_in, actors_of}
 use Rattle.user_specs.specs.Plain.{PlainCpu, cpu_of}
 use Rattle.user_specs.specs.declared.plan.CpuPlan.{CpuPlan}
-use Rattle.plain_machine.specs.State.{State, step, is_over, played, play, start}
+use Rattle.plain_machine.specs.State.{State, step, all_end, played, play, start}
 use Rattle.ft_machine.specs.Parts.{quanta_of}
 
-played-over : (j : Job) (actors : List Actor) (s : State) → is_over s ≡ true → played j actors s ≡ s
+played-over : (j : Job) (actors : List Actor) (s : State) → all_end s ≡ true → played j actors s ≡ s
 unfolding played
 played-over j [] s over = refl
 played-over j (a ∷ rest) s over = rw over refl
 
-played-step : (j : Job) (a : Actor) (rest : List Actor) (s : State) → is_over s ≡ false → played j (a ∷ rest) s ≡ played j rest (step j a s)
+played-step : (j : Job) (a : Actor) (rest : List Actor) (s : State) → all_end s ≡ false → played j (a ∷ rest) s ≡ played j rest (step j a s)
 unfolding played
 played-step j a rest s more = rw more refl
 
@@ -29,7 +29,7 @@ first-rest [] a e = absurd cc
 first-rest (b ∷ rest) a e = let s : b ≡ a = cc in ap (λ (x : Actor). x ∷ rest) s
 
 -- all actors are at their ends
-pub stops_over : (j : Job) (actors : List Actor) (s t : State) → is_over s ≡ true → played j actors s ≡ t → s ≡ t
+pub stops_over : (j : Job) (actors : List Actor) (s t : State) → all_end s ≡ true → played j actors s ≡ t → s ≡ t
 stops_over j actors s t over e = sym (played-over j actors s over) ∙ e
 
 -- no actor is left
@@ -37,7 +37,7 @@ pub stops_used_up : (j : Job) (actors : List Actor) (s t : State) → actors ≡
 stops_used_up j actors s t none e = sym (played-none j s) ∙ (let h : played j [] s ≡ t = rw none at e in h)
 
 -- one actor steps
-pub goes_on : (j : Job) (actors rest : List Actor) (a : Actor) (s s1 t : State) → is_over s ≡ false → Some a ≡ slice_get actors 0 → rest ≡ drop 1 actors → s1 ≡ step j a s
+pub goes_on : (j : Job) (actors rest : List Actor) (a : Actor) (s s1 t : State) → all_end s ≡ false → Some a ≡ slice_get actors 0 → rest ≡ drop 1 actors → s1 ≡ step j a s
     → played j actors s ≡ t → played j rest s1 ≡ t
 goes_on j actors rest a s s1 t more first behind stepped e =
     let cut : actors ≡ a ∷ rest = first-rest actors a first ∙ ap (λ (l : List Actor). a ∷ l) (sym behind) in

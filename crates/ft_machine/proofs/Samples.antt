@@ -1,9 +1,9 @@
 -- The jobs of the tests are within the limits.
 use Rattle.std.proofs.Common.{◌≡◌, ℕ, ◌+◌, false, List, [], ◌∷◌, length, None, refl, arith}
 use Rattle.std.specs.Prelude.{codes}
-use Rattle.ft_base.specs.declared.plan.Kind.TheVariants.{Function}
-use Rattle.ft_base.specs.declared.plan.TaskAct.{TaskAct}
-use Rattle.ft_base.specs.declared.plan.TaskAct.TheVariants.{Call, Ret, After}
+use Rattle.ft_base.specs.declared.user.Kind.TheVariants.{Function}
+use Rattle.ft_base.specs.declared.task.TaskAct.{TaskAct}
+use Rattle.ft_base.specs.declared.task.TaskAct.TheVariants.{Call, Ret, After}
 use Rattle.ft_base.specs.Job.{Spec}
 use Rattle.user_specs.specs.Plain.{PlainCpu}
 use Rattle.ft_machine.specs.declared.ctl.FirstCtl.TheVariants.{Register, Unregister, Until}

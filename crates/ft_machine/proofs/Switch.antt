@@ -3,7 +3,7 @@ use Rattle.std.proofs.Common.{cond, ◌≡◌, ℕ, zero, suc, ◌+◌, ◌<◌,
 use Rattle.std.proofs.lemmas.Bool.{le-ltb}
 use Rattle.ft_base.specs.Job.{Job, Task, no_task}
 use Rattle.ft_hist.specs.Plain.{at_start}
-use Rattle.plain_machine.specs.State.{State, TaskState, idle, has_acts, is_left, tasks_of as numbers_on, next_task, switched, with_cpu, bare_state, tasks_at_start}
+use Rattle.plain_machine.specs.State.{State, TaskState, idle, has_acts, is_left, tasks_of as numbers_on, next_task, switched, with_cpu, state_without_cpus, tasks_at_start}
 use Rattle.ft_machine.specs.Acts.{counted}
 use Rattle.ft_machine.specs.Kept.{home}
 
@@ -15,7 +15,7 @@ started j n (t ∷ ts) zero lt = let e : n + 0 ≡ n = omega arith in rw e refl
 started j n (t ∷ ts) (suc i) lt = started j (suc n) ts i (omega arith) ∙ (let e : suc n + i ≡ n + suc i = omega arith in rw e refl)
 
 -- a task has acts at the start
-left-at-start : (j : Job) (t : ℕ) → t < length j.tasks → is_left (bare_state j) t ≡ has_acts (get_or j.tasks t no_task).acts
+left-at-start : (j : Job) (t : ℕ) → t < length j.tasks → is_left (state_without_cpus j) t ≡ has_acts (get_or j.tasks t no_task).acts
 left-at-start j t lt = ap (λ (x : TaskState). has_acts x.run.acts) (started j 0 j.tasks t lt) ∙ (let e : 0 + t ≡ t = omega arith in rw e refl)
 
 -- the CPU's only task, where it has acts
@@ -26,8 +26,8 @@ home-is j c t on lt more = rw (on, left-at-start j t lt, more) refl
 pub home-none : (j : Job) (c t : ℕ) → numbers_on j c ≡ t ∷ [] → t < length j.tasks → has_acts (get_or j.tasks t no_task).acts ≡ false → home j c ≡ length j.tasks
 home-none j c t on lt none = rw (on, left-at-start j t lt, none) refl
 
-pub home-bare : (j : Job) (c : ℕ) → numbers_on j c ≡ [] → home j c ≡ length j.tasks
-home-bare j c on = rw on refl
+pub home-empty : (j : Job) (c : ℕ) → numbers_on j c ≡ [] → home j c ≡ length j.tasks
+home-empty j c on = rw on refl
 
 -- ## a switch
 

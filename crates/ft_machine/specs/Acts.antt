@@ -10,8 +10,8 @@ use Rattle.ft_base.specs.declared.item.Ran.TheVariants.{Nop, Own}
 use Rattle.ft_base.specs.declared.number.CallNo.{CallNo}
 use Rattle.ft_base.specs.declared.number.FuncNo.{FuncNo}
 use Rattle.ft_base.specs.declared.number.TaskNo.{TaskNo}
-use Rattle.ft_base.specs.declared.plan.TaskAct.{TaskAct}
-use Rattle.ft_base.specs.declared.plan.TaskAct.TheVariants.{Call, Ret, After}
+use Rattle.ft_base.specs.declared.task.TaskAct.{TaskAct}
+use Rattle.ft_base.specs.declared.task.TaskAct.TheVariants.{Call, Ret, After}
 use Rattle.ft_machine.specs.declared.stack.OpenCall.{OpenCall}
 use Rattle.ft_machine.specs.declared.progress.Progress.{Progress}
 use Rattle.ft_machine.specs.Stacked.{top_of, pushed, popped}

@@ -2,11 +2,12 @@
 use Rattle.std.specs.Prelude.{ℕ, suc, ◌≡◌, ◌+◌, ◌*◌, ◌-◌, ◌<◌, ◌≤◌, Bool, true, false, ◌||◌, List, [], ◌∷◌, drop, length, map, sum_by, reverse, Some, None, ◌⊎◌, if◌then◌else◌}
 use Rattle.ft_base.specs.declared.context.Ctx.TheVariants.{Normal}
 use Rattle.ft_base.specs.declared.item.Item.{Item}
-use Rattle.ft_base.specs.declared.plan.TaskAct.{TaskAct}
-use Rattle.ft_base.specs.Job.{Job, Task, bare, funcs}
+use Rattle.ft_base.specs.declared.task.TaskAct.{TaskAct}
+use Rattle.ft_base.specs.Marks.{empty}
+use Rattle.ft_base.specs.Job.{Job, Task, funcs}
 use Rattle.ft_base.specs.Desk.{Desk, desk, UserState}
 use Rattle.ft_hist.specs.Plain.{Frame, Running as InBody}
-use Rattle.plain_machine.specs.State.{State, TaskState, CpuState, first_left, bare_state, tasks_of as numbers_on}
+use Rattle.plain_machine.specs.State.{State, TaskState, CpuState, first_left, state_without_cpus, tasks_of as numbers_on}
 use Rattle.plain_machine.specs.Rule.{Rule}
 use Rattle.ft_machine.specs.Known.{IsKnown}
 use Rattle.ft_machine.specs.Running.{Running}
@@ -33,7 +34,7 @@ tasks_by (t ∷ ts) (x ∷ xs) = task_state t.acts x ∷ tasks_by ts xs
 
 -- the task that a CPU with at most one task runs, from the start on
 abbrev pub home : Job → ℕ → ℕ
-home job c = first_left (bare_state job) (length job.tasks) (numbers_on job c)
+home job c = first_left (state_without_cpus job) (length job.tasks) (numbers_on job c)
 
 -- the CPUs from c on, with these counts
 abbrev pub cpus_by : Job → ℕ → List ℕ → List CpuState
@@ -50,8 +51,8 @@ order_of true = 0 ∷ []
 abbrev pub state_by : Job → List Item → ℕ → ℕ → Bool → List Progress → List ℕ → State
 state_by job past line ran registered xs counts = record {
   past = past;
-  ran = ran;
-  left = drop line job.ctls;
+  commands_done = ran;
+  remaining = drop line job.ctls;
   order = order_of registered;
   tasks = tasks_by job.tasks xs;
   cpus = cpus_by job 0 counts;
@@ -59,7 +60,7 @@ state_by job past line ran registered xs counts = record {
 
 -- the state that a machine's fields stand for
 abbrev pub state_of : Inside → State
-state_of m = state_by m.job (reverse m.history.items) m.line m.ran m.registered m.tasks.items m.counts.items
+state_of m = state_by m.job (reverse m.history.items) m.line m.commands_done m.registered m.tasks.items m.counts.items
 
 -- what contracts see of a machine
 abbrev pub view_of : Inside → Running
@@ -74,8 +75,8 @@ only_user size registered was reg since = record {
   reg = reg;
   since = since;
   enabled = registered || was;
-  filter = bare size;
-  notrace = bare size;
+  filter = empty size;
+  notrace = empty size;
   slot = if registered then Some 0 else None;
 }
 
@@ -114,9 +115,9 @@ acts_left xs = sum_by (λ x. x.acts - x.gone) xs
 pub record IsKept (m : Inside) : Type 0 where
   pub known : IsKnown m.job
   pub rule : Rule m.job (state_of m)
-  pub user : HasDesk (funcs m.job) m.registered (desk m.job m.ran)
+  pub user : HasDesk (funcs m.job) m.registered (desk m.job m.commands_done)
   pub line : m.line ≤ length m.job.ctls
-  pub ran : m.ran ≤ m.line
+  pub ran : m.commands_done ≤ m.line
   pub tasks : AreSoFar m.job.tasks m.tasks.items
   pub counts : AreCounts m.job.quanta m.counts.items
   pub room : 2 * length m.job.ctls + 4 * acts_left m.tasks.items ≤ m.history.spare + 2 * m.line

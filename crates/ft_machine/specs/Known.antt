@@ -3,12 +3,12 @@ use Rattle.std.specs.Prelude.{ℕ, ◌≤◌, length, sum_by}
 use Rattle.std.specs.List.{AllByRecursion as Each}
 use Rattle.ft_base.specs.Job.{Job}
 use Rattle.ft_base.specs.Desk.{spec_at}
-use Rattle.ft_base.specs.WellFormed.{IsJob}
+use Rattle.ft_base.specs.WellFormed.{IsWellFormed}
 use Rattle.ft_machine.specs.Parts.{IsPlainUser, IsBuilt, IsQuantum}
 
 -- a job of at most one user, a plain one, with acts that this machine knows
 pub record IsKnown (j : Job) : Type 0 where
-  pub job : IsJob j
+  pub job : IsWellFormed j
   pub users : length j.users ≤ 1
   pub plain : (u : ℕ) → IsPlainUser (spec_at j u)
   pub quanta : Each IsQuantum j.quanta

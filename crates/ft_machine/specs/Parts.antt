@@ -1,12 +1,12 @@
 -- What a script declares, as plain data, and its job.
 use Rattle.std.specs.Prelude.{ℕ, zero, suc, ◌≡◌, ◌≤◌, ◌==◌, List, [], ◌∷◌, length, map, sum_by, Option, Some, None, if◌then◌else◌}
 use Rattle.std.specs.List.{AllByRecursion as Each}
-use Rattle.ft_base.specs.declared.plan.TaskAct.{TaskAct}
-use Rattle.ft_base.specs.declared.plan.TaskAct.TheVariants.{Raise, Lower}
+use Rattle.ft_base.specs.declared.task.TaskAct.{TaskAct}
+use Rattle.ft_base.specs.declared.task.TaskAct.TheVariants.{Raise, Lower}
 use Rattle.ft_base.specs.declared.turn.Turn.{Turn}
 use Rattle.ft_base.specs.Job.{Func, Spec, Task, no_task, Ctl, Run, Until as Waits, Register as Registers, Unregister as Unregisters, Job}
 use Rattle.ft_base.specs.Desk.{plain_spec}
-use Rattle.ft_base.specs.WellFormed.{IsJob}
+use Rattle.ft_base.specs.WellFormed.{IsWellFormed}
 use Rattle.user_specs.specs.Plain.{PlainTask, PlainCpu, spec_of, cpu_of}
 use Rattle.ft_machine.specs.declared.ctl.FirstCtl.{FirstCtl}
 use Rattle.ft_machine.specs.declared.ctl.FirstCtl.TheVariants.{Register, Unregister, Until}
@@ -122,7 +122,7 @@ IsQuantum q = (1 ≤ q) × (q ≤ 1000000)
 -- known and calls balanced; there is at most one user, a plain one; and there is not too much of anything
 pub record IsWithin (p : Parts) : Type 0 where
   pub numbered : cpus_from 0 (quanta_of p.cpus) (tasks_of p.cpus) ≡ p.cpus
-  pub job : IsJob (job_of p)
+  pub job : IsWellFormed (job_of p)
   pub alone : Each (λ c. length c.tasks ≤ 1) p.cpus
   pub users : length p.users ≤ 1
   pub plain : Each IsPlainUser p.users

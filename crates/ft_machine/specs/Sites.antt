@@ -22,4 +22,4 @@ insn_of d (Own u) = slot_insn (user_at d u.0).slot
 
 -- the five bytes of a function's site
 abbrev pub site_of : Job → State → ℕ → List ℕ
-site_of job s f = let d = desk job s.ran in bytes_of f (insn_of d (target d f))
+site_of job s f = let d = desk job s.commands_done in bytes_of f (insn_of d (target d f))

@@ -1,7 +1,7 @@
 ghost use Rattle.std.specs.Prelude.{◌≡◌, ◌<◌, ◌≤◌, ◌+◌, ◌*◌, replicate, sum_by, true, reverse, length, slice_get, Some, IfOk};
 ghost use Rattle.ft_base.specs.Job.{Run, Until as Waits};
 ghost use Rattle.ft_hist.specs.Rules.{IsLegal, IsWhole};
-ghost use Rattle.plain_machine.specs.State.{start, is_over, is_at_end};
+ghost use Rattle.plain_machine.specs.State.{start, all_end, is_at_end};
 ghost use Rattle.ft_machine.specs.Sites.{site_of};
 ghost use Rattle.ft_machine.specs.Orders.{command_of};
 
@@ -112,7 +112,7 @@ impl Machine {
 
     /// Whether every actor is at its end.
     pub fn all_end(&self) -> bool
-        ensures { result ≡ is_over self.now.state }
+        ensures { result ≡ all_end self.now.state }
     {
         self.is_last() && !any_left(self.tasks.as_slice())
     }
@@ -202,7 +202,7 @@ impl Machine {
     pub(crate) fn finish(self) -> History
         ensures items { result.items ≡ reverse self.state.past }
         ensures legal { IsLegal self.job result.items }
-        ensures whole { is_over self.state ≡ true → IsWhole self.job result.items }
+        ensures whole { all_end self.state ≡ true → IsWhole self.job result.items }
     {
         let Machine { history, .. } = self;
         history
@@ -221,7 +221,7 @@ impl Machine {
     pub fn history(&self) -> &History
         ensures items { result.now.items ≡ reverse self.now.state.past }
         ensures legal { IsLegal self.now.job result.now.items }
-        ensures whole { is_over self.now.state ≡ true → IsWhole self.now.job result.now.items }
+        ensures whole { all_end self.now.state ≡ true → IsWhole self.now.job result.now.items }
     {
         &self.history
     }

@@ -1,6 +1,6 @@
 ghost use Rattle.std.specs.Prelude.{◌≡◌, true, reverse, IfOk};
 ghost use Rattle.ft_hist.specs.Rules.{IsLegal, IsWhole};
-ghost use Rattle.plain_machine.specs.State.{play, played, is_over};
+ghost use Rattle.plain_machine.specs.State.{play, played, all_end};
 
 use crate::job::Job;
 use crate::machine::Machine;
@@ -35,7 +35,7 @@ fn play(machine: &mut Machine, mut player: Player)
 /// schedule's end.
 pub fn replay(alloc: Global, job: &Job) -> Result<Outcome, NoMemory>
     ensures history { IfOk result (λ o. o.history.items ≡ reverse (play job.now).past) }
-    ensures ended { IfOk result (λ o. o.ended ≡ is_over (play job.now)) }
+    ensures ended { IfOk result (λ o. o.ended ≡ all_end (play job.now)) }
     ensures legal { IfOk result (λ o. IsLegal job.now o.history.items) }
     ensures whole { IfOk result (λ o. o.ended ≡ true → IsWhole job.now o.history.items) }
 {

@@ -1,5 +1,5 @@
 ghost use Rattle.std.specs.Prelude.{◌≡◌, ◌≤◌, ◌+◌, false, [], ◌∷◌, IfOk, codes, length, map, None};
-ghost use Rattle.ft_base.specs.declared.plan.Kind.TheVariants.{Function};
+ghost use Rattle.ft_base.specs.declared.user.Kind.TheVariants.{Function};
 ghost use Rattle.user_specs.specs.Plain.{spec_of, cpu_of};
 
 use crate::{FirstCtl, Job, JobParts, Machine, replay};

@@ -7,8 +7,8 @@ use Rattle.std.proofs.Math.Dec.{eqb-suc-zero}
 use Rattle.std.proofs.lemmas.Bool.{ltb-true, ltb-false}
 use Rattle.std.proofs.lemmas.List.{length_push}
 use Rattle.ft_base.proofs.Small.{false_true, or-false_both, Each-snoc, Each-weaker}
-use Rattle.ft_base.specs.declared.plan.TaskAct.{TaskAct}
-use Rattle.ft_base.specs.declared.plan.TaskAct.TheVariants.{Call, Ret, After}
+use Rattle.ft_base.specs.declared.task.TaskAct.{TaskAct}
+use Rattle.ft_base.specs.declared.task.TaskAct.TheVariants.{Call, Ret, After}
 use Rattle.ft_base.specs.Desk.{plain_spec}
 use Rattle.ft_machine.specs.Parts.{IsPlainUser, IsQuantum}
 use Rattle.ft_base.specs.Job.{Ctl, Run, Until, Command, Register, Unregister, Spec}

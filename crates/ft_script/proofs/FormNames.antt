@@ -13,8 +13,8 @@ use Rattle.script_form.specs.Forms as form
 use Rattle.script_form.specs.Forms.{Form, UserAct, skip, version, func, depth, tramps, user, new_cpu, task, call, ret, raise, lower, after, register, unregister, write, pids, enable, disable, maxdepth, until, sched}
 use Rattle.script_form.specs.Users.{user_form, user_with, user_of, kind_of, flag, argument, ipmodify_of, act_of}
 use Rattle.script_form.specs.Lines.{act_form, keyed_form, form_of, line_form, is_comment, are_plain}
-use Rattle.ft_base.specs.declared.plan.Kind.{Kind}
-use Rattle.ft_base.specs.declared.plan.Half.{Half}
+use Rattle.ft_base.specs.declared.user.Kind.{Kind}
+use Rattle.ft_base.specs.declared.user.Half.{Half}
 use Rattle.ft_script.specs.Above.{Above}
 use Rattle.ft_script.specs.Causes.{is_long, is_over}
 use Rattle.ft_script.specs.Kept.{has_names}

@@ -3,10 +3,10 @@ use Rattle.std.proofs.Common.{cond, ◌≡◌, ℕ, zero, suc, ◌<◌, ◌≤�
 use Rattle.std.specs.List.{AllByRecursion as Each}
 use Rattle.std.proofs.lemmas.List.Sums.{sum_by-cons}
 use Rattle.ft_base.proofs.Small.{Each-weaker, false_true}
-use Rattle.ft_base.specs.declared.plan.TaskAct.{TaskAct}
-use Rattle.ft_base.specs.declared.plan.TaskAct.TheVariants.{Call, Ret, Raise, Lower, After}
+use Rattle.ft_base.specs.declared.task.TaskAct.{TaskAct}
+use Rattle.ft_base.specs.declared.task.TaskAct.TheVariants.{Call, Ret, Raise, Lower, After}
 use Rattle.ft_base.specs.Job.{Job, Task, Spec, Ctl, Run, Until, Command, Register, Unregister, commands, commands_in, funcs}
-use Rattle.ft_base.specs.WellFormed.{IsNamed, IsActNamed, IsScript, IsJob}
+use Rattle.ft_base.specs.WellFormed.{IsNamed, IsActNamed, IsScript, IsWellFormed}
 use Rattle.user_specs.specs.Plain.{PlainCpu}
 use Rattle.ft_machine.specs.Parts.{Parts, quanta_of, tasks_on, cpus_with, tasks_of, ctl_of, job_of as parts_job, IsPlainUser, IsBuilt, IsWithin}
 use Rattle.script_waits.specs.declared.script.Act.{Act}
@@ -114,7 +114,7 @@ module _ (above : Above) (run : CanRun above) where
   closed : Each (λ p. Leads (length above.functions) 0 (acts_of p) 0) above.tasks
   closed = balanced-each (length above.functions) above.tasks (rw none_left at h.tasks.balanced)
 
-  is_job : IsJob (job_of above)
+  is_job : IsWellFormed (job_of above)
   unfolding job_of
   is_job = record {
     commands = named-commands (job_of above) above.ctls h.users.named;

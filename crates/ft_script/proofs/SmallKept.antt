@@ -3,7 +3,7 @@ use Rattle.std.proofs.Common.{◌≡◌, ℕ, suc, ◌+◌, ◌<◌, ◌≤◌, 
 use Rattle.std.proofs.lemmas.Bool.{ltb-false}
 use Rattle.std.proofs.lemmas.List.{length_push}
 use Rattle.ft_base.proofs.Small.{false_true, or-false_both}
-use Rattle.ft_base.specs.declared.plan.TaskAct.TheVariants.{Call, Ret, After}
+use Rattle.ft_base.specs.declared.task.TaskAct.TheVariants.{Call, Ret, After}
 use Rattle.ft_schedule.specs.Causes.{steps_of}
 use Rattle.script_form.specs.Forms.{Form, skip, version, func, depth, tramps, user, new_cpu, task, call, ret, raise, lower, after, register, unregister, write, pids, enable, disable, maxdepth, until, sched}
 use Rattle.ft_script.specs.declared.levels.Levels.{Levels}

@@ -3,14 +3,15 @@ use Rattle.std.specs.Prelude.{ℕ, suc, ◌+◌, ◌==◌, Bool, List, [], ◌�
 use Rattle.std.specs.List.{list_any}
 use Rattle.std.specs.Str.{bytes_eq}
 use Rattle.ft_base.specs.declared.number.FuncNo.{FuncNo}
-use Rattle.ft_base.specs.declared.plan.Act.{Act as OwnAct}
-use Rattle.ft_base.specs.declared.plan.Act.TheVariants.{CallIn, IrqIn}
-use Rattle.ft_base.specs.declared.plan.Half.{Half}
-use Rattle.ft_base.specs.declared.plan.Half.TheVariants.{Filter as OfFilter, Notrace as OfNotrace}
-use Rattle.ft_base.specs.declared.plan.TaskAct.{TaskAct}
-use Rattle.ft_base.specs.declared.plan.TaskAct.TheVariants.{Call, Ret, Raise, Lower, After}
+use Rattle.ft_base.specs.declared.user.Act.{Act as OwnAct}
+use Rattle.ft_base.specs.declared.user.Act.TheVariants.{CallIn, IrqIn}
+use Rattle.ft_base.specs.declared.user.Half.{Half}
+use Rattle.ft_base.specs.declared.user.Half.TheVariants.{Filter as OfFilter, Notrace as OfNotrace}
+use Rattle.ft_base.specs.declared.task.TaskAct.{TaskAct}
+use Rattle.ft_base.specs.declared.task.TaskAct.TheVariants.{Call, Ret, Raise, Lower, After}
 use Rattle.ft_base.specs.declared.turn.Turn.{Turn}
-use Rattle.ft_base.specs.Job.{Func, Spec, Ctl, Run, Until, Command, Register, Unregister, Filter, Notrace, Pid, NoPid, Enable, Disable, MaxDepth, Marks, Edit}
+use Rattle.ft_base.specs.Marks.{Marks}
+use Rattle.ft_base.specs.Job.{Func, Spec, Ctl, Run, Until, Command, Register, Unregister, Filter, Notrace, Pid, NoPid, Enable, Disable, MaxDepth, Edit}
 use Rattle.filter_commands.specs.Edits.{edit_of}
 use Rattle.ft_schedule.specs.Items.{turn_from}
 use Rattle.ft_schedule.specs.Causes.{steps_of}

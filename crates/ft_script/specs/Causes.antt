@@ -3,8 +3,8 @@
 use Rattle.std.specs.Prelude.{ℕ, ◌+◌, ◌*◌, ◌==◌, ◌&&◌, ◌||◌, not, nat_le, nat_lt, Bool, true, false, List, [], ◌∷◌, length, is_some, position, Option, Some, None, option_map, if◌then◌else◌}
 use Rattle.std.specs.List.{list_any}
 use Rattle.std.specs.Str.{bytes_eq}
-use Rattle.ft_base.specs.declared.plan.Kind.{Kind}
-use Rattle.ft_base.specs.declared.plan.Kind.TheVariants.{Function}
+use Rattle.ft_base.specs.declared.user.Kind.{Kind}
+use Rattle.ft_base.specs.declared.user.Kind.TheVariants.{Function}
 use Rattle.ft_base.specs.Same.{rank}
 use Rattle.filter_commands.specs.Causes.{first_cause}
 use Rattle.ft_schedule.specs.Causes.{is_bad, has_unknown}

@@ -1,8 +1,8 @@
 -- What holds of what stands above a line where no line above has a cause.
 use Rattle.std.specs.Prelude.{ℕ, zero, suc, ◌≡◌, ◌+◌, ◌<◌, ◌≤◌, ◌==◌, true, false, List, [], ◌∷◌, length, map, sum_by, None, if◌then◌else◌}
 use Rattle.std.specs.List.{AllByRecursion as Each}
-use Rattle.ft_base.specs.declared.plan.TaskAct.{TaskAct}
-use Rattle.ft_base.specs.declared.plan.TaskAct.TheVariants.{Call, Ret, Raise, Lower, After}
+use Rattle.ft_base.specs.declared.task.TaskAct.{TaskAct}
+use Rattle.ft_base.specs.declared.task.TaskAct.TheVariants.{Call, Ret, Raise, Lower, After}
 use Rattle.ft_machine.specs.Parts.{IsPlainUser, IsQuantum}
 use Rattle.ft_base.specs.Job.{Spec, Ctl, Run, Until, Register, Unregister}
 use Rattle.script_waits.specs.declared.script.Act.{Act}

@@ -79,7 +79,7 @@ pub fn rank_of(reading: &Reading, before: u8) -> u8
 pub fn is_long(name: &str) -> bool
     ensures { result ≡ is_long name.now }
 {
-    name.len() > limits::NAME
+    name.len() > limits::NAME_BYTES
 }
 
 /// Whether there is a name and it is too long.

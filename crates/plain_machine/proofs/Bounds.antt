@@ -7,7 +7,7 @@ use Rattle.ft_base.specs.declared.context.Ctx.{Ctx}
 use Rattle.ft_base.specs.declared.item.Reason.{Reason}
 use Rattle.ft_base.specs.declared.item.Item.{Item}
 use Rattle.ft_base.specs.declared.item.Item.TheVariants.{Enter, Back, Miss, Leave, Exit, ExitEnd}
-use Rattle.ft_base.specs.declared.plan.Act.{Act}
+use Rattle.ft_base.specs.declared.user.Act.{Act}
 use Rattle.ft_base.specs.Job.{Job}
 use Rattle.ft_base.specs.Desk.{Desk, is_live, spec_at, user_at, is_on, is_allowed, UserState, unseen}
 use Rattle.ft_base.proofs.Small.{false_true, or-false_both, or-true, ==-refl}

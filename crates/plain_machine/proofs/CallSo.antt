@@ -1,4 +1,4 @@
--- What is known of a call in its dispatch by the words on its past, and how it goes on over one more meeting and over items that don't touch the call.
+-- What is known of a call in its dispatch by the words on its past, and how it goes on over one more visit and over items that don't touch the call.
 use Rattle.std.proofs.Common.{cond, ◌≡◌, ℕ, suc, ◌<◌, ◌≤◌, Bool, true, false, not, ◌&&◌, ◌||◌, ◌==◌, List, [], ◌∷◌, ◌++◌, length, Some, refl, ap, ◌∙◌, subst, arith, inl, inr}
 use Rattle.std.specs.List.{list_any, AllByRecursion as Each}
 use Rattle.ft_base.specs.declared.number.CallNo.{CallNo}
@@ -10,13 +10,13 @@ use Rattle.ft_base.specs.Desk.{desk, is_on, user_at, spec_at}
 use Rattle.ft_base.specs.Order.{IsFalling}
 use Rattle.ft_base.proofs.Small.{Each-weaker, Each-snoc, or-false_both}
 use Rattle.ft_base.specs.Kinds.{cancels}
-use Rattle.ft_hist.specs.Past.{Entered, done, begun, entered, entry_of, is_open, is_dispatched, exits, meetings, meeting, Meeting, met, held}
-use Rattle.ft_hist.specs.Rules.{replacement, backs_with_replacement, MayMeet}
+use Rattle.ft_hist.specs.Past.{Entered, done, begun, entered, entry_of, is_open, is_dispatched, exits, all_visits, visit, Visit, visits, held}
+use Rattle.ft_hist.specs.Rules.{replacement, backs_with_replacement, MayVisit}
 use Rattle.ft_hist.proofs.Laws.{same_call-refl}
 use Rattle.ft_hist.proofs.DispatchLaws.{Watches}
-use Rattle.ft_hist.specs.Frames.{FrameUser, or_runs, keeps_frame, FrameOf}
+use Rattle.ft_hist.specs.Frames.{FrameUser, runs_after, keeps_frame, FrameOf}
 use Rattle.ft_hist.proofs.Since.{Untouched, watches-untouched}
-use Rattle.ft_hist.proofs.Meet.{MetOf, Sinks, read_at-same, unmet, runs-back, runs-refuse, frame-none, frame-joined}
+use Rattle.ft_hist.proofs.Visiting.{MetOf, Sinks, registration_at-same, unmet, runs-back, runs-refuse, frame-none, frame-joined}
 use Rattle.plain_machine.specs.State.{Walk, Around, takes_frame, joined, refused}
 
 -- who is still to come for a walker, at any command of the window: nothing here speaks of one desk
@@ -26,11 +26,11 @@ module _ (job : Job) (a : Around) (call : CallNo) (e : Entered) where
     pub opened : is_open call past ≡ true
     pub undone : is_dispatched call past ≡ false
     pub unexited : exits call past ≡ []
-    pub sinks : Sinks (met job call past)
+    pub sinks : Sinks (visits job call past)
     pub watch : Watches job call e.func past todo
-    pub runs : w.runs.0 ≡ replacement job e.func (backs_with_replacement job (met job call past))
-    pub framed : list_any (λ m. m.wants && true) (met job call past) ≡ w.framed
-    pub frame : FrameOf job (met job call past) w.users
+    pub runs : w.runs.0 ≡ replacement job e.func (backs_with_replacement job (visits job call past))
+    pub framed : list_any (λ m. m.wants && true) (visits job call past) ≡ w.framed
+    pub frame : FrameOf job (visits job call past) w.users
     pub places : Each (λ x. x.entry < length past) w.users
     pub room : w.framed ≡ true → a.level < job.frames
 
@@ -41,11 +41,11 @@ module _ (job : Job) (a : Around) (call : CallNo) (e : Entered) where
     opened = u.open' ∙ h.opened;
     undone = u.dispatched ∙ h.undone;
     unexited = u.exits ∙ h.unexited;
-    sinks = rw u.met h.sinks;
+    sinks = rw u.visits h.sinks;
     watch = watches-untouched job call e.func past past' todo u le h.watch;
-    runs = rw u.met h.runs;
-    framed = rw u.met h.framed;
-    frame = rw u.met h.frame;
+    runs = rw u.visits h.runs;
+    framed = rw u.visits h.framed;
+    frame = rw u.visits h.frame;
     places = Each-weaker (λ x. x.entry < length past) (λ x. x.entry < length past') w.users (λ x lt. omega arith) h.places;
     room = h.room;
   }
@@ -53,16 +53,16 @@ module _ (job : Job) (a : Around) (call : CallNo) (e : Entered) where
   pub entry-is : (past : List Item) → entered call past ≡ Some e → entry_of call past ≡ e
   entry-is past h = rw h refl
 
-  abbrev pub met_now : ℕ → List Item → Bool → Meeting
-  met_now u past back = meeting job call u past (meetings job past) back
+  abbrev pub met_now : ℕ → List Item → Bool → Visit
+  met_now u past back = visit job call u past (all_visits job past) back
 
-  pub met-back : (u : ℕ) (past : List Item) → met job call (Back call (record { 0 = u }) ∷ past) ≡ met_now u past true ∷ met job call past
-  unfolding meetings
-  met-back u past = rw (same_call-refl call) refl
+  pub visits-back : (u : ℕ) (past : List Item) → visits job call (Back call (record { 0 = u }) ∷ past) ≡ met_now u past true ∷ visits job call past
+  unfolding all_visits
+  visits-back u past = rw (same_call-refl call) refl
 
-  pub met-refuse : (u : ℕ) (past : List Item) (r : Reason) → met job call (Refuse call (record { 0 = u }) r ∷ past) ≡ met_now u past false ∷ met job call past
-  unfolding meetings
-  met-refuse u past r = rw (same_call-refl call) refl
+  pub visits-refuse : (u : ℕ) (past : List Item) (r : Reason) → visits job call (Refuse call (record { 0 = u }) r ∷ past) ≡ met_now u past false ∷ visits job call past
+  unfolding all_visits
+  visits-refuse u past r = rw (same_call-refl call) refl
 
   or-swap : (x y : Bool) → ((x && true) || y) ≡ (y || x)
   or-swap true true = refl
@@ -70,15 +70,15 @@ module _ (job : Job) (a : Around) (call : CallNo) (e : Entered) where
   or-swap false true = refl
   or-swap false false = refl
 
-  -- one more meeting: the user was registered before those met, and is taken off those to come
+  -- one more visit: the user was registered before those visited, and is taken off those to come
   module _ (w : Walk) (u : ℕ) (todo todo' : ℕ → Bool) (past : List Item)
-      (order : Each (λ m. (met_now u past true).since < m.since) (met job call past))
+      (order : Each (λ m. (met_now u past true).since < m.since) (visits job call past))
       (takes_off : (v : ℕ) → (u == v) ≡ false → todo v ≡ true → todo' v ≡ true) (h : CallSo w todo past) where
-    watch : (item : Item) (back : Bool) → met job call (item ∷ past) ≡ met_now u past back ∷ met job call past
+    watch : (item : Item) (back : Bool) → visits job call (item ∷ past) ≡ met_now u past back ∷ visits job call past
         → entry_of call (item ∷ past) ≡ entry_of call past → begun past ≤ begun (item ∷ past)
         → Watches job call e.func (item ∷ past) todo'
     watch item back m same le v un =
-        let both = or-false_both (u == v) (list_any (λ x. x.user == v) (met job call past)) (rw m at un) in
+        let both = or-false_both (u == v) (list_any (λ x. x.user == v) (visits job call past)) (rw m at un) in
         elim (h.watch v both.1) [
           | inl there ↦ inl (takes_off v both.0 there)
           | inr x ↦ inr (x.0, rw same x.1, (let c = x.2 in omega (arith, c, le)), x.3)
@@ -93,11 +93,11 @@ module _ (job : Job) (a : Around) (call : CallNo) (e : Entered) where
       opened = h.opened;
       undone = h.undone;
       unexited = h.unexited;
-      sinks = rw (met-refuse u past r) (order, h.sinks);
-      watch = watch (Refuse call (record { 0 = u }) r) false (met-refuse u past r) refl (omega arith);
-      runs = rw (met-refuse u past r) (runs-refuse job e.func w.runs (met_now u past false) (met job call past) refl h.runs);
-      framed = rw (met-refuse u past r) h.framed;
-      frame = rw (met-refuse u past r) (frame-none job (met_now u past false) (met job call past) w.users refl h.frame);
+      sinks = rw (visits-refuse u past r) (order, h.sinks);
+      watch = watch (Refuse call (record { 0 = u }) r) false (visits-refuse u past r) refl (omega arith);
+      runs = rw (visits-refuse u past r) (runs-refuse job e.func w.runs (met_now u past false) (visits job call past) refl h.runs);
+      framed = rw (visits-refuse u past r) h.framed;
+      frame = rw (visits-refuse u past r) (frame-none job (met_now u past false) (visits job call past) w.users refl h.frame);
       places = places-more;
       room = h.room;
     }
@@ -124,11 +124,11 @@ module _ (job : Job) (a : Around) (call : CallNo) (e : Entered) where
       abbrev users_by : Bool → List FrameUser
       users_by x = cond x (w.users ++ new_user reg ∷ []) w.users
 
-      frame : FrameOf job (met_now u past true ∷ met job call past) (joined job a u reg (length past) w.users)
-      frame = elim joins as (λ x. joins ≡ x → FrameOf job (met_now u past true ∷ met job call past) (users_by x)) [
-        | true ↦ λ x. subst (λ y. FrameOf job (met_now u past true ∷ met job call past) (w.users ++ new_user y ∷ [])) of_reg
-            (frame-joined job (met_now u past true) (met job call past) w.users refl (keeps ∙ x) h.places h.frame)
-        | false ↦ λ x. frame-none job (met_now u past true) (met job call past) w.users (keeps ∙ x) h.frame
+      frame : FrameOf job (met_now u past true ∷ visits job call past) (joined job a u reg (length past) w.users)
+      frame = elim joins as (λ x. joins ≡ x → FrameOf job (met_now u past true ∷ visits job call past) (users_by x)) [
+        | true ↦ λ x. subst (λ y. FrameOf job (met_now u past true ∷ visits job call past) (w.users ++ new_user y ∷ [])) of_reg
+            (frame-joined job (met_now u past true) (visits job call past) w.users refl (keeps ∙ x) h.places h.frame)
+        | false ↦ λ x. frame-none job (met_now u past true) (visits job call past) w.users (keeps ∙ x) h.frame
       ] refl
 
       places : Each (λ x. x.entry < suc (length past)) (joined job a u reg (length past) w.users)
@@ -137,7 +137,7 @@ module _ (job : Job) (a : Around) (call : CallNo) (e : Entered) where
         | false ↦ places-more
       ]
 
-      pub so-called : (made : Walk) → made.runs ≡ or_runs w.runs (spec_at job u).ipmodify → made.framed ≡ (w.framed || takes_frame job a u)
+      pub so-called : (made : Walk) → made.runs ≡ runs_after w.runs (spec_at job u).ipmodify → made.framed ≡ (w.framed || takes_frame job a u)
           → made.users ≡ joined job a u reg (length past) w.users
           → CallSo made todo' (Back call (record { 0 = u }) ∷ past)
       so-called made r f us' = record {
@@ -145,39 +145,39 @@ module _ (job : Job) (a : Around) (call : CallNo) (e : Entered) where
         opened = h.opened;
         undone = h.undone;
         unexited = h.unexited;
-        sinks = rw (met-back u past) (order, h.sinks);
-        watch = watch (Back call (record { 0 = u })) true (met-back u past) refl (omega arith);
-        runs = rw (met-back u past, r) (runs-back job e.func w.runs (met_now u past true) (met job call past) refl h.runs);
-        framed = rw (met-back u past, f, wants, h.framed) (or-swap (takes_frame job a u) w.framed);
-        frame = rw (met-back u past, us') frame;
+        sinks = rw (visits-back u past) (order, h.sinks);
+        watch = watch (Back call (record { 0 = u })) true (visits-back u past) refl (omega arith);
+        runs = rw (visits-back u past, r) (runs-back job e.func w.runs (met_now u past true) (visits job call past) refl h.runs);
+        framed = rw (visits-back u past, f, wants, h.framed) (or-swap (takes_frame job a u) w.framed);
+        frame = rw (visits-back u past, us') frame;
         places = rw us' places;
         room = rw f room;
       }
 
--- on one desk: those met so far are on there, and registered after each of those to come
-abbrev pub MetSo : Job → ℕ → CallNo → ℕ → List ℕ → List Item → Type 0
-MetSo job k call f todo past = Each (MetOf (desk job k) f todo) (met job call past)
+-- on one desk: those visited so far are on there, and registered after each of those to come
+abbrev pub VisitedSo : Job → ℕ → CallNo → ℕ → List ℕ → List Item → Type 0
+VisitedSo job k call f todo past = Each (MetOf (desk job k) f todo) (visits job call past)
 
 module _ (job : Job) (k : ℕ) (a : Around) (call : CallNo) (e : Entered) (u : ℕ) (us : List ℕ) (past : List Item) (d : done past ≡ k) (b : begun past ≡ k)
-    (on : is_on (desk job k) u e.func ≡ true) (h : MetSo job k call e.func (u ∷ us) past) where
-  pub order-now : Each (λ m. (met_now job a call e u past true).since < m.since) (met job call past)
-  order-now = rw (read_at-same job call u k past d b)
-      (Each-weaker (MetOf (desk job k) e.func (u ∷ us)) (λ m. (user_at (desk job k) u).since < m.since) (met job call past) (λ m x. rw x.since x.below.0) h)
+    (on : is_on (desk job k) u e.func ≡ true) (h : VisitedSo job k call e.func (u ∷ us) past) where
+  pub order-now : Each (λ m. (met_now job a call e u past true).since < m.since) (visits job call past)
+  order-now = rw (registration_at-same job call u k past d b)
+      (Each-weaker (MetOf (desk job k) e.func (u ∷ us)) (λ m. (user_at (desk job k) u).since < m.since) (visits job call past) (λ m x. rw x.since x.below.0) h)
 
-  -- the next user may be met
-  pub may_meet : entered call past ≡ Some e → MayMeet job past call u
-  may_meet known = record {
+  -- the next user may be visited
+  pub may_visit : entered call past ≡ Some e → MayVisit job past call u
+  may_visit known = record {
     on = inl (rw (d, entry-is job a call e past known) on);
-    once = unmet (desk job k) e.func u us (met job call past) h;
+    once = unmet (desk job k) e.func u us (visits job call past) h;
     order = order-now;
   }
 
-  pub met-more' : IsFalling (desk job k) (u ∷ us) → (back : Bool) → Each (MetOf (desk job k) e.func us) (met_now job a call e u past back ∷ met job call past)
-  met-more' falls back = (
-    record { since = rw (read_at-same job call u k past d b) refl; on = on; below = falls.0 },
-    Each-weaker (MetOf (desk job k) e.func (u ∷ us)) (MetOf (desk job k) e.func us) (met job call past)
+  pub visits-more' : IsFalling (desk job k) (u ∷ us) → (back : Bool) → Each (MetOf (desk job k) e.func us) (met_now job a call e u past back ∷ visits job call past)
+  visits-more' falls back = (
+    record { since = rw (registration_at-same job call u k past d b) refl; on = on; below = falls.0 },
+    Each-weaker (MetOf (desk job k) e.func (u ∷ us)) (MetOf (desk job k) e.func us) (visits job call past)
         (λ m x. record { since = x.since; on = x.on; below = x.below.1 }) h,
   )
 
   pub reg-now : (met_now job a call e u past true).reg ≡ (user_at (desk job k) u).reg
-  reg-now = ap (λ (x : ℕ). (user_at (desk job x) u).reg) (read_at-same job call u k past d b)
+  reg-now = ap (λ (x : ℕ). (user_at (desk job x) u).reg) (registration_at-same job call u k past d b)

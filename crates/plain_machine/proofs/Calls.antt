@@ -11,30 +11,30 @@ use Rattle.ft_base.specs.declared.item.Reason.{Reason}
 use Rattle.ft_base.specs.declared.item.Reason.TheVariants.{Pid as ByPid, Recursion, Depth}
 use Rattle.ft_base.specs.declared.item.Item.{Item}
 use Rattle.ft_base.specs.declared.item.Item.TheVariants.{Enter, Back, BackEnd, Refuse, Miss, Body}
-use Rattle.ft_base.specs.declared.plan.Act.{Act}
-use Rattle.ft_base.specs.declared.plan.Act.TheVariants.{CallIn, IrqIn}
+use Rattle.ft_base.specs.declared.user.Act.{Act}
+use Rattle.ft_base.specs.declared.user.Act.TheVariants.{CallIn, IrqIn}
 use Rattle.ft_base.specs.Same.{same_call, rank}
 use Rattle.ft_base.specs.Job.{Job, funcs}
 use Rattle.ft_base.specs.Desk.{desk, is_on, is_allowed, user_at, spec_at, plain_spec, sited, is_sited, target}
 use Rattle.ft_base.proofs.DeskLaws.{has_sited}
 use Rattle.ft_base.specs.Order.{IsFalling, OneModifies, has, IsOrder}
-use Rattle.ft_base.specs.WellFormed.{IsJob, IsActNamed}
+use Rattle.ft_base.specs.WellFormed.{IsWellFormed, IsActNamed}
 use Rattle.ft_base.proofs.Small.{false_true, or-false_both, ==-refl, and_both}
 use Rattle.ft_base.specs.Kinds.{has_depth, has_exit}
-use Rattle.ft_hist.specs.Past.{Entered, Callback, is_of, done, begun, entered, entry_of, callbacks, is_in, is_in_callback, is_open, is_dispatched, exits, meetings, met, held, miss_due}
-use Rattle.ft_hist.specs.Plain.{plain, reads, PlainTask, Frame, Phase, Owed, Dispatch, InBack, Running, in_phase, owed_by}
-use Rattle.ft_hist.specs.Rules.{IsLegalPast, MayStand, MayBack, MayMeet, MayRefuse, PassesPid, MayBody, InWindow}
+use Rattle.ft_hist.specs.Past.{Entered, Callback, is_of, done, begun, entered, entry_of, callbacks, is_ctx, is_in_callback, is_open, is_dispatched, exits, all_visits, visits, held, miss_due}
+use Rattle.ft_hist.specs.Plain.{plain, after_item, PlainTask, Frame, Phase, Owed, Dispatch, InBack, Running, in_phase, owed_by}
+use Rattle.ft_hist.specs.Rules.{IsLegalPast, MayStand, MayBack, MayVisit, MayRefuse, PassesPid, MayBody, InWindow}
 use Rattle.ft_hist.proofs.DispatchLaws.{WasOff, watches-at_end}
-use Rattle.ft_hist.proofs.WindowLaws.{met-more}
+use Rattle.ft_hist.proofs.WindowLaws.{visits-more}
 use Rattle.ft_hist.proofs.Laws.{same_call-refl, run_more}
 use Rattle.ft_hist.specs.Frames.{FrameOf}
 use Rattle.ft_hist.proofs.RunLaws.{calls_on, Sound}
 use Rattle.ft_hist.proofs.Since.{Since, since-trans, since-item, since-later, touches, untouched-item, IsOlder, holding, holding-since, holds, holds-by}
 use Rattle.ft_hist.proofs.HeldLaws.{held-is, opens as opens-law}
-use Rattle.ft_hist.proofs.Meet.{only_those, at_most_one}
-use Rattle.ft_hist.proofs.Lists.{Each-passes, has-passes, falling-filter, none_met}
+use Rattle.ft_hist.proofs.Visiting.{only_those, at_most_one}
+use Rattle.ft_hist.proofs.Lists.{Each-passes, has-passes, falling-filter, none_visited}
 use Rattle.plain_machine.specs.State.{Walk, Around, Nested, Made, takes_frame, misses_frame, is_deep, refusal, refusal_by, is_held, called, refused, tried, walked, backed, by_act, inside, call_of, on_users}
-use Rattle.plain_machine.proofs.CallSo.{CallSo, MetSo, so-untouched, so-refused, so-called, may_meet, entry-is, order-now, met-more', reg-now, met-back, met-refuse}
+use Rattle.plain_machine.proofs.CallSo.{CallSo, VisitedSo, so-untouched, so-refused, so-called, may_visit, entry-is, order-now, visits-more', reg-now, visits-back, visits-refuse}
 
 each-get : {A : Type 0} (P : A → Type 0) (xs : List A) (i : ℕ) (d : A) → P d → Each P xs → P (get_or xs i d)
 each-get P [] i d h e = h
@@ -52,7 +52,7 @@ pub record Now (job : Job) (k : ℕ) (past : List Item) (opens : List Callback) 
 -- one more item of a task
 pub push : (job : Job) (k : ℕ) (past : List Item) (opens opens' : List Callback) (t : ℕ) (item : Item) (s s' : PlainTask)
     → Now job k past opens → done (item ∷ past) ≡ done past → begun (item ∷ past) ≡ begun past → callbacks (item ∷ past) ≡ opens'
-    → ((v : ℕ) → is_of v item ≡ (t == v)) → plain job t past ≡ Some s → reads job (done past) s item ≡ Some s' → MayStand job past item
+    → ((v : ℕ) → is_of v item ≡ (t == v)) → plain job t past ≡ Some s → after_item job (done past) s item ≡ Some s' → MayStand job past item
     → Now job k (item ∷ past) opens' × (plain job t (item ∷ past) ≡ Some s')
 unfolding IsLegalPast
 push job k past opens opens' t item s s' h d b c own here next may =
@@ -63,7 +63,7 @@ push job k past opens opens' t item s s' h d b c own here next may =
 
 -- whether these callbacks guard the task in a context
 abbrev pub guarded_by : ℕ → List Callback → Ctx → Bool
-guarded_by t opens y = list_any (λ b. (b.call.task.0 == t) && is_in b.ctx y) opens
+guarded_by t opens y = list_any (λ b. (b.call.task.0 == t) && is_ctx b.ctx y) opens
 
 -- so many levels of acts are enough for a call in this context
 abbrev pub Suffices : ℕ → Ctx → List Ctx → Type 0
@@ -164,7 +164,7 @@ pub record Ground (job : Job) (k : ℕ) (n : ℕ) (a : Around) (n0 : ℕ) (e : E
   pub within : e.func < funcs job
   pub enough : Suffices n e.ctx a.guards
 
-module _ (job : Job) (k : ℕ) (is : IsJob job) (one : OneModifies job (desk job k)) (nested : Nested) (n : ℕ) (makes : Makes job k n nested)
+module _ (job : Job) (k : ℕ) (is : IsWellFormed job) (one : OneModifies job (desk job k)) (nested : Nested) (n : ℕ) (makes : Makes job k n nested)
     (a : Around) (n0 : ℕ) (e : Entered) (p : PlainTask) (scripted : Bool) (below : List Frame) (opens : List Callback) (past0 : List Item)
     (g : Ground job k n a n0 e below opens past0) where
   abbrev pub call : CallNo
@@ -187,7 +187,7 @@ module _ (job : Job) (k : ℕ) (is : IsJob job) (one : OneModifies job (desk job
   goes : (past : List Item) (next : ℕ) (before after : Phase) (opens1 opens2 : List Callback) (due1 due2 : Option Callback) (item : Item)
       → Busy past next before opens1 due1 → ((v : ℕ) → is_of v item ≡ (a.task.0 == v)) → ((c : CallNo) → same_call call c ≡ false → touches c item ≡ false)
       → done (item ∷ past) ≡ done past → begun (item ∷ past) ≡ begun past → callbacks (item ∷ past) ≡ opens2
-      → reads job (done past) (in_call next before) item ≡ Some (in_call next after) → MayStand job past item → miss_due job a.task.0 (item ∷ past) ≡ due2
+      → after_item job (done past) (in_call next before) item ≡ Some (in_call next after) → MayStand job past item → miss_due job a.task.0 (item ∷ past) ≡ due2
       → Busy (item ∷ past) next after opens2 due2
   goes past next before after opens1 opens2 due1 due2 item h own touch d b c r may due =
       let w = push job k past opens1 opens2 a.task.0 item (in_call next before) (in_call next after) h.now d b c own h.run r may in
@@ -244,10 +244,10 @@ module _ (job : Job) (k : ℕ) (is : IsJob job) (one : OneModifies job (desk job
     may_refuse Depth past now guard l v = let both = and_both (has_depth (spec_at job u).kind) (is_deep job (desk job k) a.level) v.2 in
         (passes past now.returned v.0, guard ∙ v.1, both.0, deep-why past now.returned l both.1)
 
-    may_back : (past : List Item) → Now job k past opens → MayMeet job past call u → is_in_callback a.task.0 (entry_of call past).ctx past ≡ is_held a.guards e.ctx → held job call past ≡ a.level
+    may_back : (past : List Item) → Now job k past opens → MayVisit job past call u → is_in_callback a.task.0 (entry_of call past).ctx past ≡ is_held a.guards e.ctx → held job call past ≡ a.level
         → Verdict pid_bars (is_held a.guards e.ctx) too_deep None → MayBack job past call u
     may_back past now meets guard l v = record {
-      meets = meets;
+      visit = meets;
       pid = passes past now.returned v.0;
       free = guard ∙ v.1;
       room = λ yes. let both = or-false_both (nat_le job.frames a.level) _ (rw yes at v.2) in rw l (leb-false job.frames a.level both.0);
@@ -260,25 +260,25 @@ module _ (job : Job) (k : ℕ) (is : IsJob job) (one : OneModifies job (desk job
           | inr x ↦ inr (leb-false m a.level (rw x.0 at z))
         ]
 
-  reads-refuse : (d next u : ℕ) (r : Reason) → reads job d (in_call next Dispatch) (Refuse call (record { 0 = u }) r) ≡ Some (in_call next Dispatch)
-  unfolding reads
-  reads-refuse d next u r = rw (same_call-refl call) refl
+  after_item-refuse : (d next u : ℕ) (r : Reason) → after_item job d (in_call next Dispatch) (Refuse call (record { 0 = u }) r) ≡ Some (in_call next Dispatch)
+  unfolding after_item
+  after_item-refuse d next u r = rw (same_call-refl call) refl
 
-  reads-back : (d next u : ℕ) → reads job d (in_call next Dispatch) (Back call (record { 0 = u })) ≡ Some (in_call next (InBack u (owed_by e.ctx (spec_at job u).act) true))
-  unfolding reads
-  reads-back d next u = rw (same_call-refl call) refl
+  after_item-back : (d next u : ℕ) → after_item job d (in_call next Dispatch) (Back call (record { 0 = u })) ≡ Some (in_call next (InBack u (owed_by e.ctx (spec_at job u).act) true))
+  unfolding after_item
+  after_item-back d next u = rw (same_call-refl call) refl
 
-  reads-miss : (d next u : ℕ) (o : Option Owed) → reads job d (in_call next (InBack u o true)) (Miss call (record { 0 = u })) ≡ Some (in_call next (InBack u o false))
-  unfolding reads
-  reads-miss d next u o = rw (same_call-refl call, ==-refl u) refl
+  after_item-miss : (d next u : ℕ) (o : Option Owed) → after_item job d (in_call next (InBack u o true)) (Miss call (record { 0 = u })) ≡ Some (in_call next (InBack u o false))
+  unfolding after_item
+  after_item-miss d next u o = rw (same_call-refl call, ==-refl u) refl
 
-  reads-back_end : (d next u : ℕ) (fr : Bool) → reads job d (in_call next (InBack u None fr)) (BackEnd call (record { 0 = u })) ≡ Some (in_call next Dispatch)
-  unfolding reads
-  reads-back_end d next u fr = rw (same_call-refl call, ==-refl u) refl
+  after_item-back_end : (d next u : ℕ) (fr : Bool) → after_item job d (in_call next (InBack u None fr)) (BackEnd call (record { 0 = u })) ≡ Some (in_call next Dispatch)
+  unfolding after_item
+  after_item-back_end d next u fr = rw (same_call-refl call, ==-refl u) refl
 
-  reads-body : (d next : ℕ) (r : FuncNo) (ran : Ran) → reads job d (in_call next Dispatch) (Body call r ran) ≡ Some (in_call next Running)
-  unfolding reads
-  reads-body d next r ran = rw (same_call-refl call) refl
+  after_item-body : (d next : ℕ) (r : FuncNo) (ran : Ran) → after_item job d (in_call next Dispatch) (Body call r ran) ≡ Some (in_call next Running)
+  unfolding after_item
+  after_item-body d next r ran = rw (same_call-refl call) refl
 
   -- ## one user
 
@@ -301,7 +301,7 @@ module _ (job : Job) (k : ℕ) (is : IsJob job) (one : OneModifies job (desk job
   pub record Dispatching (w : Walk) (todo : List ℕ) : Type 0 where
     pub busy : Busy w.past w.next Dispatch opens None
     pub so : So w todo w.past
-    pub those : MetSo job k call e.func todo w.past
+    pub those : VisitedSo job k call e.func todo w.past
     pub on : Each (λ u. is_on (desk job k) u e.func ≡ true) todo
     pub falls : IsFalling (desk job k) todo
 
@@ -327,11 +327,11 @@ module _ (job : Job) (k : ℕ) (is : IsJob job) (one : OneModifies job (desk job
       let guard = guard-is w.past w.next Dispatch None w (u ∷ us) h.busy h.so in
       record {
         busy = goes w.past w.next Dispatch Dispatch opens opens None None (Refuse call (record { 0 = u }) r) h.busy (λ v. refl) (λ c e. e) refl refl h.busy.now.still
-            (reads-refuse (done w.past) w.next u r)
-            (may_meet job k a call e u us w.past h.busy.now.returned h.busy.now.begun h.on.0 h.those h.so.known, may_refuse u r w.past h.busy.now guard l v, h.busy.misses)
+            (after_item-refuse (done w.past) w.next u r)
+            (may_visit job k a call e u us w.past h.busy.now.returned h.busy.now.begun h.on.0 h.those h.so.known, may_refuse u r w.past h.busy.now guard l v, h.busy.misses)
             (rw mine refl);
         so = so-refused job a call e w u (λ v. has v (u ∷ us)) (λ v. has v us) w.past (order-now job k a call e u us w.past h.busy.now.returned h.busy.now.begun h.on.0 h.those) (takes_off u us) h.so r;
-        those = rw (met-refuse job a call e u w.past r) (met-more' job k a call e u us w.past h.busy.now.returned h.busy.now.begun h.on.0 h.those h.falls false);
+        those = rw (visits-refuse job a call e u w.past r) (visits-more' job k a call e u us w.past h.busy.now.returned h.busy.now.begun h.on.0 h.those h.falls false);
         on = h.on.1;
         falls = h.falls.1;
       }
@@ -350,8 +350,8 @@ module _ (job : Job) (k : ℕ) (is : IsJob job) (one : OneModifies job (desk job
     back_busy =
         goes w.past w.next Dispatch (InBack u (owed u) true) opens (callback u ∷ opens) None (cond (misses_frame job a u) (Some (miss_of u)) None) (back_of u) h.busy (λ v. refl) (λ c e. e) refl refl
         (rw (h.so.known, h.busy.now.still) refl)
-        (reads-back (done w.past) w.next u) (
-          may_back u w.past h.busy.now (may_meet job k a call e u us w.past h.busy.now.returned h.busy.now.begun h.on.0 h.those h.so.known)
+        (after_item-back (done w.past) w.next u) (
+          may_back u w.past h.busy.now (may_visit job k a call e u us w.past h.busy.now.returned h.busy.now.begun h.on.0 h.those h.so.known)
               (guard-is w.past w.next Dispatch None w (u ∷ us) h.busy h.so) its_level v,
           h.busy.misses,
         )
@@ -361,23 +361,23 @@ module _ (job : Job) (k : ℕ) (is : IsJob job) (one : OneModifies job (desk job
     back_so = so-called job a call e w u (λ v. has v (u ∷ us)) (λ v. has v us) w.past (order-now job k a call e u us w.past h.busy.now.returned h.busy.now.begun h.on.0 h.those) (takes_off u us) h.so
         its_level (takes-room u v.2) (user_at (desk job k) u).reg (reg-now job k a call e u us w.past h.busy.now.returned h.busy.now.begun h.on.0 h.those) after refl refl refl
 
-    back_those : MetSo job k call e.func us (back_of u ∷ w.past)
-    back_those = rw (met-back job a call e u w.past) (met-more' job k a call e u us w.past h.busy.now.returned h.busy.now.begun h.on.0 h.those h.falls true)
+    back_those : VisitedSo job k call e.func us (back_of u ∷ w.past)
+    back_those = rw (visits-back job a call e u w.past) (visits-more' job k a call e u us w.past h.busy.now.returned h.busy.now.begun h.on.0 h.those h.falls true)
 
     -- after the Back, and the Miss where it is due
-    marked : (fr : Bool) × Busy past1 w.next (InBack u (owed u) fr) (callback u ∷ opens) None × So after us past1 × MetSo job k call e.func us past1
+    marked : (fr : Bool) × Busy past1 w.next (InBack u (owed u) fr) (callback u ∷ opens) None × So after us past1 × VisitedSo job k call e.func us past1
     marked =
         elim (misses_frame job a u) as (λ b. misses_frame job a u ≡ b → (fr : Bool) × Busy (cond b (Miss call (record { 0 = u }) ∷ back_of u ∷ w.past) (back_of u ∷ w.past)) w.next (InBack u (owed u) fr) (callback u ∷ opens) None
-        × So after us (cond b (Miss call (record { 0 = u }) ∷ back_of u ∷ w.past) (back_of u ∷ w.past)) × MetSo job k call e.func us (cond b (Miss call (record { 0 = u }) ∷ back_of u ∷ w.past) (back_of u ∷ w.past))) [
+        × So after us (cond b (Miss call (record { 0 = u }) ∷ back_of u ∷ w.past) (back_of u ∷ w.past)) × VisitedSo job k call e.func us (cond b (Miss call (record { 0 = u }) ∷ back_of u ∷ w.past) (back_of u ∷ w.past))) [
           | false ↦ λ x. (true, subst (λ y. Busy (back_of u ∷ w.past) w.next (InBack u (owed u) true) (callback u ∷ opens) (cond y (Some (miss_of u)) None)) x back_busy, back_so, back_those)
           | true ↦ λ x. let due : miss_due job a.task.0 (back_of u ∷ w.past) ≡ Some (miss_of u) = back_busy.misses ∙ ap (λ y. cond y (Some (miss_of u)) None) x in (
             false,
             goes (back_of u ∷ w.past) w.next (InBack u (owed u) true) (InBack u (owed u) false) (callback u ∷ opens) (callback u ∷ opens) (cond (misses_frame job a u) (Some (miss_of u)) None) None
-                (Miss call (record { 0 = u })) back_busy (λ v. refl) (λ c e. refl) refl refl back_busy.now.still (reads-miss (done w.past) w.next u (owed u))
+                (Miss call (record { 0 = u })) back_busy (λ v. refl) (λ c e. refl) refl refl back_busy.now.still (after_item-miss (done w.past) w.next u (owed u))
                 (rw due ((refl, refl), refl)) (rw mine refl),
             so-untouched job a call e after (λ v. has v us) (back_of u ∷ w.past) (Miss call (record { 0 = u }) ∷ back_of u ∷ w.past)
                 (untouched-item job call (back_of u ∷ w.past) (Miss call (record { 0 = u })) refl) (omega arith) (omega arith) back_so,
-            rw (met-more job call (Miss call (record { 0 = u })) (back_of u ∷ w.past) refl) back_those,
+            rw (visits-more job call (Miss call (record { 0 = u })) (back_of u ∷ w.past) refl) back_those,
           )
         ] refl
 
@@ -420,9 +420,9 @@ module _ (job : Job) (k : ℕ) (is : IsJob job) (one : OneModifies job (desk job
         func_or (Some z) = z.func
 
     -- the act's call whole, where there is one
-    acted : (o : Option Owed) → owed u ≡ o → (past : List Item) (fr : Bool) → Busy past w.next (InBack u o fr) (callback u ∷ opens) None → So after us past → MetSo job k call e.func us past
+    acted : (o : Option Owed) → owed u ≡ o → (past : List Item) (fr : Bool) → Busy past w.next (InBack u o fr) (callback u ∷ opens) None → So after us past → VisitedSo job k call e.func us past
         → (fr' : Bool) × Busy (by_act nested within_act o call past w.next).past (by_act nested within_act o call past w.next).next (InBack u None fr') (callback u ∷ opens) None
-        × So after us (by_act nested within_act o call past w.next).past × MetSo job k call e.func us (by_act nested within_act o call past w.next).past
+        × So after us (by_act nested within_act o call past w.next).past × VisitedSo job k call e.func us (by_act nested within_act o call past w.next).past
     acted None y past fr b so th = (fr, b, so, th)
     acted (Some o) y past fr b so th =
         let s = suffices a.guards n e.ctx (spec_at job u).act o y v.1 g.enough in
@@ -449,7 +449,7 @@ module _ (job : Job) (k : ℕ) (is : IsJob job) (one : OneModifies job (desk job
             number = (opens-law job a.task.0 made.past (in_call made.next (InBack u None false)) r.run).number.0;
           },
           so-untouched job a call e after (λ v. has v us) past made.past (r.since.older call (λ x. le)) (omega arith) longer so,
-          rw (r.since.older call (λ x. le)).met th,
+          rw (r.since.older call (λ x. le)).visits th,
         )
 
     -- a user is called back
@@ -461,11 +461,11 @@ module _ (job : Job) (k : ℕ) (is : IsJob job) (one : OneModifies job (desk job
         record {
           busy = goes made.past made.next (InBack u None r.0) Dispatch (callback u ∷ opens) opens None None (BackEnd call (record { 0 = u })) r.1 (λ v. refl) (λ c e. refl) refl refl
               (rw (r.1.now.still, same_call-refl call, ==-refl u) refl)
-              (reads-back_end (done made.past) made.next u r.0)
+              (after_item-back_end (done made.past) made.next u r.0)
               r.1.misses
               (rw mine refl);
           so = so-untouched job a call e after (λ v. has v us) made.past (BackEnd call (record { 0 = u }) ∷ made.past) (untouched-item job call made.past (BackEnd call (record { 0 = u })) refl) (omega arith) (omega arith) r.2;
-          those = rw (met-more job call (BackEnd call (record { 0 = u })) made.past refl) r.3;
+          those = rw (visits-more job call (BackEnd call (record { 0 = u })) made.past refl) r.3;
           on = h.on.1;
           falls = h.falls.1;
         }
@@ -493,9 +493,9 @@ module _ (job : Job) (k : ℕ) (is : IsJob job) (one : OneModifies job (desk job
         silent = λ u _ un. subst (λ (x : Entered). InWindow call w.past (λ j. is_on (desk job j) u x.func ≡ false)) (sym entry)
             (watches-at_end job call e.func w.past (λ v. has v []) h.so.watch (λ v. refl) u un);
         fetched = at_k w (λ j. target (desk job k) e.func ≡ target (desk job j) (entry_of call w.past).func) h (rw entry refl);
-        only = only_those (desk job k) e.func (sited (desk job k) e.func) (met job call w.past)
+        only = only_those (desk job k) e.func (sited (desk job k) e.func) (visits job call w.past)
             (λ u on. has_sited (desk job k) e.func u (and_both (is_sited (desk job k) u e.func) _ on).0) h.those;
-        one = at_most_one job (desk job k) e.func (met job call w.past) (λ x y. one e.func x y g.within) h.those h.so.sinks;
+        one = at_most_one job (desk job k) e.func (visits job call w.past) (λ x y. one e.func x y g.within) h.those h.so.sinks;
         runs = rw entry h.so.runs;
       }
 
@@ -508,16 +508,16 @@ module _ (job : Job) (k : ℕ) (is : IsJob job) (one : OneModifies job (desk job
     pub opened : is_open call (body_of w ∷ w.past) ≡ true
     pub dispatched : is_dispatched call (body_of w ∷ w.past) ≡ true
     pub unexited : exits call (body_of w ∷ w.past) ≡ []
-    pub frame : FrameOf job (met job call (body_of w ∷ w.past)) w.users
+    pub frame : FrameOf job (visits job call (body_of w ∷ w.past)) w.users
     pub room : (w.framed ≡ true) → a.level < job.frames
-    pub framed : list_any (λ m. m.wants && true) (met job call w.past) ≡ w.framed
-    pub frame0 : FrameOf job (met job call w.past) w.users
+    pub framed : list_any (λ m. m.wants && true) (visits job call w.past) ≡ w.framed
+    pub frame0 : FrameOf job (visits job call w.past) w.users
 
   pub in_body : (w : Walk) → Dispatching w [] → InBody w
-  unfolding meetings
+  unfolding all_visits
   in_body w h = record {
     busy = goes w.past w.next Dispatch Running opens opens None None (body_of w) h.busy (λ v. refl) (λ c x. x) refl refl h.busy.now.still
-        (reads-body (done w.past) w.next w.runs (target (desk job k) e.func)) (may_body w h, h.busy.misses) (rw mine refl);
+        (after_item-body (done w.past) w.next w.runs (target (desk job k) e.func)) (may_body w h, h.busy.misses) (rw mine refl);
     opened = h.so.opened;
     dispatched = rw (same_call-refl call) refl;
     unexited = h.so.unexited;
@@ -538,10 +538,10 @@ module _ (job : Job) (k : ℕ) (is : IsJob job) (one : OneModifies job (desk job
   pub entering : (order : List ℕ) (caller : Option CallNo) (past : List Item) (next : ℕ) → IsOrder (desk job k) k order → Sound job a.task.0 past n0 (calls_on below)
       → Busy (enter_of caller ∷ past) next Dispatch opens None → entered call (enter_of caller ∷ past) ≡ Some e
       → Dispatching (at_enter caller past next) (on_users (desk job k) e.func order)
-  unfolding meetings
+  unfolding all_visits
   entering order caller past next o so b known =
       let fresh = so.fresh call refl (omega arith) in
-      let none : met job call past ≡ [] = none_met call (meetings job past) so.met in
+      let none : visits job call past ≡ [] = none_visited call (all_visits job past) so.visits in
       record {
         busy = b;
         so = record {

@@ -9,26 +9,26 @@ use Rattle.ft_base.specs.declared.context.Ctx.{Ctx}
 use Rattle.ft_base.specs.declared.item.Item.{Item}
 use Rattle.ft_base.specs.declared.item.Item.TheVariants.{Begin, Return, Leave, Ret}
 use Rattle.ft_base.specs.declared.item.Answer.{Answer}
-use Rattle.ft_base.specs.declared.plan.TaskAct.{TaskAct}
-use Rattle.ft_base.specs.declared.plan.TaskAct.TheVariants.{Call, Ret as RetAct, Raise, Lower, After}
+use Rattle.ft_base.specs.declared.task.TaskAct.{TaskAct}
+use Rattle.ft_base.specs.declared.task.TaskAct.TheVariants.{Call, Ret as RetAct, Raise, Lower, After}
 use Rattle.ft_base.specs.Job.{Job, Task, Spec, Command, Unregister, Disable, commands, commands_in, Ctl, Run, Until, funcs, no_task}
 use Rattle.ft_base.specs.Desk.{desk, answer_on, unseen}
 use Rattle.ft_base.proofs.DeskLaws.{length-desk, desk-suc}
 use Rattle.ft_base.specs.declared.turn.Actor.{Actor}
 use Rattle.ft_base.specs.declared.turn.Actor.TheVariants.{Control, Cpu}
-use Rattle.ft_base.specs.WellFormed.{IsJob, IsNamed, IsScript}
+use Rattle.ft_base.specs.WellFormed.{IsWellFormed, IsNamed, IsScript}
 use Rattle.ft_base.proofs.Small.{false_true, Each-weaker, Each-snoc, or-false_both, and_both}
 use Rattle.ft_base.proofs.Order.{after_command}
 use Rattle.ft_base.proofs.Modifiers.{named-at}
-use Rattle.ft_hist.specs.Past.{done, begun, met}
-use Rattle.ft_hist.specs.Plain.{plain, reads, PlainTask, Frame, Running, Leaving, ahead, Ahead, top_call, below_top, in_phase, at_start}
-use Rattle.ft_hist.specs.Rules.{IsLegal, IsWhole, HasEnded, IsLegalPast, MayFollow, IsStill, passed, waits_before, HasWaited}
+use Rattle.ft_hist.specs.Past.{done, begun, visits}
+use Rattle.ft_hist.specs.Plain.{plain, after_item, PlainTask, Frame, Running, Leaving, ahead, Ahead, top_call, below_top, in_phase, at_start}
+use Rattle.ft_hist.specs.Rules.{IsLegal, IsWhole, HasEnded, IsLegalPast, MayFollow, IsStill, acts_passed, waits_before, HasWaited}
 use Rattle.ft_hist.proofs.Laws.{same_call-refl, run_still, ahead-more}
 use Rattle.ft_hist.specs.Frames.{FrameUser, is_nil}
 use Rattle.ft_hist.proofs.RunLaws.{calls_on}
 use Rattle.ft_hist.proofs.HeldLaws.{opens as opens-law}
 use Rattle.ft_hist.proofs.Since.{since-refl, Untouched, untouched-item, untouched-trans}
-use Rattle.plain_machine.specs.State.{State, TaskState, CpuState, task_at, with_task, idle, frames_of, passed_act, returned_by, exited, left, acted, act_of, switched, cpu_step, cpu_at, with_cpu, is_waiting, is_left, next_task, control_step, step, start, run, tasks_at_start, is_over, has_acts, played}
+use Rattle.plain_machine.specs.State.{State, TaskState, CpuState, task_at, with_task, idle, frames_of, passed_act, returned_by, exited, after_return, acted, act_of, switched, cpu_step, cpu_at, with_cpu, is_waiting, is_left, next_task, control_step, step, start, run, tasks_at_start, all_end, has_acts, played}
 use Rattle.plain_machine.specs.Rule.{Stacked, TaskOk, Rule}
 use Rattle.plain_machine.proofs.Calls.{push}
 use Rattle.plain_machine.proofs.Returns.{all_exited, returns}
@@ -37,12 +37,12 @@ use Rattle.plain_machine.proofs.Rows.{row_call, rule-after, now-of, within-tasks
 
 -- ## a return
 
-reads-leave : (job : Job) (d : ℕ) (at : PlainTask) (f : Frame) (below : List Frame) (rest : List TaskAct) (cs : List Ctx) (gone : ℕ)
+after_item-leave : (job : Job) (d : ℕ) (at : PlainTask) (f : Frame) (below : List Frame) (rest : List TaskAct) (cs : List Ctx) (gone : ℕ)
     → at.stack ≡ f ∷ below → f.phase ≡ Running → f.scripted ≡ true
     → ahead d at.acts at.contexts at.gone ≡ record { acts = RetAct ∷ rest; contexts = cs; gone = gone }
-    → reads job d at (Leave f.call) ≡ Some (record { next = at.next; acts = rest; gone = suc gone; contexts = cs; stack = in_phase f Leaving ∷ below })
-unfolding reads
-reads-leave job d at f below rest cs gone st ph sc a = rw (st, same_call-refl f.call, ph, sc, a) refl
+    → after_item job d at (Leave f.call) ≡ Some (record { next = at.next; acts = rest; gone = suc gone; contexts = cs; stack = in_phase f Leaving ∷ below })
+unfolding after_item
+after_item-leave job d at f below rest cs gone st ph sc a = rw (st, same_call-refl f.call, ph, sc, a) refl
 
 few-below : (us : List FrameUser) (rest : List (List FrameUser)) (n : ℕ) → frames_of (us ∷ rest) ≤ n → frames_of rest ≤ n
 few-below [] rest n le = le
@@ -53,7 +53,7 @@ module _ (job : Job) where
   row_return : (s : State) (f : Frame) (below : List Frame) (us : List FrameUser) (more : List (List FrameUser)) (rest : List TaskAct)
       → (task_at s f.call.task.0).run.acts ≡ RetAct ∷ rest → (task_at s f.call.task.0).run.stack ≡ f ∷ below → (task_at s f.call.task.0).frames ≡ us ∷ more → Rule job s
       → Rule job (record s {
-        past = left (desk job s.ran) f.call (top_call below) us s.past;
+        past = after_return (desk job s.commands_done) f.call (top_call below) us s.past;
         tasks = set s.tasks f.call.task.0 (record { run = record (task_at s f.call.task.0).run { acts = rest; gone = suc (task_at s f.call.task.0).run.gone; stack = below }; frames = more });
       })
   row_return s f below us more rest acts stack frames r =
@@ -67,12 +67,12 @@ module _ (job : Job) where
       let a : ahead (done s.past) ok.run.at.acts ok.run.at.contexts ok.run.at.gone ≡ record { acts = RetAct ∷ rest; contexts = x.run.contexts; gone = x.run.gone } =
       ok.run.ahead ∙ ap (λ (xs : List TaskAct). ahead (done s.past) xs x.run.contexts x.run.gone) acts in
       let q : PlainTask = record { next = ok.run.at.next; acts = rest; gone = suc x.run.gone; contexts = x.run.contexts; stack = f ∷ below } in
-      let w = push job s.ran s.past [] [] t (Leave f.call) ok.run.at (record q { stack = in_phase f Leaving ∷ below }) (now-of job s r) refl refl r.still (λ v. refl) ok.run.is
-      (reads-leave job (done s.past) ok.run.at f below rest x.run.contexts x.run.gone (ok.run.stack ∙ stack) stacked.0.phase stacked.0.scripted a) (r.misses t) in
-      let lv = leaves_of job s.ran f q below [] s.past s.past us w.0 w.1 (since-refl job t f.call.n s.past) stacked.0.frame stacked.0.exits in
-      let ms = met job f.call s.past in
-      let out : List Item = exited (desk job s.ran) f.call us (Leave f.call ∷ s.past) in
-      let r2 = returns job s.ran f q below [] s.past ms out (all_exited job s.ran f q below [] s.past ms us (Leave f.call ∷ s.past) lv) in
+      let w = push job s.commands_done s.past [] [] t (Leave f.call) ok.run.at (record q { stack = in_phase f Leaving ∷ below }) (now-of job s r) refl refl r.still (λ v. refl) ok.run.is
+      (after_item-leave job (done s.past) ok.run.at f below rest x.run.contexts x.run.gone (ok.run.stack ∙ stack) stacked.0.phase stacked.0.scripted a) (r.misses t) in
+      let lv = leaves_of job s.commands_done f q below [] s.past s.past us w.0 w.1 (since-refl job t f.call.n s.past) stacked.0.frame stacked.0.exits in
+      let ms = visits job f.call s.past in
+      let out : List Item = exited (desk job s.commands_done) f.call us (Leave f.call ∷ s.past) in
+      let r2 = returns job s.commands_done f q below [] s.past ms out (all_exited job s.commands_done f q below [] s.past ms us (Leave f.call ∷ s.past) lv) in
       let past1 : List Item = Ret f.call (top_call below) ∷ out in
       rule-after job s t f.call.n past1 (record { run = record x.run { acts = rest; gone = suc x.run.gone; stack = below }; frames = more }) (within-tasks s.tasks t RetAct rest acts) (omega arith) r r2.now r2.since r2.misses (record {
         run = record { at = record q { stack = below }; is = r2.run; next = ok.run.next; stack = refl; ahead = refl };
@@ -99,7 +99,7 @@ module _ (job : Job) where
 
 -- ## acts of each kind
 
-module _ (job : Job) (is : IsJob job) where
+module _ (job : Job) (is : IsWellFormed job) where
   row_ret : (s : State) (t : ℕ) (rest : List TaskAct) (stack : List Frame) (frames : List (List FrameUser)) → (task_at s t).run.acts ≡ RetAct ∷ rest → (task_at s t).run.stack ≡ stack → (task_at s t).frames ≡ frames
       → Stacked job s.past t stack frames → Rule job s → Rule job (returned_by job s t (task_at s t) rest stack)
   row_ret s t rest [] frames acts st fr k r = r
@@ -107,7 +107,7 @@ module _ (job : Job) (is : IsJob job) where
   row_ret s t rest (f ∷ below) (us ∷ more) acts st fr k r =
       let P : ℕ → Type 0 = λ v. (task_at s v).run.acts ≡ RetAct ∷ rest → (task_at s v).run.stack ≡ f ∷ below → (task_at s v).frames ≡ us ∷ more
       → Rule job (record s {
-        past = left (desk job s.ran) f.call (top_call below) us s.past;
+        past = after_return (desk job s.commands_done) f.call (top_call below) us s.past;
         tasks = set s.tasks v (record { run = record (task_at s v).run { acts = rest; gone = suc (task_at s v).run.gone; stack = below }; frames = more });
       }) in
       let go : P t = subst P k.0.task (λ a b c. row_return job s f below us more rest a b c r) in
@@ -120,7 +120,7 @@ module _ (job : Job) (is : IsJob job) where
   row_act s t (Raise c ∷ rest) e sc r = row_silent job s t (Raise c) rest (c ∷ (task_at s t).run.contexts) e (ap (λ (xs : List TaskAct). ahead (done s.past) xs (task_at s t).run.contexts (task_at s t).run.gone) e) sc r
   row_act s t (Lower ∷ rest) e sc r = row_silent job s t Lower rest (below_top (task_at s t).run.contexts) e (ap (λ (xs : List TaskAct). ahead (done s.past) xs (task_at s t).run.contexts (task_at s t).run.gone) e) sc r
   row_act s t (After n ∷ rest) e sc r =
-      elim (nat_le n s.ran) as (λ b. nat_le n s.ran ≡ b → Rule job (cond b (with_task s t (record (task_at s t) { run = passed_act (task_at s t).run rest (task_at s t).run.contexts })) s)) [
+      elim (nat_le n s.commands_done) as (λ b. nat_le n s.commands_done ≡ b → Rule job (cond b (with_task s t (record (task_at s t) { run = passed_act (task_at s t).run rest (task_at s t).run.contexts })) s)) [
         | true ↦ λ le. let met_now : nat_le n (done s.past) ≡ true = rw r.returned le in
             row_silent job s t (After n) rest (task_at s t).run.contexts e (ap (λ (xs : List TaskAct). ahead (done s.past) xs (task_at s t).run.contexts (task_at s t).run.gone) e ∙ rw met_now refl) sc r
         | false ↦ λ le. r
@@ -141,12 +141,12 @@ module _ (job : Job) (is : IsJob job) where
 
   row_cpu : (c : ℕ) (x : CpuState) (s : State) → Rule job s → Rule job (cpu_step job c x s)
   row_cpu c x s r =
-      elim (is_left s x.present) as (λ b. Rule job (cond b (switched job c x (is_waiting s.ran (task_at s x.present).run.acts) (act_of job x.present s)) s)) [
+      elim (is_left s x.present) as (λ b. Rule job (cond b (switched job c x (is_waiting s.commands_done (task_at s x.present).run.acts) (act_of job x.present s)) s)) [
         | false ↦ r
         | true ↦
             let s' : State = act_of job x.present s in
             let r' : Rule job s' = row_act s x.present (task_at s x.present).run.acts refl (r.tasks x.present).script r in
-            elim (not (is_left s' x.present) || is_waiting s.ran (task_at s x.present).run.acts || nat_le (get_or job.quanta c 1) (suc x.count))
+            elim (not (is_left s' x.present) || is_waiting s.commands_done (task_at s x.present).run.acts || nat_le (get_or job.quanta c 1) (suc x.count))
             as (λ b. Rule job (cond b (with_cpu c (record { present = next_task job c x.present s'; count = 0 }) s') (with_cpu c (record { present = x.present; count = suc x.count }) s'))) [
               | true ↦ rule-cpus s' (set s'.cpus c (record { present = next_task job c x.present s'; count = 0 })) r'
               | false ↦ rule-cpus s' (set s'.cpus c (record { present = x.present; count = suc x.count })) r'
@@ -158,20 +158,20 @@ module _ (job : Job) (is : IsJob job) where
   abbrev alone : ℕ → List TaskAct → List Ctx → PlainTask
   alone n acts cs = record { next = 0; acts = acts; gone = n; contexts = cs; stack = [] }
 
-  -- what is passed is at least what was read ahead
-  ahead-passed : (d n : ℕ) (acts : List TaskAct) (cs : List Ctx) → (ahead d acts cs n).gone ≤ passed (alone n acts cs)
+  -- what is acts_passed is at least what was read ahead
+  ahead-passed : (d n : ℕ) (acts : List TaskAct) (cs : List Ctx) → (ahead d acts cs n).gone ≤ acts_passed (alone n acts cs)
   ahead-passed d n [] cs = omega arith
   ahead-passed d n (Call f ∷ rest) cs = omega arith
   ahead-passed d n (RetAct ∷ rest) cs = omega arith
   ahead-passed d n (Raise c ∷ rest) cs = ahead-passed d (suc n) rest (c ∷ cs)
   ahead-passed d n (Lower ∷ rest) cs = ahead-passed d (suc n) rest (below_top cs)
   ahead-passed d n (After m ∷ rest) cs =
-      elim (nat_le m d) as (λ b. (cond b (ahead d rest cs (suc n)) (record { acts = After m ∷ rest; contexts = cs; gone = n })).gone ≤ passed (alone (suc n) rest cs)) [
+      elim (nat_le m d) as (λ b. (cond b (ahead d rest cs (suc n)) (record { acts = After m ∷ rest; contexts = cs; gone = n })).gone ≤ acts_passed (alone (suc n) rest cs)) [
         | true ↦ ahead-passed d (suc n) rest cs
         | false ↦ let le = gone-passed (suc n) rest cs in omega arith
       ]
     where
-      gone-passed : (m : ℕ) (xs : List TaskAct) (ds : List Ctx) → m ≤ passed (alone m xs ds)
+      gone-passed : (m : ℕ) (xs : List TaskAct) (ds : List Ctx) → m ≤ acts_passed (alone m xs ds)
       gone-passed m [] ds = omega arith
       gone-passed m (Call f ∷ xs) ds = omega arith
       gone-passed m (RetAct ∷ xs) ds = omega arith
@@ -192,12 +192,12 @@ module _ (job : Job) (is : IsJob job) where
       ]
 
   -- over a stack of running calls the acts alone count
-  passed-stacked : (past : List Item) (t : ℕ) (at : PlainTask) (stack : List Frame) (us : List (List FrameUser)) → at.stack ≡ stack → Stacked job past t stack us → passed at ≡ passed (alone at.gone at.acts at.contexts)
+  passed-stacked : (past : List Item) (t : ℕ) (at : PlainTask) (stack : List Frame) (us : List (List FrameUser)) → at.stack ≡ stack → Stacked job past t stack us → acts_passed at ≡ acts_passed (alone at.gone at.acts at.contexts)
   passed-stacked past t at [] us e k = rw e refl
   passed-stacked past t at (f ∷ below) (u ∷ us) e k = rw (e, k.0.phase, k.0.scripted) refl
   passed-stacked past t at (f ∷ below) [] e k = absurd k
 
-  has_passed : (s : State) (t : ℕ) → Rule job s → IfSome (plain job t s.past) (λ p. (task_at s t).run.gone ≤ passed p)
+  has_passed : (s : State) (t : ℕ) → Rule job s → IfSome (plain job t s.past) (λ p. (task_at s t).run.gone ≤ acts_passed p)
   has_passed s t r =
       let ok = r.tasks t in
       let x = (task_at s t).run in
@@ -213,40 +213,40 @@ module _ (job : Job) (is : IsJob job) where
   append-nil [] = refl
   append-nil (x ∷ xs) = ap (λ ys. x ∷ ys) (append-nil xs)
 
-  has_waited : (s : State) (c : Command) (rest : List Ctl) → s.left ≡ Run c ∷ rest → Rule job s → HasWaited job s.past
+  has_waited : (s : State) (c : Command) (rest : List Ctl) → s.remaining ≡ Run c ∷ rest → Rule job s → HasWaited job s.past
   has_waited s c rest e r =
       let all : waits_before (begun s.past) job.ctls ≡ r.control.waits =
-      ap (λ n. waits_before n job.ctls) (r.begun ∙ sym (plus-zero s.ran)) ∙ r.control.before 0 ∙ ap (λ ls. r.control.waits ++ waits_before 0 ls) e ∙ append-nil r.control.waits in
-      rw all (Each-weaker (λ (w : ℕ × ℕ). w.1 ≤ (task_at s w.0).run.gone) (λ (w : ℕ × ℕ). IfSome (plain job w.0 s.past) (λ p. w.1 ≤ passed p)) r.control.waits (λ w le. further w.1 (task_at s w.0).run.gone le (plain job w.0 s.past) (has_passed s w.0 r)) r.control.met)
+      ap (λ n. waits_before n job.ctls) (r.begun ∙ sym (plus-zero s.commands_done)) ∙ r.control.before 0 ∙ ap (λ ls. r.control.waits ++ waits_before 0 ls) e ∙ append-nil r.control.waits in
+      rw all (Each-weaker (λ (w : ℕ × ℕ). w.1 ≤ (task_at s w.0).run.gone) (λ (w : ℕ × ℕ). IfSome (plain job w.0 s.past) (λ p. w.1 ≤ acts_passed p)) r.control.waits (λ w le. further w.1 (task_at s w.0).run.gone le (plain job w.0 s.past) (has_passed s w.0 r)) r.control.met)
     where
-      further : (a b : ℕ) → a ≤ b → (o : Option PlainTask) → IfSome o (λ p. b ≤ passed p) → IfSome o (λ p. a ≤ passed p)
+      further : (a b : ℕ) → a ≤ b → (o : Option PlainTask) → IfSome o (λ p. b ≤ acts_passed p) → IfSome o (λ p. a ≤ acts_passed p)
       further a b le None h = h
       further a b le (Some p) h = omega (arith, le, h)
 
   -- the next command of the job
-  next-is : (s : State) (c : Command) (rest : List Ctl) → s.left ≡ Run c ∷ rest → Rule job s → slice_get (commands job) s.ran ≡ Some c
-  next-is s c rest e r = ap (λ n. slice_get (commands job) n) (sym (plus-zero s.ran)) ∙ r.control.commands 0 ∙ ap (λ ls. slice_get (commands_in ls) 0) e
+  next-is : (s : State) (c : Command) (rest : List Ctl) → s.remaining ≡ Run c ∷ rest → Rule job s → slice_get (commands job) s.commands_done ≡ Some c
+  next-is s c rest e r = ap (λ n. slice_get (commands job) n) (sym (plus-zero s.commands_done)) ∙ r.control.commands 0 ∙ ap (λ ls. slice_get (commands_in ls) 0) e
 
   run_command : (s : State) (k : ℕ) (a : Answer) → (v : ℕ) → plain job v (Return k a ∷ Begin k ∷ s.past) ≡ plain job v s.past
   run_command s k a v = run_still job (Begin k ∷ s.past) (Return k a) (λ v. refl) v ∙ run_still job s.past (Begin k) (λ v. refl) v
 
-  still_now : (s : State) (c : Command) → Rule job s → IsStill (Begin (suc s.ran) ∷ s.past) c
+  still_now : (s : State) (c : Command) → Rule job s → IsStill (Begin (suc s.commands_done) ∷ s.past) c
   still_now s (Unregister u) r = rw r.still refl
   still_now s (Disable u) r = rw r.still refl
   still_now s _ r = tt
 
-  row_command : (s : State) (c : Command) (rest : List Ctl) → s.left ≡ Run c ∷ rest → Rule job s → Rule job (control_step job s (Run c ∷ rest))
+  row_command : (s : State) (c : Command) (rest : List Ctl) → s.remaining ≡ Run c ∷ rest → Rule job s → Rule job (control_step job s (Run c ∷ rest))
   unfolding IsLegalPast
   row_command s c rest e r =
-      let a : Answer = answer_on job (desk job s.ran) c in
+      let a : Answer = answer_on job (desk job s.commands_done) c in
       let here = next-is s c rest e r in
       let runs : (v : ℕ) → IsSome (plain job v s.past) = (now-of job s r).runs in
-      let may_begin : MayFollow job s.past (Begin (suc s.ran)) = record {
-        run = λ v. rw (run_still job s.past (Begin (suc s.ran)) (λ v. refl) v) (runs v);
-        rule = (record { number = rw r.begun refl; follows = r.begun ∙ sym r.returned; stands = rw r.begun (slice_get_within (commands job) s.ran c here) }, has_waited s c rest e r);
+      let may_begin : MayFollow job s.past (Begin (suc s.commands_done)) = record {
+        run = λ v. rw (run_still job s.past (Begin (suc s.commands_done)) (λ v. refl) v) (runs v);
+        rule = (record { number = rw r.begun refl; follows = r.begun ∙ sym r.returned; stands = rw r.begun (slice_get_within (commands job) s.commands_done c here) }, has_waited s c rest e r);
       } in
-      let may_return : MayFollow job (Begin (suc s.ran) ∷ s.past) (Return (suc s.ran) a) = record {
-        run = λ v. rw (run_command s (suc s.ran) a v) (runs v);
+      let may_return : MayFollow job (Begin (suc s.commands_done) ∷ s.past) (Return (suc s.commands_done) a) = record {
+        run = λ v. rw (run_command s (suc s.commands_done) a v) (runs v);
         rule = record { number = rw r.returned refl; follows = rw (r.begun, r.returned) refl; command = (c, rw r.returned here, rw r.returned refl, λ _. still_now s c r) };
       } in
       record {
@@ -256,37 +256,37 @@ module _ (job : Job) (is : IsJob job) where
         still = r.still;
         misses = r.misses;
         tasks = λ t. task_after s t a (r.tasks t);
-        order = rw (desk-suc job s.ran, here) (after_command job (desk job s.ran) s.ran s.order (length-desk job s.ran) r.order c (named-at (IsNamed job) (commands job) s.ran c here is.commands));
+        order = rw (desk-suc job s.commands_done, here) (after_command job (desk job s.commands_done) s.commands_done s.order (length-desk job s.commands_done) r.order c (named-at (IsNamed job) (commands job) s.commands_done c here is.commands));
         control = record {
           waits = r.control.waits;
           met = r.control.met;
-          before = λ n. ap (λ m. waits_before m job.ctls) (shift s.ran n) ∙ r.control.before (suc n) ∙ ap (λ ls. r.control.waits ++ waits_before (suc n) ls) e;
-          most = slice_get_within (commands job) s.ran c here;
-          commands = λ n. ap (λ m. slice_get (commands job) m) (shift s.ran n) ∙ r.control.commands (suc n) ∙ ap (λ ls. slice_get (commands_in ls) (suc n)) e;
+          before = λ n. ap (λ m. waits_before m job.ctls) (shift s.commands_done n) ∙ r.control.before (suc n) ∙ ap (λ ls. r.control.waits ++ waits_before (suc n) ls) e;
+          most = slice_get_within (commands job) s.commands_done c here;
+          commands = λ n. ap (λ m. slice_get (commands job) m) (shift s.commands_done n) ∙ r.control.commands (suc n) ∙ ap (λ ls. slice_get (commands_in ls) (suc n)) e;
         };
       }
     where
       shift : (m n : ℕ) → suc m + n ≡ m + suc n
       shift m n = omega arith
 
-      untouched : (s : State) (b : Answer) (c : CallNo) → Untouched job c s.past (Return (suc s.ran) b ∷ Begin (suc s.ran) ∷ s.past)
-      untouched s b c = untouched-trans job c s.past (Begin (suc s.ran) ∷ s.past) (Return (suc s.ran) b ∷ Begin (suc s.ran) ∷ s.past)
-          (untouched-item job c s.past (Begin (suc s.ran)) refl) (untouched-item job c (Begin (suc s.ran) ∷ s.past) (Return (suc s.ran) b) refl)
+      untouched : (s : State) (b : Answer) (c : CallNo) → Untouched job c s.past (Return (suc s.commands_done) b ∷ Begin (suc s.commands_done) ∷ s.past)
+      untouched s b c = untouched-trans job c s.past (Begin (suc s.commands_done) ∷ s.past) (Return (suc s.commands_done) b ∷ Begin (suc s.commands_done) ∷ s.past)
+          (untouched-item job c s.past (Begin (suc s.commands_done)) refl) (untouched-item job c (Begin (suc s.commands_done) ∷ s.past) (Return (suc s.commands_done) b) refl)
 
       each-all : {X : Type 0} (P : X → Type 0) (xs : List X) → ((x : X) → P x) → Each P xs
       each-all P [] f = tt
       each-all P (x ∷ xs) f = (f x, each-all P xs f)
 
-      task_after : (s : State) (t : ℕ) (b : Answer) → TaskOk job s.past t (task_at s t) → TaskOk job (Return (suc s.ran) b ∷ Begin (suc s.ran) ∷ s.past) t (task_at s t)
+      task_after : (s : State) (t : ℕ) (b : Answer) → TaskOk job s.past t (task_at s t) → TaskOk job (Return (suc s.commands_done) b ∷ Begin (suc s.commands_done) ∷ s.past) t (task_at s t)
       task_after s t b ok = record {
         run = record {
           at = ok.run.at;
-          is = run_command s (suc s.ran) b t ∙ ok.run.is;
+          is = run_command s (suc s.commands_done) b t ∙ ok.run.is;
           next = ok.run.next;
           stack = ok.run.stack;
           ahead = ahead-more (done s.past) ok.run.at.acts (task_at s t).run.acts ok.run.at.contexts (task_at s t).run.contexts ok.run.at.gone (task_at s t).run.gone ok.run.ahead;
         };
-        stack = stacked-untouched job s.past (Return (suc s.ran) b ∷ Begin (suc s.ran) ∷ s.past) t (task_at s t).run.stack (task_at s t).frames (each-all _ (calls_on (task_at s t).run.stack) (λ c. untouched s b c)) ok.stack;
+        stack = stacked-untouched job s.past (Return (suc s.commands_done) b ∷ Begin (suc s.commands_done) ∷ s.past) t (task_at s t).run.stack (task_at s t).frames (each-all _ (calls_on (task_at s t).run.stack) (λ c. untouched s b c)) ok.stack;
         few = ok.few;
         script = ok.script;
       }
@@ -295,7 +295,7 @@ module _ (job : Job) (is : IsJob job) where
   append-more [] ys x = refl
   append-more (y ∷ xs) ys x = ap (λ zs. y ∷ zs) (append-more xs ys x)
 
-  row_until : (s : State) (t n : ℕ) (rest : List Ctl) → s.left ≡ Until t n ∷ rest → n ≤ (task_at s t).run.gone → Rule job s → Rule job (record s { left = rest })
+  row_until : (s : State) (t n : ℕ) (rest : List Ctl) → s.remaining ≡ Until t n ∷ rest → n ≤ (task_at s t).run.gone → Rule job s → Rule job (record s { remaining = rest })
   row_until s t n rest e le r = record {
     legal = r.legal;
     returned = r.returned;
@@ -313,11 +313,11 @@ module _ (job : Job) (is : IsJob job) where
     };
   }
 
-  row_control : (s : State) (ls : List Ctl) → s.left ≡ ls → Rule job s → Rule job (control_step job s ls)
+  row_control : (s : State) (ls : List Ctl) → s.remaining ≡ ls → Rule job s → Rule job (control_step job s ls)
   row_control s [] e r = r
   row_control s (Run c ∷ rest) e r = row_command s c rest e r
   row_control s (Until t n ∷ rest) e r =
-      elim (nat_le n (task_at s t).run.gone) as (λ b. nat_le n (task_at s t).run.gone ≡ b → Rule job (cond b (record s { left = rest }) s)) [
+      elim (nat_le n (task_at s t).run.gone) as (λ b. nat_le n (task_at s t).run.gone ≡ b → Rule job (cond b (record s { remaining = rest }) s)) [
         | true ↦ λ x. row_until s t n rest e (leb-true n (task_at s t).run.gone x) r
         | false ↦ λ x. r
       ] refl
@@ -326,7 +326,7 @@ module _ (job : Job) (is : IsJob job) where
 
   pub step_keeps : (a : Actor) (s : State) → Rule job s → Rule job (step job a s)
   unfolding step
-  step_keeps Control s r = row_control s s.left refl r
+  step_keeps Control s r = row_control s s.remaining refl r
   step_keeps (Cpu c) s r = row_cpu c.0 (cpu_at job s c.0) s r
 
   pub run_keeps : (actors : List Actor) (s : State) → Rule job s → Rule job (run job actors s)
@@ -426,34 +426,34 @@ module _ (job : Job) (is : IsJob job) where
         ok.run.stack ∙ no_frames x.stack script,
       )
 
-  pub whole-of : (s : State) (items : List Item) → reverse items ≡ s.past → is_over s ≡ true → Rule job s → IsWhole job items
-  unfolding IsLegal is_over
+  pub whole-of : (s : State) (items : List Item) → reverse items ≡ s.past → all_end s ≡ true → Rule job s → IsWhole job items
+  unfolding IsLegal all_end
   whole-of s items e over r =
-      let both = and_both (is_nil s.left) (not (list_any (λ x. has_acts x.run.acts) s.tasks)) over in
-      let left : s.left ≡ [] = nil-is s.left both.0 in
+      let both = and_both (is_nil s.remaining) (not (list_any (λ x. has_acts x.run.acts) s.tasks)) over in
+      let left : s.remaining ≡ [] = nil-is s.remaining both.0 in
       let none = not_true (list_any (λ x. has_acts x.run.acts) s.tasks) both.1 in
-      let last : slice_get (commands job) s.ran ≡ None = ap (λ n. slice_get (commands job) n) (sym (plus-zero s.ran)) ∙ r.control.commands 0 ∙ ap (λ ls. slice_get (commands_in ls) 0) left in
-      let l1 = no_more (commands job) s.ran last in
+      let last : slice_get (commands job) s.commands_done ≡ None = ap (λ n. slice_get (commands job) n) (sym (plus-zero s.commands_done)) ∙ r.control.commands 0 ∙ ap (λ ls. slice_get (commands_in ls) 0) left in
+      let l1 = no_more (commands job) s.commands_done last in
       let l2 = r.control.most in
-      let same : s.ran ≡ length (commands job) = omega arith in
+      let same : s.commands_done ≡ length (commands job) = omega arith in
       record {
         legal = rw e r.legal;
         returned = rw e (r.returned ∙ same);
         tasks = λ t lt. rw e (ended s t (not_any s.tasks t none) r);
       }
 
-  pub always_whole : (actors : List Actor) → is_over (run job actors (start job)) ≡ true → IsWhole job (reverse (run job actors (start job)).past)
+  pub always_whole : (actors : List Actor) → all_end (run job actors (start job)) ≡ true → IsWhole job (reverse (run job actors (start job)).past)
   always_whole actors over = whole-of (run job actors (start job)) (reverse (run job actors (start job)).past) (reverse-reverse (run job actors (start job)).past) over (run_keeps actors (start job) start_keeps)
 
   -- a replay, which stops at the end
   pub played_keeps : (actors : List Actor) (s : State) → Rule job s → Rule job (played job actors s)
   unfolding played
   played_keeps [] s r = r
-  played_keeps (a ∷ rest) s r = elim (is_over s) as (λ b. Rule job (cond b s (played job rest (step job a s)))) [ true ↦ r | false ↦ played_keeps rest (step job a s) (step_keeps a s r) ]
+  played_keeps (a ∷ rest) s r = elim (all_end s) as (λ b. Rule job (cond b s (played job rest (step job a s)))) [ true ↦ r | false ↦ played_keeps rest (step job a s) (step_keeps a s r) ]
 
   pub played_legal : (actors : List Actor) → IsLegal job (reverse (played job actors (start job)).past)
   unfolding IsLegal
   played_legal actors = rw reverse-reverse (played_keeps actors (start job) start_keeps).legal
 
-  pub played_whole : (actors : List Actor) → is_over (played job actors (start job)) ≡ true → IsWhole job (reverse (played job actors (start job)).past)
+  pub played_whole : (actors : List Actor) → all_end (played job actors (start job)) ≡ true → IsWhole job (reverse (played job actors (start job)).past)
   played_whole actors over = whole-of (played job actors (start job)) (reverse (played job actors (start job)).past) (reverse-reverse (played job actors (start job)).past) over (played_keeps actors (start job) start_keeps)

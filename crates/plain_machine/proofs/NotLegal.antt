@@ -10,8 +10,8 @@ use Rattle.ft_base.specs.declared.item.Item.TheVariants.{Begin, Return, Enter, B
 use Rattle.ft_base.specs.Job.{Job, Command, Unregister}
 use Rattle.ft_base.specs.Desk.{desk, is_on, is_live, target}
 use Rattle.ft_base.proofs.Small.{false_true}
-use Rattle.ft_hist.specs.Past.{meetings, Meeting}
-use Rattle.ft_hist.specs.Plain.{plain, reads}
+use Rattle.ft_hist.specs.Past.{all_visits, Visit}
+use Rattle.ft_hist.specs.Plain.{plain, after_item}
 use Rattle.ft_hist.specs.Rules.{IsLegal, MayFollow, IsStill}
 use Rattle.ft_hist.proofs.Splitting.{splits}
 use Rattle.plain_machine.proofs.Plays.{call_in}
@@ -34,7 +34,7 @@ abbrev pub before_body : List Item
 before_body = Begin 1 ∷ Return 1 Accepted ∷ Enter (call_in 0 1) Normal (record { 0 = 0 }) None ∷ []
 
 pub callback_left_out : IsLegal first_path (before_body ++ Body (call_in 0 1) (record { 0 = 0 }) (Own (record { 0 = 0 })) ∷ []) → ⊥
-unfolding desk meetings
+unfolding desk all_visits
 callback_left_out legal =
     let rule = (last first_path before_body (Body (call_in 0 1) (record { 0 = 0 }) (Own (record { 0 = 0 }))) legal).rule in
     let w = rule.0.silent 0 (omega arith) refl in
@@ -43,7 +43,7 @@ callback_left_out legal =
 
 -- fetches: what ran is not what the site was
 pub wrong_ran : IsLegal first_path ((before_body ++ Back (call_in 0 1) (record { 0 = 0 }) ∷ BackEnd (call_in 0 1) (record { 0 = 0 }) ∷ []) ++ Body (call_in 0 1) (record { 0 = 0 }) Nop ∷ []) → ⊥
-unfolding desk meetings
+unfolding desk all_visits
 wrong_ran legal =
     let before = before_body ++ Back (call_in 0 1) (record { 0 = 0 }) ∷ BackEnd (call_in 0 1) (record { 0 = 0 }) ∷ [] in
     let w = (last first_path before (Body (call_in 0 1) (record { 0 = 0 }) Nop) legal).rule.0.fetched in
@@ -52,16 +52,16 @@ wrong_ran legal =
 
 -- callbacks: a user that is off is called back
 pub callback_while_off : IsLegal two_cpus (Enter (call_in 1 1) Normal (record { 0 = 1 }) None ∷ Back (call_in 1 1) (record { 0 = 0 }) ∷ []) → ⊥
-unfolding desk meetings
+unfolding desk all_visits
 callback_while_off legal =
-    elim ((last two_cpus (Enter (call_in 1 1) Normal (record { 0 = 1 }) None ∷ []) (Back (call_in 1 1) (record { 0 = 0 })) legal).rule.0.meets.on) [
+    elim ((last two_cpus (Enter (call_in 1 1) Normal (record { 0 = 1 }) None ∷ []) (Back (call_in 1 1) (record { 0 = 0 })) legal).rule.0.visit.on) [
       | inl on ↦ false_true on
       | inr on ↦ false_true on
     ]
 
 -- callbacks: one is open where its user's unregistration returns
 pub open_at_return : IsLegal unregistered_in_call ((before_body ++ Back (call_in 0 1) (record { 0 = 0 }) ∷ Begin 2 ∷ []) ++ Return 2 Accepted ∷ []) → ⊥
-unfolding desk meetings
+unfolding desk all_visits
 open_at_return legal =
     let before = before_body ++ Back (call_in 0 1) (record { 0 = 0 }) ∷ Begin 2 ∷ [] in
     let c = (last unregistered_in_call before (Return 2 Accepted) legal).rule.command in
@@ -74,7 +74,7 @@ abbrev pub before_refusal : List Item
 before_refusal = before_body ++ Back (call_in 0 1) (record { 0 = 0 }) ∷ Enter (call_in 0 2) Normal (record { 0 = 1 }) (Some (call_in 0 1)) ∷ []
 
 pub wrong_reason : IsLegal recursion (before_refusal ++ Refuse (call_in 0 2) (record { 0 = 0 }) Depth ∷ []) → ⊥
-unfolding desk meetings
+unfolding desk all_visits
 wrong_reason legal =
     let free = (last recursion before_refusal (Refuse (call_in 0 2) (record { 0 = 0 }) Depth) legal).rule.1.1 in
     false_true (sym free)
@@ -86,11 +86,11 @@ before_exit =
     ∷ Begin 2 ∷ Return 2 Accepted ∷ Begin 3 ∷ Return 3 Accepted ∷ Leave (call_in 0 1) ∷ []
 
 pub exit_for_old_frame : IsLegal registered_again (before_exit ++ Exit (call_in 0 1) (record { 0 = 0 }) 3 ∷ []) → ⊥
-unfolding desk meetings
+unfolding desk all_visits
 exit_for_old_frame legal =
     let of = (last registered_again before_exit (Exit (call_in 0 1) (record { 0 = 0 }) 3) legal).rule.0.of in
-    let m : Meeting = record { call = call_in 0 1; user = 0; reg = 1; since = 1; place = 3; back = true; wants = true } in
-    let reg : 1 ≡ of.0.reg = ap (λ (x : Meeting). x.reg) (only m of.0 of.1) in
+    let m : Visit = record { call = call_in 0 1; user = 0; reg = 1; since = 1; place = 3; back = true; wants = true } in
+    let reg : 1 ≡ of.0.reg = ap (λ (x : Visit). x.reg) (only m of.0 of.1) in
     elim of.5 [
       | inl live ↦ false_true (subst (λ r. is_live (desk registered_again 3) 0 r ≡ true) (sym reg) live)
       | inr live ↦ false_true (subst (λ r. is_live (desk registered_again 3) 0 r ≡ true) (sym reg) live)
@@ -105,5 +105,5 @@ before_return =
     ∷ Refuse (call_in 0 3) (record { 0 = 0 }) Depth ∷ Body (call_in 0 3) (record { 0 = 2 }) (Own (record { 0 = 0 })) ∷ Leave (call_in 0 3) ∷ []
 
 pub wrong_caller : IsLegal full_shadow_stack (before_return ++ Ret (call_in 0 3) (Some (call_in 0 1)) ∷ []) → ⊥
-unfolding plain reads
+unfolding plain after_item
 wrong_caller legal = false_true ((last full_shadow_stack before_return (Ret (call_in 0 3) (Some (call_in 0 1))) legal).run 0)

@@ -8,7 +8,7 @@ use Rattle.ft_base.specs.Job.{Job, Spec}
 use Rattle.ft_base.specs.Desk.{Desk, spec_at, plain_spec, user_at}
 use Rattle.ft_base.specs.Kinds.{has_depth, has_exit, cancels}
 use Rattle.ft_hist.specs.Plain.{owed_by}
-use Rattle.ft_hist.specs.Frames.{or_runs}
+use Rattle.ft_hist.specs.Frames.{runs_after}
 use Rattle.plain_machine.specs.State.{Nested, Around, Walk, walked, tried, refusal, called, by_act, inside}
 
 or-false : (b : Bool) → (b || false) ≡ b
@@ -25,7 +25,7 @@ called_as nested job d a call x u s w =
     record {
       past = BackEnd call (record { 0 = u }) ∷ made.past;
       next = made.next;
-      runs = or_runs w.runs s.ipmodify;
+      runs = runs_after w.runs s.ipmodify;
       framed = w.framed || takes;
       users = if takes && not (cancels s.kind) then w.users ++ record { user = u; reg = (user_at d u).reg; entry = length w.past } ∷ [] else w.users;
     }

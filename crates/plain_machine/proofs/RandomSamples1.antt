@@ -6,14 +6,14 @@ use Rattle.ft_base.specs.declared.item.Reason.TheVariants.{Depth, Recursion, Pid
 use Rattle.ft_base.specs.declared.item.Answer.TheVariants.{Accepted, Already, NotThere, Invalid}
 use Rattle.ft_base.specs.declared.item.Item.{Item}
 use Rattle.ft_base.specs.declared.item.Item.TheVariants.{Begin, Return, Enter, Back, BackEnd, Refuse, Miss, Body, Leave, Exit, ExitEnd, Ret}
-use Rattle.ft_base.specs.declared.plan.Kind.TheVariants.{Graph, Function, Fprobe, Profile}
-use Rattle.ft_base.specs.declared.plan.Act.TheVariants.{CallIn, IrqIn}
-use Rattle.ft_base.specs.declared.plan.TaskAct.TheVariants.{Call, Ret as RetAct, After, Raise, Lower}
+use Rattle.ft_base.specs.declared.user.Kind.TheVariants.{Graph, Function, Fprobe, Profile}
+use Rattle.ft_base.specs.declared.user.Act.TheVariants.{CallIn, IrqIn}
+use Rattle.ft_base.specs.declared.task.TaskAct.TheVariants.{Call, Ret as RetAct, After, Raise, Lower}
 use Rattle.ft_base.specs.declared.turn.Who.TheVariants.{Control as OfControl, Cpu as OfCpu, All}
 use Rattle.ft_base.specs.Job.{Job, Register, Unregister, Filter, Notrace, Enable, Disable, Pid, NoPid, MaxDepth, Run, Until}
 use Rattle.ft_base.specs.Desk.{desk}
 use Rattle.ft_base.specs.Schedule.{actors_of, repeated}
-use Rattle.plain_machine.specs.State.{start, played, play, is_over, step, whole}
+use Rattle.plain_machine.specs.State.{start, played, play, all_end, step, whole}
 use Rattle.plain_machine.proofs.Plays.{Plays, named, call_in}
 
 abbrev pub job_1 : Job
@@ -23,7 +23,7 @@ abbrev pub job_1-items : List Item
 job_1-items = Begin 1 ∷ Return 1 NotThere ∷ Enter (call_in 0 1) Normal (record { 0 = 1 }) None ∷ Body (call_in 0 1) (record { 0 = 1 }) Nop ∷ Begin 2 ∷ Return 2 NotThere ∷ Enter (call_in 0 2) Normal (record { 0 = 1 }) (Some (call_in 0 1)) ∷ Body (call_in 0 2) (record { 0 = 1 }) Nop ∷ Begin 3 ∷ Return 3 Invalid ∷ Begin 4 ∷ Return 4 Accepted ∷ Leave (call_in 0 2) ∷ Ret (call_in 0 2) (Some (call_in 0 1)) ∷ Leave (call_in 0 1) ∷ Ret (call_in 0 1) None ∷ []
 
 pub job_1-plays : Plays job_1 job_1-items true
-unfolding actors_of repeated start played play is_over step whole desk
+unfolding actors_of repeated start played play all_end step whole desk
 job_1-plays = (refl, refl)
 
 abbrev pub job_2 : Job
@@ -33,7 +33,7 @@ abbrev pub job_2-items : List Item
 job_2-items = Enter (call_in 1 1) Normal (record { 0 = 0 }) None ∷ Body (call_in 1 1) (record { 0 = 0 }) Nop ∷ Begin 1 ∷ Return 1 Accepted ∷ Begin 2 ∷ Return 2 Accepted ∷ Leave (call_in 1 1) ∷ Ret (call_in 1 1) None ∷ Begin 3 ∷ Return 3 Invalid ∷ Begin 4 ∷ Return 4 Accepted ∷ Begin 5 ∷ Return 5 NotThere ∷ Enter (call_in 0 1) Softirq (record { 0 = 0 }) None ∷ Body (call_in 0 1) (record { 0 = 0 }) Nop ∷ Enter (call_in 0 2) Softirq (record { 0 = 0 }) (Some (call_in 0 1)) ∷ Body (call_in 0 2) (record { 0 = 0 }) Nop ∷ Leave (call_in 0 2) ∷ Ret (call_in 0 2) (Some (call_in 0 1)) ∷ Leave (call_in 0 1) ∷ Ret (call_in 0 1) None ∷ []
 
 pub job_2-plays : Plays job_2 job_2-items true
-unfolding actors_of repeated start played play is_over step whole desk
+unfolding actors_of repeated start played play all_end step whole desk
 job_2-plays = (refl, refl)
 
 abbrev pub job_3 : Job
@@ -43,7 +43,7 @@ abbrev pub job_3-items : List Item
 job_3-items = Begin 1 ∷ Return 1 Accepted ∷ Begin 2 ∷ Return 2 Accepted ∷ Begin 3 ∷ Return 3 Accepted ∷ Begin 4 ∷ Return 4 Accepted ∷ Enter (call_in 0 1) Nmi (record { 0 = 0 }) None ∷ Body (call_in 0 1) (record { 0 = 0 }) (Own (record { 0 = 0 })) ∷ Begin 5 ∷ Return 5 Already ∷ Enter (call_in 0 2) Nmi (record { 0 = 0 }) (Some (call_in 0 1)) ∷ Body (call_in 0 2) (record { 0 = 0 }) (Own (record { 0 = 0 })) ∷ Begin 6 ∷ Return 6 Already ∷ Leave (call_in 0 2) ∷ Ret (call_in 0 2) (Some (call_in 0 1)) ∷ Begin 7 ∷ Return 7 Already ∷ Leave (call_in 0 1) ∷ Ret (call_in 0 1) None ∷ Enter (call_in 0 3) Normal (record { 0 = 1 }) None ∷ Body (call_in 0 3) (record { 0 = 1 }) (Own (record { 0 = 0 })) ∷ Enter (call_in 0 4) Irq (record { 0 = 1 }) (Some (call_in 0 3)) ∷ Body (call_in 0 4) (record { 0 = 1 }) (Own (record { 0 = 0 })) ∷ Leave (call_in 0 4) ∷ Ret (call_in 0 4) (Some (call_in 0 3)) ∷ Leave (call_in 0 3) ∷ Ret (call_in 0 3) None ∷ []
 
 pub job_3-plays : Plays job_3 job_3-items true
-unfolding actors_of repeated start played play is_over step whole desk
+unfolding actors_of repeated start played play all_end step whole desk
 job_3-plays = (refl, refl)
 
 abbrev pub job_4 : Job
@@ -53,7 +53,7 @@ abbrev pub job_4-items : List Item
 job_4-items = Begin 1 ∷ Return 1 Accepted ∷ Begin 2 ∷ Return 2 Accepted ∷ Begin 3 ∷ Return 3 Accepted ∷ Begin 4 ∷ Return 4 NotThere ∷ Enter (call_in 0 1) Nmi (record { 0 = 0 }) None ∷ Body (call_in 0 1) (record { 0 = 0 }) Nop ∷ Leave (call_in 0 1) ∷ Ret (call_in 0 1) None ∷ []
 
 pub job_4-plays : Plays job_4 job_4-items true
-unfolding actors_of repeated start played play is_over step whole desk
+unfolding actors_of repeated start played play all_end step whole desk
 job_4-plays = (refl, refl)
 
 abbrev pub job_6 : Job
@@ -63,7 +63,7 @@ abbrev pub job_6-items : List Item
 job_6-items = Begin 1 ∷ Return 1 Accepted ∷ Begin 2 ∷ Return 2 Accepted ∷ Enter (call_in 1 1) Normal (record { 0 = 0 }) None ∷ Back (call_in 1 1) (record { 0 = 0 }) ∷ Enter (call_in 1 2) Normal (record { 0 = 0 }) (Some (call_in 1 1)) ∷ Refuse (call_in 1 2) (record { 0 = 0 }) Recursion ∷ Body (call_in 1 2) (record { 0 = 0 }) ByList ∷ Leave (call_in 1 2) ∷ Ret (call_in 1 2) (Some (call_in 1 1)) ∷ BackEnd (call_in 1 1) (record { 0 = 0 }) ∷ Body (call_in 1 1) (record { 0 = 0 }) ByList ∷ Leave (call_in 1 1) ∷ Ret (call_in 1 1) None ∷ Enter (call_in 1 3) Normal (record { 0 = 0 }) None ∷ Back (call_in 1 3) (record { 0 = 0 }) ∷ Enter (call_in 1 4) Normal (record { 0 = 0 }) (Some (call_in 1 3)) ∷ Refuse (call_in 1 4) (record { 0 = 0 }) Recursion ∷ Body (call_in 1 4) (record { 0 = 0 }) ByList ∷ Leave (call_in 1 4) ∷ Ret (call_in 1 4) (Some (call_in 1 3)) ∷ BackEnd (call_in 1 3) (record { 0 = 0 }) ∷ Body (call_in 1 3) (record { 0 = 0 }) ByList ∷ Begin 3 ∷ Return 3 Accepted ∷ Begin 4 ∷ Return 4 Invalid ∷ Begin 5 ∷ Return 5 Accepted ∷ Begin 6 ∷ Return 6 NotThere ∷ Leave (call_in 1 3) ∷ Ret (call_in 1 3) None ∷ Enter (call_in 2 1) Irq (record { 0 = 0 }) None ∷ Body (call_in 2 1) (record { 0 = 0 }) Nop ∷ Enter (call_in 2 2) Irq (record { 0 = 0 }) (Some (call_in 2 1)) ∷ Body (call_in 2 2) (record { 0 = 0 }) Nop ∷ Enter (call_in 2 3) Irq (record { 0 = 0 }) (Some (call_in 2 2)) ∷ Body (call_in 2 3) (record { 0 = 0 }) Nop ∷ Enter (call_in 0 1) Normal (record { 0 = 0 }) None ∷ Body (call_in 0 1) (record { 0 = 0 }) Nop ∷ Enter (call_in 2 4) Irq (record { 0 = 0 }) (Some (call_in 2 3)) ∷ Body (call_in 2 4) (record { 0 = 0 }) Nop ∷ Leave (call_in 2 4) ∷ Ret (call_in 2 4) (Some (call_in 2 3)) ∷ Leave (call_in 2 3) ∷ Ret (call_in 2 3) (Some (call_in 2 2)) ∷ Leave (call_in 2 2) ∷ Ret (call_in 2 2) (Some (call_in 2 1)) ∷ Enter (call_in 0 2) Normal (record { 0 = 0 }) (Some (call_in 0 1)) ∷ Body (call_in 0 2) (record { 0 = 0 }) Nop ∷ Leave (call_in 0 2) ∷ Ret (call_in 0 2) (Some (call_in 0 1)) ∷ Leave (call_in 0 1) ∷ Ret (call_in 0 1) None ∷ Leave (call_in 2 1) ∷ Ret (call_in 2 1) None ∷ []
 
 pub job_6-plays : Plays job_6 job_6-items true
-unfolding actors_of repeated start played play is_over step whole desk
+unfolding actors_of repeated start played play all_end step whole desk
 job_6-plays = (refl, refl)
 
 abbrev pub job_7 : Job
@@ -73,7 +73,7 @@ abbrev pub job_7-items : List Item
 job_7-items = Begin 1 ∷ Return 1 Accepted ∷ Begin 2 ∷ Return 2 Accepted ∷ Begin 3 ∷ Return 3 Already ∷ Begin 4 ∷ Return 4 Already ∷ Enter (call_in 1 1) Softirq (record { 0 = 0 }) None ∷ Back (call_in 1 1) (record { 0 = 0 }) ∷ Enter (call_in 1 2) Softirq (record { 0 = 1 }) (Some (call_in 1 1)) ∷ Body (call_in 1 2) (record { 0 = 1 }) Nop ∷ Leave (call_in 1 2) ∷ Ret (call_in 1 2) (Some (call_in 1 1)) ∷ BackEnd (call_in 1 1) (record { 0 = 0 }) ∷ Body (call_in 1 1) (record { 0 = 0 }) (Own (record { 0 = 0 })) ∷ Begin 5 ∷ Return 5 Accepted ∷ Leave (call_in 1 1) ∷ Exit (call_in 1 1) (record { 0 = 0 }) 9 ∷ ExitEnd (call_in 1 1) (record { 0 = 0 }) ∷ Ret (call_in 1 1) None ∷ Begin 6 ∷ Return 6 Accepted ∷ []
 
 pub job_7-plays : Plays job_7 job_7-items true
-unfolding actors_of repeated start played play is_over step whole desk
+unfolding actors_of repeated start played play all_end step whole desk
 job_7-plays = (refl, refl)
 
 abbrev pub job_8 : Job
@@ -83,7 +83,7 @@ abbrev pub job_8-items : List Item
 job_8-items = Begin 1 ∷ Return 1 NotThere ∷ Begin 2 ∷ Return 2 Accepted ∷ Begin 3 ∷ Return 3 Accepted ∷ Begin 4 ∷ Return 4 Already ∷ Begin 5 ∷ Return 5 Accepted ∷ Enter (call_in 0 1) Nmi (record { 0 = 0 }) None ∷ Back (call_in 0 1) (record { 0 = 0 }) ∷ Enter (call_in 0 2) Nmi (record { 0 = 1 }) (Some (call_in 0 1)) ∷ Body (call_in 0 2) (record { 0 = 1 }) Nop ∷ Leave (call_in 0 2) ∷ Ret (call_in 0 2) (Some (call_in 0 1)) ∷ BackEnd (call_in 0 1) (record { 0 = 0 }) ∷ Body (call_in 0 1) (record { 0 = 0 }) ByList ∷ Enter (call_in 0 3) Nmi (record { 0 = 1 }) (Some (call_in 0 1)) ∷ Body (call_in 0 3) (record { 0 = 1 }) Nop ∷ Enter (call_in 0 4) Nmi (record { 0 = 0 }) (Some (call_in 0 3)) ∷ Back (call_in 0 4) (record { 0 = 0 }) ∷ Enter (call_in 0 5) Nmi (record { 0 = 1 }) (Some (call_in 0 4)) ∷ Body (call_in 0 5) (record { 0 = 1 }) Nop ∷ Leave (call_in 0 5) ∷ Ret (call_in 0 5) (Some (call_in 0 4)) ∷ BackEnd (call_in 0 4) (record { 0 = 0 }) ∷ Body (call_in 0 4) (record { 0 = 0 }) ByList ∷ Leave (call_in 0 4) ∷ Ret (call_in 0 4) (Some (call_in 0 3)) ∷ Leave (call_in 0 3) ∷ Ret (call_in 0 3) (Some (call_in 0 1)) ∷ Leave (call_in 0 1) ∷ Ret (call_in 0 1) None ∷ []
 
 pub job_8-plays : Plays job_8 job_8-items true
-unfolding actors_of repeated start played play is_over step whole desk
+unfolding actors_of repeated start played play all_end step whole desk
 job_8-plays = (refl, refl)
 
 abbrev pub job_10 : Job
@@ -93,7 +93,7 @@ abbrev pub job_10-items : List Item
 job_10-items = Begin 1 ∷ Return 1 Accepted ∷ Begin 2 ∷ Return 2 Accepted ∷ Enter (call_in 0 1) Normal (record { 0 = 0 }) None ∷ Back (call_in 0 1) (record { 0 = 0 }) ∷ BackEnd (call_in 0 1) (record { 0 = 0 }) ∷ Body (call_in 0 1) (record { 0 = 0 }) (Own (record { 0 = 0 })) ∷ Begin 3 ∷ Return 3 Accepted ∷ Enter (call_in 1 1) Softirq (record { 0 = 0 }) None ∷ Body (call_in 1 1) (record { 0 = 0 }) Nop ∷ Begin 4 ∷ Return 4 Accepted ∷ Leave (call_in 1 1) ∷ Ret (call_in 1 1) None ∷ Begin 5 ∷ Return 5 Already ∷ Leave (call_in 0 1) ∷ Ret (call_in 0 1) None ∷ Begin 6 ∷ Return 6 Accepted ∷ Begin 7 ∷ Return 7 Already ∷ Enter (call_in 0 2) Nmi (record { 0 = 0 }) None ∷ Back (call_in 0 2) (record { 0 = 0 }) ∷ BackEnd (call_in 0 2) (record { 0 = 0 }) ∷ Body (call_in 0 2) (record { 0 = 0 }) (Own (record { 0 = 0 })) ∷ Leave (call_in 0 2) ∷ Ret (call_in 0 2) None ∷ []
 
 pub job_10-plays : Plays job_10 job_10-items true
-unfolding actors_of repeated start played play is_over step whole desk
+unfolding actors_of repeated start played play all_end step whole desk
 job_10-plays = (refl, refl)
 
 abbrev pub job_11 : Job
@@ -103,7 +103,7 @@ abbrev pub job_11-items : List Item
 job_11-items = Begin 1 ∷ Return 1 NotThere ∷ Begin 2 ∷ Return 2 NotThere ∷ Enter (call_in 1 1) Softirq (record { 0 = 2 }) None ∷ Body (call_in 1 1) (record { 0 = 2 }) Nop ∷ Begin 3 ∷ Return 3 Accepted ∷ Enter (call_in 1 2) Softirq (record { 0 = 0 }) (Some (call_in 1 1)) ∷ Body (call_in 1 2) (record { 0 = 0 }) Nop ∷ Begin 4 ∷ Return 4 Accepted ∷ Enter (call_in 0 1) Irq (record { 0 = 0 }) None ∷ Back (call_in 0 1) (record { 0 = 0 }) ∷ BackEnd (call_in 0 1) (record { 0 = 0 }) ∷ Body (call_in 0 1) (record { 0 = 0 }) (Own (record { 0 = 0 })) ∷ Begin 5 ∷ Return 5 Accepted ∷ Leave (call_in 1 2) ∷ Ret (call_in 1 2) (Some (call_in 1 1)) ∷ Leave (call_in 0 1) ∷ Ret (call_in 0 1) None ∷ Leave (call_in 1 1) ∷ Ret (call_in 1 1) None ∷ Enter (call_in 0 2) Irq (record { 0 = 0 }) None ∷ Back (call_in 0 2) (record { 0 = 0 }) ∷ BackEnd (call_in 0 2) (record { 0 = 0 }) ∷ Body (call_in 0 2) (record { 0 = 0 }) (Own (record { 0 = 0 })) ∷ Leave (call_in 0 2) ∷ Ret (call_in 0 2) None ∷ []
 
 pub job_11-plays : Plays job_11 job_11-items true
-unfolding actors_of repeated start played play is_over step whole desk
+unfolding actors_of repeated start played play all_end step whole desk
 job_11-plays = (refl, refl)
 
 abbrev pub job_14 : Job
@@ -113,7 +113,7 @@ abbrev pub job_14-items : List Item
 job_14-items = Begin 1 ∷ Return 1 Accepted ∷ Begin 2 ∷ Return 2 Accepted ∷ Begin 3 ∷ Return 3 Accepted ∷ Begin 4 ∷ Return 4 Accepted ∷ Enter (call_in 0 1) Normal (record { 0 = 0 }) None ∷ Back (call_in 0 1) (record { 0 = 2 }) ∷ Enter (call_in 0 2) Irq (record { 0 = 0 }) (Some (call_in 0 1)) ∷ Back (call_in 0 2) (record { 0 = 2 }) ∷ BackEnd (call_in 0 2) (record { 0 = 2 }) ∷ Body (call_in 0 2) (record { 0 = 0 }) (Own (record { 0 = 2 })) ∷ Leave (call_in 0 2) ∷ Exit (call_in 0 2) (record { 0 = 2 }) 11 ∷ ExitEnd (call_in 0 2) (record { 0 = 2 }) ∷ Ret (call_in 0 2) (Some (call_in 0 1)) ∷ BackEnd (call_in 0 1) (record { 0 = 2 }) ∷ Body (call_in 0 1) (record { 0 = 0 }) (Own (record { 0 = 2 })) ∷ Begin 5 ∷ Return 5 Accepted ∷ Begin 6 ∷ Return 6 Already ∷ Enter (call_in 1 1) Nmi (record { 0 = 0 }) None ∷ Back (call_in 1 1) (record { 0 = 2 }) ∷ BackEnd (call_in 1 1) (record { 0 = 2 }) ∷ Body (call_in 1 1) (record { 0 = 0 }) (Own (record { 0 = 2 })) ∷ Leave (call_in 0 1) ∷ Exit (call_in 0 1) (record { 0 = 2 }) 9 ∷ ExitEnd (call_in 0 1) (record { 0 = 2 }) ∷ Ret (call_in 0 1) None ∷ Enter (call_in 1 2) Nmi (record { 0 = 0 }) (Some (call_in 1 1)) ∷ Back (call_in 1 2) (record { 0 = 2 }) ∷ BackEnd (call_in 1 2) (record { 0 = 2 }) ∷ Body (call_in 1 2) (record { 0 = 0 }) (Own (record { 0 = 2 })) ∷ Enter (call_in 1 3) Nmi (record { 0 = 0 }) (Some (call_in 1 2)) ∷ Back (call_in 1 3) (record { 0 = 2 }) ∷ BackEnd (call_in 1 3) (record { 0 = 2 }) ∷ Body (call_in 1 3) (record { 0 = 0 }) (Own (record { 0 = 2 })) ∷ Leave (call_in 1 3) ∷ Exit (call_in 1 3) (record { 0 = 2 }) 37 ∷ ExitEnd (call_in 1 3) (record { 0 = 2 }) ∷ Ret (call_in 1 3) (Some (call_in 1 2)) ∷ Leave (call_in 1 2) ∷ Exit (call_in 1 2) (record { 0 = 2 }) 33 ∷ ExitEnd (call_in 1 2) (record { 0 = 2 }) ∷ Ret (call_in 1 2) (Some (call_in 1 1)) ∷ Leave (call_in 1 1) ∷ Exit (call_in 1 1) (record { 0 = 2 }) 25 ∷ ExitEnd (call_in 1 1) (record { 0 = 2 }) ∷ Ret (call_in 1 1) None ∷ []
 
 pub job_14-plays : Plays job_14 job_14-items true
-unfolding actors_of repeated start played play is_over step whole desk
+unfolding actors_of repeated start played play all_end step whole desk
 job_14-plays = (refl, refl)
 
 abbrev pub job_15 : Job
@@ -123,7 +123,7 @@ abbrev pub job_15-items : List Item
 job_15-items = Begin 1 ∷ Return 1 Accepted ∷ Begin 2 ∷ Return 2 Already ∷ Enter (call_in 0 1) Normal (record { 0 = 1 }) None ∷ Back (call_in 0 1) (record { 0 = 0 }) ∷ BackEnd (call_in 0 1) (record { 0 = 0 }) ∷ Body (call_in 0 1) (record { 0 = 1 }) ByList ∷ Enter (call_in 0 2) Normal (record { 0 = 1 }) (Some (call_in 0 1)) ∷ Back (call_in 0 2) (record { 0 = 0 }) ∷ BackEnd (call_in 0 2) (record { 0 = 0 }) ∷ Body (call_in 0 2) (record { 0 = 1 }) ByList ∷ Begin 3 ∷ Return 3 Already ∷ Begin 4 ∷ Return 4 Accepted ∷ Enter (call_in 0 3) Normal (record { 0 = 1 }) (Some (call_in 0 2)) ∷ Body (call_in 0 3) (record { 0 = 1 }) Nop ∷ Enter (call_in 0 4) Normal (record { 0 = 1 }) (Some (call_in 0 3)) ∷ Body (call_in 0 4) (record { 0 = 1 }) Nop ∷ Enter (call_in 0 5) Normal (record { 0 = 0 }) (Some (call_in 0 4)) ∷ Body (call_in 0 5) (record { 0 = 0 }) Nop ∷ Leave (call_in 0 5) ∷ Ret (call_in 0 5) (Some (call_in 0 4)) ∷ Leave (call_in 0 4) ∷ Ret (call_in 0 4) (Some (call_in 0 3)) ∷ Leave (call_in 0 3) ∷ Ret (call_in 0 3) (Some (call_in 0 2)) ∷ Leave (call_in 0 2) ∷ Ret (call_in 0 2) (Some (call_in 0 1)) ∷ Leave (call_in 0 1) ∷ Ret (call_in 0 1) None ∷ []
 
 pub job_15-plays : Plays job_15 job_15-items true
-unfolding actors_of repeated start played play is_over step whole desk
+unfolding actors_of repeated start played play all_end step whole desk
 job_15-plays = (refl, refl)
 
 abbrev pub job_16 : Job
@@ -133,7 +133,7 @@ abbrev pub job_16-items : List Item
 job_16-items = Begin 1 ∷ Return 1 NotThere ∷ Begin 2 ∷ Return 2 Accepted ∷ Begin 3 ∷ Return 3 Accepted ∷ Begin 4 ∷ Return 4 Accepted ∷ Begin 5 ∷ Return 5 Accepted ∷ Enter (call_in 0 1) Nmi (record { 0 = 1 }) None ∷ Refuse (call_in 0 1) (record { 0 = 0 }) ByPid ∷ Body (call_in 0 1) (record { 0 = 1 }) ByList ∷ Enter (call_in 0 2) Nmi (record { 0 = 1 }) (Some (call_in 0 1)) ∷ Refuse (call_in 0 2) (record { 0 = 0 }) ByPid ∷ Body (call_in 0 2) (record { 0 = 1 }) ByList ∷ Leave (call_in 0 2) ∷ Ret (call_in 0 2) (Some (call_in 0 1)) ∷ Enter (call_in 1 1) Normal (record { 0 = 1 }) None ∷ Back (call_in 1 1) (record { 0 = 0 }) ∷ Enter (call_in 1 2) Normal (record { 0 = 0 }) (Some (call_in 1 1)) ∷ Refuse (call_in 1 2) (record { 0 = 0 }) Recursion ∷ Body (call_in 1 2) (record { 0 = 0 }) ByList ∷ Leave (call_in 1 2) ∷ Ret (call_in 1 2) (Some (call_in 1 1)) ∷ BackEnd (call_in 1 1) (record { 0 = 0 }) ∷ Body (call_in 1 1) (record { 0 = 1 }) ByList ∷ Enter (call_in 1 3) Normal (record { 0 = 1 }) (Some (call_in 1 1)) ∷ Back (call_in 1 3) (record { 0 = 0 }) ∷ Enter (call_in 1 4) Normal (record { 0 = 0 }) (Some (call_in 1 3)) ∷ Refuse (call_in 1 4) (record { 0 = 0 }) Recursion ∷ Body (call_in 1 4) (record { 0 = 0 }) ByList ∷ Leave (call_in 1 4) ∷ Ret (call_in 1 4) (Some (call_in 1 3)) ∷ BackEnd (call_in 1 3) (record { 0 = 0 }) ∷ Body (call_in 1 3) (record { 0 = 1 }) ByList ∷ Leave (call_in 1 3) ∷ Ret (call_in 1 3) (Some (call_in 1 1)) ∷ Leave (call_in 0 1) ∷ Ret (call_in 0 1) None ∷ Leave (call_in 1 1) ∷ Ret (call_in 1 1) None ∷ []
 
 pub job_16-plays : Plays job_16 job_16-items true
-unfolding actors_of repeated start played play is_over step whole desk
+unfolding actors_of repeated start played play all_end step whole desk
 job_16-plays = (refl, refl)
 
 abbrev pub job_21 : Job
@@ -143,7 +143,7 @@ abbrev pub job_21-items : List Item
 job_21-items = Enter (call_in 0 1) Normal (record { 0 = 0 }) None ∷ Body (call_in 0 1) (record { 0 = 0 }) Nop ∷ Begin 1 ∷ Return 1 Accepted ∷ Begin 2 ∷ Return 2 Already ∷ Enter (call_in 0 2) Normal (record { 0 = 0 }) (Some (call_in 0 1)) ∷ Back (call_in 0 2) (record { 0 = 1 }) ∷ BackEnd (call_in 0 2) (record { 0 = 1 }) ∷ Body (call_in 0 2) (record { 0 = 0 }) (Own (record { 0 = 1 })) ∷ Leave (call_in 0 2) ∷ Ret (call_in 0 2) (Some (call_in 0 1)) ∷ Leave (call_in 0 1) ∷ Ret (call_in 0 1) None ∷ Enter (call_in 0 3) Normal (record { 0 = 1 }) None ∷ Back (call_in 0 3) (record { 0 = 1 }) ∷ BackEnd (call_in 0 3) (record { 0 = 1 }) ∷ Body (call_in 0 3) (record { 0 = 1 }) (Own (record { 0 = 1 })) ∷ Enter (call_in 0 4) Normal (record { 0 = 0 }) (Some (call_in 0 3)) ∷ Back (call_in 0 4) (record { 0 = 1 }) ∷ BackEnd (call_in 0 4) (record { 0 = 1 }) ∷ Body (call_in 0 4) (record { 0 = 0 }) (Own (record { 0 = 1 })) ∷ Leave (call_in 0 4) ∷ Ret (call_in 0 4) (Some (call_in 0 3)) ∷ Leave (call_in 0 3) ∷ Ret (call_in 0 3) None ∷ []
 
 pub job_21-plays : Plays job_21 job_21-items true
-unfolding actors_of repeated start played play is_over step whole desk
+unfolding actors_of repeated start played play all_end step whole desk
 job_21-plays = (refl, refl)
 
 abbrev pub job_22 : Job
@@ -153,7 +153,7 @@ abbrev pub job_22-items : List Item
 job_22-items = Begin 1 ∷ Return 1 Accepted ∷ Begin 2 ∷ Return 2 Accepted ∷ Begin 3 ∷ Return 3 Accepted ∷ Begin 4 ∷ Return 4 NotThere ∷ Begin 5 ∷ Return 5 Accepted ∷ Begin 6 ∷ Return 6 Already ∷ []
 
 pub job_22-plays : Plays job_22 job_22-items true
-unfolding actors_of repeated start played play is_over step whole desk
+unfolding actors_of repeated start played play all_end step whole desk
 job_22-plays = (refl, refl)
 
 abbrev pub job_24 : Job
@@ -163,7 +163,7 @@ abbrev pub job_24-items : List Item
 job_24-items = Begin 1 ∷ Return 1 Accepted ∷ Begin 2 ∷ Return 2 Accepted ∷ Enter (call_in 0 1) Irq (record { 0 = 2 }) None ∷ Body (call_in 0 1) (record { 0 = 2 }) (Own (record { 0 = 0 })) ∷ Leave (call_in 0 1) ∷ Ret (call_in 0 1) None ∷ Begin 3 ∷ Return 3 Accepted ∷ Begin 4 ∷ Return 4 Already ∷ Enter (call_in 0 2) Normal (record { 0 = 2 }) None ∷ Body (call_in 0 2) (record { 0 = 2 }) (Own (record { 0 = 0 })) ∷ Begin 5 ∷ Return 5 Accepted ∷ Enter (call_in 0 3) Normal (record { 0 = 2 }) (Some (call_in 0 2)) ∷ Body (call_in 0 3) (record { 0 = 2 }) Nop ∷ Begin 6 ∷ Return 6 Accepted ∷ Leave (call_in 0 3) ∷ Ret (call_in 0 3) (Some (call_in 0 2)) ∷ Enter (call_in 0 4) Normal (record { 0 = 1 }) (Some (call_in 0 2)) ∷ Body (call_in 0 4) (record { 0 = 1 }) Nop ∷ Leave (call_in 0 4) ∷ Ret (call_in 0 4) (Some (call_in 0 2)) ∷ Leave (call_in 0 2) ∷ Ret (call_in 0 2) None ∷ []
 
 pub job_24-plays : Plays job_24 job_24-items true
-unfolding actors_of repeated start played play is_over step whole desk
+unfolding actors_of repeated start played play all_end step whole desk
 job_24-plays = (refl, refl)
 
 abbrev pub job_26 : Job
@@ -173,7 +173,7 @@ abbrev pub job_26-items : List Item
 job_26-items = Begin 1 ∷ Return 1 Accepted ∷ Begin 2 ∷ Return 2 Accepted ∷ Begin 3 ∷ Return 3 Accepted ∷ Begin 4 ∷ Return 4 Accepted ∷ Enter (call_in 2 1) Normal (record { 0 = 1 }) None ∷ Back (call_in 2 1) (record { 0 = 0 }) ∷ BackEnd (call_in 2 1) (record { 0 = 0 }) ∷ Body (call_in 2 1) (record { 0 = 1 }) ByList ∷ Enter (call_in 2 2) Normal (record { 0 = 1 }) (Some (call_in 2 1)) ∷ Back (call_in 2 2) (record { 0 = 0 }) ∷ BackEnd (call_in 2 2) (record { 0 = 0 }) ∷ Body (call_in 2 2) (record { 0 = 1 }) ByList ∷ Leave (call_in 2 2) ∷ Ret (call_in 2 2) (Some (call_in 2 1)) ∷ Begin 5 ∷ Return 5 Already ∷ Enter (call_in 1 1) Normal (record { 0 = 1 }) None ∷ Back (call_in 1 1) (record { 0 = 0 }) ∷ BackEnd (call_in 1 1) (record { 0 = 0 }) ∷ Body (call_in 1 1) (record { 0 = 1 }) ByList ∷ Enter (call_in 2 3) Softirq (record { 0 = 0 }) (Some (call_in 2 1)) ∷ Back (call_in 2 3) (record { 0 = 0 }) ∷ BackEnd (call_in 2 3) (record { 0 = 0 }) ∷ Back (call_in 2 3) (record { 0 = 3 }) ∷ BackEnd (call_in 2 3) (record { 0 = 3 }) ∷ Body (call_in 2 3) (record { 0 = 0 }) ByList ∷ Leave (call_in 2 3) ∷ Exit (call_in 2 3) (record { 0 = 3 }) 27 ∷ ExitEnd (call_in 2 3) (record { 0 = 3 }) ∷ Ret (call_in 2 3) (Some (call_in 2 1)) ∷ Enter (call_in 0 1) Softirq (record { 0 = 0 }) None ∷ Back (call_in 0 1) (record { 0 = 0 }) ∷ BackEnd (call_in 0 1) (record { 0 = 0 }) ∷ Back (call_in 0 1) (record { 0 = 3 }) ∷ BackEnd (call_in 0 1) (record { 0 = 3 }) ∷ Body (call_in 0 1) (record { 0 = 0 }) ByList ∷ Enter (call_in 1 2) Nmi (record { 0 = 0 }) (Some (call_in 1 1)) ∷ Back (call_in 1 2) (record { 0 = 0 }) ∷ BackEnd (call_in 1 2) (record { 0 = 0 }) ∷ Back (call_in 1 2) (record { 0 = 3 }) ∷ BackEnd (call_in 1 2) (record { 0 = 3 }) ∷ Body (call_in 1 2) (record { 0 = 0 }) ByList ∷ Leave (call_in 1 2) ∷ Exit (call_in 1 2) (record { 0 = 3 }) 43 ∷ ExitEnd (call_in 1 2) (record { 0 = 3 }) ∷ Ret (call_in 1 2) (Some (call_in 1 1)) ∷ Leave (call_in 2 1) ∷ Ret (call_in 2 1) None ∷ Leave (call_in 0 1) ∷ Exit (call_in 0 1) (record { 0 = 3 }) 37 ∷ ExitEnd (call_in 0 1) (record { 0 = 3 }) ∷ Ret (call_in 0 1) None ∷ Leave (call_in 1 1) ∷ Ret (call_in 1 1) None ∷ []
 
 pub job_26-plays : Plays job_26 job_26-items true
-unfolding actors_of repeated start played play is_over step whole desk
+unfolding actors_of repeated start played play all_end step whole desk
 job_26-plays = (refl, refl)
 
 abbrev pub job_30 : Job
@@ -183,7 +183,7 @@ abbrev pub job_30-items : List Item
 job_30-items = Begin 1 ∷ Return 1 Accepted ∷ Begin 2 ∷ Return 2 Accepted ∷ Begin 3 ∷ Return 3 NotThere ∷ Enter (call_in 0 1) Normal (record { 0 = 2 }) None ∷ Back (call_in 0 1) (record { 0 = 3 }) ∷ BackEnd (call_in 0 1) (record { 0 = 3 }) ∷ Body (call_in 0 1) (record { 0 = 2 }) (Own (record { 0 = 3 })) ∷ Leave (call_in 0 1) ∷ Exit (call_in 0 1) (record { 0 = 3 }) 7 ∷ ExitEnd (call_in 0 1) (record { 0 = 3 }) ∷ Ret (call_in 0 1) None ∷ Enter (call_in 0 2) Nmi (record { 0 = 2 }) None ∷ Back (call_in 0 2) (record { 0 = 3 }) ∷ BackEnd (call_in 0 2) (record { 0 = 3 }) ∷ Body (call_in 0 2) (record { 0 = 2 }) (Own (record { 0 = 3 })) ∷ Leave (call_in 0 2) ∷ Exit (call_in 0 2) (record { 0 = 3 }) 15 ∷ ExitEnd (call_in 0 2) (record { 0 = 3 }) ∷ Ret (call_in 0 2) None ∷ []
 
 pub job_30-plays : Plays job_30 job_30-items true
-unfolding actors_of repeated start played play is_over step whole desk
+unfolding actors_of repeated start played play all_end step whole desk
 job_30-plays = (refl, refl)
 
 abbrev pub job_31 : Job
@@ -193,7 +193,7 @@ abbrev pub job_31-items : List Item
 job_31-items = Begin 1 ∷ Return 1 Accepted ∷ Begin 2 ∷ Return 2 NotThere ∷ Enter (call_in 1 1) Normal (record { 0 = 0 }) None ∷ Body (call_in 1 1) (record { 0 = 0 }) Nop ∷ Leave (call_in 1 1) ∷ Ret (call_in 1 1) None ∷ Enter (call_in 1 2) Normal (record { 0 = 0 }) None ∷ Body (call_in 1 2) (record { 0 = 0 }) Nop ∷ Enter (call_in 1 3) Softirq (record { 0 = 0 }) (Some (call_in 1 2)) ∷ Body (call_in 1 3) (record { 0 = 0 }) Nop ∷ Begin 3 ∷ Return 3 Accepted ∷ Leave (call_in 1 3) ∷ Ret (call_in 1 3) (Some (call_in 1 2)) ∷ Enter (call_in 1 4) Softirq (record { 0 = 0 }) (Some (call_in 1 2)) ∷ Body (call_in 1 4) (record { 0 = 0 }) Nop ∷ Enter (call_in 0 1) Irq (record { 0 = 0 }) None ∷ Body (call_in 0 1) (record { 0 = 0 }) Nop ∷ Enter (call_in 1 5) Softirq (record { 0 = 0 }) (Some (call_in 1 4)) ∷ Body (call_in 1 5) (record { 0 = 0 }) Nop ∷ Leave (call_in 0 1) ∷ Ret (call_in 0 1) None ∷ Leave (call_in 1 5) ∷ Ret (call_in 1 5) (Some (call_in 1 4)) ∷ Leave (call_in 1 4) ∷ Ret (call_in 1 4) (Some (call_in 1 2)) ∷ Leave (call_in 1 2) ∷ Ret (call_in 1 2) None ∷ []
 
 pub job_31-plays : Plays job_31 job_31-items true
-unfolding actors_of repeated start played play is_over step whole desk
+unfolding actors_of repeated start played play all_end step whole desk
 job_31-plays = (refl, refl)
 
 abbrev pub job_32 : Job
@@ -203,7 +203,7 @@ abbrev pub job_32-items : List Item
 job_32-items = Begin 1 ∷ Return 1 NotThere ∷ Begin 2 ∷ Return 2 Accepted ∷ Begin 3 ∷ Return 3 NotThere ∷ Enter (call_in 0 1) Irq (record { 0 = 0 }) None ∷ Back (call_in 0 1) (record { 0 = 1 }) ∷ Enter (call_in 0 2) Irq (record { 0 = 0 }) (Some (call_in 0 1)) ∷ Refuse (call_in 0 2) (record { 0 = 1 }) Recursion ∷ Body (call_in 0 2) (record { 0 = 0 }) (Own (record { 0 = 1 })) ∷ Leave (call_in 0 2) ∷ Ret (call_in 0 2) (Some (call_in 0 1)) ∷ BackEnd (call_in 0 1) (record { 0 = 1 }) ∷ Body (call_in 0 1) (record { 0 = 0 }) (Own (record { 0 = 1 })) ∷ Enter (call_in 1 1) Irq (record { 0 = 0 }) None ∷ Back (call_in 1 1) (record { 0 = 1 }) ∷ Enter (call_in 1 2) Irq (record { 0 = 0 }) (Some (call_in 1 1)) ∷ Refuse (call_in 1 2) (record { 0 = 1 }) Recursion ∷ Body (call_in 1 2) (record { 0 = 0 }) (Own (record { 0 = 1 })) ∷ Leave (call_in 1 2) ∷ Ret (call_in 1 2) (Some (call_in 1 1)) ∷ BackEnd (call_in 1 1) (record { 0 = 1 }) ∷ Body (call_in 1 1) (record { 0 = 0 }) (Own (record { 0 = 1 })) ∷ Leave (call_in 0 1) ∷ Exit (call_in 0 1) (record { 0 = 1 }) 7 ∷ ExitEnd (call_in 0 1) (record { 0 = 1 }) ∷ Ret (call_in 0 1) None ∷ Leave (call_in 1 1) ∷ Exit (call_in 1 1) (record { 0 = 1 }) 16 ∷ ExitEnd (call_in 1 1) (record { 0 = 1 }) ∷ Ret (call_in 1 1) None ∷ Enter (call_in 1 3) Nmi (record { 0 = 0 }) None ∷ Back (call_in 1 3) (record { 0 = 1 }) ∷ Enter (call_in 1 4) Nmi (record { 0 = 0 }) (Some (call_in 1 3)) ∷ Refuse (call_in 1 4) (record { 0 = 1 }) Recursion ∷ Body (call_in 1 4) (record { 0 = 0 }) (Own (record { 0 = 1 })) ∷ Leave (call_in 1 4) ∷ Ret (call_in 1 4) (Some (call_in 1 3)) ∷ BackEnd (call_in 1 3) (record { 0 = 1 }) ∷ Body (call_in 1 3) (record { 0 = 0 }) (Own (record { 0 = 1 })) ∷ Leave (call_in 1 3) ∷ Exit (call_in 1 3) (record { 0 = 1 }) 33 ∷ ExitEnd (call_in 1 3) (record { 0 = 1 }) ∷ Ret (call_in 1 3) None ∷ []
 
 pub job_32-plays : Plays job_32 job_32-items true
-unfolding actors_of repeated start played play is_over step whole desk
+unfolding actors_of repeated start played play all_end step whole desk
 job_32-plays = (refl, refl)
 
 abbrev pub job_33 : Job
@@ -213,7 +213,7 @@ abbrev pub job_33-items : List Item
 job_33-items = Begin 1 ∷ Return 1 Accepted ∷ Begin 2 ∷ Return 2 NotThere ∷ Enter (call_in 0 1) Normal (record { 0 = 0 }) None ∷ Body (call_in 0 1) (record { 0 = 0 }) Nop ∷ Begin 3 ∷ Return 3 Accepted ∷ Enter (call_in 0 2) Normal (record { 0 = 1 }) (Some (call_in 0 1)) ∷ Back (call_in 0 2) (record { 0 = 1 }) ∷ BackEnd (call_in 0 2) (record { 0 = 1 }) ∷ Body (call_in 0 2) (record { 0 = 1 }) (Own (record { 0 = 1 })) ∷ Begin 4 ∷ Return 4 Already ∷ Enter (call_in 0 3) Normal (record { 0 = 1 }) (Some (call_in 0 2)) ∷ Back (call_in 0 3) (record { 0 = 1 }) ∷ BackEnd (call_in 0 3) (record { 0 = 1 }) ∷ Body (call_in 0 3) (record { 0 = 1 }) (Own (record { 0 = 1 })) ∷ Begin 5 ∷ Return 5 Already ∷ Begin 6 ∷ Return 6 Accepted ∷ Enter (call_in 0 4) Nmi (record { 0 = 0 }) (Some (call_in 0 3)) ∷ Back (call_in 0 4) (record { 0 = 1 }) ∷ BackEnd (call_in 0 4) (record { 0 = 1 }) ∷ Body (call_in 0 4) (record { 0 = 0 }) (Own (record { 0 = 1 })) ∷ Leave (call_in 0 4) ∷ Exit (call_in 0 4) (record { 0 = 1 }) 23 ∷ ExitEnd (call_in 0 4) (record { 0 = 1 }) ∷ Ret (call_in 0 4) (Some (call_in 0 3)) ∷ Enter (call_in 1 1) Normal (record { 0 = 0 }) None ∷ Back (call_in 1 1) (record { 0 = 1 }) ∷ BackEnd (call_in 1 1) (record { 0 = 1 }) ∷ Body (call_in 1 1) (record { 0 = 0 }) (Own (record { 0 = 1 })) ∷ Leave (call_in 0 3) ∷ Exit (call_in 0 3) (record { 0 = 1 }) 15 ∷ ExitEnd (call_in 0 3) (record { 0 = 1 }) ∷ Ret (call_in 0 3) (Some (call_in 0 2)) ∷ Enter (call_in 2 1) Nmi (record { 0 = 0 }) None ∷ Back (call_in 2 1) (record { 0 = 1 }) ∷ BackEnd (call_in 2 1) (record { 0 = 1 }) ∷ Body (call_in 2 1) (record { 0 = 0 }) (Own (record { 0 = 1 })) ∷ Leave (call_in 0 2) ∷ Exit (call_in 0 2) (record { 0 = 1 }) 9 ∷ ExitEnd (call_in 0 2) (record { 0 = 1 }) ∷ Ret (call_in 0 2) (Some (call_in 0 1)) ∷ Enter (call_in 2 2) Nmi (record { 0 = 1 }) (Some (call_in 2 1)) ∷ Back (call_in 2 2) (record { 0 = 1 }) ∷ BackEnd (call_in 2 2) (record { 0 = 1 }) ∷ Body (call_in 2 2) (record { 0 = 1 }) (Own (record { 0 = 1 })) ∷ Leave (call_in 0 1) ∷ Ret (call_in 0 1) None ∷ Enter (call_in 2 3) Nmi (record { 0 = 1 }) (Some (call_in 2 2)) ∷ Back (call_in 2 3) (record { 0 = 1 }) ∷ BackEnd (call_in 2 3) (record { 0 = 1 }) ∷ Body (call_in 2 3) (record { 0 = 1 }) (Own (record { 0 = 1 })) ∷ Leave (call_in 1 1) ∷ Exit (call_in 1 1) (record { 0 = 1 }) 31 ∷ ExitEnd (call_in 1 1) (record { 0 = 1 }) ∷ Ret (call_in 1 1) None ∷ Enter (call_in 2 4) Nmi (record { 0 = 0 }) (Some (call_in 2 3)) ∷ Back (call_in 2 4) (record { 0 = 1 }) ∷ BackEnd (call_in 2 4) (record { 0 = 1 }) ∷ Body (call_in 2 4) (record { 0 = 0 }) (Own (record { 0 = 1 })) ∷ Enter (call_in 2 5) Nmi (record { 0 = 1 }) (Some (call_in 2 4)) ∷ Back (call_in 2 5) (record { 0 = 1 }) ∷ BackEnd (call_in 2 5) (record { 0 = 1 }) ∷ Body (call_in 2 5) (record { 0 = 1 }) (Own (record { 0 = 1 })) ∷ Leave (call_in 2 5) ∷ Exit (call_in 2 5) (record { 0 = 1 }) 65 ∷ ExitEnd (call_in 2 5) (record { 0 = 1 }) ∷ Ret (call_in 2 5) (Some (call_in 2 4)) ∷ Enter (call_in 1 2) Normal (record { 0 = 0 }) None ∷ Back (call_in 1 2) (record { 0 = 1 }) ∷ BackEnd (call_in 1 2) (record { 0 = 1 }) ∷ Body (call_in 1 2) (record { 0 = 0 }) (Own (record { 0 = 1 })) ∷ Enter (call_in 1 3) Normal (record { 0 = 1 }) (Some (call_in 1 2)) ∷ Back (call_in 1 3) (record { 0 = 1 }) ∷ BackEnd (call_in 1 3) (record { 0 = 1 }) ∷ Body (call_in 1 3) (record { 0 = 1 }) (Own (record { 0 = 1 })) ∷ Leave (call_in 2 4) ∷ Exit (call_in 2 4) (record { 0 = 1 }) 61 ∷ ExitEnd (call_in 2 4) (record { 0 = 1 }) ∷ Ret (call_in 2 4) (Some (call_in 2 3)) ∷ Leave (call_in 2 3) ∷ Exit (call_in 2 3) (record { 0 = 1 }) 53 ∷ ExitEnd (call_in 2 3) (record { 0 = 1 }) ∷ Ret (call_in 2 3) (Some (call_in 2 2)) ∷ Leave (call_in 2 2) ∷ Exit (call_in 2 2) (record { 0 = 1 }) 47 ∷ ExitEnd (call_in 2 2) (record { 0 = 1 }) ∷ Ret (call_in 2 2) (Some (call_in 2 1)) ∷ Leave (call_in 1 3) ∷ Exit (call_in 1 3) (record { 0 = 1 }) 77 ∷ ExitEnd (call_in 1 3) (record { 0 = 1 }) ∷ Ret (call_in 1 3) (Some (call_in 1 2)) ∷ Leave (call_in 1 2) ∷ Exit (call_in 1 2) (record { 0 = 1 }) 73 ∷ ExitEnd (call_in 1 2) (record { 0 = 1 }) ∷ Ret (call_in 1 2) None ∷ Leave (call_in 2 1) ∷ Exit (call_in 2 1) (record { 0 = 1 }) 39 ∷ ExitEnd (call_in 2 1) (record { 0 = 1 }) ∷ Ret (call_in 2 1) None ∷ []
 
 pub job_33-plays : Plays job_33 job_33-items true
-unfolding actors_of repeated start played play is_over step whole desk
+unfolding actors_of repeated start played play all_end step whole desk
 job_33-plays = (refl, refl)
 
 abbrev pub job_34 : Job
@@ -223,7 +223,7 @@ abbrev pub job_34-items : List Item
 job_34-items = Begin 1 ∷ Return 1 Accepted ∷ Begin 2 ∷ Return 2 Accepted ∷ Begin 3 ∷ Return 3 Accepted ∷ Begin 4 ∷ Return 4 Invalid ∷ Begin 5 ∷ Return 5 Accepted ∷ Begin 6 ∷ Return 6 Already ∷ []
 
 pub job_34-plays : Plays job_34 job_34-items true
-unfolding actors_of repeated start played play is_over step whole desk
+unfolding actors_of repeated start played play all_end step whole desk
 job_34-plays = (refl, refl)
 
 abbrev pub job_37 : Job
@@ -233,7 +233,7 @@ abbrev pub job_37-items : List Item
 job_37-items = Begin 1 ∷ Return 1 NotThere ∷ Begin 2 ∷ Return 2 Accepted ∷ Begin 3 ∷ Return 3 Accepted ∷ Begin 4 ∷ Return 4 Already ∷ Begin 5 ∷ Return 5 Accepted ∷ Enter (call_in 0 1) Normal (record { 0 = 0 }) None ∷ Back (call_in 0 1) (record { 0 = 0 }) ∷ Enter (call_in 0 2) Irq (record { 0 = 0 }) (Some (call_in 0 1)) ∷ Back (call_in 0 2) (record { 0 = 0 }) ∷ BackEnd (call_in 0 2) (record { 0 = 0 }) ∷ Body (call_in 0 2) (record { 0 = 0 }) (Own (record { 0 = 0 })) ∷ Leave (call_in 0 2) ∷ Exit (call_in 0 2) (record { 0 = 0 }) 13 ∷ ExitEnd (call_in 0 2) (record { 0 = 0 }) ∷ Ret (call_in 0 2) (Some (call_in 0 1)) ∷ BackEnd (call_in 0 1) (record { 0 = 0 }) ∷ Body (call_in 0 1) (record { 0 = 0 }) (Own (record { 0 = 0 })) ∷ Enter (call_in 0 3) Normal (record { 0 = 0 }) (Some (call_in 0 1)) ∷ Back (call_in 0 3) (record { 0 = 0 }) ∷ Enter (call_in 0 4) Irq (record { 0 = 0 }) (Some (call_in 0 3)) ∷ Back (call_in 0 4) (record { 0 = 0 }) ∷ BackEnd (call_in 0 4) (record { 0 = 0 }) ∷ Body (call_in 0 4) (record { 0 = 0 }) (Own (record { 0 = 0 })) ∷ Leave (call_in 0 4) ∷ Exit (call_in 0 4) (record { 0 = 0 }) 25 ∷ ExitEnd (call_in 0 4) (record { 0 = 0 }) ∷ Ret (call_in 0 4) (Some (call_in 0 3)) ∷ BackEnd (call_in 0 3) (record { 0 = 0 }) ∷ Body (call_in 0 3) (record { 0 = 0 }) (Own (record { 0 = 0 })) ∷ Enter (call_in 0 5) Normal (record { 0 = 0 }) (Some (call_in 0 3)) ∷ Back (call_in 0 5) (record { 0 = 0 }) ∷ Enter (call_in 0 6) Irq (record { 0 = 0 }) (Some (call_in 0 5)) ∷ Back (call_in 0 6) (record { 0 = 0 }) ∷ Miss (call_in 0 6) (record { 0 = 0 }) ∷ BackEnd (call_in 0 6) (record { 0 = 0 }) ∷ Body (call_in 0 6) (record { 0 = 0 }) (Own (record { 0 = 0 })) ∷ Leave (call_in 0 6) ∷ Ret (call_in 0 6) (Some (call_in 0 5)) ∷ BackEnd (call_in 0 5) (record { 0 = 0 }) ∷ Body (call_in 0 5) (record { 0 = 0 }) (Own (record { 0 = 0 })) ∷ Leave (call_in 0 5) ∷ Exit (call_in 0 5) (record { 0 = 0 }) 35 ∷ ExitEnd (call_in 0 5) (record { 0 = 0 }) ∷ Ret (call_in 0 5) (Some (call_in 0 3)) ∷ Leave (call_in 0 3) ∷ Exit (call_in 0 3) (record { 0 = 0 }) 23 ∷ ExitEnd (call_in 0 3) (record { 0 = 0 }) ∷ Ret (call_in 0 3) (Some (call_in 0 1)) ∷ Leave (call_in 0 1) ∷ Exit (call_in 0 1) (record { 0 = 0 }) 11 ∷ ExitEnd (call_in 0 1) (record { 0 = 0 }) ∷ Ret (call_in 0 1) None ∷ []
 
 pub job_37-plays : Plays job_37 job_37-items true
-unfolding actors_of repeated start played play is_over step whole desk
+unfolding actors_of repeated start played play all_end step whole desk
 job_37-plays = (refl, refl)
 
 abbrev pub job_38 : Job
@@ -243,7 +243,7 @@ abbrev pub job_38-items : List Item
 job_38-items = Begin 1 ∷ Return 1 Accepted ∷ Begin 2 ∷ Return 2 Accepted ∷ Begin 3 ∷ Return 3 Accepted ∷ Begin 4 ∷ Return 4 Accepted ∷ Enter (call_in 0 1) Normal (record { 0 = 0 }) None ∷ Back (call_in 0 1) (record { 0 = 0 }) ∷ Enter (call_in 0 2) Irq (record { 0 = 2 }) (Some (call_in 0 1)) ∷ Back (call_in 0 2) (record { 0 = 0 }) ∷ BackEnd (call_in 0 2) (record { 0 = 0 }) ∷ Body (call_in 0 2) (record { 0 = 2 }) (Own (record { 0 = 0 })) ∷ Leave (call_in 0 2) ∷ Ret (call_in 0 2) (Some (call_in 0 1)) ∷ BackEnd (call_in 0 1) (record { 0 = 0 }) ∷ Body (call_in 0 1) (record { 0 = 0 }) (Own (record { 0 = 0 })) ∷ Enter (call_in 1 1) Normal (record { 0 = 3 }) None ∷ Back (call_in 1 1) (record { 0 = 0 }) ∷ Enter (call_in 1 2) Irq (record { 0 = 2 }) (Some (call_in 1 1)) ∷ Back (call_in 1 2) (record { 0 = 0 }) ∷ BackEnd (call_in 1 2) (record { 0 = 0 }) ∷ Body (call_in 1 2) (record { 0 = 2 }) (Own (record { 0 = 0 })) ∷ Leave (call_in 1 2) ∷ Ret (call_in 1 2) (Some (call_in 1 1)) ∷ BackEnd (call_in 1 1) (record { 0 = 0 }) ∷ Body (call_in 1 1) (record { 0 = 3 }) (Own (record { 0 = 0 })) ∷ Begin 5 ∷ Return 5 Accepted ∷ Enter (call_in 0 3) Normal (record { 0 = 0 }) (Some (call_in 0 1)) ∷ Back (call_in 0 3) (record { 0 = 0 }) ∷ Enter (call_in 0 4) Irq (record { 0 = 2 }) (Some (call_in 0 3)) ∷ Back (call_in 0 4) (record { 0 = 0 }) ∷ BackEnd (call_in 0 4) (record { 0 = 0 }) ∷ Body (call_in 0 4) (record { 0 = 2 }) (Own (record { 0 = 0 })) ∷ Leave (call_in 0 4) ∷ Ret (call_in 0 4) (Some (call_in 0 3)) ∷ BackEnd (call_in 0 3) (record { 0 = 0 }) ∷ Body (call_in 0 3) (record { 0 = 0 }) (Own (record { 0 = 0 })) ∷ Enter (call_in 1 3) Normal (record { 0 = 1 }) (Some (call_in 1 1)) ∷ Body (call_in 1 3) (record { 0 = 1 }) Nop ∷ Leave (call_in 0 3) ∷ Ret (call_in 0 3) (Some (call_in 0 1)) ∷ Enter (call_in 1 4) Normal (record { 0 = 3 }) (Some (call_in 1 3)) ∷ Back (call_in 1 4) (record { 0 = 0 }) ∷ Enter (call_in 1 5) Irq (record { 0 = 2 }) (Some (call_in 1 4)) ∷ Back (call_in 1 5) (record { 0 = 0 }) ∷ BackEnd (call_in 1 5) (record { 0 = 0 }) ∷ Body (call_in 1 5) (record { 0 = 2 }) (Own (record { 0 = 0 })) ∷ Leave (call_in 1 5) ∷ Ret (call_in 1 5) (Some (call_in 1 4)) ∷ BackEnd (call_in 1 4) (record { 0 = 0 }) ∷ Body (call_in 1 4) (record { 0 = 3 }) (Own (record { 0 = 0 })) ∷ Leave (call_in 0 1) ∷ Ret (call_in 0 1) None ∷ Leave (call_in 1 4) ∷ Ret (call_in 1 4) (Some (call_in 1 3)) ∷ Leave (call_in 1 3) ∷ Ret (call_in 1 3) (Some (call_in 1 1)) ∷ Enter (call_in 1 6) Normal (record { 0 = 2 }) (Some (call_in 1 1)) ∷ Back (call_in 1 6) (record { 0 = 0 }) ∷ Enter (call_in 1 7) Irq (record { 0 = 2 }) (Some (call_in 1 6)) ∷ Back (call_in 1 7) (record { 0 = 0 }) ∷ BackEnd (call_in 1 7) (record { 0 = 0 }) ∷ Body (call_in 1 7) (record { 0 = 2 }) (Own (record { 0 = 0 })) ∷ Leave (call_in 1 7) ∷ Ret (call_in 1 7) (Some (call_in 1 6)) ∷ BackEnd (call_in 1 6) (record { 0 = 0 }) ∷ Body (call_in 1 6) (record { 0 = 2 }) (Own (record { 0 = 0 })) ∷ Begin 6 ∷ Return 6 Accepted ∷ Leave (call_in 1 6) ∷ Ret (call_in 1 6) (Some (call_in 1 1)) ∷ Enter (call_in 1 8) Normal (record { 0 = 2 }) (Some (call_in 1 1)) ∷ Back (call_in 1 8) (record { 0 = 0 }) ∷ Enter (call_in 1 9) Irq (record { 0 = 2 }) (Some (call_in 1 8)) ∷ Back (call_in 1 9) (record { 0 = 0 }) ∷ BackEnd (call_in 1 9) (record { 0 = 0 }) ∷ Body (call_in 1 9) (record { 0 = 2 }) (Own (record { 0 = 0 })) ∷ Leave (call_in 1 9) ∷ Ret (call_in 1 9) (Some (call_in 1 8)) ∷ BackEnd (call_in 1 8) (record { 0 = 0 }) ∷ Body (call_in 1 8) (record { 0 = 2 }) (Own (record { 0 = 0 })) ∷ Enter (call_in 1 10) Normal (record { 0 = 1 }) (Some (call_in 1 8)) ∷ Body (call_in 1 10) (record { 0 = 1 }) Nop ∷ Leave (call_in 1 10) ∷ Ret (call_in 1 10) (Some (call_in 1 8)) ∷ Leave (call_in 1 8) ∷ Ret (call_in 1 8) (Some (call_in 1 1)) ∷ Leave (call_in 1 1) ∷ Ret (call_in 1 1) None ∷ []
 
 pub job_38-plays : Plays job_38 job_38-items true
-unfolding actors_of repeated start played play is_over step whole desk
+unfolding actors_of repeated start played play all_end step whole desk
 job_38-plays = (refl, refl)
 
 abbrev pub job_39 : Job
@@ -253,7 +253,7 @@ abbrev pub job_39-items : List Item
 job_39-items = Begin 1 ∷ Return 1 Accepted ∷ Begin 2 ∷ Return 2 Accepted ∷ Begin 3 ∷ Return 3 Invalid ∷ Enter (call_in 0 1) Normal (record { 0 = 1 }) None ∷ Back (call_in 0 1) (record { 0 = 1 }) ∷ Enter (call_in 0 2) Normal (record { 0 = 1 }) (Some (call_in 0 1)) ∷ Refuse (call_in 0 2) (record { 0 = 1 }) Recursion ∷ Refuse (call_in 0 2) (record { 0 = 0 }) Recursion ∷ Body (call_in 0 2) (record { 0 = 1 }) ByList ∷ Leave (call_in 0 2) ∷ Ret (call_in 0 2) (Some (call_in 0 1)) ∷ BackEnd (call_in 0 1) (record { 0 = 1 }) ∷ Back (call_in 0 1) (record { 0 = 0 }) ∷ BackEnd (call_in 0 1) (record { 0 = 0 }) ∷ Body (call_in 0 1) (record { 0 = 1 }) ByList ∷ Leave (call_in 0 1) ∷ Exit (call_in 0 1) (record { 0 = 0 }) 15 ∷ ExitEnd (call_in 0 1) (record { 0 = 0 }) ∷ Ret (call_in 0 1) None ∷ Enter (call_in 2 1) Normal (record { 0 = 1 }) None ∷ Back (call_in 2 1) (record { 0 = 1 }) ∷ Enter (call_in 2 2) Normal (record { 0 = 1 }) (Some (call_in 2 1)) ∷ Refuse (call_in 2 2) (record { 0 = 1 }) Recursion ∷ Refuse (call_in 2 2) (record { 0 = 0 }) Recursion ∷ Body (call_in 2 2) (record { 0 = 1 }) ByList ∷ Leave (call_in 2 2) ∷ Ret (call_in 2 2) (Some (call_in 2 1)) ∷ BackEnd (call_in 2 1) (record { 0 = 1 }) ∷ Back (call_in 2 1) (record { 0 = 0 }) ∷ BackEnd (call_in 2 1) (record { 0 = 0 }) ∷ Body (call_in 2 1) (record { 0 = 1 }) ByList ∷ Leave (call_in 2 1) ∷ Exit (call_in 2 1) (record { 0 = 0 }) 31 ∷ ExitEnd (call_in 2 1) (record { 0 = 0 }) ∷ Ret (call_in 2 1) None ∷ Begin 4 ∷ Return 4 Already ∷ Begin 5 ∷ Return 5 Invalid ∷ Begin 6 ∷ Return 6 Accepted ∷ Enter (call_in 0 3) Softirq (record { 0 = 1 }) None ∷ Back (call_in 0 3) (record { 0 = 1 }) ∷ Enter (call_in 0 4) Softirq (record { 0 = 1 }) (Some (call_in 0 3)) ∷ Refuse (call_in 0 4) (record { 0 = 1 }) Recursion ∷ Refuse (call_in 0 4) (record { 0 = 0 }) Recursion ∷ Body (call_in 0 4) (record { 0 = 1 }) ByList ∷ Leave (call_in 0 4) ∷ Ret (call_in 0 4) (Some (call_in 0 3)) ∷ BackEnd (call_in 0 3) (record { 0 = 1 }) ∷ Back (call_in 0 3) (record { 0 = 0 }) ∷ BackEnd (call_in 0 3) (record { 0 = 0 }) ∷ Body (call_in 0 3) (record { 0 = 1 }) ByList ∷ Enter (call_in 1 1) Normal (record { 0 = 1 }) None ∷ Back (call_in 1 1) (record { 0 = 1 }) ∷ Enter (call_in 1 2) Normal (record { 0 = 1 }) (Some (call_in 1 1)) ∷ Refuse (call_in 1 2) (record { 0 = 1 }) Recursion ∷ Refuse (call_in 1 2) (record { 0 = 0 }) Recursion ∷ Body (call_in 1 2) (record { 0 = 1 }) ByList ∷ Leave (call_in 1 2) ∷ Ret (call_in 1 2) (Some (call_in 1 1)) ∷ BackEnd (call_in 1 1) (record { 0 = 1 }) ∷ Back (call_in 1 1) (record { 0 = 0 }) ∷ BackEnd (call_in 1 1) (record { 0 = 0 }) ∷ Body (call_in 1 1) (record { 0 = 1 }) ByList ∷ Enter (call_in 1 3) Normal (record { 0 = 0 }) (Some (call_in 1 1)) ∷ Back (call_in 1 3) (record { 0 = 1 }) ∷ Miss (call_in 1 3) (record { 0 = 1 }) ∷ Enter (call_in 1 4) Normal (record { 0 = 1 }) (Some (call_in 1 3)) ∷ Refuse (call_in 1 4) (record { 0 = 1 }) Recursion ∷ Refuse (call_in 1 4) (record { 0 = 0 }) Recursion ∷ Body (call_in 1 4) (record { 0 = 1 }) ByList ∷ Leave (call_in 1 4) ∷ Ret (call_in 1 4) (Some (call_in 1 3)) ∷ BackEnd (call_in 1 3) (record { 0 = 1 }) ∷ Refuse (call_in 1 3) (record { 0 = 0 }) Depth ∷ Body (call_in 1 3) (record { 0 = 0 }) ByList ∷ Enter (call_in 1 5) Normal (record { 0 = 1 }) (Some (call_in 1 3)) ∷ Back (call_in 1 5) (record { 0 = 1 }) ∷ Miss (call_in 1 5) (record { 0 = 1 }) ∷ Enter (call_in 1 6) Normal (record { 0 = 1 }) (Some (call_in 1 5)) ∷ Refuse (call_in 1 6) (record { 0 = 1 }) Recursion ∷ Refuse (call_in 1 6) (record { 0 = 0 }) Recursion ∷ Body (call_in 1 6) (record { 0 = 1 }) ByList ∷ Leave (call_in 1 6) ∷ Ret (call_in 1 6) (Some (call_in 1 5)) ∷ BackEnd (call_in 1 5) (record { 0 = 1 }) ∷ Refuse (call_in 1 5) (record { 0 = 0 }) Depth ∷ Body (call_in 1 5) (record { 0 = 1 }) ByList ∷ Enter (call_in 2 3) Nmi (record { 0 = 1 }) None ∷ Back (call_in 2 3) (record { 0 = 1 }) ∷ Enter (call_in 2 4) Nmi (record { 0 = 1 }) (Some (call_in 2 3)) ∷ Refuse (call_in 2 4) (record { 0 = 1 }) Recursion ∷ Refuse (call_in 2 4) (record { 0 = 0 }) Recursion ∷ Body (call_in 2 4) (record { 0 = 1 }) ByList ∷ Leave (call_in 2 4) ∷ Ret (call_in 2 4) (Some (call_in 2 3)) ∷ BackEnd (call_in 2 3) (record { 0 = 1 }) ∷ Back (call_in 2 3) (record { 0 = 0 }) ∷ BackEnd (call_in 2 3) (record { 0 = 0 }) ∷ Body (call_in 2 3) (record { 0 = 1 }) ByList ∷ Leave (call_in 2 3) ∷ Exit (call_in 2 3) (record { 0 = 0 }) 101 ∷ ExitEnd (call_in 2 3) (record { 0 = 0 }) ∷ Ret (call_in 2 3) None ∷ Leave (call_in 0 3) ∷ Exit (call_in 0 3) (record { 0 = 0 }) 53 ∷ ExitEnd (call_in 0 3) (record { 0 = 0 }) ∷ Ret (call_in 0 3) None ∷ Leave (call_in 1 5) ∷ Ret (call_in 1 5) (Some (call_in 1 3)) ∷ Leave (call_in 1 3) ∷ Ret (call_in 1 3) (Some (call_in 1 1)) ∷ Leave (call_in 1 1) ∷ Exit (call_in 1 1) (record { 0 = 0 }) 65 ∷ ExitEnd (call_in 1 1) (record { 0 = 0 }) ∷ Ret (call_in 1 1) None ∷ []
 
 pub job_39-plays : Plays job_39 job_39-items true
-unfolding actors_of repeated start played play is_over step whole desk
+unfolding actors_of repeated start played play all_end step whole desk
 job_39-plays = (refl, refl)
 
 abbrev pub job_40 : Job
@@ -263,7 +263,7 @@ abbrev pub job_40-items : List Item
 job_40-items = Enter (call_in 0 1) Normal (record { 0 = 3 }) None ∷ Body (call_in 0 1) (record { 0 = 3 }) Nop ∷ Leave (call_in 0 1) ∷ Ret (call_in 0 1) None ∷ Enter (call_in 0 2) Normal (record { 0 = 1 }) None ∷ Body (call_in 0 2) (record { 0 = 1 }) Nop ∷ Leave (call_in 0 2) ∷ Ret (call_in 0 2) None ∷ Begin 1 ∷ Return 1 Accepted ∷ Begin 2 ∷ Return 2 NotThere ∷ Begin 3 ∷ Return 3 Already ∷ Begin 4 ∷ Return 4 Accepted ∷ []
 
 pub job_40-plays : Plays job_40 job_40-items true
-unfolding actors_of repeated start played play is_over step whole desk
+unfolding actors_of repeated start played play all_end step whole desk
 job_40-plays = (refl, refl)
 
 abbrev pub job_42 : Job
@@ -273,7 +273,7 @@ abbrev pub job_42-items : List Item
 job_42-items = Begin 1 ∷ Return 1 Accepted ∷ Begin 2 ∷ Return 2 Accepted ∷ Begin 3 ∷ Return 3 Accepted ∷ Begin 4 ∷ Return 4 Accepted ∷ Begin 5 ∷ Return 5 Already ∷ Begin 6 ∷ Return 6 Already ∷ Enter (call_in 0 1) Normal (record { 0 = 0 }) None ∷ Body (call_in 0 1) (record { 0 = 0 }) Nop ∷ Begin 7 ∷ Return 7 Invalid ∷ Enter (call_in 1 1) Normal (record { 0 = 0 }) None ∷ Body (call_in 1 1) (record { 0 = 0 }) Nop ∷ Enter (call_in 0 2) Normal (record { 0 = 0 }) (Some (call_in 0 1)) ∷ Body (call_in 0 2) (record { 0 = 0 }) Nop ∷ Leave (call_in 0 2) ∷ Ret (call_in 0 2) (Some (call_in 0 1)) ∷ Leave (call_in 0 1) ∷ Ret (call_in 0 1) None ∷ Leave (call_in 1 1) ∷ Ret (call_in 1 1) None ∷ Enter (call_in 0 3) Normal (record { 0 = 0 }) None ∷ Body (call_in 0 3) (record { 0 = 0 }) Nop ∷ Enter (call_in 0 4) Normal (record { 0 = 0 }) (Some (call_in 0 3)) ∷ Body (call_in 0 4) (record { 0 = 0 }) Nop ∷ Leave (call_in 0 4) ∷ Ret (call_in 0 4) (Some (call_in 0 3)) ∷ Leave (call_in 0 3) ∷ Ret (call_in 0 3) None ∷ []
 
 pub job_42-plays : Plays job_42 job_42-items true
-unfolding actors_of repeated start played play is_over step whole desk
+unfolding actors_of repeated start played play all_end step whole desk
 job_42-plays = (refl, refl)
 
 abbrev pub job_43 : Job
@@ -283,7 +283,7 @@ abbrev pub job_43-items : List Item
 job_43-items = Begin 1 ∷ Return 1 Accepted ∷ Enter (call_in 0 1) Normal (record { 0 = 0 }) None ∷ Body (call_in 0 1) (record { 0 = 0 }) Nop ∷ Leave (call_in 0 1) ∷ Ret (call_in 0 1) None ∷ Enter (call_in 0 2) Normal (record { 0 = 0 }) None ∷ Body (call_in 0 2) (record { 0 = 0 }) Nop ∷ Enter (call_in 0 3) Normal (record { 0 = 0 }) (Some (call_in 0 2)) ∷ Body (call_in 0 3) (record { 0 = 0 }) Nop ∷ Leave (call_in 0 3) ∷ Ret (call_in 0 3) (Some (call_in 0 2)) ∷ Begin 2 ∷ Return 2 Accepted ∷ Leave (call_in 0 2) ∷ Ret (call_in 0 2) None ∷ []
 
 pub job_43-plays : Plays job_43 job_43-items true
-unfolding actors_of repeated start played play is_over step whole desk
+unfolding actors_of repeated start played play all_end step whole desk
 job_43-plays = (refl, refl)
 
 abbrev pub job_44 : Job
@@ -293,7 +293,7 @@ abbrev pub job_44-items : List Item
 job_44-items = Begin 1 ∷ Return 1 Accepted ∷ Enter (call_in 0 1) Normal (record { 0 = 3 }) None ∷ Back (call_in 0 1) (record { 0 = 0 }) ∷ BackEnd (call_in 0 1) (record { 0 = 0 }) ∷ Body (call_in 0 1) (record { 0 = 3 }) ByList ∷ Begin 2 ∷ Return 2 Accepted ∷ Enter (call_in 1 1) Normal (record { 0 = 3 }) None ∷ Back (call_in 1 1) (record { 0 = 0 }) ∷ BackEnd (call_in 1 1) (record { 0 = 0 }) ∷ Body (call_in 1 1) (record { 0 = 3 }) ByList ∷ Begin 3 ∷ Return 3 Invalid ∷ Enter (call_in 0 2) Normal (record { 0 = 3 }) (Some (call_in 0 1)) ∷ Back (call_in 0 2) (record { 0 = 0 }) ∷ BackEnd (call_in 0 2) (record { 0 = 0 }) ∷ Body (call_in 0 2) (record { 0 = 3 }) ByList ∷ Begin 4 ∷ Return 4 Accepted ∷ Leave (call_in 1 1) ∷ Ret (call_in 1 1) None ∷ Enter (call_in 0 3) Normal (record { 0 = 1 }) (Some (call_in 0 2)) ∷ Back (call_in 0 3) (record { 0 = 1 }) ∷ Enter (call_in 0 4) Irq (record { 0 = 1 }) (Some (call_in 0 3)) ∷ Back (call_in 0 4) (record { 0 = 1 }) ∷ BackEnd (call_in 0 4) (record { 0 = 1 }) ∷ Body (call_in 0 4) (record { 0 = 1 }) ByList ∷ Leave (call_in 0 4) ∷ Exit (call_in 0 4) (record { 0 = 1 }) 25 ∷ ExitEnd (call_in 0 4) (record { 0 = 1 }) ∷ Ret (call_in 0 4) (Some (call_in 0 3)) ∷ BackEnd (call_in 0 3) (record { 0 = 1 }) ∷ Body (call_in 0 3) (record { 0 = 1 }) ByList ∷ Enter (call_in 1 2) Nmi (record { 0 = 3 }) None ∷ Back (call_in 1 2) (record { 0 = 1 }) ∷ BackEnd (call_in 1 2) (record { 0 = 1 }) ∷ Back (call_in 1 2) (record { 0 = 0 }) ∷ BackEnd (call_in 1 2) (record { 0 = 0 }) ∷ Body (call_in 1 2) (record { 0 = 3 }) ByList ∷ Leave (call_in 1 2) ∷ Exit (call_in 1 2) (record { 0 = 1 }) 35 ∷ ExitEnd (call_in 1 2) (record { 0 = 1 }) ∷ Ret (call_in 1 2) None ∷ Leave (call_in 0 3) ∷ Exit (call_in 0 3) (record { 0 = 1 }) 23 ∷ ExitEnd (call_in 0 3) (record { 0 = 1 }) ∷ Ret (call_in 0 3) (Some (call_in 0 2)) ∷ Leave (call_in 0 2) ∷ Ret (call_in 0 2) (Some (call_in 0 1)) ∷ Leave (call_in 0 1) ∷ Ret (call_in 0 1) None ∷ []
 
 pub job_44-plays : Plays job_44 job_44-items true
-unfolding actors_of repeated start played play is_over step whole desk
+unfolding actors_of repeated start played play all_end step whole desk
 job_44-plays = (refl, refl)
 
 abbrev pub job_47 : Job
@@ -303,7 +303,7 @@ abbrev pub job_47-items : List Item
 job_47-items = Begin 1 ∷ Return 1 Accepted ∷ Begin 2 ∷ Return 2 NotThere ∷ Begin 3 ∷ Return 3 Accepted ∷ Begin 4 ∷ Return 4 Accepted ∷ Enter (call_in 0 1) Softirq (record { 0 = 2 }) None ∷ Body (call_in 0 1) (record { 0 = 2 }) Nop ∷ Leave (call_in 0 1) ∷ Ret (call_in 0 1) None ∷ []
 
 pub job_47-plays : Plays job_47 job_47-items true
-unfolding actors_of repeated start played play is_over step whole desk
+unfolding actors_of repeated start played play all_end step whole desk
 job_47-plays = (refl, refl)
 
 abbrev pub job_49 : Job
@@ -313,7 +313,7 @@ abbrev pub job_49-items : List Item
 job_49-items = Begin 1 ∷ Return 1 NotThere ∷ Begin 2 ∷ Return 2 Accepted ∷ Enter (call_in 0 1) Nmi (record { 0 = 0 }) None ∷ Body (call_in 0 1) (record { 0 = 0 }) Nop ∷ Begin 3 ∷ Return 3 NotThere ∷ Leave (call_in 0 1) ∷ Ret (call_in 0 1) None ∷ Begin 4 ∷ Return 4 Accepted ∷ Begin 5 ∷ Return 5 Accepted ∷ Begin 6 ∷ Return 6 Invalid ∷ Enter (call_in 1 1) Nmi (record { 0 = 0 }) None ∷ Body (call_in 1 1) (record { 0 = 0 }) Nop ∷ Leave (call_in 1 1) ∷ Ret (call_in 1 1) None ∷ Enter (call_in 2 1) Softirq (record { 0 = 0 }) None ∷ Body (call_in 2 1) (record { 0 = 0 }) Nop ∷ Leave (call_in 2 1) ∷ Ret (call_in 2 1) None ∷ Enter (call_in 1 2) Nmi (record { 0 = 0 }) None ∷ Body (call_in 1 2) (record { 0 = 0 }) Nop ∷ Enter (call_in 2 2) Irq (record { 0 = 0 }) None ∷ Body (call_in 2 2) (record { 0 = 0 }) Nop ∷ Enter (call_in 2 3) Irq (record { 0 = 0 }) (Some (call_in 2 2)) ∷ Body (call_in 2 3) (record { 0 = 0 }) Nop ∷ Enter (call_in 2 4) Irq (record { 0 = 0 }) (Some (call_in 2 3)) ∷ Body (call_in 2 4) (record { 0 = 0 }) Nop ∷ Leave (call_in 2 4) ∷ Ret (call_in 2 4) (Some (call_in 2 3)) ∷ Leave (call_in 2 3) ∷ Ret (call_in 2 3) (Some (call_in 2 2)) ∷ Begin 7 ∷ Return 7 Accepted ∷ Leave (call_in 2 2) ∷ Ret (call_in 2 2) None ∷ Leave (call_in 1 2) ∷ Ret (call_in 1 2) None ∷ []
 
 pub job_49-plays : Plays job_49 job_49-items true
-unfolding actors_of repeated start played play is_over step whole desk
+unfolding actors_of repeated start played play all_end step whole desk
 job_49-plays = (refl, refl)
 
 abbrev pub job_51 : Job
@@ -323,7 +323,7 @@ abbrev pub job_51-items : List Item
 job_51-items = Begin 1 ∷ Return 1 Accepted ∷ Begin 2 ∷ Return 2 Accepted ∷ Begin 3 ∷ Return 3 NotThere ∷ Begin 4 ∷ Return 4 NotThere ∷ Begin 5 ∷ Return 5 NotThere ∷ Enter (call_in 0 1) Normal (record { 0 = 1 }) None ∷ Body (call_in 0 1) (record { 0 = 1 }) Nop ∷ Leave (call_in 0 1) ∷ Ret (call_in 0 1) None ∷ []
 
 pub job_51-plays : Plays job_51 job_51-items true
-unfolding actors_of repeated start played play is_over step whole desk
+unfolding actors_of repeated start played play all_end step whole desk
 job_51-plays = (refl, refl)
 
 abbrev pub job_55 : Job
@@ -333,7 +333,7 @@ abbrev pub job_55-items : List Item
 job_55-items = Begin 1 ∷ Return 1 Accepted ∷ Begin 2 ∷ Return 2 Accepted ∷ Begin 3 ∷ Return 3 Already ∷ Enter (call_in 0 1) Normal (record { 0 = 0 }) None ∷ Back (call_in 0 1) (record { 0 = 2 }) ∷ Enter (call_in 0 2) Normal (record { 0 = 0 }) (Some (call_in 0 1)) ∷ Refuse (call_in 0 2) (record { 0 = 2 }) Recursion ∷ Body (call_in 0 2) (record { 0 = 0 }) (Own (record { 0 = 2 })) ∷ Leave (call_in 0 2) ∷ Ret (call_in 0 2) (Some (call_in 0 1)) ∷ BackEnd (call_in 0 1) (record { 0 = 2 }) ∷ Body (call_in 0 1) (record { 0 = 0 }) (Own (record { 0 = 2 })) ∷ Leave (call_in 0 1) ∷ Ret (call_in 0 1) None ∷ Enter (call_in 0 3) Normal (record { 0 = 0 }) None ∷ Back (call_in 0 3) (record { 0 = 2 }) ∷ Enter (call_in 0 4) Normal (record { 0 = 0 }) (Some (call_in 0 3)) ∷ Refuse (call_in 0 4) (record { 0 = 2 }) Recursion ∷ Body (call_in 0 4) (record { 0 = 0 }) (Own (record { 0 = 2 })) ∷ Leave (call_in 0 4) ∷ Ret (call_in 0 4) (Some (call_in 0 3)) ∷ BackEnd (call_in 0 3) (record { 0 = 2 }) ∷ Body (call_in 0 3) (record { 0 = 0 }) (Own (record { 0 = 2 })) ∷ Enter (call_in 0 5) Normal (record { 0 = 0 }) (Some (call_in 0 3)) ∷ Back (call_in 0 5) (record { 0 = 2 }) ∷ Enter (call_in 0 6) Normal (record { 0 = 0 }) (Some (call_in 0 5)) ∷ Refuse (call_in 0 6) (record { 0 = 2 }) Recursion ∷ Body (call_in 0 6) (record { 0 = 0 }) (Own (record { 0 = 2 })) ∷ Leave (call_in 0 6) ∷ Ret (call_in 0 6) (Some (call_in 0 5)) ∷ BackEnd (call_in 0 5) (record { 0 = 2 }) ∷ Body (call_in 0 5) (record { 0 = 0 }) (Own (record { 0 = 2 })) ∷ Leave (call_in 0 5) ∷ Ret (call_in 0 5) (Some (call_in 0 3)) ∷ Leave (call_in 0 3) ∷ Ret (call_in 0 3) None ∷ []
 
 pub job_55-plays : Plays job_55 job_55-items true
-unfolding actors_of repeated start played play is_over step whole desk
+unfolding actors_of repeated start played play all_end step whole desk
 job_55-plays = (refl, refl)
 
 abbrev pub job_59 : Job
@@ -343,7 +343,7 @@ abbrev pub job_59-items : List Item
 job_59-items = Begin 1 ∷ Return 1 Accepted ∷ Begin 2 ∷ Return 2 Accepted ∷ Begin 3 ∷ Return 3 Already ∷ Begin 4 ∷ Return 4 Already ∷ Begin 5 ∷ Return 5 Accepted ∷ Begin 6 ∷ Return 6 Accepted ∷ Enter (call_in 0 1) Normal (record { 0 = 1 }) None ∷ Back (call_in 0 1) (record { 0 = 1 }) ∷ BackEnd (call_in 0 1) (record { 0 = 1 }) ∷ Back (call_in 0 1) (record { 0 = 2 }) ∷ Enter (call_in 0 2) Normal (record { 0 = 1 }) (Some (call_in 0 1)) ∷ Refuse (call_in 0 2) (record { 0 = 1 }) Recursion ∷ Refuse (call_in 0 2) (record { 0 = 2 }) Recursion ∷ Body (call_in 0 2) (record { 0 = 1 }) ByList ∷ Leave (call_in 0 2) ∷ Ret (call_in 0 2) (Some (call_in 0 1)) ∷ BackEnd (call_in 0 1) (record { 0 = 2 }) ∷ Body (call_in 0 1) (record { 0 = 1 }) ByList ∷ Begin 7 ∷ Return 7 Already ∷ Enter (call_in 0 3) Normal (record { 0 = 0 }) (Some (call_in 0 1)) ∷ Back (call_in 0 3) (record { 0 = 1 }) ∷ BackEnd (call_in 0 3) (record { 0 = 1 }) ∷ Body (call_in 0 3) (record { 0 = 0 }) ByList ∷ Leave (call_in 0 3) ∷ Ret (call_in 0 3) (Some (call_in 0 1)) ∷ Leave (call_in 0 1) ∷ Ret (call_in 0 1) None ∷ []
 
 pub job_59-plays : Plays job_59 job_59-items true
-unfolding actors_of repeated start played play is_over step whole desk
+unfolding actors_of repeated start played play all_end step whole desk
 job_59-plays = (refl, refl)
 
 abbrev pub job_61 : Job
@@ -353,7 +353,7 @@ abbrev pub job_61-items : List Item
 job_61-items = Begin 1 ∷ Return 1 NotThere ∷ Begin 2 ∷ Return 2 Accepted ∷ Begin 3 ∷ Return 3 Already ∷ Begin 4 ∷ Return 4 Already ∷ Begin 5 ∷ Return 5 Already ∷ Begin 6 ∷ Return 6 Already ∷ Begin 7 ∷ Return 7 Already ∷ Enter (call_in 0 1) Normal (record { 0 = 3 }) None ∷ Back (call_in 0 1) (record { 0 = 0 }) ∷ Enter (call_in 0 2) Irq (record { 0 = 1 }) (Some (call_in 0 1)) ∷ Back (call_in 0 2) (record { 0 = 0 }) ∷ BackEnd (call_in 0 2) (record { 0 = 0 }) ∷ Body (call_in 0 2) (record { 0 = 1 }) (Own (record { 0 = 0 })) ∷ Leave (call_in 0 2) ∷ Exit (call_in 0 2) (record { 0 = 0 }) 17 ∷ ExitEnd (call_in 0 2) (record { 0 = 0 }) ∷ Ret (call_in 0 2) (Some (call_in 0 1)) ∷ BackEnd (call_in 0 1) (record { 0 = 0 }) ∷ Body (call_in 0 1) (record { 0 = 3 }) (Own (record { 0 = 0 })) ∷ Enter (call_in 0 3) Normal (record { 0 = 2 }) (Some (call_in 0 1)) ∷ Back (call_in 0 3) (record { 0 = 0 }) ∷ Enter (call_in 0 4) Irq (record { 0 = 1 }) (Some (call_in 0 3)) ∷ Back (call_in 0 4) (record { 0 = 0 }) ∷ BackEnd (call_in 0 4) (record { 0 = 0 }) ∷ Body (call_in 0 4) (record { 0 = 1 }) (Own (record { 0 = 0 })) ∷ Leave (call_in 0 4) ∷ Exit (call_in 0 4) (record { 0 = 0 }) 29 ∷ ExitEnd (call_in 0 4) (record { 0 = 0 }) ∷ Ret (call_in 0 4) (Some (call_in 0 3)) ∷ BackEnd (call_in 0 3) (record { 0 = 0 }) ∷ Body (call_in 0 3) (record { 0 = 2 }) (Own (record { 0 = 0 })) ∷ Enter (call_in 0 5) Irq (record { 0 = 2 }) (Some (call_in 0 3)) ∷ Back (call_in 0 5) (record { 0 = 0 }) ∷ BackEnd (call_in 0 5) (record { 0 = 0 }) ∷ Body (call_in 0 5) (record { 0 = 2 }) (Own (record { 0 = 0 })) ∷ Leave (call_in 0 5) ∷ Exit (call_in 0 5) (record { 0 = 0 }) 39 ∷ ExitEnd (call_in 0 5) (record { 0 = 0 }) ∷ Ret (call_in 0 5) (Some (call_in 0 3)) ∷ Leave (call_in 0 3) ∷ Exit (call_in 0 3) (record { 0 = 0 }) 27 ∷ ExitEnd (call_in 0 3) (record { 0 = 0 }) ∷ Ret (call_in 0 3) (Some (call_in 0 1)) ∷ Leave (call_in 0 1) ∷ Exit (call_in 0 1) (record { 0 = 0 }) 15 ∷ ExitEnd (call_in 0 1) (record { 0 = 0 }) ∷ Ret (call_in 0 1) None ∷ []
 
 pub job_61-plays : Plays job_61 job_61-items true
-unfolding actors_of repeated start played play is_over step whole desk
+unfolding actors_of repeated start played play all_end step whole desk
 job_61-plays = (refl, refl)
 
 abbrev pub job_65 : Job
@@ -363,7 +363,7 @@ abbrev pub job_65-items : List Item
 job_65-items = Begin 1 ∷ Return 1 NotThere ∷ Enter (call_in 0 1) Normal (record { 0 = 0 }) None ∷ Body (call_in 0 1) (record { 0 = 0 }) Nop ∷ Begin 2 ∷ Return 2 Accepted ∷ Enter (call_in 0 2) Normal (record { 0 = 1 }) (Some (call_in 0 1)) ∷ Back (call_in 0 2) (record { 0 = 2 }) ∷ BackEnd (call_in 0 2) (record { 0 = 2 }) ∷ Body (call_in 0 2) (record { 0 = 1 }) (Own (record { 0 = 2 })) ∷ Begin 3 ∷ Return 3 Accepted ∷ Leave (call_in 0 2) ∷ Ret (call_in 0 2) (Some (call_in 0 1)) ∷ Begin 4 ∷ Return 4 NotThere ∷ Leave (call_in 0 1) ∷ Ret (call_in 0 1) None ∷ []
 
 pub job_65-plays : Plays job_65 job_65-items true
-unfolding actors_of repeated start played play is_over step whole desk
+unfolding actors_of repeated start played play all_end step whole desk
 job_65-plays = (refl, refl)
 
 abbrev pub job_67 : Job
@@ -373,7 +373,7 @@ abbrev pub job_67-items : List Item
 job_67-items = Begin 1 ∷ Return 1 Accepted ∷ Begin 2 ∷ Return 2 Accepted ∷ Enter (call_in 0 1) Normal (record { 0 = 0 }) None ∷ Back (call_in 0 1) (record { 0 = 1 }) ∷ BackEnd (call_in 0 1) (record { 0 = 1 }) ∷ Body (call_in 0 1) (record { 0 = 0 }) (Own (record { 0 = 1 })) ∷ Enter (call_in 0 2) Normal (record { 0 = 0 }) (Some (call_in 0 1)) ∷ Back (call_in 0 2) (record { 0 = 1 }) ∷ BackEnd (call_in 0 2) (record { 0 = 1 }) ∷ Body (call_in 0 2) (record { 0 = 0 }) (Own (record { 0 = 1 })) ∷ Enter (call_in 1 1) Normal (record { 0 = 0 }) None ∷ Back (call_in 1 1) (record { 0 = 1 }) ∷ BackEnd (call_in 1 1) (record { 0 = 1 }) ∷ Body (call_in 1 1) (record { 0 = 0 }) (Own (record { 0 = 1 })) ∷ Enter (call_in 1 2) Normal (record { 0 = 0 }) (Some (call_in 1 1)) ∷ Back (call_in 1 2) (record { 0 = 1 }) ∷ BackEnd (call_in 1 2) (record { 0 = 1 }) ∷ Body (call_in 1 2) (record { 0 = 0 }) (Own (record { 0 = 1 })) ∷ Enter (call_in 0 3) Irq (record { 0 = 0 }) (Some (call_in 0 2)) ∷ Back (call_in 0 3) (record { 0 = 1 }) ∷ BackEnd (call_in 0 3) (record { 0 = 1 }) ∷ Body (call_in 0 3) (record { 0 = 0 }) (Own (record { 0 = 1 })) ∷ Enter (call_in 0 4) Irq (record { 0 = 0 }) (Some (call_in 0 3)) ∷ Back (call_in 0 4) (record { 0 = 1 }) ∷ BackEnd (call_in 0 4) (record { 0 = 1 }) ∷ Body (call_in 0 4) (record { 0 = 0 }) (Own (record { 0 = 1 })) ∷ Enter (call_in 0 5) Irq (record { 0 = 0 }) (Some (call_in 0 4)) ∷ Back (call_in 0 5) (record { 0 = 1 }) ∷ BackEnd (call_in 0 5) (record { 0 = 1 }) ∷ Body (call_in 0 5) (record { 0 = 0 }) (Own (record { 0 = 1 })) ∷ Leave (call_in 1 2) ∷ Exit (call_in 1 2) (record { 0 = 1 }) 17 ∷ ExitEnd (call_in 1 2) (record { 0 = 1 }) ∷ Ret (call_in 1 2) (Some (call_in 1 1)) ∷ Leave (call_in 1 1) ∷ Exit (call_in 1 1) (record { 0 = 1 }) 13 ∷ ExitEnd (call_in 1 1) (record { 0 = 1 }) ∷ Ret (call_in 1 1) None ∷ Leave (call_in 0 5) ∷ Exit (call_in 0 5) (record { 0 = 1 }) 29 ∷ ExitEnd (call_in 0 5) (record { 0 = 1 }) ∷ Ret (call_in 0 5) (Some (call_in 0 4)) ∷ Enter (call_in 0 6) Irq (record { 0 = 0 }) (Some (call_in 0 4)) ∷ Back (call_in 0 6) (record { 0 = 1 }) ∷ BackEnd (call_in 0 6) (record { 0 = 1 }) ∷ Body (call_in 0 6) (record { 0 = 0 }) (Own (record { 0 = 1 })) ∷ Leave (call_in 0 6) ∷ Exit (call_in 0 6) (record { 0 = 1 }) 45 ∷ ExitEnd (call_in 0 6) (record { 0 = 1 }) ∷ Ret (call_in 0 6) (Some (call_in 0 4)) ∷ Leave (call_in 0 4) ∷ Exit (call_in 0 4) (record { 0 = 1 }) 25 ∷ ExitEnd (call_in 0 4) (record { 0 = 1 }) ∷ Ret (call_in 0 4) (Some (call_in 0 3)) ∷ Leave (call_in 0 3) ∷ Exit (call_in 0 3) (record { 0 = 1 }) 21 ∷ ExitEnd (call_in 0 3) (record { 0 = 1 }) ∷ Ret (call_in 0 3) (Some (call_in 0 2)) ∷ Leave (call_in 0 2) ∷ Exit (call_in 0 2) (record { 0 = 1 }) 9 ∷ ExitEnd (call_in 0 2) (record { 0 = 1 }) ∷ Ret (call_in 0 2) (Some (call_in 0 1)) ∷ Leave (call_in 0 1) ∷ Exit (call_in 0 1) (record { 0 = 1 }) 5 ∷ ExitEnd (call_in 0 1) (record { 0 = 1 }) ∷ Ret (call_in 0 1) None ∷ []
 
 pub job_67-plays : Plays job_67 job_67-items true
-unfolding actors_of repeated start played play is_over step whole desk
+unfolding actors_of repeated start played play all_end step whole desk
 job_67-plays = (refl, refl)
 
 abbrev pub job_68 : Job
@@ -383,7 +383,7 @@ abbrev pub job_68-items : List Item
 job_68-items = Begin 1 ∷ Return 1 NotThere ∷ Begin 2 ∷ Return 2 Accepted ∷ Enter (call_in 0 1) Normal (record { 0 = 3 }) None ∷ Body (call_in 0 1) (record { 0 = 3 }) Nop ∷ Enter (call_in 0 2) Normal (record { 0 = 3 }) (Some (call_in 0 1)) ∷ Body (call_in 0 2) (record { 0 = 3 }) Nop ∷ Enter (call_in 0 3) Normal (record { 0 = 2 }) (Some (call_in 0 2)) ∷ Body (call_in 0 3) (record { 0 = 2 }) Nop ∷ Enter (call_in 0 4) Normal (record { 0 = 0 }) (Some (call_in 0 3)) ∷ Body (call_in 0 4) (record { 0 = 0 }) Nop ∷ Enter (call_in 1 1) Nmi (record { 0 = 2 }) None ∷ Body (call_in 1 1) (record { 0 = 2 }) Nop ∷ Enter (call_in 0 5) Normal (record { 0 = 3 }) (Some (call_in 0 4)) ∷ Body (call_in 0 5) (record { 0 = 3 }) Nop ∷ Leave (call_in 1 1) ∷ Ret (call_in 1 1) None ∷ Enter (call_in 0 6) Normal (record { 0 = 1 }) (Some (call_in 0 5)) ∷ Body (call_in 0 6) (record { 0 = 1 }) Nop ∷ Leave (call_in 0 6) ∷ Ret (call_in 0 6) (Some (call_in 0 5)) ∷ Enter (call_in 1 2) Irq (record { 0 = 0 }) None ∷ Body (call_in 1 2) (record { 0 = 0 }) Nop ∷ Leave (call_in 0 5) ∷ Ret (call_in 0 5) (Some (call_in 0 4)) ∷ Leave (call_in 1 2) ∷ Ret (call_in 1 2) None ∷ Leave (call_in 0 4) ∷ Ret (call_in 0 4) (Some (call_in 0 3)) ∷ Leave (call_in 0 3) ∷ Ret (call_in 0 3) (Some (call_in 0 2)) ∷ Leave (call_in 0 2) ∷ Ret (call_in 0 2) (Some (call_in 0 1)) ∷ Leave (call_in 0 1) ∷ Ret (call_in 0 1) None ∷ []
 
 pub job_68-plays : Plays job_68 job_68-items true
-unfolding actors_of repeated start played play is_over step whole desk
+unfolding actors_of repeated start played play all_end step whole desk
 job_68-plays = (refl, refl)
 
 abbrev pub job_69 : Job
@@ -393,7 +393,7 @@ abbrev pub job_69-items : List Item
 job_69-items = Begin 1 ∷ Return 1 Accepted ∷ Enter (call_in 0 1) Normal (record { 0 = 0 }) None ∷ Body (call_in 0 1) (record { 0 = 0 }) Nop ∷ Begin 2 ∷ Return 2 Accepted ∷ Enter (call_in 0 2) Normal (record { 0 = 0 }) (Some (call_in 0 1)) ∷ Body (call_in 0 2) (record { 0 = 0 }) Nop ∷ Enter (call_in 0 3) Normal (record { 0 = 0 }) (Some (call_in 0 2)) ∷ Body (call_in 0 3) (record { 0 = 0 }) Nop ∷ Begin 3 ∷ Return 3 Accepted ∷ Leave (call_in 0 3) ∷ Ret (call_in 0 3) (Some (call_in 0 2)) ∷ Leave (call_in 0 2) ∷ Ret (call_in 0 2) (Some (call_in 0 1)) ∷ Begin 4 ∷ Return 4 NotThere ∷ Leave (call_in 0 1) ∷ Ret (call_in 0 1) None ∷ Begin 5 ∷ Return 5 Accepted ∷ Begin 6 ∷ Return 6 Accepted ∷ Enter (call_in 1 1) Normal (record { 0 = 0 }) None ∷ Back (call_in 1 1) (record { 0 = 0 }) ∷ BackEnd (call_in 1 1) (record { 0 = 0 }) ∷ Body (call_in 1 1) (record { 0 = 0 }) ByList ∷ Begin 7 ∷ Return 7 Invalid ∷ Enter (call_in 1 2) Normal (record { 0 = 0 }) (Some (call_in 1 1)) ∷ Back (call_in 1 2) (record { 0 = 0 }) ∷ BackEnd (call_in 1 2) (record { 0 = 0 }) ∷ Body (call_in 1 2) (record { 0 = 0 }) ByList ∷ Enter (call_in 1 3) Normal (record { 0 = 0 }) (Some (call_in 1 2)) ∷ Refuse (call_in 1 3) (record { 0 = 0 }) Depth ∷ Body (call_in 1 3) (record { 0 = 0 }) ByList ∷ Enter (call_in 1 4) Normal (record { 0 = 0 }) (Some (call_in 1 3)) ∷ Refuse (call_in 1 4) (record { 0 = 0 }) Depth ∷ Body (call_in 1 4) (record { 0 = 0 }) ByList ∷ Leave (call_in 1 4) ∷ Ret (call_in 1 4) (Some (call_in 1 3)) ∷ Leave (call_in 1 3) ∷ Ret (call_in 1 3) (Some (call_in 1 2)) ∷ Leave (call_in 1 2) ∷ Exit (call_in 1 2) (record { 0 = 0 }) 31 ∷ ExitEnd (call_in 1 2) (record { 0 = 0 }) ∷ Ret (call_in 1 2) (Some (call_in 1 1)) ∷ Leave (call_in 1 1) ∷ Exit (call_in 1 1) (record { 0 = 0 }) 25 ∷ ExitEnd (call_in 1 1) (record { 0 = 0 }) ∷ Ret (call_in 1 1) None ∷ []
 
 pub job_69-plays : Plays job_69 job_69-items true
-unfolding actors_of repeated start played play is_over step whole desk
+unfolding actors_of repeated start played play all_end step whole desk
 job_69-plays = (refl, refl)
 
 abbrev pub job_71 : Job
@@ -403,7 +403,7 @@ abbrev pub job_71-items : List Item
 job_71-items = Begin 1 ∷ Return 1 Accepted ∷ Begin 2 ∷ Return 2 Already ∷ Enter (call_in 1 1) Normal (record { 0 = 2 }) None ∷ Back (call_in 1 1) (record { 0 = 0 }) ∷ BackEnd (call_in 1 1) (record { 0 = 0 }) ∷ Body (call_in 1 1) (record { 0 = 2 }) (Own (record { 0 = 0 })) ∷ Begin 3 ∷ Return 3 Accepted ∷ Enter (call_in 2 1) Normal (record { 0 = 0 }) None ∷ Refuse (call_in 2 1) (record { 0 = 0 }) ByPid ∷ Body (call_in 2 1) (record { 0 = 0 }) (Own (record { 0 = 0 })) ∷ Begin 4 ∷ Return 4 Accepted ∷ Enter (call_in 2 2) Normal (record { 0 = 1 }) (Some (call_in 2 1)) ∷ Refuse (call_in 2 2) (record { 0 = 0 }) ByPid ∷ Body (call_in 2 2) (record { 0 = 1 }) (Own (record { 0 = 0 })) ∷ Enter (call_in 0 1) Normal (record { 0 = 1 }) None ∷ Back (call_in 0 1) (record { 0 = 0 }) ∷ BackEnd (call_in 0 1) (record { 0 = 0 }) ∷ Body (call_in 0 1) (record { 0 = 1 }) (Own (record { 0 = 0 })) ∷ Enter (call_in 1 2) Normal (record { 0 = 0 }) (Some (call_in 1 1)) ∷ Refuse (call_in 1 2) (record { 0 = 0 }) ByPid ∷ Body (call_in 1 2) (record { 0 = 0 }) (Own (record { 0 = 0 })) ∷ Enter (call_in 1 3) Normal (record { 0 = 0 }) (Some (call_in 1 2)) ∷ Refuse (call_in 1 3) (record { 0 = 0 }) ByPid ∷ Body (call_in 1 3) (record { 0 = 0 }) (Own (record { 0 = 0 })) ∷ Enter (call_in 2 3) Normal (record { 0 = 0 }) (Some (call_in 2 2)) ∷ Refuse (call_in 2 3) (record { 0 = 0 }) ByPid ∷ Body (call_in 2 3) (record { 0 = 0 }) (Own (record { 0 = 0 })) ∷ Enter (call_in 0 2) Normal (record { 0 = 0 }) (Some (call_in 0 1)) ∷ Back (call_in 0 2) (record { 0 = 0 }) ∷ BackEnd (call_in 0 2) (record { 0 = 0 }) ∷ Body (call_in 0 2) (record { 0 = 0 }) (Own (record { 0 = 0 })) ∷ Leave (call_in 2 3) ∷ Ret (call_in 2 3) (Some (call_in 2 2)) ∷ Leave (call_in 0 2) ∷ Ret (call_in 0 2) (Some (call_in 0 1)) ∷ Leave (call_in 2 2) ∷ Ret (call_in 2 2) (Some (call_in 2 1)) ∷ Leave (call_in 1 3) ∷ Ret (call_in 1 3) (Some (call_in 1 2)) ∷ Leave (call_in 2 1) ∷ Ret (call_in 2 1) None ∷ Leave (call_in 1 2) ∷ Ret (call_in 1 2) (Some (call_in 1 1)) ∷ Leave (call_in 0 1) ∷ Ret (call_in 0 1) None ∷ Leave (call_in 1 1) ∷ Ret (call_in 1 1) None ∷ []
 
 pub job_71-plays : Plays job_71 job_71-items true
-unfolding actors_of repeated start played play is_over step whole desk
+unfolding actors_of repeated start played play all_end step whole desk
 job_71-plays = (refl, refl)
 
 abbrev pub job_73 : Job
@@ -413,7 +413,7 @@ abbrev pub job_73-items : List Item
 job_73-items = Begin 1 ∷ Return 1 NotThere ∷ Begin 2 ∷ Return 2 NotThere ∷ Enter (call_in 1 1) Normal (record { 0 = 1 }) None ∷ Body (call_in 1 1) (record { 0 = 1 }) Nop ∷ Begin 3 ∷ Return 3 NotThere ∷ Begin 4 ∷ Return 4 Accepted ∷ Leave (call_in 1 1) ∷ Ret (call_in 1 1) None ∷ Enter (call_in 2 1) Normal (record { 0 = 0 }) None ∷ Back (call_in 2 1) (record { 0 = 0 }) ∷ Enter (call_in 2 2) Normal (record { 0 = 0 }) (Some (call_in 2 1)) ∷ Refuse (call_in 2 2) (record { 0 = 0 }) Recursion ∷ Body (call_in 2 2) (record { 0 = 0 }) (Own (record { 0 = 0 })) ∷ Leave (call_in 2 2) ∷ Ret (call_in 2 2) (Some (call_in 2 1)) ∷ BackEnd (call_in 2 1) (record { 0 = 0 }) ∷ Body (call_in 2 1) (record { 0 = 0 }) (Own (record { 0 = 0 })) ∷ Enter (call_in 2 3) Normal (record { 0 = 1 }) (Some (call_in 2 1)) ∷ Back (call_in 2 3) (record { 0 = 0 }) ∷ Enter (call_in 2 4) Normal (record { 0 = 0 }) (Some (call_in 2 3)) ∷ Refuse (call_in 2 4) (record { 0 = 0 }) Recursion ∷ Body (call_in 2 4) (record { 0 = 0 }) (Own (record { 0 = 0 })) ∷ Leave (call_in 2 4) ∷ Ret (call_in 2 4) (Some (call_in 2 3)) ∷ BackEnd (call_in 2 3) (record { 0 = 0 }) ∷ Body (call_in 2 3) (record { 0 = 1 }) (Own (record { 0 = 0 })) ∷ Enter (call_in 2 5) Normal (record { 0 = 1 }) (Some (call_in 2 3)) ∷ Back (call_in 2 5) (record { 0 = 0 }) ∷ Enter (call_in 2 6) Normal (record { 0 = 0 }) (Some (call_in 2 5)) ∷ Refuse (call_in 2 6) (record { 0 = 0 }) Recursion ∷ Body (call_in 2 6) (record { 0 = 0 }) (Own (record { 0 = 0 })) ∷ Leave (call_in 2 6) ∷ Ret (call_in 2 6) (Some (call_in 2 5)) ∷ BackEnd (call_in 2 5) (record { 0 = 0 }) ∷ Body (call_in 2 5) (record { 0 = 1 }) (Own (record { 0 = 0 })) ∷ Enter (call_in 2 7) Normal (record { 0 = 1 }) (Some (call_in 2 5)) ∷ Back (call_in 2 7) (record { 0 = 0 }) ∷ Enter (call_in 2 8) Normal (record { 0 = 0 }) (Some (call_in 2 7)) ∷ Refuse (call_in 2 8) (record { 0 = 0 }) Recursion ∷ Body (call_in 2 8) (record { 0 = 0 }) (Own (record { 0 = 0 })) ∷ Leave (call_in 2 8) ∷ Ret (call_in 2 8) (Some (call_in 2 7)) ∷ BackEnd (call_in 2 7) (record { 0 = 0 }) ∷ Body (call_in 2 7) (record { 0 = 1 }) (Own (record { 0 = 0 })) ∷ Leave (call_in 2 7) ∷ Exit (call_in 2 7) (record { 0 = 0 }) 40 ∷ ExitEnd (call_in 2 7) (record { 0 = 0 }) ∷ Ret (call_in 2 7) (Some (call_in 2 5)) ∷ Leave (call_in 2 5) ∷ Exit (call_in 2 5) (record { 0 = 0 }) 31 ∷ ExitEnd (call_in 2 5) (record { 0 = 0 }) ∷ Ret (call_in 2 5) (Some (call_in 2 3)) ∷ Leave (call_in 2 3) ∷ Exit (call_in 2 3) (record { 0 = 0 }) 22 ∷ ExitEnd (call_in 2 3) (record { 0 = 0 }) ∷ Ret (call_in 2 3) (Some (call_in 2 1)) ∷ Leave (call_in 2 1) ∷ Exit (call_in 2 1) (record { 0 = 0 }) 13 ∷ ExitEnd (call_in 2 1) (record { 0 = 0 }) ∷ Ret (call_in 2 1) None ∷ []
 
 pub job_73-plays : Plays job_73 job_73-items true
-unfolding actors_of repeated start played play is_over step whole desk
+unfolding actors_of repeated start played play all_end step whole desk
 job_73-plays = (refl, refl)
 
 abbrev pub job_74 : Job
@@ -423,7 +423,7 @@ abbrev pub job_74-items : List Item
 job_74-items = Begin 1 ∷ Return 1 Accepted ∷ Begin 2 ∷ Return 2 Accepted ∷ Begin 3 ∷ Return 3 Already ∷ Enter (call_in 1 1) Nmi (record { 0 = 0 }) None ∷ Back (call_in 1 1) (record { 0 = 1 }) ∷ BackEnd (call_in 1 1) (record { 0 = 1 }) ∷ Body (call_in 1 1) (record { 0 = 0 }) (Own (record { 0 = 1 })) ∷ Leave (call_in 1 1) ∷ Exit (call_in 1 1) (record { 0 = 1 }) 7 ∷ ExitEnd (call_in 1 1) (record { 0 = 1 }) ∷ Ret (call_in 1 1) None ∷ Enter (call_in 0 1) Normal (record { 0 = 0 }) None ∷ Back (call_in 0 1) (record { 0 = 1 }) ∷ BackEnd (call_in 0 1) (record { 0 = 1 }) ∷ Body (call_in 0 1) (record { 0 = 0 }) (Own (record { 0 = 1 })) ∷ Leave (call_in 0 1) ∷ Exit (call_in 0 1) (record { 0 = 1 }) 15 ∷ ExitEnd (call_in 0 1) (record { 0 = 1 }) ∷ Ret (call_in 0 1) None ∷ Enter (call_in 0 2) Nmi (record { 0 = 0 }) None ∷ Back (call_in 0 2) (record { 0 = 1 }) ∷ BackEnd (call_in 0 2) (record { 0 = 1 }) ∷ Body (call_in 0 2) (record { 0 = 0 }) (Own (record { 0 = 1 })) ∷ Enter (call_in 0 3) Nmi (record { 0 = 0 }) (Some (call_in 0 2)) ∷ Refuse (call_in 0 3) (record { 0 = 1 }) Depth ∷ Body (call_in 0 3) (record { 0 = 0 }) (Own (record { 0 = 1 })) ∷ Leave (call_in 0 3) ∷ Ret (call_in 0 3) (Some (call_in 0 2)) ∷ Leave (call_in 0 2) ∷ Exit (call_in 0 2) (record { 0 = 1 }) 23 ∷ ExitEnd (call_in 0 2) (record { 0 = 1 }) ∷ Ret (call_in 0 2) None ∷ []
 
 pub job_74-plays : Plays job_74 job_74-items true
-unfolding actors_of repeated start played play is_over step whole desk
+unfolding actors_of repeated start played play all_end step whole desk
 job_74-plays = (refl, refl)
 
 abbrev pub job_75 : Job
@@ -433,7 +433,7 @@ abbrev pub job_75-items : List Item
 job_75-items = Enter (call_in 1 1) Normal (record { 0 = 1 }) None ∷ Body (call_in 1 1) (record { 0 = 1 }) Nop ∷ Begin 1 ∷ Return 1 Accepted ∷ Enter (call_in 0 1) Normal (record { 0 = 2 }) None ∷ Body (call_in 0 1) (record { 0 = 2 }) Nop ∷ Begin 2 ∷ Return 2 Accepted ∷ Enter (call_in 1 2) Nmi (record { 0 = 2 }) (Some (call_in 1 1)) ∷ Back (call_in 1 2) (record { 0 = 1 }) ∷ Enter (call_in 1 3) Nmi (record { 0 = 1 }) (Some (call_in 1 2)) ∷ Refuse (call_in 1 3) (record { 0 = 1 }) Recursion ∷ Body (call_in 1 3) (record { 0 = 1 }) ByList ∷ Leave (call_in 1 3) ∷ Ret (call_in 1 3) (Some (call_in 1 2)) ∷ BackEnd (call_in 1 2) (record { 0 = 1 }) ∷ Body (call_in 1 2) (record { 0 = 2 }) ByList ∷ Enter (call_in 0 2) Normal (record { 0 = 0 }) (Some (call_in 0 1)) ∷ Back (call_in 0 2) (record { 0 = 1 }) ∷ Enter (call_in 0 3) Normal (record { 0 = 1 }) (Some (call_in 0 2)) ∷ Refuse (call_in 0 3) (record { 0 = 1 }) Recursion ∷ Body (call_in 0 3) (record { 0 = 1 }) ByList ∷ Leave (call_in 0 3) ∷ Ret (call_in 0 3) (Some (call_in 0 2)) ∷ BackEnd (call_in 0 2) (record { 0 = 1 }) ∷ Body (call_in 0 2) (record { 0 = 0 }) ByList ∷ Leave (call_in 1 2) ∷ Exit (call_in 1 2) (record { 0 = 1 }) 9 ∷ ExitEnd (call_in 1 2) (record { 0 = 1 }) ∷ Ret (call_in 1 2) (Some (call_in 1 1)) ∷ Leave (call_in 0 2) ∷ Exit (call_in 0 2) (record { 0 = 1 }) 18 ∷ ExitEnd (call_in 0 2) (record { 0 = 1 }) ∷ Ret (call_in 0 2) (Some (call_in 0 1)) ∷ Enter (call_in 1 4) Nmi (record { 0 = 2 }) (Some (call_in 1 1)) ∷ Back (call_in 1 4) (record { 0 = 1 }) ∷ Enter (call_in 1 5) Nmi (record { 0 = 1 }) (Some (call_in 1 4)) ∷ Refuse (call_in 1 5) (record { 0 = 1 }) Recursion ∷ Body (call_in 1 5) (record { 0 = 1 }) ByList ∷ Leave (call_in 1 5) ∷ Ret (call_in 1 5) (Some (call_in 1 4)) ∷ BackEnd (call_in 1 4) (record { 0 = 1 }) ∷ Body (call_in 1 4) (record { 0 = 2 }) ByList ∷ Leave (call_in 0 1) ∷ Ret (call_in 0 1) None ∷ Enter (call_in 1 6) Nmi (record { 0 = 3 }) (Some (call_in 1 4)) ∷ Back (call_in 1 6) (record { 0 = 1 }) ∷ Enter (call_in 1 7) Nmi (record { 0 = 1 }) (Some (call_in 1 6)) ∷ Refuse (call_in 1 7) (record { 0 = 1 }) Recursion ∷ Body (call_in 1 7) (record { 0 = 1 }) ByList ∷ Leave (call_in 1 7) ∷ Ret (call_in 1 7) (Some (call_in 1 6)) ∷ BackEnd (call_in 1 6) (record { 0 = 1 }) ∷ Body (call_in 1 6) (record { 0 = 3 }) ByList ∷ Enter (call_in 0 4) Normal (record { 0 = 1 }) None ∷ Back (call_in 0 4) (record { 0 = 1 }) ∷ Enter (call_in 0 5) Normal (record { 0 = 1 }) (Some (call_in 0 4)) ∷ Refuse (call_in 0 5) (record { 0 = 1 }) Recursion ∷ Body (call_in 0 5) (record { 0 = 1 }) ByList ∷ Leave (call_in 0 5) ∷ Ret (call_in 0 5) (Some (call_in 0 4)) ∷ BackEnd (call_in 0 4) (record { 0 = 1 }) ∷ Body (call_in 0 4) (record { 0 = 1 }) ByList ∷ Leave (call_in 1 6) ∷ Exit (call_in 1 6) (record { 0 = 1 }) 46 ∷ ExitEnd (call_in 1 6) (record { 0 = 1 }) ∷ Ret (call_in 1 6) (Some (call_in 1 4)) ∷ Leave (call_in 1 4) ∷ Exit (call_in 1 4) (record { 0 = 1 }) 35 ∷ ExitEnd (call_in 1 4) (record { 0 = 1 }) ∷ Ret (call_in 1 4) (Some (call_in 1 1)) ∷ Leave (call_in 0 4) ∷ Exit (call_in 0 4) (record { 0 = 1 }) 55 ∷ ExitEnd (call_in 0 4) (record { 0 = 1 }) ∷ Ret (call_in 0 4) None ∷ Leave (call_in 1 1) ∷ Ret (call_in 1 1) None ∷ []
 
 pub job_75-plays : Plays job_75 job_75-items true
-unfolding actors_of repeated start played play is_over step whole desk
+unfolding actors_of repeated start played play all_end step whole desk
 job_75-plays = (refl, refl)
 
 abbrev pub job_76 : Job
@@ -443,7 +443,7 @@ abbrev pub job_76-items : List Item
 job_76-items = Begin 1 ∷ Return 1 Accepted ∷ Begin 2 ∷ Return 2 NotThere ∷ Enter (call_in 0 1) Normal (record { 0 = 1 }) None ∷ Body (call_in 0 1) (record { 0 = 1 }) Nop ∷ Enter (call_in 0 2) Normal (record { 0 = 0 }) (Some (call_in 0 1)) ∷ Body (call_in 0 2) (record { 0 = 0 }) Nop ∷ Leave (call_in 0 2) ∷ Ret (call_in 0 2) (Some (call_in 0 1)) ∷ Leave (call_in 0 1) ∷ Ret (call_in 0 1) None ∷ []
 
 pub job_76-plays : Plays job_76 job_76-items true
-unfolding actors_of repeated start played play is_over step whole desk
+unfolding actors_of repeated start played play all_end step whole desk
 job_76-plays = (refl, refl)
 
 abbrev pub job_80 : Job
@@ -453,7 +453,7 @@ abbrev pub job_80-items : List Item
 job_80-items = Begin 1 ∷ Return 1 NotThere ∷ Begin 2 ∷ Return 2 NotThere ∷ Enter (call_in 1 1) Normal (record { 0 = 2 }) None ∷ Body (call_in 1 1) (record { 0 = 2 }) Nop ∷ Enter (call_in 1 2) Normal (record { 0 = 0 }) (Some (call_in 1 1)) ∷ Body (call_in 1 2) (record { 0 = 0 }) Nop ∷ Begin 3 ∷ Return 3 Invalid ∷ Begin 4 ∷ Return 4 NotThere ∷ Enter (call_in 1 3) Normal (record { 0 = 0 }) (Some (call_in 1 2)) ∷ Body (call_in 1 3) (record { 0 = 0 }) Nop ∷ Leave (call_in 1 3) ∷ Ret (call_in 1 3) (Some (call_in 1 2)) ∷ Leave (call_in 1 2) ∷ Ret (call_in 1 2) (Some (call_in 1 1)) ∷ Leave (call_in 1 1) ∷ Ret (call_in 1 1) None ∷ Enter (call_in 0 1) Nmi (record { 0 = 1 }) None ∷ Body (call_in 0 1) (record { 0 = 1 }) Nop ∷ Enter (call_in 0 2) Nmi (record { 0 = 2 }) (Some (call_in 0 1)) ∷ Body (call_in 0 2) (record { 0 = 2 }) Nop ∷ Enter (call_in 0 3) Nmi (record { 0 = 0 }) (Some (call_in 0 2)) ∷ Body (call_in 0 3) (record { 0 = 0 }) Nop ∷ Enter (call_in 0 4) Nmi (record { 0 = 0 }) (Some (call_in 0 3)) ∷ Body (call_in 0 4) (record { 0 = 0 }) Nop ∷ Leave (call_in 0 4) ∷ Ret (call_in 0 4) (Some (call_in 0 3)) ∷ Leave (call_in 0 3) ∷ Ret (call_in 0 3) (Some (call_in 0 2)) ∷ Leave (call_in 0 2) ∷ Ret (call_in 0 2) (Some (call_in 0 1)) ∷ Leave (call_in 0 1) ∷ Ret (call_in 0 1) None ∷ []
 
 pub job_80-plays : Plays job_80 job_80-items true
-unfolding actors_of repeated start played play is_over step whole desk
+unfolding actors_of repeated start played play all_end step whole desk
 job_80-plays = (refl, refl)
 
 abbrev pub job_81 : Job
@@ -463,7 +463,7 @@ abbrev pub job_81-items : List Item
 job_81-items = Begin 1 ∷ Return 1 NotThere ∷ Begin 2 ∷ Return 2 NotThere ∷ Enter (call_in 1 1) Normal (record { 0 = 1 }) None ∷ Body (call_in 1 1) (record { 0 = 1 }) Nop ∷ Enter (call_in 1 2) Normal (record { 0 = 3 }) (Some (call_in 1 1)) ∷ Body (call_in 1 2) (record { 0 = 3 }) Nop ∷ Leave (call_in 1 2) ∷ Ret (call_in 1 2) (Some (call_in 1 1)) ∷ Enter (call_in 0 1) Softirq (record { 0 = 1 }) None ∷ Body (call_in 0 1) (record { 0 = 1 }) Nop ∷ Leave (call_in 0 1) ∷ Ret (call_in 0 1) None ∷ Leave (call_in 1 1) ∷ Ret (call_in 1 1) None ∷ []
 
 pub job_81-plays : Plays job_81 job_81-items true
-unfolding actors_of repeated start played play is_over step whole desk
+unfolding actors_of repeated start played play all_end step whole desk
 job_81-plays = (refl, refl)
 
 abbrev pub job_82 : Job
@@ -473,7 +473,7 @@ abbrev pub job_82-items : List Item
 job_82-items = Begin 1 ∷ Return 1 Accepted ∷ Begin 2 ∷ Return 2 Already ∷ Begin 3 ∷ Return 3 Accepted ∷ Enter (call_in 0 1) Normal (record { 0 = 1 }) None ∷ Body (call_in 0 1) (record { 0 = 1 }) Nop ∷ Begin 4 ∷ Return 4 Invalid ∷ Enter (call_in 0 2) Normal (record { 0 = 0 }) (Some (call_in 0 1)) ∷ Back (call_in 0 2) (record { 0 = 0 }) ∷ Enter (call_in 0 3) Normal (record { 0 = 0 }) (Some (call_in 0 2)) ∷ Refuse (call_in 0 3) (record { 0 = 0 }) Recursion ∷ Body (call_in 0 3) (record { 0 = 0 }) ByList ∷ Leave (call_in 0 3) ∷ Ret (call_in 0 3) (Some (call_in 0 2)) ∷ BackEnd (call_in 0 2) (record { 0 = 0 }) ∷ Body (call_in 0 2) (record { 0 = 0 }) ByList ∷ Enter (call_in 0 4) Normal (record { 0 = 0 }) (Some (call_in 0 2)) ∷ Back (call_in 0 4) (record { 0 = 0 }) ∷ Enter (call_in 0 5) Normal (record { 0 = 0 }) (Some (call_in 0 4)) ∷ Refuse (call_in 0 5) (record { 0 = 0 }) Recursion ∷ Body (call_in 0 5) (record { 0 = 0 }) ByList ∷ Leave (call_in 0 5) ∷ Ret (call_in 0 5) (Some (call_in 0 4)) ∷ BackEnd (call_in 0 4) (record { 0 = 0 }) ∷ Body (call_in 0 4) (record { 0 = 0 }) ByList ∷ Enter (call_in 1 1) Normal (record { 0 = 0 }) None ∷ Back (call_in 1 1) (record { 0 = 0 }) ∷ Enter (call_in 1 2) Normal (record { 0 = 0 }) (Some (call_in 1 1)) ∷ Refuse (call_in 1 2) (record { 0 = 0 }) Recursion ∷ Body (call_in 1 2) (record { 0 = 0 }) ByList ∷ Leave (call_in 1 2) ∷ Ret (call_in 1 2) (Some (call_in 1 1)) ∷ BackEnd (call_in 1 1) (record { 0 = 0 }) ∷ Body (call_in 1 1) (record { 0 = 0 }) ByList ∷ Leave (call_in 1 1) ∷ Ret (call_in 1 1) None ∷ Enter (call_in 2 1) Normal (record { 0 = 1 }) None ∷ Body (call_in 2 1) (record { 0 = 1 }) Nop ∷ Enter (call_in 2 2) Normal (record { 0 = 0 }) (Some (call_in 2 1)) ∷ Back (call_in 2 2) (record { 0 = 0 }) ∷ Enter (call_in 2 3) Normal (record { 0 = 0 }) (Some (call_in 2 2)) ∷ Refuse (call_in 2 3) (record { 0 = 0 }) Recursion ∷ Body (call_in 2 3) (record { 0 = 0 }) ByList ∷ Leave (call_in 2 3) ∷ Ret (call_in 2 3) (Some (call_in 2 2)) ∷ BackEnd (call_in 2 2) (record { 0 = 0 }) ∷ Body (call_in 2 2) (record { 0 = 0 }) ByList ∷ Enter (call_in 0 6) Normal (record { 0 = 0 }) (Some (call_in 0 4)) ∷ Back (call_in 0 6) (record { 0 = 0 }) ∷ Enter (call_in 0 7) Normal (record { 0 = 0 }) (Some (call_in 0 6)) ∷ Refuse (call_in 0 7) (record { 0 = 0 }) Recursion ∷ Body (call_in 0 7) (record { 0 = 0 }) ByList ∷ Leave (call_in 0 7) ∷ Ret (call_in 0 7) (Some (call_in 0 6)) ∷ BackEnd (call_in 0 6) (record { 0 = 0 }) ∷ Body (call_in 0 6) (record { 0 = 0 }) ByList ∷ Leave (call_in 0 6) ∷ Ret (call_in 0 6) (Some (call_in 0 4)) ∷ Leave (call_in 0 4) ∷ Ret (call_in 0 4) (Some (call_in 0 2)) ∷ Leave (call_in 0 2) ∷ Ret (call_in 0 2) (Some (call_in 0 1)) ∷ Enter (call_in 1 3) Normal (record { 0 = 0 }) None ∷ Back (call_in 1 3) (record { 0 = 0 }) ∷ Enter (call_in 1 4) Normal (record { 0 = 0 }) (Some (call_in 1 3)) ∷ Refuse (call_in 1 4) (record { 0 = 0 }) Recursion ∷ Body (call_in 1 4) (record { 0 = 0 }) ByList ∷ Leave (call_in 1 4) ∷ Ret (call_in 1 4) (Some (call_in 1 3)) ∷ BackEnd (call_in 1 3) (record { 0 = 0 }) ∷ Body (call_in 1 3) (record { 0 = 0 }) ByList ∷ Enter (call_in 1 5) Normal (record { 0 = 1 }) (Some (call_in 1 3)) ∷ Body (call_in 1 5) (record { 0 = 1 }) Nop ∷ Leave (call_in 2 2) ∷ Ret (call_in 2 2) (Some (call_in 2 1)) ∷ Leave (call_in 2 1) ∷ Ret (call_in 2 1) None ∷ Leave (call_in 0 1) ∷ Ret (call_in 0 1) None ∷ Leave (call_in 1 5) ∷ Ret (call_in 1 5) (Some (call_in 1 3)) ∷ Leave (call_in 1 3) ∷ Ret (call_in 1 3) None ∷ []
 
 pub job_82-plays : Plays job_82 job_82-items true
-unfolding actors_of repeated start played play is_over step whole desk
+unfolding actors_of repeated start played play all_end step whole desk
 job_82-plays = (refl, refl)
 
 abbrev pub job_83 : Job
@@ -483,7 +483,7 @@ abbrev pub job_83-items : List Item
 job_83-items = Begin 1 ∷ Return 1 NotThere ∷ Begin 2 ∷ Return 2 Accepted ∷ Enter (call_in 1 1) Nmi (record { 0 = 3 }) None ∷ Body (call_in 1 1) (record { 0 = 3 }) Nop ∷ Enter (call_in 1 2) Nmi (record { 0 = 1 }) (Some (call_in 1 1)) ∷ Body (call_in 1 2) (record { 0 = 1 }) Nop ∷ Enter (call_in 1 3) Nmi (record { 0 = 2 }) (Some (call_in 1 2)) ∷ Body (call_in 1 3) (record { 0 = 2 }) Nop ∷ Enter (call_in 0 1) Normal (record { 0 = 1 }) None ∷ Body (call_in 0 1) (record { 0 = 1 }) Nop ∷ Enter (call_in 1 4) Nmi (record { 0 = 0 }) (Some (call_in 1 3)) ∷ Body (call_in 1 4) (record { 0 = 0 }) Nop ∷ Enter (call_in 1 5) Nmi (record { 0 = 3 }) (Some (call_in 1 4)) ∷ Body (call_in 1 5) (record { 0 = 3 }) Nop ∷ Leave (call_in 0 1) ∷ Ret (call_in 0 1) None ∷ Leave (call_in 1 5) ∷ Ret (call_in 1 5) (Some (call_in 1 4)) ∷ Enter (call_in 1 6) Nmi (record { 0 = 2 }) (Some (call_in 1 4)) ∷ Body (call_in 1 6) (record { 0 = 2 }) Nop ∷ Enter (call_in 0 2) Nmi (record { 0 = 2 }) None ∷ Body (call_in 0 2) (record { 0 = 2 }) Nop ∷ Leave (call_in 1 6) ∷ Ret (call_in 1 6) (Some (call_in 1 4)) ∷ Leave (call_in 0 2) ∷ Ret (call_in 0 2) None ∷ Leave (call_in 1 4) ∷ Ret (call_in 1 4) (Some (call_in 1 3)) ∷ Leave (call_in 1 3) ∷ Ret (call_in 1 3) (Some (call_in 1 2)) ∷ Leave (call_in 1 2) ∷ Ret (call_in 1 2) (Some (call_in 1 1)) ∷ Leave (call_in 1 1) ∷ Ret (call_in 1 1) None ∷ []
 
 pub job_83-plays : Plays job_83 job_83-items true
-unfolding actors_of repeated start played play is_over step whole desk
+unfolding actors_of repeated start played play all_end step whole desk
 job_83-plays = (refl, refl)
 
 abbrev pub job_85 : Job
@@ -493,7 +493,7 @@ abbrev pub job_85-items : List Item
 job_85-items = Enter (call_in 0 1) Normal (record { 0 = 0 }) None ∷ Body (call_in 0 1) (record { 0 = 0 }) Nop ∷ Begin 1 ∷ Return 1 Accepted ∷ Enter (call_in 0 2) Normal (record { 0 = 0 }) (Some (call_in 0 1)) ∷ Back (call_in 0 2) (record { 0 = 1 }) ∷ BackEnd (call_in 0 2) (record { 0 = 1 }) ∷ Body (call_in 0 2) (record { 0 = 0 }) ByList ∷ Enter (call_in 1 1) Normal (record { 0 = 1 }) None ∷ Back (call_in 1 1) (record { 0 = 1 }) ∷ BackEnd (call_in 1 1) (record { 0 = 1 }) ∷ Body (call_in 1 1) (record { 0 = 1 }) ByList ∷ Enter (call_in 0 3) Normal (record { 0 = 0 }) (Some (call_in 0 2)) ∷ Back (call_in 0 3) (record { 0 = 1 }) ∷ BackEnd (call_in 0 3) (record { 0 = 1 }) ∷ Body (call_in 0 3) (record { 0 = 0 }) ByList ∷ Leave (call_in 0 3) ∷ Ret (call_in 0 3) (Some (call_in 0 2)) ∷ Enter (call_in 1 2) Normal (record { 0 = 0 }) (Some (call_in 1 1)) ∷ Back (call_in 1 2) (record { 0 = 1 }) ∷ BackEnd (call_in 1 2) (record { 0 = 1 }) ∷ Body (call_in 1 2) (record { 0 = 0 }) ByList ∷ Leave (call_in 0 2) ∷ Ret (call_in 0 2) (Some (call_in 0 1)) ∷ Leave (call_in 0 1) ∷ Ret (call_in 0 1) None ∷ Begin 2 ∷ Return 2 Accepted ∷ Enter (call_in 1 3) Irq (record { 0 = 0 }) (Some (call_in 1 2)) ∷ Back (call_in 1 3) (record { 0 = 2 }) ∷ BackEnd (call_in 1 3) (record { 0 = 2 }) ∷ Back (call_in 1 3) (record { 0 = 1 }) ∷ BackEnd (call_in 1 3) (record { 0 = 1 }) ∷ Body (call_in 1 3) (record { 0 = 0 }) ByList ∷ Leave (call_in 1 3) ∷ Ret (call_in 1 3) (Some (call_in 1 2)) ∷ Leave (call_in 1 2) ∷ Ret (call_in 1 2) (Some (call_in 1 1)) ∷ Leave (call_in 1 1) ∷ Ret (call_in 1 1) None ∷ []
 
 pub job_85-plays : Plays job_85 job_85-items true
-unfolding actors_of repeated start played play is_over step whole desk
+unfolding actors_of repeated start played play all_end step whole desk
 job_85-plays = (refl, refl)
 
 abbrev pub job_87 : Job
@@ -503,7 +503,7 @@ abbrev pub job_87-items : List Item
 job_87-items = Enter (call_in 2 1) Softirq (record { 0 = 1 }) None ∷ Body (call_in 2 1) (record { 0 = 1 }) Nop ∷ Enter (call_in 2 2) Softirq (record { 0 = 1 }) (Some (call_in 2 1)) ∷ Body (call_in 2 2) (record { 0 = 1 }) Nop ∷ Enter (call_in 2 3) Softirq (record { 0 = 1 }) (Some (call_in 2 2)) ∷ Body (call_in 2 3) (record { 0 = 1 }) Nop ∷ Leave (call_in 2 3) ∷ Ret (call_in 2 3) (Some (call_in 2 2)) ∷ Enter (call_in 1 1) Irq (record { 0 = 1 }) None ∷ Body (call_in 1 1) (record { 0 = 1 }) Nop ∷ Leave (call_in 2 2) ∷ Ret (call_in 2 2) (Some (call_in 2 1)) ∷ Leave (call_in 2 1) ∷ Ret (call_in 2 1) None ∷ Enter (call_in 1 2) Nmi (record { 0 = 1 }) (Some (call_in 1 1)) ∷ Body (call_in 1 2) (record { 0 = 1 }) Nop ∷ Enter (call_in 1 3) Nmi (record { 0 = 0 }) (Some (call_in 1 2)) ∷ Body (call_in 1 3) (record { 0 = 0 }) Nop ∷ Leave (call_in 1 3) ∷ Ret (call_in 1 3) (Some (call_in 1 2)) ∷ Leave (call_in 1 2) ∷ Ret (call_in 1 2) (Some (call_in 1 1)) ∷ Leave (call_in 1 1) ∷ Ret (call_in 1 1) None ∷ Begin 1 ∷ Return 1 Accepted ∷ Begin 2 ∷ Return 2 NotThere ∷ Begin 3 ∷ Return 3 Accepted ∷ Enter (call_in 0 1) Normal (record { 0 = 1 }) None ∷ Back (call_in 0 1) (record { 0 = 2 }) ∷ BackEnd (call_in 0 1) (record { 0 = 2 }) ∷ Body (call_in 0 1) (record { 0 = 1 }) (Own (record { 0 = 2 })) ∷ Enter (call_in 0 2) Normal (record { 0 = 1 }) (Some (call_in 0 1)) ∷ Back (call_in 0 2) (record { 0 = 2 }) ∷ BackEnd (call_in 0 2) (record { 0 = 2 }) ∷ Body (call_in 0 2) (record { 0 = 1 }) (Own (record { 0 = 2 })) ∷ Enter (call_in 0 3) Nmi (record { 0 = 0 }) (Some (call_in 0 2)) ∷ Back (call_in 0 3) (record { 0 = 2 }) ∷ BackEnd (call_in 0 3) (record { 0 = 2 }) ∷ Body (call_in 0 3) (record { 0 = 0 }) (Own (record { 0 = 2 })) ∷ Enter (call_in 0 4) Nmi (record { 0 = 0 }) (Some (call_in 0 3)) ∷ Back (call_in 0 4) (record { 0 = 2 }) ∷ Miss (call_in 0 4) (record { 0 = 2 }) ∷ BackEnd (call_in 0 4) (record { 0 = 2 }) ∷ Body (call_in 0 4) (record { 0 = 0 }) (Own (record { 0 = 2 })) ∷ Leave (call_in 0 4) ∷ Ret (call_in 0 4) (Some (call_in 0 3)) ∷ Leave (call_in 0 3) ∷ Exit (call_in 0 3) (record { 0 = 2 }) 39 ∷ ExitEnd (call_in 0 3) (record { 0 = 2 }) ∷ Ret (call_in 0 3) (Some (call_in 0 2)) ∷ Leave (call_in 0 2) ∷ Exit (call_in 0 2) (record { 0 = 2 }) 35 ∷ ExitEnd (call_in 0 2) (record { 0 = 2 }) ∷ Ret (call_in 0 2) (Some (call_in 0 1)) ∷ Leave (call_in 0 1) ∷ Exit (call_in 0 1) (record { 0 = 2 }) 31 ∷ ExitEnd (call_in 0 1) (record { 0 = 2 }) ∷ Ret (call_in 0 1) None ∷ []
 
 pub job_87-plays : Plays job_87 job_87-items true
-unfolding actors_of repeated start played play is_over step whole desk
+unfolding actors_of repeated start played play all_end step whole desk
 job_87-plays = (refl, refl)
 
 abbrev pub job_91 : Job
@@ -513,5 +513,5 @@ abbrev pub job_91-items : List Item
 job_91-items = Enter (call_in 0 1) Normal (record { 0 = 0 }) None ∷ Body (call_in 0 1) (record { 0 = 0 }) Nop ∷ Begin 1 ∷ Return 1 NotThere ∷ Enter (call_in 0 2) Normal (record { 0 = 0 }) (Some (call_in 0 1)) ∷ Body (call_in 0 2) (record { 0 = 0 }) Nop ∷ Begin 2 ∷ Return 2 Accepted ∷ Enter (call_in 0 3) Normal (record { 0 = 0 }) (Some (call_in 0 2)) ∷ Back (call_in 0 3) (record { 0 = 1 }) ∷ BackEnd (call_in 0 3) (record { 0 = 1 }) ∷ Body (call_in 0 3) (record { 0 = 0 }) (Own (record { 0 = 1 })) ∷ Enter (call_in 1 1) Nmi (record { 0 = 0 }) None ∷ Back (call_in 1 1) (record { 0 = 1 }) ∷ BackEnd (call_in 1 1) (record { 0 = 1 }) ∷ Body (call_in 1 1) (record { 0 = 0 }) (Own (record { 0 = 1 })) ∷ Enter (call_in 2 1) Normal (record { 0 = 0 }) None ∷ Back (call_in 2 1) (record { 0 = 1 }) ∷ BackEnd (call_in 2 1) (record { 0 = 1 }) ∷ Body (call_in 2 1) (record { 0 = 0 }) (Own (record { 0 = 1 })) ∷ Leave (call_in 0 3) ∷ Ret (call_in 0 3) (Some (call_in 0 2)) ∷ Leave (call_in 0 2) ∷ Ret (call_in 0 2) (Some (call_in 0 1)) ∷ Enter (call_in 1 2) Nmi (record { 0 = 0 }) (Some (call_in 1 1)) ∷ Back (call_in 1 2) (record { 0 = 1 }) ∷ BackEnd (call_in 1 2) (record { 0 = 1 }) ∷ Body (call_in 1 2) (record { 0 = 0 }) (Own (record { 0 = 1 })) ∷ Leave (call_in 1 2) ∷ Ret (call_in 1 2) (Some (call_in 1 1)) ∷ Leave (call_in 1 1) ∷ Ret (call_in 1 1) None ∷ Enter (call_in 2 2) Normal (record { 0 = 0 }) (Some (call_in 2 1)) ∷ Back (call_in 2 2) (record { 0 = 1 }) ∷ BackEnd (call_in 2 2) (record { 0 = 1 }) ∷ Body (call_in 2 2) (record { 0 = 0 }) (Own (record { 0 = 1 })) ∷ Enter (call_in 2 3) Normal (record { 0 = 0 }) (Some (call_in 2 2)) ∷ Back (call_in 2 3) (record { 0 = 1 }) ∷ BackEnd (call_in 2 3) (record { 0 = 1 }) ∷ Body (call_in 2 3) (record { 0 = 0 }) (Own (record { 0 = 1 })) ∷ Enter (call_in 2 4) Normal (record { 0 = 0 }) (Some (call_in 2 3)) ∷ Back (call_in 2 4) (record { 0 = 1 }) ∷ BackEnd (call_in 2 4) (record { 0 = 1 }) ∷ Body (call_in 2 4) (record { 0 = 0 }) (Own (record { 0 = 1 })) ∷ Leave (call_in 0 1) ∷ Ret (call_in 0 1) None ∷ Enter (call_in 2 5) Normal (record { 0 = 0 }) (Some (call_in 2 4)) ∷ Back (call_in 2 5) (record { 0 = 1 }) ∷ BackEnd (call_in 2 5) (record { 0 = 1 }) ∷ Body (call_in 2 5) (record { 0 = 0 }) (Own (record { 0 = 1 })) ∷ Leave (call_in 2 5) ∷ Ret (call_in 2 5) (Some (call_in 2 4)) ∷ Leave (call_in 2 4) ∷ Ret (call_in 2 4) (Some (call_in 2 3)) ∷ Leave (call_in 2 3) ∷ Ret (call_in 2 3) (Some (call_in 2 2)) ∷ Leave (call_in 2 2) ∷ Ret (call_in 2 2) (Some (call_in 2 1)) ∷ Leave (call_in 2 1) ∷ Ret (call_in 2 1) None ∷ []
 
 pub job_91-plays : Plays job_91 job_91-items true
-unfolding actors_of repeated start played play is_over step whole desk
+unfolding actors_of repeated start played play all_end step whole desk
 job_91-plays = (refl, refl)

@@ -6,14 +6,14 @@ use Rattle.ft_base.specs.declared.item.Reason.TheVariants.{Depth, Recursion, Pid
 use Rattle.ft_base.specs.declared.item.Answer.TheVariants.{Accepted, Already, NotThere, Invalid}
 use Rattle.ft_base.specs.declared.item.Item.{Item}
 use Rattle.ft_base.specs.declared.item.Item.TheVariants.{Begin, Return, Enter, Back, BackEnd, Refuse, Miss, Body, Leave, Exit, ExitEnd, Ret}
-use Rattle.ft_base.specs.declared.plan.Kind.TheVariants.{Graph, Function, Fprobe, Profile}
-use Rattle.ft_base.specs.declared.plan.Act.TheVariants.{CallIn, IrqIn}
-use Rattle.ft_base.specs.declared.plan.TaskAct.TheVariants.{Call, Ret as RetAct, After, Raise, Lower}
+use Rattle.ft_base.specs.declared.user.Kind.TheVariants.{Graph, Function, Fprobe, Profile}
+use Rattle.ft_base.specs.declared.user.Act.TheVariants.{CallIn, IrqIn}
+use Rattle.ft_base.specs.declared.task.TaskAct.TheVariants.{Call, Ret as RetAct, After, Raise, Lower}
 use Rattle.ft_base.specs.declared.turn.Who.TheVariants.{Control as OfControl, Cpu as OfCpu, All}
 use Rattle.ft_base.specs.Job.{Job, Register, Unregister, Filter, Notrace, Enable, Disable, Pid, NoPid, MaxDepth, Run, Until}
 use Rattle.ft_base.specs.Desk.{desk}
 use Rattle.ft_base.specs.Schedule.{actors_of, repeated}
-use Rattle.plain_machine.specs.State.{start, played, play, is_over, step, whole}
+use Rattle.plain_machine.specs.State.{start, played, play, all_end, step, whole}
 use Rattle.plain_machine.proofs.Plays.{Plays, named, call_in}
 
 abbrev pub job_2002 : Job
@@ -23,7 +23,7 @@ abbrev pub job_2002-items : List Item
 job_2002-items = Begin 1 ∷ Return 1 Accepted ∷ Begin 2 ∷ Return 2 Accepted ∷ Begin 3 ∷ Return 3 Accepted ∷ Enter (call_in 1 1) Normal (record { 0 = 0 }) None ∷ Body (call_in 1 1) (record { 0 = 0 }) Nop ∷ Enter (call_in 0 1) Normal (record { 0 = 0 }) None ∷ Body (call_in 0 1) (record { 0 = 0 }) Nop ∷ Begin 4 ∷ Return 4 Accepted ∷ Leave (call_in 1 1) ∷ Ret (call_in 1 1) None ∷ Enter (call_in 0 2) Normal (record { 0 = 0 }) (Some (call_in 0 1)) ∷ Body (call_in 0 2) (record { 0 = 0 }) Nop ∷ Enter (call_in 1 2) Irq (record { 0 = 0 }) None ∷ Body (call_in 1 2) (record { 0 = 0 }) Nop ∷ Leave (call_in 0 2) ∷ Ret (call_in 0 2) (Some (call_in 0 1)) ∷ Enter (call_in 1 3) Irq (record { 0 = 0 }) (Some (call_in 1 2)) ∷ Body (call_in 1 3) (record { 0 = 0 }) Nop ∷ Leave (call_in 0 1) ∷ Ret (call_in 0 1) None ∷ Enter (call_in 1 4) Irq (record { 0 = 0 }) (Some (call_in 1 3)) ∷ Body (call_in 1 4) (record { 0 = 0 }) Nop ∷ Leave (call_in 1 4) ∷ Ret (call_in 1 4) (Some (call_in 1 3)) ∷ Leave (call_in 1 3) ∷ Ret (call_in 1 3) (Some (call_in 1 2)) ∷ Leave (call_in 1 2) ∷ Ret (call_in 1 2) None ∷ []
 
 pub job_2002-plays : Plays job_2002 job_2002-items true
-unfolding actors_of repeated start played play is_over step whole desk
+unfolding actors_of repeated start played play all_end step whole desk
 job_2002-plays = (refl, refl)
 
 abbrev pub job_2003 : Job
@@ -33,7 +33,7 @@ abbrev pub job_2003-items : List Item
 job_2003-items = Begin 1 ∷ Return 1 Accepted ∷ Begin 2 ∷ Return 2 Accepted ∷ Enter (call_in 1 1) Softirq (record { 0 = 0 }) None ∷ Back (call_in 1 1) (record { 0 = 1 }) ∷ Enter (call_in 1 2) Irq (record { 0 = 0 }) (Some (call_in 1 1)) ∷ Back (call_in 1 2) (record { 0 = 1 }) ∷ BackEnd (call_in 1 2) (record { 0 = 1 }) ∷ Body (call_in 1 2) (record { 0 = 0 }) (Own (record { 0 = 1 })) ∷ Leave (call_in 1 2) ∷ Exit (call_in 1 2) (record { 0 = 1 }) 7 ∷ ExitEnd (call_in 1 2) (record { 0 = 1 }) ∷ Ret (call_in 1 2) (Some (call_in 1 1)) ∷ BackEnd (call_in 1 1) (record { 0 = 1 }) ∷ Body (call_in 1 1) (record { 0 = 0 }) (Own (record { 0 = 1 })) ∷ Enter (call_in 0 1) Nmi (record { 0 = 0 }) None ∷ Back (call_in 0 1) (record { 0 = 1 }) ∷ BackEnd (call_in 0 1) (record { 0 = 1 }) ∷ Body (call_in 0 1) (record { 0 = 0 }) (Own (record { 0 = 1 })) ∷ Enter (call_in 0 2) Nmi (record { 0 = 0 }) (Some (call_in 0 1)) ∷ Back (call_in 0 2) (record { 0 = 1 }) ∷ BackEnd (call_in 0 2) (record { 0 = 1 }) ∷ Body (call_in 0 2) (record { 0 = 0 }) (Own (record { 0 = 1 })) ∷ Enter (call_in 1 3) Softirq (record { 0 = 0 }) (Some (call_in 1 1)) ∷ Back (call_in 1 3) (record { 0 = 1 }) ∷ Enter (call_in 1 4) Irq (record { 0 = 0 }) (Some (call_in 1 3)) ∷ Refuse (call_in 1 4) (record { 0 = 1 }) Depth ∷ Body (call_in 1 4) (record { 0 = 0 }) (Own (record { 0 = 1 })) ∷ Leave (call_in 1 4) ∷ Ret (call_in 1 4) (Some (call_in 1 3)) ∷ BackEnd (call_in 1 3) (record { 0 = 1 }) ∷ Body (call_in 1 3) (record { 0 = 0 }) (Own (record { 0 = 1 })) ∷ Enter (call_in 1 5) Softirq (record { 0 = 0 }) (Some (call_in 1 3)) ∷ Refuse (call_in 1 5) (record { 0 = 1 }) Depth ∷ Body (call_in 1 5) (record { 0 = 0 }) (Own (record { 0 = 1 })) ∷ Leave (call_in 0 2) ∷ Exit (call_in 0 2) (record { 0 = 1 }) 21 ∷ ExitEnd (call_in 0 2) (record { 0 = 1 }) ∷ Ret (call_in 0 2) (Some (call_in 0 1)) ∷ Leave (call_in 0 1) ∷ Exit (call_in 0 1) (record { 0 = 1 }) 17 ∷ ExitEnd (call_in 0 1) (record { 0 = 1 }) ∷ Ret (call_in 0 1) None ∷ Enter (call_in 1 6) Softirq (record { 0 = 0 }) (Some (call_in 1 5)) ∷ Refuse (call_in 1 6) (record { 0 = 1 }) Depth ∷ Body (call_in 1 6) (record { 0 = 0 }) (Own (record { 0 = 1 })) ∷ Enter (call_in 1 7) Softirq (record { 0 = 0 }) (Some (call_in 1 6)) ∷ Refuse (call_in 1 7) (record { 0 = 1 }) Depth ∷ Body (call_in 1 7) (record { 0 = 0 }) (Own (record { 0 = 1 })) ∷ Leave (call_in 1 7) ∷ Ret (call_in 1 7) (Some (call_in 1 6)) ∷ Leave (call_in 1 6) ∷ Ret (call_in 1 6) (Some (call_in 1 5)) ∷ Leave (call_in 1 5) ∷ Ret (call_in 1 5) (Some (call_in 1 3)) ∷ Leave (call_in 1 3) ∷ Exit (call_in 1 3) (record { 0 = 1 }) 25 ∷ ExitEnd (call_in 1 3) (record { 0 = 1 }) ∷ Ret (call_in 1 3) (Some (call_in 1 1)) ∷ Leave (call_in 1 1) ∷ Exit (call_in 1 1) (record { 0 = 1 }) 5 ∷ ExitEnd (call_in 1 1) (record { 0 = 1 }) ∷ Ret (call_in 1 1) None ∷ []
 
 pub job_2003-plays : Plays job_2003 job_2003-items true
-unfolding actors_of repeated start played play is_over step whole desk
+unfolding actors_of repeated start played play all_end step whole desk
 job_2003-plays = (refl, refl)
 
 abbrev pub job_2005 : Job
@@ -43,7 +43,7 @@ abbrev pub job_2005-items : List Item
 job_2005-items = Enter (call_in 1 1) Normal (record { 0 = 2 }) None ∷ Body (call_in 1 1) (record { 0 = 2 }) Nop ∷ Begin 1 ∷ Return 1 Invalid ∷ Enter (call_in 1 2) Normal (record { 0 = 3 }) (Some (call_in 1 1)) ∷ Body (call_in 1 2) (record { 0 = 3 }) Nop ∷ Enter (call_in 0 1) Normal (record { 0 = 1 }) None ∷ Body (call_in 0 1) (record { 0 = 1 }) Nop ∷ Leave (call_in 0 1) ∷ Ret (call_in 0 1) None ∷ Begin 2 ∷ Return 2 Accepted ∷ Enter (call_in 1 3) Normal (record { 0 = 0 }) (Some (call_in 1 2)) ∷ Body (call_in 1 3) (record { 0 = 0 }) Nop ∷ Begin 3 ∷ Return 3 NotThere ∷ Enter (call_in 1 4) Normal (record { 0 = 0 }) (Some (call_in 1 3)) ∷ Body (call_in 1 4) (record { 0 = 0 }) Nop ∷ Leave (call_in 1 4) ∷ Ret (call_in 1 4) (Some (call_in 1 3)) ∷ Leave (call_in 1 3) ∷ Ret (call_in 1 3) (Some (call_in 1 2)) ∷ Leave (call_in 1 2) ∷ Ret (call_in 1 2) (Some (call_in 1 1)) ∷ Leave (call_in 1 1) ∷ Ret (call_in 1 1) None ∷ []
 
 pub job_2005-plays : Plays job_2005 job_2005-items true
-unfolding actors_of repeated start played play is_over step whole desk
+unfolding actors_of repeated start played play all_end step whole desk
 job_2005-plays = (refl, refl)
 
 abbrev pub job_2007 : Job
@@ -53,7 +53,7 @@ abbrev pub job_2007-items : List Item
 job_2007-items = Begin 1 ∷ Return 1 Accepted ∷ Enter (call_in 0 1) Normal (record { 0 = 1 }) None ∷ Body (call_in 0 1) (record { 0 = 1 }) Nop ∷ Enter (call_in 0 2) Normal (record { 0 = 0 }) (Some (call_in 0 1)) ∷ Body (call_in 0 2) (record { 0 = 0 }) Nop ∷ Enter (call_in 0 3) Normal (record { 0 = 0 }) (Some (call_in 0 2)) ∷ Body (call_in 0 3) (record { 0 = 0 }) Nop ∷ Begin 2 ∷ Return 2 NotThere ∷ Leave (call_in 0 3) ∷ Ret (call_in 0 3) (Some (call_in 0 2)) ∷ Leave (call_in 0 2) ∷ Ret (call_in 0 2) (Some (call_in 0 1)) ∷ Leave (call_in 0 1) ∷ Ret (call_in 0 1) None ∷ []
 
 pub job_2007-plays : Plays job_2007 job_2007-items true
-unfolding actors_of repeated start played play is_over step whole desk
+unfolding actors_of repeated start played play all_end step whole desk
 job_2007-plays = (refl, refl)
 
 abbrev pub job_2010 : Job
@@ -63,7 +63,7 @@ abbrev pub job_2010-items : List Item
 job_2010-items = Begin 1 ∷ Return 1 Accepted ∷ Enter (call_in 0 1) Normal (record { 0 = 1 }) None ∷ Back (call_in 0 1) (record { 0 = 0 }) ∷ BackEnd (call_in 0 1) (record { 0 = 0 }) ∷ Body (call_in 0 1) (record { 0 = 1 }) (Own (record { 0 = 0 })) ∷ Enter (call_in 0 2) Normal (record { 0 = 1 }) (Some (call_in 0 1)) ∷ Back (call_in 0 2) (record { 0 = 0 }) ∷ BackEnd (call_in 0 2) (record { 0 = 0 }) ∷ Body (call_in 0 2) (record { 0 = 1 }) (Own (record { 0 = 0 })) ∷ Enter (call_in 0 3) Normal (record { 0 = 1 }) (Some (call_in 0 2)) ∷ Refuse (call_in 0 3) (record { 0 = 0 }) Depth ∷ Body (call_in 0 3) (record { 0 = 1 }) (Own (record { 0 = 0 })) ∷ Enter (call_in 0 4) Normal (record { 0 = 0 }) (Some (call_in 0 3)) ∷ Refuse (call_in 0 4) (record { 0 = 0 }) Depth ∷ Body (call_in 0 4) (record { 0 = 0 }) (Own (record { 0 = 0 })) ∷ Enter (call_in 0 5) Normal (record { 0 = 0 }) (Some (call_in 0 4)) ∷ Refuse (call_in 0 5) (record { 0 = 0 }) Depth ∷ Body (call_in 0 5) (record { 0 = 0 }) (Own (record { 0 = 0 })) ∷ Leave (call_in 0 5) ∷ Ret (call_in 0 5) (Some (call_in 0 4)) ∷ Leave (call_in 0 4) ∷ Ret (call_in 0 4) (Some (call_in 0 3)) ∷ Leave (call_in 0 3) ∷ Ret (call_in 0 3) (Some (call_in 0 2)) ∷ Leave (call_in 0 2) ∷ Exit (call_in 0 2) (record { 0 = 0 }) 7 ∷ ExitEnd (call_in 0 2) (record { 0 = 0 }) ∷ Ret (call_in 0 2) (Some (call_in 0 1)) ∷ Begin 2 ∷ Return 2 Invalid ∷ Leave (call_in 0 1) ∷ Exit (call_in 0 1) (record { 0 = 0 }) 3 ∷ ExitEnd (call_in 0 1) (record { 0 = 0 }) ∷ Ret (call_in 0 1) None ∷ []
 
 pub job_2010-plays : Plays job_2010 job_2010-items true
-unfolding actors_of repeated start played play is_over step whole desk
+unfolding actors_of repeated start played play all_end step whole desk
 job_2010-plays = (refl, refl)
 
 abbrev pub job_2011 : Job
@@ -73,7 +73,7 @@ abbrev pub job_2011-items : List Item
 job_2011-items = Begin 1 ∷ Return 1 Invalid ∷ Begin 2 ∷ Return 2 Invalid ∷ Begin 3 ∷ Return 3 NotThere ∷ Begin 4 ∷ Return 4 NotThere ∷ Begin 5 ∷ Return 5 Accepted ∷ Begin 6 ∷ Return 6 Accepted ∷ Enter (call_in 0 1) Normal (record { 0 = 1 }) None ∷ Body (call_in 0 1) (record { 0 = 1 }) Nop ∷ Enter (call_in 2 1) Nmi (record { 0 = 0 }) None ∷ Body (call_in 2 1) (record { 0 = 0 }) Nop ∷ Enter (call_in 1 1) Softirq (record { 0 = 1 }) None ∷ Body (call_in 1 1) (record { 0 = 1 }) Nop ∷ Enter (call_in 2 2) Nmi (record { 0 = 1 }) (Some (call_in 2 1)) ∷ Body (call_in 2 2) (record { 0 = 1 }) Nop ∷ Leave (call_in 0 1) ∷ Ret (call_in 0 1) None ∷ Leave (call_in 2 2) ∷ Ret (call_in 2 2) (Some (call_in 2 1)) ∷ Leave (call_in 2 1) ∷ Ret (call_in 2 1) None ∷ Leave (call_in 1 1) ∷ Ret (call_in 1 1) None ∷ Enter (call_in 0 2) Normal (record { 0 = 0 }) None ∷ Body (call_in 0 2) (record { 0 = 0 }) Nop ∷ Leave (call_in 0 2) ∷ Ret (call_in 0 2) None ∷ []
 
 pub job_2011-plays : Plays job_2011 job_2011-items true
-unfolding actors_of repeated start played play is_over step whole desk
+unfolding actors_of repeated start played play all_end step whole desk
 job_2011-plays = (refl, refl)
 
 abbrev pub job_2014 : Job
@@ -83,7 +83,7 @@ abbrev pub job_2014-items : List Item
 job_2014-items = Begin 1 ∷ Return 1 Accepted ∷ Begin 2 ∷ Return 2 Accepted ∷ Begin 3 ∷ Return 3 Invalid ∷ Begin 4 ∷ Return 4 Invalid ∷ Begin 5 ∷ Return 5 Accepted ∷ Begin 6 ∷ Return 6 Accepted ∷ Enter (call_in 0 1) Irq (record { 0 = 0 }) None ∷ Back (call_in 0 1) (record { 0 = 1 }) ∷ Enter (call_in 0 2) Irq (record { 0 = 0 }) (Some (call_in 0 1)) ∷ Refuse (call_in 0 2) (record { 0 = 1 }) Recursion ∷ Body (call_in 0 2) (record { 0 = 0 }) (Own (record { 0 = 1 })) ∷ Leave (call_in 0 2) ∷ Ret (call_in 0 2) (Some (call_in 0 1)) ∷ BackEnd (call_in 0 1) (record { 0 = 1 }) ∷ Body (call_in 0 1) (record { 0 = 0 }) (Own (record { 0 = 1 })) ∷ Leave (call_in 0 1) ∷ Ret (call_in 0 1) None ∷ Enter (call_in 0 3) Irq (record { 0 = 0 }) None ∷ Back (call_in 0 3) (record { 0 = 1 }) ∷ Enter (call_in 0 4) Irq (record { 0 = 0 }) (Some (call_in 0 3)) ∷ Refuse (call_in 0 4) (record { 0 = 1 }) Recursion ∷ Body (call_in 0 4) (record { 0 = 0 }) (Own (record { 0 = 1 })) ∷ Leave (call_in 0 4) ∷ Ret (call_in 0 4) (Some (call_in 0 3)) ∷ BackEnd (call_in 0 3) (record { 0 = 1 }) ∷ Body (call_in 0 3) (record { 0 = 0 }) (Own (record { 0 = 1 })) ∷ Enter (call_in 0 5) Irq (record { 0 = 0 }) (Some (call_in 0 3)) ∷ Back (call_in 0 5) (record { 0 = 1 }) ∷ Enter (call_in 0 6) Irq (record { 0 = 0 }) (Some (call_in 0 5)) ∷ Refuse (call_in 0 6) (record { 0 = 1 }) Recursion ∷ Body (call_in 0 6) (record { 0 = 0 }) (Own (record { 0 = 1 })) ∷ Leave (call_in 0 6) ∷ Ret (call_in 0 6) (Some (call_in 0 5)) ∷ BackEnd (call_in 0 5) (record { 0 = 1 }) ∷ Body (call_in 0 5) (record { 0 = 0 }) (Own (record { 0 = 1 })) ∷ Leave (call_in 0 5) ∷ Ret (call_in 0 5) (Some (call_in 0 3)) ∷ Leave (call_in 0 3) ∷ Ret (call_in 0 3) None ∷ []
 
 pub job_2014-plays : Plays job_2014 job_2014-items true
-unfolding actors_of repeated start played play is_over step whole desk
+unfolding actors_of repeated start played play all_end step whole desk
 job_2014-plays = (refl, refl)
 
 abbrev pub job_2015 : Job
@@ -93,7 +93,7 @@ abbrev pub job_2015-items : List Item
 job_2015-items = Enter (call_in 0 1) Normal (record { 0 = 0 }) None ∷ Body (call_in 0 1) (record { 0 = 0 }) Nop ∷ Begin 1 ∷ Return 1 Accepted ∷ Begin 2 ∷ Return 2 Accepted ∷ Begin 3 ∷ Return 3 Accepted ∷ Enter (call_in 0 2) Normal (record { 0 = 0 }) (Some (call_in 0 1)) ∷ Back (call_in 0 2) (record { 0 = 0 }) ∷ BackEnd (call_in 0 2) (record { 0 = 0 }) ∷ Body (call_in 0 2) (record { 0 = 0 }) (Own (record { 0 = 0 })) ∷ Begin 4 ∷ Return 4 Already ∷ Leave (call_in 0 2) ∷ Ret (call_in 0 2) (Some (call_in 0 1)) ∷ Leave (call_in 0 1) ∷ Ret (call_in 0 1) None ∷ []
 
 pub job_2015-plays : Plays job_2015 job_2015-items true
-unfolding actors_of repeated start played play is_over step whole desk
+unfolding actors_of repeated start played play all_end step whole desk
 job_2015-plays = (refl, refl)
 
 abbrev pub job_2016 : Job
@@ -103,7 +103,7 @@ abbrev pub job_2016-items : List Item
 job_2016-items = Begin 1 ∷ Return 1 Accepted ∷ Begin 2 ∷ Return 2 Accepted ∷ Enter (call_in 0 1) Normal (record { 0 = 3 }) None ∷ Body (call_in 0 1) (record { 0 = 3 }) Nop ∷ Begin 3 ∷ Return 3 NotThere ∷ Begin 4 ∷ Return 4 Accepted ∷ Enter (call_in 0 2) Normal (record { 0 = 3 }) (Some (call_in 0 1)) ∷ Body (call_in 0 2) (record { 0 = 3 }) Nop ∷ Leave (call_in 0 2) ∷ Ret (call_in 0 2) (Some (call_in 0 1)) ∷ Leave (call_in 0 1) ∷ Ret (call_in 0 1) None ∷ Begin 5 ∷ Return 5 Accepted ∷ Begin 6 ∷ Return 6 Accepted ∷ []
 
 pub job_2016-plays : Plays job_2016 job_2016-items true
-unfolding actors_of repeated start played play is_over step whole desk
+unfolding actors_of repeated start played play all_end step whole desk
 job_2016-plays = (refl, refl)
 
 abbrev pub job_2017 : Job
@@ -113,7 +113,7 @@ abbrev pub job_2017-items : List Item
 job_2017-items = Enter (call_in 0 1) Nmi (record { 0 = 1 }) None ∷ Body (call_in 0 1) (record { 0 = 1 }) Nop ∷ Enter (call_in 0 2) Nmi (record { 0 = 1 }) (Some (call_in 0 1)) ∷ Body (call_in 0 2) (record { 0 = 1 }) Nop ∷ Begin 1 ∷ Return 1 Accepted ∷ Leave (call_in 0 2) ∷ Ret (call_in 0 2) (Some (call_in 0 1)) ∷ Begin 2 ∷ Return 2 Accepted ∷ Begin 3 ∷ Return 3 Accepted ∷ Enter (call_in 0 3) Nmi (record { 0 = 1 }) (Some (call_in 0 1)) ∷ Back (call_in 0 3) (record { 0 = 1 }) ∷ Enter (call_in 0 4) Nmi (record { 0 = 1 }) (Some (call_in 0 3)) ∷ Refuse (call_in 0 4) (record { 0 = 1 }) Recursion ∷ Refuse (call_in 0 4) (record { 0 = 0 }) Recursion ∷ Body (call_in 0 4) (record { 0 = 1 }) ByList ∷ Leave (call_in 0 4) ∷ Ret (call_in 0 4) (Some (call_in 0 3)) ∷ BackEnd (call_in 0 3) (record { 0 = 1 }) ∷ Back (call_in 0 3) (record { 0 = 0 }) ∷ BackEnd (call_in 0 3) (record { 0 = 0 }) ∷ Body (call_in 0 3) (record { 0 = 1 }) ByList ∷ Enter (call_in 0 5) Nmi (record { 0 = 0 }) (Some (call_in 0 3)) ∷ Back (call_in 0 5) (record { 0 = 1 }) ∷ Enter (call_in 0 6) Nmi (record { 0 = 1 }) (Some (call_in 0 5)) ∷ Refuse (call_in 0 6) (record { 0 = 1 }) Recursion ∷ Refuse (call_in 0 6) (record { 0 = 0 }) Recursion ∷ Body (call_in 0 6) (record { 0 = 1 }) ByList ∷ Leave (call_in 0 6) ∷ Ret (call_in 0 6) (Some (call_in 0 5)) ∷ BackEnd (call_in 0 5) (record { 0 = 1 }) ∷ Back (call_in 0 5) (record { 0 = 0 }) ∷ BackEnd (call_in 0 5) (record { 0 = 0 }) ∷ Body (call_in 0 5) (record { 0 = 0 }) ByList ∷ Leave (call_in 0 5) ∷ Exit (call_in 0 5) (record { 0 = 1 }) 25 ∷ ExitEnd (call_in 0 5) (record { 0 = 1 }) ∷ Exit (call_in 0 5) (record { 0 = 0 }) 33 ∷ ExitEnd (call_in 0 5) (record { 0 = 0 }) ∷ Ret (call_in 0 5) (Some (call_in 0 3)) ∷ Leave (call_in 0 3) ∷ Exit (call_in 0 3) (record { 0 = 1 }) 13 ∷ ExitEnd (call_in 0 3) (record { 0 = 1 }) ∷ Exit (call_in 0 3) (record { 0 = 0 }) 21 ∷ ExitEnd (call_in 0 3) (record { 0 = 0 }) ∷ Ret (call_in 0 3) (Some (call_in 0 1)) ∷ Leave (call_in 0 1) ∷ Ret (call_in 0 1) None ∷ []
 
 pub job_2017-plays : Plays job_2017 job_2017-items true
-unfolding actors_of repeated start played play is_over step whole desk
+unfolding actors_of repeated start played play all_end step whole desk
 job_2017-plays = (refl, refl)
 
 abbrev pub job_2026 : Job
@@ -123,7 +123,7 @@ abbrev pub job_2026-items : List Item
 job_2026-items = Begin 1 ∷ Return 1 Accepted ∷ Begin 2 ∷ Return 2 Accepted ∷ Begin 3 ∷ Return 3 Accepted ∷ Begin 4 ∷ Return 4 Accepted ∷ Begin 5 ∷ Return 5 Accepted ∷ Enter (call_in 0 1) Normal (record { 0 = 0 }) None ∷ Back (call_in 0 1) (record { 0 = 3 }) ∷ BackEnd (call_in 0 1) (record { 0 = 3 }) ∷ Back (call_in 0 1) (record { 0 = 0 }) ∷ Enter (call_in 0 2) Irq (record { 0 = 0 }) (Some (call_in 0 1)) ∷ Back (call_in 0 2) (record { 0 = 3 }) ∷ BackEnd (call_in 0 2) (record { 0 = 3 }) ∷ Back (call_in 0 2) (record { 0 = 0 }) ∷ Miss (call_in 0 2) (record { 0 = 0 }) ∷ BackEnd (call_in 0 2) (record { 0 = 0 }) ∷ Body (call_in 0 2) (record { 0 = 0 }) ByList ∷ Leave (call_in 0 2) ∷ Ret (call_in 0 2) (Some (call_in 0 1)) ∷ BackEnd (call_in 0 1) (record { 0 = 0 }) ∷ Body (call_in 0 1) (record { 0 = 0 }) ByList ∷ Leave (call_in 0 1) ∷ Ret (call_in 0 1) None ∷ Enter (call_in 0 3) Normal (record { 0 = 0 }) None ∷ Back (call_in 0 3) (record { 0 = 3 }) ∷ BackEnd (call_in 0 3) (record { 0 = 3 }) ∷ Back (call_in 0 3) (record { 0 = 0 }) ∷ Enter (call_in 0 4) Irq (record { 0 = 0 }) (Some (call_in 0 3)) ∷ Back (call_in 0 4) (record { 0 = 3 }) ∷ BackEnd (call_in 0 4) (record { 0 = 3 }) ∷ Back (call_in 0 4) (record { 0 = 0 }) ∷ Miss (call_in 0 4) (record { 0 = 0 }) ∷ BackEnd (call_in 0 4) (record { 0 = 0 }) ∷ Body (call_in 0 4) (record { 0 = 0 }) ByList ∷ Leave (call_in 0 4) ∷ Ret (call_in 0 4) (Some (call_in 0 3)) ∷ BackEnd (call_in 0 3) (record { 0 = 0 }) ∷ Body (call_in 0 3) (record { 0 = 0 }) ByList ∷ Leave (call_in 0 3) ∷ Ret (call_in 0 3) None ∷ []
 
 pub job_2026-plays : Plays job_2026 job_2026-items true
-unfolding actors_of repeated start played play is_over step whole desk
+unfolding actors_of repeated start played play all_end step whole desk
 job_2026-plays = (refl, refl)
 
 abbrev pub job_2027 : Job
@@ -133,7 +133,7 @@ abbrev pub job_2027-items : List Item
 job_2027-items = Begin 1 ∷ Return 1 NotThere ∷ Begin 2 ∷ Return 2 NotThere ∷ Begin 3 ∷ Return 3 Invalid ∷ Begin 4 ∷ Return 4 Accepted ∷ Enter (call_in 0 1) Normal (record { 0 = 0 }) None ∷ Body (call_in 0 1) (record { 0 = 0 }) Nop ∷ Leave (call_in 0 1) ∷ Ret (call_in 0 1) None ∷ Enter (call_in 1 1) Normal (record { 0 = 0 }) None ∷ Body (call_in 1 1) (record { 0 = 0 }) Nop ∷ Enter (call_in 2 1) Normal (record { 0 = 0 }) None ∷ Body (call_in 2 1) (record { 0 = 0 }) Nop ∷ Enter (call_in 2 2) Normal (record { 0 = 0 }) (Some (call_in 2 1)) ∷ Body (call_in 2 2) (record { 0 = 0 }) Nop ∷ Leave (call_in 2 2) ∷ Ret (call_in 2 2) (Some (call_in 2 1)) ∷ Enter (call_in 1 2) Nmi (record { 0 = 0 }) (Some (call_in 1 1)) ∷ Body (call_in 1 2) (record { 0 = 0 }) Nop ∷ Enter (call_in 1 3) Nmi (record { 0 = 0 }) (Some (call_in 1 2)) ∷ Body (call_in 1 3) (record { 0 = 0 }) Nop ∷ Leave (call_in 2 1) ∷ Ret (call_in 2 1) None ∷ Enter (call_in 1 4) Nmi (record { 0 = 0 }) (Some (call_in 1 3)) ∷ Body (call_in 1 4) (record { 0 = 0 }) Nop ∷ Leave (call_in 1 4) ∷ Ret (call_in 1 4) (Some (call_in 1 3)) ∷ Leave (call_in 1 3) ∷ Ret (call_in 1 3) (Some (call_in 1 2)) ∷ Leave (call_in 1 2) ∷ Ret (call_in 1 2) (Some (call_in 1 1)) ∷ Leave (call_in 1 1) ∷ Ret (call_in 1 1) None ∷ []
 
 pub job_2027-plays : Plays job_2027 job_2027-items true
-unfolding actors_of repeated start played play is_over step whole desk
+unfolding actors_of repeated start played play all_end step whole desk
 job_2027-plays = (refl, refl)
 
 abbrev pub job_2028 : Job
@@ -143,7 +143,7 @@ abbrev pub job_2028-items : List Item
 job_2028-items = Begin 1 ∷ Return 1 Accepted ∷ Begin 2 ∷ Return 2 Already ∷ Enter (call_in 0 1) Softirq (record { 0 = 1 }) None ∷ Back (call_in 0 1) (record { 0 = 1 }) ∷ Enter (call_in 0 2) Softirq (record { 0 = 0 }) (Some (call_in 0 1)) ∷ Refuse (call_in 0 2) (record { 0 = 1 }) Recursion ∷ Body (call_in 0 2) (record { 0 = 0 }) (Own (record { 0 = 1 })) ∷ Leave (call_in 0 2) ∷ Ret (call_in 0 2) (Some (call_in 0 1)) ∷ BackEnd (call_in 0 1) (record { 0 = 1 }) ∷ Body (call_in 0 1) (record { 0 = 1 }) (Own (record { 0 = 1 })) ∷ Begin 3 ∷ Return 3 Accepted ∷ Begin 4 ∷ Return 4 Accepted ∷ Enter (call_in 0 3) Irq (record { 0 = 0 }) (Some (call_in 0 1)) ∷ Refuse (call_in 0 3) (record { 0 = 1 }) ByPid ∷ Body (call_in 0 3) (record { 0 = 0 }) (Own (record { 0 = 1 })) ∷ Begin 5 ∷ Return 5 Accepted ∷ Leave (call_in 0 3) ∷ Ret (call_in 0 3) (Some (call_in 0 1)) ∷ Begin 6 ∷ Return 6 Accepted ∷ Enter (call_in 0 4) Irq (record { 0 = 1 }) (Some (call_in 0 1)) ∷ Refuse (call_in 0 4) (record { 0 = 1 }) ByPid ∷ Body (call_in 0 4) (record { 0 = 1 }) (Own (record { 0 = 1 })) ∷ Begin 7 ∷ Return 7 NotThere ∷ Leave (call_in 0 4) ∷ Ret (call_in 0 4) (Some (call_in 0 1)) ∷ Leave (call_in 0 1) ∷ Ret (call_in 0 1) None ∷ []
 
 pub job_2028-plays : Plays job_2028 job_2028-items true
-unfolding actors_of repeated start played play is_over step whole desk
+unfolding actors_of repeated start played play all_end step whole desk
 job_2028-plays = (refl, refl)
 
 abbrev pub job_2030 : Job
@@ -153,7 +153,7 @@ abbrev pub job_2030-items : List Item
 job_2030-items = Begin 1 ∷ Return 1 NotThere ∷ Begin 2 ∷ Return 2 Accepted ∷ Enter (call_in 1 1) Normal (record { 0 = 0 }) None ∷ Body (call_in 1 1) (record { 0 = 0 }) Nop ∷ Enter (call_in 1 2) Normal (record { 0 = 0 }) (Some (call_in 1 1)) ∷ Body (call_in 1 2) (record { 0 = 0 }) Nop ∷ Leave (call_in 1 2) ∷ Ret (call_in 1 2) (Some (call_in 1 1)) ∷ Leave (call_in 1 1) ∷ Ret (call_in 1 1) None ∷ Begin 3 ∷ Return 3 NotThere ∷ Begin 4 ∷ Return 4 Accepted ∷ Begin 5 ∷ Return 5 Accepted ∷ Enter (call_in 0 1) Softirq (record { 0 = 0 }) None ∷ Body (call_in 0 1) (record { 0 = 0 }) Nop ∷ Begin 6 ∷ Return 6 NotThere ∷ Leave (call_in 0 1) ∷ Ret (call_in 0 1) None ∷ Begin 7 ∷ Return 7 Accepted ∷ Enter (call_in 2 1) Irq (record { 0 = 2 }) None ∷ Back (call_in 2 1) (record { 0 = 3 }) ∷ BackEnd (call_in 2 1) (record { 0 = 3 }) ∷ Body (call_in 2 1) (record { 0 = 2 }) (Own (record { 0 = 3 })) ∷ Enter (call_in 0 2) Normal (record { 0 = 0 }) None ∷ Back (call_in 0 2) (record { 0 = 3 }) ∷ BackEnd (call_in 0 2) (record { 0 = 3 }) ∷ Body (call_in 0 2) (record { 0 = 0 }) (Own (record { 0 = 3 })) ∷ Leave (call_in 0 2) ∷ Ret (call_in 0 2) None ∷ Enter (call_in 2 2) Nmi (record { 0 = 1 }) (Some (call_in 2 1)) ∷ Back (call_in 2 2) (record { 0 = 3 }) ∷ BackEnd (call_in 2 2) (record { 0 = 3 }) ∷ Body (call_in 2 2) (record { 0 = 1 }) (Own (record { 0 = 3 })) ∷ Enter (call_in 2 3) Nmi (record { 0 = 0 }) (Some (call_in 2 2)) ∷ Back (call_in 2 3) (record { 0 = 3 }) ∷ BackEnd (call_in 2 3) (record { 0 = 3 }) ∷ Body (call_in 2 3) (record { 0 = 0 }) (Own (record { 0 = 3 })) ∷ Leave (call_in 2 3) ∷ Ret (call_in 2 3) (Some (call_in 2 2)) ∷ Leave (call_in 2 2) ∷ Ret (call_in 2 2) (Some (call_in 2 1)) ∷ Leave (call_in 2 1) ∷ Ret (call_in 2 1) None ∷ []
 
 pub job_2030-plays : Plays job_2030 job_2030-items true
-unfolding actors_of repeated start played play is_over step whole desk
+unfolding actors_of repeated start played play all_end step whole desk
 job_2030-plays = (refl, refl)
 
 abbrev pub job_2033 : Job
@@ -163,7 +163,7 @@ abbrev pub job_2033-items : List Item
 job_2033-items = Begin 1 ∷ Return 1 NotThere ∷ Begin 2 ∷ Return 2 Accepted ∷ Begin 3 ∷ Return 3 Accepted ∷ Enter (call_in 1 1) Nmi (record { 0 = 2 }) None ∷ Back (call_in 1 1) (record { 0 = 2 }) ∷ BackEnd (call_in 1 1) (record { 0 = 2 }) ∷ Body (call_in 1 1) (record { 0 = 2 }) (Own (record { 0 = 2 })) ∷ Enter (call_in 1 2) Nmi (record { 0 = 3 }) (Some (call_in 1 1)) ∷ Back (call_in 1 2) (record { 0 = 2 }) ∷ BackEnd (call_in 1 2) (record { 0 = 2 }) ∷ Body (call_in 1 2) (record { 0 = 3 }) (Own (record { 0 = 2 })) ∷ Leave (call_in 1 2) ∷ Exit (call_in 1 2) (record { 0 = 2 }) 11 ∷ ExitEnd (call_in 1 2) (record { 0 = 2 }) ∷ Ret (call_in 1 2) (Some (call_in 1 1)) ∷ Enter (call_in 0 1) Nmi (record { 0 = 0 }) None ∷ Back (call_in 0 1) (record { 0 = 2 }) ∷ BackEnd (call_in 0 1) (record { 0 = 2 }) ∷ Body (call_in 0 1) (record { 0 = 0 }) (Own (record { 0 = 2 })) ∷ Leave (call_in 1 1) ∷ Exit (call_in 1 1) (record { 0 = 2 }) 7 ∷ ExitEnd (call_in 1 1) (record { 0 = 2 }) ∷ Ret (call_in 1 1) None ∷ Leave (call_in 0 1) ∷ Exit (call_in 0 1) (record { 0 = 2 }) 19 ∷ ExitEnd (call_in 0 1) (record { 0 = 2 }) ∷ Ret (call_in 0 1) None ∷ []
 
 pub job_2033-plays : Plays job_2033 job_2033-items true
-unfolding actors_of repeated start played play is_over step whole desk
+unfolding actors_of repeated start played play all_end step whole desk
 job_2033-plays = (refl, refl)
 
 abbrev pub job_2034 : Job
@@ -173,7 +173,7 @@ abbrev pub job_2034-items : List Item
 job_2034-items = Begin 1 ∷ Return 1 Accepted ∷ Begin 2 ∷ Return 2 NotThere ∷ Enter (call_in 0 1) Irq (record { 0 = 0 }) None ∷ Body (call_in 0 1) (record { 0 = 0 }) Nop ∷ Leave (call_in 0 1) ∷ Ret (call_in 0 1) None ∷ Enter (call_in 1 1) Irq (record { 0 = 0 }) None ∷ Body (call_in 1 1) (record { 0 = 0 }) Nop ∷ Leave (call_in 1 1) ∷ Ret (call_in 1 1) None ∷ Enter (call_in 0 2) Normal (record { 0 = 0 }) None ∷ Body (call_in 0 2) (record { 0 = 0 }) Nop ∷ Enter (call_in 1 2) Irq (record { 0 = 0 }) None ∷ Body (call_in 1 2) (record { 0 = 0 }) Nop ∷ Enter (call_in 1 3) Irq (record { 0 = 0 }) (Some (call_in 1 2)) ∷ Body (call_in 1 3) (record { 0 = 0 }) Nop ∷ Enter (call_in 0 3) Normal (record { 0 = 0 }) (Some (call_in 0 2)) ∷ Body (call_in 0 3) (record { 0 = 0 }) Nop ∷ Enter (call_in 0 4) Normal (record { 0 = 0 }) (Some (call_in 0 3)) ∷ Body (call_in 0 4) (record { 0 = 0 }) Nop ∷ Leave (call_in 1 3) ∷ Ret (call_in 1 3) (Some (call_in 1 2)) ∷ Leave (call_in 1 2) ∷ Ret (call_in 1 2) None ∷ Enter (call_in 0 5) Normal (record { 0 = 0 }) (Some (call_in 0 4)) ∷ Body (call_in 0 5) (record { 0 = 0 }) Nop ∷ Enter (call_in 0 6) Normal (record { 0 = 0 }) (Some (call_in 0 5)) ∷ Body (call_in 0 6) (record { 0 = 0 }) Nop ∷ Begin 3 ∷ Return 3 Accepted ∷ Leave (call_in 0 6) ∷ Ret (call_in 0 6) (Some (call_in 0 5)) ∷ Leave (call_in 0 5) ∷ Ret (call_in 0 5) (Some (call_in 0 4)) ∷ Leave (call_in 0 4) ∷ Ret (call_in 0 4) (Some (call_in 0 3)) ∷ Leave (call_in 0 3) ∷ Ret (call_in 0 3) (Some (call_in 0 2)) ∷ Leave (call_in 0 2) ∷ Ret (call_in 0 2) None ∷ []
 
 pub job_2034-plays : Plays job_2034 job_2034-items true
-unfolding actors_of repeated start played play is_over step whole desk
+unfolding actors_of repeated start played play all_end step whole desk
 job_2034-plays = (refl, refl)
 
 abbrev pub job_2035 : Job
@@ -183,7 +183,7 @@ abbrev pub job_2035-items : List Item
 job_2035-items = Begin 1 ∷ Return 1 NotThere ∷ Begin 2 ∷ Return 2 Accepted ∷ Begin 3 ∷ Return 3 NotThere ∷ Enter (call_in 1 1) Normal (record { 0 = 1 }) None ∷ Back (call_in 1 1) (record { 0 = 1 }) ∷ Enter (call_in 1 2) Irq (record { 0 = 0 }) (Some (call_in 1 1)) ∷ Back (call_in 1 2) (record { 0 = 1 }) ∷ BackEnd (call_in 1 2) (record { 0 = 1 }) ∷ Body (call_in 1 2) (record { 0 = 0 }) (Own (record { 0 = 1 })) ∷ Leave (call_in 1 2) ∷ Ret (call_in 1 2) (Some (call_in 1 1)) ∷ BackEnd (call_in 1 1) (record { 0 = 1 }) ∷ Body (call_in 1 1) (record { 0 = 1 }) (Own (record { 0 = 1 })) ∷ Leave (call_in 1 1) ∷ Ret (call_in 1 1) None ∷ Enter (call_in 0 1) Nmi (record { 0 = 0 }) None ∷ Back (call_in 0 1) (record { 0 = 1 }) ∷ BackEnd (call_in 0 1) (record { 0 = 1 }) ∷ Body (call_in 0 1) (record { 0 = 0 }) (Own (record { 0 = 1 })) ∷ Enter (call_in 0 2) Nmi (record { 0 = 1 }) (Some (call_in 0 1)) ∷ Back (call_in 0 2) (record { 0 = 1 }) ∷ BackEnd (call_in 0 2) (record { 0 = 1 }) ∷ Body (call_in 0 2) (record { 0 = 1 }) (Own (record { 0 = 1 })) ∷ Leave (call_in 0 2) ∷ Ret (call_in 0 2) (Some (call_in 0 1)) ∷ Enter (call_in 0 3) Nmi (record { 0 = 2 }) (Some (call_in 0 1)) ∷ Back (call_in 0 3) (record { 0 = 1 }) ∷ BackEnd (call_in 0 3) (record { 0 = 1 }) ∷ Body (call_in 0 3) (record { 0 = 2 }) (Own (record { 0 = 1 })) ∷ Leave (call_in 0 3) ∷ Ret (call_in 0 3) (Some (call_in 0 1)) ∷ Leave (call_in 0 1) ∷ Ret (call_in 0 1) None ∷ []
 
 pub job_2035-plays : Plays job_2035 job_2035-items true
-unfolding actors_of repeated start played play is_over step whole desk
+unfolding actors_of repeated start played play all_end step whole desk
 job_2035-plays = (refl, refl)
 
 abbrev pub job_2037 : Job
@@ -193,7 +193,7 @@ abbrev pub job_2037-items : List Item
 job_2037-items = Enter (call_in 0 1) Normal (record { 0 = 0 }) None ∷ Body (call_in 0 1) (record { 0 = 0 }) Nop ∷ Begin 1 ∷ Return 1 Accepted ∷ Leave (call_in 0 1) ∷ Ret (call_in 0 1) None ∷ Enter (call_in 1 1) Softirq (record { 0 = 0 }) None ∷ Body (call_in 1 1) (record { 0 = 0 }) Nop ∷ Enter (call_in 1 2) Softirq (record { 0 = 0 }) (Some (call_in 1 1)) ∷ Body (call_in 1 2) (record { 0 = 0 }) Nop ∷ Enter (call_in 1 3) Softirq (record { 0 = 0 }) (Some (call_in 1 2)) ∷ Body (call_in 1 3) (record { 0 = 0 }) Nop ∷ Leave (call_in 1 3) ∷ Ret (call_in 1 3) (Some (call_in 1 2)) ∷ Leave (call_in 1 2) ∷ Ret (call_in 1 2) (Some (call_in 1 1)) ∷ Begin 2 ∷ Return 2 Accepted ∷ Leave (call_in 1 1) ∷ Ret (call_in 1 1) None ∷ Begin 3 ∷ Return 3 NotThere ∷ Begin 4 ∷ Return 4 Accepted ∷ []
 
 pub job_2037-plays : Plays job_2037 job_2037-items true
-unfolding actors_of repeated start played play is_over step whole desk
+unfolding actors_of repeated start played play all_end step whole desk
 job_2037-plays = (refl, refl)
 
 abbrev pub job_2038 : Job
@@ -203,7 +203,7 @@ abbrev pub job_2038-items : List Item
 job_2038-items = Begin 1 ∷ Return 1 Accepted ∷ Begin 2 ∷ Return 2 Accepted ∷ Begin 3 ∷ Return 3 Accepted ∷ Begin 4 ∷ Return 4 Accepted ∷ Begin 5 ∷ Return 5 Accepted ∷ Enter (call_in 0 1) Irq (record { 0 = 0 }) None ∷ Body (call_in 0 1) (record { 0 = 0 }) Nop ∷ Leave (call_in 0 1) ∷ Ret (call_in 0 1) None ∷ []
 
 pub job_2038-plays : Plays job_2038 job_2038-items true
-unfolding actors_of repeated start played play is_over step whole desk
+unfolding actors_of repeated start played play all_end step whole desk
 job_2038-plays = (refl, refl)
 
 abbrev pub job_2039 : Job
@@ -213,7 +213,7 @@ abbrev pub job_2039-items : List Item
 job_2039-items = Begin 1 ∷ Return 1 NotThere ∷ Begin 2 ∷ Return 2 Accepted ∷ Begin 3 ∷ Return 3 Invalid ∷ Begin 4 ∷ Return 4 NotThere ∷ Begin 5 ∷ Return 5 Accepted ∷ Begin 6 ∷ Return 6 Accepted ∷ Begin 7 ∷ Return 7 Accepted ∷ Enter (call_in 0 1) Irq (record { 0 = 1 }) None ∷ Back (call_in 0 1) (record { 0 = 1 }) ∷ Enter (call_in 0 2) Irq (record { 0 = 3 }) (Some (call_in 0 1)) ∷ Refuse (call_in 0 2) (record { 0 = 1 }) Recursion ∷ Body (call_in 0 2) (record { 0 = 3 }) (Own (record { 0 = 1 })) ∷ Leave (call_in 0 2) ∷ Ret (call_in 0 2) (Some (call_in 0 1)) ∷ BackEnd (call_in 0 1) (record { 0 = 1 }) ∷ Body (call_in 0 1) (record { 0 = 1 }) (Own (record { 0 = 1 })) ∷ Enter (call_in 1 1) Nmi (record { 0 = 3 }) None ∷ Back (call_in 1 1) (record { 0 = 1 }) ∷ Enter (call_in 1 2) Nmi (record { 0 = 3 }) (Some (call_in 1 1)) ∷ Refuse (call_in 1 2) (record { 0 = 1 }) Recursion ∷ Body (call_in 1 2) (record { 0 = 3 }) (Own (record { 0 = 1 })) ∷ Leave (call_in 1 2) ∷ Ret (call_in 1 2) (Some (call_in 1 1)) ∷ BackEnd (call_in 1 1) (record { 0 = 1 }) ∷ Body (call_in 1 1) (record { 0 = 3 }) (Own (record { 0 = 1 })) ∷ Leave (call_in 0 1) ∷ Exit (call_in 0 1) (record { 0 = 1 }) 15 ∷ ExitEnd (call_in 0 1) (record { 0 = 1 }) ∷ Ret (call_in 0 1) None ∷ Enter (call_in 1 3) Nmi (record { 0 = 2 }) (Some (call_in 1 1)) ∷ Refuse (call_in 1 3) (record { 0 = 1 }) Depth ∷ Body (call_in 1 3) (record { 0 = 2 }) (Own (record { 0 = 1 })) ∷ Enter (call_in 0 3) Irq (record { 0 = 3 }) None ∷ Back (call_in 0 3) (record { 0 = 1 }) ∷ Enter (call_in 0 4) Irq (record { 0 = 3 }) (Some (call_in 0 3)) ∷ Refuse (call_in 0 4) (record { 0 = 1 }) Recursion ∷ Body (call_in 0 4) (record { 0 = 3 }) (Own (record { 0 = 1 })) ∷ Leave (call_in 0 4) ∷ Ret (call_in 0 4) (Some (call_in 0 3)) ∷ BackEnd (call_in 0 3) (record { 0 = 1 }) ∷ Body (call_in 0 3) (record { 0 = 3 }) (Own (record { 0 = 1 })) ∷ Enter (call_in 1 4) Nmi (record { 0 = 1 }) (Some (call_in 1 3)) ∷ Refuse (call_in 1 4) (record { 0 = 1 }) Depth ∷ Body (call_in 1 4) (record { 0 = 1 }) (Own (record { 0 = 1 })) ∷ Leave (call_in 0 3) ∷ Exit (call_in 0 3) (record { 0 = 1 }) 40 ∷ ExitEnd (call_in 0 3) (record { 0 = 1 }) ∷ Ret (call_in 0 3) None ∷ Leave (call_in 1 4) ∷ Ret (call_in 1 4) (Some (call_in 1 3)) ∷ Leave (call_in 1 3) ∷ Ret (call_in 1 3) (Some (call_in 1 1)) ∷ Leave (call_in 1 1) ∷ Exit (call_in 1 1) (record { 0 = 1 }) 24 ∷ ExitEnd (call_in 1 1) (record { 0 = 1 }) ∷ Ret (call_in 1 1) None ∷ []
 
 pub job_2039-plays : Plays job_2039 job_2039-items true
-unfolding actors_of repeated start played play is_over step whole desk
+unfolding actors_of repeated start played play all_end step whole desk
 job_2039-plays = (refl, refl)
 
 abbrev pub job_2041 : Job
@@ -223,7 +223,7 @@ abbrev pub job_2041-items : List Item
 job_2041-items = Begin 1 ∷ Return 1 Accepted ∷ Begin 2 ∷ Return 2 NotThere ∷ Begin 3 ∷ Return 3 NotThere ∷ Begin 4 ∷ Return 4 Accepted ∷ Enter (call_in 0 1) Normal (record { 0 = 0 }) None ∷ Body (call_in 0 1) (record { 0 = 0 }) Nop ∷ Enter (call_in 0 2) Nmi (record { 0 = 0 }) (Some (call_in 0 1)) ∷ Body (call_in 0 2) (record { 0 = 0 }) Nop ∷ Leave (call_in 0 2) ∷ Ret (call_in 0 2) (Some (call_in 0 1)) ∷ Leave (call_in 0 1) ∷ Ret (call_in 0 1) None ∷ []
 
 pub job_2041-plays : Plays job_2041 job_2041-items true
-unfolding actors_of repeated start played play is_over step whole desk
+unfolding actors_of repeated start played play all_end step whole desk
 job_2041-plays = (refl, refl)
 
 abbrev pub job_2042 : Job
@@ -233,7 +233,7 @@ abbrev pub job_2042-items : List Item
 job_2042-items = Begin 1 ∷ Return 1 NotThere ∷ Begin 2 ∷ Return 2 Accepted ∷ Begin 3 ∷ Return 3 NotThere ∷ Begin 4 ∷ Return 4 Accepted ∷ Begin 5 ∷ Return 5 Accepted ∷ Begin 6 ∷ Return 6 NotThere ∷ Enter (call_in 0 1) Normal (record { 0 = 1 }) None ∷ Body (call_in 0 1) (record { 0 = 1 }) Nop ∷ Enter (call_in 0 2) Normal (record { 0 = 2 }) (Some (call_in 0 1)) ∷ Body (call_in 0 2) (record { 0 = 2 }) Nop ∷ Enter (call_in 1 1) Softirq (record { 0 = 1 }) None ∷ Body (call_in 1 1) (record { 0 = 1 }) Nop ∷ Leave (call_in 0 2) ∷ Ret (call_in 0 2) (Some (call_in 0 1)) ∷ Leave (call_in 0 1) ∷ Ret (call_in 0 1) None ∷ Enter (call_in 1 2) Softirq (record { 0 = 2 }) (Some (call_in 1 1)) ∷ Body (call_in 1 2) (record { 0 = 2 }) Nop ∷ Leave (call_in 1 2) ∷ Ret (call_in 1 2) (Some (call_in 1 1)) ∷ Enter (call_in 1 3) Softirq (record { 0 = 1 }) (Some (call_in 1 1)) ∷ Body (call_in 1 3) (record { 0 = 1 }) Nop ∷ Leave (call_in 1 3) ∷ Ret (call_in 1 3) (Some (call_in 1 1)) ∷ Enter (call_in 1 4) Irq (record { 0 = 2 }) (Some (call_in 1 1)) ∷ Body (call_in 1 4) (record { 0 = 2 }) Nop ∷ Leave (call_in 1 4) ∷ Ret (call_in 1 4) (Some (call_in 1 1)) ∷ Leave (call_in 1 1) ∷ Ret (call_in 1 1) None ∷ []
 
 pub job_2042-plays : Plays job_2042 job_2042-items true
-unfolding actors_of repeated start played play is_over step whole desk
+unfolding actors_of repeated start played play all_end step whole desk
 job_2042-plays = (refl, refl)
 
 abbrev pub job_2043 : Job
@@ -243,7 +243,7 @@ abbrev pub job_2043-items : List Item
 job_2043-items = Begin 1 ∷ Return 1 Accepted ∷ Begin 2 ∷ Return 2 Accepted ∷ Begin 3 ∷ Return 3 NotThere ∷ Begin 4 ∷ Return 4 Accepted ∷ Enter (call_in 2 1) Normal (record { 0 = 3 }) None ∷ Body (call_in 2 1) (record { 0 = 3 }) Nop ∷ Leave (call_in 2 1) ∷ Ret (call_in 2 1) None ∷ Enter (call_in 2 2) Normal (record { 0 = 1 }) None ∷ Body (call_in 2 2) (record { 0 = 1 }) Nop ∷ Enter (call_in 0 1) Softirq (record { 0 = 2 }) None ∷ Body (call_in 0 1) (record { 0 = 2 }) Nop ∷ Enter (call_in 2 3) Normal (record { 0 = 1 }) (Some (call_in 2 2)) ∷ Body (call_in 2 3) (record { 0 = 1 }) Nop ∷ Leave (call_in 2 3) ∷ Ret (call_in 2 3) (Some (call_in 2 2)) ∷ Leave (call_in 2 2) ∷ Ret (call_in 2 2) None ∷ Enter (call_in 0 2) Nmi (record { 0 = 2 }) (Some (call_in 0 1)) ∷ Body (call_in 0 2) (record { 0 = 2 }) Nop ∷ Enter (call_in 0 3) Nmi (record { 0 = 0 }) (Some (call_in 0 2)) ∷ Body (call_in 0 3) (record { 0 = 0 }) Nop ∷ Leave (call_in 0 3) ∷ Ret (call_in 0 3) (Some (call_in 0 2)) ∷ Leave (call_in 0 2) ∷ Ret (call_in 0 2) (Some (call_in 0 1)) ∷ Leave (call_in 0 1) ∷ Ret (call_in 0 1) None ∷ []
 
 pub job_2043-plays : Plays job_2043 job_2043-items true
-unfolding actors_of repeated start played play is_over step whole desk
+unfolding actors_of repeated start played play all_end step whole desk
 job_2043-plays = (refl, refl)
 
 abbrev pub job_2045 : Job
@@ -253,7 +253,7 @@ abbrev pub job_2045-items : List Item
 job_2045-items = Begin 1 ∷ Return 1 Accepted ∷ Begin 2 ∷ Return 2 Accepted ∷ Begin 3 ∷ Return 3 Accepted ∷ Begin 4 ∷ Return 4 Accepted ∷ Enter (call_in 0 1) Normal (record { 0 = 1 }) None ∷ Back (call_in 0 1) (record { 0 = 2 }) ∷ BackEnd (call_in 0 1) (record { 0 = 2 }) ∷ Body (call_in 0 1) (record { 0 = 1 }) ByList ∷ Enter (call_in 0 2) Normal (record { 0 = 1 }) (Some (call_in 0 1)) ∷ Refuse (call_in 0 2) (record { 0 = 2 }) Depth ∷ Body (call_in 0 2) (record { 0 = 1 }) ByList ∷ Enter (call_in 1 1) Normal (record { 0 = 0 }) None ∷ Back (call_in 1 1) (record { 0 = 2 }) ∷ BackEnd (call_in 1 1) (record { 0 = 2 }) ∷ Body (call_in 1 1) (record { 0 = 0 }) ByList ∷ Enter (call_in 0 3) Normal (record { 0 = 0 }) (Some (call_in 0 2)) ∷ Refuse (call_in 0 3) (record { 0 = 2 }) Depth ∷ Body (call_in 0 3) (record { 0 = 0 }) ByList ∷ Enter (call_in 0 4) Normal (record { 0 = 0 }) (Some (call_in 0 3)) ∷ Refuse (call_in 0 4) (record { 0 = 2 }) Depth ∷ Body (call_in 0 4) (record { 0 = 0 }) ByList ∷ Leave (call_in 0 4) ∷ Ret (call_in 0 4) (Some (call_in 0 3)) ∷ Leave (call_in 1 1) ∷ Exit (call_in 1 1) (record { 0 = 2 }) 16 ∷ ExitEnd (call_in 1 1) (record { 0 = 2 }) ∷ Ret (call_in 1 1) None ∷ Enter (call_in 1 2) Normal (record { 0 = 0 }) None ∷ Back (call_in 1 2) (record { 0 = 2 }) ∷ BackEnd (call_in 1 2) (record { 0 = 2 }) ∷ Body (call_in 1 2) (record { 0 = 0 }) ByList ∷ Leave (call_in 0 3) ∷ Ret (call_in 0 3) (Some (call_in 0 2)) ∷ Leave (call_in 0 2) ∷ Ret (call_in 0 2) (Some (call_in 0 1)) ∷ Leave (call_in 0 1) ∷ Exit (call_in 0 1) (record { 0 = 2 }) 9 ∷ ExitEnd (call_in 0 1) (record { 0 = 2 }) ∷ Ret (call_in 0 1) None ∷ Enter (call_in 1 3) Normal (record { 0 = 0 }) (Some (call_in 1 2)) ∷ Refuse (call_in 1 3) (record { 0 = 2 }) Depth ∷ Body (call_in 1 3) (record { 0 = 0 }) ByList ∷ Enter (call_in 1 4) Irq (record { 0 = 1 }) (Some (call_in 1 3)) ∷ Refuse (call_in 1 4) (record { 0 = 2 }) Depth ∷ Body (call_in 1 4) (record { 0 = 1 }) ByList ∷ Leave (call_in 1 4) ∷ Ret (call_in 1 4) (Some (call_in 1 3)) ∷ Leave (call_in 1 3) ∷ Ret (call_in 1 3) (Some (call_in 1 2)) ∷ Leave (call_in 1 2) ∷ Exit (call_in 1 2) (record { 0 = 2 }) 32 ∷ ExitEnd (call_in 1 2) (record { 0 = 2 }) ∷ Ret (call_in 1 2) None ∷ []
 
 pub job_2045-plays : Plays job_2045 job_2045-items true
-unfolding actors_of repeated start played play is_over step whole desk
+unfolding actors_of repeated start played play all_end step whole desk
 job_2045-plays = (refl, refl)
 
 abbrev pub job_2048 : Job
@@ -263,7 +263,7 @@ abbrev pub job_2048-items : List Item
 job_2048-items = Begin 1 ∷ Return 1 Accepted ∷ Begin 2 ∷ Return 2 Accepted ∷ Enter (call_in 0 1) Normal (record { 0 = 1 }) None ∷ Back (call_in 0 1) (record { 0 = 0 }) ∷ BackEnd (call_in 0 1) (record { 0 = 0 }) ∷ Body (call_in 0 1) (record { 0 = 1 }) (Own (record { 0 = 0 })) ∷ Begin 3 ∷ Return 3 Accepted ∷ Leave (call_in 0 1) ∷ Ret (call_in 0 1) None ∷ Enter (call_in 2 1) Normal (record { 0 = 1 }) None ∷ Body (call_in 2 1) (record { 0 = 1 }) (Own (record { 0 = 0 })) ∷ Enter (call_in 0 2) Normal (record { 0 = 0 }) None ∷ Body (call_in 0 2) (record { 0 = 0 }) (Own (record { 0 = 0 })) ∷ Enter (call_in 0 3) Normal (record { 0 = 0 }) (Some (call_in 0 2)) ∷ Body (call_in 0 3) (record { 0 = 0 }) (Own (record { 0 = 0 })) ∷ Enter (call_in 1 1) Irq (record { 0 = 0 }) None ∷ Body (call_in 1 1) (record { 0 = 0 }) (Own (record { 0 = 0 })) ∷ Enter (call_in 1 2) Irq (record { 0 = 2 }) (Some (call_in 1 1)) ∷ Body (call_in 1 2) (record { 0 = 2 }) (Own (record { 0 = 0 })) ∷ Enter (call_in 2 2) Normal (record { 0 = 0 }) (Some (call_in 2 1)) ∷ Body (call_in 2 2) (record { 0 = 0 }) (Own (record { 0 = 0 })) ∷ Enter (call_in 0 4) Normal (record { 0 = 2 }) (Some (call_in 0 3)) ∷ Body (call_in 0 4) (record { 0 = 2 }) (Own (record { 0 = 0 })) ∷ Enter (call_in 1 3) Irq (record { 0 = 0 }) (Some (call_in 1 2)) ∷ Body (call_in 1 3) (record { 0 = 0 }) (Own (record { 0 = 0 })) ∷ Leave (call_in 1 3) ∷ Ret (call_in 1 3) (Some (call_in 1 2)) ∷ Enter (call_in 2 3) Normal (record { 0 = 0 }) (Some (call_in 2 2)) ∷ Body (call_in 2 3) (record { 0 = 0 }) (Own (record { 0 = 0 })) ∷ Leave (call_in 0 4) ∷ Ret (call_in 0 4) (Some (call_in 0 3)) ∷ Leave (call_in 1 2) ∷ Ret (call_in 1 2) (Some (call_in 1 1)) ∷ Leave (call_in 1 1) ∷ Ret (call_in 1 1) None ∷ Enter (call_in 2 4) Softirq (record { 0 = 2 }) (Some (call_in 2 3)) ∷ Body (call_in 2 4) (record { 0 = 2 }) (Own (record { 0 = 0 })) ∷ Enter (call_in 2 5) Softirq (record { 0 = 0 }) (Some (call_in 2 4)) ∷ Body (call_in 2 5) (record { 0 = 0 }) (Own (record { 0 = 0 })) ∷ Leave (call_in 0 3) ∷ Ret (call_in 0 3) (Some (call_in 0 2)) ∷ Leave (call_in 0 2) ∷ Ret (call_in 0 2) None ∷ Leave (call_in 2 5) ∷ Ret (call_in 2 5) (Some (call_in 2 4)) ∷ Leave (call_in 2 4) ∷ Ret (call_in 2 4) (Some (call_in 2 3)) ∷ Leave (call_in 2 3) ∷ Ret (call_in 2 3) (Some (call_in 2 2)) ∷ Leave (call_in 2 2) ∷ Ret (call_in 2 2) (Some (call_in 2 1)) ∷ Leave (call_in 2 1) ∷ Ret (call_in 2 1) None ∷ []
 
 pub job_2048-plays : Plays job_2048 job_2048-items true
-unfolding actors_of repeated start played play is_over step whole desk
+unfolding actors_of repeated start played play all_end step whole desk
 job_2048-plays = (refl, refl)
 
 abbrev pub job_2049 : Job
@@ -273,7 +273,7 @@ abbrev pub job_2049-items : List Item
 job_2049-items = Begin 1 ∷ Return 1 Accepted ∷ Enter (call_in 1 1) Nmi (record { 0 = 0 }) None ∷ Back (call_in 1 1) (record { 0 = 1 }) ∷ Enter (call_in 1 2) Nmi (record { 0 = 1 }) (Some (call_in 1 1)) ∷ Refuse (call_in 1 2) (record { 0 = 1 }) Recursion ∷ Body (call_in 1 2) (record { 0 = 1 }) ByList ∷ Leave (call_in 1 2) ∷ Ret (call_in 1 2) (Some (call_in 1 1)) ∷ BackEnd (call_in 1 1) (record { 0 = 1 }) ∷ Body (call_in 1 1) (record { 0 = 0 }) ByList ∷ Begin 2 ∷ Return 2 Invalid ∷ Enter (call_in 1 3) Nmi (record { 0 = 0 }) (Some (call_in 1 1)) ∷ Back (call_in 1 3) (record { 0 = 1 }) ∷ Enter (call_in 1 4) Nmi (record { 0 = 1 }) (Some (call_in 1 3)) ∷ Refuse (call_in 1 4) (record { 0 = 1 }) Recursion ∷ Body (call_in 1 4) (record { 0 = 1 }) ByList ∷ Leave (call_in 1 4) ∷ Ret (call_in 1 4) (Some (call_in 1 3)) ∷ BackEnd (call_in 1 3) (record { 0 = 1 }) ∷ Body (call_in 1 3) (record { 0 = 0 }) ByList ∷ Begin 3 ∷ Return 3 NotThere ∷ Begin 4 ∷ Return 4 NotThere ∷ Enter (call_in 1 5) Nmi (record { 0 = 1 }) (Some (call_in 1 3)) ∷ Back (call_in 1 5) (record { 0 = 1 }) ∷ Enter (call_in 1 6) Nmi (record { 0 = 1 }) (Some (call_in 1 5)) ∷ Refuse (call_in 1 6) (record { 0 = 1 }) Recursion ∷ Body (call_in 1 6) (record { 0 = 1 }) ByList ∷ Leave (call_in 1 6) ∷ Ret (call_in 1 6) (Some (call_in 1 5)) ∷ BackEnd (call_in 1 5) (record { 0 = 1 }) ∷ Body (call_in 1 5) (record { 0 = 1 }) ByList ∷ Begin 5 ∷ Return 5 NotThere ∷ Leave (call_in 1 5) ∷ Ret (call_in 1 5) (Some (call_in 1 3)) ∷ Begin 6 ∷ Return 6 NotThere ∷ Enter (call_in 0 1) Normal (record { 0 = 0 }) None ∷ Back (call_in 0 1) (record { 0 = 1 }) ∷ Enter (call_in 0 2) Normal (record { 0 = 1 }) (Some (call_in 0 1)) ∷ Refuse (call_in 0 2) (record { 0 = 1 }) Recursion ∷ Body (call_in 0 2) (record { 0 = 1 }) ByList ∷ Leave (call_in 0 2) ∷ Ret (call_in 0 2) (Some (call_in 0 1)) ∷ BackEnd (call_in 0 1) (record { 0 = 1 }) ∷ Body (call_in 0 1) (record { 0 = 0 }) ByList ∷ Begin 7 ∷ Return 7 Accepted ∷ Leave (call_in 1 3) ∷ Ret (call_in 1 3) (Some (call_in 1 1)) ∷ Leave (call_in 1 1) ∷ Ret (call_in 1 1) None ∷ Enter (call_in 0 3) Normal (record { 0 = 2 }) (Some (call_in 0 1)) ∷ Back (call_in 0 3) (record { 0 = 0 }) ∷ Enter (call_in 0 4) Irq (record { 0 = 0 }) (Some (call_in 0 3)) ∷ Refuse (call_in 0 4) (record { 0 = 0 }) Depth ∷ Back (call_in 0 4) (record { 0 = 1 }) ∷ Enter (call_in 0 5) Irq (record { 0 = 1 }) (Some (call_in 0 4)) ∷ Refuse (call_in 0 5) (record { 0 = 0 }) Recursion ∷ Refuse (call_in 0 5) (record { 0 = 1 }) Recursion ∷ Body (call_in 0 5) (record { 0 = 1 }) ByList ∷ Leave (call_in 0 5) ∷ Ret (call_in 0 5) (Some (call_in 0 4)) ∷ BackEnd (call_in 0 4) (record { 0 = 1 }) ∷ Body (call_in 0 4) (record { 0 = 0 }) ByList ∷ Leave (call_in 0 4) ∷ Ret (call_in 0 4) (Some (call_in 0 3)) ∷ BackEnd (call_in 0 3) (record { 0 = 0 }) ∷ Back (call_in 0 3) (record { 0 = 1 }) ∷ Enter (call_in 0 6) Normal (record { 0 = 1 }) (Some (call_in 0 3)) ∷ Refuse (call_in 0 6) (record { 0 = 0 }) Recursion ∷ Refuse (call_in 0 6) (record { 0 = 1 }) Recursion ∷ Body (call_in 0 6) (record { 0 = 1 }) ByList ∷ Leave (call_in 0 6) ∷ Ret (call_in 0 6) (Some (call_in 0 3)) ∷ BackEnd (call_in 0 3) (record { 0 = 1 }) ∷ Body (call_in 0 3) (record { 0 = 2 }) ByList ∷ Enter (call_in 0 7) Normal (record { 0 = 1 }) (Some (call_in 0 3)) ∷ Refuse (call_in 0 7) (record { 0 = 0 }) Depth ∷ Back (call_in 0 7) (record { 0 = 1 }) ∷ Enter (call_in 0 8) Normal (record { 0 = 1 }) (Some (call_in 0 7)) ∷ Refuse (call_in 0 8) (record { 0 = 0 }) Recursion ∷ Refuse (call_in 0 8) (record { 0 = 1 }) Recursion ∷ Body (call_in 0 8) (record { 0 = 1 }) ByList ∷ Leave (call_in 0 8) ∷ Ret (call_in 0 8) (Some (call_in 0 7)) ∷ BackEnd (call_in 0 7) (record { 0 = 1 }) ∷ Body (call_in 0 7) (record { 0 = 1 }) ByList ∷ Leave (call_in 0 7) ∷ Ret (call_in 0 7) (Some (call_in 0 3)) ∷ Leave (call_in 0 3) ∷ Exit (call_in 0 3) (record { 0 = 0 }) 57 ∷ ExitEnd (call_in 0 3) (record { 0 = 0 }) ∷ Ret (call_in 0 3) (Some (call_in 0 1)) ∷ Leave (call_in 0 1) ∷ Ret (call_in 0 1) None ∷ []
 
 pub job_2049-plays : Plays job_2049 job_2049-items true
-unfolding actors_of repeated start played play is_over step whole desk
+unfolding actors_of repeated start played play all_end step whole desk
 job_2049-plays = (refl, refl)
 
 abbrev pub job_2050 : Job
@@ -283,7 +283,7 @@ abbrev pub job_2050-items : List Item
 job_2050-items = Begin 1 ∷ Return 1 Accepted ∷ Enter (call_in 0 1) Irq (record { 0 = 2 }) None ∷ Body (call_in 0 1) (record { 0 = 2 }) Nop ∷ Begin 2 ∷ Return 2 Accepted ∷ Enter (call_in 0 2) Irq (record { 0 = 0 }) (Some (call_in 0 1)) ∷ Back (call_in 0 2) (record { 0 = 2 }) ∷ BackEnd (call_in 0 2) (record { 0 = 2 }) ∷ Body (call_in 0 2) (record { 0 = 0 }) (Own (record { 0 = 2 })) ∷ Begin 3 ∷ Return 3 Already ∷ Begin 4 ∷ Return 4 Accepted ∷ Enter (call_in 1 1) Nmi (record { 0 = 2 }) None ∷ Back (call_in 1 1) (record { 0 = 2 }) ∷ BackEnd (call_in 1 1) (record { 0 = 2 }) ∷ Body (call_in 1 1) (record { 0 = 2 }) (Own (record { 0 = 2 })) ∷ Begin 5 ∷ Return 5 Accepted ∷ Enter (call_in 1 2) Nmi (record { 0 = 2 }) (Some (call_in 1 1)) ∷ Back (call_in 1 2) (record { 0 = 0 }) ∷ BackEnd (call_in 1 2) (record { 0 = 0 }) ∷ Back (call_in 1 2) (record { 0 = 2 }) ∷ BackEnd (call_in 1 2) (record { 0 = 2 }) ∷ Body (call_in 1 2) (record { 0 = 2 }) ByList ∷ Leave (call_in 0 2) ∷ Exit (call_in 0 2) (record { 0 = 2 }) 7 ∷ ExitEnd (call_in 0 2) (record { 0 = 2 }) ∷ Ret (call_in 0 2) (Some (call_in 0 1)) ∷ Leave (call_in 0 1) ∷ Ret (call_in 0 1) None ∷ Leave (call_in 1 2) ∷ Exit (call_in 1 2) (record { 0 = 2 }) 23 ∷ ExitEnd (call_in 1 2) (record { 0 = 2 }) ∷ Ret (call_in 1 2) (Some (call_in 1 1)) ∷ Enter (call_in 1 3) Nmi (record { 0 = 0 }) (Some (call_in 1 1)) ∷ Back (call_in 1 3) (record { 0 = 2 }) ∷ BackEnd (call_in 1 3) (record { 0 = 2 }) ∷ Body (call_in 1 3) (record { 0 = 0 }) (Own (record { 0 = 2 })) ∷ Enter (call_in 1 4) Nmi (record { 0 = 2 }) (Some (call_in 1 3)) ∷ Back (call_in 1 4) (record { 0 = 0 }) ∷ BackEnd (call_in 1 4) (record { 0 = 0 }) ∷ Back (call_in 1 4) (record { 0 = 2 }) ∷ BackEnd (call_in 1 4) (record { 0 = 2 }) ∷ Body (call_in 1 4) (record { 0 = 2 }) ByList ∷ Leave (call_in 1 4) ∷ Exit (call_in 1 4) (record { 0 = 2 }) 43 ∷ ExitEnd (call_in 1 4) (record { 0 = 2 }) ∷ Ret (call_in 1 4) (Some (call_in 1 3)) ∷ Leave (call_in 1 3) ∷ Exit (call_in 1 3) (record { 0 = 2 }) 37 ∷ ExitEnd (call_in 1 3) (record { 0 = 2 }) ∷ Ret (call_in 1 3) (Some (call_in 1 1)) ∷ Leave (call_in 1 1) ∷ Exit (call_in 1 1) (record { 0 = 2 }) 15 ∷ ExitEnd (call_in 1 1) (record { 0 = 2 }) ∷ Ret (call_in 1 1) None ∷ []
 
 pub job_2050-plays : Plays job_2050 job_2050-items true
-unfolding actors_of repeated start played play is_over step whole desk
+unfolding actors_of repeated start played play all_end step whole desk
 job_2050-plays = (refl, refl)
 
 abbrev pub job_2051 : Job
@@ -293,7 +293,7 @@ abbrev pub job_2051-items : List Item
 job_2051-items = Begin 1 ∷ Return 1 NotThere ∷ Begin 2 ∷ Return 2 Accepted ∷ Enter (call_in 2 1) Nmi (record { 0 = 0 }) None ∷ Body (call_in 2 1) (record { 0 = 0 }) Nop ∷ Begin 3 ∷ Return 3 Accepted ∷ Leave (call_in 2 1) ∷ Ret (call_in 2 1) None ∷ Begin 4 ∷ Return 4 Already ∷ Begin 5 ∷ Return 5 Accepted ∷ Enter (call_in 1 1) Normal (record { 0 = 1 }) None ∷ Back (call_in 1 1) (record { 0 = 0 }) ∷ BackEnd (call_in 1 1) (record { 0 = 0 }) ∷ Body (call_in 1 1) (record { 0 = 1 }) ByList ∷ Enter (call_in 1 2) Normal (record { 0 = 0 }) (Some (call_in 1 1)) ∷ Back (call_in 1 2) (record { 0 = 0 }) ∷ BackEnd (call_in 1 2) (record { 0 = 0 }) ∷ Body (call_in 1 2) (record { 0 = 0 }) ByList ∷ Enter (call_in 1 3) Normal (record { 0 = 1 }) (Some (call_in 1 2)) ∷ Back (call_in 1 3) (record { 0 = 0 }) ∷ BackEnd (call_in 1 3) (record { 0 = 0 }) ∷ Body (call_in 1 3) (record { 0 = 1 }) ByList ∷ Leave (call_in 1 3) ∷ Ret (call_in 1 3) (Some (call_in 1 2)) ∷ Enter (call_in 1 4) Normal (record { 0 = 1 }) (Some (call_in 1 2)) ∷ Back (call_in 1 4) (record { 0 = 0 }) ∷ BackEnd (call_in 1 4) (record { 0 = 0 }) ∷ Body (call_in 1 4) (record { 0 = 1 }) ByList ∷ Leave (call_in 1 4) ∷ Ret (call_in 1 4) (Some (call_in 1 2)) ∷ Leave (call_in 1 2) ∷ Ret (call_in 1 2) (Some (call_in 1 1)) ∷ Leave (call_in 1 1) ∷ Ret (call_in 1 1) None ∷ []
 
 pub job_2051-plays : Plays job_2051 job_2051-items true
-unfolding actors_of repeated start played play is_over step whole desk
+unfolding actors_of repeated start played play all_end step whole desk
 job_2051-plays = (refl, refl)
 
 abbrev pub job_2052 : Job
@@ -303,7 +303,7 @@ abbrev pub job_2052-items : List Item
 job_2052-items = Begin 1 ∷ Return 1 NotThere ∷ Begin 2 ∷ Return 2 NotThere ∷ Begin 3 ∷ Return 3 Accepted ∷ Begin 4 ∷ Return 4 Accepted ∷ Enter (call_in 0 1) Normal (record { 0 = 1 }) None ∷ Back (call_in 0 1) (record { 0 = 0 }) ∷ BackEnd (call_in 0 1) (record { 0 = 0 }) ∷ Body (call_in 0 1) (record { 0 = 1 }) (Own (record { 0 = 0 })) ∷ Enter (call_in 0 2) Normal (record { 0 = 2 }) (Some (call_in 0 1)) ∷ Back (call_in 0 2) (record { 0 = 0 }) ∷ BackEnd (call_in 0 2) (record { 0 = 0 }) ∷ Body (call_in 0 2) (record { 0 = 2 }) (Own (record { 0 = 0 })) ∷ Leave (call_in 0 2) ∷ Ret (call_in 0 2) (Some (call_in 0 1)) ∷ Leave (call_in 0 1) ∷ Ret (call_in 0 1) None ∷ []
 
 pub job_2052-plays : Plays job_2052 job_2052-items true
-unfolding actors_of repeated start played play is_over step whole desk
+unfolding actors_of repeated start played play all_end step whole desk
 job_2052-plays = (refl, refl)
 
 abbrev pub job_2053 : Job
@@ -313,7 +313,7 @@ abbrev pub job_2053-items : List Item
 job_2053-items = Begin 1 ∷ Return 1 NotThere ∷ Begin 2 ∷ Return 2 Invalid ∷ Begin 3 ∷ Return 3 NotThere ∷ Begin 4 ∷ Return 4 NotThere ∷ Begin 5 ∷ Return 5 Accepted ∷ Begin 6 ∷ Return 6 Invalid ∷ Begin 7 ∷ Return 7 Accepted ∷ Enter (call_in 0 1) Nmi (record { 0 = 1 }) None ∷ Back (call_in 0 1) (record { 0 = 3 }) ∷ Enter (call_in 0 2) Nmi (record { 0 = 1 }) (Some (call_in 0 1)) ∷ Refuse (call_in 0 2) (record { 0 = 3 }) Recursion ∷ Body (call_in 0 2) (record { 0 = 1 }) (Own (record { 0 = 3 })) ∷ Leave (call_in 0 2) ∷ Ret (call_in 0 2) (Some (call_in 0 1)) ∷ BackEnd (call_in 0 1) (record { 0 = 3 }) ∷ Body (call_in 0 1) (record { 0 = 1 }) (Own (record { 0 = 3 })) ∷ Enter (call_in 0 3) Nmi (record { 0 = 1 }) (Some (call_in 0 1)) ∷ Back (call_in 0 3) (record { 0 = 3 }) ∷ Enter (call_in 0 4) Nmi (record { 0 = 1 }) (Some (call_in 0 3)) ∷ Refuse (call_in 0 4) (record { 0 = 3 }) Recursion ∷ Body (call_in 0 4) (record { 0 = 1 }) (Own (record { 0 = 3 })) ∷ Leave (call_in 0 4) ∷ Ret (call_in 0 4) (Some (call_in 0 3)) ∷ BackEnd (call_in 0 3) (record { 0 = 3 }) ∷ Body (call_in 0 3) (record { 0 = 1 }) (Own (record { 0 = 3 })) ∷ Leave (call_in 0 3) ∷ Exit (call_in 0 3) (record { 0 = 3 }) 24 ∷ ExitEnd (call_in 0 3) (record { 0 = 3 }) ∷ Ret (call_in 0 3) (Some (call_in 0 1)) ∷ Leave (call_in 0 1) ∷ Exit (call_in 0 1) (record { 0 = 3 }) 15 ∷ ExitEnd (call_in 0 1) (record { 0 = 3 }) ∷ Ret (call_in 0 1) None ∷ []
 
 pub job_2053-plays : Plays job_2053 job_2053-items true
-unfolding actors_of repeated start played play is_over step whole desk
+unfolding actors_of repeated start played play all_end step whole desk
 job_2053-plays = (refl, refl)
 
 abbrev pub job_2056 : Job
@@ -323,7 +323,7 @@ abbrev pub job_2056-items : List Item
 job_2056-items = Begin 1 ∷ Return 1 Accepted ∷ Begin 2 ∷ Return 2 Accepted ∷ Enter (call_in 1 1) Normal (record { 0 = 0 }) None ∷ Body (call_in 1 1) (record { 0 = 0 }) Nop ∷ Begin 3 ∷ Return 3 Accepted ∷ Enter (call_in 1 2) Normal (record { 0 = 2 }) (Some (call_in 1 1)) ∷ Body (call_in 1 2) (record { 0 = 2 }) Nop ∷ Begin 4 ∷ Return 4 Accepted ∷ Enter (call_in 1 3) Normal (record { 0 = 1 }) (Some (call_in 1 2)) ∷ Back (call_in 1 3) (record { 0 = 3 }) ∷ Enter (call_in 1 4) Normal (record { 0 = 2 }) (Some (call_in 1 3)) ∷ Body (call_in 1 4) (record { 0 = 2 }) Nop ∷ Leave (call_in 1 4) ∷ Ret (call_in 1 4) (Some (call_in 1 3)) ∷ BackEnd (call_in 1 3) (record { 0 = 3 }) ∷ Body (call_in 1 3) (record { 0 = 1 }) ByList ∷ Begin 5 ∷ Return 5 Accepted ∷ Leave (call_in 1 3) ∷ Ret (call_in 1 3) (Some (call_in 1 2)) ∷ Begin 6 ∷ Return 6 NotThere ∷ Enter (call_in 1 5) Normal (record { 0 = 0 }) (Some (call_in 1 2)) ∷ Back (call_in 1 5) (record { 0 = 1 }) ∷ BackEnd (call_in 1 5) (record { 0 = 1 }) ∷ Back (call_in 1 5) (record { 0 = 3 }) ∷ Enter (call_in 1 6) Normal (record { 0 = 2 }) (Some (call_in 1 5)) ∷ Refuse (call_in 1 6) (record { 0 = 1 }) Recursion ∷ Body (call_in 1 6) (record { 0 = 2 }) ByList ∷ Leave (call_in 1 6) ∷ Ret (call_in 1 6) (Some (call_in 1 5)) ∷ BackEnd (call_in 1 5) (record { 0 = 3 }) ∷ Body (call_in 1 5) (record { 0 = 0 }) ByList ∷ Enter (call_in 0 1) Normal (record { 0 = 0 }) None ∷ Back (call_in 0 1) (record { 0 = 1 }) ∷ BackEnd (call_in 0 1) (record { 0 = 1 }) ∷ Back (call_in 0 1) (record { 0 = 3 }) ∷ Enter (call_in 0 2) Normal (record { 0 = 2 }) (Some (call_in 0 1)) ∷ Refuse (call_in 0 2) (record { 0 = 1 }) Recursion ∷ Body (call_in 0 2) (record { 0 = 2 }) ByList ∷ Leave (call_in 0 2) ∷ Ret (call_in 0 2) (Some (call_in 0 1)) ∷ BackEnd (call_in 0 1) (record { 0 = 3 }) ∷ Body (call_in 0 1) (record { 0 = 0 }) ByList ∷ Leave (call_in 1 5) ∷ Exit (call_in 1 5) (record { 0 = 1 }) 27 ∷ ExitEnd (call_in 1 5) (record { 0 = 1 }) ∷ Ret (call_in 1 5) (Some (call_in 1 2)) ∷ Enter (call_in 0 3) Normal (record { 0 = 2 }) (Some (call_in 0 1)) ∷ Refuse (call_in 0 3) (record { 0 = 1 }) Depth ∷ Body (call_in 0 3) (record { 0 = 2 }) ByList ∷ Leave (call_in 1 2) ∷ Ret (call_in 1 2) (Some (call_in 1 1)) ∷ Enter (call_in 0 4) Normal (record { 0 = 2 }) (Some (call_in 0 3)) ∷ Refuse (call_in 0 4) (record { 0 = 1 }) Depth ∷ Body (call_in 0 4) (record { 0 = 2 }) ByList ∷ Leave (call_in 1 1) ∷ Ret (call_in 1 1) None ∷ Leave (call_in 0 4) ∷ Ret (call_in 0 4) (Some (call_in 0 3)) ∷ Leave (call_in 0 3) ∷ Ret (call_in 0 3) (Some (call_in 0 1)) ∷ Leave (call_in 0 1) ∷ Exit (call_in 0 1) (record { 0 = 1 }) 38 ∷ ExitEnd (call_in 0 1) (record { 0 = 1 }) ∷ Ret (call_in 0 1) None ∷ []
 
 pub job_2056-plays : Plays job_2056 job_2056-items true
-unfolding actors_of repeated start played play is_over step whole desk
+unfolding actors_of repeated start played play all_end step whole desk
 job_2056-plays = (refl, refl)
 
 abbrev pub job_2057 : Job
@@ -333,7 +333,7 @@ abbrev pub job_2057-items : List Item
 job_2057-items = Begin 1 ∷ Return 1 Accepted ∷ Begin 2 ∷ Return 2 Invalid ∷ Begin 3 ∷ Return 3 Invalid ∷ Begin 4 ∷ Return 4 Accepted ∷ Enter (call_in 0 1) Normal (record { 0 = 0 }) None ∷ Back (call_in 0 1) (record { 0 = 1 }) ∷ BackEnd (call_in 0 1) (record { 0 = 1 }) ∷ Body (call_in 0 1) (record { 0 = 0 }) (Own (record { 0 = 1 })) ∷ Begin 5 ∷ Return 5 NotThere ∷ Begin 6 ∷ Return 6 NotThere ∷ Enter (call_in 0 2) Normal (record { 0 = 0 }) (Some (call_in 0 1)) ∷ Back (call_in 0 2) (record { 0 = 1 }) ∷ BackEnd (call_in 0 2) (record { 0 = 1 }) ∷ Body (call_in 0 2) (record { 0 = 0 }) (Own (record { 0 = 1 })) ∷ Begin 7 ∷ Return 7 Invalid ∷ Leave (call_in 0 2) ∷ Ret (call_in 0 2) (Some (call_in 0 1)) ∷ Enter (call_in 0 3) Normal (record { 0 = 2 }) (Some (call_in 0 1)) ∷ Back (call_in 0 3) (record { 0 = 1 }) ∷ BackEnd (call_in 0 3) (record { 0 = 1 }) ∷ Body (call_in 0 3) (record { 0 = 2 }) (Own (record { 0 = 1 })) ∷ Enter (call_in 1 1) Nmi (record { 0 = 3 }) None ∷ Back (call_in 1 1) (record { 0 = 1 }) ∷ BackEnd (call_in 1 1) (record { 0 = 1 }) ∷ Body (call_in 1 1) (record { 0 = 3 }) (Own (record { 0 = 1 })) ∷ Leave (call_in 0 3) ∷ Ret (call_in 0 3) (Some (call_in 0 1)) ∷ Enter (call_in 1 2) Nmi (record { 0 = 3 }) (Some (call_in 1 1)) ∷ Back (call_in 1 2) (record { 0 = 1 }) ∷ BackEnd (call_in 1 2) (record { 0 = 1 }) ∷ Body (call_in 1 2) (record { 0 = 3 }) (Own (record { 0 = 1 })) ∷ Leave (call_in 1 2) ∷ Ret (call_in 1 2) (Some (call_in 1 1)) ∷ Leave (call_in 0 1) ∷ Ret (call_in 0 1) None ∷ Leave (call_in 1 1) ∷ Ret (call_in 1 1) None ∷ Enter (call_in 1 3) Softirq (record { 0 = 3 }) None ∷ Back (call_in 1 3) (record { 0 = 1 }) ∷ BackEnd (call_in 1 3) (record { 0 = 1 }) ∷ Body (call_in 1 3) (record { 0 = 3 }) (Own (record { 0 = 1 })) ∷ Leave (call_in 1 3) ∷ Ret (call_in 1 3) None ∷ []
 
 pub job_2057-plays : Plays job_2057 job_2057-items true
-unfolding actors_of repeated start played play is_over step whole desk
+unfolding actors_of repeated start played play all_end step whole desk
 job_2057-plays = (refl, refl)
 
 abbrev pub job_2058 : Job
@@ -343,7 +343,7 @@ abbrev pub job_2058-items : List Item
 job_2058-items = Begin 1 ∷ Return 1 Accepted ∷ Enter (call_in 0 1) Nmi (record { 0 = 1 }) None ∷ Body (call_in 0 1) (record { 0 = 1 }) Nop ∷ Enter (call_in 0 2) Nmi (record { 0 = 0 }) (Some (call_in 0 1)) ∷ Body (call_in 0 2) (record { 0 = 0 }) Nop ∷ Begin 2 ∷ Return 2 Accepted ∷ Enter (call_in 2 1) Nmi (record { 0 = 1 }) None ∷ Body (call_in 2 1) (record { 0 = 1 }) Nop ∷ Begin 3 ∷ Return 3 Accepted ∷ Enter (call_in 0 3) Nmi (record { 0 = 1 }) (Some (call_in 0 2)) ∷ Back (call_in 0 3) (record { 0 = 1 }) ∷ BackEnd (call_in 0 3) (record { 0 = 1 }) ∷ Body (call_in 0 3) (record { 0 = 1 }) (Own (record { 0 = 1 })) ∷ Leave (call_in 0 3) ∷ Exit (call_in 0 3) (record { 0 = 1 }) 13 ∷ ExitEnd (call_in 0 3) (record { 0 = 1 }) ∷ Ret (call_in 0 3) (Some (call_in 0 2)) ∷ Leave (call_in 0 2) ∷ Ret (call_in 0 2) (Some (call_in 0 1)) ∷ Enter (call_in 1 1) Normal (record { 0 = 0 }) None ∷ Back (call_in 1 1) (record { 0 = 1 }) ∷ BackEnd (call_in 1 1) (record { 0 = 1 }) ∷ Body (call_in 1 1) (record { 0 = 0 }) (Own (record { 0 = 1 })) ∷ Enter (call_in 2 2) Nmi (record { 0 = 1 }) (Some (call_in 2 1)) ∷ Back (call_in 2 2) (record { 0 = 1 }) ∷ BackEnd (call_in 2 2) (record { 0 = 1 }) ∷ Body (call_in 2 2) (record { 0 = 1 }) (Own (record { 0 = 1 })) ∷ Enter (call_in 2 3) Nmi (record { 0 = 0 }) (Some (call_in 2 2)) ∷ Back (call_in 2 3) (record { 0 = 1 }) ∷ BackEnd (call_in 2 3) (record { 0 = 1 }) ∷ Body (call_in 2 3) (record { 0 = 0 }) (Own (record { 0 = 1 })) ∷ Enter (call_in 2 4) Nmi (record { 0 = 1 }) (Some (call_in 2 3)) ∷ Back (call_in 2 4) (record { 0 = 1 }) ∷ BackEnd (call_in 2 4) (record { 0 = 1 }) ∷ Body (call_in 2 4) (record { 0 = 1 }) (Own (record { 0 = 1 })) ∷ Leave (call_in 0 1) ∷ Ret (call_in 0 1) None ∷ Leave (call_in 1 1) ∷ Exit (call_in 1 1) (record { 0 = 1 }) 23 ∷ ExitEnd (call_in 1 1) (record { 0 = 1 }) ∷ Ret (call_in 1 1) None ∷ Enter (call_in 2 5) Nmi (record { 0 = 0 }) (Some (call_in 2 4)) ∷ Back (call_in 2 5) (record { 0 = 1 }) ∷ BackEnd (call_in 2 5) (record { 0 = 1 }) ∷ Body (call_in 2 5) (record { 0 = 0 }) (Own (record { 0 = 1 })) ∷ Enter (call_in 2 6) Nmi (record { 0 = 1 }) (Some (call_in 2 5)) ∷ Back (call_in 2 6) (record { 0 = 1 }) ∷ BackEnd (call_in 2 6) (record { 0 = 1 }) ∷ Body (call_in 2 6) (record { 0 = 1 }) (Own (record { 0 = 1 })) ∷ Leave (call_in 2 6) ∷ Exit (call_in 2 6) (record { 0 = 1 }) 49 ∷ ExitEnd (call_in 2 6) (record { 0 = 1 }) ∷ Ret (call_in 2 6) (Some (call_in 2 5)) ∷ Leave (call_in 2 5) ∷ Exit (call_in 2 5) (record { 0 = 1 }) 45 ∷ ExitEnd (call_in 2 5) (record { 0 = 1 }) ∷ Ret (call_in 2 5) (Some (call_in 2 4)) ∷ Leave (call_in 2 4) ∷ Exit (call_in 2 4) (record { 0 = 1 }) 35 ∷ ExitEnd (call_in 2 4) (record { 0 = 1 }) ∷ Ret (call_in 2 4) (Some (call_in 2 3)) ∷ Leave (call_in 2 3) ∷ Exit (call_in 2 3) (record { 0 = 1 }) 31 ∷ ExitEnd (call_in 2 3) (record { 0 = 1 }) ∷ Ret (call_in 2 3) (Some (call_in 2 2)) ∷ Leave (call_in 2 2) ∷ Exit (call_in 2 2) (record { 0 = 1 }) 27 ∷ ExitEnd (call_in 2 2) (record { 0 = 1 }) ∷ Ret (call_in 2 2) (Some (call_in 2 1)) ∷ Leave (call_in 2 1) ∷ Ret (call_in 2 1) None ∷ []
 
 pub job_2058-plays : Plays job_2058 job_2058-items true
-unfolding actors_of repeated start played play is_over step whole desk
+unfolding actors_of repeated start played play all_end step whole desk
 job_2058-plays = (refl, refl)
 
 abbrev pub job_2060 : Job
@@ -353,7 +353,7 @@ abbrev pub job_2060-items : List Item
 job_2060-items = Begin 1 ∷ Return 1 NotThere ∷ Enter (call_in 0 1) Normal (record { 0 = 2 }) None ∷ Body (call_in 0 1) (record { 0 = 2 }) Nop ∷ Begin 2 ∷ Return 2 Accepted ∷ Enter (call_in 2 1) Nmi (record { 0 = 2 }) None ∷ Back (call_in 2 1) (record { 0 = 0 }) ∷ Enter (call_in 2 2) Nmi (record { 0 = 2 }) (Some (call_in 2 1)) ∷ Refuse (call_in 2 2) (record { 0 = 0 }) Recursion ∷ Body (call_in 2 2) (record { 0 = 2 }) (Own (record { 0 = 0 })) ∷ Leave (call_in 2 2) ∷ Ret (call_in 2 2) (Some (call_in 2 1)) ∷ BackEnd (call_in 2 1) (record { 0 = 0 }) ∷ Body (call_in 2 1) (record { 0 = 2 }) (Own (record { 0 = 0 })) ∷ Begin 3 ∷ Return 3 Already ∷ Begin 4 ∷ Return 4 Accepted ∷ Enter (call_in 2 3) Nmi (record { 0 = 1 }) (Some (call_in 2 1)) ∷ Body (call_in 2 3) (record { 0 = 1 }) Nop ∷ Enter (call_in 0 2) Normal (record { 0 = 2 }) (Some (call_in 0 1)) ∷ Back (call_in 0 2) (record { 0 = 0 }) ∷ Enter (call_in 0 3) Normal (record { 0 = 2 }) (Some (call_in 0 2)) ∷ Refuse (call_in 0 3) (record { 0 = 0 }) Recursion ∷ Body (call_in 0 3) (record { 0 = 2 }) (Own (record { 0 = 0 })) ∷ Leave (call_in 0 3) ∷ Ret (call_in 0 3) (Some (call_in 0 2)) ∷ BackEnd (call_in 0 2) (record { 0 = 0 }) ∷ Body (call_in 0 2) (record { 0 = 2 }) (Own (record { 0 = 0 })) ∷ Begin 5 ∷ Return 5 Accepted ∷ Begin 6 ∷ Return 6 Already ∷ Enter (call_in 0 4) Normal (record { 0 = 0 }) (Some (call_in 0 2)) ∷ Body (call_in 0 4) (record { 0 = 0 }) Nop ∷ Enter (call_in 1 1) Normal (record { 0 = 1 }) None ∷ Body (call_in 1 1) (record { 0 = 1 }) Nop ∷ Leave (call_in 0 4) ∷ Ret (call_in 0 4) (Some (call_in 0 2)) ∷ Enter (call_in 1 2) Normal (record { 0 = 2 }) (Some (call_in 1 1)) ∷ Back (call_in 1 2) (record { 0 = 0 }) ∷ Enter (call_in 1 3) Normal (record { 0 = 2 }) (Some (call_in 1 2)) ∷ Refuse (call_in 1 3) (record { 0 = 0 }) Recursion ∷ Body (call_in 1 3) (record { 0 = 2 }) (Own (record { 0 = 0 })) ∷ Leave (call_in 1 3) ∷ Ret (call_in 1 3) (Some (call_in 1 2)) ∷ BackEnd (call_in 1 2) (record { 0 = 0 }) ∷ Body (call_in 1 2) (record { 0 = 2 }) (Own (record { 0 = 0 })) ∷ Enter (call_in 0 5) Normal (record { 0 = 1 }) (Some (call_in 0 2)) ∷ Body (call_in 0 5) (record { 0 = 1 }) Nop ∷ Enter (call_in 2 4) Nmi (record { 0 = 0 }) (Some (call_in 2 3)) ∷ Body (call_in 2 4) (record { 0 = 0 }) Nop ∷ Enter (call_in 0 6) Normal (record { 0 = 2 }) (Some (call_in 0 5)) ∷ Back (call_in 0 6) (record { 0 = 0 }) ∷ Enter (call_in 0 7) Normal (record { 0 = 2 }) (Some (call_in 0 6)) ∷ Refuse (call_in 0 7) (record { 0 = 0 }) Recursion ∷ Body (call_in 0 7) (record { 0 = 2 }) (Own (record { 0 = 0 })) ∷ Leave (call_in 0 7) ∷ Ret (call_in 0 7) (Some (call_in 0 6)) ∷ BackEnd (call_in 0 6) (record { 0 = 0 }) ∷ Body (call_in 0 6) (record { 0 = 2 }) (Own (record { 0 = 0 })) ∷ Enter (call_in 2 5) Nmi (record { 0 = 1 }) (Some (call_in 2 4)) ∷ Body (call_in 2 5) (record { 0 = 1 }) Nop ∷ Leave (call_in 0 6) ∷ Ret (call_in 0 6) (Some (call_in 0 5)) ∷ Leave (call_in 2 5) ∷ Ret (call_in 2 5) (Some (call_in 2 4)) ∷ Leave (call_in 0 5) ∷ Ret (call_in 0 5) (Some (call_in 0 2)) ∷ Leave (call_in 1 2) ∷ Ret (call_in 1 2) (Some (call_in 1 1)) ∷ Leave (call_in 0 2) ∷ Ret (call_in 0 2) (Some (call_in 0 1)) ∷ Leave (call_in 1 1) ∷ Ret (call_in 1 1) None ∷ Leave (call_in 0 1) ∷ Ret (call_in 0 1) None ∷ Leave (call_in 2 4) ∷ Ret (call_in 2 4) (Some (call_in 2 3)) ∷ Leave (call_in 2 3) ∷ Ret (call_in 2 3) (Some (call_in 2 1)) ∷ Leave (call_in 2 1) ∷ Ret (call_in 2 1) None ∷ []
 
 pub job_2060-plays : Plays job_2060 job_2060-items true
-unfolding actors_of repeated start played play is_over step whole desk
+unfolding actors_of repeated start played play all_end step whole desk
 job_2060-plays = (refl, refl)
 
 abbrev pub job_2061 : Job
@@ -363,7 +363,7 @@ abbrev pub job_2061-items : List Item
 job_2061-items = Enter (call_in 0 1) Normal (record { 0 = 0 }) None ∷ Body (call_in 0 1) (record { 0 = 0 }) Nop ∷ Enter (call_in 0 2) Normal (record { 0 = 0 }) (Some (call_in 0 1)) ∷ Body (call_in 0 2) (record { 0 = 0 }) Nop ∷ Begin 1 ∷ Return 1 Accepted ∷ Enter (call_in 0 3) Normal (record { 0 = 2 }) (Some (call_in 0 2)) ∷ Body (call_in 0 3) (record { 0 = 2 }) Nop ∷ Begin 2 ∷ Return 2 NotThere ∷ Leave (call_in 0 3) ∷ Ret (call_in 0 3) (Some (call_in 0 2)) ∷ Begin 3 ∷ Return 3 Accepted ∷ Leave (call_in 0 2) ∷ Ret (call_in 0 2) (Some (call_in 0 1)) ∷ Leave (call_in 0 1) ∷ Ret (call_in 0 1) None ∷ []
 
 pub job_2061-plays : Plays job_2061 job_2061-items true
-unfolding actors_of repeated start played play is_over step whole desk
+unfolding actors_of repeated start played play all_end step whole desk
 job_2061-plays = (refl, refl)
 
 abbrev pub job_2062 : Job
@@ -373,7 +373,7 @@ abbrev pub job_2062-items : List Item
 job_2062-items = Begin 1 ∷ Return 1 Accepted ∷ Begin 2 ∷ Return 2 Accepted ∷ Begin 3 ∷ Return 3 NotThere ∷ Enter (call_in 0 1) Nmi (record { 0 = 2 }) None ∷ Back (call_in 0 1) (record { 0 = 1 }) ∷ BackEnd (call_in 0 1) (record { 0 = 1 }) ∷ Back (call_in 0 1) (record { 0 = 0 }) ∷ Enter (call_in 0 2) Nmi (record { 0 = 0 }) (Some (call_in 0 1)) ∷ Refuse (call_in 0 2) (record { 0 = 1 }) Recursion ∷ Refuse (call_in 0 2) (record { 0 = 0 }) Recursion ∷ Body (call_in 0 2) (record { 0 = 0 }) ByList ∷ Leave (call_in 0 2) ∷ Ret (call_in 0 2) (Some (call_in 0 1)) ∷ BackEnd (call_in 0 1) (record { 0 = 0 }) ∷ Body (call_in 0 1) (record { 0 = 2 }) ByList ∷ Leave (call_in 0 1) ∷ Exit (call_in 0 1) (record { 0 = 1 }) 7 ∷ ExitEnd (call_in 0 1) (record { 0 = 1 }) ∷ Exit (call_in 0 1) (record { 0 = 0 }) 9 ∷ ExitEnd (call_in 0 1) (record { 0 = 0 }) ∷ Ret (call_in 0 1) None ∷ []
 
 pub job_2062-plays : Plays job_2062 job_2062-items true
-unfolding actors_of repeated start played play is_over step whole desk
+unfolding actors_of repeated start played play all_end step whole desk
 job_2062-plays = (refl, refl)
 
 abbrev pub job_2063 : Job
@@ -383,7 +383,7 @@ abbrev pub job_2063-items : List Item
 job_2063-items = Begin 1 ∷ Return 1 Accepted ∷ Enter (call_in 0 1) Normal (record { 0 = 1 }) None ∷ Body (call_in 0 1) (record { 0 = 1 }) Nop ∷ Begin 2 ∷ Return 2 Accepted ∷ Leave (call_in 0 1) ∷ Ret (call_in 0 1) None ∷ Begin 3 ∷ Return 3 Accepted ∷ Enter (call_in 0 2) Normal (record { 0 = 1 }) None ∷ Body (call_in 0 2) (record { 0 = 1 }) Nop ∷ Begin 4 ∷ Return 4 NotThere ∷ Enter (call_in 1 1) Irq (record { 0 = 1 }) None ∷ Body (call_in 1 1) (record { 0 = 1 }) Nop ∷ Begin 5 ∷ Return 5 NotThere ∷ Enter (call_in 0 3) Normal (record { 0 = 1 }) (Some (call_in 0 2)) ∷ Body (call_in 0 3) (record { 0 = 1 }) Nop ∷ Enter (call_in 0 4) Normal (record { 0 = 1 }) (Some (call_in 0 3)) ∷ Body (call_in 0 4) (record { 0 = 1 }) Nop ∷ Leave (call_in 0 4) ∷ Ret (call_in 0 4) (Some (call_in 0 3)) ∷ Enter (call_in 1 2) Irq (record { 0 = 0 }) (Some (call_in 1 1)) ∷ Body (call_in 1 2) (record { 0 = 0 }) Nop ∷ Enter (call_in 1 3) Irq (record { 0 = 0 }) (Some (call_in 1 2)) ∷ Body (call_in 1 3) (record { 0 = 0 }) Nop ∷ Enter (call_in 1 4) Irq (record { 0 = 0 }) (Some (call_in 1 3)) ∷ Body (call_in 1 4) (record { 0 = 0 }) Nop ∷ Leave (call_in 1 4) ∷ Ret (call_in 1 4) (Some (call_in 1 3)) ∷ Leave (call_in 0 3) ∷ Ret (call_in 0 3) (Some (call_in 0 2)) ∷ Leave (call_in 0 2) ∷ Ret (call_in 0 2) None ∷ Leave (call_in 1 3) ∷ Ret (call_in 1 3) (Some (call_in 1 2)) ∷ Leave (call_in 1 2) ∷ Ret (call_in 1 2) (Some (call_in 1 1)) ∷ Leave (call_in 1 1) ∷ Ret (call_in 1 1) None ∷ []
 
 pub job_2063-plays : Plays job_2063 job_2063-items true
-unfolding actors_of repeated start played play is_over step whole desk
+unfolding actors_of repeated start played play all_end step whole desk
 job_2063-plays = (refl, refl)
 
 abbrev pub job_2066 : Job
@@ -393,7 +393,7 @@ abbrev pub job_2066-items : List Item
 job_2066-items = Enter (call_in 2 1) Normal (record { 0 = 0 }) None ∷ Body (call_in 2 1) (record { 0 = 0 }) Nop ∷ Leave (call_in 2 1) ∷ Ret (call_in 2 1) None ∷ Begin 1 ∷ Return 1 NotThere ∷ Begin 2 ∷ Return 2 NotThere ∷ Begin 3 ∷ Return 3 Accepted ∷ Enter (call_in 2 2) Irq (record { 0 = 0 }) None ∷ Back (call_in 2 2) (record { 0 = 0 }) ∷ BackEnd (call_in 2 2) (record { 0 = 0 }) ∷ Body (call_in 2 2) (record { 0 = 0 }) (Own (record { 0 = 0 })) ∷ Enter (call_in 1 1) Normal (record { 0 = 0 }) None ∷ Back (call_in 1 1) (record { 0 = 0 }) ∷ BackEnd (call_in 1 1) (record { 0 = 0 }) ∷ Body (call_in 1 1) (record { 0 = 0 }) (Own (record { 0 = 0 })) ∷ Begin 4 ∷ Return 4 Accepted ∷ Leave (call_in 2 2) ∷ Exit (call_in 2 2) (record { 0 = 0 }) 11 ∷ ExitEnd (call_in 2 2) (record { 0 = 0 }) ∷ Ret (call_in 2 2) None ∷ Enter (call_in 1 2) Normal (record { 0 = 0 }) (Some (call_in 1 1)) ∷ Back (call_in 1 2) (record { 0 = 0 }) ∷ BackEnd (call_in 1 2) (record { 0 = 0 }) ∷ Body (call_in 1 2) (record { 0 = 0 }) (Own (record { 0 = 0 })) ∷ Begin 5 ∷ Return 5 Invalid ∷ Enter (call_in 2 3) Irq (record { 0 = 0 }) None ∷ Back (call_in 2 3) (record { 0 = 0 }) ∷ BackEnd (call_in 2 3) (record { 0 = 0 }) ∷ Body (call_in 2 3) (record { 0 = 0 }) (Own (record { 0 = 0 })) ∷ Enter (call_in 0 1) Irq (record { 0 = 0 }) None ∷ Back (call_in 0 1) (record { 0 = 0 }) ∷ BackEnd (call_in 0 1) (record { 0 = 0 }) ∷ Body (call_in 0 1) (record { 0 = 0 }) (Own (record { 0 = 0 })) ∷ Begin 6 ∷ Return 6 Already ∷ Leave (call_in 2 3) ∷ Exit (call_in 2 3) (record { 0 = 0 }) 31 ∷ ExitEnd (call_in 2 3) (record { 0 = 0 }) ∷ Ret (call_in 2 3) None ∷ Enter (call_in 0 2) Irq (record { 0 = 0 }) (Some (call_in 0 1)) ∷ Back (call_in 0 2) (record { 0 = 0 }) ∷ BackEnd (call_in 0 2) (record { 0 = 0 }) ∷ Body (call_in 0 2) (record { 0 = 0 }) (Own (record { 0 = 0 })) ∷ Leave (call_in 1 2) ∷ Exit (call_in 1 2) (record { 0 = 0 }) 25 ∷ ExitEnd (call_in 1 2) (record { 0 = 0 }) ∷ Ret (call_in 1 2) (Some (call_in 1 1)) ∷ Enter (call_in 2 4) Normal (record { 0 = 0 }) None ∷ Back (call_in 2 4) (record { 0 = 0 }) ∷ BackEnd (call_in 2 4) (record { 0 = 0 }) ∷ Body (call_in 2 4) (record { 0 = 0 }) (Own (record { 0 = 0 })) ∷ Leave (call_in 1 1) ∷ Exit (call_in 1 1) (record { 0 = 0 }) 15 ∷ ExitEnd (call_in 1 1) (record { 0 = 0 }) ∷ Ret (call_in 1 1) None ∷ Leave (call_in 2 4) ∷ Exit (call_in 2 4) (record { 0 = 0 }) 53 ∷ ExitEnd (call_in 2 4) (record { 0 = 0 }) ∷ Ret (call_in 2 4) None ∷ Enter (call_in 0 3) Irq (record { 0 = 0 }) (Some (call_in 0 2)) ∷ Refuse (call_in 0 3) (record { 0 = 0 }) Depth ∷ Body (call_in 0 3) (record { 0 = 0 }) (Own (record { 0 = 0 })) ∷ Leave (call_in 0 3) ∷ Ret (call_in 0 3) (Some (call_in 0 2)) ∷ Leave (call_in 0 2) ∷ Exit (call_in 0 2) (record { 0 = 0 }) 45 ∷ ExitEnd (call_in 0 2) (record { 0 = 0 }) ∷ Ret (call_in 0 2) (Some (call_in 0 1)) ∷ Leave (call_in 0 1) ∷ Exit (call_in 0 1) (record { 0 = 0 }) 35 ∷ ExitEnd (call_in 0 1) (record { 0 = 0 }) ∷ Ret (call_in 0 1) None ∷ []
 
 pub job_2066-plays : Plays job_2066 job_2066-items true
-unfolding actors_of repeated start played play is_over step whole desk
+unfolding actors_of repeated start played play all_end step whole desk
 job_2066-plays = (refl, refl)
 
 abbrev pub job_2067 : Job
@@ -403,7 +403,7 @@ abbrev pub job_2067-items : List Item
 job_2067-items = Begin 1 ∷ Return 1 NotThere ∷ Begin 2 ∷ Return 2 Accepted ∷ Enter (call_in 0 1) Softirq (record { 0 = 0 }) None ∷ Back (call_in 0 1) (record { 0 = 0 }) ∷ BackEnd (call_in 0 1) (record { 0 = 0 }) ∷ Body (call_in 0 1) (record { 0 = 0 }) (Own (record { 0 = 0 })) ∷ Begin 3 ∷ Return 3 Already ∷ Enter (call_in 0 2) Softirq (record { 0 = 0 }) (Some (call_in 0 1)) ∷ Back (call_in 0 2) (record { 0 = 0 }) ∷ BackEnd (call_in 0 2) (record { 0 = 0 }) ∷ Body (call_in 0 2) (record { 0 = 0 }) (Own (record { 0 = 0 })) ∷ Begin 4 ∷ Return 4 Accepted ∷ Leave (call_in 0 2) ∷ Ret (call_in 0 2) (Some (call_in 0 1)) ∷ Begin 5 ∷ Return 5 Accepted ∷ Enter (call_in 0 3) Softirq (record { 0 = 0 }) (Some (call_in 0 1)) ∷ Back (call_in 0 3) (record { 0 = 0 }) ∷ BackEnd (call_in 0 3) (record { 0 = 0 }) ∷ Body (call_in 0 3) (record { 0 = 0 }) (Own (record { 0 = 0 })) ∷ Begin 6 ∷ Return 6 NotThere ∷ Leave (call_in 0 3) ∷ Ret (call_in 0 3) (Some (call_in 0 1)) ∷ Begin 7 ∷ Return 7 Already ∷ Leave (call_in 0 1) ∷ Ret (call_in 0 1) None ∷ []
 
 pub job_2067-plays : Plays job_2067 job_2067-items true
-unfolding actors_of repeated start played play is_over step whole desk
+unfolding actors_of repeated start played play all_end step whole desk
 job_2067-plays = (refl, refl)
 
 abbrev pub job_2068 : Job
@@ -413,7 +413,7 @@ abbrev pub job_2068-items : List Item
 job_2068-items = Begin 1 ∷ Return 1 Accepted ∷ Enter (call_in 0 1) Normal (record { 0 = 0 }) None ∷ Body (call_in 0 1) (record { 0 = 0 }) Nop ∷ Leave (call_in 0 1) ∷ Ret (call_in 0 1) None ∷ Enter (call_in 0 2) Normal (record { 0 = 0 }) None ∷ Body (call_in 0 2) (record { 0 = 0 }) Nop ∷ Leave (call_in 0 2) ∷ Ret (call_in 0 2) None ∷ Begin 2 ∷ Return 2 Accepted ∷ Begin 3 ∷ Return 3 Accepted ∷ Begin 4 ∷ Return 4 NotThere ∷ []
 
 pub job_2068-plays : Plays job_2068 job_2068-items true
-unfolding actors_of repeated start played play is_over step whole desk
+unfolding actors_of repeated start played play all_end step whole desk
 job_2068-plays = (refl, refl)
 
 abbrev pub job_2073 : Job
@@ -423,7 +423,7 @@ abbrev pub job_2073-items : List Item
 job_2073-items = Begin 1 ∷ Return 1 Accepted ∷ Begin 2 ∷ Return 2 Already ∷ Enter (call_in 0 1) Normal (record { 0 = 0 }) None ∷ Back (call_in 0 1) (record { 0 = 0 }) ∷ Enter (call_in 0 2) Irq (record { 0 = 0 }) (Some (call_in 0 1)) ∷ Refuse (call_in 0 2) (record { 0 = 0 }) Depth ∷ Body (call_in 0 2) (record { 0 = 0 }) ByList ∷ Leave (call_in 0 2) ∷ Ret (call_in 0 2) (Some (call_in 0 1)) ∷ BackEnd (call_in 0 1) (record { 0 = 0 }) ∷ Body (call_in 0 1) (record { 0 = 0 }) ByList ∷ Begin 3 ∷ Return 3 Already ∷ Leave (call_in 0 1) ∷ Exit (call_in 0 1) (record { 0 = 0 }) 5 ∷ ExitEnd (call_in 0 1) (record { 0 = 0 }) ∷ Ret (call_in 0 1) None ∷ Begin 4 ∷ Return 4 Accepted ∷ Enter (call_in 1 1) Normal (record { 0 = 0 }) None ∷ Body (call_in 1 1) (record { 0 = 0 }) Nop ∷ Leave (call_in 1 1) ∷ Ret (call_in 1 1) None ∷ Enter (call_in 1 2) Nmi (record { 0 = 0 }) None ∷ Body (call_in 1 2) (record { 0 = 0 }) Nop ∷ Leave (call_in 1 2) ∷ Ret (call_in 1 2) None ∷ Enter (call_in 1 3) Nmi (record { 0 = 1 }) None ∷ Back (call_in 1 3) (record { 0 = 0 }) ∷ BackEnd (call_in 1 3) (record { 0 = 0 }) ∷ Body (call_in 1 3) (record { 0 = 1 }) ByList ∷ Leave (call_in 1 3) ∷ Exit (call_in 1 3) (record { 0 = 0 }) 30 ∷ ExitEnd (call_in 1 3) (record { 0 = 0 }) ∷ Ret (call_in 1 3) None ∷ []
 
 pub job_2073-plays : Plays job_2073 job_2073-items true
-unfolding actors_of repeated start played play is_over step whole desk
+unfolding actors_of repeated start played play all_end step whole desk
 job_2073-plays = (refl, refl)
 
 abbrev pub job_2074 : Job
@@ -433,7 +433,7 @@ abbrev pub job_2074-items : List Item
 job_2074-items = Begin 1 ∷ Return 1 NotThere ∷ Begin 2 ∷ Return 2 NotThere ∷ Begin 3 ∷ Return 3 Accepted ∷ Begin 4 ∷ Return 4 NotThere ∷ Enter (call_in 0 1) Irq (record { 0 = 0 }) None ∷ Back (call_in 0 1) (record { 0 = 1 }) ∷ BackEnd (call_in 0 1) (record { 0 = 1 }) ∷ Body (call_in 0 1) (record { 0 = 0 }) ByList ∷ Enter (call_in 0 2) Irq (record { 0 = 1 }) (Some (call_in 0 1)) ∷ Back (call_in 0 2) (record { 0 = 1 }) ∷ BackEnd (call_in 0 2) (record { 0 = 1 }) ∷ Body (call_in 0 2) (record { 0 = 1 }) ByList ∷ Enter (call_in 0 3) Irq (record { 0 = 0 }) (Some (call_in 0 2)) ∷ Back (call_in 0 3) (record { 0 = 1 }) ∷ BackEnd (call_in 0 3) (record { 0 = 1 }) ∷ Body (call_in 0 3) (record { 0 = 0 }) ByList ∷ Leave (call_in 0 3) ∷ Ret (call_in 0 3) (Some (call_in 0 2)) ∷ Leave (call_in 0 2) ∷ Ret (call_in 0 2) (Some (call_in 0 1)) ∷ Leave (call_in 0 1) ∷ Ret (call_in 0 1) None ∷ []
 
 pub job_2074-plays : Plays job_2074 job_2074-items true
-unfolding actors_of repeated start played play is_over step whole desk
+unfolding actors_of repeated start played play all_end step whole desk
 job_2074-plays = (refl, refl)
 
 abbrev pub job_2076 : Job
@@ -443,7 +443,7 @@ abbrev pub job_2076-items : List Item
 job_2076-items = Begin 1 ∷ Return 1 Accepted ∷ Begin 2 ∷ Return 2 Accepted ∷ Begin 3 ∷ Return 3 NotThere ∷ Enter (call_in 0 1) Softirq (record { 0 = 1 }) None ∷ Back (call_in 0 1) (record { 0 = 1 }) ∷ BackEnd (call_in 0 1) (record { 0 = 1 }) ∷ Body (call_in 0 1) (record { 0 = 1 }) (Own (record { 0 = 1 })) ∷ Leave (call_in 0 1) ∷ Ret (call_in 0 1) None ∷ Begin 4 ∷ Return 4 Accepted ∷ Begin 5 ∷ Return 5 Accepted ∷ Begin 6 ∷ Return 6 Already ∷ Begin 7 ∷ Return 7 Already ∷ Enter (call_in 0 2) Normal (record { 0 = 0 }) None ∷ Back (call_in 0 2) (record { 0 = 0 }) ∷ BackEnd (call_in 0 2) (record { 0 = 0 }) ∷ Back (call_in 0 2) (record { 0 = 1 }) ∷ BackEnd (call_in 0 2) (record { 0 = 1 }) ∷ Body (call_in 0 2) (record { 0 = 0 }) ByList ∷ Leave (call_in 0 2) ∷ Exit (call_in 0 2) (record { 0 = 0 }) 21 ∷ ExitEnd (call_in 0 2) (record { 0 = 0 }) ∷ Ret (call_in 0 2) None ∷ []
 
 pub job_2076-plays : Plays job_2076 job_2076-items true
-unfolding actors_of repeated start played play is_over step whole desk
+unfolding actors_of repeated start played play all_end step whole desk
 job_2076-plays = (refl, refl)
 
 abbrev pub job_2078 : Job
@@ -453,7 +453,7 @@ abbrev pub job_2078-items : List Item
 job_2078-items = Begin 1 ∷ Return 1 NotThere ∷ Begin 2 ∷ Return 2 Accepted ∷ Enter (call_in 1 1) Normal (record { 0 = 0 }) None ∷ Back (call_in 1 1) (record { 0 = 0 }) ∷ BackEnd (call_in 1 1) (record { 0 = 0 }) ∷ Body (call_in 1 1) (record { 0 = 0 }) (Own (record { 0 = 0 })) ∷ Enter (call_in 0 1) Normal (record { 0 = 0 }) None ∷ Back (call_in 0 1) (record { 0 = 0 }) ∷ BackEnd (call_in 0 1) (record { 0 = 0 }) ∷ Body (call_in 0 1) (record { 0 = 0 }) (Own (record { 0 = 0 })) ∷ Leave (call_in 1 1) ∷ Exit (call_in 1 1) (record { 0 = 0 }) 5 ∷ ExitEnd (call_in 1 1) (record { 0 = 0 }) ∷ Ret (call_in 1 1) None ∷ Enter (call_in 1 2) Softirq (record { 0 = 0 }) None ∷ Back (call_in 1 2) (record { 0 = 0 }) ∷ BackEnd (call_in 1 2) (record { 0 = 0 }) ∷ Body (call_in 1 2) (record { 0 = 0 }) (Own (record { 0 = 0 })) ∷ Enter (call_in 2 1) Normal (record { 0 = 0 }) None ∷ Back (call_in 2 1) (record { 0 = 0 }) ∷ BackEnd (call_in 2 1) (record { 0 = 0 }) ∷ Body (call_in 2 1) (record { 0 = 0 }) (Own (record { 0 = 0 })) ∷ Enter (call_in 2 2) Normal (record { 0 = 0 }) (Some (call_in 2 1)) ∷ Back (call_in 2 2) (record { 0 = 0 }) ∷ Miss (call_in 2 2) (record { 0 = 0 }) ∷ BackEnd (call_in 2 2) (record { 0 = 0 }) ∷ Body (call_in 2 2) (record { 0 = 0 }) (Own (record { 0 = 0 })) ∷ Leave (call_in 1 2) ∷ Exit (call_in 1 2) (record { 0 = 0 }) 17 ∷ ExitEnd (call_in 1 2) (record { 0 = 0 }) ∷ Ret (call_in 1 2) None ∷ Enter (call_in 2 3) Normal (record { 0 = 0 }) (Some (call_in 2 2)) ∷ Back (call_in 2 3) (record { 0 = 0 }) ∷ Miss (call_in 2 3) (record { 0 = 0 }) ∷ BackEnd (call_in 2 3) (record { 0 = 0 }) ∷ Body (call_in 2 3) (record { 0 = 0 }) (Own (record { 0 = 0 })) ∷ Leave (call_in 0 1) ∷ Exit (call_in 0 1) (record { 0 = 0 }) 9 ∷ ExitEnd (call_in 0 1) (record { 0 = 0 }) ∷ Ret (call_in 0 1) None ∷ Leave (call_in 2 3) ∷ Ret (call_in 2 3) (Some (call_in 2 2)) ∷ Leave (call_in 2 2) ∷ Ret (call_in 2 2) (Some (call_in 2 1)) ∷ Leave (call_in 2 1) ∷ Exit (call_in 2 1) (record { 0 = 0 }) 21 ∷ ExitEnd (call_in 2 1) (record { 0 = 0 }) ∷ Ret (call_in 2 1) None ∷ []
 
 pub job_2078-plays : Plays job_2078 job_2078-items true
-unfolding actors_of repeated start played play is_over step whole desk
+unfolding actors_of repeated start played play all_end step whole desk
 job_2078-plays = (refl, refl)
 
 abbrev pub job_2079 : Job
@@ -463,7 +463,7 @@ abbrev pub job_2079-items : List Item
 job_2079-items = Begin 1 ∷ Return 1 Accepted ∷ Enter (call_in 0 1) Normal (record { 0 = 2 }) None ∷ Back (call_in 0 1) (record { 0 = 1 }) ∷ Enter (call_in 0 2) Irq (record { 0 = 2 }) (Some (call_in 0 1)) ∷ Back (call_in 0 2) (record { 0 = 1 }) ∷ BackEnd (call_in 0 2) (record { 0 = 1 }) ∷ Body (call_in 0 2) (record { 0 = 2 }) (Own (record { 0 = 1 })) ∷ Leave (call_in 0 2) ∷ Ret (call_in 0 2) (Some (call_in 0 1)) ∷ BackEnd (call_in 0 1) (record { 0 = 1 }) ∷ Body (call_in 0 1) (record { 0 = 2 }) (Own (record { 0 = 1 })) ∷ Begin 2 ∷ Return 2 Accepted ∷ Enter (call_in 0 3) Normal (record { 0 = 3 }) (Some (call_in 0 1)) ∷ Back (call_in 0 3) (record { 0 = 1 }) ∷ Enter (call_in 0 4) Irq (record { 0 = 2 }) (Some (call_in 0 3)) ∷ Back (call_in 0 4) (record { 0 = 1 }) ∷ BackEnd (call_in 0 4) (record { 0 = 1 }) ∷ Body (call_in 0 4) (record { 0 = 2 }) (Own (record { 0 = 1 })) ∷ Leave (call_in 0 4) ∷ Ret (call_in 0 4) (Some (call_in 0 3)) ∷ BackEnd (call_in 0 3) (record { 0 = 1 }) ∷ Body (call_in 0 3) (record { 0 = 3 }) (Own (record { 0 = 1 })) ∷ Begin 3 ∷ Return 3 Accepted ∷ Enter (call_in 0 5) Normal (record { 0 = 3 }) (Some (call_in 0 3)) ∷ Back (call_in 0 5) (record { 0 = 0 }) ∷ BackEnd (call_in 0 5) (record { 0 = 0 }) ∷ Back (call_in 0 5) (record { 0 = 1 }) ∷ Enter (call_in 0 6) Irq (record { 0 = 2 }) (Some (call_in 0 5)) ∷ Back (call_in 0 6) (record { 0 = 0 }) ∷ BackEnd (call_in 0 6) (record { 0 = 0 }) ∷ Back (call_in 0 6) (record { 0 = 1 }) ∷ BackEnd (call_in 0 6) (record { 0 = 1 }) ∷ Body (call_in 0 6) (record { 0 = 2 }) ByList ∷ Leave (call_in 0 6) ∷ Ret (call_in 0 6) (Some (call_in 0 5)) ∷ BackEnd (call_in 0 5) (record { 0 = 1 }) ∷ Body (call_in 0 5) (record { 0 = 3 }) ByList ∷ Leave (call_in 0 5) ∷ Ret (call_in 0 5) (Some (call_in 0 3)) ∷ Leave (call_in 0 3) ∷ Ret (call_in 0 3) (Some (call_in 0 1)) ∷ Leave (call_in 0 1) ∷ Ret (call_in 0 1) None ∷ []
 
 pub job_2079-plays : Plays job_2079 job_2079-items true
-unfolding actors_of repeated start played play is_over step whole desk
+unfolding actors_of repeated start played play all_end step whole desk
 job_2079-plays = (refl, refl)
 
 abbrev pub job_2080 : Job
@@ -473,7 +473,7 @@ abbrev pub job_2080-items : List Item
 job_2080-items = Begin 1 ∷ Return 1 NotThere ∷ Enter (call_in 0 1) Normal (record { 0 = 0 }) None ∷ Body (call_in 0 1) (record { 0 = 0 }) Nop ∷ Begin 2 ∷ Return 2 Accepted ∷ Begin 3 ∷ Return 3 Accepted ∷ Enter (call_in 0 2) Normal (record { 0 = 0 }) (Some (call_in 0 1)) ∷ Back (call_in 0 2) (record { 0 = 3 }) ∷ Enter (call_in 0 3) Normal (record { 0 = 0 }) (Some (call_in 0 2)) ∷ Refuse (call_in 0 3) (record { 0 = 3 }) Recursion ∷ Body (call_in 0 3) (record { 0 = 0 }) (Own (record { 0 = 3 })) ∷ Leave (call_in 0 3) ∷ Ret (call_in 0 3) (Some (call_in 0 2)) ∷ BackEnd (call_in 0 2) (record { 0 = 3 }) ∷ Body (call_in 0 2) (record { 0 = 0 }) (Own (record { 0 = 3 })) ∷ Enter (call_in 0 4) Normal (record { 0 = 0 }) (Some (call_in 0 2)) ∷ Back (call_in 0 4) (record { 0 = 3 }) ∷ Enter (call_in 0 5) Normal (record { 0 = 0 }) (Some (call_in 0 4)) ∷ Refuse (call_in 0 5) (record { 0 = 3 }) Recursion ∷ Body (call_in 0 5) (record { 0 = 0 }) (Own (record { 0 = 3 })) ∷ Leave (call_in 0 5) ∷ Ret (call_in 0 5) (Some (call_in 0 4)) ∷ BackEnd (call_in 0 4) (record { 0 = 3 }) ∷ Body (call_in 0 4) (record { 0 = 0 }) (Own (record { 0 = 3 })) ∷ Begin 4 ∷ Return 4 Accepted ∷ Begin 5 ∷ Return 5 NotThere ∷ Leave (call_in 0 4) ∷ Exit (call_in 0 4) (record { 0 = 3 }) 18 ∷ ExitEnd (call_in 0 4) (record { 0 = 3 }) ∷ Ret (call_in 0 4) (Some (call_in 0 2)) ∷ Leave (call_in 0 2) ∷ Exit (call_in 0 2) (record { 0 = 3 }) 9 ∷ ExitEnd (call_in 0 2) (record { 0 = 3 }) ∷ Ret (call_in 0 2) (Some (call_in 0 1)) ∷ Enter (call_in 0 6) Normal (record { 0 = 0 }) (Some (call_in 0 1)) ∷ Back (call_in 0 6) (record { 0 = 3 }) ∷ Enter (call_in 0 7) Normal (record { 0 = 0 }) (Some (call_in 0 6)) ∷ Refuse (call_in 0 7) (record { 0 = 3 }) Recursion ∷ Body (call_in 0 7) (record { 0 = 0 }) (Own (record { 0 = 3 })) ∷ Leave (call_in 0 7) ∷ Ret (call_in 0 7) (Some (call_in 0 6)) ∷ BackEnd (call_in 0 6) (record { 0 = 3 }) ∷ Body (call_in 0 6) (record { 0 = 0 }) (Own (record { 0 = 3 })) ∷ Enter (call_in 0 8) Normal (record { 0 = 0 }) (Some (call_in 0 6)) ∷ Back (call_in 0 8) (record { 0 = 3 }) ∷ Enter (call_in 0 9) Normal (record { 0 = 0 }) (Some (call_in 0 8)) ∷ Refuse (call_in 0 9) (record { 0 = 3 }) Recursion ∷ Body (call_in 0 9) (record { 0 = 0 }) (Own (record { 0 = 3 })) ∷ Leave (call_in 0 9) ∷ Ret (call_in 0 9) (Some (call_in 0 8)) ∷ BackEnd (call_in 0 8) (record { 0 = 3 }) ∷ Body (call_in 0 8) (record { 0 = 0 }) (Own (record { 0 = 3 })) ∷ Leave (call_in 0 8) ∷ Exit (call_in 0 8) (record { 0 = 3 }) 48 ∷ ExitEnd (call_in 0 8) (record { 0 = 3 }) ∷ Ret (call_in 0 8) (Some (call_in 0 6)) ∷ Leave (call_in 0 6) ∷ Exit (call_in 0 6) (record { 0 = 3 }) 39 ∷ ExitEnd (call_in 0 6) (record { 0 = 3 }) ∷ Ret (call_in 0 6) (Some (call_in 0 1)) ∷ Enter (call_in 1 1) Softirq (record { 0 = 0 }) None ∷ Back (call_in 1 1) (record { 0 = 3 }) ∷ Enter (call_in 1 2) Softirq (record { 0 = 0 }) (Some (call_in 1 1)) ∷ Refuse (call_in 1 2) (record { 0 = 3 }) Recursion ∷ Body (call_in 1 2) (record { 0 = 0 }) (Own (record { 0 = 3 })) ∷ Leave (call_in 1 2) ∷ Ret (call_in 1 2) (Some (call_in 1 1)) ∷ BackEnd (call_in 1 1) (record { 0 = 3 }) ∷ Body (call_in 1 1) (record { 0 = 0 }) (Own (record { 0 = 3 })) ∷ Leave (call_in 0 1) ∷ Ret (call_in 0 1) None ∷ Enter (call_in 1 3) Softirq (record { 0 = 0 }) (Some (call_in 1 1)) ∷ Back (call_in 1 3) (record { 0 = 3 }) ∷ Enter (call_in 1 4) Softirq (record { 0 = 0 }) (Some (call_in 1 3)) ∷ Refuse (call_in 1 4) (record { 0 = 3 }) Recursion ∷ Body (call_in 1 4) (record { 0 = 0 }) (Own (record { 0 = 3 })) ∷ Leave (call_in 1 4) ∷ Ret (call_in 1 4) (Some (call_in 1 3)) ∷ BackEnd (call_in 1 3) (record { 0 = 3 }) ∷ Body (call_in 1 3) (record { 0 = 0 }) (Own (record { 0 = 3 })) ∷ Leave (call_in 1 3) ∷ Exit (call_in 1 3) (record { 0 = 3 }) 76 ∷ ExitEnd (call_in 1 3) (record { 0 = 3 }) ∷ Ret (call_in 1 3) (Some (call_in 1 1)) ∷ Leave (call_in 1 1) ∷ Exit (call_in 1 1) (record { 0 = 3 }) 65 ∷ ExitEnd (call_in 1 1) (record { 0 = 3 }) ∷ Ret (call_in 1 1) None ∷ []
 
 pub job_2080-plays : Plays job_2080 job_2080-items true
-unfolding actors_of repeated start played play is_over step whole desk
+unfolding actors_of repeated start played play all_end step whole desk
 job_2080-plays = (refl, refl)
 
 abbrev pub job_2081 : Job
@@ -483,7 +483,7 @@ abbrev pub job_2081-items : List Item
 job_2081-items = Begin 1 ∷ Return 1 Accepted ∷ Begin 2 ∷ Return 2 Accepted ∷ Begin 3 ∷ Return 3 Accepted ∷ Begin 4 ∷ Return 4 Accepted ∷ Begin 5 ∷ Return 5 NotThere ∷ Enter (call_in 2 1) Nmi (record { 0 = 1 }) None ∷ Back (call_in 2 1) (record { 0 = 3 }) ∷ BackEnd (call_in 2 1) (record { 0 = 3 }) ∷ Body (call_in 2 1) (record { 0 = 1 }) ByList ∷ Enter (call_in 0 1) Normal (record { 0 = 0 }) None ∷ Back (call_in 0 1) (record { 0 = 3 }) ∷ BackEnd (call_in 0 1) (record { 0 = 3 }) ∷ Body (call_in 0 1) (record { 0 = 0 }) ByList ∷ Begin 6 ∷ Return 6 Accepted ∷ Enter (call_in 1 1) Nmi (record { 0 = 3 }) None ∷ Back (call_in 1 1) (record { 0 = 1 }) ∷ BackEnd (call_in 1 1) (record { 0 = 1 }) ∷ Back (call_in 1 1) (record { 0 = 3 }) ∷ BackEnd (call_in 1 1) (record { 0 = 3 }) ∷ Body (call_in 1 1) (record { 0 = 3 }) ByList ∷ Begin 7 ∷ Return 7 Invalid ∷ Leave (call_in 2 1) ∷ Exit (call_in 2 1) (record { 0 = 3 }) 11 ∷ ExitEnd (call_in 2 1) (record { 0 = 3 }) ∷ Ret (call_in 2 1) None ∷ Enter (call_in 1 2) Nmi (record { 0 = 3 }) (Some (call_in 1 1)) ∷ Back (call_in 1 2) (record { 0 = 1 }) ∷ BackEnd (call_in 1 2) (record { 0 = 1 }) ∷ Back (call_in 1 2) (record { 0 = 3 }) ∷ BackEnd (call_in 1 2) (record { 0 = 3 }) ∷ Body (call_in 1 2) (record { 0 = 3 }) ByList ∷ Enter (call_in 2 2) Nmi (record { 0 = 1 }) None ∷ Back (call_in 2 2) (record { 0 = 1 }) ∷ BackEnd (call_in 2 2) (record { 0 = 1 }) ∷ Back (call_in 2 2) (record { 0 = 3 }) ∷ BackEnd (call_in 2 2) (record { 0 = 3 }) ∷ Body (call_in 2 2) (record { 0 = 1 }) ByList ∷ Enter (call_in 1 3) Nmi (record { 0 = 2 }) (Some (call_in 1 2)) ∷ Back (call_in 1 3) (record { 0 = 1 }) ∷ BackEnd (call_in 1 3) (record { 0 = 1 }) ∷ Back (call_in 1 3) (record { 0 = 3 }) ∷ BackEnd (call_in 1 3) (record { 0 = 3 }) ∷ Body (call_in 1 3) (record { 0 = 2 }) ByList ∷ Enter (call_in 2 3) Nmi (record { 0 = 1 }) (Some (call_in 2 2)) ∷ Back (call_in 2 3) (record { 0 = 1 }) ∷ BackEnd (call_in 2 3) (record { 0 = 1 }) ∷ Back (call_in 2 3) (record { 0 = 3 }) ∷ BackEnd (call_in 2 3) (record { 0 = 3 }) ∷ Body (call_in 2 3) (record { 0 = 1 }) ByList ∷ Leave (call_in 0 1) ∷ Exit (call_in 0 1) (record { 0 = 3 }) 15 ∷ ExitEnd (call_in 0 1) (record { 0 = 3 }) ∷ Ret (call_in 0 1) None ∷ Leave (call_in 1 3) ∷ Exit (call_in 1 3) (record { 0 = 1 }) 45 ∷ ExitEnd (call_in 1 3) (record { 0 = 1 }) ∷ Exit (call_in 1 3) (record { 0 = 3 }) 47 ∷ ExitEnd (call_in 1 3) (record { 0 = 3 }) ∷ Ret (call_in 1 3) (Some (call_in 1 2)) ∷ Enter (call_in 2 4) Nmi (record { 0 = 0 }) (Some (call_in 2 3)) ∷ Back (call_in 2 4) (record { 0 = 1 }) ∷ BackEnd (call_in 2 4) (record { 0 = 1 }) ∷ Back (call_in 2 4) (record { 0 = 3 }) ∷ BackEnd (call_in 2 4) (record { 0 = 3 }) ∷ Body (call_in 2 4) (record { 0 = 0 }) ByList ∷ Enter (call_in 1 4) Nmi (record { 0 = 1 }) (Some (call_in 1 2)) ∷ Back (call_in 1 4) (record { 0 = 1 }) ∷ BackEnd (call_in 1 4) (record { 0 = 1 }) ∷ Back (call_in 1 4) (record { 0 = 3 }) ∷ BackEnd (call_in 1 4) (record { 0 = 3 }) ∷ Body (call_in 1 4) (record { 0 = 1 }) ByList ∷ Leave (call_in 2 4) ∷ Exit (call_in 2 4) (record { 0 = 1 }) 67 ∷ ExitEnd (call_in 2 4) (record { 0 = 1 }) ∷ Exit (call_in 2 4) (record { 0 = 3 }) 69 ∷ ExitEnd (call_in 2 4) (record { 0 = 3 }) ∷ Ret (call_in 2 4) (Some (call_in 2 3)) ∷ Leave (call_in 1 4) ∷ Exit (call_in 1 4) (record { 0 = 1 }) 73 ∷ ExitEnd (call_in 1 4) (record { 0 = 1 }) ∷ Exit (call_in 1 4) (record { 0 = 3 }) 75 ∷ ExitEnd (call_in 1 4) (record { 0 = 3 }) ∷ Ret (call_in 1 4) (Some (call_in 1 2)) ∷ Leave (call_in 2 3) ∷ Exit (call_in 2 3) (record { 0 = 1 }) 51 ∷ ExitEnd (call_in 2 3) (record { 0 = 1 }) ∷ Exit (call_in 2 3) (record { 0 = 3 }) 53 ∷ ExitEnd (call_in 2 3) (record { 0 = 3 }) ∷ Ret (call_in 2 3) (Some (call_in 2 2)) ∷ Leave (call_in 1 2) ∷ Exit (call_in 1 2) (record { 0 = 1 }) 33 ∷ ExitEnd (call_in 1 2) (record { 0 = 1 }) ∷ Exit (call_in 1 2) (record { 0 = 3 }) 35 ∷ ExitEnd (call_in 1 2) (record { 0 = 3 }) ∷ Ret (call_in 1 2) (Some (call_in 1 1)) ∷ Leave (call_in 2 2) ∷ Exit (call_in 2 2) (record { 0 = 1 }) 39 ∷ ExitEnd (call_in 2 2) (record { 0 = 1 }) ∷ Exit (call_in 2 2) (record { 0 = 3 }) 41 ∷ ExitEnd (call_in 2 2) (record { 0 = 3 }) ∷ Ret (call_in 2 2) None ∷ Leave (call_in 1 1) ∷ Exit (call_in 1 1) (record { 0 = 1 }) 21 ∷ ExitEnd (call_in 1 1) (record { 0 = 1 }) ∷ Exit (call_in 1 1) (record { 0 = 3 }) 23 ∷ ExitEnd (call_in 1 1) (record { 0 = 3 }) ∷ Ret (call_in 1 1) None ∷ Enter (call_in 2 5) Normal (record { 0 = 1 }) None ∷ Back (call_in 2 5) (record { 0 = 1 }) ∷ BackEnd (call_in 2 5) (record { 0 = 1 }) ∷ Back (call_in 2 5) (record { 0 = 3 }) ∷ BackEnd (call_in 2 5) (record { 0 = 3 }) ∷ Body (call_in 2 5) (record { 0 = 1 }) ByList ∷ Leave (call_in 2 5) ∷ Exit (call_in 2 5) (record { 0 = 1 }) 115 ∷ ExitEnd (call_in 2 5) (record { 0 = 1 }) ∷ Exit (call_in 2 5) (record { 0 = 3 }) 117 ∷ ExitEnd (call_in 2 5) (record { 0 = 3 }) ∷ Ret (call_in 2 5) None ∷ []
 
 pub job_2081-plays : Plays job_2081 job_2081-items true
-unfolding actors_of repeated start played play is_over step whole desk
+unfolding actors_of repeated start played play all_end step whole desk
 job_2081-plays = (refl, refl)
 
 abbrev pub job_2085 : Job
@@ -493,7 +493,7 @@ abbrev pub job_2085-items : List Item
 job_2085-items = Begin 1 ∷ Return 1 Invalid ∷ Begin 2 ∷ Return 2 NotThere ∷ Begin 3 ∷ Return 3 Invalid ∷ Begin 4 ∷ Return 4 NotThere ∷ Begin 5 ∷ Return 5 Accepted ∷ Begin 6 ∷ Return 6 Invalid ∷ Enter (call_in 0 1) Normal (record { 0 = 0 }) None ∷ Back (call_in 0 1) (record { 0 = 1 }) ∷ BackEnd (call_in 0 1) (record { 0 = 1 }) ∷ Body (call_in 0 1) (record { 0 = 0 }) (Own (record { 0 = 1 })) ∷ Enter (call_in 0 2) Normal (record { 0 = 0 }) (Some (call_in 0 1)) ∷ Back (call_in 0 2) (record { 0 = 1 }) ∷ BackEnd (call_in 0 2) (record { 0 = 1 }) ∷ Body (call_in 0 2) (record { 0 = 0 }) (Own (record { 0 = 1 })) ∷ Leave (call_in 0 2) ∷ Exit (call_in 0 2) (record { 0 = 1 }) 17 ∷ ExitEnd (call_in 0 2) (record { 0 = 1 }) ∷ Ret (call_in 0 2) (Some (call_in 0 1)) ∷ Enter (call_in 1 1) Normal (record { 0 = 0 }) None ∷ Back (call_in 1 1) (record { 0 = 1 }) ∷ BackEnd (call_in 1 1) (record { 0 = 1 }) ∷ Body (call_in 1 1) (record { 0 = 0 }) (Own (record { 0 = 1 })) ∷ Enter (call_in 1 2) Normal (record { 0 = 0 }) (Some (call_in 1 1)) ∷ Back (call_in 1 2) (record { 0 = 1 }) ∷ BackEnd (call_in 1 2) (record { 0 = 1 }) ∷ Body (call_in 1 2) (record { 0 = 0 }) (Own (record { 0 = 1 })) ∷ Leave (call_in 0 1) ∷ Exit (call_in 0 1) (record { 0 = 1 }) 13 ∷ ExitEnd (call_in 0 1) (record { 0 = 1 }) ∷ Ret (call_in 0 1) None ∷ Enter (call_in 1 3) Nmi (record { 0 = 0 }) (Some (call_in 1 2)) ∷ Back (call_in 1 3) (record { 0 = 1 }) ∷ Miss (call_in 1 3) (record { 0 = 1 }) ∷ BackEnd (call_in 1 3) (record { 0 = 1 }) ∷ Body (call_in 1 3) (record { 0 = 0 }) (Own (record { 0 = 1 })) ∷ Enter (call_in 1 4) Nmi (record { 0 = 0 }) (Some (call_in 1 3)) ∷ Back (call_in 1 4) (record { 0 = 1 }) ∷ Miss (call_in 1 4) (record { 0 = 1 }) ∷ BackEnd (call_in 1 4) (record { 0 = 1 }) ∷ Body (call_in 1 4) (record { 0 = 0 }) (Own (record { 0 = 1 })) ∷ Enter (call_in 1 5) Nmi (record { 0 = 0 }) (Some (call_in 1 4)) ∷ Back (call_in 1 5) (record { 0 = 1 }) ∷ Miss (call_in 1 5) (record { 0 = 1 }) ∷ BackEnd (call_in 1 5) (record { 0 = 1 }) ∷ Body (call_in 1 5) (record { 0 = 0 }) (Own (record { 0 = 1 })) ∷ Leave (call_in 1 5) ∷ Ret (call_in 1 5) (Some (call_in 1 4)) ∷ Leave (call_in 1 4) ∷ Ret (call_in 1 4) (Some (call_in 1 3)) ∷ Leave (call_in 1 3) ∷ Ret (call_in 1 3) (Some (call_in 1 2)) ∷ Leave (call_in 1 2) ∷ Exit (call_in 1 2) (record { 0 = 1 }) 29 ∷ ExitEnd (call_in 1 2) (record { 0 = 1 }) ∷ Ret (call_in 1 2) (Some (call_in 1 1)) ∷ Leave (call_in 1 1) ∷ Exit (call_in 1 1) (record { 0 = 1 }) 25 ∷ ExitEnd (call_in 1 1) (record { 0 = 1 }) ∷ Ret (call_in 1 1) None ∷ []
 
 pub job_2085-plays : Plays job_2085 job_2085-items true
-unfolding actors_of repeated start played play is_over step whole desk
+unfolding actors_of repeated start played play all_end step whole desk
 job_2085-plays = (refl, refl)
 
 abbrev pub job_2087 : Job
@@ -503,7 +503,7 @@ abbrev pub job_2087-items : List Item
 job_2087-items = Begin 1 ∷ Return 1 Accepted ∷ Begin 2 ∷ Return 2 Accepted ∷ Begin 3 ∷ Return 3 Already ∷ Begin 4 ∷ Return 4 Already ∷ Enter (call_in 1 1) Normal (record { 0 = 0 }) None ∷ Back (call_in 1 1) (record { 0 = 0 }) ∷ Enter (call_in 1 2) Irq (record { 0 = 1 }) (Some (call_in 1 1)) ∷ Back (call_in 1 2) (record { 0 = 0 }) ∷ BackEnd (call_in 1 2) (record { 0 = 0 }) ∷ Body (call_in 1 2) (record { 0 = 1 }) (Own (record { 0 = 0 })) ∷ Leave (call_in 1 2) ∷ Ret (call_in 1 2) (Some (call_in 1 1)) ∷ BackEnd (call_in 1 1) (record { 0 = 0 }) ∷ Body (call_in 1 1) (record { 0 = 0 }) (Own (record { 0 = 0 })) ∷ Begin 5 ∷ Return 5 Already ∷ Enter (call_in 1 3) Normal (record { 0 = 1 }) (Some (call_in 1 1)) ∷ Back (call_in 1 3) (record { 0 = 0 }) ∷ Enter (call_in 1 4) Irq (record { 0 = 1 }) (Some (call_in 1 3)) ∷ Back (call_in 1 4) (record { 0 = 0 }) ∷ BackEnd (call_in 1 4) (record { 0 = 0 }) ∷ Body (call_in 1 4) (record { 0 = 1 }) (Own (record { 0 = 0 })) ∷ Leave (call_in 1 4) ∷ Ret (call_in 1 4) (Some (call_in 1 3)) ∷ BackEnd (call_in 1 3) (record { 0 = 0 }) ∷ Body (call_in 1 3) (record { 0 = 1 }) (Own (record { 0 = 0 })) ∷ Begin 6 ∷ Return 6 Accepted ∷ Leave (call_in 1 3) ∷ Ret (call_in 1 3) (Some (call_in 1 1)) ∷ Enter (call_in 0 1) Nmi (record { 0 = 0 }) None ∷ Body (call_in 0 1) (record { 0 = 0 }) Nop ∷ Enter (call_in 0 2) Nmi (record { 0 = 0 }) (Some (call_in 0 1)) ∷ Body (call_in 0 2) (record { 0 = 0 }) Nop ∷ Leave (call_in 1 1) ∷ Ret (call_in 1 1) None ∷ Enter (call_in 1 5) Normal (record { 0 = 1 }) None ∷ Back (call_in 1 5) (record { 0 = 0 }) ∷ Enter (call_in 1 6) Irq (record { 0 = 1 }) (Some (call_in 1 5)) ∷ Back (call_in 1 6) (record { 0 = 0 }) ∷ BackEnd (call_in 1 6) (record { 0 = 0 }) ∷ Body (call_in 1 6) (record { 0 = 1 }) (Own (record { 0 = 0 })) ∷ Leave (call_in 1 6) ∷ Ret (call_in 1 6) (Some (call_in 1 5)) ∷ BackEnd (call_in 1 5) (record { 0 = 0 }) ∷ Body (call_in 1 5) (record { 0 = 1 }) (Own (record { 0 = 0 })) ∷ Leave (call_in 1 5) ∷ Ret (call_in 1 5) None ∷ Enter (call_in 0 3) Nmi (record { 0 = 0 }) (Some (call_in 0 2)) ∷ Body (call_in 0 3) (record { 0 = 0 }) Nop ∷ Enter (call_in 0 4) Nmi (record { 0 = 0 }) (Some (call_in 0 3)) ∷ Body (call_in 0 4) (record { 0 = 0 }) Nop ∷ Leave (call_in 0 4) ∷ Ret (call_in 0 4) (Some (call_in 0 3)) ∷ Leave (call_in 0 3) ∷ Ret (call_in 0 3) (Some (call_in 0 2)) ∷ Leave (call_in 0 2) ∷ Ret (call_in 0 2) (Some (call_in 0 1)) ∷ Leave (call_in 0 1) ∷ Ret (call_in 0 1) None ∷ []
 
 pub job_2087-plays : Plays job_2087 job_2087-items true
-unfolding actors_of repeated start played play is_over step whole desk
+unfolding actors_of repeated start played play all_end step whole desk
 job_2087-plays = (refl, refl)
 
 abbrev pub job_2088 : Job
@@ -513,5 +513,5 @@ abbrev pub job_2088-items : List Item
 job_2088-items = Begin 1 ∷ Return 1 Accepted ∷ Enter (call_in 1 1) Normal (record { 0 = 2 }) None ∷ Body (call_in 1 1) (record { 0 = 2 }) Nop ∷ Leave (call_in 1 1) ∷ Ret (call_in 1 1) None ∷ Begin 2 ∷ Return 2 Accepted ∷ Begin 3 ∷ Return 3 Accepted ∷ Enter (call_in 1 2) Normal (record { 0 = 1 }) None ∷ Body (call_in 1 2) (record { 0 = 1 }) Nop ∷ Begin 4 ∷ Return 4 Accepted ∷ Begin 5 ∷ Return 5 Accepted ∷ Begin 6 ∷ Return 6 Accepted ∷ Begin 7 ∷ Return 7 Accepted ∷ Enter (call_in 0 1) Normal (record { 0 = 0 }) None ∷ Body (call_in 0 1) (record { 0 = 0 }) Nop ∷ Leave (call_in 1 2) ∷ Ret (call_in 1 2) None ∷ Enter (call_in 2 1) Softirq (record { 0 = 1 }) None ∷ Body (call_in 2 1) (record { 0 = 1 }) Nop ∷ Enter (call_in 2 2) Softirq (record { 0 = 0 }) (Some (call_in 2 1)) ∷ Body (call_in 2 2) (record { 0 = 0 }) Nop ∷ Leave (call_in 0 1) ∷ Ret (call_in 0 1) None ∷ Enter (call_in 2 3) Nmi (record { 0 = 2 }) (Some (call_in 2 2)) ∷ Body (call_in 2 3) (record { 0 = 2 }) Nop ∷ Leave (call_in 2 3) ∷ Ret (call_in 2 3) (Some (call_in 2 2)) ∷ Enter (call_in 2 4) Nmi (record { 0 = 1 }) (Some (call_in 2 2)) ∷ Body (call_in 2 4) (record { 0 = 1 }) Nop ∷ Leave (call_in 2 4) ∷ Ret (call_in 2 4) (Some (call_in 2 2)) ∷ Leave (call_in 2 2) ∷ Ret (call_in 2 2) (Some (call_in 2 1)) ∷ Leave (call_in 2 1) ∷ Ret (call_in 2 1) None ∷ []
 
 pub job_2088-plays : Plays job_2088 job_2088-items true
-unfolding actors_of repeated start played play is_over step whole desk
+unfolding actors_of repeated start played play all_end step whole desk
 job_2088-plays = (refl, refl)

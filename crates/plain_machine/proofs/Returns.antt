@@ -5,8 +5,8 @@ use Rattle.ft_base.specs.declared.item.Item.TheVariants.{Exit, ExitEnd, Ret}
 use Rattle.ft_base.specs.Job.{Job}
 use Rattle.ft_base.specs.Desk.{desk, is_live}
 use Rattle.ft_base.proofs.Small.{==-refl}
-use Rattle.ft_hist.specs.Past.{Callback, done, callbacks, left_at, meetings, Meeting, miss_due}
-use Rattle.ft_hist.specs.Plain.{plain, reads, PlainTask, Frame, Phase, Leaving, InExit, in_phase, top_call}
+use Rattle.ft_hist.specs.Past.{Callback, done, callbacks, done_at_leave, all_visits, Visit, miss_due}
+use Rattle.ft_hist.specs.Plain.{plain, after_item, PlainTask, Frame, Phase, Leaving, InExit, in_phase, top_call}
 use Rattle.ft_hist.proofs.Laws.{same_call-refl, same_top-refl}
 use Rattle.ft_hist.specs.Frames.{FrameUser}
 use Rattle.ft_hist.proofs.Since.{Since, since-trans, since-item, untouched-item}
@@ -14,7 +14,7 @@ use Rattle.ft_hist.proofs.Exits.{ExitsSo, exits-may, exits-after, exits-dead, ex
 use Rattle.plain_machine.specs.State.{exited}
 use Rattle.plain_machine.proofs.Calls.{Now, push}
 
-module _ (job : Job) (k : ℕ) (f : Frame) (p : PlainTask) (below : List Frame) (opens : List Callback) (past0 : List Item) (ms : List Meeting) where
+module _ (job : Job) (k : ℕ) (f : Frame) (p : PlainTask) (below : List Frame) (opens : List Callback) (past0 : List Item) (ms : List Visit) where
   abbrev t : ℕ
   t = f.call.task.0
 
@@ -28,7 +28,7 @@ module _ (job : Job) (k : ℕ) (f : Frame) (p : PlainTask) (below : List Frame) 
     pub since : Since job t f.call.n past0 past
     pub misses : miss_due job t past ≡ None
     pub so : ExitsSo job f.call ms past rest
-    pub left : left_at f.call past ≡ k
+    pub leave : done_at_leave f.call past ≡ k
 
   abbrev Exited : FrameUser → List Item → Item
   Exited x past = Exit f.call (record { 0 = x.user }) x.entry
@@ -36,29 +36,29 @@ module _ (job : Job) (k : ℕ) (f : Frame) (p : PlainTask) (below : List Frame) 
   mine : (t == t) ≡ true
   mine = ==-refl t
 
-  reads-exit : (d u e : ℕ) → reads job d (at_phase Leaving) (Exit f.call (record { 0 = u }) e) ≡ Some (at_phase (InExit u))
-  unfolding reads
-  reads-exit d u e = rw (same_call-refl f.call) refl
+  after_item-exit : (d u e : ℕ) → after_item job d (at_phase Leaving) (Exit f.call (record { 0 = u }) e) ≡ Some (at_phase (InExit u))
+  unfolding after_item
+  after_item-exit d u e = rw (same_call-refl f.call) refl
 
-  reads-exit_end : (d u : ℕ) → reads job d (at_phase (InExit u)) (ExitEnd f.call (record { 0 = u })) ≡ Some (at_phase Leaving)
-  unfolding reads
-  reads-exit_end d u = rw (same_call-refl f.call, ==-refl u) refl
+  after_item-exit_end : (d u : ℕ) → after_item job d (at_phase (InExit u)) (ExitEnd f.call (record { 0 = u })) ≡ Some (at_phase Leaving)
+  unfolding after_item
+  after_item-exit_end d u = rw (same_call-refl f.call, ==-refl u) refl
 
-  reads-ret : (d : ℕ) → reads job d (at_phase Leaving) (Ret f.call (top_call below)) ≡ Some (record p { stack = below })
-  unfolding reads
-  reads-ret d = rw (same_call-refl f.call, same_top-refl (top_call below)) refl
+  after_item-ret : (d : ℕ) → after_item job d (at_phase Leaving) (Ret f.call (top_call below)) ≡ Some (record p { stack = below })
+  unfolding after_item
+  after_item-ret d = rw (same_call-refl f.call, same_top-refl (top_call below)) refl
 
   exit_item : (x : FrameUser) (rest : List FrameUser) (past : List Item) → is_live (desk job k) x.user x.reg ≡ true → Leaves past Leaving opens (x ∷ rest)
       → Leaves (ExitEnd f.call (record { 0 = x.user }) ∷ Exit f.call (record { 0 = x.user }) x.entry ∷ past) Leaving opens rest
-  unfolding meetings
+  unfolding all_visits
   exit_item x rest past live h =
       let exit : Item = Exit f.call (record { 0 = x.user }) x.entry in
       let end : Item = ExitEnd f.call (record { 0 = x.user }) in
-      let w = push job k past opens (callbacks (exit ∷ past)) t exit (at_phase Leaving) (at_phase (InExit x.user)) h.now refl refl refl (λ v. refl) h.run (reads-exit (done past) x.user x.entry)
+      let w = push job k past opens (callbacks (exit ∷ past)) t exit (at_phase Leaving) (at_phase (InExit x.user)) h.now refl refl refl (λ v. refl) h.run (after_item-exit (done past) x.user x.entry)
       (exits-may job f.call ms x rest past (inl (rw h.now.returned live)) h.so, h.misses) in
       let none : miss_due job t (exit ∷ past) ≡ None = rw mine refl in
       let w2 = push job k (exit ∷ past) (callbacks (exit ∷ past)) opens t end (at_phase (InExit x.user)) (at_phase Leaving) w.0 refl refl
-      (rw (same_call-refl f.call, ==-refl x.user) h.now.still) (λ v. refl) w.1 (reads-exit_end (done past) x.user) none in
+      (rw (same_call-refl f.call, ==-refl x.user) h.now.still) (λ v. refl) w.1 (after_item-exit_end (done past) x.user) none in
       let s1 = since-item job t f.call.n f.call exit past refl (omega arith) (λ v. refl) (λ c e. e) refl refl in
       let s2 = since-item job t f.call.n f.call end (exit ∷ past) refl (omega arith) (λ v. refl) (λ c e. refl) refl refl in
       record {
@@ -67,7 +67,7 @@ module _ (job : Job) (k : ℕ) (f : Frame) (p : PlainTask) (below : List Frame) 
         since = since-trans job t f.call.n past0 past (end ∷ exit ∷ past) h.since (since-trans job t f.call.n past (exit ∷ past) (end ∷ exit ∷ past) s1 s2);
         misses = rw mine refl;
         so = exits-untouched job f.call ms rest (exit ∷ past) (end ∷ exit ∷ past) (untouched-item job f.call (exit ∷ past) end refl) (omega arith) (exits-after job f.call ms x rest past h.so);
-        left = h.left;
+        leave = h.leave;
       }
 
   skipped : (x : FrameUser) (rest : List FrameUser) (past : List Item) → is_live (desk job k) x.user x.reg ≡ false → Leaves past Leaving opens (x ∷ rest) → Leaves past Leaving opens rest
@@ -76,8 +76,8 @@ module _ (job : Job) (k : ℕ) (f : Frame) (p : PlainTask) (below : List Frame) 
     run = h.run;
     since = h.since;
     misses = h.misses;
-    so = exits-dead job f.call ms x rest past (k, rw h.left (omega arith), rw h.now.begun (omega arith), dead) h.so;
-    left = h.left;
+    so = exits-dead job f.call ms x rest past (k, rw h.leave (omega arith), rw h.now.begun (omega arith), dead) h.so;
+    leave = h.leave;
   }
 
   -- all exits, in order
@@ -99,7 +99,7 @@ module _ (job : Job) (k : ℕ) (f : Frame) (p : PlainTask) (below : List Frame) 
   pub returns : (past : List Item) → Leaves past Leaving opens [] → Returned (Ret f.call (top_call below) ∷ past)
   returns past h =
       let ret : Item = Ret f.call (top_call below) in
-      let w = push job k past opens opens t ret (at_phase Leaving) (record p { stack = below }) h.now refl refl h.now.still (λ v. refl) h.run (reads-ret (done past)) (exits-lacks job f.call ms past h.so, h.misses) in
+      let w = push job k past opens opens t ret (at_phase Leaving) (record p { stack = below }) h.now refl refl h.now.still (λ v. refl) h.run (after_item-ret (done past)) (exits-lacks job f.call ms past h.so, h.misses) in
       record {
         now = w.0;
         run = w.1;

@@ -8,22 +8,22 @@ use Rattle.ft_base.specs.declared.number.FuncNo.{FuncNo}
 use Rattle.ft_base.specs.declared.context.Ctx.{Ctx}
 use Rattle.ft_base.specs.declared.item.Item.{Item}
 use Rattle.ft_base.specs.declared.item.Item.TheVariants.{Enter, Body}
-use Rattle.ft_base.specs.declared.plan.TaskAct.{TaskAct}
-use Rattle.ft_base.specs.declared.plan.TaskAct.TheVariants.{Call}
+use Rattle.ft_base.specs.declared.task.TaskAct.{TaskAct}
+use Rattle.ft_base.specs.declared.task.TaskAct.TheVariants.{Call}
 use Rattle.ft_base.specs.Same.{rank}
 use Rattle.ft_base.specs.Job.{Job}
 use Rattle.ft_base.specs.Desk.{desk, target, spec_at}
-use Rattle.ft_base.specs.WellFormed.{IsJob}
+use Rattle.ft_base.specs.WellFormed.{IsWellFormed}
 use Rattle.ft_base.proofs.Small.{false_true, Each-weaker, ==-refl}
 use Rattle.ft_base.proofs.Modifiers.{one_modifies}
 use Rattle.ft_base.specs.Kinds.{cancels}
-use Rattle.ft_hist.specs.Past.{entered, done, Entered, met, Meeting, miss_due}
-use Rattle.ft_hist.specs.Plain.{reads, PlainTask, Frame, Dispatch, Running, ahead, context, top_call, enters_over}
+use Rattle.ft_hist.specs.Past.{entered, done, Entered, visits, Visit, miss_due}
+use Rattle.ft_hist.specs.Plain.{after_item, PlainTask, Frame, Dispatch, Running, ahead, context, top_call, after_enter}
 use Rattle.ft_hist.proofs.Laws.{same_call-refl, same_top-refl}
 use Rattle.ft_hist.specs.Frames.{FrameUser, FrameOf}
 use Rattle.ft_hist.proofs.RunLaws.{calls_on, sound}
 use Rattle.ft_hist.proofs.Since.{Since, Untouched, since-item, IsOlder, holding, holds-by}
-use Rattle.plain_machine.specs.State.{State, TaskState, Walk, Nested, task_at, idle, frames_of, passed_act, called_by, around, call_of, whole, fuel, walked, on_users, left}
+use Rattle.plain_machine.specs.State.{State, TaskState, Walk, Nested, task_at, idle, frames_of, passed_act, called_by, around, call_of, whole, fuel, walked, on_users, after_return}
 use Rattle.plain_machine.specs.Rule.{RunningCall, Stacked, TaskOk, CtlAt, Rule}
 use Rattle.plain_machine.proofs.Calls.{Now, push, Ground, Busy, in_body, all_walked, entering, at_enter, in_call}
 use Rattle.plain_machine.proofs.WholeCall.{makes}
@@ -39,7 +39,7 @@ running-untouched job past past' t f us u r = record {
   opened = u.open' ∙ r.opened;
   dispatched = u.dispatched ∙ r.dispatched;
   exits = u.exits ∙ r.exits;
-  frame = rw u.met r.frame;
+  frame = rw u.visits r.frame;
 }
 
 pub stacked-untouched : (job : Job) (past past' : List Item) (t : ℕ) (fs : List Frame) (us : List (List FrameUser)) → Each (λ c. Untouched job c past past') (calls_on fs)
@@ -93,11 +93,11 @@ within-tasks (x ∷ xs) (suc t) a rest e = let l = within-tasks xs t a rest e in
 
 -- ## from the rule to an act
 
-pub now-of : (job : Job) (s : State) → Rule job s → Now job s.ran s.past []
+pub now-of : (job : Job) (s : State) → Rule job s → Now job s.commands_done s.past []
 now-of job s r = record { legal = r.legal; returned = r.returned; begun = r.begun; runs = λ v. rw (r.tasks v).run.is refl; still = r.still }
 
 -- control is where it was, after acts
-pub control-kept : (job : Job) (s s' : State) → s'.ran ≡ s.ran → s'.left ≡ s.left → ((v : ℕ) → (task_at s v).run.gone ≤ (task_at s' v).run.gone) → CtlAt job s → CtlAt job s'
+pub control-kept : (job : Job) (s s' : State) → s'.commands_done ≡ s.commands_done → s'.remaining ≡ s.remaining → ((v : ℕ) → (task_at s v).run.gone ≤ (task_at s' v).run.gone) → CtlAt job s → CtlAt job s'
 control-kept job s s' ran left more c = record {
   waits = c.waits;
   met = Each-weaker (λ (w : ℕ × ℕ). w.1 ≤ (task_at s w.0).run.gone) (λ (w : ℕ × ℕ). w.1 ≤ (task_at s' w.0).run.gone) c.waits (λ w le. let m = more w.0 in omega (arith, le, m)) c.met;
@@ -107,7 +107,7 @@ control-kept job s s' ran left more c = record {
 }
 
 -- the acts of one task changed the state
-pub rule-after : (job : Job) (s : State) (t n : ℕ) (past' : List Item) (y : TaskState) → t < length s.tasks → (task_at s t).run.gone ≤ y.run.gone → Rule job s → Now job s.ran past' [] → Since job t n s.past past'
+pub rule-after : (job : Job) (s : State) (t n : ℕ) (past' : List Item) (y : TaskState) → t < length s.tasks → (task_at s t).run.gone ≤ y.run.gone → Rule job s → Now job s.commands_done past' [] → Since job t n s.past past'
     → miss_due job t past' ≡ None → TaskOk job past' t y → Rule job (record s { past = past'; tasks = set s.tasks t y })
 rule-after job s t n past' y within more r now since misses ok = record {
   legal = now.legal;
@@ -126,7 +126,7 @@ rule-after job s t n past' y within more r now since misses ok = record {
 enters : (d : ℕ) (p : PlainTask) (job : Job) (past : List Item) (t : ℕ) (stack : List Frame) (us : List (List FrameUser)) (call : CallNo) (g : FuncNo) (rest : List TaskAct) (cs : List Ctx) (gone : ℕ)
     → Stacked job past t stack us
     → ahead d p.acts p.contexts p.gone ≡ record { acts = Call g ∷ rest; contexts = cs; gone = gone }
-    → enters_over d p stack call (context cs) g.0
+    → after_enter d p stack call (context cs) g.0
     ≡ Some (record {
       next = suc p.next;
       acts = rest;
@@ -138,11 +138,11 @@ enters d p job past t [] us call g rest cs gone run a = rw (a, ==-refl g.0, ==-r
 enters d p job past t (f ∷ below) (x ∷ us) call g rest cs gone run a = rw (run.0.phase, run.0.scripted, a, ==-refl g.0, ==-refl (rank (context cs))) refl
 enters d p job past t (f ∷ below) [] call g rest cs gone run a = absurd run
 
-reads-enter : (job : Job) (past : List Item) (t d : ℕ) (at : PlainTask) (x : TaskState) (g : FuncNo) (rest : List TaskAct)
+after_item-enter : (job : Job) (past : List Item) (t d : ℕ) (at : PlainTask) (x : TaskState) (g : FuncNo) (rest : List TaskAct)
     → at.next ≡ x.run.next → at.stack ≡ x.run.stack
     → ahead d at.acts at.contexts at.gone ≡ record { acts = Call g ∷ rest; contexts = x.run.contexts; gone = x.run.gone }
     → Stacked job past t x.run.stack x.frames
-    → reads job d at (Enter (call_of (record { 0 = t }) x.run.next) (context x.run.contexts) g (top_call x.run.stack))
+    → after_item job d at (Enter (call_of (record { 0 = t }) x.run.next) (context x.run.contexts) g (top_call x.run.stack))
     ≡ Some (record {
       next = suc x.run.next;
       acts = rest;
@@ -150,27 +150,27 @@ reads-enter : (job : Job) (past : List Item) (t d : ℕ) (at : PlainTask) (x : T
       contexts = x.run.contexts;
       stack = record { call = call_of (record { 0 = t }) x.run.next; ctx = context x.run.contexts; func = g.0; scripted = true; phase = Dispatch } ∷ x.run.stack;
     })
-unfolding reads
-reads-enter job past t d at x g rest n st a run = rw (n, st, ==-refl x.run.next, same_top-refl (top_call x.run.stack))
+unfolding after_item
+after_item-enter job past t d at x g rest n st a run = rw (n, st, ==-refl x.run.next, same_top-refl (top_call x.run.stack))
     (enters d (record { next = x.run.next; acts = at.acts; gone = at.gone; contexts = at.contexts; stack = x.run.stack }) job past t x.run.stack x.frames (call_of (record { 0 = t }) x.run.next) g rest x.run.contexts x.run.gone run a)
 
-any-weaker : (p q : Meeting → Bool) (ms : List Meeting) → list_any (λ m. p m && q m) ms ≡ true → list_any (λ m. p m && true) ms ≡ true
+any-weaker : (p q : Visit → Bool) (ms : List Visit) → list_any (λ m. p m && q m) ms ≡ true → list_any (λ m. p m && true) ms ≡ true
 any-weaker p q [] h = false_true h
 any-weaker p q (m ∷ ms) h =
     elim (p m) as (λ b. ((b && q m) || list_any (λ x. p x && q x) ms) ≡ true → ((b && true) || list_any (λ x. p x && true) ms) ≡ true) [ true ↦ λ e. refl | false ↦ λ e. any-weaker p q ms e ] h
 
-few-after : (job : Job) (ms : List Meeting) (users : List FrameUser) (us : List (List FrameUser)) (framed : Bool) → FrameOf job ms users → list_any (λ m. m.wants && true) ms ≡ framed
+few-after : (job : Job) (ms : List Visit) (users : List FrameUser) (us : List (List FrameUser)) (framed : Bool) → FrameOf job ms users → list_any (λ m. m.wants && true) ms ≡ framed
     → (framed ≡ true → frames_of us < job.frames) → frames_of us ≤ job.frames → frames_of (users ∷ us) ≤ job.frames
 few-after job ms [] us framed f fr room few = few
 few-after job ms (x ∷ xs) us framed f fr room few =
     let lt = room (sym fr ∙ any-weaker (λ m. m.wants) (λ m. not (cancels (spec_at job m.user).kind)) ms f.kept) in omega arith
 
-module _ (job : Job) (is : IsJob job) where
+module _ (job : Job) (is : IsWellFormed job) where
   pub row_call : (s : State) (t : ℕ) (g : FuncNo) (rest : List TaskAct) → (task_at s t).run.acts ≡ Call g ∷ rest → Rule job s → Rule job (called_by job s t (task_at s t) rest g.0)
   row_call s t g rest acts r =
       let x : TaskState = task_at s t in
       let ok = r.tasks t in
-      let k = s.ran in
+      let k = s.commands_done in
       let one = one_modifies job is k in
       let nested : Nested = whole fuel job (desk job k) s.order in
       let mk = makes job k is one s.order r.order fuel in
@@ -193,7 +193,7 @@ module _ (job : Job) (is : IsJob job) where
       let a : ahead (done s.past) ok.run.at.acts ok.run.at.contexts ok.run.at.gone ≡ record { acts = Call g ∷ rest; contexts = x.run.contexts; gone = x.run.gone } =
       ok.run.ahead ∙ ap (λ (xs : List TaskAct). ahead (done s.past) xs x.run.contexts x.run.gone) acts in
       let w = push job k s.past [] [] t enter ok.run.at (in_call job k is one nested fuel mk (around t x) x.run.next ent p true x.run.stack [] s.past g0 (suc x.run.next) Dispatch)
-      (now-of job s r) refl refl r.still (λ v. refl) ok.run.is (reads-enter job s.past t (done s.past) ok.run.at x g rest ok.run.next ok.run.stack a ok.stack) (r.misses t) in
+      (now-of job s r) refl refl r.still (λ v. refl) ok.run.is (after_item-enter job s.past t (done s.past) ok.run.at x g rest ok.run.next ok.run.stack a ok.stack) (r.misses t) in
       let busy : Busy job k is one nested fuel mk (around t x) x.run.next ent p true x.run.stack [] s.past g0 (enter ∷ s.past) (suc x.run.next) Dispatch [] None = record {
         now = w.0;
         run = w.1;
@@ -221,6 +221,6 @@ module _ (job : Job) (is : IsJob job) where
           stacked-untouched job s.past past1 t x.run.stack x.frames
               (Each-weaker (λ c. c.n < x.run.next) (λ c. Untouched job c s.past past1) (calls_on x.run.stack) (λ c lt. b.busy.since.older c (λ e. lt)) so.number) ok.stack,
         );
-        few = few-after job (met job call w1.past) w1.users x.frames w1.framed (b.frame0) b.framed b.room ok.few;
+        few = few-after job (visits job call w1.past) w1.users x.frames w1.framed (b.frame0) b.framed b.room ok.few;
         script = script.1;
       })

@@ -6,7 +6,7 @@ use Rattle.ft_base.specs.Job.{Job, commands, commands_in}
 use Rattle.ft_base.specs.Desk.{desk}
 use Rattle.ft_base.specs.WellFormed.{IsScript}
 use Rattle.ft_base.specs.Order.{IsOrder}
-use Rattle.ft_hist.specs.Past.{done, begun, callbacks, met, is_open, is_dispatched, exits, miss_due}
+use Rattle.ft_hist.specs.Past.{done, begun, callbacks, visits, is_open, is_dispatched, exits, miss_due}
 use Rattle.ft_hist.specs.Plain.{plain, PlainTask, Frame, Running, ahead}
 use Rattle.ft_hist.specs.Rules.{IsLegalPast, waits_before}
 use Rattle.ft_hist.specs.Frames.{FrameUser, FrameOf}
@@ -30,7 +30,7 @@ pub record RunningCall (job : Job) (past : List Item) (t : ℕ) (f : Frame) (use
   pub opened : is_open f.call past ≡ true
   pub dispatched : is_dispatched f.call past ≡ true
   pub exits : exits f.call past ≡ []
-  pub frame : FrameOf job (met job f.call past) users
+  pub frame : FrameOf job (visits job f.call past) users
 
 -- each call of the stack runs its body, with the users of its frame beside it
 abbrev pub Stacked : Job → List Item → ℕ → List Frame → List (List FrameUser) → Type 0
@@ -52,18 +52,18 @@ pub record TaskOk (job : Job) (past : List Item) (t : ℕ) (x : TaskState) : Typ
 pub record CtlAt (job : Job) (s : State) : Type 0 where
   pub waits : List (ℕ × ℕ)
   pub met : Each (λ w. w.1 ≤ (task_at s w.0).run.gone) waits
-  pub before : (n : ℕ) → waits_before (s.ran + n) job.ctls ≡ waits ++ waits_before n s.left
-  pub most : s.ran ≤ length (commands job)
-  pub commands : (n : ℕ) → slice_get (commands job) (s.ran + n) ≡ slice_get (commands_in s.left) n
+  pub before : (n : ℕ) → waits_before (s.commands_done + n) job.ctls ≡ waits ++ waits_before n s.remaining
+  pub most : s.commands_done ≤ length (commands job)
+  pub commands : (n : ℕ) → slice_get (commands job) (s.commands_done + n) ≡ slice_get (commands_in s.remaining) n
 
 -- what holds between any two steps: the history is legal so far, no command and no callback is under way, and each actor
 -- stands where its items say
 pub record Rule (job : Job) (s : State) : Type 0 where
   pub legal : IsLegalPast job s.past
-  pub returned : done s.past ≡ s.ran
-  pub begun : begun s.past ≡ s.ran
+  pub returned : done s.past ≡ s.commands_done
+  pub begun : begun s.past ≡ s.commands_done
   pub still : callbacks s.past ≡ []
   pub misses : (t : ℕ) → miss_due job t s.past ≡ None
   pub tasks : (t : ℕ) → TaskOk job s.past t (task_at s t)
-  pub order : IsOrder (desk job s.ran) s.ran s.order
+  pub order : IsOrder (desk job s.commands_done) s.commands_done s.order
   pub control : CtlAt job s

@@ -9,8 +9,8 @@ use Rattle.ft_base.specs.declared.item.Reason.{Reason}
 use Rattle.ft_base.specs.declared.item.Reason.TheVariants.{Pid as ByPid, Recursion, Depth}
 use Rattle.ft_base.specs.declared.item.Item.{Item}
 use Rattle.ft_base.specs.declared.item.Item.TheVariants.{Begin, Return, Enter, Back, BackEnd, Refuse, Miss, Body, Leave, Exit, ExitEnd, Ret}
-use Rattle.ft_base.specs.declared.plan.TaskAct.{TaskAct}
-use Rattle.ft_base.specs.declared.plan.TaskAct.TheVariants.{Call, Ret as RetAct, Raise, Lower, After}
+use Rattle.ft_base.specs.declared.task.TaskAct.{TaskAct}
+use Rattle.ft_base.specs.declared.task.TaskAct.TheVariants.{Call, Ret as RetAct, Raise, Lower, After}
 use Rattle.ft_base.specs.declared.turn.Actor.{Actor}
 use Rattle.ft_base.specs.declared.turn.Actor.TheVariants.{Control, Cpu}
 use Rattle.ft_base.specs.Same.{same_ctx}
@@ -20,7 +20,7 @@ use Rattle.ft_base.specs.Kinds.{has_depth, has_exit, cancels}
 use Rattle.ft_base.specs.Order.{order_after}
 use Rattle.ft_base.specs.Schedule.{actors_of}
 use Rattle.ft_hist.specs.Plain.{PlainTask, Frame, Running, Owed, owed_by, context, below_top, top_call, at_start}
-use Rattle.ft_hist.specs.Frames.{FrameUser, is_nil, or_runs}
+use Rattle.ft_hist.specs.Frames.{FrameUser, is_nil, runs_after}
 
 -- where a task stands: its plain run, and beside each call of the stack the users of its frame, in the order of their Backs
 pub record TaskState : Type 0 where
@@ -32,11 +32,11 @@ pub record CpuState : Type 0 where
   pub present : ℕ
   pub count : ℕ
 
--- the state between two steps. `order` has the registered users, the latest first; `left` are control's lines to come
+-- the state between two steps. `order` has the registered users, the latest first; `remaining` are control's lines to come
 pub record State : Type 0 where
   pub past : List Item
-  pub ran : ℕ
-  pub left : List Ctl
+  pub commands_done : ℕ
+  pub remaining : List Ctl
   pub order : List ℕ
   pub tasks : List TaskState
   pub cpus : List CpuState
@@ -122,7 +122,7 @@ called nested job d a call x u w =
     record {
       past = BackEnd call (record { 0 = u }) ∷ made.past;
       next = made.next;
-      runs = or_runs w.runs (spec_at job u).ipmodify;
+      runs = runs_after w.runs (spec_at job u).ipmodify;
       framed = framed;
       users = joined job a u (user_at d u).reg (length w.past) w.users;
     }
@@ -157,8 +157,8 @@ exited d call (m ∷ ms) past =
     else exited d call ms past
 
 -- the return of a call
-abbrev pub left : Desk → CallNo → Option CallNo → List FrameUser → List Item → List Item
-left d call to users past = Ret call to ∷ exited d call users (Leave call ∷ past)
+abbrev pub after_return : Desk → CallNo → Option CallNo → List FrameUser → List Item → List Item
+after_return d call to users past = Ret call to ∷ exited d call users (Leave call ∷ past)
 
 -- the call of a task by its number
 abbrev pub call_of : TaskNo → ℕ → CallNo
@@ -170,7 +170,7 @@ whole zero job d order a o caller past next = record { past = past; next = next 
 whole (suc n) job d order a o caller past next =
     let call = call_of a.task next in
     let w = dispatched (whole n job d order) job d order a call o.ctx o.func (Some caller) past (suc next) in
-    record { past = left d call (Some caller) w.users w.past; next = w.next }
+    record { past = after_return d call (Some caller) w.users w.past; next = w.next }
 
 -- ## an act
 
@@ -224,7 +224,7 @@ fuel = 2
 -- a scripted call up to its Body
 abbrev pub called_by : Job → State → ℕ → TaskState → List TaskAct → ℕ → State
 called_by job s t x rest f =
-    let d = desk job s.ran in
+    let d = desk job s.commands_done in
     let ctx = context x.run.contexts in
     calls_by s t x rest ctx f
     (dispatched (whole fuel job d s.order) job d s.order (around t x) (call_of (record { 0 = t }) x.run.next) ctx f (top_call x.run.stack) s.past (suc x.run.next))
@@ -244,7 +244,7 @@ abbrev pub returned_by : Job → State → ℕ → TaskState → List TaskAct �
 returned_by job s t x rest [] = s
 returned_by job s t x rest (f ∷ below) =
     record s {
-      past = left (desk job s.ran) f.call (top_call below) (first_or x.frames) s.past;
+      past = after_return (desk job s.commands_done) f.call (top_call below) (first_or x.frames) s.past;
       tasks = set s.tasks t (record { run = record x.run { acts = rest; gone = suc x.run.gone; stack = below }; frames = rest_of x.frames });
     }
 
@@ -255,7 +255,7 @@ acted job s t x (Call f ∷ rest) = called_by job s t x rest f.0
 acted job s t x (RetAct ∷ rest) = returned_by job s t x rest x.run.stack
 acted job s t x (Raise c ∷ rest) = with_task s t (record x { run = passed_act x.run rest (c ∷ x.run.contexts) })
 acted job s t x (Lower ∷ rest) = with_task s t (record x { run = passed_act x.run rest (below_top x.run.contexts) })
-acted job s t x (After n ∷ rest) = if nat_le n s.ran then with_task s t (record x { run = passed_act x.run rest x.run.contexts }) else s
+acted job s t x (After n ∷ rest) = if nat_le n s.commands_done then with_task s t (record x { run = passed_act x.run rest x.run.contexts }) else s
 
 -- the next act of a task whole
 abbrev pub act_of : Job → ℕ → State → State
@@ -314,7 +314,7 @@ switched job c x waits s =
 abbrev pub cpu_step : Job → ℕ → CpuState → State → State
 cpu_step job c x s =
     if is_left s x.present
-    then switched job c x (is_waiting s.ran (task_at s x.present).run.acts) (act_of job x.present s)
+    then switched job c x (is_waiting s.commands_done (task_at s x.present).run.acts) (act_of job x.present s)
     else s
 
 -- ## control
@@ -322,19 +322,19 @@ cpu_step job c x s =
 -- a command whole, or a wait
 abbrev pub control_step : Job → State → List Ctl → State
 control_step job s [] = s
-control_step job s (Until t n ∷ rest) = if nat_le n (task_at s t).run.gone then record s { left = rest } else s
+control_step job s (Until t n ∷ rest) = if nat_le n (task_at s t).run.gone then record s { remaining = rest } else s
 control_step job s (Run c ∷ rest) =
-    let answer = answer_on job (desk job s.ran) c in
+    let answer = answer_on job (desk job s.commands_done) c in
     record s {
-      past = Return (suc s.ran) answer ∷ Begin (suc s.ran) ∷ s.past;
-      ran = suc s.ran;
-      left = rest;
+      past = Return (suc s.commands_done) answer ∷ Begin (suc s.commands_done) ∷ s.past;
+      commands_done = suc s.commands_done;
+      remaining = rest;
       order = if is_accepted answer then order_after s.order c else s.order;
     }
 
 -- a step of an actor
 unfoldable pub step : Job → Actor → State → State
-step job Control s = control_step job s s.left
+step job Control s = control_step job s s.remaining
 step job (Cpu c) s = cpu_step job c.0 (cpu_at job s c.0) s
 
 -- all tasks before their first acts
@@ -343,17 +343,17 @@ tasks_at_start job n [] = []
 tasks_at_start job n (t ∷ rest) = record { run = at_start job n; frames = [] } ∷ tasks_at_start job (suc n) rest
 
 -- the opening state but for the CPUs
-abbrev pub bare_state : Job → State
-bare_state job = record { past = []; ran = 0; left = job.ctls; order = []; tasks = tasks_at_start job 0 job.tasks; cpus = [] }
+abbrev pub state_without_cpus : Job → State
+state_without_cpus job = record { past = []; commands_done = 0; remaining = job.ctls; order = []; tasks = tasks_at_start job 0 job.tasks; cpus = [] }
 
 -- each CPU runs the first of its tasks that has an act
 abbrev pub cpus_at_start : Job → ℕ → List ℕ → List CpuState
 cpus_at_start job c [] = []
-cpus_at_start job c (q ∷ rest) = record { present = first_left (bare_state job) (length job.tasks) (tasks_of job c); count = 0 } ∷ cpus_at_start job (suc c) rest
+cpus_at_start job c (q ∷ rest) = record { present = first_left (state_without_cpus job) (length job.tasks) (tasks_of job c); count = 0 } ∷ cpus_at_start job (suc c) rest
 
 -- the opening state
 unfoldable pub start : Job → State
-start job = record (bare_state job) { cpus = cpus_at_start job 0 job.quanta }
+start job = record (state_without_cpus job) { cpus = cpus_at_start job 0 job.quanta }
 
 -- the state after these actors, one after the other
 unfoldable pub run : Job → List Actor → State → State
@@ -364,17 +364,17 @@ run job (a ∷ rest) s = run job rest (step job a s)
 
 -- control is at its end behind its last line, a CPU behind the last act of its last task
 unfoldable pub is_at_end : Job → Actor → State → Bool
-is_at_end job Control s = is_nil s.left
+is_at_end job Control s = is_nil s.remaining
 is_at_end job (Cpu c) s = not (list_any (λ t. is_left s t) (tasks_of job c.0))
 
 -- every actor is at its end
-unfoldable pub is_over : State → Bool
-is_over s = is_nil s.left && not (list_any (λ x. has_acts x.run.acts) s.tasks)
+unfoldable pub all_end : State → Bool
+all_end s = is_nil s.remaining && not (list_any (λ x. has_acts x.run.acts) s.tasks)
 
 -- a replay of these actors, which stops where all are at their ends
 unfoldable pub played : Job → List Actor → State → State
 played job [] s = s
-played job (a ∷ rest) s = if is_over s then s else played job rest (step job a s)
+played job (a ∷ rest) s = if all_end s then s else played job rest (step job a s)
 
 -- the replay of the job's schedule
 unfoldable pub play : Job → State

@@ -2,9 +2,9 @@
 use Rattle.std.specs.Prelude.{ℕ, Bool, true, false, List, [], ◌∷◌, codes, Option, Some, None, option_map, if◌then◌else◌}
 use Rattle.std.specs.Str.{bytes_eq}
 use Rattle.ft_base.specs.declared.context.Ctx.{Ctx}
-use Rattle.ft_base.specs.declared.plan.Half.{Half}
-use Rattle.ft_base.specs.declared.plan.Half.TheVariants.{Filter, Notrace}
-use Rattle.ft_base.specs.declared.plan.Kind.{Kind}
+use Rattle.ft_base.specs.declared.user.Half.{Half}
+use Rattle.ft_base.specs.declared.user.Half.TheVariants.{Filter, Notrace}
+use Rattle.ft_base.specs.declared.user.Kind.{Kind}
 use Rattle.script_text.specs.Lines.{Word}
 use Rattle.script_text.specs.Names.{name_of, number_of}
 use Rattle.ft_schedule.specs.declared.item.Item.{Item}

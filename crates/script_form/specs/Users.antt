@@ -2,8 +2,8 @@
 -- however it is spelled.
 use Rattle.std.specs.Prelude.{Bool, true, false, List, [], ◌∷◌, codes, Option, Some, None, option_map, if◌then◌else◌}
 use Rattle.std.specs.Str.{bytes_eq}
-use Rattle.ft_base.specs.declared.plan.Kind.{Kind}
-use Rattle.ft_base.specs.declared.plan.Kind.TheVariants.{Function, Graph, Profile, Fprobe}
+use Rattle.ft_base.specs.declared.user.Kind.{Kind}
+use Rattle.ft_base.specs.declared.user.Kind.TheVariants.{Function, Graph, Profile, Fprobe}
 use Rattle.script_text.specs.Lines.{Word}
 use Rattle.script_text.specs.Names.{name_of}
 use Rattle.script_form.specs.Forms.{UserAct, calls, irqs, Form, user}

@@ -4,21 +4,21 @@ use Rattle.std.specs.List.{list_all}
 use Rattle.std.specs.Str.{IsAscii, IsUtf8}
 use Rattle.std.proofs.lemmas.Str.{IsUtf8-from_ascii}
 use Rattle.std.proofs.lemmas.Bool.Decides.{nat_tests}
-use Rattle.ft_base.specs.Name.{begins_name, goes_in_name, is_name_text}
+use Rattle.ft_base.specs.Name.{is_first_byte, is_later_byte, is_name_text}
 use Rattle.script_text.specs.Lines.{Word}
 use Rattle.script_text.specs.Names.{is_name}
 
-begins-small : (b : ℕ) → begins_name b ≡ true → b < 128
+begins-small : (b : ℕ) → is_first_byte b ≡ true → b < 128
 begins-small b h = grind (arith, nat_tests)
 
-goes-small : (b : ℕ) → goes_in_name b ≡ true → b < 128
+goes-small : (b : ℕ) → is_later_byte b ≡ true → b < 128
 goes-small b h = grind (arith, nat_tests)
 
 and-parts : (a b : Bool) → (a && b) ≡ true → (a ≡ true) × (b ≡ true)
 and-parts true b h = (refl, h)
 and-parts false b h = absurd (cc)
 
-all-ascii : (bs : List ℕ) → list_all goes_in_name bs ≡ true → IsAscii bs
+all-ascii : (bs : List ℕ) → list_all is_later_byte bs ≡ true → IsAscii bs
 all-ascii [] h i = omega arith
 all-ascii (b ∷ bs) h zero = goes-small b (and-parts _ _ h).0
 all-ascii (b ∷ bs) h (suc i) = all-ascii bs (and-parts _ _ h).1 i

@@ -2,13 +2,13 @@
 use Rattle.std.specs.Prelude.{ℕ, ◌&&◌, ◌+◌, ◌-◌, ◌*◌, nat_le, Bool, false, [], ◌∷◌, length, Option, Some, None, if◌then◌else◌}
 use Rattle.std.specs.List.{list_all}
 use Rattle.std.specs.Char.{is_ascii_digit}
-use Rattle.ft_base.specs.Name.{begins_name, goes_in_name}
+use Rattle.ft_base.specs.Name.{is_first_byte, is_later_byte}
 use Rattle.script_text.specs.Lines.{Word}
 
 -- a name but for its length: its first byte begins a name, and the others go in one
 abbrev pub is_name : Word → Bool
 is_name [] = false
-is_name (first ∷ rest) = begins_name first && list_all goes_in_name rest
+is_name (first ∷ rest) = is_first_byte first && list_all is_later_byte rest
 
 -- the word, where it is a name
 abbrev pub name_of : Word → Option Word

@@ -5,8 +5,8 @@ use Rattle.std.proofs.lemmas.List.{get_or-set_same, get_or-set_other, take_all, 
 use Rattle.std.proofs.lemmas.List.Sums.{count_by_more_yes, count_by_more_no}
 use Rattle.script_waits.specs.declared.script.Act.{Act}
 use Rattle.script_waits.specs.declared.script.Order.{Order}
-use Rattle.ft_base.specs.declared.plan.TaskAct.{TaskAct}
-use Rattle.ft_base.specs.declared.plan.TaskAct.TheVariants.{Call, Ret, Raise, Lower, After}
+use Rattle.ft_base.specs.declared.task.TaskAct.{TaskAct}
+use Rattle.ft_base.specs.declared.task.TaskAct.TheVariants.{Call, Ret, Raise, Lower, After}
 use Rattle.script_waits.specs.declared.script.Wait.{Wait}
 use Rattle.script_waits.specs.declared.script.Wait.TheVariants.{Command, Until}
 use Rattle.script_waits.specs.Greedy.{Passed, Reaches, start, task, control, IsGreatest, IsDeadlock, IsLeast, Waits, in_task, in_control, commands_in, is_command, may_pass, may_go, passes_act, passes_line, next_act, next_line, task_goes, control_goes}

@@ -1,7 +1,7 @@
 -- Whether a script can end: each task goes through its acts, and control through its lines.
 use Rattle.std.specs.Prelude.{◌≡◌, ℕ, suc, ◌≤◌, nat_le, Bool, true, false, List, length, take, set, get_or, replicate, slice_get, count_by, Option, Some, None, [], if◌then◌else◌}
-use Rattle.ft_base.specs.declared.plan.TaskAct.{TaskAct}
-use Rattle.ft_base.specs.declared.plan.TaskAct.TheVariants.{After}
+use Rattle.ft_base.specs.declared.task.TaskAct.{TaskAct}
+use Rattle.ft_base.specs.declared.task.TaskAct.TheVariants.{After}
 use Rattle.script_waits.specs.declared.script.Wait.{Wait}
 use Rattle.script_waits.specs.declared.script.Wait.TheVariants.{Command, Until}
 use Rattle.script_waits.specs.declared.script.Act.{Act}

@@ -6,8 +6,8 @@ use Rattle.std.proofs.lemmas.Bool.{cases_eq, cases_lt, lt-ltb, le-ltb}
 use Rattle.std.proofs.lemmas.List.{length-replicate, get_or-replicate, with_items_is}
 use Rattle.std.proofs.lemmas.Nat.Bits.{bit_at_ones, bit_at_ones_above, ones_shr}
 use Rattle.site_set.specs.Packed.{has_bit, marks_of, IsPacked}
-use Rattle.site_set.specs.Marks.{Marks}
-use Rattle.site_set.proofs.PackedLemmas.{length-marks_of, has-marks_of, has_bit_past}
+use Rattle.ft_base.specs.Marks.{Marks}
+use Rattle.site_set.proofs.PackedLemmas.{length-marks_of, holds-marks_of, has_bit_past}
 
 -- so many words with every bit set
 abbrev pub ones : ℕ → List ℕ
@@ -66,7 +66,7 @@ IsFull-from_bits size ws s small count long bits = record {
   };
   marks = ext_get_or false _ _ (length-marks_of size ws ∙ long ∙ sym (length-replicate (length s) true))
       (λ i h. let low : i < size = omega (arith, length-marks_of size ws) in
-      has-marks_of size ws i low ∙ bits i ∙ lt-ltb i size low ∙ sym (get_or-replicate (length s) i true false (omega arith)));
+      holds-marks_of size ws i low ∙ bits i ∙ lt-ltb i size low ∙ sym (get_or-replicate (length s) i true false (omega arith)));
 }
 
 -- the vector v of the set, written through the slice xs

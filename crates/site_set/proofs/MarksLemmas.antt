@@ -10,7 +10,8 @@ use Rattle.std.proofs.lemmas.Slice.Zip.{length-zip, get_or-zip}
 use Rattle.std.proofs.lemmas.Nat.Bits.{bit_at_lowest, bit_at-suc, bit_at-zero}
 use Rattle.std.proofs.lemmas.Simd.{ones-mask_l}
 use lib.Lanes.{mask_l}
-use Rattle.site_set.specs.Marks.{Marks, has, bare, is_bare, union, difference, least_common, number_of, word_of, IsEmpty, AreDisjoint, IsLeastCommon}
+use Rattle.ft_base.specs.Marks.{Marks, holds, empty, is_empty, union, difference}
+use Rattle.site_set.specs.Marks.{least_common, number_of, word_of, IsEmpty, AreDisjoint, IsLeastCommon}
 
 -- ---- tests
 
@@ -25,46 +26,46 @@ and_second false b e = absurd cc
 -- ---- the empty set, `bare n`
 
 -- it has the size
-pub length-bare : (n : ℕ) → length (bare n) ≡ n
-length-bare zero = refl
-length-bare (suc n) = ap suc (length-bare n)
+pub length-empty : (n : ℕ) → length (empty n) ≡ n
+length-empty zero = refl
+length-empty (suc n) = ap suc (length-empty n)
 
 -- it is std's list of one mark, so many times
-pub bare-replicate : (n : ℕ) → bare n ≡ replicate n false
-bare-replicate zero = refl
-bare-replicate (suc n) = ap (λ (s : Marks). false ∷ s) (bare-replicate n)
+pub empty-replicate : (n : ℕ) → empty n ≡ replicate n false
+empty-replicate zero = refl
+empty-replicate (suc n) = ap (λ (s : Marks). false ∷ s) (empty-replicate n)
 
 -- it has no member
-pub has-bare : (n f : ℕ) → has (bare n) f ≡ false
-has-bare zero f = refl
-has-bare (suc n) zero = refl
-has-bare (suc n) (suc f) = has-bare n f
+pub holds-empty : (n f : ℕ) → holds (empty n) f ≡ false
+holds-empty zero f = refl
+holds-empty (suc n) zero = refl
+holds-empty (suc n) (suc f) = holds-empty n f
 
-pub is_bare-bare : (n : ℕ) → is_bare (bare n) ≡ true
-is_bare-bare zero = refl
-is_bare-bare (suc n) = is_bare-bare n
+pub is_empty-empty : (n : ℕ) → is_empty (empty n) ≡ true
+is_empty-empty zero = refl
+is_empty-empty (suc n) = is_empty-empty n
 
 -- a set is bare exactly where no number is a member
-pub IsEmpty-from_is_bare : (s : Marks) → is_bare s ≡ true → IsEmpty s
+pub IsEmpty-from_is_bare : (s : Marks) → is_empty s ≡ true → IsEmpty s
 IsEmpty-from_is_bare [] e f = refl
 IsEmpty-from_is_bare (true ∷ s) e f = absurd cc
 IsEmpty-from_is_bare (false ∷ s) e zero = refl
 IsEmpty-from_is_bare (false ∷ s) e (suc f) = IsEmpty-from_is_bare s e f
 
-pub is_bare-from_IsEmpty : (s : Marks) → IsEmpty s → is_bare s ≡ true
-is_bare-from_IsEmpty [] h = refl
-is_bare-from_IsEmpty (true ∷ s) h = let no : true ≡ false = h zero in absurd cc
-is_bare-from_IsEmpty (false ∷ s) h = is_bare-from_IsEmpty s (λ f. h (suc f))
+pub is_empty-from_IsEmpty : (s : Marks) → IsEmpty s → is_empty s ≡ true
+is_empty-from_IsEmpty [] h = refl
+is_empty-from_IsEmpty (true ∷ s) h = let no : true ≡ false = h zero in absurd cc
+is_empty-from_IsEmpty (false ∷ s) h = is_empty-from_IsEmpty s (λ f. h (suc f))
 
 -- ---- a member more or less
 
 -- f is a member where its mark says so
-pub has-set_same : (s : Marks) (f : ℕ) (b : Bool) → f < length s → has (set s f b) f ≡ b
-has-set_same s f b h = get_or-set_same s f b false h
+pub holds-set_same : (s : Marks) (f : ℕ) (b : Bool) → f < length s → holds (set s f b) f ≡ b
+holds-set_same s f b h = get_or-set_same s f b false h
 
 -- every other number stays as it was
-pub has-set_other : (s : Marks) (f g : ℕ) (b : Bool) → g ≢ f → has (set s f b) g ≡ has s g
-has-set_other s f g b h = get_or-set_other s f g b false h
+pub holds-set_other : (s : Marks) (f g : ℕ) (b : Bool) → g ≢ f → holds (set s f b) g ≡ holds s g
+holds-set_other s f g b h = get_or-set_other s f g b false h
 
 -- ---- union and difference
 
@@ -75,12 +76,12 @@ length-union (x ∷ s) [] = refl
 length-union (x ∷ s) (y ∷ t) = ap suc (length-union s t)
 
 -- a number is in a union where it is in either set
-pub has-union : (s t : Marks) → length t ≤ length s → (f : ℕ) → has (union s t) f ≡ (has s f || has t f)
-has-union [] [] h f = refl
-has-union [] (y ∷ t) h f = absurd (omega arith)
-has-union (x ∷ s) [] h f = sym (or-false (has (x ∷ s) f))
-has-union (x ∷ s) (y ∷ t) h zero = refl
-has-union (x ∷ s) (y ∷ t) h (suc f) = has-union s t (omega arith) f
+pub holds-union : (s t : Marks) → length t ≤ length s → (f : ℕ) → holds (union s t) f ≡ (holds s f || holds t f)
+holds-union [] [] h f = refl
+holds-union [] (y ∷ t) h f = absurd (omega arith)
+holds-union (x ∷ s) [] h f = sym (or-false (holds (x ∷ s) f))
+holds-union (x ∷ s) (y ∷ t) h zero = refl
+holds-union (x ∷ s) (y ∷ t) h (suc f) = holds-union s t (omega arith) f
 
 -- the size of a difference is that of the first set
 pub length-difference : (s t : Marks) → length (difference s t) ≡ length s
@@ -89,19 +90,19 @@ length-difference (x ∷ s) [] = refl
 length-difference (x ∷ s) (y ∷ t) = ap suc (length-difference s t)
 
 -- a number is in a difference where it is in the first set alone
-pub has-difference : (s t : Marks) (f : ℕ) → has (difference s t) f ≡ (has s f && not (has t f))
-has-difference [] t f = refl
-has-difference (x ∷ s) [] f = sym (and-true (has (x ∷ s) f))
-has-difference (x ∷ s) (y ∷ t) zero = refl
-has-difference (x ∷ s) (y ∷ t) (suc f) = has-difference s t f
+pub holds-difference : (s t : Marks) (f : ℕ) → holds (difference s t) f ≡ (holds s f && not (holds t f))
+holds-difference [] t f = refl
+holds-difference (x ∷ s) [] f = sym (and-true (holds (x ∷ s) f))
+holds-difference (x ∷ s) (y ∷ t) zero = refl
+holds-difference (x ∷ s) (y ∷ t) (suc f) = holds-difference s t f
 
 -- the members of a set, and none beside them
-pub union-bare : (t : Marks) → union (bare (length t)) t ≡ t
-union-bare [] = refl
-union-bare (y ∷ t) = ap (λ (s : Marks). y ∷ s) (union-bare t)
+pub union-empty : (t : Marks) → union (empty (length t)) t ≡ t
+union-empty [] = refl
+union-empty (y ∷ t) = ap (λ (s : Marks). y ∷ s) (union-empty t)
 
 -- two sets of one size with the same members are one set
-pub same_members : (s t : Marks) → length s ≡ length t → ((f : ℕ) → f < length s → has s f ≡ has t f) → s ≡ t
+pub same_members : (s t : Marks) → length s ≡ length t → ((f : ℕ) → f < length s → holds s f ≡ holds t f) → s ≡ t
 same_members s t e h = ext_get_or false s t e h
 
 -- ---- the least number in both sets
@@ -112,7 +113,7 @@ both p = p.0 && p.1
 length-pairs : (s t : Marks) → length s ≡ length t → length (zip s t) ≡ length s
 length-pairs s t e = length-zip s t ∙ omega arith
 
-both_at : (s t : Marks) → length s ≡ length t → (f : ℕ) → both (get_or (zip s t) f (false, false)) ≡ (has s f && has t f)
+both_at : (s t : Marks) → length s ≡ length t → (f : ℕ) → both (get_or (zip s t) f (false, false)) ≡ (holds s f && holds t f)
 both_at s t e f = elim (cases_lt f (length s)) [
   | inl h ↦ ap both (get_or-zip s t f (false, false) h (omega arith))
   | inr h ↦ ap both (get_or_past (zip s t) f (false, false) (omega (arith, length-pairs s t e)))
@@ -151,7 +152,7 @@ low true n = omega arith
 low false n = omega arith
 
 -- a bit of the number is the mark at its place
-pub bit_at-number_of : (bs : Marks) (i : ℕ) → bit_at (number_of bs) i ≡ (if has bs i then 1 else 0)
+pub bit_at-number_of : (bs : Marks) (i : ℕ) → bit_at (number_of bs) i ≡ (if holds bs i then 1 else 0)
 bit_at-number_of [] i = bit_at-zero i
 bit_at-number_of (b ∷ bs) zero = bit_at_lowest (number_of (b ∷ bs)) ∙ low b (number_of bs)
 bit_at-number_of (b ∷ bs) (suc i) = bit_at-suc (number_of (b ∷ bs)) i ∙ ap (λ n. bit_at n i) (half b (number_of bs)) ∙ bit_at-number_of bs i
@@ -161,7 +162,7 @@ is_one true = refl
 is_one false = refl
 
 -- a bit of a set's word is a mark of the set
-pub bit_at-word_of : (s : Marks) (w i : ℕ) → i < 64 → (bit_at (word_of s w) i == 1) ≡ has s (64 * w + i)
+pub bit_at-word_of : (s : Marks) (w i : ℕ) → i < 64 → (bit_at (word_of s w) i == 1) ≡ holds s (64 * w + i)
 bit_at-word_of s w i h = ap (λ n. n == 1) (bit_at-number_of (take 64 (drop (64 * w) s)) i) ∙ is_one _
     ∙ get_or-take 64 (drop (64 * w) s) i false h ∙ get_or-drop (64 * w) s i false
 

@@ -9,9 +9,10 @@ use Rattle.std.proofs.lemmas.List.{get_or_read, get_or-map, length-map}
 use Rattle.std.proofs.lemmas.Slice.Zip.{length-zip, get_or-zip}
 use Rattle.std.proofs.lemmas.Nat.Bits.{bit_at-lt, bit_at-zero, bit_at_or, bit_at_and, bit_at_not}
 use Rattle.site_set.specs.Packed.{has_bit, marks_of, IsPacked, IsLowestBit}
-use Rattle.site_set.specs.Marks.{Marks, has, union, difference, AreDisjoint, IsLeastCommon}
-use Rattle.site_set.proofs.PackedLemmas.{length-marks_of, has-marks_of, has-marks_of_any, has_bit_past, word_within}
-use Rattle.site_set.proofs.MarksLemmas.{and_first, and_second, length-union, has-union, length-difference, has-difference}
+use Rattle.ft_base.specs.Marks.{Marks, holds, union, difference}
+use Rattle.site_set.specs.Marks.{AreDisjoint, IsLeastCommon}
+use Rattle.site_set.proofs.PackedLemmas.{length-marks_of, holds-marks_of, holds-marks_of_any, has_bit_past, word_within}
+use Rattle.site_set.proofs.MarksLemmas.{and_first, and_second, length-union, holds-union, length-difference, holds-difference}
 
 -- ---- a bit of `|` and of `& !`
 
@@ -65,7 +66,7 @@ same_words n m ws vs s t e f h p q = same_count n m ws vs (same_size n m ws vs s
 module _ (op : ℕ → ℕ → ℕ) (test : Bool → Bool → Bool) (join : Marks → Marks → Marks) (none : test false false ≡ false)
     (bits : (a b k : ℕ) → b < 2 ^ 64 → k < 64 → (bit_at (op a b) k == 1) ≡ test (bit_at a k == 1) (bit_at b k == 1))
     (length-join : (s t : Marks) → length (join s t) ≡ length s)
-    (has-join : (s t : Marks) → length t ≤ length s → (f : ℕ) → has (join s t) f ≡ test (has s f) (has t f)) where
+    (holds-join : (s t : Marks) → length t ≤ length s → (f : ℕ) → holds (join s t) f ≡ test (holds s f) (holds t f)) where
   abbrev pub merged : List ℕ → List ℕ → List ℕ
   merged ws vs = map (λ (p : ℕ × ℕ). op p.0 p.1) (zip ws vs)
 
@@ -102,8 +103,8 @@ module _ (op : ℕ → ℕ → ℕ) (test : Bool → Bool → Bool) (join : Mark
         let t = marks_of size vs in
         ext_get_or false _ _ (length-marks_of size _ ∙ sym (length-join s t ∙ length-marks_of size ws))
         (λ i h. let low : i < size = omega (arith, length-marks_of size (merged ws vs)) in
-        has-marks_of size _ i low ∙ has_bit-merged i
-        ∙ sym (has-join s t (omega (arith, length-marks_of size ws, length-marks_of size vs)) i ∙ ap₂ test (has-marks_of size ws i low) (has-marks_of size vs i low)))
+        holds-marks_of size _ i low ∙ has_bit-merged i
+        ∙ sym (holds-join s t (omega (arith, length-marks_of size ws, length-marks_of size vs)) i ∙ ap₂ test (holds-marks_of size ws i low) (holds-marks_of size vs i low)))
 
   -- the words after the merge of a set s with a set t
   pub record IsMerged (size : ℕ) (s t : Marks) (words : List ℕ) : Type 0 where
@@ -130,21 +131,21 @@ module _ (op : ℕ → ℕ → ℕ) (test : Bool → Bool → Bool) (join : Mark
 -- ---- the two merges
 
 abbrev pub IsUnited : ℕ → Marks → Marks → List ℕ → Type 0
-IsUnited = IsMerged bit_or (λ a b. a || b) union refl bit_or_test length-union has-union
+IsUnited = IsMerged bit_or (λ a b. a || b) union refl bit_or_test length-union holds-union
 
 pub IsUnited-from_slices : {Z : Type 0} (v : Vec ℕ Z) (n m : ℕ) (vs xs ys new : List ℕ) (s t : Marks) → IsPacked n v.items → IsPacked m vs
     → marks_of n v.items ≡ s → marks_of m vs ≡ t → length s ≡ length t → xs ≡ v.items → ys ≡ vs
     → ((k : ℕ) → get_or ys k 0 < 2 ^ 64) → new ≡ map (λ (p : ℕ × ℕ). bit_or p.0 p.1) (zip xs ys) → IsUnited n s t (with_items v new).items
-IsUnited-from_slices = IsMerged-from_slices bit_or (λ a b. a || b) union refl bit_or_test length-union has-union
+IsUnited-from_slices = IsMerged-from_slices bit_or (λ a b. a || b) union refl bit_or_test length-union holds-union
 
 abbrev pub IsSubtracted : ℕ → Marks → Marks → List ℕ → Type 0
-IsSubtracted = IsMerged (λ a b. bit_and a (2 ^ 64 - 1 - b)) (λ a b. a && not b) difference refl and_not_test length-difference (λ s t h. has-difference s t)
+IsSubtracted = IsMerged (λ a b. bit_and a (2 ^ 64 - 1 - b)) (λ a b. a && not b) difference refl and_not_test length-difference (λ s t h. holds-difference s t)
 
 pub IsSubtracted-from_slices : {Z : Type 0} (v : Vec ℕ Z) (n m : ℕ) (vs xs ys new : List ℕ) (s t : Marks) → IsPacked n v.items → IsPacked m vs
     → marks_of n v.items ≡ s → marks_of m vs ≡ t → length s ≡ length t → xs ≡ v.items → ys ≡ vs
     → ((k : ℕ) → get_or ys k 0 < 2 ^ 64) → new ≡ map (λ (p : ℕ × ℕ). bit_and p.0 (2 ^ 64 - 1 - p.1)) (zip xs ys)
     → IsSubtracted n s t (with_items v new).items
-IsSubtracted-from_slices = IsMerged-from_slices (λ a b. bit_and a (2 ^ 64 - 1 - b)) (λ a b. a && not b) difference refl and_not_test length-difference (λ s t h. has-difference s t)
+IsSubtracted-from_slices = IsMerged-from_slices (λ a b. bit_and a (2 ^ 64 - 1 - b)) (λ a b. a && not b) difference refl and_not_test length-difference (λ s t h. holds-difference s t)
 
 -- ---- the least number in both
 
@@ -153,18 +154,18 @@ module _ (size : ℕ) (ws vs : List ℕ) (p : IsPacked size ws) (q : IsPacked si
   common w = bit_and (get_or ws w 0) (get_or vs w 0)
 
   -- a number is in both where its bit is in both words
-  both_at : (f : ℕ) → (has (marks_of size ws) f && has (marks_of size vs) f) ≡ (bit_at (common (f / 64)) (f % 64) == 1)
-  both_at f = ap₂ (λ a b. a && b) (has-marks_of_any size ws f p) (has-marks_of_any size vs f q)
+  both_at : (f : ℕ) → (holds (marks_of size ws) f && holds (marks_of size vs) f) ≡ (bit_at (common (f / 64)) (f % 64) == 1)
+  both_at f = ap₂ (λ a b. a && b) (holds-marks_of_any size ws f p) (holds-marks_of_any size vs f q)
       ∙ sym (tests_and _ _ (bit_at-lt (get_or ws (f / 64) 0) (f % 64)) (bit_at-lt (get_or vs (f / 64) 0) (f % 64)))
       ∙ sym (ap (λ n. n == 1) (bit_at_and (get_or ws (f / 64) 0) (get_or vs (f / 64) 0) (f % 64)))
 
-  off_where_apart : (f : ℕ) → common (f / 64) ≡ 0 → (has (marks_of size ws) f && has (marks_of size vs) f) ≡ false
+  off_where_apart : (f : ℕ) → common (f / 64) ≡ 0 → (holds (marks_of size ws) f && holds (marks_of size vs) f) ≡ false
   off_where_apart f e = both_at f ∙ ap (λ n. bit_at n (f % 64) == 1) e ∙ ap (λ n. n == 1) (bit_at-zero (f % 64))
 
   pub apart_from_words : ((k : ℕ) → k < length ws → common k ≡ 0) → AreDisjoint (marks_of size ws) (marks_of size vs)
   apart_from_words apart f = elim (cases_lt f size) [
     | inl h ↦ off_where_apart f (apart (f / 64) (word_within size f (length ws) p.count h))
-    | inr h ↦ ap₂ (λ a b. a && b) (has-marks_of_any size ws f p ∙ p.clear f h) (has-marks_of_any size vs f q ∙ q.clear f h)
+    | inr h ↦ ap₂ (λ a b. a && b) (holds-marks_of_any size ws f p ∙ p.clear f h) (holds-marks_of_any size vs f q ∙ q.clear f h)
   ]
 
   pub least_from_words : (w : ℕ) → ((k : ℕ) → k < w → common k ≡ 0) → (z : ℕ) → IsLowestBit (common w) z
@@ -173,7 +174,7 @@ module _ (size : ℕ) (ws vs : List ℕ) (p : IsPacked size ws) (q : IsPacked si
       let z_below : z < 64 = t.below in
       let d : (w * 64 + z) / 64 ≡ w = omega arith in
       let m : (w * 64 + z) % 64 ≡ z = omega arith in
-      let there : (has (marks_of size ws) (w * 64 + z) && has (marks_of size vs) (w * 64 + z)) ≡ true =
+      let there : (holds (marks_of size ws) (w * 64 + z) && holds (marks_of size vs) (w * 64 + z)) ≡ true =
       both_at (w * 64 + z) ∙ ap₂ (λ a b. bit_at (common a) b == 1) d m ∙ ap (λ n. n == 1) t.set in
       record {
         first = and_first _ _ there;

@@ -5,20 +5,20 @@ use Rattle.std.proofs.lemmas.Bool.{cases_eq, cases_lt}
 use Rattle.std.proofs.lemmas.List.{length-replicate, get_or_read, get_or_past, get_or-replicate}
 use Rattle.std.proofs.lemmas.Nat.Bits.{bit_at_set_same, bit_at_set_other, bit_at_clear_same, bit_at_clear_other, bit_at-zero, shr_and_one}
 use Rattle.std.proofs.lemmas.List.FromFn.{length-map-range_with_len, get_or-map-range_with_len}
-use Rattle.site_set.specs.Marks.{bare}
-use Rattle.site_set.proofs.MarksLemmas.{length-bare, has-bare}
+use Rattle.ft_base.specs.Marks.{empty}
+use Rattle.site_set.proofs.MarksLemmas.{length-empty, holds-empty}
 use Rattle.site_set.specs.Packed.{has_bit, marks_of, IsPacked}
 
 pub length-marks_of : (size : ℕ) (ws : List ℕ) → length (marks_of size ws) ≡ size
 length-marks_of size ws = length-map-range_with_len (has_bit ws) 0 size
 
-pub has-marks_of : (size : ℕ) (ws : List ℕ) (f : ℕ) → f < size → get_or (marks_of size ws) f false ≡ has_bit ws f
-has-marks_of size ws f h = get_or-map-range_with_len (has_bit ws) 0 size f f false h (omega arith)
+pub holds-marks_of : (size : ℕ) (ws : List ℕ) (f : ℕ) → f < size → get_or (marks_of size ws) f false ≡ has_bit ws f
+holds-marks_of size ws f h = get_or-map-range_with_len (has_bit ws) 0 size f f false h (omega arith)
 
 -- the same at any number, since no bit is set from the size on
-pub has-marks_of_any : (size : ℕ) (ws : List ℕ) (f : ℕ) → IsPacked size ws → get_or (marks_of size ws) f false ≡ has_bit ws f
-has-marks_of_any size ws f p = elim (cases_lt f size) [
-  | inl h ↦ has-marks_of size ws f h
+pub holds-marks_of_any : (size : ℕ) (ws : List ℕ) (f : ℕ) → IsPacked size ws → get_or (marks_of size ws) f false ≡ has_bit ws f
+holds-marks_of_any size ws f p = elim (cases_lt f size) [
+  | inl h ↦ holds-marks_of size ws f h
   | inr h ↦ get_or_past (marks_of size ws) f false (omega (arith, length-marks_of size ws)) ∙ sym (p.clear f h)
 ]
 
@@ -56,10 +56,10 @@ module _ (ws : List ℕ) (f x : ℕ) (within : f / 64 < length ws)
       let here : f < length old = omega (arith, length-marks_of size ws) in
       ext_get_or false _ _ (length-marks_of size _ ∙ sym (length-set old f b ∙ length-marks_of size ws))
       (λ i h. let low : i < size = omega (arith, length-marks_of size (set ws (f / 64) x)) in
-      has-marks_of size _ i low ∙ elim (cases_eq i f) [
+      holds-marks_of size _ i low ∙ elim (cases_eq i f) [
         | inl e ↦ ap (has_bit (set ws (f / 64) x)) e ∙ has_bit-set_same ws f x within ∙ mark
             ∙ sym (get_or-set_same old f b false here) ∙ ap (λ j. get_or (set old f b) j false) (sym e)
-        | inr d ↦ has_bit-set_other i d ∙ sym (has-marks_of size ws i low) ∙ sym (get_or-set_other old f i b false d)
+        | inr d ↦ has_bit-set_other i d ∙ sym (holds-marks_of size ws i low) ∙ sym (get_or-set_other old f i b false d)
       ])
 
   pub IsPacked-set : (size : ℕ) → f < size → IsPacked size ws → IsPacked size (set ws (f / 64) x)
@@ -104,8 +104,8 @@ module _ (size f : ℕ) (ws : List ℕ) (y : ℕ) (packed : IsPacked size ws) (b
   pub marks_of-removed : marks_of size (set ws (f / 64) removed) ≡ set (marks_of size ws) f false
   marks_of-removed = marks_of-set ws f removed within removed_others size false below (ap (λ b. b == 1) (bit_at_clear_same w64 y (f % 64) bit_in))
 
-  pub has-read : (bit_and (y / 2 ^ (f % 64)) 1 == 1) ≡ get_or (marks_of size ws) f false
-  has-read = ap (λ b. b == 1) (shr_and_one y (f % 64) ∙ ap (λ z. bit_at z (f % 64)) was) ∙ sym (has-marks_of size ws f below)
+  pub holds-read : (bit_and (y / 2 ^ (f % 64)) 1 == 1) ≡ get_or (marks_of size ws) f false
+  holds-read = ap (λ b. b == 1) (shr_and_one y (f % 64) ∙ ap (λ z. bit_at z (f % 64)) was) ∙ sym (holds-marks_of size ws f below)
 
 -- no bit of zeros is set
 bit_of_zeros : (n w k : ℕ) → (bit_at (get_or (replicate n 0) w 0) k == 1) ≡ false
@@ -121,7 +121,7 @@ IsPacked-zeros size n fits e = record {
   clear = λ f h. bit_of_zeros n (f / 64) (f % 64);
 }
 
-pub marks_of-zeros : (size n : ℕ) → marks_of size (replicate n 0) ≡ bare size
-marks_of-zeros size n = ext_get_or false _ _ (length-marks_of size _ ∙ sym (length-bare size))
+pub marks_of-zeros : (size n : ℕ) → marks_of size (replicate n 0) ≡ empty size
+marks_of-zeros size n = ext_get_or false _ _ (length-marks_of size _ ∙ sym (length-empty size))
     (λ i h. let low : i < size = omega (arith, length-marks_of size (replicate n 0)) in
-    has-marks_of size _ i low ∙ bit_of_zeros n (i / 64) (i % 64) ∙ sym (has-bare size i))
+    holds-marks_of size _ i low ∙ bit_of_zeros n (i / 64) (i % 64) ∙ sym (holds-empty size i))

@@ -8,9 +8,10 @@ use Rattle.std.proofs.lemmas.List.{get_or_read, take_all}
 use Rattle.std.proofs.lemmas.List.Sums.{sum_by-append, count_by-le-length}
 use Rattle.std.proofs.lemmas.Nat.Bits.{bit_at-lt, bit_at-zero, bit_at_above, same_from_bits}
 use Rattle.site_set.specs.Packed.{marks_of, IsPacked}
-use Rattle.site_set.specs.Marks.{Marks, has, is_bare, word_of, IsEmpty}
-use Rattle.site_set.proofs.PackedLemmas.{length-marks_of, has-marks_of_any}
-use Rattle.site_set.proofs.MarksLemmas.{and_first, and_second, bit_at-word_of, bit_at-word_of_above, ones-word_of, IsEmpty-from_is_bare, is_bare-from_IsEmpty}
+use Rattle.ft_base.specs.Marks.{Marks, holds, is_empty}
+use Rattle.site_set.specs.Marks.{word_of, IsEmpty}
+use Rattle.site_set.proofs.PackedLemmas.{length-marks_of, holds-marks_of_any}
+use Rattle.site_set.proofs.MarksLemmas.{and_first, and_second, bit_at-word_of, bit_at-word_of_above, ones-word_of, IsEmpty-from_is_bare, is_empty-from_IsEmpty}
 
 -- a bit is known from its test
 same_bit : (a b : ℕ) → a < 2 → b < 2 → (a == 1) ≡ (b == 1) → a ≡ b
@@ -24,11 +25,11 @@ same_bit (suc (suc a)) b h k e = absurd (omega arith)
 
 module _ (size : ℕ) (ws : List ℕ) (p : IsPacked size ws) where
   -- a mark is the bit of its word
-  mark_at : (w i : ℕ) → i < 64 → has (marks_of size ws) (64 * w + i) ≡ (bit_at (get_or ws w 0) i == 1)
+  mark_at : (w i : ℕ) → i < 64 → holds (marks_of size ws) (64 * w + i) ≡ (bit_at (get_or ws w 0) i == 1)
   mark_at w i h =
       let q : (64 * w + i) / 64 ≡ w = omega arith in
       let r : (64 * w + i) % 64 ≡ i = omega arith in
-      has-marks_of_any size ws (64 * w + i) p ∙ ap₂ (λ a b. bit_at (get_or ws a 0) b == 1) q r
+      holds-marks_of_any size ws (64 * w + i) p ∙ ap₂ (λ a b. bit_at (get_or ws a 0) b == 1) q r
 
   pub word_of-marks_of : (w : ℕ) → get_or ws w 0 < 2 ^ 64 → word_of (marks_of size ws) w ≡ get_or ws w 0
   word_of-marks_of w fits = same_from_bits _ _ (λ i. elim (cases_lt i 64) [
@@ -54,7 +55,7 @@ module _ (size : ℕ) (ws : List ℕ) (p : IsPacked size ws) where
 
   -- no member where each word is 0
   IsEmpty-zero : list_all (λ word. word == 0) ws ≡ true → IsEmpty (marks_of size ws)
-  IsEmpty-zero e f = has-marks_of_any size ws f p ∙ ap (λ y. bit_at y (f % 64) == 1) (zero_at ws e (f / 64)) ∙ ap (λ b. b == 1) (bit_at-zero (f % 64))
+  IsEmpty-zero e f = holds-marks_of_any size ws f p ∙ ap (λ y. bit_at y (f % 64) == 1) (zero_at ws e (f / 64)) ∙ ap (λ b. b == 1) (bit_at-zero (f % 64))
     where
       zero_at : (xs : List ℕ) → list_all (λ word. word == 0) xs ≡ true → (k : ℕ) → get_or xs k 0 ≡ 0
       zero_at [] h k = refl
@@ -71,8 +72,8 @@ module _ (size : ℕ) (ws : List ℕ) (p : IsPacked size ws) where
       all_zero [] z = refl
       all_zero (x ∷ xs) z = ap₂ (λ a b. a && b) (eq-eqb x 0 (z zero)) (all_zero xs (λ k. z (suc k)))
 
-  pub is_bare-zero : ((k : ℕ) → get_or ws k 0 < 2 ^ 64) → is_bare (marks_of size ws) ≡ list_all (λ word. word == 0) ws
-  is_bare-zero fits = same_test _ _ (λ e. zero-IsEmpty fits (IsEmpty-from_is_bare _ e)) (λ e. is_bare-from_IsEmpty _ (IsEmpty-zero e))
+  pub is_empty-zero : ((k : ℕ) → get_or ws k 0 < 2 ^ 64) → is_empty (marks_of size ws) ≡ list_all (λ word. word == 0) ws
+  is_empty-zero fits = same_test _ _ (λ e. zero-IsEmpty fits (IsEmpty-from_is_bare _ e)) (λ e. is_empty-from_IsEmpty _ (IsEmpty-zero e))
     where
       same_test : (a b : Bool) → (a ≡ true → b ≡ true) → (b ≡ true → a ≡ true) → a ≡ b
       same_test true b f g = sym (f refl)
@@ -89,11 +90,11 @@ word_of-read size w x ws s p view low read fits =
     let fit : get_or ws w 0 < 2 ^ 64 = omega (arith, same) in
     same ∙ sym (word_of-marks_of size ws p w fit) ∙ ap (λ m. word_of m w) view
 
-pub is_bare-slice : (size : ℕ) (ws xs : List ℕ) (s : Marks) → IsPacked size ws → marks_of size ws ≡ s → xs ≡ ws
-    → ((k : ℕ) → get_or xs k 0 < 2 ^ 64) → list_all (λ word. word == 0) xs ≡ is_bare s
-is_bare-slice size ws xs s p view is fits =
+pub is_empty-slice : (size : ℕ) (ws xs : List ℕ) (s : Marks) → IsPacked size ws → marks_of size ws ≡ s → xs ≡ ws
+    → ((k : ℕ) → get_or xs k 0 < 2 ^ 64) → list_all (λ word. word == 0) xs ≡ is_empty s
+is_empty-slice size ws xs s p view is fits =
     ap (list_all (λ word. word == 0)) is
-    ∙ sym (is_bare-zero size ws p (subst (λ (ys : List ℕ). (k : ℕ) → get_or ys k 0 < 2 ^ 64) is fits)) ∙ ap is_bare view
+    ∙ sym (is_empty-zero size ws p (subst (λ (ys : List ℕ). (k : ℕ) → get_or ys k 0 < 2 ^ 64) is fits)) ∙ ap is_empty view
 
 -- how many members there are below the number 64 w
 abbrev pub count_below : Marks → ℕ → ℕ

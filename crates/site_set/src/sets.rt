@@ -2,7 +2,8 @@
 
 ghost use Rattle.std.specs.Prelude.{◌≡◌, ℕ, ◌+◌, ◌*◌, ◌<◌, ◌==◌, ◌↔◌, length, true, false, IfOk, IfSome, IsNone, IsTrue, count_by, replicate, slice_set};
 ghost use Rattle.std.specs.Int.{bit_at};
-ghost use Rattle.site_set.specs.Marks.{has, bare, is_bare, union, difference, least_common, word_of, IsEmpty, AreDisjoint, IsLeastCommon};
+ghost use Rattle.ft_base.specs.Marks.{holds, empty, is_empty, union, difference};
+ghost use Rattle.site_set.specs.Marks.{least_common, word_of, IsEmpty, AreDisjoint, IsLeastCommon};
 
 use crate::words::{and_not_words, are_zero, fill_words, lowest_common_bit, or_words};
 use std::alloc::{AllocError, Global};
@@ -30,7 +31,7 @@ impl Model for SiteSet {
 impl SiteSet {
     /// The empty set of numbers below `size`. The error says that no memory was found.
     pub fn empty(alloc: Global, size: u32) -> Result<SiteSet, AllocError>
-        ensures members { IfOk result (λ set. set ≡ bare size) }
+        ensures members { IfOk result (λ set. set ≡ empty size) }
         ensures size { IfOk result (λ set. length set ≡ size) }
     {
         let words = vec![in alloc; 0u64; (size as usize).div_ceil(64)]?;
@@ -58,7 +59,7 @@ impl SiteSet {
     /// Whether `f` is a member.
     pub fn contains(&self, f: u32) -> bool
         requires { f < length self.now }
-        ensures { result ≡ has self.now f }
+        ensures { result ≡ holds self.now f }
     {
         (self.words[(f / 64) as usize] >> (f % 64)) & 1 == 1
     }
@@ -83,7 +84,7 @@ impl SiteSet {
 
     /// Takes every member out.
     pub fn clear(&mut self)
-        ensures members { self.new ≡ bare (length self.old) }
+        ensures members { self.new ≡ empty (length self.old) }
         ensures size { length self.new ≡ length self.old }
     {
         self.words.fill(0);
@@ -132,7 +133,7 @@ impl SiteSet {
 
     /// Whether no number is a member.
     pub fn is_empty(&self) -> bool
-        ensures value { result ≡ is_bare self.now }
+        ensures value { result ≡ is_empty self.now }
         ensures members { IsTrue result ↔ IsEmpty self.now }
     {
         are_zero(self.words.as_slice())
@@ -154,7 +155,7 @@ impl SiteSet {
     pub fn word(&self, w: u32) -> u64
         requires { 64 * w < length self.now }
         ensures value { result ≡ word_of self.now w }
-        ensures bits { (i : ℕ) → i < 64 → (bit_at result i == 1) ≡ has self.now (64 * w + i) }
+        ensures bits { (i : ℕ) → i < 64 → (bit_at result i == 1) ≡ holds self.now (64 * w + i) }
     {
         self.words[w as usize]
     }

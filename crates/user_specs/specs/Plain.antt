@@ -1,6 +1,6 @@
 -- Users and plans as plain data: records of numbers and lists.
 use Rattle.std.specs.Prelude.{ℕ, List, map, string_bytes}
-use Rattle.ft_base.specs.declared.plan.TaskAct.{TaskAct}
+use Rattle.ft_base.specs.declared.task.TaskAct.{TaskAct}
 use Rattle.ft_base.specs.Job.{Spec as PlainSpec}
 use Rattle.user_specs.specs.declared.spec.Spec.{Spec}
 use Rattle.user_specs.specs.declared.plan.TaskPlan.{TaskPlan}

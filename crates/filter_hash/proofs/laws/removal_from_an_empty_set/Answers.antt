@@ -1,5 +1,5 @@
-use Rattle.filter_hash.proofs.EditLaws.{is_bare-still}
+use Rattle.filter_hash.proofs.EditLaws.{is_empty-still}
 use Rattle.filter_hash.proofs.laws.removal_from_an_empty_set.Goals as goal
 
 pub returns : goal.returns
-returns c = is_bare-still
+returns c = is_empty-still

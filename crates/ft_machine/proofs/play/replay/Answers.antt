@@ -1,6 +1,6 @@
 -- The state behind the replay, from what each call says.
 use Rattle.std.proofs.Common.{◌≡◌, ◌∙◌, ap, refl, reverse}
-use Rattle.plain_machine.specs.State.{State, play, is_over}
+use Rattle.plain_machine.specs.State.{State, play, all_end}
 use Rattle.ft_machine.proofs.PlayLaws.{all-actors, play-is}
 use Rattle.ft_machine.proofs.play.replay.Goals as goal
 use Rattle.ft_machine.proofs.play.replay.Goals.{After-play}
@@ -16,4 +16,4 @@ returns-clause-history c =
 
 pub returns-clause-ended : goal.returns-clause-ended
 returns-clause-ended c =
-    c.all_end-ended.ensures ∙ ap (λ (s : State). is_over s) (played-out (goal.at.returns-clause-ended c).After-play)
+    c.all_end-ended.ensures ∙ ap (λ (s : State). all_end s) (played-out (goal.at.returns-clause-ended c).After-play)

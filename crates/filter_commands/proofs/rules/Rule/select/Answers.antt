@@ -1,16 +1,16 @@
 use Rattle.std.proofs.Common.{◌≡◌, map, length, subst, sym, ◌∙◌, rules, arith}
 use Rattle.std.proofs.lemmas.List.{length-map}
-use Rattle.site_set.specs.Marks.{bare}
+use Rattle.ft_base.specs.Marks.{empty}
 use Rattle.filter_commands.specs.Kept.{takes}
-use Rattle.filter_commands.proofs.SetLemmas.{IsUpTo, IsUpTo-bare, IsUpTo-end}
+use Rattle.filter_commands.proofs.SetLemmas.{IsUpTo, IsUpTo-empty, IsUpTo-end}
 use Rattle.filter_commands.proofs.rules.Rule.select.Goals as goal
 
 pub loop-f-init : goal.loop-f-init
 loop-f-init c =
     let marks = map (takes c.args.self.now) c.args.table.now.functions in
-    let empty : c.in_ok-set.set ≡ bare c.len-size.result = search rules in
+    let empty : c.in_ok-set.set ≡ empty c.len-size.result = search rules in
     let size : c.len-size.result ≡ length marks = c.len-size.ensures.value ∙ sym (length-map c.args.table.now.functions (takes c.args.self.now)) in
-    subst (λ set. IsUpTo marks set 0) (sym empty) (IsUpTo-bare marks c.len-size.result size)
+    subst (λ set. IsUpTo marks set 0) (sym empty) (IsUpTo-empty marks c.len-size.result size)
 
 pub returns-clause-set : goal.returns-clause-set
 returns-clause-set c =

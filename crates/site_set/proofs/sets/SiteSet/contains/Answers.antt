@@ -1,5 +1,5 @@
 use Rattle.std.proofs.Common.{◌<◌, arith, ap, get_or, ◌∙◌, length, false}
-use Rattle.site_set.proofs.PackedLemmas.{word_within, length-marks_of, has-read}
+use Rattle.site_set.proofs.PackedLemmas.{word_within, length-marks_of, holds-read}
 use Rattle.site_set.proofs.sets.SiteSet.contains.Goals as goal
 
 pub index-requires : goal.index-requires
@@ -12,4 +12,4 @@ pub returns : goal.returns
 returns c =
     let s = c.self.inside in
     let below : c.args.f < s.size = omega (arith, length-marks_of s.size s.words.items, ap length c.self.view_is) in
-    has-read s.size c.args.f s.words.items _ c.self.invariant below c.index.ensures ∙ ap (λ m. get_or m c.args.f false) c.self.view_is
+    holds-read s.size c.args.f s.words.items _ c.self.invariant below c.index.ensures ∙ ap (λ m. get_or m c.args.f false) c.self.view_is

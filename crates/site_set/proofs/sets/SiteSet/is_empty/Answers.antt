@@ -1,13 +1,13 @@
 use Rattle.std.proofs.Common.{◌∙◌, sym}
-use Rattle.site_set.proofs.MarksLemmas.{IsEmpty-from_is_bare, is_bare-from_IsEmpty}
-use Rattle.site_set.proofs.WordLemmas.{is_bare-slice}
+use Rattle.site_set.proofs.MarksLemmas.{IsEmpty-from_is_bare, is_empty-from_IsEmpty}
+use Rattle.site_set.proofs.WordLemmas.{is_empty-slice}
 use Rattle.site_set.proofs.sets.SiteSet.is_empty.Goals as goal
 
 pub returns-clause-value : goal.returns-clause-value
 returns-clause-value c =
-    c.are_zero.ensures.zero ∙ is_bare-slice _ _ _ _ c.self.invariant c.self.view_is c.as_slice.ensures.value c.are_zero.ensures.fits
+    c.are_zero.ensures.zero ∙ is_empty-slice _ _ _ _ c.self.invariant c.self.view_is c.as_slice.ensures.value c.are_zero.ensures.fits
 
 pub returns-clause-members : goal.returns-clause-members
 returns-clause-members c =
-    let value = c.are_zero.ensures.zero ∙ is_bare-slice _ _ _ _ c.self.invariant c.self.view_is c.as_slice.ensures.value c.are_zero.ensures.fits in
-    (λ yes. IsEmpty-from_is_bare _ (sym value ∙ yes), λ none. value ∙ is_bare-from_IsEmpty _ none)
+    let value = c.are_zero.ensures.zero ∙ is_empty-slice _ _ _ _ c.self.invariant c.self.view_is c.as_slice.ensures.value c.are_zero.ensures.fits in
+    (λ yes. IsEmpty-from_is_bare _ (sym value ∙ yes), λ none. value ∙ is_empty-from_IsEmpty _ none)

@@ -1,4 +1,5 @@
-use crate::context::Ctx;
+//! How a user of the tracer is declared: its kind, and what it does when it is called back.
+
 use crate::number::FuncNo;
 
 /// The kind of a user.
@@ -20,21 +21,8 @@ pub enum Kind {
 pub enum Act {
     /// It calls the function in the same context.
     CallIn(FuncNo),
-    /// It raises an interrupt that calls the function, where the context is below `Irq`.
+    /// It raises an interrupt that calls the function, if the context is below `Irq`.
     IrqIn(FuncNo),
-}
-
-/// One act of a task.
-#[derive(Clone, Copy, Debug, PartialEq, Eq)]
-pub enum TaskAct {
-    Call(FuncNo),
-    Ret,
-    /// The context is raised.
-    Raise(Ctx),
-    /// The context goes back to the one before.
-    Lower,
-    /// The task waits until so many commands have returned.
-    After(u32),
 }
 
 /// One of a user's two sets of functions (`ftrace.rst`, `set_ftrace_filter` and

@@ -1,4 +1,4 @@
--- One more meeting of a call: what it makes of what is known of those met.
+-- One more visit of a call: what it makes of what is known of those visited.
 use Rattle.std.proofs.Common.{cond, ◌≡◌, ℕ, ◌<◌, ◌≤◌, Bool, true, false, not, ◌&&◌, ◌||◌, ◌==◌, List, [], ◌∷◌, ◌++◌, length, Option, Some, None, is_some, refl, sym, ap, ◌∙◌, arith, eqb-true}
 use Rattle.std.specs.List.{list_any, AllByRecursion as Each}
 use Rattle.ft_base.specs.declared.number.CallNo.{CallNo}
@@ -10,27 +10,27 @@ use Rattle.ft_base.specs.Desk.{Desk, desk, is_on, user_at, spec_at, target_by}
 use Rattle.ft_base.specs.Order.{IsBelow, has}
 use Rattle.ft_base.proofs.Small.{false_true, ==-refl, or-true, and-false, Each-weaker, Each-snoc, Contains-head, Contains-more}
 use Rattle.ft_base.specs.Kinds.{cancels}
-use Rattle.ft_hist.specs.Past.{done, begun, entry_of, Meeting, read_at}
+use Rattle.ft_hist.specs.Past.{done, begun, entry_of, Visit, registration_at}
 use Rattle.ft_hist.specs.Rules.{OnlyThose, backs_with_replacement, replacement, HasExit}
-use Rattle.ft_hist.specs.Frames.{FrameUser, or_runs, is_nil, IsOwed, is_user_of, is_among, Rises, keeps_frame, FrameOf}
+use Rattle.ft_hist.specs.Frames.{FrameUser, runs_after, is_nil, IsOwed, is_user_of, is_among, Rises, keeps_frame, FrameOf}
 
--- a meeting on this desk, of a user that is on, registered after each of those to come
-pub record MetOf (d : Desk) (f : ℕ) (todo : List ℕ) (m : Meeting) : Type 0 where
+-- a visit on this desk, of a user that is on, registered after each of those to come
+pub record MetOf (d : Desk) (f : ℕ) (todo : List ℕ) (m : Visit) : Type 0 where
   pub since : m.since ≡ (user_at d m.user).since
   pub on : is_on d m.user f ≡ true
   pub below : Each (λ u. IsBelow d m.user u) todo
 
--- each was registered before those that were met earlier
-abbrev pub Sinks : List Meeting → Type 0
+-- each was registered before those that were visited earlier
+abbrev pub Sinks : List Visit → Type 0
 Sinks [] = Unit {0}
 Sinks (m ∷ ms) = Each (λ x. m.since < x.since) ms × Sinks ms
 
-pub read_at-same : (job : Job) (call : CallNo) (u k : ℕ) (past : List Item) → done past ≡ k → begun past ≡ k → read_at job call u past ≡ k
-read_at-same job call u k past d b =
+pub registration_at-same : (job : Job) (call : CallNo) (u k : ℕ) (past : List Item) → done past ≡ k → begun past ≡ k → registration_at job call u past ≡ k
+registration_at-same job call u k past d b =
     elim (is_on (desk job (done past)) u (entry_of call past).func) as (λ c. cond c (done past) (begun past) ≡ k) [ true ↦ d | false ↦ b ]
 
--- nobody is met twice
-pub unmet : (d : Desk) (f u : ℕ) (us : List ℕ) (ms : List Meeting) → Each (MetOf d f (u ∷ us)) ms → list_any (λ m. m.user == u) ms ≡ false
+-- nobody is visited twice
+pub unmet : (d : Desk) (f u : ℕ) (us : List ℕ) (ms : List Visit) → Each (MetOf d f (u ∷ us)) ms → list_any (λ m. m.user == u) ms ≡ false
 unmet d f u us [] h = refl
 unmet d f u us (m ∷ ms) h =
     elim (m.user == u) as (λ b. (m.user == u) ≡ b → (b || list_any (λ m. m.user == u) ms) ≡ false) [
@@ -45,18 +45,18 @@ or-false_left : (a : Bool) → (a || false) ≡ true → a ≡ true
 or-false_left true e = refl
 or-false_left false e = e
 
-all_in : (d : Desk) (f : ℕ) (v : ℕ) (ms : List Meeting) → ((u : ℕ) → is_on d u f ≡ true → has u (v ∷ []) ≡ true) → Each (MetOf d f []) ms → Each (λ m. m.user ≡ v) ms
+all_in : (d : Desk) (f : ℕ) (v : ℕ) (ms : List Visit) → ((u : ℕ) → is_on d u f ≡ true → has u (v ∷ []) ≡ true) → Each (MetOf d f []) ms → Each (λ m. m.user ≡ v) ms
 all_in d f v [] g h = tt
 all_in d f v (m ∷ ms) g h =
     let here : ((v == m.user) || false) ≡ true = g m.user h.0.on in
     (sym (eqb-true v m.user (or-false_left (v == m.user) here)), all_in d f v ms g h.1)
 
-nobody : (d : Desk) (f : ℕ) (ms : List Meeting) → ((u : ℕ) → is_on d u f ≡ true → has u [] ≡ true) → Each (MetOf d f []) ms → ms ≡ []
+nobody : (d : Desk) (f : ℕ) (ms : List Visit) → ((u : ℕ) → is_on d u f ≡ true → has u [] ≡ true) → Each (MetOf d f []) ms → ms ≡ []
 nobody d f [] g h = refl
 nobody d f (m ∷ ms) g h = false_true (g m.user h.0.on)
 
 -- what a site's target lets in
-pub only_those : (d : Desk) (f : ℕ) (us : List ℕ) (ms : List Meeting) → ((u : ℕ) → is_on d u f ≡ true → has u us ≡ true) → Each (MetOf d f []) ms → OnlyThose (target_by d us) ms
+pub only_those : (d : Desk) (f : ℕ) (us : List ℕ) (ms : List Visit) → ((u : ℕ) → is_on d u f ≡ true → has u us ≡ true) → Each (MetOf d f []) ms → OnlyThose (target_by d us) ms
 only_those d f [] ms g h = nobody d f ms g h
 only_those d f (u ∷ []) ms g h =
     elim (is_some (user_at d u).slot) as (λ b. OnlyThose (cond b (Own (record { 0 = u })) ByList) ms) [ true ↦ all_in d f u ms g h | false ↦ tt ]
@@ -64,15 +64,15 @@ only_those d f (u ∷ v ∷ rest) ms g h = tt
 
 -- ## replacements
 
-abbrev replaces : Job → Meeting → Bool
+abbrev replaces : Job → Visit → Bool
 replaces job m = m.back && is_some (spec_at job m.user).ipmodify
 
 and_right : (a b : Bool) → (a && b) ≡ true → b ≡ true
 and_right true b e = e
 and_right false b e = false_true e
 
--- where all that replace are one user, and no user is met twice, there is at most one
-pub at_most_one : (job : Job) (d : Desk) (f : ℕ) (ms : List Meeting)
+-- where all that replace are one user, and no user is visited twice, there is at most one
+pub at_most_one : (job : Job) (d : Desk) (f : ℕ) (ms : List Visit)
     → ((u v : ℕ) → is_on d u f ≡ true → is_on d v f ≡ true → is_some (spec_at job u).ipmodify ≡ true → is_some (spec_at job v).ipmodify ≡ true → u ≡ v)
     → Each (MetOf d f []) ms → Sinks ms → length (backs_with_replacement job ms) ≤ 1
 at_most_one job d f [] one h s = omega arith
@@ -82,7 +82,7 @@ at_most_one job d f (m ∷ ms) one h s =
       | false ↦ λ e. at_most_one job d f ms one h.1 s.1
     ] refl
   where
-    none : (xs : List Meeting) → is_some (spec_at job m.user).ipmodify ≡ true → Each (MetOf d f []) xs → Each (λ x. m.since < x.since) xs → backs_with_replacement job xs ≡ []
+    none : (xs : List Visit) → is_some (spec_at job m.user).ipmodify ≡ true → Each (MetOf d f []) xs → Each (λ x. m.since < x.since) xs → backs_with_replacement job xs ≡ []
     none [] e k l = refl
     none (x ∷ xs) e k l =
         elim (replaces job x) as (λ b. replaces job x ≡ b → cond b (x ∷ backs_with_replacement job xs) (backs_with_replacement job xs) ≡ []) [
@@ -95,27 +95,27 @@ at_most_one job d f (m ∷ ms) one h s =
         ] refl
 
 -- what is to run after a Back
-pub runs-back : (job : Job) (f : ℕ) (runs : FuncNo) (m : Meeting) (ms : List Meeting) → m.back ≡ true → runs.0 ≡ replacement job f (backs_with_replacement job ms)
-    → (or_runs runs (spec_at job m.user).ipmodify).0 ≡ replacement job f (backs_with_replacement job (m ∷ ms))
+pub runs-back : (job : Job) (f : ℕ) (runs : FuncNo) (m : Visit) (ms : List Visit) → m.back ≡ true → runs.0 ≡ replacement job f (backs_with_replacement job ms)
+    → (runs_after runs (spec_at job m.user).ipmodify).0 ≡ replacement job f (backs_with_replacement job (m ∷ ms))
 runs-back job f runs m ms back h = by (spec_at job m.user).ipmodify refl
   where
-    by : (o : Option FuncNo) → (spec_at job m.user).ipmodify ≡ o → (or_runs runs (spec_at job m.user).ipmodify).0 ≡ replacement job f (backs_with_replacement job (m ∷ ms))
+    by : (o : Option FuncNo) → (spec_at job m.user).ipmodify ≡ o → (runs_after runs (spec_at job m.user).ipmodify).0 ≡ replacement job f (backs_with_replacement job (m ∷ ms))
     by None e = let r : replaces job m ≡ false = rw e (and-false m.back) in rw r (rw e h)
     by (Some g) e = let r : replaces job m ≡ true = rw e (ap (λ b. b && true) back) in rw r (rw e refl)
 
 -- and after a refusal
-pub runs-refuse : (job : Job) (f : ℕ) (runs : FuncNo) (m : Meeting) (ms : List Meeting) → m.back ≡ false → runs.0 ≡ replacement job f (backs_with_replacement job ms)
+pub runs-refuse : (job : Job) (f : ℕ) (runs : FuncNo) (m : Visit) (ms : List Visit) → m.back ≡ false → runs.0 ≡ replacement job f (backs_with_replacement job ms)
     → runs.0 ≡ replacement job f (backs_with_replacement job (m ∷ ms))
 runs-refuse job f runs m ms back h = let r : replaces job m ≡ false = ap (λ b. b && is_some (spec_at job m.user).ipmodify) back in rw r h
 
 -- ## frames
 
-among-snoc : (m : Meeting) (xs : List FrameUser) (y : FrameUser) → is_among m xs ≡ true → is_among m (xs ++ y ∷ []) ≡ true
+among-snoc : (m : Visit) (xs : List FrameUser) (y : FrameUser) → is_among m xs ≡ true → is_among m (xs ++ y ∷ []) ≡ true
 among-snoc m [] y h = false_true h
 among-snoc m (x ∷ xs) y h =
     elim (is_user_of m x) as (λ b. (b || is_among m xs) ≡ true → (b || is_among m (xs ++ y ∷ [])) ≡ true) [ true ↦ λ e. refl | false ↦ λ e. among-snoc m xs y e ] h
 
-among-last : (m : Meeting) (xs : List FrameUser) (y : FrameUser) → is_user_of m y ≡ true → is_among m (xs ++ y ∷ []) ≡ true
+among-last : (m : Visit) (xs : List FrameUser) (y : FrameUser) → is_user_of m y ≡ true → is_among m (xs ++ y ∷ []) ≡ true
 among-last m [] y h = rw h refl
 among-last m (x ∷ xs) y h = rw (among-last m xs y h, or-true (is_user_of m x)) refl
 
@@ -127,11 +127,11 @@ not_nil-snoc : (xs : List FrameUser) (y : FrameUser) → not (is_nil (xs ++ y �
 not_nil-snoc [] y = refl
 not_nil-snoc (x ∷ xs) y = refl
 
-owed-more : (job : Job) (m : Meeting) (ms : List Meeting) (xs : List FrameUser) → Each (IsOwed job ms) xs → Each (IsOwed job (m ∷ ms)) xs
+owed-more : (job : Job) (m : Visit) (ms : List Visit) (xs : List FrameUser) → Each (IsOwed job ms) xs → Each (IsOwed job (m ∷ ms)) xs
 owed-more job m ms xs h = Each-weaker (IsOwed job ms) (IsOwed job (m ∷ ms)) xs (λ x o. (o.0, Contains-more m o.0 ms o.1, o.2, o.3, o.4, o.5)) h
 
--- a meeting without a frame that stays
-pub frame-none : (job : Job) (m : Meeting) (ms : List Meeting) (xs : List FrameUser) → keeps_frame job m ≡ false → FrameOf job ms xs → FrameOf job (m ∷ ms) xs
+-- a visit without a frame that stays
+pub frame-none : (job : Job) (m : Visit) (ms : List Visit) (xs : List FrameUser) → keeps_frame job m ≡ false → FrameOf job ms xs → FrameOf job (m ∷ ms) xs
 frame-none job m ms xs e h = record {
   owed = owed-more job m ms xs h.owed;
   all = (λ x. false_true (sym e ∙ rw (x.1, x.2) refl), h.all);
@@ -139,11 +139,11 @@ frame-none job m ms xs e h = record {
   kept = rw e h.kept;
 }
 
-abbrev pub user_of : Meeting → FrameUser
+abbrev pub user_of : Visit → FrameUser
 user_of m = record { user = m.user; reg = m.reg; entry = m.place }
 
 -- a Back with a frame that stays
-pub frame-joined : (job : Job) (m : Meeting) (ms : List Meeting) (xs : List FrameUser) → m.back ≡ true → keeps_frame job m ≡ true → Each (λ x. x.entry < m.place) xs
+pub frame-joined : (job : Job) (m : Visit) (ms : List Visit) (xs : List FrameUser) → m.back ≡ true → keeps_frame job m ≡ true → Each (λ x. x.entry < m.place) xs
     → FrameOf job ms xs → FrameOf job (m ∷ ms) (xs ++ user_of m ∷ [])
 frame-joined job m ms xs back e below h = record {
   owed = Each-snoc (IsOwed job (m ∷ ms)) xs (user_of m) (owed-more job m ms xs h.owed) (m, Contains-head m ms, refl, refl, refl, has_exit');

@@ -1,5 +1,0 @@
-use Rattle.ft_hist.proofs.Headline.{met_who_was_on}
-use Rattle.ft_hist.proofs.theorems.meets_whoever_was_on.Goals as goal
-
-pub returns : goal.returns
-returns c = λ job items before rest call g ran u legal e within on. met_who_was_on job items before rest call g ran u legal e within on
