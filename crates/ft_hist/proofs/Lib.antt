@@ -10,4 +10,10 @@ pub mod Visiting
 pub mod Exits
 pub mod WordLaws
 pub mod Splitting
-pub mod Headline
+pub mod Numbers
+pub mod ByItems
+pub mod Nesting
+pub mod Told
+pub mod ToldMore
+pub mod Unregistered
+pub mod ToldExits

@@ -1,5 +1,5 @@
 -- What the word machine needs besides: where desks change under a call, a user's registration is read later and later, so whoever stands below all that were visited hasn't been met.
-use Rattle.std.proofs.Common.{cond, ◌≡◌, ◌≢◌, ℕ, zero, suc, ◌<◌, ◌≤◌, ◌⊎◌, Bool, true, false, ◌||◌, ◌==◌, nat_le, List, [], ◌∷◌, length, get_or, map, Option, Some, None, refl, sym, ap, ◌∙◌, subst, arith, inl, inr, eqb-true, leb-true, leb-false, IsSome}
+use Rattle.std.proofs.Common.{cond, ◌≡◌, ◌≢◌, ℕ, zero, suc, ◌<◌, ◌≤◌, ◌⊎◌, Bool, true, false, ◌||◌, ◌==◌, nat_le, List, [], ◌∷◌, length, get_or, map, Option, Some, None, refl, sym, ap, ◌∙◌, subst, arith, inl, inr, eqb-true, leb-true, leb-false}
 use Rattle.std.specs.Prelude.{slice_get, ◌&&◌, is_some}
 use Rattle.std.proofs.lemmas.Bool.Decides.{eqb_tells}
 use Rattle.std.specs.List.{list_any, AllByRecursion as Each}
@@ -16,9 +16,8 @@ use Rattle.ft_base.proofs.Modifiers.{named-at, lone}
 use Rattle.ft_hist.specs.Past.{done, begun, entry_of, all_visits, visit, Visit, visits, registration_at}
 use Rattle.ft_hist.specs.Rules.{IsLegalPast, IsUnvisited, AtReturnedOrBegun, MayVisit, OneReplaces, backs_with_replacement}
 use Rattle.ft_hist.proofs.WindowLaws.{legal-counts, entry_of-more}
-use Rattle.ft_hist.specs.Plain.{plain, after_item, after_next, PlainTask}
-use Rattle.ft_hist.proofs.Lists.{none_visited}
-use Rattle.ft_hist.proofs.RunLaws.{moves, sound, same_call-eq}
+use Rattle.ft_hist.proofs.Numbers.{none-before}
+use Rattle.ft_hist.proofs.RunLaws.{same_call-eq}
 
 module _ (job : Job) (is : IsWellFormed job) where
   abbrev since_at : ℕ → ℕ → ℕ
@@ -119,22 +118,6 @@ module _ (job : Job) (is : IsWellFormed job) where
   abbrev Reads : CallNo → List Item → Type 0
   Reads call past = Each (WasRead (entry_of call past).func (done past) (begun past)) (visits job call past)
 
-  -- a call that is entered now has visited nobody
-  none-before : (call : CallNo) (x : _) (f : _) (caller : _) (past : List Item) → IsSome (plain job call.task.0 (Enter call x f caller ∷ past)) → visits job call past ≡ []
-  unfolding plain
-  none-before call x f caller past some = by (plain job call.task.0 past) refl (rw (==-refl call.task.0) at some)
-    where
-      by : (o : Option PlainTask) → plain job call.task.0 past ≡ o → IsSome (after_next job (done past) (Enter call x f caller) o) → visits job call past ≡ []
-      by None here q = false_true q
-      by (Some p) here q = of-some (after_item job (done past) p (Enter call x f caller)) refl q
-        where
-          of-some : (o : Option PlainTask) → after_item job (done past) p (Enter call x f caller) ≡ o → IsSome o → visits job call past ≡ []
-          of-some None e r = false_true r
-          of-some (Some p') e r =
-              let m = moves job (done past) p p' (Enter call x f caller) e in
-              let so = sound job call.task.0 past p here in
-              none_visited call (all_visits job past) (rw m.number so.visits)
-
   more-read : (f d b d' b' : ℕ) (ms : List Visit) → b ≤ b' → ((j : ℕ) (v : ℕ) → j ≤ b → (j ≤ d) ⊎ (is_on (desk job d) v f ≡ false) → (j ≤ d') ⊎ (is_on (desk job d') v f ≡ false))
       → Each (WasRead f d b) ms → Each (WasRead f d' b') ms
   more-read f d b d' b' ms le g h = Each-weaker (WasRead f d b) (WasRead f d' b') ms (λ m w. (w.0, (let l = w.1 in omega arith), w.2, g w.0 m.user w.1 w.3)) h
@@ -169,7 +152,7 @@ module _ (job : Job) (is : IsWellFormed job) where
       elim (same_call c call) as (λ b. same_call c call ≡ b → Reads call (Enter c x f caller ∷ past)) [
         | true ↦ λ e.
             let same : c ≡ call = same_call-eq c call e in
-            rw (subst (λ z. visits job z past ≡ []) same (none-before c x f caller past (l.0.run c.task.0))) tt
+            rw (subst (λ z. visits job z past ≡ []) same (none-before job c x f caller past (l.0.run c.task.0))) tt
         | false ↦ λ e. rw (entry_of-more call (Enter c x f caller) past e) (visits-read call past l.1)
       ] refl
   visits-read call (Back c u ∷ past) l = one-read call c u.0 past true (legal-counts job past l.1).0 (visits-read call past l.1)

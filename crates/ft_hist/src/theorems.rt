@@ -1,20 +1,34 @@
-//! Laws of histories, for readers of the definitions and for the machines above.
-ghost use Rattle.std.specs.Prelude.{◌≡◌, ◌≢◌, ◌↔◌, ℕ, suc, ◌<◌, ◌≤◌, true, ◌==◌, List, ◌∷◌, ◌++◌, Some, length, reverse, slice_get};
+//! What a legal history promises, in its reader's words. Each law says what follows if items come
+//! in this order in a legal history, and quotes the part of the promise that it is:
+//!
+//! > each call whose dispatch is over has called back, once each, every user that was on from its
+//! > entry to its dispatch and none that was off throughout, save those refused by a named
+//! > recursion, pid or depth rule; no callback begins after its user's unregistration has
+//! > returned, unless a new registration has begun; every return reaches its true caller; every
+//! > fetched site is whole.
+//!
+//! None of the functions does anything: a law is proved where a contract names it.
+ghost use Rattle.std.specs.Prelude.{◌≡◌, ◌≢◌, ◌↔◌, ◌⊎◌, ℕ, suc, ◌<◌, ◌≤◌, true, false, ◌==◌, List, ◌∷◌, ◌++◌, Option, Some, length, reverse, slice_get};
 ghost use Rattle.std.specs.List.{list_any};
-ghost use Rattle.ft_base.specs.Job.{Job as PlainJob, Register, Unregister, commands};
-ghost use Rattle.ft_base.specs.Desk.{desk, is_on};
+ghost use Rattle.ft_base.specs.Job.{Job as PlainJob, Command, Register, Unregister, commands};
+ghost use Rattle.ft_base.specs.Desk.{desk, is_on, is_allowed, is_live, spec_at, target, user_at};
+ghost use Rattle.ft_base.specs.Kinds.{has_depth};
 ghost use Rattle.ft_base.specs.WellFormed.{IsWellFormed};
+ghost use Rattle.ft_base.specs.declared.context.Ctx.{Ctx};
 ghost use Rattle.ft_base.specs.declared.number.CallNo.{CallNo};
 ghost use Rattle.ft_base.specs.declared.number.FuncNo.{FuncNo};
 ghost use Rattle.ft_base.specs.declared.number.UserNo.{UserNo};
 ghost use Rattle.ft_base.specs.declared.item.Answer.TheVariants.{Accepted};
 ghost use Rattle.ft_base.specs.declared.item.Ran.{Ran};
+ghost use Rattle.ft_base.specs.declared.item.Reason.{Reason};
+ghost use Rattle.ft_base.specs.declared.item.Reason.TheVariants.{Pid as ByPid, Recursion, Depth};
 ghost use Rattle.ft_base.specs.declared.item.Item.{Item};
-ghost use Rattle.ft_base.specs.declared.item.Item.TheVariants.{Return, Back, Body};
-ghost use Rattle.ft_hist.specs.Past.{begun, entry_of, visits};
-ghost use Rattle.ft_hist.specs.Rules.{IsLegal, MayFollow};
+ghost use Rattle.ft_base.specs.declared.item.Item.TheVariants.{Return, Enter, Back, Refuse, Body, Exit, Ret};
+ghost use Rattle.ft_hist.specs.Past.{begun, held, is_in_callback, registration_at};
+ghost use Rattle.ft_hist.specs.Rules.{AtReturnedOrBegun, IsLegal, MayFollow};
+ghost use Rattle.ft_hist.specs.Telling.{AtEachCommand, AtSomeCommand, MayLackExit, TakesOff, is_begin_by, is_end_by, is_exit_for, is_ret_of, is_visit_by};
 
-/// A history is legal exactly where each of its items, wherever the list is split at it, may stand
+/// A history is legal exactly if each of its items, wherever the list is split at it, may come
 /// after the items before it. What comes later plays no part.
 pub fn legal_at_every_place()
     ensures { (job : PlainJob) (items : List Item) → IsLegal job items
@@ -26,20 +40,124 @@ pub fn legal_beginnings()
     ensures { (job : PlainJob) (front rest : List Item) → IsLegal job (front ++ rest) → IsLegal job front }
 {}
 
-/// In a legal history each call whose dispatch is over has called back or refused every user that
-/// was on at each command of the call's window, from its Enter to its Body.
-pub fn visits_whoever_was_on()
-    ensures { (job : PlainJob) (items before rest : List Item) (call : CallNo) (g : FuncNo) (ran : Ran) (u : ℕ)
-        → IsLegal job items → items ≡ before ++ Body call g ran ∷ rest → u < length job.users
-        → ((k : ℕ) → (entry_of call (reverse before)).from ≤ k → k ≤ begun (reverse before) → is_on (desk job k) u (entry_of call (reverse before)).func ≡ true)
-        → list_any (λ m. m.user == u) (visits job call (reverse before)) ≡ true }
+/// "called back, once each": of two callbacks or refusals in a call, no two are of one user.
+pub fn visits_are_once_each()
+    ensures { (job : PlainJob) (items first second third : List Item) (x y : Item) (call : CallNo) (u : ℕ)
+        → IsLegal job items → items ≡ first ++ x ∷ (second ++ y ∷ third)
+        → is_visit_by call u x ≡ true → is_visit_by call u y ≡ false }
 {}
 
-/// In a legal history no callback of a user begins after its unregistration has returned, unless a
-/// new registration of it has begun.
+/// "every user that was on from its entry to its dispatch": between a call's Enter and its Body
+/// there is a callback or a refusal of each user that was on after each command of that window.
+pub fn visits_whoever_was_on()
+    ensures { (job : PlainJob) (items before mid rest : List Item) (call : CallNo) (ctx : Ctx) (f : FuncNo) (caller : Option CallNo) (g : FuncNo) (ran : Ran) (u : ℕ)
+        → IsLegal job items → items ≡ before ++ Enter call ctx f caller ∷ (mid ++ Body call g ran ∷ rest) → u < length job.users
+        → AtEachCommand before (before ++ Enter call ctx f caller ∷ mid) (λ k. is_on (desk job k) u f.0 ≡ true)
+        → list_any (is_visit_by call u) mid ≡ true }
+{}
+
+/// "and none that was off throughout": a user that is called back or refused in a call was on
+/// after some command of the window from the call's Enter to there.
+pub fn visits_nobody_who_was_off()
+    ensures back { (job : PlainJob) (items before mid rest : List Item) (call : CallNo) (ctx : Ctx) (f : FuncNo) (caller : Option CallNo) (user : UserNo)
+        → IsLegal job items → items ≡ before ++ Enter call ctx f caller ∷ (mid ++ Back call user ∷ rest)
+        → AtSomeCommand before (before ++ Enter call ctx f caller ∷ mid) (λ k. is_on (desk job k) user.0 f.0 ≡ true) }
+    ensures refuse { (job : PlainJob) (items before mid rest : List Item) (call : CallNo) (ctx : Ctx) (f : FuncNo) (caller : Option CallNo) (user : UserNo) (reason : Reason)
+        → IsLegal job items → items ≡ before ++ Enter call ctx f caller ∷ (mid ++ Refuse call user reason ∷ rest)
+        → AtSomeCommand before (before ++ Enter call ctx f caller ∷ mid) (λ k. is_on (desk job k) user.0 f.0 ≡ true) }
+{}
+
+/// "save those refused by a named .. pid .. rule": the user has the pid flag, and the task was not
+/// allowed after some command of the window.
+pub fn refused_for_its_pid()
+    ensures { (job : PlainJob) (items before mid rest : List Item) (call : CallNo) (ctx : Ctx) (f : FuncNo) (caller : Option CallNo) (user : UserNo)
+        → IsLegal job items → items ≡ before ++ Enter call ctx f caller ∷ (mid ++ Refuse call user ByPid ∷ rest)
+        → ((spec_at job user.0).pid ≡ true) × AtSomeCommand before (before ++ Enter call ctx f caller ∷ mid) (λ k. is_allowed (desk job k) call.task.0 ≡ false) }
+{}
+
+/// "save those refused by a named recursion .. rule": a callback of the task and context is open
+/// there; and none is open at a callback, nor at a refusal for depth.
+pub fn refused_in_a_callback()
+    ensures refuse { (job : PlainJob) (items before mid rest : List Item) (call : CallNo) (ctx : Ctx) (f : FuncNo) (caller : Option CallNo) (user : UserNo)
+        → IsLegal job items → items ≡ before ++ Enter call ctx f caller ∷ (mid ++ Refuse call user Recursion ∷ rest)
+        → is_in_callback call.task.0 ctx (reverse (before ++ Enter call ctx f caller ∷ mid)) ≡ true }
+    ensures back { (job : PlainJob) (items before mid rest : List Item) (call : CallNo) (ctx : Ctx) (f : FuncNo) (caller : Option CallNo) (user : UserNo)
+        → IsLegal job items → items ≡ before ++ Enter call ctx f caller ∷ (mid ++ Back call user ∷ rest)
+        → is_in_callback call.task.0 ctx (reverse (before ++ Enter call ctx f caller ∷ mid)) ≡ false }
+{}
+
+/// "save those refused by a named .. depth rule": a graph or profile user, outside of any callback
+/// of the task and context, and the task's other calls hold all frames, or as many as the graph
+/// depth after some command of the window.
+pub fn refused_for_depth()
+    ensures { (job : PlainJob) (items before mid rest : List Item) (call : CallNo) (ctx : Ctx) (f : FuncNo) (caller : Option CallNo) (user : UserNo)
+        → IsLegal job items → items ≡ before ++ Enter call ctx f caller ∷ (mid ++ Refuse call user Depth ∷ rest)
+        → (is_in_callback call.task.0 ctx (reverse (before ++ Enter call ctx f caller ∷ mid)) ≡ false)
+        × (has_depth (spec_at job user.0).kind ≡ true)
+        × ((held job call (reverse (before ++ Enter call ctx f caller ∷ mid)) ≡ job.frames)
+        ⊎ AtSomeCommand before (before ++ Enter call ctx f caller ∷ mid) (λ k. (0 < (desk job k).depth) × ((desk job k).depth ≤ held job call (reverse (before ++ Enter call ctx f caller ∷ mid))))) }
+{}
+
+/// "no callback begins after its user's unregistration has returned, unless a new registration has
+/// begun": neither an entry callback nor an exit callback.
 pub fn silent_after_unregistration()
-    ensures { (job : PlainJob) (items first second third : List Item) (k : ℕ) (call : CallNo) (user : UserNo)
+    ensures back { (job : PlainJob) (items first second third : List Item) (k : ℕ) (call : CallNo) (user : UserNo)
         → IsWellFormed job → IsLegal job items → slice_get (commands job) k ≡ Some (Unregister user.0)
         → ((j : ℕ) → suc k ≤ j → j < begun (reverse (first ++ Return (suc k) Accepted ∷ second)) → slice_get (commands job) j ≢ Some (Register user.0))
         → items ≢ first ++ Return (suc k) Accepted ∷ (second ++ Back call user ∷ third) }
+    ensures exit { (job : PlainJob) (items first second third : List Item) (k : ℕ) (call : CallNo) (user : UserNo) (entry : ℕ)
+        → IsWellFormed job → IsLegal job items → slice_get (commands job) k ≡ Some (Unregister user.0)
+        → ((j : ℕ) → suc k ≤ j → j < begun (reverse (first ++ Return (suc k) Accepted ∷ second)) → slice_get (commands job) j ≢ Some (Register user.0))
+        → items ≢ first ++ Return (suc k) Accepted ∷ (second ++ Exit call user entry ∷ third) }
+{}
+
+/// And none is open there: a callback of a user that began before its unregistration or its
+/// disabling has returned has ended before that.
+pub fn no_callback_outlasts_its_user()
+    ensures { (job : PlainJob) (items a b rest : List Item) (x : Item) (k : ℕ) (call : CallNo) (u : ℕ) (c : Command)
+        → IsLegal job items → items ≡ (a ++ x ∷ b) ++ Return (suc k) Accepted ∷ rest → is_begin_by call u x ≡ true
+        → slice_get (commands job) k ≡ Some c → TakesOff c u → list_any (is_end_by call u) b ≡ true }
+{}
+
+/// An exit callback belongs to the entry callback at its entry, of the same call and user, and the
+/// registration of that entry callback is live: a new registration revives no old frame.
+pub fn exits_belong_to_their_registration()
+    ensures { (job : PlainJob) (items first rest : List Item) (call : CallNo) (user : UserNo) (entry : ℕ)
+        → IsLegal job items → items ≡ first ++ Exit call user entry ∷ rest
+        → (a : List Item) × (b : List Item) × (first ≡ a ++ Back call user ∷ b) × (length a ≡ entry)
+        × AtReturnedOrBegun (reverse first) (λ k. is_live (desk job k) user.0 (user_at (desk job (registration_at job call user.0 (reverse a))) user.0).reg ≡ true) }
+{}
+
+/// An exit is lacking only for a reason: at a call's Ret, each entry callback of it has had its
+/// exit, or its user has none or cancels it, or the shadow stack was full, or the registration was
+/// not live after some command since the Leave.
+pub fn exits_lack_only_for_a_reason()
+    ensures { (job : PlainJob) (items first second rest : List Item) (call : CallNo) (user : UserNo) (to : Option CallNo)
+        → IsLegal job items → items ≡ first ++ Back call user ∷ (second ++ Ret call to ∷ rest)
+        → (list_any (is_exit_for call (length first)) (first ++ Back call user ∷ second) ≡ true) ⊎ MayLackExit job first second call user }
+{}
+
+/// "every return reaches its true caller": the Ret of a call names the call in which it was
+/// entered, and it has no Ret before.
+pub fn returns_reach_their_callers()
+    ensures caller { (job : PlainJob) (items before mid rest : List Item) (call : CallNo) (ctx : Ctx) (f : FuncNo) (caller to : Option CallNo)
+        → IsLegal job items → items ≡ before ++ Enter call ctx f caller ∷ (mid ++ Ret call to ∷ rest) → to ≡ caller }
+    ensures once { (job : PlainJob) (items before mid rest : List Item) (call : CallNo) (ctx : Ctx) (f : FuncNo) (caller to : Option CallNo)
+        → IsLegal job items → items ≡ before ++ Enter call ctx f caller ∷ (mid ++ Ret call to ∷ rest) → list_any (is_ret_of call) mid ≡ false }
+{}
+
+/// And the calls of a task nest: one that is entered in another returns before it.
+pub fn calls_nest()
+    ensures { (job : PlainJob) (items a b c d : List Item) (outer inner : CallNo) (ctx ctx' : Ctx) (f f' : FuncNo) (caller caller' to : Option CallNo)
+        → IsLegal job items → inner.task.0 ≡ outer.task.0
+        → items ≡ a ++ Enter outer ctx f caller ∷ (b ++ Enter inner ctx' f' caller' ∷ (c ++ Ret outer to ∷ d))
+        → list_any (is_ret_of inner) c ≡ true }
+{}
+
+/// "every fetched site is whole": what a call fetched is what its site should have been after some
+/// command of the window from its Enter to its Body, and never a mixture of two.
+pub fn fetches_a_target()
+    ensures { (job : PlainJob) (items before mid rest : List Item) (call : CallNo) (ctx : Ctx) (f : FuncNo) (caller : Option CallNo) (g : FuncNo) (ran : Ran)
+        → IsLegal job items → items ≡ before ++ Enter call ctx f caller ∷ (mid ++ Body call g ran ∷ rest)
+        → AtSomeCommand before (before ++ Enter call ctx f caller ∷ mid) (λ k. ran ≡ target (desk job k) f.0) }
 {}

@@ -1,5 +1,5 @@
-use Rattle.ft_hist.proofs.Headline.{visits_who_was_on}
+use Rattle.ft_hist.proofs.Told.{who-was-on}
 use Rattle.ft_hist.proofs.theorems.visits_whoever_was_on.Goals as goal
 
 pub returns : goal.returns
-returns c = λ job items before rest call g ran u legal e within on. visits_who_was_on job items before rest call g ran u legal e within on
+returns c = λ job items before mid rest call ctx f caller g ran u legal e within on. who-was-on job items before mid rest call ctx f caller g ran legal e u within on

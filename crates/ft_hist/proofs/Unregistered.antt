@@ -1,40 +1,26 @@
--- What legal histories promise, in a reader's words: who is called back, and who no more.
-use Rattle.std.proofs.Common.{cond, ◌≡◌, ℕ, zero, suc, ◌+◌, ◌-◌, ◌<◌, ◌≤◌, Bool, true, false, ◌==◌, List, [], ◌∷◌, ◌++◌, length, reverse, Option, Some, None, refl, sym, ap, ◌∙◌, subst, arith, inl, inr, append_assoc}
+-- An unregistered user stays off until it is registered again, so no callback of it begins.
+use Rattle.std.proofs.Common.{cond, ◌≡◌, ℕ, zero, suc, ◌+◌, ◌-◌, ◌<◌, ◌≤◌, true, false, ◌&&◌, ◌==◌, List, ◌∷◌, ◌++◌, length, reverse, Option, Some, None, refl, sym, ap, ◌∙◌, subst, arith, inl, inr, append_assoc}
 use Rattle.std.specs.Prelude.{slice_get}
-use Rattle.std.specs.List.{list_any}
 use Rattle.std.proofs.lemmas.Bool.Decides.{eqb_tells}
 use Rattle.ft_base.specs.declared.number.CallNo.{CallNo}
 use Rattle.ft_base.specs.declared.number.UserNo.{UserNo}
-use Rattle.ft_base.specs.declared.number.FuncNo.{FuncNo}
 use Rattle.ft_base.specs.declared.item.Answer.TheVariants.{Accepted}
-use Rattle.ft_base.specs.declared.item.Ran.{Ran}
 use Rattle.ft_base.specs.declared.item.Item.{Item}
-use Rattle.ft_base.specs.declared.item.Item.TheVariants.{Return, Back, Body}
+use Rattle.ft_base.specs.declared.item.Item.TheVariants.{Return, Back, Exit}
 use Rattle.ft_base.specs.Job.{Job, Command, Register, Unregister, Filter, Notrace, Pid, NoPid, Enable, Disable, MaxDepth, commands}
-use Rattle.ft_base.specs.Desk.{Desk, UserState, desk, after, changed, user_at, is_on, is_sited, is_matching, is_accepted, answer_on, registered_as, unregistered_as}
+use Rattle.ft_base.specs.Desk.{Desk, UserState, desk, after, changed, user_at, is_on, is_sited, is_matching, is_live, is_accepted, answer_on, registered_as, unregistered_as}
 use Rattle.ft_base.specs.WellFormed.{IsWellFormed, IsNamed}
 use Rattle.ft_base.proofs.Small.{false_true, and_both}
 use Rattle.ft_base.proofs.DeskLaws.{desk-suc, length-desk, user_at-same, user_at-other}
 use Rattle.ft_base.proofs.Order.{user-part}
 use Rattle.ft_base.proofs.Modifiers.{named-at}
-use Rattle.ft_hist.specs.Past.{done, begun, entry_of, visits}
-use Rattle.ft_hist.specs.Rules.{IsLegal}
+use Rattle.ft_hist.specs.Past.{done, begun, entry_of}
+use Rattle.ft_hist.specs.Rules.{IsLegal, MayFollow}
 use Rattle.ft_hist.proofs.Splitting.{splits, legal-front, split-reverse}
-use Rattle.ft_hist.proofs.WindowLaws.{legal-counts, done-more}
+use Rattle.ft_hist.proofs.WindowLaws.{legal-counts}
+use Rattle.ft_hist.proofs.Told.{done-newer}
 
 module _ (job : Job) where
-  -- whoever was on at each command of a call's window is visited in it
-  pub visits_who_was_on : (items before after' : List Item) (call : CallNo) (g : FuncNo) (ran : Ran) (u : ℕ) → IsLegal job items → items ≡ before ++ Body call g ran ∷ after' → u < length job.users
-      → ((k : ℕ) → (entry_of call (reverse before)).from ≤ k → k ≤ begun (reverse before) → is_on (desk job k) u (entry_of call (reverse before)).func ≡ true)
-      → list_any (λ m. m.user == u) (visits job call (reverse before)) ≡ true
-  visits_who_was_on items before after' call g ran u legal e within on = by (list_any (λ m. m.user == u) (visits job call (reverse before))) refl
-    where
-      by : (b : Bool) → list_any (λ m. m.user == u) (visits job call (reverse before)) ≡ b → list_any (λ m. m.user == u) (visits job call (reverse before)) ≡ true
-      by true x = x
-      by false x =
-          let w = (splits job items before (Body call g ran) after' legal e).rule.0.silent u within x in
-          false_true (sym w.3 ∙ on w.0 w.1 w.2)
-
   -- a command that isn't its registration leaves an unregistered user so
   off-changed : (d : Desk) (k u : ℕ) (c : Command) → length d.users ≡ length job.users → IsNamed job c → (c ≡ Register u → ⊥) → (user_at d u).registered ≡ false
       → (user_at (changed job d k c) u).registered ≡ false
@@ -83,21 +69,21 @@ module _ (job : Job) where
     off-unregistered : (d : Desk) (k : ℕ) → u < length d.users → is_accepted (answer_on job d (Unregister u)) ≡ true → (user_at (after job d k (Some (Unregister u))) u).registered ≡ false
     off-unregistered d k within accepted = rw accepted (ap (λ (s : UserState). s.registered) (user_at-same d u (unregistered_as (user_at d u)) within))
 
-  -- where a user's unregistration has returned and no registration of it has begun since, no callback of it begins
-  module _ (is : IsWellFormed job) (items first second third : List Item) (k : ℕ) (call : CallNo) (user : UserNo) (legal : IsLegal job items)
-      (e : items ≡ first ++ Return (suc k) Accepted ∷ (second ++ Back call user ∷ third)) (command : slice_get (commands job) k ≡ Some (Unregister user.0)) where
+  -- where a user's unregistration has returned and no registration of it has begun since, it is off and no registration of it is live
+  module _ (is : IsWellFormed job) (items first second third : List Item) (k : ℕ) (user : UserNo) (item : Item) (legal : IsLegal job items)
+      (e : items ≡ first ++ Return (suc k) Accepted ∷ (second ++ item ∷ third)) (command : slice_get (commands job) k ≡ Some (Unregister user.0)) where
     abbrev pub before : List Item
     before = first ++ Return (suc k) Accepted ∷ second
 
-    split : items ≡ before ++ Back call user ∷ third
-    split = e ∙ sym (append_assoc first (Return (suc k) Accepted ∷ second) (Back call user ∷ third))
+    split : items ≡ before ++ item ∷ third
+    split = e ∙ sym (append_assoc first (Return (suc k) Accepted ∷ second) (item ∷ third))
 
     returned : done (reverse first) ≡ k
-    returned = let n = (splits job items first (Return (suc k) Accepted) (second ++ Back call user ∷ third) legal e).rule.number in omega arith
+    returned = let n = (splits job items first (Return (suc k) Accepted) (second ++ item ∷ third) legal e).rule.number in omega arith
 
     off-there : (user_at (desk job (suc k)) user.0).registered ≡ false
     off-there =
-        let c = (splits job items first (Return (suc k) Accepted) (second ++ Back call user ∷ third) legal e).rule.command in
+        let c = (splits job items first (Return (suc k) Accepted) (second ++ item ∷ third) legal e).rule.command in
         let there : slice_get (commands job) k ≡ Some c.0 = subst (λ n. slice_get (commands job) n ≡ Some c.0) returned c.1 in
         let same : Some c.0 ≡ Some (Unregister user.0) = sym there ∙ command in
         let c_is : c.0 ≡ Unregister user.0 = cc in
@@ -107,10 +93,6 @@ module _ (job : Job) where
         let named : user.0 < length job.users = named-at (IsNamed job) (commands job) k (Unregister user.0) command is.commands in
         rw (desk-suc job k, command) (off-unregistered is user.0 (desk job k) (suc k) (rw (length-desk job k) named) accepted)
 
-    done-newer : (newer past : List Item) → done past ≤ done (newer ++ past)
-    done-newer [] past = omega arith
-    done-newer (x ∷ newer) past = let a = done-newer newer past in let b = done-more x (newer ++ past) in omega arith
-
     later : suc k ≤ done (reverse before)
     later =
         let n = done-newer (reverse second) (Return (suc k) Accepted ∷ reverse first) in
@@ -118,25 +100,49 @@ module _ (job : Job) where
 
     counts : done (reverse before) ≤ begun (reverse before)
     unfolding IsLegal
-    counts = (legal-counts job (reverse before) (legal-front job before (Back call user ∷ third) (subst (λ xs. IsLegal job xs) split legal))).0
+    counts = (legal-counts job (reverse before) (legal-front job before (item ∷ third) (subst (λ xs. IsLegal job xs) split legal))).0
 
-    pub no_callback : NoneBetween is user.0 (suc k) (begun (reverse before)) → ⊥
-    no_callback none =
-        let on = (splits job items before (Back call user) third legal split).rule.0.visit.on in
-        let f = (entry_of call (reverse before)).func in
+    -- it isn't registered after the commands that have returned, nor after those that have begun
+    pub off-now : NoneBetween is user.0 (suc k) (begun (reverse before))
+        → ((user_at (desk job (done (reverse before))) user.0).registered ≡ false) × ((user_at (desk job (begun (reverse before))) user.0).registered ≡ false)
+    off-now none =
         let c = counts in
-        let l = later in
-        let at_done : (user_at (desk job (done (reverse before))) user.0).registered ≡ false =
-        off-until is user.0 (suc k) (done (reverse before)) l (λ j low high. none j low (omega arith)) off-there in
-        let at_begun : (user_at (desk job (begun (reverse before))) user.0).registered ≡ false =
-        off-until is user.0 (suc k) (begun (reverse before)) (omega arith) none off-there in
-        elim on [
-          | inl x ↦ never (desk job (done (reverse before))) f at_done x
-          | inr x ↦ never (desk job (begun (reverse before))) f at_begun x
+        let l = later in (
+          off-until is user.0 (suc k) (done (reverse before)) l (λ j low high. none j low (omega arith)) off-there,
+          off-until is user.0 (suc k) (begun (reverse before)) (omega arith) none off-there,
+        )
+
+    pub rule_at : MayFollow job (reverse before) item
+    rule_at = splits job items before item third legal split
+
+  -- so neither an entry callback nor an exit callback begins
+  module _ (is : IsWellFormed job) (items first second third : List Item) (k : ℕ) (call : CallNo) (user : UserNo) (legal : IsLegal job items) (command : slice_get (commands job) k ≡ Some (Unregister user.0)) where
+    off-not-on : (d : Desk) (f : ℕ) → (user_at d user.0).registered ≡ false → is_on d user.0 f ≡ true → ⊥
+    off-not-on d f off on =
+        let sited = (and_both (is_sited d user.0 f) (user_at d user.0).enabled on).0 in
+        let there = (and_both (user_at d user.0).registered (is_matching (user_at d user.0) f) sited).0 in
+        false_true (sym off ∙ there)
+
+    off-not-live : (d : Desk) (r : ℕ) → (user_at d user.0).registered ≡ false → is_live d user.0 r ≡ true → ⊥
+    off-not-live d r off live =
+        let both = (and_both ((user_at d user.0).registered && (user_at d user.0).enabled) ((user_at d user.0).reg == r) live).0 in
+        false_true (sym off ∙ (and_both (user_at d user.0).registered (user_at d user.0).enabled both).0)
+
+    pub no_callback : (e : items ≡ first ++ Return (suc k) Accepted ∷ (second ++ Back call user ∷ third)) → NoneBetween is user.0 (suc k) (begun (reverse (first ++ Return (suc k) Accepted ∷ second))) → ⊥
+    no_callback e none =
+        let past = reverse (first ++ Return (suc k) Accepted ∷ second) in
+        let off = off-now is items first second third k user (Back call user) legal e command none in
+        elim (rule_at is items first second third k user (Back call user) legal e command).rule.0.visit.on [
+          | inl x ↦ off-not-on (desk job (done past)) (entry_of call past).func off.0 x
+          | inr x ↦ off-not-on (desk job (begun past)) (entry_of call past).func off.1 x
         ]
-      where
-        never : (d : Desk) (f : ℕ) → (user_at d user.0).registered ≡ false → is_on d user.0 f ≡ true → ⊥
-        never d f off on =
-            let sited = (and_both (is_sited d user.0 f) (user_at d user.0).enabled on).0 in
-            let there = (and_both (user_at d user.0).registered (is_matching (user_at d user.0) f) sited).0 in
-            false_true (sym off ∙ there)
+
+    pub no_exit : (entry : ℕ) (e : items ≡ first ++ Return (suc k) Accepted ∷ (second ++ Exit call user entry ∷ third)) → NoneBetween is user.0 (suc k) (begun (reverse (first ++ Return (suc k) Accepted ∷ second))) → ⊥
+    no_exit entry e none =
+        let past = reverse (first ++ Return (suc k) Accepted ∷ second) in
+        let off = off-now is items first second third k user (Exit call user entry) legal e command none in
+        let of = (rule_at is items first second third k user (Exit call user entry) legal e command).rule.0.of in
+        elim of.5 [
+          | inl x ↦ off-not-live (desk job (done past)) of.0.reg off.0 x
+          | inr x ↦ off-not-live (desk job (begun past)) of.0.reg off.1 x
+        ]
