@@ -6,6 +6,7 @@ pub mod Rows
 pub mod Keeps
 pub mod Bounds
 pub mod PlainUsers
+pub mod Ends
 pub mod Plays
 pub mod RowSamples
 pub mod RandomSamples1
@@ -13,3 +14,4 @@ pub mod RandomSamples2
 pub mod RandomSamples3
 pub mod RowsLegal
 pub mod NotLegal
+pub mod NotLegalClauses

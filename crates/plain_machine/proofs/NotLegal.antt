@@ -18,7 +18,7 @@ use Rattle.plain_machine.proofs.Plays.{call_in}
 use Rattle.plain_machine.proofs.RowSamples.{first_path, recursion, full_shadow_stack, registered_again, two_cpus, unregistered_in_call}
 
 -- the one number between two bounds that are the same
-between : (P : ℕ → Type 0) (n k : ℕ) → n ≤ k → k ≤ n → P k → P n
+pub between : (P : ℕ → Type 0) (n k : ℕ) → n ≤ k → k ≤ n → P k → P n
 between P n k low high p = let same : k ≡ n = omega arith in subst P same p
 
 -- the one element of a list
@@ -26,7 +26,7 @@ only : {A : Type 0} (y x : A) → Contains (y ∷ []) x → y ≡ x
 only y x c = let zero_is : c.0 ≡ 0 = (let below = c.1 in omega arith) in subst (λ k. slice_index_or (y ∷ []) k x ≡ x) zero_is c.2
 
 -- what stands last in a legal history
-last : (job : Job) (before : List Item) (item : Item) → IsLegal job (before ++ item ∷ []) → MayFollow job (reverse before) item
+pub last : (job : Job) (before : List Item) (item : Item) → IsLegal job (before ++ item ∷ []) → MayFollow job (reverse before) item
 last job before item legal = splits job (before ++ item ∷ []) before item [] legal refl
 
 -- silence: the callback of a user that was on is left out

@@ -23,7 +23,7 @@ use Rattle.ft_hist.proofs.Laws.{same_call-refl, same_top-refl}
 use Rattle.ft_hist.specs.Frames.{FrameUser, FrameOf}
 use Rattle.ft_hist.proofs.RunLaws.{calls_on, sound}
 use Rattle.ft_hist.proofs.Since.{Since, Untouched, since-item, IsOlder, holding, holds-by}
-use Rattle.plain_machine.specs.State.{State, TaskState, Walk, Nested, task_at, idle, frames_of, passed_act, called_by, around, call_of, whole, fuel, walked, on_users, after_return}
+use Rattle.plain_machine.specs.State.{State, TaskState, Walk, Nested, task_at, idle, frames_of, passed_act, called_by, around, call_of, whole, fuel, walked, on_users}
 use Rattle.plain_machine.specs.Rule.{RunningCall, Stacked, TaskOk, CtlAt, Rule}
 use Rattle.plain_machine.proofs.Calls.{Now, push, Ground, Busy, in_body, all_walked, entering, at_enter, in_call}
 use Rattle.plain_machine.proofs.WholeCall.{makes}

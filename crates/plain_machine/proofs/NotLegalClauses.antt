@@ -1,0 +1,297 @@
+-- One history for each clause of legality that no history of NotLegal speaks of: it is that of an example, or of a small job, up to an item that breaks
+-- this clause.
+use Rattle.std.proofs.Common.{◌≡◌, ℕ, ◌<◌, ◌≤◌, ◌⊎◌, false, List, [], ◌∷◌, ◌++◌, Some, None, reverse, codes, refl, sym, subst, arith, inl, inr}
+use Rattle.ft_base.specs.declared.context.Ctx.TheVariants.{Normal}
+use Rattle.ft_base.specs.declared.item.Ran.TheVariants.{Nop, List as ByList, Own}
+use Rattle.ft_base.specs.declared.item.Reason.TheVariants.{Pid as ByPid, Recursion, Depth}
+use Rattle.ft_base.specs.declared.item.Answer.TheVariants.{Accepted}
+use Rattle.ft_base.specs.declared.item.Item.{Item}
+use Rattle.ft_base.specs.declared.item.Item.TheVariants.{Begin, Return, Enter, Back, BackEnd, Refuse, Miss, Body, Leave, Exit, ExitEnd, Ret}
+use Rattle.ft_base.specs.declared.user.Kind.{Kind}
+use Rattle.ft_base.specs.declared.user.Kind.TheVariants.{Function, Graph}
+use Rattle.ft_base.specs.declared.task.TaskAct.TheVariants.{Call, Ret as RetAct}
+use Rattle.ft_base.specs.Job.{Job, Spec, Ctl, Command, Register, Unregister, Disable, MaxDepth, Run}
+use Rattle.ft_base.specs.Desk.{desk, is_live, answer_at}
+use Rattle.ft_base.proofs.Small.{false_true}
+use Rattle.ft_hist.specs.Past.{all_visits}
+use Rattle.ft_hist.specs.Plain.{plain, after_item}
+use Rattle.ft_hist.specs.Rules.{IsLegal, IsWhole, IsStill}
+use Rattle.plain_machine.proofs.Plays.{call_in, named}
+use Rattle.plain_machine.proofs.NotLegal.{last, between, before_body, before_refusal}
+use Rattle.plain_machine.proofs.RowSamples.{first_path, list_then_own, repeated_commands, two_ipmodify_users, recursion, full_shadow_stack, fprobe_misses, fprobe_cancels, registered_again, pids, disabled_fprobe, profile_user}
+
+abbrev plain_user : Kind → Spec
+plain_user kind = record { name = codes "u"; kind = kind; regs = false; ipmodify = None; pid = false; act = None }
+
+-- one task that calls `a` and returns, while control goes through these lines
+abbrev one_call : List Spec → List Ctl → Job
+one_call users ctls = record {
+  functions = named (codes "a") None ∷ named (codes "b") None ∷ [];
+  users = users;
+  frames = 50;
+  tramps = 16;
+  quanta = 100 ∷ [];
+  tasks = record { pid = 10; cpu = 0; acts = Call (record { 0 = 0 }) ∷ Call (record { 0 = 1 }) ∷ RetAct ∷ RetAct ∷ [] } ∷ [];
+  ctls = ctls;
+  schedule = [];
+}
+
+-- ## callbacks
+
+-- a user is called back twice in a call
+pub visited_twice : IsLegal first_path ((before_body ++ Back (call_in 0 1) (record { 0 = 0 }) ∷ BackEnd (call_in 0 1) (record { 0 = 0 }) ∷ []) ++ Back (call_in 0 1) (record { 0 = 0 }) ∷ []) → ⊥
+unfolding desk all_visits
+visited_twice legal =
+    let before = before_body ++ Back (call_in 0 1) (record { 0 = 0 }) ∷ BackEnd (call_in 0 1) (record { 0 = 0 }) ∷ [] in
+    false_true (sym (last first_path before (Back (call_in 0 1) (record { 0 = 0 })) legal).rule.0.visit.once)
+
+-- the user that was registered first is called back first
+abbrev before_second : List Item
+before_second = Begin 1 ∷ Return 1 Accepted ∷ Begin 2 ∷ Return 2 Accepted ∷ Enter (call_in 0 1) Normal (record { 0 = 0 }) None ∷ Back (call_in 0 1) (record { 0 = 0 }) ∷ BackEnd (call_in 0 1) (record { 0 = 0 }) ∷ []
+
+pub earlier_user_first : IsLegal list_then_own (before_second ++ Back (call_in 0 1) (record { 0 = 1 }) ∷ []) → ⊥
+unfolding desk all_visits
+earlier_user_first legal =
+    let lt : 2 < 1 = (last list_then_own before_second (Back (call_in 0 1) (record { 0 = 1 })) legal).rule.0.visit.order.0 in
+    absurd (omega (arith, lt))
+
+-- an fprobe's disabling returns within its callback
+pub open_at_disabling : IsLegal disabled_fprobe ((before_body ++ Back (call_in 0 1) (record { 0 = 0 }) ∷ Begin 2 ∷ []) ++ Return 2 Accepted ∷ []) → ⊥
+unfolding desk all_visits
+open_at_disabling legal =
+    let before = before_body ++ Back (call_in 0 1) (record { 0 = 0 }) ∷ Begin 2 ∷ [] in
+    let c = (last disabled_fprobe before (Return 2 Accepted) legal).rule.command in
+    let is : Disable 0 ≡ c.0 = cc in
+    let still : IsStill (reverse before) (Disable 0) = subst (λ (x : Command). IsStill (reverse before) x) (sym is) (c.3 refl) in
+    false_true (sym still)
+
+-- an unregistration returns within an exit callback
+abbrev unregistered : Job
+unregistered = one_call (plain_user Graph ∷ []) (Run (Register 0) ∷ Run (Unregister 0) ∷ [])
+
+abbrev before_unregistered : List Item
+before_unregistered =
+    before_body ++ Back (call_in 0 1) (record { 0 = 0 }) ∷ BackEnd (call_in 0 1) (record { 0 = 0 }) ∷ Body (call_in 0 1) (record { 0 = 0 }) (Own (record { 0 = 0 }))
+    ∷ Leave (call_in 0 1) ∷ Exit (call_in 0 1) (record { 0 = 0 }) 3 ∷ Begin 2 ∷ []
+
+pub exit_open_at_unregistration : IsLegal unregistered (before_unregistered ++ Return 2 Accepted ∷ []) → ⊥
+unfolding desk all_visits
+exit_open_at_unregistration legal =
+    let c = (last unregistered before_unregistered (Return 2 Accepted) legal).rule.command in
+    let is : Unregister 0 ≡ c.0 = cc in
+    let still : IsStill (reverse before_unregistered) (Unregister 0) = subst (λ (x : Command). IsStill (reverse before_unregistered) x) (sym is) (c.3 refl) in
+    false_true (sym still)
+
+-- ## refusals
+
+-- for the pid, of a user without the flag
+pub pid_without_flag : IsLegal first_path (before_body ++ Refuse (call_in 0 1) (record { 0 = 0 }) ByPid ∷ []) → ⊥
+unfolding desk all_visits
+pid_without_flag legal = false_true ((last first_path before_body (Refuse (call_in 0 1) (record { 0 = 0 }) ByPid) legal).rule.1.0)
+
+-- for the pid, of a task that is allowed
+abbrev before_allowed : List Item
+before_allowed = Begin 1 ∷ Return 1 Accepted ∷ Begin 2 ∷ Return 2 Accepted ∷ Enter (call_in 0 1) Normal (record { 0 = 0 }) None ∷ []
+
+pub pid_of_allowed_task : IsLegal pids (before_allowed ++ Refuse (call_in 0 1) (record { 0 = 0 }) ByPid ∷ []) → ⊥
+unfolding desk all_visits
+pid_of_allowed_task legal = elim ((last pids before_allowed (Refuse (call_in 0 1) (record { 0 = 0 }) ByPid) legal).rule.1.1) [ inl x ↦ false_true (sym x) | inr x ↦ false_true (sym x) ]
+
+-- a callback of a task that isn't allowed
+abbrev before_barred : List Item
+before_barred = Begin 1 ∷ Return 1 Accepted ∷ Begin 2 ∷ Return 2 Accepted ∷ Enter (call_in 1 1) Normal (record { 0 = 0 }) None ∷ []
+
+pub callback_of_barred_task : IsLegal pids (before_barred ++ Back (call_in 1 1) (record { 0 = 0 }) ∷ []) → ⊥
+unfolding desk all_visits
+callback_of_barred_task legal = elim ((last pids before_barred (Back (call_in 1 1) (record { 0 = 0 })) legal).rule.0.pid refl) [ inl x ↦ false_true x | inr x ↦ false_true x ]
+
+-- for recursion, outside of any callback
+pub recursion_outside : IsLegal first_path (before_body ++ Refuse (call_in 0 1) (record { 0 = 0 }) Recursion ∷ []) → ⊥
+unfolding desk all_visits
+recursion_outside legal = false_true ((last first_path before_body (Refuse (call_in 0 1) (record { 0 = 0 }) Recursion) legal).rule.1.1)
+
+-- a callback within one of the same task and context
+pub callback_in_callback : IsLegal recursion (before_refusal ++ Back (call_in 0 2) (record { 0 = 0 }) ∷ []) → ⊥
+unfolding desk all_visits
+callback_in_callback legal = false_true (sym (last recursion before_refusal (Back (call_in 0 2) (record { 0 = 0 })) legal).rule.0.free)
+
+-- for depth, of a user that the depth rule doesn't bind
+pub depth_of_function_user : IsLegal first_path (before_body ++ Refuse (call_in 0 1) (record { 0 = 0 }) Depth ∷ []) → ⊥
+unfolding desk all_visits
+depth_of_function_user legal = false_true ((last first_path before_body (Refuse (call_in 0 1) (record { 0 = 0 }) Depth) legal).rule.1.2)
+
+-- for depth, while a frame is free and there is no graph depth
+abbrev before_inner : List Item
+before_inner =
+    before_body ++ Back (call_in 0 1) (record { 0 = 0 }) ∷ BackEnd (call_in 0 1) (record { 0 = 0 }) ∷ Body (call_in 0 1) (record { 0 = 0 }) (Own (record { 0 = 0 }))
+    ∷ Enter (call_in 0 2) Normal (record { 0 = 1 }) (Some (call_in 0 1)) ∷ []
+
+pub depth_with_free_frame : IsLegal full_shadow_stack (before_inner ++ Refuse (call_in 0 2) (record { 0 = 0 }) Depth ∷ []) → ⊥
+unfolding desk all_visits
+depth_with_free_frame legal = elim ((last full_shadow_stack before_inner (Refuse (call_in 0 2) (record { 0 = 0 }) Depth) legal).rule.1.3) [
+  | inl full ↦ (let e : 1 ≡ 2 = full in absurd (omega (arith, e)))
+  | inr deep ↦ elim deep [ inl x ↦ (let lt : 0 < 0 = x.0 in absurd (omega (arith, lt))) | inr x ↦ (let lt : 0 < 0 = x.0 in absurd (omega (arith, lt))) ]
+]
+
+-- a graph user is called back though the other calls hold all frames
+abbrev before_third : List Item
+before_third =
+    before_inner ++ Back (call_in 0 2) (record { 0 = 0 }) ∷ BackEnd (call_in 0 2) (record { 0 = 0 }) ∷ Body (call_in 0 2) (record { 0 = 1 }) (Own (record { 0 = 0 }))
+    ∷ Enter (call_in 0 3) Normal (record { 0 = 2 }) (Some (call_in 0 2)) ∷ []
+
+pub callback_without_frame : IsLegal full_shadow_stack (before_third ++ Back (call_in 0 3) (record { 0 = 0 }) ∷ []) → ⊥
+unfolding desk all_visits
+callback_without_frame legal =
+    let lt : 2 < 2 = (last full_shadow_stack before_third (Back (call_in 0 3) (record { 0 = 0 })) legal).rule.0.room refl in
+    absurd (omega (arith, lt))
+
+-- and though they reach the graph depth
+abbrev shallow : Job
+shallow = one_call (plain_user Graph ∷ []) (Run (MaxDepth 1) ∷ Run (Register 0) ∷ [])
+
+abbrev before_deep : List Item
+before_deep =
+    Begin 1 ∷ Return 1 Accepted ∷ Begin 2 ∷ Return 2 Accepted ∷ Enter (call_in 0 1) Normal (record { 0 = 0 }) None ∷ Back (call_in 0 1) (record { 0 = 0 }) ∷ BackEnd (call_in 0 1) (record { 0 = 0 })
+    ∷ Body (call_in 0 1) (record { 0 = 0 }) (Own (record { 0 = 0 })) ∷ Enter (call_in 0 2) Normal (record { 0 = 1 }) (Some (call_in 0 1)) ∷ []
+
+pub callback_below_graph_depth : IsLegal shallow (before_deep ++ Back (call_in 0 2) (record { 0 = 0 }) ∷ []) → ⊥
+unfolding desk all_visits
+callback_below_graph_depth legal =
+    elim ((last shallow before_deep (Back (call_in 0 2) (record { 0 = 0 })) legal).rule.0.level refl) [ inl x ↦ reached 1 1 refl refl x | inr x ↦ reached 1 1 refl refl x ]
+  where
+    reached : (depth held : ℕ) → depth ≡ 1 → held ≡ 1 → (depth ≡ 0) ⊎ (held < depth) → ⊥
+    reached depth held d h (inl e) = absurd (omega (arith, d, e))
+    reached depth held d h (inr lt) = absurd (omega (arith, d, h, lt))
+
+-- ## fetches
+
+-- a user is called back in a call that fetched the nop, while its registration is under way
+abbrev under_way : Job
+under_way = one_call (plain_user Function ∷ []) (Run (Register 0) ∷ [])
+
+abbrev before_nop : List Item
+before_nop = Enter (call_in 0 1) Normal (record { 0 = 0 }) None ∷ Begin 1 ∷ Back (call_in 0 1) (record { 0 = 0 }) ∷ BackEnd (call_in 0 1) (record { 0 = 0 }) ∷ []
+
+pub callback_at_nop : IsLegal under_way (before_nop ++ Body (call_in 0 1) (record { 0 = 0 }) Nop ∷ []) → ⊥
+unfolding desk all_visits
+callback_at_nop legal = let none = (last under_way before_nop (Body (call_in 0 1) (record { 0 = 0 }) Nop) legal).rule.0.only in absurd (cc)
+
+-- and in a call that fetched another user's trampoline
+abbrev one_of_two : Job
+one_of_two = one_call (plain_user Function ∷ plain_user Function ∷ []) (Run (Register 0) ∷ Run (Register 1) ∷ Run (Unregister 0) ∷ [])
+
+abbrev before_own : List Item
+before_own =
+    Begin 1 ∷ Return 1 Accepted ∷ Begin 2 ∷ Return 2 Accepted ∷ Enter (call_in 0 1) Normal (record { 0 = 0 }) None ∷ Back (call_in 0 1) (record { 0 = 1 }) ∷ BackEnd (call_in 0 1) (record { 0 = 1 })
+    ∷ Back (call_in 0 1) (record { 0 = 0 }) ∷ BackEnd (call_in 0 1) (record { 0 = 0 }) ∷ Begin 3 ∷ []
+
+pub callback_at_others_trampoline : IsLegal one_of_two (before_own ++ Body (call_in 0 1) (record { 0 = 0 }) (Own (record { 0 = 1 })) ∷ []) → ⊥
+unfolding desk all_visits
+callback_at_others_trampoline legal =
+    let same : 0 ≡ 1 = (last one_of_two before_own (Body (call_in 0 1) (record { 0 = 0 }) (Own (record { 0 = 1 }))) legal).rule.0.only.0 in
+    absurd (omega (arith, same))
+
+-- two users that replace the function are called back in one call
+abbrev before_two : List Item
+before_two = Enter (call_in 0 1) Normal (record { 0 = 1 }) None ∷ Back (call_in 0 1) (record { 0 = 1 }) ∷ BackEnd (call_in 0 1) (record { 0 = 1 }) ∷ Back (call_in 0 1) (record { 0 = 0 }) ∷ BackEnd (call_in 0 1) (record { 0 = 0 }) ∷ []
+
+pub replaced_twice : IsLegal two_ipmodify_users (before_two ++ Body (call_in 0 1) (record { 0 = 3 }) ByList ∷ []) → ⊥
+unfolding desk all_visits
+replaced_twice legal =
+    let le : 2 ≤ 1 = (last two_ipmodify_users before_two (Body (call_in 0 1) (record { 0 = 3 }) ByList) legal).rule.0.one in
+    absurd (omega (arith, le))
+
+-- the called function runs in the place of its replacement
+abbrev before_replaced : List Item
+before_replaced = Enter (call_in 0 1) Normal (record { 0 = 1 }) None ∷ Back (call_in 0 1) (record { 0 = 1 }) ∷ BackEnd (call_in 0 1) (record { 0 = 1 }) ∷ []
+
+pub not_replaced : IsLegal two_ipmodify_users (before_replaced ++ Body (call_in 0 1) (record { 0 = 1 }) (Own (record { 0 = 1 })) ∷ []) → ⊥
+unfolding desk all_visits
+not_replaced legal =
+    let same : 1 ≡ 3 = (last two_ipmodify_users before_replaced (Body (call_in 0 1) (record { 0 = 1 }) (Own (record { 0 = 1 }))) legal).rule.0.runs in
+    absurd (omega (arith, same))
+
+-- ## commands
+
+-- the second command begins first
+pub begins_with_the_second : IsLegal first_path ([] ++ Begin 2 ∷ []) → ⊥
+begins_with_the_second legal = let same : 2 ≡ 1 = (last first_path [] (Begin 2) legal).rule.0.number in absurd (omega (arith, same))
+
+-- a command begins while another is under way
+pub begins_twice : IsLegal list_then_own ((Begin 1 ∷ []) ++ Begin 2 ∷ []) → ⊥
+begins_twice legal = let same : 1 ≡ 0 = (last list_then_own (Begin 1 ∷ []) (Begin 2) legal).rule.0.follows in absurd (omega (arith, same))
+
+-- a command begins that the job doesn't have
+pub begins_too_many : IsLegal first_path ((Begin 1 ∷ Return 1 Accepted ∷ []) ++ Begin 2 ∷ []) → ⊥
+begins_too_many legal = let lt : 1 < 1 = (last first_path (Begin 1 ∷ Return 1 Accepted ∷ []) (Begin 2) legal).rule.0.stands in absurd (omega (arith, lt))
+
+-- a command begins before the wait above it is met
+pub begins_before_its_wait : IsLegal registered_again ((Begin 1 ∷ Return 1 Accepted ∷ []) ++ Begin 2 ∷ []) → ⊥
+unfolding plain after_item
+begins_before_its_wait legal = let le : 2 ≤ 1 = (last registered_again (Begin 1 ∷ Return 1 Accepted ∷ []) (Begin 2) legal).rule.1.0 in absurd (omega (arith, le))
+
+-- a command returns that hasn't begun
+pub returns_unbegun : IsLegal first_path ([] ++ Return 1 Accepted ∷ []) → ⊥
+returns_unbegun legal = let same : 0 ≡ 1 = (last first_path [] (Return 1 Accepted) legal).rule.follows in absurd (omega (arith, same))
+
+-- a command returns another answer
+abbrev before_answer : List Item
+before_answer = Begin 1 ∷ Return 1 Accepted ∷ Begin 2 ∷ []
+
+pub another_answer : IsLegal repeated_commands (before_answer ++ Return 2 Accepted ∷ []) → ⊥
+unfolding desk
+another_answer legal =
+    let c = (last repeated_commands before_answer (Return 2 Accepted) legal).rule.command in
+    let is : Register 0 ≡ c.0 = cc in
+    let answer : Accepted ≡ answer_at repeated_commands 1 (Register 0) = subst (λ (x : Command). Accepted ≡ answer_at repeated_commands 1 x) (sym is) c.2 in
+    absurd (cc)
+
+-- ## misses and exits
+
+-- a Miss that is due is left out
+abbrev before_miss : List Item
+before_miss = before_inner ++ Back (call_in 0 2) (record { 0 = 0 }) ∷ []
+
+pub miss_left_out : IsLegal fprobe_misses (before_miss ++ BackEnd (call_in 0 2) (record { 0 = 0 }) ∷ []) → ⊥
+unfolding desk all_visits
+miss_left_out legal = let none = (last fprobe_misses before_miss (BackEnd (call_in 0 2) (record { 0 = 0 })) legal).rule in absurd (cc)
+
+-- a Miss comes that isn't due
+pub miss_not_due : IsLegal fprobe_cancels (before_miss ++ Miss (call_in 0 2) (record { 0 = 0 }) ∷ []) → ⊥
+unfolding desk all_visits
+miss_not_due legal = false_true ((last fprobe_cancels before_miss (Miss (call_in 0 2) (record { 0 = 0 })) legal).rule.1)
+
+-- an exit comes twice; in their order none can
+abbrev before_again : List Item
+before_again =
+    before_body ++ Back (call_in 0 1) (record { 0 = 0 }) ∷ BackEnd (call_in 0 1) (record { 0 = 0 }) ∷ Body (call_in 0 1) (record { 0 = 0 }) (Own (record { 0 = 0 }))
+    ∷ Leave (call_in 0 1) ∷ Exit (call_in 0 1) (record { 0 = 0 }) 3 ∷ ExitEnd (call_in 0 1) (record { 0 = 0 }) ∷ []
+
+pub exit_twice : IsLegal profile_user (before_again ++ Exit (call_in 0 1) (record { 0 = 0 }) 3 ∷ []) → ⊥
+unfolding desk all_visits
+exit_twice legal =
+    let lt : 3 < 3 = (last profile_user before_again (Exit (call_in 0 1) (record { 0 = 0 }) 3) legal).rule.0.order.0 in
+    absurd (omega (arith, lt))
+
+-- an exit lacks though its registration is live
+abbrev before_lack : List Item
+before_lack =
+    before_body ++ Back (call_in 0 1) (record { 0 = 0 }) ∷ BackEnd (call_in 0 1) (record { 0 = 0 }) ∷ Body (call_in 0 1) (record { 0 = 0 }) (Own (record { 0 = 0 })) ∷ Leave (call_in 0 1) ∷ []
+
+pub exit_left_out : IsLegal profile_user (before_lack ++ Ret (call_in 0 1) None ∷ []) → ⊥
+unfolding desk all_visits
+exit_left_out legal =
+    let dead = (last profile_user before_lack (Ret (call_in 0 1) None) legal).rule.0.0 (refl, refl, refl) refl in
+    let off : is_live (desk profile_user 1) 0 1 ≡ false = between (λ k. is_live (desk profile_user k) 0 1 ≡ false) 1 dead.0 dead.1 dead.2 dead.3 in
+    false_true (sym off)
+
+-- ## whole histories
+
+-- a command has not returned
+pub whole_too_early : IsWhole first_path [] → ⊥
+whole_too_early w = let same : 0 ≡ 1 = w.returned in absurd (omega (arith, same))
+
+-- a task is not at its end
+pub whole_without_calls : IsWhole first_path (Begin 1 ∷ Return 1 Accepted ∷ []) → ⊥
+unfolding plain after_item
+whole_without_calls w = let none = (w.tasks 0 (omega arith)).0 in absurd (cc)
