@@ -71,7 +71,7 @@ is_live desk u r = (user_at desk u).registered && (user_at desk u).enabled && ((
 abbrev pub is_allowed : Desk → ℕ → Bool
 is_allowed desk t = (is_empty desk.pids || holds desk.pids t) && not (holds desk.nopids t)
 
--- the lowest number from a start on, among so many, that passes
+-- the lowest of the `n` numbers from a start on that passes
 abbrev pub lowest : (ℕ → Bool) → ℕ → ℕ → Option ℕ
 lowest p from zero = None
 lowest p from (suc n) = if p from then Some from else lowest p (suc from) n

@@ -23,7 +23,7 @@ IsActNamed job None = Unit {0}
 IsActNamed job (Some (CallIn g)) = g.0 < funcs job
 IsActNamed job (Some (IrqIn g)) = g.0 < funcs job
 
--- acts over so many open calls: each calls a function of the job, each return has its call, and no call is open at the end
+-- acts over `n` open calls: each calls a function of the job, each return has its call, and no call is open at the end
 abbrev pub IsScript : Job → ℕ → List TaskAct → Type 0
 IsScript job n [] = n ≡ 0
 IsScript job n (Call f ∷ rest) = (f.0 < funcs job) × IsScript job (suc n) rest

@@ -1,3 +1,5 @@
+//! Names, and which interrupts come.
+
 use crate::{Ctx, is_name, raise};
 
 #[test]

@@ -8,7 +8,7 @@ use Rattle.ft_base.specs.declared.item.Item.TheVariants.{Begin, Return, Enter, B
 use Rattle.ft_base.specs.Same.{same_call}
 use Rattle.ft_base.specs.Job.{Job}
 use Rattle.ft_base.specs.Desk.{spec_at}
-use Rattle.ft_base.proofs.Small.{false_true, and-false, Each-weaker}
+use Rattle.ft_base.proofs.Small.{false_true, ==-refl, and-false, Each-weaker}
 use Rattle.ft_base.specs.Kinds.{cancels}
 use Rattle.ft_hist.specs.Past.{is_of, done, is_open, calls, held, all_visits, is_dispatched, has_frame_user}
 use Rattle.ft_hist.specs.Plain.{plain, after_next, PlainTask, at_start}
@@ -159,9 +159,6 @@ module _ (t : ℕ) (past : List Item) where
     made = (λ e. false_true (sym other ∙ (rw e (==-refl t))), h.made);
     open' = rw other (filter-ext (λ c. (c.task.0 == t) && (same_call call c || is_open c past)) (λ c. (c.task.0 == t) && is_open c past) (calls past) (each-all _ (calls past) (λ c. foreign call other c (is_open c past))) ∙ h.open');
   }
-    where
-      ==-refl : (n : ℕ) → (n == n) ≡ true
-      ==-refl n = search rules
   opens-other next stack (Ret call to) other h = record {
     number = h.number;
     falls = h.falls;

@@ -4,9 +4,8 @@ use Rattle.std.proofs.lemmas.Bool.Decides.{eqb_tells}
 use Rattle.std.specs.List.{filter, AllByRecursion as Each}
 use Rattle.ft_base.specs.declared.number.CallNo.{CallNo}
 use Rattle.ft_base.specs.Same.{same_call}
-use Rattle.ft_base.specs.Desk.{Desk}
-use Rattle.ft_base.specs.Order.{IsBelow, IsFalling, has}
-use Rattle.ft_base.proofs.Small.{Each-filter, and-false, or-true, false_true, or-true_either}
+use Rattle.ft_base.specs.Order.{has}
+use Rattle.ft_base.proofs.Small.{and-false, or-true, false_true, or-true_either}
 use Rattle.ft_hist.specs.Past.{Visit}
 
 pub Each-passes : (p : ℕ → Bool) (us : List ℕ) → Each (λ u. p u ≡ true) (filter p us)
@@ -24,14 +23,6 @@ has-passes p u (v ∷ us) h pass =
         | inr x ↦ has-passes p u us x pass
       ]
     ] refl
-
-pub falling-filter : (d : Desk) (p : ℕ → Bool) (us : List ℕ) → IsFalling d us → IsFalling d (filter p us)
-falling-filter d p [] h = tt
-falling-filter d p (v ∷ us) h =
-    elim (p v) as (λ b. IsFalling d (cond b (v ∷ filter p us) (filter p us))) [
-      | true ↦ (Each-filter (λ w. IsBelow d v w) p us h.0, falling-filter d p us h.1)
-      | false ↦ falling-filter d p us h.1
-    ]
 
 -- a call whose number is still to come has visited nobody
 pub none_visited : (call : CallNo) (ms : List Visit) → Each (λ m. m.call.task.0 ≡ call.task.0 → m.call.n < call.n) ms → filter (λ m. same_call m.call call) ms ≡ []

@@ -36,7 +36,7 @@ pub record Frame : Type 0 where
   pub scripted : Bool
   pub phase : Phase
 
--- a task on its plain run: the number of its next call, its acts to come, how many acts are behind it, its raised contexts,
+-- a task on its plain run: the number of its next call, its acts to come, how many acts it has done, its raised contexts,
 -- the latest first, and its stack of calls, the top first
 pub record PlainTask : Type 0 where
   pub next : ℕ
@@ -61,7 +61,7 @@ pub record Ahead : Type 0 where
   pub contexts : List Ctx
   pub gone : ℕ
 
--- the acts to come without those that give no items, as far as their waits are met by so many returned commands
+-- the acts to come without those that give no items, as far as their waits are met by this many returned commands
 abbrev pub ahead : ℕ → List TaskAct → List Ctx → ℕ → Ahead
 ahead returned [] cs gone = record { acts = []; contexts = cs; gone = gone }
 ahead returned (Call f ∷ rest) cs gone = record { acts = Call f ∷ rest; contexts = cs; gone = gone }
@@ -109,7 +109,7 @@ after_scripted_enter s (Call g ∷ rest) cs gone call ctx f =
     }) else None
 after_scripted_enter s _ cs gone call ctx f = None
 
--- a scripted call, behind the acts that give no items
+-- a scripted call, after the acts that give no items
 abbrev pub after_enter_ahead : PlainTask → Ahead → CallNo → Ctx → ℕ → Option PlainTask
 after_enter_ahead s a call ctx f = after_scripted_enter s a.acts a.contexts a.gone call ctx f
 
@@ -164,7 +164,7 @@ after_scripted_leave s t below (RetAct ∷ rest) cs gone =
     Some (record { next = s.next; acts = rest; gone = suc gone; contexts = cs; stack = in_phase t Leaving ∷ below })
 after_scripted_leave s t below _ cs gone = None
 
--- a scripted return, behind the acts that give no items
+-- a scripted return, after the acts that give no items
 abbrev pub after_leave_ahead : PlainTask → Frame → List Frame → Ahead → Option PlainTask
 after_leave_ahead s t below a = after_scripted_leave s t below a.acts a.contexts a.gone
 

@@ -144,7 +144,7 @@ LacksOnlyDead job past call =
     Each (λ m. HasExit job m → list_any (λ e. e == m.place) (exits call past) ≡ false
     → (k : ℕ) × (done_at_leave call past ≤ k) × (k ≤ begun past) × (is_live (desk job k) m.user m.reg ≡ false)) (visits job call past)
 
--- how many acts of a task are behind it, those without items counted as soon as they are next
+-- how many acts a task has done, those without items counted as soon as they are next
 abbrev pub acts_passed : PlainTask → ℕ
 acts_passed s = acts_passed_with s.gone s.acts s.stack
   where

@@ -1,3 +1,5 @@
+//! A history that the program keeps.
+
 ghost use Rattle.std.specs.Prelude.{◌≡◌, ℕ, ◌+◌, ◌-◌, ◌<◌, ◌≤◌, ◌^◌, List, [], ◌∷◌, ◌++◌, length, IfOk, slice_get};
 
 use ft_base::{Item, NoMemory};
@@ -23,7 +25,7 @@ impl Model for History {
 }
 
 impl History {
-    /// An empty history with room for so many items.
+    /// An empty history with room for `n` items. The error says that there is no memory for it.
     pub fn with_room(alloc: Global, n: u32) -> Result<History, NoMemory>
         ensures empty { IfOk result (λ h. h.items ≡ []) }
         ensures room { IfOk result (λ h. n ≤ h.spare) }
@@ -49,12 +51,12 @@ impl History {
         &self.kept[p as usize]
     }
 
-    /// Adds an item at the end.
+    /// Adds an item at the end. It takes no memory, since the room was taken at the start.
     pub fn push(&mut self, item: Item)
         requires { 0 < self.old.spare }
         ensures added { self.new.items ≡ self.old.items ++ item ∷ [] }
         ensures room { self.old.spare ≤ self.new.spare + 1 }
     {
-        let _ = self.kept.push(item);
+        self.kept.push_reserved(item);
     }
 }

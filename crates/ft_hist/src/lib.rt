@@ -1,5 +1,14 @@
-//! Histories: one list of items, whose places are the trace clock. Its specs say what a history
-//! tells at a place, where each task's plain run is, and which histories are legal and whole.
+//! Histories: one list of items, whose places are the trace clock.
+//!
+//! An item's *past* is the items before it, the latest first; most definitions take it. A user is
+//! *visited* in a call if it is called back or refused there. The *window* of a call goes from the
+//! commands that had returned at its Enter to those that had begun at its Body. A task's *plain
+//! run* is its acts on an ordinary stack of calls. A history is *legal* if each item may come after
+//! its past, and *whole* if besides all commands have returned and each task has made its run.
+//!
+//! The specs have these definitions: `Past` (what a history tells at a place), `Plain` (plain
+//! runs), `Rules` (which item may come), `Frames` (the users of a call's frame). `theorems` has
+//! what legality promises, in its reader's words. `History` is the list as the program keeps it.
 #![tactic(auto)]
 
 mod history;

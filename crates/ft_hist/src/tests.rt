@@ -1,3 +1,5 @@
+//! A history keeps its items in order.
+
 use crate::History;
 use ft_base::{Answer, Item};
 use std::test::Fail;

@@ -32,7 +32,8 @@ use Rattle.ft_hist.proofs.RunLaws.{calls_on, Sound}
 use Rattle.ft_hist.proofs.Since.{Since, since-trans, since-item, since-later, touches, untouched-item, IsOlder, holding, holding-since, holds, holds-by}
 use Rattle.ft_hist.proofs.HeldLaws.{held-is, opens as opens-law}
 use Rattle.ft_hist.proofs.Visiting.{only_those, at_most_one}
-use Rattle.ft_hist.proofs.Lists.{Each-passes, has-passes, falling-filter, none_visited}
+use Rattle.ft_base.proofs.Order.{falling-filter}
+use Rattle.ft_hist.proofs.Lists.{Each-passes, has-passes, none_visited}
 use Rattle.plain_machine.specs.State.{Walk, Around, Nested, Made, takes_frame, misses_frame, is_deep, refusal, refusal_by, is_held, called, refused, tried, walked, backed, by_act, inside, call_of, on_users}
 use Rattle.plain_machine.proofs.CallSo.{CallSo, VisitedSo, so-untouched, so-refused, so-called, may_visit, entry-is, order-now, visits-more', reg-now, visits-back, visits-refuse}
 
@@ -65,7 +66,7 @@ push job k past opens opens' t item s s' h d b c own here next may =
 abbrev pub guarded_by : ℕ → List Callback → Ctx → Bool
 guarded_by t opens y = list_any (λ b. (b.call.task.0 == t) && is_ctx b.ctx y) opens
 
--- so many levels of acts are enough for a call in this context
+-- this many levels of acts are enough for a call in this context
 abbrev pub Suffices : ℕ → Ctx → List Ctx → Type 0
 Suffices n x guards = (is_held guards x ≡ true) ⊎ ((2 ≤ n) ⊎ ((1 ≤ n) × (2 ≤ rank x)))
 

@@ -164,7 +164,7 @@ after_return d call to users past = Ret call to ∷ exited d call users (Leave c
 abbrev pub call_of : TaskNo → ℕ → CallNo
 call_of t n = record { task = t; n = n }
 
--- a call that an act owes, whole, with so many levels of acts below it
+-- a call that an act owes, in full, with `n` levels of acts below it
 unfoldable pub whole : ℕ → Job → Desk → List ℕ → Nested
 whole zero job d order a o caller past next = record { past = past; next = next }
 whole (suc n) job d order a o caller past next =
@@ -192,11 +192,11 @@ frames_of [] = 0
 frames_of ([] ∷ rest) = frames_of rest
 frames_of ((m ∷ ms) ∷ rest) = suc (frames_of rest)
 
--- a task behind an act that gives no items
+-- a task after an act that gives no items
 abbrev pub passed_act : PlainTask → List TaskAct → List Ctx → PlainTask
 passed_act p rest cs = record p { acts = rest; gone = suc p.gone; contexts = cs }
 
--- a task behind a call, whose dispatch came to this
+-- a task after a call, whose dispatch came to this
 abbrev pub calls_by : State → ℕ → TaskState → List TaskAct → Ctx → ℕ → Walk → State
 calls_by s t x rest ctx f w =
     record s {
@@ -362,7 +362,7 @@ run job (a ∷ rest) s = run job rest (step job a s)
 
 -- ## ends
 
--- control is at its end behind its last line, a CPU behind the last act of its last task
+-- control is at its end after its last line, a CPU after the last act of its last task
 unfoldable pub is_at_end : Job → Actor → State → Bool
 is_at_end job Control s = is_nil s.remaining
 is_at_end job (Cpu c) s = not (list_any (λ t. is_left s t) (tasks_of job c.0))
