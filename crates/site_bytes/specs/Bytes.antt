@@ -1,21 +1,19 @@
--- The five bytes of a call site, from where its function and what it calls stand.
+-- The five bytes of a call site, from the addresses of its function and of what it calls.
 use Rattle.std.specs.Prelude.{ℕ, ◌+◌, ◌-◌, ◌*◌, ◌/◌, ◌%◌, ◌^◌, ◌<◌, List, [], ◌∷◌}
+use Rattle.ft_base.specs.declared.limits.TheConstants.{TRAMPS}
+use Rattle.ft_base.specs.Address.{function_at}
 use Rattle.site_bytes.specs.declared.insn.Insn.{Insn}
 use Rattle.site_bytes.specs.declared.insn.Insn.TheVariants.{Nop, List as CallList, Own}
 
--- where function f stands; its call site is the first five bytes there
-abbrev pub function_at : ℕ → ℕ
-function_at f = 0x1000 + 64 * f
-
--- where the list caller stands
+-- the address of the list caller
 abbrev pub list_caller : ℕ
 list_caller = 0x0F0000
 
--- where the trampoline of a slot stands
+-- the address of the trampoline of a slot
 abbrev pub trampoline_at : ℕ → ℕ
 trampoline_at slot = 0x100000 + 256 * slot
 
--- how far a target is from the address behind the five bytes of function f
+-- how far a target is from the address after the five bytes of function f
 abbrev pub distance : ℕ → ℕ → ℕ
 distance f target = target - (function_at f + 5)
 
@@ -33,17 +31,21 @@ bytes_of f Nop = 0x0F ∷ 0x1F ∷ 0x44 ∷ 0x00 ∷ 0x00 ∷ []
 bytes_of f CallList = call_to f list_caller
 bytes_of f (Own slot) = call_to f (trampoline_at slot)
 
--- an instruction that there is: it names one of 16 trampoline slots
+-- the head of a site that is being patched: the breakpoint instruction
+abbrev pub breakpoint : ℕ
+breakpoint = 0xCC
+
+-- an instruction that a site can have: a call of a trampoline names one of the slots
 abbrev pub IsInsn : Insn → Type 0
-IsInsn (Own slot) = slot < 16
+IsInsn (Own slot) = slot < TRAMPS
 IsInsn _ = Unit {0}
 
--- the first byte of an instruction
+-- the head: the first byte of an instruction
 abbrev pub head_byte : Insn → ℕ
 head_byte Nop = 0x0F
 head_byte _ = 0xE8
 
--- the other four bytes of an instruction at function f, as the number that they are
+-- the tail: the other four bytes of an instruction at function f, as the number that they are
 abbrev pub tail_number : ℕ → Insn → ℕ
 tail_number f Nop = 0x0000441F
 tail_number f CallList = distance f list_caller

@@ -1,15 +1,15 @@
-//! What a call site does.
+//! The instruction of a call site.
 
 use ft_base::FuncNo;
 
-/// The instruction of a call site.
+/// The instruction of a call site (`ftrace.rst`, "dynamic ftrace").
 #[derive(Clone, Copy, Debug, PartialEq, Eq)]
 pub enum Insn {
-    /// Nothing is called.
+    /// A nop: nothing is called.
     Nop,
-    /// The list caller is called, which goes through all users.
+    /// A call of the list caller, which goes through all users.
     List,
-    /// The trampoline of this slot is called. Slots are below 16.
+    /// A call of the trampoline of this slot. Slots are below `ft_base::limits::TRAMPS`.
     Own(u8),
 }
 

@@ -1,16 +1,17 @@
 //! What holds between the calls of this crate. Each law is a function whose clause says it.
 
-ghost use Rattle.std.specs.Prelude.{◌≡◌, ◌≢◌, ◌<◌, ℕ, Some, ◌∷◌};
+ghost use Rattle.std.specs.Prelude.{◌≡◌, ◌≢◌, ◌<◌, ℕ, Some, ◌∷◌, List};
 ghost use Rattle.site_bytes.specs.declared.insn.Insn.{Insn};
-ghost use Rattle.site_bytes.specs.Bytes.{bytes_of, four_bytes, head_byte, tail_number, IsInsn};
+ghost use Rattle.site_bytes.specs.Bytes.{breakpoint, bytes_of, four_bytes, head_byte, tail_number, IsInsn};
 
 use crate::codec::{BREAKPOINT, decode, encode};
 use crate::insn::Insn;
 use ft_base::FuncNo;
+use ft_base::limits::TABLE_FUNCS;
 
-/// What decodes an instruction's bytes gives the instruction back.
+/// Decoding an instruction's bytes gives the instruction back.
 pub fn decodes_what_it_encodes(f: FuncNo, insn: Insn) -> Option<Insn>
-    requires func { f.0 < 4096 }
+    requires func { f.0 < TABLE_FUNCS }
     requires slot { IsInsn insn }
     ensures { result ≡ Some insn }
 {
@@ -19,12 +20,19 @@ pub fn decodes_what_it_encodes(f: FuncNo, insn: Insn) -> Option<Insn>
 
 /// Two instructions of a function have different bytes.
 pub fn differs_by_instruction()
-    ensures { (f : ℕ) (one other : Insn) → f < 4096 → IsInsn one → IsInsn other
+    ensures { (f : ℕ) (one other : Insn) → f < TABLE_FUNCS → IsInsn one → IsInsn other
         → bytes_of f one ≡ bytes_of f other → one ≡ other }
 {}
 
-/// The head and the tail of an instruction are its bytes, and no head is the breakpoint.
+/// The head and the tail of an instruction are its bytes.
 pub fn splits_into_head_and_tail()
-    ensures bytes { (f : ℕ) (insn : Insn) → head_byte insn ∷ four_bytes (tail_number f insn) ≡ bytes_of f insn }
-    ensures breakpoint { (insn : Insn) → head_byte insn ≢ BREAKPOINT }
+    ensures { (f : ℕ) (insn : Insn) → head_byte insn ∷ four_bytes (tail_number f insn) ≡ bytes_of f insn }
+{}
+
+/// The breakpoint is that of the definitions, and no instruction begins with it: so a CPU can tell
+/// a site that is being patched from one that isn't.
+pub fn breakpoint_is_no_head()
+    ensures value { BREAKPOINT ≡ breakpoint }
+    ensures head { (insn : Insn) → head_byte insn ≢ BREAKPOINT }
+    ensures bytes { (f : ℕ) (insn : Insn) (tail : List ℕ) → bytes_of f insn ≢ (BREAKPOINT ∷ tail) }
 {}

@@ -1,7 +1,8 @@
 //! The bytes of some instructions, and bytes that no instruction has.
 
-use crate::{BREAKPOINT, Insn, SiteChange, decode, encode, head_of, join, tail_of};
+use crate::{Insn, SiteChange, decode, encode, head_of, join, tail_of};
 use ft_base::FuncNo;
+use ft_base::limits::TABLE_FUNCS;
 
 #[test]
 fn has_the_bytes_of_the_table(rt: HostRuntime) {
@@ -14,7 +15,7 @@ fn has_the_bytes_of_the_table(rt: HostRuntime) {
         (3, Insn::Own(2), [0xE8, 0x3B, 0xF1, 0x0F, 0x00]),
     ];
     for (f, insn, bytes) in rows {
-        assert!(rt; f < 4_096);
+        assert!(rt; f < TABLE_FUNCS);
         assert_eq!(rt; decode(FuncNo(f), bytes), Some(insn), "function {f}");
     }
 }
@@ -36,8 +37,8 @@ fn encodes_from_head_and_tail(rt: HostRuntime) {
 #[test]
 fn refuses_other_bytes(rt: HostRuntime) {
     let rows = [
-        [BREAKPOINT, 0xFB, 0xEF, 0x0E, 0x00],
-        [BREAKPOINT, 0x1F, 0x44, 0x00, 0x00],
+        [0xCC, 0xFB, 0xEF, 0x0E, 0x00],
+        [0xCC, 0x1F, 0x44, 0x00, 0x00],
         // one byte past the list caller, the trampoline of slot 16, and a nop with a call's tail
         [0xE8, 0xFC, 0xEF, 0x0E, 0x00],
         [0xE8, 0xFB, 0xFF, 0x0F, 0x00],
