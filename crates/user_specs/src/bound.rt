@@ -1,14 +1,16 @@
+//! A bound on the items of a call.
+
 ghost use Rattle.std.specs.Prelude.{◌≡◌, ◌≤◌, length, map, count_by, is_some};
 ghost use Rattle.user_specs.specs.Plain.{spec_of};
 ghost use Rattle.user_specs.specs.Bound.{call_bound_of};
 
 use crate::spec::Spec;
+use ft_base::limits::BOUND_USERS;
 
-/// The most items that one scripted call and its return can make, with all callbacks of these
-/// users, of whom there are at most 64. With E users, of whom A have an act, it is
-/// `4 + 5E + A(4 + 5E + A(4 + E))`.
+/// A bound on the items that one scripted call and its return make, with all callbacks of these
+/// users. With E users, of whom A have an act, it is `4 + 5E + A(4 + 5E + A(4 + E))`.
 pub fn call_bound(specs: &[Spec]) -> u32
-    requires { length specs.now ≤ 64 }
+    requires { length specs.now ≤ BOUND_USERS }
     ensures { result ≡ call_bound_of (map spec_of specs.now) }
 {
     let users = specs.len() as u32;

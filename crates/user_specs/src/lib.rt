@@ -1,5 +1,13 @@
-//! What a script declares of its users and tasks: each user's kind, flags and act, each task's
-//! acts, and how many items one scripted call can make with all its callbacks.
+//! What a script declares of users, tasks and CPUs. A `Spec` is a user's declaration: its *kind*,
+//! its flags, and the *act* that it does at each entry callback. A `TaskPlan` is a task's: its pid
+//! and its acts. A `CpuPlan` is a CPU's: its quantum and its tasks. Contracts see them as plain
+//! records and lists.
+//!
+//! Promised: whether a user wants a frame of the shadow stack, whether the graph depth holds for it,
+//! and `call_bound`, a number by formula. That a scripted call never makes more items than
+//! `call_bound` is not said here: it is a matter of the machine that makes them.
+//!
+//! No caller yet: `wants_frame`, `has_depth`.
 #![tactic(auto)]
 
 mod bound;

@@ -1,3 +1,5 @@
+//! Tasks and CPUs as a script declares them.
+
 use ft_base::{TaskAct, TaskNo};
 
 /// A task as a script declares it.

@@ -1,3 +1,5 @@
+//! A user of the tracer as a script declares it.
+
 ghost use Rattle.std.specs.Prelude.{◌≡◌};
 ghost use Rattle.ft_base.specs.Kinds.{has_depth};
 ghost use Rattle.user_specs.specs.Kinds.{wants_frame};
@@ -7,11 +9,13 @@ use ft_base::{Act, FuncNo, Kind};
 /// A user of the tracer as a script declares it (`ftrace-uses.rst`, "The ftrace FLAGS").
 #[derive(Debug, PartialEq, Eq, Drop)]
 pub struct Spec {
+    /// Its name, by which the script names it.
     pub name: String,
+    /// What it traces, and whether it is called back at returns too.
     pub kind: Kind,
     /// Whether its callbacks are given the registers.
     pub regs: bool,
-    /// The function that runs in the place of those that it traces, where it replaces them.
+    /// The function that runs in the place of those that it traces, if it replaces them.
     pub ipmodify: Option<FuncNo>,
     /// Whether it traces only the tasks that the pid lists allow.
     pub pid: bool,

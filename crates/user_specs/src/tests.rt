@@ -1,5 +1,8 @@
-use crate::{Act, CpuPlan, Kind, Spec, TaskAct, TaskPlan, call_bound, has_depth, wants_frame};
-use ft_base::{FuncNo, TaskNo};
+//! Kinds of users, and the bound for some numbers of users.
+
+use crate::{Act, Kind, Spec, call_bound, has_depth, wants_frame};
+use ft_base::FuncNo;
+use ft_base::limits::BOUND_USERS;
 use std::alloc::{AllocError, Global};
 use std::test::Fail;
 
@@ -79,25 +82,8 @@ fn bounds_the_items_of_a_call(rt: HostRuntime) -> Result<(), Fail> {
             };
             specs.push(user(rt.alloc(), Kind::Graph, Some(act))?)?;
         }
-        assert!(rt; specs.len() <= 64);
+        assert!(rt; specs.len() <= BOUND_USERS as usize);
         assert_eq!(rt; call_bound(specs.as_slice()), bound, "{plain} and {acting}");
     }
-    Ok(())
-}
-
-#[test]
-fn names_the_parts_of_a_plan(rt: HostRuntime) -> Result<(), Fail> {
-    let acts = vec![in rt.alloc(); TaskAct::Call(FuncNo(0)), TaskAct::Ret]?;
-    let task = TaskPlan {
-        task: TaskNo(0),
-        pid: 10,
-        acts,
-    };
-    let tasks = vec![in rt.alloc(); task]?;
-    let cpu = CpuPlan {
-        quantum: 100,
-        tasks,
-    };
-    assert!(rt; cpu.quantum == 100 && cpu.tasks.len() == 1);
     Ok(())
 }
