@@ -1,6 +1,7 @@
--- A table of functions, as the list of its functions: the function at place n is function n.
+-- A table of functions as the list of its functions: the function at place n is function n.
 use Rattle.std.specs.Prelude.{◌≡◌, ◌≢◌, ℕ, ◌≤◌, Bool, true, List, [], ◌∷◌, ◌++◌, map, length, Option, Some, None, position, All, AllPairs}
 use Rattle.std.specs.Str.{bytes_eq}
+use Rattle.ft_base.specs.declared.limits.TheConstants.{TABLE_FUNCS}
 use Rattle.ft_base.specs.Job.{Func}
 use Rattle.ft_base.specs.Name.{is_name_text}
 
@@ -21,24 +22,24 @@ modules_of t = map (λ f. f.owner) t.functions
 abbrev pub number_of : Table → List ℕ → Option ℕ
 number_of t name = position (bytes_eq name) (names_of t)
 
--- whether what is there is a name
+-- whether this is a name, or nothing
 abbrev pub is_name_or_none : Option (List ℕ) → Bool
 is_name_or_none None = true
 is_name_or_none (Some name) = is_name_text name
 
--- a function's name is a name, and its module's where it has one
+-- a function's name is a name, and so is that of its module if it has one
 pub record IsNamed (f : Func) : Type 0 where
   pub name : is_name_text f.name ≡ true
   pub owner : is_name_or_none f.owner ≡ true
 
--- the names are names and differ, and there are no more functions than the limit, which is at most 4,096
+-- the names are names and differ, and there are no more functions than the limit, which is at most TABLE_FUNCS
 pub record IsTable (t : Table) : Type 0 where
   pub named : All IsNamed t.functions
   pub distinct : AllPairs (λ a b. a ≢ b) (names_of t)
   pub within : length t.functions ≤ t.limit
-  pub small : t.limit ≤ 4096
+  pub small : t.limit ≤ TABLE_FUNCS
 
--- the function goes last, and n is its number
+-- the new table has the function as its last, and n is its number
 pub record IsAdded (old new : Table) (f : Func) (n : ℕ) : Type 0 where
   pub number : n ≡ length old.functions
   pub functions : new.functions ≡ old.functions ++ f ∷ []

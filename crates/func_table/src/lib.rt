@@ -1,12 +1,18 @@
-//! The table of traceable functions: their names, each with the module that it lies in, and their
-//! numbers. Names and numbers stand one to one.
+//! The table of traceable functions. A function has a *name* and a *number*: numbers count from 0 in
+//! the order in which functions are added. A function may lie in a *module*, which has a name too.
+//!
+//! Promised: names differ, so names and numbers are one to one; `find` and `name` go from one to the
+//! other; `add` says exactly when it refuses. Names are text of the form that `ft_base::is_name`
+//! tests, which the caller has tested. That memory is found is only tested.
+//!
+//! No caller yet: `FuncTable::ip`.
 #![tactic(auto)]
 
 mod faults;
 mod table;
 
 pub use faults::TableFault;
-pub use table::{FuncTable, LARGEST_LIMIT};
+pub use table::FuncTable;
 
 #[cfg(test)]
 mod tests;

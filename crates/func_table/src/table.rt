@@ -1,24 +1,17 @@
 //! Functions by number and by name.
 
-ghost use Rattle.std.specs.Prelude.{◌≡◌, ◌≤◌, ◌<◌, ◌*◌, ◌+◌, ◌==◌, [], ◌↔◌, length, slice_get, option_map, true, IsSome, IsNone, IsErrOf, IfOk, IfSome, OnErr, Some, string_bytes, Contains};
+ghost use Rattle.std.specs.Prelude.{◌≡◌, ◌≤◌, ◌<◌, ◌==◌, [], ◌↔◌, length, slice_get, option_map, true, IsSome, IsNone, IsErrOf, IfOk, IfSome, OnErr, Some, string_bytes, Contains};
 ghost use Rattle.std.specs.Option.{option_copied};
+ghost use Rattle.ft_base.specs.Address.{function_at};
 ghost use Rattle.ft_base.specs.Name.{is_name_text};
 ghost use Rattle.func_table.specs.Rows.{names_of, modules_of, number_of, is_name_or_none, IsTable, IsAdded};
 
 use crate::faults::TableFault;
-use ft_base::FuncNo;
+use ft_base::limits::TABLE_FUNCS;
+use ft_base::{FuncNo, function_address};
 use indexmap::IndexMap;
 use std::alloc::{AllocError, Global};
 use std::marker::Model;
-
-/// The most functions that a table can be made for.
-pub const LARGEST_LIMIT: u32 = 4_096;
-
-/// Where function 0 stands in memory.
-const FIRST_IP: u32 = 0x1000;
-
-/// The distance of two functions in memory, in bytes.
-const IP_STEP: u32 = 64;
 
 /// Functions in the order in which they were added, which numbers them from 0. Contracts see the
 /// list of the functions, and the limit.
@@ -40,9 +33,9 @@ impl Model for FuncTable {
 }
 
 impl FuncTable {
-    /// The empty table, which takes at most `limit` functions. No memory is taken.
+    /// The empty table, which takes at most `limit` functions. It takes no memory.
     pub fn new(alloc: Global, limit: u32) -> FuncTable
-        requires { limit ≤ LARGEST_LIMIT }
+        requires { limit ≤ TABLE_FUNCS }
         ensures { result ≡ record { functions = []; limit = limit } }
     {
         FuncTable {
@@ -66,7 +59,7 @@ impl FuncTable {
         self.functions.is_empty()
     }
 
-    /// The number of the function of this name. `None` exactly where no function has it.
+    /// The number of the function of this name. `None` exactly if no function has it.
     pub fn find(&self, name: &str) -> Option<FuncNo>
         ensures value { option_map (λ f. f.0) result ≡ number_of self.now name.now }
         ensures some { IfSome result (λ f. slice_get (names_of self.now) f.0 ≡ Some name.now) }
@@ -78,10 +71,9 @@ impl FuncTable {
         }
     }
 
-    /// Adds a function, in the module `owner` where it has one, and gives its number, which is the
-    /// next one. A name that stands in the table is refused as `Duplicate`, and another one as
-    /// `Full` where the table has as many functions as its limit. `NoMemory` says that no memory
-    /// was found. After a refusal the table is as before.
+    /// Adds a function, in the module `owner` if it has one, and gives its number, which is the next
+    /// one. A name that the table has is refused as `Duplicate`; a new one is refused as `Full` if
+    /// the table has as many functions as its limit. After a refusal the table is as before.
     pub fn add(
         &mut self,
         alloc: Global,
@@ -123,7 +115,7 @@ impl FuncTable {
         }
     }
 
-    /// The module of a function of the table, where it has one.
+    /// The module of a function of the table, if it has one.
     pub fn module(&self, f: FuncNo) -> Option<&str>
         requires { f.0 < length self.now.functions }
         ensures { slice_get (modules_of self.now) f.0 ≡ Some (option_copied result) }
@@ -135,16 +127,16 @@ impl FuncTable {
         }
     }
 
-    /// Where a function stands in memory. Its call site is the first bytes there.
+    /// The address of a function, at which its call site begins.
     pub fn ip(f: FuncNo) -> u32
-        requires { f.0 < LARGEST_LIMIT }
-        ensures { result ≡ 0x1000 + 64 * f.0 }
+        requires { f.0 < TABLE_FUNCS }
+        ensures { result ≡ function_at f.0 }
     {
-        FIRST_IP + IP_STEP * f.0
+        function_address(f)
     }
 }
 
-/// A text of one's own.
+/// A copy of the text, if there is one.
 fn owned(alloc: Global, text: Option<&str>) -> Result<Option<String>, AllocError>
     ensures { IfOk result (λ o. option_map string_bytes o ≡ option_copied text.entry) }
 {

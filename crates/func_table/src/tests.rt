@@ -1,5 +1,8 @@
+//! Three functions by name and by number, and the refusals in their order.
+
 use crate::{FuncTable, TableFault};
 use ft_base::FuncNo;
+use ft_base::limits::TABLE_FUNCS;
 use std::test::Fail;
 
 #[test]
@@ -50,7 +53,7 @@ fn refuses_what_is_there_first(rt: HostRuntime) -> Result<(), Fail> {
 #[test]
 fn places_functions_in_memory(rt: HostRuntime) {
     for (f, ip) in [(0, 0x1000), (1, 0x1040), (4_095, 0x40fc0)] {
-        assert!(rt; f < 4_096);
+        assert!(rt; f < TABLE_FUNCS);
         assert_eq!(rt; FuncTable::ip(FuncNo(f)), ip, "at {f}");
     }
 }
