@@ -1,3 +1,2 @@
-pub mod ItemLemmas
 pub mod PlayLemmas
 pub mod StepLemmas

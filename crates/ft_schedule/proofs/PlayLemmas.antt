@@ -6,7 +6,7 @@ use Rattle.ft_base.specs.declared.turn.Who.{Who}
 use Rattle.ft_base.specs.declared.turn.Who.TheVariants.{Control as OfControl, Cpu as OfCpu, All as OfAll}
 use Rattle.ft_base.specs.declared.turn.Turn.{Turn}
 use Rattle.ft_base.specs.Schedule.{every_cpu, turn_of, repeated, actors_in}
-use Rattle.ft_schedule.specs.Counts.{first_of, cpu_behind}
+use Rattle.ft_schedule.specs.Counts.{first_actor, cpu_after}
 
 -- what is still to come: CPUs of a count under way, counts of an entry, later entries
 abbrev pub all_of : ℕ → ℕ → Who → ℕ → List Turn → List Actor
@@ -40,19 +40,19 @@ no_cpu : (cpus : ℕ) → every_cpu cpus (cpus - cpus) ≡ []
 no_cpu cpus = ap (every_cpu cpus) (let e : cpus - cpus ≡ 0 = omega arith in e)
 
 -- a count is its first actor, and then CPUs
-turn_of-first : (cpus : ℕ) (who : Who) → turn_of cpus who ≡ first_of who ∷ every_cpu (cpu_behind cpus who) (cpus - cpu_behind cpus who)
-turn_of-first cpus OfControl = ap (λ cs. first_of OfControl ∷ cs) (sym (no_cpu cpus))
-turn_of-first cpus (OfCpu c) = ap (λ cs. first_of (OfCpu c) ∷ cs) (sym (no_cpu cpus))
-turn_of-first cpus OfAll = ap (λ n. first_of OfAll ∷ every_cpu 0 n) (let e : cpus ≡ cpus - 0 = omega arith in e)
+turn_of-first : (cpus : ℕ) (who : Who) → turn_of cpus who ≡ first_actor who ∷ every_cpu (cpu_after cpus who) (cpus - cpu_after cpus who)
+turn_of-first cpus OfControl = ap (λ cs. first_actor OfControl ∷ cs) (sym (no_cpu cpus))
+turn_of-first cpus (OfCpu c) = ap (λ cs. first_actor (OfCpu c) ∷ cs) (sym (no_cpu cpus))
+turn_of-first cpus OfAll = ap (λ n. first_actor OfAll ∷ every_cpu 0 n) (let e : cpus ≡ cpus - 0 = omega arith in e)
 
 -- the next count
-pub all_of-count : (cpus cpu : ℕ) (who : Who) (count : ℕ) (later : List Turn) → cpus ≤ cpu → 0 < count → all_of cpus cpu who count later ≡ first_of who ∷ all_of cpus (cpu_behind cpus who) who (count - 1) later
+pub all_of-count : (cpus cpu : ℕ) (who : Who) (count : ℕ) (later : List Turn) → cpus ≤ cpu → 0 < count → all_of cpus cpu who count later ≡ first_actor who ∷ all_of cpus (cpu_after cpus who) who (count - 1) later
 all_of-count cpus cpu who count later over some =
-    let cs = every_cpu (cpu_behind cpus who) (cpus - cpu_behind cpus who) in
+    let cs = every_cpu (cpu_after cpus who) (cpus - cpu_after cpus who) in
     let others = repeated (count - 1) (turn_of cpus who) in
     all_of-over cpus cpu who count later over
     ∙ ap (λ front. front ++ actors_in cpus later) (repeated-more count (turn_of cpus who) some ∙ ap (λ turn. turn ++ others) (turn_of-first cpus who))
-    ∙ ap (λ rest. first_of who ∷ rest) (append_assoc cs others (actors_in cpus later))
+    ∙ ap (λ rest. first_actor who ∷ rest) (append_assoc cs others (actors_in cpus later))
 
 -- the next entry
 pub all_of-entry : (cpus cpu : ℕ) (who : Who) (count : ℕ) (turn : Turn) (later : List Turn) → cpus ≤ cpu → count ≡ 0 → all_of cpus cpu who count (turn ∷ later) ≡ all_of cpus cpu turn.who turn.count later

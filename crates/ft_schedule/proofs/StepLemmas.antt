@@ -9,11 +9,12 @@ use Rattle.ft_base.specs.declared.turn.Who.{Who}
 use Rattle.ft_base.specs.declared.turn.Who.TheVariants.{Control, Cpu, All as Everyone}
 use Rattle.ft_base.specs.declared.turn.Turn.{Turn}
 use Rattle.ft_base.specs.Schedule.{every_cpu, turn_of, repeated, actors_in}
-use Rattle.ft_schedule.specs.declared.item.Item.{Item}
+use Rattle.ft_base.specs.declared.limits.TheConstants.{STEPS}
+use Rattle.ft_schedule.specs.declared.item.SchedItem.{SchedItem}
 use Rattle.ft_schedule.specs.declared.faults.SchedFault.{SchedFault}
 use Rattle.ft_schedule.specs.declared.faults.SchedFault.TheVariants.{Limit, Unknown}
 use Rattle.ft_schedule.specs.Items.{turn_from}
-use Rattle.ft_schedule.specs.Causes.{IsTurn, actors_at, is_bad, is_over, is_unknown, has_unknown, steps_of, cause_in}
+use Rattle.ft_schedule.specs.Causes.{IsTurn, actors_at, has_bad_count, is_past_limit, is_unknown, has_unknown, steps_of, cause_in}
 
 length-every_cpu : (c n : ℕ) → length (every_cpu c n) ≡ n
 length-every_cpu c zero = refl
@@ -30,7 +31,7 @@ length-repeated zero turn = omega arith
 length-repeated (suc n) turn = length-append turn (repeated n turn) ∙ omega (arith, length-repeated n turn)
 
 -- the steps of items are as many as the actors of their turns
-pub length-actors_in : (cpus : ℕ) (items : List Item) → length (actors_in cpus (map turn_from items)) ≡ sum_by (steps_of cpus) items
+pub length-actors_in : (cpus : ℕ) (items : List SchedItem) → length (actors_in cpus (map turn_from items)) ≡ sum_by (steps_of cpus) items
 length-actors_in cpus [] = refl
 length-actors_in cpus (item ∷ items) =
     let front : length (repeated item.count (turn_of cpus item.who)) ≡ steps_of cpus item = length-repeated item.count (turn_of cpus item.who) ∙ ap (λ n. item.count * n) (length-turn_of cpus item.who) in
@@ -46,37 +47,37 @@ counted : (n : ℕ) → (n == 0) ≡ false → 0 < n
 counted n h = grind (arith, nat_tests)
 
 -- items with good counts and known CPUs stand for turns
-pub all-turns : (cpus : ℕ) (items : List Item) → list_any is_bad items ≡ false → has_unknown cpus items ≡ false → All (IsTurn cpus) (map turn_from items)
+pub all-turns : (cpus : ℕ) (items : List SchedItem) → list_any has_bad_count items ≡ false → has_unknown cpus items ≡ false → All (IsTurn cpus) (map turn_from items)
 all-turns cpus [] good known k d h = absurd (omega (arith, h))
 all-turns cpus (item ∷ items) good known zero d h = record {
-  counted = counted item.count (or-parts _ _ (or-parts (is_bad item) (list_any is_bad items) good).0).0;
+  counted = counted item.count (or-parts _ _ (or-parts (has_bad_count item) (list_any has_bad_count items) good).0).0;
   known = (or-parts (is_unknown cpus item) (has_unknown cpus items) known).0;
 }
 all-turns cpus (item ∷ items) good known (suc k) d h =
-    all-turns cpus items (or-parts (is_bad item) (list_any is_bad items) good).1 (or-parts (is_unknown cpus item) (has_unknown cpus items) known).1 k d (omega (arith, h))
+    all-turns cpus items (or-parts (has_bad_count item) (list_any has_bad_count items) good).1 (or-parts (is_unknown cpus item) (has_unknown cpus items) known).1 k d (omega (arith, h))
 
 cause_by : Bool → Bool → Option SchedFault
-cause_by over unknown = if over then Some Limit else (if unknown then Some Unknown else None)
+cause_by past unknown = if past then Some Limit else (if unknown then Some Unknown else None)
 
-no_cause : (over unknown : Bool) → cause_by over unknown ≡ None → (over ≡ false) × (unknown ≡ false)
+no_cause : (past unknown : Bool) → cause_by past unknown ≡ None → (past ≡ false) × (unknown ≡ false)
 unfolding cause_by
 no_cause true unknown h = absurd (cc)
 no_cause false true h = absurd (cc)
 no_cause false false h = (refl, refl)
 
-module _ (cpus : ℕ) (items : List Item) (none : cause_in cpus items ≡ None) where
-  parts : (is_over cpus items ≡ false) × (has_unknown cpus items ≡ false)
+module _ (cpus : ℕ) (items : List SchedItem) (none : cause_in cpus items ≡ None) where
+  parts : (is_past_limit cpus 0 items ≡ false) × (has_unknown cpus items ≡ false)
   unfolding cause_by
-  parts = no_cause (is_over cpus items) (has_unknown cpus items) none
+  parts = no_cause (is_past_limit cpus 0 items) (has_unknown cpus items) none
 
-  pub good : (list_any is_bad items ≡ false) × (nat_lt 4000000 (sum_by (steps_of cpus) items) ≡ false)
+  pub good : (list_any has_bad_count items ≡ false) × (nat_lt STEPS (0 + sum_by (steps_of cpus) items) ≡ false)
   good = or-parts _ _ parts.0
 
-  few-steps : (n : ℕ) → nat_lt 4000000 n ≡ false → n ≤ 4000000
+  few-steps : (n : ℕ) → nat_lt STEPS n ≡ false → n ≤ STEPS
   few-steps n h = grind (arith, nat_tests)
 
-  pub few-actors : (turns : List Turn) → turns ≡ map turn_from items → length (actors_in cpus turns) ≤ 4000000
-  few-actors turns e = omega (arith, few-steps (sum_by (steps_of cpus) items) good.1, ap (λ ts. length (actors_in cpus ts)) e, length-actors_in cpus items)
+  pub few-actors : (turns : List Turn) → turns ≡ map turn_from items → length (actors_in cpus turns) ≤ STEPS
+  few-actors turns e = omega (arith, few-steps (0 + sum_by (steps_of cpus) items) good.1, ap (λ ts. length (actors_in cpus ts)) e, length-actors_in cpus items)
 
   pub each-turn : (turns : List Turn) → turns ≡ map turn_from items → All (IsTurn cpus) turns
   each-turn turns e = let f : All (IsTurn cpus) (map turn_from items) = all-turns cpus items good.0 parts.1 in subst (All (IsTurn cpus)) (sym e) f

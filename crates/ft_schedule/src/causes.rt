@@ -1,17 +1,17 @@
-//! What refuses the items of a schedule: too many steps, or a CPU that isn't there.
+//! What refuses the items of a schedule: too many steps, or a CPU that doesn't exist.
 
-ghost use Rattle.std.specs.Prelude.{◌≡◌, ◌≤◌, ◌*◌, false};
-ghost use Rattle.std.specs.List.{list_any};
-ghost use Rattle.ft_schedule.specs.Causes.{is_bad, steps_of, steps_with, is_over, is_unknown, has_unknown};
+ghost use Rattle.std.specs.Prelude.{◌≡◌, ◌≤◌, ◌*◌, ◌^◌, false};
+ghost use Rattle.ft_schedule.specs.Causes.{has_bad_count, steps_of, steps_with, is_past_limit, is_unknown, has_unknown};
 
-use crate::item::Item;
-use ft_base::{Who, limits};
+use crate::item::SchedItem;
+use ft_base::Who;
+use ft_base::limits::STEPS;
 
 /// The steps of an item.
-fn steps_of(item: &Item, cpus: u32) -> u64
-    requires { is_bad item.now ≡ false }
+fn steps_of(item: &SchedItem, cpus: u32) -> u64
+    requires { has_bad_count item.now ≡ false }
     ensures value { result ≡ steps_of cpus item.now }
-    ensures small { result ≤ 4294967295 * 4294967296 }
+    ensures small { result ≤ 4294967295 * 2 ^ 32 }
 {
     match item.who {
         Who::Control | Who::Cpu(_) => item.count,
@@ -19,12 +19,12 @@ fn steps_of(item: &Item, cpus: u32) -> u64
     }
 }
 
-/// So many steps and those of these items, among so many CPUs: each count of `All` is a step of
-/// control and one of each CPU, and each other count is one step. `None` exactly where a count is 0
-/// or above 4,294,967,295, or there are more than 4,000,000 steps. So the items of several lines are
-/// counted one line after the other.
-pub fn steps_with(steps: u32, items: &[Item], cpus: u32) -> Option<u32>
-    requires { steps ≤ 4000000 }
+/// These steps and those of the items, among this many CPUs: each count of `all` is a step of
+/// control and one of each CPU, and each other count is one step. `None` if a count is 0 or above
+/// 4,294,967,295, or there are more than [`STEPS`] steps. So the items of several lines are counted
+/// one line after the other.
+pub fn steps_with(steps: u32, items: &[SchedItem], cpus: u32) -> Option<u32>
+    requires { steps ≤ STEPS }
     ensures { result ≡ steps_with cpus steps items.now }
 {
     let mut total = steps as u64;
@@ -33,21 +33,24 @@ pub fn steps_with(steps: u32, items: &[Item], cpus: u32) -> Option<u32>
             return None;
         }
         total += steps_of(item, cpus);
-        if total > limits::STEPS as u64 {
+        if total > STEPS as u64 {
             return None;
         }
     }
     Some(total as u32)
 }
 
-/// Whether a count can't be, or there are too many steps.
-pub fn is_over(items: &[Item], cpus: u32) -> bool
-    ensures { result ≡ is_over cpus items.now }
+/// Whether a count is 0 or above 4,294,967,295, or the items have more than [`STEPS`] steps together
+/// with these.
+pub fn is_past_limit(steps: u32, items: &[SchedItem], cpus: u32) -> bool
+    requires { steps ≤ STEPS }
+    ensures { result ≡ is_past_limit cpus steps items.now }
 {
-    steps_with(0, items, cpus).is_none()
+    steps_with(steps, items, cpus).is_none()
 }
 
-fn is_unknown(item: &Item, cpus: u32) -> bool
+/// Whether an item names a CPU that doesn't exist, among this many.
+fn is_unknown(item: &SchedItem, cpus: u32) -> bool
     ensures { result ≡ is_unknown cpus item.now }
 {
     match item.who {
@@ -56,8 +59,8 @@ fn is_unknown(item: &Item, cpus: u32) -> bool
     }
 }
 
-/// Whether an item names a CPU that there isn't, among so many.
-pub fn has_unknown(items: &[Item], cpus: u32) -> bool
+/// Whether one of the items names a CPU that doesn't exist, among this many.
+pub fn has_unknown(items: &[SchedItem], cpus: u32) -> bool
     ensures { result ≡ has_unknown cpus items.now }
 {
     items.iter().any(|item| is_unknown(item, cpus))

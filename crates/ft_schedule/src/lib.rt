@@ -1,5 +1,9 @@
-//! The schedule of a script: whose turn it is, step by step. A text of items is read into turns,
-//! and a player gives the actors of the turns one after the other.
+//! The schedule of a script: whose turn it is, step by step. Its text is one *item* after the
+//! other; an item names control, a CPU or all, and says how often. An item becomes a *turn*, and a
+//! *player* gives the *actors* of the turns, one a step.
+//!
+//! Proved: which texts are refused and why, the turns of a text, and the actors that a player gives.
+//! Only tested: that the items of a long text are read when there is memory.
 #![tactic(auto)]
 
 mod causes;
@@ -8,10 +12,10 @@ mod item;
 mod player;
 mod schedule;
 
-pub use causes::{has_unknown, steps_with};
+pub use causes::{has_unknown, is_past_limit, steps_with};
 pub use faults::SchedFault;
 pub use ft_base::{Actor, Turn, Who};
-pub use item::{Item, read_items};
+pub use item::{SchedItem, read_items};
 pub use player::Player;
 pub use schedule::{Schedule, push_turns, read_sched};
 

@@ -2,7 +2,7 @@
 
 ghost use Rattle.std.specs.Prelude.{◌≡◌, ◌↔◌, [], drop, slice_get, IsNone};
 ghost use Rattle.ft_base.specs.Schedule.{actors_in};
-ghost use Rattle.ft_schedule.specs.Counts.{first_of, cpu_behind};
+ghost use Rattle.ft_schedule.specs.Counts.{first_actor, cpu_after};
 
 use crate::schedule::Schedule;
 use ft_base::{Actor, CpuNo, Turn, Who};
@@ -12,12 +12,12 @@ use std::marker::Model;
 #[derive(Drop)]
 pub struct Player<'a> {
     cpus: u32,
-    /// The next CPU of a count of `All` that is under way. It is `cpus` where none is.
+    /// The next CPU of a count of `all` that is under way, or `cpus` if none is.
     cpu: u32,
-    /// Whose turn it is, and its counts still to come.
+    /// Whose turn it is, and how often it still comes.
     who: Who,
     count: u32,
-    /// The entries still to come.
+    /// The turns still to come.
     later: &'a [Turn],
 }
 
@@ -34,7 +34,7 @@ impl<'a> Model for Player<'a> {
 }
 
 impl<'a> Player<'a> {
-    /// A player at the beginning of the schedule, among so many CPUs.
+    /// A player at the beginning of the schedule, among this many CPUs.
     pub fn new(schedule: &'a Schedule, cpus: u32) -> Player<'a>
         ensures { result ≡ actors_in cpus schedule.entry.now.turns.items }
     {
@@ -47,8 +47,8 @@ impl<'a> Player<'a> {
         }
     }
 
-    /// The next actor. `None` exactly where the schedule is used up. No memory is taken. Entries
-    /// with the count 0, of which a schedule that was read has none, are passed over.
+    /// The next actor, or `None` if the schedule is used up. It takes no memory. A turn with the
+    /// count 0 gives no actor; a schedule that was read has none.
     pub fn next_actor(&mut self) -> Option<Actor>
         ensures value { result ≡ slice_get self.old 0 }
         ensures rest { self.new ≡ drop 1 self.old }
@@ -73,7 +73,7 @@ impl<'a> Player<'a> {
 
 /// The first actor of a count.
 fn first_actor(who: Who) -> Actor
-    ensures { result ≡ first_of who }
+    ensures { result ≡ first_actor who }
 {
     match who {
         Who::Control | Who::All => Actor::Control,
@@ -81,9 +81,9 @@ fn first_actor(who: Who) -> Actor
     }
 }
 
-/// The CPU that comes behind the first actor of a count, or the number of CPUs where none does.
+/// The CPU that comes after the first actor of a count, or the number of CPUs if none does.
 fn cpu_after(who: Who, cpus: u32) -> u32
-    ensures { result ≡ cpu_behind cpus who }
+    ensures { result ≡ cpu_after cpus who }
 {
     match who {
         Who::Control | Who::Cpu(_) => cpus,

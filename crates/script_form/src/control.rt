@@ -1,152 +1,134 @@
 //! The lines of control.
 
-ghost use Rattle.std.specs.Prelude.{◌≡◌, map, option_map, true, IfOk};
-ghost use Rattle.std.specs.List.{list_all};
-ghost use Rattle.script_form.specs.Forms.{arrow_of, write_form, numbers_of, pids_form, until_form, command_form, control_form, ctl_form};
-ghost use Rattle.script_form.specs.Lines.{is_plain, are_plain};
+ghost use Rattle.std.specs.Prelude.{◌≡◌, map, option_map, IfOk};
+ghost use Rattle.script_text.specs.Words.{all_read};
+ghost use Rattle.script_text.specs.Names.{number_of};
+ghost use Rattle.script_form.specs.Forms.{arrow_of, write_form, pids_form, until_form, command_form, control_form, ctl_form};
 ghost use Rattle.script_form.specs.Read.{form_read};
 
 use crate::arguments::{only_name, only_number};
-use crate::reading::Reading;
+use crate::form::LineForm;
 use ft_base::Half;
-use script_text::{is, name, number};
+use script_text::{name, number};
 use std::alloc::{AllocError, Global};
 
 /// Whether an arrow appends.
-fn read_arrow(word: &[u8]) -> Option<bool>
+fn read_arrow(word: &str) -> Option<bool>
     ensures { result ≡ arrow_of word.now }
 {
-    if is(word, ">") {
-        return Some(false);
-    }
-    if is(word, ">>") {
-        return Some(true);
-    }
-    None
-}
-
-/// A word as a text.
-fn text(word: &[u8]) -> &str
-    requires { list_all is_plain word.now ≡ true }
-    ensures { result.now ≡ word.entry.now }
-{
-    match str::from_utf8(word) {
-        Ok(text) => text,
-        // its bytes are ASCII
-        Err(_) => unreachable!(),
+    match word {
+        ">" => Some(false),
+        ">>" => Some(true),
+        _ => None,
     }
 }
 
 /// `filter` or `notrace`, and `U > TEXT`, `U >> TEXT` or `U >`.
-fn read_write<'a>(half: Half, args: &[&'a [u8]]) -> Option<Reading<'a>>
-    requires { are_plain (map (λ w. w.now) args.now) ≡ true }
+fn read_write<'a>(half: Half, args: &[&'a str]) -> Option<LineForm<'a>>
     ensures { option_map form_read result ≡ write_form half (map (λ w. w.now) args.now) }
 {
     match args {
-        [user, arrow] => {
-            if !is(arrow, ">") {
-                return None;
-            }
-            Some(Reading::Write(half, false, name(user)?, ""))
-        }
-        [user, arrow, word] => {
-            let append = read_arrow(arrow)?;
-            Some(Reading::Write(half, append, name(user)?, text(word)))
-        }
+        [user, ">"] => Some(LineForm::Write {
+            half,
+            append: false,
+            user: name(user)?,
+            text: "",
+        }),
+        [user, arrow, text] => Some(LineForm::Write {
+            half,
+            append: read_arrow(arrow)?,
+            user: name(user)?,
+            text,
+        }),
         _ => None,
     }
 }
 
 /// `until PID N`.
-fn read_until<'a>(args: &[&'a [u8]]) -> Option<Reading<'a>>
+fn read_until<'a>(args: &[&'a str]) -> Option<LineForm<'a>>
     ensures { option_map form_read result ≡ until_form (map (λ w. w.now) args.now) }
 {
     match args {
-        [pid, acts] => Some(Reading::Until(number(pid)?, number(acts)?)),
+        [pid, acts] => Some(LineForm::Until {
+            pid: number(pid)?,
+            acts: number(acts)?,
+        }),
         _ => None,
     }
 }
 
 /// A command without a list, or the wait.
-fn read_command<'a>(key: &[u8], args: &[&'a [u8]]) -> Option<Reading<'a>>
-    requires { are_plain (map (λ w. w.now) args.now) ≡ true }
+fn read_command<'a>(key: &str, args: &[&'a str]) -> Option<LineForm<'a>>
     ensures { option_map form_read result ≡ command_form key.now (map (λ w. w.now) args.now) }
 {
-    if is(key, "register") {
-        return Some(Reading::Register(only_name(args)?));
+    match key {
+        "register" => Some(LineForm::Register {
+            user: only_name(args)?,
+        }),
+        "unregister" => Some(LineForm::Unregister {
+            user: only_name(args)?,
+        }),
+        "filter" => read_write(Half::Filter, args),
+        "notrace" => read_write(Half::Notrace, args),
+        "enable" => Some(LineForm::Enable {
+            user: only_name(args)?,
+        }),
+        "disable" => Some(LineForm::Disable {
+            user: only_name(args)?,
+        }),
+        "maxdepth" => Some(LineForm::MaxDepth {
+            depth: only_number(args)?,
+        }),
+        "until" => read_until(args),
+        _ => None,
     }
-    if is(key, "unregister") {
-        return Some(Reading::Unregister(only_name(args)?));
-    }
-    if is(key, "filter") {
-        return read_write(Half::Filter, args);
-    }
-    if is(key, "notrace") {
-        return read_write(Half::Notrace, args);
-    }
-    if is(key, "enable") {
-        return Some(Reading::Enable(only_name(args)?));
-    }
-    if is(key, "disable") {
-        return Some(Reading::Disable(only_name(args)?));
-    }
-    if is(key, "maxdepth") {
-        return Some(Reading::MaxDepth(only_number(args)?));
-    }
-    if is(key, "until") {
-        return read_until(args);
-    }
-    None
 }
 
 /// The numbers that the words write. `Ok(None)` says that one of them writes none.
-fn read_numbers(alloc: Global, words: &[&[u8]]) -> Result<Option<Vec<u64>>, AllocError>
-    ensures { IfOk result (λ r. option_map (λ v. v.items) r ≡ numbers_of (map (λ w. w.now) words.now)) }
+fn read_numbers(alloc: Global, words: &[&str]) -> Result<Option<Vec<u64>>, AllocError>
+    ensures { IfOk result (λ r. option_map (λ v. v.items) r ≡ all_read number_of (map (λ w. w.now) words.now)) }
 {
-    let mut list = Vec::new(alloc);
+    let mut numbers = Vec::new(alloc);
     for word in words {
         let Some(n) = number(word) else {
             return Ok(None);
         };
-        list.push(n)?;
+        numbers.push(n)?;
     }
-    Ok(Some(list))
+    Ok(Some(numbers))
 }
 
-/// `pid PID..` or `nopid PID..`.
+/// `pid PID..`, or `nopid PID..` if these are excluded.
 fn read_pids<'a>(
     alloc: Global,
-    only: bool,
-    words: &[&'a [u8]],
-) -> Result<Option<Reading<'a>>, AllocError>
-    ensures { IfOk result (λ r. option_map form_read r ≡ pids_form only (map (λ w. w.now) words.now)) }
+    excluded: bool,
+    words: &[&'a str],
+) -> Result<Option<LineForm<'a>>, AllocError>
+    ensures { IfOk result (λ r. option_map form_read r ≡ pids_form excluded (map (λ w. w.now) words.now)) }
 {
     match read_numbers(alloc, words)? {
-        Some(list) => Ok(Some(Reading::Pids(only, list))),
+        Some(pids) => Ok(Some(LineForm::Pids { excluded, pids })),
         None => Ok(None),
     }
 }
 
+/// A command or the wait, whose key this is.
 fn read_control<'a>(
     alloc: Global,
-    key: &[u8],
-    args: &[&'a [u8]],
-) -> Result<Option<Reading<'a>>, AllocError>
-    requires { are_plain (map (λ w. w.now) args.now) ≡ true }
+    key: &str,
+    args: &[&'a str],
+) -> Result<Option<LineForm<'a>>, AllocError>
     ensures { IfOk result (λ r. option_map form_read r ≡ control_form key.now (map (λ w. w.now) args.now)) }
 {
-    if is(key, "pid") {
-        return read_pids(alloc, true, args);
+    match key {
+        "pid" => read_pids(alloc, false, args),
+        "nopid" => read_pids(alloc, true, args),
+        _ => Ok(read_command(key, args)),
     }
-    if is(key, "nopid") {
-        return read_pids(alloc, false, args);
-    }
-    Ok(read_command(key, args))
 }
 
 /// `ctl` and a command, or the wait.
-pub fn read_ctl<'a>(alloc: Global, args: &[&'a [u8]]) -> Result<Option<Reading<'a>>, AllocError>
-    requires { are_plain (map (λ w. w.now) args.now) ≡ true }
+pub fn read_ctl<'a>(alloc: Global, args: &[&'a str]) -> Result<Option<LineForm<'a>>, AllocError>
     ensures { IfOk result (λ r. option_map form_read r ≡ ctl_form (map (λ w. w.now) args.now)) }
 {
     match args.split_first() {

@@ -1,21 +1,24 @@
-//! What a line of a script says, by its words alone. Whether the line stands in the right place, a
-//! number is within its limits or a name is known, is no matter of this crate.
+//! The *form* of a line of a script: what the line says, by its words alone. Its first word, the
+//! *key*, chooses the form; what comes after it are its *arguments*. Names and numbers are as they
+//! are written. Whether the line is in the right place, a number is within its limits or a name is
+//! known, is left to the crates above.
+//!
+//! Proved: [`read_line`] gives exactly the form of each line, and a line that is skipped takes no
+//! memory. Only tested, in `script_form_tests`: that a line of many words is read when there is
+//! memory.
 #![tactic(auto)]
 
 mod acts;
 mod arguments;
 mod control;
 mod declarations;
+mod form;
 mod keyed;
 mod line;
 mod options;
-mod reading;
 mod users;
 
+pub use form::{LineForm, UserAct, UserLine};
 pub use ft_base::{Ctx, Half, Kind};
-pub use ft_schedule::Item;
+pub use ft_schedule::SchedItem;
 pub use line::read_line;
-pub use reading::{Reading, UserAct, UserLine};
-
-#[cfg(test)]
-mod tests;

@@ -1,38 +1,24 @@
-//! Words that are options, read by place.
+//! Words that are options, which are read by place.
 
 ghost use Rattle.std.specs.Prelude.{◌≡◌, map, option_map};
 ghost use Rattle.script_form.specs.Users.{flag, argument};
 
-use script_text::is;
-
-/// Whether the next word is this one, and what is left behind it.
-pub fn flag<'w, 'a>(key: &str, words: &'w [&'a [u8]]) -> (bool, &'w [&'a [u8]])
+/// Whether the next word is this one, and the words after it.
+pub fn flag<'w, 'a>(key: &str, words: &'w [&'a str]) -> (bool, &'w [&'a str])
     ensures { flag key.now (map (λ w. w.now) words.entry.now) ≡ (result.0, map (λ w. w.now) result.1.now) }
 {
     match words {
-        [word, rest @ ..] => {
-            if is(word, key) {
-                (true, rest)
-            } else {
-                (false, words)
-            }
-        }
-        [] => (false, words),
+        [word, rest @ ..] if *word == key => (true, rest),
+        _ => (false, words),
     }
 }
 
-/// The word behind this one, where this one is the next, and what is left behind both.
-pub fn argument<'w, 'a>(key: &str, words: &'w [&'a [u8]]) -> (Option<&'a [u8]>, &'w [&'a [u8]])
+/// The word after this one, if this one is the next, and the words after both.
+pub fn argument<'w, 'a>(key: &str, words: &'w [&'a str]) -> (Option<&'a str>, &'w [&'a str])
     ensures { argument key.now (map (λ w. w.now) words.entry.now) ≡ (option_map (λ w. w.now) result.0, map (λ w. w.now) result.1.now) }
 {
     match words {
-        [word, said, rest @ ..] => {
-            if is(word, key) {
-                (Some(*said), rest)
-            } else {
-                (None, words)
-            }
-        }
+        [word, said, rest @ ..] if *word == key => (Some(*said), rest),
         _ => (None, words),
     }
 }

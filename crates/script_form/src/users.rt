@@ -5,14 +5,14 @@ ghost use Rattle.std.specs.Option.{option_copied};
 ghost use Rattle.script_form.specs.Users.{flag, exit_kind, kind_of, ipmodify_of, act_of, options_form, user_form};
 ghost use Rattle.script_form.specs.Read.{act_read, form_read};
 
+use crate::form::{LineForm, UserAct, UserLine};
 use crate::options::{argument, flag};
-use crate::reading::{Reading, UserAct, UserLine};
 use ft_base::Kind;
-use script_text::{is, name};
+use script_text::name;
 
-/// An fprobe: what stands behind says whether it has an exit handler, and whether its entry handler
+/// An fprobe: the words after it say whether it has an exit handler, and whether its entry handler
 /// cancels that.
-fn read_exit<'w, 'a>(words: &'w [&'a [u8]]) -> (Kind, &'w [&'a [u8]])
+fn read_exit<'w, 'a>(words: &'w [&'a str]) -> (Kind, &'w [&'a str])
     ensures { exit_kind (flag (codes "exit") (map (λ w. w.now) words.entry.now)) ≡ (result.0, map (λ w. w.now) result.1.now) }
 {
     let (exit, rest) = flag("exit", words);
@@ -27,29 +27,23 @@ fn read_exit<'w, 'a>(words: &'w [&'a [u8]]) -> (Kind, &'w [&'a [u8]])
     (Kind::Fprobe { exit: true, cancel }, rest)
 }
 
-/// The kind, and what is left behind it.
-fn read_kind<'w, 'a>(words: &'w [&'a [u8]]) -> Option<(Kind, &'w [&'a [u8]])>
+/// The kind, and the words after it.
+fn read_kind<'w, 'a>(words: &'w [&'a str]) -> Option<(Kind, &'w [&'a str])>
     ensures { option_map (λ r. (r.0, map (λ w. w.now) r.1.now)) result ≡ kind_of (map (λ w. w.now) words.entry.now) }
 {
     let (word, rest) = words.split_first()?;
-    if is(word, "function") {
-        return Some((Kind::Function, rest));
+    match *word {
+        "function" => Some((Kind::Function, rest)),
+        "graph" => Some((Kind::Graph, rest)),
+        "profile" => Some((Kind::Profile, rest)),
+        "fprobe" => Some(read_exit(rest)),
+        _ => None,
     }
-    if is(word, "graph") {
-        return Some((Kind::Graph, rest));
-    }
-    if is(word, "profile") {
-        return Some((Kind::Profile, rest));
-    }
-    if is(word, "fprobe") {
-        return Some(read_exit(rest));
-    }
-    None
 }
 
 /// The function of `ipmodify`. `None` says that it is no name, or that the user is of another kind
 /// than `function`.
-fn read_ipmodify<'a>(kind: Kind, said: Option<&'a [u8]>) -> Option<Option<&'a str>>
+fn read_ipmodify<'a>(kind: Kind, said: Option<&'a str>) -> Option<Option<&'a str>>
     ensures { option_map (λ o. option_copied o) result ≡ ipmodify_of kind (option_map (λ w. w.now) said.entry) }
 {
     match (kind, said) {
@@ -59,33 +53,30 @@ fn read_ipmodify<'a>(kind: Kind, said: Option<&'a [u8]>) -> Option<Option<&'a st
     }
 }
 
-/// What stands last: nothing, `call FUNC` or `irq FUNC`.
-fn read_act<'a>(words: &[&'a [u8]]) -> Option<Option<UserAct<'a>>>
+/// What comes last: nothing, `call FUNC` or `irq FUNC`.
+fn read_act<'a>(words: &[&'a str]) -> Option<Option<UserAct<'a>>>
     ensures { option_map (λ o. option_map act_read o) result ≡ act_of (map (λ w. w.now) words.now) }
 {
     match words {
         [] => Some(None),
-        [key, function] => {
-            if is(key, "call") {
-                return Some(Some(UserAct::Call(name(function)?)));
-            }
-            if is(key, "irq") {
-                return Some(Some(UserAct::Irq(name(function)?)));
-            }
-            None
-        }
+        ["call", function] => Some(Some(UserAct::Call {
+            function: name(function)?,
+        })),
+        ["irq", function] => Some(Some(UserAct::Irq {
+            function: name(function)?,
+        })),
         _ => None,
     }
 }
 
 /// The options of a user of this name and kind.
-fn read_options<'a>(name: &'a str, kind: Kind, words: &[&'a [u8]]) -> Option<Reading<'a>>
+fn read_options<'a>(name: &'a str, kind: Kind, words: &[&'a str]) -> Option<LineForm<'a>>
     ensures { option_map form_read result ≡ options_form name.entry.now kind (map (λ w. w.now) words.now) }
 {
     let (regs, words) = flag("regs", words);
     let (modifies, words) = argument("ipmodify", words);
     let (pid, words) = flag("pid", words);
-    Some(Reading::User(UserLine {
+    Some(LineForm::User(UserLine {
         name,
         kind,
         regs,
@@ -96,7 +87,7 @@ fn read_options<'a>(name: &'a str, kind: Kind, words: &[&'a [u8]]) -> Option<Rea
 }
 
 /// `user NAME KIND OPTIONS`.
-pub fn read_user<'a>(args: &[&'a [u8]]) -> Option<Reading<'a>>
+pub fn read_user<'a>(args: &[&'a str]) -> Option<LineForm<'a>>
     ensures { option_map form_read result ≡ user_form (map (λ w. w.now) args.now) }
 {
     let (word, rest) = args.split_first()?;

@@ -10,11 +10,11 @@ abbrev pub is_name : Word → Bool
 is_name [] = false
 is_name (first ∷ rest) = is_first_byte first && list_all is_later_byte rest
 
--- the word, where it is a name
+-- the word, if it is a name
 abbrev pub name_of : Word → Option Word
 name_of word = if is_name word then Some word else None
 
--- the number that digits write behind those of a number
+-- the number that these digits write after those of another
 abbrev pub value_after : ℕ → Word → ℕ
 value_after n [] = n
 value_after n (digit ∷ rest) = value_after (n * 10 + (digit - 48)) rest
@@ -23,6 +23,6 @@ value_after n (digit ∷ rest) = value_after (n * 10 + (digit - 48)) rest
 abbrev pub is_number : Word → Bool
 is_number word = nat_le 1 (length word) && (nat_le (length word) 10 && list_all is_ascii_digit word)
 
--- the number that a word writes, where it is one
+-- the number that a word writes, if it is one
 abbrev pub number_of : Word → Option ℕ
 number_of word = if is_number word then Some (value_after 0 word) else None

@@ -1,3 +1,0 @@
-pub mod Numbers
-pub mod Skips
-pub mod Texts
