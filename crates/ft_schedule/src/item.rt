@@ -5,7 +5,7 @@ ghost use Rattle.script_text.specs.Words.{all_read};
 ghost use Rattle.ft_schedule.specs.Items.{cpu_of, who_of, item_of};
 
 use ft_base::{CpuNo, Who};
-use script_text::number;
+use script_text::{all_read, number};
 use std::alloc::{AllocError, Global};
 
 /// An item as it is written.
@@ -65,12 +65,5 @@ fn read_item(word: &str) -> Option<SchedItem>
 pub fn read_items(alloc: Global, words: &[&str]) -> Result<Option<Vec<SchedItem>>, AllocError>
     ensures { IfOk result (λ r. option_map (λ v. v.items) r ≡ all_read item_of (map (λ w. w.now) words.now)) }
 {
-    let mut items = Vec::new(alloc);
-    for word in words {
-        let Some(item) = read_item(word) else {
-            return Ok(None);
-        };
-        items.push(item)?;
-    }
-    Ok(Some(items))
+    all_read(alloc, words, read_item)
 }

@@ -1,15 +1,25 @@
 use crate::{
-    Actor, Item, Player, SchedFault, Schedule, Turn, Who, has_unknown, push_turns, read_items,
-    read_sched, steps_with,
+    Actor, Player, SchedFault, SchedItem, Schedule, Turn, Who, has_unknown, is_past_limit,
+    push_turns, read_items, read_sched, steps_with,
 };
 use ft_base::CpuNo;
 use script_text::words;
 use std::alloc::Global;
 use std::test::Fail;
 
+/// This turn of control, of a CPU or of all.
+fn turn(who: Who, count: u32) -> Turn {
+    Turn { who, count }
+}
+
+/// The turn of this CPU.
+fn cpu(number: u32) -> Who {
+    Who::Cpu(CpuNo(number))
+}
+
 /// The items of a line, which is well formed.
-fn items(alloc: Global, line: &str) -> Result<Vec<Item>, Fail> {
-    let words = words(alloc, line.as_bytes())?;
+fn items(alloc: Global, line: &str) -> Result<Vec<SchedItem>, Fail> {
+    let words = words(alloc, line)?;
     let items = read_items(alloc, words.as_slice())?;
     Ok(items.ok_or("a word is no item")?)
 }
@@ -18,36 +28,28 @@ fn items(alloc: Global, line: &str) -> Result<Vec<Item>, Fail> {
 fn reads_items(rt: HostRuntime) -> Result<(), Fail> {
     let schedule = read_sched(rt.alloc(), "k*9 0*13\t  all*1000 1 k all 3*0000000007", 4)?;
     let turns = [
-        Turn {
-            who: Who::Control,
-            count: 9,
-        },
-        Turn {
-            who: Who::Cpu(CpuNo(0)),
-            count: 13,
-        },
-        Turn {
-            who: Who::All,
-            count: 1_000,
-        },
-        Turn {
-            who: Who::Cpu(CpuNo(1)),
-            count: 1,
-        },
-        Turn {
-            who: Who::Control,
-            count: 1,
-        },
-        Turn {
-            who: Who::All,
-            count: 1,
-        },
-        Turn {
-            who: Who::Cpu(CpuNo(3)),
-            count: 7,
-        },
+        turn(Who::Control, 9),
+        turn(cpu(0), 13),
+        turn(Who::All, 1_000),
+        turn(cpu(1), 1),
+        turn(Who::Control, 1),
+        turn(Who::All, 1),
+        turn(cpu(3), 7),
     ];
     assert_eq!(rt; schedule.turns.as_slice(), &turns[..]);
+    Ok(())
+}
+
+#[test]
+fn reads_a_long_text(rt: HostRuntime) -> Result<(), Fail> {
+    let mut text = String::new(rt.alloc());
+    for _ in 0..2_000 {
+        text.push_str("k*3 1 ")?;
+    }
+    let schedule = read_sched(rt.alloc(), text.as_str(), 2)?;
+    assert_eq!(rt; schedule.turns.len(), 4_000);
+    assert_eq!(rt; schedule.turns[3_998], turn(Who::Control, 3));
+    assert_eq!(rt; schedule.turns[3_999], turn(cpu(1), 1));
     Ok(())
 }
 
@@ -131,10 +133,16 @@ fn counts_line_by_line(rt: HostRuntime) -> Result<(), Fail> {
     ];
     for (steps, line, cpus, total) in rows {
         let items = items(rt.alloc(), line)?;
+        let items = items.as_slice();
         assert_eq!(rt;
-            steps_with(steps, items.as_slice(), cpus),
+            steps_with(steps, items, cpus),
             total,
-            "{line} behind {steps}"
+            "{line} after {steps}"
+        );
+        assert_eq!(rt;
+            is_past_limit(steps, items, cpus),
+            total.is_none(),
+            "{line} after {steps}"
         );
     }
     Ok(())
@@ -145,12 +153,25 @@ fn puts_turns_last(rt: HostRuntime) -> Result<(), Fail> {
     let mut turns = Vec::new(rt.alloc());
     for line in ["k*2 3", "all*5"] {
         let items = items(rt.alloc(), line)?;
-        assert!(rt; steps_with(0, items.as_slice(), 4).is_some());
-        assert!(rt; !has_unknown(items.as_slice(), 4));
+        assert!(rt; !is_past_limit(0, items.as_slice(), 4));
         push_turns(&mut turns, items.as_slice())?;
     }
-    let schedule = read_sched(rt.alloc(), "k*2 3 all*5", 4)?;
-    assert_eq!(rt; turns.as_slice(), schedule.turns.as_slice());
+    let all = [turn(Who::Control, 2), turn(cpu(3), 1), turn(Who::All, 5)];
+    assert_eq!(rt; turns.as_slice(), &all[..]);
+    Ok(())
+}
+
+#[test]
+fn finds_unknown_cpus(rt: HostRuntime) -> Result<(), Fail> {
+    let rows = [("k all 3", 4, false), ("k all 3", 3, true), ("0", 0, true)];
+    for (line, cpus, unknown) in rows {
+        let items = items(rt.alloc(), line)?;
+        assert_eq!(rt;
+            has_unknown(items.as_slice(), cpus),
+            unknown,
+            "{line} with {cpus} CPUs"
+        );
+    }
     Ok(())
 }
 
@@ -179,15 +200,9 @@ fn plays_a_schedule(rt: HostRuntime) -> Result<(), Fail> {
 }
 
 #[test]
-fn passes_over_counts_of_zero(rt: HostRuntime) -> Result<(), Fail> {
-    let none = Turn {
-        who: Who::All,
-        count: 0,
-    };
-    let one = Turn {
-        who: Who::Control,
-        count: 1,
-    };
+fn skips_counts_of_zero(rt: HostRuntime) -> Result<(), Fail> {
+    let none = turn(Who::All, 0);
+    let one = turn(Who::Control, 1);
     let turns = vec![in rt.alloc(); none, none, one, none]?;
     let schedule = Schedule { turns };
     let mut player = Player::new(&schedule, 2);
