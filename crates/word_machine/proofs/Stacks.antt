@@ -1,0 +1,85 @@
+-- A task's open calls and its plain stack: numbers, frames and guards.
+use Rattle.std.proofs.Common.{cond, ◌≡◌, ℕ, suc, ◌<◌, Bool, true, false, ◌&&◌, ◌||◌, ◌==◌, List, [], ◌∷◌, length, refl, ap, ◌∙◌, subst, arith, inl, inr}
+use Rattle.std.proofs.lemmas.Bool.Decides.{eqb_tells}
+use Rattle.std.specs.List.{filter, list_any, AllByRecursion as Each}
+use Rattle.ft_base.specs.declared.number.CallNo.{CallNo}
+use Rattle.ft_base.specs.declared.context.Ctx.{Ctx}
+use Rattle.ft_base.specs.declared.item.Item.{Item}
+use Rattle.ft_base.specs.Same.{same_call, same_ctx}
+use Rattle.ft_base.specs.Job.{Job}
+use Rattle.ft_base.proofs.Small.{and-false}
+use Rattle.ft_hist.specs.Past.{Callback, callbacks, is_ctx, is_in_callback, held}
+use Rattle.ft_hist.proofs.RunLaws.{calls_on}
+use Rattle.ft_hist.proofs.Since.{Untouched, untouched-item, touches, holding, holds}
+use Rattle.ft_hist.proofs.HeldLaws.{opens as opens-law, Opens, held-is}
+use Rattle.plain_machine.specs.State.{is_held}
+use Rattle.word_machine.specs.Task.{OpenCall, TaskState, Moment, guards_under, level_of, around, user_of}
+use Rattle.word_machine.specs.Calls.{Here, Calls, under_by, under_call}
+use Rattle.word_machine.specs.Rule.{RunsAt, plain_stack, callbacks_at}
+use Rattle.word_machine.proofs.HistCarried.{of_task}
+
+abbrev pub calls_of : List OpenCall → List CallNo
+calls_of [] = []
+calls_of (c ∷ below) = c.call ∷ calls_of below
+
+pub calls_on-plain : (job : Job) (fresh : Bool) (m : Moment) (stack : List OpenCall) → calls_on (plain_stack job fresh m stack) ≡ calls_of stack
+calls_on-plain job fresh m [] = refl
+calls_on-plain job fresh m (c ∷ below) = ap (λ (cs : List CallNo). c.call ∷ cs) (calls_on-plain job false (under_call c below) below)
+
+-- the calls of a task that is kept are its open ones, each numbered above those below it
+pub opens-of : (job : Job) (past : List Item) (t : ℕ) (x : TaskState) → RunsAt job past t x → Opens t past x.next (calls_of x.stack)
+opens-of job past t x r =
+    let o = opens-law job t past r.at r.is in
+    subst (λ (n : ℕ). Opens t past n (calls_of x.stack)) r.next
+    (subst (λ (cs : List CallNo). Opens t past r.at.next cs) (ap calls_on r.stack ∙ calls_on-plain job r.fresh x.moment x.stack) o)
+
+ne_n : (a b : ℕ) → a < b → (b == a) ≡ false
+ne_n a b lt = elim (eqb_tells b a) [ inl x ↦ (let y : b ≡ a = x.1 in absurd (omega arith)) | inr x ↦ x.0 ]
+
+pub not_same : (call c : CallNo) → c.n < call.n → same_call call c ≡ false
+not_same call c lt = rw (ne_n c.n call.n lt) (and-false (call.task.0 == c.task.0))
+
+-- an item of a call with a greater number leaves these calls alone
+pub older_untouched : (job : Job) (past : List Item) (call : CallNo) (item : Item) (stack : List OpenCall) → ((c : CallNo) → same_call call c ≡ false → touches c item ≡ false)
+    → Each (λ d. d.n < call.n) (calls_of stack) → Each (λ c. Untouched job c.call past (item ∷ past)) stack
+older_untouched job past call item [] touch h = tt
+older_untouched job past call item (c ∷ below) touch h =
+    (untouched-item job c.call past item (touch c.call (not_same call c.call h.0)), older_untouched job past call item below touch h.1)
+
+-- ## frames
+
+pub holding-level : (job : Job) (h : Here) (past : List Item) (ack q t : ℕ) (m : Moment) (stack : List OpenCall) → Calls job h past ack q t m stack → holding job past (calls_of stack) ≡ level_of stack
+holding-level job h past ack q t m [] k = refl
+holding-level job h past ack q t m (c ∷ below) k =
+    let more = holding-level job h past ack q t (under_call c below) below k.2 in
+    rw k.0.holds (elim c.framed as (λ b. length (cond b (c.call ∷ filter (λ d. holds job past d) (calls_of below)) (filter (λ d. holds job past d) (calls_of below))) ≡ cond b (suc (level_of below)) (level_of below)) [
+      | true ↦ ap suc more
+      | false ↦ more
+    ])
+
+-- the frames that the top call finds
+pub held-level : (job : Job) (h : Here) (past : List Item) (ack q : ℕ) (x : TaskState) (c : OpenCall) (below : List OpenCall) (m : Moment)
+    → RunsAt job past c.call.task.0 x → x.stack ≡ c ∷ below → Calls job h past ack q c.call.task.0 m below → held job c.call past ≡ level_of below
+held-level job h past ack q x c below m r st k =
+    held-is job past r.at c.call (calls_of below) r.is (ap calls_on r.stack ∙ calls_on-plain job r.fresh x.moment x.stack ∙ ap calls_of st)
+    ∙ holding-level job h past ack q c.call.task.0 m below k
+
+-- ## guards
+
+any-of_task : (t : ℕ) (y : Ctx) (bs : List Callback) → list_any (λ b. (b.call.task.0 == t) && is_ctx b.ctx y) bs ≡ list_any (λ b. is_ctx b.ctx y) (of_task t bs)
+any-of_task t y [] = refl
+any-of_task t y (b ∷ bs) = elim (b.call.task.0 == t) as (λ e. ((e && is_ctx b.ctx y) || list_any (λ b. (b.call.task.0 == t) && is_ctx b.ctx y) bs) ≡ list_any (λ b. is_ctx b.ctx y) (cond e (b ∷ of_task t bs) (of_task t bs))) [
+  | true ↦ ap (λ e. is_ctx b.ctx y || e) (any-of_task t y bs)
+  | false ↦ any-of_task t y bs
+]
+
+guards-below : (scripted : Bool) (u : ℕ) (y : Ctx) (stack : List OpenCall) → list_any (λ b. is_ctx b.ctx y) (callbacks_at (under_by scripted u) stack) ≡ is_held (guards_under scripted stack) y
+guards-below true u y [] = refl
+guards-below true u y (c ∷ below) = guards-below c.scripted (user_of below) y below
+guards-below false u y [] = refl
+guards-below false u y (c ∷ below) = ap (λ e. same_ctx c.ctx y || e) (guards-below c.scripted (user_of below) y below)
+
+-- a guard is held exactly where a callback of the task and context is open
+pub guard-is : (past : List Item) (t : ℕ) (c : OpenCall) (below : List OpenCall) (y : Ctx)
+    → of_task t (callbacks past) ≡ callbacks_at (under_call c below) below → is_in_callback t y past ≡ is_held (around c below).guards y
+guard-is past t c below y e = any-of_task t y (callbacks past) ∙ rw e (guards-below c.scripted (user_of below) y below)
