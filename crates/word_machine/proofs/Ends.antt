@@ -83,7 +83,7 @@ module _ (job : Job) (ok : IsWordJob job) (s : World) (kept : Kept job s) (over 
       let k = kept.cpus c within in let on : IsOn job c t = (there, refl) in
       let z : 0 + c ≡ c = omega arith in
       let at-end : (s.cpus c).phase ≡ Over = over-is (s.cpus c).phase (subst (λ j. is_over_at (s.cpus j).phase ≡ true) z (all-of s.cpus 0 (length job.quanta) c within parts.1)) in
-      let still : goes_on job (s.cpus c) ≡ false = subst (λ ph. PollAt job s.control.request c (s.cpus c) ph) at-end k.polls in
+      let still : goes_on job (s.cpus c) ≡ false = (subst (λ ph. PollAt job s.control.request c (s.cpus c) ph) at-end k.polls).0 in
       let kt : TaskKept job (here s kept.base) s.past (s.words.ack c) (s.words.quiet t) t ((s.cpus c).tasks t) = k.tasks t on in
       let x : TaskState = (s.cpus c).tasks t in
       subst (λ (o : Option PlainTask). IfSome o (HasEnded (done s.past))) (sym kt.run.is)

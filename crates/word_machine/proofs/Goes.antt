@@ -14,10 +14,10 @@ use Rattle.ft_hist.specs.Past.{begun, visits, Visit, entry_of}
 use Rattle.ft_hist.specs.Frames.{FrameUser}
 use Rattle.ft_hist.proofs.DispatchLaws.{Watches}
 use Rattle.plain_machine.specs.State.{has_acts}
-use Rattle.word_machine.specs.Words.{low}
+use Rattle.word_machine.specs.Words.{low, most, all_ones}
 use Rattle.word_machine.specs.Control.{sort, state_of}
 use Rattle.word_machine.specs.Task.{OpenCall, TaskState, Moment, Polling, First, Fetch, GotHead, GotBreak, InTramp, OwnSel, AtFirst, TestSel, TestFilter, TestNotrace, AtPids, AtDepth, Refusing, Calling, Missing, Acting, Ending, AtLink, Closing, Leaving, AtExit, Exiting, EndingExit, Returning, is_quiet, level_of, user_of}
-use Rattle.word_machine.specs.Cpu.{Cpu, Phase, Going, StoringAck, StoringQuiet, Over}
+use Rattle.word_machine.specs.Cpu.{Cpu, Phase, Going, StoringAck, StoringQuiet, Over, goes_on}
 use Rattle.word_machine.specs.Grace.{selected, pids_stored, depth_stored, quiet_reached}
 use Rattle.word_machine.specs.Patch.{reached}
 use Rattle.word_machine.specs.Users.{since_of, list_desk, Read, Reading, InFilter, InNotrace, HasSlot}
@@ -25,6 +25,7 @@ use Rattle.word_machine.specs.Calls.{Here, Seen, SeenMet, Found, SeenLive, sees,
 use Rattle.word_machine.specs.Rule.{CpuKept, TaskKept, PollAt, StandsIn}
 use Rattle.word_machine.proofs.Sites.{Fetches}
 use Rattle.word_machine.proofs.TasksOf.{task_goes_on}
+use Rattle.word_machine.proofs.Told.{told-more, told-later}
 use Rattle.word_machine.proofs.DeskKept.{IsSteady}
 
 -- what a row does to what a task has loaded; q is the low half of the task's quiet word, ack what its CPU has acknowledged
@@ -103,8 +104,8 @@ module _ (job : Job) (past : List Item) (h h' : Here) (ack q : ℕ) (g : Goes jo
   at_goes c below ms (OwnSel v reg) inside x = (x.0, x.1, x.2, own_goes c v reg x.3)
   at_goes c below ms AtFirst inside x = x
   at_goes c below ms (TestSel v) inside x = (x.0, before_goes c.ran v ms x.1, x.2)
-  at_goes c below ms (TestFilter v copy reg) inside x = (x.0, before_goes c.ran v ms x.1, x.2, g.reads v copy (InFilter job reg) (λ b s r. (r.0.registered, (reading_steady job s b reg r.0, r.1))) x.3)
-  at_goes c below ms (TestNotrace v copy reg) inside x = (x.0, before_goes c.ran v ms x.1, x.2, g.reads v copy (InNotrace job reg c.func) (λ b s r. (r.0.registered, (reading_steady job s b reg r.0, r.1))) x.3)
+  at_goes c below ms (TestFilter v copy reg) inside x = (x.0, before_goes c.ran v ms x.1, x.2, g.reads v copy (InFilter job reg) (λ b s r. (r.0.registered, (reading_steady job s b reg r.0, r.1))) x.3, x.4)
+  at_goes c below ms (TestNotrace v copy reg) inside x = (x.0, before_goes c.ran v ms x.1, x.2, g.reads v copy (InNotrace job reg c.func) (λ b s r. (r.0.registered, (reading_steady job s b reg r.0, r.1))) x.3, x.4)
   at_goes c below ms (AtPids v reg) inside x = (x.0, before_goes c.ran v ms x.1, found_goes v reg c.func x.2, x.3)
   at_goes c below ms (AtDepth v reg) inside x = (x.0, before_goes c.ran v ms x.1, found_goes v reg c.func x.2, pid_goes v c.call.task.0 x.3, x.4, x.5)
   at_goes c below ms (Refusing v reg reason) inside x = (x.0, before_goes c.ran v ms x.1, found_goes v reg c.func x.2, reason_goes c below v reason x.3)
@@ -223,7 +224,8 @@ pub task_goes : (job : Job) (past : List Item) (h h' : Here) (ack word t : ℕ) 
 task_goes job past h h' ack word t x begins le reach goes k = record {
   word' = k.word';
   gone = k.gone;
-  quiet = λ e. (let a = k.quiet e in omega (arith, a, le));
+  quiet = told-later h.request h'.request (has_acts x.acts) most (low word) le k.quiet;
+  first = k.first;
   reached = reach k.reached;
   stands = k.stands;
   grounded = k.grounded;
@@ -238,11 +240,11 @@ task_goes job past h h' ack word t x begins le reach goes k = record {
     by_moment : (m : Moment) → StandsIn (is_quiet m) x.acts x.stack → Calls job h past ack (low word) t m x.stack → Calls job h' past ack (low word) t m x.stack
     by_moment Polling s c = calls_polling job past h h' ack (low word) (low word) t x.stack c
     by_moment First s c = calls_quiet job past h h' ack (low word) (low word) t x.stack c
-    by_moment m s c = calls_goes job past h h' ack (low word) (goes s.0 k.reached (k.quiet s.0)) begins t m x.stack c
+    by_moment m s c = calls_goes job past h h' ack (low word) (goes s.0 k.reached (told-more h.request _ most _ s.0 k.quiet)) begins t m x.stack c
 
 -- a poll goes on over a request that is stored meanwhile
 poll_more : (job : Job) (request request' c : ℕ) (me : Cpu) (ph : Phase) → request ≤ request' → PollAt job request c me ph → PollAt job request' c me ph
-poll_more job request request' c me Going le x = x
+poll_more job request request' c me Going le x = ((let a = x.0 in omega (arith, a, le)), x.1)
 poll_more job request request' c me (StoringAck r) le x = ((let a = x.0 in omega (arith, a, le)), x.1, x.2, x.3)
 poll_more job request request' c me (StoringQuiet r t) le x = ((let a = x.0 in omega (arith, a, le)), x.1, x.2, x.3, x.4)
 poll_more job request request' c me Over le x = x
@@ -256,11 +258,11 @@ pub cpu_goes : (job : Job) (past : List Item) (h h' : Here) (ack : ℕ) (quiet :
 cpu_goes job past h h' ack quiet c me begins le reach quiets goes k = record {
   number = k.number;
   stored = k.stored;
-  acked = λ e. (let a = k.acked e in omega (arith, a, le));
+  acked = told-later h.request h'.request (goes_on job me) all_ones ack le k.acked;
   reach = reach k.reach;
   polls = poll_more job h.request h'.request c me me.phase le k.polls;
   present = k.present;
   alone = k.alone;
   tasks = λ t on. task_goes job past h h' ack (quiet t) t (me.tasks t) begins le (quiets t on.0)
-      (λ left r small. goes t on.0 k.reach (k.acked (task_goes_on job c t me k.number on left)) r small) (k.tasks t on);
+      (λ left r small. goes t on.0 k.reach (told-more h.request _ all_ones _ (task_goes_on job c t me k.number on left) k.acked) r small) (k.tasks t on);
 }

@@ -22,6 +22,7 @@ use Rattle.ft_hist.specs.Frames.{FrameUser}
 use Rattle.ft_base.specs.Kinds.{has_depth}
 use Rattle.ft_base.specs.Desk.{spec_at}
 use Rattle.word_machine.proofs.MarkDispatch.{task}
+use Rattle.word_machine.proofs.Told.{first-loud}
 
 -- two moments of a call that the history doesn't tell apart
 pub record Alike (m m' : Moment) : Type 0 where
@@ -133,6 +134,7 @@ module _ (job : Job) (h : Here) (past : List Item) (ack word t : ℕ) (next : �
     word' = k.word';
     gone = k.gone;
     quiet = k.quiet;
+    first = first-loud m' acts a.quiet';
     reached = k.reached;
     stands = subst (λ b. StandsIn b acts (running c r ∷ below)) (sym a.quiet') (has, refl);
     grounded = k.grounded;

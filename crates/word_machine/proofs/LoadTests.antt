@@ -195,11 +195,11 @@ module _ (job : Job) (ok : IsWordJob job) (h : Here) (past : List Item) (clock :
           by true true on bare =
               let t = test_on job s (sel u) (h.copies u) (h.bits u) (sets.small u) (sets.sels u) on in
               dispatch_goes job h past ack q c below m (TestNotrace u (sel_copy (sel u)) (high (sel u))) c.ran x watch
-              (ran, before, is, read-now h.copies h.bits (InNotrace job (high (sel u)) c.func) (sel_copy (sel u)) t.0 (t.1, (let b : is_empty s.filter ≡ true = sym t.2 ∙ bare in (rw b refl))))
+              (ran, before, is, read-now h.copies h.bits (InNotrace job (high (sel u)) c.func) (sel_copy (sel u)) t.0 (t.1, (let b : is_empty s.filter ≡ true = sym t.2 ∙ bare in (rw b refl))), omega arith)
           by true false on bare =
               let t = test_on job s (sel u) (h.copies u) (h.bits u) (sets.small u) (sets.sels u) on in
               dispatch_goes job h past ack q c below m (TestFilter u (sel_copy (sel u)) (high (sel u))) c.ran x watch
-              (ran, before, is, read-now h.copies h.bits (InFilter job (high (sel u))) (sel_copy (sel u)) t.0 (t.1, sym t.2 ∙ bare))
+              (ran, before, is, read-now h.copies h.bits (InFilter job (high (sel u))) (sel_copy (sel u)) t.0 (t.1, sym t.2 ∙ bare), omega arith)
 
       module _ (copy : ℕ) (inside : c.func < funcs job) where
         words : c.func / 64 < set_words job
@@ -211,8 +211,9 @@ module _ (job : Job) (ok : IsWordJob job) (h : Here) (past : List Item) (clock :
         abbrev New : (UserState → (ℕ → ℕ → ℕ) → Type 0) → Type 0
         New R = (copy ≡ h.copies u) × R (state_of job (suc h.d) u) (h.bits u copy)
 
-        pub filter_kept : c.ran ≡ ByList → Read job h.d h.p h.request q h.copies h.bits u copy (InFilter job reg) → At (passes_in (is_marked (h.bits u copy 0 (c.func / 64)) c.func) u (TestNotrace u copy reg))
-        filter_kept is r = by (is_marked (h.bits u copy 0 (c.func / 64)) c.func) refl
+        pub filter_kept : c.ran ≡ ByList → Read job h.d h.p h.request q h.copies h.bits u copy (InFilter job reg) → copy < 2
+            → At (passes_in (is_marked (h.bits u copy 0 (c.func / 64)) c.func) u (TestNotrace u copy reg))
+        filter_kept is r two = by (is_marked (h.bits u copy 0 (c.func / 64)) c.func) refl
           where
             by : (b : Bool) → is_marked (h.bits u copy 0 (c.func / 64)) c.func ≡ b → At (passes_in b u (TestNotrace u copy reg))
             by true t = dispatch_goes job h past ack q c below m (TestNotrace u copy reg) c.ran x watch (
@@ -222,6 +223,7 @@ module _ (job : Job) (ok : IsWordJob job) (h : Here) (past : List Item) (clock :
               seen_map (selected h.p) (sort job h.d) h.p h.request q (Old (InFilter job reg)) (New (InFilter job reg)) (Old (InNotrace job reg c.func)) (New (InNotrace job reg c.func))
                   (λ y. (y.0, (y.1.0, filter_in job (state_of job h.d u) (h.bits u copy) reg c.func words y.1.0 t)))
                   (λ y. (y.0, (y.1.0, filter_in job (state_of job (suc h.d) u) (h.bits u copy) reg c.func words y.1.0 t))) r,
+              two,
             )
             by false t = pass_kept is (off-seen u (selected h.p) (selected-under h.p) (low-of m x)
                 (seen_map (selected h.p) (sort job h.d) h.p h.request q (Old (InFilter job reg)) (New (InFilter job reg)) (on_by (state_of job h.d u) c.func ≡ false) (on_by (state_of job (suc h.d) u) c.func ≡ false)

@@ -23,7 +23,7 @@ use Rattle.ft_hist.proofs.WindowLaws.{begun-more}
 use Rattle.ft_hist.proofs.Visiting.{MetOf, at_most_one}
 use Rattle.ft_hist.proofs.Since.{holds, holds-by}
 use Rattle.plain_machine.proofs.CallSo.{entry-is}
-use Rattle.word_machine.specs.Words.{low}
+use Rattle.word_machine.specs.Words.{low, most}
 use Rattle.word_machine.specs.Control.{sort, subject, state_of, Sort}
 use Rattle.word_machine.specs.Task.{OpenCall, TaskState, Polling, Closing, Leaving, around, level_of, rest_acts, closed}
 use Rattle.word_machine.specs.Grace.{SeenAt, selected}
@@ -36,6 +36,8 @@ use Rattle.word_machine.proofs.DeskChanges.{between, numbers-kept}
 use Rattle.word_machine.proofs.Marks.{follows, mid_kept}
 use Rattle.word_machine.proofs.MarkDispatch.{task, few-below}
 use Rattle.word_machine.proofs.DeskTargets.{sited_own, sited_nop, off_unsited}
+use Rattle.word_machine.proofs.Told.{told-fewer}
+use Rattle.plain_machine.specs.State.{has_acts}
 
 -- ## what a target says of users
 
@@ -199,7 +201,8 @@ module _ (job : Job) (ok : IsWordJob job) (h : Here) (ack word clock : ℕ) (pas
         by true s = record {
           word' = k.word';
           gone = (let g = k.gone in omega (arith, g));
-          quiet = λ x. k.quiet k.stands.0;
+          quiet = told-fewer h.request (has_acts acts) (has_acts (rest_acts acts)) most (low word) k.stands.0 k.quiet;
+          first = tt;
           reached = k.reached;
           stands = tt;
           grounded = k.grounded;

@@ -129,6 +129,7 @@ module _ (job : Job) (h : Here) (ack word clock : ℕ) (past : List Item) (count
           word' = k.word';
           gone = k.gone;
           quiet = k.quiet;
+          first = tt;
           reached = k.reached;
           stands = (refl, refl);
           grounded = (tt, k.grounded);

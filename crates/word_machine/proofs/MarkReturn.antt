@@ -16,7 +16,7 @@ use Rattle.ft_hist.proofs.Laws.{same_call-refl, same_top-refl}
 use Rattle.ft_hist.proofs.WindowLaws.{begun-more}
 use Rattle.ft_hist.proofs.Exits.{exits-start, exits-may, exits-after, exits-lacks}
 use Rattle.ft_hist.proofs.Since.{untouched-item, holds-by}
-use Rattle.word_machine.specs.Words.{low}
+use Rattle.word_machine.specs.Words.{low, most}
 use Rattle.word_machine.specs.Task.{OpenCall, TaskState, Moment, Polling, First, Leaving, Exiting, EndingExit, Returning, Ending, next_exit, returned, user_of, top_of, level_of, is_quiet, rest_acts}
 use Rattle.word_machine.specs.Grace.{selected}
 use Rattle.word_machine.specs.Calls.{Here, Calls, CallAt, Opened, BodyRuns, Leaves, under_call}
@@ -27,6 +27,8 @@ use Rattle.word_machine.proofs.Stacks.{opens-of, older_untouched}
 use Rattle.word_machine.proofs.Marks.{follows, mid_kept}
 use Rattle.word_machine.proofs.MarkDispatch.{task, few-below, ended-own}
 use Rattle.word_machine.proofs.MarkEnter.{open_first}
+use Rattle.word_machine.proofs.Told.{told-fewer, first-loud}
+use Rattle.plain_machine.specs.State.{has_acts}
 
 -- what all places between the exits have
 pub record ReturnsAt (job : Job) (c : OpenCall) (below : List OpenCall) (m : Moment) : Type 0 where
@@ -113,6 +115,7 @@ module _ (job : Job) (h : Here) (ack word clock : ℕ) (past : List Item) (count
             word' = k.word';
             gone = k.gone;
             quiet = k.quiet;
+            first = first-loud (next_exit c.users) (RetAct ∷ rest) r.quiet;
             reached = k.reached;
             stands = subst (λ b. StandsIn b (RetAct ∷ rest) (c ∷ below)) (sym r.quiet) (refl, refl);
             grounded = k.grounded;
@@ -243,7 +246,8 @@ module _ (job : Job) (h : Here) (ack word clock : ℕ) (past : List Item) (count
         by true s = record {
           word' = k.word';
           gone = (let g = k.gone in omega (arith, g));
-          quiet = λ x. k.quiet k.stands.0;
+          quiet = told-fewer h.request (has_acts acts) (has_acts (rest_acts acts)) most (low word) k.stands.0 k.quiet;
+          first = tt;
           reached = k.reached;
           stands = tt;
           grounded = k.grounded.1;

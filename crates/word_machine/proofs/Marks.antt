@@ -16,6 +16,7 @@ use Rattle.word_machine.specs.Task.{OpenCall, Moment, is_quiet, level_of}
 use Rattle.word_machine.specs.Calls.{Here, Calls}
 use Rattle.word_machine.specs.Rule.{Grounded, TaskKept, StandsIn, plain_stack, callbacks_at, miss_at, open_by, is_returning}
 use Rattle.word_machine.proofs.HistCarried.{of_task}
+use Rattle.word_machine.proofs.Told.{first-loud}
 
 -- one more item of a task: it may stand, and the task goes on
 pub follows : (job : Job) (past : List Item) (item : Item) (t : ℕ) (at at' : PlainTask) → ((v : ℕ) → is_of v item ≡ (t == v)) → ((v : ℕ) → IsSome (plain job v past))
@@ -57,6 +58,7 @@ module _ (job : Job) (h : Here) (ack word t : ℕ) where
         word' = k.word';
         gone = k.gone;
         quiet = k.quiet;
+        first = first-loud m' acts q';
         reached = k.reached;
         stands = subst (λ b. StandsIn b acts (c ∷ below)) (sym q') (stands.0, refl);
         grounded = ground;

@@ -20,7 +20,7 @@ use Rattle.word_machine.specs.Machine.{World, weight, words_after, past_after, t
 use Rattle.word_machine.specs.Grace.{quiet_reached}
 use Rattle.word_machine.specs.Patch.{reached}
 use Rattle.word_machine.specs.Calls.{Here}
-use Rattle.word_machine.specs.Rule.{Kept, here, Lines, IsWordJob, TaskKept, CpuKept, IsOn, PollAt, Polls, WordsBelow, StandsIn, task_in}
+use Rattle.word_machine.specs.Rule.{Kept, here, Lines, IsWordJob, TaskKept, CpuKept, HasTold, IsOn, PollAt, Polls, WordsBelow, StandsIn, task_in}
 use Rattle.word_machine.proofs.Small.{put_same, put_other, put_case}
 use Rattle.word_machine.proofs.Carried.{task_carried}
 use Rattle.word_machine.proofs.TaskSteps.{task_step, SteppedBy, is_polling}
@@ -29,6 +29,7 @@ use Rattle.word_machine.proofs.PollSteps.{moved-kept, poll_on-kept}
 use Rattle.word_machine.proofs.Sorts.{reached-low, quiet-low, asked-four}
 use Rattle.word_machine.proofs.Contents.{low-halves, low-small}
 use Rattle.word_machine.proofs.TasksOf.{task_goes_on}
+use Rattle.word_machine.proofs.Told.{told-more}
 use Rattle.word_machine.proofs.Gone.{task-gone, Grows, grows-put, grows-moved, grows-on, grows-polling, present-is, present-got, polling-of}
 use Rattle.word_machine.proofs.HistCarried.{carries_item}
 
@@ -80,17 +81,17 @@ module _ (job : Job) (ok : IsWordJob job) (s : World) (k : Kept job s) (c : ℕ)
             false_true (sym (ap is_fetching (ap (λ (i : ℕ). (me.tasks i).moment) a.0 ∙ m)) ∙ e)
 
     words-now : WordsBelow job c me h.request
-    words-now t on left = let x = kept.tasks t on in subst (λ n. low n ≤ h.request) (sym x.word') (x.quiet left)
+    words-now t on = let x = kept.tasks t on in subst (λ n. HasTold h.request (is_left me.tasks t) most (low n)) (sym x.word') x.quiet
 
     -- the load of the last request
-    polling-kept : Polls job me → CpuKept job h past ack quiet c (polling job me h.request)
-    polling-kept polls = by (me.ack == ack_value job me h.request) refl
+    polling-kept : Polls job me → me.ack ≤ h.request → CpuKept job h past ack quiet c (polling job me h.request)
+    polling-kept polls last = by (me.ack == ack_value job me h.request) refl
       where
         by : (b : Bool) → (me.ack == ack_value job me h.request) ≡ b → CpuKept job h past ack quiet c (cond b (poll_on job me h.request) (record me { phase = StoringAck h.request }))
         by true e = poll_on-kept job ok h past ack quiet c me h.request (record {
           number = kept.number;
           stored = kept.stored;
-          acked = λ on. eqb-true me.ack _ e ∙ rw on refl;
+          acked = eqb-true me.ack _ e;
           reach = kept.reach;
           loaded = omega arith;
           below = words-now;
@@ -104,7 +105,7 @@ module _ (job : Job) (ok : IsWordJob job) (s : World) (k : Kept job s) (c : ℕ)
           stored = kept.stored;
           acked = kept.acked;
           reach = kept.reach;
-          polls = (omega arith, (λ on. (let a = kept.acked on in let st = kept.stored in omega (arith, a, st))), words-now, polls);
+          polls = (omega arith, last, words-now, polls);
           present = kept.present;
           alone = λ t on f. false_true (sym (still polls t on) ∙ f);
           tasks = kept.tasks;
@@ -115,7 +116,7 @@ module _ (job : Job) (ok : IsWordJob job) (s : World) (k : Kept job s) (c : ℕ)
     ack-kept r p = poll_on-kept job ok h past (ack_value job me r) quiet c (record me { ack = ack_value job me r }) r (record {
       number = kept.number;
       stored = refl;
-      acked = λ on. rw on refl;
+      acked = refl;
       reach = by (goes_on job me) refl;
       loaded = p.0;
       below = p.2;
@@ -126,11 +127,12 @@ module _ (job : Job) (ok : IsWordJob job) (s : World) (k : Kept job s) (c : ℕ)
     })
       where
         by : (b : Bool) → goes_on job me ≡ b → reached h.base h.p c ≤ cond b r all_ones
-        by true e = (let a = kept.reach in let x = p.1 e in let st = kept.stored in omega (arith, a, x, st))
+        by true e = (let a = kept.reach in let x = p.1 in let st = kept.stored in omega (arith, a, x, st))
         by false e = (let a = reached-low h.base c h.p in let q = k.sites.asked in let sm = request-small job ok s k in omega (arith, a, q, sm))
 
     -- the store of a task's word
-    word-kept : (r t : ℕ) → r ≤ h.request → IsOn job c t → (is_left me.tasks t ≡ true → low (me.tasks t).word ≤ r) → TaskKept job h past ack (quiet_word r (me.tasks t)) t (worded r (me.tasks t))
+    word-kept : (r t : ℕ) → r ≤ h.request → IsOn job c t → HasTold r (is_left me.tasks t) most (low (me.tasks t).word)
+        → TaskKept job h past ack (quiet_word r (me.tasks t)) t (worded r (me.tasks t))
     word-kept r t loaded on below =
         let x = kept.tasks t on in
         by (has_acts (me.tasks t).acts) (is_quiet (me.tasks t).moment) refl refl x
@@ -138,14 +140,16 @@ module _ (job : Job) (ok : IsWordJob job) (s : World) (k : Kept job s) (c : ℕ)
         y : TaskState
         y = me.tasks t
 
-        made : (l : ℕ) → l < half_size → (has_acts (me.tasks t).acts ≡ true → l ≤ h.request) → quiet_reached (sort job h.d) h.p h.request t ≤ l → (is_quiet (me.tasks t).moment ≡ true) ⊎ (l ≡ low (quiet t)) → TaskKept job h past ack (quiet t) t (me.tasks t)
+        made : (l : ℕ) → l < half_size → HasTold h.request (has_acts (me.tasks t).acts) most l → quiet_reached (sort job h.d) h.p h.request t ≤ l
+            → (is_quiet (me.tasks t).moment ≡ true) ⊎ (l ≡ low (quiet t)) → TaskKept job h past ack (quiet t) t (me.tasks t)
             → TaskKept job h past ack (halves (me.tasks t).gone l) t (record (me.tasks t) { word = halves (me.tasks t).gone l })
         made l lt small reach or x =
             let e = low-halves (me.tasks t).gone l lt in
             record {
               word' = refl;
               gone = rw e.1 (omega arith);
-              quiet = λ a. rw e.0 (small a);
+              quiet = rw e.0 small;
+              first = x.first;
               reached = rw e.0 reach;
               stands = x.stands;
               grounded = x.grounded;
@@ -164,18 +168,18 @@ module _ (job : Job) (ok : IsWordJob job) (s : World) (k : Kept job s) (c : ℕ)
             → TaskKept job h past ack (quiet_word r (me.tasks t)) t (worded r (me.tasks t))
         by false q ea eq x =
             let sm = request-small job ok s k in let lo = quiet-low (sort job h.d) h.p h.request t in
-            rw ea (made most (omega arith) (λ a. false_true (sym ea ∙ a)) (omega (arith, sm, lo)) (inl (ended q eq)) x)
+            rw ea (made most (omega arith) (inr (ea, refl)) (omega (arith, sm, lo)) (inl (ended q eq)) x)
           where
             ended : (q : Bool) → is_quiet (me.tasks t).moment ≡ q → is_quiet (me.tasks t).moment ≡ true
             ended true z = z
             ended false z = false_true (sym ea ∙ (rw z at x.stands).0)
         by true true ea eq x =
-            let sm = request-small job ok s k in let b = below ea in let re = x.reached in let w = x.word' in
+            let sm = request-small job ok s k in let b = told-more r _ most _ ea below in let re = x.reached in let w = x.word' in
             let b' : low (quiet t) ≤ r = subst (λ n. low n ≤ r) w b in
-            rw (ea, eq) (made r (omega (arith, sm, loaded)) (λ a. loaded) (omega (arith, re, b')) (inl eq) x)
+            rw (ea, eq) (made r (omega (arith, sm, loaded)) (inl loaded) (omega (arith, re, b')) (inl eq) x)
         by true false ea eq x =
             let w = x.word' in let small = low-small (me.tasks t).word in
-            rw (ea, eq) (made (low (me.tasks t).word) (omega (arith, small)) (λ a. subst (λ n. low n ≤ h.request) (sym w) (x.quiet ea)) (subst (λ n. quiet_reached (sort job h.d) h.p h.request t ≤ low n) (sym w) x.reached)
+            rw (ea, eq) (made (low (me.tasks t).word) (omega (arith, small)) (subst (λ n. HasTold h.request (has_acts (me.tasks t).acts) most (low n)) (sym w) x.quiet) (subst (λ n. quiet_reached (sort job h.d) h.p h.request t ≤ low n) (sym w) x.reached)
             (inr (ap low w)) x)
 
     -- what the store of a word leaves of the tasks
@@ -192,14 +196,14 @@ module _ (job : Job) (ok : IsWordJob job) (s : World) (k : Kept job s) (c : ℕ)
         let left : (v : ℕ) → is_left (at_put me.tasks t (worded r (me.tasks t))) v ≡ is_left me.tasks v = put-part (λ (y : TaskState). has_acts y.acts) t (worded r (me.tasks t)) refl in
         let moment : (v : ℕ) → (at_put me.tasks t (worded r (me.tasks t)) v).moment ≡ (me.tasks v).moment = put-part (λ (y : TaskState). y.moment) t (worded r (me.tasks t)) refl in
         let goes : goes_on job (record me { tasks = at_put me.tasks t (worded r (me.tasks t)) }) ≡ goes_on job me = any-same (λ v. is_left me.tasks v) (λ v. is_left (at_put me.tasks t (worded r (me.tasks t))) v) left (tasks_of job me.number) in
-        let own = word-kept r t p.0 p.4 (λ l. p.2 t p.4 l) in
+        let own = word-kept r t p.0 p.4 (p.2 t p.4) in
         poll_on-kept job ok h past ack (at_put quiet t (quiet_word r (me.tasks t))) c (record me { tasks = at_put me.tasks t (worded r (me.tasks t)) }) r (record {
           number = kept.number;
           stored = kept.stored;
-          acked = λ on. p.1 (sym goes ∙ on);
+          acked = p.1 ∙ ap (λ b. cond b r all_ones) (sym goes);
           reach = kept.reach;
           loaded = p.0;
-          below = λ v on l. put_case me.tasks t (worded r (me.tasks t)) (λ i y. IsOn job c i → has_acts y.acts ≡ true → low y.word ≤ r) v (λ e o a. new-low own p.0 a) (λ ne o a. p.2 v o a) on l;
+          below = λ v on. put_case me.tasks t (worded r (me.tasks t)) (λ i y. IsOn job c i → HasTold r (has_acts y.acts) most (low y.word)) v (λ e o. new-low (has_acts (me.tasks t).acts) refl) (λ ne o. p.2 v o) on;
           polls = λ on. moment me.present ∙ p.3 (sym goes ∙ on);
           present = λ on. (let x = kept.present (sym goes ∙ on) in (x.0, left me.present ∙ x.1));
           still = λ v on. ap is_fetching (moment v) ∙ still p.3 v on;
@@ -208,12 +212,13 @@ module _ (job : Job) (ok : IsWordJob job) (s : World) (k : Kept job s) (c : ℕ)
               (λ ne o. subst (λ n. TaskKept job h past ack n v (me.tasks v)) (sym (put_other quiet t (quiet_word r (me.tasks t)) v ne)) (kept.tasks v o)) on;
         })
       where
-        new-low : TaskKept job h past ack (quiet_word r (me.tasks t)) t (worded r (me.tasks t)) → r ≤ h.request → has_acts (me.tasks t).acts ≡ true → low (quiet_word r (me.tasks t)) ≤ r
-        new-low own loaded a = by (is_quiet (me.tasks t).moment) refl
+        new-low : (b : Bool) → has_acts (me.tasks t).acts ≡ b → HasTold r (has_acts (me.tasks t).acts) most (low (quiet_word r (me.tasks t)))
+        new-low false a = let z = low-halves (me.tasks t).gone most (omega arith) in inr (a, rw a z.0)
+        new-low true a = inl (by (is_quiet (me.tasks t).moment) refl)
           where
             by : (b : Bool) → is_quiet (me.tasks t).moment ≡ b → low (quiet_word r (me.tasks t)) ≤ r
-            by true e = (let sm = request-small job ok s k in let z = low-halves (me.tasks t).gone r (omega (arith, sm, loaded)) in rw (a, e) (rw z.0 (omega arith)))
-            by false e = (let lt = low-small (me.tasks t).word in let z = low-halves (me.tasks t).gone (low (me.tasks t).word) (omega (arith, lt)) in rw (a, e) (rw z.0 (p.2 t p.4 a)))
+            by true e = (let loaded = p.0 in let sm = request-small job ok s k in let z = low-halves (me.tasks t).gone r (omega (arith, sm, loaded)) in rw (a, e) (rw z.0 (omega arith)))
+            by false e = (let lt = low-small (me.tasks t).word in let z = low-halves (me.tasks t).gone (low (me.tasks t).word) (omega (arith, lt)) in rw (a, e) (rw z.0 (told-more r _ most _ a (p.2 t p.4))))
 
   poll-tick : (me : Cpu) (p : Phase) → PollAt job h.request c me p → PollAt job h.request c (ticked me) p
   poll-tick me Going x = x
@@ -242,6 +247,15 @@ module _ (job : Job) (ok : IsWordJob job) (s : World) (k : Kept job s) (c : ℕ)
       is-on : IsOn job c me.present
       is-on = (kept.present on).0
 
+      acked : ack ≤ h.request
+      acked = told-more h.request (goes_on job me) all_ones ack on kept.acked
+
+      below : WordsBelow job c me ack
+      below = subst (λ r. WordsBelow job c me r) kept.stored (subst (λ (p : Phase). PollAt job h.request c me p) going kept.polls).1
+
+      own-below : low (quiet me.present) ≤ ack
+      own-below = subst (λ (n : ℕ). low n ≤ ack) (kept.tasks me.present is-on).word' (told-more ack _ most _ (kept.present on).1 (below me.present is-on))
+
       still-others : (t : ℕ) → IsOn job c t → t ≢ me.present → is_fetching (me.tasks t).moment ≡ false
       still-others t on-t ne = by (is_fetching (me.tasks t).moment) refl
         where
@@ -252,7 +266,7 @@ module _ (job : Job) (ok : IsWordJob job) (s : World) (k : Kept job s) (c : ℕ)
       moved-on : (past' : List Item) (unmet : Bool) (x : TaskState) → ((t : ℕ) → IsOn job c t → t ≢ me.present → TaskKept job h past' ack (quiet t) t (me.tasks t)) → TaskKept job h past' ack (quiet me.present) me.present x
           → CpuKept job h past' ack quiet c (moved job (ticked me) unmet x)
       moved-on past' unmet x others own =
-          moved-kept job ok h past' ack quiet c (ticked me) unmet x kept.number kept.stored going (kept.acked on) kept.reach is-on still-others others own
+          moved-kept job ok h past' ack quiet c (ticked me) unmet x kept.number kept.stored going acked below kept.reach is-on own-below still-others others own
 
       did-op : (op : Op) (unmet : Bool) (x : TaskState) → (me.tasks me.present).gone ≤ x.gone → SteppedBy job h past ack (quiet me.present) me.present op x → Did op me.tasks (moved job (ticked me) unmet x)
       did-op (Load w) unmet x le st = (moved-on past unmet x (λ t o ne. kept.tasks t o) st, grows-moved job (ticked me) unmet x le)
@@ -273,14 +287,14 @@ module _ (job : Job) (ok : IsWordJob job) (s : World) (k : Kept job s) (c : ℕ)
           → Did op me.tasks (moved job (ticked me) (is_unmet (me.tasks me.present).moment (me.tasks me.present).acts (taken op s.words)) (task_got job me.present (me.tasks me.present) (me.tasks me.present).moment (taken op s.words)))
       present-did op is =
           did-op op _ _ (task-gone job me.present (me.tasks me.present) (me.tasks me.present).moment (taken op s.words))
-          (task_step job ok s k c (quiet me.present) (kept.acked on) me.present is-on.0 x0.next x0.gone x0.acts x0.contexts x0.word x0.stack x0.moment (kept.tasks me.present is-on) poll op is)
+          (task_step job ok s k c (quiet me.present) acked me.present is-on.0 x0.next x0.gone x0.acts x0.contexts x0.word x0.stack x0.moment (kept.tasks me.present is-on) poll op is)
 
     want-is : s.words.want ≡ h.request
     want-is = k.sites.want
 
-    poll-did : Polls job me → Did (Load Want) me.tasks (polling job (ticked me) s.words.want)
-    poll-did polls = subst (λ (r : ℕ). CpuKept job h past ack quiet c (polling job (ticked me) r) × Grows me.tasks (polling job (ticked me) r).tasks) (sym want-is)
-        (polling-kept (ticked me) (tick-kept me kept) polls, grows-polling job (ticked me) h.request)
+    poll-did : me.phase ≡ Going → Polls job me → Did (Load Want) me.tasks (polling job (ticked me) s.words.want)
+    poll-did going polls = subst (λ (r : ℕ). CpuKept job h past ack quiet c (polling job (ticked me) r) × Grows me.tasks (polling job (ticked me) r).tasks) (sym want-is)
+        (polling-kept (ticked me) (tick-kept me kept) polls (subst (λ (p : Phase). PollAt job h.request c me p) going kept.polls).0, grows-polling job (ticked me) h.request)
 
     going-did : me.phase ≡ Going → (op : Op) → going_op job me ≡ Some op → Did op me.tasks (going_got job (ticked me) (taken op s.words))
     going-did going op is = by (goes_on job me) refl
@@ -289,7 +303,7 @@ module _ (job : Job) (ok : IsWordJob job) (s : World) (k : Kept job s) (c : ℕ)
             → Did op me.tasks (present_got job (ticked me) (me.tasks me.present).moment (taken op s.words))
         by_poll true on e is' =
             let m = polling-of (me.tasks me.present).moment e in
-            rw m (subst (λ o. Did o me.tasks (polling job (ticked me) (taken o s.words))) (same_Some (Load Want) op (rw m at is')) (poll-did (λ y. m)))
+            rw m (subst (λ o. Did o me.tasks (polling job (ticked me) (taken o s.words))) (same_Some (Load Want) op (rw m at is')) (poll-did going (λ y. m)))
         by_poll false on e is' =
             subst (λ (me' : Cpu). Did op me.tasks me') (sym (present-got job (ticked me) (me.tasks me.present).moment (taken op s.words) e))
             (present-did on going e op (sym (present-is me (me.tasks me.present).moment e) ∙ is'))
@@ -300,7 +314,7 @@ module _ (job : Job) (ok : IsWordJob job) (s : World) (k : Kept job s) (c : ℕ)
 
         by : (b : Bool) → goes_on job me ≡ b → Did op me.tasks (going_got job (ticked me) (taken op s.words))
         by true e = chosen true e (by_poll (is_polling (me.tasks me.present).moment) e refl (rw e at is))
-        by false e = chosen false e (subst (λ o. Did o me.tasks (polling job (ticked me) (taken o s.words))) (same_Some (Load Want) op (rw e at is)) (poll-did (λ y. false_true (sym e ∙ y))))
+        by false e = chosen false e (subst (λ o. Did o me.tasks (polling job (ticked me) (taken o s.words))) (same_Some (Load Want) op (rw e at is)) (poll-did going (λ y. false_true (sym e ∙ y))))
 
     cpu-did : (ph : Phase) → me.phase ≡ ph → (op : Op) → phase_op job me ph ≡ Some op → Did op me.tasks (phase_got job (ticked me) ph (taken op s.words))
     cpu-did Going e op is = going-did e op is

@@ -12,17 +12,18 @@ use Rattle.ft_base.specs.WellFormed.{IsScript}
 use Rattle.ft_hist.specs.Past.{done}
 use Rattle.ft_hist.specs.Plain.{below_top, ahead}
 use Rattle.plain_machine.specs.State.{has_acts, tasks_of}
-use Rattle.word_machine.specs.Words.{low, at_put}
+use Rattle.word_machine.specs.Words.{low, most, all_ones, at_put}
 use Rattle.word_machine.specs.Task.{OpenCall, TaskState, Moment, Polling, First, is_quiet, is_fetching, quiet_word, begun_act}
-use Rattle.word_machine.specs.Cpu.{Cpu, Phase, Going, Over, is_left, goes_on, next_task, passed, quiet_next, quiet_in, polled, poll_on, moved}
+use Rattle.word_machine.specs.Cpu.{Cpu, Phase, Going, Over, is_left, goes_on, next_task, passed, ack_value, quiet_next, quiet_in, polled, poll_on, moved}
 use Rattle.word_machine.specs.Patch.{reached}
 use Rattle.word_machine.specs.Calls.{Here, Calls}
-use Rattle.word_machine.specs.Rule.{plain_stack, IsWordJob, TaskKept, CpuKept, IsOn, PollAt, Polls, WordsBelow, StandsIn}
+use Rattle.word_machine.specs.Rule.{plain_stack, IsWordJob, TaskKept, CpuKept, HasTold, IsToDo, IsOn, PollAt, Polls, WordsBelow, StandsIn}
 use Rattle.word_machine.proofs.Small.{put_same, put_other, put_case, each-append, any-append, any-split}
 use Rattle.word_machine.proofs.Start.{on-tasks}
 use Rattle.word_machine.proofs.MarkDispatch.{task}
 use Rattle.word_machine.proofs.MarkReturn.{polling_callbacks}
 use Rattle.word_machine.proofs.TasksOf.{first-there}
+use Rattle.word_machine.proofs.Told.{told-more, told-fewer}
 
 -- ## switches
 
@@ -31,7 +32,8 @@ module _ (job : Job) (ok : IsWordJob job) (h : Here) (past : List Item) (ack : �
   pub record Settled (me : Cpu) : Type 0 where
     pub number : me.number ≡ c
     pub stored : me.ack ≡ ack
-    pub acked : goes_on job me ≡ true → ack ≤ h.request
+    pub acked : ack ≤ h.request
+    pub below : WordsBelow job c me ack
     pub reach : reached h.base h.p c ≤ ack
     pub phase : me.phase ≡ Going
     pub on : IsOn job c me.present
@@ -50,14 +52,16 @@ module _ (job : Job) (ok : IsWordJob job) (h : Here) (past : List Item) (ack : �
   pub passed-kept : (me : Cpu) (unmet : Bool) → Settled me → CpuKept job h past ack quiet c (passed job unmet me)
   passed-kept me unmet k = by (not (is_left me.tasks me.present) || unmet || nat_le (get_or job.quanta me.number 1) me.count) refl
     where
+      going : (me.ack ≤ h.request) × WordsBelow job c me me.ack
+      going = ((let a = k.acked in let s = k.stored in omega (arith, a, s)), subst (λ r. WordsBelow job c me r) (sym k.stored) k.below)
       by : (b : Bool) → (not (is_left me.tasks me.present) || unmet || nat_le (get_or job.quanta me.number 1) me.count) ≡ b
           → CpuKept job h past ack quiet c (cond b (record me { present = next_task job me; count = 0 }) me)
       by true e = record {
         number = k.number;
         stored = k.stored;
-        acked = k.acked;
+        acked = inl k.acked;
         reach = k.reach;
-        polls = subst (λ (p : Phase). PollAt job h.request c (record me { present = next_task job me; count = 0 }) p) (sym k.phase) tt;
+        polls = subst (λ (p : Phase). PollAt job h.request c (record me { present = next_task job me; count = 0 }) p) (sym k.phase) going;
         present = λ on. next-on me k.number on;
         alone = λ t on f. false_true (sym (k.still t on) ∙ f);
         tasks = k.tasks;
@@ -65,9 +69,9 @@ module _ (job : Job) (ok : IsWordJob job) (h : Here) (past : List Item) (ack : �
       by false e = record {
         number = k.number;
         stored = k.stored;
-        acked = k.acked;
+        acked = inl k.acked;
         reach = k.reach;
-        polls = subst (λ (p : Phase). PollAt job h.request c me p) (sym k.phase) tt;
+        polls = subst (λ (p : Phase). PollAt job h.request c me p) (sym k.phase) going;
         present = λ on. (k.on, left-of (is_left me.tasks me.present) (or-false_both (not (is_left me.tasks me.present)) unmet (or-false_both (not (is_left me.tasks me.present) || unmet) _ e).0).0);
         alone = λ t on f. false_true (sym (k.still t on) ∙ f);
         tasks = k.tasks;
@@ -79,13 +83,17 @@ module _ (job : Job) (ok : IsWordJob job) (h : Here) (past : List Item) (ack : �
 
   -- ## the present task has gone on
 
-  pub moved-kept : (me : Cpu) (unmet : Bool) (x : TaskState) → me.number ≡ c → me.ack ≡ ack → me.phase ≡ Going → ack ≤ h.request → reached h.base h.p c ≤ ack → IsOn job c me.present
+  pub moved-kept : (me : Cpu) (unmet : Bool) (x : TaskState) → me.number ≡ c → me.ack ≡ ack → me.phase ≡ Going → ack ≤ h.request → WordsBelow job c me ack
+      → reached h.base h.p c ≤ ack → IsOn job c me.present → low (quiet me.present) ≤ ack
       → ((t : ℕ) → IsOn job c t → t ≢ me.present → is_fetching (me.tasks t).moment ≡ false)
       → ((t : ℕ) → IsOn job c t → t ≢ me.present → TaskKept job h past ack (quiet t) t (me.tasks t))
       → TaskKept job h past ack (quiet me.present) me.present x
       → CpuKept job h past ack quiet c (moved job me unmet x)
-  moved-kept me unmet x num stored phase acked reach on still others own = by (is_fetching x.moment) refl
+  moved-kept me unmet x num stored phase acked below reach on own-below still others own = by (is_fetching x.moment) refl
     where
+      below' : WordsBelow job c (record me { tasks = at_put me.tasks me.present x }) ack
+      below' t on-t = put_case me.tasks me.present x (λ i y. IsOn job c i → HasTold ack (has_acts y.acts) most (low y.word)) t
+          (λ e o. inl (subst (λ (n : ℕ). low n ≤ ack) (sym own.word') own-below)) (λ ne o. below t o) on-t
       me' : Cpu
       me' = record me { tasks = at_put me.tasks me.present x }
 
@@ -96,9 +104,10 @@ module _ (job : Job) (ok : IsWordJob job) (h : Here) (past : List Item) (ack : �
       by true e = record {
         number = num;
         stored = stored;
-        acked = λ y. acked;
+        acked = inl acked;
         reach = reach;
-        polls = subst (λ (p : Phase). PollAt job h.request c (record me { tasks = at_put me.tasks me.present x }) p) (sym phase) tt;
+        polls = subst (λ (p : Phase). PollAt job h.request c (record me { tasks = at_put me.tasks me.present x }) p) (sym phase)
+            ((let s = stored in omega (arith, acked, s)), subst (λ r. WordsBelow job c (record me { tasks = at_put me.tasks me.present x }) r) (sym stored) below');
         present = λ y. (on, subst (λ (z : TaskState). has_acts z.acts ≡ true) (sym (put_same me.tasks me.present x)) (busy x.moment e own.stands));
         alone = λ t on-t f. (here t on-t f, phase);
         tasks = all;
@@ -120,7 +129,8 @@ module _ (job : Job) (ok : IsWordJob job) (h : Here) (past : List Item) (ack : �
       by false e = passed-kept (record me { tasks = at_put me.tasks me.present x }) unmet (record {
         number = num;
         stored = stored;
-        acked = λ y. acked;
+        acked = acked;
+        below = below';
         reach = reach;
         phase = phase;
         on = on;
@@ -134,7 +144,7 @@ module _ (job : Job) (ok : IsWordJob job) (h : Here) (past : List Item) (ack : �
   pub record Polled (me : Cpu) (r : ℕ) : Type 0 where
     pub number : me.number ≡ c
     pub stored : me.ack ≡ ack
-    pub acked : goes_on job me ≡ true → me.ack ≡ r
+    pub acked : me.ack ≡ ack_value job me r
     pub reach : reached h.base h.p c ≤ ack
     pub loaded : r ≤ h.request
     pub below : WordsBelow job c me r
@@ -155,11 +165,13 @@ module _ (job : Job) (ok : IsWordJob job) (h : Here) (past : List Item) (ack : �
   polled_stack fresh [] = refl
   polled_stack fresh (d ∷ below) = refl
 
-  first-kept : (t n gone : ℕ) (acts : List TaskAct) (cs : List Ctx) (w : ℕ) (stack : List OpenCall) → TaskKept job h past ack (quiet t) t (task n gone acts cs stack w Polling) → TaskKept job h past ack (quiet t) t (task n gone acts cs stack w First)
-  first-kept t n gone acts cs w stack k = record {
+  first-kept : (t n gone : ℕ) (acts : List TaskAct) (cs : List Ctx) (w : ℕ) (stack : List OpenCall) → IsToDo acts
+      → TaskKept job h past ack (quiet t) t (task n gone acts cs stack w Polling) → TaskKept job h past ack (quiet t) t (task n gone acts cs stack w First)
+  first-kept t n gone acts cs w stack to-do k = record {
     word' = k.word';
     gone = k.gone;
     quiet = k.quiet;
+    first = to-do;
     reached = k.reached;
     stands = tt;
     grounded = k.grounded;
@@ -178,7 +190,8 @@ module _ (job : Job) (ok : IsWordJob job) (h : Here) (past : List Item) (ack : �
   silent-kept t n gone a rest cs cs' w stack same script k = record {
     word' = k.word';
     gone = (let g = k.gone in omega (arith, g));
-    quiet = λ e. k.quiet refl;
+    quiet = told-fewer h.request true (has_acts rest) most (low (quiet t)) refl k.quiet;
+    first = tt;
     reached = k.reached;
     stands = tt;
     grounded = k.grounded;
@@ -194,19 +207,28 @@ module _ (job : Job) (ok : IsWordJob job) (h : Here) (past : List Item) (ack : �
   Begun t x = TaskKept job h past ack (quiet t) t x × (is_fetching x.moment ≡ false)
 
   -- an act begins, or is done where it has no operation
-  begun-kept : (t n gone : ℕ) (acts : List TaskAct) (cs : List Ctx) (w : ℕ) (stack : List OpenCall) → TaskKept job h past ack (quiet t) t (task n gone acts cs stack w Polling)
-      → Begun t (begun_act (task n gone acts cs stack w Polling) acts)
-  begun-kept t n gone [] cs w stack k = (first-kept t n gone [] cs w stack k, refl)
-  begun-kept t n gone (Raise x ∷ rest) cs w stack k = (silent-kept t n gone (Raise x) rest cs (x ∷ cs) w stack (λ d. refl) (λ i y. y) k, refl)
-  begun-kept t n gone (Lower ∷ rest) cs w stack k = (silent-kept t n gone Lower rest cs (below_top cs) w stack (λ d. refl) (λ i y. y) k, refl)
-  begun-kept t n gone (Call f ∷ rest) cs w stack k = (first-kept t n gone (Call f ∷ rest) cs w stack k, refl)
-  begun-kept t n gone (RetAct ∷ rest) cs w stack k = (first-kept t n gone (RetAct ∷ rest) cs w stack k, refl)
-  begun-kept t n gone (After m ∷ rest) cs w stack k = (first-kept t n gone (After m ∷ rest) cs w stack k, refl)
+  begun-kept : (t n gone : ℕ) (acts : List TaskAct) (cs : List Ctx) (w : ℕ) (stack : List OpenCall) → has_acts acts ≡ true
+      → TaskKept job h past ack (quiet t) t (task n gone acts cs stack w Polling) → Begun t (begun_act (task n gone acts cs stack w Polling) acts)
+  begun-kept t n gone [] cs w stack has k = false_true has
+  begun-kept t n gone (Raise x ∷ rest) cs w stack has k = (silent-kept t n gone (Raise x) rest cs (x ∷ cs) w stack (λ d. refl) (λ i y. y) k, refl)
+  begun-kept t n gone (Lower ∷ rest) cs w stack has k = (silent-kept t n gone Lower rest cs (below_top cs) w stack (λ d. refl) (λ i y. y) k, refl)
+  begun-kept t n gone (Call f ∷ rest) cs w stack has k = (first-kept t n gone (Call f ∷ rest) cs w stack tt k, refl)
+  begun-kept t n gone (RetAct ∷ rest) cs w stack has k = (first-kept t n gone (RetAct ∷ rest) cs w stack tt k, refl)
+  begun-kept t n gone (After m ∷ rest) cs w stack has k = (first-kept t n gone (After m ∷ rest) cs w stack tt k, refl)
 
-  begun-of : (t : ℕ) (x : TaskState) → x.moment ≡ Polling → TaskKept job h past ack (quiet t) t x → Begun t (begun_act x x.acts)
-  begun-of t x e k =
+  begun-of : (t : ℕ) (x : TaskState) → x.moment ≡ Polling → has_acts x.acts ≡ true → TaskKept job h past ack (quiet t) t x → Begun t (begun_act x x.acts)
+  begun-of t x e has k =
       subst (λ m. TaskKept job h past ack (quiet t) t (task x.next x.gone x.acts x.contexts x.stack x.word m) → Begun t (begun_act (task x.next x.gone x.acts x.contexts x.stack x.word m) x.acts)) (sym e)
-      (λ y. begun-kept t x.next x.gone x.acts x.contexts x.word x.stack y) k
+      (λ y. begun-kept t x.next x.gone x.acts x.contexts x.word x.stack has y) k
+
+  -- an act that begins leaves the quiet word
+  begun-word : (x : TaskState) (acts : List TaskAct) → x.word ≡ (begun_act x acts).word
+  begun-word x [] = refl
+  begun-word x (Raise y ∷ rest) = refl
+  begun-word x (Lower ∷ rest) = refl
+  begun-word x (Call f ∷ rest) = refl
+  begun-word x (RetAct ∷ rest) = refl
+  begun-word x (After m ∷ rest) = refl
 
   pub polled-kept : (me : Cpu) (r : ℕ) → Polled me r → CpuKept job h past ack quiet c (polled job me)
   polled-kept me r k = by (goes_on job me) refl
@@ -215,11 +237,16 @@ module _ (job : Job) (ok : IsWordJob job) (h : Here) (past : List Item) (ack : �
           → CpuKept job h past ack quiet c (cond b (passed job false (record me { tasks = at_put me.tasks me.present (begun_act (me.tasks me.present) (me.tasks me.present).acts); phase = Going })) (record me { phase = Over }))
       by true e =
           let on = (k.present e).0 in
-          let x = begun-of me.present (me.tasks me.present) (k.polls e) (k.tasks me.present on) in
+          let has = (k.present e).1 in
+          let x = begun-of me.present (me.tasks me.present) (k.polls e) has (k.tasks me.present on) in
+          let is : ack ≡ r = sym k.stored ∙ k.acked ∙ rw e refl in
           passed-kept (record me { tasks = at_put me.tasks me.present (begun_act (me.tasks me.present) (me.tasks me.present).acts); phase = Going }) false (record {
             number = k.number;
             stored = k.stored;
-            acked = λ y. (let a = k.acked e in let l = k.loaded in let s = k.stored in omega (arith, a, l, s));
+            acked = (let l = k.loaded in omega (arith, is, l));
+            below = λ t on-t. put_case me.tasks me.present (begun_act (me.tasks me.present) (me.tasks me.present).acts) (λ i y. IsOn job c i → HasTold ack (has_acts y.acts) most (low y.word)) t
+                (λ z o. inl (rw is (subst (λ (w : ℕ). low w ≤ r) (begun-word (me.tasks me.present) (me.tasks me.present).acts) (told-more r _ most _ has (k.below me.present on)))))
+                (λ ne o. rw is (k.below t o)) on-t;
             reach = k.reach;
             phase = refl;
             on = on;
@@ -229,9 +256,9 @@ module _ (job : Job) (ok : IsWordJob job) (h : Here) (past : List Item) (ack : �
       by false e = record {
         number = k.number;
         stored = k.stored;
-        acked = λ y. false_true (sym e ∙ y);
+        acked = inr (e, sym k.stored ∙ k.acked ∙ rw e refl);
         reach = k.reach;
-        polls = e;
+        polls = (e, k.acked ∙ rw e refl);
         present = λ y. false_true (sym e ∙ y);
         alone = λ t on f. false_true (sym (k.still t on) ∙ f);
         tasks = k.tasks;
@@ -249,12 +276,16 @@ module _ (job : Job) (ok : IsWordJob job) (h : Here) (past : List Item) (ack : �
   poll_on-kept me r k =
       by (quiet_next me.tasks r (tasks_of job me.number)) (quiet_next-on me.tasks r (tasks_of job me.number) (subst (λ (n : ℕ). Each (IsOn job c) (tasks_of job n)) (sym k.number) (on-tasks job ok c)))
     where
+      value : (b : Bool) → HasTold h.request b all_ones (cond b r all_ones)
+      value true = inl k.loaded
+      value false = inr (refl, refl)
+
       by : (o : Option ℕ) → IfSome o (IsOn job c) → CpuKept job h past ack quiet c (quiet_in job me r o)
       by None on = polled-kept me r k
       by (Some t) on = record {
         number = k.number;
         stored = k.stored;
-        acked = λ e. (let a = k.acked e in let l = k.loaded in let s = k.stored in omega (arith, a, l, s));
+        acked = subst (λ v. HasTold h.request (goes_on job me) all_ones v) (sym k.acked ∙ k.stored) (value (goes_on job me));
         reach = k.reach;
         polls = (k.loaded, k.acked, k.below, k.polls, on);
         present = k.present;

@@ -19,7 +19,7 @@ use Rattle.ft_base.proofs.Small.{false_true, ==-refl}
 use Rattle.ft_hist.specs.Past.{is_of, done, begun, visits}
 use Rattle.ft_hist.specs.Plain.{context}
 use Rattle.plain_machine.specs.State.{call_of, has_acts, tasks_of}
-use Rattle.word_machine.specs.Words.{Want, half_size, returned_at, at_put}
+use Rattle.word_machine.specs.Words.{Want, all_ones, half_size, returned_at, at_put}
 use Rattle.word_machine.specs.Control.{Op, Load, Store, Mark, Sort, Removes, Control, Place, Line, Relink, next_in, line_op, relink_op, sort, control_next}
 use Rattle.word_machine.specs.Task.{OpenCall, TaskState, Moment, Polling, First, task_op, task_got, first_op, first_got, stack_op, stack_got, is_quiet, next_exit, begun_act, top_of, guards_under, rest_acts, call_got, finished, Ending, user_of, Closing, Returning, Leaving}
 use Rattle.word_machine.specs.Cpu.{Cpu, Phase, Going, StoringAck, StoringQuiet, Over, goes_on, is_left, ticked, moved, polling, poll_on, worded, ack_value, phase_op, phase_got, going_op, going_got, present_op, present_got, is_unmet, cpu_next, cpu_got}
@@ -41,6 +41,7 @@ use Rattle.word_machine.specs.Grace.{begun_at, under}
 use Rattle.ft_base.specs.Schedule.{actors_of}
 use Rattle.ft_hist.specs.Frames.{is_nil}
 use Rattle.word_machine.specs.Costs.{Frugal, acts_cost, all_acts, for_all, items_of, levels, makes, stack_left, task_left, total}
+use Rattle.word_machine.proofs.Told.{told-more}
 
 -- ## a step of a task
 
@@ -195,7 +196,7 @@ module _ (job : Job) (ok : IsWordJob job) (s : World) (k : Kept job s) (c : ℕ)
 
       stepped : SteppedBy job (here s k.base) s.past (s.words.ack c) (s.words.quiet (s.cpus c).present) (s.cpus c).present op (task_got job (s.cpus c).present ((s.cpus c).tasks (s.cpus c).present) ((s.cpus c).tasks (s.cpus c).present).moment (taken op s.words))
       stepped = let x : TaskState = (s.cpus c).tasks (s.cpus c).present in
-          task_step job ok s k c (s.words.quiet me.present) ((k.cpus c within).acked on) me.present is-on.0 x.next x.gone x.acts x.contexts x.word x.stack x.moment ((k.cpus c within).tasks me.present is-on) away op is
+          task_step job ok s k c (s.words.quiet me.present) (told-more s.control.request _ all_ones _ on (k.cpus c within).acked) me.present is-on.0 x.next x.gone x.acts x.contexts x.word x.stack x.moment ((k.cpus c within).tasks me.present is-on) away op is
 
       paid : Paid job s (here s k.base) (s.words.ack c) (s.words.quiet (s.cpus c).present) (s.cpus c).present ((s.cpus c).tasks (s.cpus c).present) op (task_got job (s.cpus c).present ((s.cpus c).tasks (s.cpus c).present) ((s.cpus c).tasks (s.cpus c).present).moment (taken op s.words))
       paid = let x : TaskState = (s.cpus c).tasks (s.cpus c).present in

@@ -10,7 +10,7 @@ use Rattle.ft_base.specs.Job.{Job}
 use Rattle.ft_base.proofs.Small.{false_true}
 use Rattle.ft_hist.specs.Past.{is_of, done}
 use Rattle.ft_hist.specs.Rules.{MayFollow}
-use Rattle.word_machine.specs.Words.{Words, low, half_size, halves, returned_at, breakpoint, decode, stands, sel_on, sel_bare, is_marked}
+use Rattle.word_machine.specs.Words.{Words, low, most, half_size, halves, returned_at, breakpoint, decode, stands, sel_on, sel_bare, is_marked}
 use Rattle.word_machine.specs.Control.{Op, Load, Store, Mark}
 use Rattle.word_machine.specs.Task.{around, OpenCall, TaskState, Moment, Polling, First, Fetch, GotHead, GotBreak, InTramp, OwnSel, AtFirst, TestSel, TestFilter, TestNotrace, AtPids, AtDepth, Refusing, Calling, Missing, Acting, Ending, AtLink, Closing, Leaving, AtExit, Exiting, EndingExit, Returning, call_op, call_got, task_op, task_got, first_op, first_got, stack_op, stack_got, head_in, level_of, fetched, fetched_ran, begin_call, walks_to, tests_in, guard_test, is_too_deep, exit_in}
 use Rattle.word_machine.specs.Machine.{World, taken}
@@ -29,9 +29,10 @@ use Rattle.word_machine.proofs.MarkBody.{body_row}
 use Rattle.word_machine.proofs.MarkReturn.{leave_row, leave_act_row, exit_row, exit_end_row, ret_row, polling_stack, polling_callbacks, polling_calls}
 use Rattle.ft_base.specs.declared.item.Ran.{Ran}
 use Rattle.word_machine.proofs.Small.{if_case}
-use Rattle.plain_machine.specs.State.{is_held}
+use Rattle.plain_machine.specs.State.{is_held, has_acts}
 use Rattle.ft_base.specs.Kinds.{has_depth}
 use Rattle.ft_base.specs.Desk.{spec_at}
+use Rattle.word_machine.proofs.Told.{told-fewer}
 
 -- a clock tells how many commands have returned
 pub clock-returned : (d x len clock : ℕ) → (x ≡ d) → (b : Bool) → clock ≡ halves (x + cond b (suc d) d) len → len < half_size → returned_at clock ≡ d
@@ -68,7 +69,8 @@ module _ (job : Job) (ok : IsWordJob job) (s : World) (k : Kept job s) (c0 : ℕ
           record {
             word' = x.word';
             gone = (let g = x.gone in omega (arith, g));
-            quiet = λ y. x.quiet refl;
+            quiet = told-fewer h.request true (has_acts rest) most (low word) refl x.quiet;
+            first = tt;
             reached = x.reached;
             stands = tt;
             grounded = x.grounded;
@@ -83,6 +85,7 @@ module _ (job : Job) (ok : IsWordJob job) (s : World) (k : Kept job s) (c0 : ℕ
         word' = x.word';
         gone = x.gone;
         quiet = x.quiet;
+        first = tt;
         reached = x.reached;
         stands = tt;
         grounded = x.grounded;
@@ -161,7 +164,7 @@ module _ (job : Job) (ok : IsWordJob job) (s : World) (k : Kept job s) (ack word
       (let y = x.calls.1 in sel_kept job ok h' past' ws'.clock k.counts ack (low word) c below (TestSel u) y u 0 y.at.0 y.at.1 y.so.watch ws'.sel k.sets y.at.2))
   call_step (TestFilter u copy reg) x op is = is-op (TestFilter u copy reg) _ op is
       (goes (TestFilter u copy reg) _ c.ran refl (passes-walk (is_marked (ws'.bits u copy 0 (c.func / 64)) c.func) u (TestNotrace u copy reg) refl) x
-      (let y = x.calls.1 in filter_kept job ok h' past' ws'.clock k.counts ack (low word) c below (TestFilter u copy reg) y u reg y.at.0 y.at.1 y.so.watch copy x.calls.0.inside y.at.2 y.at.3))
+      (let y = x.calls.1 in filter_kept job ok h' past' ws'.clock k.counts ack (low word) c below (TestFilter u copy reg) y u reg y.at.0 y.at.1 y.so.watch copy x.calls.0.inside y.at.2 y.at.3 y.at.4))
   call_step (TestNotrace u copy reg) x op is = is-op (TestNotrace u copy reg) _ op is
       (goes (TestNotrace u copy reg) _ c.ran refl (passes-walk (not (is_marked (ws'.bits u copy 1 (c.func / 64)) c.func)) u (begin_call job c below u reg) (begin-walks job c below u reg)) x
       (let y = x.calls.1 in notrace_kept job ok h' past' ws'.clock k.counts ack (low word) c below (TestNotrace u copy reg) y u reg y.at.0 y.at.1 y.so.watch copy x.calls.0.inside y.at.2 y.at.3))

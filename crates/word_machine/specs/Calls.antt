@@ -148,10 +148,10 @@ DispatchAt job h past ack q c below ms AtFirst = (ms ≡ []) × RanIs job past c
 DispatchAt job h past ack q c below ms (TestSel u) = RanIs job past c × BeforeAt job h q c.ran u ms × (c.ran ≡ ByList)
 DispatchAt job h past ack q c below ms (TestFilter u copy reg) =
     RanIs job past c × BeforeAt job h q c.ran u ms × (c.ran ≡ ByList)
-    × Read job h.d h.p h.request q h.copies h.bits u copy (InFilter job reg)
+    × Read job h.d h.p h.request q h.copies h.bits u copy (InFilter job reg) × (copy < 2)
 DispatchAt job h past ack q c below ms (TestNotrace u copy reg) =
     RanIs job past c × BeforeAt job h q c.ran u ms × (c.ran ≡ ByList)
-    × Read job h.d h.p h.request q h.copies h.bits u copy (InNotrace job reg c.func)
+    × Read job h.d h.p h.request q h.copies h.bits u copy (InNotrace job reg c.func) × (copy < 2)
 DispatchAt job h past ack q c below ms (AtPids u reg) =
     RanIs job past c × BeforeAt job h q c.ran u ms × Found job h q u reg c.func × ((spec_at job u).pid ≡ true)
 DispatchAt job h past ack q c below ms (AtDepth u reg) =

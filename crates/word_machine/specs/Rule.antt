@@ -1,8 +1,9 @@
 -- The rule that holds between any two steps of the word machine, one part a topic.
-use Rattle.std.specs.Prelude.{ℕ, suc, ◌≡◌, ◌+◌, ◌*◌, ◌<◌, ◌≤◌, Bool, true, false, ◌&&◌, ◌==◌, List, [], ◌∷◌, ◌++◌, length, get_or, Option, Some, None, IsSome, slice_get, if◌then◌else◌}
+use Rattle.std.specs.Prelude.{ℕ, suc, ◌≡◌, ◌+◌, ◌*◌, ◌<◌, ◌≤◌, Bool, true, false, ◌&&◌, ◌==◌, List, [], ◌∷◌, ◌++◌, length, get_or, Option, Some, None, IsSome, slice_get, if◌then◌else◌, ◌⊎◌}
 use Rattle.std.specs.List.{filter, AllByRecursion as Each}
 use Rattle.ft_base.specs.declared.item.Item.{Item}
 use Rattle.ft_base.specs.declared.task.TaskAct.{TaskAct}
+use Rattle.ft_base.specs.declared.task.TaskAct.TheVariants.{Call, Ret as RetAct, After}
 use Rattle.ft_base.specs.Job.{Job, Command, Ctl, Run, Until, no_task, commands, commands_in, funcs}
 use Rattle.ft_base.specs.WellFormed.{IsWellFormed, IsScript}
 use Rattle.ft_base.specs.Desk.{spec_at}
@@ -10,10 +11,10 @@ use Rattle.ft_hist.specs.Past.{done, begun, Callback, callbacks, miss_due}
 use Rattle.ft_hist.specs.Plain.{plain, PlainTask, Frame, Phase, Dispatch, InBack, Running, Leaving as InReturn, InExit, owed_by, ahead}
 use Rattle.ft_hist.specs.Rules.{IsLegalPast, waits_before}
 use Rattle.plain_machine.specs.State.{has_acts}
-use Rattle.word_machine.specs.Words.{low, high, half_size, halves, most}
+use Rattle.word_machine.specs.Words.{low, high, half_size, halves, most, all_ones}
 use Rattle.word_machine.specs.Control.{Place, Line, sort}
 use Rattle.word_machine.specs.Task.{OpenCall, TaskState, Moment, Polling, First, Missing, Acting, Ending, Leaving, AtExit, Exiting, EndingExit, Returning, is_quiet, is_fetching, level_of, rest_acts}
-use Rattle.word_machine.specs.Cpu.{Cpu, Phase as CpuPhase, Going, StoringAck, StoringQuiet, Over, goes_on, is_left}
+use Rattle.word_machine.specs.Cpu.{Cpu, Phase as CpuPhase, Going, StoringAck, StoringQuiet, Over, goes_on, is_left, ack_value}
 use Rattle.word_machine.specs.Machine.{World}
 use Rattle.word_machine.specs.Grace.{begun_at, quiet_reached}
 use Rattle.word_machine.specs.Patch.{Sites, reached}
@@ -116,10 +117,26 @@ abbrev pub Grounded : List OpenCall → Type 0
 Grounded [] = Unit {0}
 Grounded (c ∷ below) = HasCaller c.scripted below × Grounded below
 
+-- what a poll has told: a request that was stored, or the ending value where no act is left
+abbrev pub HasTold : ℕ → Bool → ℕ → ℕ → Type 0
+HasTold request more ending v = (v ≤ request) ⊎ ((more ≡ false) × (v ≡ ending))
+
+-- behind its poll an act is a call, a return or a wait: any other is done with the poll
+abbrev pub IsToDo : List TaskAct → Type 0
+IsToDo (Call f ∷ rest) = Unit {0}
+IsToDo (RetAct ∷ rest) = Unit {0}
+IsToDo (After n ∷ rest) = Unit {0}
+IsToDo _ = ⊥
+
+abbrev pub FirstAt : Moment → List TaskAct → Type 0
+FirstAt First acts = IsToDo acts
+FirstAt _ acts = Unit {0}
+
 pub record TaskKept (job : Job) (h : Here) (past : List Item) (ack word t : ℕ) (x : TaskState) : Type 0 where
   pub word' : x.word ≡ word
   pub gone : high word ≤ x.gone
-  pub quiet : has_acts x.acts ≡ true → low word ≤ h.request
+  pub quiet : HasTold h.request (has_acts x.acts) most (low word)
+  pub first : FirstAt x.moment x.acts
   pub reached : quiet_reached (sort job h.d) h.p h.request t ≤ low word
   pub stands : StandsIn (is_quiet x.moment) x.acts x.stack
   pub grounded : Grounded x.stack
@@ -136,24 +153,24 @@ pub record TaskKept (job : Job) (h : Here) (past : List Item) (ack word t : ℕ)
 abbrev pub IsOn : Job → ℕ → ℕ → Type 0
 IsOn job c t = (t < length job.tasks) × ((get_or job.tasks t no_task).cpu ≡ c)
 
--- the quiet words of tasks with acts are at most the request that a poll has loaded
+-- the quiet words of the CPU's tasks tell of no request above the one that a poll has loaded
 abbrev pub WordsBelow : Job → ℕ → Cpu → ℕ → Type 0
-WordsBelow job c me r = (t : ℕ) → IsOn job c t → is_left me.tasks t ≡ true → low (me.tasks t).word ≤ r
+WordsBelow job c me r = (t : ℕ) → IsOn job c t → HasTold r (is_left me.tasks t) most (low (me.tasks t).word)
 
 -- a poll is made before an act of the present task
 abbrev pub Polls : Job → Cpu → Type 0
 Polls job me = goes_on job me ≡ true → (me.tasks me.present).moment ≡ Polling
 
 abbrev pub PollAt : Job → ℕ → ℕ → Cpu → CpuPhase → Type 0
-PollAt job request c me Going = Unit {0}
-PollAt job request c me (StoringAck r) = (r ≤ request) × (goes_on job me ≡ true → me.ack ≤ r) × WordsBelow job c me r × Polls job me
-PollAt job request c me (StoringQuiet r t) = (r ≤ request) × (goes_on job me ≡ true → me.ack ≡ r) × WordsBelow job c me r × Polls job me × IsOn job c t
-PollAt job request c me Over = goes_on job me ≡ false
+PollAt job request c me Going = (me.ack ≤ request) × WordsBelow job c me me.ack
+PollAt job request c me (StoringAck r) = (r ≤ request) × (me.ack ≤ r) × WordsBelow job c me r × Polls job me
+PollAt job request c me (StoringQuiet r t) = (r ≤ request) × (me.ack ≡ ack_value job me r) × WordsBelow job c me r × Polls job me × IsOn job c t
+PollAt job request c me Over = (goes_on job me ≡ false) × (me.ack ≡ all_ones)
 
 pub record CpuKept (job : Job) (h : Here) (past : List Item) (ack : ℕ) (quiet : ℕ → ℕ) (c : ℕ) (me : Cpu) : Type 0 where
   pub number : me.number ≡ c
   pub stored : me.ack ≡ ack
-  pub acked : goes_on job me ≡ true → ack ≤ h.request
+  pub acked : HasTold h.request (goes_on job me) all_ones ack
   pub reach : reached h.base h.p c ≤ ack
   pub polls : PollAt job h.request c me me.phase
   pub present : goes_on job me ≡ true → IsOn job c me.present × (is_left me.tasks me.present ≡ true)
