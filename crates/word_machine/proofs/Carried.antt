@@ -11,8 +11,10 @@ use Rattle.ft_hist.proofs.Since.{Untouched, holds-untouched, entry-untouched}
 use Rattle.ft_hist.proofs.Exits.{exits-untouched}
 use Rattle.plain_machine.proofs.CallSo.{so-untouched}
 use Rattle.word_machine.specs.Task.{OpenCall, TaskState, Moment, Polling, First, Fetch, GotHead, GotBreak, InTramp, OwnSel, AtFirst, TestSel, TestFilter, TestNotrace, AtPids, AtDepth, Refusing, Calling, Missing, Acting, Ending, AtLink, Closing, Leaving, AtExit, Exiting, EndingExit, Returning, is_quiet}
-use Rattle.word_machine.specs.Calls.{Here, DispatchAt, Dispatches, BodyRuns, Leaves, Opened, CallAt, Calls, under_call}
-use Rattle.word_machine.specs.Rule.{TaskKept, acts_by, gone_by, CpuKept}
+use Rattle.word_machine.specs.Verdicts.{Here, DispatchAt, Dispatches}
+use Rattle.word_machine.specs.Calls.{BodyRuns, Leaves, Opened, CallAt, Calls, under_call}
+use Rattle.word_machine.specs.Tasks.{TaskRule, acts_by, gone_by}
+use Rattle.word_machine.specs.Rule.{CpuRule}
 use Rattle.word_machine.specs.Cpu.{Cpu}
 use Rattle.word_machine.proofs.HistCarried.{Carries, carries_item}
 
@@ -61,7 +63,7 @@ module _ (job : Job) (h : Here) (past past' : List Item) (le : begun past ≤ be
     dispatched = u.dispatched ∙ x.dispatched;
     ms = x.ms;
     so = exits-untouched job c.call x.ms rest past past' u le x.so;
-    left = rw u.left x.left;
+    leave = rw u.left x.leave;
   }
 
   pub call_carried : (ack q : ℕ) (c : OpenCall) (below : List OpenCall) (m : Moment) → Untouched job c.call past past'
@@ -76,22 +78,35 @@ module _ (job : Job) (h : Here) (past past' : List Item) (le : begun past ≤ be
   call_carried ack q c below m u x = dispatch_carried ack q c below m u x
 
   pub opened_carried : (t : ℕ) (c : OpenCall) → Untouched job c.call past past' → Opened job past t c → Opened job past' t c
-  opened_carried t c u x = record { task = x.task; inside = x.inside; opened = u.open' ∙ x.opened; context = rw u.entered x.context; holds = holds-untouched job c.call past past' u ∙ x.holds }
+  opened_carried t c u x = record {
+    task = x.task;
+    inside = x.inside;
+    opened = u.open' ∙ x.opened;
+    context = rw u.entered x.context;
+    holds = holds-untouched job c.call past past' u ∙ x.holds;
+  }
 
-  -- of the calls of a stack each is left alone
+  -- no call of a stack is touched
   abbrev pub AllUntouched : List OpenCall → Type 0
   AllUntouched stack = Each (λ c. Untouched job c.call past past') stack
 
-  pub calls_carried : (ack q t : ℕ) (m : Moment) (stack : List OpenCall) → AllUntouched stack → Calls job h past ack q t m stack → Calls job h past' ack q t m stack
+  pub calls_carried : (ack q t : ℕ) (m : Moment) (stack : List OpenCall) → AllUntouched stack → Calls job h past ack q t m stack
+      → Calls job h past' ack q t m stack
   calls_carried ack q t m [] u x = tt
-  calls_carried ack q t m (c ∷ below) u x = (opened_carried t c u.0 x.0, call_carried ack q c below m u.0 x.1, calls_carried ack q t (under_call c below) below u.1 x.2)
+  calls_carried ack q t m (c ∷ below) u x = (
+    opened_carried t c u.0 x.0,
+    call_carried ack q c below m u.0 x.1,
+    calls_carried ack q t (under_call c below) below u.1 x.2,
+  )
 
-  pub all_untouched : (ack q t : ℕ) (m : Moment) (stack : List OpenCall) → ((c : CallNo) → c.task.0 ≡ t → Untouched job c past past') → Calls job h past ack q t m stack → AllUntouched stack
+  pub all_untouched : (ack q t : ℕ) (m : Moment) (stack : List OpenCall) → ((c : CallNo) → c.task.0 ≡ t → Untouched job c past past')
+      → Calls job h past ack q t m stack → AllUntouched stack
   all_untouched ack q t m [] u x = tt
   all_untouched ack q t m (c ∷ below) u x = (u c.call x.0.task, all_untouched ack q t (under_call c below) below u x.2)
 
 -- a task over items that leave its calls alone
-pub task_carried : (job : Job) (h : Here) (past past' : List Item) (ack word t : ℕ) (x : TaskState) → Carries job t past past' → TaskKept job h past ack word t x → TaskKept job h past' ack word t x
+pub task_carried : (job : Job) (h : Here) (past past' : List Item) (ack word t : ℕ) (x : TaskState) → Carries job t past past'
+    → TaskRule job h past ack word t x → TaskRule job h past' ack word t x
 task_carried job h past past' ack word t x c k = record {
   word' = k.word';
   gone = k.gone;
@@ -106,18 +121,21 @@ task_carried job h past past' ack word t x c k = record {
     is = c.run ∙ k.run.is;
     next = k.run.next;
     stack = k.run.stack;
-    ahead = c.ahead k.run.at.acts (acts_by (is_quiet x.moment) x.acts) k.run.at.contexts x.contexts k.run.at.gone (gone_by (is_quiet x.moment) x.gone) k.run.ahead;
+    ahead = c.ahead k.run.at.acts (acts_by (is_quiet x.moment) x.acts) k.run.at.contexts x.contexts k.run.at.gone
+        (gone_by (is_quiet x.moment) x.gone) k.run.ahead;
     counted = k.run.counted;
   };
   opens = c.opens ∙ k.opens;
   miss = c.miss ∙ k.miss;
   few = k.few;
   script = k.script;
-  calls = calls_carried job h past past' c.begun c.longer ack _ t x.moment x.stack (all_untouched job h past past' c.begun c.longer ack _ t x.moment x.stack c.calls k.calls) k.calls;
+  calls = calls_carried job h past past' c.begun c.longer ack _ t x.moment x.stack
+      (all_untouched job h past past' c.begun c.longer ack _ t x.moment x.stack c.calls k.calls) k.calls;
 }
 
 -- a CPU over an item of no task
-pub cpu_carried : (job : Job) (h : Here) (past : List Item) (item : Item) → ((t : ℕ) → is_of t item ≡ false) → (ack : ℕ) (quiet : ℕ → ℕ) (c : ℕ) (me : Cpu) → CpuKept job h past ack quiet c me → CpuKept job h (item ∷ past) ack quiet c me
+pub cpu_carried : (job : Job) (h : Here) (past : List Item) (item : Item) → ((t : ℕ) → is_of t item ≡ false) → (ack : ℕ) (quiet : ℕ → ℕ) (c : ℕ) (me : Cpu)
+    → CpuRule job h past ack quiet c me → CpuRule job h (item ∷ past) ack quiet c me
 cpu_carried job h past item none ack quiet c me k = record {
   number = k.number;
   stored = k.stored;

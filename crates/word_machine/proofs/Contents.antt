@@ -14,9 +14,9 @@ use Rattle.ft_base.proofs.Small.{false_true}
 use Rattle.ft_base.specs.Marks.{Marks}
 use Rattle.site_set.specs.Marks.{word_of}
 use Rattle.site_set.proofs.MarksLemmas.{bit_at-word_of, bit_at-number_of}
-use Rattle.word_machine.specs.Words.{high, half_size, sel_word, sel_on, sel_copy, sel_bare, stands, tramp_word, tramp_user, is_marked, mask_of, head_of, tail_of, decode, low, halves}
-use Rattle.word_machine.specs.Control.{set_words}
-use Rattle.word_machine.specs.Users.{SelIs, Reading}
+use Rattle.word_machine.specs.Words.{high, half_size, sel_word, sel_on, sel_copy, sel_empty, stands, tramp_word, tramp_user, is_marked, mask_of, head_of, tail_of, decode, low, halves}
+use Rattle.word_machine.specs.Commands.{set_words}
+use Rattle.word_machine.specs.HashCopies.{SelIs, Reader}
 use Rattle.word_machine.proofs.Small.{and-false, or-right, digit-one}
 
 -- ## a user's state
@@ -41,7 +41,7 @@ copy_of reg copy false true false h = omega arith
 copy_of reg copy false false true h = omega arith
 copy_of reg copy false false false h = omega arith
 
-bare_of : (reg copy : ℕ) (r e b : Bool) → copy < 2 → sel_bare (sel_word reg r e copy b) ≡ b
+bare_of : (reg copy : ℕ) (r e b : Bool) → copy < 2 → sel_empty (sel_word reg r e copy b) ≡ b
 bare_of reg copy true true true h = grind (arith, nat_tests)
 bare_of reg copy true true false h = grind (arith, nat_tests)
 bare_of reg copy true false true h = grind (arith, nat_tests)
@@ -80,17 +80,18 @@ sel-reg-is job s v copy bits small is = by s.registered refl
     by false e = (is.1 e).0
 
 pub test_on : (job : Job) (s : UserState) (v copy : ℕ) (bits : ℕ → ℕ → ℕ → ℕ) → copy < 2 → SelIs job s v copy bits → sel_on v ≡ true
-    → (sel_copy v ≡ copy) × Reading job s (bits copy) (high v) × (sel_bare v ≡ is_empty s.filter)
+    → (sel_copy v ≡ copy) × Reader job s (bits copy) (high v) × (sel_empty v ≡ is_empty s.filter)
 test_on job s v copy bits small is on = by s.registered s.enabled refl refl (sym (sel-on-is job s v copy bits small is) ∙ on)
   where
-    by : (r e : Bool) → s.registered ≡ r → s.enabled ≡ e → (s.registered && s.enabled) ≡ true → (sel_copy v ≡ copy) × Reading job s (bits copy) (high v) × (sel_bare v ≡ is_empty s.filter)
+    by : (r e : Bool) → s.registered ≡ r → s.enabled ≡ e → (s.registered && s.enabled) ≡ true → (sel_copy v ≡ copy) × Reader job s (bits copy) (high v)
+        × (sel_empty v ≡ is_empty s.filter)
     by false e x y both = false_true (rw x at both)
     by true false x y both = false_true (rw (x, y) at both)
     by true true x y both =
         let h = is.0 x in (
           ap sel_copy h.0 ∙ copy_of s.reg copy s.registered s.enabled (is_empty s.filter) small,
           record { registered = x; enabled = y; number = sym (sel-reg-is job s v copy bits small is); copied = h.1 },
-          ap sel_bare h.0 ∙ bare_of s.reg copy s.registered s.enabled (is_empty s.filter) small,
+          ap sel_empty h.0 ∙ bare_of s.reg copy s.registered s.enabled (is_empty s.filter) small,
         )
 
 -- on at a function, by a user's state
@@ -105,8 +106,9 @@ test_off job s v copy f bits small is off = by s.registered s.enabled refl refl 
     by true false x y both = rw (x, y) (and-false (is_matching s f))
     by true true x y both = false_true (sym (rw (x, y) at both))
 
--- a registration stands where it is live
-pub stands-live : (job : Job) (s : UserState) (v copy reg : ℕ) (bits : ℕ → ℕ → ℕ → ℕ) → copy < 2 → SelIs job s v copy bits → stands v reg ≡ (s.registered && s.enabled && (s.reg == reg))
+-- a registration that stands is live
+pub stands-live : (job : Job) (s : UserState) (v copy reg : ℕ) (bits : ℕ → ℕ → ℕ → ℕ) → copy < 2 → SelIs job s v copy bits
+    → stands v reg ≡ (s.registered && s.enabled && (s.reg == reg))
 stands-live job s v copy reg bits small is = (let a = sel-on-is job s v copy bits small is in let b = sel-reg-is job s v copy bits small is in rw (a, b) refl)
 
 -- ## a word of a set
@@ -126,22 +128,24 @@ mask-is d tasks t few inside =
     ∙ ap (λ n. is_allowed d n) (get_or-range_with_len 0 tasks t 0 inside ∙ (let z : 0 + t ≡ t = omega arith in z))
 
 module _ (job : Job) (s : UserState) (copy : ℕ → ℕ → ℕ) (reg f : ℕ) where
-  filter-word : f / 64 < set_words job → Reading job s copy reg → is_marked (copy 0 (f / 64)) f ≡ holds s.filter f
+  filter-word : f / 64 < set_words job → Reader job s copy reg → is_marked (copy 0 (f / 64)) f ≡ holds s.filter f
   filter-word inside r = ap (λ v. is_marked v f) (r.copied 0 (f / 64) (omega arith) inside) ∙ marked-is s.filter f
 
-  notrace-word : f / 64 < set_words job → Reading job s copy reg → is_marked (copy 1 (f / 64)) f ≡ holds s.notrace f
+  notrace-word : f / 64 < set_words job → Reader job s copy reg → is_marked (copy 1 (f / 64)) f ≡ holds s.notrace f
   notrace-word inside r = ap (λ v. is_marked v f) (r.copied 1 (f / 64) (omega arith) inside) ∙ marked-is s.notrace f
 
-  pub filter_in : f / 64 < set_words job → Reading job s copy reg → is_marked (copy 0 (f / 64)) f ≡ true → (is_empty s.filter || holds s.filter f) ≡ true
+  pub filter_in : f / 64 < set_words job → Reader job s copy reg → is_marked (copy 0 (f / 64)) f ≡ true → (is_empty s.filter || holds s.filter f) ≡ true
   filter_in inside r e = (let h : holds s.filter f ≡ true = sym (filter-word inside r) ∙ e in rw h (or-right (is_empty s.filter)))
 
-  pub filter_out : f / 64 < set_words job → Reading job s copy reg → is_empty s.filter ≡ false → is_marked (copy 0 (f / 64)) f ≡ false → on_by s f ≡ false
-  filter_out inside r bare e = (let h : holds s.filter f ≡ false = sym (filter-word inside r) ∙ e in rw (h, bare, r.registered) refl)
+  pub filter_out : f / 64 < set_words job → Reader job s copy reg → is_empty s.filter ≡ false → is_marked (copy 0 (f / 64)) f ≡ false → on_by s f ≡ false
+  filter_out inside r empty e = (let h : holds s.filter f ≡ false = sym (filter-word inside r) ∙ e in rw (h, empty, r.registered) refl)
 
-  pub notrace_on : f / 64 < set_words job → Reading job s copy reg → (is_empty s.filter || holds s.filter f) ≡ true → is_marked (copy 1 (f / 64)) f ≡ false → on_by s f ≡ true
+  pub notrace_on : f / 64 < set_words job → Reader job s copy reg → (is_empty s.filter || holds s.filter f) ≡ true → is_marked (copy 1 (f / 64)) f ≡ false
+      → on_by s f ≡ true
   notrace_on inside r passes e = (let h : holds s.notrace f ≡ false = sym (notrace-word inside r) ∙ e in rw (h, passes, r.registered, r.enabled) refl)
 
-  pub notrace_off : f / 64 < set_words job → Reading job s copy reg → (is_empty s.filter || holds s.filter f) ≡ true → is_marked (copy 1 (f / 64)) f ≡ true → on_by s f ≡ false
+  pub notrace_off : f / 64 < set_words job → Reader job s copy reg → (is_empty s.filter || holds s.filter f) ≡ true → is_marked (copy 1 (f / 64)) f ≡ true
+      → on_by s f ≡ false
   notrace_off inside r passes e = (let h : holds s.notrace f ≡ true = sym (notrace-word inside r) ∙ e in rw (h, passes, r.registered) refl)
 
 -- ## a trampoline's word

@@ -1,4 +1,4 @@
--- The whole row that begins a command.
+-- The row that begins a command.
 use Rattle.std.proofs.Common.{cond, ◌≡◌, ℕ, suc, ◌+◌, ◌<◌, Bool, true, false, List, ◌∷◌, length, Some, inl, inr, refl, sym, ap, ◌∙◌, subst, arith}
 use Rattle.std.specs.Prelude.{Option, map, is_some, slice_get, not, ◌&&◌, ◌||◌}
 use Rattle.std.proofs.lemmas.Bool.{cases_eq}
@@ -17,88 +17,100 @@ use Rattle.ft_hist.specs.Rules.{IsLegalPast, HasWaited, MayBegin}
 use Rattle.ft_hist.proofs.Laws.{plain-other}
 use Rattle.site_set.specs.Marks.{number_of}
 use Rattle.word_machine.specs.Words.{Words, low, half_size, mask_of, tramp_word}
-use Rattle.word_machine.specs.Control.{Mark, Place, Line, Take, Copy, Select, StorePids, StoreDepth, Close, Sort, Adds, Removes, Edits, Enables, Disables, Lists, Levels, Nothing, sort, subject, state_of, changes, begin_in, has_slot_at, copy_from, control_got}
+use Rattle.word_machine.specs.Commands.{Effect, Adds, Removes, Edits, Enables, Disables, Lists, Levels, Nothing, effect, subject, state_of, changes, has_slot_at}
+use Rattle.word_machine.specs.Control.{Mark, Position, Line, Take, Copy, Select, StorePids, StoreDepth, Close, begin_in, copy_from, control_got}
 use Rattle.word_machine.specs.Cpu.{Cpu}
 use Rattle.word_machine.specs.Machine.{control_row}
-use Rattle.word_machine.specs.Grace.{SeenAt, selected, listed, took, gave, pids_stored, depth_stored, desk_by, under, quiet_reached, relinks, patches, selects, is_adds, is_lists, is_levels, writes_copy, fits}
-use Rattle.word_machine.specs.Patch.{PlaceAt, stage_in, asks, reached}
-use Rattle.word_machine.specs.Users.{since_of, list_desk, PushedAt, Listed, SelIs, WrittenAt, Sets, HasSlot, Tramps, Limits}
-use Rattle.word_machine.specs.Rule.{Kept, UnderAt}
+use Rattle.word_machine.specs.Progress.{SeenAt, selected, listed, took, gave, pids_stored, depth_stored, desk_by, underway, quiet_reached, relinks, patches, selects, is_adds, is_lists, is_levels, writes_copy, comes_to}
+use Rattle.word_machine.specs.Sites.{PositionAt, stage_in, asks, reached}
+use Rattle.word_machine.specs.UserList.{since_of, list_desk, PushedAt, UserList}
+use Rattle.word_machine.specs.HashCopies.{SelIs, WrittenAt, HashCopies}
+use Rattle.word_machine.specs.Trampolines.{HasSlot, TrampolinesHeld, PidsAndDepth}
+use Rattle.word_machine.specs.Rule.{MachineRule, UnderAt}
 use Rattle.word_machine.proofs.Carried.{cpu_carried}
 use Rattle.word_machine.proofs.DeskChanges.{SubjectBy, between}
 use Rattle.word_machine.proofs.Small.{if_case}
 use Rattle.word_machine.proofs.Sites.{Fetches, Passed, passed_same}
 use Rattle.word_machine.proofs.Goes.{Goes, cpu_goes}
-use Rattle.word_machine.proofs.KeptOn.{world, hereby, lines_on}
+use Rattle.word_machine.proofs.NoSwitch.{world, hereby, lines_on}
 use Rattle.word_machine.proofs.DeskKept.{others_same, none_changes, rest_same, order_flips, IsSteady}
 use Rattle.word_machine.proofs.TrampRows.{first_copy}
 
 module _ (job : Job) (ok : IsWellFormed job) (d : ℕ) where
   -- a command that stores no user's state leaves all states
-  states_same : selects (sort job d) ≡ false → (u : ℕ) → ((state_of job d u).registered ≡ true → state_of job (suc d) u ≡ state_of job d u) × ((state_of job (suc d) u).registered ≡ (state_of job d u).registered) × ((state_of job (suc d) u).reg ≡ (state_of job d u).reg)
+  states_same : selects (effect job d) ≡ false → (u : ℕ) → ((state_of job d u).registered ≡ true → state_of job (suc d) u ≡ state_of job d u)
+      × ((state_of job (suc d) u).registered ≡ (state_of job d u).registered) × ((state_of job (suc d) u).reg ≡ (state_of job d u).reg)
   states_same none u = elim (cases_eq u (subject job d)) [
     | inr ne ↦ (let e = others_same job ok d u ne in ((λ r. e), ap (λ (s : UserState). s.registered) e, ap (λ (s : UserState). s.reg) e))
-    | inl e ↦ subst (λ x. ((state_of job d x).registered ≡ true → state_of job (suc d) x ≡ state_of job d x) × ((state_of job (suc d) x).registered ≡ (state_of job d x).registered) × ((state_of job (suc d) x).reg ≡ (state_of job d x).reg)) (sym e)
-        (by_sort (sort job d) (between job ok d).subject none)
+    | inl e ↦ subst (λ x. ((state_of job d x).registered ≡ true → state_of job (suc d) x ≡ state_of job d x)
+        × ((state_of job (suc d) x).registered ≡ (state_of job d x).registered) × ((state_of job (suc d) x).reg ≡ (state_of job d x).reg)) (sym e)
+        (by_effect (effect job d) (between job ok d).subject none)
   ]
     where
-      by_sort : (z : Sort) → SubjectBy job (desk job d) (suc d) z (state_of job d (subject job d)) (state_of job (suc d) (subject job d)) → selects z ≡ false
-          → ((state_of job d (subject job d)).registered ≡ true → state_of job (suc d) (subject job d) ≡ state_of job d (subject job d)) × ((state_of job (suc d) (subject job d)).registered ≡ (state_of job d (subject job d)).registered) × ((state_of job (suc d) (subject job d)).reg ≡ (state_of job d (subject job d)).reg)
-      by_sort Adds c x = false_true (sym x)
-      by_sort Removes c x = false_true (sym x)
-      by_sort Edits c x = false_true (sym x)
-      by_sort Enables c x = false_true (sym x)
-      by_sort Disables c x = false_true (sym x)
-      by_sort Lists c x = ((λ r. c), ap (λ (s : UserState). s.registered) c, ap (λ (s : UserState). s.reg) c)
-      by_sort Levels c x = ((λ r. c), ap (λ (s : UserState). s.registered) c, ap (λ (s : UserState). s.reg) c)
-      by_sort Nothing c x = (c.1, c.0.registered, c.0.reg)
+      by_effect : (z : Effect) → SubjectBy job (desk job d) (suc d) z (state_of job d (subject job d)) (state_of job (suc d) (subject job d))
+          → selects z ≡ false
+          → ((state_of job d (subject job d)).registered ≡ true → state_of job (suc d) (subject job d) ≡ state_of job d (subject job d))
+          × ((state_of job (suc d) (subject job d)).registered ≡ (state_of job d (subject job d)).registered)
+          × ((state_of job (suc d) (subject job d)).reg ≡ (state_of job d (subject job d)).reg)
+      by_effect Adds c x = false_true (sym x)
+      by_effect Removes c x = false_true (sym x)
+      by_effect Edits c x = false_true (sym x)
+      by_effect Enables c x = false_true (sym x)
+      by_effect Disables c x = false_true (sym x)
+      by_effect Lists c x = ((λ r. c), ap (λ (s : UserState). s.registered) c, ap (λ (s : UserState). s.reg) c)
+      by_effect Levels c x = ((λ r. c), ap (λ (s : UserState). s.registered) c, ap (λ (s : UserState). s.reg) c)
+      by_effect Nothing c x = (c.1, c.0.registered, c.0.reg)
 
   -- a trampoline that a user has afterwards it had before, but for a new user
-  slot_back : (sort job d ≡ Adds → has_slot_at job (suc d) (subject job d) ≡ false) → (u t : ℕ) → HasSlot (state_of job (suc d) u) t → HasSlot (state_of job d u) t × ((state_of job (suc d) u).reg ≡ (state_of job d u).reg)
+  slot_back : (effect job d ≡ Adds → has_slot_at job (suc d) (subject job d) ≡ false) → (u t : ℕ) → HasSlot (state_of job (suc d) u) t
+      → HasSlot (state_of job d u) t × ((state_of job (suc d) u).reg ≡ (state_of job d u).reg)
   slot_back none u t h = elim (cases_eq u (subject job d)) [
     | inr ne ↦ (let e = others_same job ok d u ne in (subst (λ (s : UserState). HasSlot s t) e h, ap (λ (s : UserState). s.reg) e))
-    | inl e ↦ subst (λ x. HasSlot (state_of job d x) t × ((state_of job (suc d) x).reg ≡ (state_of job d x).reg)) (sym e) (by_sort (sort job d) refl (between job ok d).subject (subst (λ x. HasSlot (state_of job (suc d) x) t) e h))
+    | inl e ↦ subst (λ x. HasSlot (state_of job d x) t × ((state_of job (suc d) x).reg ≡ (state_of job d x).reg)) (sym e)
+        (by_effect (effect job d) refl (between job ok d).subject (subst (λ x. HasSlot (state_of job (suc d) x) t) e h))
   ]
     where
       slot_there : (o : Option ℕ) → o ≡ Some t → is_some o ≡ true
       slot_there o x = rw x refl
 
-      by_sort : (z : Sort) → sort job d ≡ z → SubjectBy job (desk job d) (suc d) z (state_of job d (subject job d)) (state_of job (suc d) (subject job d)) → HasSlot (state_of job (suc d) (subject job d)) t
+      by_effect : (z : Effect) → effect job d ≡ z
+          → SubjectBy job (desk job d) (suc d) z (state_of job d (subject job d)) (state_of job (suc d) (subject job d))
+          → HasSlot (state_of job (suc d) (subject job d)) t
           → HasSlot (state_of job d (subject job d)) t × ((state_of job (suc d) (subject job d)).reg ≡ (state_of job d (subject job d)).reg)
-      by_sort Adds e c x = false_true (sym (none e) ∙ slot_there (state_of job (suc d) (subject job d)).slot x.1)
-      by_sort Removes e c x = false_true (sym (ap (λ (s : UserState). s.registered) c.1) ∙ x.0)
-      by_sort Edits e c x = ((sym c.1.registered ∙ x.0, sym c.1.slot ∙ x.1), c.1.reg)
-      by_sort Enables e c x = (subst (λ (s : UserState). HasSlot s t) c.1 x, ap (λ (s : UserState). s.reg) c.1)
-      by_sort Disables e c x = (subst (λ (s : UserState). HasSlot s t) c.1 x, ap (λ (s : UserState). s.reg) c.1)
-      by_sort Lists e c x = (subst (λ (s : UserState). HasSlot s t) c x, ap (λ (s : UserState). s.reg) c)
-      by_sort Levels e c x = (subst (λ (s : UserState). HasSlot s t) c x, ap (λ (s : UserState). s.reg) c)
-      by_sort Nothing e c x = ((sym c.0.registered ∙ x.0, sym c.0.slot ∙ x.1), c.0.reg)
+      by_effect Adds e c x = false_true (sym (none e) ∙ slot_there (state_of job (suc d) (subject job d)).slot x.1)
+      by_effect Removes e c x = false_true (sym (ap (λ (s : UserState). s.registered) c.1) ∙ x.0)
+      by_effect Edits e c x = ((sym c.1.registered ∙ x.0, sym c.1.slot ∙ x.1), c.1.reg)
+      by_effect Enables e c x = (subst (λ (s : UserState). HasSlot s t) c.1 x, ap (λ (s : UserState). s.reg) c.1)
+      by_effect Disables e c x = (subst (λ (s : UserState). HasSlot s t) c.1 x, ap (λ (s : UserState). s.reg) c.1)
+      by_effect Lists e c x = (subst (λ (s : UserState). HasSlot s t) c x, ap (λ (s : UserState). s.reg) c)
+      by_effect Levels e c x = (subst (λ (s : UserState). HasSlot s t) c x, ap (λ (s : UserState). s.reg) c)
+      by_effect Nothing e c x = ((sym c.0.registered ∙ x.0, sym c.0.slot ∙ x.1), c.0.reg)
 
-  pids_same : is_lists (sort job d) ≡ false → (t : ℕ) → is_allowed (desk job (suc d)) t ≡ is_allowed (desk job d) t
+  pids_same : is_lists (effect job d) ≡ false → (t : ℕ) → is_allowed (desk job (suc d)) t ≡ is_allowed (desk job d) t
   pids_same none t = let e = (between job ok d).lists none in λ i. ((is_empty (e.0 i) || holds (e.0 i) t) && not (holds (e.1 i) t))
 
-  -- what a place behind Begin asks of a command: each word that is counted as stored there is left by the command
-  record Begins (p' : Place) (request : ℕ) : Type 0 where
-    user : selected p' ≡ true → selects (sort job d) ≡ false
-    list : listed p' ≡ true → relinks (sort job d) ≡ false
-    pids : pids_stored p' ≡ true → is_lists (sort job d) ≡ false
-    depth : depth_stored p' ≡ true → is_levels (sort job d) ≡ false
-    slot : took p' ≡ true → sort job d ≡ Adds → has_slot_at job (suc d) (subject job d) ≡ false
-    give : gave (sort job d) p' ≡ false
-    begun : under p' ≡ true
-    to : (left : List Ctl) → UnderAt Close left → UnderAt p' left
+  -- what a position after the Begin asks of a command: the command leaves each word that counts as stored there
+  record Begins (p' : Position) (request : ℕ) : Type 0 where
+    user : selected p' ≡ true → selects (effect job d) ≡ false
+    list : listed p' ≡ true → relinks (effect job d) ≡ false
+    pids : pids_stored p' ≡ true → is_lists (effect job d) ≡ false
+    depth : depth_stored p' ≡ true → is_levels (effect job d) ≡ false
+    slot : took p' ≡ true → effect job d ≡ Adds → has_slot_at job (suc d) (subject job d) ≡ false
+    give : gave (effect job d) p' ≡ false
+    begun : underway p' ≡ true
+    to : (remaining : List Ctl) → UnderAt Close remaining → UnderAt p' remaining
     pushed : (link : ℕ → ℕ) (order : List ℕ) → PushedAt job d link order p'
-    written : (copy : ℕ → ℕ → ℕ) → WrittenAt job (state_of job (suc d) (subject job d)) copy (sort job d) p'
-    quiet : (t : ℕ) → quiet_reached (sort job d) p' request t ≡ 0
-    stages : (f : ℕ) → patches (sort job d) ≡ true → stage_in p' f ≡ 0
+    written : (copy : ℕ → ℕ → ℕ) → WrittenAt job (state_of job (suc d) (subject job d)) copy (effect job d) p'
+    quiet : (t : ℕ) → quiet_reached (effect job d) p' request t ≡ 0
+    stages : (f : ℕ) → patches (effect job d) ≡ true → stage_in p' f ≡ 0
     none : asks p' ≡ 0
     reaches : (b c : ℕ) → reached b p' c ≡ 0
-    place : PlaceAt job d p'
-    fit : fits (sort job d) p' ≡ true
+    position : PositionAt job d p'
+    fit : comes_to (effect job d) p' ≡ true
 
-  module _ (p' : Place) (request : ℕ) (b : Begins p' request) where
-    listed_begin : (order : List ℕ) (first : ℕ) (link : ℕ → ℕ) → Listed job d Line order first link → Listed job d p' order first link
-    listed_begin order first link k = record { order' = by_list (listed p') refl; reads = k.reads; pushed = b.pushed link order }
+  module _ (p' : Position) (request : ℕ) (b : Begins p' request) where
+    listed_begin : (order : List ℕ) (first : ℕ) (link : ℕ → ℕ) → UserList job d Line order first link → UserList job d p' order first link
+    listed_begin order first link k = record { order' = by_list (listed p') refl; leads = k.leads; pushed = b.pushed link order }
       where
         by_list : (x : Bool) → listed p' ≡ x → IsOrder (desk job (desk_by x d)) (desk_by x d) order
         by_list false e = k.order'
@@ -111,7 +123,7 @@ module _ (job : Job) (ok : IsWellFormed job) (d : ℕ) where
         by_list false e = refl
         by_list true e = (rest_same job ok d (b.list e) v).1
 
-    sets_begin : (copies sel : ℕ → ℕ) (bits : ℕ → ℕ → ℕ → ℕ → ℕ) → Sets job d Line copies sel bits → Sets job d p' copies sel bits
+    sets_begin : (copies sel : ℕ → ℕ) (bits : ℕ → ℕ → ℕ → ℕ → ℕ) → HashCopies job d Line copies sel bits → HashCopies job d p' copies sel bits
     sets_begin copies sel bits k = record { small = k.small; sels = λ u. by_state u (selected p') refl; written = b.written _ }
       where
         by_state : (u : ℕ) (x : Bool) → selected p' ≡ x → SelIs job (state_of job (desk_by x d) u) (sel u) (copies u) (bits u)
@@ -123,14 +135,15 @@ module _ (job : Job) (ok : IsWellFormed job) (d : ℕ) where
               (λ r. (let x = (k.sels u).1 (sym s.1 ∙ r) in (x.0 ∙ sym s.2, x.1))),
             )
 
-    tramps_begin : (tramp : ℕ → ℕ) → Tramps job d Line tramp → Tramps job d p' tramp
+    tramps_begin : (tramp : ℕ → ℕ) → TrampolinesHeld job d Line tramp → TrampolinesHeld job d p' tramp
     tramps_begin tramp k = record {
-      before = λ u t h free. k.before u t h (λ g. absurd (none_line (sort job d) g));
-      after = λ e u t h. (let x = slot_back (b.slot e) u t h in k.before u t x.0 (λ g. absurd (none_line (sort job d) g)) ∙ ap (λ r. tramp_word r u) (sym x.1));
+      before = λ u t h free. k.before u t h (λ g. absurd (none_line (effect job d) g));
+      after = λ e u t h. (let x = slot_back (b.slot e) u t h in k.before u t x.0 (λ g. absurd (none_line (effect job d) g))
+          ∙ ap (λ r. tramp_word r u) (sym x.1));
       free = λ t within old new. k.free t within (λ u h. false_true (sym b.give ∙ (old u h).0)) (λ e. false_true e);
     }
       where
-        none_line : (z : Sort) → gave z Line ≡ true → ⊥
+        none_line : (z : Effect) → gave z Line ≡ true → ⊥
         none_line Removes e = false_true e
         none_line Adds e = false_true e
         none_line Edits e = false_true e
@@ -140,7 +153,7 @@ module _ (job : Job) (ok : IsWellFormed job) (d : ℕ) where
         none_line Levels e = false_true e
         none_line Nothing e = false_true e
 
-    limits_begin : (pids depth : ℕ) → Limits job d Line pids depth → Limits job d p' pids depth
+    limits_begin : (pids depth : ℕ) → PidsAndDepth job d Line pids depth → PidsAndDepth job d p' pids depth
     limits_begin pids depth k = record { tasks = by_pids (pids_stored p') refl; level = by_depth (depth_stored p') refl }
       where
         by_pids : (x : Bool) → pids_stored p' ≡ x → pids ≡ mask_of (desk job (desk_by x d)) (length job.tasks)
@@ -153,7 +166,8 @@ module _ (job : Job) (ok : IsWellFormed job) (d : ℕ) where
         by_depth false e = k.level
         by_depth true e = k.level ∙ sym ((between job ok d).level (b.depth e))
 
-    goes_begin : (base : ℕ) (order : List ℕ) (copies link : ℕ → ℕ) (bits : ℕ → ℕ → ℕ → ℕ → ℕ) (ack q : ℕ) → Fetches job ack d Line base d p' base → Goes job (hereby d Line base request order copies link bits) (hereby d p' base request order copies link bits) ack q
+    goes_begin : (base : ℕ) (order : List ℕ) (copies link : ℕ → ℕ) (bits : ℕ → ℕ → ℕ → ℕ → ℕ) (ack q : ℕ) → Fetches job ack d Line base d p' base
+        → Goes job (hereby d Line base request order copies link bits) (hereby d p' base request order copies link bits) ack q
     goes_begin base order copies link bits ack q fetch = record {
       later = omega arith;
       fetch = fetch;
@@ -166,26 +180,35 @@ module _ (job : Job) (ok : IsWellFormed job) (d : ℕ) where
       depth = λ Q s. by_depth Q s (depth_stored p') refl;
     }
       where
-        by_user : (u : ℕ) (R : UserState → Type 0) → IsSteady R → R (state_of job d u) → (x : Bool) → selected p' ≡ x → SeenAt x (sort job d) p' request q (R (state_of job d u)) (R (state_of job (suc d) u))
+        by_user : (u : ℕ) (R : UserState → Type 0) → IsSteady R → R (state_of job d u) → (x : Bool) → selected p' ≡ x
+            → SeenAt x (effect job d) p' request q (R (state_of job d u)) (R (state_of job (suc d) u))
         by_user u R steady s false e = s
         by_user u R steady s true e = inl (subst R (sym ((states_same (b.user e) u).0 (steady (state_of job d u) s).0)) s)
 
-        by_read : (u copy : ℕ) (R : UserState → (ℕ → ℕ → ℕ) → Type 0) → ((y : ℕ → ℕ → ℕ) → IsSteady (λ s. R s y)) → (false ≡ false → copy ≡ copies u) × R (state_of job d u) (bits u copy) → (x : Bool) → selected p' ≡ x
-            → SeenAt x (sort job d) p' request q ((x ≡ false → copy ≡ copies u) × R (state_of job d u) (bits u copy)) ((copy ≡ copies u) × R (state_of job (suc d) u) (bits u copy))
+        by_read : (u copy : ℕ) (R : UserState → (ℕ → ℕ → ℕ) → Type 0) → ((y : ℕ → ℕ → ℕ) → IsSteady (λ s. R s y))
+            → (false ≡ false → copy ≡ copies u) × R (state_of job d u) (bits u copy) → (x : Bool) → selected p' ≡ x
+            → SeenAt x (effect job d) p' request q ((x ≡ false → copy ≡ copies u) × R (state_of job d u) (bits u copy))
+            ((copy ≡ copies u) × R (state_of job (suc d) u) (bits u copy))
         by_read u copy R steady s false e = s
-        by_read u copy R steady s true e = inl (s.0 refl, subst (λ y. R y (bits u copy)) (sym ((states_same (b.user e) u).0 (steady (bits u copy) (state_of job d u) s.1).0)) s.1)
+        by_read u copy R steady s true e = inl (
+          s.0 refl,
+          subst (λ y. R y (bits u copy)) (sym ((states_same (b.user e) u).0 (steady (bits u copy) (state_of job d u) s.1).0)) s.1,
+        )
 
-        by_pids : (t : ℕ) (y : Bool) → is_allowed (desk job d) t ≡ y → (x : Bool) → pids_stored p' ≡ x → SeenAt x (sort job d) p' request q (is_allowed (desk job d) t ≡ y) (is_allowed (desk job (suc d)) t ≡ y)
+        by_pids : (t : ℕ) (y : Bool) → is_allowed (desk job d) t ≡ y → (x : Bool) → pids_stored p' ≡ x
+            → SeenAt x (effect job d) p' request q (is_allowed (desk job d) t ≡ y) (is_allowed (desk job (suc d)) t ≡ y)
         by_pids t y s false e = s
         by_pids t y s true e = inl (pids_same (b.pids e) t ∙ s)
 
-        by_depth : (Q : ℕ → Type 0) → Q (desk job d).depth → (x : Bool) → depth_stored p' ≡ x → SeenAt x (sort job d) p' request q (Q (desk job d).depth) (Q (desk job (suc d)).depth)
+        by_depth : (Q : ℕ → Type 0) → Q (desk job d).depth → (x : Bool) → depth_stored p' ≡ x
+            → SeenAt x (effect job d) p' request q (Q (desk job d).depth) (Q (desk job (suc d)).depth)
         by_depth Q s false e = s
         by_depth Q s true e = inl (subst Q (sym ((between job ok d).level (b.depth e))) s)
 
-module _ (job : Job) (ok : IsWellFormed job) (ws : Words) (d : ℕ) (c : Command) (rest : List Ctl) (request : ℕ) (copies : ℕ → ℕ) (order : List ℕ) (cpus : ℕ → Cpu) (past : List Item) where
-  abbrev At : Place → Type 0
-  At p = Kept job (world ws d (Run c ∷ rest) request copies order cpus past p)
+module _ (job : Job) (ok : IsWellFormed job) (ws : Words) (d : ℕ) (c : Command) (rest : List Ctl) (request : ℕ) (copies : ℕ → ℕ) (order : List ℕ) (cpus : ℕ
+    → Cpu) (past : List Item) where
+  abbrev At : Position → Type 0
+  At p = MachineRule job (world ws d (Run c ∷ rest) request copies order cpus past p)
 
   may_begin : At Line → MayBegin job past (suc d)
   may_begin k = record {
@@ -195,11 +218,14 @@ module _ (job : Job) (ok : IsWellFormed job) (ws : Words) (d : ℕ) (c : Command
         (slice_get_within (commands job) d c (let z : d + 0 ≡ d = omega arith in ap (λ n. slice_get (commands job) n) (sym z) ∙ k.lines.commands 0));
   }
 
-  begin_to : (p' : Place) → Begins job ok d p' request → suc (length past) < half_size → HasWaited job past → At Line → Kept job (world (record ws { clock = half_size + 1 + ws.clock }) d (Run c ∷ rest) request copies order cpus (Begin (suc d) ∷ past) p')
+  begin_to : (p' : Position) → Begins job ok d p' request → suc (length past) < half_size → HasWaited job past → At Line
+      → MachineRule job (world (record ws { clock = half_size + 1 + ws.clock }) d (Run c ∷ rest) request copies order cpus (Begin (suc d) ∷ past) p')
   unfolding IsLegalPast
   begin_to p' b room waited k =
       let pass : Passed job ws.ack d Line k.base request d p' k.base request ws.want ws.head ws.tail ws.next =
-      passed_same job d ws.ack Line p' k.base k.base request request ws.want ws.want ws.head ws.tail ws.next (λ f inside ch. stays f ch (patches (sort job d)) refl) (k.sites.asked ∙ ap (λ n. k.base + n) (sym b.none)) (let z = k.sites.few in omega (arith, z)) k.sites.want b.place b.fit (inl refl)
+      passed_same job d ws.ack Line p' k.base k.base request request ws.want ws.want ws.head ws.tail ws.next
+      (λ f inside ch. stays f ch (patches (effect job d)) refl) (k.sites.asked ∙ ap (λ n. k.base + n) (sym b.none)) (let z = k.sites.few in
+      omega (arith, z)) k.sites.want b.position b.fit (inl refl)
       (λ c within s. rw (b.reaches k.base c) (omega arith)) k.sites in
       record {
         base = k.base;
@@ -218,30 +244,38 @@ module _ (job : Job) (ok : IsWellFormed job) (ws : Words) (d : ℕ) (c : Command
         tramps = tramps_begin job ok d p' request b ws.tramp k.tramps;
         limits = limits_begin job ok d p' request b ws.pids ws.depth k.limits;
         cpus = λ c within.
-            cpu_goes job (Begin (suc d) ∷ past) (hereby d Line k.base request order copies ws.link ws.bits) (hereby d p' k.base request order copies ws.link ws.bits) (ws.ack c) ws.quiet c (cpus c)
+            cpu_goes job (Begin (suc d) ∷ past) (hereby d Line k.base request order copies ws.link ws.bits)
+            (hereby d p' k.base request order copies ws.link ws.bits) (ws.ack c) ws.quiet c (cpus c)
             (let z = k.counts.started in omega (arith, z)) (omega arith) (pass.reach c within) (λ t there r. rw (b.quiet t) (omega arith))
-            (λ t there r a qr small. goes_begin job ok d p' request b k.base order copies ws.link ws.bits (ws.ack c) (low (ws.quiet t)) (pass.fetch c within r a))
-            (cpu_carried job (hereby d Line k.base request order copies ws.link ws.bits) past (Begin (suc d)) (λ t. refl) (ws.ack c) ws.quiet c (cpus c) (k.cpus c within));
+            (λ t there r a qr small. goes_begin job ok d p' request b k.base order copies ws.link ws.bits (ws.ack c) (low (ws.quiet t))
+            (pass.fetch c within r a))
+            (cpu_carried job (hereby d Line k.base request order copies ws.link ws.bits) past (Begin (suc d)) (λ t. refl) (ws.ack c) ws.quiet c (cpus c)
+            (k.cpus c within));
       }
     where
-      stays : (f : ℕ) → changes job d f ≡ true → (x : Bool) → patches (sort job d) ≡ x → stage_in p' f ≡ 0
+      stays : (f : ℕ) → changes job d f ≡ true → (x : Bool) → patches (effect job d) ≡ x → stage_in p' f ≡ 0
       stays f ch true e = b.stages f e
       stays f ch false e = false_true (sym (none_changes job ok d e f) ∙ ch)
 
-  -- the row; one more item must find room in the clock, and control's waits are met in the history's words
-  pub begin_keeps : suc (length past) < half_size → HasWaited job past → At Line → Kept job (control_row job (world ws d (Run c ∷ rest) request copies order cpus past Line) (Mark (Begin (suc d))))
+  -- the row: the clock has room for one more item, and control's waits are met in the history's words
+  pub begin_keeps : suc (length past) < half_size → HasWaited job past → At Line
+      → MachineRule job (control_row job (world ws d (Run c ∷ rest) request copies order cpus past Line) (Mark (Begin (suc d))))
   unfolding control_got
-  begin_keeps room waited k = by_sort (sort job d) refl
+  begin_keeps room waited k = by_effect (effect job d) refl
     where
-      to : (p' : Place) → Begins job ok d p' request → Kept job (world (record ws { clock = half_size + 1 + ws.clock }) d (Run c ∷ rest) request copies order cpus (Begin (suc d) ∷ past) p')
+      to : (p' : Position) → Begins job ok d p' request
+          → MachineRule job (world (record ws { clock = half_size + 1 + ws.clock }) d (Run c ∷ rest) request copies order cpus (Begin (suc d) ∷ past) p')
       to p' b = begin_to p' b room waited k
 
       -- with the state still to be stored
-      early : (p' : Place) → selected p' ≡ false → listed p' ≡ false → is_lists (sort job d) ≡ false → is_levels (sort job d) ≡ false → (took p' ≡ true → sort job d ≡ Adds → has_slot_at job (suc d) (subject job d) ≡ false) → gave (sort job d) p' ≡ false → under p' ≡ true
-          → ((left : List Ctl) → UnderAt Close left → UnderAt p' left) → ((link : ℕ → ℕ) (order : List ℕ) → PushedAt job d link order p') → ((copy : ℕ → ℕ → ℕ) → WrittenAt job (state_of job (suc d) (subject job d)) copy (sort job d) p')
-          → ((t : ℕ) → quiet_reached (sort job d) p' request t ≡ 0) → ((f : ℕ) → stage_in p' f ≡ 0) → asks p' ≡ 0 → ((b c : ℕ) → reached b p' c ≡ 0) → PlaceAt job d p' → fits (sort job d) p' ≡ true
-          → Kept job (world (record ws { clock = half_size + 1 + ws.clock }) d (Run c ∷ rest) request copies order cpus (Begin (suc d) ∷ past) p')
-      early p' sel lis pids depth slot give begun to' pushed written quiet stages none reaches place fit = to p' (record {
+      early : (p' : Position) → selected p' ≡ false → listed p' ≡ false → is_lists (effect job d) ≡ false → is_levels (effect job d) ≡ false
+          → (took p' ≡ true → effect job d ≡ Adds → has_slot_at job (suc d) (subject job d) ≡ false) → gave (effect job d) p' ≡ false → underway p' ≡ true
+          → ((remaining : List Ctl) → UnderAt Close remaining → UnderAt p' remaining) → ((link : ℕ → ℕ) (order : List ℕ) → PushedAt job d link order p')
+          → ((copy : ℕ → ℕ → ℕ) → WrittenAt job (state_of job (suc d) (subject job d)) copy (effect job d) p')
+          → ((t : ℕ) → quiet_reached (effect job d) p' request t ≡ 0) → ((f : ℕ) → stage_in p' f ≡ 0) → asks p' ≡ 0 → ((b c : ℕ) → reached b p' c ≡ 0)
+          → PositionAt job d p' → comes_to (effect job d) p' ≡ true
+          → MachineRule job (world (record ws { clock = half_size + 1 + ws.clock }) d (Run c ∷ rest) request copies order cpus (Begin (suc d) ∷ past) p')
+      early p' sel lis pids depth slot give begun to' pushed written quiet stages none reaches position fit = to p' (record {
         user = λ e. false_true (sym sel ∙ e);
         list = λ e. false_true (sym lis ∙ e);
         pids = λ e. pids;
@@ -256,33 +290,43 @@ module _ (job : Job) (ok : IsWellFormed job) (ws : Words) (d : ℕ) (c : Command
         stages = λ f e. stages f;
         none = none;
         reaches = reaches;
-        place = place;
+        position = position;
         fit = fit;
       })
 
-      to_select : (z : Sort) → sort job d ≡ z → is_lists z ≡ false → is_levels z ≡ false → (z ≡ Adds → has_slot_at job (suc d) (subject job d) ≡ false) → gave z Select ≡ false → selects z ≡ true → ((copy : ℕ → ℕ → ℕ) → WrittenAt job (state_of job (suc d) (subject job d)) copy z Select)
-          → Kept job (world (record ws { clock = half_size + 1 + ws.clock }) d (Run c ∷ rest) request copies order cpus (Begin (suc d) ∷ past) Select)
+      to_select : (z : Effect) → effect job d ≡ z → is_lists z ≡ false → is_levels z ≡ false → (z ≡ Adds → has_slot_at job (suc d) (subject job d) ≡ false)
+          → gave z Select ≡ false → selects z ≡ true → ((copy : ℕ → ℕ → ℕ) → WrittenAt job (state_of job (suc d) (subject job d)) copy z Select)
+          → MachineRule job (world (record ws { clock = half_size + 1 + ws.clock }) d (Run c ∷ rest) request copies order cpus (Begin (suc d) ∷ past) Select)
       to_select z e pids depth slot give fit written =
-          early Select refl refl (ap is_lists e ∙ pids) (ap is_levels e ∙ depth) (λ t a. slot (sym e ∙ a)) (ap (λ y. gave y Select) e ∙ give) refl (λ l u. u) (λ l o. tt) (λ copy. subst (λ y. WrittenAt job (state_of job (suc d) (subject job d)) copy y Select) (sym e) (written copy))
+          early Select refl refl (ap is_lists e ∙ pids) (ap is_levels e ∙ depth) (λ t a. slot (sym e ∙ a)) (ap (λ y. gave y Select) e ∙ give) refl (λ l u. u)
+          (λ l o. tt) (λ copy. subst (λ y. WrittenAt job (state_of job (suc d) (subject job d)) copy y Select) (sym e) (written copy))
           (λ t. refl) (λ f. refl) refl (λ b c. refl) tt (ap selects e ∙ fit)
 
-      to_copy : (z : Sort) → sort job d ≡ z → is_lists z ≡ false → is_levels z ≡ false → (z ≡ Adds → has_slot_at job (suc d) (subject job d) ≡ false) → gave z Select ≡ false → gave z (Copy 0 0) ≡ false → selects z ≡ true → writes_copy z ≡ true
-          → Kept job (world (record ws { clock = half_size + 1 + ws.clock }) d (Run c ∷ rest) request copies order cpus (Begin (suc d) ∷ past) (copy_from job 0 0))
-      to_copy z e pids depth slot give give' fit fit' = first_copy job (λ p. Kept job (world (record ws { clock = half_size + 1 + ws.clock }) d (Run c ∷ rest) request copies order cpus (Begin (suc d) ∷ past) p))
-          (λ some. early (Copy 0 0) refl refl (ap is_lists e ∙ pids) (ap is_levels e ∙ depth) (λ t a. slot (sym e ∙ a)) (ap (λ y. gave y (Copy 0 0)) e ∙ give') refl (λ l u. u) (λ l o. tt)
+      to_copy : (z : Effect) → effect job d ≡ z → is_lists z ≡ false → is_levels z ≡ false → (z ≡ Adds → has_slot_at job (suc d) (subject job d) ≡ false)
+          → gave z Select ≡ false → gave z (Copy 0 0) ≡ false → selects z ≡ true → writes_copy z ≡ true
+          → MachineRule job (world (record ws { clock = half_size + 1 + ws.clock }) d (Run c ∷ rest) request copies order cpus (Begin (suc d) ∷ past)
+          (copy_from job 0 0))
+      to_copy z e pids depth slot give give' fit fit' = first_copy job
+          (λ p. MachineRule job (world (record ws { clock = half_size + 1 + ws.clock }) d (Run c ∷ rest) request copies order cpus (Begin (suc d) ∷ past) p))
+          (λ some. early (Copy 0 0) refl refl (ap is_lists e ∙ pids) (ap is_levels e ∙ depth) (λ t a. slot (sym e ∙ a)) (ap (λ y. gave y (Copy 0 0)) e
+          ∙ give') refl (λ l u. u) (λ l o. tt)
           (λ copy i v ti tv b. absurd (elim b [ inl x ↦ omega (arith, x) | inr x ↦ (let y = x.1 in omega (arith, y)) ]))
           (λ t. refl) (λ f. refl) refl (λ b c. refl) (omega arith, some) (ap writes_copy e ∙ fit'))
           (λ none. to_select z e pids depth slot give fit (λ copy w i v ti tv. absurd (omega (arith, none, tv))))
 
-      by_sort : (z : Sort) → sort job d ≡ z → Kept job (world (record ws { clock = half_size + 1 + ws.clock }) d (Run c ∷ rest) request copies order cpus (Begin (suc d) ∷ past) (begin_in job d z))
-      by_sort Adds e = if_case (λ p. Kept job (world (record ws { clock = half_size + 1 + ws.clock }) d (Run c ∷ rest) request copies order cpus (Begin (suc d) ∷ past) p)) (has_slot_at job (suc d) (subject job d)) Take (copy_from job 0 0)
-          (λ s. early Take refl refl (ap is_lists e) (ap is_levels e) (λ t a. false_true t) (ap (λ y. gave y Take) e) refl (λ l u. u) (λ l o. tt) (λ copy. tt) (λ t. refl) (λ f. refl) refl (λ b c. refl) s (ap is_adds e))
+      by_effect : (z : Effect) → effect job d ≡ z
+          → MachineRule job (world (record ws { clock = half_size + 1 + ws.clock }) d (Run c ∷ rest) request copies order cpus (Begin (suc d) ∷ past)
+          (begin_in job d z))
+      by_effect Adds e = if_case (λ p. MachineRule job (world (record ws { clock = half_size + 1 + ws.clock }) d (Run c ∷ rest) request copies order cpus
+          (Begin (suc d) ∷ past) p)) (has_slot_at job (suc d) (subject job d)) Take (copy_from job 0 0)
+          (λ s. early Take refl refl (ap is_lists e) (ap is_levels e) (λ t a. false_true t) (ap (λ y. gave y Take) e) refl (λ l u. u) (λ l o. tt) (λ copy. tt)
+          (λ t. refl) (λ f. refl) refl (λ b c. refl) s (ap is_adds e))
           (λ s. to_copy Adds e refl refl (λ a. s) refl refl refl refl)
-      by_sort Removes e = to_select Removes e refl refl (λ a. false_true (ap is_adds a)) refl refl (λ copy w. false_true w)
-      by_sort Edits e = to_copy Edits e refl refl (λ a. false_true (ap is_adds a)) refl refl refl refl
-      by_sort Enables e = to_select Enables e refl refl (λ a. false_true (ap is_adds a)) refl refl (λ copy w. false_true w)
-      by_sort Disables e = to_select Disables e refl refl (λ a. false_true (ap is_adds a)) refl refl (λ copy w. false_true w)
-      by_sort Lists e = to StorePids (record {
+      by_effect Removes e = to_select Removes e refl refl (λ a. false_true (ap is_adds a)) refl refl (λ copy w. false_true w)
+      by_effect Edits e = to_copy Edits e refl refl (λ a. false_true (ap is_adds a)) refl refl refl refl
+      by_effect Enables e = to_select Enables e refl refl (λ a. false_true (ap is_adds a)) refl refl (λ copy w. false_true w)
+      by_effect Disables e = to_select Disables e refl refl (λ a. false_true (ap is_adds a)) refl refl (λ copy w. false_true w)
+      by_effect Lists e = to StorePids (record {
         user = λ x. ap selects e;
         list = λ x. ap relinks e;
         pids = λ x. false_true x;
@@ -297,10 +341,10 @@ module _ (job : Job) (ok : IsWellFormed job) (ws : Words) (d : ℕ) (c : Command
         stages = λ f x. refl;
         none = refl;
         reaches = λ b c. refl;
-        place = tt;
+        position = tt;
         fit = ap is_lists e;
       })
-      by_sort Levels e = to StoreDepth (record {
+      by_effect Levels e = to StoreDepth (record {
         user = λ x. ap selects e;
         list = λ x. ap relinks e;
         pids = λ x. ap is_lists e;
@@ -315,10 +359,10 @@ module _ (job : Job) (ok : IsWellFormed job) (ws : Words) (d : ℕ) (c : Command
         stages = λ f x. refl;
         none = refl;
         reaches = λ b c. refl;
-        place = tt;
+        position = tt;
         fit = ap is_levels e;
       })
-      by_sort Nothing e = to Close (record {
+      by_effect Nothing e = to Close (record {
         user = λ x. ap selects e;
         list = λ x. ap relinks e;
         pids = λ x. ap is_lists e;
@@ -333,6 +377,6 @@ module _ (job : Job) (ok : IsWellFormed job) (ws : Words) (d : ℕ) (c : Command
         stages = λ f x. false_true (sym (ap patches e) ∙ x);
         none = refl;
         reaches = λ b c. refl;
-        place = tt;
+        position = tt;
         fit = refl;
       })

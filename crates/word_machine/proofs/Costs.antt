@@ -1,4 +1,4 @@
--- Laws of what a task can still make: an item takes nobody out of those met, an act is paid for by its user, and what each choice of a next moment leaves.
+-- Laws of what a task can still make: who was visited stays so, an act is paid for by its user, and what each choice of a next moment leaves.
 use Rattle.std.proofs.Common.{cond, ◌≡◌, ℕ, zero, suc, ◌+◌, ◌*◌, ◌<◌, ◌≤◌, Bool, true, false, ◌||◌, ◌==◌, nat_lt, List, [], ◌∷◌, length, Option, Some, None, refl, subst, arith, inl, inr}
 use Rattle.std.specs.List.{list_any}
 use Rattle.std.proofs.lemmas.Bool.Decides.{eqb_tells, nat_tests}
@@ -19,15 +19,16 @@ use Rattle.plain_machine.specs.State.{is_held}
 use Rattle.word_machine.specs.Task.{OpenCall, TaskState, Moment, Polling, First, Missing, Acting, Ending, Leaving, AtExit, Exiting, EndingExit, Returning, guards_under, next_exit, act_in, miss_in}
 use Rattle.word_machine.specs.Calls.{under_call}
 use Rattle.word_machine.proofs.LoadMoments.{is_walking}
-use Rattle.word_machine.specs.Costs.{act_cost, call_left, for_all, lacking, levels, levels_of, makes, owed_in, stack_left, task_left, to_come}
+use Rattle.word_machine.specs.Costs.{act_cost, call_to_come, for_all, lacking, levels, levels_of, makes, owed_in, stack_to_come, task_to_come, items_to_come}
 
--- ## users that a call has not met
+-- ## users that a call has not visited
 
 pub lacking-most : (each n : ℕ) (ms : List Visit) → lacking each n ms ≤ for_all each n
 lacking-most each zero ms = omega arith
 lacking-most each (suc n) ms =
     let more = lacking-most each n ms in
-    elim (list_any (λ m. m.user == n) ms) as (λ b. cond b 0 each + lacking each n ms ≤ each + for_all each n) [ true ↦ omega (arith, more) | false ↦ omega (arith, more) ]
+    elim (list_any (λ m. m.user == n) ms) as (λ b. cond b 0 each + lacking each n ms ≤ each + for_all each n)
+    [ true ↦ omega (arith, more) | false ↦ omega (arith, more) ]
 
 pub lacking-more : (each n : ℕ) (m : Visit) (ms : List Visit) → lacking each n (m ∷ ms) ≤ lacking each n ms
 lacking-more each zero m ms = omega arith
@@ -39,8 +40,9 @@ lacking-more each (suc n) m ms = by (m.user == n) (list_any (λ x. x.user == n) 
     by false true le = omega (arith, le)
     by false false le = omega (arith, le)
 
--- somebody is met for the first time
-pub lacking-one : (each n : ℕ) (m : Visit) (ms : List Visit) → m.user < n → list_any (λ x. x.user == m.user) ms ≡ false → lacking each n (m ∷ ms) + each ≤ lacking each n ms
+-- somebody is visited for the first time
+pub lacking-one : (each n : ℕ) (m : Visit) (ms : List Visit) → m.user < n → list_any (λ x. x.user == m.user) ms ≡ false
+    → lacking each n (m ∷ ms) + each ≤ lacking each n ms
 lacking-one each zero m ms lt none = absurd (omega (arith, lt))
 lacking-one each (suc n) m ms lt none = elim (eqb_tells m.user n) [
   | inl e ↦ (
@@ -65,8 +67,9 @@ pub for_all-mono : (p q n : ℕ) → p ≤ q → for_all p n ≤ for_all q n
 for_all-mono p q zero le = omega arith
 for_all-mono p q (suc n) le = (let more = for_all-mono p q n le in omega (arith, le, more))
 
--- an item takes nobody out of those met
-pub lacking-item : (job : Job) (call : CallNo) (each n : ℕ) (item : Item) (past : List Item) → lacking each n (visits job call (item ∷ past)) ≤ lacking each n (visits job call past)
+-- an item takes nobody out of those visited
+pub lacking-item : (job : Job) (call : CallNo) (each n : ℕ) (item : Item) (past : List Item) → lacking each n (visits job call (item ∷ past))
+    ≤ lacking each n (visits job call past)
 unfolding all_visits
 lacking-item job call each n (Back c u) past = one (visit job c u.0 past (all_visits job past) true) (same_call c call)
   where
@@ -94,8 +97,9 @@ levels-most users guards x = by (is_held guards x) (nat_lt (rank x) 2)
     by false true = omega arith
     by false false = (let b = makes-grows users 2 in omega (arith, b))
 
--- where the guard isn't held, that is within what a user costs
-pub act-within : (users : ℕ) (guards : List Ctx) (x : Ctx) (act : Option Act) → is_held guards x ≡ false → act_cost users guards x (owed_by x act) ≤ makes users (levels guards x)
+-- if the guard is free, that is within what a user costs
+pub act-within : (users : ℕ) (guards : List Ctx) (x : Ctx) (act : Option Act) → is_held guards x ≡ false
+    → act_cost users guards x (owed_by x act) ≤ makes users (levels guards x)
 act-within users guards x None free = omega arith
 act-within users guards x (Some (CallIn f)) free =
     let own : (rank x == rank x) ≡ true = ==-refl (rank x) in
@@ -110,40 +114,41 @@ act-within users guards x (Some (IrqIn f)) free = by_rank (nat_lt (rank x) 2) re
     by_held true = makes-grows users 1
     by_held false = omega arith
 
-    by_rank : (e : Bool) → nat_lt (rank x) 2 ≡ e → act_cost users guards x (cond (nat_lt (rank x) 2) (Some (record { ctx = Irq; func = f.0 })) None) ≤ makes users (levels guards x)
+    by_rank : (e : Bool) → nat_lt (rank x) 2 ≡ e → act_cost users guards x (cond (nat_lt (rank x) 2) (Some (record { ctx = Irq; func = f.0 })) None)
+        ≤ makes users (levels guards x)
     by_rank true e = rw (e, free) (by_held (is_held (x ∷ guards) Irq))
     by_rank false e = rw e (omega arith)
 
 -- ## what choices leave
 
 module _ (walk exits : ℕ) (cost : Option Owed → ℕ) (owed : ℕ → Option Owed) where
-  pub walk-left : (m : Moment) → is_walking m ≡ true → to_come walk exits cost owed m ≡ walk + exits + 3
-  walk-left Polling e = false_true e
-  walk-left First e = false_true e
-  walk-left (Missing u) e = false_true e
-  walk-left (Acting u o) e = false_true e
-  walk-left (Ending u) e = false_true e
-  walk-left Leaving e = false_true e
-  walk-left (AtExit m rest) e = false_true e
-  walk-left (Exiting m rest) e = false_true e
-  walk-left (EndingExit m rest) e = false_true e
-  walk-left Returning e = false_true e
-  walk-left _ e = refl
+  pub walk-to_come : (m : Moment) → is_walking m ≡ true → items_to_come walk exits cost owed m ≡ walk + exits + 3
+  walk-to_come Polling e = false_true e
+  walk-to_come First e = false_true e
+  walk-to_come (Missing u) e = false_true e
+  walk-to_come (Acting u o) e = false_true e
+  walk-to_come (Ending u) e = false_true e
+  walk-to_come Leaving e = false_true e
+  walk-to_come (AtExit m rest) e = false_true e
+  walk-to_come (Exiting m rest) e = false_true e
+  walk-to_come (EndingExit m rest) e = false_true e
+  walk-to_come Returning e = false_true e
+  walk-to_come _ e = refl
 
-  pub exit-left : (us : List FrameUser) → to_come walk exits cost owed (next_exit us) ≤ 2 * length us + 1
-  exit-left [] = omega arith
-  exit-left (m ∷ rest) = omega arith
+  pub exit-to_come : (us : List FrameUser) → items_to_come walk exits cost owed (next_exit us) ≤ 2 * length us + 1
+  exit-to_come [] = omega arith
+  exit-to_come (m ∷ rest) = omega arith
 
-  pub act-left : (o : Option Owed) (u : ℕ) → to_come walk exits cost owed (act_in o u) ≤ walk + exits + 4 + cost o
-  act-left None u = omega arith
-  act-left (Some o) u = omega arith
+  pub act-to_come : (o : Option Owed) (u : ℕ) → items_to_come walk exits cost owed (act_in o u) ≤ walk + exits + 4 + cost o
+  act-to_come None u = omega arith
+  act-to_come (Some o) u = omega arith
 
-  pub miss-left : (b : Bool) (u : ℕ) → to_come walk exits cost owed (miss_in b u (act_in (owed u) u)) ≤ walk + exits + 5 + cost (owed u)
-  miss-left true u = omega arith
-  miss-left false u = (let a = act-left (owed u) u in omega (arith, a))
+  pub miss-to_come : (b : Bool) (u : ℕ) → items_to_come walk exits cost owed (miss_in b u (act_in (owed u) u)) ≤ walk + exits + 5 + cost (owed u)
+  miss-to_come true u = omega arith
+  miss-to_come false u = (let a = act-to_come (owed u) u in omega (arith, a))
 
-  -- fewer users to be met
-  pub walk-less : (less : ℕ) → less ≤ walk → (m : Moment) → to_come less exits cost owed m ≤ to_come walk exits cost owed m
+  -- fewer users to be visited
+  pub walk-less : (less : ℕ) → less ≤ walk → (m : Moment) → items_to_come less exits cost owed m ≤ items_to_come walk exits cost owed m
   walk-less less le (Missing u) = omega (arith, le)
   walk-less less le (Acting u o) = omega (arith, le)
   walk-less less le (Ending u) = omega (arith, le)
@@ -156,21 +161,24 @@ module _ (walk exits : ℕ) (cost : Option Owed → ℕ) (owed : ℕ → Option 
   walk-less less le Returning = omega arith
   walk-less less le _ = omega (arith, le)
 
--- an item leaves no more to come in a call that it isn't the next step of
-pub call-item : (job : Job) (item : Item) (past : List Item) (c : OpenCall) (below : List OpenCall) (m : Moment) → call_left job (item ∷ past) c below m ≤ call_left job past c below m
+-- an item leaves no more to come in a call whose next step it is not
+pub call-item : (job : Job) (item : Item) (past : List Item) (c : OpenCall) (below : List OpenCall) (m : Moment)
+    → call_to_come job (item ∷ past) c below m ≤ call_to_come job past c below m
 call-item job item past c below m =
     walk-less (lacking (5 + makes (length job.users) (levels_of c below)) (length job.users) (visits job c.call past)) (2 * length c.users)
     (act_cost (length job.users) (guards_under c.scripted below) c.ctx) (owed_in job c.ctx)
     (lacking (5 + makes (length job.users) (levels_of c below)) (length job.users) (visits job c.call (item ∷ past)))
     (lacking-item job c.call (5 + makes (length job.users) (levels_of c below)) (length job.users) item past) m
 
-pub stack-item : (job : Job) (item : Item) (past : List Item) (m : Moment) (stack : List OpenCall) → stack_left job (item ∷ past) m stack ≤ stack_left job past m stack
+pub stack-item : (job : Job) (item : Item) (past : List Item) (m : Moment) (stack : List OpenCall)
+    → stack_to_come job (item ∷ past) m stack ≤ stack_to_come job past m stack
 stack-item job item past m [] = omega arith
-stack-item job item past m (c ∷ below) = (let a = call-item job item past c below m in let b = stack-item job item past (under_call c below) below in omega (arith, a, b))
+stack-item job item past m (c ∷ below) = (let a = call-item job item past c below m in let b = stack-item job item past (under_call c below) below in
+    omega (arith, a, b))
 
-pub task-item-left : (job : Job) (item : Item) (past : List Item) (x : TaskState) → task_left job (item ∷ past) x ≤ task_left job past x
-task-item-left job item past x = (let a = stack-item job item past x.moment x.stack in omega (arith, a))
+pub task-item-to_come : (job : Job) (item : Item) (past : List Item) (x : TaskState) → task_to_come job (item ∷ past) x ≤ task_to_come job past x
+task-item-to_come job item past x = (let a = stack-item job item past x.moment x.stack in omega (arith, a))
 
-pub polling-left : (job : Job) (past : List Item) (stack : List OpenCall) → stack_left job past Polling stack ≡ stack_left job past First stack
-polling-left job past [] = refl
-polling-left job past (c ∷ below) = refl
+pub polling-to_come : (job : Job) (past : List Item) (stack : List OpenCall) → stack_to_come job past Polling stack ≡ stack_to_come job past First stack
+polling-to_come job past [] = refl
+polling-to_come job past (c ∷ below) = refl

@@ -1,4 +1,5 @@
--- Laws of desks alone, for the crate of desks to own with the sorts of commands: what one command changes between two desks, by its sort, and when users were registered.
+-- Laws of desks alone, for ft_base to own with the effects of commands: what one command changes between two desks, by its effect, and when
+-- users were registered.
 use Rattle.std.proofs.Common.{cond, ◌≡◌, ◌≢◌, ℕ, zero, suc, ◌+◌, ◌-◌, ◌<◌, ◌≤◌, Bool, true, false, List, [], ◌∷◌, length, map, get_or, Option, Some, None, refl, sym, ap, ◌∙◌, subst, arith, inl, inr}
 use Rattle.std.specs.Prelude.{slice_get, ◌⊎◌}
 use Rattle.std.proofs.lemmas.Bool.{cases_eq}
@@ -8,8 +9,8 @@ use Rattle.ft_base.specs.WellFormed.{IsWellFormed, IsNamed}
 use Rattle.ft_base.proofs.Small.{false_true}
 use Rattle.ft_base.proofs.DeskLaws.{length-desk, user_at-same, user_at-other}
 use Rattle.ft_base.proofs.Modifiers.{named-at}
-use Rattle.word_machine.specs.Control.{Sort, Adds, Removes, Edits, Enables, Disables, Lists, Levels, Nothing, sort_by, edits_or, sort, subject, subject_of, state_of, command}
-use Rattle.word_machine.specs.Grace.{is_lists, is_levels}
+use Rattle.word_machine.specs.Commands.{Effect, Adds, Removes, Edits, Enables, Disables, Lists, Levels, Nothing, effect_by, edits_or, effect, subject, subject_of, state_of, command}
+use Rattle.word_machine.specs.Progress.{is_lists, is_levels}
 
 -- a user's state but for its sets
 pub record KeepsRest (s s' : UserState) : Type 0 where
@@ -19,8 +20,8 @@ pub record KeepsRest (s s' : UserState) : Type 0 where
   pub enabled : s'.enabled ≡ s.enabled
   pub slot : s'.slot ≡ s.slot
 
--- the subject's state before and after a command of each sort
-abbrev pub SubjectBy : Job → Desk → ℕ → Sort → UserState → UserState → Type 0
+-- the state of a command's user before and after it, by the effect
+abbrev pub SubjectBy : Job → Desk → ℕ → Effect → UserState → UserState → Type 0
 SubjectBy job d k Adds s s' = (s.registered ≡ false) × (s' ≡ registered_as job d k s)
 SubjectBy job d k Removes s s' = (s.registered ≡ true) × (s' ≡ unregistered_as s)
 SubjectBy job d k Edits s s' = (s.registered ≡ true) × KeepsRest s s'
@@ -30,7 +31,7 @@ SubjectBy job d k Lists s s' = s' ≡ s
 SubjectBy job d k Levels s s' = s' ≡ s
 SubjectBy job d k Nothing s s' = KeepsRest s s' × (s.registered ≡ true → s' ≡ s)
 
-pub record Changed (job : Job) (k u : ℕ) (z : Sort) (d d' : Desk) : Type 0 where
+pub record Changed (job : Job) (k u : ℕ) (z : Effect) (d d' : Desk) : Type 0 where
   pub others : (v : ℕ) → v ≢ u → user_at d' v ≡ user_at d v
   pub subject : SubjectBy job d k z (user_at d u) (user_at d' u)
   pub lists : is_lists z ≡ false → (d'.pids ≡ d.pids) × (d'.nopids ≡ d.nopids)
@@ -57,7 +58,7 @@ module _ (job : Job) (d : Desk) (k : ℕ) (size : length d.users ≡ length job.
   refused : (u : ℕ) → Changed job k u Nothing d d
   refused u = record { others = λ v ne. refl; subject = (rest-same (user_at d u), (λ r. refl)); lists = λ e. (refl, refl); level = λ e. refl }
 
-  one : (u : ℕ) (z : Sort) (s : UserState) → u < length job.users → SubjectBy job d k z (user_at d u) s → Changed job k u z d (with_user d u s)
+  one : (u : ℕ) (z : Effect) (s : UserState) → u < length job.users → SubjectBy job d k z (user_at d u) s → Changed job k u z d (with_user d u s)
   one u z s within by = record {
     others = λ v ne. user_at-other d u v s ne;
     subject = subst (λ x. SubjectBy job d k z (user_at d u) x) (sym (user_at-same d u s (rw size within))) by;
@@ -65,14 +66,15 @@ module _ (job : Job) (d : Desk) (k : ℕ) (size : length d.users ≡ length job.
     level = λ e. refl;
   }
 
-  edited-by : (u : ℕ) (s : UserState) → u < length job.users → KeepsRest (user_at d u) s → Changed job k u (edits_or (user_at d u).registered) d (with_user d u s)
+  edited-by : (u : ℕ) (s : UserState) → u < length job.users → KeepsRest (user_at d u) s
+      → Changed job k u (edits_or (user_at d u).registered) d (with_user d u s)
   edited-by u s within keeps =
       elim (user_at d u).registered as (λ b. (user_at d u).registered ≡ b → Changed job k u (edits_or b) d (with_user d u s)) [
         | true ↦ λ e. one u Edits s within (e, keeps)
         | false ↦ λ e. one u Nothing s within (keeps, (λ r. false_true (sym e ∙ r)))
       ] refl
 
-  accepted : (c : Command) → IsNamed job c → is_accepted (answer_on job d c) ≡ true → Changed job k (subject_of c) (sort_by d c) d (changed job d k c)
+  accepted : (c : Command) → IsNamed job c → is_accepted (answer_on job d c) ≡ true → Changed job k (subject_of c) (effect_by d c) d (changed job d k c)
   accepted (Register u) w e = one u Adds _ w (not-registered job d u e, refl)
   accepted (Unregister u) w e = one u Removes _ w (registered-is (user_at d u).registered refl e, refl)
     where
@@ -88,44 +90,50 @@ module _ (job : Job) (d : Desk) (k : ℕ) (size : length d.users ≡ length job.
   accepted (MaxDepth n) w e = record { others = λ v ne. refl; subject = refl; lists = λ z. (refl, refl); level = λ z. false_true (sym z) }
 
   pub changed-by : (c : Command) → IsNamed job c
-      → Changed job k (subject_of c) (cond (is_accepted (answer_on job d c)) (sort_by d c) Nothing) d (cond (is_accepted (answer_on job d c)) (changed job d k c) d)
+      → Changed job k (subject_of c) (cond (is_accepted (answer_on job d c)) (effect_by d c) Nothing) d
+      (cond (is_accepted (answer_on job d c)) (changed job d k c) d)
   changed-by c w =
-      elim (is_accepted (answer_on job d c)) as (λ b. is_accepted (answer_on job d c) ≡ b → Changed job k (subject_of c) (cond b (sort_by d c) Nothing) d (cond b (changed job d k c) d)) [
+      elim (is_accepted (answer_on job d c)) as (λ b. is_accepted (answer_on job d c) ≡ b
+      → Changed job k (subject_of c) (cond b (effect_by d c) Nothing) d (cond b (changed job d k c) d)) [
         | true ↦ λ e. accepted c w e
         | false ↦ λ e. refused (subject_of c)
       ] refl
 
 module _ (job : Job) (ok : IsWellFormed job) where
   -- between the desks of two numbers
-  pub between : (k : ℕ) → Changed job (suc k) (subject job k) (sort job k) (desk job k) (desk job (suc k))
+  pub between : (k : ℕ) → Changed job (suc k) (subject job k) (effect job k) (desk job k) (desk job (suc k))
   unfolding desk
   between k = by (command job k) refl
     where
-      by : (o : Option Command) → slice_get (commands job) k ≡ o → Changed job (suc k) (subject job k) (sort job k) (desk job k) (desk job (suc k))
+      by : (o : Option Command) → slice_get (commands job) k ≡ o → Changed job (suc k) (subject job k) (effect job k) (desk job k) (desk job (suc k))
       by None e = rw e (refused job (desk job k) (suc k) (length-desk job k) 0)
       by (Some c) e = rw e (changed-by job (desk job k) (suc k) (length-desk job k) c (named-at (IsNamed job) (commands job) k c e ok.commands))
 
-  -- when a user was registered changes only where it is registered anew
-  pub since-step : (k u : ℕ) → ((state_of job (suc k) u).since ≡ (state_of job k u).since) ⊎ (((state_of job (suc k) u).since ≡ suc k) × ((state_of job k u).registered ≡ false) × (u ≡ subject job k) × (sort job k ≡ Adds))
+  -- a user's last registration changes only if it is registered anew
+  pub since-step : (k u : ℕ) → ((state_of job (suc k) u).since ≡ (state_of job k u).since)
+      ⊎ (((state_of job (suc k) u).since ≡ suc k) × ((state_of job k u).registered ≡ false) × (u ≡ subject job k) × (effect job k ≡ Adds))
   since-step k u = elim (cases_eq u (subject job k)) [
     | inr ne ↦ inl (ap (λ (s : UserState). s.since) ((between k).others u ne))
-    | inl e ↦ subst (λ x. ((state_of job (suc k) x).since ≡ (state_of job k x).since) ⊎ (((state_of job (suc k) x).since ≡ suc k) × ((state_of job k x).registered ≡ false) × (x ≡ subject job k) × (sort job k ≡ Adds))) (sym e)
-        (by_sort (sort job k) refl (between k).subject)
+    | inl e ↦ subst (λ x. ((state_of job (suc k) x).since ≡ (state_of job k x).since)
+        ⊎ (((state_of job (suc k) x).since ≡ suc k) × ((state_of job k x).registered ≡ false) × (x ≡ subject job k) × (effect job k ≡ Adds))) (sym e)
+        (by_effect (effect job k) refl (between k).subject)
   ]
     where
       v : ℕ
       v = subject job k
 
-      by_sort : (z : Sort) → sort job k ≡ z → SubjectBy job (desk job k) (suc k) z (state_of job k (subject job k)) (state_of job (suc k) (subject job k))
-          → ((state_of job (suc k) (subject job k)).since ≡ (state_of job k (subject job k)).since) ⊎ (((state_of job (suc k) (subject job k)).since ≡ suc k) × ((state_of job k (subject job k)).registered ≡ false) × (subject job k ≡ subject job k) × (sort job k ≡ Adds))
-      by_sort Adds z s = inr (ap (λ (x : UserState). x.since) s.1, s.0, refl, z)
-      by_sort Removes z s = inl (ap (λ (x : UserState). x.since) s.1)
-      by_sort Edits z s = inl s.1.since
-      by_sort Enables z s = inl (ap (λ (x : UserState). x.since) s.1)
-      by_sort Disables z s = inl (ap (λ (x : UserState). x.since) s.1)
-      by_sort Lists z s = inl (ap (λ (x : UserState). x.since) s)
-      by_sort Levels z s = inl (ap (λ (x : UserState). x.since) s)
-      by_sort Nothing z s = inl s.0.since
+      by_effect : (z : Effect) → effect job k ≡ z → SubjectBy job (desk job k) (suc k) z (state_of job k (subject job k)) (state_of job (suc k) (subject job k))
+          → ((state_of job (suc k) (subject job k)).since ≡ (state_of job k (subject job k)).since)
+          ⊎ (((state_of job (suc k) (subject job k)).since ≡ suc k) × ((state_of job k (subject job k)).registered ≡ false)
+          × (subject job k ≡ subject job k) × (effect job k ≡ Adds))
+      by_effect Adds z s = inr (ap (λ (x : UserState). x.since) s.1, s.0, refl, z)
+      by_effect Removes z s = inl (ap (λ (x : UserState). x.since) s.1)
+      by_effect Edits z s = inl s.1.since
+      by_effect Enables z s = inl (ap (λ (x : UserState). x.since) s.1)
+      by_effect Disables z s = inl (ap (λ (x : UserState). x.since) s.1)
+      by_effect Lists z s = inl (ap (λ (x : UserState). x.since) s)
+      by_effect Levels z s = inl (ap (λ (x : UserState). x.since) s)
+      by_effect Nothing z s = inl s.0.since
 
   -- it never falls, and is at most the command's number
   pub since-more : (k u : ℕ) → (state_of job k u).since ≤ k → (state_of job k u).since ≤ (state_of job (suc k) u).since
@@ -149,29 +157,34 @@ module _ (job : Job) (ok : IsWellFormed job) where
 
   pub since-later : (k n u : ℕ) → (state_of job k u).since ≤ (state_of job (n + k) u).since
   since-later k zero u = (let e : 0 + k ≡ k = omega arith in rw e (omega arith))
-  since-later k (suc n) u = (let a = since-later k n u in let b = since-grows (n + k) u in let e : suc n + k ≡ suc (n + k) = omega arith in rw e (omega (arith, a, b)))
+  since-later k (suc n) u = (let a = since-later k n u in let b = since-grows (n + k) u in let e : suc n + k ≡ suc (n + k) = omega arith in
+      rw e (omega (arith, a, b)))
 
   pub since-between : (k m u : ℕ) → k ≤ m → (state_of job k u).since ≤ (state_of job m u).since
-  since-between k m u le = subst (λ x. (state_of job k u).since ≤ (state_of job x u).since) (let e : (m - k) + k ≡ m = omega arith in e) (since-later k (m - k) u)
+  since-between k m u le = subst (λ x. (state_of job k u).since ≤ (state_of job x u).since) (let e : (m - k) + k ≡ m = omega arith in
+      e) (since-later k (m - k) u)
 
-  -- a registered user keeps its numbers, also where the command unregisters it
-  pub numbers-kept : (k u : ℕ) → (state_of job k u).registered ≡ true → ((state_of job (suc k) u).since ≡ (state_of job k u).since) × ((state_of job (suc k) u).reg ≡ (state_of job k u).reg)
+  -- a registered user keeps its numbers, also if the command unregisters it
+  pub numbers-kept : (k u : ℕ) → (state_of job k u).registered ≡ true → ((state_of job (suc k) u).since ≡ (state_of job k u).since)
+      × ((state_of job (suc k) u).reg ≡ (state_of job k u).reg)
   numbers-kept k u r = elim (cases_eq u (subject job k)) [
     | inr ne ↦ (let e = (between k).others u ne in (ap (λ (s : UserState). s.since) e, ap (λ (s : UserState). s.reg) e))
     | inl e ↦ subst (λ x. ((state_of job (suc k) x).since ≡ (state_of job k x).since) × ((state_of job (suc k) x).reg ≡ (state_of job k x).reg)) (sym e)
-        (by_sort (sort job k) (between k).subject (subst (λ x. (state_of job k x).registered ≡ true) e r))
+        (by_effect (effect job k) (between k).subject (subst (λ x. (state_of job k x).registered ≡ true) e r))
   ]
     where
-      by_sort : (z : Sort) → SubjectBy job (desk job k) (suc k) z (state_of job k (subject job k)) (state_of job (suc k) (subject job k)) → (state_of job k (subject job k)).registered ≡ true
-          → ((state_of job (suc k) (subject job k)).since ≡ (state_of job k (subject job k)).since) × ((state_of job (suc k) (subject job k)).reg ≡ (state_of job k (subject job k)).reg)
-      by_sort Adds s r = false_true (sym s.0 ∙ r)
-      by_sort Removes s r = (ap (λ (x : UserState). x.since) s.1, ap (λ (x : UserState). x.reg) s.1)
-      by_sort Edits s r = (s.1.since, s.1.reg)
-      by_sort Enables s r = (ap (λ (x : UserState). x.since) s.1, ap (λ (x : UserState). x.reg) s.1)
-      by_sort Disables s r = (ap (λ (x : UserState). x.since) s.1, ap (λ (x : UserState). x.reg) s.1)
-      by_sort Lists s r = (ap (λ (x : UserState). x.since) s, ap (λ (x : UserState). x.reg) s)
-      by_sort Levels s r = (ap (λ (x : UserState). x.since) s, ap (λ (x : UserState). x.reg) s)
-      by_sort Nothing s r = (s.0.since, s.0.reg)
+      by_effect : (z : Effect) → SubjectBy job (desk job k) (suc k) z (state_of job k (subject job k)) (state_of job (suc k) (subject job k))
+          → (state_of job k (subject job k)).registered ≡ true
+          → ((state_of job (suc k) (subject job k)).since ≡ (state_of job k (subject job k)).since)
+          × ((state_of job (suc k) (subject job k)).reg ≡ (state_of job k (subject job k)).reg)
+      by_effect Adds s r = false_true (sym s.0 ∙ r)
+      by_effect Removes s r = (ap (λ (x : UserState). x.since) s.1, ap (λ (x : UserState). x.reg) s.1)
+      by_effect Edits s r = (s.1.since, s.1.reg)
+      by_effect Enables s r = (ap (λ (x : UserState). x.since) s.1, ap (λ (x : UserState). x.reg) s.1)
+      by_effect Disables s r = (ap (λ (x : UserState). x.since) s.1, ap (λ (x : UserState). x.reg) s.1)
+      by_effect Lists s r = (ap (λ (x : UserState). x.since) s, ap (λ (x : UserState). x.reg) s)
+      by_effect Levels s r = (ap (λ (x : UserState). x.since) s, ap (λ (x : UserState). x.reg) s)
+      by_effect Nothing s r = (s.0.since, s.0.reg)
 
   -- the numbers of registrations tell users apart
   pub since-unique : (k v u : ℕ) → 0 < (state_of job k v).since → (state_of job k v).since ≡ (state_of job k u).since → v ≡ u
@@ -196,23 +209,25 @@ module _ (job : Job) (ok : IsWellFormed job) where
       ]
 
   -- a user that is registered was before, or is registered by the command
-  pub registered-step : (k u : ℕ) → (state_of job (suc k) u).registered ≡ true → ((state_of job k u).registered ≡ true) ⊎ ((state_of job (suc k) u).since ≡ suc k)
+  pub registered-step : (k u : ℕ) → (state_of job (suc k) u).registered ≡ true
+      → ((state_of job k u).registered ≡ true) ⊎ ((state_of job (suc k) u).since ≡ suc k)
   registered-step k u r = elim (cases_eq u (subject job k)) [
     | inr ne ↦ inl (sym (ap (λ (s : UserState). s.registered) ((between k).others u ne)) ∙ r)
     | inl e ↦ subst (λ x. ((state_of job k x).registered ≡ true) ⊎ ((state_of job (suc k) x).since ≡ suc k)) (sym e)
-        (by_sort (sort job k) (between k).subject (subst (λ x. (state_of job (suc k) x).registered ≡ true) e r))
+        (by_effect (effect job k) (between k).subject (subst (λ x. (state_of job (suc k) x).registered ≡ true) e r))
   ]
     where
-      by_sort : (z : Sort) → SubjectBy job (desk job k) (suc k) z (state_of job k (subject job k)) (state_of job (suc k) (subject job k)) → (state_of job (suc k) (subject job k)).registered ≡ true
+      by_effect : (z : Effect) → SubjectBy job (desk job k) (suc k) z (state_of job k (subject job k)) (state_of job (suc k) (subject job k))
+          → (state_of job (suc k) (subject job k)).registered ≡ true
           → ((state_of job k (subject job k)).registered ≡ true) ⊎ ((state_of job (suc k) (subject job k)).since ≡ suc k)
-      by_sort Adds s r = inr (ap (λ (x : UserState). x.since) s.1)
-      by_sort Removes s r = inl s.0
-      by_sort Edits s r = inl s.0
-      by_sort Enables s r = inl s.0
-      by_sort Disables s r = inl s.0
-      by_sort Lists s r = inl (sym (ap (λ (x : UserState). x.registered) s) ∙ r)
-      by_sort Levels s r = inl (sym (ap (λ (x : UserState). x.registered) s) ∙ r)
-      by_sort Nothing s r = inl (sym s.0.registered ∙ r)
+      by_effect Adds s r = inr (ap (λ (x : UserState). x.since) s.1)
+      by_effect Removes s r = inl s.0
+      by_effect Edits s r = inl s.0
+      by_effect Enables s r = inl s.0
+      by_effect Disables s r = inl s.0
+      by_effect Lists s r = inl (sym (ap (λ (x : UserState). x.registered) s) ∙ r)
+      by_effect Levels s r = inl (sym (ap (λ (x : UserState). x.registered) s) ∙ r)
+      by_effect Nothing s r = inl (sym s.0.registered ∙ r)
 
   pub since-positive : (k u : ℕ) → (state_of job k u).registered ≡ true → 0 < (state_of job k u).since
   unfolding desk

@@ -1,4 +1,5 @@
--- Laws of desks alone, for the crate of desks to own: what a command leaves of a user, which commands change no call site, and the order of users behind a command.
+-- Laws of desks alone, for ft_base to own: what a command leaves of a user, which commands change no call site, and the order of users after
+-- a command.
 use Rattle.std.proofs.Common.{◌≡◌, ◌≢◌, ◌⊎◌, ℕ, suc, ◌+◌, Bool, true, false, ◌&&◌, not, List, [], ◌∷◌, length, get_or, Some, None, cond, inl, inr, refl, sym, ap, ◌∙◌, subst, arith}
 use Rattle.std.specs.Prelude.{Option}
 use Rattle.std.proofs.lemmas.Bool.{cases_eq, eq-eqb}
@@ -11,21 +12,24 @@ use Rattle.ft_base.proofs.Small.{false_true, and_both}
 use Rattle.ft_base.proofs.DeskLaws.{desk-suc, length-desk}
 use Rattle.ft_base.proofs.Order.{order-same, after_command}
 use Rattle.ft_base.proofs.Modifiers.{named-at}
-use Rattle.word_machine.specs.Control.{Sort, Adds, Removes, Edits, Enables, Disables, Lists, Levels, Nothing, insn, code_by, changes, sort, sort_in, sort_by, edits_or, subject, subject_of, subject_in, state_of, command}
-use Rattle.word_machine.specs.Grace.{waits, patches, relinks, is_adds, is_removes}
+use Rattle.word_machine.specs.Commands.{Effect, Adds, Removes, Edits, Enables, Disables, Lists, Levels, Nothing, insn, code_by, changes, effect, effect_in, effect_by, edits_or, subject, subject_of, subject_in, state_of, command}
+use Rattle.word_machine.specs.Progress.{waits, patches, relinks, is_adds, is_removes}
 use Rattle.word_machine.proofs.DeskChanges.{SubjectBy, between}
 use Rattle.word_machine.proofs.DeskNumbers.{head_sited}
 
--- a fact of a registered user, which stays where the user is enabled
+-- a fact of a registered user that stays if the user is enabled
 abbrev pub IsSteady : (UserState → Type 0) → Type 0
 IsSteady R = (s : UserState) → R s → (s.registered ≡ true) × R (record s { enabled = true })
 
--- registered alike, and with the same sets and slot where registered
+-- registered alike, and if so with the same sets and slot
 abbrev pub Alike : UserState → UserState → Type 0
 Alike s t = (t.registered ≡ s.registered) × (s.registered ≡ true → (t.filter ≡ s.filter) × (t.notrace ≡ s.notrace) × (t.slot ≡ s.slot))
 
 alike_same : (s t : UserState) → t ≡ s → Alike s t
-alike_same s t e = (ap (λ (x : UserState). x.registered) e, (λ r. (ap (λ (x : UserState). x.filter) e, ap (λ (x : UserState). x.notrace) e, ap (λ (x : UserState). x.slot) e)))
+alike_same s t e = (
+  ap (λ (x : UserState). x.registered) e,
+  (λ r. (ap (λ (x : UserState). x.filter) e, ap (λ (x : UserState). x.notrace) e, ap (λ (x : UserState). x.slot) e)),
+)
 
 sites_alike : (s t : UserState) (f : ℕ) → Alike s t → (t.registered && is_matching t f) ≡ (s.registered && is_matching s f)
 sites_alike s t f a = by_reg s.registered refl
@@ -34,7 +38,8 @@ sites_alike s t f a = by_reg s.registered refl
     by_reg true e = let x = a.1 e in λ i. (a.0 i && matches_by (x.0 i) (x.1 i) f)
     by_reg false e = rw (e, a.0 ∙ e) refl
 
-sited_alike : (D E : Desk) (f base : ℕ) (us vs : List UserState) → length vs ≡ length us → ((i : ℕ) → Alike (get_or us i (unseen 0)) (get_or vs i (unseen 0))) → sited_from E f base vs ≡ sited_from D f base us
+sited_alike : (D E : Desk) (f base : ℕ) (us vs : List UserState) → length vs ≡ length us → ((i : ℕ) → Alike (get_or us i (unseen 0)) (get_or vs i (unseen 0)))
+    → sited_from E f base vs ≡ sited_from D f base us
 sited_alike D E f base [] [] len same = refl
 sited_alike D E f base [] (v ∷ vs) len same = absurd (omega (arith, len))
 sited_alike D E f base (u ∷ us) [] len same = absurd (omega (arith, len))
@@ -46,7 +51,8 @@ sited_alike D E f base (u ∷ us) (v ∷ vs) len same =
 code_slot : (D : Desk) (u w : ℕ) → (user_at D u).slot ≡ Some w → code_by D (Own record { 0 = u }) ≡ 2 + w
 code_slot D u w e = rw e refl
 
-pub code_alike : (D E : Desk) (f : ℕ) → length E.users ≡ length D.users → ((u : ℕ) → Alike (user_at D u) (user_at E u)) → code_by E (target E f) ≡ code_by D (target D f)
+pub code_alike : (D E : Desk) (f : ℕ) → length E.users ≡ length D.users → ((u : ℕ) → Alike (user_at D u) (user_at E u))
+    → code_by E (target E f) ≡ code_by D (target D f)
 code_alike D E f len same = ap (λ l. code_by E (target_by E l)) (sited_alike D E f 0 D.users E.users len same) ∙ by_list (sited D f) refl
   where
     by_list : (l : List ℕ) → sited D f ≡ l → code_by E (target_by E l) ≡ code_by D (target_by D l)
@@ -58,7 +64,8 @@ code_alike D E f len same = ap (λ l. code_by E (target_by E l)) (sited_alike D 
         let s : is_sited D u f ≡ true = subst (λ x. is_sited D x f ≡ true) (sym i) h.2 in
         by_slot (user_at D u).slot refl ((same u).1 (and_both (user_at D u).registered (is_matching (user_at D u) f) s).0).2
       where
-        by_slot : (o : Option ℕ) → (user_at D u).slot ≡ o → (user_at E u).slot ≡ (user_at D u).slot → code_by E (target_by E (u ∷ [])) ≡ code_by D (target_by D (u ∷ []))
+        by_slot : (o : Option ℕ) → (user_at D u).slot ≡ o → (user_at E u).slot ≡ (user_at D u).slot
+            → code_by E (target_by E (u ∷ [])) ≡ code_by D (target_by D (u ∷ []))
         by_slot None e e' = rw (e, e' ∙ e) refl
         by_slot (Some w) e e' = rw (e, e' ∙ e) (code_slot E u w (e' ∙ e) ∙ sym (code_slot D u w e))
 
@@ -67,129 +74,150 @@ module _ (job : Job) (ok : IsWellFormed job) (d : ℕ) where
   others_same v ne = (between job ok d).others v ne
 
   -- what is so of a registered user stays so, or the command waits
-  pub user_kept : (R : UserState → Type 0) (u : ℕ) → IsSteady R → R (state_of job d u) → (waits (sort job d) ≡ true) ⊎ R (state_of job (suc d) u)
+  pub user_kept : (R : UserState → Type 0) (u : ℕ) → IsSteady R → R (state_of job d u) → (waits (effect job d) ≡ true) ⊎ R (state_of job (suc d) u)
   user_kept R u steady r = elim (cases_eq u (subject job d)) [
-    | inl e ↦ subst (λ x. (waits (sort job d) ≡ true) ⊎ R (state_of job (suc d) x)) (sym e) (by_sort (sort job d) (between job ok d).subject (subst (λ x. R (state_of job d x)) e r))
+    | inl e ↦ subst (λ x. (waits (effect job d) ≡ true) ⊎ R (state_of job (suc d) x)) (sym e)
+        (by_effect (effect job d) (between job ok d).subject (subst (λ x. R (state_of job d x)) e r))
     | inr ne ↦ inr (subst R (sym (others_same u ne)) r)
   ]
     where
-      by_sort : (z : Sort) → SubjectBy job (desk job d) (suc d) z (state_of job d (subject job d)) (state_of job (suc d) (subject job d)) → R (state_of job d (subject job d))
+      by_effect : (z : Effect) → SubjectBy job (desk job d) (suc d) z (state_of job d (subject job d)) (state_of job (suc d) (subject job d))
+          → R (state_of job d (subject job d))
           → (waits z ≡ true) ⊎ R (state_of job (suc d) (subject job d))
-      by_sort Adds c x = false_true (sym c.0 ∙ (steady (state_of job d (subject job d)) x).0)
-      by_sort Removes c x = inl refl
-      by_sort Edits c x = inl refl
-      by_sort Enables c x = inr (subst R (sym c.1) (steady (state_of job d (subject job d)) x).1)
-      by_sort Disables c x = inl refl
-      by_sort Lists c x = inl refl
-      by_sort Levels c x = inl refl
-      by_sort Nothing c x = inr (subst R (sym (c.1 (steady (state_of job d (subject job d)) x).0)) x)
+      by_effect Adds c x = false_true (sym c.0 ∙ (steady (state_of job d (subject job d)) x).0)
+      by_effect Removes c x = inl refl
+      by_effect Edits c x = inl refl
+      by_effect Enables c x = inr (subst R (sym c.1) (steady (state_of job d (subject job d)) x).1)
+      by_effect Disables c x = inl refl
+      by_effect Lists c x = inl refl
+      by_effect Levels c x = inl refl
+      by_effect Nothing c x = inr (subst R (sym (c.1 (steady (state_of job d (subject job d)) x).0)) x)
 
-  alike_by : patches (sort job d) ≡ false → (u : ℕ) → Alike (state_of job d u) (state_of job (suc d) u)
+  alike_by : patches (effect job d) ≡ false → (u : ℕ) → Alike (state_of job d u) (state_of job (suc d) u)
   alike_by none u = elim (cases_eq u (subject job d)) [
     | inr ne ↦ alike_same (state_of job d u) (state_of job (suc d) u) (others_same u ne)
-    | inl e ↦ subst (λ x. Alike (state_of job d x) (state_of job (suc d) x)) (sym e) (by_sort (sort job d) (between job ok d).subject none)
+    | inl e ↦ subst (λ x. Alike (state_of job d x) (state_of job (suc d) x)) (sym e) (by_effect (effect job d) (between job ok d).subject none)
   ]
     where
-      by_sort : (z : Sort) → SubjectBy job (desk job d) (suc d) z (state_of job d (subject job d)) (state_of job (suc d) (subject job d)) → patches z ≡ false
+      by_effect : (z : Effect) → SubjectBy job (desk job d) (suc d) z (state_of job d (subject job d)) (state_of job (suc d) (subject job d))
+          → patches z ≡ false
           → Alike (state_of job d (subject job d)) (state_of job (suc d) (subject job d))
-      by_sort Adds c x = false_true (sym x)
-      by_sort Removes c x = false_true (sym x)
-      by_sort Edits c x = false_true (sym x)
-      by_sort Enables c x = (ap (λ (y : UserState). y.registered) c.1, (λ r. (ap (λ (y : UserState). y.filter) c.1, ap (λ (y : UserState). y.notrace) c.1, ap (λ (y : UserState). y.slot) c.1)))
-      by_sort Disables c x = (ap (λ (y : UserState). y.registered) c.1, (λ r. (ap (λ (y : UserState). y.filter) c.1, ap (λ (y : UserState). y.notrace) c.1, ap (λ (y : UserState). y.slot) c.1)))
-      by_sort Lists c x = alike_same (state_of job d (subject job d)) (state_of job (suc d) (subject job d)) c
-      by_sort Levels c x = alike_same (state_of job d (subject job d)) (state_of job (suc d) (subject job d)) c
-      by_sort Nothing c x = (c.0.registered, (λ r. (alike_same (state_of job d (subject job d)) (state_of job (suc d) (subject job d)) (c.1 r)).1 r))
+      by_effect Adds c x = false_true (sym x)
+      by_effect Removes c x = false_true (sym x)
+      by_effect Edits c x = false_true (sym x)
+      by_effect Enables c x = (
+        ap (λ (y : UserState). y.registered) c.1,
+        (λ r. (ap (λ (y : UserState). y.filter) c.1, ap (λ (y : UserState). y.notrace) c.1, ap (λ (y : UserState). y.slot) c.1)),
+      )
+      by_effect Disables c x = (
+        ap (λ (y : UserState). y.registered) c.1,
+        (λ r. (ap (λ (y : UserState). y.filter) c.1, ap (λ (y : UserState). y.notrace) c.1, ap (λ (y : UserState). y.slot) c.1)),
+      )
+      by_effect Lists c x = alike_same (state_of job d (subject job d)) (state_of job (suc d) (subject job d)) c
+      by_effect Levels c x = alike_same (state_of job d (subject job d)) (state_of job (suc d) (subject job d)) c
+      by_effect Nothing c x = (c.0.registered, (λ r. (alike_same (state_of job d (subject job d)) (state_of job (suc d) (subject job d)) (c.1 r)).1 r))
 
   -- a command that patches nothing changes no call site
-  pub none_changes : patches (sort job d) ≡ false → (f : ℕ) → changes job d f ≡ false
+  pub none_changes : patches (effect job d) ≡ false → (f : ℕ) → changes job d f ≡ false
   unfolding insn
   none_changes none f =
-      let e : code_by (desk job (suc d)) (target (desk job (suc d)) f) ≡ code_by (desk job d) (target (desk job d) f) = code_alike (desk job d) (desk job (suc d)) f (length-desk job (suc d) ∙ sym (length-desk job d)) (alike_by none) in
+      let e : code_by (desk job (suc d)) (target (desk job (suc d)) f) ≡ code_by (desk job d) (target (desk job d) f) =
+      code_alike (desk job d) (desk job (suc d)) f (length-desk job (suc d) ∙ sym (length-desk job d)) (alike_by none) in
       ap not (eq-eqb (insn job d f) (insn job (suc d) f) (sym e))
 
   -- a command that neither adds nor removes a user leaves who is registered, and since when
-  pub rest_same : relinks (sort job d) ≡ false → (v : ℕ) → ((state_of job (suc d) v).registered ≡ (state_of job d v).registered) × ((state_of job (suc d) v).since ≡ (state_of job d v).since)
+  pub rest_same : relinks (effect job d) ≡ false → (v : ℕ) → ((state_of job (suc d) v).registered ≡ (state_of job d v).registered)
+      × ((state_of job (suc d) v).since ≡ (state_of job d v).since)
   rest_same none v = elim (cases_eq v (subject job d)) [
     | inr ne ↦ (ap (λ (s : UserState). s.registered) (others_same v ne), ap (λ (s : UserState). s.since) (others_same v ne))
-    | inl e ↦ subst (λ x. ((state_of job (suc d) x).registered ≡ (state_of job d x).registered) × ((state_of job (suc d) x).since ≡ (state_of job d x).since)) (sym e)
-        (by_sort (sort job d) (between job ok d).subject none)
+    | inl e ↦ subst (λ x. ((state_of job (suc d) x).registered ≡ (state_of job d x).registered) × ((state_of job (suc d) x).since ≡ (state_of job d x).since))
+        (sym e)
+        (by_effect (effect job d) (between job ok d).subject none)
   ]
     where
-      by_sort : (z : Sort) → SubjectBy job (desk job d) (suc d) z (state_of job d (subject job d)) (state_of job (suc d) (subject job d)) → relinks z ≡ false
-          → ((state_of job (suc d) (subject job d)).registered ≡ (state_of job d (subject job d)).registered) × ((state_of job (suc d) (subject job d)).since ≡ (state_of job d (subject job d)).since)
-      by_sort Adds c x = false_true (sym x)
-      by_sort Removes c x = false_true (sym x)
-      by_sort Edits c x = (c.1.registered, c.1.since)
-      by_sort Enables c x = (ap (λ (y : UserState). y.registered) c.1, ap (λ (y : UserState). y.since) c.1)
-      by_sort Disables c x = (ap (λ (y : UserState). y.registered) c.1, ap (λ (y : UserState). y.since) c.1)
-      by_sort Lists c x = (ap (λ (y : UserState). y.registered) c, ap (λ (y : UserState). y.since) c)
-      by_sort Levels c x = (ap (λ (y : UserState). y.registered) c, ap (λ (y : UserState). y.since) c)
-      by_sort Nothing c x = (c.0.registered, c.0.since)
+      by_effect : (z : Effect) → SubjectBy job (desk job d) (suc d) z (state_of job d (subject job d)) (state_of job (suc d) (subject job d))
+          → relinks z ≡ false
+          → ((state_of job (suc d) (subject job d)).registered ≡ (state_of job d (subject job d)).registered)
+          × ((state_of job (suc d) (subject job d)).since ≡ (state_of job d (subject job d)).since)
+      by_effect Adds c x = false_true (sym x)
+      by_effect Removes c x = false_true (sym x)
+      by_effect Edits c x = (c.1.registered, c.1.since)
+      by_effect Enables c x = (ap (λ (y : UserState). y.registered) c.1, ap (λ (y : UserState). y.since) c.1)
+      by_effect Disables c x = (ap (λ (y : UserState). y.registered) c.1, ap (λ (y : UserState). y.since) c.1)
+      by_effect Lists c x = (ap (λ (y : UserState). y.registered) c, ap (λ (y : UserState). y.since) c)
+      by_effect Levels c x = (ap (λ (y : UserState). y.registered) c, ap (λ (y : UserState). y.since) c)
+      by_effect Nothing c x = (c.0.registered, c.0.since)
 
   -- its list is then the list of the desk that is begun
-  pub order_flips : relinks (sort job d) ≡ false → (order : List ℕ) → IsOrder (desk job d) d order → IsOrder (desk job (suc d)) (suc d) order
+  pub order_flips : relinks (effect job d) ≡ false → (order : List ℕ) → IsOrder (desk job d) d order → IsOrder (desk job (suc d)) (suc d) order
   order_flips none order h = order-same (desk job d) (desk job (suc d)) d order (λ v. (rest_same none v).0) (λ v. (rest_same none v).1) h
 
-  -- what the command is, by its sort
-  pub sort_removes : sort job d ≡ Removes → (command job d ≡ Some (Unregister (subject job d))) × (is_accepted (answer_on job (desk job d) (Unregister (subject job d))) ≡ true)
+  -- what the command is, by its effect
+  pub sort_removes : effect job d ≡ Removes → (command job d ≡ Some (Unregister (subject job d)))
+      × (is_accepted (answer_on job (desk job d) (Unregister (subject job d))) ≡ true)
   sort_removes e = by_command (command job d) refl e
     where
       edited : (b : Bool) → edits_or b ≡ Removes → ⊥
       edited true x = false_true (ap is_removes x)
       edited false x = false_true (ap is_removes x)
 
-      by_sort : (c : Command) → sort_by (desk job d) c ≡ Removes → c ≡ Unregister (subject_of c)
-      by_sort (Register u) x = false_true (ap is_removes x)
-      by_sort (Unregister u) x = refl
-      by_sort (Filter u y) x = absurd (edited (user_at (desk job d) u).registered x)
-      by_sort (Notrace u y) x = absurd (edited (user_at (desk job d) u).registered x)
-      by_sort (Pid y) x = false_true (ap is_removes x)
-      by_sort (NoPid y) x = false_true (ap is_removes x)
-      by_sort (Enable u) x = false_true (ap is_removes x)
-      by_sort (Disable u) x = false_true (ap is_removes x)
-      by_sort (MaxDepth n) x = false_true (ap is_removes x)
+      by_effect : (c : Command) → effect_by (desk job d) c ≡ Removes → c ≡ Unregister (subject_of c)
+      by_effect (Register u) x = false_true (ap is_removes x)
+      by_effect (Unregister u) x = refl
+      by_effect (Filter u y) x = absurd (edited (user_at (desk job d) u).registered x)
+      by_effect (Notrace u y) x = absurd (edited (user_at (desk job d) u).registered x)
+      by_effect (Pid y) x = false_true (ap is_removes x)
+      by_effect (NoPid y) x = false_true (ap is_removes x)
+      by_effect (Enable u) x = false_true (ap is_removes x)
+      by_effect (Disable u) x = false_true (ap is_removes x)
+      by_effect (MaxDepth n) x = false_true (ap is_removes x)
 
-      by_answer : (c : Command) (b : Bool) → is_accepted (answer_on job (desk job d) c) ≡ b → cond b (sort_by (desk job d) c) Nothing ≡ Removes → (c ≡ Unregister (subject_of c)) × (is_accepted (answer_on job (desk job d) c) ≡ true)
-      by_answer c true a x = (by_sort c x, a)
+      by_answer : (c : Command) (b : Bool) → is_accepted (answer_on job (desk job d) c) ≡ b → cond b (effect_by (desk job d) c) Nothing ≡ Removes
+          → (c ≡ Unregister (subject_of c)) × (is_accepted (answer_on job (desk job d) c) ≡ true)
+      by_answer c true a x = (by_effect c x, a)
       by_answer c false a x = false_true (ap is_removes x)
 
-      by_command : (o : Option Command) → command job d ≡ o → sort_in job d o ≡ Removes → (o ≡ Some (Unregister (subject_in o))) × (is_accepted (answer_on job (desk job d) (Unregister (subject_in o))) ≡ true)
+      by_command : (o : Option Command) → command job d ≡ o → effect_in job d o ≡ Removes
+          → (o ≡ Some (Unregister (subject_in o))) × (is_accepted (answer_on job (desk job d) (Unregister (subject_in o))) ≡ true)
       by_command None x y = false_true (ap is_removes y)
       by_command (Some c) x y =
           let r = by_answer c (is_accepted (answer_on job (desk job d) c)) refl y in
           (ap (λ (z : Command). Some z) r.0, subst (λ (z : Command). is_accepted (answer_on job (desk job d) z) ≡ true) r.0 r.1)
 
-  pub sort_adds : sort job d ≡ Adds → (command job d ≡ Some (Register (subject job d))) × (is_accepted (answer_on job (desk job d) (Register (subject job d))) ≡ true)
+  pub sort_adds : effect job d ≡ Adds → (command job d ≡ Some (Register (subject job d)))
+      × (is_accepted (answer_on job (desk job d) (Register (subject job d))) ≡ true)
   sort_adds e = by_command (command job d) refl e
     where
       edited : (b : Bool) → edits_or b ≡ Adds → ⊥
       edited true x = false_true (ap is_adds x)
       edited false x = false_true (ap is_adds x)
 
-      by_sort : (c : Command) → sort_by (desk job d) c ≡ Adds → c ≡ Register (subject_of c)
-      by_sort (Register u) x = refl
-      by_sort (Unregister u) x = false_true (ap is_adds x)
-      by_sort (Filter u y) x = absurd (edited (user_at (desk job d) u).registered x)
-      by_sort (Notrace u y) x = absurd (edited (user_at (desk job d) u).registered x)
-      by_sort (Pid y) x = false_true (ap is_adds x)
-      by_sort (NoPid y) x = false_true (ap is_adds x)
-      by_sort (Enable u) x = false_true (ap is_adds x)
-      by_sort (Disable u) x = false_true (ap is_adds x)
-      by_sort (MaxDepth n) x = false_true (ap is_adds x)
+      by_effect : (c : Command) → effect_by (desk job d) c ≡ Adds → c ≡ Register (subject_of c)
+      by_effect (Register u) x = refl
+      by_effect (Unregister u) x = false_true (ap is_adds x)
+      by_effect (Filter u y) x = absurd (edited (user_at (desk job d) u).registered x)
+      by_effect (Notrace u y) x = absurd (edited (user_at (desk job d) u).registered x)
+      by_effect (Pid y) x = false_true (ap is_adds x)
+      by_effect (NoPid y) x = false_true (ap is_adds x)
+      by_effect (Enable u) x = false_true (ap is_adds x)
+      by_effect (Disable u) x = false_true (ap is_adds x)
+      by_effect (MaxDepth n) x = false_true (ap is_adds x)
 
-      by_answer : (c : Command) (b : Bool) → is_accepted (answer_on job (desk job d) c) ≡ b → cond b (sort_by (desk job d) c) Nothing ≡ Adds → (c ≡ Register (subject_of c)) × (is_accepted (answer_on job (desk job d) c) ≡ true)
-      by_answer c true a x = (by_sort c x, a)
+      by_answer : (c : Command) (b : Bool) → is_accepted (answer_on job (desk job d) c) ≡ b → cond b (effect_by (desk job d) c) Nothing ≡ Adds
+          → (c ≡ Register (subject_of c)) × (is_accepted (answer_on job (desk job d) c) ≡ true)
+      by_answer c true a x = (by_effect c x, a)
       by_answer c false a x = false_true (ap is_adds x)
 
-      by_command : (o : Option Command) → command job d ≡ o → sort_in job d o ≡ Adds → (o ≡ Some (Register (subject_in o))) × (is_accepted (answer_on job (desk job d) (Register (subject_in o))) ≡ true)
+      by_command : (o : Option Command) → command job d ≡ o → effect_in job d o ≡ Adds
+          → (o ≡ Some (Register (subject_in o))) × (is_accepted (answer_on job (desk job d) (Register (subject_in o))) ≡ true)
       by_command None x y = false_true (ap is_adds y)
       by_command (Some c) x y =
           let r = by_answer c (is_accepted (answer_on job (desk job d) c)) refl y in
           (ap (λ (z : Command). Some z) r.0, subst (λ (z : Command). is_accepted (answer_on job (desk job d) z) ≡ true) r.0 r.1)
 
-  -- the list behind an accepted command
-  pub order_next : (c : Command) (order : List ℕ) → command job d ≡ Some c → is_accepted (answer_on job (desk job d) c) ≡ true → IsOrder (desk job d) d order → IsOrder (desk job (suc d)) (suc d) (order_after order c)
+  -- the list after an accepted command
+  pub order_next : (c : Command) (order : List ℕ) → command job d ≡ Some c → is_accepted (answer_on job (desk job d) c) ≡ true → IsOrder (desk job d) d order
+      → IsOrder (desk job (suc d)) (suc d) (order_after order c)
   order_next c order is accepts h =
       subst (λ D. IsOrder D (suc d) (order_after order c)) (sym (desk-suc job d ∙ ap (λ (o : Option Command). after job (desk job d) (suc d) o) is))
       (subst (λ b. IsOrder (after job (desk job d) (suc d) (Some c)) (suc d) (cond b (order_after order c) order)) accepts

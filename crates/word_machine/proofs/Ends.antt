@@ -15,12 +15,13 @@ use Rattle.ft_hist.specs.Rules.{IsLegal, IsLegalPast, IsWhole, HasEnded}
 use Rattle.ft_hist.specs.Frames.{is_nil}
 use Rattle.plain_machine.specs.State.{has_acts}
 use Rattle.word_machine.specs.Words.{half_size}
-use Rattle.word_machine.specs.Control.{Control, Place, Line, Take}
+use Rattle.word_machine.specs.Control.{Control, Position, Line, Take}
 use Rattle.word_machine.specs.Task.{OpenCall, TaskState, Moment, Polling, First}
-use Rattle.word_machine.specs.Cpu.{Cpu, Phase, Going, StoringAck, StoringQuiet, Over, goes_on, is_left}
-use Rattle.word_machine.specs.Machine.{World, step, run, played, is_over, is_over_at, control_over, all_over, play, start}
-use Rattle.word_machine.specs.Calls.{Here}
-use Rattle.word_machine.specs.Rule.{Kept, here, TaskKept, IsOn, IsWordJob, PollAt, scripted_of}
+use Rattle.word_machine.specs.Cpu.{Cpu, Phase, Going, StoringAck, StoringQuiet, Over, any_has_more, has_more}
+use Rattle.word_machine.specs.Machine.{World, step, run, played, all_end, is_end, control_is_done, cpus_end, play, start}
+use Rattle.word_machine.specs.Verdicts.{Here}
+use Rattle.word_machine.specs.Tasks.{TaskRule, scripted_of}
+use Rattle.word_machine.specs.Rule.{MachineRule, here, IsOn, IsWordJob, PollAt}
 use Rattle.word_machine.proofs.Start.{opens}
 use Rattle.word_machine.proofs.Steps.{step_keeps, always_kept}
 use Rattle.word_machine.proofs.TasksOf.{task_goes_on}
@@ -31,14 +32,15 @@ none-past [] i e = omega arith
 none-past (x ∷ xs) zero e = absurd (cc)
 none-past (x ∷ xs) (suc i) e = (let h = none-past xs i e in omega (arith, h))
 
-all-of : (cpus : ℕ → Cpu) (c n i : ℕ) → i < n → all_over cpus c n ≡ true → is_over_at (cpus (c + i)).phase ≡ true
+all-of : (cpus : ℕ → Cpu) (c n i : ℕ) → i < n → cpus_end cpus c n ≡ true → is_end (cpus (c + i)).phase ≡ true
 all-of cpus c zero i lt e = absurd (omega (arith, lt))
-all-of cpus c (suc n) zero lt e = (let z : c ≡ c + 0 = omega arith in subst (λ j. is_over_at (cpus j).phase ≡ true) z (and_both (is_over_at (cpus c).phase) (all_over cpus (suc c) n) e).0)
+all-of cpus c (suc n) zero lt e = (let z : c ≡ c + 0 = omega arith in
+    subst (λ j. is_end (cpus j).phase ≡ true) z (and_both (is_end (cpus c).phase) (cpus_end cpus (suc c) n) e).0)
 all-of cpus c (suc n) (suc i) lt e =
     let z : suc c + i ≡ c + suc i = omega arith in
-    subst (λ j. is_over_at (cpus j).phase ≡ true) z (all-of cpus (suc c) n i (omega (arith, lt)) (and_both (is_over_at (cpus c).phase) (all_over cpus (suc c) n) e).1)
+    subst (λ j. is_end (cpus j).phase ≡ true) z (all-of cpus (suc c) n i (omega (arith, lt)) (and_both (is_end (cpus c).phase) (cpus_end cpus (suc c) n) e).1)
 
-over-is : (ph : Phase) → is_over_at ph ≡ true → ph ≡ Over
+over-is : (ph : Phase) → is_end ph ≡ true → ph ≡ Over
 over-is Over e = refl
 over-is Going e = false_true e
 over-is (StoringAck r) e = false_true e
@@ -48,47 +50,51 @@ nil-is : (l : List Ctl) → is_nil l ≡ true → l ≡ []
 nil-is [] e = refl
 nil-is (x ∷ xs) e = false_true e
 
-at-line : (c : Control) (p : Place) → control_over c p ≡ true → (p ≡ Line) × (c.left ≡ [])
-at-line c Line e = (refl, nil-is c.left e)
+at-line : (c : Control) (p : Position) → control_is_done c p ≡ true → (p ≡ Line) × (c.remaining ≡ [])
+at-line c Line e = (refl, nil-is c.remaining e)
 at-line c Take e = false_true e
 at-line c _ e = false_true e
 
 module _ (job : Job) (h : Here) (past : List Item) (ack word t : ℕ) where
   ended : (next : ℕ) (acts : List TaskAct) (gone : ℕ) (contexts : List Ctx) (stack : List OpenCall) (own : ℕ) (m : Moment)
-      → (k : TaskKept job h past ack word t (record { next = next; acts = acts; gone = gone; contexts = contexts; stack = stack; word = own; moment = m })) → has_acts acts ≡ false → HasEnded (done past) k.run.at
+      → (k : TaskRule job h past ack word t (record { next = next; acts = acts; gone = gone; contexts = contexts; stack = stack; word = own; moment = m }))
+      → has_acts acts ≡ false → HasEnded (done past) k.run.at
   ended next (a ∷ rest) gone contexts stack own m k none = false_true (sym none)
   ended next [] gone contexts [] own Polling k none = (ap (λ (a : Ahead). a.acts) k.run.ahead, k.run.stack)
   ended next [] gone contexts [] own First k none = (ap (λ (a : Ahead). a.acts) k.run.ahead, k.run.stack)
   ended next [] gone contexts (c ∷ below) own Polling k none =
-      absurd (let s : cond c.scripted (suc (scripted_of below)) (scripted_of below) ≡ 0 = k.script in let z : suc (scripted_of below) ≡ 0 = subst (λ b. cond b (suc (scripted_of below)) (scripted_of below) ≡ 0) k.calls.1.1 s in omega (arith, z))
+      absurd (let s : cond c.scripted (suc (scripted_of below)) (scripted_of below) ≡ 0 = k.script in
+      let z : suc (scripted_of below) ≡ 0 = subst (λ b. cond b (suc (scripted_of below)) (scripted_of below) ≡ 0) k.calls.1.1 s in omega (arith, z))
   ended next [] gone contexts (c ∷ below) own First k none =
-      absurd (let s : cond c.scripted (suc (scripted_of below)) (scripted_of below) ≡ 0 = k.script in let z : suc (scripted_of below) ≡ 0 = subst (λ b. cond b (suc (scripted_of below)) (scripted_of below) ≡ 0) k.calls.1.1 s in omega (arith, z))
+      absurd (let s : cond c.scripted (suc (scripted_of below)) (scripted_of below) ≡ 0 = k.script in
+      let z : suc (scripted_of below) ≡ 0 = subst (λ b. cond b (suc (scripted_of below)) (scripted_of below) ≡ 0) k.calls.1.1 s in omega (arith, z))
   ended next [] gone contexts stack own m k none = false_true k.stands.0
 
-module _ (job : Job) (ok : IsWordJob job) (s : World) (kept : Kept job s) (over : is_over job s ≡ true) where
-  parts : (control_over s.control s.control.place ≡ true) × (all_over s.cpus 0 (length job.quanta) ≡ true)
-  unfolding is_over
-  parts = and_both (control_over s.control s.control.place) (all_over s.cpus 0 (length job.quanta)) over
+module _ (job : Job) (ok : IsWordJob job) (s : World) (kept : MachineRule job s) (over : all_end job s ≡ true) where
+  parts : (control_is_done s.control s.control.position ≡ true) × (cpus_end s.cpus 0 (length job.quanta) ≡ true)
+  unfolding all_end
+  parts = and_both (control_is_done s.control s.control.position) (cpus_end s.cpus 0 (length job.quanta)) over
 
   returned : done s.past ≡ length (commands job)
   returned =
-      let l = at-line s.control s.control.place parts.0 in
+      let l = at-line s.control s.control.position parts.0 in
       let c = kept.lines.commands 0 ∙ ap (λ x. slice_get (commands_in x) 0) l.1 in
-      let a = none-past (commands job) (s.control.done + 0) c in
-      let b = kept.lines.most' in let e = kept.counts.returned in omega (arith, a, b, e)
+      let a = none-past (commands job) (s.control.commands_done + 0) c in
+      let b = kept.lines.within in let e = kept.counts.returned in omega (arith, a, b, e)
 
   task-ended : (t : ℕ) → t < length job.tasks → IfSome (plain job t s.past) (HasEnded (done s.past))
   task-ended t there =
       let c : ℕ = (get_or job.tasks t no_task).cpu in let within = ok.placed t there in
       let k = kept.cpus c within in let on : IsOn job c t = (there, refl) in
       let z : 0 + c ≡ c = omega arith in
-      let at-end : (s.cpus c).phase ≡ Over = over-is (s.cpus c).phase (subst (λ j. is_over_at (s.cpus j).phase ≡ true) z (all-of s.cpus 0 (length job.quanta) c within parts.1)) in
-      let still : goes_on job (s.cpus c) ≡ false = (subst (λ ph. PollAt job s.control.request c (s.cpus c) ph) at-end k.polls).0 in
-      let kt : TaskKept job (here s kept.base) s.past (s.words.ack c) (s.words.quiet t) t ((s.cpus c).tasks t) = k.tasks t on in
+      let at-end : (s.cpus c).phase ≡ Over =
+      over-is (s.cpus c).phase (subst (λ j. is_end (s.cpus j).phase ≡ true) z (all-of s.cpus 0 (length job.quanta) c within parts.1)) in
+      let still : any_has_more job (s.cpus c) ≡ false = (subst (λ ph. PollAt job s.control.request c (s.cpus c) ph) at-end k.polls).0 in
+      let kt : TaskRule job (here s kept.base) s.past (s.words.ack c) (s.words.quiet t) t ((s.cpus c).tasks t) = k.tasks t on in
       let x : TaskState = (s.cpus c).tasks t in
       subst (λ (o : Option PlainTask). IfSome o (HasEnded (done s.past))) (sym kt.run.is)
       (ended job (here s kept.base) s.past (s.words.ack c) (s.words.quiet t) t x.next x.acts x.gone x.contexts x.stack x.word x.moment kt
-      (none (is_left (s.cpus c).tasks t) (λ e. sym still ∙ task_goes_on job c t (s.cpus c) k.number on e)))
+      (none (has_more (s.cpus c).tasks t) (λ e. sym still ∙ task_goes_on job c t (s.cpus c) k.number on e)))
     where
       none : (b : Bool) → (b ≡ true → false ≡ true) → b ≡ false
       none true f = false_true (f refl)
@@ -105,18 +111,20 @@ module _ (job : Job) (ok : IsWordJob job) (s : World) (kept : Kept job s) (over 
 -- ## replays
 
 module _ (job : Job) (ok : IsWordJob job) where
-  pub played_keeps : (as' : List Actor) (s : World) → length (played job as' s).past < half_size → Kept job s → Kept job (played job as' s)
+  pub played_keeps : (as' : List Actor) (s : World) → length (played job as' s).past < half_size → MachineRule job s → MachineRule job (played job as' s)
   unfolding played
   played_keeps [] s room kept = kept
-  played_keeps (a ∷ rest) s room kept = by (is_over job s) room (λ r. played_keeps rest (step job a s) r (step_keeps job ok a s (let y = played-grows job rest (step job a s) in omega (arith, y, r)) kept))
+  played_keeps (a ∷ rest) s room kept = by (all_end job s) room
+      (λ r. played_keeps rest (step job a s) r (step_keeps job ok a s (let y = played-grows job rest (step job a s) in omega (arith, y, r)) kept))
     where
-      by : (b : Bool) → length (cond b s (played job rest (step job a s))).past < half_size → (length (played job rest (step job a s)).past < half_size → Kept job (played job rest (step job a s)))
-          → Kept job (cond b s (played job rest (step job a s)))
+      by : (b : Bool) → length (cond b s (played job rest (step job a s))).past < half_size
+          → (length (played job rest (step job a s)).past < half_size → MachineRule job (played job rest (step job a s)))
+          → MachineRule job (cond b s (played job rest (step job a s)))
       by true room go = kept
       by false room go = go room
 
-  -- the rule holds where the replay of the job ends
-  pub play_kept : length (play job).past < half_size → Kept job (play job)
+  -- the rule holds at the end of the job's replay
+  pub play_kept : length (play job).past < half_size → MachineRule job (play job)
   unfolding start play
   play_kept room = played_keeps (actors_of job) (start job) room (opens job ok)
 
@@ -125,8 +133,8 @@ module _ (job : Job) (ok : IsWordJob job) where
   unfolding IsLegal
   every_play_is_legal room = subst (λ p. IsLegalPast job p) (sym (reverse-reverse (play job).past)) (play_kept room).legal
 
-  -- and where every actor is at its end, it is whole
-  pub every_ended_play_is_whole : length (play job).past < half_size → is_over job (play job) ≡ true → IsWhole job (reverse (play job).past)
+  -- and if every actor is at its end, it is whole
+  pub every_ended_play_is_whole : length (play job).past < half_size → all_end job (play job) ≡ true → IsWhole job (reverse (play job).past)
   every_ended_play_is_whole room over = whole job ok (play job) (play_kept room) over
 
   -- the same for any run
@@ -134,5 +142,6 @@ module _ (job : Job) (ok : IsWordJob job) where
   unfolding IsLegal
   every_run_is_legal as' room = subst (λ p. IsLegalPast job p) (sym (reverse-reverse (run job as' (start job)).past)) (always_kept job ok as' room).legal
 
-  pub every_ended_run_is_whole : (as' : List Actor) → length (run job as' (start job)).past < half_size → is_over job (run job as' (start job)) ≡ true → IsWhole job (reverse (run job as' (start job)).past)
+  pub every_ended_run_is_whole : (as' : List Actor) → length (run job as' (start job)).past < half_size → all_end job (run job as' (start job)) ≡ true
+      → IsWhole job (reverse (run job as' (start job)).past)
   every_ended_run_is_whole as' room over = whole job ok (run job as' (start job)) (always_kept job ok as' room) over

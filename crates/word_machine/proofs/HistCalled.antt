@@ -1,4 +1,5 @@
--- Laws of histories alone, for the crate of histories to own: an open callback of a call without exits is that of a meeting, and a task that the job lacks has no items.
+-- Laws of histories alone, for ft_hist to own: an open callback of a call without exits is that of a visit, and a task that the job does not
+-- have has no items.
 use Rattle.std.proofs.Common.{cond, ◌≡◌, ℕ, ◌≤◌, Bool, true, false, ◌&&◌, ◌||◌, ◌==◌, List, [], ◌∷◌, length, Some, None, inl, inr, refl, sym, ap, ◌∙◌, subst, eqb-true}
 use Rattle.std.specs.Prelude.{Option, IsSome}
 use Rattle.std.specs.List.{list_any, AllByRecursion as Each}
@@ -21,7 +22,8 @@ called_less : (call c : CallNo) (u v : ℕ) (bs : List Callback) → called call
 called_less call c u v [] e = e
 called_less call c u v (b ∷ bs) e = by_same (same_call b.call c && (b.user == v)) e (λ x. called_less call c u v bs x)
   where
-    by_same : (t : Bool) → called call u (cond t bs (b ∷ ended c v bs)) ≡ true → (called call u (ended c v bs) ≡ true → called call u bs ≡ true) → ((same_call b.call call && (b.user == u)) || called call u bs) ≡ true
+    by_same : (t : Bool) → called call u (cond t bs (b ∷ ended c v bs)) ≡ true → (called call u (ended c v bs) ≡ true → called call u bs ≡ true)
+        → ((same_call b.call call && (b.user == u)) || called call u bs) ≡ true
     by_same true x less = rw x (or-true (same_call b.call call && (b.user == u)))
     by_same false x less = elim (or-true_either (same_call b.call call && (b.user == u)) (called call u (ended c v bs)) x) [
       | inl y ↦ rw y refl
@@ -31,46 +33,53 @@ called_less call c u v (b ∷ bs) e = by_same (same_call b.call c && (b.user == 
 abbrev pub meets : ℕ → List Visit → Bool
 meets u ms = list_any (λ m. m.user == u) ms
 
--- a callback that is open before the call has exits is that of a meeting
+-- a callback that is open before the call has exits is that of a visit
 module _ (job : Job) (call : CallNo) (u : ℕ) where
-  called_now : (m : Visit) (past : List Item) (c : CallNo) → m.call ≡ c → (((same_call c call && (m.user == u)) || called call u (callbacks past)) ≡ true) → (called call u (callbacks past) ≡ true → meets u (visits job call past) ≡ true)
+  called_now : (m : Visit) (past : List Item) (c : CallNo) → m.call ≡ c → (((same_call c call && (m.user == u)) || called call u (callbacks past)) ≡ true)
+      → (called call u (callbacks past) ≡ true → meets u (visits job call past) ≡ true)
       → meets u (cond (same_call m.call call) (m ∷ visits job call past) (visits job call past)) ≡ true
-  called_now m past c own e more = subst (λ x. meets u (cond (same_call x call) (m ∷ visits job call past) (visits job call past)) ≡ true) (sym own) (by_same (same_call c call) e)
+  called_now m past c own e more = subst (λ x. meets u (cond (same_call x call) (m ∷ visits job call past) (visits job call past)) ≡ true) (sym own)
+      (by_same (same_call c call) e)
     where
-      by_same : (t : Bool) → ((t && (m.user == u)) || called call u (callbacks past)) ≡ true → meets u (cond t (m ∷ visits job call past) (visits job call past)) ≡ true
-      by_same true x = elim (or-true_either (m.user == u) (called call u (callbacks past)) x) [ inl y ↦ rw y refl | inr y ↦ rw (more y) (or-true (m.user == u)) ]
+      by_same : (t : Bool) → ((t && (m.user == u)) || called call u (callbacks past)) ≡ true
+          → meets u (cond t (m ∷ visits job call past) (visits job call past)) ≡ true
+      by_same true x = elim (or-true_either (m.user == u) (called call u (callbacks past)) x)
+          [ inl y ↦ rw y refl | inr y ↦ rw (more y) (or-true (m.user == u)) ]
       by_same false x = more x
 
-  meets_more : (m : Visit) (past : List Item) → meets u (visits job call past) ≡ true → meets u (cond (same_call m.call call) (m ∷ visits job call past) (visits job call past)) ≡ true
+  meets_more : (m : Visit) (past : List Item) → meets u (visits job call past) ≡ true
+      → meets u (cond (same_call m.call call) (m ∷ visits job call past) (visits job call past)) ≡ true
   meets_more m past e = by_same (same_call m.call call)
     where
       by_same : (t : Bool) → meets u (cond t (m ∷ visits job call past) (visits job call past)) ≡ true
       by_same true = rw e (or-true (m.user == u))
       by_same false = e
 
-  exit_other : (c : CallNo) (v p : ℕ) (past : List Item) → cond (same_call c call) (p ∷ exits call past) (exits call past) ≡ [] → ((same_call c call && (v == u)) || called call u (callbacks past)) ≡ true
+  exit_other : (c : CallNo) (v p : ℕ) (past : List Item) → cond (same_call c call) (p ∷ exits call past) (exits call past) ≡ []
+      → ((same_call c call && (v == u)) || called call u (callbacks past)) ≡ true
       → (exits call past ≡ []) × (called call u (callbacks past) ≡ true)
   exit_other c v p past none e = by_same (same_call c call) none e
     where
-      by_same : (t : Bool) → cond t (p ∷ exits call past) (exits call past) ≡ [] → ((t && (v == u)) || called call u (callbacks past)) ≡ true → (exits call past ≡ []) × (called call u (callbacks past) ≡ true)
+      by_same : (t : Bool) → cond t (p ∷ exits call past) (exits call past) ≡ [] → ((t && (v == u)) || called call u (callbacks past)) ≡ true
+          → (exits call past ≡ []) × (called call u (callbacks past) ≡ true)
       by_same true x y = absurd (cc)
       by_same false x y = (x, y)
 
-  pub called_met : (past : List Item) → exits call past ≡ [] → called call u (callbacks past) ≡ true → meets u (visits job call past) ≡ true
+  pub called_visited : (past : List Item) → exits call past ≡ [] → called call u (callbacks past) ≡ true → meets u (visits job call past) ≡ true
   unfolding all_visits
-  called_met [] none e = false_true e
-  called_met (Back c v ∷ past) none e = called_now (visit job c v.0 past (all_visits job past) true) past c refl e (called_met past none)
-  called_met (Refuse c v reason ∷ past) none e = meets_more (visit job c v.0 past (all_visits job past) false) past (called_met past none e)
-  called_met (BackEnd c v ∷ past) none e = called_met past none (called_less call c u v.0 (callbacks past) e)
-  called_met (ExitEnd c v ∷ past) none e = called_met past none (called_less call c u v.0 (callbacks past) e)
-  called_met (Exit c v p ∷ past) none e = let x = exit_other c v.0 p past none e in called_met past x.0 x.1
-  called_met (Begin k ∷ past) none e = called_met past none e
-  called_met (Return k a ∷ past) none e = called_met past none e
-  called_met (Enter c x f caller ∷ past) none e = called_met past none e
-  called_met (Miss c v ∷ past) none e = called_met past none e
-  called_met (Body c g ran ∷ past) none e = called_met past none e
-  called_met (Leave c ∷ past) none e = called_met past none e
-  called_met (Ret c to ∷ past) none e = called_met past none e
+  called_visited [] none e = false_true e
+  called_visited (Back c v ∷ past) none e = called_now (visit job c v.0 past (all_visits job past) true) past c refl e (called_visited past none)
+  called_visited (Refuse c v reason ∷ past) none e = meets_more (visit job c v.0 past (all_visits job past) false) past (called_visited past none e)
+  called_visited (BackEnd c v ∷ past) none e = called_visited past none (called_less call c u v.0 (callbacks past) e)
+  called_visited (ExitEnd c v ∷ past) none e = called_visited past none (called_less call c u v.0 (callbacks past) e)
+  called_visited (Exit c v p ∷ past) none e = let x = exit_other c v.0 p past none e in called_visited past x.0 x.1
+  called_visited (Begin k ∷ past) none e = called_visited past none e
+  called_visited (Return k a ∷ past) none e = called_visited past none e
+  called_visited (Enter c x f caller ∷ past) none e = called_visited past none e
+  called_visited (Miss c v ∷ past) none e = called_visited past none e
+  called_visited (Body c g ran ∷ past) none e = called_visited past none e
+  called_visited (Leave c ∷ past) none e = called_visited past none e
+  called_visited (Ret c to ∷ past) none e = called_visited past none e
 
 pub each_any : (P : Visit → Type 0) (u : ℕ) (ms : List Visit) → Each P ms → meets u ms ≡ true → (m : Visit) × P m × (m.user ≡ u)
 each_any P u [] all e = false_true e
@@ -83,11 +92,14 @@ called_filter : (call : CallNo) (v t : ℕ) (bs : List Callback) → called call
 called_filter call v t [] e = e
 called_filter call v t (b ∷ bs) e = by_task (b.call.task.0 == t) e (λ x. called_filter call v t bs x)
   where
-    by_task : (x : Bool) → called call v (cond x (b ∷ of_task t bs) (of_task t bs)) ≡ true → (called call v (of_task t bs) ≡ true → called call v bs ≡ true) → ((same_call b.call call && (b.user == v)) || called call v bs) ≡ true
-    by_task true y more = elim (or-true_either (same_call b.call call && (b.user == v)) (called call v (of_task t bs)) y) [ inl z ↦ rw z refl | inr z ↦ rw (more z) (or-true (same_call b.call call && (b.user == v))) ]
+    by_task : (x : Bool) → called call v (cond x (b ∷ of_task t bs) (of_task t bs)) ≡ true → (called call v (of_task t bs) ≡ true → called call v bs ≡ true)
+        → ((same_call b.call call && (b.user == v)) || called call v bs) ≡ true
+    by_task true y more = elim (or-true_either (same_call b.call call && (b.user == v)) (called call v (of_task t bs)) y)
+        [ inl z ↦ rw z refl | inr z ↦ rw (more z) (or-true (same_call b.call call && (b.user == v))) ]
     by_task false y more = rw (more y) (or-true (same_call b.call call && (b.user == v)))
 
-pub there_of : (past : List Item) (t : ℕ) (bs : List Callback) → of_task t (callbacks past) ≡ bs → (c : CallNo) (v : ℕ) → called c v bs ≡ true → called c v (callbacks past) ≡ true
+pub there_of : (past : List Item) (t : ℕ) (bs : List Callback) → of_task t (callbacks past) ≡ bs → (c : CallNo) (v : ℕ) → called c v bs ≡ true
+    → called c v (callbacks past) ≡ true
 there_of past t bs is c v e = called_filter c v t (callbacks past) (subst (λ (x : List Callback). called c v x ≡ true) (sym is) e)
 
 -- what no task has, nobody has
@@ -100,7 +112,8 @@ by_task u (b ∷ bs) none =
   where
     own : of_user u (cond (b.call.task.0 == b.call.task.0) (b ∷ of_task b.call.task.0 bs) (of_task b.call.task.0 bs)) ≡ false → (b.user == u) ≡ false
     own e = let s : (b.call.task.0 == b.call.task.0) ≡ true = ==-refl b.call.task.0 in
-        (or-false_both (b.user == u) (of_user u (of_task b.call.task.0 bs)) (subst (λ (x : Bool). of_user u (cond x (b ∷ of_task b.call.task.0 bs) (of_task b.call.task.0 bs)) ≡ false) s e)).0
+        (or-false_both (b.user == u) (of_user u (of_task b.call.task.0 bs))
+        (subst (λ (x : Bool). of_user u (cond x (b ∷ of_task b.call.task.0 bs) (of_task b.call.task.0 bs)) ≡ false) s e)).0
 
     less : (t : ℕ) (x : Bool) → of_user u (cond x (b ∷ of_task t bs) (of_task t bs)) ≡ false → of_user u (of_task t bs) ≡ false
     less t true e = (or-false_both (b.user == u) (of_user u (of_task t bs)) e).1
@@ -133,21 +146,25 @@ no_read job r t (Ret call to) own h = false_true h
 
 module _ (job : Job) (t : ℕ) (out : length job.tasks ≤ t) where
   start_none : at_start job t ≡ no_run
-  start_none = ap (λ (x : Task). (let y : PlainTask = record { next = 1; acts = x.acts; gone = 0; contexts = []; stack = [] } in y)) (beyond job.tasks t no_task out)
+  start_none = ap (λ (x : Task). (let y : PlainTask = record { next = 1; acts = x.acts; gone = 0; contexts = []; stack = [] } in y))
+      (beyond job.tasks t no_task out)
 
   stranger : (past : List Item) → IsSome (plain job t past) → (plain job t past ≡ Some no_run) × (of_task t (callbacks past) ≡ [])
   unfolding plain
   stranger [] h = (ap (λ (x : PlainTask). Some x) start_none, refl)
   stranger (item ∷ past) h = by_own (is_of t item) refl h (λ x. stranger past x)
     where
-      by_plain : (o : Option PlainTask) → plain job t past ≡ o → IsSome (after_next job (done past) item o) → (IsSome (plain job t past) → (plain job t past ≡ Some no_run) × (of_task t (callbacks past) ≡ [])) → is_of t item ≡ true → ⊥
+      by_plain : (o : Option PlainTask) → plain job t past ≡ o → IsSome (after_next job (done past) item o)
+          → (IsSome (plain job t past) → (plain job t past ≡ Some no_run) × (of_task t (callbacks past) ≡ [])) → is_of t item ≡ true → ⊥
       by_plain None e s more own = false_true s
       by_plain (Some x) e s more own =
           let y = more (subst (λ (o : Option PlainTask). IsSome o) (sym e) refl) in
           no_read job (done past) t item own (subst (λ (o : Option PlainTask). IsSome (after_next job (done past) item o)) (sym e ∙ y.0) s)
 
-      by_own : (b : Bool) → is_of t item ≡ b → IsSome (cond b (after_next job (done past) item (plain job t past)) (plain job t past)) → (IsSome (plain job t past) → (plain job t past ≡ Some no_run) × (of_task t (callbacks past) ≡ []))
-          → (cond (is_of t item) (after_next job (done past) item (plain job t past)) (plain job t past) ≡ Some no_run) × (of_task t (callbacks (item ∷ past)) ≡ [])
+      by_own : (b : Bool) → is_of t item ≡ b → IsSome (cond b (after_next job (done past) item (plain job t past)) (plain job t past))
+          → (IsSome (plain job t past) → (plain job t past ≡ Some no_run) × (of_task t (callbacks past) ≡ []))
+          → (cond (is_of t item) (after_next job (done past) item (plain job t past)) (plain job t past) ≡ Some no_run)
+          × (of_task t (callbacks (item ∷ past)) ≡ [])
       by_own true own s more = absurd (by_plain (plain job t past) refl s more own)
       by_own false own s more = let y = more s in (rw own y.0, (carries_item job t item past own).opens ∙ y.1)
 

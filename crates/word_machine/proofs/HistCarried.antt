@@ -1,4 +1,4 @@
--- Laws of histories alone, for the crate of histories to own: what an item leaves of the calls of a task that it is not of.
+-- Laws of histories alone, for ft_hist to own: what an item leaves of the calls of a task that it is not of.
 use Rattle.std.proofs.Common.{cond, ◌≡◌, ℕ, ◌≤◌, true, false, ◌==◌, ◌&&◌, List, [], ◌∷◌, length, refl, ap, arith, eqb-true}
 use Rattle.std.specs.List.{filter}
 use Rattle.ft_base.specs.declared.number.CallNo.{CallNo}
@@ -21,7 +21,8 @@ pub record Carries (job : Job) (t : ℕ) (past past' : List Item) : Type 0 where
   pub run : plain job t past' ≡ plain job t past
   pub opens : filter (λ b. b.call.task.0 == t) (callbacks past') ≡ filter (λ b. b.call.task.0 == t) (callbacks past)
   pub miss : miss_due job t past' ≡ miss_due job t past
-  pub ahead : (xs ys : List TaskAct) (cs es : List Ctx) (m n : ℕ) → ahead (done past) xs cs m ≡ ahead (done past) ys es n → ahead (done past') xs cs m ≡ ahead (done past') ys es n
+  pub ahead : (xs ys : List TaskAct) (cs es : List Ctx) (m n : ℕ) → ahead (done past) xs cs m ≡ ahead (done past) ys es n
+      → ahead (done past') xs cs m ≡ ahead (done past') ys es n
   pub begun : begun past ≤ begun past'
   pub longer : length past ≤ length past'
 
@@ -60,9 +61,12 @@ of_task v bs = filter (λ b. b.call.task.0 == v) bs
 ended-other : (v : ℕ) (call : CallNo) (u : ℕ) (bs : List Callback) → (call.task.0 == v) ≡ false → of_task v (ended call u bs) ≡ of_task v bs
 ended-other v call u [] other = refl
 ended-other v call u (b ∷ bs) other =
-    elim (same_call b.call call && (b.user == u)) as (λ y. (same_call b.call call && (b.user == u)) ≡ y → of_task v (cond y bs (b ∷ ended call u bs)) ≡ of_task v (b ∷ bs)) [
+    elim (same_call b.call call && (b.user == u)) as (λ y. (same_call b.call call && (b.user == u)) ≡ y
+    → of_task v (cond y bs (b ∷ ended call u bs)) ≡ of_task v (b ∷ bs)) [
       | true ↦ λ e.
-          let task : b.call.task.0 ≡ call.task.0 = eqb-true b.call.task.0 call.task.0 (and_both (b.call.task.0 == call.task.0) (b.call.n == call.n) (and_both (same_call b.call call) (b.user == u) e).0).0 in
+          let task : b.call.task.0 ≡ call.task.0 =
+          eqb-true b.call.task.0 call.task.0
+          (and_both (b.call.task.0 == call.task.0) (b.call.n == call.n) (and_both (same_call b.call call) (b.user == u) e).0).0 in
           let no : (b.call.task.0 == v) ≡ false = rw task other in
           rw no refl
       | false ↦ λ e. ap (λ (xs : List Callback). cond (b.call.task.0 == v) (b ∷ xs) xs) (ended-other v call u bs other)
@@ -75,7 +79,8 @@ callbacks-other v (Exit c u p) past other = rw other refl
 callbacks-other v (ExitEnd c u) past other = ended-other v c u.0 (callbacks past) other
 callbacks-other v _ past other = refl
 
-ahead-item : (item : Item) (past : List Item) (xs ys : List TaskAct) (cs es : List Ctx) (m n : ℕ) → ahead (done past) xs cs m ≡ ahead (done past) ys es n → ahead (done (item ∷ past)) xs cs m ≡ ahead (done (item ∷ past)) ys es n
+ahead-item : (item : Item) (past : List Item) (xs ys : List TaskAct) (cs es : List Ctx) (m n : ℕ) → ahead (done past) xs cs m ≡ ahead (done past) ys es n
+    → ahead (done (item ∷ past)) xs cs m ≡ ahead (done (item ∷ past)) ys es n
 ahead-item (Return k a) past xs ys cs es m n e = ahead-more (done past) xs ys cs es m n e
 ahead-item _ past xs ys cs es m n e = e
 

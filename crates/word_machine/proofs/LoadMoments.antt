@@ -15,16 +15,17 @@ use Rattle.plain_machine.specs.State.{Walk, Around, has_acts, is_held}
 use Rattle.plain_machine.proofs.CallSo.{CallSo, entry-is}
 use Rattle.word_machine.specs.Words.{low}
 use Rattle.word_machine.specs.Task.{OpenCall, Moment, Polling, First, Missing, Acting, Ending, Leaving, AtExit, Exiting, EndingExit, Returning, around, is_quiet, allowed_in, begin_call, depth_in, fetched, guard_in, head_in, own_in, passes_in, tests_in, walks_to, pid_in, exit_in, guard_test}
-use Rattle.word_machine.specs.Users.{since_of, list_desk}
-use Rattle.word_machine.specs.Calls.{Here, CallAt, DispatchAt, Dispatches, under_call, walk_of, sees}
-use Rattle.word_machine.specs.Rule.{TaskKept, StandsIn, plain_phase, plain_stack, frame_of, callback_at, miss_at, is_returning, acts_by, gone_by, open_by}
+use Rattle.word_machine.specs.UserList.{since_of, list_desk}
+use Rattle.word_machine.specs.Verdicts.{Here, DispatchAt, Dispatches, walk_of, may_come}
+use Rattle.word_machine.specs.Calls.{CallAt, under_call}
+use Rattle.word_machine.specs.Tasks.{TaskRule, StandsIn, plain_phase, plain_stack, frame_of, callback_at, miss_at, is_returning, acts_by, gone_by, open_by}
 use Rattle.ft_hist.specs.Frames.{FrameUser}
 use Rattle.ft_base.specs.Kinds.{has_depth}
 use Rattle.ft_base.specs.Desk.{spec_at}
 use Rattle.word_machine.proofs.MarkDispatch.{task}
 use Rattle.word_machine.proofs.Told.{first-loud}
 
--- two moments of a call that the history doesn't tell apart
+-- two moments of a call that the history does not tell apart
 pub record Alike (m m' : Moment) : Type 0 where
   pub phase : (job : Job) (fresh : Bool) (c : OpenCall) → plain_phase job fresh c m ≡ plain_phase job fresh c m'
   pub quiet : is_quiet m ≡ false
@@ -112,7 +113,8 @@ alike-back m m' e e' =
     }
 
 -- a dispatch is a call's fact at each moment of it
-pub call_at : (job : Job) (h : Here) (past : List Item) (ack q : ℕ) (c : OpenCall) (below : List OpenCall) (m : Moment) → is_walking m ≡ true → Dispatches job h past ack q c below m → CallAt job h past ack q c below m
+pub call_at : (job : Job) (h : Here) (past : List Item) (ack q : ℕ) (c : OpenCall) (below : List OpenCall) (m : Moment) → is_walking m ≡ true
+    → Dispatches job h past ack q c below m → CallAt job h past ack q c below m
 call_at job h past ack q c below Polling e x = false_true e
 call_at job h past ack q c below First e x = false_true e
 call_at job h past ack q c below Leaving e x = false_true e
@@ -125,11 +127,12 @@ call_at job h past ack q c below _ e x = x
 abbrev pub running : OpenCall → Ran → OpenCall
 running c r = record c { ran = r }
 
-module _ (job : Job) (h : Here) (past : List Item) (ack word t : ℕ) (next : ℕ) (acts : List TaskAct) (gone : ℕ) (contexts : List Ctx) (c : OpenCall) (below : List OpenCall) (own : ℕ) where
-  -- the task is at another moment that the history doesn't tell apart
+module _ (job : Job) (h : Here) (past : List Item) (ack word t : ℕ) (next : ℕ) (acts : List TaskAct) (gone : ℕ) (contexts : List Ctx) (c : OpenCall)
+    (below : List OpenCall) (own : ℕ) where
+  -- the task is at another moment that the history does not tell apart
   pub task_goes : (m m' : Moment) (r : Ran) → Alike m m' → CallAt job h past ack (low word) (running c r) below m'
-      → TaskKept job h past ack word t (task next gone acts contexts (c ∷ below) own m)
-      → TaskKept job h past ack word t (task next gone acts contexts (running c r ∷ below) own m')
+      → TaskRule job h past ack word t (task next gone acts contexts (c ∷ below) own m)
+      → TaskRule job h past ack word t (task next gone acts contexts (running c r ∷ below) own m')
   task_goes m m' r a at' k = record {
     word' = k.word';
     gone = k.gone;
@@ -144,14 +147,19 @@ module _ (job : Job) (h : Here) (past : List Item) (ack word t : ℕ) (next : �
       is = k.run.is;
       next = k.run.next;
       stack = k.run.stack ∙ ap (λ (ph : Phase). frame_of c ph ∷ plain_stack job false (under_call c below) below) (phases k.run.fresh);
-      ahead = subst (λ b. ahead (done past) k.run.at.acts k.run.at.contexts k.run.at.gone ≡ ahead (done past) (acts_by b acts) contexts (gone_by b gone)) quiets k.run.ahead;
+      ahead = subst (λ b. ahead (done past) k.run.at.acts k.run.at.contexts k.run.at.gone
+          ≡ ahead (done past) (acts_by b acts) contexts (gone_by b gone)) quiets k.run.ahead;
       counted = λ q. k.run.counted a.quiet;
     };
     opens = k.opens ∙ a.opens c _;
     miss = k.miss ∙ a.miss (c ∷ below) (running c r ∷ below);
     few = k.few;
     script = subst (λ (b : Bool × Bool). IsScript job (open_by b.0 (running c r ∷ below)) (acts_by b.1 acts)) (λ i. (a.returns i, quiets i)) k.script;
-    calls = (record { task = k.calls.0.task; inside = k.calls.0.inside; opened = k.calls.0.opened; context = k.calls.0.context; holds = k.calls.0.holds }, at', k.calls.2);
+    calls = (
+      record { task = k.calls.0.task; inside = k.calls.0.inside; opened = k.calls.0.opened; context = k.calls.0.context; holds = k.calls.0.holds },
+      at',
+      k.calls.2,
+    );
   }
     where
       quiets : is_quiet m ≡ is_quiet m'
@@ -164,7 +172,8 @@ module _ (job : Job) (h : Here) (past : List Item) (ack word t : ℕ) (next : �
       phases fresh = a.phase job fresh c
 
 -- who is to come changes, and nothing else of what the history tells
-pub so-watch : (job : Job) (a : Around) (call : CallNo) (e : Entered) (w : Walk) (todo todo' : ℕ → Bool) (past : List Item) → Watches job call e.func past todo' → CallSo job a call e w todo past → CallSo job a call e w todo' past
+pub so-watch : (job : Job) (a : Around) (call : CallNo) (e : Entered) (w : Walk) (todo todo' : ℕ → Bool) (past : List Item)
+    → Watches job call e.func past todo' → CallSo job a call e w todo past → CallSo job a call e w todo' past
 so-watch job a call e w todo todo' past watch s = record {
   known = s.known;
   opened = s.opened;
@@ -182,9 +191,10 @@ so-watch job a call e w todo todo' past watch s = record {
 module _ (job : Job) (h : Here) (past : List Item) (ack q : ℕ) (c : OpenCall) (below : List OpenCall) where
   -- who is to come at a moment
   abbrev pub WatchAt : Ran → Moment → Type 0
-  WatchAt r m = Watches job c.call c.func past (sees (since_of job (list_desk h.p h.d)) r m)
+  WatchAt r m = Watches job c.call c.func past (may_come (since_of job (list_desk h.p h.d)) r m)
 
-  pub dispatch_goes : (m m' : Moment) (r : Ran) → Dispatches job h past ack q c below m → WatchAt r m' → DispatchAt job h past ack q (running c r) below (visits job c.call past) m' → Dispatches job h past ack q (running c r) below m'
+  pub dispatch_goes : (m m' : Moment) (r : Ran) → Dispatches job h past ack q c below m → WatchAt r m'
+      → DispatchAt job h past ack q (running c r) below (visits job c.call past) m' → Dispatches job h past ack q (running c r) below m'
   dispatch_goes m m' r x watch at' = record {
     from = x.from;
     caller = x.caller;

@@ -23,13 +23,15 @@ use Rattle.ft_hist.proofs.WindowLaws.{begun-more}
 use Rattle.ft_hist.proofs.Visiting.{MetOf, at_most_one}
 use Rattle.ft_hist.proofs.Since.{holds, holds-by}
 use Rattle.plain_machine.proofs.CallSo.{entry-is}
-use Rattle.word_machine.specs.Words.{low, most}
-use Rattle.word_machine.specs.Control.{sort, subject, state_of, Sort}
+use Rattle.word_machine.specs.Words.{low, greatest_half}
+use Rattle.word_machine.specs.Commands.{effect, subject, state_of, Effect}
 use Rattle.word_machine.specs.Task.{OpenCall, TaskState, Polling, Closing, Leaving, around, level_of, rest_acts, closed}
-use Rattle.word_machine.specs.Grace.{SeenAt, selected}
-use Rattle.word_machine.specs.Users.{since_of, list_desk}
-use Rattle.word_machine.specs.Calls.{Here, Calls, Opened, Dispatches, BodyRuns, SeenMet, sees_closing, under_call}
-use Rattle.word_machine.specs.Rule.{Counts, IsWordJob, TaskKept, plain_stack, frame_of}
+use Rattle.word_machine.specs.Progress.{SeenAt, selected}
+use Rattle.word_machine.specs.UserList.{since_of, list_desk}
+use Rattle.word_machine.specs.Verdicts.{Here, Dispatches, SeenVisit, may_come_closing}
+use Rattle.word_machine.specs.Calls.{Calls, Opened, BodyRuns, under_call}
+use Rattle.word_machine.specs.Tasks.{TaskRule, plain_stack, frame_of}
+use Rattle.word_machine.specs.Rule.{Counts, IsWordJob}
 use Rattle.word_machine.proofs.Carried.{calls_carried}
 use Rattle.word_machine.proofs.Stacks.{opens-of, older_untouched}
 use Rattle.word_machine.proofs.DeskChanges.{between, numbers-kept}
@@ -41,7 +43,7 @@ use Rattle.plain_machine.specs.State.{has_acts}
 
 -- ## what a target says of users
 
--- ## those that were met are on at one command
+-- ## those that were visited are on at one command
 
 module _ (job : Job) (ok : IsWordJob job) (h : Here) (q f : ℕ) where
   abbrev On : ℕ → Visit → Type 0
@@ -53,7 +55,7 @@ module _ (job : Job) (ok : IsWordJob job) (h : Here) (q f : ℕ) where
   on_of : UserState → ℕ → Bool
   on_of s f' = (s.registered && is_matching s f') && s.enabled
 
-  -- a user that the command doesn't name has one state at both
+  -- a user that the command does not name has one state at both
   on_new : (m : Visit) → m.user ≢ subject job h.d → On h.d m → On (suc h.d) m
   unfolding on_of
   on_new m ne x = (ap (λ (s : UserState). on_of s f) (same_user m.user ne) ∙ x.0, ap (λ (s : UserState). s.since) (same_user m.user ne) ∙ x.1)
@@ -79,34 +81,41 @@ module _ (job : Job) (ok : IsWordJob job) (h : Here) (q f : ℕ) where
     | inr ne ↦ on_old m ne x
   ]
 
-  either : (b : Bool) (z : Sort) (m : Visit) → SeenAt b z h.p h.request q (On h.d m) (On (suc h.d) m) → On (suc h.d) m ⊎ On h.d m
+  either : (b : Bool) (z : Effect) (m : Visit) → SeenAt b z h.p h.request q (On h.d m) (On (suc h.d) m) → On (suc h.d) m ⊎ On h.d m
   either false z m x = inr x
   either true z m (inl x) = inl x
   either true z m (inr x) = inr x.2
 
-  pub met_at_one : (ms : List Visit) → Each (λ m. SeenMet job h q m f) ms → (k : ℕ) × Each (On k) ms
+  pub met_at_one : (ms : List Visit) → Each (λ m. SeenVisit job h q m f) ms → (k : ℕ) × Each (On k) ms
   met_at_one ms each =
       elim (is_on (desk job (suc h.d)) (subject job h.d) f) as (λ b. is_on (desk job (suc h.d)) (subject job h.d) f ≡ b → (k : ℕ) × Each (On k) ms) [
-        | true ↦ λ e. (suc h.d, Each-weaker (λ m. SeenMet job h q m f) (On (suc h.d)) ms (λ m x. all_new e m (either (selected h.p) (sort job h.d) m x)) each)
-        | false ↦ λ e. (h.d, Each-weaker (λ m. SeenMet job h q m f) (On h.d) ms (λ m x. all_old e m (either (selected h.p) (sort job h.d) m x)) each)
+        | true ↦ λ e. (
+          suc h.d,
+          Each-weaker (λ m. SeenVisit job h q m f) (On (suc h.d)) ms
+              (λ m x. all_new e m (either (selected h.p) (effect job h.d) m x)) each,
+        )
+        | false ↦ λ e. (h.d, Each-weaker (λ m. SeenVisit job h q m f) (On h.d) ms (λ m x. all_old e m (either (selected h.p) (effect job h.d) m x)) each)
       ] refl
 
 wants-any : (job : Job) (ms : List Visit) → list_any (λ m. keeps_frame job m) ms ≡ true → list_any (λ m. m.wants && true) ms ≡ true
 wants-any job [] e = e
 wants-any job (m ∷ ms) e =
-    elim m.wants as (λ b. ((b && not (cancels (spec_at job m.user).kind)) || list_any (λ m. keeps_frame job m) ms) ≡ true → ((b && true) || list_any (λ m. m.wants && true) ms) ≡ true) [
+    elim m.wants as (λ b. ((b && not (cancels (spec_at job m.user).kind)) || list_any (λ m. keeps_frame job m) ms) ≡ true
+    → ((b && true) || list_any (λ m. m.wants && true) ms) ≡ true) [
       | true ↦ λ x. refl
       | false ↦ λ x. wants-any job ms x
     ] e
 
-module _ (job : Job) (ok : IsWordJob job) (h : Here) (ack word clock : ℕ) (past : List Item) (counts : Counts h.d h.p clock past) (runs : (t : ℕ) → IsSome (plain job t past)) where
+module _ (job : Job) (ok : IsWordJob job) (h : Here) (ack word clock : ℕ) (past : List Item) (counts : Counts h.d h.p clock past) (runs : (t : ℕ)
+    → IsSome (plain job t past)) where
   abbrev q : ℕ
   q = low word
 
   abbrev Row : Item → ℕ → TaskState → Type 0
-  Row item t x = MayFollow job past item × TaskKept job h (item ∷ past) ack word t x
+  Row item t x = MayFollow job past item × TaskRule job h (item ∷ past) ack word t x
 
-  module _ (n gone : ℕ) (acts : List TaskAct) (cs : List Ctx) (w : ℕ) (c : OpenCall) (below : List OpenCall) (k : TaskKept job h past ack word c.call.task.0 (task n gone acts cs (c ∷ below) w Closing)) where
+  module _ (n gone : ℕ) (acts : List TaskAct) (cs : List Ctx) (w : ℕ) (c : OpenCall) (below : List OpenCall)
+      (k : TaskRule job h past ack word c.call.task.0 (task n gone acts cs (c ∷ below) w Closing)) where
     abbrev t : ℕ
     t = c.call.task.0
 
@@ -125,7 +134,7 @@ module _ (job : Job) (ok : IsWordJob job) (h : Here) (ack word clock : ℕ) (pas
     abbrev Off : ℕ → Type 0
     Off u = InWindow c.call past (λ j. is_on (desk job j) u c.func ≡ false)
 
-    silent : (r : Ran) → InWindow c.call past (λ j. r ≡ target (desk job j) c.func) → (u : ℕ) → (sees_closing r u ≡ true) ⊎ Off u → Off u
+    silent : (r : Ran) → InWindow c.call past (λ j. r ≡ target (desk job j) c.func) → (u : ℕ) → (may_come_closing r u ≡ true) ⊎ Off u → Off u
     silent r wd u (inr x) = x
     silent ByList wd u (inl x) = false_true x
     silent (Own w') wd u (inl x) = (wd.0, wd.1, wd.2, off_unsited (desk job wd.0) u c.func (not_sited (is_sited (desk job wd.0) u c.func) refl))
@@ -144,15 +153,18 @@ module _ (job : Job) (ok : IsWordJob job) (h : Here) (ack word clock : ℕ) (pas
     may_body =
         let one = met_at_one job ok h q c.func (visits job c.call past) d.on in
         record {
-          silent = λ u within un. subst (λ (x : Entered). InWindow c.call past (λ j. is_on (desk job j) u x.func ≡ false)) (sym known) (silent c.ran d.at.0 u (d.so.watch u un));
+          silent = λ u within un. subst (λ (x : Entered). InWindow c.call past (λ j. is_on (desk job j) u x.func ≡ false)) (sym known)
+              (silent c.ran d.at.0 u (d.so.watch u un));
           fetched = subst (λ (x : Entered). InWindow c.call past (λ j. c.ran ≡ target (desk job j) x.func)) (sym known) d.at.0;
           only = d.at.1;
           one = at_most_one job (desk job one.0) c.func (visits job c.call past) (λ x y. one_modifies job ok.job' one.0 c.func x y k.calls.0.inside)
-              (Each-weaker _ (MetOf (desk job one.0) c.func []) (visits job c.call past) (λ m x. record { since = sym x.1; on = x.0; below = tt }) one.1) d.so.sinks;
+              (Each-weaker _ (MetOf (desk job one.0) c.func []) (visits job c.call past)
+              (λ m x. record { since = sym x.1; on = x.0; below = tt }) one.1) d.so.sinks;
           runs = rw known d.so.runs;
         }
 
-    reads-body : (r : ℕ) (at : PlainTask) (under : List Frame) → at.stack ≡ frame_of c Dispatch ∷ under → after_item job r at (Body c.call c.runs c.ran) ≡ Some (record at { stack = frame_of c Running ∷ under })
+    reads-body : (r : ℕ) (at : PlainTask) (under : List Frame) → at.stack ≡ frame_of c Dispatch ∷ under → after_item job r at (Body c.call c.runs c.ran)
+        ≡ Some (record at { stack = frame_of c Running ∷ under })
     unfolding after_item
     reads-body r at under st = rw (st, same_call-refl c.call) refl
 
@@ -173,7 +185,8 @@ module _ (job : Job) (ok : IsWordJob job) (h : Here) (ack word clock : ℕ) (pas
     few_body : level_of (c' ∷ below) ≤ job.frames
     few_body =
         elim (not (is_nil c.users)) as (λ b. not (is_nil c.users) ≡ b → cond b (suc (level_of below)) (level_of below) ≤ job.frames) [
-          | true ↦ λ x. (let framed : c.framed ≡ true = sym d.so.framed ∙ wants-any job (visits job c.call past) (d.so.frame.kept ∙ x) in let lt = d.so.room framed in omega arith)
+          | true ↦ λ x. (let framed : c.framed ≡ true = sym d.so.framed ∙ wants-any job (visits job c.call past) (d.so.frame.kept ∙ x) in
+              let lt = d.so.room framed in omega arith)
           | false ↦ λ x. few-below job c below k.few
         ] refl
 
@@ -190,28 +203,30 @@ module _ (job : Job) (ok : IsWordJob job) (h : Here) (ack word clock : ℕ) (pas
     abbrev at' : PlainTask
     at' = record k.run.at { stack = frame_of c Running ∷ under }
 
-    goes_on : MayFollow job past body × (plain job t (body ∷ past) ≡ Some at')
-    goes_on = follows job past body t k.run.at at' (λ v. refl) runs k.run.is (reads-body (done past) k.run.at under k.run.stack) (may_body, k.miss)
+    followed : MayFollow job past body × (plain job t (body ∷ past) ≡ Some at')
+    followed = follows job past body t k.run.at at' (λ v. refl) runs k.run.is (reads-body (done past) k.run.at under k.run.stack) (may_body, k.miss)
 
     pub body_row : Row body t (closed (task n gone acts cs (c ∷ below) w Closing) c below)
-    body_row = (goes_on.0, by c.scripted refl)
+    body_row = (followed.0, by c.scripted refl)
       where
         by : (b : Bool) → c.scripted ≡ b
-            → TaskKept job h (body ∷ past) ack word t (cond b (task n (suc gone) (rest_acts acts) cs (c' ∷ below) w Polling) (task n gone acts cs (c' ∷ below) w Leaving))
+            → TaskRule job h (body ∷ past) ack word t
+            (cond b (task n (suc gone) (rest_acts acts) cs (c' ∷ below) w Polling) (task n gone acts cs (c' ∷ below) w Leaving))
         by true s = record {
           word' = k.word';
           gone = (let g = k.gone in omega (arith, g));
-          quiet = told-fewer h.request (has_acts acts) (has_acts (rest_acts acts)) most (low word) k.stands.0 k.quiet;
+          quiet = told-fewer h.request (has_acts acts) (has_acts (rest_acts acts)) greatest_half (low word) k.stands.0 k.quiet;
           first = tt;
           reached = k.reached;
           stands = tt;
           grounded = k.grounded;
-          run = record { fresh = false; at = at'; is = goes_on.1; next = k.run.next; stack = refl; ahead = k.run.ahead; counted = λ e. false_true (sym e) };
+          run = record { fresh = false; at = at'; is = followed.1; next = k.run.next; stack = refl; ahead = k.run.ahead; counted = λ e. false_true (sym e) };
           opens = k.opens;
           miss = rw (==-refl t) refl;
           few = few_body;
           script = k.script;
           calls = (opened_body, (runs_body, s), below_body);
         }
-        by false s = mid_kept job h ack word t past (body ∷ past) n n gone acts cs w (c ∷ below) Closing Leaving c' below refl refl k false at' goes_on.1 k.run.next refl refl refl refl refl
+        by false s = mid_kept job h ack word t past (body ∷ past) n n gone acts cs w
+            (c ∷ below) Closing Leaving c' below refl refl k false at' followed.1 k.run.next refl refl refl refl refl
             k.opens (rw (==-refl t) refl) few_body refl k.grounded (opened_body, (runs_body, s), below_body)

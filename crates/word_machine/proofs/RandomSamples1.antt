@@ -13,9 +13,10 @@ use Rattle.ft_base.specs.declared.turn.Who.TheVariants.{Control as OfControl, Cp
 use Rattle.ft_base.specs.Job.{Job, Register, Unregister, Filter, Notrace, Enable, Disable, Pid, NoPid, MaxDepth, Run, Until}
 use Rattle.ft_base.specs.Desk.{desk}
 use Rattle.ft_base.specs.Schedule.{actors_of, repeated}
-use Rattle.word_machine.specs.Control.{insn, control_next, control_got}
+use Rattle.word_machine.specs.Commands.{insn}
+use Rattle.word_machine.specs.Control.{control_next, control_got}
 use Rattle.word_machine.specs.Cpu.{cpu_next, cpu_got}
-use Rattle.word_machine.specs.Machine.{start, step, run, played, play, is_over}
+use Rattle.word_machine.specs.Machine.{start, step, run, played, play, all_end}
 use Rattle.plain_machine.proofs.Plays.{named, call_in}
 use Rattle.word_machine.proofs.Plays.{Plays}
 
@@ -26,7 +27,7 @@ abbrev pub job_1-items : List Item
 job_1-items = Enter (call_in 0 1) Normal (record { 0 = 1 }) None ∷ Body (call_in 0 1) (record { 0 = 1 }) Nop ∷ Enter (call_in 0 2) Normal (record { 0 = 1 }) (Some (call_in 0 1)) ∷ Body (call_in 0 2) (record { 0 = 1 }) Nop ∷ Begin 1 ∷ Return 1 NotThere ∷ Begin 2 ∷ Return 2 NotThere ∷ Begin 3 ∷ Return 3 Invalid ∷ Begin 4 ∷ Return 4 Accepted ∷ Leave (call_in 0 2) ∷ Ret (call_in 0 2) (Some (call_in 0 1)) ∷ Leave (call_in 0 1) ∷ Ret (call_in 0 1) None ∷ []
 
 pub job_1-plays : Plays job_1 job_1-items true
-unfolding actors_of repeated start step run played play is_over control_next control_got cpu_next cpu_got insn desk
+unfolding actors_of repeated start step run played play all_end control_next control_got cpu_next cpu_got insn desk
 job_1-plays = (refl, refl)
 
 abbrev pub job_2 : Job
@@ -36,7 +37,7 @@ abbrev pub job_2-items : List Item
 job_2-items = Begin 1 ∷ Enter (call_in 1 1) Normal (record { 0 = 0 }) None ∷ Back (call_in 1 1) (record { 0 = 1 }) ∷ BackEnd (call_in 1 1) (record { 0 = 1 }) ∷ Body (call_in 1 1) (record { 0 = 0 }) (Own (record { 0 = 1 })) ∷ Return 1 Accepted ∷ Begin 2 ∷ Leave (call_in 1 1) ∷ Ret (call_in 1 1) None ∷ Return 2 Accepted ∷ Begin 3 ∷ Return 3 Invalid ∷ Begin 4 ∷ Return 4 Accepted ∷ Begin 5 ∷ Return 5 NotThere ∷ Enter (call_in 0 1) Softirq (record { 0 = 0 }) None ∷ Body (call_in 0 1) (record { 0 = 0 }) Nop ∷ Enter (call_in 0 2) Softirq (record { 0 = 0 }) (Some (call_in 0 1)) ∷ Body (call_in 0 2) (record { 0 = 0 }) Nop ∷ Leave (call_in 0 2) ∷ Ret (call_in 0 2) (Some (call_in 0 1)) ∷ Leave (call_in 0 1) ∷ Ret (call_in 0 1) None ∷ []
 
 pub job_2-plays : Plays job_2 job_2-items true
-unfolding actors_of repeated start step run played play is_over control_next control_got cpu_next cpu_got insn desk
+unfolding actors_of repeated start step run played play all_end control_next control_got cpu_next cpu_got insn desk
 job_2-plays = (refl, refl)
 
 abbrev pub job_3 : Job
@@ -46,7 +47,7 @@ abbrev pub job_3-items : List Item
 job_3-items = Begin 1 ∷ Enter (call_in 0 1) Nmi (record { 0 = 0 }) None ∷ Body (call_in 0 1) (record { 0 = 0 }) Nop ∷ Enter (call_in 0 2) Nmi (record { 0 = 0 }) (Some (call_in 0 1)) ∷ Back (call_in 0 2) (record { 0 = 0 }) ∷ BackEnd (call_in 0 2) (record { 0 = 0 }) ∷ Body (call_in 0 2) (record { 0 = 0 }) (Own (record { 0 = 0 })) ∷ Leave (call_in 0 2) ∷ Ret (call_in 0 2) (Some (call_in 0 1)) ∷ Leave (call_in 0 1) ∷ Ret (call_in 0 1) None ∷ Enter (call_in 0 3) Normal (record { 0 = 1 }) None ∷ Back (call_in 0 3) (record { 0 = 0 }) ∷ BackEnd (call_in 0 3) (record { 0 = 0 }) ∷ Body (call_in 0 3) (record { 0 = 1 }) (Own (record { 0 = 0 })) ∷ Return 1 Accepted ∷ Begin 2 ∷ Enter (call_in 0 4) Irq (record { 0 = 1 }) (Some (call_in 0 3)) ∷ Body (call_in 0 4) (record { 0 = 1 }) (Own (record { 0 = 0 })) ∷ Leave (call_in 0 4) ∷ Return 2 Accepted ∷ Ret (call_in 0 4) (Some (call_in 0 3)) ∷ Begin 3 ∷ Leave (call_in 0 3) ∷ Ret (call_in 0 3) None ∷ Return 3 Accepted ∷ Begin 4 ∷ Return 4 Accepted ∷ Begin 5 ∷ Return 5 Already ∷ Begin 6 ∷ Return 6 Already ∷ Begin 7 ∷ Return 7 Already ∷ []
 
 pub job_3-plays : Plays job_3 job_3-items true
-unfolding actors_of repeated start step run played play is_over control_next control_got cpu_next cpu_got insn desk
+unfolding actors_of repeated start step run played play all_end control_next control_got cpu_next cpu_got insn desk
 job_3-plays = (refl, refl)
 
 abbrev pub job_4 : Job
@@ -56,7 +57,7 @@ abbrev pub job_4-items : List Item
 job_4-items = Begin 1 ∷ Return 1 Accepted ∷ Begin 2 ∷ Return 2 Accepted ∷ Begin 3 ∷ Return 3 Accepted ∷ Begin 4 ∷ Return 4 NotThere ∷ Enter (call_in 0 1) Nmi (record { 0 = 0 }) None ∷ Body (call_in 0 1) (record { 0 = 0 }) Nop ∷ Leave (call_in 0 1) ∷ Ret (call_in 0 1) None ∷ []
 
 pub job_4-plays : Plays job_4 job_4-items true
-unfolding actors_of repeated start step run played play is_over control_next control_got cpu_next cpu_got insn desk
+unfolding actors_of repeated start step run played play all_end control_next control_got cpu_next cpu_got insn desk
 job_4-plays = (refl, refl)
 
 abbrev pub job_6 : Job
@@ -66,7 +67,7 @@ abbrev pub job_6-items : List Item
 job_6-items = Enter (call_in 1 1) Normal (record { 0 = 0 }) None ∷ Body (call_in 1 1) (record { 0 = 0 }) Nop ∷ Leave (call_in 1 1) ∷ Ret (call_in 1 1) None ∷ Enter (call_in 1 2) Normal (record { 0 = 0 }) None ∷ Body (call_in 1 2) (record { 0 = 0 }) Nop ∷ Leave (call_in 1 2) ∷ Ret (call_in 1 2) None ∷ Enter (call_in 2 1) Irq (record { 0 = 0 }) None ∷ Body (call_in 2 1) (record { 0 = 0 }) Nop ∷ Enter (call_in 2 2) Irq (record { 0 = 0 }) (Some (call_in 2 1)) ∷ Body (call_in 2 2) (record { 0 = 0 }) Nop ∷ Enter (call_in 2 3) Irq (record { 0 = 0 }) (Some (call_in 2 2)) ∷ Body (call_in 2 3) (record { 0 = 0 }) Nop ∷ Enter (call_in 2 4) Irq (record { 0 = 0 }) (Some (call_in 2 3)) ∷ Body (call_in 2 4) (record { 0 = 0 }) Nop ∷ Leave (call_in 2 4) ∷ Ret (call_in 2 4) (Some (call_in 2 3)) ∷ Leave (call_in 2 3) ∷ Ret (call_in 2 3) (Some (call_in 2 2)) ∷ Leave (call_in 2 2) ∷ Ret (call_in 2 2) (Some (call_in 2 1)) ∷ Leave (call_in 2 1) ∷ Ret (call_in 2 1) None ∷ Begin 1 ∷ Return 1 Accepted ∷ Begin 2 ∷ Return 2 Accepted ∷ Begin 3 ∷ Return 3 Accepted ∷ Begin 4 ∷ Return 4 Invalid ∷ Begin 5 ∷ Return 5 Accepted ∷ Begin 6 ∷ Return 6 NotThere ∷ Enter (call_in 0 1) Normal (record { 0 = 0 }) None ∷ Body (call_in 0 1) (record { 0 = 0 }) Nop ∷ Enter (call_in 0 2) Normal (record { 0 = 0 }) (Some (call_in 0 1)) ∷ Body (call_in 0 2) (record { 0 = 0 }) Nop ∷ Leave (call_in 0 2) ∷ Ret (call_in 0 2) (Some (call_in 0 1)) ∷ Leave (call_in 0 1) ∷ Ret (call_in 0 1) None ∷ []
 
 pub job_6-plays : Plays job_6 job_6-items true
-unfolding actors_of repeated start step run played play is_over control_next control_got cpu_next cpu_got insn desk
+unfolding actors_of repeated start step run played play all_end control_next control_got cpu_next cpu_got insn desk
 job_6-plays = (refl, refl)
 
 abbrev pub job_7 : Job
@@ -76,7 +77,7 @@ abbrev pub job_7-items : List Item
 job_7-items = Enter (call_in 1 1) Softirq (record { 0 = 0 }) None ∷ Body (call_in 1 1) (record { 0 = 0 }) Nop ∷ Leave (call_in 1 1) ∷ Ret (call_in 1 1) None ∷ Begin 1 ∷ Return 1 Accepted ∷ Begin 2 ∷ Return 2 Accepted ∷ Begin 3 ∷ Return 3 Already ∷ Begin 4 ∷ Return 4 Already ∷ Begin 5 ∷ Return 5 Accepted ∷ Begin 6 ∷ Return 6 Accepted ∷ []
 
 pub job_7-plays : Plays job_7 job_7-items true
-unfolding actors_of repeated start step run played play is_over control_next control_got cpu_next cpu_got insn desk
+unfolding actors_of repeated start step run played play all_end control_next control_got cpu_next cpu_got insn desk
 job_7-plays = (refl, refl)
 
 abbrev pub job_8 : Job
@@ -86,7 +87,7 @@ abbrev pub job_8-items : List Item
 job_8-items = Begin 1 ∷ Return 1 NotThere ∷ Begin 2 ∷ Return 2 Accepted ∷ Begin 3 ∷ Return 3 Accepted ∷ Begin 4 ∷ Return 4 Already ∷ Begin 5 ∷ Enter (call_in 0 1) Nmi (record { 0 = 0 }) None ∷ Return 5 Accepted ∷ Back (call_in 0 1) (record { 0 = 0 }) ∷ Enter (call_in 0 2) Nmi (record { 0 = 1 }) (Some (call_in 0 1)) ∷ Body (call_in 0 2) (record { 0 = 1 }) Nop ∷ Leave (call_in 0 2) ∷ Ret (call_in 0 2) (Some (call_in 0 1)) ∷ BackEnd (call_in 0 1) (record { 0 = 0 }) ∷ Body (call_in 0 1) (record { 0 = 0 }) ByList ∷ Enter (call_in 0 3) Nmi (record { 0 = 1 }) (Some (call_in 0 1)) ∷ Body (call_in 0 3) (record { 0 = 1 }) Nop ∷ Enter (call_in 0 4) Nmi (record { 0 = 0 }) (Some (call_in 0 3)) ∷ Back (call_in 0 4) (record { 0 = 0 }) ∷ Enter (call_in 0 5) Nmi (record { 0 = 1 }) (Some (call_in 0 4)) ∷ Body (call_in 0 5) (record { 0 = 1 }) Nop ∷ Leave (call_in 0 5) ∷ Ret (call_in 0 5) (Some (call_in 0 4)) ∷ BackEnd (call_in 0 4) (record { 0 = 0 }) ∷ Body (call_in 0 4) (record { 0 = 0 }) ByList ∷ Leave (call_in 0 4) ∷ Ret (call_in 0 4) (Some (call_in 0 3)) ∷ Leave (call_in 0 3) ∷ Ret (call_in 0 3) (Some (call_in 0 1)) ∷ Leave (call_in 0 1) ∷ Ret (call_in 0 1) None ∷ []
 
 pub job_8-plays : Plays job_8 job_8-items true
-unfolding actors_of repeated start step run played play is_over control_next control_got cpu_next cpu_got insn desk
+unfolding actors_of repeated start step run played play all_end control_next control_got cpu_next cpu_got insn desk
 job_8-plays = (refl, refl)
 
 abbrev pub job_10 : Job
@@ -96,7 +97,7 @@ abbrev pub job_10-items : List Item
 job_10-items = Begin 1 ∷ Enter (call_in 1 1) Softirq (record { 0 = 0 }) None ∷ Back (call_in 1 1) (record { 0 = 0 }) ∷ BackEnd (call_in 1 1) (record { 0 = 0 }) ∷ Body (call_in 1 1) (record { 0 = 0 }) (Own (record { 0 = 0 })) ∷ Leave (call_in 1 1) ∷ Ret (call_in 1 1) None ∷ Return 1 Accepted ∷ Begin 2 ∷ Return 2 Accepted ∷ Begin 3 ∷ Enter (call_in 0 1) Normal (record { 0 = 0 }) None ∷ Body (call_in 0 1) (record { 0 = 0 }) Nop ∷ Return 3 Accepted ∷ Begin 4 ∷ Leave (call_in 0 1) ∷ Ret (call_in 0 1) None ∷ Enter (call_in 0 2) Nmi (record { 0 = 0 }) None ∷ Back (call_in 0 2) (record { 0 = 0 }) ∷ BackEnd (call_in 0 2) (record { 0 = 0 }) ∷ Body (call_in 0 2) (record { 0 = 0 }) (Own (record { 0 = 0 })) ∷ Leave (call_in 0 2) ∷ Ret (call_in 0 2) None ∷ Return 4 Accepted ∷ Begin 5 ∷ Return 5 Accepted ∷ Begin 6 ∷ Return 6 Accepted ∷ Begin 7 ∷ Return 7 Accepted ∷ []
 
 pub job_10-plays : Plays job_10 job_10-items true
-unfolding actors_of repeated start step run played play is_over control_next control_got cpu_next cpu_got insn desk
+unfolding actors_of repeated start step run played play all_end control_next control_got cpu_next cpu_got insn desk
 job_10-plays = (refl, refl)
 
 abbrev pub job_11 : Job
@@ -106,7 +107,7 @@ abbrev pub job_11-items : List Item
 job_11-items = Begin 1 ∷ Return 1 NotThere ∷ Begin 2 ∷ Return 2 NotThere ∷ Enter (call_in 0 1) Irq (record { 0 = 0 }) None ∷ Enter (call_in 1 1) Softirq (record { 0 = 2 }) None ∷ Body (call_in 0 1) (record { 0 = 0 }) Nop ∷ Leave (call_in 0 1) ∷ Ret (call_in 0 1) None ∷ Body (call_in 1 1) (record { 0 = 2 }) Nop ∷ Enter (call_in 1 2) Softirq (record { 0 = 0 }) (Some (call_in 1 1)) ∷ Begin 3 ∷ Enter (call_in 0 2) Irq (record { 0 = 0 }) None ∷ Body (call_in 0 2) (record { 0 = 0 }) Nop ∷ Body (call_in 1 2) (record { 0 = 0 }) Nop ∷ Leave (call_in 1 2) ∷ Return 3 Accepted ∷ Begin 4 ∷ Leave (call_in 0 2) ∷ Ret (call_in 0 2) None ∷ Ret (call_in 1 2) (Some (call_in 1 1)) ∷ Leave (call_in 1 1) ∷ Ret (call_in 1 1) None ∷ Return 4 Accepted ∷ Begin 5 ∷ Return 5 Accepted ∷ []
 
 pub job_11-plays : Plays job_11 job_11-items true
-unfolding actors_of repeated start step run played play is_over control_next control_got cpu_next cpu_got insn desk
+unfolding actors_of repeated start step run played play all_end control_next control_got cpu_next cpu_got insn desk
 job_11-plays = (refl, refl)
 
 abbrev pub job_14 : Job
@@ -116,7 +117,7 @@ abbrev pub job_14-items : List Item
 job_14-items = Begin 1 ∷ Return 1 Accepted ∷ Begin 2 ∷ Return 2 Accepted ∷ Begin 3 ∷ Enter (call_in 0 1) Normal (record { 0 = 0 }) None ∷ Body (call_in 0 1) (record { 0 = 0 }) Nop ∷ Return 3 Accepted ∷ Begin 4 ∷ Return 4 Accepted ∷ Begin 5 ∷ Return 5 Accepted ∷ Begin 6 ∷ Enter (call_in 1 1) Nmi (record { 0 = 0 }) None ∷ Return 6 Accepted ∷ Refuse (call_in 1 1) (record { 0 = 2 }) ByPid ∷ Leave (call_in 0 1) ∷ Body (call_in 1 1) (record { 0 = 0 }) (Own (record { 0 = 2 })) ∷ Ret (call_in 0 1) None ∷ Enter (call_in 1 2) Nmi (record { 0 = 0 }) (Some (call_in 1 1)) ∷ Refuse (call_in 1 2) (record { 0 = 2 }) ByPid ∷ Body (call_in 1 2) (record { 0 = 0 }) (Own (record { 0 = 2 })) ∷ Enter (call_in 1 3) Nmi (record { 0 = 0 }) (Some (call_in 1 2)) ∷ Refuse (call_in 1 3) (record { 0 = 2 }) ByPid ∷ Body (call_in 1 3) (record { 0 = 0 }) (Own (record { 0 = 2 })) ∷ Leave (call_in 1 3) ∷ Ret (call_in 1 3) (Some (call_in 1 2)) ∷ Leave (call_in 1 2) ∷ Ret (call_in 1 2) (Some (call_in 1 1)) ∷ Leave (call_in 1 1) ∷ Ret (call_in 1 1) None ∷ []
 
 pub job_14-plays : Plays job_14 job_14-items true
-unfolding actors_of repeated start step run played play is_over control_next control_got cpu_next cpu_got insn desk
+unfolding actors_of repeated start step run played play all_end control_next control_got cpu_next cpu_got insn desk
 job_14-plays = (refl, refl)
 
 abbrev pub job_15 : Job
@@ -126,7 +127,7 @@ abbrev pub job_15-items : List Item
 job_15-items = Enter (call_in 0 1) Normal (record { 0 = 1 }) None ∷ Body (call_in 0 1) (record { 0 = 1 }) Nop ∷ Enter (call_in 0 2) Normal (record { 0 = 1 }) (Some (call_in 0 1)) ∷ Body (call_in 0 2) (record { 0 = 1 }) Nop ∷ Begin 1 ∷ Return 1 Accepted ∷ Begin 2 ∷ Return 2 Already ∷ Begin 3 ∷ Return 3 Already ∷ Begin 4 ∷ Return 4 Accepted ∷ Enter (call_in 0 3) Normal (record { 0 = 1 }) (Some (call_in 0 2)) ∷ Body (call_in 0 3) (record { 0 = 1 }) Nop ∷ Enter (call_in 0 4) Normal (record { 0 = 1 }) (Some (call_in 0 3)) ∷ Body (call_in 0 4) (record { 0 = 1 }) Nop ∷ Enter (call_in 0 5) Normal (record { 0 = 0 }) (Some (call_in 0 4)) ∷ Body (call_in 0 5) (record { 0 = 0 }) Nop ∷ Leave (call_in 0 5) ∷ Ret (call_in 0 5) (Some (call_in 0 4)) ∷ Leave (call_in 0 4) ∷ Ret (call_in 0 4) (Some (call_in 0 3)) ∷ Leave (call_in 0 3) ∷ Ret (call_in 0 3) (Some (call_in 0 2)) ∷ Leave (call_in 0 2) ∷ Ret (call_in 0 2) (Some (call_in 0 1)) ∷ Leave (call_in 0 1) ∷ Ret (call_in 0 1) None ∷ []
 
 pub job_15-plays : Plays job_15 job_15-items true
-unfolding actors_of repeated start step run played play is_over control_next control_got cpu_next cpu_got insn desk
+unfolding actors_of repeated start step run played play all_end control_next control_got cpu_next cpu_got insn desk
 job_15-plays = (refl, refl)
 
 abbrev pub job_16 : Job
@@ -136,7 +137,7 @@ abbrev pub job_16-items : List Item
 job_16-items = Begin 1 ∷ Return 1 NotThere ∷ Begin 2 ∷ Enter (call_in 0 1) Nmi (record { 0 = 1 }) None ∷ Enter (call_in 1 1) Normal (record { 0 = 1 }) None ∷ Body (call_in 0 1) (record { 0 = 1 }) Nop ∷ Body (call_in 1 1) (record { 0 = 1 }) Nop ∷ Enter (call_in 0 2) Nmi (record { 0 = 1 }) (Some (call_in 0 1)) ∷ Body (call_in 0 2) (record { 0 = 1 }) Nop ∷ Enter (call_in 1 2) Normal (record { 0 = 1 }) (Some (call_in 1 1)) ∷ Return 2 Accepted ∷ Begin 3 ∷ Leave (call_in 0 2) ∷ Return 3 Accepted ∷ Ret (call_in 0 2) (Some (call_in 0 1)) ∷ Begin 4 ∷ Body (call_in 1 2) (record { 0 = 1 }) Nop ∷ Leave (call_in 0 1) ∷ Ret (call_in 0 1) None ∷ Leave (call_in 1 2) ∷ Ret (call_in 1 2) (Some (call_in 1 1)) ∷ Leave (call_in 1 1) ∷ Ret (call_in 1 1) None ∷ Return 4 Accepted ∷ Begin 5 ∷ Return 5 Accepted ∷ []
 
 pub job_16-plays : Plays job_16 job_16-items true
-unfolding actors_of repeated start step run played play is_over control_next control_got cpu_next cpu_got insn desk
+unfolding actors_of repeated start step run played play all_end control_next control_got cpu_next cpu_got insn desk
 job_16-plays = (refl, refl)
 
 abbrev pub job_21 : Job
@@ -146,7 +147,7 @@ abbrev pub job_21-items : List Item
 job_21-items = Enter (call_in 0 1) Normal (record { 0 = 0 }) None ∷ Body (call_in 0 1) (record { 0 = 0 }) Nop ∷ Enter (call_in 0 2) Normal (record { 0 = 0 }) (Some (call_in 0 1)) ∷ Body (call_in 0 2) (record { 0 = 0 }) Nop ∷ Leave (call_in 0 2) ∷ Ret (call_in 0 2) (Some (call_in 0 1)) ∷ Leave (call_in 0 1) ∷ Ret (call_in 0 1) None ∷ Enter (call_in 0 3) Normal (record { 0 = 1 }) None ∷ Body (call_in 0 3) (record { 0 = 1 }) Nop ∷ Enter (call_in 0 4) Normal (record { 0 = 0 }) (Some (call_in 0 3)) ∷ Body (call_in 0 4) (record { 0 = 0 }) Nop ∷ Leave (call_in 0 4) ∷ Ret (call_in 0 4) (Some (call_in 0 3)) ∷ Leave (call_in 0 3) ∷ Ret (call_in 0 3) None ∷ Begin 1 ∷ Return 1 Accepted ∷ Begin 2 ∷ Return 2 Already ∷ []
 
 pub job_21-plays : Plays job_21 job_21-items true
-unfolding actors_of repeated start step run played play is_over control_next control_got cpu_next cpu_got insn desk
+unfolding actors_of repeated start step run played play all_end control_next control_got cpu_next cpu_got insn desk
 job_21-plays = (refl, refl)
 
 abbrev pub job_22 : Job
@@ -156,7 +157,7 @@ abbrev pub job_22-items : List Item
 job_22-items = Begin 1 ∷ Return 1 Accepted ∷ Begin 2 ∷ Return 2 Accepted ∷ Begin 3 ∷ Return 3 Accepted ∷ Begin 4 ∷ Return 4 NotThere ∷ Begin 5 ∷ Return 5 Accepted ∷ Begin 6 ∷ Return 6 Already ∷ []
 
 pub job_22-plays : Plays job_22 job_22-items true
-unfolding actors_of repeated start step run played play is_over control_next control_got cpu_next cpu_got insn desk
+unfolding actors_of repeated start step run played play all_end control_next control_got cpu_next cpu_got insn desk
 job_22-plays = (refl, refl)
 
 abbrev pub job_24 : Job
@@ -166,7 +167,7 @@ abbrev pub job_24-items : List Item
 job_24-items = Begin 1 ∷ Enter (call_in 0 1) Irq (record { 0 = 2 }) None ∷ Back (call_in 0 1) (record { 0 = 0 }) ∷ BackEnd (call_in 0 1) (record { 0 = 0 }) ∷ Body (call_in 0 1) (record { 0 = 2 }) (Own (record { 0 = 0 })) ∷ Leave (call_in 0 1) ∷ Exit (call_in 0 1) (record { 0 = 0 }) 2 ∷ ExitEnd (call_in 0 1) (record { 0 = 0 }) ∷ Ret (call_in 0 1) None ∷ Enter (call_in 0 2) Normal (record { 0 = 2 }) None ∷ Back (call_in 0 2) (record { 0 = 0 }) ∷ Enter (call_in 0 3) Irq (record { 0 = 0 }) (Some (call_in 0 2)) ∷ Back (call_in 0 3) (record { 0 = 0 }) ∷ BackEnd (call_in 0 3) (record { 0 = 0 }) ∷ Body (call_in 0 3) (record { 0 = 0 }) (Own (record { 0 = 0 })) ∷ Leave (call_in 0 3) ∷ Exit (call_in 0 3) (record { 0 = 0 }) 12 ∷ ExitEnd (call_in 0 3) (record { 0 = 0 }) ∷ Ret (call_in 0 3) (Some (call_in 0 2)) ∷ BackEnd (call_in 0 2) (record { 0 = 0 }) ∷ Body (call_in 0 2) (record { 0 = 2 }) (Own (record { 0 = 0 })) ∷ Enter (call_in 0 4) Normal (record { 0 = 2 }) (Some (call_in 0 2)) ∷ Back (call_in 0 4) (record { 0 = 0 }) ∷ Enter (call_in 0 5) Irq (record { 0 = 0 }) (Some (call_in 0 4)) ∷ Back (call_in 0 5) (record { 0 = 0 }) ∷ Miss (call_in 0 5) (record { 0 = 0 }) ∷ BackEnd (call_in 0 5) (record { 0 = 0 }) ∷ Body (call_in 0 5) (record { 0 = 0 }) (Own (record { 0 = 0 })) ∷ Leave (call_in 0 5) ∷ Ret (call_in 0 5) (Some (call_in 0 4)) ∷ BackEnd (call_in 0 4) (record { 0 = 0 }) ∷ Body (call_in 0 4) (record { 0 = 2 }) (Own (record { 0 = 0 })) ∷ Leave (call_in 0 4) ∷ Exit (call_in 0 4) (record { 0 = 0 }) 22 ∷ ExitEnd (call_in 0 4) (record { 0 = 0 }) ∷ Ret (call_in 0 4) (Some (call_in 0 2)) ∷ Enter (call_in 0 6) Normal (record { 0 = 1 }) (Some (call_in 0 2)) ∷ Back (call_in 0 6) (record { 0 = 0 }) ∷ Enter (call_in 0 7) Irq (record { 0 = 0 }) (Some (call_in 0 6)) ∷ Back (call_in 0 7) (record { 0 = 0 }) ∷ Miss (call_in 0 7) (record { 0 = 0 }) ∷ BackEnd (call_in 0 7) (record { 0 = 0 }) ∷ Body (call_in 0 7) (record { 0 = 0 }) (Own (record { 0 = 0 })) ∷ Leave (call_in 0 7) ∷ Ret (call_in 0 7) (Some (call_in 0 6)) ∷ BackEnd (call_in 0 6) (record { 0 = 0 }) ∷ Body (call_in 0 6) (record { 0 = 1 }) (Own (record { 0 = 0 })) ∷ Leave (call_in 0 6) ∷ Exit (call_in 0 6) (record { 0 = 0 }) 37 ∷ ExitEnd (call_in 0 6) (record { 0 = 0 }) ∷ Ret (call_in 0 6) (Some (call_in 0 2)) ∷ Return 1 Accepted ∷ Leave (call_in 0 2) ∷ Begin 2 ∷ Exit (call_in 0 2) (record { 0 = 0 }) 10 ∷ ExitEnd (call_in 0 2) (record { 0 = 0 }) ∷ Ret (call_in 0 2) None ∷ Return 2 Accepted ∷ Begin 3 ∷ Return 3 Accepted ∷ Begin 4 ∷ Return 4 Accepted ∷ Begin 5 ∷ Return 5 Accepted ∷ Begin 6 ∷ Return 6 Accepted ∷ []
 
 pub job_24-plays : Plays job_24 job_24-items true
-unfolding actors_of repeated start step run played play is_over control_next control_got cpu_next cpu_got insn desk
+unfolding actors_of repeated start step run played play all_end control_next control_got cpu_next cpu_got insn desk
 job_24-plays = (refl, refl)
 
 abbrev pub job_26 : Job
@@ -176,7 +177,7 @@ abbrev pub job_26-items : List Item
 job_26-items = Begin 1 ∷ Enter (call_in 2 1) Normal (record { 0 = 1 }) None ∷ Back (call_in 2 1) (record { 0 = 3 }) ∷ BackEnd (call_in 2 1) (record { 0 = 3 }) ∷ Body (call_in 2 1) (record { 0 = 1 }) ByList ∷ Enter (call_in 2 2) Normal (record { 0 = 1 }) (Some (call_in 2 1)) ∷ Refuse (call_in 2 2) (record { 0 = 3 }) Depth ∷ Body (call_in 2 2) (record { 0 = 1 }) ByList ∷ Return 1 Accepted ∷ Begin 2 ∷ Return 2 Accepted ∷ Leave (call_in 2 2) ∷ Begin 3 ∷ Ret (call_in 2 2) (Some (call_in 2 1)) ∷ Enter (call_in 2 3) Softirq (record { 0 = 0 }) (Some (call_in 2 1)) ∷ Return 3 Accepted ∷ Begin 4 ∷ Back (call_in 2 3) (record { 0 = 0 }) ∷ BackEnd (call_in 2 3) (record { 0 = 0 }) ∷ Enter (call_in 1 1) Normal (record { 0 = 1 }) None ∷ Back (call_in 1 1) (record { 0 = 0 }) ∷ Refuse (call_in 2 3) (record { 0 = 3 }) Depth ∷ Body (call_in 2 3) (record { 0 = 0 }) ByList ∷ Leave (call_in 2 3) ∷ Return 4 Accepted ∷ Ret (call_in 2 3) (Some (call_in 2 1)) ∷ Leave (call_in 2 1) ∷ Begin 5 ∷ BackEnd (call_in 1 1) (record { 0 = 0 }) ∷ Return 5 Already ∷ Body (call_in 1 1) (record { 0 = 1 }) ByList ∷ Enter (call_in 1 2) Nmi (record { 0 = 0 }) (Some (call_in 1 1)) ∷ Exit (call_in 2 1) (record { 0 = 3 }) 2 ∷ ExitEnd (call_in 2 1) (record { 0 = 3 }) ∷ Ret (call_in 2 1) None ∷ Enter (call_in 0 1) Softirq (record { 0 = 0 }) None ∷ Back (call_in 0 1) (record { 0 = 0 }) ∷ BackEnd (call_in 0 1) (record { 0 = 0 }) ∷ Back (call_in 1 2) (record { 0 = 0 }) ∷ BackEnd (call_in 1 2) (record { 0 = 0 }) ∷ Back (call_in 1 2) (record { 0 = 3 }) ∷ BackEnd (call_in 1 2) (record { 0 = 3 }) ∷ Body (call_in 1 2) (record { 0 = 0 }) ByList ∷ Back (call_in 0 1) (record { 0 = 3 }) ∷ BackEnd (call_in 0 1) (record { 0 = 3 }) ∷ Body (call_in 0 1) (record { 0 = 0 }) ByList ∷ Leave (call_in 0 1) ∷ Exit (call_in 0 1) (record { 0 = 3 }) 43 ∷ ExitEnd (call_in 0 1) (record { 0 = 3 }) ∷ Ret (call_in 0 1) None ∷ Leave (call_in 1 2) ∷ Exit (call_in 1 2) (record { 0 = 3 }) 40 ∷ ExitEnd (call_in 1 2) (record { 0 = 3 }) ∷ Ret (call_in 1 2) (Some (call_in 1 1)) ∷ Leave (call_in 1 1) ∷ Ret (call_in 1 1) None ∷ []
 
 pub job_26-plays : Plays job_26 job_26-items true
-unfolding actors_of repeated start step run played play is_over control_next control_got cpu_next cpu_got insn desk
+unfolding actors_of repeated start step run played play all_end control_next control_got cpu_next cpu_got insn desk
 job_26-plays = (refl, refl)
 
 abbrev pub job_30 : Job
@@ -186,7 +187,7 @@ abbrev pub job_30-items : List Item
 job_30-items = Begin 1 ∷ Return 1 Accepted ∷ Begin 2 ∷ Return 2 Accepted ∷ Begin 3 ∷ Return 3 NotThere ∷ Enter (call_in 0 1) Normal (record { 0 = 2 }) None ∷ Back (call_in 0 1) (record { 0 = 3 }) ∷ BackEnd (call_in 0 1) (record { 0 = 3 }) ∷ Body (call_in 0 1) (record { 0 = 2 }) (Own (record { 0 = 3 })) ∷ Leave (call_in 0 1) ∷ Exit (call_in 0 1) (record { 0 = 3 }) 7 ∷ ExitEnd (call_in 0 1) (record { 0 = 3 }) ∷ Ret (call_in 0 1) None ∷ Enter (call_in 0 2) Nmi (record { 0 = 2 }) None ∷ Back (call_in 0 2) (record { 0 = 3 }) ∷ BackEnd (call_in 0 2) (record { 0 = 3 }) ∷ Body (call_in 0 2) (record { 0 = 2 }) (Own (record { 0 = 3 })) ∷ Leave (call_in 0 2) ∷ Exit (call_in 0 2) (record { 0 = 3 }) 15 ∷ ExitEnd (call_in 0 2) (record { 0 = 3 }) ∷ Ret (call_in 0 2) None ∷ []
 
 pub job_30-plays : Plays job_30 job_30-items true
-unfolding actors_of repeated start step run played play is_over control_next control_got cpu_next cpu_got insn desk
+unfolding actors_of repeated start step run played play all_end control_next control_got cpu_next cpu_got insn desk
 job_30-plays = (refl, refl)
 
 abbrev pub job_31 : Job
@@ -196,7 +197,7 @@ abbrev pub job_31-items : List Item
 job_31-items = Begin 1 ∷ Enter (call_in 1 1) Normal (record { 0 = 0 }) None ∷ Return 1 Accepted ∷ Begin 2 ∷ Return 2 NotThere ∷ Body (call_in 1 1) (record { 0 = 0 }) Nop ∷ Begin 3 ∷ Leave (call_in 1 1) ∷ Ret (call_in 1 1) None ∷ Enter (call_in 1 2) Normal (record { 0 = 0 }) None ∷ Enter (call_in 0 1) Irq (record { 0 = 0 }) None ∷ Return 3 Accepted ∷ Body (call_in 1 2) (record { 0 = 0 }) Nop ∷ Body (call_in 0 1) (record { 0 = 0 }) Nop ∷ Leave (call_in 0 1) ∷ Ret (call_in 0 1) None ∷ Enter (call_in 1 3) Softirq (record { 0 = 0 }) (Some (call_in 1 2)) ∷ Body (call_in 1 3) (record { 0 = 0 }) Nop ∷ Leave (call_in 1 3) ∷ Ret (call_in 1 3) (Some (call_in 1 2)) ∷ Enter (call_in 1 4) Softirq (record { 0 = 0 }) (Some (call_in 1 2)) ∷ Body (call_in 1 4) (record { 0 = 0 }) Nop ∷ Enter (call_in 1 5) Softirq (record { 0 = 0 }) (Some (call_in 1 4)) ∷ Body (call_in 1 5) (record { 0 = 0 }) Nop ∷ Leave (call_in 1 5) ∷ Ret (call_in 1 5) (Some (call_in 1 4)) ∷ Leave (call_in 1 4) ∷ Ret (call_in 1 4) (Some (call_in 1 2)) ∷ Leave (call_in 1 2) ∷ Ret (call_in 1 2) None ∷ []
 
 pub job_31-plays : Plays job_31 job_31-items true
-unfolding actors_of repeated start step run played play is_over control_next control_got cpu_next cpu_got insn desk
+unfolding actors_of repeated start step run played play all_end control_next control_got cpu_next cpu_got insn desk
 job_31-plays = (refl, refl)
 
 abbrev pub job_32 : Job
@@ -206,7 +207,7 @@ abbrev pub job_32-items : List Item
 job_32-items = Begin 1 ∷ Return 1 NotThere ∷ Begin 2 ∷ Enter (call_in 0 1) Irq (record { 0 = 0 }) None ∷ Body (call_in 0 1) (record { 0 = 0 }) Nop ∷ Return 2 Accepted ∷ Begin 3 ∷ Return 3 NotThere ∷ Enter (call_in 1 1) Irq (record { 0 = 0 }) None ∷ Back (call_in 1 1) (record { 0 = 1 }) ∷ Enter (call_in 1 2) Irq (record { 0 = 0 }) (Some (call_in 1 1)) ∷ Refuse (call_in 1 2) (record { 0 = 1 }) Recursion ∷ Body (call_in 1 2) (record { 0 = 0 }) (Own (record { 0 = 1 })) ∷ Leave (call_in 1 2) ∷ Ret (call_in 1 2) (Some (call_in 1 1)) ∷ BackEnd (call_in 1 1) (record { 0 = 1 }) ∷ Body (call_in 1 1) (record { 0 = 0 }) (Own (record { 0 = 1 })) ∷ Leave (call_in 1 1) ∷ Exit (call_in 1 1) (record { 0 = 1 }) 9 ∷ ExitEnd (call_in 1 1) (record { 0 = 1 }) ∷ Ret (call_in 1 1) None ∷ Enter (call_in 1 3) Nmi (record { 0 = 0 }) None ∷ Leave (call_in 0 1) ∷ Ret (call_in 0 1) None ∷ Back (call_in 1 3) (record { 0 = 1 }) ∷ Enter (call_in 1 4) Nmi (record { 0 = 0 }) (Some (call_in 1 3)) ∷ Refuse (call_in 1 4) (record { 0 = 1 }) Recursion ∷ Body (call_in 1 4) (record { 0 = 0 }) (Own (record { 0 = 1 })) ∷ Leave (call_in 1 4) ∷ Ret (call_in 1 4) (Some (call_in 1 3)) ∷ BackEnd (call_in 1 3) (record { 0 = 1 }) ∷ Body (call_in 1 3) (record { 0 = 0 }) (Own (record { 0 = 1 })) ∷ Leave (call_in 1 3) ∷ Exit (call_in 1 3) (record { 0 = 1 }) 24 ∷ ExitEnd (call_in 1 3) (record { 0 = 1 }) ∷ Ret (call_in 1 3) None ∷ []
 
 pub job_32-plays : Plays job_32 job_32-items true
-unfolding actors_of repeated start step run played play is_over control_next control_got cpu_next cpu_got insn desk
+unfolding actors_of repeated start step run played play all_end control_next control_got cpu_next cpu_got insn desk
 job_32-plays = (refl, refl)
 
 abbrev pub job_33 : Job
@@ -216,7 +217,7 @@ abbrev pub job_33-items : List Item
 job_33-items = Begin 1 ∷ Return 1 Accepted ∷ Begin 2 ∷ Return 2 NotThere ∷ Begin 3 ∷ Enter (call_in 0 1) Normal (record { 0 = 0 }) None ∷ Body (call_in 0 1) (record { 0 = 0 }) Nop ∷ Enter (call_in 0 2) Normal (record { 0 = 1 }) (Some (call_in 0 1)) ∷ Body (call_in 0 2) (record { 0 = 1 }) Nop ∷ Enter (call_in 0 3) Normal (record { 0 = 1 }) (Some (call_in 0 2)) ∷ Enter (call_in 2 1) Nmi (record { 0 = 0 }) None ∷ Back (call_in 0 3) (record { 0 = 1 }) ∷ BackEnd (call_in 0 3) (record { 0 = 1 }) ∷ Body (call_in 0 3) (record { 0 = 1 }) (Own (record { 0 = 1 })) ∷ Enter (call_in 0 4) Nmi (record { 0 = 0 }) (Some (call_in 0 3)) ∷ Back (call_in 2 1) (record { 0 = 1 }) ∷ BackEnd (call_in 2 1) (record { 0 = 1 }) ∷ Back (call_in 0 4) (record { 0 = 1 }) ∷ BackEnd (call_in 0 4) (record { 0 = 1 }) ∷ Body (call_in 2 1) (record { 0 = 0 }) (Own (record { 0 = 1 })) ∷ Body (call_in 0 4) (record { 0 = 0 }) (Own (record { 0 = 1 })) ∷ Leave (call_in 0 4) ∷ Enter (call_in 2 2) Nmi (record { 0 = 1 }) (Some (call_in 2 1)) ∷ Exit (call_in 0 4) (record { 0 = 1 }) 17 ∷ ExitEnd (call_in 0 4) (record { 0 = 1 }) ∷ Ret (call_in 0 4) (Some (call_in 0 3)) ∷ Return 3 Accepted ∷ Begin 4 ∷ Leave (call_in 0 3) ∷ Return 4 Already ∷ Back (call_in 2 2) (record { 0 = 1 }) ∷ Begin 5 ∷ Exit (call_in 0 3) (record { 0 = 1 }) 11 ∷ Return 5 Already ∷ ExitEnd (call_in 0 3) (record { 0 = 1 }) ∷ Begin 6 ∷ Ret (call_in 0 3) (Some (call_in 0 2)) ∷ BackEnd (call_in 2 2) (record { 0 = 1 }) ∷ Enter (call_in 1 1) Normal (record { 0 = 0 }) None ∷ Body (call_in 2 2) (record { 0 = 1 }) (Own (record { 0 = 1 })) ∷ Leave (call_in 0 2) ∷ Ret (call_in 0 2) (Some (call_in 0 1)) ∷ Leave (call_in 0 1) ∷ Ret (call_in 0 1) None ∷ Enter (call_in 2 3) Nmi (record { 0 = 1 }) (Some (call_in 2 2)) ∷ Back (call_in 1 1) (record { 0 = 1 }) ∷ BackEnd (call_in 1 1) (record { 0 = 1 }) ∷ Body (call_in 1 1) (record { 0 = 0 }) (Own (record { 0 = 1 })) ∷ Back (call_in 2 3) (record { 0 = 1 }) ∷ BackEnd (call_in 2 3) (record { 0 = 1 }) ∷ Return 6 Accepted ∷ Body (call_in 2 3) (record { 0 = 1 }) (Own (record { 0 = 1 })) ∷ Enter (call_in 2 4) Nmi (record { 0 = 0 }) (Some (call_in 2 3)) ∷ Leave (call_in 1 1) ∷ Exit (call_in 1 1) (record { 0 = 1 }) 45 ∷ Back (call_in 2 4) (record { 0 = 1 }) ∷ ExitEnd (call_in 1 1) (record { 0 = 1 }) ∷ BackEnd (call_in 2 4) (record { 0 = 1 }) ∷ Ret (call_in 1 1) None ∷ Body (call_in 2 4) (record { 0 = 0 }) (Own (record { 0 = 1 })) ∷ Enter (call_in 2 5) Nmi (record { 0 = 1 }) (Some (call_in 2 4)) ∷ Enter (call_in 1 2) Normal (record { 0 = 0 }) None ∷ Back (call_in 2 5) (record { 0 = 1 }) ∷ BackEnd (call_in 2 5) (record { 0 = 1 }) ∷ Back (call_in 1 2) (record { 0 = 1 }) ∷ Body (call_in 2 5) (record { 0 = 1 }) (Own (record { 0 = 1 })) ∷ BackEnd (call_in 1 2) (record { 0 = 1 }) ∷ Body (call_in 1 2) (record { 0 = 0 }) (Own (record { 0 = 1 })) ∷ Leave (call_in 2 5) ∷ Exit (call_in 2 5) (record { 0 = 1 }) 62 ∷ ExitEnd (call_in 2 5) (record { 0 = 1 }) ∷ Enter (call_in 1 3) Normal (record { 0 = 1 }) (Some (call_in 1 2)) ∷ Ret (call_in 2 5) (Some (call_in 2 4)) ∷ Leave (call_in 2 4) ∷ Back (call_in 1 3) (record { 0 = 1 }) ∷ Exit (call_in 2 4) (record { 0 = 1 }) 55 ∷ BackEnd (call_in 1 3) (record { 0 = 1 }) ∷ ExitEnd (call_in 2 4) (record { 0 = 1 }) ∷ Body (call_in 1 3) (record { 0 = 1 }) (Own (record { 0 = 1 })) ∷ Ret (call_in 2 4) (Some (call_in 2 3)) ∷ Leave (call_in 1 3) ∷ Leave (call_in 2 3) ∷ Exit (call_in 1 3) (record { 0 = 1 }) 74 ∷ Exit (call_in 2 3) (record { 0 = 1 }) 48 ∷ ExitEnd (call_in 1 3) (record { 0 = 1 }) ∷ ExitEnd (call_in 2 3) (record { 0 = 1 }) ∷ Ret (call_in 1 3) (Some (call_in 1 2)) ∷ Ret (call_in 2 3) (Some (call_in 2 2)) ∷ Leave (call_in 1 2) ∷ Leave (call_in 2 2) ∷ Exit (call_in 1 2) (record { 0 = 1 }) 64 ∷ Exit (call_in 2 2) (record { 0 = 1 }) 30 ∷ ExitEnd (call_in 1 2) (record { 0 = 1 }) ∷ ExitEnd (call_in 2 2) (record { 0 = 1 }) ∷ Ret (call_in 1 2) None ∷ Ret (call_in 2 2) (Some (call_in 2 1)) ∷ Leave (call_in 2 1) ∷ Exit (call_in 2 1) (record { 0 = 1 }) 15 ∷ ExitEnd (call_in 2 1) (record { 0 = 1 }) ∷ Ret (call_in 2 1) None ∷ []
 
 pub job_33-plays : Plays job_33 job_33-items true
-unfolding actors_of repeated start step run played play is_over control_next control_got cpu_next cpu_got insn desk
+unfolding actors_of repeated start step run played play all_end control_next control_got cpu_next cpu_got insn desk
 job_33-plays = (refl, refl)
 
 abbrev pub job_34 : Job
@@ -226,7 +227,7 @@ abbrev pub job_34-items : List Item
 job_34-items = Begin 1 ∷ Return 1 Accepted ∷ Begin 2 ∷ Return 2 Accepted ∷ Begin 3 ∷ Return 3 Accepted ∷ Begin 4 ∷ Return 4 Invalid ∷ Begin 5 ∷ Return 5 Accepted ∷ Begin 6 ∷ Return 6 Already ∷ []
 
 pub job_34-plays : Plays job_34 job_34-items true
-unfolding actors_of repeated start step run played play is_over control_next control_got cpu_next cpu_got insn desk
+unfolding actors_of repeated start step run played play all_end control_next control_got cpu_next cpu_got insn desk
 job_34-plays = (refl, refl)
 
 abbrev pub job_37 : Job
@@ -236,7 +237,7 @@ abbrev pub job_37-items : List Item
 job_37-items = Begin 1 ∷ Return 1 NotThere ∷ Begin 2 ∷ Return 2 Accepted ∷ Begin 3 ∷ Return 3 Accepted ∷ Begin 4 ∷ Return 4 Accepted ∷ Begin 5 ∷ Return 5 Accepted ∷ Enter (call_in 0 1) Normal (record { 0 = 0 }) None ∷ Refuse (call_in 0 1) (record { 0 = 0 }) ByPid ∷ Body (call_in 0 1) (record { 0 = 0 }) (Own (record { 0 = 0 })) ∷ Enter (call_in 0 2) Normal (record { 0 = 0 }) (Some (call_in 0 1)) ∷ Refuse (call_in 0 2) (record { 0 = 0 }) ByPid ∷ Body (call_in 0 2) (record { 0 = 0 }) (Own (record { 0 = 0 })) ∷ Enter (call_in 0 3) Normal (record { 0 = 0 }) (Some (call_in 0 2)) ∷ Refuse (call_in 0 3) (record { 0 = 0 }) ByPid ∷ Body (call_in 0 3) (record { 0 = 0 }) (Own (record { 0 = 0 })) ∷ Leave (call_in 0 3) ∷ Ret (call_in 0 3) (Some (call_in 0 2)) ∷ Leave (call_in 0 2) ∷ Ret (call_in 0 2) (Some (call_in 0 1)) ∷ Leave (call_in 0 1) ∷ Ret (call_in 0 1) None ∷ []
 
 pub job_37-plays : Plays job_37 job_37-items true
-unfolding actors_of repeated start step run played play is_over control_next control_got cpu_next cpu_got insn desk
+unfolding actors_of repeated start step run played play all_end control_next control_got cpu_next cpu_got insn desk
 job_37-plays = (refl, refl)
 
 abbrev pub job_38 : Job
@@ -246,7 +247,7 @@ abbrev pub job_38-items : List Item
 job_38-items = Begin 1 ∷ Return 1 Accepted ∷ Begin 2 ∷ Return 2 NotThere ∷ Begin 3 ∷ Return 3 NotThere ∷ Begin 4 ∷ Enter (call_in 0 1) Normal (record { 0 = 0 }) None ∷ Body (call_in 0 1) (record { 0 = 0 }) Nop ∷ Enter (call_in 0 2) Normal (record { 0 = 0 }) (Some (call_in 0 1)) ∷ Body (call_in 0 2) (record { 0 = 0 }) Nop ∷ Leave (call_in 0 2) ∷ Ret (call_in 0 2) (Some (call_in 0 1)) ∷ Leave (call_in 0 1) ∷ Ret (call_in 0 1) None ∷ Enter (call_in 1 1) Normal (record { 0 = 3 }) None ∷ Body (call_in 1 1) (record { 0 = 3 }) Nop ∷ Enter (call_in 1 2) Normal (record { 0 = 1 }) (Some (call_in 1 1)) ∷ Body (call_in 1 2) (record { 0 = 1 }) Nop ∷ Enter (call_in 1 3) Normal (record { 0 = 3 }) (Some (call_in 1 2)) ∷ Body (call_in 1 3) (record { 0 = 3 }) Nop ∷ Leave (call_in 1 3) ∷ Ret (call_in 1 3) (Some (call_in 1 2)) ∷ Leave (call_in 1 2) ∷ Ret (call_in 1 2) (Some (call_in 1 1)) ∷ Enter (call_in 1 4) Normal (record { 0 = 2 }) (Some (call_in 1 1)) ∷ Body (call_in 1 4) (record { 0 = 2 }) Nop ∷ Leave (call_in 1 4) ∷ Ret (call_in 1 4) (Some (call_in 1 1)) ∷ Enter (call_in 1 5) Normal (record { 0 = 2 }) (Some (call_in 1 1)) ∷ Body (call_in 1 5) (record { 0 = 2 }) Nop ∷ Enter (call_in 1 6) Normal (record { 0 = 1 }) (Some (call_in 1 5)) ∷ Body (call_in 1 6) (record { 0 = 1 }) Nop ∷ Leave (call_in 1 6) ∷ Ret (call_in 1 6) (Some (call_in 1 5)) ∷ Leave (call_in 1 5) ∷ Ret (call_in 1 5) (Some (call_in 1 1)) ∷ Leave (call_in 1 1) ∷ Ret (call_in 1 1) None ∷ Return 4 Accepted ∷ Begin 5 ∷ Return 5 Accepted ∷ Begin 6 ∷ Return 6 Accepted ∷ []
 
 pub job_38-plays : Plays job_38 job_38-items true
-unfolding actors_of repeated start step run played play is_over control_next control_got cpu_next cpu_got insn desk
+unfolding actors_of repeated start step run played play all_end control_next control_got cpu_next cpu_got insn desk
 job_38-plays = (refl, refl)
 
 abbrev pub job_39 : Job
@@ -256,7 +257,7 @@ abbrev pub job_39-items : List Item
 job_39-items = Begin 1 ∷ Return 1 Accepted ∷ Begin 2 ∷ Enter (call_in 2 1) Normal (record { 0 = 1 }) None ∷ Return 2 Accepted ∷ Begin 3 ∷ Return 3 NotThere ∷ Body (call_in 2 1) (record { 0 = 1 }) Nop ∷ Leave (call_in 2 1) ∷ Begin 4 ∷ Ret (call_in 2 1) None ∷ Enter (call_in 2 2) Nmi (record { 0 = 1 }) None ∷ Body (call_in 2 2) (record { 0 = 1 }) Nop ∷ Leave (call_in 2 2) ∷ Ret (call_in 2 2) None ∷ Return 4 Accepted ∷ Enter (call_in 0 1) Normal (record { 0 = 1 }) None ∷ Refuse (call_in 0 1) (record { 0 = 1 }) ByPid ∷ Body (call_in 0 1) (record { 0 = 1 }) ByList ∷ Leave (call_in 0 1) ∷ Ret (call_in 0 1) None ∷ Begin 5 ∷ Return 5 NotThere ∷ Begin 6 ∷ Enter (call_in 0 2) Softirq (record { 0 = 1 }) None ∷ Return 6 Accepted ∷ Enter (call_in 1 1) Normal (record { 0 = 1 }) None ∷ Back (call_in 1 1) (record { 0 = 1 }) ∷ Enter (call_in 1 2) Normal (record { 0 = 1 }) (Some (call_in 1 1)) ∷ Refuse (call_in 1 2) (record { 0 = 1 }) Recursion ∷ Body (call_in 1 2) (record { 0 = 1 }) ByList ∷ Leave (call_in 1 2) ∷ Ret (call_in 1 2) (Some (call_in 1 1)) ∷ BackEnd (call_in 1 1) (record { 0 = 1 }) ∷ Body (call_in 1 1) (record { 0 = 1 }) ByList ∷ Enter (call_in 1 3) Normal (record { 0 = 0 }) (Some (call_in 1 1)) ∷ Back (call_in 1 3) (record { 0 = 1 }) ∷ Enter (call_in 1 4) Normal (record { 0 = 1 }) (Some (call_in 1 3)) ∷ Refuse (call_in 0 2) (record { 0 = 1 }) ByPid ∷ Body (call_in 0 2) (record { 0 = 1 }) ByList ∷ Leave (call_in 0 2) ∷ Ret (call_in 0 2) None ∷ Refuse (call_in 1 4) (record { 0 = 1 }) Recursion ∷ Body (call_in 1 4) (record { 0 = 1 }) ByList ∷ Leave (call_in 1 4) ∷ Ret (call_in 1 4) (Some (call_in 1 3)) ∷ BackEnd (call_in 1 3) (record { 0 = 1 }) ∷ Body (call_in 1 3) (record { 0 = 0 }) ByList ∷ Enter (call_in 1 5) Normal (record { 0 = 1 }) (Some (call_in 1 3)) ∷ Back (call_in 1 5) (record { 0 = 1 }) ∷ Enter (call_in 1 6) Normal (record { 0 = 1 }) (Some (call_in 1 5)) ∷ Refuse (call_in 1 6) (record { 0 = 1 }) Recursion ∷ Body (call_in 1 6) (record { 0 = 1 }) ByList ∷ Leave (call_in 1 6) ∷ Ret (call_in 1 6) (Some (call_in 1 5)) ∷ BackEnd (call_in 1 5) (record { 0 = 1 }) ∷ Body (call_in 1 5) (record { 0 = 1 }) ByList ∷ Leave (call_in 1 5) ∷ Ret (call_in 1 5) (Some (call_in 1 3)) ∷ Leave (call_in 1 3) ∷ Ret (call_in 1 3) (Some (call_in 1 1)) ∷ Leave (call_in 1 1) ∷ Ret (call_in 1 1) None ∷ []
 
 pub job_39-plays : Plays job_39 job_39-items true
-unfolding actors_of repeated start step run played play is_over control_next control_got cpu_next cpu_got insn desk
+unfolding actors_of repeated start step run played play all_end control_next control_got cpu_next cpu_got insn desk
 job_39-plays = (refl, refl)
 
 abbrev pub job_40 : Job
@@ -266,5 +267,5 @@ abbrev pub job_40-items : List Item
 job_40-items = Enter (call_in 0 1) Normal (record { 0 = 3 }) None ∷ Body (call_in 0 1) (record { 0 = 3 }) Nop ∷ Leave (call_in 0 1) ∷ Ret (call_in 0 1) None ∷ Enter (call_in 0 2) Normal (record { 0 = 1 }) None ∷ Body (call_in 0 2) (record { 0 = 1 }) Nop ∷ Leave (call_in 0 2) ∷ Begin 1 ∷ Ret (call_in 0 2) None ∷ Return 1 Accepted ∷ Begin 2 ∷ Return 2 NotThere ∷ Begin 3 ∷ Return 3 Already ∷ Begin 4 ∷ Return 4 Accepted ∷ []
 
 pub job_40-plays : Plays job_40 job_40-items true
-unfolding actors_of repeated start step run played play is_over control_next control_got cpu_next cpu_got insn desk
+unfolding actors_of repeated start step run played play all_end control_next control_got cpu_next cpu_got insn desk
 job_40-plays = (refl, refl)

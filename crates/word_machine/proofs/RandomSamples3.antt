@@ -13,9 +13,10 @@ use Rattle.ft_base.specs.declared.turn.Who.TheVariants.{Control as OfControl, Cp
 use Rattle.ft_base.specs.Job.{Job, Register, Unregister, Filter, Notrace, Enable, Disable, Pid, NoPid, MaxDepth, Run, Until}
 use Rattle.ft_base.specs.Desk.{desk}
 use Rattle.ft_base.specs.Schedule.{actors_of, repeated}
-use Rattle.word_machine.specs.Control.{insn, control_next, control_got}
+use Rattle.word_machine.specs.Commands.{insn}
+use Rattle.word_machine.specs.Control.{control_next, control_got}
 use Rattle.word_machine.specs.Cpu.{cpu_next, cpu_got}
-use Rattle.word_machine.specs.Machine.{start, step, run, played, play, is_over}
+use Rattle.word_machine.specs.Machine.{start, step, run, played, play, all_end}
 use Rattle.plain_machine.proofs.Plays.{named, call_in}
 use Rattle.word_machine.proofs.Plays.{Plays}
 
@@ -26,7 +27,7 @@ abbrev pub job_2002-items : List Item
 job_2002-items = Begin 1 ∷ Return 1 Accepted ∷ Begin 2 ∷ Enter (call_in 0 1) Normal (record { 0 = 0 }) None ∷ Body (call_in 0 1) (record { 0 = 0 }) Nop ∷ Enter (call_in 1 1) Normal (record { 0 = 0 }) None ∷ Return 2 Accepted ∷ Begin 3 ∷ Return 3 Accepted ∷ Begin 4 ∷ Enter (call_in 0 2) Normal (record { 0 = 0 }) (Some (call_in 0 1)) ∷ Body (call_in 1 1) (record { 0 = 0 }) Nop ∷ Leave (call_in 1 1) ∷ Ret (call_in 1 1) None ∷ Body (call_in 0 2) (record { 0 = 0 }) Nop ∷ Leave (call_in 0 2) ∷ Ret (call_in 0 2) (Some (call_in 0 1)) ∷ Leave (call_in 0 1) ∷ Ret (call_in 0 1) None ∷ Return 4 Accepted ∷ Enter (call_in 1 2) Irq (record { 0 = 0 }) None ∷ Body (call_in 1 2) (record { 0 = 0 }) Nop ∷ Enter (call_in 1 3) Irq (record { 0 = 0 }) (Some (call_in 1 2)) ∷ Body (call_in 1 3) (record { 0 = 0 }) Nop ∷ Enter (call_in 1 4) Irq (record { 0 = 0 }) (Some (call_in 1 3)) ∷ Body (call_in 1 4) (record { 0 = 0 }) Nop ∷ Leave (call_in 1 4) ∷ Ret (call_in 1 4) (Some (call_in 1 3)) ∷ Leave (call_in 1 3) ∷ Ret (call_in 1 3) (Some (call_in 1 2)) ∷ Leave (call_in 1 2) ∷ Ret (call_in 1 2) None ∷ []
 
 pub job_2002-plays : Plays job_2002 job_2002-items true
-unfolding actors_of repeated start step run played play is_over control_next control_got cpu_next cpu_got insn desk
+unfolding actors_of repeated start step run played play all_end control_next control_got cpu_next cpu_got insn desk
 job_2002-plays = (refl, refl)
 
 abbrev pub job_2003 : Job
@@ -36,7 +37,7 @@ abbrev pub job_2003-items : List Item
 job_2003-items = Enter (call_in 1 1) Softirq (record { 0 = 0 }) None ∷ Body (call_in 1 1) (record { 0 = 0 }) Nop ∷ Enter (call_in 1 2) Softirq (record { 0 = 0 }) (Some (call_in 1 1)) ∷ Body (call_in 1 2) (record { 0 = 0 }) Nop ∷ Enter (call_in 1 3) Softirq (record { 0 = 0 }) (Some (call_in 1 2)) ∷ Body (call_in 1 3) (record { 0 = 0 }) Nop ∷ Enter (call_in 1 4) Softirq (record { 0 = 0 }) (Some (call_in 1 3)) ∷ Body (call_in 1 4) (record { 0 = 0 }) Nop ∷ Enter (call_in 1 5) Softirq (record { 0 = 0 }) (Some (call_in 1 4)) ∷ Begin 1 ∷ Body (call_in 1 5) (record { 0 = 0 }) Nop ∷ Leave (call_in 1 5) ∷ Ret (call_in 1 5) (Some (call_in 1 4)) ∷ Leave (call_in 1 4) ∷ Ret (call_in 1 4) (Some (call_in 1 3)) ∷ Leave (call_in 1 3) ∷ Ret (call_in 1 3) (Some (call_in 1 2)) ∷ Leave (call_in 1 2) ∷ Ret (call_in 1 2) (Some (call_in 1 1)) ∷ Leave (call_in 1 1) ∷ Ret (call_in 1 1) None ∷ Return 1 Accepted ∷ Begin 2 ∷ Enter (call_in 0 1) Nmi (record { 0 = 0 }) None ∷ Back (call_in 0 1) (record { 0 = 1 }) ∷ BackEnd (call_in 0 1) (record { 0 = 1 }) ∷ Body (call_in 0 1) (record { 0 = 0 }) (Own (record { 0 = 1 })) ∷ Enter (call_in 0 2) Nmi (record { 0 = 0 }) (Some (call_in 0 1)) ∷ Back (call_in 0 2) (record { 0 = 1 }) ∷ BackEnd (call_in 0 2) (record { 0 = 1 }) ∷ Body (call_in 0 2) (record { 0 = 0 }) (Own (record { 0 = 1 })) ∷ Leave (call_in 0 2) ∷ Exit (call_in 0 2) (record { 0 = 1 }) 28 ∷ ExitEnd (call_in 0 2) (record { 0 = 1 }) ∷ Ret (call_in 0 2) (Some (call_in 0 1)) ∷ Leave (call_in 0 1) ∷ Exit (call_in 0 1) (record { 0 = 1 }) 24 ∷ ExitEnd (call_in 0 1) (record { 0 = 1 }) ∷ Ret (call_in 0 1) None ∷ Return 2 Accepted ∷ []
 
 pub job_2003-plays : Plays job_2003 job_2003-items true
-unfolding actors_of repeated start step run played play is_over control_next control_got cpu_next cpu_got insn desk
+unfolding actors_of repeated start step run played play all_end control_next control_got cpu_next cpu_got insn desk
 job_2003-plays = (refl, refl)
 
 abbrev pub job_2005 : Job
@@ -46,7 +47,7 @@ abbrev pub job_2005-items : List Item
 job_2005-items = Begin 1 ∷ Return 1 Invalid ∷ Enter (call_in 1 1) Normal (record { 0 = 2 }) None ∷ Body (call_in 1 1) (record { 0 = 2 }) Nop ∷ Enter (call_in 1 2) Normal (record { 0 = 3 }) (Some (call_in 1 1)) ∷ Body (call_in 1 2) (record { 0 = 3 }) Nop ∷ Enter (call_in 1 3) Normal (record { 0 = 0 }) (Some (call_in 1 2)) ∷ Body (call_in 1 3) (record { 0 = 0 }) Nop ∷ Enter (call_in 0 1) Normal (record { 0 = 1 }) None ∷ Body (call_in 0 1) (record { 0 = 1 }) Nop ∷ Leave (call_in 0 1) ∷ Ret (call_in 0 1) None ∷ Begin 2 ∷ Enter (call_in 1 4) Normal (record { 0 = 0 }) (Some (call_in 1 3)) ∷ Body (call_in 1 4) (record { 0 = 0 }) Nop ∷ Leave (call_in 1 4) ∷ Ret (call_in 1 4) (Some (call_in 1 3)) ∷ Leave (call_in 1 3) ∷ Ret (call_in 1 3) (Some (call_in 1 2)) ∷ Leave (call_in 1 2) ∷ Ret (call_in 1 2) (Some (call_in 1 1)) ∷ Leave (call_in 1 1) ∷ Ret (call_in 1 1) None ∷ Return 2 Accepted ∷ Begin 3 ∷ Return 3 NotThere ∷ []
 
 pub job_2005-plays : Plays job_2005 job_2005-items true
-unfolding actors_of repeated start step run played play is_over control_next control_got cpu_next cpu_got insn desk
+unfolding actors_of repeated start step run played play all_end control_next control_got cpu_next cpu_got insn desk
 job_2005-plays = (refl, refl)
 
 abbrev pub job_2007 : Job
@@ -56,7 +57,7 @@ abbrev pub job_2007-items : List Item
 job_2007-items = Begin 1 ∷ Enter (call_in 0 1) Normal (record { 0 = 1 }) None ∷ Body (call_in 0 1) (record { 0 = 1 }) Nop ∷ Enter (call_in 0 2) Normal (record { 0 = 0 }) (Some (call_in 0 1)) ∷ Body (call_in 0 2) (record { 0 = 0 }) Nop ∷ Enter (call_in 0 3) Normal (record { 0 = 0 }) (Some (call_in 0 2)) ∷ Return 1 Accepted ∷ Begin 2 ∷ Return 2 NotThere ∷ Body (call_in 0 3) (record { 0 = 0 }) Nop ∷ Leave (call_in 0 3) ∷ Ret (call_in 0 3) (Some (call_in 0 2)) ∷ Leave (call_in 0 2) ∷ Ret (call_in 0 2) (Some (call_in 0 1)) ∷ Leave (call_in 0 1) ∷ Ret (call_in 0 1) None ∷ []
 
 pub job_2007-plays : Plays job_2007 job_2007-items true
-unfolding actors_of repeated start step run played play is_over control_next control_got cpu_next cpu_got insn desk
+unfolding actors_of repeated start step run played play all_end control_next control_got cpu_next cpu_got insn desk
 job_2007-plays = (refl, refl)
 
 abbrev pub job_2010 : Job
@@ -66,7 +67,7 @@ abbrev pub job_2010-items : List Item
 job_2010-items = Begin 1 ∷ Return 1 Accepted ∷ Enter (call_in 0 1) Normal (record { 0 = 1 }) None ∷ Back (call_in 0 1) (record { 0 = 0 }) ∷ BackEnd (call_in 0 1) (record { 0 = 0 }) ∷ Body (call_in 0 1) (record { 0 = 1 }) (Own (record { 0 = 0 })) ∷ Enter (call_in 0 2) Normal (record { 0 = 1 }) (Some (call_in 0 1)) ∷ Back (call_in 0 2) (record { 0 = 0 }) ∷ BackEnd (call_in 0 2) (record { 0 = 0 }) ∷ Body (call_in 0 2) (record { 0 = 1 }) (Own (record { 0 = 0 })) ∷ Enter (call_in 0 3) Normal (record { 0 = 1 }) (Some (call_in 0 2)) ∷ Refuse (call_in 0 3) (record { 0 = 0 }) Depth ∷ Body (call_in 0 3) (record { 0 = 1 }) (Own (record { 0 = 0 })) ∷ Enter (call_in 0 4) Normal (record { 0 = 0 }) (Some (call_in 0 3)) ∷ Refuse (call_in 0 4) (record { 0 = 0 }) Depth ∷ Body (call_in 0 4) (record { 0 = 0 }) (Own (record { 0 = 0 })) ∷ Enter (call_in 0 5) Normal (record { 0 = 0 }) (Some (call_in 0 4)) ∷ Refuse (call_in 0 5) (record { 0 = 0 }) Depth ∷ Body (call_in 0 5) (record { 0 = 0 }) (Own (record { 0 = 0 })) ∷ Leave (call_in 0 5) ∷ Ret (call_in 0 5) (Some (call_in 0 4)) ∷ Leave (call_in 0 4) ∷ Ret (call_in 0 4) (Some (call_in 0 3)) ∷ Leave (call_in 0 3) ∷ Ret (call_in 0 3) (Some (call_in 0 2)) ∷ Leave (call_in 0 2) ∷ Begin 2 ∷ Return 2 Invalid ∷ Exit (call_in 0 2) (record { 0 = 0 }) 7 ∷ ExitEnd (call_in 0 2) (record { 0 = 0 }) ∷ Ret (call_in 0 2) (Some (call_in 0 1)) ∷ Leave (call_in 0 1) ∷ Exit (call_in 0 1) (record { 0 = 0 }) 3 ∷ ExitEnd (call_in 0 1) (record { 0 = 0 }) ∷ Ret (call_in 0 1) None ∷ []
 
 pub job_2010-plays : Plays job_2010 job_2010-items true
-unfolding actors_of repeated start step run played play is_over control_next control_got cpu_next cpu_got insn desk
+unfolding actors_of repeated start step run played play all_end control_next control_got cpu_next cpu_got insn desk
 job_2010-plays = (refl, refl)
 
 abbrev pub job_2011 : Job
@@ -76,7 +77,7 @@ abbrev pub job_2011-items : List Item
 job_2011-items = Begin 1 ∷ Return 1 Invalid ∷ Begin 2 ∷ Return 2 Invalid ∷ Begin 3 ∷ Return 3 NotThere ∷ Begin 4 ∷ Return 4 NotThere ∷ Begin 5 ∷ Return 5 Accepted ∷ Begin 6 ∷ Return 6 Accepted ∷ Enter (call_in 0 1) Normal (record { 0 = 1 }) None ∷ Body (call_in 0 1) (record { 0 = 1 }) Nop ∷ Enter (call_in 1 1) Softirq (record { 0 = 1 }) None ∷ Body (call_in 1 1) (record { 0 = 1 }) Nop ∷ Enter (call_in 2 1) Nmi (record { 0 = 0 }) None ∷ Body (call_in 2 1) (record { 0 = 0 }) Nop ∷ Leave (call_in 1 1) ∷ Ret (call_in 1 1) None ∷ Enter (call_in 2 2) Nmi (record { 0 = 1 }) (Some (call_in 2 1)) ∷ Body (call_in 2 2) (record { 0 = 1 }) Nop ∷ Leave (call_in 0 1) ∷ Ret (call_in 0 1) None ∷ Leave (call_in 2 2) ∷ Ret (call_in 2 2) (Some (call_in 2 1)) ∷ Leave (call_in 2 1) ∷ Ret (call_in 2 1) None ∷ Enter (call_in 0 2) Normal (record { 0 = 0 }) None ∷ Body (call_in 0 2) (record { 0 = 0 }) Nop ∷ Leave (call_in 0 2) ∷ Ret (call_in 0 2) None ∷ []
 
 pub job_2011-plays : Plays job_2011 job_2011-items true
-unfolding actors_of repeated start step run played play is_over control_next control_got cpu_next cpu_got insn desk
+unfolding actors_of repeated start step run played play all_end control_next control_got cpu_next cpu_got insn desk
 job_2011-plays = (refl, refl)
 
 abbrev pub job_2014 : Job
@@ -86,7 +87,7 @@ abbrev pub job_2014-items : List Item
 job_2014-items = Begin 1 ∷ Return 1 Accepted ∷ Begin 2 ∷ Return 2 Accepted ∷ Begin 3 ∷ Return 3 Invalid ∷ Begin 4 ∷ Return 4 Invalid ∷ Begin 5 ∷ Return 5 Accepted ∷ Begin 6 ∷ Enter (call_in 0 1) Irq (record { 0 = 0 }) None ∷ Body (call_in 0 1) (record { 0 = 0 }) Nop ∷ Leave (call_in 0 1) ∷ Ret (call_in 0 1) None ∷ Enter (call_in 0 2) Irq (record { 0 = 0 }) None ∷ Back (call_in 0 2) (record { 0 = 1 }) ∷ Enter (call_in 0 3) Irq (record { 0 = 0 }) (Some (call_in 0 2)) ∷ Refuse (call_in 0 3) (record { 0 = 1 }) Recursion ∷ Body (call_in 0 3) (record { 0 = 0 }) (Own (record { 0 = 1 })) ∷ Leave (call_in 0 3) ∷ Ret (call_in 0 3) (Some (call_in 0 2)) ∷ BackEnd (call_in 0 2) (record { 0 = 1 }) ∷ Body (call_in 0 2) (record { 0 = 0 }) (Own (record { 0 = 1 })) ∷ Enter (call_in 0 4) Irq (record { 0 = 0 }) (Some (call_in 0 2)) ∷ Back (call_in 0 4) (record { 0 = 1 }) ∷ Enter (call_in 0 5) Irq (record { 0 = 0 }) (Some (call_in 0 4)) ∷ Refuse (call_in 0 5) (record { 0 = 1 }) Recursion ∷ Body (call_in 0 5) (record { 0 = 0 }) (Own (record { 0 = 1 })) ∷ Leave (call_in 0 5) ∷ Ret (call_in 0 5) (Some (call_in 0 4)) ∷ BackEnd (call_in 0 4) (record { 0 = 1 }) ∷ Body (call_in 0 4) (record { 0 = 0 }) (Own (record { 0 = 1 })) ∷ Leave (call_in 0 4) ∷ Return 6 Accepted ∷ Ret (call_in 0 4) (Some (call_in 0 2)) ∷ Leave (call_in 0 2) ∷ Ret (call_in 0 2) None ∷ []
 
 pub job_2014-plays : Plays job_2014 job_2014-items true
-unfolding actors_of repeated start step run played play is_over control_next control_got cpu_next cpu_got insn desk
+unfolding actors_of repeated start step run played play all_end control_next control_got cpu_next cpu_got insn desk
 job_2014-plays = (refl, refl)
 
 abbrev pub job_2015 : Job
@@ -96,7 +97,7 @@ abbrev pub job_2015-items : List Item
 job_2015-items = Enter (call_in 0 1) Normal (record { 0 = 0 }) None ∷ Body (call_in 0 1) (record { 0 = 0 }) Nop ∷ Begin 1 ∷ Return 1 Accepted ∷ Begin 2 ∷ Return 2 Accepted ∷ Begin 3 ∷ Enter (call_in 0 2) Normal (record { 0 = 0 }) (Some (call_in 0 1)) ∷ Back (call_in 0 2) (record { 0 = 0 }) ∷ BackEnd (call_in 0 2) (record { 0 = 0 }) ∷ Body (call_in 0 2) (record { 0 = 0 }) (Own (record { 0 = 0 })) ∷ Leave (call_in 0 2) ∷ Return 3 Accepted ∷ Ret (call_in 0 2) (Some (call_in 0 1)) ∷ Begin 4 ∷ Return 4 Already ∷ Leave (call_in 0 1) ∷ Ret (call_in 0 1) None ∷ []
 
 pub job_2015-plays : Plays job_2015 job_2015-items true
-unfolding actors_of repeated start step run played play is_over control_next control_got cpu_next cpu_got insn desk
+unfolding actors_of repeated start step run played play all_end control_next control_got cpu_next cpu_got insn desk
 job_2015-plays = (refl, refl)
 
 abbrev pub job_2016 : Job
@@ -106,7 +107,7 @@ abbrev pub job_2016-items : List Item
 job_2016-items = Begin 1 ∷ Return 1 Accepted ∷ Begin 2 ∷ Return 2 Accepted ∷ Begin 3 ∷ Return 3 NotThere ∷ Begin 4 ∷ Return 4 Accepted ∷ Enter (call_in 0 1) Normal (record { 0 = 3 }) None ∷ Body (call_in 0 1) (record { 0 = 3 }) Nop ∷ Enter (call_in 0 2) Normal (record { 0 = 3 }) (Some (call_in 0 1)) ∷ Body (call_in 0 2) (record { 0 = 3 }) Nop ∷ Leave (call_in 0 2) ∷ Ret (call_in 0 2) (Some (call_in 0 1)) ∷ Leave (call_in 0 1) ∷ Ret (call_in 0 1) None ∷ Begin 5 ∷ Return 5 Accepted ∷ Begin 6 ∷ Return 6 Accepted ∷ []
 
 pub job_2016-plays : Plays job_2016 job_2016-items true
-unfolding actors_of repeated start step run played play is_over control_next control_got cpu_next cpu_got insn desk
+unfolding actors_of repeated start step run played play all_end control_next control_got cpu_next cpu_got insn desk
 job_2016-plays = (refl, refl)
 
 abbrev pub job_2017 : Job
@@ -116,7 +117,7 @@ abbrev pub job_2017-items : List Item
 job_2017-items = Enter (call_in 0 1) Nmi (record { 0 = 1 }) None ∷ Body (call_in 0 1) (record { 0 = 1 }) Nop ∷ Enter (call_in 0 2) Nmi (record { 0 = 1 }) (Some (call_in 0 1)) ∷ Body (call_in 0 2) (record { 0 = 1 }) Nop ∷ Begin 1 ∷ Leave (call_in 0 2) ∷ Ret (call_in 0 2) (Some (call_in 0 1)) ∷ Enter (call_in 0 3) Nmi (record { 0 = 1 }) (Some (call_in 0 1)) ∷ Body (call_in 0 3) (record { 0 = 1 }) Nop ∷ Enter (call_in 0 4) Nmi (record { 0 = 0 }) (Some (call_in 0 3)) ∷ Body (call_in 0 4) (record { 0 = 0 }) Nop ∷ Leave (call_in 0 4) ∷ Ret (call_in 0 4) (Some (call_in 0 3)) ∷ Leave (call_in 0 3) ∷ Ret (call_in 0 3) (Some (call_in 0 1)) ∷ Leave (call_in 0 1) ∷ Ret (call_in 0 1) None ∷ Return 1 Accepted ∷ Begin 2 ∷ Return 2 Accepted ∷ Begin 3 ∷ Return 3 Accepted ∷ []
 
 pub job_2017-plays : Plays job_2017 job_2017-items true
-unfolding actors_of repeated start step run played play is_over control_next control_got cpu_next cpu_got insn desk
+unfolding actors_of repeated start step run played play all_end control_next control_got cpu_next cpu_got insn desk
 job_2017-plays = (refl, refl)
 
 abbrev pub job_2026 : Job
@@ -126,7 +127,7 @@ abbrev pub job_2026-items : List Item
 job_2026-items = Begin 1 ∷ Return 1 Accepted ∷ Begin 2 ∷ Return 2 Accepted ∷ Begin 3 ∷ Return 3 Accepted ∷ Begin 4 ∷ Return 4 Accepted ∷ Begin 5 ∷ Return 5 Accepted ∷ Enter (call_in 0 1) Normal (record { 0 = 0 }) None ∷ Back (call_in 0 1) (record { 0 = 3 }) ∷ BackEnd (call_in 0 1) (record { 0 = 3 }) ∷ Back (call_in 0 1) (record { 0 = 0 }) ∷ Enter (call_in 0 2) Irq (record { 0 = 0 }) (Some (call_in 0 1)) ∷ Back (call_in 0 2) (record { 0 = 3 }) ∷ BackEnd (call_in 0 2) (record { 0 = 3 }) ∷ Back (call_in 0 2) (record { 0 = 0 }) ∷ Miss (call_in 0 2) (record { 0 = 0 }) ∷ BackEnd (call_in 0 2) (record { 0 = 0 }) ∷ Body (call_in 0 2) (record { 0 = 0 }) ByList ∷ Leave (call_in 0 2) ∷ Ret (call_in 0 2) (Some (call_in 0 1)) ∷ BackEnd (call_in 0 1) (record { 0 = 0 }) ∷ Body (call_in 0 1) (record { 0 = 0 }) ByList ∷ Leave (call_in 0 1) ∷ Ret (call_in 0 1) None ∷ Enter (call_in 0 3) Normal (record { 0 = 0 }) None ∷ Back (call_in 0 3) (record { 0 = 3 }) ∷ BackEnd (call_in 0 3) (record { 0 = 3 }) ∷ Back (call_in 0 3) (record { 0 = 0 }) ∷ Enter (call_in 0 4) Irq (record { 0 = 0 }) (Some (call_in 0 3)) ∷ Back (call_in 0 4) (record { 0 = 3 }) ∷ BackEnd (call_in 0 4) (record { 0 = 3 }) ∷ Back (call_in 0 4) (record { 0 = 0 }) ∷ Miss (call_in 0 4) (record { 0 = 0 }) ∷ BackEnd (call_in 0 4) (record { 0 = 0 }) ∷ Body (call_in 0 4) (record { 0 = 0 }) ByList ∷ Leave (call_in 0 4) ∷ Ret (call_in 0 4) (Some (call_in 0 3)) ∷ BackEnd (call_in 0 3) (record { 0 = 0 }) ∷ Body (call_in 0 3) (record { 0 = 0 }) ByList ∷ Leave (call_in 0 3) ∷ Ret (call_in 0 3) None ∷ []
 
 pub job_2026-plays : Plays job_2026 job_2026-items true
-unfolding actors_of repeated start step run played play is_over control_next control_got cpu_next cpu_got insn desk
+unfolding actors_of repeated start step run played play all_end control_next control_got cpu_next cpu_got insn desk
 job_2026-plays = (refl, refl)
 
 abbrev pub job_2027 : Job
@@ -136,7 +137,7 @@ abbrev pub job_2027-items : List Item
 job_2027-items = Enter (call_in 0 1) Normal (record { 0 = 0 }) None ∷ Body (call_in 0 1) (record { 0 = 0 }) Nop ∷ Leave (call_in 0 1) ∷ Ret (call_in 0 1) None ∷ Begin 1 ∷ Return 1 NotThere ∷ Begin 2 ∷ Return 2 NotThere ∷ Begin 3 ∷ Enter (call_in 2 1) Normal (record { 0 = 0 }) None ∷ Body (call_in 2 1) (record { 0 = 0 }) Nop ∷ Enter (call_in 2 2) Normal (record { 0 = 0 }) (Some (call_in 2 1)) ∷ Return 3 Accepted ∷ Begin 4 ∷ Body (call_in 2 2) (record { 0 = 0 }) Nop ∷ Leave (call_in 2 2) ∷ Ret (call_in 2 2) (Some (call_in 2 1)) ∷ Leave (call_in 2 1) ∷ Ret (call_in 2 1) None ∷ Enter (call_in 1 1) Normal (record { 0 = 0 }) None ∷ Body (call_in 1 1) (record { 0 = 0 }) Nop ∷ Enter (call_in 1 2) Nmi (record { 0 = 0 }) (Some (call_in 1 1)) ∷ Body (call_in 1 2) (record { 0 = 0 }) Nop ∷ Enter (call_in 1 3) Nmi (record { 0 = 0 }) (Some (call_in 1 2)) ∷ Return 4 Accepted ∷ Body (call_in 1 3) (record { 0 = 0 }) Nop ∷ Enter (call_in 1 4) Nmi (record { 0 = 0 }) (Some (call_in 1 3)) ∷ Body (call_in 1 4) (record { 0 = 0 }) Nop ∷ Leave (call_in 1 4) ∷ Ret (call_in 1 4) (Some (call_in 1 3)) ∷ Leave (call_in 1 3) ∷ Ret (call_in 1 3) (Some (call_in 1 2)) ∷ Leave (call_in 1 2) ∷ Ret (call_in 1 2) (Some (call_in 1 1)) ∷ Leave (call_in 1 1) ∷ Ret (call_in 1 1) None ∷ []
 
 pub job_2027-plays : Plays job_2027 job_2027-items true
-unfolding actors_of repeated start step run played play is_over control_next control_got cpu_next cpu_got insn desk
+unfolding actors_of repeated start step run played play all_end control_next control_got cpu_next cpu_got insn desk
 job_2027-plays = (refl, refl)
 
 abbrev pub job_2028 : Job
@@ -146,7 +147,7 @@ abbrev pub job_2028-items : List Item
 job_2028-items = Enter (call_in 0 1) Softirq (record { 0 = 1 }) None ∷ Body (call_in 0 1) (record { 0 = 1 }) Nop ∷ Begin 1 ∷ Enter (call_in 0 2) Irq (record { 0 = 0 }) (Some (call_in 0 1)) ∷ Back (call_in 0 2) (record { 0 = 1 }) ∷ Enter (call_in 0 3) Irq (record { 0 = 0 }) (Some (call_in 0 2)) ∷ Refuse (call_in 0 3) (record { 0 = 1 }) Recursion ∷ Body (call_in 0 3) (record { 0 = 0 }) (Own (record { 0 = 1 })) ∷ Leave (call_in 0 3) ∷ Ret (call_in 0 3) (Some (call_in 0 2)) ∷ BackEnd (call_in 0 2) (record { 0 = 1 }) ∷ Body (call_in 0 2) (record { 0 = 0 }) (Own (record { 0 = 1 })) ∷ Leave (call_in 0 2) ∷ Ret (call_in 0 2) (Some (call_in 0 1)) ∷ Enter (call_in 0 4) Irq (record { 0 = 1 }) (Some (call_in 0 1)) ∷ Back (call_in 0 4) (record { 0 = 1 }) ∷ Enter (call_in 0 5) Irq (record { 0 = 0 }) (Some (call_in 0 4)) ∷ Refuse (call_in 0 5) (record { 0 = 1 }) Recursion ∷ Body (call_in 0 5) (record { 0 = 0 }) (Own (record { 0 = 1 })) ∷ Leave (call_in 0 5) ∷ Ret (call_in 0 5) (Some (call_in 0 4)) ∷ BackEnd (call_in 0 4) (record { 0 = 1 }) ∷ Body (call_in 0 4) (record { 0 = 1 }) (Own (record { 0 = 1 })) ∷ Return 1 Accepted ∷ Leave (call_in 0 4) ∷ Begin 2 ∷ Ret (call_in 0 4) (Some (call_in 0 1)) ∷ Return 2 Already ∷ Begin 3 ∷ Leave (call_in 0 1) ∷ Ret (call_in 0 1) None ∷ Return 3 Accepted ∷ Begin 4 ∷ Return 4 Accepted ∷ Begin 5 ∷ Return 5 Accepted ∷ Begin 6 ∷ Return 6 Accepted ∷ Begin 7 ∷ Return 7 NotThere ∷ []
 
 pub job_2028-plays : Plays job_2028 job_2028-items true
-unfolding actors_of repeated start step run played play is_over control_next control_got cpu_next cpu_got insn desk
+unfolding actors_of repeated start step run played play all_end control_next control_got cpu_next cpu_got insn desk
 job_2028-plays = (refl, refl)
 
 abbrev pub job_2030 : Job
@@ -156,7 +157,7 @@ abbrev pub job_2030-items : List Item
 job_2030-items = Enter (call_in 1 1) Normal (record { 0 = 0 }) None ∷ Body (call_in 1 1) (record { 0 = 0 }) Nop ∷ Enter (call_in 1 2) Normal (record { 0 = 0 }) (Some (call_in 1 1)) ∷ Body (call_in 1 2) (record { 0 = 0 }) Nop ∷ Leave (call_in 1 2) ∷ Ret (call_in 1 2) (Some (call_in 1 1)) ∷ Begin 1 ∷ Return 1 NotThere ∷ Leave (call_in 1 1) ∷ Begin 2 ∷ Ret (call_in 1 1) None ∷ Return 2 Accepted ∷ Begin 3 ∷ Return 3 NotThere ∷ Begin 4 ∷ Return 4 Accepted ∷ Begin 5 ∷ Enter (call_in 0 1) Softirq (record { 0 = 0 }) None ∷ Return 5 Accepted ∷ Body (call_in 0 1) (record { 0 = 0 }) Nop ∷ Begin 6 ∷ Return 6 NotThere ∷ Begin 7 ∷ Leave (call_in 0 1) ∷ Ret (call_in 0 1) None ∷ Enter (call_in 2 1) Irq (record { 0 = 2 }) None ∷ Body (call_in 2 1) (record { 0 = 2 }) Nop ∷ Enter (call_in 0 2) Normal (record { 0 = 0 }) None ∷ Body (call_in 0 2) (record { 0 = 0 }) Nop ∷ Enter (call_in 2 2) Nmi (record { 0 = 1 }) (Some (call_in 2 1)) ∷ Leave (call_in 0 2) ∷ Ret (call_in 0 2) None ∷ Back (call_in 2 2) (record { 0 = 3 }) ∷ BackEnd (call_in 2 2) (record { 0 = 3 }) ∷ Body (call_in 2 2) (record { 0 = 1 }) (Own (record { 0 = 3 })) ∷ Enter (call_in 2 3) Nmi (record { 0 = 0 }) (Some (call_in 2 2)) ∷ Back (call_in 2 3) (record { 0 = 3 }) ∷ BackEnd (call_in 2 3) (record { 0 = 3 }) ∷ Body (call_in 2 3) (record { 0 = 0 }) (Own (record { 0 = 3 })) ∷ Leave (call_in 2 3) ∷ Ret (call_in 2 3) (Some (call_in 2 2)) ∷ Leave (call_in 2 2) ∷ Ret (call_in 2 2) (Some (call_in 2 1)) ∷ Return 7 Accepted ∷ Leave (call_in 2 1) ∷ Ret (call_in 2 1) None ∷ []
 
 pub job_2030-plays : Plays job_2030 job_2030-items true
-unfolding actors_of repeated start step run played play is_over control_next control_got cpu_next cpu_got insn desk
+unfolding actors_of repeated start step run played play all_end control_next control_got cpu_next cpu_got insn desk
 job_2030-plays = (refl, refl)
 
 abbrev pub job_2033 : Job
@@ -166,7 +167,7 @@ abbrev pub job_2033-items : List Item
 job_2033-items = Begin 1 ∷ Return 1 NotThere ∷ Begin 2 ∷ Return 2 Accepted ∷ Begin 3 ∷ Enter (call_in 0 1) Nmi (record { 0 = 62 }) None ∷ Enter (call_in 1 1) Nmi (record { 0 = 64 }) None ∷ Body (call_in 1 1) (record { 0 = 64 }) Nop ∷ Enter (call_in 1 2) Nmi (record { 0 = 65 }) (Some (call_in 1 1)) ∷ Body (call_in 0 1) (record { 0 = 62 }) Nop ∷ Leave (call_in 0 1) ∷ Ret (call_in 0 1) None ∷ Body (call_in 1 2) (record { 0 = 65 }) Nop ∷ Leave (call_in 1 2) ∷ Ret (call_in 1 2) (Some (call_in 1 1)) ∷ Leave (call_in 1 1) ∷ Ret (call_in 1 1) None ∷ Return 3 Accepted ∷ []
 
 pub job_2033-plays : Plays job_2033 job_2033-items true
-unfolding actors_of repeated start step run played play is_over control_next control_got cpu_next cpu_got insn desk
+unfolding actors_of repeated start step run played play all_end control_next control_got cpu_next cpu_got insn desk
 job_2033-plays = (refl, refl)
 
 abbrev pub job_2034 : Job
@@ -176,7 +177,7 @@ abbrev pub job_2034-items : List Item
 job_2034-items = Begin 1 ∷ Return 1 Accepted ∷ Begin 2 ∷ Return 2 NotThere ∷ Enter (call_in 0 1) Irq (record { 0 = 0 }) None ∷ Enter (call_in 1 1) Irq (record { 0 = 0 }) None ∷ Body (call_in 0 1) (record { 0 = 0 }) Nop ∷ Leave (call_in 0 1) ∷ Ret (call_in 0 1) None ∷ Body (call_in 1 1) (record { 0 = 0 }) Nop ∷ Leave (call_in 1 1) ∷ Enter (call_in 0 2) Normal (record { 0 = 0 }) None ∷ Body (call_in 0 2) (record { 0 = 0 }) Nop ∷ Ret (call_in 1 1) None ∷ Enter (call_in 1 2) Irq (record { 0 = 0 }) None ∷ Enter (call_in 0 3) Normal (record { 0 = 0 }) (Some (call_in 0 2)) ∷ Body (call_in 0 3) (record { 0 = 0 }) Nop ∷ Body (call_in 1 2) (record { 0 = 0 }) Nop ∷ Enter (call_in 1 3) Irq (record { 0 = 0 }) (Some (call_in 1 2)) ∷ Body (call_in 1 3) (record { 0 = 0 }) Nop ∷ Enter (call_in 0 4) Normal (record { 0 = 0 }) (Some (call_in 0 3)) ∷ Body (call_in 0 4) (record { 0 = 0 }) Nop ∷ Leave (call_in 1 3) ∷ Ret (call_in 1 3) (Some (call_in 1 2)) ∷ Leave (call_in 1 2) ∷ Ret (call_in 1 2) None ∷ Enter (call_in 0 5) Normal (record { 0 = 0 }) (Some (call_in 0 4)) ∷ Body (call_in 0 5) (record { 0 = 0 }) Nop ∷ Begin 3 ∷ Enter (call_in 0 6) Normal (record { 0 = 0 }) (Some (call_in 0 5)) ∷ Body (call_in 0 6) (record { 0 = 0 }) Nop ∷ Leave (call_in 0 6) ∷ Ret (call_in 0 6) (Some (call_in 0 5)) ∷ Leave (call_in 0 5) ∷ Ret (call_in 0 5) (Some (call_in 0 4)) ∷ Leave (call_in 0 4) ∷ Ret (call_in 0 4) (Some (call_in 0 3)) ∷ Leave (call_in 0 3) ∷ Ret (call_in 0 3) (Some (call_in 0 2)) ∷ Leave (call_in 0 2) ∷ Ret (call_in 0 2) None ∷ Return 3 Accepted ∷ []
 
 pub job_2034-plays : Plays job_2034 job_2034-items true
-unfolding actors_of repeated start step run played play is_over control_next control_got cpu_next cpu_got insn desk
+unfolding actors_of repeated start step run played play all_end control_next control_got cpu_next cpu_got insn desk
 job_2034-plays = (refl, refl)
 
 abbrev pub job_2035 : Job
@@ -186,7 +187,7 @@ abbrev pub job_2035-items : List Item
 job_2035-items = Begin 1 ∷ Return 1 NotThere ∷ Begin 2 ∷ Return 2 Accepted ∷ Begin 3 ∷ Return 3 NotThere ∷ Enter (call_in 0 1) Nmi (record { 0 = 62 }) None ∷ Back (call_in 0 1) (record { 0 = 1 }) ∷ BackEnd (call_in 0 1) (record { 0 = 1 }) ∷ Body (call_in 0 1) (record { 0 = 62 }) (Own (record { 0 = 1 })) ∷ Enter (call_in 0 2) Nmi (record { 0 = 63 }) (Some (call_in 0 1)) ∷ Back (call_in 0 2) (record { 0 = 1 }) ∷ BackEnd (call_in 0 2) (record { 0 = 1 }) ∷ Body (call_in 0 2) (record { 0 = 63 }) (Own (record { 0 = 1 })) ∷ Leave (call_in 0 2) ∷ Ret (call_in 0 2) (Some (call_in 0 1)) ∷ Enter (call_in 0 3) Nmi (record { 0 = 64 }) (Some (call_in 0 1)) ∷ Back (call_in 0 3) (record { 0 = 1 }) ∷ BackEnd (call_in 0 3) (record { 0 = 1 }) ∷ Body (call_in 0 3) (record { 0 = 64 }) (Own (record { 0 = 1 })) ∷ Enter (call_in 1 1) Normal (record { 0 = 63 }) None ∷ Back (call_in 1 1) (record { 0 = 1 }) ∷ Enter (call_in 1 2) Irq (record { 0 = 62 }) (Some (call_in 1 1)) ∷ Back (call_in 1 2) (record { 0 = 1 }) ∷ BackEnd (call_in 1 2) (record { 0 = 1 }) ∷ Body (call_in 1 2) (record { 0 = 62 }) (Own (record { 0 = 1 })) ∷ Leave (call_in 1 2) ∷ Ret (call_in 1 2) (Some (call_in 1 1)) ∷ BackEnd (call_in 1 1) (record { 0 = 1 }) ∷ Body (call_in 1 1) (record { 0 = 63 }) (Own (record { 0 = 1 })) ∷ Leave (call_in 1 1) ∷ Ret (call_in 1 1) None ∷ Leave (call_in 0 3) ∷ Ret (call_in 0 3) (Some (call_in 0 1)) ∷ Leave (call_in 0 1) ∷ Ret (call_in 0 1) None ∷ []
 
 pub job_2035-plays : Plays job_2035 job_2035-items true
-unfolding actors_of repeated start step run played play is_over control_next control_got cpu_next cpu_got insn desk
+unfolding actors_of repeated start step run played play all_end control_next control_got cpu_next cpu_got insn desk
 job_2035-plays = (refl, refl)
 
 abbrev pub job_2037 : Job
@@ -196,7 +197,7 @@ abbrev pub job_2037-items : List Item
 job_2037-items = Begin 1 ∷ Enter (call_in 0 1) Normal (record { 0 = 62 }) None ∷ Return 1 Accepted ∷ Body (call_in 0 1) (record { 0 = 62 }) Nop ∷ Leave (call_in 0 1) ∷ Ret (call_in 0 1) None ∷ Enter (call_in 1 1) Softirq (record { 0 = 62 }) None ∷ Body (call_in 1 1) (record { 0 = 62 }) Nop ∷ Enter (call_in 1 2) Softirq (record { 0 = 62 }) (Some (call_in 1 1)) ∷ Body (call_in 1 2) (record { 0 = 62 }) Nop ∷ Enter (call_in 1 3) Softirq (record { 0 = 62 }) (Some (call_in 1 2)) ∷ Body (call_in 1 3) (record { 0 = 62 }) Nop ∷ Leave (call_in 1 3) ∷ Ret (call_in 1 3) (Some (call_in 1 2)) ∷ Leave (call_in 1 2) ∷ Ret (call_in 1 2) (Some (call_in 1 1)) ∷ Leave (call_in 1 1) ∷ Ret (call_in 1 1) None ∷ Begin 2 ∷ Return 2 Accepted ∷ Begin 3 ∷ Return 3 NotThere ∷ Begin 4 ∷ Return 4 Accepted ∷ []
 
 pub job_2037-plays : Plays job_2037 job_2037-items true
-unfolding actors_of repeated start step run played play is_over control_next control_got cpu_next cpu_got insn desk
+unfolding actors_of repeated start step run played play all_end control_next control_got cpu_next cpu_got insn desk
 job_2037-plays = (refl, refl)
 
 abbrev pub job_2038 : Job
@@ -206,7 +207,7 @@ abbrev pub job_2038-items : List Item
 job_2038-items = Begin 1 ∷ Return 1 Accepted ∷ Begin 2 ∷ Return 2 Accepted ∷ Begin 3 ∷ Return 3 Accepted ∷ Begin 4 ∷ Enter (call_in 0 1) Irq (record { 0 = 0 }) None ∷ Body (call_in 0 1) (record { 0 = 0 }) Nop ∷ Leave (call_in 0 1) ∷ Ret (call_in 0 1) None ∷ Return 4 Accepted ∷ Begin 5 ∷ Return 5 Accepted ∷ []
 
 pub job_2038-plays : Plays job_2038 job_2038-items true
-unfolding actors_of repeated start step run played play is_over control_next control_got cpu_next cpu_got insn desk
+unfolding actors_of repeated start step run played play all_end control_next control_got cpu_next cpu_got insn desk
 job_2038-plays = (refl, refl)
 
 abbrev pub job_2039 : Job
@@ -216,7 +217,7 @@ abbrev pub job_2039-items : List Item
 job_2039-items = Begin 1 ∷ Return 1 NotThere ∷ Begin 2 ∷ Return 2 Accepted ∷ Begin 3 ∷ Return 3 Invalid ∷ Begin 4 ∷ Return 4 NotThere ∷ Begin 5 ∷ Return 5 Accepted ∷ Begin 6 ∷ Return 6 Accepted ∷ Begin 7 ∷ Return 7 Accepted ∷ Enter (call_in 0 1) Irq (record { 0 = 1 }) None ∷ Enter (call_in 1 1) Nmi (record { 0 = 3 }) None ∷ Back (call_in 0 1) (record { 0 = 1 }) ∷ Enter (call_in 0 2) Irq (record { 0 = 3 }) (Some (call_in 0 1)) ∷ Refuse (call_in 0 2) (record { 0 = 1 }) Recursion ∷ Back (call_in 1 1) (record { 0 = 1 }) ∷ Enter (call_in 1 2) Nmi (record { 0 = 3 }) (Some (call_in 1 1)) ∷ Body (call_in 0 2) (record { 0 = 3 }) (Own (record { 0 = 1 })) ∷ Leave (call_in 0 2) ∷ Ret (call_in 0 2) (Some (call_in 0 1)) ∷ BackEnd (call_in 0 1) (record { 0 = 1 }) ∷ Body (call_in 0 1) (record { 0 = 1 }) (Own (record { 0 = 1 })) ∷ Refuse (call_in 1 2) (record { 0 = 1 }) Recursion ∷ Body (call_in 1 2) (record { 0 = 3 }) (Own (record { 0 = 1 })) ∷ Leave (call_in 1 2) ∷ Leave (call_in 0 1) ∷ Exit (call_in 0 1) (record { 0 = 1 }) 16 ∷ Ret (call_in 1 2) (Some (call_in 1 1)) ∷ BackEnd (call_in 1 1) (record { 0 = 1 }) ∷ Body (call_in 1 1) (record { 0 = 3 }) (Own (record { 0 = 1 })) ∷ ExitEnd (call_in 0 1) (record { 0 = 1 }) ∷ Ret (call_in 0 1) None ∷ Enter (call_in 1 3) Nmi (record { 0 = 2 }) (Some (call_in 1 1)) ∷ Enter (call_in 0 3) Irq (record { 0 = 3 }) None ∷ Refuse (call_in 1 3) (record { 0 = 1 }) Depth ∷ Body (call_in 1 3) (record { 0 = 2 }) (Own (record { 0 = 1 })) ∷ Back (call_in 0 3) (record { 0 = 1 }) ∷ Enter (call_in 0 4) Irq (record { 0 = 3 }) (Some (call_in 0 3)) ∷ Enter (call_in 1 4) Nmi (record { 0 = 1 }) (Some (call_in 1 3)) ∷ Refuse (call_in 0 4) (record { 0 = 1 }) Recursion ∷ Body (call_in 0 4) (record { 0 = 3 }) (Own (record { 0 = 1 })) ∷ Leave (call_in 0 4) ∷ Ret (call_in 0 4) (Some (call_in 0 3)) ∷ Refuse (call_in 1 4) (record { 0 = 1 }) Depth ∷ Body (call_in 1 4) (record { 0 = 1 }) (Own (record { 0 = 1 })) ∷ BackEnd (call_in 0 3) (record { 0 = 1 }) ∷ Body (call_in 0 3) (record { 0 = 3 }) (Own (record { 0 = 1 })) ∷ Leave (call_in 1 4) ∷ Ret (call_in 1 4) (Some (call_in 1 3)) ∷ Leave (call_in 0 3) ∷ Exit (call_in 0 3) (record { 0 = 1 }) 40 ∷ Leave (call_in 1 3) ∷ Ret (call_in 1 3) (Some (call_in 1 1)) ∷ ExitEnd (call_in 0 3) (record { 0 = 1 }) ∷ Ret (call_in 0 3) None ∷ Leave (call_in 1 1) ∷ Exit (call_in 1 1) (record { 0 = 1 }) 19 ∷ ExitEnd (call_in 1 1) (record { 0 = 1 }) ∷ Ret (call_in 1 1) None ∷ []
 
 pub job_2039-plays : Plays job_2039 job_2039-items true
-unfolding actors_of repeated start step run played play is_over control_next control_got cpu_next cpu_got insn desk
+unfolding actors_of repeated start step run played play all_end control_next control_got cpu_next cpu_got insn desk
 job_2039-plays = (refl, refl)
 
 abbrev pub job_2041 : Job
@@ -226,7 +227,7 @@ abbrev pub job_2041-items : List Item
 job_2041-items = Begin 1 ∷ Return 1 Accepted ∷ Begin 2 ∷ Return 2 NotThere ∷ Begin 3 ∷ Return 3 NotThere ∷ Begin 4 ∷ Enter (call_in 0 1) Normal (record { 0 = 0 }) None ∷ Body (call_in 0 1) (record { 0 = 0 }) Nop ∷ Enter (call_in 0 2) Nmi (record { 0 = 0 }) (Some (call_in 0 1)) ∷ Return 4 Accepted ∷ Body (call_in 0 2) (record { 0 = 0 }) Nop ∷ Leave (call_in 0 2) ∷ Ret (call_in 0 2) (Some (call_in 0 1)) ∷ Leave (call_in 0 1) ∷ Ret (call_in 0 1) None ∷ []
 
 pub job_2041-plays : Plays job_2041 job_2041-items true
-unfolding actors_of repeated start step run played play is_over control_next control_got cpu_next cpu_got insn desk
+unfolding actors_of repeated start step run played play all_end control_next control_got cpu_next cpu_got insn desk
 job_2041-plays = (refl, refl)
 
 abbrev pub job_2042 : Job
@@ -236,7 +237,7 @@ abbrev pub job_2042-items : List Item
 job_2042-items = Begin 1 ∷ Return 1 NotThere ∷ Begin 2 ∷ Return 2 Accepted ∷ Begin 3 ∷ Return 3 NotThere ∷ Begin 4 ∷ Return 4 Accepted ∷ Begin 5 ∷ Return 5 NotThere ∷ Begin 6 ∷ Return 6 NotThere ∷ Enter (call_in 0 1) Normal (record { 0 = 1 }) None ∷ Body (call_in 0 1) (record { 0 = 1 }) Nop ∷ Enter (call_in 0 2) Normal (record { 0 = 2 }) (Some (call_in 0 1)) ∷ Enter (call_in 1 1) Softirq (record { 0 = 1 }) None ∷ Body (call_in 1 1) (record { 0 = 1 }) Nop ∷ Body (call_in 0 2) (record { 0 = 2 }) Nop ∷ Leave (call_in 0 2) ∷ Enter (call_in 1 2) Softirq (record { 0 = 2 }) (Some (call_in 1 1)) ∷ Body (call_in 1 2) (record { 0 = 2 }) Nop ∷ Leave (call_in 1 2) ∷ Ret (call_in 0 2) (Some (call_in 0 1)) ∷ Leave (call_in 0 1) ∷ Ret (call_in 0 1) None ∷ Ret (call_in 1 2) (Some (call_in 1 1)) ∷ Enter (call_in 1 3) Softirq (record { 0 = 1 }) (Some (call_in 1 1)) ∷ Body (call_in 1 3) (record { 0 = 1 }) Nop ∷ Leave (call_in 1 3) ∷ Ret (call_in 1 3) (Some (call_in 1 1)) ∷ Enter (call_in 1 4) Irq (record { 0 = 2 }) (Some (call_in 1 1)) ∷ Body (call_in 1 4) (record { 0 = 2 }) Nop ∷ Leave (call_in 1 4) ∷ Ret (call_in 1 4) (Some (call_in 1 1)) ∷ Leave (call_in 1 1) ∷ Ret (call_in 1 1) None ∷ []
 
 pub job_2042-plays : Plays job_2042 job_2042-items true
-unfolding actors_of repeated start step run played play is_over control_next control_got cpu_next cpu_got insn desk
+unfolding actors_of repeated start step run played play all_end control_next control_got cpu_next cpu_got insn desk
 job_2042-plays = (refl, refl)
 
 abbrev pub job_2043 : Job
@@ -246,7 +247,7 @@ abbrev pub job_2043-items : List Item
 job_2043-items = Begin 1 ∷ Return 1 Accepted ∷ Begin 2 ∷ Return 2 Accepted ∷ Begin 3 ∷ Return 3 NotThere ∷ Begin 4 ∷ Enter (call_in 2 1) Normal (record { 0 = 3 }) None ∷ Body (call_in 2 1) (record { 0 = 3 }) (Own (record { 0 = 1 })) ∷ Leave (call_in 2 1) ∷ Ret (call_in 2 1) None ∷ Return 4 Accepted ∷ Enter (call_in 2 2) Normal (record { 0 = 1 }) None ∷ Body (call_in 2 2) (record { 0 = 1 }) Nop ∷ Enter (call_in 2 3) Normal (record { 0 = 1 }) (Some (call_in 2 2)) ∷ Enter (call_in 0 1) Softirq (record { 0 = 2 }) None ∷ Body (call_in 2 3) (record { 0 = 1 }) Nop ∷ Body (call_in 0 1) (record { 0 = 2 }) Nop ∷ Leave (call_in 2 3) ∷ Ret (call_in 2 3) (Some (call_in 2 2)) ∷ Leave (call_in 2 2) ∷ Ret (call_in 2 2) None ∷ Enter (call_in 0 2) Nmi (record { 0 = 2 }) (Some (call_in 0 1)) ∷ Body (call_in 0 2) (record { 0 = 2 }) Nop ∷ Enter (call_in 0 3) Nmi (record { 0 = 0 }) (Some (call_in 0 2)) ∷ Body (call_in 0 3) (record { 0 = 0 }) Nop ∷ Leave (call_in 0 3) ∷ Ret (call_in 0 3) (Some (call_in 0 2)) ∷ Leave (call_in 0 2) ∷ Ret (call_in 0 2) (Some (call_in 0 1)) ∷ Leave (call_in 0 1) ∷ Ret (call_in 0 1) None ∷ []
 
 pub job_2043-plays : Plays job_2043 job_2043-items true
-unfolding actors_of repeated start step run played play is_over control_next control_got cpu_next cpu_got insn desk
+unfolding actors_of repeated start step run played play all_end control_next control_got cpu_next cpu_got insn desk
 job_2043-plays = (refl, refl)
 
 abbrev pub job_2045 : Job
@@ -256,7 +257,7 @@ abbrev pub job_2045-items : List Item
 job_2045-items = Begin 1 ∷ Return 1 Accepted ∷ Begin 2 ∷ Return 2 Accepted ∷ Begin 3 ∷ Return 3 Accepted ∷ Begin 4 ∷ Enter (call_in 0 1) Normal (record { 0 = 63 }) None ∷ Body (call_in 0 1) (record { 0 = 63 }) Nop ∷ Enter (call_in 1 1) Normal (record { 0 = 62 }) None ∷ Enter (call_in 0 2) Normal (record { 0 = 63 }) (Some (call_in 0 1)) ∷ Body (call_in 1 1) (record { 0 = 62 }) Nop ∷ Body (call_in 0 2) (record { 0 = 63 }) Nop ∷ Leave (call_in 1 1) ∷ Ret (call_in 1 1) None ∷ Enter (call_in 0 3) Normal (record { 0 = 62 }) (Some (call_in 0 2)) ∷ Body (call_in 0 3) (record { 0 = 62 }) Nop ∷ Enter (call_in 0 4) Normal (record { 0 = 62 }) (Some (call_in 0 3)) ∷ Body (call_in 0 4) (record { 0 = 62 }) Nop ∷ Leave (call_in 0 4) ∷ Ret (call_in 0 4) (Some (call_in 0 3)) ∷ Leave (call_in 0 3) ∷ Ret (call_in 0 3) (Some (call_in 0 2)) ∷ Leave (call_in 0 2) ∷ Ret (call_in 0 2) (Some (call_in 0 1)) ∷ Leave (call_in 0 1) ∷ Ret (call_in 0 1) None ∷ Return 4 Accepted ∷ Enter (call_in 1 2) Normal (record { 0 = 62 }) None ∷ Back (call_in 1 2) (record { 0 = 2 }) ∷ BackEnd (call_in 1 2) (record { 0 = 2 }) ∷ Body (call_in 1 2) (record { 0 = 62 }) ByList ∷ Enter (call_in 1 3) Normal (record { 0 = 62 }) (Some (call_in 1 2)) ∷ Refuse (call_in 1 3) (record { 0 = 2 }) Depth ∷ Body (call_in 1 3) (record { 0 = 62 }) ByList ∷ Enter (call_in 1 4) Irq (record { 0 = 63 }) (Some (call_in 1 3)) ∷ Refuse (call_in 1 4) (record { 0 = 2 }) Depth ∷ Body (call_in 1 4) (record { 0 = 63 }) ByList ∷ Leave (call_in 1 4) ∷ Ret (call_in 1 4) (Some (call_in 1 3)) ∷ Leave (call_in 1 3) ∷ Ret (call_in 1 3) (Some (call_in 1 2)) ∷ Leave (call_in 1 2) ∷ Exit (call_in 1 2) (record { 0 = 2 }) 29 ∷ ExitEnd (call_in 1 2) (record { 0 = 2 }) ∷ Ret (call_in 1 2) None ∷ []
 
 pub job_2045-plays : Plays job_2045 job_2045-items true
-unfolding actors_of repeated start step run played play is_over control_next control_got cpu_next cpu_got insn desk
+unfolding actors_of repeated start step run played play all_end control_next control_got cpu_next cpu_got insn desk
 job_2045-plays = (refl, refl)
 
 abbrev pub job_2048 : Job
@@ -266,5 +267,5 @@ abbrev pub job_2048-items : List Item
 job_2048-items = Enter (call_in 0 1) Normal (record { 0 = 1 }) None ∷ Body (call_in 0 1) (record { 0 = 1 }) Nop ∷ Leave (call_in 0 1) ∷ Ret (call_in 0 1) None ∷ Enter (call_in 0 2) Normal (record { 0 = 0 }) None ∷ Begin 1 ∷ Body (call_in 0 2) (record { 0 = 0 }) Nop ∷ Enter (call_in 0 3) Normal (record { 0 = 0 }) (Some (call_in 0 2)) ∷ Back (call_in 0 3) (record { 0 = 0 }) ∷ BackEnd (call_in 0 3) (record { 0 = 0 }) ∷ Body (call_in 0 3) (record { 0 = 0 }) (Own (record { 0 = 0 })) ∷ Enter (call_in 0 4) Normal (record { 0 = 2 }) (Some (call_in 0 3)) ∷ Back (call_in 0 4) (record { 0 = 0 }) ∷ BackEnd (call_in 0 4) (record { 0 = 0 }) ∷ Body (call_in 0 4) (record { 0 = 2 }) (Own (record { 0 = 0 })) ∷ Leave (call_in 0 4) ∷ Ret (call_in 0 4) (Some (call_in 0 3)) ∷ Return 1 Accepted ∷ Begin 2 ∷ Return 2 Accepted ∷ Begin 3 ∷ Return 3 Accepted ∷ Leave (call_in 0 3) ∷ Ret (call_in 0 3) (Some (call_in 0 2)) ∷ Leave (call_in 0 2) ∷ Ret (call_in 0 2) None ∷ Enter (call_in 1 1) Irq (record { 0 = 0 }) None ∷ Enter (call_in 2 1) Normal (record { 0 = 1 }) None ∷ Body (call_in 2 1) (record { 0 = 1 }) (Own (record { 0 = 0 })) ∷ Body (call_in 1 1) (record { 0 = 0 }) (Own (record { 0 = 0 })) ∷ Enter (call_in 1 2) Irq (record { 0 = 2 }) (Some (call_in 1 1)) ∷ Enter (call_in 2 2) Normal (record { 0 = 0 }) (Some (call_in 2 1)) ∷ Body (call_in 2 2) (record { 0 = 0 }) (Own (record { 0 = 0 })) ∷ Body (call_in 1 2) (record { 0 = 2 }) (Own (record { 0 = 0 })) ∷ Enter (call_in 1 3) Irq (record { 0 = 0 }) (Some (call_in 1 2)) ∷ Enter (call_in 2 3) Normal (record { 0 = 0 }) (Some (call_in 2 2)) ∷ Body (call_in 1 3) (record { 0 = 0 }) (Own (record { 0 = 0 })) ∷ Leave (call_in 1 3) ∷ Ret (call_in 1 3) (Some (call_in 1 2)) ∷ Body (call_in 2 3) (record { 0 = 0 }) (Own (record { 0 = 0 })) ∷ Leave (call_in 1 2) ∷ Ret (call_in 1 2) (Some (call_in 1 1)) ∷ Leave (call_in 1 1) ∷ Ret (call_in 1 1) None ∷ Enter (call_in 2 4) Softirq (record { 0 = 2 }) (Some (call_in 2 3)) ∷ Body (call_in 2 4) (record { 0 = 2 }) (Own (record { 0 = 0 })) ∷ Enter (call_in 2 5) Softirq (record { 0 = 0 }) (Some (call_in 2 4)) ∷ Body (call_in 2 5) (record { 0 = 0 }) (Own (record { 0 = 0 })) ∷ Leave (call_in 2 5) ∷ Ret (call_in 2 5) (Some (call_in 2 4)) ∷ Leave (call_in 2 4) ∷ Ret (call_in 2 4) (Some (call_in 2 3)) ∷ Leave (call_in 2 3) ∷ Ret (call_in 2 3) (Some (call_in 2 2)) ∷ Leave (call_in 2 2) ∷ Ret (call_in 2 2) (Some (call_in 2 1)) ∷ Leave (call_in 2 1) ∷ Ret (call_in 2 1) None ∷ []
 
 pub job_2048-plays : Plays job_2048 job_2048-items true
-unfolding actors_of repeated start step run played play is_over control_next control_got cpu_next cpu_got insn desk
+unfolding actors_of repeated start step run played play all_end control_next control_got cpu_next cpu_got insn desk
 job_2048-plays = (refl, refl)

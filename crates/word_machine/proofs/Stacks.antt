@@ -14,8 +14,9 @@ use Rattle.ft_hist.proofs.Since.{Untouched, untouched-item, touches, holding, ho
 use Rattle.ft_hist.proofs.HeldLaws.{opens as opens-law, Opens, held-is}
 use Rattle.plain_machine.specs.State.{is_held}
 use Rattle.word_machine.specs.Task.{OpenCall, TaskState, Moment, guards_under, level_of, around, user_of}
-use Rattle.word_machine.specs.Calls.{Here, Calls, under_by, under_call}
-use Rattle.word_machine.specs.Rule.{RunsAt, plain_stack, callbacks_at}
+use Rattle.word_machine.specs.Verdicts.{Here}
+use Rattle.word_machine.specs.Calls.{Calls, under_by, under_call}
+use Rattle.word_machine.specs.Tasks.{RunsAt, plain_stack, callbacks_at}
 use Rattle.word_machine.proofs.HistCarried.{of_task}
 
 abbrev pub calls_of : List OpenCall → List CallNo
@@ -40,7 +41,8 @@ pub not_same : (call c : CallNo) → c.n < call.n → same_call call c ≡ false
 not_same call c lt = rw (ne_n c.n call.n lt) (and-false (call.task.0 == c.task.0))
 
 -- an item of a call with a greater number leaves these calls alone
-pub older_untouched : (job : Job) (past : List Item) (call : CallNo) (item : Item) (stack : List OpenCall) → ((c : CallNo) → same_call call c ≡ false → touches c item ≡ false)
+pub older_untouched : (job : Job) (past : List Item) (call : CallNo) (item : Item) (stack : List OpenCall)
+    → ((c : CallNo) → same_call call c ≡ false → touches c item ≡ false)
     → Each (λ d. d.n < call.n) (calls_of stack) → Each (λ c. Untouched job c.call past (item ∷ past)) stack
 older_untouched job past call item [] touch h = tt
 older_untouched job past call item (c ∷ below) touch h =
@@ -48,11 +50,14 @@ older_untouched job past call item (c ∷ below) touch h =
 
 -- ## frames
 
-pub holding-level : (job : Job) (h : Here) (past : List Item) (ack q t : ℕ) (m : Moment) (stack : List OpenCall) → Calls job h past ack q t m stack → holding job past (calls_of stack) ≡ level_of stack
+pub holding-level : (job : Job) (h : Here) (past : List Item) (ack q t : ℕ) (m : Moment) (stack : List OpenCall) → Calls job h past ack q t m stack
+    → holding job past (calls_of stack) ≡ level_of stack
 holding-level job h past ack q t m [] k = refl
 holding-level job h past ack q t m (c ∷ below) k =
     let more = holding-level job h past ack q t (under_call c below) below k.2 in
-    rw k.0.holds (elim c.framed as (λ b. length (cond b (c.call ∷ filter (λ d. holds job past d) (calls_of below)) (filter (λ d. holds job past d) (calls_of below))) ≡ cond b (suc (level_of below)) (level_of below)) [
+    rw k.0.holds (elim c.framed as
+    (λ b. length (cond b (c.call ∷ filter (λ d. holds job past d) (calls_of below)) (filter (λ d. holds job past d) (calls_of below)))
+    ≡ cond b (suc (level_of below)) (level_of below)) [
       | true ↦ ap suc more
       | false ↦ more
     ])
@@ -68,18 +73,20 @@ held-level job h past ack q x c below m r st k =
 
 any-of_task : (t : ℕ) (y : Ctx) (bs : List Callback) → list_any (λ b. (b.call.task.0 == t) && is_ctx b.ctx y) bs ≡ list_any (λ b. is_ctx b.ctx y) (of_task t bs)
 any-of_task t y [] = refl
-any-of_task t y (b ∷ bs) = elim (b.call.task.0 == t) as (λ e. ((e && is_ctx b.ctx y) || list_any (λ b. (b.call.task.0 == t) && is_ctx b.ctx y) bs) ≡ list_any (λ b. is_ctx b.ctx y) (cond e (b ∷ of_task t bs) (of_task t bs))) [
-  | true ↦ ap (λ e. is_ctx b.ctx y || e) (any-of_task t y bs)
-  | false ↦ any-of_task t y bs
-]
+any-of_task t y (b ∷ bs) = elim (b.call.task.0 == t) as (λ e. ((e && is_ctx b.ctx y) || list_any (λ b. (b.call.task.0 == t) && is_ctx b.ctx y) bs)
+    ≡ list_any (λ b. is_ctx b.ctx y) (cond e (b ∷ of_task t bs) (of_task t bs))) [
+      | true ↦ ap (λ e. is_ctx b.ctx y || e) (any-of_task t y bs)
+      | false ↦ any-of_task t y bs
+    ]
 
-guards-below : (scripted : Bool) (u : ℕ) (y : Ctx) (stack : List OpenCall) → list_any (λ b. is_ctx b.ctx y) (callbacks_at (under_by scripted u) stack) ≡ is_held (guards_under scripted stack) y
+guards-below : (scripted : Bool) (u : ℕ) (y : Ctx) (stack : List OpenCall) → list_any (λ b. is_ctx b.ctx y) (callbacks_at (under_by scripted u) stack)
+    ≡ is_held (guards_under scripted stack) y
 guards-below true u y [] = refl
 guards-below true u y (c ∷ below) = guards-below c.scripted (user_of below) y below
 guards-below false u y [] = refl
 guards-below false u y (c ∷ below) = ap (λ e. same_ctx c.ctx y || e) (guards-below c.scripted (user_of below) y below)
 
--- a guard is held exactly where a callback of the task and context is open
+-- a guard is held exactly if a callback of the task and context is open
 pub guard-is : (past : List Item) (t : ℕ) (c : OpenCall) (below : List OpenCall) (y : Ctx)
     → of_task t (callbacks past) ≡ callbacks_at (under_call c below) below → is_in_callback t y past ≡ is_held (around c below).guards y
 guard-is past t c below y e = any-of_task t y (callbacks past) ∙ rw e (guards-below c.scripted (user_of below) y below)

@@ -1,9 +1,9 @@
--- What polls have told: at most a request, or the ending value of an actor that has no act left. And what a poll leaves to be done.
+-- What polls have told: at most a request, or the ending value of an actor that has no act left; and what a poll leaves to be done.
 use Rattle.std.proofs.Common.{◌≡◌, ℕ, ◌≤◌, Bool, true, false, List, ◌∙◌, sym, inl, inr, arith}
 use Rattle.ft_base.proofs.Small.{false_true}
 use Rattle.ft_base.specs.declared.task.TaskAct.{TaskAct}
 use Rattle.word_machine.specs.Task.{Moment, Polling, First, is_quiet}
-use Rattle.word_machine.specs.Rule.{HasTold, FirstAt}
+use Rattle.word_machine.specs.Tasks.{HasTold, FirstAt}
 
 -- an actor with acts left has told a request
 pub told-more : (request : ℕ) (more : Bool) (ending v : ℕ) → more ≡ true → HasTold request more ending v → v ≤ request

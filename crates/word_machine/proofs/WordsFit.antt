@@ -20,16 +20,17 @@ use Rattle.ft_base.proofs.Modifiers.{named-at}
 use Rattle.ft_base.specs.Marks.{Marks}
 use Rattle.site_set.specs.Marks.{number_of, word_of}
 use Rattle.plain_machine.specs.State.{has_acts}
-use Rattle.word_machine.specs.Words.{Word, Words, Clock, Want, First as ListHead, Pids, Depth, Head, Tail, Next, Ack, Quiet, Tramp, Link, Sel, Bits, put, bits_put, low, halves, half_size, most, all_ones, sel_of, set_word, mask_of, head_of, tail_of}
-use Rattle.word_machine.specs.Control.{Op, Load, Store, Mark, Sort, Adds, Removes, Edits, Enables, Disables, Lists, Levels, Nothing, Place, Line, Take, Copy, Select, Push, Relink, StorePids, StoreDepth, NextAt, BreakAt, Ask1, TailAt, Ask2, HeadAt, Ask3, AskQuiet, Release, next_in, line_op, relink_op, sort, control_next, subject, subject_in, command, state_of, insn, copy_after, name_of, follower}
-use Rattle.word_machine.specs.Task.{TaskState, is_quiet, quiet_word}
-use Rattle.word_machine.specs.Cpu.{Cpu, Phase, Going, StoringAck, StoringQuiet, Over, goes_on, ack_value, phase_op, going_op, present_op, cpu_next}
+use Rattle.word_machine.specs.Words.{Word, Words, Clock, Want, First as ListHead, Pids, Depth, Head, Tail, Next, Ack, Quiet, Tramp, Link, Sel, Bits, put, bits_put, low, halves, half_size, greatest_half, all_ones, sel_of, set_word, mask_of, head_of, tail_of}
+use Rattle.word_machine.specs.Commands.{Effect, Adds, Removes, Edits, Enables, Disables, Lists, Levels, Nothing, effect, subject, subject_in, command, state_of, insn}
+use Rattle.word_machine.specs.Control.{Op, Load, Store, Mark, Position, Line, Take, Copy, Select, Push, Relink, StorePids, StoreDepth, NextAt, BreakAt, Ask1, TailAt, Ask2, HeadAt, Ask3, AskQuiet, Release, next_in, line_op, relink_op, control_next, copy_after, name_of, follower}
+use Rattle.word_machine.specs.Task.{TaskState, is_quiet, quiet_word, OpenCall, Moment, Polling, First, call_op, first_op, stack_op}
+use Rattle.word_machine.specs.Cpu.{Cpu, Phase, Going, StoringAck, StoringQuiet, Over, any_has_more, ack_value, phase_op, going_op, present_op, cpu_next}
 use Rattle.word_machine.specs.Machine.{World, words_after, weight, control_moved, cpu_moved, step, run, start}
-use Rattle.word_machine.specs.Users.{list_desk}
-use Rattle.word_machine.specs.Rule.{Kept, PollAt, task_in}
-use Rattle.word_machine.specs.Promises.{IsLimited, Runs, IsLevel, AllFit}
+use Rattle.word_machine.specs.UserList.{list_desk}
+use Rattle.word_machine.specs.Rule.{MachineRule, PollAt, task_in}
+use Rattle.word_machine.specs.Laws.{IsLimited, Runs, IsLevel, AllFit}
 use Rattle.word_machine.proofs.Small.{if_case, put_case, has-more}
-use Rattle.word_machine.proofs.Sorts.{after_small}
+use Rattle.word_machine.proofs.Effects.{after_small}
 use Rattle.word_machine.proofs.DeskStart.{reg_at_start}
 use Rattle.word_machine.proofs.DeskChanges.{between, SubjectBy}
 use Rattle.word_machine.proofs.DeskNumbers.{registered-inside}
@@ -38,19 +39,20 @@ use Rattle.word_machine.proofs.PollRows.{request-small}
 use Rattle.word_machine.proofs.Growth.{step-grows}
 use Rattle.word_machine.proofs.Steps.{step_keeps}
 use Rattle.word_machine.proofs.Start.{opens}
-use Rattle.word_machine.specs.Grace.{under}
+use Rattle.word_machine.specs.Progress.{underway}
 use Rattle.ft_base.specs.declared.task.TaskAct.{TaskAct}
 use Rattle.ft_base.specs.declared.task.TaskAct.TheVariants.{Call, Ret as RetAct, Raise, Lower, After}
-use Rattle.word_machine.specs.Task.{OpenCall, Moment, Polling, First, call_op, first_op, stack_op}
 use Rattle.word_machine.proofs.Limited.{limited, few-commands}
 use Rattle.word_machine.proofs.Room.{small, step-frugal, start-frugal}
 use Rattle.std.proofs.lemmas.List.FromFn.{length-range_with_len}
-use Rattle.word_machine.specs.Costs.{Frugal}
+use Rattle.word_machine.specs.Costs.{WithinBudget}
 
 -- ## a store
 
-bits_fit : (g : ℕ → ℕ → ℕ → ℕ → ℕ) (u copy half w x v d h k : ℕ) → x < 18446744073709551616 → g v d h k < 18446744073709551616 → bits_put g u copy half w x v d h k < 18446744073709551616
-bits_fit g u copy half w x v d h k lt old = if_case (λ n. n < 18446744073709551616) ((v == u) && (d == copy) && (h == half) && (k == w)) x (g v d h k) (λ e. lt) (λ e. old)
+bits_fit : (g : ℕ → ℕ → ℕ → ℕ → ℕ) (u copy half w x v d h k : ℕ) → x < 18446744073709551616 → g v d h k < 18446744073709551616
+    → bits_put g u copy half w x v d h k < 18446744073709551616
+bits_fit g u copy half w x v d h k lt old = if_case (λ n. n < 18446744073709551616) ((v == u) && (d == copy) && (h == half) && (k == w)) x (g v d h k)
+    (λ e. lt) (λ e. old)
 
 put_fits : (w : Word) (x : ℕ) (ws : Words) → x < 18446744073709551616 → AllFit ws → AllFit (put w x ws)
 put_fits Clock x ws lt f Clock = lt
@@ -92,7 +94,8 @@ number-small : (n : ℕ) (bs : Marks) → length bs ≤ n → number_of bs < dou
 number-small zero [] le = omega arith
 number-small (suc n) [] le = (let h = number-small n [] (omega arith) in omega (arith, h))
 number-small zero (b ∷ bs) le = absurd (omega (arith, le))
-number-small (suc n) (b ∷ bs) le = (let h = number-small n bs (omega (arith, le)) in if_case (λ x. x + 2 * number_of bs < 2 * doubled n) b 1 0 (λ e. omega (arith, h)) (λ e. omega (arith, h)))
+number-small (suc n) (b ∷ bs) le = (let h = number-small n bs (omega (arith, le)) in
+    if_case (λ x. x + 2 * number_of bs < 2 * doubled n) b 1 0 (λ e. omega (arith, h)) (λ e. omega (arith, h)))
 
 sixty-four : doubled 64 ≡ 18446744073709551616
 sixty-four = refl
@@ -141,18 +144,19 @@ module _ (job : Job) (l : IsLimited job) where
   reg-small zero u = (let e = reg_at_start job u in omega (arith, e))
   reg-small (suc k) u = elim (cases_eq u (subject job k)) [
     | inr ne ↦ (let e = ap (λ (s : UserState). s.reg) ((between job l.job' k).others u ne) in let old = reg-small k u in omega (arith, e, old))
-    | inl e ↦ subst (λ v. (state_of job (suc k) v).reg ≤ suc k) (sym e) (by_sort (sort job k) (between job l.job' k).subject (reg-small k (subject job k)))
+    | inl e ↦ subst (λ v. (state_of job (suc k) v).reg ≤ suc k) (sym e) (by_effect (effect job k) (between job l.job' k).subject (reg-small k (subject job k)))
   ]
     where
-      by_sort : (z : Sort) → SubjectBy job (desk job k) (suc k) z (state_of job k (subject job k)) (state_of job (suc k) (subject job k)) → (state_of job k (subject job k)).reg ≤ k → (state_of job (suc k) (subject job k)).reg ≤ suc k
-      by_sort Adds s old = (let e = ap (λ (x : UserState). x.reg) s.1 in omega (arith, e, old))
-      by_sort Removes s old = (let e = ap (λ (x : UserState). x.reg) s.1 in omega (arith, e, old))
-      by_sort Edits s old = (let e = s.1.reg in omega (arith, e, old))
-      by_sort Enables s old = (let e = ap (λ (x : UserState). x.reg) s.1 in omega (arith, e, old))
-      by_sort Disables s old = (let e = ap (λ (x : UserState). x.reg) s.1 in omega (arith, e, old))
-      by_sort Lists s old = (let e = ap (λ (x : UserState). x.reg) s in omega (arith, e, old))
-      by_sort Levels s old = (let e = ap (λ (x : UserState). x.reg) s in omega (arith, e, old))
-      by_sort Nothing s old = (let e = s.0.reg in omega (arith, e, old))
+      by_effect : (z : Effect) → SubjectBy job (desk job k) (suc k) z (state_of job k (subject job k)) (state_of job (suc k) (subject job k))
+          → (state_of job k (subject job k)).reg ≤ k → (state_of job (suc k) (subject job k)).reg ≤ suc k
+      by_effect Adds s old = (let e = ap (λ (x : UserState). x.reg) s.1 in omega (arith, e, old))
+      by_effect Removes s old = (let e = ap (λ (x : UserState). x.reg) s.1 in omega (arith, e, old))
+      by_effect Edits s old = (let e = s.1.reg in omega (arith, e, old))
+      by_effect Enables s old = (let e = ap (λ (x : UserState). x.reg) s.1 in omega (arith, e, old))
+      by_effect Disables s old = (let e = ap (λ (x : UserState). x.reg) s.1 in omega (arith, e, old))
+      by_effect Lists s old = (let e = ap (λ (x : UserState). x.reg) s in omega (arith, e, old))
+      by_effect Levels s old = (let e = ap (λ (x : UserState). x.reg) s in omega (arith, e, old))
+      by_effect Nothing s old = (let e = s.0.reg in omega (arith, e, old))
 
   subject-small : (k : ℕ) → subject job k ≤ 16
   subject-small k = by (command job k) refl
@@ -181,7 +185,8 @@ module _ (job : Job) (l : IsLimited job) where
 
       by : (o : Option Command) → slice_get (commands job) k ≡ o → (desk job k).depth ≤ 512 → (desk job (suc k)).depth ≤ 512
       by None e old = rw e old
-      by (Some c) e old = rw e (if_case (λ (d : Desk). d.depth ≤ 512) (is_accepted (answer_on job (desk job k) c)) (changed job (desk job k) (suc k) c) (desk job k) (λ a. of c (named-at IsLevel (commands job) k c e l.levels) old) (λ a. old))
+      by (Some c) e old = rw e (if_case (λ (d : Desk). d.depth ≤ 512) (is_accepted (answer_on job (desk job k) c)) (changed job (desk job k) (suc k) c)
+          (desk job k) (λ a. of c (named-at IsLevel (commands job) k c e l.levels) old) (λ a. old))
 
 -- ## the list
 
@@ -192,7 +197,8 @@ name-small (v ∷ vs) users le in' = (let lt = in' v (let e : (v == v) ≡ true 
 follower-small : (u : ℕ) (us : List ℕ) (users : ℕ) → users ≤ 16 → ((v : ℕ) → has v us ≡ true → v < users) → follower u us ≤ 16
 follower-small u [] users le in' = omega arith
 follower-small u (v ∷ vs) users le in' =
-    if_case (λ n. n ≤ 16) (v == u) (name_of vs) (follower u vs) (λ e. name-small vs users le (λ x h. in' x (has-more x v vs h))) (λ e. follower-small u vs users le (λ x h. in' x (has-more x v vs h)))
+    if_case (λ n. n ≤ 16) (v == u) (name_of vs) (follower u vs) (λ e. name-small vs users le (λ x h. in' x (has-more x v vs h)))
+    (λ e. follower-small u vs users le (λ x h. in' x (has-more x v vs h)))
 
 -- ## what is stored
 
@@ -230,22 +236,22 @@ present-none me First op is = first-none me.present (me.tasks me.present) (me.ta
 present-none me m op is = stack-none (me.tasks me.present) (me.tasks me.present).stack m op is
 
 going-none : (job : Job) (me : Cpu) (op : Op) → going_op job me ≡ Some op → FitsIn op
-going-none job me op is = by (goes_on job me) is
+going-none job me op is = by (any_has_more job me) is
   where
     by : (b : Bool) → cond b (present_op me (me.tasks me.present).moment) (Some (Load Want)) ≡ Some op → FitsIn op
     by true e = present-none me (me.tasks me.present).moment op e
     by false e = subst (λ o. FitsIn o) (same_Some _ op e) tt
 
-module _ (job : Job) (l : IsLimited job) (s : World) (k : Kept job s) (f : Frugal job s) where
-  few : suc s.control.done ≤ 2049
-  few = (let a = k.lines.most' in let b = few-commands job.ctls in let c = l.ctls in omega (arith, a, b, c))
+module _ (job : Job) (l : IsLimited job) (s : World) (k : MachineRule job s) (f : WithinBudget job s) where
+  few : suc s.control.commands_done ≤ 2049
+  few = (let a = k.lines.within in let b = few-commands job.ctls in let c = l.ctls in omega (arith, a, b, c))
 
   in-order : (v : ℕ) → has v s.control.order ≡ true → v < length job.users
-  in-order v h = registered-inside job (list_desk s.control.place s.control.done) v (sym (k.list.order'.members v) ∙ h)
+  in-order v h = registered-inside job (list_desk s.control.position s.control.commands_done) v (sym (k.list.order'.members v) ∙ h)
 
-  relinks-fit : (z : Sort) → FitsIn (relink_op z (subject job s.control.done) s.control.order)
-  relinks-fit Removes = (let h = follower-small (subject job s.control.done) s.control.order (length job.users) l.users in-order in omega (arith, h))
-  relinks-fit _ = (let h = subject-small job l s.control.done in omega (arith, h))
+  relinks-fit : (z : Effect) → FitsIn (relink_op z (subject job s.control.commands_done) s.control.order)
+  relinks-fit Removes = (let h = follower-small (subject job s.control.commands_done) s.control.order (length job.users) l.users in-order in omega (arith, h))
+  relinks-fit _ = (let h = subject-small job l s.control.commands_done in omega (arith, h))
 
   lines-fit : (n : ℕ) (ls : List Ctl) (op : Op) → line_op n ls ≡ Some op → FitsIn op
   lines-fit n [] op is = absurd cc
@@ -255,25 +261,31 @@ module _ (job : Job) (l : IsLimited job) (s : World) (k : Kept job s) (f : Fruga
   asks-fit : suc s.control.request < 18446744073709551616
   asks-fit = (let r = request-small job (limited job l) s k in omega (arith, r))
 
-  insn-few : (f : ℕ) → insn job (suc s.control.done) f < 18
-  insn-few f = (let i = insn-small job l.job' (suc s.control.done) f in let t = l.tramps in omega (arith, i, t))
+  insn-few : (f : ℕ) → insn job (suc s.control.commands_done) f < 18
+  insn-few f = (let i = insn-small job l.job' (suc s.control.commands_done) f in let t = l.tramps in omega (arith, i, t))
 
-  control-fit : (p : Place) (op : Op) → next_in job s.control p ≡ Some op → FitsIn op
-  control-fit Line op is = lines-fit s.control.done s.control.left op is
-  control-fit Take op is = subst (λ o. FitsIn o) (same_Some _ op is) (let r = reg-small job l (suc s.control.done) (subject job s.control.done) in let u = subject-small job l s.control.done in let n = few in omega (arith, r, u, n))
-  control-fit (Copy h w) op is = subst (λ o. FitsIn o) (same_Some _ op is) (set-small (state_of job (suc s.control.done) (subject job s.control.done)) h w)
+  control-fit : (p : Position) (op : Op) → next_in job s.control p ≡ Some op → FitsIn op
+  control-fit Line op is = lines-fit s.control.commands_done s.control.remaining op is
+  control-fit Take op is = subst (λ o. FitsIn o) (same_Some _ op is)
+      (let r = reg-small job l (suc s.control.commands_done) (subject job s.control.commands_done) in let u = subject-small job l s.control.commands_done in
+      let n = few in omega (arith, r, u, n))
+  control-fit (Copy h w) op is = subst (λ o. FitsIn o) (same_Some _ op is)
+      (set-small (state_of job (suc s.control.commands_done) (subject job s.control.commands_done)) h w)
   control-fit Select op is = subst (λ o. FitsIn o) (same_Some _ op is)
-      (sel-small (state_of job (suc s.control.done) (subject job s.control.done)) (copy_after (sort job s.control.done) (s.control.copies (subject job s.control.done)))
-      (let r = reg-small job l (suc s.control.done) (subject job s.control.done) in let n = few in omega (arith, r, n))
-      (after_small (sort job s.control.done) (s.control.copies (subject job s.control.done)) (k.sets.small (subject job s.control.done))))
-  control-fit Push op is = subst (λ o. FitsIn o) (same_Some _ op is) (let h = name-small s.control.order (length job.users) l.users in-order in omega (arith, h))
-  control-fit Relink op is = subst (λ o. FitsIn o) (same_Some _ op is) (relinks-fit (sort job s.control.done))
-  control-fit StorePids op is = subst (λ o. FitsIn o) (same_Some _ op is) (mask-small (desk job (suc s.control.done)) (length job.tasks) l.tasks)
-  control-fit StoreDepth op is = subst (λ o. FitsIn o) (same_Some _ op is) (let h = depth-small job l (suc s.control.done) in omega (arith, h))
+      (sel-small (state_of job (suc s.control.commands_done) (subject job s.control.commands_done))
+      (copy_after (effect job s.control.commands_done) (s.control.copies (subject job s.control.commands_done)))
+      (let r = reg-small job l (suc s.control.commands_done) (subject job s.control.commands_done) in let n = few in omega (arith, r, n))
+      (after_small (effect job s.control.commands_done) (s.control.copies (subject job s.control.commands_done))
+      (k.sets.small (subject job s.control.commands_done))))
+  control-fit Push op is = subst (λ o. FitsIn o) (same_Some _ op is) (let h = name-small s.control.order (length job.users) l.users in-order in
+      omega (arith, h))
+  control-fit Relink op is = subst (λ o. FitsIn o) (same_Some _ op is) (relinks-fit (effect job s.control.commands_done))
+  control-fit StorePids op is = subst (λ o. FitsIn o) (same_Some _ op is) (mask-small (desk job (suc s.control.commands_done)) (length job.tasks) l.tasks)
+  control-fit StoreDepth op is = subst (λ o. FitsIn o) (same_Some _ op is) (let h = depth-small job l (suc s.control.commands_done) in omega (arith, h))
   control-fit (NextAt i) op is = subst (λ o. FitsIn o) (same_Some _ op is) (let h = insn-few i in omega (arith, h))
   control-fit (BreakAt i) op is = subst (λ o. FitsIn o) (same_Some _ op is) (omega arith)
-  control-fit (TailAt i) op is = subst (λ o. FitsIn o) (same_Some _ op is) (tail-small i (insn job (suc s.control.done) i) (insn-few i))
-  control-fit (HeadAt i) op is = subst (λ o. FitsIn o) (same_Some _ op is) (head-small (insn job (suc s.control.done) i))
+  control-fit (TailAt i) op is = subst (λ o. FitsIn o) (same_Some _ op is) (tail-small i (insn job (suc s.control.commands_done) i) (insn-few i))
+  control-fit (HeadAt i) op is = subst (λ o. FitsIn o) (same_Some _ op is) (head-small (insn job (suc s.control.commands_done) i))
   control-fit Ask1 op is = subst (λ o. FitsIn o) (same_Some _ op is) asks-fit
   control-fit Ask2 op is = subst (λ o. FitsIn o) (same_Some _ op is) asks-fit
   control-fit Ask3 op is = subst (λ o. FitsIn o) (same_Some _ op is) asks-fit
@@ -290,14 +302,15 @@ module _ (job : Job) (l : IsLimited job) (s : World) (k : Kept job s) (f : Fruga
       let q = low-fits (has_acts x.acts) (is_quiet x.moment) (low x.word) (omega arith) in
       omega (arith, g, a, m, q)
     where
-      low-fits : (b e : Bool) (n : ℕ) → n < half_size → cond b (cond e r n) most < half_size
+      low-fits : (b e : Bool) (n : ℕ) → n < half_size → cond b (cond e r n) greatest_half < half_size
       low-fits true true n lt' = (let q = request-small job (limited job l) s k in omega (arith, le, q))
       low-fits true false n lt' = lt'
       low-fits false e n lt' = omega arith
 
   module _ (c : ℕ) (within : c < length job.quanta) where
     ack-fits : (r : ℕ) → r ≤ s.control.request → ack_value job (s.cpus c) r < 18446744073709551616
-    ack-fits r le = if_case (λ n. n < 18446744073709551616) (goes_on job (s.cpus c)) r all_ones (λ e. let q = request-small job (limited job l) s k in omega (arith, le, q)) (λ e. omega arith)
+    ack-fits r le = if_case (λ n. n < 18446744073709551616) (any_has_more job (s.cpus c)) r all_ones (λ e. let q = request-small job (limited job l) s k in
+        omega (arith, le, q)) (λ e. omega arith)
 
     cpu-fit : (ph : Phase) → (s.cpus c).phase ≡ ph → (op : Op) → phase_op job (s.cpus c) ph ≡ Some op → FitsIn op
     cpu-fit Going e op is = going-none job (s.cpus c) op is
@@ -305,17 +318,19 @@ module _ (job : Job) (l : IsLimited job) (s : World) (k : Kept job s) (f : Fruga
         let p : PollAt job s.control.request c (s.cpus c) (StoringAck r) = subst (λ p. PollAt job s.control.request c (s.cpus c) p) e (k.cpus c within).polls in
         subst (λ o. FitsIn o) (same_Some _ op is) (ack-fits r p.0)
     cpu-fit (StoringQuiet r t) e op is =
-        let p : PollAt job s.control.request c (s.cpus c) (StoringQuiet r t) = subst (λ p. PollAt job s.control.request c (s.cpus c) p) e (k.cpus c within).polls in
+        let p : PollAt job s.control.request c (s.cpus c) (StoringQuiet r t) =
+        subst (λ p. PollAt job s.control.request c (s.cpus c) p) e (k.cpus c within).polls in
         subst (λ o. FitsIn o) (same_Some _ op is) (subst (λ j. quiet_word r ((s.cpus j).tasks t) < 18446744073709551616) p.4.1 (quiet-fits t r p.4.0 p.0))
     cpu-fit Over e op is = absurd cc
 
   -- the clock has room for one more item
   clock-fits : (item : Item) → weight item + s.words.clock < 18446744073709551616
   clock-fits item =
-      let c = k.counts.clock' in let m = small job l s k f in let d' = k.counts.returned in let b = begun-most (under s.control.place) in let e = k.counts.started in let n = few in let w = heavy item in
+      let c = k.counts.clock' in let m = small job l s k f in let d' = k.counts.returned in let b = begun-most (underway s.control.position) in let e =
+      k.counts.started in let n = few in let w = heavy item in
       omega (arith, c, m, d', b, e, n, w)
     where
-      begun-most : (b : Bool) → cond b (suc s.control.done) s.control.done ≤ suc s.control.done
+      begun-most : (b : Bool) → cond b (suc s.control.commands_done) s.control.commands_done ≤ suc s.control.commands_done
       begun-most true = omega arith
       begun-most false = omega arith
 
@@ -331,21 +346,23 @@ module _ (job : Job) (l : IsLimited job) (s : World) (k : Kept job s) (f : Fruga
 
 -- ## all states
 
-step-fits : (job : Job) (l : IsLimited job) (a : Actor) (s : World) → Kept job s → Frugal job s → AllFit s.words → AllFit (step job a s).words
+step-fits : (job : Job) (l : IsLimited job) (a : Actor) (s : World) → MachineRule job s → WithinBudget job s → AllFit s.words → AllFit (step job a s).words
 unfolding step control_next cpu_next
 step-fits job l ByControl s k f all = by (control_next job s.control) refl
   where
     by : (o : Option Op) → control_next job s.control ≡ o → AllFit (control_moved job s o).words
     by None e = all
-    by (Some op) e = after-fits job l s k f op (control-fit job l s k f s.control.place op e) all
+    by (Some op) e = after-fits job l s k f op (control-fit job l s k f s.control.position op e) all
 step-fits job l (ByCpu c) s k f all = by_there (nat_lt c.0 (length job.quanta)) refl (cpu_next job (s.cpus c.0)) refl
   where
-    by_there : (b : Bool) → nat_lt c.0 (length job.quanta) ≡ b → (o : Option Op) → cpu_next job (s.cpus c.0) ≡ o → AllFit (cond b (cpu_moved job s c.0 o) s).words
+    by_there : (b : Bool) → nat_lt c.0 (length job.quanta) ≡ b → (o : Option Op) → cpu_next job (s.cpus c.0) ≡ o
+        → AllFit (cond b (cpu_moved job s c.0 o) s).words
     by_there false t o e = all
     by_there true t None e = all
     by_there true t (Some op) e = after-fits job l s k f op (cpu-fit job l s k f c.0 (grind (arith, nat_tests)) (s.cpus c.0).phase refl op e) all
 
-run-fits : (job : Job) (l : IsLimited job) (actors : List Actor) (s : World) → Kept job s → Frugal job s → AllFit s.words → AllFit (run job actors s).words
+run-fits : (job : Job) (l : IsLimited job) (actors : List Actor) (s : World) → MachineRule job s → WithinBudget job s → AllFit s.words
+    → AllFit (run job actors s).words
 unfolding run
 run-fits job l [] s k f all = all
 run-fits job l (a ∷ rest) s k f all =

@@ -1,4 +1,4 @@
--- A CPU: its tasks, which of them runs, and its polls.
+-- A CPU: its tasks, which of them runs, its polls, its next operation, and what the value that the operation gives makes of it.
 use Rattle.std.specs.Prelude.{ℕ, suc, Bool, false, not, ◌||◌, ◌==◌, nat_lt, nat_le, List, [], ◌∷◌, ◌++◌, length, get_or, Option, Some, None, if◌then◌else◌}
 use Rattle.std.specs.List.{filter, list_any}
 use Rattle.ft_base.specs.declared.task.TaskAct.{TaskAct}
@@ -9,8 +9,8 @@ use Rattle.word_machine.specs.Words.{Want, Ack, Quiet, at_put, all_ones, returne
 use Rattle.word_machine.specs.Control.{Op, Load, Store}
 use Rattle.word_machine.specs.Task.{TaskState, Moment, Polling, First, task_op, task_got, task_start, is_fetching, quiet_word, begun_act}
 
--- where a CPU stands: at its present task, within a poll that loaded this request before the store of its own word or that of a
--- task, or at its end
+-- where a CPU stands: at its present task, in a poll that loaded this request (before the store of its own word, or of the word of
+-- a task), or at its end
 pub data Phase : Type 0 where
   Going : Phase
   StoringAck : (r : ℕ) → Phase
@@ -18,7 +18,7 @@ pub data Phase : Type 0 where
   Over : Phase
 
 -- a CPU: its number, its present task or a number that no task has, its steps since the last switch, what its own word holds, its
--- tasks, and where it stands
+-- tasks, and where it stands. Of the tasks only those on this CPU ever change
 pub record Cpu : Type 0 where
   pub number : ℕ
   pub present : ℕ
@@ -29,8 +29,9 @@ pub record Cpu : Type 0 where
 
 -- ## which task runs
 
-abbrev pub is_left : (ℕ → TaskState) → ℕ → Bool
-is_left tasks t = has_acts (tasks t).acts
+-- a task has an act left
+abbrev pub has_more : (ℕ → TaskState) → ℕ → Bool
+has_more tasks t = has_acts (tasks t).acts
 
 -- the first of these tasks that passes, or else this one
 abbrev pub first_of : (ℕ → Bool) → ℕ → List ℕ → ℕ
@@ -38,19 +39,19 @@ first_of p otherwise [] = otherwise
 first_of p otherwise (t ∷ rest) = if p t then t else first_of p otherwise rest
 
 -- a task of the CPU has an act left
-abbrev pub goes_on : Job → Cpu → Bool
-goes_on job me = list_any (λ t. is_left me.tasks t) (tasks_of job me.number)
+abbrev pub any_has_more : Job → Cpu → Bool
+any_has_more job me = list_any (λ t. has_more me.tasks t) (tasks_of job me.number)
 
--- the next task of the CPU in the cyclic order that has acts left
+-- the next task of the CPU in the cyclic order of numbers that has an act left; that may be the same
 abbrev pub next_task : Job → Cpu → ℕ
 next_task job me =
-    first_of (λ t. is_left me.tasks t) me.present
+    first_of (λ t. has_more me.tasks t) me.present
     (filter (λ v. nat_lt me.present v) (tasks_of job me.number) ++ filter (λ v. nat_le v me.present) (tasks_of job me.number))
 
--- behind a step that is within no fetch and no poll: the CPU switches where its task has ended or waits, or its quantum is used up
-abbrev pub passed : Job → Bool → Cpu → Cpu
-passed job unmet me =
-    if not (is_left me.tasks me.present) || unmet || nat_le (get_or job.quanta me.number 1) me.count
+-- after a step that leaves no fetch and no poll halfway: the CPU switches if its task has ended, or waits, or has used up the quantum
+abbrev pub switched : Job → Bool → Cpu → Cpu
+switched job unmet me =
+    if not (has_more me.tasks me.present) || unmet || nat_le (get_or job.quanta me.number 1) me.count
     then record me { present = next_task job me; count = 0 }
     else me
 
@@ -60,78 +61,86 @@ ticked me = record me { count = suc me.count }
 
 -- ## a poll
 
--- the request that a poll acknowledges; all ones where every task has ended
+-- what a poll acknowledges: the request that it loaded, or all ones once every task has ended
 abbrev pub ack_value : Job → Cpu → ℕ → ℕ
-ack_value job me r = if goes_on job me then r else all_ones
+ack_value job me r = if any_has_more job me then r else all_ones
 
 -- the first of these tasks whose quiet word is to change
 abbrev pub quiet_next : (ℕ → TaskState) → ℕ → List ℕ → Option ℕ
 quiet_next tasks r [] = None
 quiet_next tasks r (t ∷ rest) = if (tasks t).word == quiet_word r (tasks t) then quiet_next tasks r rest else Some t
 
--- a poll is over: the present task's act begins, or the CPU is at its end
+-- a poll is over: the present task's act begins, or, if every task has ended, the CPU is at its end
 abbrev pub polled : Job → Cpu → Cpu
 polled job me =
-    if goes_on job me
-    then passed job false (record me { tasks = at_put me.tasks me.present (begun_act (me.tasks me.present) (me.tasks me.present).acts); phase = Going })
+    if any_has_more job me
+    then switched job false (record me { tasks = at_put me.tasks me.present (begun_act (me.tasks me.present) (me.tasks me.present).acts); phase = Going })
     else record me { phase = Over }
 
+-- the next quiet word that is to change, or the end of the poll
 abbrev pub quiet_in : Job → Cpu → ℕ → Option ℕ → Cpu
 quiet_in job me r None = polled job me
 quiet_in job me r (Some t) = record me { phase = StoringQuiet r t }
 
+-- after the store of the CPU's own word, and after each store of a quiet word
 abbrev pub poll_on : Job → Cpu → ℕ → Cpu
 poll_on job me r = quiet_in job me r (quiet_next me.tasks r (tasks_of job me.number))
 
+-- after the load of the request: the CPU's own word is stored if it changes
 abbrev pub polling : Job → Cpu → ℕ → Cpu
 polling job me r = if me.ack == ack_value job me r then poll_on job me r else record me { phase = StoringAck r }
 
 -- a task whose quiet word is stored
-abbrev pub worded : ℕ → TaskState → TaskState
-worded r x = record x { word = quiet_word r x }
+abbrev pub with_word : ℕ → TaskState → TaskState
+with_word r x = record x { word = quiet_word r x }
 
 -- ## steps
 
--- the next operation of the present task
+-- the next operation of the present task, which has an act left: a poll loads the last request
 abbrev pub present_op : Cpu → Moment → Option Op
 present_op me Polling = Some (Load Want)
 present_op me m = task_op me.present (me.tasks me.present) m
 
+-- the same of a CPU; one last poll follows the last act
 abbrev pub going_op : Job → Cpu → Option Op
-going_op job me = if goes_on job me then present_op me (me.tasks me.present).moment else Some (Load Want)
+going_op job me = if any_has_more job me then present_op me (me.tasks me.present).moment else Some (Load Want)
 
+-- the next operation in a phase
 abbrev pub phase_op : Job → Cpu → Phase → Option Op
 phase_op job me Going = going_op job me
 phase_op job me (StoringAck r) = Some (Store (Ack me.number) (ack_value job me r))
 phase_op job me (StoringQuiet r t) = Some (Store (Quiet t) (quiet_word r (me.tasks t)))
 phase_op job me Over = None
 
--- an `after` that isn't met by this clock
+-- a wait of the task that is not met by this clock
 abbrev pub is_unmet : Moment → List TaskAct → ℕ → Bool
 is_unmet First (After n ∷ rest) v = not (nat_le n (returned_at v))
 is_unmet m acts v = false
 
--- the present task goes on, and perhaps the CPU switches
+-- the present task has made a step, and perhaps the CPU switches; never between the two loads of a fetch
 abbrev pub moved : Job → Cpu → Bool → TaskState → Cpu
 moved job me unmet x =
     let me' = record me { tasks = at_put me.tasks me.present x } in
-    if is_fetching x.moment then me' else passed job unmet me'
+    if is_fetching x.moment then me' else switched job unmet me'
 
+-- after the present task's operation gave a value
 abbrev pub present_got : Job → Cpu → Moment → ℕ → Cpu
 present_got job me Polling v = polling job me v
 present_got job me m v =
     let x = me.tasks me.present in moved job me (is_unmet m x.acts v) (task_got job me.present x m v)
 
+-- after a CPU's operation outside a poll gave a value
 abbrev pub going_got : Job → Cpu → ℕ → Cpu
-going_got job me v = if goes_on job me then present_got job me (me.tasks me.present).moment v else polling job me v
+going_got job me v = if any_has_more job me then present_got job me (me.tasks me.present).moment v else polling job me v
 
+-- after the operation in a phase gave a value
 abbrev pub phase_got : Job → Cpu → Phase → ℕ → Cpu
 phase_got job me Going v = going_got job me v
 phase_got job me (StoringAck r) v = poll_on job (record me { ack = ack_value job me r }) r
-phase_got job me (StoringQuiet r t) v = poll_on job (record me { tasks = at_put me.tasks t (worded r (me.tasks t)) }) r
+phase_got job me (StoringQuiet r t) v = poll_on job (record me { tasks = at_put me.tasks t (with_word r (me.tasks t)) }) r
 phase_got job me Over v = me
 
--- a CPU's next operation, none at its end
+-- a CPU's next operation; none at its end
 unfoldable pub cpu_next : Job → Cpu → Option Op
 cpu_next job me = phase_op job me me.phase
 
@@ -143,7 +152,7 @@ cpu_got job me v = phase_got job (ticked me) me.phase v
 abbrev pub cpu_start : Job → ℕ → Cpu
 cpu_start job c = record {
   number = c;
-  present = first_of (λ t. is_left (task_start job) t) (length job.tasks) (tasks_of job c);
+  present = first_of (λ t. has_more (task_start job) t) (length job.tasks) (tasks_of job c);
   count = 0;
   ack = 0;
   tasks = task_start job;

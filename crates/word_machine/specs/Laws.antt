@@ -1,17 +1,18 @@
 -- What the laws of the whole machine say: sites that are settled, values that fit, room in the clock, and the limits of scripts.
 use Rattle.std.specs.Prelude.{ℕ, suc, ◌≡◌, ◌+◌, ◌<◌, ◌≤◌, ◌⊎◌, true, List, ◌∷◌, length, sum_by}
 use Rattle.std.specs.List.{AllByRecursion as Each}
+use Rattle.ft_base.specs.declared.limits.TheConstants.{COMMANDS, UNTILS, USERS, TASKS, FUNCS, TRAMPS, GRAPH_DEPTH, ACTS}
 use Rattle.ft_base.specs.Job.{Job, Command, MaxDepth, Ctl, Run, Until, commands, funcs}
 use Rattle.ft_base.specs.WellFormed.{IsWellFormed}
 use Rattle.ft_hist.specs.Past.{done, begun}
 use Rattle.ft_hist.specs.Rules.{IsUnvisited}
 use Rattle.word_machine.specs.Words.{Word, Words, read, half_size, head_of, tail_of, tramp_word, breakpoint, decode}
-use Rattle.word_machine.specs.Control.{insn}
+use Rattle.word_machine.specs.Commands.{insn}
 use Rattle.word_machine.specs.Task.{OpenCall, Moment, GotHead, GotBreak, InTramp, AtFirst, AtLink}
-use Rattle.word_machine.specs.Cpu.{goes_on}
+use Rattle.word_machine.specs.Cpu.{any_has_more}
 use Rattle.word_machine.specs.Machine.{World}
-use Rattle.word_machine.specs.Rule.{Kept}
-use Rattle.word_machine.specs.Costs.{Frugal}
+use Rattle.word_machine.specs.Rule.{MachineRule}
+use Rattle.word_machine.specs.Costs.{WithinBudget}
 
 -- the clock has room for the items so far
 abbrev pub HasRoom : World → Type 0
@@ -35,10 +36,10 @@ AllFit ws = (w : Word) → read w ws < 18446744073709551616
 
 -- ## values
 
--- the present task of a CPU stands at a moment of its top call
+-- the present task of a CPU is at a moment of its top call
 pub record StandsAt (job : Job) (s : World) (c : ℕ) (top : OpenCall) (below : List OpenCall) (m : Moment) : Type 0 where
   pub inside : c < length job.quanta
-  pub goes : goes_on job (s.cpus c) ≡ true
+  pub goes : any_has_more job (s.cpus c) ≡ true
   pub moment : ((s.cpus c).tasks (s.cpus c).present).moment ≡ m
   pub stack : ((s.cpus c).tasks (s.cpus c).present).stack ≡ top ∷ below
 
@@ -51,7 +52,7 @@ abbrev pub Decodes : Job → World → ℕ → ℕ → Type 0
 Decodes job s f byte =
     (i : ℕ) × IsTarget job s f i × (byte ≡ head_of i) × (s.words.tail f ≡ tail_of f i) × (decode f byte (s.words.tail f) ≡ i)
 
--- a word of the list names nobody, or a user of the job whom the call has not met
+-- a word of the list names nobody, or a user of the job that the call has not visited
 abbrev pub Names : Job → World → OpenCall → ℕ → Type 0
 Names job s top w = (w ≡ 0) ⊎ ((u : ℕ) × (w ≡ suc u) × (u < length job.users) × IsUnvisited job top.call u s.past)
 
@@ -66,33 +67,34 @@ Takes job s top _ = Unit {0}
 
 -- ## the limits of scripts
 
--- the task that control waits for is one of so many
+-- the task that control waits for is one of this many
 abbrev pub WaitsFor : ℕ → Ctl → Type 0
 WaitsFor tasks (Until t n) = t < tasks
 WaitsFor tasks (Run c) = Unit {0}
 
 -- a graph depth that a command may set
 abbrev pub IsLevel : Command → Type 0
-IsLevel (MaxDepth n) = n ≤ 512
+IsLevel (MaxDepth n) = n ≤ GRAPH_DEPTH
 IsLevel _ = Unit {0}
 
--- what a script's limits give of its job
+-- What the limits of scripts give of a job: it is well formed, its tasks are on its CPUs, its waits name its tasks, and it has no more lines
+-- of control, users, tasks, functions, trampolines and acts, and no greater depths, than a script may have
 pub record IsLimited (job : Job) : Type 0 where
   pub job' : IsWellFormed job
   pub placed : Each (λ t. t.cpu < length job.quanta) job.tasks
   pub waits : Each (WaitsFor (length job.tasks)) job.ctls
-  pub ctls : length job.ctls ≤ 2048
-  pub users : length job.users ≤ 16
-  pub tasks : length job.tasks ≤ 64
-  pub functions : funcs job ≤ 1024
-  pub tramps : job.tramps ≤ 16
+  pub ctls : length job.ctls ≤ COMMANDS + UNTILS
+  pub users : length job.users ≤ USERS
+  pub tasks : length job.tasks ≤ TASKS
+  pub functions : funcs job ≤ FUNCS
+  pub tramps : job.tramps ≤ TRAMPS
   pub levels : Each IsLevel (commands job)
-  pub acts : sum_by (λ t. length t.acts) job.tasks ≤ 20000
+  pub acts : sum_by (λ t. length t.acts) job.tasks ≤ ACTS
 
 -- ## what goes on from step to step
 
 -- the rule, that the history is paid for, and that each word fits: together they need no premise on room
 pub record Runs (job : Job) (s : World) : Type 0 where
-  pub kept : Kept job s
-  pub frugal : Frugal job s
+  pub kept : MachineRule job s
+  pub frugal : WithinBudget job s
   pub fits : AllFit s.words

@@ -7,7 +7,7 @@ use Rattle.ft_hist.specs.Frames.{is_nil}
 use Rattle.ft_base.specs.Job.{Job}
 use Rattle.word_machine.specs.Words.{at_put}
 use Rattle.word_machine.proofs.Small.{put_case}
-use Rattle.word_machine.specs.Cpu.{next_task, Cpu, is_left, passed, moved, Going, Over, goes_on, polled, quiet_in, quiet_next, poll_on, StoringAck, ack_value, polling, present_got, present_op, is_unmet}
+use Rattle.word_machine.specs.Cpu.{next_task, Cpu, has_more, switched, moved, Going, Over, any_has_more, polled, quiet_in, quiet_next, poll_on, StoringAck, ack_value, polling, present_got, present_op, is_unmet}
 use Rattle.plain_machine.specs.State.{tasks_of}
 use Rattle.word_machine.proofs.TaskSteps.{is_polling}
 use Rattle.ft_base.proofs.Small.{false_true}
@@ -28,7 +28,8 @@ first-gone t x [] stack v = omega arith
 pub closed-gone : (x : TaskState) (c : OpenCall) (below : List OpenCall) → x.gone ≤ (closed x c below).gone
 closed-gone x c below = by c.scripted
   where
-    by : (b : Bool) → x.gone ≤ (cond b (finished x (record c { framed = not (is_nil c.users) } ∷ below)) (record x { stack = record c { framed = not (is_nil c.users) } ∷ below; moment = Leaving })).gone
+    by : (b : Bool) → x.gone ≤ (cond b (finished x (record c { framed = not (is_nil c.users) } ∷ below))
+        (record x { stack = record c { framed = not (is_nil c.users) } ∷ below; moment = Leaving })).gone
     by true = omega arith
     by false = omega arith
 
@@ -62,8 +63,8 @@ begun-gone x _ = omega arith
 abbrev pub Through : (TaskState → TaskState → Type 0) → (ℕ → TaskState) → (ℕ → TaskState) → Type 0
 Through R tasks tasks' = (t : ℕ) → R (tasks t) (tasks' t)
 
-pub passed-tasks : (job : Job) (unmet : Bool) (me : Cpu) → (passed job unmet me).tasks ≡ me.tasks
-passed-tasks job unmet me = by (not (is_left me.tasks me.present) || unmet || nat_le (get_or job.quanta me.number 1) me.count)
+pub switched-tasks : (job : Job) (unmet : Bool) (me : Cpu) → (switched job unmet me).tasks ≡ me.tasks
+switched-tasks job unmet me = by (not (has_more me.tasks me.present) || unmet || nat_le (get_or job.quanta me.number 1) me.count)
   where
     by : (b : Bool) → (cond b (record me { present = next_task job me; count = 0 }) me).tasks ≡ me.tasks
     by true = refl
@@ -72,26 +73,35 @@ passed-tasks job unmet me = by (not (is_left me.tasks me.present) || unmet || na
 pub moved-tasks : (job : Job) (me : Cpu) (unmet : Bool) (x : TaskState) → (moved job me unmet x).tasks ≡ at_put me.tasks me.present x
 moved-tasks job me unmet x = by (is_fetching x.moment)
   where
-    by : (b : Bool) → (cond b (record me { tasks = at_put me.tasks me.present x }) (passed job unmet (record me { tasks = at_put me.tasks me.present x }))).tasks ≡ at_put me.tasks me.present x
+    by : (b : Bool) → (cond b (record me { tasks = at_put me.tasks me.present x })
+        (switched job unmet (record me { tasks = at_put me.tasks me.present x }))).tasks ≡ at_put me.tasks me.present x
     by true = refl
-    by false = passed-tasks job unmet (record me { tasks = at_put me.tasks me.present x })
+    by false = switched-tasks job unmet (record me { tasks = at_put me.tasks me.present x })
 
 module _ (R : TaskState → TaskState → Type 0) (same : (x : TaskState) → R x x) where
   pub through-put : (tasks : ℕ → TaskState) (i : ℕ) (x : TaskState) → R (tasks i) x → Through R tasks (at_put tasks i x)
   through-put tasks i x r t = put_case tasks i x (λ j y. R (tasks j) y) t (λ e. r) (λ ne. same (tasks t))
 
   pub through-moved : (job : Job) (me : Cpu) (unmet : Bool) (x : TaskState) → R (me.tasks me.present) x → Through R me.tasks (moved job me unmet x).tasks
-  through-moved job me unmet x r = subst (λ (ts : ℕ → TaskState). Through R me.tasks ts) (sym (moved-tasks job me unmet x)) (through-put me.tasks me.present x r)
+  through-moved job me unmet x r = subst (λ (ts : ℕ → TaskState). Through R me.tasks ts) (sym (moved-tasks job me unmet x))
+      (through-put me.tasks me.present x r)
 
   -- what the present task's act makes of it at the end of a poll
   abbrev pub Begins : Job → Cpu → Type 0
-  Begins job me = goes_on job me ≡ true → R (me.tasks me.present) (begun_act (me.tasks me.present) (me.tasks me.present).acts)
+  Begins job me = any_has_more job me ≡ true → R (me.tasks me.present) (begun_act (me.tasks me.present) (me.tasks me.present).acts)
 
   pub through-polled : (job : Job) (me : Cpu) → Begins job me → Through R me.tasks (polled job me).tasks
-  through-polled job me r = by (goes_on job me) refl
+  through-polled job me r = by (any_has_more job me) refl
     where
-      by : (b : Bool) → goes_on job me ≡ b → Through R me.tasks (cond b (passed job false (record me { tasks = at_put me.tasks me.present (begun_act (me.tasks me.present) (me.tasks me.present).acts); phase = Going })) (record me { phase = Over })).tasks
-      by true e = subst (λ (ts : ℕ → TaskState). Through R me.tasks ts) (sym (passed-tasks job false (record me { tasks = at_put me.tasks me.present (begun_act (me.tasks me.present) (me.tasks me.present).acts); phase = Going })))
+      by : (b : Bool) → any_has_more job me ≡ b
+          → Through R me.tasks (cond b
+          (switched job false (record me { tasks = at_put me.tasks me.present (begun_act (me.tasks me.present) (me.tasks me.present).acts); phase = Going }))
+          (record me { phase = Over })).tasks
+      by true e = subst (λ (ts : ℕ → TaskState). Through R me.tasks ts)
+          (sym (switched-tasks job false (record me {
+            tasks = at_put me.tasks me.present (begun_act (me.tasks me.present) (me.tasks me.present).acts);
+            phase = Going;
+          })))
           (through-put me.tasks me.present (begun_act (me.tasks me.present) (me.tasks me.present).acts) (r e))
       by false e = λ t. same (me.tasks t)
 
@@ -139,6 +149,7 @@ pub present-is : (me : Cpu) (m : Moment) → is_polling m ≡ false → present_
 present-is me Polling e = false_true (sym e)
 present-is me _ e = refl
 
-pub present-got : (job : Job) (me : Cpu) (m : Moment) (v : ℕ) → is_polling m ≡ false → present_got job me m v ≡ moved job me (is_unmet m (me.tasks me.present).acts v) (task_got job me.present (me.tasks me.present) m v)
+pub present-got : (job : Job) (me : Cpu) (m : Moment) (v : ℕ) → is_polling m ≡ false
+    → present_got job me m v ≡ moved job me (is_unmet m (me.tasks me.present).acts v) (task_got job me.present (me.tasks me.present) m v)
 present-got job me Polling v e = false_true (sym e)
 present-got job me _ v e = refl

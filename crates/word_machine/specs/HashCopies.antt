@@ -1,0 +1,59 @@
+-- The rule of users' states and of the two copies of their sets: which copy has the sets, and what a reader of a copy has found.
+use Rattle.std.specs.Prelude.{ℕ, suc, ◌≡◌, ◌<◌, ◌⊎◌, true, false, ◌||◌, ◌%◌}
+use Rattle.ft_base.specs.Marks.{holds, is_empty}
+use Rattle.ft_base.specs.Job.{Job}
+use Rattle.ft_base.specs.Desk.{UserState}
+use Rattle.word_machine.specs.Words.{high, sel_of, set_word}
+use Rattle.word_machine.specs.Commands.{Effect, effect, subject, state_of, set_words}
+use Rattle.word_machine.specs.Control.{Position, Copy, Select, other_copy}
+use Rattle.word_machine.specs.Progress.{selected, desk_by, SeenAt, writes_copy}
+
+-- a copy has the user's sets
+abbrev pub HasSets : Job → UserState → (ℕ → ℕ → ℕ) → Type 0
+HasSets job s copy = (h w : ℕ) → h < 2 → w < set_words job → copy h w ≡ set_word s h w
+
+-- The word of a user's state: a registered user's names a copy that has its sets; any other has its number, and says that the user is
+-- not registered. Otherwise somebody would be called back who is off, or by another's sets
+abbrev pub SelIs : Job → UserState → ℕ → ℕ → (ℕ → ℕ → ℕ → ℕ) → Type 0
+SelIs job s v copy bits =
+    (s.registered ≡ true → (v ≡ sel_of s copy) × HasSets job s (bits copy)) × (s.registered ≡ false → (high v ≡ s.reg) × (v % 2 ≡ 0))
+
+-- how far the copy that is being written is; it has all of the new sets before the state that names it is stored. Otherwise a reader
+-- would find half of a filter
+abbrev pub WrittenAt : Job → UserState → (ℕ → ℕ → ℕ) → Effect → Position → Type 0
+WrittenAt job s copy z (Copy h w) = (i v : ℕ) → i < 2 → v < set_words job → (i < h) ⊎ ((i ≡ h) × (v < w)) → copy i v ≡ set_word s i v
+WrittenAt job s copy z Select = writes_copy z ≡ true → HasSets job s copy
+WrittenAt job s copy z _ = Unit {0}
+
+-- The states and the copies.
+--   small     there are two copies
+--   sels      each state is that of the desk, and names a copy that has the user's sets
+--   written   the other copy is written in its order
+pub record HashCopies (job : Job) (d : ℕ) (p : Position) (copies : ℕ → ℕ) (sel : ℕ → ℕ) (bits : ℕ → ℕ → ℕ → ℕ → ℕ) : Type 0 where
+  pub small : (u : ℕ) → copies u < 2
+  pub sels : (u : ℕ) → SelIs job (state_of job (desk_by (selected p) d) u) (sel u) (copies u) (bits u)
+  pub written : WrittenAt job (state_of job (suc d) (subject job d)) (bits (subject job d) (other_copy (copies (subject job d)))) (effect job d) p
+
+-- what a reader has found in a user's state: registered, enabled, its number; and the copy that is read has the sets
+pub record Reader (job : Job) (s : UserState) (copy : ℕ → ℕ → ℕ) (reg : ℕ) : Type 0 where
+  pub registered : s.registered ≡ true
+  pub enabled : s.enabled ≡ true
+  pub number : s.reg ≡ reg
+  pub copied : HasSets job s copy
+
+-- before the load of the filter, which is not empty
+abbrev pub InFilter : Job → ℕ → UserState → (ℕ → ℕ → ℕ) → Type 0
+InFilter job reg s copy = Reader job s copy reg × (is_empty s.filter ≡ false)
+
+-- before the load of the notrace set: the filter lets the function pass
+abbrev pub InNotrace : Job → ℕ → ℕ → UserState → (ℕ → ℕ → ℕ) → Type 0
+InNotrace job reg f s copy = Reader job s copy reg × ((is_empty s.filter || holds s.filter f) ≡ true)
+
+-- A fact of a user and of the copy that a reader reads. Before the store of the state it is the copy that the state names, which control
+-- does not write; afterwards it is the new one, or the old one for a task that holds the command, which control writes only in a later
+-- command. Otherwise a copy would be written while somebody reads it
+abbrev pub ReaderAt : Job → ℕ → Position → ℕ → ℕ → (ℕ → ℕ) → (ℕ → ℕ → ℕ → ℕ → ℕ) → ℕ → ℕ → (UserState → (ℕ → ℕ → ℕ) → Type 0) → Type 0
+ReaderAt job d p request q copies bits u copy R =
+    SeenAt (selected p) (effect job d) p request q
+    ((selected p ≡ false → copy ≡ copies u) × R (state_of job d u) (bits u copy))
+    ((copy ≡ copies u) × R (state_of job (suc d) u) (bits u copy))
