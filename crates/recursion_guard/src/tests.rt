@@ -1,0 +1,47 @@
+//! A task's callbacks take and give back their guards.
+
+use crate::Guards;
+use ft_base::Ctx;
+
+#[test]
+fn guards_each_context_apart(rt: HostRuntime) {
+    let mut guards = Guards::new();
+    // The task in its normal context, then interrupted up to the highest one.
+    assert!(rt; guards.ctx() == Ctx::Normal && guards.try_enter());
+    assert!(rt; !guards.try_enter(), "entered from itself");
+    guards.raise(Ctx::Softirq);
+    assert!(rt; guards.ctx() == Ctx::Softirq && guards.try_enter());
+    guards.raise(Ctx::Irq);
+    assert!(rt; guards.ctx() == Ctx::Irq && guards.try_enter());
+    guards.raise(Ctx::Nmi);
+    assert!(rt; guards.ctx() == Ctx::Nmi && guards.try_enter());
+    assert!(rt;
+        !guards.try_enter(),
+        "entered from itself in the highest context"
+    );
+    // Each callback ends, and its interrupt returns.
+    guards.leave();
+    guards.lower();
+    assert!(rt; guards.ctx() == Ctx::Irq && !guards.try_enter());
+    guards.leave();
+    guards.lower();
+    assert!(rt; guards.ctx() == Ctx::Softirq && !guards.try_enter());
+    guards.leave();
+    guards.lower();
+    assert!(rt; guards.ctx() == Ctx::Normal && !guards.try_enter());
+    guards.leave();
+    assert!(rt; guards.try_enter(), "free after its callback has ended");
+}
+
+#[test]
+fn interrupts_past_a_context(rt: HostRuntime) {
+    let mut guards = Guards::new();
+    guards.raise(Ctx::Irq);
+    assert!(rt; guards.try_enter());
+    guards.lower();
+    assert_eq!(rt; guards.ctx(), Ctx::Normal);
+    assert!(rt;
+        guards.try_enter(),
+        "the guard of the interrupt is another one"
+    );
+}
