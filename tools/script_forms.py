@@ -4,20 +4,39 @@
     script_forms.py --seed N             a script that is accepted
     script_forms.py --seed N --mutate    a slightly broken variant, of which some are still accepted
 
-One seed gives one script. compare_scripts.py takes `plain`, `mutated` and `first_later` from here.
-When a form is built, its lines move from `LATER_LINES` and `is_later` to `plain`.
+One seed gives one script. compare_scripts.py and check_program.py take `script`, `mutated` and
+`first_later` from here. When a form is built, its lines move from `LATER_LINES` and `is_later` to `plain`.
 """
 import argparse
 import random
 import re
 import sys
 
-MOST_TURNS = 4_000_000
-MOST_ACTS = 20_000
-MOST_LEVELS = 512
+# The ranks of the lines and the limits, as docs/LANGUAGE.md has them.
+RANKS = {"ftrace": 0, "func": 1, "depth": 2, "tramps": 2, "user": 3, "cpu": 4, "ctl": 6, "sched": 7}
+RANKS.update(dict.fromkeys(["task", "call", "ret", "after", "softirq", "irq", "nmi", "iret"], 5))
+FUNCS = 1_024
+CPUS = 8
+COMMANDS = 1_024
+UNTILS = 1_024
+ACTS = 20_000
+LEVELS = 512
+STEPS = 4_000_000
+QUANTUM = 1_000_000
+PID = 4_194_304
+NUMBER = 4_294_967_295
+DIGITS = 10
+NAME_BYTES = 63
+PATTERN_BYTES = 255
+FRAMES = 64
+TRAMPS = 16
+GRAPH_DEPTH = 512
+INPUT_BYTES = 16_777_216
+
+# What the scripts are made of.
 FUNCTIONS = ["a", "b", "vfs_read", "ext3_read", "ext3_write", "snd_play", "_", "_x.1", "k", "all", "ret", "regs"]
-FUNCTIONS += ["function", "Z9", "after", "mod.x", "x" * 63, "ftrace"]
-MODULES = ["ext3", "snd", "m.1", "y" * 63]
+FUNCTIONS += ["function", "Z9", "after", "mod.x", "x" * NAME_BYTES, "ftrace"]
+MODULES = ["ext3", "snd", "m.1", "y" * NAME_BYTES]
 COMMENTS = ["#", "# a comment", "#ret", "# func a a a", "#\tctl register", "# \u00e9\u20ac", "##"]
 BLANKS = [" ", "\t", "  ", " \t ", "\t\t"]
 
@@ -27,7 +46,7 @@ BLANKS = [" ", "\t", "  ", " \t ", "\t\t"]
 def numeral(rng, number):
     """A number in decimal, now and then with leading zeros."""
     text = str(number)
-    return text.rjust(rng.randint(len(text), 10), "0") if rng.random() < 0.04 else text
+    return text.rjust(rng.randint(len(text), DIGITS), "0") if rng.random() < 0.04 else text
 
 
 def acts(rng, functions, count, deepest):
@@ -58,7 +77,7 @@ def commands(rng, users, tasks, count):
 
 
 def left_waiting(tasks, control):
-    """What the greedy run leaves waiting: (list of lines, place) for each, none where all come to their ends."""
+    """What still waits when all have gone as far as they can: (list of lines, place) for each."""
     at, line, passed, moved = [0] * len(tasks), 0, 0, True
     pids = {pid: number for number, (pid, _, _) in enumerate(tasks)}
     while moved:
@@ -76,7 +95,7 @@ def left_waiting(tasks, control):
 
 
 def without_deadlock(rng, tasks, control):
-    """Leaves waits away until the greedy run comes to all ends."""
+    """Drops waits until all come to their ends."""
     while stuck := left_waiting(tasks, control):
         lines, place = rng.choice(stuck)
         del lines[place]
@@ -84,7 +103,7 @@ def without_deadlock(rng, tasks, control):
 
 def schedule(rng, cpus):
     """The `sched` lines, none at times; within the most turns."""
-    lines, left = [], MOST_TURNS
+    lines, left = [], STEPS
     for _ in range(rng.choice([0, 0, 1, 1, 2, 4])):
         items = []
         for _ in range(rng.randint(1, 6)):
@@ -105,9 +124,9 @@ def plain(rng):
     """The lines of a script that is accepted."""
     scale = rng.choice([1, 1, 2, 4, 12])
     functions = rng.sample(FUNCTIONS, rng.randint(0, min(len(FUNCTIONS), 2 * scale)))
-    users = [rng.choice(["t", "tr", "a", "function", "user_2", "u" * 63])] if rng.random() < 0.85 else []
+    users = [rng.choice(["t", "tr", "a", "function", "user_2", "u" * NAME_BYTES])] if rng.random() < 0.85 else []
     cpus = rng.choice([0, 1, 1, 2, 2, 3, 5, 8])
-    pids = rng.sample([1, 2, 10, 11, 99, 4_194_303, 4_194_304] + list(range(100, 120)), cpus)
+    pids = rng.sample([1, 2, 10, 11, 99, PID - 1, PID] + list(range(100, 120)), cpus)
     on = rng.sample(range(cpus), rng.randint(0, cpus) if rng.random() < 0.3 else cpus)
     deepest = rng.choice([1, 2, 3, 8, 40])
     tasks = [(pids[cpu], cpu, acts(rng, functions, rng.randint(0, 12 * scale), deepest)) for cpu in on]
@@ -116,7 +135,7 @@ def plain(rng):
     lines = [["ftrace", "1"]]
     lines += [["func", name] + ([rng.choice(MODULES)] if rng.random() < 0.4 else []) for name in functions]
     lines += [["user", name, "function"] for name in users]
-    quanta = [rng.choice([1, 2, 3, 7, 100, 1_000_000]) for _ in range(cpus)]
+    quanta = [rng.choice([1, 2, 3, 7, 100, QUANTUM]) for _ in range(cpus)]
     lines += [["cpu", numeral(rng, cpu), "quantum", numeral(rng, quanta[cpu])] for cpu in range(cpus)]
     for pid, cpu, todo in tasks:
         lines += [["task", numeral(rng, pid), "cpu", numeral(rng, cpu)]] + todo
@@ -136,33 +155,35 @@ def dressed(rng, lines):
     return "".join(line + "\n" for line in out).encode()
 
 
-# Broken variants. Each function changes the lines in place, or leaves them where it finds nothing.
+# Broken variants. Each function changes the lines in place, or does nothing if it finds no line to change.
 
-# by rank; U, P and F stand for a user, a pid and a function of the script
+# by rank, for a user, a pid and a function of the script; `;` ends a line
 LATER_LINES = {
-    2: ["depth 1", "depth 64", "depth 65", "depth 0", "tramps 0", "tramps 16", "tramps 17"],
+    2: ["depth 1", f"depth {FRAMES}", f"depth {FRAMES + 1}", "depth 0", "tramps 0", f"tramps {TRAMPS}", f"tramps {TRAMPS + 1}"],
     3: ["user u2 function", "user u2 graph", "user u2 profile", "user u2 fprobe", "user u2 fprobe exit"]
-    + ["user u2 fprobe exit cancel", "user u2 function regs", "user u2 function pid", "user u2 function regs ipmodify F"]
-    + ["user u2 function ipmodify F", "user u2 function call F", "user u2 graph irq F", "user u2 function pid call F"]
-    + ["user u2 graph ipmodify F", "user u2 function pid regs", "user u2 function call F irq F", "user u2 fprobe cancel"]
-    + ["user u2 function call", "user ipmodify function ipmodify ipmodify", "user u2 function regs regs", "user u2"],
-    5: ["softirq", "irq", "nmi", "iret", "softirq;iret", "irq;call F;ret;iret", "nmi;iret", "irq;softirq;iret;iret", "irq;call F;iret;ret"],
-    6: ["ctl enable U", "ctl disable U", "ctl maxdepth 0", "ctl maxdepth 512", "ctl maxdepth 513", "ctl pid", "ctl nopid"]
-    + ["ctl pid P", "ctl nopid P P", "ctl pid 0", "ctl nopid 4194305", "ctl pid 77", "ctl filter U >", "ctl notrace U >"]
-    + ["ctl filter U >>", "ctl notrace U"],
+    + ["user u2 fprobe exit cancel", "user u2 function regs", "user u2 function pid", "user u2 function regs ipmodify {function}"]
+    + ["user u2 function ipmodify {function}", "user u2 function call {function}", "user u2 graph irq {function}"]
+    + ["user u2 function pid call {function}", "user u2 graph ipmodify {function}", "user u2 function pid regs"]
+    + ["user u2 function call {function} irq {function}", "user u2 fprobe cancel", "user u2 function call"]
+    + ["user ipmodify function ipmodify ipmodify", "user u2 function regs regs", "user u2"],
+    5: ["softirq", "irq", "nmi", "iret", "softirq;iret", "irq;call {function};ret;iret", "nmi;iret", "irq;softirq;iret;iret"]
+    + ["irq;call {function};iret;ret"],
+    6: ["ctl enable {user}", "ctl disable {user}", "ctl maxdepth 0", f"ctl maxdepth {GRAPH_DEPTH}", f"ctl maxdepth {GRAPH_DEPTH + 1}"]
+    + ["ctl pid", "ctl nopid", "ctl pid {pid}", "ctl nopid {pid} {pid}", "ctl pid 0", f"ctl nopid {PID + 1}", "ctl pid 77"]
+    + ["ctl filter {user} >", "ctl notrace {user} >", "ctl filter {user} >>", "ctl notrace {user}"],
 }
-TEXTS = ["*", "a", "1", "!1", "0", "2", "99", "007", "4294967297", "!", "!!", "!a*", ":mod:ext3", ":mod:", ":mod:!", ":mod:!*", "*:mod:s?d"]
-TEXTS += ["!*:mod:!snd", "a:b", "a:mod:m:n", "a\\b", "[a", "[!]", "[c-a]", "a:mod:!!m", ":", "x" * 255, "x" * 256, "x" * 250 + ":mod:" + "y" * 250]
-TEXTS += ["*:mod:" + "y" * 256, "0" * 300 + "1", "#", ">", "a b"]
+TEXTS = ["*", "a", "1", "!1", "0", "2", "99", "007", str(NUMBER + 2), "!", "!!", "!a*", ":mod:ext3", ":mod:", ":mod:!", ":mod:!*", "*:mod:s?d"]
+TEXTS += ["!*:mod:!snd", "a:b", "a:mod:m:n", "a\\b", "[a", "[!]", "[c-a]", "a:mod:!!m", ":", "x" * PATTERN_BYTES, "x" * (PATTERN_BYTES + 1)]
+TEXTS += ["x" * 250 + ":mod:" + "y" * 250, "*:mod:" + "y" * (PATTERN_BYTES + 1), "0" * 300 + "1", "#", ">", "a b"]
 ODD_WORDS = ["ftrace", "1", "2", "func", "user", "cpu", "quantum", "task", "call", "ret", "after", "ctl", "register", "unregister", "until"]
-ODD_WORDS += ["sched", "k", "all", "0", "8", "07", "k*0", "all*2", "0*", "*3", "k*1*1", "zz", "9x", "-1", "+1", "a/b", "x" * 64, "function", "graph"]
+ODD_WORDS += ["sched", "k", "all", "0", "8", "07", "k*0", "all*2", "0*", "*3", "k*1*1", "zz", "9x", "-1", "+1", "a/b"]
+ODD_WORDS += ["x" * (NAME_BYTES + 1), "function", "graph"]
 EDGES = {
-    "quantum": [0, 1, 1_000_000, 1_000_001], "pid": [0, 1, 4_194_304, 4_194_305], "cpu": [0, 7, 8, 9, 63],
-    "wait": [0, 1, 2, 1024, 1025], "count": [0, 1, 2, MOST_TURNS, MOST_TURNS + 1],
+    "quantum": [0, 1, QUANTUM, QUANTUM + 1], "pid": [0, 1, PID, PID + 1], "cpu": [0, CPUS - 1, CPUS, CPUS + 1, 63],
+    "wait": [0, 1, 2, COMMANDS, COMMANDS + 1], "count": [0, 1, 2, STEPS, STEPS + 1],
 }
-TOO_BIG = [4_294_967_295, 4_294_967_296, 9_999_999_999, 10_000_000_000, "00000000001", "0000000001", "00"]
+TOO_BIG = [NUMBER, NUMBER + 1, 9_999_999_999, 10_000_000_000, "00000000001", "0000000001", "00"]
 NUMBERS = {"cpu": {1: "cpu", 3: "quantum"}, "task": {1: "pid", 3: "cpu"}, "after": {1: "wait"}, "ctl": {2: "pid", 3: "wait"}}
-RANKS = {"ftrace": 0, "func": 1, "depth": 2, "tramps": 2, "user": 3, "cpu": 4, "ctl": 6, "sched": 7}
 
 
 def rank_of(line):
@@ -170,11 +191,17 @@ def rank_of(line):
 
 
 def places(lines, *keys):
+    """Where the lines are that begin with one of these words."""
     return [number for number, line in enumerate(lines) if line and line[0] in keys]
 
 
+def declared(lines, key):
+    """The names or pids that the lines of this word declare."""
+    return [lines[number][1] for number in places(lines, key) if len(lines[number]) > 1]
+
+
 def at_rank(rng, lines, rank):
-    """A place where a line of this rank may stand; rank 5 means below a `task` line."""
+    """A place where a line of this rank may come; rank 5 means below a `task` line."""
     first = sum(rank_of(line) < rank for line in lines)
     last = sum(rank_of(line) <= rank for line in lines)
     return rng.randint(min(first + (rank == 5), last), last)
@@ -226,8 +253,8 @@ def set_number(rng, lines):
 def set_turns(rng, lines):
     """A count of a schedule, or turns that come to the most, or to one more."""
     cpus = len(places(lines, "cpu"))
-    whole = MOST_TURNS // (1 + cpus)
-    items = [f"all*{whole}"] + [f"k*{MOST_TURNS - whole * (1 + cpus) + rng.choice([0, 1])}"]
+    whole = STEPS // (1 + cpus)
+    items = [f"all*{whole}"] + [f"k*{STEPS - whole * (1 + cpus) + rng.choice([0, 1])}"]
     rng.shuffle(items)
     one = f"{rng.choice(['k', 'all', '0', '7', '8'])}*{rng.choice(EDGES['count'] + TOO_BIG)}"
     kept = [line for line in lines if not line or line[0] != "sched"]
@@ -267,13 +294,10 @@ def unbalance(rng, lines):
 def add_later(rng, lines):
     """A line of a form that isn't built yet."""
     rank = rng.choice(list(LATER_LINES))
-    users = [lines[number][1] for number in places(lines, "user") if len(lines[number]) > 1] or ["nobody"]
-    pids = [lines[number][1] for number in places(lines, "task") if len(lines[number]) > 1] or ["10"]
-    functions = [lines[number][1] for number in places(lines, "func") if len(lines[number]) > 1] or ["nobody"]
-    new = rng.choice(LATER_LINES[rank])
-    for letter, known in (("U", users), ("P", pids), ("F", functions)):
-        new = new.replace(letter, rng.choice(known))
-    new = [line.split() for line in new.split(";")]
+    form = rng.choice(LATER_LINES[rank])
+    user, pid = rng.choice(declared(lines, "user") or ["nobody"]), rng.choice(declared(lines, "task") or ["10"])
+    function = rng.choice(declared(lines, "func") or ["nobody"])
+    new = [line.split() for line in form.format(user=user, pid=pid, function=function).split(";")]
     if rank == 3 and rng.random() < 0.5:  # the only user, of another form
         lines[:] = [line for line in lines if not line or line[0] != "user"]
     place = at_rank(rng, lines, rank if rng.random() < 0.9 else rng.randint(0, 7))
@@ -288,18 +312,18 @@ def add_task(rng, lines):
 
 def add_text(rng, lines):
     """An edit of a filter, whose text may be refused."""
-    users = [lines[number][1] for number in places(lines, "user") if len(lines[number]) > 1] or ["nobody"]
+    users = declared(lines, "user") or ["nobody"]
     edit = [rng.choice(["filter", "notrace"]), rng.choice(users), rng.choice([">", ">>"]), rng.choice(TEXTS)]
     lines.insert(at_rank(rng, lines, 6), ["ctl"] + edit)
 
 
 def add_wait(rng, lines):
     """A wait that may never be met."""
-    pids = [lines[number][1] for number in places(lines, "task") if len(lines[number]) > 1]
+    pids = declared(lines, "task")
     if pids and rng.random() < 0.5:
         lines.insert(at_rank(rng, lines, 6), ["ctl", "until", rng.choice(pids), str(rng.randint(1, 9))])
     elif pids:
-        lines.insert(at_rank(rng, lines, 5), ["after", str(rng.choice([1, 2, 5, 1024, 4_294_967_295]))])
+        lines.insert(at_rank(rng, lines, 5), ["after", str(rng.choice([1, 2, 5, COMMANDS, NUMBER]))])
 
 
 def change_version(rng, lines):
@@ -307,36 +331,57 @@ def change_version(rng, lines):
     lines[:1] = [new] if rng.random() < 0.7 else [new] + lines[:1]
 
 
+def long_name(rng, lines, more):
+    name = "n" * (NAME_BYTES + more)
+    return [rng.choice([["func", name], ["func", name], ["user", name, "function"]])]
+
+
+def long_module(rng, lines, more):
+    name = "n" * (NAME_BYTES + more)
+    return [rng.choice([["func", "fn", name], ["func", "fn", name], ["user", name, "function"]])]
+
+
+def many_functions(rng, lines, more):
+    return [["func", f"f{n}"] for n in range(FUNCS + more - len(places(lines, "func")))]
+
+
+def many_cpus(rng, lines, more):
+    return [["cpu", str(n), "quantum", "5"] for n in range(len(places(lines, "cpu")), CPUS + more)]
+
+
+def many_commands(rng, lines, more):
+    have = sum(line[1:2] in (["register"], ["unregister"]) for line in lines)
+    return [["ctl", "register", user] for user in declared(lines, "user")[:1]] * (COMMANDS + more - have)
+
+
+def many_waits(rng, lines, more):
+    have = sum(line[1:2] == ["until"] for line in lines)
+    return [["ctl", "until", pid, "1"] for pid in declared(lines, "task")[:1]] * (UNTILS + more - have)
+
+
+def many_levels(rng, lines, more):
+    if not declared(lines, "func") or not declared(lines, "task"):
+        return []
+    return [["call", declared(lines, "func")[0]]] * (LEVELS + more) + [["ret"]] * (LEVELS + more)
+
+
+def many_acts(rng, lines, more):
+    """Seldom, since such a script is large."""
+    if not declared(lines, "func") or not declared(lines, "task") or rng.random() >= 0.3:
+        return []
+    have = len(places(lines, "call", "ret", "after"))
+    return [["call", declared(lines, "func")[0]], ["ret"]] * ((ACTS + 1 - have) // 2) + [["after", "1"]] * more
+
+
+MANY = [long_name, long_module, many_functions, many_cpus, many_commands, many_waits, many_levels, many_acts]
+MANY += [long_name, long_module, many_cpus]
+
+
 def many(rng, lines):
-    """As many lines or bytes of one kind as are let in, or one more."""
+    """As many lines or bytes of one kind as are accepted, or one more."""
     more = rng.choice([0, 1])
-    kind = rng.choice(["name", "module", "func", "cpu", "register", "until", "deep", "acts"] + ["name", "module", "cpu"])
-    users = [lines[number][1] for number in places(lines, "user") if len(lines[number]) > 1]
-    pids = [lines[number][1] for number in places(lines, "task") if len(lines[number]) > 1]
-    functions = [lines[number][1] for number in places(lines, "func") if len(lines[number]) > 1]
-    if kind in ("name", "module"):
-        long = "n" * (63 + more)
-        rank, new = rng.choice([1, 1, 3]), None
-        new = [["func", long] if kind == "name" else ["func", "fn", long]] if rank == 1 else [["user", long, "function"]]
-    elif kind == "func":
-        rank, new = 1, [["func", f"f{n}"] for n in range(1024 + more - len(places(lines, "func")))]
-    elif kind == "cpu":
-        have = len(places(lines, "cpu"))
-        rank, new = 4, [["cpu", str(n), "quantum", "5"] for n in range(have, 8 + more)]
-    elif kind == "register" and users:
-        have = sum(line[1:2] in (["register"], ["unregister"]) for line in lines)
-        rank, new = 6, [["ctl", "register", users[0]]] * (1024 + more - have)
-    elif kind == "until" and pids:
-        have = sum(line[1:2] == ["until"] for line in lines)
-        rank, new = 6, [["ctl", "until", pids[0], "1"]] * (1024 + more - have)
-    elif kind == "deep" and functions and pids:
-        rank, new = 5, [["call", functions[0]]] * (MOST_LEVELS + more) + [["ret"]] * (MOST_LEVELS + more)
-    elif kind == "acts" and functions and pids and rng.random() < 0.3:
-        have = len(places(lines, "call", "ret", "after"))
-        rank, new = 5, [["call", functions[0]], ["ret"]] * ((MOST_ACTS + 1 - have) // 2) + [["after", "1"]] * more
-    else:
-        return
-    place = sum(rank_of(line) <= rank for line in lines)
+    new = rng.choice(MANY)(rng, lines, more)
+    place = sum(rank_of(line) <= rank_of(new[0]) for line in lines) if new else 0
     lines[place:place] = [list(line) for line in new]
 
 
@@ -374,7 +419,7 @@ def mutated(seed):
 # The forms that aren't built yet.
 
 def is_later(words, users, cpus):
-    """Whether a line of these words has such a form, below so many users and tasks on these CPUs."""
+    """Whether a line of these words has such a form, below this many users and below tasks on these CPUs."""
     key = words[0]
     if key == "user":
         return users > 0 or words[2:] != ["function"]
@@ -386,7 +431,7 @@ def is_later(words, users, cpus):
 
 
 def first_later(text):
-    """The lowest line of a form that isn't built yet, else None; right where no line above it has a cause."""
+    """The lowest line of a form that isn't built yet, else None. It is right if no line above it has a cause."""
     users, cpus = 0, set()
     for number, line in enumerate(text.decode("latin-1").split("\n"), 1):
         words = [word for word in re.split("[ \t]+", line) if word]
