@@ -1,39 +1,41 @@
 #!/usr/bin/env python3
 """Compares ftcore with another program on random scripts, accepted and refused.
 
-    compare_scripts.py PROGRAM REFERENCE --count N [--seed S] [--exact] [--keep FOLDER]
-
-REFERENCE is a program that was written from the same rules by other hands. It builds every form, so
-it doesn't know the cause `later`. The N scripts of each source have the seeds from S on:
+REFERENCE is a program that was written from the same rules by other hands, and isn't part of this
+repository. It builds every form, so it doesn't know the cause `later`. The N scripts of each source
+have the seeds from S on:
 
     plain      script_forms.py, scripts that are accepted
     mutated    script_forms.py, slightly broken ones
     generated  `REFERENCE gen`, each second one through `REFERENCE mutate`
 
 Each script goes through `PROGRAM replay` and `REFERENCE --machine e1 --features none replay`. They
-agree where status and bytes are the same and nothing is written to standard error. They also agree
-where PROGRAM says `line N: later` and REFERENCE accepts the script, or refuses it at a line below N
-in the text, or as a deadlock, which comes only where no line has another cause.
+agree if status and bytes are the same and nothing is written to standard error. They also agree
+if PROGRAM says `line N: later` and REFERENCE accepts the script, or refuses it at a line after N,
+or as a deadlock, which comes only if no line has another cause.
 
-With `--exact`, PROGRAM must besides say `later` exactly where the lowest line of a form that isn't
-built yet comes first, by script_forms.first_later. Leave it out where PROGRAM builds every form.
+With --exact, PROGRAM must also say `later` exactly if the lowest line of a form that isn't
+built yet comes first, by script_forms.first_later. Without it PROGRAM may build more forms.
 
 Each difference is printed with its seed, and its script is kept in FOLDER with what the two
-programs printed. The status is 1 where there is a difference. Two processes run at a time.
+programs printed and the commands that made it. A script that REFERENCE can't generate is printed
+too, and the others are still compared. The status is 1 if there is either. Two processes run at a time.
 
 To try the comparison itself, let PROGRAM be a script that runs
-`REFERENCE --machine e1 --features none "$@"`: nothing differs then.
+`REFERENCE --machine e1 --features none "$@"`: then nothing differs.
 """
 import argparse
 import collections
 import concurrent.futures
 import pathlib
 import re
-import subprocess
+import shutil
 import sys
 import tempfile
 
-import script_forms
+sys.dont_write_bytecode = True
+import runs  # noqa: E402
+import script_forms  # noqa: E402
 
 SOURCES = ["plain", "mutated", "generated"]
 REFUSAL = re.compile(rb"line (\d+): ([a-z]+)\n")
@@ -42,115 +44,128 @@ WORKERS = 2
 SECONDS = 120
 
 
-def answer(command, text=b""):
-    """Status, output and error output of a program on this input; the status is None where it took too long."""
-    try:
-        done = subprocess.run(command, input=text, capture_output=True, timeout=SECONDS)
-        return done.returncode, done.stdout, done.stderr
-    except subprocess.TimeoutExpired:
-        return None, b"", b""
+def commands_of(source, seed, reference):
+    """The commands that write the script of this source and seed, each of which reads what the one before it wrote."""
+    if source != "generated":
+        return [[sys.executable, script_forms.__file__, "--seed", str(seed)] + ["--mutate"] * (source == "mutated")]
+    size = "medium" if seed % 8 == 7 else "small"
+    gen = [reference, "gen", "--seed", str(seed), "--size", size, "--features", "none"]
+    return [gen] + [[reference, "mutate", "--seed", str(seed)]] * (seed % 2)
 
 
 def text_of(source, seed, reference):
-    """The script of this source and seed."""
+    """The script of this source and seed, and what went wrong if there is none."""
     if source != "generated":
-        return script_forms.script(seed) if source == "plain" else script_forms.mutated(seed)
-    size = "medium" if seed % 8 == 7 else "small"
-    commands = [[reference, "gen", "--seed", str(seed), "--size", size, "--features", "none"]]
-    commands += [[reference, "mutate", "--seed", str(seed)]] * (seed % 2)
+        return script_forms.script(seed) if source == "plain" else script_forms.mutated(seed), None
     text = b""
-    for command in commands:
-        status, text, _ = answer(command, text)
-        if status != 0:
-            raise RuntimeError(f"{' '.join(command)} ended with status {status}")
-    return text
+    for command in commands_of(source, seed, reference):
+        came = runs.answer(command, text, SECONDS)
+        if came.status != 0:
+            return None, f"{' '.join(command)}: " + ("no answer" if came.status is None else f"status {came.status}")
+        text = came.out
+    return text, None
 
 
-def refusal(status, out):
+def refusal(came):
     """The line and the cause of a refused script, else None."""
-    found = REFUSAL.fullmatch(out) if status == 3 else None
+    found = REFUSAL.fullmatch(came.out) if came.status == 3 else None
     return (int(found[1]), found[2].decode()) if found else None
 
 
 def comes_first(later, theirs):
     """Whether `later` at this line comes before what REFERENCE says, which doesn't know that cause."""
-    status, fault = theirs
-    if status == 0 or fault is None:
-        return status == 0
+    fault = refusal(theirs)
+    if theirs.status == 0 or fault is None:
+        return theirs.status == 0
     return fault[1] == "deadlock" or fault[0] > later
 
 
 def agree(ours, theirs, text, exact):
     """Whether the two answers agree on this script."""
-    theirs_said = (theirs[0], refusal(*theirs[:2]))
-    fault = refusal(*ours[:2])
-    if ours[0] is None or theirs[0] is None or ours[2]:
+    if ours.status is None or theirs.status is None or ours.err:
         return False
+    fault, is_same = refusal(ours), ours[:2] == theirs[:2]
     is_later = fault is not None and fault[1] == "later"
     if exact:
         line = script_forms.first_later(text)
-        due = line is not None and comes_first(line, theirs_said)
-        return fault == (line, "later") if due else not is_later and ours[:2] == theirs[:2]
-    return comes_first(fault[0], theirs_said) if is_later else ours[:2] == theirs[:2]
+        is_due = line is not None and comes_first(line, theirs)
+        return fault == (line, "later") if is_due else not is_later and is_same
+    return comes_first(fault[0], theirs) if is_later else is_same
 
 
 def cause_of(ours):
-    fault = refusal(*ours[:2])
+    """What became of a script, in a word or two."""
+    fault = refusal(ours)
     if fault:
         return fault[1]
-    return {0: "accepted", None: "took too long"}.get(ours[0], f"status {ours[0]}")
+    return {0: "accepted", None: "took too long"}.get(ours.status, f"status {ours.status}")
 
 
 def compare(job):
-    """One script: (source, seed, cause, None), or the script and both answers in the last place."""
-    words, source, seed = job
-    text = text_of(source, seed, words.reference)
-    ours = answer([words.program, "replay"], text)
-    theirs = answer([words.reference, "--machine", "e1", "--features", "none", "replay"], text)
-    good = agree(ours, theirs, text, words.exact)
-    return source, seed, cause_of(ours), None if good else (text, ours, theirs)
+    """One script: its source and seed, its cause, and what is to be told of it: a text, or the script with both answers."""
+    options, source, seed = job
+    text, fault = text_of(source, seed, options.reference)
+    if text is None:
+        return source, seed, "not generated", fault
+    ours = runs.answer([options.program, "replay"], text, SECONDS)
+    theirs = runs.answer([options.reference, "--machine", "e1", "--features", "none", "replay"], text, SECONDS)
+    return source, seed, cause_of(ours), None if agree(ours, theirs, text, options.exact) else (text, ours, theirs)
 
 
-def brief(ours):
+def brief(came):
     """An answer on one line: the refusal, or the status and the size of the text."""
-    fault = refusal(*ours[:2])
-    said = f"line {fault[0]}: {fault[1]}" if fault else f"status {ours[0]}, {len(ours[1])} bytes"
-    return said + (", writes to standard error" if ours[2] else "")
+    fault = refusal(came)
+    said = f"line {fault[0]}: {fault[1]}" if fault else f"status {came.status}, {len(came.out)} bytes"
+    return said + (", writes to standard error" if came.err else "")
 
 
-def keep(folder, source, seed, difference):
-    """Writes the script and what the two programs printed."""
+def keep(options, source, seed, difference):
+    """Writes the script, the commands that made it, and what the two programs printed."""
     text, ours, theirs = difference
-    folder.mkdir(parents=True, exist_ok=True)
-    path = folder / f"{source}-{seed}.ft"
+    options.keep.mkdir(parents=True, exist_ok=True)
+    path = options.keep / f"{source}-{seed}.ft"
     path.write_bytes(text)
-    path.with_suffix(".program").write_bytes(ours[1])
-    path.with_suffix(".reference").write_bytes(theirs[1])
+    path.with_suffix(".program").write_bytes(ours.out)
+    path.with_suffix(".reference").write_bytes(theirs.out)
+    commands = " | ".join(" ".join(command) for command in commands_of(source, seed, options.reference))
+    path.with_suffix(".command").write_text(f"{commands} > {path.name}\n")
     print(f"differs: {source} seed {seed}: program {brief(ours)}; reference {brief(theirs)}; kept as {path}", flush=True)
 
 
-def main():
-    parser = argparse.ArgumentParser(description="Compares ftcore with another program on random scripts.")
-    parser.add_argument("program")
-    parser.add_argument("reference")
-    parser.add_argument("--count", type=int, required=True, help="scripts of each source")
-    parser.add_argument("--seed", type=int, default=0, help="the first seed")
+def read_options():
+    title = __doc__.split("\n", 1)
+    parser = argparse.ArgumentParser(description=title[0], epilog=title[1], formatter_class=argparse.RawDescriptionHelpFormatter)
+    parser.add_argument("program", metavar="PROGRAM", help="the program, as crates/ftcore/out/ftcore")
+    parser.add_argument("reference", metavar="REFERENCE", help="the other program")
+    parser.add_argument("--count", type=int, required=True, metavar="N", help="scripts of each source")
+    parser.add_argument("--seed", type=int, default=0, metavar="S", help="the first seed, else 0")
     parser.add_argument("--exact", action="store_true", help="`later` exactly at the lowest line of a form that isn't built yet")
-    parser.add_argument("--keep", type=pathlib.Path, default=FOLDER, metavar="FOLDER", help="where scripts that differ are kept")
-    words = parser.parse_args()
-    jobs = [(words, source, seed) for source in SOURCES for seed in range(words.seed, words.seed + words.count)]
-    causes, differ = collections.defaultdict(collections.Counter), 0
+    parser.add_argument("--keep", type=pathlib.Path, default=FOLDER, metavar="FOLDER", help=f"where scripts that differ are kept, else {FOLDER}")
+    options = parser.parse_args()
+    for path in (options.program, options.reference):
+        if not shutil.which(path):
+            parser.error(f"there is no program {path}")
+    return options
+
+
+def main():
+    options = read_options()
+    jobs = [(options, source, seed) for source in SOURCES for seed in range(options.seed, options.seed + options.count)]
+    causes, differ, lacking = collections.defaultdict(collections.Counter), 0, 0
     with concurrent.futures.ThreadPoolExecutor(WORKERS) as workers:
-        for source, seed, cause, difference in workers.map(compare, jobs):
+        for source, seed, cause, told in workers.map(compare, jobs):
             causes[source][cause] += 1
-            if difference:
+            if isinstance(told, str):
+                lacking += 1
+                print(f"no script: {source} seed {seed}: {told}", flush=True)
+            elif told:
                 differ += 1
-                keep(words.keep, source, seed, difference)
+                keep(options, source, seed, told)
     for source in SOURCES:
         counts = ", ".join(f"{cause} {count}" for cause, count in sorted(causes[source].items()))
         print(f"{source}: {sum(causes[source].values())} scripts: {counts}")
-    print(f"{len(jobs)} scripts, {differ} differ")
-    return 1 if differ else 0
+    print(f"{len(jobs)} scripts, {differ} differ" + (f", {lacking} not generated" if lacking else ""))
+    return 1 if differ or lacking else 0
 
 
 if __name__ == "__main__":
