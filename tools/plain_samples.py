@@ -1,18 +1,29 @@
 #!/usr/bin/env python3
 """Writes samples of the plain machine as a proof file.
 
-    plain_samples.py REFERENCE rows FILE            the worked examples below
-    plain_samples.py REFERENCE random FIRST COUNT FILE   random jobs, from the seed FIRST on
-
 REFERENCE is a program that was written from the same rules by other hands and prints the history
-of a script on its plain machine (`REFERENCE --machine e1 --features none replay < script`). Each
-script becomes a job, its printed history a list of items, and the proof says by computation that
-the definition of the plain machine gives that history and that end. A random script that REFERENCE
-refuses, or whose history has fewer than eleven items, is passed over, and the next seed is taken.
+of a script on its plain machine (`REFERENCE --machine e1 --features none replay < script`). It isn't
+part of this repository. Each script becomes a job, its printed history a list of items, and the
+proof says by computation that the definition of the plain machine gives that history and that end.
+A random script that REFERENCE refuses, or whose history has fewer than eleven items, is passed
+over, and the next seed is taken.
+
+The samples of crates/plain_machine/proofs are
+
+    RowSamples.antt       plain_samples.py REFERENCE rows FILE
+    RandomSamples1.antt   plain_samples.py REFERENCE random 1 50 FILE
+    RandomSamples2.antt   plain_samples.py REFERENCE random 1000 50 FILE
+    RandomSamples3.antt   plain_samples.py REFERENCE random 2000 50 FILE
 """
+import argparse
+import pathlib
 import random
-import subprocess
+import re
+import shutil
 import sys
+
+sys.dont_write_bytecode = True
+import runs  # noqa: E402
 
 HEAD = "cpu 0 quantum 100;task 10 cpu 0"
 ROWS = {
@@ -50,7 +61,7 @@ ROWS = {
     "stopped_early": "ftrace 1;func a;func b x;cpu 0 quantum 9;cpu 1 quantum 9;task 10 cpu 0;call a;ret;task 11 cpu 1;call b;ret;"
     "sched 1 0*2",
 }
-USUAL_TURNS = 60  # the rows have no schedule of their own: so many full turns end each of them
+USUAL_TURNS = 60  # enough to end each of the rows, which have no schedule of their own
 
 
 def random_script(rng):
@@ -142,9 +153,10 @@ def random_command(rng, funcs, users, tasks):
     return f"ctl maxdepth {rng.randint(0, 2)}"
 
 
-def reference(program, script):
-    run = subprocess.run([program, "--machine", "e1", "--features", "none", "replay"], input=script.encode(), capture_output=True)
-    return run.stdout.decode().split("\n")[:-1] if run.returncode == 0 else None
+def log_of(program, script):
+    """The lines that the other program prints for a script; None if it refuses it."""
+    came = runs.answer([program, "--machine", "e1", "--features", "none", "replay"], script.encode())
+    return came.out.decode().split("\n")[:-1] if came.status == 0 else None
 
 
 def listed(parts):
@@ -304,54 +316,97 @@ def sample(name, text, log):
         f"abbrev pub {name} : Job\n{name} = {script.job()}\n\n"
         f"abbrev pub {name}-items : List Item\n{name}-items = {items}\n\n"
         f"pub {name}-plays : Plays {name} {name}-items {ended}\n"
-        "unfolding actors_of repeated start played play is_over step whole desk\n"
+        "unfolding actors_of repeated start played play all_end step whole desk\n"
         f"{name}-plays = (refl, refl)\n\n"
     )
 
 
-IMPORTS = """use Rattle.std.proofs.Common.{ℕ, Bool, true, false, List, [], ◌∷◌, Some, None, codes, refl}
+IMPORTS = """use Rattle.std.proofs.Common.{true, false, List, [], ◌∷◌, Some, None, codes, refl}
 use Rattle.ft_base.specs.declared.context.Ctx.TheVariants.{Normal, Softirq, Irq, Nmi}
 use Rattle.ft_base.specs.declared.item.Ran.TheVariants.{Own, Nop, List as ByList}
 use Rattle.ft_base.specs.declared.item.Reason.TheVariants.{Depth, Recursion, Pid as ByPid}
 use Rattle.ft_base.specs.declared.item.Answer.TheVariants.{Accepted, Already, NotThere, Invalid, NoMatch, Busy}
 use Rattle.ft_base.specs.declared.item.Item.{Item}
 use Rattle.ft_base.specs.declared.item.Item.TheVariants.{Begin, Return, Enter, Back, BackEnd, Refuse, Miss, Body, Leave, Exit, ExitEnd, Ret}
-use Rattle.ft_base.specs.declared.plan.Kind.TheVariants.{Graph, Function, Fprobe, Profile}
-use Rattle.ft_base.specs.declared.plan.Act.TheVariants.{CallIn, IrqIn}
-use Rattle.ft_base.specs.declared.plan.TaskAct.TheVariants.{Call, Ret as RetAct, After, Raise, Lower}
+use Rattle.ft_base.specs.declared.user.Kind.TheVariants.{Graph, Function, Fprobe, Profile}
+use Rattle.ft_base.specs.declared.user.Act.TheVariants.{CallIn, IrqIn}
+use Rattle.ft_base.specs.declared.task.TaskAct.TheVariants.{Call, Ret as RetAct, After, Raise, Lower}
 use Rattle.ft_base.specs.declared.turn.Who.TheVariants.{Control as OfControl, Cpu as OfCpu, All}
 use Rattle.ft_base.specs.Job.{Job, Register, Unregister, Filter, Notrace, Enable, Disable, Pid, NoPid, MaxDepth, Run, Until}
 use Rattle.ft_base.specs.Desk.{desk}
 use Rattle.ft_base.specs.Schedule.{actors_of, repeated}
-use Rattle.plain_machine.specs.State.{start, played, play, is_over, step, whole}
+use Rattle.plain_machine.specs.State.{start, played, play, all_end, step, whole}
 use Rattle.plain_machine.proofs.Plays.{Plays, named, call_in}
-
 """
 
 
+def imports_of(body):
+    """The imports, with those names alone that the samples use, as `rt tidy` leaves them."""
+    words = set(re.split(r"[\s();]+", body)) | {"◌∷◌"}
+    lines = []
+    for line in IMPORTS.splitlines():
+        path, names = line[:-1].split(".{")
+        used = [name for name in names.split(", ") if name.split(" as ")[-1] in words]
+        if used:
+            lines.append(f"{path}.{{{', '.join(used)}}}\n")
+    return "".join(lines)
+
+
+def rows_of(program):
+    """The samples of the worked examples, and how the file's head calls them."""
+    body = ""
+    for name, script in ROWS.items():
+        text = script.replace(";", "\n") + "\n"
+        if "sched" not in script:
+            text += f"sched all*{USUAL_TURNS}\n"
+        log = log_of(program, text)
+        if not log:
+            sys.exit(f"plain_samples.py: {program} prints no history for {name}")
+        body += sample(name, text, log)
+    return "worked examples", body
+
+
+def random_of(program, first, count):
+    """This many samples of random jobs, from the seed `first` on, and how the file's head calls them."""
+    body, seed, done = "", first, 0
+    while done < count:
+        if seed - first > 100 + 10 * count:
+            sys.exit(f"plain_samples.py: {program} prints too few histories")
+        text = random_script(random.Random(seed))
+        log = log_of(program, text)
+        if log and len(log) >= 12:
+            body += sample(f"job_{seed}", text, log)
+            done += 1
+        seed += 1
+    return "random jobs", body
+
+
+def read_options():
+    title = __doc__.split("\n", 1)
+    parser = argparse.ArgumentParser(description=title[0], epilog=title[1], formatter_class=argparse.RawDescriptionHelpFormatter)
+    parser.add_argument("reference", metavar="REFERENCE", help="the other program")
+    kinds = parser.add_subparsers(dest="kind", required=True, metavar="rows|random")
+    rows = kinds.add_parser("rows", help="the worked examples")
+    randoms = kinds.add_parser("random", help="random jobs")
+    randoms.add_argument("first", type=int, metavar="FIRST", help="the first seed")
+    randoms.add_argument("count", type=int, metavar="COUNT", help="how many jobs")
+    for kind in (rows, randoms):
+        kind.add_argument("file", type=pathlib.Path, metavar="FILE", help="the proof file that is written")
+    options = parser.parse_args()
+    if not shutil.which(options.reference):
+        parser.error(f"there is no program {options.reference}")
+    return options
+
+
 def main():
-    program, what = sys.argv[1], sys.argv[2]
-    if what == "rows":
-        head = "-- The plain machine at worked examples, beside the histories that another program printed, which was written from the same rules.\n"
-        body = ""
-        for name, script in ROWS.items():
-            text = script.replace(";", "\n") + "\n"
-            if "sched" not in script:
-                text += f"sched all*{USUAL_TURNS}\n"
-            body += sample(name, text, reference(program, text))
+    options = read_options()
+    if options.kind == "rows":
+        words, (jobs, body) = "rows", rows_of(options.reference)
     else:
-        head = "-- The plain machine at random jobs, beside the histories that another program printed, which was written from the same rules.\n"
-        seed, count = int(sys.argv[3]), int(sys.argv[4])
-        body, done = "", 0
-        while done < count:
-            text = random_script(random.Random(seed))
-            log = reference(program, text)
-            if log and len(log) >= 12:
-                body += sample(f"job_{seed}", text, log)
-                done += 1
-            seed += 1
-    with open(sys.argv[-1], "w") as out:
-        out.write(head + IMPORTS + body.rstrip("\n") + "\n")
+        words, (jobs, body) = f"random {options.first} {options.count}", random_of(options.reference, options.first, options.count)
+    head = f"-- Written by tools/plain_samples.py REFERENCE {words} FILE\n"
+    head += f"-- The plain machine at {jobs}, beside the histories that another program printed, which was written from the same rules.\n"
+    options.file.write_text(head + imports_of(body) + "\n" + body.rstrip("\n") + "\n")
 
 
 if __name__ == "__main__":
