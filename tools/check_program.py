@@ -1,0 +1,437 @@
+#!/usr/bin/env python3
+"""Runs the built program at its edges, where no proof reaches:
+
+- the words of the command, in the language and not: those of docs/LANGUAGE.md and those of the tables below;
+- each status with its cause: streams that fail, too little memory, too long an input;
+- each limit of the language reached and passed, in at most a hundred times the time that it takes now;
+- random scripts of script_forms.py.
+
+Each row asks for the status and for what is written; nothing may be written to standard error.
+The last line is `edges: N passed, M failed`, and the status is 0 if nothing failed.
+"""
+import os
+import re
+import resource
+import shlex
+import sys
+import tempfile
+from typing import Callable, NamedTuple, Optional
+
+sys.dont_write_bytecode = True
+import check_docs  # noqa: E402
+import runs  # noqa: E402
+import script_forms as forms  # noqa: E402
+
+SCRIPT = b"ftrace 1\nfunc a\nuser tr function\ncpu 0 quantum 100\ntask 10 cpu 0\nafter 1\ncall a\nret\nctl register tr\n"
+LOG = b"0 begin 1\n1 return 1 ok\n2 enter 10.1 normal a -\n3 back 10.1 tr\n4 back-end 10.1 tr\n"
+LOG += b"5 body 10.1 a own tr\n6 leave 10.1\n7 ret 10.1 -\nend\n"
+SEEDS = 50
+
+
+# The words of the command.
+
+GOOD_WORDS = ["replay", "-- replay", "replay --", "--print log replay", "--print log -- replay", "--print log replay --"]
+GOOD_WORDS += ["replay --print log", "replay --print log --", "--print=log replay", "--print=log -- replay", "--print=log replay --"]
+GOOD_WORDS += ["replay --print=log", "replay --print=log --"]
+BAD_WORDS = ["", "''", "frob", "run", "bulk", "Replay", "repla", "--", "--print log", "-h", "--help", "replay -h", "replay --help"]
+BAD_WORDS += ["replay run", "replay replay", "replay -- replay", "replay -- --", "-- replay --", "-- replay --print log"]
+BAD_WORDS += ["replay -- --print=log", "--print -- replay", "replay --print -- log", "replay --print", "replay --print=", "replay --print ''"]
+BAD_WORDS += ["replay --print graph", "replay --print=xml", "replay --prin log", "replay --print=log --print=log", "bulk --print log"]
+BAD_WORDS += ["bulk --seed 1 --seed 2", "replay --seed 1", "replay ''", "'' replay", "replay 'replay '", "replay \u00e9", "r\u00e9play"]
+NOT_TEXT = [[b"\xff"], [b"replay\xff"], [b"\xff", b"replay"], [b"replay", b"\xff"], [b"replay", b"--print", b"log\x80"]]
+NOT_TEXT += [[b"--print=log", b"--", b"replay", b"\xc3"], [b"replay", b"\xc0\xaf"], [b"replay", b"\xed\xa0\x80"]]
+
+
+def page_words(page):
+    """The words of the page's tables with the columns `words` and `in the language`, each with its line, and whether they are."""
+    for number, head, cells in check_docs.table_rows(page.read_text()):
+        if head[:2] == ["words", "in the language"]:
+            for item in re.findall(r"`([^`]*)`|(no words)", cells[0]):
+                yield number, item[0], cells[1].startswith("yes")
+
+
+def try_words(rows, program, name, words, is_good):
+    """Words that are in the language have the script replayed; others end with 2, and nothing is read."""
+    with tempfile.TemporaryFile() as source:
+        source.write(SCRIPT)
+        source.flush()
+        source.seek(0)
+        came = runs.answer([program, *words], stdin=source)
+        found = runs.faults(came, 0, LOG) if is_good else runs.faults(came, 2, b"")
+        if not is_good and os.lseek(source.fileno(), 0, os.SEEK_CUR):
+            found.append("the input was read")
+    rows.row(f"words: {name}", found, came.seconds)
+
+
+def check_words(rows, program, page):
+    listed = list(page_words(page))
+    if not {True, False} <= {is_good for _, _, is_good in listed}:
+        rows.row(page.name, ["no table has the words that are in the language and those that aren't"])
+    for number, words, is_good in listed:
+        try_words(rows, program, f"{words or 'none'} ({page.name}, line {number})", shlex.split(words), is_good)
+    for words in GOOD_WORDS:
+        try_words(rows, program, words, shlex.split(words), True)
+    for words in BAD_WORDS:
+        try_words(rows, program, words or "none", shlex.split(words), False)
+    for words in NOT_TEXT:
+        try_words(rows, program, f"not text: {b' '.join(words)!r}", words, False)
+    try_words(rows, program, "a thousand times replay", ["replay"] * 1000, False)
+    try_words(rows, program, "a word of 100,000 bytes", ["replay", "x" * 100_000], False)
+
+
+# The statuses with their causes.
+
+class Stream(NamedTuple):
+    """A script and words, run by a shell that says what the streams are: the words of the command are "$@" there."""
+
+    what: str
+    status: int
+    out: bytes
+    shell: str
+    text: bytes = SCRIPT
+    words: str = "replay"
+
+
+def streams():
+    refused, words = b"ftrace 1\nfunc a\nfunc a\n", "replay frob"
+    yield Stream("a refused script", 3, b"line 3: duplicate\n", '"$@"', refused)
+    yield Stream("no bytes", 3, b"line 1: version\n", '"$@" </dev/null')
+    for what, given in [("a directory as input", "</"), ("a closed input", "<&-"), ("an input that can't be read", "0>/dev/null")]:
+        yield Stream(what, 4, b"", f'"$@" {given}')
+        yield Stream(f"{what}, a full device", 4, b"", f'"$@" {given} >/dev/full')
+        yield Stream(f"{what}, other words", 2, b"", f'"$@" {given}', words=words)
+    for what, given in [("a full device", ">/dev/full"), ("a closed output", ">&-"), ("an output that can't be written", "1</dev/null")]:
+        yield Stream(what, 5, b"", f'"$@" {given}')
+        yield Stream(f"{what}, a refused script", 5, b"", f'"$@" {given}', refused)
+        yield Stream(f"{what}, other words", 2, b"", f'"$@" {given}', words=words)
+    yield Stream("an input without an end", 7, b"", '"$@" </dev/zero')
+    yield Stream("an input without an end, a full device", 7, b"", '"$@" </dev/zero >/dev/full')
+    yield Stream("an input without an end, other words", 2, b"", '"$@" </dev/zero', words=words)
+    yield Stream("an input byte by byte", 0, LOG, 'dd bs=1 status=none | "$@"')
+    many, log = acts(forms.ACTS), acts_log(forms.ACTS)
+    yield Stream("a large output", 0, log, '"$@"', many)
+    for count in (0, 10, 100_000):
+        yield Stream(f"a reader that goes after {count} bytes", 5, log[:count], f'"$@" | head -c {count}; exit ${{PIPESTATUS[0]}}', many)
+    shell = "trap '' XFSZ; out=$(mktemp); (ulimit -f 1; \"$@\" >$out); status=$?; cat $out; rm $out; exit $status"
+    yield Stream("a file that may have 1,024 bytes", 5, log[:1024], shell, many)
+
+
+def acts_log(count):
+    """What the script of this many acts prints: control begins, and then the two CPUs take turns."""
+    items = ["begin 1", "return 1 ok"]
+    for number in range(1, count // 4 + 1):
+        for call in (f"10.{number}", f"11.{number}"):
+            items += [f"enter {call} normal a -", f"back {call} t", f"back-end {call} t", f"body {call} a own t"]
+        for call in (f"10.{number}", f"11.{number}"):
+            items += [f"leave {call}", f"ret {call} -"]
+    return script([f"{place} {item}" for place, item in enumerate(items)], "end")
+
+
+def check_streams(rows, program):
+    for stream in streams():
+        came = runs.answer(["bash", "-c", stream.shell, "bash", program, *shlex.split(stream.words)], stream.text)
+        rows.row(f"streams: {stream.what}", runs.faults(came, stream.status, stream.out), came.seconds)
+
+
+def take_memory():
+    """Leaves the process one MiB for its data."""
+    resource.setrlimit(resource.RLIMIT_DATA, (2**20, 2**20))
+
+
+def check_memory(rows, program):
+    """In one MiB of memory there is room for a small script, but not for the most bytes, acts or arguments."""
+    most = one_comment(forms.INPUT_BYTES)
+    tries = [("a small script", 0, LOG, SCRIPT, ["replay"]), ("the most bytes", 6, b"", most, ["replay"])]
+    tries += [("the most acts", 6, b"", acts(forms.ACTS), ["replay"]), ("the most bytes, other words", 2, b"", most, ["frob"])]
+    tries += [("1,500,000 bytes of arguments", 6, b"", SCRIPT, ["x" * 100_000] * 15)]
+    for what, status, out, text, words in tries:
+        came = runs.answer([program, *words], text, preexec_fn=take_memory)
+        rows.row(f"memory: {what}", runs.faults(came, status, out), came.seconds)
+
+
+# The limits. Each function makes a script with this much of something.
+
+FUNCTION = ["ftrace 1", "func a"]
+USER = [*FUNCTION, "user t function"]
+CPU = ["cpu 0 quantum 9"]
+TASK = [*CPU, "task 10 cpu 0"]
+CALL = ["call a", "ret"]
+
+
+def script(*parts):
+    """The text of these lines and lists of lines."""
+    lines = [line for part in parts for line in ([part] if isinstance(part, str) else part)]
+    return "".join(line + "\n" for line in lines).encode()
+
+
+def functions(count):
+    """With the longest names; the first and the last one are called."""
+    names = [f"f{number:0{forms.NAME_BYTES - 1}}" for number in range(count)]
+    return script("ftrace 1", [f"func {name}" for name in names], TASK, f"call {names[0]}", "ret", f"call {names[-1]}", "ret")
+
+
+def cpus(count):
+    tasks = [line for cpu in range(count) for line in [f"task {10 + cpu} cpu {cpu}", *CALL]]
+    return script(FUNCTION, [f"cpu {cpu} quantum 9" for cpu in range(count)], tasks)
+
+
+def acts(count):
+    """Half of them on each of two CPUs."""
+    half = CALL * (count // 4)
+    return script(USER, CPU, "cpu 1 quantum 9", "task 10 cpu 0", half, "task 11 cpu 1", half, ["after 1"] * (count % 2), "ctl register t")
+
+
+def levels(count):
+    return script(USER, TASK, ["call a"] * count, ["ret"] * count, "ctl register t")
+
+
+def commands(count):
+    return script(USER, (["ctl register t", "ctl unregister t"] * count)[:count])
+
+
+def waits(count):
+    return script(FUNCTION, TASK, CALL, ["ctl until 10 1"] * count)
+
+
+def steps(count):
+    """Each turn is control's, which has nothing to do; the task has none."""
+    return script(FUNCTION, TASK, CALL, "sched k*2000000", f"sched k*{count - 2_000_000}")
+
+
+def step_items(count):
+    return script(FUNCTION, TASK, CALL, "sched" + " k" * count)
+
+
+def turns(count):
+    return script(FUNCTION, TASK, CALL, f"sched 0*{count} 0")
+
+
+def function_name(count):
+    return script("ftrace 1", f"func {'x' * count}", TASK, f"call {'x' * count}", "ret")
+
+
+def called_name(count):
+    return script("ftrace 1", f"func {'x' * forms.NAME_BYTES}", TASK, f"call {'x' * count}", "ret")
+
+
+def module_name(count):
+    return script("ftrace 1", f"func a {'x' * count}", TASK, CALL)
+
+
+def user_name(count):
+    return script("ftrace 1", f"user {'x' * count} function", f"ctl register {'x' * count}")
+
+
+def registered_name(count):
+    return script("ftrace 1", f"user {'x' * forms.NAME_BYTES} function", f"ctl register {'x' * count}")
+
+
+def digits(count):
+    return script(FUNCTION, f"cpu 0 quantum {9:0{count}}", "task 10 cpu 0", CALL)
+
+
+def quantum(number):
+    return script(FUNCTION, f"cpu 0 quantum {number}", "task 10 cpu 0", CALL)
+
+
+def pid(number):
+    return script(FUNCTION, CPU, f"task {number} cpu 0", CALL)
+
+
+def waited_pid(number):
+    return script(FUNCTION, CPU, f"task {forms.PID} cpu 0", CALL, f"ctl until {number} 2")
+
+
+def after(number):
+    return script(USER, TASK, f"after {number}", CALL, "ctl register t")
+
+
+def until(number):
+    return script(FUNCTION, TASK, CALL, f"ctl until 10 {number}")
+
+
+def depth(number):
+    return script(FUNCTION, f"depth {number}", TASK, CALL)
+
+
+def tramps(number):
+    return script(FUNCTION, f"tramps {number}", TASK, CALL)
+
+
+def graph_depth(number):
+    return script(FUNCTION, TASK, CALL, f"ctl maxdepth {number}")
+
+
+def glob(count):
+    return script(USER, f"ctl filter t > {'?' * count}")
+
+
+def one_comment(count):
+    """A script of this many bytes."""
+    return b"ftrace 1\n" + b"#" * (count - 10) + b"\n"
+
+
+def comments(count):
+    """A script of this many bytes; the last comment is the longest."""
+    return b"ftrace 1\n" + b"# comment\n" * (count // 10 - 2) + b"#" * (count % 10 + 10) + b"\n"
+
+
+def comments_in_calls(count):
+    """Below the most calls that may be open."""
+    return script(FUNCTION, TASK, ["call a"] * forms.LEVELS, ["# x"] * count, ["ret"] * forms.LEVELS)
+
+
+def comments_in_call(count):
+    return script(FUNCTION, TASK, "call a", ["# x"] * count, "ret")
+
+
+def comments_between_acts(count):
+    """Below each of the most acts."""
+    return script(FUNCTION, TASK, ["call a", *["#"] * count, "ret", *["#"] * count] * (forms.ACTS // 2))
+
+
+def words_of_line(count):
+    return script("ftrace 1", "a " * count)
+
+
+def turn_by_turn(count):
+    """Before each call the task waits for control, and before each command control waits for the task."""
+    todo = [line for number in range(1, count + 1) for line in [f"after {number}", *CALL]]
+    edits = [("register", "unregister")[number % 2] for number in range(count)]
+    control = [line for number, edit in enumerate(edits, 1) for line in [f"ctl {edit} t", f"ctl until 10 {3 * number}"]]
+    return script(USER, TASK, todo, control)
+
+
+def large(count):
+    """The script of docs/BENCH.md: the most functions, CPUs and commands, and this many calls on each CPU."""
+    lines = ["ftrace 1"] + [f"func f{number}" for number in range(forms.FUNCS)] + ["user tr function"]
+    lines += [f"cpu {cpu} quantum {5 + cpu}" for cpu in range(forms.CPUS)]
+    for cpu in range(forms.CPUS):
+        lines.append(f"task {100 + cpu} cpu {cpu}")
+        for number in range(count // 2):
+            lines += [f"call f{(7 * number + cpu) % forms.FUNCS}", f"call f{(3 * number + cpu) % forms.FUNCS}", "ret", "ret"]
+    return script(lines, ["ctl register tr", "ctl unregister tr"] * (forms.COMMANDS // 2))
+
+
+class Limit(NamedTuple):
+    """A limit: the script with `at` of it prints `lines` lines, the last of them `last`, and the one with `past` of it is refused."""
+
+    what: str
+    make: Callable
+    at: int
+    last: str
+    lines: int
+    past: Optional[int] = None
+    refusal: Optional[str] = None  # None: status 7, too long an input
+    seconds: float = 0.02  # that the longer run takes; it may take a hundred times as long
+
+
+LIMITS = [
+    Limit("functions", functions, forms.FUNCS, "end", 9, forms.FUNCS + 1, "line 1026: limit"),
+    Limit("CPUs", cpus, forms.CPUS, "end", 33, forms.CPUS + 1, "line 11: limit"),
+    Limit("acts", acts, forms.ACTS, "end", 60_003, forms.ACTS + 1, "line 20008: limit"),
+    Limit("open calls", levels, forms.LEVELS, "end", 3_075, forms.LEVELS + 1, "line 518: limit"),
+    Limit("commands", commands, forms.COMMANDS, "end", 2_049, forms.COMMANDS + 1, "line 1028: limit"),
+    Limit("until lines", waits, forms.UNTILS, "end", 5, forms.UNTILS + 1, "line 1031: limit"),
+    Limit("steps", steps, forms.STEPS, "stopped", 1, forms.STEPS + 1, "line 8: limit"),
+    Limit("steps, each an item", step_items, forms.STEPS, "stopped", 1, forms.STEPS + 1, "line 7: limit", 0.3),
+    Limit("COUNT", turns, 1, "end", 5, 0, "line 7: limit"),
+    Limit("name of a function", function_name, forms.NAME_BYTES, "end", 5, forms.NAME_BYTES + 1, "line 2: limit"),
+    Limit("name in a call", called_name, forms.NAME_BYTES, "end", 5, forms.NAME_BYTES + 1, "line 5: limit"),
+    Limit("name of a module", module_name, forms.NAME_BYTES, "end", 5, forms.NAME_BYTES + 1, "line 2: limit"),
+    Limit("name of a user", user_name, forms.NAME_BYTES, "end", 3, forms.NAME_BYTES + 1, "line 2: limit"),
+    Limit("name in a command", registered_name, forms.NAME_BYTES, "end", 3, forms.NAME_BYTES + 1, "line 3: limit"),
+    Limit("digits", digits, forms.DIGITS, "end", 5, forms.DIGITS + 1, "line 3: syntax"),
+    Limit("number", after, forms.NUMBER, "line 6: deadlock", 1, forms.NUMBER + 1, "line 6: limit"),
+    Limit("quantum", quantum, forms.QUANTUM, "end", 5, forms.QUANTUM + 1, "line 3: limit"),
+    Limit("least quantum", quantum, 1, "end", 5, 0, "line 3: limit"),
+    Limit("pid", pid, forms.PID, "end", 5, forms.PID + 1, "line 4: limit"),
+    Limit("least pid", pid, 1, "end", 5, 0, "line 4: limit"),
+    Limit("pid of a wait", waited_pid, forms.PID, "end", 5, forms.PID + 1, "line 7: limit"),
+    Limit("N of after", after, 1, "end", 9, 0, "line 6: limit"),
+    Limit("N of until", until, 1, "end", 5, 0, "line 7: limit"),
+    # not built: these are refused as `later` at the limit
+    Limit("depth", depth, forms.FRAMES, "line 3: later", 1, forms.FRAMES + 1, "line 3: limit"),
+    Limit("tramps", tramps, forms.TRAMPS, "line 3: later", 1, forms.TRAMPS + 1, "line 3: limit"),
+    Limit("maxdepth", graph_depth, forms.GRAPH_DEPTH, "line 7: later", 1, forms.GRAPH_DEPTH + 1, "line 7: limit"),
+    Limit("glob", glob, forms.PATTERN_BYTES, "line 4: later", 1, forms.PATTERN_BYTES + 1, "line 4: pattern"),
+    # the most bytes, and scripts whose time could grow faster than their size
+    Limit("bytes", one_comment, forms.INPUT_BYTES, "end", 1, forms.INPUT_BYTES + 1, None, 0.03),
+    Limit("bytes in short lines", comments, forms.INPUT_BYTES, "end", 1, forms.INPUT_BYTES + 1, None, 0.06),
+    Limit("comments in an open call", comments_in_call, 4_000_000, "end", 5, seconds=0.15),
+    Limit("comments in 512 open calls", comments_in_calls, 4_000_000, "end", 2_049, seconds=0.15),
+    Limit("comments between 20,000 acts", comments_between_acts, 400, "end", 40_001, seconds=0.25),
+    Limit("words of a line", words_of_line, 8_000_000, "line 2: syntax", 1, seconds=0.2),
+    Limit("task and control turn by turn", turn_by_turn, forms.UNTILS, "end", 7_169),
+    Limit("the script of docs/BENCH.md", large, 1_250, "end", 46_145),
+]
+
+
+# The forms of a log's items; C is a call.
+ITEMS = [rb"begin \d+", rb"return \d+ (ok|already|not-there|invalid|no-match|busy \S+ \S+)", rb"enter C (normal|softirq|irq|nmi) \S+ (-|C)"]
+ITEMS += [rb"(back|back-end|miss|exit-end) C \S+", rb"refuse C \S+ (pid|recursion|depth)", rb"body C \S+ (nop|list|own \S+)"]
+ITEMS += [rb"leave C", rb"exit C \S+ \d+", rb"ret C (-|C)"]
+ITEM = re.compile(rb"(\d+) (" + b"|".join(ITEMS).replace(b"C", rb"\d+\.\d+") + b")")
+
+
+def log_faults(out):
+    """What is wrong with the log of an accepted script: each line is to be an item with its place, and the last one an end."""
+    lines = out.split(b"\n")
+    if lines[-1] or lines[-2:-1] not in ([b"end"], [b"stopped"]):
+        return [f"the last line is {runs.brief(b' '.join(lines[-2:]))}"]
+    for place, line in enumerate(lines[:-2]):
+        found = ITEM.fullmatch(line)
+        if not found or int(found[1]) != place:
+            return [f"line {place + 1} is {runs.brief(line)}, which is no item with the place {place}"]
+    return []
+
+
+def limit_faults(came, last, count):
+    """What is wrong with an answer that is to have this many lines, the last of them a refusal or the end of a log."""
+    is_accepted = last.encode() + b"\n" in check_docs.ENDS
+    found, lines = runs.faults(came, 0 if is_accepted else 3), came.out.split(b"\n")
+    if len(lines) - 1 != count:
+        found.append(f"{len(lines) - 1} lines, not {count}")
+    if lines[-2:] != [last.encode(), b""]:
+        found.append(f"the last line is {runs.brief(b' '.join(lines[-2:]))}, not {last!r}")
+    return found or (log_faults(came.out) if is_accepted else [])
+
+
+def check_limits(rows, program):
+    for limit in LIMITS:
+        seconds = max(2, 100 * limit.seconds)
+        came = runs.answer([program, "replay"], limit.make(limit.at), seconds)
+        rows.row(f"limits: {limit.what}: {limit.at:,}", limit_faults(came, limit.last, limit.lines), came.seconds)
+        if limit.past is None:
+            continue
+        came = runs.answer([program, "replay"], limit.make(limit.past), seconds)
+        found = runs.faults(came, 7, b"") if limit.refusal is None else limit_faults(came, limit.refusal, 1)
+        rows.row(f"limits: {limit.what}: {limit.past:,}", found, came.seconds)
+
+
+# Random scripts.
+
+def check_random(rows, program):
+    """Scripts that are accepted, and broken variants, which are accepted or refused."""
+    for seed in range(SEEDS):
+        came = runs.answer([program, "replay"], forms.script(seed))
+        rows.row(f"random: script_forms.py --seed {seed}", runs.faults(came, 0) or log_faults(came.out), came.seconds)
+        came = runs.answer([program, "replay"], forms.mutated(seed))
+        is_refused = check_docs.REFUSED.fullmatch(came.out)
+        found = runs.faults(came, 3) if is_refused else runs.faults(came, 0) or log_faults(came.out)
+        rows.row(f"random: script_forms.py --seed {seed} --mutate", found, came.seconds)
+
+
+def main():
+    options = runs.read_options(runs.options(__doc__))
+    rows = runs.Rows("edges", options.verbose)
+    check_words(rows, options.program, options.top / "docs" / "LANGUAGE.md")
+    check_streams(rows, options.program)
+    check_memory(rows, options.program)
+    check_limits(rows, options.program)
+    check_random(rows, options.program)
+    return rows.end()
+
+
+if __name__ == "__main__":
+    sys.exit(main())
