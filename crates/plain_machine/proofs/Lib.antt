@@ -4,7 +4,6 @@ pub mod Returns
 pub mod WholeCall
 pub mod Rows
 pub mod Keeps
-pub mod Bounds
 pub mod PlainUsers
 pub mod Ends
 pub mod Plays
