@@ -11,6 +11,7 @@ over, and the next seed is taken.
 The samples of crates/plain_machine/proofs are
 
     RowSamples.antt       plain_samples.py REFERENCE rows FILE
+    MoreSamples.antt      plain_samples.py REFERENCE more FILE
     RandomSamples1.antt   plain_samples.py REFERENCE random 1 50 FILE
     RandomSamples2.antt   plain_samples.py REFERENCE random 1000 50 FILE
     RandomSamples3.antt   plain_samples.py REFERENCE random 2000 50 FILE
@@ -60,6 +61,29 @@ ROWS = {
     "sched 1 0*2 1",
     "stopped_early": "ftrace 1;func a;func b x;cpu 0 quantum 9;cpu 1 quantum 9;task 10 cpu 0;call a;ret;task 11 cpu 1;call b;ret;"
     "sched 1 0*2",
+}
+MORE = {
+    "no_match": f"ftrace 1;func a;func b;user t function;{HEAD};after 4;call a;ret;call b;ret;ctl filter t > b;ctl filter t >> x;"
+    "ctl filter t > !x;ctl register t",
+    "busy_elsewhere": "ftrace 1;func a;func b;func c;func d;user p function regs ipmodify d;user q function regs ipmodify d;"
+    f"user r function regs ipmodify d;{HEAD};after 10;call b;ret;call c;ret;ctl filter p > a;ctl filter q > c;ctl filter r > [bc];"
+    "ctl register p;ctl register q;ctl register r;ctl filter r > b;ctl register r;ctl filter r >> [cd];ctl filter r >> a",
+    "cleared_set": f"ftrace 1;func a;func b;user t function;{HEAD};after 3;call b;ret;after 6;call a;ret;call b;ret;ctl filter t > a;"
+    "ctl register t;ctl filter t >;ctl until 10 3;ctl notrace t > *;ctl notrace t >;ctl notrace t >> a",
+    "removed_from_none": f"ftrace 1;func a;func b;func c;user t function;{HEAD};after 3;call a;ret;call c;ret;after 5;call a;ret;"
+    "ctl filter t > a;ctl filter t > !b;ctl register t;ctl until 10 5;ctl notrace t > a;ctl notrace t > !b",
+    "task_without_acts": "ftrace 1;func a;cpu 0 quantum 1;cpu 1 quantum 1;task 10 cpu 0;task 11 cpu 0;call a;ret;task 12 cpu 1",
+    "three_cpus": "ftrace 1;func a;func b;func c;user t function;cpu 0 quantum 2;cpu 1 quantum 1;cpu 2 quantum 9;"
+    "task 10 cpu 2;call a;call b;ret;ret;task 11 cpu 0;call b;ret;task 12 cpu 1;after 1;call c;ret;"
+    "ctl register t;sched 2 1 0 k 1*2 2 0 1 2*2",
+    "stopped_in_a_call": f"ftrace 1;func a;func b;user p fprobe exit;{HEAD};call a;call b;ret;ret;ctl register p;ctl unregister p;"
+    "sched k 0*3",
+    "pid_before_recursion": f"ftrace 1;func a;func b;user t1 function call b;user t2 function pid;{HEAD};after 3;call a;ret;"
+    "task 11 cpu 0;after 3;call a;ret;ctl register t1;ctl register t2;ctl pid 11",
+    "max_depth": f"ftrace 1;func a;func b;func c;user g graph;{HEAD};after 2;call a;call b;call c;ret;ret;ret;after 3;call a;call b;ret;ret;"
+    "ctl register g;ctl maxdepth 2;ctl until 10 7;ctl maxdepth 1",
+    "enabled_again": f"ftrace 1;func a;user p fprobe exit;{HEAD};after 2;call a;ret;after 3;call a;after 4;ret;after 5;call a;ret;"
+    "ctl register p;ctl disable p;ctl until 10 3;ctl enable p;ctl until 10 5;ctl disable p;ctl until 10 7;ctl enable p",
 }
 USUAL_TURNS = 60  # enough to end each of the rows, which have no schedule of their own
 
@@ -352,10 +376,10 @@ def imports_of(body):
     return "".join(lines)
 
 
-def rows_of(program):
-    """The samples of the worked examples, and how the file's head calls them."""
+def rows_of(program, rows):
+    """The samples of worked examples."""
     body = ""
-    for name, script in ROWS.items():
+    for name, script in rows.items():
         text = script.replace(";", "\n") + "\n"
         if "sched" not in script:
             text += f"sched all*{USUAL_TURNS}\n"
@@ -363,11 +387,11 @@ def rows_of(program):
         if not log:
             sys.exit(f"plain_samples.py: {program} prints no history for {name}")
         body += sample(name, text, log)
-    return "worked examples", body
+    return body
 
 
 def random_of(program, first, count):
-    """This many samples of random jobs, from the seed `first` on, and how the file's head calls them."""
+    """This many samples of random jobs, from the seed `first` on."""
     body, seed, done = "", first, 0
     while done < count:
         if seed - first > 100 + 10 * count:
@@ -378,19 +402,20 @@ def random_of(program, first, count):
             body += sample(f"job_{seed}", text, log)
             done += 1
         seed += 1
-    return "random jobs", body
+    return body
 
 
 def read_options():
     title = __doc__.split("\n", 1)
     parser = argparse.ArgumentParser(description=title[0], epilog=title[1], formatter_class=argparse.RawDescriptionHelpFormatter)
     parser.add_argument("reference", metavar="REFERENCE", help="the other program")
-    kinds = parser.add_subparsers(dest="kind", required=True, metavar="rows|random")
+    kinds = parser.add_subparsers(dest="kind", required=True, metavar="rows|more|random")
     rows = kinds.add_parser("rows", help="the worked examples")
+    more = kinds.add_parser("more", help="examples of what the worked ones don't show")
     randoms = kinds.add_parser("random", help="random jobs")
     randoms.add_argument("first", type=int, metavar="FIRST", help="the first seed")
     randoms.add_argument("count", type=int, metavar="COUNT", help="how many jobs")
-    for kind in (rows, randoms):
+    for kind in (rows, more, randoms):
         kind.add_argument("file", type=pathlib.Path, metavar="FILE", help="the proof file that is written")
     options = parser.parse_args()
     if not shutil.which(options.reference):
@@ -401,9 +426,12 @@ def read_options():
 def main():
     options = read_options()
     if options.kind == "rows":
-        words, (jobs, body) = "rows", rows_of(options.reference)
+        words, jobs, body = "rows", "worked examples", rows_of(options.reference, ROWS)
+    elif options.kind == "more":
+        words, jobs, body = "more", "examples of what the worked ones don't show", rows_of(options.reference, MORE)
     else:
-        words, (jobs, body) = f"random {options.first} {options.count}", random_of(options.reference, options.first, options.count)
+        words, jobs = f"random {options.first} {options.count}", "random jobs"
+        body = random_of(options.reference, options.first, options.count)
     head = f"-- Written by tools/plain_samples.py REFERENCE {words} FILE\n"
     head += f"-- The plain machine at {jobs}, beside the histories that another program printed, which was written from the same rules.\n"
     options.file.write_text(head + imports_of(body) + "\n" + body.rstrip("\n") + "\n")

@@ -8,6 +8,8 @@ pub mod PlainUsers
 pub mod Ends
 pub mod Plays
 pub mod RowSamples
+pub mod MoreSamples
+pub mod AtEnds
 pub mod RandomSamples1
 pub mod RandomSamples2
 pub mod RandomSamples3
