@@ -1,10 +1,10 @@
--- The test `is_fit` passes exactly where the name fits.
+-- The test `is_fit` passes exactly if the name fits.
 use Rattle.std.proofs.Common.{◌≡◌, ◌↔◌, ℕ, List, [], ◌∷◌, ◌++◌, refl, sym, ap, subst, Bool, true, false, true≢false, IsTrue, ◌||◌}
 use Rattle.std.proofs.lemmas.Bool.{and_from, and_parts, or_left, or_right}
 use Rattle.glob_filter.specs.Items.{Item, byte, any, star, class}
 use Rattle.glob_filter.specs.Fits.{takes, some_rest, Fits, is_fit}
 
--- the test passes at what is left behind some front of the name
+-- the test passes at what is left of the name after some of its bytes
 abbrev SomeRest : (List ℕ → Bool) → List ℕ → Type 0
 SomeRest test name = (front back : List ℕ) × (name ≡ front ++ back) × IsTrue (test back)
 

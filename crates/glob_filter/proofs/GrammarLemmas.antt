@@ -25,7 +25,7 @@ Contains-split b x xs h = split h.0 h.1 h.2
 abbrev ends : ℕ → Bool
 ends b = eqb b close_bracket
 
--- the first `]` stands right behind what has none
+-- the first `]` comes right after what has none
 close-first : (others text : List ℕ) → ¬ Contains others close_bracket → position_or_len ends (others ++ close_bracket ∷ text) ≡ length others
 close-first [] text none = refl
 close-first (b ∷ others) text none =
@@ -34,7 +34,7 @@ close-first (b ∷ others) text none =
     ∙ ap (λ n. 1 + n) (close-first others text (λ h. none (Contains-more b close_bracket others h)))
     ∙ omega arith
 
--- where there is none, the search comes to the end
+-- if there is none, the search comes to the end
 close-none : (xs : List ℕ) → ¬ Contains xs close_bracket → position_or_len ends xs ≡ length xs
 close-none [] none = refl
 close-none (b ∷ xs) none =
@@ -62,7 +62,7 @@ NoneIn-[] x h = omega (arith, h.1)
 NoneIn-more : (b x : ℕ) (xs : List ℕ) → b ≢ x → ¬ Contains xs x → ¬ Contains (b ∷ xs) x
 NoneIn-more b x xs ne none h = elim (Contains-split b x xs h) [ inl e ↦ ne e | inr more ↦ none more ]
 
--- a list up to its first `]`, and what stands behind it
+-- a list up to its first `]`, and what comes after it
 abbrev Split : List ℕ → Type 0
 Split xs = (front back : List ℕ) × (xs ≡ front ++ close_bracket ∷ back) × (¬ Contains front close_bracket)
 
@@ -81,8 +81,8 @@ split_close (b ∷ xs) = Split-step b xs (cases_eq b close_bracket) (split_close
 -- ---- the items of a text, by the form of its first item
 
 -- a content and its `]` are passed over
-behind_class : (first : ℕ) (others text : List ℕ) → drop (length others + 2) (first ∷ (others ++ close_bracket ∷ text)) ≡ text
-behind_class first others text =
+after_class : (first : ℕ) (others text : List ℕ) → drop (length others + 2) (first ∷ (others ++ close_bracket ∷ text)) ≡ text
+after_class first others text =
     let rest : List ℕ = first ∷ (others ++ close_bracket ∷ text) in
     let closed : drop (length others + 1) rest ≡ close_bracket ∷ text = drop_at (first ∷ others) (close_bracket ∷ text) (length others + 1) (omega arith) in
     let more : length others + 2 ≡ length others + 1 + 1 = omega arith in
@@ -101,7 +101,7 @@ items_of-class first others text ne none =
     ap (λ (c : Item × ℕ). c.0 ∷ items_after c.1 rest) at
     ∙ ap (λ content. class false (ranges_of content) ∷ items_after (0 + (length others + 2)) rest) (content_taken first others text)
     ∙ ap (λ items. class false (ranges_of (first ∷ others)) ∷ items)
-    (items_after-drop (0 + (length others + 2)) rest ∙ ap (λ n. items_of (drop n rest)) (zero-add (length others + 2)) ∙ ap items_of (behind_class first others text))
+    (items_after-drop (0 + (length others + 2)) rest ∙ ap (λ n. items_of (drop n rest)) (zero-add (length others + 2)) ∙ ap items_of (after_class first others text))
 
 items_of-negated_class : (first : ℕ) (others text : List ℕ) → ¬ Contains others close_bracket
     → items_of (open_bracket ∷ exclamation_mark ∷ first ∷ (others ++ close_bracket ∷ text)) ≡ class true (ranges_of (first ∷ others)) ∷ items_of text
@@ -111,7 +111,7 @@ items_of-negated_class first others text none =
     ∙ ap (λ content. class true (ranges_of content) ∷ items_after (1 + (length others + 2)) (exclamation_mark ∷ rest)) (content_taken first others text)
     ∙ ap (λ items. class true (ranges_of (first ∷ others)) ∷ items)
     (items_after-drop (1 + (length others + 2)) (exclamation_mark ∷ rest)
-    ∙ ap items_of (drop_one_more exclamation_mark rest (length others + 2) ∙ behind_class first others text))
+    ∙ ap items_of (drop_one_more exclamation_mark rest (length others + 2) ∙ after_class first others text))
 
 no_class : (negated : Bool) (text : List ℕ) → ¬ Contains (drop 1 (cond negated (drop 1 text) text)) close_bracket
     → cond negated (class_to true 1 (drop 1 text) (class_end (drop 1 text))) (class_to false 0 text (class_end text)) ≡ (byte open_bracket, 0)

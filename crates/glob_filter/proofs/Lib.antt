@@ -2,4 +2,4 @@ pub mod Fitting
 pub mod GrammarLemmas
 pub mod Ranges
 pub mod Texts
-pub mod Tries
+pub mod SearchLemmas

@@ -5,7 +5,7 @@ use Rattle.glob_filter.specs.Items.{first_item, items_after, items_of}
 use Rattle.glob_filter.specs.Kept.{item_of, items_kept}
 use Rattle.glob_filter.specs.declared.token.Token.{Token}
 
--- the bytes that belong to an item before are passed over
+-- the bytes that belong to an item before are dropped
 pub items_after-drop : (taken : ℕ) (text : List ℕ) → items_after taken text ≡ items_of (drop taken text)
 items_after-drop zero text = refl
 items_after-drop (suc taken) [] = refl
@@ -15,7 +15,7 @@ items_after-drop (suc taken) (b ∷ text) = items_after-drop taken text
 pub drop_one_more : (b : ℕ) (text : List ℕ) (n : ℕ) → drop (1 + n) (b ∷ text) ≡ drop n text
 drop_one_more b text n = ap (λ k. drop k (b ∷ text)) (add_comm 1 n ∙ add-one n)
 
--- where the items so far and those of the rest are the text's, so are they with the rest's first item read
+-- if the items so far and those of the rest are the text's, so are they when the rest's first item is read
 pub one_more : (text : List ℕ) (tokens : List Token) (token : Token) (rest : List ℕ) (b : ℕ) (others after : List ℕ)
     → rest ≡ b ∷ others → item_of token ≡ (first_item b others).0 → after ≡ drop (first_item b others).1 others
     → items_kept tokens ++ items_of rest ≡ items_of text → items_kept (tokens ++ token ∷ []) ++ items_of after ≡ items_of text

@@ -1,4 +1,4 @@
--- The items of a pattern, and which items a text is written as.
+-- The items of a pattern, and the items of a text.
 use Rattle.std.specs.Prelude.{◌==◌, ◌+◌, ℕ, zero, suc, Bool, true, false, List, [], ◌∷◌, take, drop, position, Option, Some, None, if◌then◌else◌}
 
 -- `byte b` matches the byte b, `any` one byte, `star` any bytes, also none, and `class negated ranges` one byte
@@ -33,19 +33,19 @@ exclamation_mark = 33
 abbrev pub hyphen : ℕ
 hyphen = 45
 
--- what a class's content holds, read from the left: `a-b` is the range from a to b, any other byte is itself
+-- the ranges of a class's content, read from the left: `a-b` is the range from a to b, any other byte is itself
 abbrev pub ranges_of : List ℕ → List (ℕ × ℕ)
 ranges_of [] = []
 ranges_of (a ∷ []) = (a, a) ∷ []
 ranges_of (a ∷ d ∷ []) = (a, a) ∷ (d, d) ∷ []
 ranges_of (a ∷ d ∷ b ∷ rest) = if d == hyphen then (a, b) ∷ ranges_of rest else (a, a) ∷ ranges_of (d ∷ b ∷ rest)
 
--- how many bytes stand between a content's first byte and the `]` that ends its class, if one does
+-- how many bytes are between a content's first byte and the `]` that ends its class, if one does
 abbrev pub class_end : List ℕ → Option ℕ
 class_end content = position (λ b. b == close_bracket) (drop 1 content)
 
--- the class whose content stands `before` bytes behind its `[`, or the byte `[` where no `]` ends one; and how many
--- bytes behind the `[` belong to it
+-- the class whose content begins `before` bytes after its `[`, or the byte `[` if no `]` ends one; and how many bytes
+-- after the `[` belong to it
 abbrev pub class_to : Bool → ℕ → List ℕ → Option ℕ → Item × ℕ
 class_to negated before content None = (byte open_bracket, 0)
 class_to negated before content (Some end) = (class negated (ranges_of (take (end + 1) content)), before + (end + 2))

@@ -1,4 +1,4 @@
--- The items as the code keeps them.
+-- The items that the tokens of the code mean.
 use Rattle.std.specs.Prelude.{ℕ, List, map}
 use Rattle.glob_filter.specs.Items.{Item, byte, any, star, class}
 use Rattle.glob_filter.specs.declared.token.ByteRange.{ByteRange}
@@ -9,13 +9,13 @@ use Rattle.glob_filter.specs.declared.token.Token.TheVariants.{Byte, Any, Star, 
 abbrev pub bounds_of : ByteRange → ℕ × ℕ
 bounds_of range = (range.first, range.last)
 
--- the item that a token stands for
+-- the item that a token means
 abbrev pub item_of : Token → Item
 item_of (Byte b) = byte b
 item_of Any = any
 item_of Star = star
 item_of (Class negated ranges) = class negated (map bounds_of ranges.items)
 
--- the items that the tokens stand for
+-- the items that the tokens mean
 abbrev pub items_kept : List Token → List Item
 items_kept tokens = map item_of tokens

@@ -1,4 +1,4 @@
-pub mod Attempt
+pub mod Front
 pub mod Causes
 pub mod Fits
 pub mod Grammar

@@ -5,9 +5,9 @@ ghost use Rattle.glob_filter.specs.Items.{items_of};
 ghost use Rattle.glob_filter.specs.Fits.{Fits, is_fit};
 ghost use Rattle.glob_filter.specs.Causes.{first_cause, IsCause};
 
-use crate::attempt::is_fit;
-use crate::fault::{PatternFault, find_cause};
-use crate::reading::read_tokens;
+use crate::faults::{PatternFault, find_cause};
+use crate::parse::read_tokens;
+use crate::search::is_fit;
 use crate::token::Token;
 use std::alloc::Global;
 use std::marker::Model;
@@ -30,7 +30,7 @@ impl Model for Pattern {
 }
 
 impl Pattern {
-    /// Reads a text of 1 to 255 bytes with no backslash as a pattern.
+    /// Reads a text of 1 to `ft_base::limits::PATTERN_BYTES` bytes with no backslash as a pattern.
     pub fn read(alloc: Global, text: &str) -> Result<Pattern, PatternFault>
         ensures items { IfOk result (λ pattern. pattern ≡ items_of text.now) }
         ensures ok { OnOk result (first_cause text.now ≡ None) }

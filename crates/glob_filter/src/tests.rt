@@ -1,10 +1,11 @@
-//! The patterns of the manual with their names, the refusals in their order, and a hostile pattern.
+//! Patterns with names, the refusals in their order, and a hostile pattern.
 
 use crate::{Pattern, PatternFault};
+use ft_base::limits::PATTERN_BYTES;
 use std::alloc::{AllocError, Global};
 use std::test::Fail;
 
-/// The text, so many times.
+/// The text, `count` times.
 fn repeated(alloc: Global, text: &str, count: usize) -> Result<String, AllocError> {
     let mut whole = String::new(alloc);
     for _ in 0..count {
@@ -27,6 +28,14 @@ fn matches_as_the_table_says(rt: HostRuntime) -> Result<(), Fail> {
         ("[a", "[a", true),
         ("[c-a]", "b", false),
         ("*", "", true),
+        // the search after a `*`: a first place that fails, a `?`, a `*` and a class right after it
+        ("*ab", "aab", true),
+        ("*ab*b", "aab", false),
+        ("*?b", "ab", true),
+        ("*?", "", false),
+        ("**a", "ba", true),
+        ("*[0-9]_*c", "ab1_2_c", true),
+        ("*[0-9]x*c", "ab1_2_c", false),
     ];
     for (text, name, fits) in rows.iter() {
         let pattern = Pattern::read(rt.alloc(), text)?;
@@ -38,9 +47,10 @@ fn matches_as_the_table_says(rt: HostRuntime) -> Result<(), Fail> {
 #[test]
 fn refuses_in_order(rt: HostRuntime) -> Result<(), Fail> {
     let alloc = rt.alloc();
-    let longest = repeated(alloc, "a", 255)?;
-    let too_long = repeated(alloc, "a", 256)?;
-    let long_with_backslash = repeated(alloc, "\\", 256)?;
+    let most = PATTERN_BYTES as usize;
+    let longest = repeated(alloc, "a", most)?;
+    let too_long = repeated(alloc, "a", most + 1)?;
+    let long_with_backslash = repeated(alloc, "\\", most + 1)?;
     let rows = [
         ("", Some(PatternFault::Empty)),
         ("\\", Some(PatternFault::Backslash)),

@@ -1,11 +1,11 @@
-//! One item of a pattern, as a pattern keeps it.
+//! An item of a pattern, as a pattern keeps it.
 
 ghost use Rattle.std.specs.Prelude.{◌≡◌};
 ghost use Rattle.std.specs.List.{list_any};
 ghost use Rattle.glob_filter.specs.Fits.{in_range, takes};
 ghost use Rattle.glob_filter.specs.Kept.{bounds_of, item_of};
 
-/// The bytes from `first` to `last`; none where `last` is below `first`.
+/// The bytes from `first` to `last`; none if `last` is below `first`.
 #[derive(Clone, Copy, Debug)]
 pub struct ByteRange {
     pub first: u8,
@@ -38,7 +38,7 @@ pub enum Token {
 }
 
 impl Token {
-    /// Whether the item matches this byte alone. A `*` is no single byte.
+    /// Whether the item matches this byte and no other bytes. A `*` doesn't count as such an item.
     #[tactic(auto, using(crate::proofs::Ranges::list_any_map))]
     pub fn takes(&self, byte: u8) -> bool
         ensures { result ≡ takes (item_of self.now) byte }

@@ -1,7 +1,7 @@
 use Rattle.std.proofs.Common.{◌≡◌, ◌++◌, length, map}
 use Rattle.glob_filter.specs.Items.{ranges_of}
 use Rattle.glob_filter.specs.Kept.{bounds_of}
-use Rattle.glob_filter.proofs.reading.read_ranges.Given as goal
+use Rattle.glob_filter.proofs.parse.read_ranges.Given as goal
 
 abbrev pub invariant-loop-rest : goal.invariant-loop-rest
 invariant-loop-rest l = map bounds_of l.ranges.items ++ ranges_of l.rest ≡ ranges_of l.content

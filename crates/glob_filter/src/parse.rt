@@ -1,4 +1,4 @@
-//! Reading the items of a text.
+//! From a text to its items.
 
 ghost use Rattle.std.specs.Prelude.{◌≡◌, map, drop, IfOk};
 ghost use Rattle.glob_filter.specs.Items.{ranges_of, class_end, class_at, first_item, items_of};
@@ -31,7 +31,8 @@ fn read_ranges(alloc: Global, content: &[u8]) -> Result<Vec<ByteRange>, AllocErr
     Ok(ranges)
 }
 
-/// Where the `]` that ends a class stands, counted from the content's second byte: its first ends no class.
+/// How many bytes are between the first byte of a class's content and the `]` that ends the class.
+/// The first byte itself ends no class, so that `[]]` is the class of `]`.
 fn find_class_end(content: &[u8]) -> Option<usize>
     ensures { result ≡ class_end content.now }
 {

@@ -1,7 +1,7 @@
 use Rattle.std.proofs.Common.{◌≡◌, ◌++◌, length}
 use Rattle.glob_filter.specs.Items.{items_of}
 use Rattle.glob_filter.specs.Kept.{items_kept}
-use Rattle.glob_filter.proofs.reading.read_tokens.Given as goal
+use Rattle.glob_filter.proofs.parse.read_tokens.Given as goal
 
 abbrev pub invariant-loop-first : goal.invariant-loop-first
 invariant-loop-first l = items_kept l.tokens.items ++ items_of l.rest ≡ items_of l.text

@@ -4,24 +4,23 @@ ghost use Rattle.std.specs.Prelude.{◌≡◌, ◌==◌};
 ghost use Rattle.std.specs.List.{list_any};
 ghost use Rattle.glob_filter.specs.Causes.{backslash, first_cause};
 
+use ft_base::limits::PATTERN_BYTES;
 use thiserror::Error;
 
-/// The most bytes that a pattern may have.
-const LONGEST: usize = 255;
-
-/// Why a text is refused as a pattern. Where several causes hold, the first of them in this order is the answer.
+/// Why a text is refused as a pattern. If several causes hold, the first of them in this order is
+/// the answer.
 #[derive(Clone, Copy, Debug, PartialEq, Eq, Drop, Error)]
 pub enum PatternFault {
     /// The text is empty.
     #[error("the pattern is empty")]
     Empty,
-    /// The text holds a backslash, which patterns don't know.
-    #[error("a backslash stands in the pattern")]
+    /// The text has a backslash. Patterns have no escapes.
+    #[error("the pattern has a backslash")]
     Backslash,
-    /// The text has more than 255 bytes.
-    #[error("the pattern is longer than 255 bytes")]
+    /// The text has more than `ft_base::limits::PATTERN_BYTES` bytes.
+    #[error("the pattern is too long")]
     TooLong,
-    /// Memory ran out. It is the answer only where no other cause holds.
+    /// Memory ran out. It is the answer only if no other cause holds.
     #[error("out of memory")]
     NoMemory,
 }
@@ -32,7 +31,7 @@ fn has_backslash(text: &str) -> bool
     text.bytes().any(|byte| byte == b'\\')
 }
 
-/// The first cause to refuse the text, where there is one.
+/// The first cause to refuse the text, if there is one.
 pub fn find_cause(text: &str) -> Option<PatternFault>
     ensures { result ≡ first_cause text.now }
 {
@@ -42,7 +41,7 @@ pub fn find_cause(text: &str) -> Option<PatternFault>
     if has_backslash(text) {
         return Some(PatternFault::Backslash);
     }
-    if text.len() > LONGEST {
+    if text.len() > PATTERN_BYTES as usize {
         return Some(PatternFault::TooLong);
     }
     None

@@ -2,7 +2,7 @@ use Rattle.std.proofs.Common.{◌≡◌, ◌++◌, sym, subst}
 use Rattle.glob_filter.specs.Items.{items_of}
 use Rattle.glob_filter.specs.Kept.{items_kept}
 use Rattle.glob_filter.proofs.Texts.{one_more}
-use Rattle.glob_filter.proofs.reading.read_tokens.Goals as goal
+use Rattle.glob_filter.proofs.parse.read_tokens.Goals as goal
 
 pub loop-first-preserved : goal.loop-first-preserved
 loop-first-preserved c =
