@@ -5,7 +5,7 @@ use Rattle.ft_base.specs.declared.turn.Who.{Who}
 use Rattle.ft_base.specs.declared.turn.Who.TheVariants.{Control, Cpu, All}
 use Rattle.ft_base.specs.declared.turn.Turn.{Turn}
 use Rattle.script_text.specs.Lines.{Word, words_of}
-use Rattle.script_text.specs.Words.{all_read}
+use Rattle.script_text.specs.Words.{both, all_read}
 use Rattle.script_text.specs.Names.{number_of}
 use Rattle.ft_schedule.specs.declared.item.SchedItem.{SchedItem}
 
@@ -20,9 +20,7 @@ who_of word = if bytes_eq word (codes "k") then Some Control else (if bytes_eq w
 
 -- an item of these parts, if there are both
 abbrev pub item_with : Option Who → Option ℕ → Option SchedItem
-item_with None count = None
-item_with (Some who) None = None
-item_with (Some who) (Some n) = Some (record { who = who; count = n })
+item_with who count = both (λ w n. record { who = w; count = n }) who count
 
 -- an item that is cut at this place, or whole
 abbrev pub item_cut : Word → Option ℕ → Option SchedItem

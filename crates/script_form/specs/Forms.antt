@@ -6,7 +6,7 @@ use Rattle.ft_base.specs.declared.user.Half.{Half}
 use Rattle.ft_base.specs.declared.user.Half.TheVariants.{Filter, Notrace}
 use Rattle.ft_base.specs.declared.user.Kind.{Kind}
 use Rattle.script_text.specs.Lines.{Word}
-use Rattle.script_text.specs.Words.{all_read}
+use Rattle.script_text.specs.Words.{both, all_read}
 use Rattle.script_text.specs.Names.{name_of, number_of}
 use Rattle.ft_schedule.specs.declared.item.SchedItem.{SchedItem}
 use Rattle.ft_schedule.specs.Items.{some_items_of}
@@ -50,22 +50,7 @@ pub data LineForm : Type 0 where
   until : (pid : ℕ) → (acts : ℕ) → LineForm
   sched : (items : List SchedItem) → LineForm
 
--- ---- forms of names and numbers
-
--- the form of this name, if there is one
-abbrev pub named : (Word → LineForm) → Option Word → Option LineForm
-named form None = None
-named form (Some name) = Some (form name)
-
--- the form of this number, if there is one
-abbrev pub counted : (ℕ → LineForm) → Option ℕ → Option LineForm
-counted form None = None
-counted form (Some n) = Some (form n)
-
--- the form of these two numbers, if there are both
-abbrev pub counted_twice : (ℕ → ℕ → LineForm) → Option ℕ → Option ℕ → Option LineForm
-counted_twice form None m = None
-counted_twice form (Some n) m = counted (form n) m
+-- ---- arguments
 
 -- the name, if the arguments are one name
 abbrev pub only_name : List Word → Option Word
@@ -89,25 +74,20 @@ abbrev pub version_form : List Word → Option LineForm
 version_form (n ∷ []) = if bytes_eq n (codes "1") then Some version else None
 version_form _ = None
 
--- a function of this name and module, if there are both
-abbrev pub owned : Option Word → Option Word → Option LineForm
-owned None owner = None
-owned (Some name) owner = named (λ o. func name (Some o)) owner
-
 -- `func NAME`, `func NAME MODULE`
 abbrev pub func_form : List Word → Option LineForm
-func_form (name ∷ []) = named (λ n. func n None) (name_of name)
-func_form (name ∷ owner ∷ []) = owned (name_of name) (name_of owner)
+func_form (name ∷ []) = option_map (λ n. func n None) (name_of name)
+func_form (name ∷ owner ∷ []) = both (λ n o. func n (Some o)) (name_of name) (name_of owner)
 func_form _ = None
 
 -- `cpu N quantum Q`
 abbrev pub cpu_form : List Word → Option LineForm
-cpu_form (cpu ∷ word ∷ quantum ∷ []) = if bytes_eq word (codes "quantum") then counted_twice new_cpu (number_of cpu) (number_of quantum) else None
+cpu_form (cpu ∷ word ∷ quantum ∷ []) = if bytes_eq word (codes "quantum") then both new_cpu (number_of cpu) (number_of quantum) else None
 cpu_form _ = None
 
 -- `task PID cpu N`
 abbrev pub task_form : List Word → Option LineForm
-task_form (pid ∷ word ∷ cpu ∷ []) = if bytes_eq word (codes "cpu") then counted_twice new_task (number_of pid) (number_of cpu) else None
+task_form (pid ∷ word ∷ cpu ∷ []) = if bytes_eq word (codes "cpu") then both new_task (number_of pid) (number_of cpu) else None
 task_form _ = None
 
 -- ---- control
@@ -116,15 +96,10 @@ task_form _ = None
 abbrev pub arrow_of : Word → Option Bool
 arrow_of word = if bytes_eq word (codes ">") then Some false else (if bytes_eq word (codes ">>") then Some true else None)
 
--- a write of these parts, if there are all
-abbrev pub written : Half → Option Word → Option Bool → Word → Option LineForm
-written half name None text = None
-written half name (Some append) text = named (λ n. write half append n text) name
-
 -- `ctl filter U > TEXT`, `ctl filter U >> TEXT`, `ctl filter U >`, and so with `notrace`
 abbrev pub write_form : Half → List Word → Option LineForm
-write_form half (name ∷ arrow ∷ []) = if bytes_eq arrow (codes ">") then named (λ n. write half false n []) (name_of name) else None
-write_form half (name ∷ arrow ∷ text ∷ []) = written half (name_of name) (arrow_of arrow) text
+write_form half (name ∷ arrow ∷ []) = if bytes_eq arrow (codes ">") then option_map (λ n. write half false n []) (name_of name) else None
+write_form half (name ∷ arrow ∷ text ∷ []) = both (λ n append. write half append n text) (name_of name) (arrow_of arrow)
 write_form half _ = None
 
 -- `ctl pid PID..`, `ctl nopid PID..`
@@ -133,19 +108,19 @@ pids_form excluded words = option_map (pids excluded) (all_read number_of words)
 
 -- `ctl until PID N`
 abbrev pub until_form : List Word → Option LineForm
-until_form (pid ∷ acts ∷ []) = counted_twice until (number_of pid) (number_of acts)
+until_form (pid ∷ acts ∷ []) = both until (number_of pid) (number_of acts)
 until_form _ = None
 
 -- commands without a list, and the wait
 abbrev pub command_form : Word → List Word → Option LineForm
 command_form key args =
-    if bytes_eq key (codes "register") then named register (only_name args)
-    else (if bytes_eq key (codes "unregister") then named unregister (only_name args)
+    if bytes_eq key (codes "register") then option_map register (only_name args)
+    else (if bytes_eq key (codes "unregister") then option_map unregister (only_name args)
     else (if bytes_eq key (codes "filter") then write_form Filter args
     else (if bytes_eq key (codes "notrace") then write_form Notrace args
-    else (if bytes_eq key (codes "enable") then named enable (only_name args)
-    else (if bytes_eq key (codes "disable") then named disable (only_name args)
-    else (if bytes_eq key (codes "maxdepth") then counted max_depth (only_number args)
+    else (if bytes_eq key (codes "enable") then option_map enable (only_name args)
+    else (if bytes_eq key (codes "disable") then option_map disable (only_name args)
+    else (if bytes_eq key (codes "maxdepth") then option_map max_depth (only_number args)
     else (if bytes_eq key (codes "until") then until_form args
     else None)))))))
 

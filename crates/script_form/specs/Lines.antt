@@ -1,21 +1,21 @@
 -- The form of a line.
-use Rattle.std.specs.Prelude.{ℕ, List, [], ◌∷◌, codes, Option, Some, None, if◌then◌else◌}
+use Rattle.std.specs.Prelude.{ℕ, List, [], ◌∷◌, codes, Option, Some, None, option_map, if◌then◌else◌}
 use Rattle.std.specs.Str.{bytes_eq}
 use Rattle.ft_base.specs.declared.context.Ctx.TheVariants.{Softirq, Irq, Nmi}
 use Rattle.script_text.specs.Lines.{Word, words_of, is_skipped, is_plain}
-use Rattle.script_form.specs.Forms.{LineForm, skip, depth, tramps, call, ret, raise, lower, after, named, counted, only_name, only_number, alone, version_form, func_form, cpu_form, task_form, ctl_form, sched_form}
+use Rattle.script_form.specs.Forms.{LineForm, skip, depth, tramps, call, ret, raise, lower, after, only_name, only_number, alone, version_form, func_form, cpu_form, task_form, ctl_form, sched_form}
 use Rattle.script_form.specs.Users.{user_form}
 
 -- the acts of a task
 abbrev pub act_form : Word → List Word → Option LineForm
 act_form key args =
-    if bytes_eq key (codes "call") then named call (only_name args)
+    if bytes_eq key (codes "call") then option_map call (only_name args)
     else (if bytes_eq key (codes "ret") then alone ret args
     else (if bytes_eq key (codes "softirq") then alone (raise Softirq) args
     else (if bytes_eq key (codes "irq") then alone (raise Irq) args
     else (if bytes_eq key (codes "nmi") then alone (raise Nmi) args
     else (if bytes_eq key (codes "iret") then alone lower args
-    else (if bytes_eq key (codes "after") then counted after (only_number args)
+    else (if bytes_eq key (codes "after") then option_map after (only_number args)
     else None))))))
 
 -- declarations and acts, which have no list
@@ -23,8 +23,8 @@ abbrev pub unlisted_form : Word → List Word → Option LineForm
 unlisted_form key args =
     if bytes_eq key (codes "ftrace") then version_form args
     else (if bytes_eq key (codes "func") then func_form args
-    else (if bytes_eq key (codes "depth") then counted depth (only_number args)
-    else (if bytes_eq key (codes "tramps") then counted tramps (only_number args)
+    else (if bytes_eq key (codes "depth") then option_map depth (only_number args)
+    else (if bytes_eq key (codes "tramps") then option_map tramps (only_number args)
     else (if bytes_eq key (codes "user") then user_form args
     else (if bytes_eq key (codes "cpu") then cpu_form args
     else (if bytes_eq key (codes "task") then task_form args

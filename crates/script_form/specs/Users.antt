@@ -43,18 +43,17 @@ ipmodify_of kind None = Some None
 ipmodify_of Function (Some said) = option_map Some (name_of said)
 ipmodify_of kind (Some said) = None
 
--- an act on the function of this name, if there is one
-abbrev pub acting : (Word → UserAct) → Option Word → Option (Option UserAct)
-acting act None = None
-acting act (Some name) = Some (Some (act name))
+-- `call FUNC` or `irq FUNC`
+abbrev pub act_with : Word → Word → Option UserAct
+act_with key function =
+    if bytes_eq key (codes "call") then option_map calls (name_of function)
+    else (if bytes_eq key (codes "irq") then option_map irqs (name_of function)
+    else None)
 
--- what comes last: nothing, `call FUNC` or `irq FUNC`
+-- what comes last: nothing, or an act
 abbrev pub act_of : List Word → Option (Option UserAct)
 act_of [] = Some None
-act_of (key ∷ said ∷ []) =
-    if bytes_eq key (codes "call") then acting calls (name_of said)
-    else (if bytes_eq key (codes "irq") then acting irqs (name_of said)
-    else None)
+act_of (key ∷ function ∷ []) = option_map Some (act_with key function)
 act_of _ = None
 
 -- the user of these parts, if all were read

@@ -1,15 +1,13 @@
 //! The lines of control.
 
 ghost use Rattle.std.specs.Prelude.{◌≡◌, map, option_map, IfOk};
-ghost use Rattle.script_text.specs.Words.{all_read};
-ghost use Rattle.script_text.specs.Names.{number_of};
 ghost use Rattle.script_form.specs.Forms.{arrow_of, write_form, pids_form, until_form, command_form, control_form, ctl_form};
 ghost use Rattle.script_form.specs.Read.{form_read};
 
 use crate::arguments::{only_name, only_number};
 use crate::form::LineForm;
 use ft_base::Half;
-use script_text::{name, number};
+use script_text::{all_read, name, number};
 use std::alloc::{AllocError, Global};
 
 /// Whether an arrow appends.
@@ -28,7 +26,7 @@ fn read_write<'a>(half: Half, args: &[&'a str]) -> Option<LineForm<'a>>
     ensures { option_map form_read result ≡ write_form half (map (λ w. w.now) args.now) }
 {
     match args {
-        [user, ">"] => Some(LineForm::Write {
+        [user, arrow] if *arrow == ">" => Some(LineForm::Write {
             half,
             append: false,
             user: name(user)?,
@@ -84,20 +82,6 @@ fn read_command<'a>(key: &str, args: &[&'a str]) -> Option<LineForm<'a>>
     }
 }
 
-/// The numbers that the words write. `Ok(None)` says that one of them writes none.
-fn read_numbers(alloc: Global, words: &[&str]) -> Result<Option<Vec<u64>>, AllocError>
-    ensures { IfOk result (λ r. option_map (λ v. v.items) r ≡ all_read number_of (map (λ w. w.now) words.now)) }
-{
-    let mut numbers = Vec::new(alloc);
-    for word in words {
-        let Some(n) = number(word) else {
-            return Ok(None);
-        };
-        numbers.push(n)?;
-    }
-    Ok(Some(numbers))
-}
-
 /// `pid PID..`, or `nopid PID..` if these are excluded.
 fn read_pids<'a>(
     alloc: Global,
@@ -106,7 +90,7 @@ fn read_pids<'a>(
 ) -> Result<Option<LineForm<'a>>, AllocError>
     ensures { IfOk result (λ r. option_map form_read r ≡ pids_form excluded (map (λ w. w.now) words.now)) }
 {
-    match read_numbers(alloc, words)? {
+    match all_read(alloc, words, |word| number(word))? {
         Some(pids) => Ok(Some(LineForm::Pids { excluded, pids })),
         None => Ok(None),
     }

@@ -12,7 +12,7 @@ pub fn read_version<'a>(args: &[&'a str]) -> Option<LineForm<'a>>
     ensures { option_map form_read result ≡ version_form (map (λ w. w.now) args.now) }
 {
     match args {
-        ["1"] => Some(LineForm::Version),
+        [number] if *number == "1" => Some(LineForm::Version),
         _ => None,
     }
 }
@@ -39,7 +39,7 @@ pub fn read_cpu<'a>(args: &[&'a str]) -> Option<LineForm<'a>>
     ensures { option_map form_read result ≡ cpu_form (map (λ w. w.now) args.now) }
 {
     match args {
-        [cpu, "quantum", quantum] => Some(LineForm::NewCpu {
+        [cpu, word, quantum] if *word == "quantum" => Some(LineForm::NewCpu {
             cpu: number(cpu)?,
             quantum: number(quantum)?,
         }),
@@ -52,7 +52,7 @@ pub fn read_task<'a>(args: &[&'a str]) -> Option<LineForm<'a>>
     ensures { option_map form_read result ≡ task_form (map (λ w. w.now) args.now) }
 {
     match args {
-        [pid, "cpu", cpu] => Some(LineForm::NewTask {
+        [pid, word, cpu] if *word == "cpu" => Some(LineForm::NewTask {
             pid: number(pid)?,
             cpu: number(cpu)?,
         }),

@@ -40,29 +40,49 @@ pub enum LineForm<'a> {
         owner: Option<&'a str>,
     },
     /// How many frames a shadow stack has.
-    Depth { frames: u64 },
+    Depth {
+        frames: u64,
+    },
     /// How many trampoline slots there are.
-    Tramps { slots: u64 },
+    Tramps {
+        slots: u64,
+    },
     /// There is a user.
     User(UserLine<'a>),
     /// There is a CPU, of this number, whose tasks run for this many steps at a time.
-    NewCpu { cpu: u64, quantum: u64 },
+    NewCpu {
+        cpu: u64,
+        quantum: u64,
+    },
     /// There is a task on this CPU.
-    NewTask { pid: u64, cpu: u64 },
+    NewTask {
+        pid: u64,
+        cpu: u64,
+    },
     /// The task calls the function of this name.
-    Call { function: &'a str },
+    Call {
+        function: &'a str,
+    },
     /// The task returns from the innermost open call.
     Ret,
     /// `softirq`, `irq` or `nmi`: the task is interrupted.
-    Raise { to: Ctx },
+    Raise {
+        to: Ctx,
+    },
     /// `iret`: the interrupt is over.
     Lower,
     /// The task waits until this many commands have returned.
-    After { commands: u64 },
+    After {
+        commands: u64,
+    },
     /// The user of this name is registered (`ftrace-uses.rst`, "The ftrace_ops structure").
-    Register { user: &'a str },
+    Register {
+        user: &'a str,
+    },
     /// The user of this name is unregistered.
-    Unregister { user: &'a str },
+    Unregister {
+        user: &'a str,
+    },
     /// A text is written to one of the user's two sets (`ftrace.rst`, `set_ftrace_filter` and
     /// `set_ftrace_notrace`). `append` says whether it adds to the set (`>>`). An empty text without
     /// `append` clears the set.
@@ -74,15 +94,29 @@ pub enum LineForm<'a> {
     },
     /// Only the tasks of these pids are traced, or if `excluded` all others (`ftrace.rst`,
     /// `set_ftrace_pid` and `set_ftrace_notrace_pid`).
-    Pids { excluded: bool, pids: Vec<u64> },
+    Pids {
+        excluded: bool,
+        pids: Vec<u64>,
+    },
     /// The user of this name is enabled.
-    Enable { user: &'a str },
+    Enable {
+        user: &'a str,
+    },
     /// The user of this name is disabled.
-    Disable { user: &'a str },
+    Disable {
+        user: &'a str,
+    },
     /// The graph depth (`ftrace.rst`, `max_graph_depth`).
-    MaxDepth { depth: u64 },
+    MaxDepth {
+        depth: u64,
+    },
     /// Control waits until the task of this pid has finished this many acts.
-    Until { pid: u64, acts: u64 },
+    Until {
+        pid: u64,
+        acts: u64,
+    },
     /// The next items of the schedule, of which there are one or more.
-    Sched { items: Vec<SchedItem> },
+    Sched {
+        items: Vec<SchedItem>,
+    },
 }

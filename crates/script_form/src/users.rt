@@ -2,7 +2,7 @@
 
 ghost use Rattle.std.specs.Prelude.{◌≡◌, map, option_map, codes};
 ghost use Rattle.std.specs.Option.{option_copied};
-ghost use Rattle.script_form.specs.Users.{flag, exit_kind, kind_of, ipmodify_of, act_of, options_form, user_form};
+ghost use Rattle.script_form.specs.Users.{flag, exit_kind, kind_of, ipmodify_of, act_with, act_of, options_form, user_form};
 ghost use Rattle.script_form.specs.Read.{act_read, form_read};
 
 use crate::form::{LineForm, UserAct, UserLine};
@@ -53,18 +53,28 @@ fn read_ipmodify<'a>(kind: Kind, said: Option<&'a str>) -> Option<Option<&'a str
     }
 }
 
-/// What comes last: nothing, `call FUNC` or `irq FUNC`.
-fn read_act<'a>(words: &[&'a str]) -> Option<Option<UserAct<'a>>>
+/// `call FUNC` or `irq FUNC`.
+fn read_act<'a>(key: &str, function: &'a str) -> Option<UserAct<'a>>
+    ensures { option_map act_read result ≡ act_with key.now function.entry.now }
+{
+    match key {
+        "call" => Some(UserAct::Call {
+            function: name(function)?,
+        }),
+        "irq" => Some(UserAct::Irq {
+            function: name(function)?,
+        }),
+        _ => None,
+    }
+}
+
+/// What comes last: nothing, or an act.
+fn read_last<'a>(words: &[&'a str]) -> Option<Option<UserAct<'a>>>
     ensures { option_map (λ o. option_map act_read o) result ≡ act_of (map (λ w. w.now) words.now) }
 {
     match words {
         [] => Some(None),
-        ["call", function] => Some(Some(UserAct::Call {
-            function: name(function)?,
-        })),
-        ["irq", function] => Some(Some(UserAct::Irq {
-            function: name(function)?,
-        })),
+        [key, function] => Some(Some(read_act(key, function)?)),
         _ => None,
     }
 }
@@ -82,7 +92,7 @@ fn read_options<'a>(name: &'a str, kind: Kind, words: &[&'a str]) -> Option<Line
         regs,
         ipmodify: read_ipmodify(kind, modifies)?,
         pid,
-        act: read_act(words)?,
+        act: read_last(words)?,
     }))
 }
 

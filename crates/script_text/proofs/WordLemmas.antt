@@ -2,7 +2,11 @@
 use Rattle.std.proofs.Common.{◌≡◌, ℕ, ◌+◌, ◌<◌, ◌≤◌, List, [], ◌∷◌, ◌++◌, length, map, drop, get_or, Option, Some, None, refl, ap, ◌∙◌, sym, append_assoc, add-one, drop-cons}
 use Rattle.std.proofs.lemmas.List.{append-nil, drop_all}
 use Rattle.script_text.specs.Lines.{Word}
-use Rattle.script_text.specs.Words.{before, all_read}
+use Rattle.script_text.specs.Words.{both, all_read}
+
+-- a value and those after it, if there are both
+abbrev before : {A : Type 0} → Option A → Option (List A) → Option (List A)
+before value others = both (λ v vs. v ∷ vs) value others
 
 -- these values and those after them, if there are any
 abbrev pub all_before : {A : Type 0} → List A → Option (List A) → Option (List A)
