@@ -1,4 +1,4 @@
--- Where the plain run of a task is, its items can be completed to a run of the grammar.
+-- If a task is on its plain run, its items can be completed to those of a run of the grammar.
 use Rattle.std.proofs.Common.{cond, ◌≡◌, ℕ, suc, Bool, true, false, ◌&&◌, ◌==◌, List, [], ◌∷◌, ◌++◌, Option, Some, None, refl, sym, ap, ◌∙◌, subst, arith, nat_le, eqb-true, leb-true, append_assoc, reverse, inl, inr}
 use Rattle.std.specs.Prelude.{IsSome}
 use Rattle.ft_base.specs.declared.number.CallNo.{CallNo}
@@ -26,7 +26,7 @@ use Rattle.ft_hist.proofs.RunLaws.{calls_on, if_some, some_inj, same_call-eq}
 use Rattle.plain_grammar.specs.Grammar.{Stamped, at, items_of, top_of, call_in, Exits, no_exit, one_exit, Return, returns, no_try, one_try, refused, called, missed, ActOf, no_act, no_interrupt, by_call, by_interrupt, Dispatch, dispatch, Run, call, ret, raise, lower, after, IsRunOf}
 use Rattle.plain_grammar.proofs.Rest.{ToBody, ToRet, ToExitEnd, Owing, ToBackEnd, InCallback, InBody, InPhase, RestOf, ends}
 
--- a stack whose top is in the body of a scripted call, where there is one
+-- a stack that is empty, or whose top call is a scripted one in its body
 abbrev pub IsQuiet : List Frame → Type 0
 IsQuiet [] = Unit {0}
 IsQuiet (f ∷ below) = (f.scripted ≡ true) × (f.phase ≡ Running)
@@ -93,14 +93,6 @@ module _ (job : Job) (t : ℕ) where
       let later : ℕ → List Stamped → Type 0 = λ m rest. RestOf job t acts cs below m rest in
       subst (λ (b : Bool). InBody job t b acts cs f.call below later n items) q.0
       (subst (λ (p : Phase). InPhase job t p acts cs f below later n items) q.1 h)
-
-  -- and the other way round
-  run-quiet : (acts : List TaskAct) (cs : List Ctx) (fs : List Frame) (n : ℕ) (items : List Stamped) → IsQuiet fs → Run job t acts cs (calls_on fs) n items → RestOf job t acts cs fs n items
-  run-quiet acts cs [] n items q h = h
-  run-quiet acts cs (f ∷ below) n items q h =
-      let later : ℕ → List Stamped → Type 0 = λ m rest. RestOf job t acts cs below m rest in
-      subst (λ (p : Phase). InPhase job t p acts cs f below later n items) (sym q.1)
-      (subst (λ (b : Bool). InBody job t b acts cs f.call below later n items) (sym q.0) h)
 
   -- acts without items go before a run
   ahead-run : (x : Stamped) (rest : List Stamped) (stack : List CallNo) (n : ℕ) (acts : List TaskAct) (cs : List Ctx) (gone : ℕ)
@@ -171,9 +163,6 @@ module _ (job : Job) (t : ℕ) where
         let w = went stack (InBack u.0 (owed_by f.ctx (spec_at job u.0).act) true) f below set e in
         (w.0, λ items h. of items (w.1 items h))
       where
-        later : ℕ → List Stamped → Type 0
-        later = InBody job t f.scripted acts cs f.call below (below_it below)
-
         plainly : (items : List Stamped) → ToBackEnd job t f.call f.ctx u.0 (owed_by f.ctx (spec_at job u.0).act) (InBody job t f.scripted acts cs f.call below (below_it below)) n items
             → ToBody job t f.call f.ctx (InBody job t f.scripted acts cs f.call below (below_it below)) n (at k (Back f.call u) ∷ items)
         plainly items b = record {

@@ -1,3 +1,4 @@
 pub mod Sound
 pub mod Rest
 pub mod Complete
+pub mod Stamps

@@ -23,7 +23,7 @@ abbrev pub Takes : Job → PlainTask → List Stamped → Type 0
 Takes job s [] = Unit {0}
 Takes job s (x ∷ rest) = (s' : PlainTask) × (after_item job x.returned s x.item ≡ Some s') × Takes job s' rest
 
--- where the plain run is after these items
+-- the place on the plain run after these items, if it takes them
 abbrev pub goes : Job → Option PlainTask → List Stamped → Option PlainTask
 goes job o [] = o
 goes job o (x ∷ rest) = goes job (after_next job x.returned x.item o) rest

@@ -1,5 +1,5 @@
 -- The plain run of a task as a grammar over an ordinary stack of calls, without phases. Each part says of a list of items that it
--- begins with such a part, and which items come after it. Where calls are made, it also says how the number of the task's next
+-- begins with such a part, and which items come after it. If it can make calls, it also says how the number of the task's next
 -- call goes on: `Try call x n items n' rest` says that `items` are a try in that call's dispatch, in context x, and then `rest`,
 -- and that the next call has the number n before the try and n' after it.
 use Rattle.std.specs.Prelude.{ℕ, suc, ◌<◌, ◌≤◌, List, [], ◌∷◌, ◌++◌, get_or, Option, Some, None, if◌then◌else◌}
@@ -36,7 +36,7 @@ abbrev pub items_of : ℕ → List Item → List Stamped
 items_of t [] = []
 items_of t (item ∷ past) = if is_of t item then items_of t past ++ at (done past) item ∷ [] else items_of t past
 
--- before the next of these items, where there is one, this many commands have returned; so they have before all of them
+-- before the next of these items, if there is one, this many commands have returned; so they have before all of them
 abbrev pub HasReturned : ℕ → List Stamped → Type 0
 HasReturned m [] = Unit {0}
 HasReturned m (x ∷ rest) = m ≤ x.returned

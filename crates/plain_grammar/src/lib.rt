@@ -5,10 +5,10 @@
 //! if they are a beginning of a run of the grammar. It is a definition and its laws; it has no code.
 //!
 //! An item is *stamped* with the number of commands that had returned before it, since an act
-//! `after N` waits for that.
+//! `after N` waits for N of them. A run may stop at any act, so it is one of a beginning of the acts.
 #![tactic(auto)]
 
-ghost use Rattle.std.specs.Prelude.{ℕ, List, ◌++◌, IsSome, reverse};
+ghost use Rattle.std.specs.Prelude.{ℕ, ◌≤◌, List, ◌++◌, AllPairs, IsSome, reverse};
 ghost use Rattle.ft_base.specs.Job.{Job as PlainJob};
 ghost use Rattle.ft_base.specs.declared.item.Item.{Item};
 ghost use Rattle.ft_hist.specs.Plain.{plain};
@@ -30,4 +30,10 @@ pub fn every_plain_run_is_a_beginning_of_a_run()
 /// So in a legal history the items of each task are a beginning of a run of the grammar.
 pub fn every_legal_history_keeps_the_grammar()
     ensures { (job : PlainJob) (items : List Item) (t : ℕ) → IsLegal job items → (more : List Stamped) × IsRunOf job t (items_of t (reverse items) ++ more) }
+{}
+
+/// The stamps of a task's items never fall: so an act `after N`, for which the next item's stamp is
+/// at least N, holds for all items after it.
+pub fn stamps_never_fall()
+    ensures { (t : ℕ) (past : List Item) → AllPairs (λ x y. x.returned ≤ y.returned) (items_of t past) }
 {}
