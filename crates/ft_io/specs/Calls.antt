@@ -1,15 +1,15 @@
--- Which calls of an end in memory fail.
-use Rattle.std.specs.Prelude.{ℕ, ◌+◌, ◌-◌, ◌^◌, ◌==◌, min, nat_lt, Bool, ◌&&◌, if◌then◌else◌, List}
+-- Which calls of a source or a sink in memory fail.
+use Rattle.std.specs.Prelude.{ℕ, ◌+◌, ◌-◌, ◌^◌, ◌==◌, min, nat_lt, Bool, ◌&&◌, List}
 use Rattle.std.specs.List.{list_any}
-use Rattle.ft_io.specs.Causes.{raised}
+use Rattle.ft_io.specs.Causes.{count_after}
 
--- the calls that are to fail, by their numbers from 1, how many calls were counted, and how many of all calls failed
+-- the numbers, from 1, of the calls that are to fail, how many calls were counted, and how many failed
 pub record Calls : Type 0 where
   pub fails : List ℕ
   pub counted : ℕ
   pub faults : ℕ
 
--- no call was made
+-- before the first call
 abbrev pub no_calls : List ℕ → Calls
 no_calls fails = record { fails = fails; counted = 0; faults = 0 }
 
@@ -26,5 +26,5 @@ abbrev pub called : Bool → Calls → Calls
 called failed calls = record {
   fails = calls.fails;
   counted = min (calls.counted + 1) last_call;
-  faults = if failed then raised calls.faults else calls.faults;
+  faults = count_after failed calls.faults;
 }

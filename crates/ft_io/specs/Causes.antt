@@ -1,16 +1,20 @@
 -- Why a call fails, and what it leaves.
-use Rattle.std.specs.Prelude.{ℕ, ◌+◌, ◌-◌, ◌^◌, ◌≤◌, ◌<◌, ◌≡◌, min, List, ◌++◌, length, Result, OnErr, Option}
+use Rattle.std.specs.Prelude.{ℕ, ◌+◌, ◌-◌, ◌^◌, ◌≤◌, ◌<◌, ◌≡◌, min, Bool, if◌then◌else◌, List, ◌++◌, length, Result, OnErr, Option}
 use Rattle.std.specs.Io.KnownBytes.{Consumes, Appends}
 
--- a count of faults after one more, which stays at the last value of its type
-abbrev pub raised : ℕ → ℕ
-raised faults = min (faults + 1) (2 ^ 64 - 1)
+-- a count of faults after one more fault, which stays at the last value of its type
+abbrev pub one_more : ℕ → ℕ
+one_more faults = min (faults + 1) (2 ^ 64 - 1)
 
--- a count of faults rose, or stands at the last value of its type
+-- a count of faults after a call that was one or not
+abbrev pub count_after : Bool → ℕ → ℕ
+count_after failed faults = if failed then one_more faults else faults
+
+-- a count of faults rose, or is at the last value of its type
 abbrev pub Rose : ℕ → ℕ → Type 0
-Rose before now = raised before ≤ now
+Rose before now = one_more before ≤ now
 
--- a call counts no fault less, and fails only where it counted one
+-- a call takes nothing off the count of faults, and fails only if it counted one
 pub record HasCause {T E : Type 0} (before now : ℕ) (result : Result T E) : Type 0 where
   pub later : before ≤ now
   pub failed : OnErr result (Rose before now)
@@ -19,7 +23,7 @@ pub record HasCause {T E : Type 0} (before now : ℕ) (result : Result T E) : Ty
 abbrev pub GaveMore : ℕ → Option (List ℕ) → Option (List ℕ) → Type 0
 GaveMore limit old new = (bs : List ℕ) × Consumes old new bs × (limit < length bs)
 
--- some bytes were given, and no more than the limit
+-- some bytes were given, and not more than the limit
 abbrev pub GaveAtMost : ℕ → Option (List ℕ) → Option (List ℕ) → Type 0
 GaveAtMost limit old new = (bs : List ℕ) × Consumes old new bs × (length bs ≤ limit)
 

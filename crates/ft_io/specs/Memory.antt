@@ -3,33 +3,33 @@ use Rattle.std.specs.Prelude.{ℕ, ◌-◌, ◌==◌, min, nat_lt, Bool, ◌&&�
 use Rattle.ft_io.specs.declared.source.Failed.{Failed}
 use Rattle.ft_io.specs.Calls.{Calls, fails_next, called}
 
--- the bytes that are left, the most that one call gives, and the calls so far
+-- a source: the bytes that are still to come, the most that one call gives, and the calls so far
 pub record Giving : Type 0 where
-  pub left : List ℕ
+  pub remaining : List ℕ
   pub give : ℕ
   pub calls : Calls
 
 -- how many bytes the next read gives to a buffer of that length
 abbrev pub given : Giving → ℕ → ℕ
-given source room = if fails_next source.calls then 0 else min (min source.give room) (length source.left)
+given source room = if fails_next source.calls then 0 else min (min source.give room) (length source.remaining)
 
 -- what the next read answers at a buffer of that length
 abbrev pub read_answer : Giving → ℕ → Result ℕ Failed
 read_answer source room = if fails_next source.calls then Err (record {}) else Ok (given source room)
 
--- a buffer after the next read: the bytes stand at its front, and the rest is as it was
+-- a buffer after the next read: the bytes are at its front, and the rest is as it was
 abbrev pub filled : Giving → List ℕ → List ℕ
-filled source buffer = take (given source (length buffer)) source.left ++ drop (given source (length buffer)) buffer
+filled source buffer = take (given source (length buffer)) source.remaining ++ drop (given source (length buffer)) buffer
 
 -- the source after the next read of a buffer of that length
 abbrev pub after_read : Giving → ℕ → Giving
 after_read source room = record {
-  left = drop (given source room) source.left;
+  remaining = drop (given source room) source.remaining;
   give = source.give;
   calls = called (fails_next source.calls) source.calls;
 }
 
--- the bytes that are held, the most that one call takes, the room for all bytes, and the calls so far
+-- a sink: the bytes that it holds, the most that one call takes, the room for all bytes, and the calls so far
 pub record Holding : Type 0 where
   pub held : List ℕ
   pub portion : ℕ

@@ -1,9 +1,9 @@
 -- A source over a reader, and a sink over a writer.
-use Rattle.std.specs.Prelude.{ℕ, ◌==◌, nat_lt, Bool, true, ◌&&◌, if◌then◌else◌, List, length, Option, Result, Ok, Err, MatchResult, take}
+use Rattle.std.specs.Prelude.{ℕ, ◌==◌, nat_lt, Bool, true, ◌&&◌, List, length, Option, Result, Ok, Err, MatchResult, take}
 use Rattle.std.specs.Io.KnownBytes.{Appends}
 use Rattle.ft_io.specs.declared.standard.StdSource.{StdSource}
 use Rattle.ft_io.specs.declared.standard.StdSink.{StdSink}
-use Rattle.ft_io.specs.Causes.{AppendsFront, raised}
+use Rattle.ft_io.specs.Causes.{AppendsFront}
 
 -- the reader that a source reads from
 abbrev pub input_of : {I : Type 0} → StdSource I → I
@@ -25,10 +25,6 @@ write_faults sink = sink.faults
 abbrev pub is_fault : {E : Type 0} → Result ℕ E → List ℕ → Bool
 is_fault (Ok n) piece = n == 0 && nat_lt 0 (length piece)
 is_fault (Err e) piece = true
-
--- a count of faults after a call that was one or not
-abbrev pub counted : Bool → ℕ → ℕ
-counted fault faults = if fault then raised faults else faults
 
 -- the writer got the bytes that were taken, and at a failure a beginning of the piece
 abbrev pub PassesOn : {E : Type 0} → Option (List ℕ) → Option (List ℕ) → Result ℕ E → List ℕ → Type 0

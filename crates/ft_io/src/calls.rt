@@ -4,11 +4,11 @@ ghost use Rattle.std.specs.Prelude.{◌≡◌, ◌≤◌, true};
 ghost use Rattle.ft_io.specs.Causes.{Rose};
 ghost use Rattle.ft_io.specs.Calls.{no_calls, fails_next, called};
 
-use crate::faults::raise;
+use crate::faults::count_fault;
 use std::marker::Model;
 
-/// The calls that are to fail, by their numbers from 1, and what was counted so far. Calls past
-/// number `u32::MAX` are not counted and do not fail.
+/// The numbers, from 1, of the calls that are to fail, and how many calls and faults there were.
+/// Calls after number `u32::MAX` are not counted and do not fail.
 #[derive(Debug, Drop)]
 pub(crate) struct PlannedCalls {
     fails: Vec<u32>,
@@ -25,7 +25,7 @@ impl Model for PlannedCalls {
 }
 
 impl PlannedCalls {
-    /// No call was made yet.
+    /// The calls to fail, before the first call.
     pub(crate) fn new(fails: Vec<u32>) -> PlannedCalls
         ensures { result ≡ no_calls fails.items }
     {
@@ -43,7 +43,7 @@ impl PlannedCalls {
         self.counted < u32::MAX && self.fails.contains(&(self.counted + 1))
     }
 
-    /// Counts a call, and its fault where it failed.
+    /// Counts a call, and its fault if it failed.
     pub(crate) fn count(&mut self, failed: bool)
         ensures called { self.new ≡ called failed self.old }
         ensures later { self.old.faults ≤ self.new.faults }
@@ -51,7 +51,7 @@ impl PlannedCalls {
     {
         self.counted = self.counted.saturating_add(1);
         if failed {
-            raise(&mut self.faults);
+            count_fault(&mut self.faults);
         }
     }
 }

@@ -3,7 +3,7 @@
 /// Passed by each running thread before each of its steps. It answers nothing and has no faults.
 pub trait Gate: Sync {
     /// Lets the actor take its next step. Actor 0 is control, and actor c + 1 is CPU c. `step` is
-    /// the number of that actor's steps before this one, and stays at `u64::MAX` once there.
+    /// the number of that actor's steps before this one. It stays at `u64::MAX` once it is there.
     fn pass(&self, actor: u32, step: u64);
 }
 

@@ -1,7 +1,17 @@
 //! Where the program's bytes come from and go to, and what its threads pass at each step.
 //!
-//! A *source* gives bytes and a *sink* takes them; each keeps a count of its faults, by which a
+//! A *source* gives bytes and a *sink* takes them. Each keeps a count of its *faults*, by which a
 //! caller sees that a failure had a cause. A *gate* is passed by a running thread before each step.
+//! Sources and sinks are over memory, for tests, or over a reader and a writer of the standard
+//! library, as over standard input and output.
+//!
+//! Proved, for every source and sink: `read_all` gives exactly the bytes up to the source's end, or
+//! says why not; `write_all` appends exactly the bytes, or a beginning of them; no count of faults
+//! falls, and a failure comes only if it rose. The ends in memory are known byte for byte.
+//!
+//! Only tested: that the adapters over a reader and a writer ask for many bytes at a time, flush
+//! after each write, and try nothing a second time. What a standard stream gives or shows is not
+//! said.
 #![tactic(auto)]
 
 mod calls;
@@ -17,7 +27,7 @@ pub use gate::{Gate, OpenGate};
 pub use memory_sink::MemSink;
 pub use memory_source::MemSource;
 pub use sink::{Sink, WriteFail, write_all};
-pub use source::{Failed, LIMIT, ReadFail, Source, read_all};
+pub use source::{Failed, ReadFail, Source, read_all};
 pub use standard::{StdSink, StdSource};
 
 #[cfg(test)]

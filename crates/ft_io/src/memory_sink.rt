@@ -13,7 +13,8 @@ use crate::source::Failed;
 use std::alloc::{AllocError, Global};
 use std::marker::Model;
 
-/// A sink in memory, which takes a few bytes at a time and fails where it is told to or is full.
+/// A sink in memory, which takes a few bytes at a time and fails in the calls that it is told, or
+/// when it is full.
 #[derive(Debug, Drop)]
 pub struct MemSink {
     held: Vec<u8>,
@@ -41,9 +42,9 @@ impl Model for MemSink {
 
 impl MemSink {
     /// A sink with room for `room` bytes, which are reserved here, of which one call takes at most
-    /// `take`. A call fails, and appends nothing, exactly where its number, from 1, stands in
-    /// `fails`, or where the room is full and the piece is not empty. Calls past number `u32::MAX`
-    /// are not counted and fail only for want of room. The error is want of memory.
+    /// `take`. A call fails, and appends nothing, exactly if its number, from 1, is in `fails`, or
+    /// if the room is full and the piece is not empty. Calls after number `u32::MAX` are not counted
+    /// and fail only if the room is full. The error is that memory is out.
     pub fn new(
         alloc: Global,
         take: usize,

@@ -11,7 +11,7 @@ use crate::calls::PlannedCalls;
 use crate::source::{Failed, Source};
 use std::marker::Model;
 
-/// A source in memory, which gives its bytes a few at a time and fails where it is told to.
+/// A source in memory, which gives its bytes a few at a time and fails in the calls that it is told.
 #[derive(Debug, Drop)]
 pub struct MemSource {
     bytes: Vec<u8>,
@@ -27,7 +27,7 @@ impl Model for MemSource {
     ghost Value = { Giving };
 
     ghost view = { λ s. record {
-      left = drop s.given s.bytes.items;
+      remaining = drop s.given s.bytes.items;
       give = s.give;
       calls = s.calls;
     } };
@@ -37,12 +37,12 @@ impl Model for MemSource {
 
 impl MemSource {
     /// A source of these bytes, of which one call gives at most `give`. A call fails, and takes no
-    /// byte, exactly where its number, from 1, stands in `fails`. Calls past number `u32::MAX` are
-    /// not counted and do not fail.
+    /// byte, exactly if its number, from 1, is in `fails`. Calls after number `u32::MAX` are not
+    /// counted and do not fail.
     pub fn new(bytes: Vec<u8>, give: usize, fails: Vec<u32>) -> MemSource
         requires { 1 ≤ give }
         ensures { result ≡ record {
-          left = bytes.items;
+          remaining = bytes.items;
           give = give;
           calls = no_calls fails.items;
         } }
@@ -55,22 +55,22 @@ impl MemSource {
         }
     }
 
-    /// The bytes that are left.
-    pub fn left(&self) -> &[u8]
-        ensures { result.now ≡ self.now.left }
+    /// The bytes that are still to come.
+    pub fn remaining(&self) -> &[u8]
+        ensures { result.now ≡ self.now.remaining }
     {
         &self.bytes[self.given..]
     }
 }
 
 impl Source for MemSource {
-    ghost left = { λ s. Some s.left };
+    ghost remaining = { λ s. Some s.remaining };
 
     ghost faults = { λ s. s.calls.faults };
 
     fn read(&mut self, buf: &mut [u8]) -> Result<usize, Failed>
         ensures bound { ReadsAtMost result buf.new }
-        ensures bytes { ReadConsumes (Some self.old.left) (Some self.new.left) result buf.new }
+        ensures bytes { ReadConsumes (Some self.old.remaining) (Some self.new.remaining) result buf.new }
         ensures cause { HasCause self.old.calls.faults self.new.calls.faults result }
         ensures answer { result ≡ read_answer self.old (length buf.old) }
         ensures buffer { buf.new ≡ filled self.old buf.old }
@@ -81,9 +81,9 @@ impl Source for MemSource {
         if fails {
             return Err(Failed);
         }
-        let left = &self.bytes[self.given..];
-        let n = self.give.min(buf.len()).min(left.len());
-        buf[..n].copy_from_slice(&left[..n]);
+        let remaining = &self.bytes[self.given..];
+        let n = self.give.min(buf.len()).min(remaining.len());
+        buf[..n].copy_from_slice(&remaining[..n]);
         self.given += n;
         Ok(n)
     }

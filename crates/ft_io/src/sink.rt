@@ -10,14 +10,14 @@ use thiserror::Error;
 
 /// Where bytes go.
 pub trait Sink {
-    /// The bytes that the sink holds, where it tells them.
+    /// The bytes that the sink holds, if it tells them.
     ghost holds: { Self → Option (List ℕ) };
 
-    /// How many faults there were. It never falls, and stays at `u64::MAX` once there.
+    /// How many faults there were. It never falls, and stays at `u64::MAX` once it is there.
     ghost faults: { Self → ℕ };
 
-    /// Takes bytes from the front of `piece` and gives their number. 0 for a non-empty piece raises
-    /// the count of faults. `Failed` comes only where that count rose, and then nothing was appended.
+    /// Takes bytes from the front of `piece` and gives their number. 0 for a non-empty piece counts
+    /// as a fault. `Failed` comes only if the count of faults rose, and then nothing was appended.
     fn write(&mut self, piece: &[u8]) -> Result<usize, Failed>
         ensures bound { WritesAtMost result piece.now }
         ensures bytes { WriteAppends (holds self.old) (holds self.new) result piece.now }

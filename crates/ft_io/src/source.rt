@@ -5,14 +5,12 @@ ghost use Rattle.std.specs.Io.{ReadsAtMost};
 ghost use Rattle.std.specs.Io.KnownBytes.{Consumes, ReadConsumes, IsAtEnd};
 ghost use Rattle.ft_io.specs.Causes.{Rose, HasCause, GaveMore, GaveAtMost};
 
+use ft_base::limits::INPUT_BYTES;
 use std::alloc::Global;
 use thiserror::Error;
 
-/// The most bytes that are read from a source.
-pub const LIMIT: usize = 16_777_216;
-
 // How many bytes one call asks for.
-const PIECE: usize = 4096;
+const PIECE_BYTES: usize = 4_096;
 
 /// A source or a sink failed in this call: its count of faults rose.
 #[derive(Clone, Copy, Debug, PartialEq, Eq, Drop, Error)]
@@ -21,18 +19,18 @@ pub struct Failed;
 
 /// Where bytes come from.
 pub trait Source {
-    /// The bytes that are left, where the source tells them.
-    ghost left: { Self → Option (List ℕ) };
+    /// The bytes that are still to come, if the source tells them.
+    ghost remaining: { Self → Option (List ℕ) };
 
-    /// How many faults there were. It never falls, and stays at `u64::MAX` once there.
+    /// How many faults there were. It never falls, and stays at `u64::MAX` once it is there.
     ghost faults: { Self → ℕ };
 
     /// Puts bytes at the front of `buf` and gives their number. For a non-empty `buf`, 0 is the end
-    /// of the input; where the source tells its bytes, it comes exactly where none is left.
-    /// `Failed` comes only where the count of faults rose, and then no byte was taken.
+    /// of the input; if the source tells its bytes, it comes exactly when none remain. `Failed`
+    /// comes only if the count of faults rose, and then no byte was taken.
     fn read(&mut self, buf: &mut [u8]) -> Result<usize, Failed>
         ensures bound { ReadsAtMost result buf.new }
-        ensures bytes { ReadConsumes (left self.old) (left self.new) result buf.new }
+        ensures bytes { ReadConsumes (remaining self.old) (remaining self.new) result buf.new }
         ensures cause { HasCause (faults self.old) (faults self.new) result };
 }
 
@@ -42,29 +40,30 @@ pub enum ReadFail {
     /// The source failed: its count of faults rose in this call.
     #[error("the source failed")]
     Fault,
-    /// The source gave more than [`LIMIT`] bytes.
-    #[error("the source gave more than {LIMIT} bytes")]
+    /// The source gave more bytes than a script may have, [`INPUT_BYTES`].
+    #[error("the source gave more than {INPUT_BYTES} bytes")]
     TooLong,
-    /// No memory was found for the bytes.
+    /// Out of memory.
     #[error("out of memory")]
     NoMemory,
 }
 
 /// Reads all bytes up to the source's end. Each turn takes at least one byte or ends the loop.
 pub fn read_all<S: Source>(alloc: Global, source: &mut S) -> Result<Vec<u8>, ReadFail>
-    ensures all { IfOk result (λ v. Consumes (S.left source.old) (S.left source.new) v.items
-        × IsAtEnd (S.left source.new)) }
-    ensures short { IfOk result (λ v. length v.items ≤ LIMIT) }
+    ensures all { IfOk result (λ v. Consumes (S.remaining source.old) (S.remaining source.new) v.items
+        × IsAtEnd (S.remaining source.new)) }
+    ensures short { IfOk result (λ v. length v.items ≤ INPUT_BYTES) }
     ensures fault { result ≡ Err ReadFail.Fault → Rose (S.faults source.old) (S.faults source.new) }
-    // With `short` and `within`: exactly where one byte more than the limit was given.
+    // With `short` and `within`: exactly if one byte more than the limit was given.
     ensures too_long { result ≡ Err ReadFail.TooLong
-        → GaveMore LIMIT (S.left source.old) (S.left source.new) }
+        → GaveMore INPUT_BYTES (S.remaining source.old) (S.remaining source.new) }
     ensures within { IfErr result (λ fail. fail ≢ ReadFail.TooLong
-        → GaveAtMost LIMIT (S.left source.old) (S.left source.new)) }
+        → GaveAtMost INPUT_BYTES (S.remaining source.old) (S.remaining source.new)) }
     ensures faults { S.faults source.old ≤ S.faults source.new }
 {
+    let limit = INPUT_BYTES as usize;
     let mut bytes = Vec::new(alloc);
-    let mut piece = [0u8; PIECE];
+    let mut piece = [0u8; PIECE_BYTES];
     loop {
         let Ok(n) = source.read(&mut piece) else {
             return Err(ReadFail::Fault);
@@ -72,7 +71,7 @@ pub fn read_all<S: Source>(alloc: Global, source: &mut S) -> Result<Vec<u8>, Rea
         if n == 0 {
             return Ok(bytes);
         }
-        if n > LIMIT - bytes.len() {
+        if n > limit - bytes.len() {
             return Err(ReadFail::TooLong);
         }
         if bytes.extend_from_slice(&piece[..n]).is_err() {

@@ -3,10 +3,10 @@
 ghost use Rattle.std.specs.Prelude.{◌≡◌, ◌<◌, length, None, Ok, is_err};
 ghost use Rattle.std.specs.Io.{ReadsAtMost, WritesAtMost};
 ghost use Rattle.std.specs.Io.KnownBytes.{ReadConsumes};
-ghost use Rattle.ft_io.specs.Causes.{Rose, HasCause};
-ghost use Rattle.ft_io.specs.Standard.{input_of, output_of, read_faults, write_faults, is_fault, counted, PassesOn};
+ghost use Rattle.ft_io.specs.Causes.{Rose, HasCause, count_after};
+ghost use Rattle.ft_io.specs.Standard.{input_of, output_of, read_faults, write_faults, is_fault, PassesOn};
 
-use crate::faults::raise;
+use crate::faults::count_fault;
 use crate::sink::Sink;
 use crate::source::{Failed, Source};
 use std::io::{Read, Write};
@@ -30,19 +30,19 @@ impl<I: Read> StdSource<I> {
 }
 
 impl<I: Read> Source for StdSource<I> {
-    ghost left = { λ _. None };
+    ghost remaining = { λ _. None };
 
     ghost faults = { read_faults };
 
     fn read(&mut self, buf: &mut [u8]) -> Result<usize, Failed>
         ensures bound { ReadsAtMost result buf.new }
         ensures cause { HasCause (read_faults self.old) (read_faults self.new) result }
-        ensures counted { read_faults self.new ≡ counted (is_err result) (read_faults self.old) }
+        ensures counted { read_faults self.new ≡ count_after (is_err result) (read_faults self.old) }
         ensures input { ReadConsumes (I.remaining (input_of self.old))
             (I.remaining (input_of self.new)) result buf.new }
     {
         let Ok(n) = self.input.read(buf) else {
-            raise(&mut self.faults);
+            count_fault(&mut self.faults);
             return Err(Failed);
         };
         Ok(n)
@@ -52,8 +52,8 @@ impl<I: Read> Source for StdSource<I> {
 /// A sink over a writer, as over standard output. Each error of the writer is a fault, also an
 /// interrupted call, and so is a write that takes nothing of a piece.
 ///
-/// Each write is flushed before it is answered, so that no byte that was taken stays behind in the
-/// writer. Where the flush fails, the write fails, and the writer may have got bytes of the piece.
+/// Each write is flushed before it is answered, so that no byte that was taken is held back in the
+/// writer. If the flush fails, the write fails, and the writer may have got bytes of the piece.
 #[derive(Drop)]
 pub struct StdSink<O> {
     output: O,
@@ -81,20 +81,20 @@ impl<O: Write> Sink for StdSink<O> {
         ensures stuck { result ≡ Ok 0 → 0 < length piece.now
             → Rose (write_faults self.old) (write_faults self.new) }
         ensures counted { write_faults self.new
-            ≡ counted (is_fault result piece.now) (write_faults self.old) }
+            ≡ count_after (is_fault result piece.now) (write_faults self.old) }
         ensures output { PassesOn (O.contents (output_of self.old))
             (O.contents (output_of self.new)) result piece.now }
     {
         let Ok(n) = self.output.write(piece) else {
-            raise(&mut self.faults);
+            count_fault(&mut self.faults);
             return Err(Failed);
         };
         if self.output.flush().is_err() {
-            raise(&mut self.faults);
+            count_fault(&mut self.faults);
             return Err(Failed);
         }
         if n == 0 && !piece.is_empty() {
-            raise(&mut self.faults);
+            count_fault(&mut self.faults);
         }
         Ok(n)
     }
