@@ -22,7 +22,7 @@ Reads-Means words m p (Replay f) h w = Reads-Spells words m p (subst IsPlain (sy
 pub Reads-Gives : (words : List Text) (o : Order) (g : Gives words o) → Reads g.mode g.print words
 Reads-Gives words o g = Reads-Means words g.mode g.print o g.means g.spelt
 
--- ---- where the words give no order
+-- ## if the words give no order
 
 pub none-not_taken : (words : List Text) → is_taken words ≡ false → (o : Order) → Gives words o → ⊥
 none-not_taken words e o g = true≢false (sym (Reads-Gives words o g).taken ∙ e)
@@ -47,7 +47,7 @@ module _ (words : List Text) (m : Text) (p : Option Text) (mode_is : Some m ≡ 
   pub none-not_spelt : (Spells words m p → ⊥) → (o : Order) → Gives words o → ⊥
   none-not_spelt none o g = none (moved (Spells words) o g g.spelt)
 
--- ---- one order
+-- ## one order
 
 -- no two forms have one name
 one_form : (f g : Form) → form_name f ≡ form_name g → f ≡ g

@@ -1,3 +1,3 @@
-pub mod Lines
+pub mod SameWords
 pub mod OnWords
 pub mod Found

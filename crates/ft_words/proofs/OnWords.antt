@@ -3,9 +3,9 @@ use Rattle.std.proofs.Common.{◌≡◌, ℕ, true, false, List, [], ◌∷◌, 
 use Rattle.clap.specs.Words.{is_simple}
 use Rattle.clap.proofs.OnLiterals.{clap_on_literals}
 use Rattle.ft_words.specs.Command.{app, is_taken, value_in}
-use Rattle.ft_words.specs.Language.{Text, IsOneOf, lines_of, lines_with, Spells}
+use Rattle.ft_words.specs.Language.{Text, IsOneOf, spellings_of, spellings_with, Spells}
 
--- no argument has rules on another
+-- no argument has a rule on another
 pub simple : is_simple app ≡ true
 unfolding clap_on_literals app
 simple = refl
@@ -31,19 +31,19 @@ at P x [] h all = absurd h
 at P x (y ∷ ys) (inl e) all = subst P (sym e) all.0
 at P x (y ∷ ys) (inr h) all = at P x ys h all.1
 
--- ---- the lines one by one
+-- ## the lines one by one
 
-bare-1 : (m : ℕ) (ms : Text) → nat_eq m 45 ≡ false → Reads (m ∷ ms) None ((m ∷ ms) ∷ [])
+alone-1 : (m : ℕ) (ms : Text) → nat_eq m 45 ≡ false → Reads (m ∷ ms) None ((m ∷ ms) ∷ [])
 unfolding clap_on_literals app is_taken value_in
-bare-1 m ms e = record { taken = simp e; mode_is = simp e; print_is = simp e }
+alone-1 m ms e = record { taken = simp e; mode_is = simp e; print_is = simp e }
 
-bare-2 : (m : ℕ) (ms : Text) → nat_eq m 45 ≡ false → Reads (m ∷ ms) None (codes "--" ∷ (m ∷ ms) ∷ [])
+alone-2 : (m : ℕ) (ms : Text) → nat_eq m 45 ≡ false → Reads (m ∷ ms) None (codes "--" ∷ (m ∷ ms) ∷ [])
 unfolding clap_on_literals app is_taken value_in
-bare-2 m ms e = record { taken = refl; mode_is = refl; print_is = refl }
+alone-2 m ms e = record { taken = refl; mode_is = refl; print_is = refl }
 
-bare-3 : (m : ℕ) (ms : Text) → nat_eq m 45 ≡ false → Reads (m ∷ ms) None ((m ∷ ms) ∷ codes "--" ∷ [])
+alone-3 : (m : ℕ) (ms : Text) → nat_eq m 45 ≡ false → Reads (m ∷ ms) None ((m ∷ ms) ∷ codes "--" ∷ [])
 unfolding clap_on_literals app is_taken value_in
-bare-3 m ms e = record { taken = simp e; mode_is = simp e; print_is = simp e }
+alone-3 m ms e = record { taken = simp e; mode_is = simp e; print_is = simp e }
 
 apart-1 : (m v : ℕ) (ms vs : Text) → nat_eq m 45 ≡ false → nat_eq v 45 ≡ false → Reads (m ∷ ms) (Some (v ∷ vs)) (codes "--print" ∷ (v ∷ vs) ∷ (m ∷ ms) ∷ [])
 unfolding clap_on_literals app is_taken value_in
@@ -89,10 +89,10 @@ joined-5 m v ms vs e = record { taken = simp e; mode_is = simp e; print_is = sim
 pub Reads-Spells : (words : List Text) (mode : Text) (print : Option Text) → IsPlain mode → ((t : Text) → print ≡ Some t → IsPlain t) → Spells words mode print → Reads mode print words
 Reads-Spells words [] print plain p h = absurd plain
 Reads-Spells words (m ∷ ms) None e p h =
-    at (Reads (m ∷ ms) None) words (lines_of (m ∷ ms)) h (bare-1 m ms e, (bare-2 m ms e, (bare-3 m ms e, tt)))
+    at (Reads (m ∷ ms) None) words (spellings_of (m ∷ ms)) h (alone-1 m ms e, (alone-2 m ms e, (alone-3 m ms e, tt)))
 Reads-Spells words (m ∷ ms) (Some []) e p h = absurd (p [] refl)
 Reads-Spells words (m ∷ ms) (Some (v ∷ vs)) e p (inl h) =
     let f : nat_eq v 45 ≡ false = p (v ∷ vs) refl in
-    at (Reads (m ∷ ms) (Some (v ∷ vs))) words (lines_with (m ∷ ms) (codes "--print" ∷ (v ∷ vs) ∷ [])) h (apart-1 m v ms vs e f, (apart-2 m v ms vs e f, (apart-3 m v ms vs e f, (apart-4 m v ms vs e f, (apart-5 m v ms vs e f, tt)))))
+    at (Reads (m ∷ ms) (Some (v ∷ vs))) words (spellings_with (m ∷ ms) (codes "--print" ∷ (v ∷ vs) ∷ [])) h (apart-1 m v ms vs e f, (apart-2 m v ms vs e f, (apart-3 m v ms vs e f, (apart-4 m v ms vs e f, (apart-5 m v ms vs e f, tt)))))
 Reads-Spells words (m ∷ ms) (Some (v ∷ vs)) e p (inr h) =
-    at (Reads (m ∷ ms) (Some (v ∷ vs))) words (lines_with (m ∷ ms) ((codes "--print=" ++ (v ∷ vs)) ∷ [])) h (joined-1 m v ms vs e, (joined-2 m v ms vs e, (joined-3 m v ms vs e, (joined-4 m v ms vs e, (joined-5 m v ms vs e, tt)))))
+    at (Reads (m ∷ ms) (Some (v ∷ vs))) words (spellings_with (m ∷ ms) ((codes "--print=" ++ (v ∷ vs)) ∷ [])) h (joined-1 m v ms vs e, (joined-2 m v ms vs e, (joined-3 m v ms vs e, (joined-4 m v ms vs e, (joined-5 m v ms vs e, tt)))))

@@ -2,7 +2,7 @@
 use Rattle.std.specs.Prelude.{List, Option, Some, codes, true, Bool}
 use Rattle.clap.specs.Words.{App, Rule, Text, new_app, new_rule, with_rule, takes, matches_of, first_of}
 
--- the mode, which is a word and must be there
+-- the mode, a word that must be there
 abbrev pub mode_rule : Rule
 mode_rule = record (new_rule (codes "mode")) { required = true }
 
@@ -10,15 +10,15 @@ mode_rule = record (new_rule (codes "mode")) { required = true }
 abbrev pub print_rule : Rule
 print_rule = record (new_rule (codes "print")) { long = Some (codes "print") }
 
--- a command without the program's name among its words, and without an option for help
-abbrev pub bare : App
-bare = record (new_app (codes "ftcore")) { top = record (new_app (codes "ftcore")).top { no_binary_name = true; disable_help_flag = true } }
+-- a command with no argument yet: its words don't hold the program's name, and it has no option for help
+abbrev pub empty_app : App
+empty_app = record (new_app (codes "ftcore")) { top = record (new_app (codes "ftcore")).top { no_binary_name = true; disable_help_flag = true } }
 
 -- all that the parser is told
 unfoldable pub app : App
-app = with_rule (with_rule bare mode_rule) print_rule
+app = with_rule (with_rule empty_app mode_rule) print_rule
 
--- the parser takes the words, and fails only for want of memory
+-- whether the parser takes the words, so that it can fail only if memory is out
 unfoldable pub is_taken : List Text → Bool
 is_taken words = takes app words
 

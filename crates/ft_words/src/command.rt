@@ -1,4 +1,4 @@
-//! The parser: how it is told the command line, and what it finds in words.
+//! The parser: what it is told of the command line, and what it finds in words.
 
 ghost use Rattle.std.specs.Prelude.{◌≡◌, IfOk, map, false, codes};
 ghost use Rattle.std.specs.Option.{option_copied};
@@ -26,11 +26,13 @@ pub fn command<'a>(alloc: Global) -> Result<Command<'a>, AllocError>
 /// What the parser found in the words.
 #[derive(Clone, Copy)]
 pub struct Found<'a> {
+    /// The mode.
     pub mode: Option<&'a str>,
+    /// The value of `--print`.
     pub print: Option<&'a str>,
 }
 
-/// Runs the parser.
+/// What the parser finds in the words. `Language` comes only for words that it doesn't take.
 pub fn find<'a>(command: Command<'a>, words: &'a [&'a str]) -> Result<Found<'a>, WordsFault>
     requires { app_of command ≡ app }
     ensures mode { IfOk result (λ f. option_copied f.mode ≡ value_in (codes "mode") (map (λ w. w.now) words.entry.now)) }

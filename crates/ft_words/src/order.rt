@@ -1,4 +1,4 @@
-//! What the words can order, and the order of a mode and a form's name.
+//! What the words can order, and the order that a mode and a form's name give.
 
 ghost use Rattle.std.specs.Prelude.{◌≡◌, ◌≢◌, IfSome, IfNone};
 ghost use Rattle.std.specs.Option.{option_copied};
@@ -11,14 +11,14 @@ use thiserror::Error;
 /// The form in which a history is printed.
 #[derive(Clone, Copy, Debug, PartialEq, Eq)]
 pub enum Form {
-    /// The whole history, an item a line.
+    /// The whole history, with a line for each item.
     Log,
 }
 
 /// What the program is to do.
 #[derive(Clone, Copy, Debug, PartialEq, Eq)]
 pub enum Order {
-    /// Carry out the script on standard input, and print its history in this form.
+    /// Carry out the script that the source gives, and print its history in this form.
     Replay(Form),
 }
 
@@ -28,7 +28,7 @@ pub enum WordsFault {
     /// The words aren't in the command's language.
     #[error("the words are not in the command's language")]
     Language,
-    /// Memory ran out.
+    /// Out of memory.
     #[error("out of memory")]
     NoMemory,
 }
@@ -44,7 +44,7 @@ fn form_of(name: &str) -> Option<Form>
     }
 }
 
-/// The order of a mode, and of the form's name where one is said.
+/// The order of a mode, and of the form's name if one is said.
 pub fn choose(mode: &str, print: Option<&str>) -> Option<Order>
     ensures some { IfSome result (Means mode.now (option_copied print.entry)) }
     ensures none { IfNone result ((o : Order) → ¬ Means mode.now (option_copied print.entry) o) }

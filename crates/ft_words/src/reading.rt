@@ -1,4 +1,4 @@
-//! Words to an order.
+//! From words to an order.
 
 ghost use Rattle.std.specs.Prelude.{◌≡◌, List, IfOk, map};
 ghost use Rattle.ft_words.specs.declared.order.Order.{Order};
@@ -9,8 +9,9 @@ use crate::order::{Order, WordsFault, choose};
 use crate::spelling::spells;
 use std::alloc::Global;
 
-/// Reads the words of the command, those after the program's name: `replay` and `--print log`, as the crate's page
-/// says. `Language` comes exactly where the words give no order, but for want of memory, which may come first.
+/// Reads the words of the command, those after the program's name: `replay` and `--print log`, as
+/// the crate's page says. `Language` comes exactly if the words give no order; `NoMemory` may come in
+/// place of any answer.
 pub fn read_words(alloc: Global, words: &[&str]) -> Result<Order, WordsFault>
     ensures gives { IfOk result (Gives (map (λ w. w.now) words.now)) }
     ensures language { result ≡ Err WordsFault.Language
@@ -24,7 +25,7 @@ pub fn read_words(alloc: Global, words: &[&str]) -> Result<Order, WordsFault>
     let Some(order) = choose(mode, found.print) else {
         return Err(WordsFault::Language);
     };
-    // The parser takes more than the language has, so the words are compared with what they can be.
+    // It isn't proved that the parser takes no other words, so they are compared with what they can be.
     match spells(alloc, words, mode, found.print) {
         Ok(true) => Ok(order),
         Ok(false) => Err(WordsFault::Language),

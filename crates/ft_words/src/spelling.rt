@@ -2,45 +2,45 @@
 
 ghost use Rattle.std.specs.Prelude.{◌≡◌, ◌↔◌, [], ◌∷◌, IfOk, IsTrue, map};
 ghost use Rattle.std.specs.Option.{option_copied};
-ghost use Rattle.ft_words.specs.Language.{IsOneOf, lines_of, lines_with, Spells, SpellsWith};
+ghost use Rattle.ft_words.specs.Language.{IsOneOf, spellings_of, spellings_with, Spells, SpellsWith};
 
 use std::alloc::{AllocError, Global};
 
 /// Whether the words are these.
-fn is_line(words: &[&str], line: &[&str]) -> bool
-    ensures { IsTrue result ↔ (map (λ w. w.now) words.now ≡ map (λ w. w.now) line.now) }
+fn are_these(words: &[&str], these: &[&str]) -> bool
+    ensures { IsTrue result ↔ (map (λ w. w.now) words.now ≡ map (λ w. w.now) these.now) }
 {
-    words == line
+    words == these
 }
 
 /// Whether the words say the mode and no option.
 fn spells_alone(words: &[&str], mode: &str) -> bool
-    ensures { IsTrue result ↔ IsOneOf (map (λ w. w.now) words.now) (lines_of mode.now) }
+    ensures { IsTrue result ↔ IsOneOf (map (λ w. w.now) words.now) (spellings_of mode.now) }
 {
-    is_line(words, &[mode]) || is_line(words, &["--", mode]) || is_line(words, &[mode, "--"])
+    are_these(words, &[mode]) || are_these(words, &["--", mode]) || are_these(words, &[mode, "--"])
 }
 
 /// Whether the words say the mode, and the option in one word.
 fn spells_joined(words: &[&str], mode: &str, option: &str) -> bool
-    ensures { IsTrue result ↔ IsOneOf (map (λ w. w.now) words.now) (lines_with mode.now (option.now ∷ [])) }
+    ensures { IsTrue result ↔ IsOneOf (map (λ w. w.now) words.now) (spellings_with mode.now (option.now ∷ [])) }
 {
-    is_line(words, &[option, mode])
-        || is_line(words, &[option, "--", mode])
-        || is_line(words, &[option, mode, "--"])
-        || is_line(words, &[mode, option])
-        || is_line(words, &[mode, option, "--"])
+    are_these(words, &[option, mode])
+        || are_these(words, &[option, "--", mode])
+        || are_these(words, &[option, mode, "--"])
+        || are_these(words, &[mode, option])
+        || are_these(words, &[mode, option, "--"])
 }
 
 /// Whether the words say the mode, and the option in two words.
 fn spells_apart(words: &[&str], mode: &str, name: &str, value: &str) -> bool
     ensures { IsTrue result
-        ↔ IsOneOf (map (λ w. w.now) words.now) (lines_with mode.now (name.now ∷ value.now ∷ [])) }
+        ↔ IsOneOf (map (λ w. w.now) words.now) (spellings_with mode.now (name.now ∷ value.now ∷ [])) }
 {
-    is_line(words, &[name, value, mode])
-        || is_line(words, &[name, value, "--", mode])
-        || is_line(words, &[name, value, mode, "--"])
-        || is_line(words, &[mode, name, value])
-        || is_line(words, &[mode, name, value, "--"])
+    are_these(words, &[name, value, mode])
+        || are_these(words, &[name, value, "--", mode])
+        || are_these(words, &[name, value, mode, "--"])
+        || are_these(words, &[mode, name, value])
+        || are_these(words, &[mode, name, value, "--"])
 }
 
 /// Whether the words say this mode, and this value of the option.
@@ -57,7 +57,7 @@ fn spells_with(
     Ok(spells_apart(words, mode, name, value) || spells_joined(words, mode, joined.as_str()))
 }
 
-/// Whether the words say this mode, and this value of `--print` where there is one.
+/// Whether the words say this mode, and this value of `--print` if there is one.
 pub fn spells(
     alloc: Global,
     words: &[&str],

@@ -30,7 +30,7 @@ fn reads_the_language(rt: HostRuntime) {
 
 #[test]
 fn refuses_all_other_words(rt: HostRuntime) {
-    let bad: [&[&str]; 32] = [
+    let bad: [&[&str]; 35] = [
         &[],
         &[""],
         &["frob"],
@@ -63,6 +63,9 @@ fn refuses_all_other_words(rt: HostRuntime) {
         &["bulk", "--print", "log"],
         &["bulk", "--seed", "1", "--seed", "2"],
         &["replay", "--seed", "1"],
+        &["replay", "--print", "log", "--", "--", "replay"],
+        &["--print", "log", "--", "replay", "--", "--", "--"],
+        &["replay", "a", "b", "c", "d", "e", "f", "g", "h", "i", "j"],
     ];
     for words in bad.iter() {
         assert_eq!(rt;

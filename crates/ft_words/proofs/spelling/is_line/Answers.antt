@@ -1,9 +1,0 @@
-use Rattle.std.proofs.Common.{◌∙◌, sym}
-use Rattle.ft_words.proofs.Lines.{texts-from_pointwise, pointwise-from_texts}
-use Rattle.ft_words.proofs.spelling.is_line.Goals as goal
-
-pub returns : goal.returns
-returns c = (
-  λ h. texts-from_pointwise c.args.words.now c.args.line.now (sym c.eq.ensures ∙ h),
-  λ e. c.eq.ensures ∙ pointwise-from_texts c.args.words.now c.args.line.now e,
-)
