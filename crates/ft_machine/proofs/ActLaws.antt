@@ -5,13 +5,14 @@ use Rattle.std.specs.Global.{Vec}
 use Rattle.std.proofs.lemmas.Bool.{ltb-true, ltb-false}
 use Rattle.std.proofs.lemmas.List.{drop_more, drop_all, get_or_read}
 use Rattle.std.proofs.lemmas.Option.{get_or_from_slice_get, slice_get_read}
+use Rattle.ft_base.specs.declared.limits.TheConstants.{ACTS}
 use Rattle.ft_base.specs.declared.task.TaskAct.{TaskAct}
 use Rattle.ft_base.specs.Job.{no_task}
 use Rattle.ft_hist.specs.Shown.{Shown}
 use Rattle.plain_machine.specs.State.{step, tasks_of as numbers_on}
 use Rattle.ft_machine.specs.declared.progress.Progress.{Progress}
-use Rattle.ft_machine.specs.Parts.{IsBuilt}
-use Rattle.ft_machine.specs.Acts.{fresh, has_left, is_wait, progress_after, past_after, counted}
+use Rattle.ft_machine.specs.Known.{IsBuilt}
+use Rattle.ft_machine.specs.Acts.{fresh, has_more, progress_after, past_after, ends_turn, counted}
 use Rattle.ft_machine.specs.Kept.{state_of, IsKept, IsSoFar}
 use Rattle.ft_machine.specs.declared.machine.Machine.TheInside.{Inside}
 use Rattle.ft_machine.proofs.Places.{so-far-at, so-far-set, so-far-length, count-at, count-set, count-length}
@@ -40,21 +41,21 @@ module _ (m : Inside) (kept : IsKept m) where
       so : IsSoFar own x
       so = subst (λ (y : Progress). IsSoFar own y) here (so-far-at m.job.tasks m.tasks.items t kept.tasks lt)
 
-      pub none-state : has_left x ≡ false → state_of m ≡ step m.job (cpu_no c) (state_of m)
+      pub none-state : has_more x ≡ false → state_of m ≡ step m.job (cpu_no c) (state_of m)
       none-state none =
           let over : x.acts ≤ x.gone = ltb-false x.gone x.acts none in
           let same = so.acts in
           none-left m.job kept.known (reverse m.history.items) m.line m.commands_done m.registered m.tasks.items m.counts.items kept.user kept.tasks c t on lt within-counts x here
           (drop_all x.gone own (omega arith))
 
-      module _ (more : has_left x ≡ true) where
+      module _ (more : has_more x ≡ true) where
         left : x.gone < x.acts
         left = ltb-true x.gone x.acts more
 
         pub ready-act : x.gone < length own
         ready-act = let l = left in let same = so.acts in omega arith
 
-        pub ready-gone : x.gone < 20000
+        pub ready-gone : x.gone < ACTS
         ready-gone = let l = ready-act in let few = acts-some m.job.tasks t lt in let all = kept.known.all_acts in omega arith
 
         pub ready-next : x.next ≤ x.gone + 1
@@ -75,7 +76,7 @@ module _ (m : Inside) (kept : IsKept m) where
           ready-built = built-at m.job.tasks t kept.known.acts x.gone a at
 
           module _ (y : Progress) (is : y ≡ progress_after (task_no t) m.commands_done a x) (h : Shown) (items : reverse h.items ≡ past_after (task_no t) m.registered a x (reverse m.history.items))
-              (k : ℕ) (k_is : k ≡ counted (has_left y) (is_wait m.commands_done a) (get_or m.job.quanta c 1) (get_or m.counts.items c 0))
+              (k : ℕ) (k_is : k ≡ counted (ends_turn m.commands_done a y) (get_or m.job.quanta c 1) (get_or m.counts.items c 0))
               (xs : Vec Progress) (xs_is : xs.items ≡ set m.tasks.items t y) (ks : Vec ℕ) (ks_is : ks.items ≡ set m.counts.items c k) where
             goes : GoesOn own x (progress_after (task_no t) m.commands_done a x)
             goes = goes-on own x so left (task_no t) m.commands_done a
@@ -94,9 +95,9 @@ module _ (m : Inside) (kept : IsKept m) where
               rule = rule-step m (cpu_no c) (state_of (after_act m xs ks h)) kept act-state;
               user = kept.user;
               line = kept.line;
-              ran = kept.commands_done;
+              commands_done = kept.commands_done;
               tasks = rw (xs_is, is) (so-far-set m.job.tasks m.tasks.items t (progress_after (task_no t) m.commands_done a x) kept.tasks lt goes.so);
-              counts = rw (ks_is, k_is) (count-set m.job.quanta m.counts.items c _ kept.counts below (counted-below (has_left y) (is_wait m.commands_done a) _ _ ready-count));
+              counts = rw (ks_is, k_is) (count-set m.job.quanta m.counts.items c _ kept.counts below (counted-below (ends_turn m.commands_done a y) _ _ ready-count));
               room =
                   let on_it : GoesOn own x y = rw is goes in
                   let acts = on_it.acts in let gone = on_it.gone in let most = on_it.so.gone in
@@ -107,7 +108,7 @@ module _ (m : Inside) (kept : IsKept m) where
 -- ## what was read
 
 -- two reads of one place
-pub reads-same : (xs : List Progress) (t : ℕ) (x y : Progress) (b : Bool) → t < length xs → b ≡ has_left x → b ≡ true → x ≡ get_or xs t x → y ≡ get_or xs t y → has_left y ≡ true
+pub reads-same : (xs : List Progress) (t : ℕ) (x y : Progress) (b : Bool) → t < length xs → b ≡ has_more x → b ≡ true → x ≡ get_or xs t x → y ≡ get_or xs t y → has_more y ≡ true
 reads-same xs t x y b lt is over first second =
     let one : x ≡ get_or xs t (fresh 0) = get_or_read xs t x lt first (fresh 0) in
     let two : y ≡ get_or xs t (fresh 0) = get_or_read xs t y lt second (fresh 0) in

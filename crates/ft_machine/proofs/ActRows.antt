@@ -17,13 +17,12 @@ use Rattle.plain_machine.specs.State.{State, TaskState, CpuState, task_at, acted
 use Rattle.plain_machine.proofs.PlainUsers.{called_in, walked-plain}
 use Rattle.ft_machine.specs.declared.stack.OpenCall.{OpenCall}
 use Rattle.ft_machine.specs.declared.progress.Progress.{Progress}
-use Rattle.ft_machine.specs.Parts.{IsBuilt}
-use Rattle.ft_machine.specs.Known.{IsKnown}
+use Rattle.ft_machine.specs.Known.{IsBuilt, IsKnown}
 use Rattle.ft_machine.specs.Stacked.{top_of}
-use Rattle.ft_machine.specs.Acts.{fresh, has_left, is_wait, backed_by, progress_after, past_after, has_returned, returned_past, counted}
+use Rattle.ft_machine.specs.Acts.{fresh, has_more, is_wait, backed_by, progress_after, past_after, has_returned, returned_past, ends_turn, counted}
 use Rattle.ft_machine.specs.Kept.{frame_of, task_state, state_by, order_of, home, cpus_by, HasDesk, IsSoFar, AreSoFar}
-use Rattle.ft_machine.proofs.FirstDesk.{on-desk, target-desk}
-use Rattle.ft_machine.proofs.Places.{task-by, task-past, set-by, so-far-set, so-far-length, drop-rest, has-left, cpu-by, cpu-past, set-cpu}
+use Rattle.ft_machine.proofs.FirstDesk.{plain-users, on-desk, target-desk}
+use Rattle.ft_machine.proofs.Places.{task-by, task-past, set-by, so-far-set, so-far-length, drop-rest, has-more, cpu-by, cpu-past, set-cpu}
 use Rattle.ft_machine.proofs.Switch.{home-is, home-none, home-empty, switched-same}
 
 -- the task of this number
@@ -48,18 +47,18 @@ returned-none j s t x rest stack e = rw e refl
 
 -- ## an act
 
-module _ (j : Job) (known : IsKnown j) (past : List Item) (line ran : ℕ) (registered : Bool) (xs : List Progress) (ks : List ℕ)
-    (user : HasDesk (funcs j) registered (desk j ran)) (so : AreSoFar j.tasks xs) (t : ℕ) (lt : t < length j.tasks) where
+module _ (j : Job) (known : IsKnown j) (past : List Item) (line done : ℕ) (registered : Bool) (xs : List Progress) (ks : List ℕ)
+    (user : HasDesk (funcs j) registered (desk j done)) (so : AreSoFar j.tasks xs) (t : ℕ) (lt : t < length j.tasks) where
   -- the state now
   abbrev now : State
-  now = state_by j past line ran registered xs ks
+  now = state_by j past line done registered xs ks
 
   abbrev acts : List TaskAct
   acts = (get_or j.tasks t no_task).acts
 
   -- the state after an act of the task, which made this past
   abbrev gone_on : List Item → Progress → State
-  gone_on after y = state_by j after line ran registered (set xs t y) ks
+  gone_on after y = state_by j after line done registered (set xs t y) ks
 
   -- what the plain machine makes of a task that has gone on
   goes : (after : List Item) (x y : Progress) → record now { past = after; tasks = set now.tasks t (task_state acts y) } ≡ gone_on after y
@@ -71,10 +70,10 @@ module _ (j : Job) (known : IsKnown j) (past : List Item) (line ran : ℕ) (regi
 
   module _ (x : Progress) (here : get_or xs t (fresh 0) ≡ x) (rest : List TaskAct) where
     wait-act : (n : ℕ) → drop x.gone acts ≡ After n ∷ rest
-        → acted j now t (task_state acts x) (After n ∷ rest) ≡ gone_on past (progress_after (task_no t) ran (After n) x)
-    wait-act n e = by (nat_le n ran) refl
+        → acted j now t (task_state acts x) (After n ∷ rest) ≡ gone_on past (progress_after (task_no t) done (After n) x)
+    wait-act n e = by (nat_le n done) refl
       where
-        by : (b : Bool) → nat_le n ran ≡ b → acted j now t (task_state acts x) (After n ∷ rest) ≡ gone_on past (progress_after (task_no t) ran (After n) x)
+        by : (b : Bool) → nat_le n done ≡ b → acted j now t (task_state acts x) (After n ∷ rest) ≡ gone_on past (progress_after (task_no t) done (After n) x)
         by true met =
             let left : drop (suc x.gone) acts ≡ rest = drop-rest acts rest x.gone (After n) e in
             rw (met, sym left, add-one x.gone) (goes past x (record x { gone = suc x.gone }))
@@ -91,25 +90,25 @@ module _ (j : Job) (known : IsKnown j) (past : List Item) (line ran : ℕ) (regi
             rw (some, top-is below, sym left, add-one x.gone) (goes (returned_past (o ∷ below) past) x (record (has_returned (o ∷ below) x) { gone = suc x.gone }))
 
     call-act : (f : FuncNo) → drop x.gone acts ≡ Call f ∷ rest
-        → acted j now t (task_state acts x) (Call f ∷ rest) ≡ gone_on (past_after (task_no t) registered (Call f) x past) (progress_after (task_no t) ran (Call f) x)
+        → acted j now t (task_state acts x) (Call f ∷ rest) ≡ gone_on (past_after (task_no t) registered (Call f) x past) (progress_after (task_no t) done (Call f) x)
     call-act f e =
         let left : drop (suc x.gone) acts ≡ rest = drop-rest acts rest x.gone (Call f) e in
-        let d = desk j ran in
+        let d = desk j done in
         let call : CallNo = record { task = task_no t; n = x.next } in
         rw (
           on-desk j known d registered f.0 user,
-          walked-plain j known.plain (whole 2 j d (order_of registered)) d (around t (task_state acts x)) call Normal refl (order_of registered) _,
+          walked-plain j (plain-users j known) (whole 2 j d (order_of registered)) d (around t (task_state acts x)) call Normal refl (order_of registered) _,
           target-desk j known d registered f.0 user,
           called-is call registered _,
           top-is x.stack.calls,
           sym left,
           add-one x.gone,
           add-one x.next,
-        ) (goes (past_after (task_no t) registered (Call f) x past) x (record (progress_after (task_no t) ran (Call f) x) { gone = suc x.gone; next = suc x.next }))
+        ) (goes (past_after (task_no t) registered (Call f) x past) x (record (progress_after (task_no t) done (Call f) x) { gone = suc x.gone; next = suc x.next }))
 
     -- any act that this machine knows
     any-act : (a : TaskAct) → IsBuilt a → drop x.gone acts ≡ a ∷ rest
-        → acted j now t (task_state acts x) (a ∷ rest) ≡ gone_on (past_after (task_no t) registered a x past) (progress_after (task_no t) ran a x)
+        → acted j now t (task_state acts x) (a ∷ rest) ≡ gone_on (past_after (task_no t) registered a x past) (progress_after (task_no t) done a x)
     any-act (Call f) built e = call-act f e
     any-act RetAct built e = ret-act e
     any-act (After n) built e = wait-act n e
@@ -118,12 +117,12 @@ module _ (j : Job) (known : IsKnown j) (past : List Item) (line ran : ℕ) (regi
 
 -- ## a step
 
-waits-is : (ran : ℕ) (a : TaskAct) (rest : List TaskAct) → IsBuilt a → is_waiting ran (a ∷ rest) ≡ is_wait ran a
-waits-is ran (Call f) rest built = refl
-waits-is ran RetAct rest built = refl
-waits-is ran (After n) rest built = refl
-waits-is ran (Raise c) rest built = absurd built
-waits-is ran Lower rest built = absurd built
+waits-is : (done : ℕ) (a : TaskAct) (rest : List TaskAct) → IsBuilt a → is_waiting done (a ∷ rest) ≡ is_wait done a
+waits-is done (Call f) rest built = refl
+waits-is done RetAct rest built = refl
+waits-is done (After n) rest built = refl
+waits-is done (Raise c) rest built = absurd built
+waits-is done Lower rest built = absurd built
 
 either : (a b : ℕ) → (a ≤ b) ⊎ (b < a)
 either a b = by (nat_le a b) refl
@@ -147,10 +146,10 @@ cpu-goes j c x s s' acts waits here more w e = rw (here, more, w, e) refl
 cpu-rests : (j : Job) (c : ℕ) (x : CpuState) (s : State) → is_left s x.present ≡ false → cpu_step j c x s ≡ s
 cpu-rests j c x s none = rw none refl
 
-module _ (j : Job) (known : IsKnown j) (past : List Item) (line ran : ℕ) (registered : Bool) (xs : List Progress) (ks : List ℕ)
-    (user : HasDesk (funcs j) registered (desk j ran)) (so : AreSoFar j.tasks xs) where
+module _ (j : Job) (known : IsKnown j) (past : List Item) (line done : ℕ) (registered : Bool) (xs : List Progress) (ks : List ℕ)
+    (user : HasDesk (funcs j) registered (desk j done)) (so : AreSoFar j.tasks xs) where
   abbrev present_state : State
-  present_state = state_by j past line ran registered xs ks
+  present_state = state_by j past line done registered xs ks
 
   -- a CPU with no task does nothing
   pub no-task : (c : ℕ) → numbers_on j c ≡ [] → present_state ≡ step j (cpu_no c) present_state
@@ -178,7 +177,7 @@ module _ (j : Job) (known : IsKnown j) (past : List Item) (line ran : ℕ) (regi
     this-task : task_at present_state t ≡ task_state own x
     this-task = task-by j.tasks xs t so lt ∙ ap (λ (y : Progress). task_state own y) here
 
-    -- where no act is left, nothing happens
+    -- if no act remains, nothing happens
     pub none-left : drop x.gone own ≡ [] → present_state ≡ step j (cpu_no c) present_state
     unfolding step
     none-left none = sym (rw this-cpu (cpu-rests j c (record { present = home j c; count = get_or ks c 0 }) present_state (by (has_acts own) refl)))
@@ -188,28 +187,28 @@ module _ (j : Job) (known : IsKnown j) (past : List Item) (line ran : ℕ) (regi
         by false empty = rw (home-none j c t on lt empty, task-past j.tasks xs (length j.tasks) (omega arith)) refl
 
     -- an act, and perhaps a switch
-    module _ (a : TaskAct) (rest : List TaskAct) (built : IsBuilt a) (e : drop x.gone own ≡ a ∷ rest) (so' : IsSoFar own (progress_after (task_no t) ran a x)) where
+    module _ (a : TaskAct) (rest : List TaskAct) (built : IsBuilt a) (e : drop x.gone own ≡ a ∷ rest) (so' : IsSoFar own (progress_after (task_no t) done a x)) where
       abbrev after : Progress
-      after = progress_after (task_no t) ran a x
+      after = progress_after (task_no t) done a x
 
       abbrev went : State
-      went = state_by j (past_after (task_no t) registered a x past) line ran registered (set xs t after) ks
+      went = state_by j (past_after (task_no t) registered a x past) line done registered (set xs t after) ks
 
-      went-left : is_left went t ≡ has_left after
+      went-left : is_left went t ≡ has_more after
       went-left =
           let there : AreSoFar j.tasks (set xs t after) = so-far-set j.tasks xs t after so lt so' in
           ap (λ (y : TaskState). has_acts y.run.acts) (task-by j.tasks (set xs t after) t there lt)
           ∙ (let within : t < length xs = (let l = so-far-length j.tasks xs so in omega arith) in
           ap (λ (y : Progress). has_acts (drop y.gone own)) (get_or-set_same xs t after (fresh 0) within))
-          ∙ has-left own after so'.acts
+          ∙ has-more own after so'.acts
 
       went-on : acted j present_state t (task_at present_state t) (a ∷ rest) ≡ went
-      went-on = ap (λ (y : TaskState). acted j present_state t y (a ∷ rest)) this-task ∙ any-act j known past line ran registered xs ks user so t lt x here rest a built e
+      went-on = ap (λ (y : TaskState). acted j present_state t y (a ∷ rest)) this-task ∙ any-act j known past line done registered xs ks user so t lt x here rest a built e
 
-      turned : cpu_step j c (cpu_at j present_state c) present_state ≡ switched j c (record { present = t; count = get_or ks c 0 }) (is_wait ran a) went
+      turned : cpu_step j c (cpu_at j present_state c) present_state ≡ switched j c (record { present = t; count = get_or ks c 0 }) (is_wait done a) went
       turned =
           rw (this-cpu, home-is j c t on lt (has-some own rest x.gone a e))
-          (cpu-goes j c (record { present = t; count = get_or ks c 0 }) present_state went (a ∷ rest) (is_wait ran a) (ap (λ (y : TaskState). y.run.acts) this-task ∙ e) refl (waits-is ran a rest built) went-on)
+          (cpu-goes j c (record { present = t; count = get_or ks c 0 }) present_state went (a ∷ rest) (is_wait done a) (ap (λ (y : TaskState). y.run.acts) this-task ∙ e) refl (waits-is done a rest built) went-on)
 
       counts : (k : ℕ) → record went { cpus = set (cpus_by j 0 ks) c (record { present = t; count = k }) } ≡ record went { cpus = cpus_by j 0 (set ks c k) }
       counts k =
@@ -218,7 +217,7 @@ module _ (j : Job) (known : IsKnown j) (past : List Item) (line ran : ℕ) (regi
           let set_is : set (cpus_by j 0 ks) c (record { present = t; count = k }) ≡ cpus_by j 0 (set ks c k) = rw at at (set-cpu j 0 ks c k) in
           ap (λ (l : List CpuState). record went { cpus = l }) set_is
 
-      pub act-row : state_by j (past_after (task_no t) registered a x past) line ran registered (set xs t after) (set ks c (counted (has_left after) (is_wait ran a) (get_or j.quanta c 1) (get_or ks c 0)))
+      pub act-row : state_by j (past_after (task_no t) registered a x past) line done registered (set xs t after) (set ks c (counted (ends_turn done a after) (get_or j.quanta c 1) (get_or ks c 0)))
           ≡ step j (cpu_no c) present_state
       unfolding step
-      act-row = sym (turned ∙ switched-same j c t (get_or ks c 0) (is_wait ran a) went on ∙ rw went-left (counts (counted (has_left after) (is_wait ran a) (get_or j.quanta c 1) (get_or ks c 0))))
+      act-row = sym (turned ∙ switched-same j c t (get_or ks c 0) (is_wait done a) went on ∙ rw went-left (counts (counted (ends_turn done a after) (get_or j.quanta c 1) (get_or ks c 0))))

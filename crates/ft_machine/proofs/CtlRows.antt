@@ -43,19 +43,19 @@ command-at j s rest c r e =
     let there : slice_get (commands_in s.remaining) 0 ≡ Some c = rw e refl in
     rw add-zero at here ∙ there
 
-module _ (j : Job) (known : IsKnown j) (past : List Item) (line ran : ℕ) (registered : Bool) (xs : List Progress) (ks : List ℕ) where
+module _ (j : Job) (known : IsKnown j) (past : List Item) (line done : ℕ) (registered : Bool) (xs : List Progress) (ks : List ℕ) where
   abbrev now : State
-  now = state_by j past line ran registered xs ks
+  now = state_by j past line done registered xs ks
 
-  pub command-row : (r : Bool) → slice_get (drop line j.ctls) 0 ≡ Some (Run (command_of r)) → slice_get (commands j) ran ≡ Some (command_of r) → HasDesk (funcs j) registered (desk j ran)
-      → state_by j (commanded (ran + 1) (answer_by r registered) past) (line + 1) (ran + 1) r xs ks ≡ step j Control now
+  pub command-row : (r : Bool) → slice_get (drop line j.ctls) 0 ≡ Some (Run (command_of r)) → slice_get (commands j) done ≡ Some (command_of r) → HasDesk (funcs j) registered (desk j done)
+      → state_by j (commanded (done + 1) (answer_by r registered) past) (line + 1) (done + 1) r xs ks ≡ step j Control now
   unfolding step
   command-row r next here user =
-      rw (left-at j.ctls line (Run (command_of r)) next, answer-desk j known ran registered r here user, order-after r registered, add-one line, add-one ran) refl
+      rw (left-at j.ctls line (Run (command_of r)) next, answer-desk j known done registered r here user, order-after r registered, add-one line, add-one done) refl
 
   -- the wait is over
   pub met-row : (t n : ℕ) → AreSoFar j.tasks xs → slice_get (drop line j.ctls) 0 ≡ Some (Until t n) → n ≤ (get_or xs t (fresh 0)).gone
-      → state_by j past (line + 1) ran registered xs ks ≡ step j Control now
+      → state_by j past (line + 1) done registered xs ks ≡ step j Control now
   unfolding step
   met-row t n so next met =
       let yes : nat_le n (get_or xs t (fresh 0)).gone ≡ true = le-leb n _ met in

@@ -6,9 +6,10 @@ use Rattle.std.specs.Global.{Vec}
 use Rattle.std.proofs.lemmas.Bool.{lt-leb}
 use Rattle.std.proofs.lemmas.List.{length-map}
 use Rattle.std.proofs.lemmas.List.Sums.{sum_by-cons}
-use Rattle.user_specs.specs.Plain.{PlainCpu, cpu_of}
+use Rattle.user_specs.specs.Plain.{DeclaredCpu, cpu_of}
 use Rattle.user_specs.specs.declared.plan.CpuPlan.{CpuPlan}
 use Rattle.ft_machine.specs.Parts.{quanta_of}
+use Rattle.ft_base.specs.declared.limits.TheConstants.{FUNCS, TABLE_FUNCS, ACTS}
 use Rattle.ft_base.specs.declared.turn.Actor.TheVariants.{Control}
 use Rattle.ft_base.specs.Job.{Job, Task, Ctl, no_task}
 use Rattle.ft_hist.specs.Frames.{is_nil}
@@ -17,16 +18,15 @@ use Rattle.ft_base.specs.Desk.{desk}
 use Rattle.plain_machine.specs.State.{TaskState, CpuState, start, all_end, is_at_end, has_acts, tasks_at_start, cpus_at_start, tasks_of as numbers_on}
 use Rattle.plain_machine.proofs.Keeps.{start_keeps}
 use Rattle.ft_machine.specs.declared.progress.Progress.{Progress}
-use Rattle.ft_machine.specs.Parts.{IsQuantum}
-use Rattle.ft_machine.specs.Known.{IsKnown}
+use Rattle.ft_machine.specs.Known.{IsQuantum, IsKnown}
 use Rattle.ft_machine.specs.Running.{Running}
-use Rattle.ft_machine.specs.Acts.{fresh, has_left, insn_by}
-use Rattle.ft_machine.specs.Sites.{site_of}
+use Rattle.ft_machine.specs.Acts.{fresh, has_more, insn_by}
+use Rattle.ft_machine.specs.Sites.{site_on, site_of, IsSettled}
 use Rattle.site_bytes.specs.Bytes.{bytes_of, IsInsn}
-use Rattle.ft_machine.specs.Kept.{task_state, tasks_by, home, cpus_by, state_of, view_of, IsKept, IsSoFar, AreSoFar, AreCounts, acts_left}
+use Rattle.ft_machine.specs.Kept.{task_state, tasks_by, home, cpus_by, state_of, view_of, IsKept, IsSoFar, AreSoFar, AreCounts, acts_to_come}
 use Rattle.ft_machine.specs.declared.machine.Machine.TheInside.{Inside}
 use Rattle.ft_machine.proofs.FirstDesk.{start-desk, target-desk, insn-desk}
-use Rattle.ft_machine.proofs.Places.{task-by, has-left, so-far-at}
+use Rattle.ft_machine.proofs.Places.{task-by, has-more, so-far-at}
 use Rattle.ft_machine.proofs.ActRows.{cpu_no}
 
 or-false : (b : Bool) → (b || false) ≡ b
@@ -49,27 +49,27 @@ control-end : (m : Inside) → is_at_end m.job Control (state_of m) ≡ nat_le (
 unfolding is_at_end
 control-end m = nil-left m.job.ctls m.line
 
-any-left : (ts : List Task) (xs : List Progress) → AreSoFar ts xs → list_any (λ x. has_acts x.run.acts) (tasks_by ts xs) ≡ list_any has_left xs
+any-left : (ts : List Task) (xs : List Progress) → AreSoFar ts xs → list_any (λ x. has_acts x.run.acts) (tasks_by ts xs) ≡ list_any has_more xs
 any-left [] [] k = refl
 any-left [] (x ∷ xs) k = absurd k
 any-left (t ∷ ts) [] k = absurd k
-any-left (t ∷ ts) (x ∷ xs) k = rw (has-left t.acts x k.0.acts, any-left ts xs k.1) refl
+any-left (t ∷ ts) (x ∷ xs) k = rw (has-more t.acts x k.0.acts, any-left ts xs k.1) refl
 
-over-is : (m : Inside) → IsKept m → all_end (state_of m) ≡ (is_at_end m.job Control (state_of m) && not (list_any has_left m.tasks.items))
+over-is : (m : Inside) → IsKept m → all_end (state_of m) ≡ (is_at_end m.job Control (state_of m) && not (list_any has_more m.tasks.items))
 unfolding all_end is_at_end
 over-is m kept = rw (any-left m.job.tasks m.tasks.items kept.tasks) refl
 
 pub seen-control-end : (m : Inside) (v : Running) → view_of m ≡ v → nat_le (length m.job.ctls) m.line ≡ is_at_end v.job Control v.state
 seen-control-end m v e = subst (λ (w : Running). nat_le (length m.job.ctls) m.line ≡ is_at_end w.job Control w.state) e (sym (control-end m))
 
-pub seen-over : (m : Inside) (v : Running) → view_of m ≡ v → IsKept m → all_end v.state ≡ (is_at_end v.job Control v.state && not (list_any has_left m.tasks.items))
-seen-over m v e kept = subst (λ (w : Running). all_end w.state ≡ (is_at_end w.job Control w.state && not (list_any has_left m.tasks.items))) e (over-is m kept)
+pub seen-over : (m : Inside) (v : Running) → view_of m ≡ v → IsKept m → all_end v.state ≡ (is_at_end v.job Control v.state && not (list_any has_more m.tasks.items))
+seen-over m v e kept = subst (λ (w : Running). all_end w.state ≡ (is_at_end w.job Control w.state && not (list_any has_more m.tasks.items))) e (over-is m kept)
 
--- where control is at its end
-pub seen-over-last : (m : Inside) (v : Running) (b : Bool) → view_of m ≡ v → IsKept m → b ≡ is_at_end v.job Control v.state → b ≡ true → not (list_any has_left m.tasks.items) ≡ all_end v.state
+-- if control is at its end
+pub seen-over-last : (m : Inside) (v : Running) (b : Bool) → view_of m ≡ v → IsKept m → b ≡ is_at_end v.job Control v.state → b ≡ true → not (list_any has_more m.tasks.items) ≡ all_end v.state
 seen-over-last m v b e kept last over = sym (seen-over m v e kept ∙ (let at : is_at_end v.job Control v.state ≡ true = sym last ∙ over in rw at refl))
 
--- and where it isn't
+-- and if it isn't
 pub seen-over-not : (m : Inside) (v : Running) (b : Bool) → view_of m ≡ v → IsKept m → b ≡ is_at_end v.job Control v.state → b ≡ false → b ≡ all_end v.state
 seen-over-not m v b e kept last more = more ∙ sym (seen-over m v e kept ∙ (let at : is_at_end v.job Control v.state ≡ false = sym last ∙ more in rw at refl))
 
@@ -78,19 +78,19 @@ unfolding is_at_end
 no-end m c on = rw on refl
 
 one-end : (m : Inside) → IsKept m → (c t : ℕ) → numbers_on m.job c ≡ t ∷ [] → t < length m.job.tasks → (x : Progress) → get_or m.tasks.items t (fresh 0) ≡ x
-    → x.acts ≡ length (get_or m.job.tasks t no_task).acts → not (has_left x) ≡ is_at_end m.job (cpu_no c) (state_of m)
+    → x.acts ≡ length (get_or m.job.tasks t no_task).acts → not (has_more x) ≡ is_at_end m.job (cpu_no c) (state_of m)
 unfolding is_at_end
 one-end m kept c t on lt x here acts =
-    rw (on, task-by m.job.tasks m.tasks.items t kept.tasks lt, here, has-left (get_or m.job.tasks t no_task).acts x acts, or-false (has_left x)) refl
+    rw (on, task-by m.job.tasks m.tasks.items t kept.tasks lt, here, has-more (get_or m.job.tasks t no_task).acts x acts, or-false (has_more x)) refl
 
 pub seen-no-end : (m : Inside) (v : Running) (c : ℕ) → view_of m ≡ v → numbers_on m.job c ≡ [] → true ≡ is_at_end v.job (cpu_no c) v.state
 seen-no-end m v c e on = subst (λ (w : Running). true ≡ is_at_end w.job (cpu_no c) w.state) e (no-end m c on)
 
 pub seen-one-end : (m : Inside) (v : Running) (c t : ℕ) (x : Progress) → view_of m ≡ v → IsKept m → numbers_on m.job c ≡ t ∷ [] → t < length m.job.tasks → get_or m.tasks.items t (fresh 0) ≡ x
-    → not (has_left x) ≡ is_at_end v.job (cpu_no c) v.state
+    → not (has_more x) ≡ is_at_end v.job (cpu_no c) v.state
 seen-one-end m v c t x e kept on lt here =
     let so : IsSoFar (get_or m.job.tasks t no_task).acts x = subst (λ (y : Progress). IsSoFar (get_or m.job.tasks t no_task).acts y) here (so-far-at m.job.tasks m.tasks.items t kept.tasks lt) in
-    subst (λ (w : Running). not (has_left x) ≡ is_at_end w.job (cpu_no c) w.state) e (one-end m kept c t on lt x here so.acts)
+    subst (λ (w : Running). not (has_more x) ≡ is_at_end w.job (cpu_no c) w.state) e (one-end m kept c t on lt x here so.acts)
 
 -- ## the start
 
@@ -116,7 +116,7 @@ counts-fresh : (qs : List ℕ) → Each IsQuantum qs → AreCounts qs (replicate
 counts-fresh [] k = tt
 counts-fresh (q ∷ qs) k = ((let l = k.0.0 in omega arith), counts-fresh qs k.1)
 
-left-fresh : (ts : List Task) → acts_left (all_fresh ts) ≡ sum_by (λ t. length t.acts) ts
+left-fresh : (ts : List Task) → acts_to_come (all_fresh ts) ≡ sum_by (λ t. length t.acts) ts
 left-fresh [] = refl
 left-fresh (t ∷ ts) =
     sum_by-cons (λ (x : Progress). x.acts - x.gone) (fresh (length t.acts)) (all_fresh ts)
@@ -129,15 +129,15 @@ all-fresh (t ∷ ts) =
     sum_by-cons (λ (x : Progress). x.acts) (fresh (length t.acts)) (all_fresh ts)
     ∙ rw (all-fresh ts) (sym (sum_by-cons (λ (u : Task). length u.acts) t ts))
 
--- there are few acts
-pub few-fresh : (xs : List Progress) (j : Job) → xs ≡ all_fresh j.tasks → IsKnown j → sum_by (λ x. x.acts) xs ≤ 20000
+-- there are no more acts than the limit
+pub few-fresh : (xs : List Progress) (j : Job) → xs ≡ all_fresh j.tasks → IsKnown j → sum_by (λ x. x.acts) xs ≤ ACTS
 few-fresh xs j is known = let few = known.all_acts in let same = all-fresh j.tasks in rw is (omega (arith, few, same))
 
 -- one count a CPU
 pub counts-of : (cpus : List CpuPlan) (j : Job) (ks : List ℕ) → quanta_of (map cpu_of cpus) ≡ j.quanta → ks ≡ replicate (length cpus) 0 → ks ≡ replicate (length j.quanta) 0
 counts-of cpus j ks quanta is =
     let many : length cpus ≡ length j.quanta =
-    sym (length-map cpus cpu_of) ∙ sym (length-map (map cpu_of cpus) (λ (c : PlainCpu). c.quantum)) ∙ ap (λ (qs : List ℕ). length qs) quanta in
+    sym (length-map cpus cpu_of) ∙ sym (length-map (map cpu_of cpus) (λ (c : DeclaredCpu). c.quantum)) ∙ ap (λ (qs : List ℕ). length qs) quanta in
     rw many at is
 
 abbrev pub opened : Job → Vec Progress → Vec ℕ → Shown → Inside
@@ -155,7 +155,7 @@ module _ (j : Job) (xs : Vec Progress) (ks : Vec ℕ) (h : Shown) (none : h.item
     rule = rw opened-state (start_keeps j known.job);
     user = start-desk j known;
     line = omega arith;
-    ran = omega arith;
+    commands_done = omega arith;
     tasks = rw fresh_tasks (so-far-fresh j.tasks);
     counts = rw fresh_counts (counts-fresh j.quanta known.quanta);
     room = let enough = rw (fresh_tasks, all-fresh j.tasks) at room in rw (fresh_tasks, left-fresh j.tasks) (omega (arith, enough));
@@ -163,15 +163,22 @@ module _ (j : Job) (xs : Vec Progress) (ks : Vec ℕ) (h : Shown) (none : h.item
 
 -- ## sites
 
+site-is : (m : Inside) (f : ℕ) → IsKept m → bytes_of f (insn_by m.registered) ≡ site_on (desk m.job m.commands_done) f
+site-is m f kept =
+    rw (target-desk m.job kept.known (desk m.job m.commands_done) m.registered f kept.user, insn-desk m.job kept.known (desk m.job m.commands_done) m.registered kept.user) refl
+
 pub seen-site : (m : Inside) (v : Running) (f : ℕ) → view_of m ≡ v → IsKept m → bytes_of f (insn_by m.registered) ≡ site_of v.job v.state f
-seen-site m v f e kept =
-    subst (λ (w : Running). bytes_of f (insn_by m.registered) ≡ site_of w.job w.state f) e
-    (rw (target-desk m.job kept.known (desk m.job m.commands_done) m.registered f kept.user, insn-desk m.job kept.known (desk m.job m.commands_done) m.registered kept.user) refl)
+seen-site m v f e kept = subst (λ (w : Running). bytes_of f (insn_by m.registered) ≡ site_of w.job w.state f) e (site-is m f kept)
+
+-- the history tells which commands a site shows
+pub seen-settled : (m : Inside) (v : Running) (f : ℕ) → view_of m ≡ v → IsKept m → IsSettled v.job v.state.past f (bytes_of f (insn_by m.registered))
+seen-settled m v f e kept =
+    subst (λ (w : Running). IsSettled w.job w.state.past f (bytes_of f (insn_by m.registered))) e (rw kept.rule.returned (site-is m f kept))
 
 -- its function has a place in memory
-pub seen-func : (m : Inside) (v : Running) (f : ℕ) → view_of m ≡ v → IsKept m → f < length v.job.functions → f < 4096
+pub seen-func : (m : Inside) (v : Running) (f : ℕ) → view_of m ≡ v → IsKept m → f < length v.job.functions → f < TABLE_FUNCS
 seen-func m v f e kept below =
-    let few : length v.job.functions ≤ 1024 = subst (λ (w : Running). length w.job.functions ≤ 1024) e kept.known.functions in omega arith
+    let few : length v.job.functions ≤ FUNCS = subst (λ (w : Running). length w.job.functions ≤ FUNCS) e kept.known.functions in omega arith
 
 -- a slot that a site calls is one of the trampolines
 pub insn-known : (registered : Bool) → IsInsn (insn_by registered)

@@ -4,12 +4,12 @@ use Rattle.std.specs.Prelude.{option_map}
 use Rattle.std.proofs.lemmas.List.{drop_more}
 use Rattle.ft_base.specs.Job.{Task}
 use Rattle.ft_base.proofs.Small.{false_true}
-use Rattle.user_specs.specs.Plain.{PlainTask, task_of, cpu_of}
+use Rattle.user_specs.specs.Plain.{DeclaredTask, task_of, cpu_of}
 use Rattle.user_specs.specs.declared.plan.CpuPlan.{CpuPlan}
 use Rattle.ft_machine.specs.Parts.{found_on, or_else, found_in}
 
 -- the pid and the acts of a task are the same on any CPU
-pub pid-on : (n c : ℕ) (ts : List PlainTask) → option_map (λ t. t.pid) (found_on n c ts) ≡ option_map (λ t. t.pid) (found_on n 0 ts)
+pub pid-on : (n c : ℕ) (ts : List DeclaredTask) → option_map (λ t. t.pid) (found_on n c ts) ≡ option_map (λ t. t.pid) (found_on n 0 ts)
 pid-on n c [] = refl
 pid-on n c (t ∷ ts) =
     elim (t.task == n) as (λ b. option_map (λ u. u.pid) (cond b (Some (record { pid = t.pid; cpu = c; acts = t.acts })) (found_on n c ts))
@@ -18,7 +18,7 @@ pid-on n c (t ∷ ts) =
       | false ↦ pid-on n c ts
     ]
 
-pub acts-on : (n c : ℕ) (ts : List PlainTask) → option_map (λ t. t.acts) (found_on n c ts) ≡ option_map (λ t. t.acts) (found_on n 0 ts)
+pub acts-on : (n c : ℕ) (ts : List DeclaredTask) → option_map (λ t. t.acts) (found_on n c ts) ≡ option_map (λ t. t.acts) (found_on n 0 ts)
 acts-on n c [] = refl
 acts-on n c (t ∷ ts) =
     elim (t.task == n) as (λ b. option_map (λ u. u.acts) (cond b (Some (record { pid = t.pid; cpu = c; acts = t.acts })) (found_on n c ts))

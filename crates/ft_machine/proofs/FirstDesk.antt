@@ -1,22 +1,22 @@
 -- The desk of a job of at most one user, a plain one.
 use Rattle.std.proofs.Common.{cond, ◌≡◌, ℕ, zero, suc, ◌≤◌, Bool, true, false, List, [], ◌∷◌, length, get_or, Option, Some, None, refl, sym, ap, ◌∙◌, arith, inl, inr}
 use Rattle.std.specs.Prelude.{slice_get}
-use Rattle.std.specs.List.{list_any}
+use Rattle.std.specs.List.{list_any, AllByRecursion as Each}
 use Rattle.ft_base.specs.Marks.{empty}
 use Rattle.ft_base.specs.Job.{Job, Spec, Command, funcs, commands}
-use Rattle.ft_base.specs.Desk.{Desk, UserState, desk, after, answer_on, is_accepted, spec_at, target, lowest}
+use Rattle.ft_base.specs.Desk.{Desk, UserState, desk, after, answer_on, is_accepted, plain_spec, spec_at, target, lowest}
 use Rattle.ft_base.specs.Order.{order_after}
 use Rattle.ft_base.specs.WellFormed.{IsNamed}
 use Rattle.ft_base.proofs.DeskLaws.{desk-suc, length-desk}
 use Rattle.ft_base.proofs.Modifiers.{named-at}
 use Rattle.plain_machine.specs.State.{on_users}
 use Rattle.ft_machine.specs.Orders.{command_of}
-use Rattle.ft_machine.specs.Known.{IsKnown}
+use Rattle.ft_machine.specs.Known.{IsPlainUser, IsKnown}
 use Rattle.ft_machine.specs.Acts.{answer_by, target_by, insn_by}
 use Rattle.ft_machine.specs.Sites.{insn_of}
 use Rattle.ft_machine.specs.Kept.{only_user, order_of, HasUser, HasDesk}
 
--- nothing is in a bare set
+-- nothing is in an empty set
 empty-any : (n : ℕ) → list_any (λ b. b) (empty n) ≡ false
 empty-any zero = refl
 empty-any (suc n) = empty-any n
@@ -26,7 +26,7 @@ empty-holds zero f = refl
 empty-holds (suc n) zero = refl
 empty-holds (suc n) (suc f) = empty-holds n f
 
--- the first slot, where it is free
+-- the first slot, if it is free
 lowest-first : (p : ℕ → Bool) (n : ℕ) → 1 ≤ n → p 0 ≡ true → lowest p 0 n ≡ Some 0
 lowest-first p zero some free = absurd (omega arith)
 lowest-first p (suc n) some free = rw free refl
@@ -39,10 +39,19 @@ one-at-start : (j : Job) (u : Spec) → j.users ≡ u ∷ [] → (desk j 0).user
 unfolding desk
 one-at-start j u e = rw e refl
 
+plain-at : (us : List Spec) → Each IsPlainUser us → (u : ℕ) → IsPlainUser (get_or us u plain_spec)
+plain-at [] k u = refl
+plain-at (x ∷ us) k zero = k.0
+plain-at (x ∷ us) k (suc u) = plain-at us k.1 u
+
 module _ (j : Job) (k : IsKnown j) where
+  -- each user is a plain one
+  pub plain-users : (u : ℕ) → IsPlainUser (spec_at j u)
+  plain-users u = plain-at j.users k.plain u
+
   -- no user replaces a function
   no-modifier : (spec_at j 0).ipmodify ≡ None
-  no-modifier = ap (λ (s : Spec). s.ipmodify) (k.plain 0)
+  no-modifier = ap (λ (s : Spec). s.ipmodify) (plain-users 0)
 
   module _ (d : Desk) (registered was : Bool) (reg since : ℕ) (e : d.users ≡ only_user (funcs j) registered was reg since ∷ []) where
     answer-user : (r : Bool) → answer_on j d (command_of r) ≡ answer_by r registered
@@ -78,7 +87,7 @@ module _ (j : Job) (k : IsKnown j) where
         by true e = rw (e, empty-any (funcs j), empty-holds (funcs j) f) refl
         by false e = rw e refl
 
-  -- the user is there where a command names it
+  -- the user is there if a command names it
   has-user : (n c : ℕ) (registered r : Bool) → slice_get (commands j) c ≡ Some (command_of r) → HasDesk (funcs j) registered (desk j n) → HasUser (funcs j) registered (desk j n)
   has-user n c registered r here (inr u) = u
   has-user n c registered r here (inl none) =

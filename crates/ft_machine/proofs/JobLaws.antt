@@ -1,16 +1,15 @@
 -- A job and its parts.
 use Rattle.std.proofs.Common.{◌≡◌, ℕ, zero, suc, ◌<◌, ◌≤◌, List, [], ◌∷◌, length, get_or, map, Option, Some, None, refl, sym, ap, ◌∙◌, subst, arith}
 use Rattle.std.specs.Prelude.{slice_get, option_map}
-use Rattle.std.specs.List.{AllByRecursion as Each}
 use Rattle.std.proofs.lemmas.List.{length-map}
 use Rattle.std.proofs.lemmas.Option.{slice_get-map, slice_get_read, get_or_from_slice_get}
+use Rattle.ft_base.specs.declared.limits.TheConstants.{TASKS}
 use Rattle.ft_base.specs.declared.task.TaskAct.{TaskAct}
-use Rattle.ft_base.specs.Job.{Job, Task, Spec, no_task}
-use Rattle.ft_base.specs.Desk.{spec_at}
-use Rattle.user_specs.specs.Plain.{PlainCpu, cpu_of}
+use Rattle.ft_base.specs.Job.{Job, Task, no_task}
+use Rattle.user_specs.specs.Plain.{DeclaredCpu, cpu_of}
 use Rattle.user_specs.specs.declared.plan.CpuPlan.{CpuPlan}
 use Rattle.ft_machine.specs.declared.job.JobParts.{JobParts}
-use Rattle.ft_machine.specs.Parts.{Parts, parts_of, quanta_of, tasks_of, found_in, ctl_of, IsPlainUser, IsWithin, job_of}
+use Rattle.ft_machine.specs.Parts.{Parts, parts_of, quanta_of, tasks_of, found_in, IsWithin, job_of}
 use Rattle.ft_machine.specs.Known.{IsKnown}
 use Rattle.ft_machine.proofs.Numbered.{size, length-tasks, found-number}
 
@@ -26,11 +25,6 @@ no-acts (t ∷ ts) (suc n) e = no-acts ts n e
 
 -- ## what is known of the job
 
-plain-at : (us : List Spec) → Each IsPlainUser us → (u : ℕ) → IsPlainUser (get_or us u Rattle.ft_base.specs.Desk.plain_spec)
-plain-at [] k u = refl
-plain-at (x ∷ us) k zero = k.0
-plain-at (x ∷ us) k (suc u) = plain-at us k.1 u
-
 module _ (p : Parts) where
   pub job-quanta : (job_of p).quanta ≡ quanta_of p.cpus
   unfolding job_of
@@ -39,22 +33,6 @@ module _ (p : Parts) where
   pub job-tasks : (job_of p).tasks ≡ tasks_of p.cpus
   unfolding job_of
   job-tasks = refl
-
-  pub known-of : IsWithin p → IsKnown (job_of p)
-  unfolding job_of
-  known-of w = record {
-    job = w.job;
-    users = w.users;
-    plain = λ u. plain-at p.users w.plain u;
-    quanta = w.quanta;
-    tramps = w.tramps;
-    acts = w.acts;
-    functions = w.functions;
-    cpus = rw (length-map p.cpus (λ (c : PlainCpu). c.quantum)) w.cpus;
-    tasks = w.tasks;
-    all_acts = w.all_acts;
-    ctls = rw (length-map p.ctls ctl_of) w.ctls;
-  }
 
 -- ## what contracts see
 
@@ -66,19 +44,19 @@ module _ (p : JobParts) (j : Job) (e : job_of (parts_of p) ≡ j) where
   seen-tasks = subst (λ (i : Job). tasks_of (map cpu_of p.cpus.items) ≡ i.tasks) e (sym (job-tasks (parts_of p)))
 
   pub seen-known : IsWithin (parts_of p) → IsKnown j
-  seen-known w = subst (λ (i : Job). IsKnown i) e (known-of (parts_of p) w)
+  seen-known w = subst (λ (i : Job). IsKnown i) e w.known
 
   pub seen-length : length p.cpus.items ≡ length j.quanta
   seen-length =
-      sym (length-map p.cpus.items cpu_of) ∙ sym (length-map (map cpu_of p.cpus.items) (λ (c : PlainCpu). c.quantum)) ∙ ap (λ (qs : List ℕ). length qs) seen-quanta
+      sym (length-map p.cpus.items cpu_of) ∙ sym (length-map (map cpu_of p.cpus.items) (λ (c : DeclaredCpu). c.quantum)) ∙ ap (λ (qs : List ℕ). length qs) seen-quanta
 
   -- a CPU's quantum, as it was read
   pub seen-quantum : (c : ℕ) (x : CpuPlan) → c < length p.cpus.items → x ≡ get_or p.cpus.items c x → x.quantum ≡ get_or j.quanta c 1
   seen-quantum c x lt read =
       rw (sym seen-quanta)
       (sym (get_or_from_slice_get (quanta_of (map cpu_of p.cpus.items)) c x.quantum 1
-      (slice_get-map (λ (y : PlainCpu). y.quantum) (map cpu_of p.cpus.items) c
-      ∙ ap (λ (o : Option PlainCpu). option_map (λ y. y.quantum) o) (slice_get-map cpu_of p.cpus.items c)
+      (slice_get-map (λ (y : DeclaredCpu). y.quantum) (map cpu_of p.cpus.items) c
+      ∙ ap (λ (o : Option DeclaredCpu). option_map (λ y. y.quantum) o) (slice_get-map cpu_of p.cpus.items c)
       ∙ ap (λ (o : Option CpuPlan). option_map (λ y. y.quantum) (option_map cpu_of o)) (slice_get_read p.cpus.items (length p.cpus.items) c x refl lt read))))
 
   -- how many tasks there are
@@ -94,7 +72,7 @@ module _ (p : JobParts) (j : Job) (e : job_of (parts_of p) ≡ j) where
     pub seen-pid : (o : Option ℕ) → o ≡ option_map (λ t. t.pid) (found_in n 0 (map cpu_of cpus)) → o ≡ option_map (λ t. t.pid) (slice_get j.tasks n)
     seen-pid o h = (rw is at h) ∙ ap (λ (t : Option Task). option_map (λ u. u.pid) t) (seen-found w n)
 
-    -- its acts, where there is one
+    -- its acts, if there is one
     seen-acts : (o : Option (List TaskAct)) → o ≡ option_map (λ t. t.acts) (found_in n 0 (map cpu_of cpus)) → o ≡ option_map (λ t. t.acts) (slice_get j.tasks n)
     seen-acts o h = (rw is at h) ∙ ap (λ (t : Option Task). option_map (λ u. u.acts) t) (seen-found w n)
 
@@ -104,5 +82,5 @@ module _ (p : JobParts) (j : Job) (e : job_of (parts_of p) ≡ j) where
     pub none-acts : None ≡ option_map (λ t. t.acts) (found_in n 0 (map cpu_of cpus)) → [] ≡ (get_or j.tasks n no_task).acts
     none-acts h = no-acts j.tasks n (seen-acts None h)
 
-  pub few-tasks : IsWithin (parts_of p) → size (map cpu_of p.cpus.items) ≤ 64
-  few-tasks w = let few = w.tasks in let same = length-tasks (map cpu_of p.cpus.items) in omega (arith, few, same)
+  pub few-tasks : IsWithin (parts_of p) → size (map cpu_of p.cpus.items) ≤ TASKS
+  few-tasks w = let few = (seen-known w).tasks in let same = seen-count in omega (arith, few, same)

@@ -11,6 +11,7 @@ use Rattle.ft_base.specs.declared.turn.Actor.{Actor}
 use Rattle.ft_base.specs.declared.turn.Actor.TheVariants.{Control}
 use Rattle.ft_base.specs.Job.{Ctl, Run, Until, commands}
 use Rattle.ft_hist.specs.Shown.{Shown}
+use Rattle.ft_hist.specs.Past.{done}
 use Rattle.ft_hist.specs.Rules.{IsLegal, IsWhole}
 use Rattle.plain_machine.specs.State.{State, step, all_end}
 use Rattle.plain_machine.specs.Rule.{Rule}
@@ -60,7 +61,7 @@ module _ (m : Inside) (kept : IsKept m) where
         rule = rule-step m Control (state_of (after_command m r h)) kept command-state;
         user = rw (add-one m.commands_done) (next-desk m.job kept.known m.commands_done m.registered r named kept.user);
         line = let l = left-within m.job.ctls m.line (Run (command_of r)) next in omega arith;
-        ran = let l = kept.commands_done in omega arith;
+        commands_done = let l = kept.commands_done in omega arith;
         tasks = kept.tasks;
         counts = kept.counts;
         room = let g = kept.room in omega arith;
@@ -79,7 +80,7 @@ module _ (m : Inside) (kept : IsKept m) where
       rule = rule-step m Control (state_of (after_wait m)) kept (met-state met);
       user = kept.user;
       line = let l = left-within m.job.ctls m.line (Until t n) next in omega arith;
-      ran = let l = kept.commands_done in omega arith;
+      commands_done = let l = kept.commands_done in omega arith;
       tasks = kept.tasks;
       counts = kept.counts;
       room = let g = kept.room in omega arith;
@@ -89,6 +90,10 @@ module _ (m : Inside) (kept : IsKept m) where
   idle-state none = none-row m.job kept.known (reverse m.history.items) m.line m.commands_done m.registered m.tasks.items m.counts.items none
 
 -- ## the history
+
+-- the commands done are those that have returned
+pub kept-returned : (m : Inside) (v : Running) → view_of m ≡ v → IsKept m → done (reverse m.history.items) ≡ v.state.commands_done
+kept-returned m v e kept = subst (λ (w : Running). done (reverse m.history.items) ≡ w.state.commands_done) e kept.rule.returned
 
 pub kept-legal : (m : Inside) (v : Running) → view_of m ≡ v → IsKept m → IsLegal v.job m.history.items
 unfolding IsLegal
@@ -116,7 +121,7 @@ seen-left m v c e h = subst (λ (w : Running). slice_get w.state.remaining 0 ≡
 pub next-seen : (m : Inside) (v : Running) (ls : List FirstCtl) (l : FirstCtl) → view_of m ≡ v → map ctl_of ls ≡ m.job.ctls → slice_get ls m.line ≡ Some l → slice_get v.state.remaining 0 ≡ Some (ctl_of l)
 next-seen m v ls l e same here = subst (λ (w : Running). slice_get w.state.remaining 0 ≡ Some (ctl_of l)) e (rw (sym same) (next-line ls m.line l here))
 
--- no line is left
+-- no line remains
 none-seen : (m : Inside) (v : Running) (ls : List FirstCtl) → view_of m ≡ v → IsKept m → map ctl_of ls ≡ m.job.ctls → length ls ≤ m.line → v.state ≡ step v.job Control v.state
 none-seen m v ls e kept same past =
     let lines : length m.job.ctls ≡ length ls = ap (λ (cs : List Ctl). length cs) (sym same) ∙ length-map ls ctl_of in
@@ -132,7 +137,7 @@ pub read-seen : (m : Inside) (v : Running) (ls : List FirstCtl) (o : Option (Bor
     → IsItemAt ls m.line o → option_copied o ≡ Some l → slice_get v.state.remaining 0 ≡ Some (ctl_of l)
 read-seen m v ls o l e same read is = next-seen m v ls l e same (sym (copied-line ls m.line o read) ∙ is)
 
--- where none was read, none is left
+-- if none was read, none remains
 pub unread-seen : (m : Inside) (v : Running) (ls : List FirstCtl) (o : Option (Bor FirstCtl)) → view_of m ≡ v → IsKept m → map ctl_of ls ≡ m.job.ctls
     → IsItemAt ls m.line o → option_copied o ≡ None → v.state ≡ step v.job Control v.state
 unread-seen m v ls None e kept same read is = none-seen m v ls e kept same (ltb-false m.line (length ls) (sym read.0))

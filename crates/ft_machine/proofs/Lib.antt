@@ -12,5 +12,4 @@ pub mod KeptLaws
 pub mod ActLaws
 pub mod EndLaws
 pub mod PlayLaws
-pub mod Samples
 pub mod CopyLaws

@@ -6,7 +6,7 @@ use Rattle.std.proofs.lemmas.List.{length-map}
 use Rattle.std.proofs.lemmas.List.Sums.{sum_by-cons}
 use Rattle.ft_base.specs.Job.{Task}
 use Rattle.ft_base.proofs.Small.{false_true, ==-refl, Each-weaker}
-use Rattle.user_specs.specs.Plain.{PlainTask, PlainCpu}
+use Rattle.user_specs.specs.Plain.{DeclaredTask, DeclaredCpu}
 use Rattle.ft_machine.specs.Parts.{quanta_of, tasks_on, cpus_with, cpus_from, found_on, or_else, found_in, or_none, tasks_up, tasks_of}
 
 -- two numbers that differ
@@ -18,7 +18,7 @@ differ a b no_way = by (a == b) refl
     by false e = refl
 
 -- how many tasks the CPUs have
-abbrev pub size : List PlainCpu → ℕ
+abbrev pub size : List DeclaredCpu → ℕ
 size cpus = sum_by (λ c. length c.tasks) cpus
 
 above : (a c : ℕ) → c ≤ a → (a ≡ c → ⊥) → suc c ≤ a
@@ -41,15 +41,15 @@ module _ (t : Task) (ts : List Task) (n : ℕ) where
   count-out c [] lt = refl
   count-out c (q ∷ qs) lt =
       let off : (t.cpu == c) ≡ false = differ t.cpu c (λ e. omega arith) in
-      sum_by-cons (λ (x : PlainCpu). length x.tasks) (record { quantum = q; tasks = tasks_on c n (t ∷ ts) }) (cpus_with (suc c) qs n (t ∷ ts))
-      ∙ rw (off, count-out (suc c) qs (omega arith)) (sym (sum_by-cons (λ (x : PlainCpu). length x.tasks) (record { quantum = q; tasks = tasks_on c (suc n) ts }) (cpus_with (suc c) qs (suc n) ts)))
+      sum_by-cons (λ (x : DeclaredCpu). length x.tasks) (record { quantum = q; tasks = tasks_on c n (t ∷ ts) }) (cpus_with (suc c) qs n (t ∷ ts))
+      ∙ rw (off, count-out (suc c) qs (omega arith)) (sym (sum_by-cons (λ (x : DeclaredCpu). length x.tasks) (record { quantum = q; tasks = tasks_on c (suc n) ts }) (cpus_with (suc c) qs (suc n) ts)))
 
   count-in : (c : ℕ) (qs : List ℕ) → c ≤ t.cpu → t.cpu < c + length qs → size (cpus_with c qs n (t ∷ ts)) ≡ suc (size (cpus_with c qs (suc n) ts))
   count-in c [] le lt = absurd (omega arith)
   count-in c (q ∷ qs) le lt =
-      sum_by-cons (λ (x : PlainCpu). length x.tasks) (record { quantum = q; tasks = tasks_on c n (t ∷ ts) }) (cpus_with (suc c) qs n (t ∷ ts))
+      sum_by-cons (λ (x : DeclaredCpu). length x.tasks) (record { quantum = q; tasks = tasks_on c n (t ∷ ts) }) (cpus_with (suc c) qs n (t ∷ ts))
       ∙ by (t.cpu == c) refl (λ (h : suc c ≤ t.cpu). count-in (suc c) qs h (omega arith))
-      ∙ ap suc (sym (sum_by-cons (λ (x : PlainCpu). length x.tasks) (record { quantum = q; tasks = tasks_on c (suc n) ts }) (cpus_with (suc c) qs (suc n) ts)))
+      ∙ ap suc (sym (sum_by-cons (λ (x : DeclaredCpu). length x.tasks) (record { quantum = q; tasks = tasks_on c (suc n) ts }) (cpus_with (suc c) qs (suc n) ts)))
     where
       by : (b : Bool) → (t.cpu == c) ≡ b → (suc c ≤ t.cpu → size (cpus_with (suc c) qs n (t ∷ ts)) ≡ suc (size (cpus_with (suc c) qs (suc n) ts)))
           → length (tasks_on c n (t ∷ ts)) + size (cpus_with (suc c) qs n (t ∷ ts)) ≡ suc (length (tasks_on c (suc n) ts) + size (cpus_with (suc c) qs (suc n) ts))
@@ -87,7 +87,7 @@ found-none k c n (q ∷ qs) = found-none k (suc c) n qs
 
 count-none : (c n : ℕ) (qs : List ℕ) → size (cpus_with c qs n []) ≡ 0
 count-none c n [] = refl
-count-none c n (q ∷ qs) = sum_by-cons (λ (x : PlainCpu). length x.tasks) (record { quantum = q; tasks = [] }) (cpus_with (suc c) qs n []) ∙ (let e = count-none (suc c) n qs in omega (arith, e))
+count-none c n (q ∷ qs) = sum_by-cons (λ (x : DeclaredCpu). length x.tasks) (record { quantum = q; tasks = [] }) (cpus_with (suc c) qs n []) ∙ (let e = count-none (suc c) n qs in omega (arith, e))
 
 -- a CPU number from c on
 abbrev pub IsOn : ℕ → List ℕ → Task → Type 0
@@ -104,7 +104,7 @@ count-from : (c n : ℕ) (qs : List ℕ) (ts : List Task) → Each (IsOn c qs) t
 count-from c n qs [] on = count-none c n qs
 count-from c n qs (t ∷ ts) on = count-in t ts n c qs on.0.0 on.0.1 ∙ ap suc (count-from c (suc n) qs ts on.1)
 
-up-is : (cpus : List PlainCpu) (n : ℕ) (ts : List Task) → ((i : ℕ) → found_in (n + i) 0 cpus ≡ slice_get ts i) → tasks_up cpus n (length ts) ≡ ts
+up-is : (cpus : List DeclaredCpu) (n : ℕ) (ts : List Task) → ((i : ℕ) → found_in (n + i) 0 cpus ≡ slice_get ts i) → tasks_up cpus n (length ts) ≡ ts
 up-is cpus n [] there = refl
 up-is cpus n (t ∷ ts) there =
     let z : n + 0 ≡ n = omega arith in
@@ -127,7 +127,7 @@ tasks_of-from quanta tasks on =
 
 -- ## CPUs whose tasks are numbered
 
-found-on-cpu : (n c : ℕ) (ts : List PlainTask) (t : Task) → found_on n c ts ≡ Some t → t.cpu ≡ c
+found-on-cpu : (n c : ℕ) (ts : List DeclaredTask) (t : Task) → found_on n c ts ≡ Some t → t.cpu ≡ c
 found-on-cpu n c [] t e = absurd cc
 found-on-cpu n c (x ∷ ts) t e = by (x.task == n) refl (λ (f : found_on n c ts ≡ Some t). found-on-cpu n c ts t f)
   where
@@ -135,7 +135,7 @@ found-on-cpu n c (x ∷ ts) t e = by (x.task == n) refl (λ (f : found_on n c ts
     by true h further = let f : Some (record { pid = x.pid; cpu = c; acts = x.acts }) ≡ Some t = rw h at e in sym (ap (λ (o : Option Task). (or_none o).cpu) f)
     by false h further = further (rw h at e)
 
-found-below : (n c : ℕ) (cpus : List PlainCpu) (t : Task) → found_in n c cpus ≡ Some t → t.cpu < c + length cpus
+found-below : (n c : ℕ) (cpus : List DeclaredCpu) (t : Task) → found_in n c cpus ≡ Some t → t.cpu < c + length cpus
 found-below n c [] t e = absurd cc
 found-below n c (x ∷ cpus) t e = by (found_on n c x.tasks) refl (λ (f : found_in n (suc c) cpus ≡ Some t). found-below n (suc c) cpus t f)
   where
@@ -146,7 +146,7 @@ found-below n c (x ∷ cpus) t e = by (found_on n c x.tasks) refl (λ (f : found
         let at : u.cpu ≡ c = found-on-cpu n c x.tasks u h in
         let same : u.cpu ≡ t.cpu = ap (λ (o : Option Task). (or_none o).cpu) f in omega arith
 
-up-below : (cpus : List PlainCpu) (n k : ℕ) → 0 < length cpus → Each (λ t. t.cpu < length cpus) (tasks_up cpus n k)
+up-below : (cpus : List DeclaredCpu) (n k : ℕ) → 0 < length cpus → Each (λ t. t.cpu < length cpus) (tasks_up cpus n k)
 up-below cpus n zero some = tt
 up-below cpus n (suc k) some = (by (found_in n 0 cpus) refl, up-below cpus (suc n) k some)
   where
@@ -155,11 +155,11 @@ up-below cpus n (suc k) some = (by (found_in n 0 cpus) refl, up-below cpus (suc 
     by (Some t) e = let l = found-below n 0 cpus t e in omega arith
 
 -- each task that was found is on one of the CPUs
-pub cpu-below : (cpus : List PlainCpu) → Each (λ t. t.cpu < length cpus) (tasks_of cpus)
+pub cpu-below : (cpus : List DeclaredCpu) → Each (λ t. t.cpu < length cpus) (tasks_of cpus)
 cpu-below [] = tt
 cpu-below (x ∷ cpus) = up-below (x ∷ cpus) 0 (size (x ∷ cpus)) (omega arith)
 
-pub length-tasks : (cpus : List PlainCpu) → length (tasks_of cpus) ≡ size cpus
+pub length-tasks : (cpus : List DeclaredCpu) → length (tasks_of cpus) ≡ size cpus
 length-tasks cpus = by 0 (size cpus)
   where
     by : (n k : ℕ) → length (tasks_up cpus n k) ≡ k
@@ -167,11 +167,11 @@ length-tasks cpus = by 0 (size cpus)
     by n (suc k) = ap suc (by (suc n) k)
 
 -- a task is found by its number
-pub found-number : (cpus : List PlainCpu) → cpus_from 0 (quanta_of cpus) (tasks_of cpus) ≡ cpus → (n : ℕ) → found_in n 0 cpus ≡ slice_get (tasks_of cpus) n
+pub found-number : (cpus : List DeclaredCpu) → cpus_from 0 (quanta_of cpus) (tasks_of cpus) ≡ cpus → (n : ℕ) → found_in n 0 cpus ≡ slice_get (tasks_of cpus) n
 found-number cpus numbered n =
-    let lengths : length (quanta_of cpus) ≡ length cpus = length-map cpus (λ (c : PlainCpu). c.quantum) in
+    let lengths : length (quanta_of cpus) ≡ length cpus = length-map cpus (λ (c : DeclaredCpu). c.quantum) in
     let below : Each (HasCpu (quanta_of cpus)) (tasks_of cpus) = Each-weaker (λ t. t.cpu < length cpus) (HasCpu (quanta_of cpus)) (tasks_of cpus) (λ t l. (rw lengths l)) (cpu-below cpus) in
     let e : found_in (0 + n) 0 (cpus_from 0 (quanta_of cpus) (tasks_of cpus)) ≡ slice_get (tasks_of cpus) n =
     found-from 0 0 (quanta_of cpus) (tasks_of cpus) (on-all (quanta_of cpus) (tasks_of cpus) below) n in
     let z : 0 + n ≡ n = omega arith in
-    rw z at (subst (λ (xs : List PlainCpu). found_in (0 + n) 0 xs ≡ slice_get (tasks_of cpus) n) numbered e)
+    rw z at (subst (λ (xs : List DeclaredCpu). found_in (0 + n) 0 xs ≡ slice_get (tasks_of cpus) n) numbered e)

@@ -10,7 +10,7 @@ use Rattle.ft_base.specs.Job.{Job, Task, no_task}
 use Rattle.ft_base.proofs.Modifiers.{named-at}
 use Rattle.ft_base.proofs.Small.{Each-weaker}
 use Rattle.plain_machine.specs.State.{tasks_of as numbers_on, tasks_from}
-use Rattle.user_specs.specs.Plain.{PlainTask, PlainCpu, task_of, cpu_of}
+use Rattle.user_specs.specs.Plain.{DeclaredTask, DeclaredCpu, task_of, cpu_of}
 use Rattle.user_specs.specs.declared.plan.TaskPlan.{TaskPlan}
 use Rattle.user_specs.specs.declared.plan.CpuPlan.{CpuPlan}
 use Rattle.ft_machine.specs.declared.job.JobParts.{JobParts}
@@ -37,13 +37,13 @@ numbers-past c n k (t ∷ ts) le below =
     rw off (numbers-past c (suc n) k ts le below.1)
 
 -- a task of these has the acts of its number, among those from n on
-pub record IsOwn (n : ℕ) (ts : List Task) (x : PlainTask) : Type 0 where
+pub record IsOwn (n : ℕ) (ts : List Task) (x : DeclaredTask) : Type 0 where
   pub place : ℕ
   pub number : x.task ≡ n + place
   pub within : place < length ts
   pub own : x.acts ≡ (get_or ts place no_task).acts
 
-later-own : (n : ℕ) (t : Task) (ts : List Task) (x : PlainTask) → IsOwn (suc n) ts x → IsOwn n (t ∷ ts) x
+later-own : (n : ℕ) (t : Task) (ts : List Task) (x : DeclaredTask) → IsOwn (suc n) ts x → IsOwn n (t ∷ ts) x
 later-own n t ts x o = let e = o.number in let w = o.within in record { place = suc o.place; number = omega arith; within = omega arith; own = o.own }
 
 on-own : (c n : ℕ) (ts : List Task) → Each (IsOwn n ts) (tasks_on c n ts)
@@ -56,11 +56,11 @@ on-own c n (t ∷ ts) =
     ]
 
 -- a CPU among those that were made of tasks
-with-at : (c n i : ℕ) (qs : List ℕ) (ts : List Task) (x : PlainCpu) → slice_get (cpus_with c qs n ts) i ≡ Some x → x.tasks ≡ tasks_on (c + i) n ts
+with-at : (c n i : ℕ) (qs : List ℕ) (ts : List Task) (x : DeclaredCpu) → slice_get (cpus_with c qs n ts) i ≡ Some x → x.tasks ≡ tasks_on (c + i) n ts
 with-at c n i [] ts x e = absurd cc
 with-at c n zero (q ∷ qs) ts x e =
     let z : c + 0 ≡ c = omega arith in
-    let s : record { quantum = q; tasks = tasks_on c n ts } ≡ x = cc in rw z (ap (λ (y : PlainCpu). y.tasks) (sym s))
+    let s : record { quantum = q; tasks = tasks_on c n ts } ≡ x = cc in rw z (ap (λ (y : DeclaredCpu). y.tasks) (sym s))
 with-at c n (suc i) (q ∷ qs) ts x e = let s : c + suc i ≡ suc c + i = omega arith in rw s (with-at (suc c) n i qs ts x e)
 
 one-first : (xs : List TaskPlan) (o : Option (Bor TaskPlan)) → length xs ≤ 1 → option_copied o ≡ slice_get xs 0 → map (λ t. t.task) (map task_of xs) ≡ as_list (option_map (λ p. p.now.task.0) o)
@@ -70,7 +70,7 @@ one-first (x ∷ []) None few e = absurd cc
 one-first (x ∷ []) (Some b) few e = let s : b.now ≡ x = cc in rw s refl
 one-first (x ∷ y ∷ xs) o few e = absurd (omega (arith, few))
 
-first-has : (P : PlainTask → Type 0) (xs : List TaskPlan) (o : Option (Bor TaskPlan)) → option_copied o ≡ slice_get xs 0 → Each P (map task_of xs) → IfSome o (λ p. P (task_of p.now))
+first-has : (P : DeclaredTask → Type 0) (xs : List TaskPlan) (o : Option (Bor TaskPlan)) → option_copied o ≡ slice_get xs 0 → Each P (map task_of xs) → IfSome o (λ p. P (task_of p.now))
 first-has P xs None e k = tt
 first-has P [] (Some b) e k = absurd cc
 first-has P (x ∷ xs) (Some b) e k = let s : x ≡ b.now = cc in subst (λ (y : TaskPlan). P (task_of y)) s k.0
@@ -96,8 +96,8 @@ module _ (p : JobParts) (j : Job) (e : job_of (parts_of p) ≡ j) (w : IsWithin 
 
     pub one-on : numbers_on j c ≡ as_list (option_map (λ b. b.now.task.0) o)
     one-on =
-        let few : length (map task_of x.tasks.items) ≤ 1 = named-at (λ (y : PlainCpu). length y.tasks ≤ 1) (map cpu_of p.cpus.items) c (cpu_of x) there w.alone in
-        numbers c 0 j.tasks ∙ ap (λ (l : List PlainTask). map (λ t. t.task) l) (sym own-tasks) ∙ one-first x.tasks.items o (rw (length-map x.tasks.items task_of) at few) first
+        let few : length (map task_of x.tasks.items) ≤ 1 = named-at (λ (y : DeclaredCpu). length y.tasks ≤ 1) (map cpu_of p.cpus.items) c (cpu_of x) there w.alone in
+        numbers c 0 j.tasks ∙ ap (λ (l : List DeclaredTask). map (λ t. t.task) l) (sym own-tasks) ∙ one-first x.tasks.items o (rw (length-map x.tasks.items task_of) at few) first
 
     owned : IfSome o (λ b. IsOwn 0 j.tasks (task_of b.now))
     owned = first-has (IsOwn 0 j.tasks) x.tasks.items o first (rw own-tasks (on-own c 0 j.tasks))

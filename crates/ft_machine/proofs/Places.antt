@@ -5,7 +5,7 @@ use Rattle.ft_base.specs.declared.task.TaskAct.{TaskAct}
 use Rattle.ft_base.specs.Job.{Job, Task, no_task}
 use Rattle.plain_machine.specs.State.{TaskState, CpuState, idle, has_acts}
 use Rattle.ft_machine.specs.declared.progress.Progress.{Progress}
-use Rattle.ft_machine.specs.Acts.{fresh, has_left}
+use Rattle.ft_machine.specs.Acts.{fresh, has_more}
 use Rattle.ft_machine.specs.Kept.{task_state, tasks_by, home, cpus_by, IsSoFar, AreSoFar, AreCounts}
 
 -- ## tasks
@@ -24,7 +24,7 @@ task-past (a ∷ ts) [] t le = refl
 task-past (a ∷ ts) (x ∷ xs) zero le = absurd (omega arith)
 task-past (a ∷ ts) (x ∷ xs) (suc t) le = task-past ts xs t (omega arith)
 
--- how many acts are behind it
+-- how many acts it has done
 pub gone-by : (ts : List Task) (xs : List Progress) (t : ℕ) → AreSoFar ts xs → (get_or xs t (fresh 0)).gone ≡ (get_or (tasks_by ts xs) t idle).run.gone
 gone-by [] [] t k = refl
 gone-by [] (x ∷ xs) t k = absurd k
@@ -76,8 +76,8 @@ acts-left (a ∷ acts) (suc n) = acts-left acts n ∙ more (nat_lt n (length act
     more true n k e = let l : n < k = ltb-true n k e in sym (lt-ltb (suc n) (suc k) (omega arith))
     more false n k e = let l : k ≤ n = ltb-false n k e in sym (le-ltb (suc n) (suc k) (omega arith))
 
-pub has-left : (acts : List TaskAct) (x : Progress) → x.acts ≡ length acts → has_acts (drop x.gone acts) ≡ has_left x
-has-left acts x e = rw e (acts-left acts x.gone)
+pub has-more : (acts : List TaskAct) (x : Progress) → x.acts ≡ length acts → has_acts (drop x.gone acts) ≡ has_more x
+has-more acts x e = rw e (acts-left acts x.gone)
 
 -- ## CPUs
 

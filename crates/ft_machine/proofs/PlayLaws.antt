@@ -6,7 +6,7 @@ use Rattle.ft_base.specs.declared.turn.Actor.{Actor}
 use Rattle.ft_base.specs.declared.turn.Turn.{Turn}
 use Rattle.ft_base.specs.Job.{Job}
 use Rattle.ft_base.specs.Schedule.{actors_in, actors_of}
-use Rattle.user_specs.specs.Plain.{PlainCpu, cpu_of}
+use Rattle.user_specs.specs.Plain.{DeclaredCpu, cpu_of}
 use Rattle.user_specs.specs.declared.plan.CpuPlan.{CpuPlan}
 use Rattle.plain_machine.specs.State.{State, step, all_end, played, play, start}
 use Rattle.ft_machine.specs.Parts.{quanta_of}
@@ -55,7 +55,7 @@ pub all-actors : (j : Job) (cpus : List CpuPlan) (turns : List Turn) (n : ℕ) �
 unfolding actors_of
 all-actors j cpus turns n quanta same count =
     let many : n ≡ length j.quanta =
-    count ∙ sym (length-map cpus cpu_of) ∙ sym (length-map (map cpu_of cpus) (λ (c : PlainCpu). c.quantum)) ∙ ap (λ (qs : List ℕ). length qs) quanta in
+    count ∙ sym (length-map cpus cpu_of) ∙ sym (length-map (map cpu_of cpus) (λ (c : DeclaredCpu). c.quantum)) ∙ ap (λ (qs : List ℕ). length qs) quanta in
     rw (many, same) refl
 
 -- a machine that was started and has played the schedule of its job

@@ -1,5 +1,5 @@
 -- Numbers of a task's progress, and of the room that its acts need.
-use Rattle.std.proofs.Common.{cond, ◌≡◌, ℕ, zero, suc, ◌+◌, ◌-◌, ◌<◌, ◌≤◌, Bool, true, false, not, ◌||◌, List, [], ◌∷◌, length, get_or, set, Some, refl, arith, nat_le, leb-false}
+use Rattle.std.proofs.Common.{cond, ◌≡◌, ℕ, zero, suc, ◌+◌, ◌-◌, ◌<◌, ◌≤◌, Bool, true, false, ◌||◌, List, [], ◌∷◌, length, get_or, set, Some, refl, arith, nat_le, leb-false}
 use Rattle.std.specs.Prelude.{slice_get, sum_by}
 use Rattle.std.specs.List.{AllByRecursion as Each}
 use Rattle.std.proofs.lemmas.List.Sums.{sum_by-set, get_or-le-sum_by}
@@ -10,9 +10,9 @@ use Rattle.ft_base.specs.Job.{Task, no_task}
 use Rattle.ft_base.proofs.Modifiers.{named-at}
 use Rattle.ft_machine.specs.declared.stack.OpenCall.{OpenCall}
 use Rattle.ft_machine.specs.declared.progress.Progress.{Progress}
-use Rattle.ft_machine.specs.Parts.{IsBuilt}
+use Rattle.ft_machine.specs.Known.{IsBuilt}
 use Rattle.ft_machine.specs.Acts.{fresh, progress_after, has_returned, counted}
-use Rattle.ft_machine.specs.Kept.{IsSoFar, acts_left}
+use Rattle.ft_machine.specs.Kept.{IsSoFar, acts_to_come}
 
 -- a task goes on by at most one act
 pub record GoesOn (own : List TaskAct) (x y : Progress) : Type 0 where
@@ -30,30 +30,30 @@ module _ (own : List TaskAct) (x : Progress) (so : IsSoFar own x) (more : x.gone
       let g = so.gone in let n = so.next in let s = so.spare in
       record { so = record { acts = so.acts; gone = omega arith; next = omega arith; spare = omega arith }; acts = refl; gone = omega arith }
 
-  pub goes-on : (t : TaskNo) (ran : ℕ) (a : TaskAct) → GoesOn own x (progress_after t ran a x)
-  goes-on t ran (Call f) =
+  pub goes-on : (t : TaskNo) (done : ℕ) (a : TaskAct) → GoesOn own x (progress_after t done a x)
+  goes-on t done (Call f) =
       let g = so.gone in let n = so.next in let s = so.spare in
       record { so = record { acts = so.acts; gone = omega arith; next = omega arith; spare = omega arith }; acts = refl; gone = omega arith }
-  goes-on t ran RetAct = returns-on x.stack.calls
-  goes-on t ran (After n) =
+  goes-on t done RetAct = returns-on x.stack.calls
+  goes-on t done (After n) =
       let g = so.gone in let k = so.next in let s = so.spare in
-      elim (nat_le n ran) as (λ b. GoesOn own x (cond b (record x { gone = x.gone + 1 }) x)) [
+      elim (nat_le n done) as (λ b. GoesOn own x (cond b (record x { gone = x.gone + 1 }) x)) [
         | true ↦ record { so = record { acts = so.acts; gone = omega arith; next = omega arith; spare = omega arith }; acts = refl; gone = omega arith }
         | false ↦ goes-none own x so
       ]
-  goes-on t ran (Raise c) = goes-none own x so
-  goes-on t ran Lower = goes-none own x so
+  goes-on t done (Raise c) = goes-none own x so
+  goes-on t done Lower = goes-none own x so
 
 -- the acts left once a task has gone on
 pub left-after : (xs : List Progress) (t : ℕ) (x y : Progress) → t < length xs → get_or xs t (fresh 0) ≡ x → y.acts ≡ x.acts → x.gone ≤ y.gone → y.gone ≤ y.acts
-    → acts_left (set xs t y) + y.gone ≡ acts_left xs + x.gone
+    → acts_to_come (set xs t y) + y.gone ≡ acts_to_come xs + x.gone
 left-after xs t x y lt here acts more within =
-    let e : acts_left (set xs t y) + (x.acts - x.gone) ≡ acts_left xs + (y.acts - y.gone) =
+    let e : acts_to_come (set xs t y) + (x.acts - x.gone) ≡ acts_to_come xs + (y.acts - y.gone) =
     rw here at (sum_by-set (λ (z : Progress). z.acts - z.gone) xs t y (fresh 0) lt) in
     omega arith
 
 -- what one task has left is among what all have
-pub left-some : (xs : List Progress) (t : ℕ) (x : Progress) → t < length xs → get_or xs t (fresh 0) ≡ x → x.acts - x.gone ≤ acts_left xs
+pub left-some : (xs : List Progress) (t : ℕ) (x : Progress) → t < length xs → get_or xs t (fresh 0) ≡ x → x.acts - x.gone ≤ acts_to_come xs
 left-some xs t x lt here = rw here at (get_or-le-sum_by (λ (z : Progress). z.acts - z.gone) xs t (fresh 0) lt)
 
 -- a task has no more acts than all
@@ -67,14 +67,13 @@ built-at (u ∷ ts) zero k n a e = named-at IsBuilt u.acts n a e k.0
 built-at (u ∷ ts) (suc t) k n a e = built-at ts t k.1 n a e
 
 -- the count stays below the quantum
-pub counted-below : (left waits : Bool) (quantum count : ℕ) → count < quantum → counted left waits quantum count < quantum
-counted-below left waits quantum count lt =
-    elim (not left || waits || nat_le quantum (count + 1)) as (λ b. (not left || waits || nat_le quantum (count + 1)) ≡ b → cond b 0 (count + 1) < quantum) [
+pub counted-below : (ends : Bool) (quantum count : ℕ) → count < quantum → counted ends quantum count < quantum
+counted-below ends quantum count lt =
+    elim (ends || nat_le quantum (count + 1)) as (λ b. (ends || nat_le quantum (count + 1)) ≡ b → cond b 0 (count + 1) < quantum) [
       | true ↦ λ e. omega arith
-      | false ↦ λ e. by left waits e
+      | false ↦ λ e. by ends e
     ] refl
   where
-    by : (left waits : Bool) → (not left || waits || nat_le quantum (count + 1)) ≡ false → count + 1 < quantum
-    by true false e = leb-false quantum (count + 1) e
-    by true true e = absurd (let no : true ≡ false = e in cc)
-    by false waits e = absurd (let no : true ≡ false = e in cc)
+    by : (ends : Bool) → (ends || nat_le quantum (count + 1)) ≡ false → count + 1 < quantum
+    by false e = leb-false quantum (count + 1) e
+    by true e = absurd (let no : true ≡ false = e in cc)

@@ -18,7 +18,7 @@ started j n (t ∷ ts) (suc i) lt = started j (suc n) ts i (omega arith) ∙ (le
 left-at-start : (j : Job) (t : ℕ) → t < length j.tasks → is_left (state_without_cpus j) t ≡ has_acts (get_or j.tasks t no_task).acts
 left-at-start j t lt = ap (λ (x : TaskState). has_acts x.run.acts) (started j 0 j.tasks t lt) ∙ (let e : 0 + t ≡ t = omega arith in rw e refl)
 
--- the CPU's only task, where it has acts
+-- the CPU's only task, if it has acts
 pub home-is : (j : Job) (c t : ℕ) → numbers_on j c ≡ t ∷ [] → t < length j.tasks → has_acts (get_or j.tasks t no_task).acts ≡ true → home j c ≡ t
 home-is j c t on lt more = rw (on, left-at-start j t lt, more) refl
 
@@ -44,7 +44,7 @@ next-same j c t s on =
 
 pub switched-same : (j : Job) (c t k : ℕ) (waits : Bool) (s : State) → numbers_on j c ≡ t ∷ []
     → switched j c (record { present = t; count = k }) waits s
-    ≡ record s { cpus = set s.cpus c (record { present = t; count = counted (is_left s t) waits (get_or j.quanta c 1) k }) }
+    ≡ record s { cpus = set s.cpus c (record { present = t; count = counted (not (is_left s t) || waits) (get_or j.quanta c 1) k }) }
 switched-same j c t k waits s on =
     rw (next-same j c t s on, add-one k) (choice (not (is_left s t) || waits || nat_le (get_or j.quanta c 1) (suc k)))
   where

@@ -1,4 +1,4 @@
--- What a command and an act make: items, and how far the task is.
+-- What a command and an act do: the items that they make, and how far the task is then.
 use Rattle.std.specs.Prelude.{ℕ, ◌+◌, Bool, true, false, not, ◌||◌, nat_le, nat_lt, List, [], ◌∷◌, Option, if◌then◌else◌}
 use Rattle.ft_base.specs.declared.context.Ctx.TheVariants.{Normal}
 use Rattle.ft_base.specs.declared.item.Answer.{Answer}
@@ -33,19 +33,19 @@ commanded k answer past = Return k answer ∷ Begin k ∷ past
 
 -- ## sites
 
--- the target of each site, by whether the user is registered
+-- what each site should be, by whether the user is registered
 abbrev pub target_by : Bool → Ran
 target_by true = Own (record { 0 = 0 })
 target_by false = Nop
 
--- its instruction
+-- the instruction of each site, by whether the user is registered
 abbrev pub insn_by : Bool → Insn
 insn_by true = CallOwn 0
 insn_by false = NopInsn
 
 -- ## items of a call
 
--- a past after the user's callback, where it is registered
+-- a past after the user's callback, if it is registered
 abbrev pub backed_by : CallNo → Bool → List Item → List Item
 backed_by call false past = past
 backed_by call true past = BackEnd call (record { 0 = 0 }) ∷ Back call (record { 0 = 0 }) ∷ past
@@ -55,18 +55,18 @@ abbrev pub entered_by : CallNo → FuncNo → Option CallNo → Bool → List It
 entered_by call f caller registered past = Body call f (target_by registered) ∷ backed_by call registered (Enter call Normal f caller ∷ past)
 
 -- a past after a call's return
-abbrev pub left_by : CallNo → Option CallNo → List Item → List Item
-left_by call to past = RetItem call to ∷ Leave call ∷ past
+abbrev pub returned_by : CallNo → Option CallNo → List Item → List Item
+returned_by call to past = RetItem call to ∷ Leave call ∷ past
 
 -- ## an act
 
--- a task of so many acts before its first act
+-- a task with this many acts, before its first
 abbrev pub fresh : ℕ → Progress
 fresh acts = record { acts = acts; gone = 0; next = 1; stack = record { calls = []; spare = acts } }
 
--- the task has an act left
-abbrev pub has_left : Progress → Bool
-has_left x = nat_lt x.gone x.acts
+-- the task has more acts to do
+abbrev pub has_more : Progress → Bool
+has_more x = nat_lt x.gone x.acts
 
 -- the next call of a task
 abbrev pub next_call : TaskNo → Progress → CallNo
@@ -76,34 +76,38 @@ next_call t x = record { task = t; n = x.next }
 abbrev pub has_entered : TaskNo → FuncNo → Progress → Progress
 has_entered t f x = record { acts = x.acts; gone = x.gone + 1; next = x.next + 1; stack = pushed (record { call = next_call t x; func = f }) x.stack }
 
--- its latest call of these has returned
+-- the latest of these open calls has returned
 abbrev pub has_returned : List OpenCall → Progress → Progress
 has_returned [] x = x
 has_returned (o ∷ below) x = record x { gone = x.gone + 1; stack = popped (o ∷ below) x.stack }
 
--- the past after that
+-- the past after that return
 abbrev pub returned_past : List OpenCall → List Item → List Item
 returned_past [] past = past
-returned_past (o ∷ below) past = left_by o.call (top_of below) past
+returned_past (o ∷ below) past = returned_by o.call (top_of below) past
 
 -- the act is a wait for more commands than have returned
 abbrev pub is_wait : ℕ → TaskAct → Bool
-is_wait ran (After n) = not (nat_le n ran)
-is_wait ran _ = false
+is_wait done (After n) = not (nat_le n done)
+is_wait done _ = false
 
--- a task behind an act, where so many commands have returned; a wait that isn't over stays
+-- a task after an act, if this many commands have returned; a task whose wait isn't met stays as it is
 abbrev pub progress_after : TaskNo → ℕ → TaskAct → Progress → Progress
-progress_after t ran (Call f) x = has_entered t f x
-progress_after t ran Ret x = has_returned x.stack.calls x
-progress_after t ran (After n) x = if nat_le n ran then record x { gone = x.gone + 1 } else x
-progress_after t ran _ x = x
+progress_after t done (Call f) x = has_entered t f x
+progress_after t done Ret x = has_returned x.stack.calls x
+progress_after t done (After n) x = if nat_le n done then record x { gone = x.gone + 1 } else x
+progress_after t done _ x = x
 
--- the past behind it
+-- the past after an act
 abbrev pub past_after : TaskNo → Bool → TaskAct → Progress → List Item → List Item
 past_after t registered (Call f) x past = entered_by (next_call t x) f (top_of x.stack.calls) registered past
 past_after t registered Ret x past = returned_past x.stack.calls past
 past_after t registered _ x past = past
 
--- the CPU's count of acts after one more: it begins anew where the task has no act left or waits, or the quantum is used up
-abbrev pub counted : Bool → Bool → ℕ → ℕ → ℕ
-counted left waits quantum count = if not left || waits || nat_le quantum (count + 1) then 0 else count + 1
+-- the task's turn ends with its act, whatever the quantum: it has no more acts, or the act waits
+abbrev pub ends_turn : ℕ → TaskAct → Progress → Bool
+ends_turn done a x = not (has_more x) || is_wait done a
+
+-- the CPU's count of acts after one more: it starts again if the turn ends, or the quantum is used up
+abbrev pub counted : Bool → ℕ → ℕ → ℕ
+counted ends quantum count = if ends || nat_le quantum (count + 1) then 0 else count + 1

@@ -1,5 +1,5 @@
-pub mod Parts
 pub mod Known
+pub mod Parts
 pub mod Lists
 pub mod Orders
 pub mod Running

@@ -1,16 +1,13 @@
 -- What a script declares, as plain data, and its job.
 use Rattle.std.specs.Prelude.{ℕ, zero, suc, ◌≡◌, ◌≤◌, ◌==◌, List, [], ◌∷◌, length, map, sum_by, Option, Some, None, if◌then◌else◌}
 use Rattle.std.specs.List.{AllByRecursion as Each}
-use Rattle.ft_base.specs.declared.task.TaskAct.{TaskAct}
-use Rattle.ft_base.specs.declared.task.TaskAct.TheVariants.{Raise, Lower}
 use Rattle.ft_base.specs.declared.turn.Turn.{Turn}
 use Rattle.ft_base.specs.Job.{Func, Spec, Task, no_task, Ctl, Run, Until as Waits, Register as Registers, Unregister as Unregisters, Job}
-use Rattle.ft_base.specs.Desk.{plain_spec}
-use Rattle.ft_base.specs.WellFormed.{IsWellFormed}
-use Rattle.user_specs.specs.Plain.{PlainTask, PlainCpu, spec_of, cpu_of}
+use Rattle.user_specs.specs.Plain.{DeclaredTask, DeclaredCpu, spec_of, cpu_of}
 use Rattle.ft_machine.specs.declared.ctl.FirstCtl.{FirstCtl}
 use Rattle.ft_machine.specs.declared.ctl.FirstCtl.TheVariants.{Register, Unregister, Until}
 use Rattle.ft_machine.specs.declared.job.JobParts.{JobParts}
+use Rattle.ft_machine.specs.Known.{IsKnown}
 
 -- functions, users, frames of a task's shadow stack, trampoline slots, CPUs with their tasks, control's lines and the schedule
 pub record Parts : Type 0 where
@@ -18,7 +15,7 @@ pub record Parts : Type 0 where
   pub users : List Spec
   pub frames : ℕ
   pub tramps : ℕ
-  pub cpus : List PlainCpu
+  pub cpus : List DeclaredCpu
   pub ctls : List FirstCtl
   pub schedule : List Turn
 
@@ -37,25 +34,25 @@ parts_of p = record {
 -- ## tasks by number, and by CPU
 
 -- the quantum of each CPU
-abbrev pub quanta_of : List PlainCpu → List ℕ
+abbrev pub quanta_of : List DeclaredCpu → List ℕ
 quanta_of cpus = map (λ c. c.quantum) cpus
 
 -- the tasks of CPU c among these, which are numbered from n on
-abbrev pub tasks_on : ℕ → ℕ → List Task → List PlainTask
+abbrev pub tasks_on : ℕ → ℕ → List Task → List DeclaredTask
 tasks_on c n [] = []
 tasks_on c n (t ∷ ts) = if t.cpu == c then record { task = n; pid = t.pid; acts = t.acts } ∷ tasks_on c (suc n) ts else tasks_on c (suc n) ts
 
 -- the CPUs from c on with these quanta, and their tasks among these, which are numbered from n on
-abbrev pub cpus_with : ℕ → List ℕ → ℕ → List Task → List PlainCpu
+abbrev pub cpus_with : ℕ → List ℕ → ℕ → List Task → List DeclaredCpu
 cpus_with c [] n ts = []
 cpus_with c (q ∷ qs) n ts = record { quantum = q; tasks = tasks_on c n ts } ∷ cpus_with (suc c) qs n ts
 
 -- the CPUs from c on with these quanta, and their tasks among all of a job
-abbrev pub cpus_from : ℕ → List ℕ → List Task → List PlainCpu
+abbrev pub cpus_from : ℕ → List ℕ → List Task → List DeclaredCpu
 cpus_from c qs ts = cpus_with c qs 0 ts
 
 -- the task of this number among those of CPU c
-abbrev pub found_on : ℕ → ℕ → List PlainTask → Option Task
+abbrev pub found_on : ℕ → ℕ → List DeclaredTask → Option Task
 found_on n c [] = None
 found_on n c (t ∷ ts) = if t.task == n then Some (record { pid = t.pid; cpu = c; acts = t.acts }) else found_on n c ts
 
@@ -65,7 +62,7 @@ or_else None other = other
 or_else (Some t) other = Some t
 
 -- the task of this number among those of the CPUs from c on
-abbrev pub found_in : ℕ → ℕ → List PlainCpu → Option Task
+abbrev pub found_in : ℕ → ℕ → List DeclaredCpu → Option Task
 found_in n c [] = None
 found_in n c (x ∷ xs) = or_else (found_on n c x.tasks) (found_in n (suc c) xs)
 
@@ -74,13 +71,13 @@ abbrev pub or_none : Option Task → Task
 or_none None = no_task
 or_none (Some t) = t
 
--- so many tasks, from this number on
-abbrev pub tasks_up : List PlainCpu → ℕ → ℕ → List Task
+-- this many tasks, from this number on
+abbrev pub tasks_up : List DeclaredCpu → ℕ → ℕ → List Task
 tasks_up cpus n zero = []
 tasks_up cpus n (suc k) = or_none (found_in n 0 cpus) ∷ tasks_up cpus (suc n) k
 
 -- all tasks of the CPUs, by number
-abbrev pub tasks_of : List PlainCpu → List Task
+abbrev pub tasks_of : List DeclaredCpu → List Task
 tasks_of cpus = tasks_up cpus 0 (sum_by (λ c. length c.tasks) cpus)
 
 -- ## the job
@@ -104,33 +101,9 @@ job_of p = record {
   schedule = p.schedule;
 }
 
--- a user of kind function with no flag and no act
-abbrev pub IsPlainUser : Spec → Type 0
-IsPlainUser s = s ≡ record plain_spec { name = s.name }
-
--- an act that this machine knows: a call, its return, or a wait
-abbrev pub IsBuilt : TaskAct → Type 0
-IsBuilt (Raise c) = ⊥
-IsBuilt Lower = ⊥
-IsBuilt _ = Unit {0}
-
--- a quantum from 1 to 1,000,000
-abbrev pub IsQuantum : ℕ → Type 0
-IsQuantum q = (1 ≤ q) × (q ≤ 1000000)
-
--- what the machine asks of a script's parts: the CPUs' tasks are those of the job by number, at most one a CPU; names are
--- known and calls balanced; there is at most one user, a plain one; and there is not too much of anything
+-- what the machine asks of a script's parts: the CPUs' tasks are those of the job, which are numbered over all CPUs; a CPU
+-- has at most one; and the machine knows the job
 pub record IsWithin (p : Parts) : Type 0 where
   pub numbered : cpus_from 0 (quanta_of p.cpus) (tasks_of p.cpus) ≡ p.cpus
-  pub job : IsWellFormed (job_of p)
   pub alone : Each (λ c. length c.tasks ≤ 1) p.cpus
-  pub users : length p.users ≤ 1
-  pub plain : Each IsPlainUser p.users
-  pub quanta : Each IsQuantum (quanta_of p.cpus)
-  pub tramps : 1 ≤ p.tramps
-  pub acts : Each (λ t. Each IsBuilt t.acts) (tasks_of p.cpus)
-  pub functions : length p.functions ≤ 1024
-  pub cpus : length p.cpus ≤ 8
-  pub tasks : length (tasks_of p.cpus) ≤ 64
-  pub all_acts : sum_by (λ t. length t.acts) (tasks_of p.cpus) ≤ 20000
-  pub ctls : length p.ctls ≤ 2048
+  pub known : IsKnown (job_of p)

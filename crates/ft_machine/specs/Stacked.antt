@@ -17,7 +17,7 @@ top_of (o ∷ below) = Some o.call
 abbrev pub pushed : OpenCall → Stacked → Stacked
 pushed o s = record { calls = o ∷ s.calls; spare = s.spare - 1 }
 
--- the latest open call of these is open no more
+-- the latest of these open calls has returned
 abbrev pub popped : List OpenCall → Stacked → Stacked
 popped [] s = s
 popped (o ∷ below) s = record { calls = below; spare = s.spare + 1 }

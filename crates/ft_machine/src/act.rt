@@ -1,56 +1,18 @@
-//! What a command and an act do, item by item.
+//! What an act of a task does: the items that it makes, and how far the task is then.
 
 ghost use Rattle.std.specs.Prelude.{◌≡◌, ◌+◌, ◌*◌, ◌<◌, ◌≤◌, reverse};
-ghost use Rattle.ft_machine.specs.Parts.{IsBuilt};
-ghost use Rattle.ft_machine.specs.Acts.{answer_by, commanded, target_by, insn_by, backed_by, entered_by, left_by, next_call, has_entered, has_returned, returned_past, is_wait, progress_after, past_after, counted};
+ghost use Rattle.ft_machine.specs.Known.{IsBuilt};
+ghost use Rattle.ft_machine.specs.Acts.{backed_by, entered_by, returned_by, has_entered, has_returned, returned_past, is_wait, progress_after, past_after, ends_turn, counted};
 
 use crate::progress::Progress;
+use crate::site::{USER, target};
 use crate::stack::OpenCall;
-use ft_base::{Answer, CallNo, Ctx, FuncNo, Item, Ran, TaskAct, TaskNo, UserNo};
+use ft_base::limits::ACTS;
+use ft_base::{CallNo, Ctx, FuncNo, Item, TaskAct, TaskNo};
 use ft_hist::History;
-use site_bytes::Insn;
 
-/// The only user.
-const USER: UserNo = UserNo(0);
-
-/// The answer of a command to the user, by whether it registers, and whether the user is registered.
-pub(crate) fn answer(registers: bool, registered: bool) -> Answer
-    ensures { result ≡ answer_by registers registered }
-{
-    match (registers, registered) {
-        (true, true) => Answer::Already,
-        (true, false) | (false, true) => Answer::Accepted,
-        (false, false) => Answer::NotThere,
-    }
-}
-
-/// The items of a command.
-pub(crate) fn command(history: &mut History, k: u32, answer: Answer)
-    requires { 2 ≤ history.old.spare }
-    ensures past { reverse history.new.items ≡ commanded k answer (reverse history.old.items) }
-    ensures room { history.old.spare ≤ history.new.spare + 2 }
-{
-    history.push(Item::Begin { k });
-    history.push(Item::Return { k, answer });
-}
-
-/// What each function's site is.
-fn target(registered: bool) -> Ran
-    ensures { result ≡ target_by registered }
-{
-    if registered { Ran::Own(USER) } else { Ran::Nop }
-}
-
-/// The instruction of each function's site: a call of the user's trampoline, which has the lowest
-/// slot, or the nop.
-pub(crate) fn insn(registered: bool) -> Insn
-    ensures { result ≡ insn_by registered }
-{
-    if registered { Insn::Own(0) } else { Insn::Nop }
-}
-
-/// Calls the user back, where it is registered.
-fn call_back(history: &mut History, call: CallNo, registered: bool)
+/// The items of the user's callback, if it is registered.
+fn push_callback(history: &mut History, call: CallNo, registered: bool)
     requires { 2 ≤ history.old.spare }
     ensures past { reverse history.new.items ≡ backed_by call registered (reverse history.old.items) }
     ensures room { history.old.spare ≤ history.new.spare + 2 }
@@ -62,7 +24,7 @@ fn call_back(history: &mut History, call: CallNo, registered: bool)
 }
 
 /// The items of a call up to its Body.
-fn enter(
+fn push_call(
     history: &mut History,
     call: CallNo,
     func: FuncNo,
@@ -79,7 +41,7 @@ fn enter(
         func,
         caller,
     });
-    call_back(history, call, registered);
+    push_callback(history, call, registered);
     history.push(Item::Body {
         call,
         func,
@@ -88,9 +50,9 @@ fn enter(
 }
 
 /// The items of a call's return.
-fn leave(history: &mut History, call: CallNo, to: Option<CallNo>)
+fn push_return(history: &mut History, call: CallNo, to: Option<CallNo>)
     requires { 2 ≤ history.old.spare }
-    ensures past { reverse history.new.items ≡ left_by call to (reverse history.old.items) }
+    ensures past { reverse history.new.items ≡ returned_by call to (reverse history.old.items) }
     ensures room { history.old.spare ≤ history.new.spare + 2 }
 {
     history.push(Item::Leave { call });
@@ -98,8 +60,8 @@ fn leave(history: &mut History, call: CallNo, to: Option<CallNo>)
 }
 
 /// The task has entered its next call.
-fn open(task: &mut Progress, number: TaskNo, func: FuncNo)
-    requires gone { task.old.gone < 20000 }
+fn open_call(task: &mut Progress, number: TaskNo, func: FuncNo)
+    requires gone { task.old.gone < ACTS }
     requires next { task.old.next ≤ task.old.gone + 1 }
     requires spare { 0 < task.old.stack.spare }
     ensures { task.new ≡ has_entered number func task.old }
@@ -113,35 +75,36 @@ fn open(task: &mut Progress, number: TaskNo, func: FuncNo)
     task.next += 1;
 }
 
-/// The task's latest open call returns. Nothing happens where none is open.
-fn give_back(task: &mut Progress, history: &mut History)
-    requires gone { task.old.gone < 20000 }
+/// The task's latest open call returns. Nothing happens if none is open.
+fn return_call(task: &mut Progress, history: &mut History)
+    requires gone { task.old.gone < ACTS }
     requires room { 2 ≤ history.old.spare }
     ensures task { task.new ≡ has_returned task.old.stack.calls task.old }
     ensures past { reverse history.new.items ≡ returned_past task.old.stack.calls (reverse history.old.items) }
     ensures room { history.old.spare + 4 * task.old.gone ≤ history.new.spare + 4 * task.new.gone }
 {
     if let Some(OpenCall { call, .. }) = task.stack.pop() {
-        leave(history, call, task.stack.top());
+        push_return(history, call, task.stack.top());
         task.gone += 1;
     }
 }
 
-/// Carries out an act of a task whole.
+/// Does a whole act of a task, after this many commands. A wait that isn't met stays the task's
+/// next act.
 pub(crate) fn perform(
     task: &mut Progress,
     history: &mut History,
     number: TaskNo,
     act: TaskAct,
-    ran: u32,
+    commands_done: u32,
     registered: bool,
 )
     requires built { IsBuilt act }
-    requires gone { task.old.gone < 20000 }
+    requires gone { task.old.gone < ACTS }
     requires next { task.old.next ≤ task.old.gone + 1 }
     requires spare { 0 < task.old.stack.spare }
     requires room { 4 ≤ history.old.spare }
-    ensures task { task.new ≡ progress_after number ran act task.old }
+    ensures task { task.new ≡ progress_after number commands_done act task.old }
     ensures past { reverse history.new.items ≡ past_after number registered act task.old (reverse history.old.items) }
     ensures room { history.old.spare + 4 * task.old.gone ≤ history.new.spare + 4 * task.new.gone }
 {
@@ -151,36 +114,45 @@ pub(crate) fn perform(
                 task: number,
                 n: task.next,
             };
-            enter(history, call, func, task.stack.top(), registered);
-            open(task, number, func);
+            push_call(history, call, func, task.stack.top(), registered);
+            open_call(task, number, func);
         }
-        TaskAct::Ret => give_back(task, history),
+        TaskAct::Ret => return_call(task, history),
         TaskAct::After(commands) => {
-            if commands <= ran {
+            if commands <= commands_done {
                 task.gone += 1;
             }
         }
+        // No job that this machine knows has contexts.
         TaskAct::Raise(_) | TaskAct::Lower => unreachable!(),
     }
 }
 
 /// Whether the act is a wait for more commands than have returned.
-pub(crate) fn waits(ran: u32, act: TaskAct) -> bool
-    ensures { result ≡ is_wait ran act }
+fn is_waiting(act: TaskAct, commands_done: u32) -> bool
+    ensures { result ≡ is_wait commands_done act }
 {
     match act {
-        TaskAct::After(commands) => ran < commands,
+        TaskAct::After(commands) => commands_done < commands,
         _ => false,
     }
 }
 
-/// The CPU's count of acts after one more: it begins anew where the task has no act left or waits,
-/// or the quantum is used up.
-pub(crate) fn count_after(left: bool, waits: bool, quantum: u32, count: u32) -> u32
-    requires { count < quantum }
-    ensures { result ≡ counted left waits quantum count }
+/// Whether the task's turn ends with its act, whatever the quantum: it has no more acts, or the act
+/// waits.
+pub(crate) fn ends_turn(task: &Progress, act: TaskAct, commands_done: u32) -> bool
+    ensures { result ≡ ends_turn commands_done act task.now }
 {
-    if !left || waits || quantum <= count + 1 {
+    !task.has_more_acts() || is_waiting(act, commands_done)
+}
+
+/// The CPU's count of acts after one more: it starts again if the turn ends, or the quantum is used
+/// up.
+pub(crate) fn count_after(ends: bool, quantum: u32, count: u32) -> u32
+    requires { count < quantum }
+    ensures { result ≡ counted ends quantum count }
+{
+    if ends || quantum <= count + 1 {
         0
     } else {
         count + 1

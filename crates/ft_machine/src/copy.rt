@@ -5,9 +5,10 @@ ghost use Rattle.user_specs.specs.Plain.{spec_of, task_of, cpu_of};
 ghost use Rattle.ft_machine.specs.Parts.{parts_of};
 
 use crate::job::JobParts;
+use ft_base::limits::TABLE_FUNCS;
 use ft_base::{FuncNo, NoMemory};
 use ft_schedule::Schedule;
-use func_table::{FuncTable, LARGEST_LIMIT};
+use func_table::FuncTable;
 use std::alloc::Global;
 use user_specs::{CpuPlan, Spec, TaskPlan};
 
@@ -15,7 +16,7 @@ use user_specs::{CpuPlan, Spec, TaskPlan};
 fn copy_table(alloc: Global, table: &FuncTable) -> Result<FuncTable, NoMemory>
     ensures { IfOk result (λ t. t.functions ≡ table.now.functions) }
 {
-    let mut copy = FuncTable::new(alloc, LARGEST_LIMIT);
+    let mut copy = FuncTable::new(alloc, TABLE_FUNCS);
     let size = table.len();
     for n in 0..size {
         let name = table.name(FuncNo(n));
@@ -112,6 +113,3 @@ pub(crate) fn copy_parts(alloc: Global, parts: &JobParts) -> Result<JobParts, No
         },
     })
 }
-
-#[cfg(test)]
-mod tests;

@@ -1,12 +1,14 @@
+//! The lines of control.
+
 use ft_base::TaskNo;
 
 /// A line of control, while there is at most one user.
 #[derive(Clone, Copy, Debug, PartialEq, Eq)]
 pub enum FirstCtl {
-    /// The user is registered.
+    /// Registers the user (`ftrace-uses.rst`, "The ftrace_ops structure").
     Register,
-    /// The user is unregistered.
+    /// Unregisters the user (the same section).
     Unregister,
-    /// Control waits until the task has finished so many acts.
+    /// Waits until the task has done this many acts.
     Until { task: TaskNo, acts: u32 },
 }

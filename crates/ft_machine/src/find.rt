@@ -1,15 +1,17 @@
-//! Tasks of CPUs, by number.
+//! Tasks of CPUs, by number. Each CPU owns its tasks, since it will run on a thread of its own; a
+//! look-up by number scans at most 8 CPUs.
 
 ghost use Rattle.std.specs.Prelude.{◌≡◌, ◌≤◌, map, length, sum_by, option_map};
 ghost use Rattle.user_specs.specs.Plain.{task_of, cpu_of};
 ghost use Rattle.ft_machine.specs.Parts.{found_on, found_in};
 
 use ft_base::TaskNo;
+use ft_base::limits::TASKS;
 use user_specs::{CpuPlan, TaskPlan};
 
 /// How many tasks the CPUs have.
 pub(crate) fn count(cpus: &[CpuPlan]) -> u32
-    requires { sum_by (λ c. length c.tasks) (map cpu_of cpus.now) ≤ 64 }
+    requires { sum_by (λ c. length c.tasks) (map cpu_of cpus.now) ≤ TASKS }
     ensures { result ≡ sum_by (λ c. length c.tasks) (map cpu_of cpus.now) }
 {
     let mut count: u32 = 0;
@@ -32,7 +34,7 @@ fn find_on(tasks: &[TaskPlan], task: TaskNo) -> Option<&TaskPlan>
     None
 }
 
-/// The task of this number. There are few CPUs, each with few tasks.
+/// The task of this number, on whatever CPU.
 pub(crate) fn find(cpus: &[CpuPlan], task: TaskNo) -> Option<&TaskPlan>
     ensures pid { option_map (λ p. p.now.pid) result ≡ option_map (λ t. t.pid) (found_in task.0 0 (map cpu_of cpus.now)) }
     ensures acts { option_map (λ p. p.now.acts.items) result ≡ option_map (λ t. t.acts) (found_in task.0 0 (map cpu_of cpus.now)) }

@@ -1,3 +1,5 @@
+//! A job: what a script declares.
+
 ghost use Rattle.std.specs.Prelude.{◌≡◌, ◌<◌, map, length, get_or, slice_get, option_map, IfOk, IfSome};
 ghost use Rattle.ft_base.specs.Job.{no_task};
 ghost use Rattle.plain_machine.specs.State.{tasks_of as numbers_on};
@@ -17,18 +19,19 @@ use std::marker::Model;
 use user_specs::{CpuPlan, Spec, TaskPlan};
 
 /// What a script declares. For now there is at most one user, of kind function, with no flag and no
-/// act, and each CPU has at most one task.
+/// act, and each CPU has at most one task. The limits are those of `ft_base::limits`.
 #[derive(Drop)]
 pub struct JobParts {
     /// The traceable functions.
     pub table: FuncTable,
     /// The users.
     pub specs: Vec<Spec>,
-    /// Frames of each task's shadow stack.
+    /// How many frames each task's shadow stack has.
     pub frames: u32,
-    /// Trampoline slots.
+    /// How many trampolines there are: at least 1.
     pub tramps: u8,
-    /// The CPUs in order, each with its tasks. Tasks are numbered from 0 over all CPUs.
+    /// The CPUs in order, each with its quantum and its tasks. Tasks are numbered from 0 over all
+    /// CPUs.
     pub cpus: Vec<CpuPlan>,
     /// What control does, in order.
     pub ctls: Vec<FirstCtl>,
@@ -47,7 +50,7 @@ impl Model for Job {
     ghost invariant = { λ j. IsWithin (parts_of j.parts) };
 }
 
-/// A job, which contracts see as plain data.
+/// A job that the machine knows, which contracts see as plain data.
 #[derive(Drop)]
 pub struct Job {
     parts: JobParts,
@@ -62,7 +65,7 @@ impl Job {
         Job { parts }
     }
 
-    /// An equal job.
+    /// A copy, which contracts see as the same job.
     pub(crate) fn copy(&self, alloc: Global) -> Result<Job, NoMemory>
         ensures { IfOk result (λ j. j ≡ self.now) }
     {
@@ -86,7 +89,7 @@ impl Job {
         self.parts.specs.as_slice()
     }
 
-    /// Frames of each task's shadow stack.
+    /// How many frames each task's shadow stack has.
     #[tactic(auto, unfolding(crate::specs::Parts::job_of))]
     pub fn frames(&self) -> u32
         ensures { result ≡ self.now.frames }
@@ -94,7 +97,7 @@ impl Job {
         self.parts.frames
     }
 
-    /// Trampoline slots.
+    /// How many trampolines there are.
     #[tactic(auto, unfolding(crate::specs::Parts::job_of))]
     pub fn tramps(&self) -> u8
         ensures { result ≡ self.now.tramps }
@@ -127,7 +130,7 @@ impl Job {
         &self.parts.schedule
     }
 
-    /// The pid of the task of this number. `None` exactly where there is no such task.
+    /// The pid of the task of this number. `None` exactly if there is no such task.
     pub fn pid(&self, task: TaskNo) -> Option<u32>
         ensures { result ≡ option_map (λ t. t.pid) (slice_get self.now.tasks task.0) }
     {
@@ -145,7 +148,7 @@ impl Job {
         count(self.parts.cpus.as_slice())
     }
 
-    /// The acts of a task; none where there is no such task.
+    /// The acts of a task; none if there is no such task.
     pub(crate) fn acts(&self, task: TaskNo) -> &[TaskAct]
         ensures { result.now ≡ (get_or self.now.tasks task.0 no_task).acts }
     {
@@ -163,7 +166,7 @@ impl Job {
         self.parts.cpus[cpu.0 as usize].quantum
     }
 
-    /// The only task of a CPU, where it has one. A CPU that the job doesn't have has none.
+    /// The only task of a CPU. `None` if it has none, or the job doesn't have the CPU.
     pub(crate) fn task_on(&self, cpu: CpuNo) -> Option<&TaskPlan>
         ensures on { numbers_on self.now cpu.0 ≡ as_list (option_map (λ p. p.now.task.0) result) }
         ensures acts { IfSome result (λ p. p.now.acts.items ≡ (get_or self.now.tasks p.now.task.0 no_task).acts) }

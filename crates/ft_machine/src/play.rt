@@ -1,3 +1,5 @@
+//! A replay of a job's schedule.
+
 ghost use Rattle.std.specs.Prelude.{◌≡◌, true, reverse, IfOk};
 ghost use Rattle.ft_hist.specs.Rules.{IsLegal, IsWhole};
 ghost use Rattle.plain_machine.specs.State.{play, played, all_end};
@@ -12,7 +14,7 @@ use std::alloc::Global;
 /// What a replay came to.
 #[derive(Drop)]
 pub struct Outcome {
-    /// All that happened.
+    /// What happened, from the start to the end of the replay.
     pub history: History,
     /// Whether every actor is at its end.
     pub ended: bool,
@@ -32,7 +34,7 @@ fn play(machine: &mut Machine, mut player: Player)
 }
 
 /// Plays the job's schedule up to the first moment when every actor is at its end, or else to the
-/// schedule's end.
+/// schedule's end. Its only fault is out of memory.
 pub fn replay(alloc: Global, job: &Job) -> Result<Outcome, NoMemory>
     ensures history { IfOk result (λ o. o.history.items ≡ reverse (play job.now).past) }
     ensures ended { IfOk result (λ o. o.ended ≡ all_end (play job.now)) }

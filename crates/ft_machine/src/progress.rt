@@ -3,10 +3,11 @@
 ghost use Rattle.std.specs.Prelude.{◌≡◌, ◌≤◌, map, length, get_or, sum_by, IfOk};
 ghost use Rattle.std.specs.List.{list_any};
 ghost use Rattle.ft_machine.specs.Known.{IsKnown};
-ghost use Rattle.ft_machine.specs.Acts.{fresh, has_left};
+ghost use Rattle.ft_machine.specs.Acts.{fresh, has_more};
 
 use crate::job::Job;
 use crate::stack::CallStack;
+use ft_base::limits::ACTS;
 use ft_base::{NoMemory, TaskNo};
 use std::alloc::Global;
 
@@ -15,7 +16,7 @@ use std::alloc::Global;
 pub(crate) struct Progress {
     /// How many acts it has.
     pub acts: u32,
-    /// How many acts are behind it.
+    /// How many of them it has done.
     pub gone: u32,
     /// The number of its next call.
     pub next: u32,
@@ -24,7 +25,8 @@ pub(crate) struct Progress {
 }
 
 impl Progress {
-    /// A task of so many acts before its first act, with room for as many open calls.
+    /// A task with this many acts, before its first. It has room for as many open calls, since
+    /// each act opens at most one.
     pub(crate) fn new(alloc: Global, acts: u32) -> Result<Progress, NoMemory>
         ensures { IfOk result (λ x. x ≡ fresh acts) }
     {
@@ -36,9 +38,9 @@ impl Progress {
         })
     }
 
-    /// Whether an act is left.
-    pub(crate) fn is_left(&self) -> bool
-        ensures { result ≡ has_left self.now }
+    /// Whether it has more acts to do.
+    pub(crate) fn has_more_acts(&self) -> bool
+        ensures { result ≡ has_more self.now }
     {
         self.gone < self.acts
     }
@@ -59,20 +61,20 @@ pub(crate) fn at_start(alloc: Global, job: &Job) -> Result<Vec<Progress>, NoMemo
 
 /// How many acts the tasks have.
 pub(crate) fn all_acts(tasks: &[Progress]) -> u32
-    requires { sum_by (λ x. x.acts) tasks.now ≤ 20000 }
+    requires { sum_by (λ x. x.acts) tasks.now ≤ ACTS }
     ensures { result ≡ sum_by (λ x. x.acts) tasks.now }
 {
     tasks.iter().map(|task| task.acts).sum()
 }
 
-/// Whether a task has an act left.
-pub(crate) fn any_left(tasks: &[Progress]) -> bool
-    ensures { result ≡ list_any has_left tasks.now }
+/// Whether a task has more acts to do.
+pub(crate) fn any_has_more(tasks: &[Progress]) -> bool
+    ensures { result ≡ list_any has_more tasks.now }
 {
-    tasks.iter().any(|task| task.is_left())
+    tasks.iter().any(|task| task.has_more_acts())
 }
 
-/// How many acts are behind the task of this number; none where there is no such task.
+/// How many acts the task of this number has done; none if there is no such task.
 pub(crate) fn gone_of(tasks: &[Progress], task: TaskNo) -> u32
     ensures { result ≡ (get_or tasks.now task.0 (fresh 0)).gone }
 {

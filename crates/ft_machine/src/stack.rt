@@ -14,8 +14,8 @@ pub(crate) struct OpenCall {
     pub func: FuncNo,
 }
 
-/// The open calls of a task. Contracts see them, the latest first, and the room that is left for
-/// more.
+/// The open calls of a task. All the room is there from the start, so that a step takes no memory.
+/// Contracts see the calls, the latest first, and for how many more there is room.
 #[derive(Drop)]
 pub(crate) struct CallStack {
     kept: Vec<OpenCall>,
@@ -34,7 +34,7 @@ impl Model for CallStack {
 }
 
 impl CallStack {
-    /// No open call, and room for so many.
+    /// No open call, and room for `n`.
     pub(crate) fn with_room(alloc: Global, n: u32) -> Result<CallStack, NoMemory>
         ensures { IfOk result (λ s. s ≡ record { calls = []; spare = n }) }
     {
@@ -54,15 +54,15 @@ impl CallStack {
         }
     }
 
-    /// A call is opened.
+    /// One more call is open.
     pub(crate) fn push(&mut self, call: OpenCall)
         requires { 0 < self.old.spare }
         ensures { self.new ≡ pushed call self.old }
     {
-        let _ = self.kept.push(call);
+        self.kept.push_reserved(call);
     }
 
-    /// The latest open call returns.
+    /// The latest open call returns. `None` if none is open.
     pub(crate) fn pop(&mut self) -> Option<OpenCall>
         ensures value { result ≡ slice_get self.old.calls 0 }
         ensures rest { self.new ≡ popped self.old.calls self.old }

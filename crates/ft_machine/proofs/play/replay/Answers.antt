@@ -1,4 +1,4 @@
--- The state behind the replay, from what each call says.
+-- The state after the replay, from what each call says.
 use Rattle.std.proofs.Common.{◌≡◌, ◌∙◌, ap, refl, reverse}
 use Rattle.plain_machine.specs.State.{State, play, all_end}
 use Rattle.ft_machine.proofs.PlayLaws.{all-actors, play-is}

@@ -4,7 +4,7 @@ use Rattle.std.specs.Vec.{with_item}
 use Rattle.std.proofs.lemmas.List.{get_or_read}
 use Rattle.ft_base.specs.Job.{no_task}
 use Rattle.ft_base.specs.declared.turn.Actor.TheVariants.{Cpu}
-use Rattle.ft_machine.specs.Acts.{fresh, has_left}
+use Rattle.ft_machine.specs.Acts.{fresh, has_more}
 use Rattle.ft_machine.proofs.ActLaws.{no-task-state, within-tasks, within-counts, none-state, ready-act, ready-gone, ready-next, ready-spare, ready-room, ready-count, ready-built, act-state, act-kept, reads-same, act-read}
 use Rattle.ft_machine.proofs.KeptLaws.{seen, seen-same}
 use Rattle.ft_machine.proofs.machine.Machine.act.Goals as goal
@@ -20,10 +20,10 @@ at_place c = within-tasks c.self.inside c.self.invariant c.args.cpu.0 c.in-Some.
 read : (c : After-index_mut-task) → get_or c.self.inside.tasks.items c.in-Some.plan.now.task.0 (fresh 0) ≡ c.index_mut-task.result.now
 read c = sym (get_or_read c.self.inside.tasks.items c.in-Some.plan.now.task.0 c.index_mut-task.result.now (at_place c) c.index_mut-task.ensures.value (fresh 0))
 
-more : (c : After-index_mut-task) → has_left c.index_mut-task.result.now ≡ true
+more : (c : After-index_mut-task) → has_more c.index_mut-task.result.now ≡ true
 more c =
-    reads-same c.self.inside.tasks.items c.in-Some.plan.now.task.0 c.index.result.now c.index_mut-task.result.now c.is_left.result (at_place c)
-    c.is_left.ensures c.if-is_left.true c.index.ensures c.index_mut-task.ensures.value
+    reads-same c.self.inside.tasks.items c.in-Some.plan.now.task.0 c.index.result.now c.index_mut-task.result.now c.has_more_acts.result (at_place c)
+    c.has_more_acts.ensures c.if-has_more_acts.true c.index.ensures c.index_mut-task.ensures.value
 
 -- there is an act
 some-act : (c : After-index_mut-task) → c.index_mut-task.result.now.gone < length (get_or c.self.inside.job.tasks c.in-Some.plan.now.task.0 no_task).acts
@@ -106,24 +106,24 @@ invariant_of-self c =
     c.index_mut-task.result.now (read p) (more p) c.index-act.result.now (this-act (goal.at.invariant_of-self c).After-index-act (some-act p))
     c.perform.new.task c.perform.ensures.task c.perform.new.history c.perform.ensures.past c.count_after.result (cc) _ refl _ refl c.perform.ensures.room
 
-pub returns-then-is_left-clause-state : goal.returns-then-is_left-clause-state
-returns-then-is_left-clause-state c =
+pub returns-then-has_more_acts-clause-state : goal.returns-then-has_more_acts-clause-state
+returns-then-has_more_acts-clause-state c =
     let l = within-counts c.self.inside c.self.invariant c.args.cpu.0 c.in-Some.plan.now.task.0 c.in-Some.ensures.on c.in-Some.ensures.within.0 c.in-Some.ensures.within.1 in
-    let p = (goal.at.returns-then-is_left-clause-state c).After-index_mut-task in
+    let p = (goal.at.returns-then-has_more_acts-clause-state c).After-index_mut-task in
     let count = get_or_read c.self.inside.counts.items c.args.cpu.0 c.index-count.result.now l c.index-count.ensures 0 in
     seen c.self.inside _ (Cpu c.args.cpu) _ c.self.view_is
     (act-state c.self.inside c.self.invariant c.args.cpu.0 c.in-Some.plan.now.task.0 c.in-Some.ensures.on c.in-Some.ensures.within.0 c.in-Some.ensures.within.1
-    c.index_mut-task.result.now (read p) (more p) c.index-act.result.now (this-act (goal.at.returns-then-is_left-clause-state c).After-index-act (some-act p))
+    c.index_mut-task.result.now (read p) (more p) c.index-act.result.now (this-act (goal.at.returns-then-has_more_acts-clause-state c).After-index-act (some-act p))
     c.perform.new.task c.perform.ensures.task c.perform.new.history c.perform.ensures.past c.count_after.result (cc)
     (with_item c.self.inside.tasks c.in-Some.plan.now.task.0 c.perform.new.task) refl (with_item c.self.inside.counts c.args.cpu.0 c.count_after.result) refl)
 
-pub returns-else-is_left-clause-state : goal.returns-else-is_left-clause-state
-returns-else-is_left-clause-state c =
-    let l = within (goal.at.returns-else-is_left-clause-state c).In-Some in
+pub returns-else-has_more_acts-clause-state : goal.returns-else-has_more_acts-clause-state
+returns-else-has_more_acts-clause-state c =
+    let l = within (goal.at.returns-else-has_more_acts-clause-state c).In-Some in
     seen-same c.self.inside _ (Cpu c.args.cpu) c.self.view_is
     (none-state c.self.inside c.self.invariant c.args.cpu.0 c.in-Some.plan.now.task.0 c.in-Some.ensures.on c.in-Some.ensures.within.0 c.in-Some.ensures.within.1
     c.index.result.now (sym (get_or_read c.self.inside.tasks.items c.in-Some.plan.now.task.0 c.index.result.now l c.index.ensures (fresh 0)))
-    (sym c.is_left.ensures ∙ c.if-is_left.false))
+    (sym c.has_more_acts.ensures ∙ c.if-has_more_acts.false))
 
 pub returns-in_default-clause-state : goal.returns-in_default-clause-state
 returns-in_default-clause-state c =

@@ -3,13 +3,13 @@ use Rattle.ft_machine.specs.declared.ctl.FirstCtl.{FirstCtl}
 use Rattle.ft_machine.proofs.KeptLaws.{read-seen, unread-seen}
 use Rattle.ft_machine.proofs.machine.Machine.control.Goals as goal
 
-pub command-requires : goal.command-requires
-command-requires c =
+pub register-requires : goal.register-requires
+register-requires c =
     let line = rw c.in-Some-Register.is at c.in-Some-Register.field-0-is in
     read-seen c.self.inside _ c.ctls.result.now c.get.result _ c.self.view_is c.ctls.ensures c.get.ensures.lookup (sym c.copied-ctl.ensures ∙ c.in-Some-Register.is ∙ ap (λ (l : FirstCtl). Some l) line)
 
-pub command-requires-in-Some-Unregister : goal.command-requires-in-Some-Unregister
-command-requires-in-Some-Unregister c =
+pub unregister-requires : goal.unregister-requires
+unregister-requires c =
     let line = rw c.in-Some-Unregister.is at c.in-Some-Unregister.field-0-is in
     read-seen c.self.inside _ c.ctls.result.now c.get.result _ c.self.view_is c.ctls.ensures c.get.ensures.lookup (sym c.copied-ctl.ensures ∙ c.in-Some-Unregister.is ∙ ap (λ (l : FirstCtl). Some l) line)
 

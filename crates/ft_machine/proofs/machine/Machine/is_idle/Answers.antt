@@ -16,7 +16,7 @@ index-requires c = let l = within (goal.at.index-requires c).In-Some in let k = 
 pub returns-in-Some : goal.returns-in-Some
 returns-in-Some c =
     let l = within (goal.at.returns-in-Some c).In-Some in
-    rw c.is_left.ensures
+    rw c.has_more_acts.ensures
     (seen-one-end c.self.inside _ c.args.cpu.0 c.in-Some.plan.now.task.0 c.index.result.now c.self.view_is c.self.invariant c.in-Some.ensures.on c.in-Some.ensures.within.0
     (sym (get_or_read c.self.inside.tasks.items c.in-Some.plan.now.task.0 c.index.result.now l c.index.ensures (fresh 0))))
 

@@ -3,7 +3,7 @@ use Rattle.std.proofs.lemmas.List.{length-map}
 use Rattle.ft_base.specs.Job.{Ctl}
 use Rattle.ft_machine.specs.Parts.{ctl_of}
 use Rattle.ft_machine.proofs.EndLaws.{seen-control-end}
-use Rattle.ft_machine.proofs.machine.Machine.is_last.Goals as goal
+use Rattle.ft_machine.proofs.machine.Machine.control_is_done.Goals as goal
 
 pub returns : goal.returns
 returns c =
