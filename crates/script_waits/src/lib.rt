@@ -1,17 +1,20 @@
 //! Whether a script can end.
 //!
-//! A task goes through its acts, and an act `After(n)` is passed only where control has passed n commands. Control goes
-//! through its lines, and a wait is passed only where a task has passed so many acts. All other acts and lines can
-//! always be passed. Who can go goes on; where nobody can, each has come to its end, or the script can never end, and
-//! its lowest line at which a task or control is left waiting says so. In which order they go makes no difference.
+//! A *task* goes through its acts, and passes an act `After(n)` only once control has passed n commands. *Control* goes
+//! through its lines, and passes a wait only once a task has passed n acts. Every other act and line can always be
+//! passed. Whoever can go on does. When nobody can, either all are at their ends, or the script can never end, and the
+//! lowest line at which someone waits is reported.
+//!
+//! `deadlock` gives exactly that line; out of memory is its one error. Two laws say what the definition means:
+//! `deadlock_is_one`, that each script has exactly one answer, whatever the order in which they go, and
+//! `whoever_is_left_waits`, that who isn't at an end is at a wait that isn't met. Only tested, in `script_waits_tests`:
+//! that memory is found when there is some.
 #![tactic(auto)]
 
 mod ending;
 mod progress;
 mod script;
-mod standing;
-#[cfg(test)]
-mod tests;
+mod waiting;
 
-pub use ending::{deadlock, deadlock_is_one, who_stands_waits};
-pub use script::{Act, Order, Task, Wait};
+pub use ending::{deadlock, deadlock_is_one, whoever_is_left_waits};
+pub use script::{ControlLine, LinedAct, LinedTask, Wait};

@@ -1,11 +1,11 @@
 //! How far tasks and control go.
 
 ghost use Rattle.std.specs.Prelude.{◌≡◌, ◌≤◌, ◌<◌, ℕ, true, false, [], List, length, map, get_or, slice_get};
-ghost use Rattle.script_waits.specs.declared.script.Order.{Order};
-ghost use Rattle.script_waits.specs.Plans.{plan_of, tracks_of};
-ghost use Rattle.script_waits.specs.Greedy.{commands_in, is_command, may_go, may_pass, passes_act, passes_line, Reaches};
+ghost use Rattle.script_waits.specs.declared.script.ControlLine.{ControlLine};
+ghost use Rattle.script_waits.specs.Tasks.{lined_task, tracks_of};
+ghost use Rattle.script_waits.specs.Greedy.{commands_in, is_command, may_pass_wait, may_pass_act, passes_act, passes_line, Reaches};
 
-use crate::script::{Act, Order, Task, Wait};
+use crate::script::{ControlLine, LinedAct, LinedTask, Wait};
 use ft_base::TaskAct;
 
 /// How many lines control has passed, and how many commands are among them.
@@ -15,9 +15,9 @@ pub struct Place {
     pub commands: usize,
 }
 
-/// Whether an act is passed after so many commands.
-fn may_pass(act: TaskAct, commands: usize) -> bool
-    ensures { result ≡ may_pass commands act }
+/// Whether an act is passed after this many commands.
+fn may_pass_act(act: TaskAct, commands: usize) -> bool
+    ensures { result ≡ may_pass_act commands act }
 {
     match act {
         TaskAct::After(n) => n as usize <= commands,
@@ -25,8 +25,8 @@ fn may_pass(act: TaskAct, commands: usize) -> bool
     }
 }
 
-/// How far a task goes, from `from` on.
-fn go_task(acts: &[Act], from: usize, commands: usize) -> usize
+/// How many acts a task has passed when it can't go on, if it had passed `from`.
+fn go_task(acts: &[LinedAct], from: usize, commands: usize) -> usize
     requires { from ≤ length acts.now }
     ensures up { from ≤ result }
     ensures within { result ≤ length acts.now }
@@ -36,7 +36,7 @@ fn go_task(acts: &[Act], from: usize, commands: usize) -> usize
     let mut at = from;
     while at < acts.len() {
         let act = acts[at];
-        if !may_pass(act.act, commands) {
+        if !may_pass_act(act.act, commands) {
             break;
         }
         at += 1;
@@ -44,24 +44,24 @@ fn go_task(acts: &[Act], from: usize, commands: usize) -> usize
     at
 }
 
-/// Lets each task go as far as it goes.
-pub fn go_tasks(tasks: &[Task], at: &mut [usize], commands: usize)
+/// Lets each task go as far as it can, after this many commands. `at` holds how many acts each has passed.
+pub fn go_tasks(tasks: &[LinedTask], at: &mut [usize], commands: usize)
     requires lengths { length at.old ≡ length tasks.now }
-    requires within { (t : ℕ) → get_or at.old t 0 ≤ length (get_or (tracks_of (map plan_of tasks.now)) t []) }
-    ensures within { (t : ℕ) → get_or at.new t 0 ≤ length (get_or (tracks_of (map plan_of tasks.now)) t []) }
-    ensures reached { (orders : List Order) (n : ℕ) → commands ≡ commands_in orders n
-        → Reaches (tracks_of (map plan_of tasks.now)) orders (record { acts = at.old; lines = n })
-        → Reaches (tracks_of (map plan_of tasks.now)) orders (record { acts = at.new; lines = n }) }
-    ensures stops { (t : ℕ) → passes_act commands (slice_get (get_or (tracks_of (map plan_of tasks.now)) t []) (get_or at.new t 0)) ≡ false }
+    requires within { (t : ℕ) → get_or at.old t 0 ≤ length (get_or (tracks_of (map lined_task tasks.now)) t []) }
+    ensures within { (t : ℕ) → get_or at.new t 0 ≤ length (get_or (tracks_of (map lined_task tasks.now)) t []) }
+    ensures reached { (lines : List ControlLine) (n : ℕ) → commands ≡ commands_in lines n
+        → Reaches (tracks_of (map lined_task tasks.now)) lines (record { acts = at.old; lines = n })
+        → Reaches (tracks_of (map lined_task tasks.now)) lines (record { acts = at.new; lines = n }) }
+    ensures stops { (t : ℕ) → passes_act commands (slice_get (get_or (tracks_of (map lined_task tasks.now)) t []) (get_or at.new t 0)) ≡ false }
 {
     for t in 0..tasks.len() {
         at[t] = go_task(tasks[t].acts.as_slice(), at[t], commands);
     }
 }
 
-/// Whether a line of control is passed after so many acts of each task.
-fn may_go(wait: Wait, acts: &[usize]) -> bool
-    ensures { result ≡ may_go acts.now wait }
+/// Whether a line of control is passed after this many acts of each task.
+fn may_pass_wait(wait: Wait, acts: &[usize]) -> bool
+    ensures { result ≡ may_pass_wait acts.now wait }
 {
     match wait {
         Wait::Command => true,
@@ -72,13 +72,13 @@ fn may_go(wait: Wait, acts: &[usize]) -> bool
     }
 }
 
-/// Whether control passes the line at this place.
-fn line_goes(orders: &[Order], at: usize, acts: &[usize]) -> bool
-    ensures { result ≡ passes_line acts.now (slice_get orders.now at) }
+/// Whether there is a line of control at this place that is passed after this many acts of each task.
+fn passes_line(control: &[ControlLine], at: usize, acts: &[usize]) -> bool
+    ensures { result ≡ passes_line acts.now (slice_get control.now at) }
 {
-    match orders.get(at) {
+    match control.get(at) {
         None => false,
-        Some(order) => may_go(order.wait, acts),
+        Some(next) => may_pass_wait(next.wait, acts),
     }
 }
 
@@ -92,25 +92,25 @@ fn is_command(wait: Wait) -> bool
     }
 }
 
-/// How far control goes, from `from` on.
-pub fn go_control(orders: &[Order], from: Place, acts: &[usize]) -> Place
-    requires within { from.lines ≤ length orders.now }
+/// Where control is when it can't go on, after this many acts of each task, if it was at `from`.
+pub fn go_control(control: &[ControlLine], from: Place, acts: &[usize]) -> Place
+    requires within { from.lines ≤ length control.now }
     requires few { from.commands ≤ from.lines }
-    requires counted { from.commands ≡ commands_in orders.now from.lines }
+    requires counted { from.commands ≡ commands_in control.now from.lines }
     ensures up { from.lines ≤ result.lines }
-    ensures within { result.lines ≤ length orders.now }
+    ensures within { result.lines ≤ length control.now }
     ensures few { result.commands ≤ result.lines }
-    ensures counted { result.commands ≡ commands_in orders.now result.lines }
-    ensures passed { (k : ℕ) → from.lines ≤ k → k < result.lines → passes_line acts.now (slice_get orders.now k) ≡ true }
-    ensures stops { passes_line acts.now (slice_get orders.now result.lines) ≡ false }
+    ensures counted { result.commands ≡ commands_in control.now result.lines }
+    ensures passed { (k : ℕ) → from.lines ≤ k → k < result.lines → passes_line acts.now (slice_get control.now k) ≡ true }
+    ensures stops { passes_line acts.now (slice_get control.now result.lines) ≡ false }
 {
     let mut lines = from.lines;
     let mut commands = from.commands;
-    while lines < orders.len() {
-        if !line_goes(orders, lines, acts) {
+    while lines < control.len() {
+        if !passes_line(control, lines, acts) {
             break;
         }
-        if is_command(orders[lines].wait) {
+        if is_command(control[lines].wait) {
             commands += 1;
         }
         lines += 1;

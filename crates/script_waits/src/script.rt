@@ -1,34 +1,37 @@
-//! The parts of a script that matter to waits.
+//! The parts of a script that matter to waits. Each knows its line in the script.
 
 use ft_base::{TaskAct, TaskNo};
 
-/// An act of a task, and its line in the script, from 1.
+/// An act of a task.
 #[derive(Clone, Copy, Debug, PartialEq, Eq)]
-pub struct Act {
+pub struct LinedAct {
     pub act: TaskAct,
+    /// Its line in the script, from 1.
     pub line: u32,
 }
 
 /// What a line of control is to the tasks.
 #[derive(Clone, Copy, Debug, PartialEq, Eq)]
 pub enum Wait {
-    /// A command. Control waits for nobody before it carries it out.
+    /// A command. Control waits for nobody before it.
     Command,
-    /// A wait until the task has finished so many acts.
+    /// A wait until the task has passed this many acts.
     Until { task: TaskNo, acts: u32 },
 }
 
-/// A line of control, and its line in the script, from 1.
+/// A line of control.
 #[derive(Clone, Copy, Debug, PartialEq, Eq)]
-pub struct Order {
+pub struct ControlLine {
     pub wait: Wait,
+    /// Its line in the script, from 1.
     pub line: u32,
 }
 
-/// A task: its pid, the number of its CPU, and its acts. Its number is its place among the tasks, from 0.
+/// A task. Its number is its place among the tasks, from 0.
 #[derive(Drop)]
-pub struct Task {
+pub struct LinedTask {
     pub pid: u32,
+    /// The number of its CPU.
     pub cpu: u32,
-    pub acts: Vec<Act>,
+    pub acts: Vec<LinedAct>,
 }

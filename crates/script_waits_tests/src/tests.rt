@@ -1,7 +1,7 @@
 //! Small scripts, each with its lowest line that is left waiting.
 
-use crate::{Act, Order, Task, Wait, deadlock};
 use ft_base::{FuncNo, TaskAct, TaskNo};
+use script_waits::{ControlLine, LinedAct, LinedTask, Wait, deadlock};
 use std::alloc::{AllocError, Global};
 use std::test::Fail;
 
@@ -14,39 +14,39 @@ fn until(task: u32, acts: u32) -> Wait {
     }
 }
 
-/// The task of this number: of all acts, each with its task and line, those that are its own.
-fn task(alloc: Global, number: u32, all: &[(u32, TaskAct, u32)]) -> Result<Task, AllocError> {
+/// The task of this number, with its own of all acts, each of which has its task and its line.
+fn task(alloc: Global, number: u32, all: &[(u32, TaskAct, u32)]) -> Result<LinedTask, AllocError> {
     let mut acts = Vec::new(alloc);
     for (owner, act, line) in all.iter() {
         if *owner == number {
-            acts.push(Act {
+            acts.push(LinedAct {
                 act: *act,
                 line: *line,
             })?;
         }
     }
-    Ok(Task {
+    Ok(LinedTask {
         pid: 1,
         cpu: 0,
         acts,
     })
 }
 
-/// The answer for two tasks with these acts, and for the lines of control.
+/// The answer for two tasks with these acts, and for these lines of control.
 fn answer(
     alloc: Global,
     acts: &[(u32, TaskAct, u32)],
-    control: &[(Wait, u32)],
+    waits: &[(Wait, u32)],
 ) -> Result<Option<u32>, AllocError> {
-    let mut orders = Vec::new(alloc);
-    for (wait, line) in control.iter() {
-        orders.push(Order {
+    let mut control = Vec::new(alloc);
+    for (wait, line) in waits.iter() {
+        control.push(ControlLine {
             wait: *wait,
             line: *line,
         })?;
     }
     let tasks = [task(alloc, 0, acts)?, task(alloc, 1, acts)?];
-    deadlock(alloc, &tasks, orders.as_slice())
+    deadlock(alloc, &tasks, control.as_slice())
 }
 
 #[test]
@@ -79,11 +79,11 @@ fn these_end(rt: HostRuntime) -> Result<(), Fail> {
             ],
         ),
     ];
-    for (acts, control) in rows.iter() {
+    for (acts, waits) in rows.iter() {
         assert_eq!(rt;
-            answer(rt.alloc(), acts, control)?,
+            answer(rt.alloc(), acts, waits)?,
             None,
-            "{acts:?} {control:?}"
+            "{acts:?} {waits:?}"
         );
     }
     Ok(())
@@ -92,7 +92,7 @@ fn these_end(rt: HostRuntime) -> Result<(), Fail> {
 #[test]
 fn these_wait_for_ever(rt: HostRuntime) -> Result<(), Fail> {
     let rows: [(&[(u32, TaskAct, u32)], &[(Wait, u32)], u32); 7] = [
-        // The command stands below the wait for the act that waits for it.
+        // The command comes after the wait for the act that waits for it.
         (
             &[(0, TaskAct::After(1), 3)],
             &[(until(0, 1), 4), (Wait::Command, 5)],
@@ -137,11 +137,11 @@ fn these_wait_for_ever(rt: HostRuntime) -> Result<(), Fail> {
             3,
         ),
     ];
-    for (acts, control, line) in rows.iter() {
+    for (acts, waits, line) in rows.iter() {
         assert_eq!(rt;
-            answer(rt.alloc(), acts, control)?,
+            answer(rt.alloc(), acts, waits)?,
             Some(*line),
-            "{acts:?} {control:?}"
+            "{acts:?} {waits:?}"
         );
     }
     Ok(())
