@@ -1,56 +1,57 @@
--- What a line declares as a function's name and module are names, where they aren't too long.
-use Rattle.std.proofs.Common.{◌≡◌, ℕ, ◌&&◌, Bool, true, false, List, [], ◌∷◌, length, Option, Some, None, refl, subst, arith, codes, if◌then◌else◌}
+-- What a line declares as a function's name and module are names, if they aren't too long.
+use Rattle.std.proofs.Common.{◌≡◌, ℕ, ◌&&◌, Bool, true, false, List, [], ◌∷◌, length, Option, Some, None, refl, subst, codes, if◌then◌else◌}
 use Rattle.std.specs.Prelude.{option_map}
 use Rattle.std.specs.Option.{IfSome}
 use Rattle.std.specs.Str.{bytes_eq}
 use Rattle.std.proofs.lemmas.Bool.{ltb-false}
 use Rattle.ft_base.proofs.Small.{false_true, or-false_both}
+use Rattle.ft_base.specs.declared.limits.TheConstants.{NAME_BYTES}
+use Rattle.ft_base.specs.declared.user.Half.{Half}
+use Rattle.ft_base.specs.declared.user.Kind.{Kind}
 use Rattle.ft_base.specs.Name.{is_name_text}
-use Rattle.script_text.specs.Lines.{Word, words_of}
+use Rattle.script_text.specs.Lines.{Word, words_of, is_skipped, is_plain}
 use Rattle.script_text.specs.Names.{is_name, name_of}
 use Rattle.script_text.proofs.NameLemmas.{is_name_text-short}
 use Rattle.script_form.specs.Forms as form
-use Rattle.script_form.specs.Forms.{Form, UserAct, skip, version, func, depth, tramps, user, new_cpu, task, call, ret, raise, lower, after, register, unregister, write, pids, enable, disable, maxdepth, until, sched}
+use Rattle.script_form.specs.Forms.{LineForm, UserAct, skip, version, func, depth, tramps, new_cpu, new_task, call, ret, raise, lower, after, register, unregister, write, pids, enable, disable, max_depth, until, sched}
 use Rattle.script_form.specs.Users.{user_form, user_with, user_of, kind_of, flag, argument, ipmodify_of, act_of}
-use Rattle.script_form.specs.Lines.{act_form, keyed_form, form_of, line_form, is_comment, are_plain}
-use Rattle.ft_base.specs.declared.user.Kind.{Kind}
-use Rattle.ft_base.specs.declared.user.Half.{Half}
+use Rattle.script_form.specs.Lines.{act_form, unlisted_form, keyed_form, form_of, line_form}
 use Rattle.ft_script.specs.Above.{Above}
-use Rattle.ft_script.specs.Causes.{is_long, is_over}
-use Rattle.ft_script.specs.Kept.{has_names}
+use Rattle.ft_script.specs.Causes.{is_long, is_past_limit}
+use Rattle.ft_script.specs.Within.{has_names}
 
 abbrev OwnerNamed : Option Word → Type 0
 OwnerNamed None = Unit {0}
 OwnerNamed (Some owner) = is_name owner ≡ true
 
 -- a function's name has a name's bytes, and its module's too
-abbrev pub Named : Form → Type 0
+abbrev pub Named : LineForm → Type 0
 Named (func name owner) = (is_name name ≡ true) × OwnerNamed owner
 Named _ = Unit {0}
 
 -- ## forms of words
 
-either : (b : Bool) (x y : Option Form) → IfSome x Named → IfSome y Named → IfSome (if b then x else y) Named
+either : (b : Bool) (x y : Option LineForm) → IfSome x Named → IfSome y Named → IfSome (if b then x else y) Named
 either true x y hx hy = hx
 either false x y hx hy = hy
 
-of-name : (f : Word → Form) → ((w : Word) → Named (f w)) → (o : Option Word) → IfSome (form.named f o) Named
+of-name : (f : Word → LineForm) → ((w : Word) → Named (f w)) → (o : Option Word) → IfSome (form.named f o) Named
 of-name f h None = tt
 of-name f h (Some w) = h w
 
-of-number : (f : ℕ → Form) → ((n : ℕ) → Named (f n)) → (o : Option ℕ) → IfSome (form.counted f o) Named
+of-number : (f : ℕ → LineForm) → ((n : ℕ) → Named (f n)) → (o : Option ℕ) → IfSome (form.counted f o) Named
 of-number f h None = tt
 of-number f h (Some n) = h n
 
-of-numbers : (f : ℕ → ℕ → Form) → ((n m : ℕ) → Named (f n m)) → (o p : Option ℕ) → IfSome (form.counted_twice f o p) Named
+of-numbers : (f : ℕ → ℕ → LineForm) → ((n m : ℕ) → Named (f n m)) → (o p : Option ℕ) → IfSome (form.counted_twice f o p) Named
 of-numbers f h None p = tt
 of-numbers f h (Some n) p = of-number (f n) (h n) p
 
-of-none : (f : Form) → Named f → (args : List Word) → IfSome (form.alone f args) Named
+of-none : (f : LineForm) → Named f → (args : List Word) → IfSome (form.alone f args) Named
 of-none f h [] = h
 of-none f h (_ ∷ _) = tt
 
-of-map : {X : Type 0} (f : X → Form) → ((x : X) → Named (f x)) → (o : Option X) → IfSome (option_map f o) Named
+of-map : {X : Type 0} (f : X → LineForm) → ((x : X) → Named (f x)) → (o : Option X) → IfSome (option_map f o) Named
 of-map f h None = tt
 of-map f h (Some x) = h x
 
@@ -91,7 +92,7 @@ in-task : (args : List Word) → IfSome (form.task_form args) Named
 in-task [] = tt
 in-task (_ ∷ []) = tt
 in-task (_ ∷ _ ∷ []) = tt
-in-task (pid ∷ key ∷ n ∷ []) = either (bytes_eq key (codes "cpu")) _ None (of-numbers task (λ a b. tt) _ _) tt
+in-task (pid ∷ key ∷ n ∷ []) = either (bytes_eq key (codes "cpu")) _ None (of-numbers new_task (λ a b. tt) _ _) tt
 in-task (_ ∷ _ ∷ _ ∷ _ ∷ _) = tt
 
 in-written : (half : Half) (name : Option Word) (append : Option Bool) (text : Word) → IfSome (form.written half name append text) Named
@@ -114,15 +115,15 @@ in-until (_ ∷ _ ∷ _ ∷ _) = tt
 in-ctl : (args : List Word) → IfSome (form.ctl_form args) Named
 in-ctl [] = tt
 in-ctl (key ∷ args) =
-    either (bytes_eq key (codes "pid")) _ _ (of-map (pids true) (λ l. tt) _)
-    (either (bytes_eq key (codes "nopid")) _ _ (of-map (pids false) (λ l. tt) _)
+    either (bytes_eq key (codes "pid")) _ _ (of-map (pids false) (λ l. tt) _)
+    (either (bytes_eq key (codes "nopid")) _ _ (of-map (pids true) (λ l. tt) _)
     (either (bytes_eq key (codes "register")) _ _ (of-name register (λ w. tt) _)
     (either (bytes_eq key (codes "unregister")) _ _ (of-name unregister (λ w. tt) _)
     (either (bytes_eq key (codes "filter")) _ _ (in-write Half.Filter args)
     (either (bytes_eq key (codes "notrace")) _ _ (in-write Half.Notrace args)
     (either (bytes_eq key (codes "enable")) _ _ (of-name enable (λ w. tt) _)
     (either (bytes_eq key (codes "disable")) _ _ (of-name disable (λ w. tt) _)
-    (either (bytes_eq key (codes "maxdepth")) _ _ (of-number maxdepth (λ n. tt) _)
+    (either (bytes_eq key (codes "maxdepth")) _ _ (of-number max_depth (λ n. tt) _)
     (either (bytes_eq key (codes "until")) _ None (in-until args) tt)))))))))
 
 in-user_of : (name : Word) (kind : Kind) (regs : Bool) (m : Option (Option Word)) (pid : Bool) (a : Option (Option UserAct)) → IfSome (user_of name kind regs m pid a) Named
@@ -153,31 +154,36 @@ in-act key args =
     (either (bytes_eq key (codes "iret")) _ _ (of-none lower tt args)
     (either (bytes_eq key (codes "after")) _ None (of-number after (λ n. tt) _) tt))))))
 
-in-keyed : (key : Word) (args : List Word) → IfSome (keyed_form key args) Named
-in-keyed key args =
-    either (bytes_eq key (codes "ctl")) _ _ (in-ctl args)
-    (either (bytes_eq key (codes "sched")) _ _ (of-map sched (λ l. tt) _)
-    (either (bytes_eq key (codes "ftrace")) _ _ (in-version args)
+in-unlisted : (key : Word) (args : List Word) → IfSome (unlisted_form key args) Named
+in-unlisted key args =
+    either (bytes_eq key (codes "ftrace")) _ _ (in-version args)
     (either (bytes_eq key (codes "func")) _ _ (in-func args)
     (either (bytes_eq key (codes "depth")) _ _ (of-number depth (λ n. tt) _)
     (either (bytes_eq key (codes "tramps")) _ _ (of-number tramps (λ n. tt) _)
     (either (bytes_eq key (codes "user")) _ _ (in-user args)
     (either (bytes_eq key (codes "cpu")) _ _ (in-cpu args)
     (either (bytes_eq key (codes "task")) _ _ (in-task args)
-    (in-act key args)))))))))
+    (in-act key args)))))))
+
+in-keyed : (key : Word) (args : List Word) → IfSome (keyed_form key args) Named
+in-keyed key args =
+    either (bytes_eq key (codes "ctl")) _ _ (in-ctl args)
+    (either (bytes_eq key (codes "sched")) _ _ (of-map sched (λ l. tt) _)
+    (in-unlisted key args))
 
 in-words : (words : List Word) → IfSome (form_of words) Named
 in-words [] = tt
-in-words (key ∷ args) = either (is_comment key) (Some skip) _ tt (either (are_plain (key ∷ args)) _ None (in-keyed key args) tt)
+in-words (key ∷ args) = in-keyed key args
 
 -- ## names
 
-form-named : (line : List ℕ) (f : Form) → line_form line ≡ Some f → Named f
+form-named : (line : List ℕ) (f : LineForm) → line_form line ≡ Some f → Named f
 unfolding line_form
-form-named line f e = subst (λ (o : Option Form). IfSome o Named) e (in-words (words_of line))
+form-named line f e = subst (λ (o : Option LineForm). IfSome o Named) e
+    (either (is_skipped (words_of line)) (Some skip) _ tt (either (is_plain line) _ None (in-words (words_of line)) tt))
 
 name-short : (w : Word) → is_name w ≡ true → is_long w ≡ false → is_name_text w ≡ true
-name-short w e short = is_name_text-short w e (let s = ltb-false 63 (length w) short in omega (arith, s))
+name-short w e short = is_name_text-short w e (ltb-false NAME_BYTES (length w) short)
 
 both : (a b : Bool) → a ≡ true → b ≡ true → (a && b) ≡ true
 both true true e f = refl
@@ -185,32 +191,12 @@ both true false e f = false_true f
 both false b e f = false_true e
 
 -- what a line within the limits names
-pub names-hold : (above : Above) (line : List ℕ) (f : Form) → line_form line ≡ Some f → is_over above f ≡ false → has_names f ≡ true
+pub names-hold : (above : Above) (line : List ℕ) (f : LineForm) → line_form line ≡ Some f → is_past_limit above f ≡ false → has_names f ≡ true
 names-hold above line f e within = by f (form-named line f e) within
   where
-    by : (f : Form) → Named f → is_over above f ≡ false → has_names f ≡ true
+    by : (f : LineForm) → Named f → is_past_limit above f ≡ false → has_names f ≡ true
     by (func name None) n w = both _ _ (name-short name n.0 (or-false_both _ _ w).0) refl
     by (func name (Some owner)) n w =
         let o = or-false_both _ _ w in
         both _ _ (name-short name n.0 o.0) (name-short owner n.1 (or-false_both _ _ o.1).0)
-    by skip n w = refl
-    by version n w = refl
-    by (depth k) n w = refl
-    by (tramps k) n w = refl
-    by (user u) n w = refl
-    by (new_cpu k q) n w = refl
-    by (task p c) n w = refl
-    by (call name) n w = refl
-    by ret n w = refl
-    by (raise to) n w = refl
-    by lower n w = refl
-    by (after k) n w = refl
-    by (register name) n w = refl
-    by (unregister name) n w = refl
-    by (write half append name text) n w = refl
-    by (pids only list) n w = refl
-    by (enable name) n w = refl
-    by (disable name) n w = refl
-    by (maxdepth k) n w = refl
-    by (until pid k) n w = refl
-    by (sched items) n w = refl
+    by f n w = refl

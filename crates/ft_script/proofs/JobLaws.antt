@@ -7,13 +7,14 @@ use Rattle.ft_base.specs.declared.task.TaskAct.{TaskAct}
 use Rattle.ft_base.specs.declared.task.TaskAct.TheVariants.{Call, Ret, Raise, Lower, After}
 use Rattle.ft_base.specs.Job.{Job, Task, Spec, Ctl, Run, Until, Command, Register, Unregister, commands, commands_in, funcs}
 use Rattle.ft_base.specs.WellFormed.{IsNamed, IsActNamed, IsScript, IsWellFormed}
-use Rattle.user_specs.specs.Plain.{PlainCpu}
-use Rattle.ft_machine.specs.Parts.{Parts, quanta_of, tasks_on, cpus_with, tasks_of, ctl_of, job_of as parts_job, IsPlainUser, IsBuilt, IsWithin}
-use Rattle.script_waits.specs.declared.script.Act.{Act}
-use Rattle.script_waits.specs.Plans.{Plan}
+use Rattle.user_specs.specs.Plain.{DeclaredCpu}
+use Rattle.ft_machine.specs.Known.{IsPlainUser, IsBuilt, IsKnown}
+use Rattle.ft_machine.specs.Parts.{Parts, quanta_of, tasks_on, cpus_with, tasks_of, job_of as parts_job, IsWithin}
+use Rattle.script_waits.specs.declared.script.LinedAct.{LinedAct}
+use Rattle.script_waits.specs.Tasks.{LinedTask}
 use Rattle.std.proofs.Math.Dec.{eqb-suc-zero}
-use Rattle.ft_script.specs.Levels.{is_open, levels_at}
-use Rattle.ft_script.specs.Above.{Above, CtlLine}
+use Rattle.ft_script.specs.Levels.{is_unfinished, levels_at}
+use Rattle.ft_script.specs.Above.{Above, LinedCtl}
 use Rattle.ft_script.specs.Script.{task_of, job_of}
 use Rattle.ft_script.specs.Holds.{Leads, acts_of, how_many_on, IsLine, Holds, CanRun}
 use Rattle.ft_script.specs.Kept.{AreParts}
@@ -42,11 +43,11 @@ leads-built size n m (Lower ∷ rest) h = absurd h
 leads-built size n m (After k ∷ rest) h = (tt, leads-built size n m rest h)
 
 -- a fact of each task, without the lines of its acts
-each-task : (P : Task → Type 0) (Q : Plan → Type 0) → ((p : Plan) → Q p → P (task_of p)) → (ps : List Plan) → Each Q ps → Each P (map task_of ps)
+each-task : (P : Task → Type 0) (Q : LinedTask → Type 0) → ((p : LinedTask) → Q p → P (task_of p)) → (ps : List LinedTask) → Each Q ps → Each P (map task_of ps)
 each-task P Q f [] h = tt
 each-task P Q f (p ∷ ps) h = (f p h.0, each-task P Q f ps h.1)
 
-length-on : (c n : ℕ) (ps : List Plan) → length (tasks_on c n (map task_of ps)) ≡ how_many_on c ps
+length-on : (c n : ℕ) (ps : List LinedTask) → length (tasks_on c n (map task_of ps)) ≡ how_many_on c ps
 length-on c n [] = refl
 length-on c n (p ∷ ps) = elim (p.cpu == c) as (λ b.
     length (cond b (record { task = n; pid = p.pid; acts = acts_of p } ∷ tasks_on c (suc n) (map task_of ps)) (tasks_on c (suc n) (map task_of ps)))
@@ -55,34 +56,30 @@ length-on c n (p ∷ ps) = elim (p.cpu == c) as (λ b.
       | false ↦ length-on c (suc n) ps
     ]
 
-alone : (qs : List ℕ) (c : ℕ) (ps : List Plan) → ((d : ℕ) → how_many_on d ps ≤ 1) → Each (λ (x : PlainCpu). length x.tasks ≤ 1) (cpus_with c qs 0 (map task_of ps))
+alone : (qs : List ℕ) (c : ℕ) (ps : List LinedTask) → ((d : ℕ) → how_many_on d ps ≤ 1) → Each (λ (x : DeclaredCpu). length x.tasks ≤ 1) (cpus_with c qs 0 (map task_of ps))
 alone [] c ps h = tt
 alone (q ∷ qs) c ps h = ((let n = length-on c 0 ps in let l = h c in omega (arith, n, l)), alone qs (suc c) ps h)
-
-length-cpus : (qs : List ℕ) (c n : ℕ) (ts : List Task) → length (cpus_with c qs n ts) ≡ length qs
-length-cpus [] c n ts = refl
-length-cpus (q ∷ qs) c n ts = ap suc (length-cpus qs (suc c) n ts)
 
 quanta-from : (qs : List ℕ) (c n : ℕ) (ts : List Task) → quanta_of (cpus_with c qs n ts) ≡ qs
 quanta-from [] c n ts = refl
 quanta-from (q ∷ qs) c n ts = ap (λ (xs : List ℕ). q ∷ xs) (quanta-from qs (suc c) n ts)
 
-acts-all : (ps : List Plan) → sum_by (λ (t : Task). length t.acts) (map task_of ps) ≡ sum_by (λ (p : Plan). length p.acts) ps
+acts-all : (ps : List LinedTask) → sum_by (λ (t : Task). length t.acts) (map task_of ps) ≡ sum_by (λ (p : LinedTask). length p.acts) ps
 acts-all [] = refl
 acts-all (p ∷ ps) =
     let rest = acts-all ps in
     let one = sum_by-cons (λ (t : Task). length t.acts) (task_of p) (map task_of ps) in
-    let all = sum_by-cons (λ (x : Plan). length x.acts) p ps in
-    let n = mapped_length (λ (a : Act). a.act) p.acts in
+    let all = sum_by-cons (λ (x : LinedTask). length x.acts) p ps in
+    let n = mapped_length (λ (a : LinedAct). a.act) p.acts in
     omega (arith, rest, one, all, n)
 
 -- ## commands and users
 
-named-commands : (j : Job) (ctls : List CtlLine) → Each (λ c. IsLine (length j.users) c.ctl) ctls → Each (IsNamed j) (commands_in (map (λ (c : CtlLine). c.ctl) ctls))
+named-commands : (j : Job) (ctls : List LinedCtl) → Each (λ c. IsLine (length j.users) c.ctl) ctls → Each (IsNamed j) (commands_in (map (λ (c : LinedCtl). c.ctl) ctls))
 named-commands j [] h = tt
 named-commands j (c ∷ cs) h = by c.ctl h.0 (named-commands j cs h.1)
   where
-    by : (x : Ctl) → IsLine (length j.users) x → Each (IsNamed j) (commands_in (map (λ (c : CtlLine). c.ctl) cs)) → Each (IsNamed j) (commands_in (x ∷ map (λ (c : CtlLine). c.ctl) cs))
+    by : (x : Ctl) → IsLine (length j.users) x → Each (IsNamed j) (commands_in (map (λ (c : LinedCtl). c.ctl) cs)) → Each (IsNamed j) (commands_in (x ∷ map (λ (c : LinedCtl). c.ctl) cs))
     by (Run (Register u)) l rest = (l, rest)
     by (Run (Unregister u)) l rest = (l, rest)
     by (Run (Rattle.ft_base.specs.Job.Filter u e)) l rest = absurd l
@@ -108,7 +105,7 @@ module _ (above : Above) (run : CanRun above) where
     where
       by : (k : ℕ) → h.tasks.running ≡ k → h.tasks.running ≡ 0
       by zero e = e
-      by (suc k) e = false_true (sym run.closed ∙ ap (λ l. is_open l) (h.tasks.level ∙ ap (λ m. levels_at m None None None) e)
+      by (suc k) e = false_true (sym run.closed ∙ ap (λ l. is_unfinished l) (h.tasks.level ∙ ap (λ m. levels_at m None None None) e)
           ∙ ap (λ b. not b || false) (eqb-suc-zero k))
 
   closed : Each (λ p. Leads (length above.functions) 0 (acts_of p) 0) above.tasks
@@ -122,6 +119,22 @@ module _ (above : Above) (run : CanRun above) where
     tasks = each-task (λ t. IsScript (job_of above) 0 t.acts) _ (λ p l. leads-script (job_of above) (length above.functions) 0 (acts_of p) (omega arith) l) above.tasks closed;
   }
 
+  is_known : IsKnown (job_of above)
+  unfolding job_of
+  is_known = record {
+    job = is_job;
+    users = h.within.users.one;
+    plain = h.users.plain;
+    quanta = h.quanta;
+    tramps = rw h.tramps (omega arith);
+    acts = each-task (λ t. Each IsBuilt t.acts) _ (λ x l. leads-built (length above.functions) 0 0 (acts_of x) l) above.tasks closed;
+    functions = h.functions;
+    cpus = h.within.few_cpus;
+    tasks = (let n = mapped_length task_of above.tasks in let few = h.within.tasks.few in omega (arith, n, few));
+    all_acts = (let n = acts-all above.tasks in let t = h.tasks.total in let few = h.within.tasks.few_acts in omega (arith, n, t, few));
+    ctls = (let n = mapped_length (λ (c : LinedCtl). c.ctl) above.ctls in let all = h.users.all in let few = h.within.users.few_commands in let fewer = h.within.users.few_waits in omega (arith, n, all, few, fewer));
+  }
+
   module _ (p : Parts) (are : AreParts p above) where
     tasks-are : tasks_of p.cpus ≡ map task_of above.tasks
     tasks-are = ap tasks_of are.cpus ∙ tasks_of-from above.quanta (map task_of above.tasks) (each-task (λ t. t.cpu < length above.quanta) _ (λ x l. l) above.tasks h.tasks.placed)
@@ -133,29 +146,9 @@ module _ (above : Above) (run : CanRun above) where
     unfolding parts_job job_of
     job-is = rw (are.functions, are.users, are.frames, are.tramps, quanta-are, tasks-are, are.ctls, are.schedule, h.depth, h.tramps) refl
 
-    ctls-few : length p.ctls ≤ 2048
-    ctls-few =
-        let a = mapped_length ctl_of p.ctls in
-        let b = mapped_length (λ (c : CtlLine). c.ctl) above.ctls in
-        let c = ap (λ (xs : List Ctl). length xs) are.ctls in
-        let all = h.users.all in
-        let few = h.users.few_commands in
-        let fewer = h.users.few_waits in
-        omega (arith, a, b, c, all, few, fewer)
-
     pub is_within : IsWithin p
     is_within = record {
       numbered = rw (quanta-are, tasks-are) (sym are.cpus);
-      job = rw job-is is_job;
       alone = rw are.cpus (alone above.quanta 0 above.tasks h.tasks.alone);
-      users = rw are.users h.users.one;
-      plain = rw are.users h.users.plain;
-      quanta = rw quanta-are h.cpus.each;
-      tramps = let t = are.tramps in omega (arith, t);
-      acts = rw tasks-are (each-task (λ t. Each IsBuilt t.acts) _ (λ x l. leads-built (length above.functions) 0 0 (acts_of x) l) above.tasks closed);
-      functions = rw are.functions h.functions;
-      cpus = (let n = length-cpus above.quanta 0 0 (map task_of above.tasks) in let e = ap (λ (xs : List PlainCpu). length xs) are.cpus in let few = h.cpus.few in omega (arith, n, e, few));
-      tasks = rw tasks-are (let n = mapped_length task_of above.tasks in let few = h.tasks.few in omega (arith, n, few));
-      all_acts = rw tasks-are (let n = acts-all above.tasks in let t = h.tasks.total in let few = h.tasks.few_acts in omega (arith, n, t, few));
-      ctls = ctls-few;
+      known = rw job-is is_known;
     }

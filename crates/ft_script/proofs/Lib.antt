@@ -1,10 +1,10 @@
 pub mod LookUps
 pub mod Ends
 pub mod Offence
+pub mod Answered
 pub mod FormNames
 pub mod TaskLaws
 pub mod Accepted
 pub mod Lines
 pub mod JobLaws
 pub mod KeptLines
-pub mod SmallKept

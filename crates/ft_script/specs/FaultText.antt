@@ -5,6 +5,7 @@ use Rattle.ft_script.specs.declared.faults.Cause.{Cause}
 use Rattle.ft_script.specs.declared.faults.Cause.TheVariants.{Version, Syntax, Limit, Duplicate, Unknown, Pattern, Unbalanced, Later, Deadlock, NoMemory}
 use Rattle.ft_script.specs.declared.faults.ScriptFault.{ScriptFault}
 
+-- the word for a cause
 abbrev pub cause_word : Cause → List ℕ
 cause_word Version = codes "version"
 cause_word Syntax = codes "syntax"

@@ -3,5 +3,6 @@ pub mod Levels
 pub mod Above
 pub mod Causes
 pub mod Script
+pub mod Within
 pub mod Kept
 pub mod Holds

@@ -1,12 +1,13 @@
 -- The job of a script, or the line for which it is refused, and why.
-use Rattle.std.specs.Prelude.{◌≡◌, ℕ, suc, ◌+◌, ◌==◌, List, [], ◌∷◌, ◌++◌, length, map, unwrap_or, Option, Some, None, ◌⊎◌, if◌then◌else◌}
+use Rattle.std.specs.Prelude.{◌≡◌, ◌≢◌, ℕ, suc, ◌+◌, ◌==◌, List, [], ◌∷◌, ◌++◌, length, map, unwrap_or, Option, Some, None, ◌⊎◌, if◌then◌else◌}
+use Rattle.ft_base.specs.declared.limits.TheConstants.{TRAMPS, USUAL_FRAMES, USUAL_TURNS}
 use Rattle.ft_base.specs.declared.turn.Turn.{Turn}
 use Rattle.ft_base.specs.declared.turn.Who.TheVariants.{All}
 use Rattle.ft_base.specs.Job.{Job, Task, Ctl, Run, Until}
-use Rattle.script_waits.specs.declared.script.Order.{Order}
+use Rattle.script_waits.specs.declared.script.ControlLine.{ControlLine}
 use Rattle.script_waits.specs.declared.script.Wait.{Wait}
 use Rattle.script_waits.specs.declared.script.Wait.TheVariants.{Command as ACommand, Until as AnUntil}
-use Rattle.script_waits.specs.Plans.{Plan, tracks_of}
+use Rattle.script_waits.specs.Tasks.{LinedTask, tracks_of}
 use Rattle.script_waits.specs.Greedy.{IsDeadlock}
 use Rattle.script_text.specs.Lines.{Line, lines_of}
 use Rattle.script_form.specs.Forms.{skip}
@@ -19,42 +20,50 @@ use Rattle.ft_script.specs.Causes.{cause_of}
 
 -- ## what the lines declare
 
--- a line added to what stands above; a line of no form is refused, and adds nothing
+-- what is declared above the next line, after this one; a line of no form is refused, and adds nothing
 unfoldable pub with_line : Above → Line → Above
 with_line above line = with_form above (unwrap_or (line_form line.bytes) skip)
 
-abbrev pub standing_after : Above → List Line → Above
-standing_after above [] = above
-standing_after above (line ∷ below) = standing_after (with_line above line) below
+-- what is declared after these lines
+abbrev pub declared_after : Above → List Line → Above
+declared_after above [] = above
+declared_after above (line ∷ below) = declared_after (with_line above line) below
 
 -- what a text declares
-abbrev pub standing : List ℕ → Above
-standing text = standing_after none_above (lines_of text)
+abbrev pub declared_in : List ℕ → Above
+declared_in text = declared_after none_above (lines_of text)
 
 -- ## the refusal: the lowest line that has a cause, and its first cause
 
+-- the fault of a line with this cause, or that of the lines below if it has none
 abbrev pub refusal_at : Above → Option Cause → Option ScriptFault → Option ScriptFault
-refusal_at above (Some cause) later = Some (record { line = suc above.lines; cause = cause })
-refusal_at above None later = later
+refusal_at above (Some cause) below = Some (record { line = suc above.lines; cause = cause })
+refusal_at above None below = below
 
+-- the fault of the first of these lines that has a cause
 abbrev pub refusal_below : Above → List Line → Option ScriptFault
 refusal_below above [] = None
 refusal_below above (line ∷ below) = refusal_at above (cause_of above line below) (refusal_below (with_line above line) below)
 
--- an empty text has no line 1
+-- the fault of the first line of a text that has a cause; an empty text has no line 1
 abbrev pub refusal_of : List ℕ → Option ScriptFault
 refusal_of [] = Some (record { line = 1; cause = Version })
 refusal_of (byte ∷ text) = refusal_below none_above (lines_of (byte ∷ text))
 
--- a line with this cause, and no line above it has one
-pub record StandsFirst (start : Above) (lines : List Line) (fault : ScriptFault) : Type 0 where
+-- the fault is at a line with this cause, and no line above it has one
+pub record IsFirstRefusal (start : Above) (lines : List Line) (fault : ScriptFault) : Type 0 where
   pub above : List Line
   pub line : Line
   pub below : List Line
   pub split : lines ≡ above ++ line ∷ below
   pub number : fault.line ≡ suc (start.lines + length above)
-  pub cause : cause_of (standing_after start above) line below ≡ Some fault.cause
-  pub clean : (front back : List Line) (l : Line) → above ≡ front ++ l ∷ back → cause_of (standing_after start front) l (back ++ line ∷ below) ≡ None
+  pub cause : cause_of (declared_after start above) line below ≡ Some fault.cause
+  pub clean : (front back : List Line) (l : Line) → above ≡ front ++ l ∷ back → cause_of (declared_after start front) l (back ++ line ∷ below) ≡ None
+
+-- a text has a line, and no line of it has a cause
+pub record IsClean (text : List ℕ) : Type 0 where
+  pub some : text ≢ []
+  pub clean : (front back : List Line) (l : Line) → lines_of text ≡ front ++ l ∷ back → cause_of (declared_after none_above front) l back ≡ None
 
 -- ## whether the script can end
 
@@ -63,28 +72,31 @@ abbrev pub wait_of : Ctl → Wait
 wait_of (Run command) = ACommand
 wait_of (Until t n) = AnUntil (record { 0 = t }) n
 
-abbrev pub orders_of : Above → List Order
-orders_of above = map (λ c. record { wait = wait_of c.ctl; line = c.line }) above.ctls
+-- the lines of control, for those that wait
+abbrev pub control_of : Above → List ControlLine
+control_of above = map (λ c. record { wait = wait_of c.ctl; line = c.line }) above.ctls
 
--- the lowest line that is left waiting in the greedy run, or none where all come to their ends
-abbrev pub Leaves : List ℕ → Option ℕ → Type 0
-Leaves text lowest = IsDeadlock (tracks_of (standing text).tasks) (orders_of (standing text)) lowest
+-- the lowest line that is left waiting in the greedy run, or none if all come to their ends
+abbrev pub LeavesWaiting : List ℕ → Option ℕ → Type 0
+LeavesWaiting text lowest = IsDeadlock (tracks_of (declared_in text).tasks) (control_of (declared_in text)) lowest
 
 -- ## the job: the list of the lines' meanings
 
-abbrev pub task_of : Plan → Task
-task_of plan = record { pid = plan.pid; cpu = plan.cpu; acts = map (λ a. a.act) plan.acts }
+-- a task of the job
+abbrev pub task_of : LinedTask → Task
+task_of task = record { pid = task.pid; cpu = task.cpu; acts = map (λ a. a.act) task.acts }
 
--- without a `sched` line each actor steps in turn, 400,000 times
+-- the schedule; without a `sched` line each actor steps in turn
 abbrev pub schedule_of : List Turn → List Turn
-schedule_of turns = if length turns == 0 then record { who = All; count = 400000 } ∷ [] else turns
+schedule_of turns = if length turns == 0 then record { who = All; count = USUAL_TURNS } ∷ [] else turns
 
+-- the job of what is declared
 unfoldable pub job_of : Above → Job
 job_of above = record {
   functions = above.functions;
   users = above.users;
-  frames = unwrap_or above.depth 50;
-  tramps = unwrap_or above.tramps 16;
+  frames = unwrap_or above.depth USUAL_FRAMES;
+  tramps = unwrap_or above.tramps TRAMPS;
   quanta = above.quanta;
   tasks = map task_of above.tasks;
   ctls = map (λ c. c.ctl) above.ctls;
@@ -96,25 +108,27 @@ job_of above = record {
 -- the text is a script, and this is its job
 pub record IsJobOf (text : List ℕ) (job : Job) : Type 0 where
   pub accepted : refusal_of text ≡ None
-  pub ends : Leaves text None
-  pub meaning : job ≡ job_of (standing text)
+  pub ends : LeavesWaiting text None
+  pub meaning : job ≡ job_of (declared_in text)
 
--- no line has a cause, and the script can't end: the fault stands at the lowest line that is left waiting
+-- no line has a cause, and the script can't end: the fault is at the lowest line that is left waiting
 pub record IsDeadlockOf (text : List ℕ) (fault : ScriptFault) : Type 0 where
   pub accepted : refusal_of text ≡ None
   pub cause : fault.cause ≡ Deadlock
-  pub line : Leaves text (Some fault.line)
+  pub line : LeavesWaiting text (Some fault.line)
 
--- the text is refused for this
+-- the text is refused, with this fault
 abbrev pub IsRefusalOf : List ℕ → ScriptFault → Type 0
 IsRefusalOf text fault = (refusal_of text ≡ Some fault) ⊎ IsDeadlockOf text fault
 
+-- out of memory
 abbrev pub no_memory : ScriptFault
 no_memory = record { line = 0; cause = NoMemory }
 
+-- the reader may answer with this fault
 abbrev pub IsFaultOf : List ℕ → ScriptFault → Type 0
 IsFaultOf text fault = (fault ≡ no_memory) ⊎ IsRefusalOf text fault
 
--- one line was refused, or memory was wanting
+-- the reader may answer with this fault at a line with this cause
 abbrev pub IsFaultAt : Above → Option Cause → ScriptFault → Type 0
 IsFaultAt above cause fault = (fault ≡ no_memory) ⊎ (refusal_at above cause None ≡ Some fault)

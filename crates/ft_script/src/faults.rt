@@ -1,21 +1,22 @@
 //! Why a script is refused, and at which line.
 
-ghost use Rattle.std.specs.Prelude.{◌≡◌, ◌++◌, Some, codes};
-ghost use Rattle.std.specs.Fmt.{decimal};
+ghost use Rattle.std.specs.Prelude.{◌≡◌, Some};
 ghost use Rattle.ft_script.specs.FaultText.{cause_word, fault_text};
+ghost use Rattle.ft_script.specs.Script.{no_memory};
 
+use std::alloc::AllocError;
 use std::error::Error;
 use std::fmt;
 
-/// Why a line is refused. Of the causes that a line has, the first in this order counts, but that a
-/// last line without its line feed is `Syntax` before all.
+/// Why a line is refused. Of several causes the first in this order is reported. A missing last line
+/// feed is reported as `Syntax` before any other.
 #[derive(Clone, Copy, Debug, PartialEq, Eq)]
 pub enum Cause {
     /// There is no line 1, or it isn't `ftrace 1`.
     Version,
-    /// The line has none of the forms or stands at the wrong place, or no line feed ends it.
+    /// The line has none of the forms or is in the wrong place, or no line feed ends it.
     Syntax,
-    /// A number or a name is outside its limits, or there is one of something too many.
+    /// A number or a name is outside its limits, or there is one too many of something.
     Limit,
     /// A function, a user or a pid is declared once more.
     Duplicate,
@@ -25,17 +26,17 @@ pub enum Cause {
     Pattern,
     /// A call and its return, or an interrupt and its return, don't match.
     Unbalanced,
-    /// The line has a form that the machine can't carry out yet.
+    /// The machine can't carry out the line yet.
     Later,
-    /// No other line has a cause, and the script can't end: this is the lowest line that would be
+    /// No line has another cause, and the script can't end: this is the lowest line that would be
     /// left waiting.
     Deadlock,
-    /// No memory was found. The line is 0.
+    /// Out of memory. The line is 0.
     NoMemory,
 }
 
 impl Cause {
-    /// The word that names it.
+    /// The word for it.
     fn word(self) -> &'static str
         ensures { result.now ≡ cause_word self }
     {
@@ -61,12 +62,15 @@ pub struct ScriptFault {
     pub cause: Cause,
 }
 
-impl ScriptFault {
-    /// Want of memory.
-    pub(crate) const NO_MEMORY: ScriptFault = ScriptFault {
-        line: 0,
-        cause: Cause::NoMemory,
-    };
+impl From<AllocError> for ScriptFault {
+    ghost from_gives = { λ _ fault. fault ≡ no_memory };
+
+    fn from(_error: AllocError) -> ScriptFault {
+        ScriptFault {
+            line: 0,
+            cause: Cause::NoMemory,
+        }
+    }
 }
 
 impl fmt::Display for ScriptFault {

@@ -1,8 +1,9 @@
-//! The open calls of a task in each context that it is in.
+//! The open calls of a task, in each context that it is in.
 
-ghost use Rattle.std.specs.Prelude.{◌≡◌, ◌≤◌, ◌<◌, ◌^◌, unwrap_or};
-ghost use Rattle.ft_script.specs.Levels.{level_ground, present, open_in, open_here, open_calls, with_open, without, levels_after, is_raised, is_open};
+ghost use Rattle.std.specs.Prelude.{◌≡◌, ◌≤◌};
+ghost use Rattle.ft_script.specs.Levels.{level_ground, present, open_in, open_here, open_calls, with_open, without, levels_after, has_open_call, is_raised, is_unfinished};
 
+use ft_base::limits::LEVELS;
 use ft_base::{Ctx, TaskAct};
 
 /// How many calls are open in each context. A context that isn't raised has none.
@@ -35,6 +36,7 @@ impl Levels {
         }
     }
 
+    /// How many calls are open in a context.
     fn open_in(self, context: Ctx) -> u32
         ensures { result ≡ open_in self context }
     {
@@ -57,12 +59,13 @@ impl Levels {
     pub fn open_calls(self) -> u64
         ensures { result ≡ open_calls self }
     {
-        self.normal as u64
-            + self.softirq.unwrap_or(0) as u64
-            + self.irq.unwrap_or(0) as u64
-            + self.nmi.unwrap_or(0) as u64
+        u64::from(self.normal)
+            + u64::from(self.softirq.unwrap_or(0))
+            + u64::from(self.irq.unwrap_or(0))
+            + u64::from(self.nmi.unwrap_or(0))
     }
 
+    /// The same, but with this many calls open in the context.
     fn with_open(self, context: Ctx, calls: u32) -> Levels
         ensures { result ≡ with_open self context calls }
     {
@@ -86,6 +89,7 @@ impl Levels {
         }
     }
 
+    /// The same, but the context isn't raised.
     fn without(self, context: Ctx) -> Levels
         ensures { result ≡ without self context }
     {
@@ -102,7 +106,7 @@ impl Levels {
 
     /// The open calls after an act. A return with no open call leaves none.
     pub fn after(self, act: TaskAct) -> Levels
-        requires { open_calls self ≤ 512 }
+        requires { open_calls self ≤ LEVELS }
         ensures { result ≡ levels_after self act }
     {
         let here = self.open_here();
@@ -122,10 +126,17 @@ impl Levels {
         self.softirq.is_some() || self.irq.is_some() || self.nmi.is_some()
     }
 
-    /// Whether a call is open or a context is raised.
-    pub fn is_open(self) -> bool
-        ensures { result ≡ is_open self }
+    /// Whether a call is open in the task's own context.
+    fn has_open_call(self) -> bool
+        ensures { result ≡ has_open_call self }
     {
-        self.normal != 0 || self.is_raised()
+        self.normal != 0
+    }
+
+    /// Whether a call is open or a context is raised, so that the task can't be over.
+    pub fn is_unfinished(self) -> bool
+        ensures { result ≡ is_unfinished self }
+    {
+        self.has_open_call() || self.is_raised()
     }
 }

@@ -1,18 +1,31 @@
-//! What a reader keeps of the lines above.
+//! The reader of scripts, which takes one line after the other.
+//!
+//! `causes` has the causes for which a line is refused, and `past_limit` the limits among them;
+//! `declare` has what a line adds; `find` looks up names and pids; `parts` makes the job.
+
+mod causes;
+mod declare;
+mod find;
+mod parts;
+mod past_limit;
 
 ghost use Rattle.std.specs.Prelude.{◌≡◌};
+ghost use Rattle.ft_base.specs.declared.limits.TheConstants.{FUNCS};
 
+use crate::faults::ScriptFault;
 use crate::levels::Levels;
-use ft_base::{Turn, limits};
+use ft_base::Turn;
+use ft_base::limits::FUNCS;
 use ft_machine::FirstCtl;
 use func_table::FuncTable;
-use script_waits::Task;
+use script_form::read_line;
+use script_waits::LinedTask;
 use std::alloc::Global;
 use user_specs::Spec;
 
 /// A line of control, and its number in the script.
 #[derive(Clone, Copy)]
-pub struct CtlLine {
+pub struct LinedCtl {
     pub ctl: FirstCtl,
     pub line: u32,
 }
@@ -20,41 +33,47 @@ pub struct CtlLine {
 /// What the lines above have declared.
 #[derive(Drop)]
 pub struct Reader {
-    /// How many lines there are above, and the rank of the last of them.
-    pub lines: u32,
-    pub rank: u8,
-    pub functions: FuncTable,
-    pub users: Vec<Spec>,
+    /// How many lines there are above.
+    lines: u32,
+    /// The rank of the last of them that has one.
+    rank: u8,
+    functions: FuncTable,
+    users: Vec<Spec>,
     /// The quantum of each CPU.
-    pub quanta: Vec<u32>,
-    pub tasks: Vec<Task>,
+    quanta: Vec<u32>,
+    tasks: Vec<LinedTask>,
     /// The open calls of the last task.
-    pub levels: Levels,
-    /// How many acts there are, and calls among them, over all tasks.
-    pub acts: u32,
-    pub calls: u32,
-    /// The lines of control, and how many commands and waits are among them.
-    pub ctls: Vec<CtlLine>,
-    pub commands: u32,
-    pub waits: u32,
-    /// The schedule, and its steps.
-    pub turns: Vec<Turn>,
-    pub steps: u32,
-    ghost table: { functions.limit ≡ 1024 },
+    levels: Levels,
+    /// How many acts there are, over all tasks, and how many of them are calls.
+    acts: u32,
+    calls: u32,
+    /// The lines of control, and how many of them are commands and waits.
+    ctls: Vec<LinedCtl>,
+    commands: u32,
+    waits: u32,
+    /// The schedule, and how many steps it has.
+    turns: Vec<Turn>,
+    steps: u32,
+    ghost table: { functions.limit ≡ FUNCS },
 }
 
 impl Reader {
+    ghost use Rattle.std.specs.Prelude.{None, IfErr, OnOk};
+    ghost use Rattle.script_text.specs.Lines.{lines_of};
     ghost use Rattle.ft_script.specs.Above.{none_above};
+    ghost use Rattle.ft_script.specs.Causes.{cause_of};
+    ghost use Rattle.ft_script.specs.Script.{with_line, IsFaultAt};
+    ghost use Rattle.ft_script.specs.Within.{IsSmall};
     ghost use Rattle.ft_script.specs.Kept.{above_of};
 
-    /// Nothing stands above the first line.
+    /// Nothing is declared above the first line.
     pub fn new(alloc: Global) -> Reader
         ensures { above_of result ≡ none_above }
     {
         Reader {
             lines: 0,
             rank: 0,
-            functions: FuncTable::new(alloc, limits::FUNCS),
+            functions: FuncTable::new(alloc, FUNCS),
             users: Vec::new(alloc),
             quanta: Vec::new(alloc),
             tasks: Vec::new(alloc),
@@ -67,5 +86,35 @@ impl Reader {
             turns: Vec::new(alloc),
             steps: 0,
         }
+    }
+
+    /// Reads the next line. `ended` says whether a line feed ends it, and `below` is the text below.
+    #[tactic(auto, unfolding(crate::specs::Causes::cause_of, crate::specs::Script::with_line))]
+    pub fn read(
+        &mut self,
+        alloc: Global,
+        line: &[u8],
+        ended: bool,
+        below: &[u8],
+    ) -> Result<(), ScriptFault>
+        requires { IsSmall (above_of self.old) }
+        ensures clear { OnOk result (cause_of (above_of self.old) (record { bytes = line.now; ended = ended }) (lines_of below.now) ≡ None) }
+        ensures declared { OnOk result (above_of self.new ≡ with_line (above_of self.old) (record { bytes = line.now; ended = ended })) }
+        ensures err { IfErr result (IsFaultAt (above_of self.old) (cause_of (above_of self.old) (record { bytes = line.now; ended = ended }) (lines_of below.now))) }
+    {
+        let number = self.lines + 1;
+        let form = read_line(alloc, line)?;
+        if let Some(cause) = self.line_cause(alloc, &form, ended, below)? {
+            return Err(ScriptFault {
+                line: number,
+                cause,
+            });
+        }
+        match &form {
+            Some(form) => self.declare(alloc, form)?,
+            // A line of no form has a cause.
+            None => unreachable!(),
+        }
+        Ok(())
     }
 }

@@ -5,7 +5,7 @@ use Rattle.ft_script.proofs.JobLaws.{job-is, is_within}
 use Rattle.ft_script.proofs.script.make_job.Goals as goal
 
 pub new-requires : goal.new-requires
-new-requires c = is_within (above_of c.args.reader) c.requires (parts_of c.in-Ok.parts) c.in-Ok.ensures
+new-requires c = is_within (above_of c.args.reader) c.requires (parts_of c.in_ok-into_parts.field-0) c.in_ok-into_parts.ensures
 
-pub returns-in-Ok-clause-job : goal.returns-in-Ok-clause-job
-returns-in-Ok-clause-job c = c.new.ensures ∙ job-is (above_of c.args.reader) c.requires (parts_of c.in-Ok.parts) c.in-Ok.ensures
+pub returns : goal.returns
+returns c = c.new.ensures ∙ job-is (above_of c.args.reader) c.requires (parts_of c.in_ok-into_parts.field-0) c.in_ok-into_parts.ensures

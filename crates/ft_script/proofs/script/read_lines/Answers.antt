@@ -1,12 +1,27 @@
 use Rattle.std.proofs.Common.{◌≡◌, suc, sym, ap, ◌∙◌, subst, arith}
 use Rattle.script_text.specs.Lines.{Line, lines_of}
-use Rattle.ft_script.specs.Above.{Above, none_above}
-use Rattle.ft_script.specs.Holds.{CanRun}
-use Rattle.ft_script.proofs.Lines.{lines-hold, none-stands}
+use Rattle.ft_script.specs.Above.{Above}
+use Rattle.ft_script.specs.Script.{refusal_below, declared_after}
 use Rattle.ft_script.specs.Kept.{above_of}
-use Rattle.ft_script.specs.Script.{refusal_below, standing_after}
-use Rattle.ft_script.proofs.Ends.{no_lines, refused-more, standing-more, lines-more}
+use Rattle.ft_script.proofs.Ends.{no_lines, refused-more, declared-more, lines-more}
+use Rattle.ft_script.proofs.Lines.{HoldsAbove, line-holds, none-holds, closed-at_end}
 use Rattle.ft_script.proofs.script.read_lines.Goals as goal
+
+pub read-requires : goal.read-requires
+read-requires c =
+    let inv = c.loop-rest.invariant in
+    record { numbered = omega (arith, inv.few, c.first_line-ended.ensures.shorter); within = inv.holds.holds.within }
+
+pub loop-rest-init : goal.loop-rest-init
+loop-rest-init c =
+    let new = c.new-reader.ensures in
+    let none : c.new-reader.result.lines ≡ 0 = ap (λ (a : Above). a.lines) new in
+    record {
+      few = omega (arith, none, c.requires);
+      holds = subst (λ (a : Above). HoldsAbove a (lines_of c.args.text.now)) (sym new) (none-holds (lines_of c.args.text.now));
+      refused = ap (λ (a : Above). refusal_below a (lines_of c.args.text.now)) new;
+      declared = ap (λ (a : Above). declared_after a (lines_of c.args.text.now)) new;
+    }
 
 pub loop-rest-preserved : goal.loop-rest-preserved
 loop-rest-preserved c =
@@ -14,24 +29,27 @@ loop-rest-preserved c =
     let new : Above = above_of c.read.new.self in
     let line : Line = record { bytes = c.first_line-ended.result.0.now; ended = c.first_line-ended.result.1 } in
     let inv = c.loop-rest.invariant in
-    let count : c.read.new.self.lines ≡ suc c.loop-rest.reader.lines = lines-more old new line c.in_ok-read.ensures.said in
+    let cut = c.first_line-ended.ensures.cut in
+    let read = c.in_ok-read.ensures in
+    let count : c.read.new.self.lines ≡ suc c.loop-rest.reader.lines = lines-more old new line read.declared in
+    let here : HoldsAbove old (lines_of c.loop-rest.rest.now) = inv.holds in
     record {
-      small = c.in_ok-read.ensures.small (omega (arith, inv.few, c.first_line-ended.ensures.shorter));
       few = omega (arith, count, inv.few, c.first_line-ended.ensures.shorter);
-      refused = refused-more old new line c.loop-rest.rest.now c.first_line-ended.result.2.now c.first_line-ended.ensures.cut c.in_ok-read.ensures.said c.in_ok-read.ensures.clear ∙ inv.refused;
-      standing = standing-more old new line c.loop-rest.rest.now c.first_line-ended.result.2.now c.first_line-ended.ensures.cut c.in_ok-read.ensures.said ∙ inv.standing;
+      holds = subst (λ (a : Above). HoldsAbove a (lines_of c.first_line-ended.result.2.now)) (sym read.declared) (line-holds old line (lines_of c.first_line-ended.result.2.now) (rw cut at here) read.clear);
+      refused = refused-more old new line c.loop-rest.rest.now c.first_line-ended.result.2.now cut read.declared read.clear ∙ inv.refused;
+      declared = declared-more old new line c.loop-rest.rest.now c.first_line-ended.result.2.now cut read.declared ∙ inv.declared;
     }
 
 pub returns-clause-clear : goal.returns-clause-clear
 returns-clause-clear c = sym c.loop-rest.invariant.refused ∙ ap (refusal_below (above_of c.loop-rest.reader)) (no_lines c.loop-rest.rest.now c.loop-rest-test.ensures)
 
-pub returns-clause-standing : goal.returns-clause-standing
-returns-clause-standing c = sym (ap (standing_after (above_of c.loop-rest.reader)) (no_lines c.loop-rest.rest.now c.loop-rest-test.ensures)) ∙ c.loop-rest.invariant.standing
+pub returns-clause-declared : goal.returns-clause-declared
+returns-clause-declared c = sym (ap (declared_after (above_of c.loop-rest.reader)) (no_lines c.loop-rest.rest.now c.loop-rest-test.ensures)) ∙ c.loop-rest.invariant.declared
 
 -- what an accepted text declares can be run
 pub returns-clause-runs : goal.returns-clause-runs
 returns-clause-runs c =
-    let clear = sym c.loop-rest.invariant.refused ∙ ap (refusal_below (above_of c.loop-rest.reader)) (no_lines c.loop-rest.rest.now c.loop-rest-test.ensures) in
-    let standing = sym (ap (standing_after (above_of c.loop-rest.reader)) (no_lines c.loop-rest.rest.now c.loop-rest-test.ensures)) ∙ c.loop-rest.invariant.standing in
-    let h = lines-hold none_above (lines_of c.args.text.now) (none-stands (lines_of c.args.text.now)) clear in
-    subst (λ (a : Above). CanRun a) (sym standing) (record { holds = h.0; closed = h.1 })
+    let above : Above = above_of c.loop-rest.reader in
+    let last : HoldsAbove above (lines_of c.loop-rest.rest.now) = c.loop-rest.invariant.holds in
+    let ended = rw (no_lines c.loop-rest.rest.now c.loop-rest-test.ensures) at last in
+    record { holds = ended.holds; closed = closed-at_end above ended }

@@ -1,9 +1,0 @@
-use Rattle.std.proofs.Common.{◌≡◌, ◌++◌, map, drop}
-use Rattle.user_specs.specs.Plain.{task_of as plan_seen}
-use Rattle.ft_machine.specs.Parts.{tasks_on}
-use Rattle.script_waits.specs.Plans.{plan_of}
-use Rattle.ft_script.specs.Script.{task_of}
-use Rattle.ft_script.proofs.plans.task_plans.Given as goal
-
-abbrev pub invariant-loop-i : goal.invariant-loop-i
-invariant-loop-i l = map plan_seen l.plans.items ++ tasks_on l.cpu l.i (map task_of (map plan_of (drop l.i l.tasks))) ≡ tasks_on l.cpu 0 (map task_of (map plan_of l.tasks))

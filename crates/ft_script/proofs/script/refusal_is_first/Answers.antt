@@ -1,7 +1,0 @@
-use Rattle.script_text.specs.Lines.{lines_of}
-use Rattle.ft_script.specs.Above.{none_above}
-use Rattle.ft_script.proofs.Offence.{first_offence}
-use Rattle.ft_script.proofs.script.refusal_is_first.Goals as goal
-
-pub returns : goal.returns
-returns c = λ text. first_offence none_above (lines_of text)

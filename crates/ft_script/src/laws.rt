@@ -1,0 +1,27 @@
+//! What the definitions of a job and of a refusal mean, in other words.
+
+ghost use Rattle.std.specs.Prelude.{◌≡◌, ◌↔◌, ◌⊎◌, List, ℕ, Some, None};
+ghost use Rattle.ft_base.specs.Job.{Job};
+ghost use Rattle.script_text.specs.Lines.{lines_of};
+ghost use Rattle.ft_script.specs.declared.faults.ScriptFault.{ScriptFault};
+ghost use Rattle.ft_script.specs.Above.{none_above};
+ghost use Rattle.ft_script.specs.Script.{refusal_below, declared_in, job_of, IsFirstRefusal, IsClean, LeavesWaiting, IsJobOf, IsRefusalOf};
+
+/// A text is a script or it is refused, never both, and it has one job or one fault.
+pub fn a_text_has_one_answer()
+    ensures some { (text : List ℕ) → ((job : Job) × IsJobOf text job) ⊎ ((fault : ScriptFault) × IsRefusalOf text fault) }
+    ensures not_both { (text : List ℕ) (job : Job) (fault : ScriptFault) → IsJobOf text job → IsRefusalOf text fault → ⊥ }
+    ensures one_job { (text : List ℕ) (a b : Job) → IsJobOf text a → IsJobOf text b → a ≡ b }
+    ensures one_fault { (text : List ℕ) (a b : ScriptFault) → IsRefusalOf text a → IsRefusalOf text b → a ≡ b }
+{}
+
+/// A fault other than a deadlock is that of the first line that has a cause, with its first cause.
+pub fn refusal_is_first()
+    ensures { (text : List ℕ) (fault : ScriptFault)
+        → (refusal_below none_above (lines_of text) ≡ Some fault) ↔ IsFirstRefusal none_above (lines_of text) fault }
+{}
+
+/// A text none of whose lines has a cause is a script if the greedy run leaves nobody waiting.
+pub fn a_clean_text_is_a_script()
+    ensures { (text : List ℕ) → IsClean text → LeavesWaiting text None → IsJobOf text (job_of (declared_in text)) }
+{}

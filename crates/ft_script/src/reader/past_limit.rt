@@ -1,0 +1,119 @@
+//! Whether a line is past a limit.
+
+use crate::form::{
+    any_bad_pid, has_long_name, is_above, is_bad_count, is_bad_depth, is_bad_pid, is_bad_quantum,
+    is_big, is_full, is_long, is_long_or_none,
+};
+use crate::reader::Reader;
+use ft_base::limits::{
+    ACTS, COMMANDS, CPUS, FUNCS, GRAPH_DEPTH, ITEMS, LEVELS, TASKS, TRAMPS, UNTILS, USERS,
+};
+use ft_schedule::is_past_limit as is_past_sched_limit;
+use script_form::{LineForm, SchedItem};
+use user_specs::call_bound;
+
+impl Reader {
+    ghost use Rattle.std.specs.Prelude.{◌≡◌, ◌||◌, nat_le, length};
+    ghost use Rattle.std.specs.Option.{option_copied};
+    ghost use Rattle.ft_schedule.specs.Causes.{is_past_limit as is_past_sched_limit};
+    ghost use Rattle.script_form.specs.Read.{form_read};
+    ghost use Rattle.script_form.specs.Forms.{func, new_task, until};
+    ghost use Rattle.ft_script.specs.Causes.{is_past_limit, is_full_of_acts, is_full_of_calls, is_full_of_commands, has_no_room};
+    ghost use Rattle.ft_script.specs.Within.{IsWithinLimits};
+    ghost use Rattle.ft_script.specs.Kept.{above_of};
+
+    /// Whether one more act is too many.
+    fn is_full_of_acts(&self) -> bool
+        ensures { result ≡ is_full_of_acts (above_of self.now) }
+    {
+        self.acts >= ACTS
+    }
+
+    /// Whether one more command is too many.
+    fn is_full_of_commands(&self) -> bool
+        ensures { result ≡ is_full_of_commands (above_of self.now) }
+    {
+        self.commands >= COMMANDS
+    }
+
+    /// Whether the calls, with one more, could make more items than a history may have.
+    fn has_no_room(&self) -> bool
+        requires { IsWithinLimits (above_of self.now) }
+        ensures { result ≡ has_no_room (above_of self.now) }
+    {
+        let bound = u64::from(call_bound(self.users.as_slice()));
+        is_above(bound * (u64::from(self.calls) + 1), ITEMS)
+    }
+
+    /// Whether one more call is too many.
+    fn is_full_of_calls(&self) -> bool
+        requires { IsWithinLimits (above_of self.now) }
+        ensures { result ≡ is_full_of_calls (above_of self.now) }
+    {
+        self.is_full_of_acts()
+            || self.levels.open_calls() >= u64::from(LEVELS)
+            || self.has_no_room()
+    }
+
+    /// Whether the line of a function is past a limit.
+    fn is_func_past_limit(&self, name: &str, owner: Option<&str>) -> bool
+        ensures { result ≡ is_past_limit (above_of self.now) (func name.now (option_copied owner.entry)) }
+    {
+        is_long(name) || is_long_or_none(owner) || self.functions.len() >= FUNCS
+    }
+
+    /// Whether the line of a task is past a limit.
+    fn is_task_past_limit(&self, pid: u64, cpu: u64) -> bool
+        ensures { result ≡ is_past_limit (above_of self.now) (new_task pid cpu) }
+    {
+        is_bad_pid(pid) || is_big(cpu) || is_full(self.tasks.len(), TASKS)
+    }
+
+    /// Whether a wait of control is past a limit.
+    fn is_until_past_limit(&self, pid: u64, acts: u64) -> bool
+        ensures { result ≡ is_past_limit (above_of self.now) (until pid acts) }
+    {
+        is_bad_pid(pid) || is_bad_count(acts) || self.waits >= UNTILS
+    }
+
+    /// Whether a count of the items can't be, or the schedule has too many steps with them.
+    fn is_sched_past_limit(&self, items: &[SchedItem]) -> bool
+        requires { IsWithinLimits (above_of self.now) }
+        ensures { result ≡ is_past_sched_limit (length self.now.quanta.items) self.now.steps items.now }
+    {
+        is_past_sched_limit(self.steps, items, self.quanta.len() as u32)
+    }
+
+    /// Whether a name or a number of the line is outside its limits, or there is one too many of what
+    /// it declares.
+    pub fn is_past_limit(&self, form: &LineForm) -> bool
+        requires { IsWithinLimits (above_of self.now) }
+        ensures { result ≡ is_past_limit (above_of self.now) (form_read form.now) }
+    {
+        match form {
+            LineForm::Skip | LineForm::Version => false,
+            LineForm::Func { name, owner } => self.is_func_past_limit(name, *owner),
+            LineForm::Depth { frames } => is_bad_depth(*frames),
+            LineForm::Tramps { slots } => is_above(*slots, TRAMPS),
+            LineForm::User(user) => has_long_name(user) || is_full(self.users.len(), USERS),
+            LineForm::NewCpu { quantum, .. } => {
+                is_bad_quantum(*quantum) || is_full(self.quanta.len(), CPUS)
+            }
+            LineForm::NewTask { pid, cpu } => self.is_task_past_limit(*pid, *cpu),
+            LineForm::Call { function } => is_long(function) || self.is_full_of_calls(),
+            LineForm::Ret | LineForm::Raise { .. } | LineForm::Lower => self.is_full_of_acts(),
+            LineForm::After { commands } => is_bad_count(*commands) || self.is_full_of_acts(),
+            LineForm::Register { user }
+            | LineForm::Unregister { user }
+            | LineForm::Write { user, .. }
+            | LineForm::Enable { user }
+            | LineForm::Disable { user } => is_long(user) || self.is_full_of_commands(),
+            LineForm::Pids { pids, .. } => any_bad_pid(pids) || self.is_full_of_commands(),
+            LineForm::MaxDepth { depth } => {
+                is_above(*depth, GRAPH_DEPTH) || self.is_full_of_commands()
+            }
+            LineForm::Until { pid, acts } => self.is_until_past_limit(*pid, *acts),
+            LineForm::Sched { items } => self.is_sched_past_limit(items),
+        }
+    }
+}
