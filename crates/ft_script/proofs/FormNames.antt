@@ -10,6 +10,7 @@ use Rattle.ft_base.specs.declared.user.Half.{Half}
 use Rattle.ft_base.specs.declared.user.Kind.{Kind}
 use Rattle.ft_base.specs.Name.{is_name_text}
 use Rattle.script_text.specs.Lines.{Word, words_of, is_skipped, is_plain}
+use Rattle.script_text.specs.Words.{both}
 use Rattle.script_text.specs.Names.{is_name, name_of}
 use Rattle.script_text.proofs.NameLemmas.{is_name_text-short}
 use Rattle.script_form.specs.Forms as form
@@ -35,25 +36,18 @@ either : (b : Bool) (x y : Option LineForm) → IfSome x Named → IfSome y Name
 either true x y hx hy = hx
 either false x y hx hy = hy
 
-of-name : (f : Word → LineForm) → ((w : Word) → Named (f w)) → (o : Option Word) → IfSome (form.named f o) Named
-of-name f h None = tt
-of-name f h (Some w) = h w
+of-map : {X : Type 0} (f : X → LineForm) → ((x : X) → Named (f x)) → (o : Option X) → IfSome (option_map f o) Named
+of-map f h None = tt
+of-map f h (Some x) = h x
 
-of-number : (f : ℕ → LineForm) → ((n : ℕ) → Named (f n)) → (o : Option ℕ) → IfSome (form.counted f o) Named
-of-number f h None = tt
-of-number f h (Some n) = h n
-
-of-numbers : (f : ℕ → ℕ → LineForm) → ((n m : ℕ) → Named (f n m)) → (o p : Option ℕ) → IfSome (form.counted_twice f o p) Named
-of-numbers f h None p = tt
-of-numbers f h (Some n) p = of-number (f n) (h n) p
+of-both : {X Y : Type 0} (f : X → Y → LineForm) → ((x : X) (y : Y) → Named (f x y)) → (o : Option X) (p : Option Y) → IfSome (both f o p) Named
+of-both f h None p = tt
+of-both f h (Some x) None = tt
+of-both f h (Some x) (Some y) = h x y
 
 of-none : (f : LineForm) → Named f → (args : List Word) → IfSome (form.alone f args) Named
 of-none f h [] = h
 of-none f h (_ ∷ _) = tt
-
-of-map : {X : Type 0} (f : X → LineForm) → ((x : X) → Named (f x)) → (o : Option X) → IfSome (option_map f o) Named
-of-map f h None = tt
-of-map f h (Some x) = h x
 
 -- ## each line
 
@@ -61,11 +55,11 @@ name_of-is : (w : Word) (b : Bool) → is_name w ≡ b → IfSome (if b then Som
 name_of-is w true e = e
 name_of-is w false e = tt
 
-func-alone : (o : Option Word) → IfSome o (λ n. is_name n ≡ true) → IfSome (form.named (λ n. func n None) o) Named
+func-alone : (o : Option Word) → IfSome o (λ n. is_name n ≡ true) → IfSome (option_map (λ n. func n None) o) Named
 func-alone None h = tt
 func-alone (Some n) h = (h, tt)
 
-func-owned : (o p : Option Word) → IfSome o (λ n. is_name n ≡ true) → IfSome p (λ n. is_name n ≡ true) → IfSome (form.owned o p) Named
+func-owned : (o p : Option Word) → IfSome o (λ n. is_name n ≡ true) → IfSome p (λ n. is_name n ≡ true) → IfSome (both (λ n o. func n (Some o)) o p) Named
 func-owned None p h hp = tt
 func-owned (Some n) None h hp = tt
 func-owned (Some n) (Some m) h hp = (h, hp)
@@ -85,31 +79,27 @@ in-cpu : (args : List Word) → IfSome (form.cpu_form args) Named
 in-cpu [] = tt
 in-cpu (_ ∷ []) = tt
 in-cpu (_ ∷ _ ∷ []) = tt
-in-cpu (n ∷ key ∷ quantum ∷ []) = either (bytes_eq key (codes "quantum")) _ None (of-numbers new_cpu (λ a b. tt) _ _) tt
+in-cpu (n ∷ key ∷ quantum ∷ []) = either (bytes_eq key (codes "quantum")) _ None (of-both new_cpu (λ a b. tt) _ _) tt
 in-cpu (_ ∷ _ ∷ _ ∷ _ ∷ _) = tt
 
 in-task : (args : List Word) → IfSome (form.task_form args) Named
 in-task [] = tt
 in-task (_ ∷ []) = tt
 in-task (_ ∷ _ ∷ []) = tt
-in-task (pid ∷ key ∷ n ∷ []) = either (bytes_eq key (codes "cpu")) _ None (of-numbers new_task (λ a b. tt) _ _) tt
+in-task (pid ∷ key ∷ n ∷ []) = either (bytes_eq key (codes "cpu")) _ None (of-both new_task (λ a b. tt) _ _) tt
 in-task (_ ∷ _ ∷ _ ∷ _ ∷ _) = tt
-
-in-written : (half : Half) (name : Option Word) (append : Option Bool) (text : Word) → IfSome (form.written half name append text) Named
-in-written half name None text = tt
-in-written half name (Some append) text = of-name (λ n. write half append n text) (λ w. tt) name
 
 in-write : (half : Half) (args : List Word) → IfSome (form.write_form half args) Named
 in-write half [] = tt
 in-write half (_ ∷ []) = tt
-in-write half (name ∷ arrow ∷ []) = either (bytes_eq arrow (codes ">")) _ None (of-name (λ n. write half false n []) (λ w. tt) (name_of name)) tt
-in-write half (name ∷ arrow ∷ text ∷ []) = in-written half (name_of name) (form.arrow_of arrow) text
+in-write half (name ∷ arrow ∷ []) = either (bytes_eq arrow (codes ">")) _ None (of-map (λ n. write half false n []) (λ w. tt) (name_of name)) tt
+in-write half (name ∷ arrow ∷ text ∷ []) = of-both (λ n append. write half append n text) (λ n append. tt) (name_of name) (form.arrow_of arrow)
 in-write half (_ ∷ _ ∷ _ ∷ _ ∷ _) = tt
 
 in-until : (args : List Word) → IfSome (form.until_form args) Named
 in-until [] = tt
 in-until (_ ∷ []) = tt
-in-until (pid ∷ n ∷ []) = of-numbers until (λ a b. tt) _ _
+in-until (pid ∷ n ∷ []) = of-both until (λ a b. tt) _ _
 in-until (_ ∷ _ ∷ _ ∷ _) = tt
 
 in-ctl : (args : List Word) → IfSome (form.ctl_form args) Named
@@ -117,13 +107,13 @@ in-ctl [] = tt
 in-ctl (key ∷ args) =
     either (bytes_eq key (codes "pid")) _ _ (of-map (pids false) (λ l. tt) _)
     (either (bytes_eq key (codes "nopid")) _ _ (of-map (pids true) (λ l. tt) _)
-    (either (bytes_eq key (codes "register")) _ _ (of-name register (λ w. tt) _)
-    (either (bytes_eq key (codes "unregister")) _ _ (of-name unregister (λ w. tt) _)
+    (either (bytes_eq key (codes "register")) _ _ (of-map register (λ w. tt) _)
+    (either (bytes_eq key (codes "unregister")) _ _ (of-map unregister (λ w. tt) _)
     (either (bytes_eq key (codes "filter")) _ _ (in-write Half.Filter args)
     (either (bytes_eq key (codes "notrace")) _ _ (in-write Half.Notrace args)
-    (either (bytes_eq key (codes "enable")) _ _ (of-name enable (λ w. tt) _)
-    (either (bytes_eq key (codes "disable")) _ _ (of-name disable (λ w. tt) _)
-    (either (bytes_eq key (codes "maxdepth")) _ _ (of-number max_depth (λ n. tt) _)
+    (either (bytes_eq key (codes "enable")) _ _ (of-map enable (λ w. tt) _)
+    (either (bytes_eq key (codes "disable")) _ _ (of-map disable (λ w. tt) _)
+    (either (bytes_eq key (codes "maxdepth")) _ _ (of-map max_depth (λ n. tt) _)
     (either (bytes_eq key (codes "until")) _ None (in-until args) tt)))))))))
 
 in-user_of : (name : Word) (kind : Kind) (regs : Bool) (m : Option (Option Word)) (pid : Bool) (a : Option (Option UserAct)) → IfSome (user_of name kind regs m pid a) Named
@@ -146,20 +136,20 @@ in-user (name ∷ words) = in-user_with (name_of name) (kind_of words)
 
 in-act : (key : Word) (args : List Word) → IfSome (act_form key args) Named
 in-act key args =
-    either (bytes_eq key (codes "call")) _ _ (of-name call (λ w. tt) _)
+    either (bytes_eq key (codes "call")) _ _ (of-map call (λ w. tt) _)
     (either (bytes_eq key (codes "ret")) _ _ (of-none ret tt args)
     (either (bytes_eq key (codes "softirq")) _ _ (of-none (raise _) tt args)
     (either (bytes_eq key (codes "irq")) _ _ (of-none (raise _) tt args)
     (either (bytes_eq key (codes "nmi")) _ _ (of-none (raise _) tt args)
     (either (bytes_eq key (codes "iret")) _ _ (of-none lower tt args)
-    (either (bytes_eq key (codes "after")) _ None (of-number after (λ n. tt) _) tt))))))
+    (either (bytes_eq key (codes "after")) _ None (of-map after (λ n. tt) _) tt))))))
 
 in-unlisted : (key : Word) (args : List Word) → IfSome (unlisted_form key args) Named
 in-unlisted key args =
     either (bytes_eq key (codes "ftrace")) _ _ (in-version args)
     (either (bytes_eq key (codes "func")) _ _ (in-func args)
-    (either (bytes_eq key (codes "depth")) _ _ (of-number depth (λ n. tt) _)
-    (either (bytes_eq key (codes "tramps")) _ _ (of-number tramps (λ n. tt) _)
+    (either (bytes_eq key (codes "depth")) _ _ (of-map depth (λ n. tt) _)
+    (either (bytes_eq key (codes "tramps")) _ _ (of-map tramps (λ n. tt) _)
     (either (bytes_eq key (codes "user")) _ _ (in-user args)
     (either (bytes_eq key (codes "cpu")) _ _ (in-cpu args)
     (either (bytes_eq key (codes "task")) _ _ (in-task args)
@@ -185,18 +175,18 @@ form-named line f e = subst (λ (o : Option LineForm). IfSome o Named) e
 name-short : (w : Word) → is_name w ≡ true → is_long w ≡ false → is_name_text w ≡ true
 name-short w e short = is_name_text-short w e (ltb-false NAME_BYTES (length w) short)
 
-both : (a b : Bool) → a ≡ true → b ≡ true → (a && b) ≡ true
-both true true e f = refl
-both true false e f = false_true f
-both false b e f = false_true e
+and-true : (a b : Bool) → a ≡ true → b ≡ true → (a && b) ≡ true
+and-true true true e f = refl
+and-true true false e f = false_true f
+and-true false b e f = false_true e
 
 -- what a line within the limits names
 pub names-hold : (above : Above) (line : List ℕ) (f : LineForm) → line_form line ≡ Some f → is_past_limit above f ≡ false → has_names f ≡ true
 names-hold above line f e within = by f (form-named line f e) within
   where
     by : (f : LineForm) → Named f → is_past_limit above f ≡ false → has_names f ≡ true
-    by (func name None) n w = both _ _ (name-short name n.0 (or-false_both _ _ w).0) refl
+    by (func name None) n w = and-true _ _ (name-short name n.0 (or-false_both _ _ w).0) refl
     by (func name (Some owner)) n w =
         let o = or-false_both _ _ w in
-        both _ _ (name-short name n.0 o.0) (name-short owner n.1 (or-false_both _ _ o.1).0)
+        and-true _ _ (name-short name n.0 o.0) (name-short owner n.1 (or-false_both _ _ o.1).0)
     by f n w = refl

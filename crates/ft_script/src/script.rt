@@ -1,7 +1,6 @@
-//! The reader of scripts.
+//! A script: all its lines, whether it can end, and its job.
 
 ghost use Rattle.std.specs.Prelude.{◌≡◌, ◌≤◌, ◌⊎◌, length, IfOk, IfErr, Some, None};
-ghost use Rattle.ft_base.specs.declared.limits.TheConstants.{INPUT_BYTES};
 ghost use Rattle.script_text.specs.Lines.{lines_of};
 ghost use Rattle.ft_script.specs.Above.{none_above};
 ghost use Rattle.ft_script.specs.Script.{refusal_below, declared_in, no_memory, job_of, IsJobOf, IsFaultOf};
@@ -10,6 +9,7 @@ ghost use Rattle.ft_script.specs.Kept.{above_of};
 
 use crate::faults::{Cause, ScriptFault};
 use crate::reader::Reader;
+use ft_base::limits::INPUT_BYTES;
 use ft_machine::Job;
 use script_text::first_line;
 use std::alloc::{AllocError, Global};

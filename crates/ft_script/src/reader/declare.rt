@@ -8,6 +8,7 @@ use crate::form::rank_of;
 use crate::levels::Levels;
 use crate::reader::find::task_number;
 use crate::reader::{LinedCtl, Reader};
+use ft_base::limits::{FUNCS, TASKS};
 use ft_base::{FuncNo, TaskAct, TaskNo};
 use ft_machine::FirstCtl;
 use ft_schedule::{push_turns, steps_with};
@@ -31,7 +32,6 @@ fn push_act(tasks: &mut Vec<LinedTask>, act: LinedAct) -> Result<(), AllocError>
 impl Reader {
     ghost use Rattle.std.specs.Prelude.{◌≤◌, ◌<◌, ◌^◌, suc, length, true, false};
     ghost use Rattle.std.specs.Option.{option_copied};
-    ghost use Rattle.ft_base.specs.declared.limits.TheConstants.{FUNCS, TASKS};
     ghost use Rattle.ft_base.specs.Name.{is_name_text};
     ghost use Rattle.func_table.specs.Rows.{is_name_or_none};
     ghost use Rattle.ft_machine.specs.Parts.{ctl_of};

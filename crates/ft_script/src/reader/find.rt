@@ -1,4 +1,6 @@
-//! Look-ups of users by name and of tasks by pid and CPU, each through at most as many as there may be.
+//! Look-ups of users by name, and of tasks by pid and by CPU. There are few of them, so each look-up
+//! goes through all. The first function of each pair speaks of the program's users and tasks, and the
+//! second of those of the definitions.
 
 ghost use Rattle.std.specs.Prelude.{◌≡◌, ◌==◌, ◌<◌, map, position, string_bytes, IfSome, length};
 ghost use Rattle.std.specs.Str.{bytes_eq};
@@ -9,8 +11,6 @@ ghost use Rattle.ft_script.specs.Causes.{has_task_on};
 
 use script_waits::LinedTask;
 use user_specs::Spec;
-
-// Each of these three has a clause in the program's own types, and the function below it that of the definition.
 
 fn user_place(users: &[Spec], name: &str) -> Option<usize>
     ensures place { result ≡ position (λ user. bytes_eq name.now (string_bytes user.name)) users.now }

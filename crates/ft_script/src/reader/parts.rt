@@ -1,7 +1,6 @@
 //! What a reader that has read all lines gives: whether the script can end, and the parts of its job.
 
 ghost use Rattle.std.specs.Prelude.{◌≡◌, ◌≤◌, map, length, IfOk};
-ghost use Rattle.ft_base.specs.declared.limits.TheConstants.{CPUS, TASKS};
 ghost use Rattle.user_specs.specs.Plain.{cpu_of, task_of as plan_seen};
 ghost use Rattle.ft_machine.specs.Parts.{tasks_on, cpus_from};
 ghost use Rattle.script_waits.specs.Tasks.{lined_task};
@@ -9,7 +8,7 @@ ghost use Rattle.ft_script.specs.Kept.{control_line};
 ghost use Rattle.ft_script.specs.Script.{task_of, schedule_of};
 
 use crate::reader::{LinedCtl, Reader};
-use ft_base::limits::{TRAMPS, USUAL_FRAMES, USUAL_TURNS};
+use ft_base::limits::{CPUS, TASKS, TRAMPS, USUAL_FRAMES, USUAL_TURNS};
 use ft_base::{TaskAct, TaskNo, Turn, Who};
 use ft_machine::{FirstCtl, JobParts};
 use ft_schedule::Schedule;
