@@ -1,3 +1,7 @@
 pub mod Lookups
 pub mod LogLines
-pub mod Replayed
+pub mod LogSamples
+pub mod LogWords
+pub mod LogReads
+pub mod LogTells
+pub mod Replies

@@ -12,7 +12,7 @@ joined-place : (job : Job) (p : ℕ) (item : Item) → joined (decimal p ∷ ite
 joined-place job p (Begin k) = refl
 joined-place job p _ = refl
 
--- the place, the item and the line feed, written one behind the other
+-- the place, the item and the line feed, written one after the other
 pub log_line-pushed : (job : Job) (p : ℕ) (item : Item) (old place said new : List ℕ) → place ≡ old ++ (decimal p ++ codes " ") → said ≡ place ++ joined (item_words job item) → new ≡ said ++ codes "\n"
     → new ≡ old ++ log_line job p item
 unfolding log_line

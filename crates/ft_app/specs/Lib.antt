@@ -1,2 +1,5 @@
 pub mod LogText
+pub mod LogItems
+pub mod Status
+pub mod Reply
 pub mod Main

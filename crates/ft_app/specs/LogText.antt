@@ -68,7 +68,7 @@ answer_words job Invalid = codes "invalid" ∷ []
 answer_words job NoMatch = codes "no-match" ∷ []
 answer_words job (Busy f u) = codes "busy" ∷ function_word job f.0 ∷ user_word job u.0 ∷ []
 
--- the words of an item, below its place
+-- the words of an item, after its place
 abbrev pub item_words : Job → Item → List Word
 item_words job (Begin k) = codes "begin" ∷ decimal k ∷ []
 item_words job (Return k answer) = codes "return" ∷ decimal k ∷ answer_words job answer
@@ -93,12 +93,12 @@ joined (word ∷ next ∷ words) = word ++ (codes " " ++ joined (next ∷ words)
 unfoldable pub log_line : Job → ℕ → Item → List ℕ
 log_line job p item = joined (decimal p ∷ item_words job item) ++ codes "\n"
 
--- the lines of items, the first of which stands at this place
+-- the lines of items, the first of which has this place
 abbrev pub log_lines : Job → ℕ → List Item → List ℕ
 log_lines job p [] = []
 log_lines job p (item ∷ rest) = log_line job p item ++ log_lines job (suc p) rest
 
--- whether every actor is at its end
+-- the last line, which says whether every actor is at its end
 abbrev pub last_line : Bool → List ℕ
 last_line ended = if ended then codes "end\n" else codes "stopped\n"
 

@@ -1,12 +1,22 @@
-//! The top call: a script comes in as bytes, the machine steps, and the text of its history goes out.
+//! The top call: the command's *words* and a script's bytes come in, and a text and a *status* go
+//! out.
+//!
+//! The script is read to its end, its job is replayed, and the text of the replay's history is
+//! written; or the line is written that says where the script is refused, and why. That text or
+//! line is the *reply* to the script.
+//!
+//! Proved, for every source and sink: each status says what was read and written, and comes only
+//! for its reason; with status 0 the text is that of the replay of the script's job, whose history
+//! is legal, and whole if the text ends with `end`; and if nothing outside goes wrong, a script is
+//! answered with status 0 and any other text with status 3, unless memory is out. Only tested, in
+//! `ft_app_tests`: that memory is found if there is some.
 #![tactic(auto)]
 
+pub mod laws;
 mod log_text;
-mod status;
+mod reply;
+pub mod status;
 mod top;
 
 pub use ft_words::{Form, Order, WordsFault, read_words};
 pub use top::ft_main;
-
-#[cfg(test)]
-mod tests;

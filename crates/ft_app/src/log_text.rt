@@ -1,8 +1,8 @@
 //! The text of a history, form log: a line for each item, and a last line.
 
-ghost use Rattle.std.specs.Prelude.{◌≡◌, ◌++◌, IfOk, OnOk, Some, string_bytes, codes};
+ghost use Rattle.std.specs.Prelude.{◌≡◌, [], ◌∷◌, ◌++◌, IfOk, OnOk, Some, string_bytes, codes};
 ghost use Rattle.std.specs.Fmt.{decimal};
-ghost use Rattle.ft_app.specs.LogText.{function_word, user_word, pid_at, caller_word, context_word, reason_word, ran_words, answer_words, joined, item_words, log_line, last_line, log_text};
+ghost use Rattle.ft_app.specs.LogText.{function_word, user_word, pid_at, call_word, caller_word, context_word, reason_word, ran_words, answer_words, joined, item_words, log_line, last_line, log_text};
 
 use ft_base::{Answer, CallNo, Ctx, FuncNo, Item, NoMemory, Ran, Reason, TaskNo, UserNo};
 use ft_hist::History;
@@ -11,7 +11,7 @@ use std::alloc::{AllocError, Global};
 use std::fmt;
 use std::fmt::Write;
 
-/// The name of a function. Empty where the job doesn't have the number.
+/// The name of a function. Empty if the job doesn't have the number.
 fn function_name(job: &Job, function: FuncNo) -> &str
     ensures { result.now ≡ function_word job.now function.0 }
 {
@@ -23,7 +23,7 @@ fn function_name(job: &Job, function: FuncNo) -> &str
     }
 }
 
-/// The name of a user. Empty where the job doesn't have the number.
+/// The name of a user. Empty if the job doesn't have the number.
 fn user_name(job: &Job, user: UserNo) -> &str
     ensures { result.now ≡ user_word job.now user.0 }
 {
@@ -33,7 +33,7 @@ fn user_name(job: &Job, user: UserNo) -> &str
     }
 }
 
-/// The pid of a task. 0 where the job doesn't have the number.
+/// The pid of a task. 0 if the job doesn't have the number.
 fn pid_of(job: &Job, task: TaskNo) -> u32
     ensures { result ≡ pid_at job.now task.0 }
 {
@@ -136,7 +136,31 @@ fn push_answer(text: &mut String, job: &Job, answer: Answer) -> Result<(), Alloc
     }
 }
 
-/// Adds what an item says behind its place.
+/// Adds a word and a call.
+fn push_call(text: &mut String, job: &Job, word: &str, call: CallNo) -> Result<(), AllocError>
+    ensures { OnOk result (string_bytes text.new ≡ string_bytes text.old ++ joined (word.now ∷ call_word job.now call ∷ [])) }
+{
+    let name = call_name(job, call);
+    write!(text, "{word} {name}")
+}
+
+/// Adds a word, a call and a user.
+fn push_visit(
+    text: &mut String,
+    job: &Job,
+    word: &str,
+    call: CallNo,
+    user: UserNo,
+) -> Result<(), AllocError>
+    ensures { OnOk result (string_bytes text.new
+        ≡ string_bytes text.old ++ joined (word.now ∷ call_word job.now call ∷ user_word job.now user.0 ∷ [])) }
+{
+    let name = call_name(job, call);
+    let user = user_name(job, user);
+    write!(text, "{word} {name} {user}")
+}
+
+/// Adds what an item says after its place.
 fn push_item(text: &mut String, job: &Job, item: &Item) -> Result<(), AllocError>
     ensures { OnOk result (string_bytes text.new ≡ string_bytes text.old ++ joined (item_words job.now item.now)) }
 {
@@ -158,50 +182,29 @@ fn push_item(text: &mut String, job: &Job, item: &Item) -> Result<(), AllocError
             write!(text, "enter {name} {context} {function} ")?;
             push_caller(text, job, caller)
         }
-        Item::Back { call, user } => {
-            let name = call_name(job, call);
-            let user = user_name(job, user);
-            write!(text, "back {name} {user}")
-        }
-        Item::BackEnd { call, user } => {
-            let name = call_name(job, call);
-            let user = user_name(job, user);
-            write!(text, "back-end {name} {user}")
-        }
+        Item::Back { call, user } => push_visit(text, job, "back", call, user),
+        Item::BackEnd { call, user } => push_visit(text, job, "back-end", call, user),
         Item::Refuse { call, user, reason } => {
-            let name = call_name(job, call);
-            let user = user_name(job, user);
             let reason = reason_name(reason);
-            write!(text, "refuse {name} {user} {reason}")
+            push_visit(text, job, "refuse", call, user)?;
+            write!(text, " {reason}")
         }
-        Item::Miss { call, user } => {
-            let name = call_name(job, call);
-            let user = user_name(job, user);
-            write!(text, "miss {name} {user}")
-        }
+        Item::Miss { call, user } => push_visit(text, job, "miss", call, user),
         Item::Body { call, func, ran } => {
             let name = call_name(job, call);
             let function = function_name(job, func);
             write!(text, "body {name} {function} ")?;
             push_ran(text, job, ran)
         }
-        Item::Leave { call } => {
-            let name = call_name(job, call);
-            write!(text, "leave {name}")
-        }
+        Item::Leave { call } => push_call(text, job, "leave", call),
         Item::Exit { call, user, entry } => {
-            let name = call_name(job, call);
-            let user = user_name(job, user);
-            write!(text, "exit {name} {user} {entry}")
+            push_visit(text, job, "exit", call, user)?;
+            write!(text, " {entry}")
         }
-        Item::ExitEnd { call, user } => {
-            let name = call_name(job, call);
-            let user = user_name(job, user);
-            write!(text, "exit-end {name} {user}")
-        }
+        Item::ExitEnd { call, user } => push_visit(text, job, "exit-end", call, user),
         Item::Ret { call, to } => {
-            let name = call_name(job, call);
-            write!(text, "ret {name} ")?;
+            push_call(text, job, "ret", call)?;
+            text.push_str(" ")?;
             push_caller(text, job, to)
         }
     }
@@ -223,7 +226,7 @@ fn last_line(ended: bool) -> &'static str
     if ended { "end\n" } else { "stopped\n" }
 }
 
-/// The text, or the want of memory.
+/// The text, or the error of an allocation.
 fn write_log(alloc: Global, job: &Job, history: &History, ended: bool) -> Result<String, AllocError>
     ensures { IfOk result (λ text. string_bytes text ≡ log_text job.now history.now.items ended) }
 {
@@ -236,7 +239,7 @@ fn write_log(alloc: Global, job: &Job, history: &History, ended: bool) -> Result
 }
 
 /// The text of a history of the job: a line for each item in order, which begins with the item's
-/// place, and the last line `end` where every actor is at its end, else `stopped`.
+/// place, and the last line, `end` if every actor is at its end, else `stopped`.
 pub fn print_log(
     alloc: Global,
     job: &Job,
@@ -247,6 +250,3 @@ pub fn print_log(
 {
     write_log(alloc, job, history, ended).map_err(|_| NoMemory)
 }
-
-#[cfg(test)]
-mod tests;

@@ -1,37 +1,54 @@
 //! The program `ftcore`: the top call over standard input and output.
+//!
+//! Proved: with each status the program has read and written what the top call says of it, and
+//! nothing else. Only run: that the arguments are the words, and that the status is the exit status.
 #![tactic(auto)]
 
-use ft_io::{OpenGate, StdSink, StdSource};
+ghost use Rattle.std.specs.Prelude.{◌≡◌, ◌≢◌};
+ghost use Rattle.ft_app.specs.Status.{code_of};
+ghost use Rattle.ft_app.specs.Main.{HasRun, HasRefused, HasBegun};
+
+use ft_app::ft_main;
+use ft_app::status::Status;
+use ft_io::{OpenGate, Sink, Source, StdSink, StdSource};
 use std::env;
+use std::io::ErrorKind;
 use std::process::ExitCode;
-
-/// The status for arguments that can't be read as text.
-const LANGUAGE: u8 = 2;
-
-/// The status where no memory is found for the arguments.
-const NO_MEMORY: u8 = 6;
+use std::rt::Env;
 
 fn main(rt: HostRuntime) -> ExitCode {
-    ExitCode::from(run(&rt))
+    let mut source = StdSource::new(rt.stdin());
+    let mut sink = StdSink::new(rt.stdout());
+    ExitCode::from(run(&rt, &mut source, &mut sink))
 }
 
-/// Reads the arguments and calls the top call. Nothing goes to standard error.
-fn run(rt: &HostRuntime) -> u8 {
+/// Calls the top call with the arguments after the program's name. Nothing goes to standard error.
+fn run<R: Env + AllocGlobal, S: Source, K: Sink>(rt: &R, source: &mut S, sink: &mut K) -> u8
+    ensures run { result ≡ code_of Status.Done
+        → HasRun (S.remaining source.old) (S.remaining source.new) (K.holds sink.old) (K.holds sink.new) }
+    ensures refused { result ≡ code_of Status.Refused
+        → HasRefused (S.remaining source.old) (S.remaining source.new) (K.holds sink.old) (K.holds sink.new) }
+    ensures begun { result ≡ code_of Status.WriteFault
+        → HasBegun (S.remaining source.old) (S.remaining source.new) (K.holds sink.old) (K.holds sink.new) }
+    ensures nothing { result ≢ code_of Status.Done → result ≢ code_of Status.Refused
+        → result ≢ code_of Status.WriteFault → sink.new ≡ sink.old }
+{
     let alloc = rt.alloc();
-    let Ok(args) = env::args(rt) else {
-        return LANGUAGE;
+    let args = match env::args(rt) {
+        Ok(args) => args,
+        Err(error) if error.kind() == ErrorKind::OutOfMemory => return Status::NoMemory.code(),
+        // An argument that isn't UTF-8 is no word of the language.
+        Err(_) => return Status::Language.code(),
     };
     let Ok(owned) = args.skip(1).collect::<Vec<String>>(alloc) else {
-        return NO_MEMORY;
+        return Status::NoMemory.code();
     };
     let Ok(words) = owned
         .iter()
         .map(|word| word.as_str())
         .collect::<Vec<&str>>(alloc)
     else {
-        return NO_MEMORY;
+        return Status::NoMemory.code();
     };
-    let mut source = StdSource::new(rt.stdin());
-    let mut sink = StdSink::new(rt.stdout());
-    ft_app::ft_main(alloc, &words, &mut source, &mut sink, &OpenGate)
+    ft_main(alloc, &words, source, sink, &OpenGate)
 }

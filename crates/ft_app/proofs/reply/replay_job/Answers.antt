@@ -1,6 +1,6 @@
 use Rattle.std.proofs.lemmas.Result.{IfOk-weaker}
-use Rattle.ft_app.proofs.Replayed.{text-is}
-use Rattle.ft_app.proofs.top.replay_job.Goals as goal
+use Rattle.ft_app.proofs.Replies.{text-is}
+use Rattle.ft_app.proofs.reply.replay_job.Goals as goal
 
 pub returns-clause-text : goal.returns-clause-text
 returns-clause-text c =
