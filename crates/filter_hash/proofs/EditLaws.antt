@@ -1,11 +1,11 @@
 -- What an edit makes of a set.
 use Rattle.std.proofs.Common.{◌≡◌, ℕ, ◌&&◌, ◌||◌, not, Bool, true, false, cond, length, refl, ap, ◌∙◌, arith, if◌then◌else◌}
-use Rattle.site_set.proofs.MarksLemmas.{length-empty, holds-empty, is_empty-empty, IsEmpty-from_is_bare, is_empty-from_IsEmpty, length-union, holds-union, length-difference, holds-difference}
+use Rattle.site_set.proofs.MarksLemmas.{length-empty, holds-empty, is_empty-empty, IsEmpty-from_is_empty, is_empty-from_IsEmpty, length-union, holds-union, length-difference, holds-difference}
 use Rattle.ft_base.specs.Marks.{Marks, holds, is_empty, empty, union, difference}
 use Rattle.ft_base.specs.Job.{Edit}
 use Rattle.ft_base.specs.Desk.{edited}
 
--- where an edit starts: from the set as it is, or from the empty set
+-- the set that an edit starts from: the set as it is, or the empty set
 abbrev pub start : Bool → ℕ → Marks → Marks
 start append size old = if append then old else empty size
 
@@ -66,7 +66,7 @@ holds-edited size f old edit h k =
     by_parts false false = holds-union (start edit.append size old) edit.set (omega (arith, length-start edit.append size old h)) f
         ∙ ap (λ b. b || holds edit.set f) (holds-start edit.append size old f)
 
--- what was there is gone where it is taken away
+-- what was there is gone if it is taken out
 gone : (append was taken : Bool) → (was ≡ true → taken ≡ true) → ((append && was) && not taken) ≡ false
 gone false was taken h = refl
 gone true false taken h = refl
@@ -88,4 +88,4 @@ is_empty-removed size old edit removes all = rw removes (by_clear edit.clear)
 -- a removal from an empty set leaves it empty
 pub is_empty-still : (size : ℕ) (old : Marks) (edit : Edit) → edit.remove ≡ true → is_empty old ≡ true → is_empty (edited size old edit) ≡ true
 is_empty-still size old edit removes empty = is_empty-removed size old edit removes
-    (λ f held. let not_held : holds old f ≡ false = IsEmpty-from_is_bare old empty f in absurd cc)
+    (λ f held. let not_held : holds old f ≡ false = IsEmpty-from_is_empty old empty f in absurd cc)

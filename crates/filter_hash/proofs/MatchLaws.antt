@@ -15,7 +15,7 @@ pub holds-matched : (pair : Pair) (f : ℕ) → f < size_of pair → holds (matc
 unfolding matched
 holds-matched pair f h = get_or-map-range_with_len (matches_by pair.filter pair.notrace) 0 (size_of pair) f f false h (omega arith)
 
--- what the filter lets through, below the size
+-- a set of what the filter lets through, of the filter's size
 pub record IsLet (filter now : Marks) : Type 0 where
   pub size : length now ≡ length filter
   pub members : (f : ℕ) → f < length filter → holds now f ≡ (is_empty filter || holds filter f)
@@ -27,7 +27,7 @@ IsLet-all filter now n e empty is long = record {
   members = λ f h. ap (λ s. holds s f) is ∙ get_or-replicate n f true false (omega arith) ∙ sym (ap (λ b. b || holds filter f) empty);
 }
 
--- any other lets through what it holds
+-- any other filter lets through what it holds
 pub IsLet-held : (filter now : Marks) (n : ℕ) → n ≡ length filter → is_empty filter ≡ false → now ≡ union (empty n) filter → length now ≡ n → IsLet filter now
 IsLet-held filter now n e some is long = record {
   size = long ∙ e;

@@ -4,11 +4,9 @@ use Rattle.std.specs.List.{range_with_len}
 use Rattle.ft_base.specs.declared.user.Half.{Half}
 use Rattle.ft_base.specs.declared.user.Half.TheVariants.{Filter, Notrace}
 use Rattle.ft_base.specs.Marks.{Marks, empty}
-use Rattle.ft_base.specs.Job.{Edit}
 use Rattle.ft_base.specs.Desk.{matches_by}
-use Rattle.site_set.specs.declared.edits.Edit.{Edit as SetEdit}
 
--- the functions that the filter holds, and those that are kept out; both sets have one size
+-- the functions that the filter holds, and those that the notrace set keeps out; both sets have one size
 pub record Pair : Type 0 where
   pub filter : Marks
   pub notrace : Marks
@@ -31,10 +29,6 @@ abbrev pub with_set : Pair → Half → Marks → Pair
 with_set pair Filter set = record pair { filter = set }
 with_set pair Notrace set = record pair { notrace = set }
 
--- the edit as the plain job has it
-abbrev pub plain : SetEdit → Edit
-plain edit = record { append = edit.append; remove = edit.remove; clear = edit.clear; set = edit.set }
-
--- the matched functions
+-- the set of the matched functions
 unfoldable pub matched : Pair → Marks
 matched pair = map (matches_by pair.filter pair.notrace) (range_with_len 0 (size_of pair))

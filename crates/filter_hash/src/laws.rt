@@ -1,13 +1,14 @@
-//! Laws of filters, for readers of the definitions and for the layers above.
+//! Laws of filters, for readers of the definitions and for the crates above. Each is a function with
+//! an empty body, whose clause says it.
 
 ghost use Rattle.std.specs.Prelude.{◌≡◌, ℕ, ◌&&◌, ◌||◌, not, true, false, length, if◌then◌else◌};
 ghost use Rattle.ft_base.specs.Marks.{Marks, holds, is_empty};
 ghost use Rattle.ft_base.specs.Job.{Edit};
 ghost use Rattle.ft_base.specs.Desk.{edited, matches_by};
 
-/// What an edit makes of each function: one that clears takes it out, one with `!` takes it out
-/// where it is selected, and any other puts it in where it is selected. An edit that doesn't
-/// append begins with the function taken out.
+/// What an edit makes of each function. An edit that clears takes the function out; one with `!`
+/// takes it out if it is selected; any other puts it in if it is selected. An edit that doesn't
+/// append begins with the empty set.
 pub fn edit_of_each_function()
     ensures { (size f : ℕ) (old : Marks) (edit : Edit) → length old ≡ size → length edit.set ≡ size
         → holds (edited size old edit) f

@@ -1,8 +1,14 @@
 //! A user's two sets of functions, how an edit changes them, and which functions they match.
 //!
-//! A user has a filter and a notrace set (`ftrace.rst`, `set_ftrace_filter` and
-//! `set_ftrace_notrace`). An empty filter means all functions. A function is matched where the
-//! filter is empty or holds it, and the notrace set doesn't hold it.
+//! A user has a *filter* and a *notrace* set (`ftrace.rst`, `set_ftrace_filter` and
+//! `set_ftrace_notrace`); each is a *half* of its `HashPair`. An empty filter means all functions. A
+//! function is *matched* if the filter is empty or holds it, and the notrace set doesn't hold it.
+//!
+//! Promised: an edit makes of one half what the definition of the desk says, and leaves the other;
+//! a function is matched exactly if that definition says so. `laws` says what the definition of an
+//! edit makes of each function. Only tested: that memory is found.
+//!
+//! No caller yet: the whole crate.
 #![tactic(auto)]
 
 pub mod laws;

@@ -5,7 +5,8 @@ ghost use Rattle.std.specs.Int.{bit_at};
 ghost use Rattle.ft_base.specs.Marks.{holds, is_empty};
 ghost use Rattle.ft_base.specs.Desk.{edited, matches_by};
 ghost use Rattle.site_set.specs.Marks.{word_of};
-ghost use Rattle.filter_hash.specs.Pair.{size_of, empty_pair, set_of, with_set, plain, matched};
+ghost use Rattle.site_set.specs.Edits.{plain_edit};
+ghost use Rattle.filter_hash.specs.Pair.{size_of, empty_pair, set_of, with_set, matched};
 
 use ft_base::{Half, NoMemory};
 use site_set::{Edit, SiteSet};
@@ -32,7 +33,7 @@ impl Model for HashPair {
 }
 
 impl HashPair {
-    /// Two empty sets of functions below `size`. The error says that no memory was found.
+    /// Two empty sets of functions below `size`. The error says that memory ran out.
     pub fn new(alloc: Global, size: u32) -> Result<HashPair, NoMemory>
         ensures pair { IfOk result (λ pair. pair ≡ empty_pair size) }
         ensures size { IfOk result (λ pair. size_of pair ≡ size) }
@@ -42,7 +43,7 @@ impl HashPair {
         Ok(HashPair { filter, notrace })
     }
 
-    /// An equal pair. The error says that no memory was found.
+    /// An equal pair. The error says that memory ran out.
     pub fn copy(&self) -> Result<HashPair, NoMemory>
         ensures { IfOk result (λ pair. pair ≡ self.now) }
     {
@@ -69,14 +70,14 @@ impl HashPair {
         }
     }
 
-    /// Carries out an edit on one of the two sets; the other stays. An edit that appends (`>>`)
-    /// starts from the set as it is, and any other (`>`) from the empty set. The selected
-    /// functions are added to that or, with `!`, taken away from it. An edit that clears leaves
-    /// the empty set (`ftrace.rst`, Filter commands).
+    /// Carries out an edit on one of the two sets; the other stays as it was. An edit that appends
+    /// (`>>`) starts from the set as it is, and any other (`>`) from the empty set. The selected
+    /// functions are added to it or, with `!`, taken out of it. An edit that clears leaves the empty
+    /// set (`ftrace.rst`, "Filter commands").
     pub fn edit(&mut self, half: Half, edit: &Edit)
         requires { length edit.now.set ≡ size_of self.old }
         ensures pair { self.new
-            ≡ with_set self.old half (edited (size_of self.old) (set_of self.old half) (plain edit.now)) }
+            ≡ with_set self.old half (edited (size_of self.old) (set_of self.old half) (plain_edit edit.now)) }
         ensures size { size_of self.new ≡ size_of self.old }
     {
         match half {
@@ -93,7 +94,7 @@ impl HashPair {
         (self.is_open() || self.filter.contains(f)) && !self.notrace.contains(f)
     }
 
-    /// Makes `out` the set of all matched functions, whatever it was.
+    /// Makes `out` the set of all matched functions, whatever it was before.
     pub fn matched_into(&self, out: &mut SiteSet)
         requires { length out.old ≡ size_of self.now }
         ensures set { out.new ≡ matched self.now }
@@ -111,8 +112,7 @@ impl HashPair {
     }
 
     /// The functions from `64 * w` to `64 * w + 63` of one of the two sets as bits, the lowest in
-    /// bit 0, which is 1 where the set holds the function. A function from the size on has the
-    /// bit 0.
+    /// bit 0. A bit is 1 if the set holds the function. A number from the size on has the bit 0.
     pub fn word(&self, half: Half, w: u32) -> u64
         requires { 64 * w < size_of self.now }
         ensures value { result ≡ word_of (set_of self.now half) w }
@@ -136,7 +136,7 @@ impl HashPair {
 /// Carries out an edit on one set.
 fn edit_set(set: &mut SiteSet, edit: &Edit)
     requires { length edit.now.set ≡ length set.old }
-    ensures edited { set.new ≡ edited (length set.old) set.old (plain edit.now) }
+    ensures edited { set.new ≡ edited (length set.old) set.old (plain_edit edit.now) }
     ensures size { length set.new ≡ length set.old }
 {
     if edit.clear {

@@ -1,4 +1,4 @@
-//! A table of edits, and the matched functions at the border of a word.
+//! A table of edits, and the matched functions at the borders of words.
 
 use crate::{Half, HashPair};
 use site_set::{Edit, SiteSet};

@@ -9,7 +9,7 @@ use Rattle.site_set.specs.Packed.{has_bit, marks_of, IsPacked}
 use Rattle.ft_base.specs.Marks.{Marks}
 use Rattle.site_set.proofs.PackedLemmas.{length-marks_of, holds-marks_of, has_bit_past}
 
--- so many words with every bit set
+-- n words with every bit set
 abbrev pub ones : ℕ → List ℕ
 ones n = replicate n (2 ^ 64 - 1)
 
@@ -17,14 +17,14 @@ has_bit-ones : (n f : ℕ) → f / 64 < n → has_bit (ones n) f ≡ true
 has_bit-ones n f h = ap (λ y. bit_at y (f % 64) == 1) (get_or-replicate n (f / 64) (2 ^ 64 - 1) 0 h) ∙ ap (λ b. b == 1) (bit_at_ones 64 (f % 64) (omega arith))
 
 module _ (size n : ℕ) (count : n ≡ (size + 63) / 64) where
-  -- where the last word is whole
+  -- if the last word is whole
   pub has_bit-whole : size % 64 ≡ 0 → (f : ℕ) → has_bit (ones n) f ≡ nat_lt f size
   has_bit-whole whole f = elim (cases_lt (f / 64) n) [
     | inl h ↦ has_bit-ones n f h ∙ sym (lt-ltb f size (omega arith))
     | inr h ↦ has_bit_past (ones n) f (omega (arith, length-replicate {A = ℕ} n (2 ^ 64 - 1))) ∙ sym (le-ltb f size (omega arith))
   ]
 
-  -- where the last word has bits from the size on, which are cleared
+  -- if the last word has bits from the size on, which are cleared
   module _ (part : 0 < size % 64) where
     abbrev pub last : ℕ
     last = (2 ^ 64 - 1) / 2 ^ (64 - size % 64)

@@ -11,7 +11,7 @@ use Rattle.std.proofs.lemmas.Nat.Bits.{bit_at_lowest, bit_at-suc, bit_at-zero}
 use Rattle.std.proofs.lemmas.Simd.{ones-mask_l}
 use lib.Lanes.{mask_l}
 use Rattle.ft_base.specs.Marks.{Marks, holds, empty, is_empty, union, difference}
-use Rattle.site_set.specs.Marks.{least_common, number_of, word_of, IsEmpty, AreDisjoint, IsLeastCommon}
+use Rattle.site_set.specs.Marks.{least_common, number_with_bits, word_of, IsEmpty, AreDisjoint, IsLeastCommon}
 
 -- ---- tests
 
@@ -23,14 +23,14 @@ pub and_second : (a b : Bool) → (a && b) ≡ true → b ≡ true
 and_second true b e = e
 and_second false b e = absurd cc
 
--- ---- the empty set, `bare n`
+-- ---- the empty set
 
 -- it has the size
 pub length-empty : (n : ℕ) → length (empty n) ≡ n
 length-empty zero = refl
 length-empty (suc n) = ap suc (length-empty n)
 
--- it is std's list of one mark, so many times
+-- it is std's list of n marks
 pub empty-replicate : (n : ℕ) → empty n ≡ replicate n false
 empty-replicate zero = refl
 empty-replicate (suc n) = ap (λ (s : Marks). false ∷ s) (empty-replicate n)
@@ -45,12 +45,12 @@ pub is_empty-empty : (n : ℕ) → is_empty (empty n) ≡ true
 is_empty-empty zero = refl
 is_empty-empty (suc n) = is_empty-empty n
 
--- a set is bare exactly where no number is a member
-pub IsEmpty-from_is_bare : (s : Marks) → is_empty s ≡ true → IsEmpty s
-IsEmpty-from_is_bare [] e f = refl
-IsEmpty-from_is_bare (true ∷ s) e f = absurd cc
-IsEmpty-from_is_bare (false ∷ s) e zero = refl
-IsEmpty-from_is_bare (false ∷ s) e (suc f) = IsEmpty-from_is_bare s e f
+-- a set passes the test exactly if no number is a member
+pub IsEmpty-from_is_empty : (s : Marks) → is_empty s ≡ true → IsEmpty s
+IsEmpty-from_is_empty [] e f = refl
+IsEmpty-from_is_empty (true ∷ s) e f = absurd cc
+IsEmpty-from_is_empty (false ∷ s) e zero = refl
+IsEmpty-from_is_empty (false ∷ s) e (suc f) = IsEmpty-from_is_empty s e f
 
 pub is_empty-from_IsEmpty : (s : Marks) → IsEmpty s → is_empty s ≡ true
 is_empty-from_IsEmpty [] h = refl
@@ -59,11 +59,11 @@ is_empty-from_IsEmpty (false ∷ s) h = is_empty-from_IsEmpty s (λ f. h (suc f)
 
 -- ---- a member more or less
 
--- f is a member where its mark says so
+-- f is a member if its mark says so
 pub holds-set_same : (s : Marks) (f : ℕ) (b : Bool) → f < length s → holds (set s f b) f ≡ b
 holds-set_same s f b h = get_or-set_same s f b false h
 
--- every other number stays as it was
+-- every other number is as it was
 pub holds-set_other : (s : Marks) (f g : ℕ) (b : Bool) → g ≢ f → holds (set s f b) g ≡ holds s g
 holds-set_other s f g b h = get_or-set_other s f g b false h
 
@@ -75,7 +75,7 @@ length-union [] t = refl
 length-union (x ∷ s) [] = refl
 length-union (x ∷ s) (y ∷ t) = ap suc (length-union s t)
 
--- a number is in a union where it is in either set
+-- a number is in a union if it is in either set
 pub holds-union : (s t : Marks) → length t ≤ length s → (f : ℕ) → holds (union s t) f ≡ (holds s f || holds t f)
 holds-union [] [] h f = refl
 holds-union [] (y ∷ t) h f = absurd (omega arith)
@@ -89,14 +89,14 @@ length-difference [] t = refl
 length-difference (x ∷ s) [] = refl
 length-difference (x ∷ s) (y ∷ t) = ap suc (length-difference s t)
 
--- a number is in a difference where it is in the first set alone
+-- a number is in a difference if it is in the first set alone
 pub holds-difference : (s t : Marks) (f : ℕ) → holds (difference s t) f ≡ (holds s f && not (holds t f))
 holds-difference [] t f = refl
 holds-difference (x ∷ s) [] f = sym (and-true (holds (x ∷ s) f))
 holds-difference (x ∷ s) (y ∷ t) zero = refl
 holds-difference (x ∷ s) (y ∷ t) (suc f) = holds-difference s t f
 
--- the members of a set, and none beside them
+-- a union with the empty set is the other set
 pub union-empty : (t : Marks) → union (empty (length t)) t ≡ t
 union-empty [] = refl
 union-empty (y ∷ t) = ap (λ (s : Marks). y ∷ s) (union-empty t)
@@ -120,7 +120,7 @@ both_at s t e f = elim (cases_lt f (length s)) [
       ∙ sym (ap₂ (λ a b. a && b) (get_or_past s f false h) (get_or_past t f false (omega arith)))
 ]
 
--- there is no least number where no number is in both
+-- there is no least number if no number is in both
 pub least_common-from_AreDisjoint : (s t : Marks) → length s ≡ length t → AreDisjoint s t → least_common s t ≡ None
 least_common-from_AreDisjoint s t e apart =
     let pairs = zip s t in
@@ -128,7 +128,7 @@ least_common-from_AreDisjoint s t e apart =
     position_or_len_is both pairs (length pairs) (false, false) (omega arith) (λ k h. both_at s t e k ∙ apart k) (λ h. absurd (omega arith)) in
     ap (λ i. cond (nat_lt i (length pairs)) (Some i) None) all ∙ ap (λ b. cond b (Some (length pairs)) None) (le-ltb _ _ (omega arith))
 
--- and where a number is the least in both, it is that
+-- and if a number is the least in both, it is that
 pub least_common-from_IsLeastCommon : (s t : Marks) → length s ≡ length t → (f : ℕ) → IsLeastCommon s t f → least_common s t ≡ Some f
 least_common-from_IsLeastCommon s t e f l =
     let pairs = zip s t in
@@ -152,10 +152,10 @@ low true n = omega arith
 low false n = omega arith
 
 -- a bit of the number is the mark at its place
-pub bit_at-number_of : (bs : Marks) (i : ℕ) → bit_at (number_of bs) i ≡ (if holds bs i then 1 else 0)
-bit_at-number_of [] i = bit_at-zero i
-bit_at-number_of (b ∷ bs) zero = bit_at_lowest (number_of (b ∷ bs)) ∙ low b (number_of bs)
-bit_at-number_of (b ∷ bs) (suc i) = bit_at-suc (number_of (b ∷ bs)) i ∙ ap (λ n. bit_at n i) (half b (number_of bs)) ∙ bit_at-number_of bs i
+pub bit_at-number_with_bits : (bs : Marks) (i : ℕ) → bit_at (number_with_bits bs) i ≡ (if holds bs i then 1 else 0)
+bit_at-number_with_bits [] i = bit_at-zero i
+bit_at-number_with_bits (b ∷ bs) zero = bit_at_lowest (number_with_bits (b ∷ bs)) ∙ low b (number_with_bits bs)
+bit_at-number_with_bits (b ∷ bs) (suc i) = bit_at-suc (number_with_bits (b ∷ bs)) i ∙ ap (λ n. bit_at n i) (half b (number_with_bits bs)) ∙ bit_at-number_with_bits bs i
 
 is_one : (b : Bool) → ((if b then 1 else 0) == 1) ≡ b
 is_one true = refl
@@ -163,20 +163,20 @@ is_one false = refl
 
 -- a bit of a set's word is a mark of the set
 pub bit_at-word_of : (s : Marks) (w i : ℕ) → i < 64 → (bit_at (word_of s w) i == 1) ≡ holds s (64 * w + i)
-bit_at-word_of s w i h = ap (λ n. n == 1) (bit_at-number_of (take 64 (drop (64 * w) s)) i) ∙ is_one _
+bit_at-word_of s w i h = ap (λ n. n == 1) (bit_at-number_with_bits (take 64 (drop (64 * w) s)) i) ∙ is_one _
     ∙ get_or-take 64 (drop (64 * w) s) i false h ∙ get_or-drop (64 * w) s i false
 
 -- no bit of a word is above 63
 pub bit_at-word_of_above : (s : Marks) (w i : ℕ) → 64 ≤ i → bit_at (word_of s w) i ≡ 0
-bit_at-word_of_above s w i h = bit_at-number_of (take 64 (drop (64 * w) s)) i
+bit_at-word_of_above s w i h = bit_at-number_with_bits (take 64 (drop (64 * w) s)) i
     ∙ ap (λ b. if b then 1 else 0) (get_or_past (take 64 (drop (64 * w) s)) i false (omega (arith, length-take 64 (drop (64 * w) s))))
 
 -- ---- how many
 
-ones_of_number : (bs : Marks) → count_ones (number_of bs) ≡ count_by (λ b. b) bs
+ones_of_number : (bs : Marks) → count_ones (number_with_bits bs) ≡ count_by (λ b. b) bs
 ones_of_number bs = ap (λ xs. count_ones (mask_l xs)) (sym (map-id bs)) ∙ ones-mask_l (λ (b : Bool). b) bs
 
--- the set bits of a set's word are the members that it stands for
+-- a set's word has as many set bits as the set has members from 64 w to 64 w + 63
 pub ones-word_of : (s : Marks) (w : ℕ) → count_ones (word_of s w) ≡ count_by (λ b. b) (take 64 (drop (64 * w) s))
 ones-word_of s w = ones_of_number (take 64 (drop (64 * w) s))
 

@@ -111,7 +111,7 @@ module _ (op : ℕ → ℕ → ℕ) (test : Bool → Bool → Bool) (join : Mark
     pub packed : IsPacked size words
     pub marks : marks_of size words ≡ join s t
 
-  -- the vector v of the first set, written through the slice xs, where ys is the slice of the second
+  -- the vector v of the first set, written through the slice xs, with ys as the slice of the second
   pub IsMerged-from_slices : {Z : Type 0} (v : Vec ℕ Z) (n m : ℕ) (vs xs ys new : List ℕ) (s t : Marks) → IsPacked n v.items → IsPacked m vs
       → marks_of n v.items ≡ s → marks_of m vs ≡ t → length s ≡ length t → xs ≡ v.items → ys ≡ vs
       → ((k : ℕ) → get_or ys k 0 < 2 ^ 64) → new ≡ merged xs ys → IsMerged n s t (with_items v new).items
@@ -153,7 +153,7 @@ module _ (size : ℕ) (ws vs : List ℕ) (p : IsPacked size ws) (q : IsPacked si
   abbrev common : ℕ → ℕ
   common w = bit_and (get_or ws w 0) (get_or vs w 0)
 
-  -- a number is in both where its bit is in both words
+  -- a number is in both if its bit is in both words
   both_at : (f : ℕ) → (holds (marks_of size ws) f && holds (marks_of size vs) f) ≡ (bit_at (common (f / 64)) (f % 64) == 1)
   both_at f = ap₂ (λ a b. a && b) (holds-marks_of_any size ws f p) (holds-marks_of_any size vs f q)
       ∙ sym (tests_and _ _ (bit_at-lt (get_or ws (f / 64) 0) (f % 64)) (bit_at-lt (get_or vs (f / 64) 0) (f % 64)))
@@ -186,7 +186,7 @@ module _ (size : ℕ) (ws vs : List ℕ) (p : IsPacked size ws) (q : IsPacked si
         ];
       }
 
--- ---- at the slice xs of the words of a set s, beside the words vs of a set t
+-- ---- at the slice xs of the words of a set s, and the words vs of a set t
 
 module _ (n m : ℕ) (ws vs xs : List ℕ) (s t : Marks) (p : IsPacked n ws) (q : IsPacked m vs) (e : marks_of n ws ≡ s) (f : marks_of m vs ≡ t)
     (h : length s ≡ length t) (is : xs ≡ ws) where

@@ -11,7 +11,7 @@ use Rattle.site_set.specs.Packed.{marks_of, IsPacked}
 use Rattle.ft_base.specs.Marks.{Marks, holds, is_empty}
 use Rattle.site_set.specs.Marks.{word_of, IsEmpty}
 use Rattle.site_set.proofs.PackedLemmas.{length-marks_of, holds-marks_of_any}
-use Rattle.site_set.proofs.MarksLemmas.{and_first, and_second, bit_at-word_of, bit_at-word_of_above, ones-word_of, IsEmpty-from_is_bare, is_empty-from_IsEmpty}
+use Rattle.site_set.proofs.MarksLemmas.{and_first, and_second, bit_at-word_of, bit_at-word_of_above, ones-word_of, IsEmpty-from_is_empty, is_empty-from_IsEmpty}
 
 -- a bit is known from its test
 same_bit : (a b : ℕ) → a < 2 → b < 2 → (a == 1) ≡ (b == 1) → a ≡ b
@@ -53,7 +53,7 @@ module _ (size : ℕ) (ws : List ℕ) (p : IsPacked size ws) where
   pub count_all : (w : ℕ) → length ws ≤ w → count_by (λ b. b) (take (64 * w) (marks_of size ws)) ≡ count_by (λ b. b) (marks_of size ws)
   count_all w h = ap (count_by (λ b. b)) (take_all (64 * w) (marks_of size ws) (omega (arith, length-marks_of size ws, p.count)))
 
-  -- no member where each word is 0
+  -- no member if each word is 0
   IsEmpty-zero : list_all (λ word. word == 0) ws ≡ true → IsEmpty (marks_of size ws)
   IsEmpty-zero e f = holds-marks_of_any size ws f p ∙ ap (λ y. bit_at y (f % 64) == 1) (zero_at ws e (f / 64)) ∙ ap (λ b. b == 1) (bit_at-zero (f % 64))
     where
@@ -73,7 +73,7 @@ module _ (size : ℕ) (ws : List ℕ) (p : IsPacked size ws) where
       all_zero (x ∷ xs) z = ap₂ (λ a b. a && b) (eq-eqb x 0 (z zero)) (all_zero xs (λ k. z (suc k)))
 
   pub is_empty-zero : ((k : ℕ) → get_or ws k 0 < 2 ^ 64) → is_empty (marks_of size ws) ≡ list_all (λ word. word == 0) ws
-  is_empty-zero fits = same_test _ _ (λ e. zero-IsEmpty fits (IsEmpty-from_is_bare _ e)) (λ e. is_empty-from_IsEmpty _ (IsEmpty-zero e))
+  is_empty-zero fits = same_test _ _ (λ e. zero-IsEmpty fits (IsEmpty-from_is_empty _ e)) (λ e. is_empty-from_IsEmpty _ (IsEmpty-zero e))
     where
       same_test : (a b : Bool) → (a ≡ true → b ≡ true) → (b ≡ true → a ≡ true) → a ≡ b
       same_test true b f g = sym (f refl)

@@ -1,20 +1,20 @@
--- What sets of numbers have in common, and their words.
+-- What two sets of numbers have in common, and the words of a set.
 use Rattle.std.specs.Prelude.{◌≡◌, ℕ, ◌+◌, ◌*◌, ◌<◌, ◌&&◌, true, false, [], ◌∷◌, Option, position, take, drop, if◌then◌else◌}
 use Rattle.std.specs.List.{zip}
 use Rattle.ft_base.specs.Marks.{Marks, holds}
 
--- the least number that is in both sets
+-- the least number that is in both sets, if there is one
 abbrev pub least_common : Marks → Marks → Option ℕ
 least_common s t = position (λ p. p.0 && p.1) (zip s t)
 
 -- the number whose bits are the marks, the first in bit 0
-abbrev pub number_of : Marks → ℕ
-number_of [] = 0
-number_of (b ∷ bs) = (if b then 1 else 0) + 2 * number_of bs
+abbrev pub number_with_bits : Marks → ℕ
+number_with_bits [] = 0
+number_with_bits (b ∷ bs) = (if b then 1 else 0) + 2 * number_with_bits bs
 
 -- the marks from 64 w to 64 w + 63 as one number, the lowest in bit 0
 abbrev pub word_of : Marks → ℕ → ℕ
-word_of s w = number_of (take 64 (drop (64 * w) s))
+word_of s w = number_with_bits (take 64 (drop (64 * w) s))
 
 -- no number is a member
 abbrev pub IsEmpty : Marks → Type 0

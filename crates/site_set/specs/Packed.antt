@@ -1,14 +1,15 @@
--- How words of 64 bits keep the marks.
+-- How words of 64 bits keep marks.
 use Rattle.std.specs.Prelude.{◌≡◌, ℕ, ◌+◌, ◌/◌, ◌%◌, ◌==◌, ◌≤◌, ◌<◌, ◌^◌, Bool, false, List, map, length, slice_index}
 use Rattle.std.specs.List.{range_with_len}
 use Rattle.std.specs.Int.{bit_at}
+use Rattle.ft_base.specs.Marks.{Marks}
 
 -- whether the bit f of the words is set
 abbrev pub has_bit : List ℕ → ℕ → Bool
 has_bit words f = bit_at (slice_index words (f / 64)) (f % 64) == 1
 
--- the bits below the size
-abbrev pub marks_of : ℕ → List ℕ → List Bool
+-- the bits below the size, as marks
+abbrev pub marks_of : ℕ → List ℕ → Marks
 marks_of size words = map (has_bit words) (range_with_len 0 size)
 
 -- z is the lowest bit of n that is set

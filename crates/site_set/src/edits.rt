@@ -2,13 +2,13 @@
 
 use crate::sets::SiteSet;
 
-/// A change of a filter: which functions a text selects, and what becomes of them (ftrace.rst,
-/// dynamic ftrace and Filter commands).
+/// A change of a filter: which functions a text selects, and whether they are added or taken out
+/// (`ftrace.rst`, "dynamic ftrace" and "Filter commands").
 #[derive(Debug, Drop)]
 pub struct Edit {
     /// The edit starts from the filter as it is (`>>`), and not from the empty set (`>`).
     pub append: bool,
-    /// The functions of `set` are taken away (a leading `!`), and not added.
+    /// The functions of `set` are taken out (a leading `!`), and not added.
     pub remove: bool,
     /// The edit leaves the empty set: `>` and no text.
     pub clear: bool,

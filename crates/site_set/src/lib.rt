@@ -1,7 +1,13 @@
-//! Sets of numbers below a size, kept in words of 64 bits, and the edit of such a set.
+//! Sets of numbers below a size, and the edit of such a set. A set is the functions that a filter
+//! selects, by number; contracts see it as *marks*, a list that says of each number below the size
+//! whether it is a *member*. It is kept in words of 64 bits, and sets are joined, subtracted, emptied,
+//! filled and counted a word at a time.
 //!
-//! A set stands for the functions that a filter selects, by number. Two sets are joined, told
-//! apart, emptied and counted a whole word at a time.
+//! Promised: each call is its operation on the marks, as an equation. `SiteSet::empty` and
+//! `SiteSet::copy` alone take memory; that it is found is only tested.
+//!
+//! No caller yet: `first_common` and `count`. The other calls but `empty` and `add` are made by
+//! `filter_hash`, which has no caller itself.
 #![tactic(auto)]
 
 mod edits;

@@ -9,8 +9,8 @@ use crate::words::{and_not_words, are_zero, fill_words, lowest_common_bit, or_wo
 use std::alloc::{AllocError, Global};
 use std::marker::Model;
 
-/// A set of numbers below a size, which is fixed when the set is made. Contracts see the list of
-/// marks, one for each number below the size.
+/// A set of numbers below a size, which is fixed when the set is made. Contracts see its marks, one
+/// for each number below the size.
 #[derive(Debug, Drop)]
 pub struct SiteSet {
     words: Vec<u64>,
@@ -18,10 +18,10 @@ pub struct SiteSet {
 }
 
 impl Model for SiteSet {
-    ghost use Rattle.std.specs.Prelude.{List, Bool};
+    ghost use Rattle.ft_base.specs.Marks.{Marks};
     ghost use Rattle.site_set.specs.Packed.{IsPacked, marks_of};
 
-    ghost Value = { List Bool };
+    ghost Value = { Marks };
 
     ghost view = { λ s. marks_of s.size s.words.items };
 
@@ -29,7 +29,7 @@ impl Model for SiteSet {
 }
 
 impl SiteSet {
-    /// The empty set of numbers below `size`. The error says that no memory was found.
+    /// The empty set of numbers below `size`. The error says that memory ran out.
     pub fn empty(alloc: Global, size: u32) -> Result<SiteSet, AllocError>
         ensures members { IfOk result (λ set. set ≡ empty size) }
         ensures size { IfOk result (λ set. length set ≡ size) }
@@ -38,7 +38,7 @@ impl SiteSet {
         Ok(SiteSet { words, size })
     }
 
-    /// An equal set. The error says that no memory was found.
+    /// An equal set. The error says that memory ran out.
     pub fn copy(&self) -> Result<SiteSet, AllocError>
         ensures { IfOk result (λ set. set ≡ self.now) }
     {
@@ -116,7 +116,7 @@ impl SiteSet {
         and_not_words(self.words.as_mut_slice(), other.words.as_slice());
     }
 
-    /// The lowest number that is a member of both sets. None says that no number is.
+    /// The lowest number that is a member of both sets. `None` exactly if no number is.
     pub fn first_common(&self, other: &SiteSet) -> Option<u32>
         requires { length self.now ≡ length other.now }
         ensures value { result ≡ least_common self.now other.now }

@@ -1,6 +1,6 @@
-//! Each call once with memory enough, and the calls at the borders of words.
+//! Each call once, with enough memory, and the calls at the borders of words.
 
-use crate::{Edit, SiteSet};
+use crate::SiteSet;
 use std::test::Fail;
 
 #[test]
@@ -84,20 +84,5 @@ fn meets_at_the_last_number(rt: HostRuntime) -> Result<(), Fail> {
         first.subtract(&top);
         assert_eq!(rt; first.contains(last), false, "at {size}");
     }
-    Ok(())
-}
-
-#[test]
-fn names_the_parts_of_an_edit(rt: HostRuntime) -> Result<(), Fail> {
-    let mut set = SiteSet::empty(rt.alloc(), 3)?;
-    set.add(2);
-    let edit = Edit {
-        append: true,
-        remove: false,
-        clear: false,
-        set,
-    };
-    assert!(rt; edit.append && !edit.remove && !edit.clear);
-    assert_eq!(rt; edit.set.count(), 1);
     Ok(())
 }

@@ -4,7 +4,7 @@ ghost use Rattle.std.specs.Prelude.{◌≡◌, ℕ, slice_index, ◌+◌, ◌-�
 ghost use Rattle.std.specs.List.{zip, list_all};
 ghost use Rattle.site_set.specs.Packed.{IsLowestBit, has_bit};
 
-/// Sets in each word the bits of the other's.
+/// Sets in each word the bits that are set in the other word at its place.
 pub(crate) fn or_words(words: &mut [u64], others: &[u64])
     requires { length words.old ≡ length others.now }
     ensures fits { (k : ℕ) → slice_index others.now k < 2 ^ 64 }
@@ -15,7 +15,7 @@ pub(crate) fn or_words(words: &mut [u64], others: &[u64])
     }
 }
 
-/// Clears in each word the bits of the other's.
+/// Clears in each word the bits that are set in the other word at its place.
 pub(crate) fn and_not_words(words: &mut [u64], others: &[u64])
     requires { length words.old ≡ length others.now }
     ensures fits { (k : ℕ) → slice_index others.now k < 2 ^ 64 }

@@ -1,5 +1,5 @@
 use Rattle.std.proofs.Common.{◌≡◌, length}
-use Rattle.filter_hash.specs.Pair.{plain}
+use Rattle.site_set.specs.Edits.{plain_edit}
 use Rattle.filter_hash.proofs.EditLaws.{start, start-as_it_is, start-anew, edited-removes, edited-adds}
 use Rattle.filter_hash.proofs.pair.edit_set.Goals as goal
 use Rattle.filter_hash.proofs.pair.edit_set.Goals.{then-not-edit, else-not-edit}
@@ -10,7 +10,7 @@ returns-then-edit-2-clause-edited c =
       | then-not-edit w ↦ start-anew _ _ _ c.args.edit.now.append (cc) (cc)
       | else-not-edit w ↦ start-as_it_is _ _ _ c.args.edit.now.append (cc) (cc)
     ] in
-    edited-removes _ _ _ _ (plain c.args.edit.now) (cc) (cc) from c.subtract.ensures.members
+    edited-removes _ _ _ _ (plain_edit c.args.edit.now) (cc) (cc) from c.subtract.ensures.members
 
 pub returns-else-edit-2-clause-edited : goal.returns-else-edit-2-clause-edited
 returns-else-edit-2-clause-edited c =
@@ -18,4 +18,4 @@ returns-else-edit-2-clause-edited c =
       | then-not-edit w ↦ start-anew _ _ _ c.args.edit.now.append (cc) (cc)
       | else-not-edit w ↦ start-as_it_is _ _ _ c.args.edit.now.append (cc) (cc)
     ] in
-    edited-adds _ _ _ _ (plain c.args.edit.now) (cc) (cc) from c.unite.ensures.members
+    edited-adds _ _ _ _ (plain_edit c.args.edit.now) (cc) (cc) from c.unite.ensures.members

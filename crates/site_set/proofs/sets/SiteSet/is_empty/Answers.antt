@@ -1,5 +1,5 @@
 use Rattle.std.proofs.Common.{◌∙◌, sym}
-use Rattle.site_set.proofs.MarksLemmas.{IsEmpty-from_is_bare, is_empty-from_IsEmpty}
+use Rattle.site_set.proofs.MarksLemmas.{IsEmpty-from_is_empty, is_empty-from_IsEmpty}
 use Rattle.site_set.proofs.WordLemmas.{is_empty-slice}
 use Rattle.site_set.proofs.sets.SiteSet.is_empty.Goals as goal
 
@@ -10,4 +10,4 @@ returns-clause-value c =
 pub returns-clause-members : goal.returns-clause-members
 returns-clause-members c =
     let value = c.are_zero.ensures.zero ∙ is_empty-slice _ _ _ _ c.self.invariant c.self.view_is c.as_slice.ensures.value c.are_zero.ensures.fits in
-    (λ yes. IsEmpty-from_is_bare _ (sym value ∙ yes), λ none. value ∙ is_empty-from_IsEmpty _ none)
+    (λ yes. IsEmpty-from_is_empty _ (sym value ∙ yes), λ none. value ∙ is_empty-from_IsEmpty _ none)
