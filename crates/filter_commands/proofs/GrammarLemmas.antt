@@ -7,7 +7,7 @@ use Rattle.std.proofs.lemmas.Bool.Decides.{eqb_tells}
 use Rattle.std.proofs.lemmas.List.{take-append-drop}
 use Rattle.std.proofs.lemmas.Slice.Eq.{bytes_eq-Decides}
 use Rattle.glob_filter.specs.Items.{is_negated}
-use Rattle.filter_commands.specs.Forms.{Text, Form, line, named, in_module, colon, has_colon, is_number, unmarked, module_with, module_form, form_of}
+use Rattle.filter_commands.specs.Forms.{Text, TextForm, line, named, in_module, colon, has_colon, is_number, unmarked, module_with, module_form, form_of}
 use Rattle.filter_commands.specs.Grammar.{IsOwner, HasForm, a_line, a_glob, inside, outside}
 
 abbrev is_colon : ℕ → Bool
@@ -19,16 +19,16 @@ or-true false = refl
 
 -- ---- the first `:`
 
-has_colon-after : (glob behind : Text) → has_colon (glob ++ colon ∷ behind) ≡ true
-has_colon-after [] behind = refl
-has_colon-after (b ∷ glob) behind = ap (λ t. is_colon b || t) (has_colon-after glob behind) ∙ or-true (is_colon b)
+has_colon-after : (glob tail : Text) → has_colon (glob ++ colon ∷ tail) ≡ true
+has_colon-after [] tail = refl
+has_colon-after (b ∷ glob) tail = ap (λ t. is_colon b || t) (has_colon-after glob tail) ∙ or-true (is_colon b)
 
-first-after : (glob behind : Text) → has_colon glob ≡ false → position_or_len is_colon (glob ++ colon ∷ behind) ≡ length glob
-first-after [] behind none = refl
-first-after (b ∷ glob) behind none =
-    elim (is_colon b) as (λ t. (t || has_colon glob) ≡ false → cond (not t) (1 + position_or_len is_colon (glob ++ colon ∷ behind)) 0 ≡ length (b ∷ glob)) [
+first-after : (glob tail : Text) → has_colon glob ≡ false → position_or_len is_colon (glob ++ colon ∷ tail) ≡ length glob
+first-after [] tail none = refl
+first-after (b ∷ glob) tail none =
+    elim (is_colon b) as (λ t. (t || has_colon glob) ≡ false → cond (not t) (1 + position_or_len is_colon (glob ++ colon ∷ tail)) 0 ≡ length (b ∷ glob)) [
       | true ↦ λ h. absurd cc
-      | false ↦ λ h. let more = first-after glob behind h in omega arith
+      | false ↦ λ h. let more = first-after glob tail h in omega arith
     ] none
 
 take-length : (xs ys : Text) → take (length xs) (xs ++ ys) ≡ xs
@@ -42,32 +42,32 @@ drop-length (x ∷ xs) ys y = ap (λ n. drop n (x ∷ (xs ++ y ∷ ys))) same �
     same : length (x ∷ xs) + 1 ≡ suc (length xs + 1)
     same = omega arith
 
-form_of-colon : (glob behind : Text) → has_colon glob ≡ false → form_of (glob ++ colon ∷ behind) ≡ module_form glob behind
-form_of-colon glob behind none =
-    let text : Text = glob ++ colon ∷ behind in
-    let at : position_or_len is_colon text ≡ length glob = first-after glob behind none in
-    let before : before_first is_colon text ≡ glob = ap (λ n. take n text) at ∙ take-length glob behind' in
-    let after : after_first is_colon text ≡ behind = ap (λ n. drop (n + 1) text) at ∙ drop-length glob behind colon in
-    ap (λ t. cond t (module_form (before_first is_colon text) (after_first is_colon text)) (cond (is_number text) (Some (line (digits_value 10 text))) (Some (named text)))) (has_colon-after glob behind)
+form_of-colon : (glob tail : Text) → has_colon glob ≡ false → form_of (glob ++ colon ∷ tail) ≡ module_form glob tail
+form_of-colon glob tail none =
+    let text : Text = glob ++ colon ∷ tail in
+    let at : position_or_len is_colon text ≡ length glob = first-after glob tail none in
+    let before : before_first is_colon text ≡ glob = ap (λ n. take n text) at ∙ take-length glob tail' in
+    let after : after_first is_colon text ≡ tail = ap (λ n. drop (n + 1) text) at ∙ drop-length glob tail colon in
+    ap (λ t. cond t (module_form (before_first is_colon text) (after_first is_colon text)) (cond (is_number text) (Some (line (digits_value 10 text))) (Some (named text)))) (has_colon-after glob tail)
     ∙ ap₂ module_form before after
   where
-    behind' : Text
-    behind' = colon ∷ behind
+    tail' : Text
+    tail' = colon ∷ tail
 
 -- a text with a `:` is cut at the first
 pub record Cut (text : Text) : Type 0 where
   pub glob : Text
-  pub behind : Text
-  pub is : text ≡ glob ++ colon ∷ behind
+  pub tail : Text
+  pub is : text ≡ glob ++ colon ∷ tail
   pub none : has_colon glob ≡ false
 
 cut : (text : Text) → has_colon text ≡ true → Cut text
 cut [] h = absurd cc
 cut (b ∷ text) h = elim (eqb_tells b colon) [
-  | inl t ↦ record { glob = []; behind = text; is = ap (λ x. x ∷ text) t.1; none = refl }
+  | inl t ↦ record { glob = []; tail = text; is = ap (λ x. x ∷ text) t.1; none = refl }
   | inr f ↦
       let rest : Cut text = cut text (sym (ap (λ t. t || has_colon text) f.0) ∙ h) in
-      record { glob = b ∷ rest.glob; behind = rest.behind; is = ap (λ (x : Text). b ∷ x) rest.is; none = ap (λ t. t || has_colon rest.glob) f.0 ∙ rest.none }
+      record { glob = b ∷ rest.glob; tail = rest.tail; is = ap (λ (x : Text). b ∷ x) rest.is; none = ap (λ t. t || has_colon rest.glob) f.0 ∙ rest.none }
 ]
 
 -- ---- the module
@@ -88,7 +88,7 @@ module_form-mod : (glob owner : Text) → has_colon owner ≡ false → module_f
 module_form-mod glob owner plain = ap (λ t. cond t None (module_with glob (unmarked owner))) plain
 
 -- a form that the grammar gives is the form
-pub form_of-HasForm : (text : Text) (form : Form) → HasForm text form → form_of text ≡ Some form
+pub form_of-HasForm : (text : Text) (form : TextForm) → HasForm text form → form_of text ≡ Some form
 form_of-HasForm _ _ (a_line text none digits) = rw (none, digits) refl
 form_of-HasForm _ _ (a_glob text none other) = rw (none, other) refl
 form_of-HasForm _ _ (inside glob owner none is plain) =
@@ -99,7 +99,7 @@ form_of-HasForm _ _ (outside glob owner none is) =
 -- ---- from the form to the grammar
 
 -- a module's text gives the form that the grammar gives it
-HasForm-module : (glob owner : Text) (form : Form) → has_colon glob ≡ false → has_colon owner ≡ false → module_with glob (unmarked owner) ≡ Some form → HasForm (glob ++ (codes ":mod:" ++ owner)) form
+HasForm-module : (glob owner : Text) (form : TextForm) → has_colon glob ≡ false → has_colon owner ≡ false → module_with glob (unmarked owner) ≡ Some form → HasForm (glob ++ (codes ":mod:" ++ owner)) form
 HasForm-module glob [] form none plain e = absurd cc
 HasForm-module glob (b ∷ owner) form none plain e = elim (eqb_tells b 33) [
   | inl t ↦ marked owner (sym (ap (λ x. has_colon (x ∷ owner)) t.1) ∙ plain) t.1 (sym (ap (λ x. module_with glob (cond x (true, owner) (false, b ∷ owner))) t.0) ∙ e)
@@ -108,7 +108,7 @@ HasForm-module glob (b ∷ owner) form none plain e = elim (eqb_tells b 33) [
       subst (λ x. HasForm (glob ++ (codes ":mod:" ++ b ∷ owner)) x) same (inside glob (b ∷ owner) none (record { some = not_empty b owner; plain = plain }) f.0)
 ]
   where
-    some : {x y : Form} → Some x ≡ Some y → x ≡ y
+    some : {x y : TextForm} → Some x ≡ Some y → x ≡ y
     some h = cc
 
     marked : (rest : Text) → has_colon rest ≡ false → b ≡ 33 → module_with glob (true, rest) ≡ Some form → HasForm (glob ++ (codes ":mod:" ++ b ∷ rest)) form
@@ -119,24 +119,24 @@ HasForm-module glob (b ∷ owner) form none plain e = elim (eqb_tells b 33) [
         (subst (λ x. HasForm (glob ++ (codes ":mod:!" ++ c ∷ rest)) x) (some h') (outside glob (c ∷ rest) none (record { some = not_empty c rest; plain = p })))
 
 -- what begins with `mod:`
-behind-mod : (behind : Text) → starts_with nat_eq behind (codes "mod:") ≡ true → behind ≡ codes "mod:" ++ drop 4 behind
-behind-mod behind h = sym (take-append-drop 4 behind) ∙ sym (ap (λ (x : Text). x ++ drop 4 behind) ((bytes_eq-Decides (codes "mod:") (take 4 behind)).0 h))
+tail-mod : (tail : Text) → starts_with nat_eq tail (codes "mod:") ≡ true → tail ≡ codes "mod:" ++ drop 4 tail
+tail-mod tail h = sym (take-append-drop 4 tail) ∙ sym (ap (λ (x : Text). x ++ drop 4 tail) ((bytes_eq-Decides (codes "mod:") (take 4 tail)).0 h))
 
-HasForm-colon : (glob behind : Text) (form : Form) → has_colon glob ≡ false → module_form glob behind ≡ Some form → HasForm (glob ++ colon ∷ behind) form
-HasForm-colon glob behind form none e = begins (starts_with nat_eq behind (codes "mod:")) refl e
+HasForm-colon : (glob tail : Text) (form : TextForm) → has_colon glob ≡ false → module_form glob tail ≡ Some form → HasForm (glob ++ colon ∷ tail) form
+HasForm-colon glob tail form none e = begins (starts_with nat_eq tail (codes "mod:")) refl e
   where
-    plain : (t : Bool) → has_colon (drop 4 behind) ≡ t → starts_with nat_eq behind (codes "mod:") ≡ true → cond t None (module_with glob (unmarked (drop 4 behind))) ≡ Some form → HasForm (glob ++ colon ∷ behind) form
+    plain : (t : Bool) → has_colon (drop 4 tail) ≡ t → starts_with nat_eq tail (codes "mod:") ≡ true → cond t None (module_with glob (unmarked (drop 4 tail))) ≡ Some form → HasForm (glob ++ colon ∷ tail) form
     plain true p s h = absurd cc
-    plain false p s h = subst (λ x. HasForm (glob ++ colon ∷ x) form) (sym (behind-mod behind s)) (HasForm-module glob (drop 4 behind) form none p h)
+    plain false p s h = subst (λ x. HasForm (glob ++ colon ∷ x) form) (sym (tail-mod tail s)) (HasForm-module glob (drop 4 tail) form none p h)
 
-    begins : (t : Bool) → starts_with nat_eq behind (codes "mod:") ≡ t → cond (not t) None (cond (has_colon (drop 4 behind)) None (module_with glob (unmarked (drop 4 behind)))) ≡ Some form → HasForm (glob ++ colon ∷ behind) form
-    begins true s h = plain (has_colon (drop 4 behind)) refl s h
+    begins : (t : Bool) → starts_with nat_eq tail (codes "mod:") ≡ t → cond (not t) None (cond (has_colon (drop 4 tail)) None (module_with glob (unmarked (drop 4 tail)))) ≡ Some form → HasForm (glob ++ colon ∷ tail) form
+    begins true s h = plain (has_colon (drop 4 tail)) refl s h
     begins false s h = absurd cc
 
-pub HasForm-form_of : (text : Text) (form : Form) → form_of text ≡ Some form → HasForm text form
+pub HasForm-form_of : (text : Text) (form : TextForm) → form_of text ≡ Some form → HasForm text form
 HasForm-form_of text form e = cases (has_colon text) refl e
   where
-    some : {x y : Form} → Some x ≡ Some y → x ≡ y
+    some : {x y : TextForm} → Some x ≡ Some y → x ≡ y
     some h = cc
 
     numbered : (t : Bool) → is_number text ≡ t → has_colon text ≡ false → cond t (Some (line (digits_value 10 text))) (Some (named text)) ≡ Some form → HasForm text form
@@ -144,11 +144,11 @@ HasForm-form_of text form e = cases (has_colon text) refl e
     numbered false n none h = subst (λ x. HasForm text x) (some h) (a_glob text none n)
 
     with_colon : (c : Cut text) → HasForm text form
-    with_colon c = subst (λ x. HasForm x form) (sym c.is) (HasForm-colon c.glob c.behind form c.none (sym (form_of-colon c.glob c.behind c.none) ∙ sym (ap form_of c.is) ∙ e))
+    with_colon c = subst (λ x. HasForm x form) (sym c.is) (HasForm-colon c.glob c.tail form c.none (sym (form_of-colon c.glob c.tail c.none) ∙ sym (ap form_of c.is) ∙ e))
 
     cases : (t : Bool) → has_colon text ≡ t → cond t (module_form (before_first is_colon text) (after_first is_colon text)) (cond (is_number text) (Some (line (digits_value 10 text))) (Some (named text))) ≡ Some form → HasForm text form
     cases true h e' = with_colon (cut text h)
     cases false h e' = numbered (is_number text) refl h e'
 
-pub HasForm-form : (text : Text) (form : Form) → HasForm text form ↔ (form_of text ≡ Some form)
+pub HasForm-form : (text : Text) (form : TextForm) → HasForm text form ↔ (form_of text ≡ Some form)
 HasForm-form text form = (form_of-HasForm text form, HasForm-form_of text form)

@@ -18,7 +18,7 @@ unmarked-other (b ∷ text) other = elim (eqb_tells b 33) [
   | inr f ↦ ap (λ (t : Bool). cond t (true, text) (false, b ∷ text)) f.0
 ]
 
--- where a search went to the end, no element passes
+-- if a search went to the end, no element passes
 pub list_any-past : {X : Type 0} (p : X → Bool) (xs : List X) → position_or_len p xs ≡ length xs → list_any p xs ≡ false
 list_any-past p [] e = refl
 list_any-past p (x ∷ xs) e =

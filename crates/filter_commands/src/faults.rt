@@ -2,20 +2,20 @@
 
 use thiserror::Error;
 
-/// Why a filter text is refused. Where several causes hold, the first of `Command`, `Index` and
+/// Why a filter text is refused. If several causes hold, the first of `Command`, `Index` and
 /// `Pattern` is the answer, unless memory runs out before.
 #[derive(Clone, Copy, Debug, PartialEq, Eq, Drop, Error)]
 pub enum EditFault {
-    /// A glob of the text is no pattern, or an empty text is to append something.
+    /// A glob of the text is no pattern, or the text is empty and the edit appends.
     #[error("a glob isn't a pattern")]
     Pattern,
-    /// The text is the number of a line, from 1, that the table of functions doesn't have.
+    /// The text is the number of a line that the table of functions doesn't have. Lines count from 1.
     #[error("no function has this line number")]
     Index,
-    /// The text holds a `:` and isn't GLOB, `:mod:` and MODULE.
+    /// The text has a `:` and isn't GLOB, `:mod:` and MODULE.
     #[error("the text isn't a known filter command")]
     Command,
-    /// Memory was wanted and not found.
+    /// Memory ran out.
     #[error("out of memory")]
     NoMemory,
 }

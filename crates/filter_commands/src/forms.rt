@@ -6,9 +6,9 @@ ghost use Rattle.std.specs.Char.{is_ascii_digit};
 ghost use Rattle.filter_commands.specs.Forms.{has_colon, is_number, unmarked, module_form, form_of};
 ghost use Rattle.filter_commands.specs.Kept.{form_read, HasDigits};
 
-/// What a filter text without its mark asks for.
-pub enum FilterText<'a> {
-    /// The function of this line, counted from 1. The text is digits.
+/// The form of a filter text without its mark.
+pub enum TextForm<'a> {
+    /// The function of this line. The text is digits, and lines count from 1.
     Line(&'a str),
     /// The functions that match a glob.
     Named(&'a str),
@@ -21,7 +21,7 @@ pub enum FilterText<'a> {
     },
 }
 
-/// Whether a `!` stands first, and the text without it.
+/// Whether the text begins with a `!`, and the text without it.
 pub fn strip_mark(text: &str) -> (bool, &str)
     ensures { (result.0, result.1.now) ≡ unmarked text.entry.now }
 {
@@ -45,19 +45,19 @@ fn is_number(text: &str) -> bool
     !text.is_empty() && are_digits(text)
 }
 
-/// Whether a `:` stands in the text.
+/// Whether the text has a `:`.
 fn has_colon(text: &str) -> bool
     ensures { result ≡ has_colon text.now }
 {
     text.bytes().any(|byte| byte == b':')
 }
 
-/// Reads what stands behind the first `:` of a text, and the glob before it.
-fn read_module_form<'a>(glob: &'a str, behind: &'a str) -> Option<FilterText<'a>>
-    ensures form { option_map form_read result ≡ module_form glob.entry.now behind.entry.now }
+/// The form of a text with a `:`, from the glob before its first `:` and what comes after it.
+fn read_module_form<'a>(glob: &'a str, after: &'a str) -> Option<TextForm<'a>>
+    ensures form { option_map form_read result ≡ module_form glob.entry.now after.entry.now }
     ensures digits { IfSome result HasDigits }
 {
-    let module = behind.strip_prefix("mod:")?;
+    let module = after.strip_prefix("mod:")?;
     if has_colon(module) {
         return None;
     }
@@ -65,26 +65,26 @@ fn read_module_form<'a>(glob: &'a str, behind: &'a str) -> Option<FilterText<'a>
     if owner.is_empty() {
         return None;
     }
-    Some(FilterText::InModule {
+    Some(TextForm::InModule {
         glob,
         negated,
         owner,
     })
 }
 
-/// The form of a text without its mark. `None` exactly where it holds a `:` and isn't GLOB, `:mod:`
-/// and MODULE, an optional `!` and a glob that isn't empty.
-pub fn read_form(text: &str) -> Option<FilterText<'_>>
+/// The form of a text without its mark. `None` exactly if it has a `:` and isn't GLOB, `:mod:` and
+/// MODULE, which is an optional `!` and a glob that isn't empty.
+pub fn read_form(text: &str) -> Option<TextForm<'_>>
     ensures form { option_map form_read result ≡ form_of text.entry.now }
     ensures digits { IfSome result HasDigits }
 {
     match text.split_once(':') {
-        Some((glob, behind)) => read_module_form(glob, behind),
+        Some((glob, after)) => read_module_form(glob, after),
         None => {
             if is_number(text) {
-                Some(FilterText::Line(text))
+                Some(TextForm::Line(text))
             } else {
-                Some(FilterText::Named(text))
+                Some(TextForm::Named(text))
             }
         }
     }

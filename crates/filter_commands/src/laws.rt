@@ -1,13 +1,11 @@
-//! What holds of filter texts beside any call. The law is a function with nothing to do, whose
-//! clause says it.
+//! The law of filter texts: a function with an empty body, whose clause says it.
 
 ghost use Rattle.std.specs.Prelude.{◌≡◌, ◌↔◌, Some};
-ghost use Rattle.filter_commands.specs.Forms.{Text, Form, form_of};
+ghost use Rattle.filter_commands.specs.Forms.{Text, TextForm, form_of};
 ghost use Rattle.filter_commands.specs.Grammar.{HasForm};
 
-/// A text is of a form by the grammar exactly where that form is the one that the meaning of the
-/// text is read from. So a text without one, which is refused with `Command`, is none that the
-/// grammar writes.
+/// The grammar gives a text a form exactly if that is the form that `read_edit` reads. So a text
+/// that is refused with `Command` has no form by the grammar.
 pub fn grammar_gives_the_form()
-    ensures { (text : Text) (form : Form) → HasForm text form ↔ (form_of text ≡ Some form) }
+    ensures { (text : Text) (form : TextForm) → HasForm text form ↔ (form_of text ≡ Some form) }
 {}

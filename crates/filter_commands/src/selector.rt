@@ -1,4 +1,4 @@
-//! Functions by globs over names and modules.
+//! Selecting functions by globs over names and modules.
 
 ghost use Rattle.std.specs.Prelude.{◌≡◌, ◌<◌, map, length, false, IfOk, OnOk, IfErr, Some, None, if◌then◌else◌};
 ghost use Rattle.std.specs.Option.{option_copied};
@@ -16,16 +16,15 @@ use glob_filter::{Pattern, PatternFault};
 use site_set::SiteSet;
 use std::alloc::Global;
 
-/// What an empty glob before `:mod:` stands for.
+/// What an empty glob before `:mod:` means.
 const ALL: &str = "*";
 
 /// Which functions are selected.
 #[derive(Drop)]
-pub enum Rule {
+pub enum Selector {
     /// Those whose names match.
     ByName(Pattern),
-    /// Those whose names match and that are in a module whose name matches or, negated, are in no
-    /// such module.
+    /// Those whose names match and that are in a module whose name matches or, negated, aren't.
     ByModule {
         name: Pattern,
         negated: bool,
@@ -44,14 +43,44 @@ fn passes(negated: bool, pattern: &Pattern, owner: Option<&str>) -> bool
     if negated { !within } else { within }
 }
 
-impl Rule {
+impl Selector {
+    /// Selects by a glob over names.
+    pub fn by_name(alloc: Global, glob: &str) -> Result<Selector, EditFault>
+        ensures selector { IfOk result (λ selector. selector ≡ Selector.ByName (items_of glob.now)) }
+        ensures ok { OnOk result (has_bad_glob (Some (named glob.now)) ≡ false) }
+        ensures err { IfErr result (IsCause (if has_bad_glob (Some (named glob.now)) then Some EditFault.Pattern else None)) }
+    {
+        Ok(Selector::ByName(read_glob(alloc, glob)?))
+    }
+
+    /// Selects by a glob over names, which means `*` if it is empty, and a glob over modules.
+    pub fn by_module(
+        alloc: Global,
+        glob: &str,
+        negated: bool,
+        owner: &str,
+    ) -> Result<Selector, EditFault>
+        ensures selector { IfOk result (λ selector. selector ≡ Selector.ByModule (items_of (glob_or_all glob.now)) negated (items_of owner.now)) }
+        ensures ok { OnOk result (has_bad_glob (Some (in_module glob.now negated owner.now)) ≡ false) }
+        ensures err { IfErr result (IsCause (if has_bad_glob (Some (in_module glob.now negated owner.now)) then Some EditFault.Pattern else None)) }
+    {
+        let glob = if glob.is_empty() { ALL } else { glob };
+        let name = read_glob(alloc, glob)?;
+        let owner = read_glob(alloc, owner)?;
+        Ok(Selector::ByModule {
+            name,
+            negated,
+            owner,
+        })
+    }
+
     /// Whether a function of this name and module is selected.
     fn takes(&self, name: &str, owner: Option<&str>) -> bool
         ensures { result ≡ takes self.now (record { name = name.now; owner = option_copied owner.entry }) }
     {
         match self {
-            Rule::ByName(pattern) => pattern.matches(name),
-            Rule::ByModule {
+            Selector::ByName(pattern) => pattern.matches(name),
+            Selector::ByModule {
                 name: pattern,
                 negated,
                 owner: module,
@@ -67,7 +96,7 @@ impl Rule {
         self.takes(table.name(f), table.module(f))
     }
 
-    /// The set of the functions that are selected. The error says that no memory was found.
+    /// The set of the functions that are selected. The error says that memory ran out.
     pub fn select(&self, alloc: Global, table: &FuncTable) -> Result<SiteSet, EditFault>
         ensures set { IfOk result (λ set. set ≡ map (takes self.now) table.now.functions) }
         ensures size { IfOk result (λ set. length set ≡ length table.now.functions) }
@@ -84,7 +113,7 @@ impl Rule {
     }
 }
 
-/// Reads a glob. `Pattern` exactly where it is refused.
+/// The pattern of a glob. `Pattern` exactly if it is refused.
 fn read_glob(alloc: Global, text: &str) -> Result<Pattern, EditFault>
     ensures items { IfOk result (λ pattern. pattern ≡ items_of text.now) }
     ensures ok { OnOk result (is_bad_glob text.now ≡ false) }
@@ -97,34 +126,4 @@ fn read_glob(alloc: Global, text: &str) -> Result<Pattern, EditFault>
             Err(EditFault::Pattern)
         }
     }
-}
-
-/// Reads a glob over names.
-pub fn read_name_rule(alloc: Global, glob: &str) -> Result<Rule, EditFault>
-    ensures rule { IfOk result (λ rule. rule ≡ Rule.ByName (items_of glob.now)) }
-    ensures ok { OnOk result (has_bad_glob (Some (named glob.now)) ≡ false) }
-    ensures err { IfErr result (IsCause (if has_bad_glob (Some (named glob.now)) then Some EditFault.Pattern else None)) }
-{
-    Ok(Rule::ByName(read_glob(alloc, glob)?))
-}
-
-/// Reads a glob over names, where an empty one stands for `*`, and a glob over modules.
-pub fn read_module_rule(
-    alloc: Global,
-    glob: &str,
-    negated: bool,
-    owner: &str,
-) -> Result<Rule, EditFault>
-    ensures rule { IfOk result (λ rule. rule ≡ Rule.ByModule (items_of (glob_or_all glob.now)) negated (items_of owner.now)) }
-    ensures ok { OnOk result (has_bad_glob (Some (in_module glob.now negated owner.now)) ≡ false) }
-    ensures err { IfErr result (IsCause (if has_bad_glob (Some (in_module glob.now negated owner.now)) then Some EditFault.Pattern else None)) }
-{
-    let glob = if glob.is_empty() { ALL } else { glob };
-    let name = read_glob(alloc, glob)?;
-    let owner = read_glob(alloc, owner)?;
-    Ok(Rule::ByModule {
-        name,
-        negated,
-        owner,
-    })
 }

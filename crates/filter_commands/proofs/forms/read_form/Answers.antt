@@ -1,7 +1,7 @@
 use Rattle.std.proofs.Common.{◌≡◌, ◌==◌, false, rules}
 use Rattle.std.specs.List.{list_any}
 use Rattle.filter_commands.proofs.TextLemmas.{list_any-past}
-use Rattle.filter_commands.proofs.texts.read_form.Goals as goal
+use Rattle.filter_commands.proofs.forms.read_form.Goals as goal
 
 pub returns-then-is_number : goal.returns-then-is_number
 returns-then-is_number c =

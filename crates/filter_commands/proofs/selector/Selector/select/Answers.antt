@@ -3,7 +3,7 @@ use Rattle.std.proofs.lemmas.List.{length-map}
 use Rattle.ft_base.specs.Marks.{empty}
 use Rattle.filter_commands.specs.Kept.{takes}
 use Rattle.filter_commands.proofs.SetLemmas.{IsUpTo, IsUpTo-empty, IsUpTo-end}
-use Rattle.filter_commands.proofs.rules.Rule.select.Goals as goal
+use Rattle.filter_commands.proofs.selector.Selector.select.Goals as goal
 
 pub loop-f-init : goal.loop-f-init
 loop-f-init c =

@@ -1,8 +1,8 @@
 use Rattle.std.proofs.Common.{map}
 use Rattle.filter_commands.specs.Kept.{takes}
 use Rattle.filter_commands.proofs.SetLemmas.{IsUpTo}
-use Rattle.filter_commands.proofs.rules.Rule.select.Given as goal
+use Rattle.filter_commands.proofs.selector.Selector.select.Given as goal
 
--- the functions so far are in the set where the rule takes them
+-- of the functions so far, those that the selector takes are in the set
 abbrev pub invariant-loop-f : goal.invariant-loop-f
 invariant-loop-f l = IsUpTo (map (takes l.self) l.table.functions) l.set l.f
