@@ -1,0 +1,27 @@
+-- How return addresses and the shadow stack tell the open calls.
+use Rattle.std.specs.Prelude.{◌≡◌, List, [], ◌∷◌, Option, Some, None, IsSome}
+use Rattle.ft_base.specs.declared.number.CallNo.{CallNo}
+use Rattle.return_stack.specs.declared.shadow.FrameUser.{FrameUser}
+use Rattle.return_stack.specs.declared.stacks.Address.{Address}
+use Rattle.return_stack.specs.declared.stacks.Address.TheVariants.{Hook, To}
+use Rattle.return_stack.specs.Shadow.{ShadowFrame}
+use Rattle.return_stack.specs.Calls.{OpenCall}
+
+-- a call over those below it
+abbrev pub over : Option CallNo → Option (List FrameUser) → List OpenCall → List OpenCall
+over None users below = below
+over (Some call) users below = record { call = call; users = users } ∷ below
+
+-- the open calls: the latest one, the one that its return address names, and so on. Where the hook stands, the frame has the address
+abbrev pub open_calls : Option CallNo → List Address → List ShadowFrame → List OpenCall
+open_calls call [] frames = []
+open_calls call (To to ∷ below) frames = over call None (open_calls to below frames)
+open_calls call (Hook ∷ below) [] = []
+open_calls call (Hook ∷ below) (f ∷ frames) = over call (Some f.users) (open_calls f.to below frames)
+
+-- the addresses name a call each, the outermost call's none, and each hook has its frame
+abbrev pub AreTied : Option CallNo → List Address → List ShadowFrame → Type 0
+AreTied call [] frames = (call ≡ None) × (frames ≡ [])
+AreTied call (To to ∷ below) frames = IsSome call × AreTied to below frames
+AreTied call (Hook ∷ below) [] = ⊥
+AreTied call (Hook ∷ below) (f ∷ frames) = IsSome call × AreTied f.to below frames
