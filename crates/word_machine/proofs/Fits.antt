@@ -44,7 +44,8 @@ module _ (job : Job) (ok : IsWordJob job) (h : Here) (past : List Item) (clock :
       (inside : c.func < funcs job) where
     -- both loads of a fetch are of one instruction, the old one or the new one
     pub tail_fits : (byte : ℕ) → Dispatches job h past ack q c below (GotHead byte)
-        → (i : ℕ) × ((i ≡ insn job h.d c.func) ⊎ (i ≡ insn job (suc h.d) c.func)) × (byte ≡ head_of i) × (tail c.func ≡ tail_of c.func i) × (i < 2 + job.tramps)
+        → (i : ℕ) × ((i ≡ insn job h.d c.func) ⊎ ((8 ≤ stage job h.d h.p c.func) × (i ≡ insn job (suc h.d) c.func))) × (byte ≡ head_of i)
+        × (tail c.func ≡ tail_of c.func i) × (i < 2 + job.tramps)
     tail_fits byte x = by x.at.1 (sites.sites c.func inside)
       where
         n : ℕ
@@ -52,12 +53,12 @@ module _ (job : Job) (ok : IsWordJob job) (h : Here) (past : List Item) (clock :
 
         by : FetchAt (stage job h.d h.p c.func) (insn job h.d c.func) (insn job (suc h.d) c.func) h.base ack (GotHead byte)
             → SiteAt (stage job h.d h.p c.func) c.func (insn job h.d c.func) (insn job (suc h.d) c.func) (head c.func) (tail c.func) (next c.func)
-            → (i : ℕ) × ((i ≡ insn job h.d c.func) ⊎ (i ≡ insn job (suc h.d) c.func)) × (byte ≡ head_of i) × (tail c.func ≡ tail_of c.func i)
-            × (i < 2 + job.tramps)
+            → (i : ℕ) × ((i ≡ insn job h.d c.func) ⊎ ((8 ≤ stage job h.d h.p c.func) × (i ≡ insn job (suc h.d) c.func))) × (byte ≡ head_of i)
+            × (tail c.func ≡ tail_of c.func i) × (i < 2 + job.tramps)
         by (inl y) s =
             let low : stage job h.d h.p c.func < 5 = elim y.1 [ inl z ↦ (omega (arith, z)) | inr z ↦ (let w = z.0 in omega (arith, w)) ] in
             (insn job h.d c.func, inl refl, y.0, s.tail_old low, insn-small job ok.job' h.d c.func)
-        by (inr y) s = (insn job (suc h.d) c.func, inr refl, y.1, s.tail_new (let z = y.0 in omega (arith, z)), insn-small job ok.job' (suc h.d) c.func)
+        by (inr y) s = (insn job (suc h.d) c.func, inr (y.0, refl), y.1, s.tail_new (let z = y.0 in omega (arith, z)), insn-small job ok.job' (suc h.d) c.func)
 
     pub next_fits : Dispatches job h past ack q c below GotBreak → (next c.func ≡ insn job (suc h.d) c.func) × (next c.func < 2 + job.tramps)
     next_fits x =

@@ -28,7 +28,8 @@ use Rattle.word_machine.specs.Machine.{World, past_after, taken, control_moved, 
 use Rattle.word_machine.specs.Verdicts.{Here}
 use Rattle.word_machine.specs.Tasks.{TaskRule, acts_by, StandsIn}
 use Rattle.word_machine.specs.Rule.{MachineRule, here, IsOn, IsWordJob, PollAt, Polls, task_in}
-use Rattle.word_machine.specs.Laws.{IsLimited, HasRoom}
+use Rattle.word_machine.specs.Limits.{IsLimited}
+use Rattle.word_machine.specs.Laws.{HasRoom}
 use Rattle.word_machine.proofs.Small.{put_case, put_same, put_other, if_case}
 use Rattle.word_machine.proofs.MarkDispatch.{task}
 use Rattle.word_machine.proofs.TaskSteps.{is_polling, SteppedBy, task_step}

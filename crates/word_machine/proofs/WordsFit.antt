@@ -3,7 +3,7 @@ use Rattle.std.proofs.Common.{cond, ◌≡◌, ℕ, zero, suc, ◌+◌, ◌*◌,
 use Rattle.std.specs.Prelude.{sum_by, slice_get, if◌then◌else◌}
 use Rattle.std.specs.List.{range_with_len}
 use Rattle.std.proofs.lemmas.Option.{same_Some}
-use Rattle.std.proofs.lemmas.Bool.{cases_eq}
+use Rattle.std.proofs.lemmas.Bool.{cases_eq, lt-ltb}
 use Rattle.std.proofs.lemmas.Bool.Decides.{nat_tests}
 use Rattle.std.proofs.lemmas.List.{length-take, length-map}
 use Rattle.std.proofs.lemmas.List.FromFn.{length-range_with_len}
@@ -25,10 +25,11 @@ use Rattle.word_machine.specs.Commands.{Effect, Adds, Removes, Edits, Enables, D
 use Rattle.word_machine.specs.Control.{Op, Load, Store, Mark, Position, Line, Take, Copy, Select, Push, Relink, StorePids, StoreDepth, NextAt, BreakAt, Ask1, TailAt, Ask2, HeadAt, Ask3, AskQuiet, Release, next_in, line_op, relink_op, control_next, copy_after, name_of, follower}
 use Rattle.word_machine.specs.Task.{TaskState, is_quiet, quiet_word, OpenCall, Moment, Polling, First, call_op, first_op, stack_op}
 use Rattle.word_machine.specs.Cpu.{Cpu, Phase, Going, StoringAck, StoringQuiet, Over, any_has_more, ack_value, phase_op, going_op, present_op, cpu_next}
-use Rattle.word_machine.specs.Machine.{World, words_after, weight, control_moved, cpu_moved, step, run, start}
+use Rattle.word_machine.specs.Machine.{World, words_after, weight, control_moved, cpu_moved, step, run, start, taken, control_row, cpu_row}
 use Rattle.word_machine.specs.UserList.{list_desk}
 use Rattle.word_machine.specs.Rule.{MachineRule, PollAt, task_in}
-use Rattle.word_machine.specs.Laws.{IsLimited, Runs, IsLevel, AllFit}
+use Rattle.word_machine.specs.Limits.{IsLimited, IsLevel}
+use Rattle.word_machine.specs.Laws.{Runs, AllFit, WaitsAt}
 use Rattle.word_machine.proofs.Small.{if_case, put_case, has-more}
 use Rattle.word_machine.proofs.Effects.{after_small}
 use Rattle.word_machine.proofs.DeskStart.{reg_at_start}
@@ -46,6 +47,7 @@ use Rattle.word_machine.proofs.Limited.{limited, few-commands}
 use Rattle.word_machine.proofs.Room.{small, step-frugal, start-frugal}
 use Rattle.std.proofs.lemmas.List.FromFn.{length-range_with_len}
 use Rattle.word_machine.specs.Costs.{WithinBudget}
+use Rattle.word_machine.proofs.Waits.{waits-got}
 
 -- ## a store
 
@@ -384,7 +386,22 @@ all_fit job l actors = run-fits job l actors (start job) (opens job (limited job
 -- ## step by step
 
 pub start-runs : (job : Job) → IsLimited job → Runs job (start job)
-start-runs job l = record { kept = opens job (limited job l); frugal = start-frugal job; fits = start-fits job l }
+unfolding start
+start-runs job l = record { kept = opens job (limited job l); frugal = start-frugal job; waits = tt; fits = start-fits job l }
+
+step-waits : (job : Job) (a : Actor) (s : World) → WaitsAt job s.control.position → WaitsAt job (step job a s).control.position
+unfolding step
+step-waits job ByControl s k = by (control_next job s.control)
+  where
+    by : (o : Option Op) → WaitsAt job (control_moved job s o).control.position
+    by None = k
+    by (Some op) = waits-got job s.control (taken op s.words) k
+step-waits job (ByCpu c) s k = by_there (nat_lt c.0 (length job.quanta)) (cpu_next job (s.cpus c.0))
+  where
+    by_there : (b : Bool) (o : Option Op) → WaitsAt job (cond b (cpu_moved job s c.0 o) s).control.position
+    by_there false o = k
+    by_there true None = k
+    by_there true (Some op) = k
 
 pub step-runs : (job : Job) → IsLimited job → (a : Actor) (s : World) → Runs job s → Runs job (step job a s)
 step-runs job l a s r =
@@ -393,4 +410,30 @@ step-runs job l a s r =
     let f = r.frugal in
     let g = (step-grows job a s).1 in
     let m = small job l s k f in
-    record { kept = step_keeps job ok a s (omega (arith, g, m)) k; frugal = step-frugal job ok a s k f; fits = step-fits job l a s k f r.fits }
+    record {
+      kept = step_keeps job ok a s (omega (arith, g, m)) k;
+      frugal = step-frugal job ok a s k f;
+      waits = step-waits job a s r.waits;
+      fits = step-fits job l a s k f r.fits;
+    }
+
+-- ## row by row
+
+pub control-row-runs : (job : Job) → IsLimited job → (s : World) (op : Op) → Runs job s → control_next job s.control ≡ Some op → Runs job (control_row job s op)
+unfolding step
+control-row-runs job l s op r e = subst (λ o. Runs job (control_moved job s o)) e (step-runs job l ByControl s r)
+
+pub cpu-row-runs : (job : Job) → IsLimited job → (s : World) (c : ℕ) (op : Op) → c < length job.quanta → Runs job s → cpu_next job (s.cpus c) ≡ Some op
+    → Runs job (cpu_row job s c op)
+unfolding step
+cpu-row-runs job l s c op inside r e =
+    subst (λ o. Runs job (cpu_moved job s c o)) e
+    (subst (λ b. Runs job (cond b (cpu_moved job s c (cpu_next job (s.cpus c))) s)) (lt-ltb c (length job.quanta) inside)
+    (step-runs job l (ByCpu (record { 0 = c })) s r))
+
+-- ## all states
+
+pub run-runs : (job : Job) → IsLimited job → (actors : List Actor) (s : World) → Runs job s → Runs job (run job actors s)
+unfolding run
+run-runs job l [] s r = r
+run-runs job l (a ∷ rest) s r = run-runs job l rest (step job a s) (step-runs job l a s r)

@@ -1,17 +1,18 @@
--- What the laws of the whole machine say: sites that are settled, values that fit, room in the clock, and the limits of scripts.
-use Rattle.std.specs.Prelude.{ℕ, suc, ◌≡◌, ◌+◌, ◌<◌, ◌≤◌, ◌⊎◌, true, List, ◌∷◌, length, sum_by}
-use Rattle.std.specs.List.{AllByRecursion as Each}
-use Rattle.ft_base.specs.declared.limits.TheConstants.{COMMANDS, UNTILS, USERS, TASKS, FUNCS, TRAMPS, GRAPH_DEPTH, ACTS}
-use Rattle.ft_base.specs.Job.{Job, Command, MaxDepth, Ctl, Run, Until, commands, funcs}
-use Rattle.ft_base.specs.WellFormed.{IsWellFormed}
+-- What the laws of the whole machine say: sites that are settled, what is never done, values and words that fit, and what goes on from step
+-- to step.
+use Rattle.std.specs.Prelude.{ℕ, suc, ◌≡◌, ◌≢◌, ◌+◌, ◌<◌, ◌≤◌, ◌⊎◌, Bool, true, false, List, [], ◌∷◌, length, Option, Some, None, ◌^◌}
+use Rattle.ft_base.specs.declared.item.Ran.TheVariants.{List as ByList}
+use Rattle.ft_base.specs.Job.{Job, funcs}
 use Rattle.ft_hist.specs.Past.{done, begun}
 use Rattle.ft_hist.specs.Rules.{IsUnvisited}
-use Rattle.word_machine.specs.Words.{Word, Words, read, half_size, head_of, tail_of, tramp_word, breakpoint, decode}
-use Rattle.word_machine.specs.Commands.{insn}
-use Rattle.word_machine.specs.Task.{OpenCall, Moment, GotHead, GotBreak, InTramp, AtFirst, AtLink}
-use Rattle.word_machine.specs.Cpu.{any_has_more}
+use Rattle.word_machine.specs.Words.{Word, Words, Clock, Want, Head, Tail, Next, Ack, Quiet, Tramp, Link, Sel, Bits, read, half_size, greatest_half, all_ones, head_of, tail_of, tramp_word, tramp_user, breakpoint, decode}
+use Rattle.word_machine.specs.Commands.{insn, subject, set_words}
+use Rattle.word_machine.specs.Control.{Op, Load, Store, Mark, Position, Copy, Push, Wait1, Wait2, Wait3, WaitQuiet, other_copy}
+use Rattle.word_machine.specs.Task.{OpenCall, TaskState, Moment, Polling, First, Fetch, GotHead, GotBreak, InTramp, AtFirst, TestSel, TestFilter, TestNotrace, AtPids, AtDepth, Refusing, Calling, Missing, Acting, Ending, AtLink}
+use Rattle.word_machine.specs.Cpu.{Cpu, Phase, Going, any_has_more}
 use Rattle.word_machine.specs.Machine.{World}
-use Rattle.word_machine.specs.Rule.{MachineRule}
+use Rattle.word_machine.specs.Calls.{under_call}
+use Rattle.word_machine.specs.Rule.{MachineRule, IsOn}
 use Rattle.word_machine.specs.Costs.{WithinBudget}
 
 -- the clock has room for the items so far
@@ -30,22 +31,22 @@ pub record IsSettled (job : Job) (s : World) (f : ℕ) : Type 0 where
   pub whole : (s.words.head f ≡ breakpoint) ⊎ (HasTarget job s.words f (done s.past) ⊎ HasTarget job s.words f (begun s.past))
   pub between : begun s.past ≡ done s.past → HasTarget job s.words f (done s.past)
 
--- each word has a content of 64 bits
-abbrev pub AllFit : Words → Type 0
-AllFit ws = (w : Word) → read w ws < 18446744073709551616
-
 -- ## values
 
--- the present task of a CPU is at a moment of its top call
-pub record StandsAt (job : Job) (s : World) (c : ℕ) (top : OpenCall) (below : List OpenCall) (m : Moment) : Type 0 where
-  pub inside : c < length job.quanta
-  pub goes : any_has_more job (s.cpus c) ≡ true
-  pub moment : ((s.cpus c).tasks (s.cpus c).present).moment ≡ m
-  pub stack : ((s.cpus c).tasks (s.cpus c).present).stack ≡ top ∷ below
+-- an open call of a stack whose top is at a moment: the call, those below it, and the moment at which it is
+abbrev pub OpenAt : Moment → List OpenCall → Moment → OpenCall → List OpenCall → Type 0
+OpenAt m [] m' top below = ⊥
+OpenAt m (c ∷ cs) m' top below = ((m ≡ m') × (c ≡ top) × (cs ≡ below)) ⊎ OpenAt (under_call c cs) cs m' top below
 
--- the number of an instruction that there is, the target's after the commands that have returned or after one more
+-- a task of a CPU, present or not, has an open call that is at a moment
+pub record IsAt (job : Job) (s : World) (c t : ℕ) (top : OpenCall) (below : List OpenCall) (m : Moment) : Type 0 where
+  pub inside : c < length job.quanta
+  pub on : IsOn job c t
+  pub call : OpenAt ((s.cpus c).tasks t).moment ((s.cpus c).tasks t).stack m top below
+
+-- the number of an instruction that there is: the target's after the commands that have returned, or after those that have begun
 abbrev pub IsTarget : Job → World → ℕ → ℕ → Type 0
-IsTarget job s f i = ((i ≡ insn job (done s.past) f) ⊎ (i ≡ insn job (suc (done s.past)) f)) × (i < 2 + job.tramps)
+IsTarget job s f i = ((i ≡ insn job (done s.past) f) ⊎ (i ≡ insn job (begun s.past) f)) × (i < 2 + job.tramps)
 
 -- both loads of a fetch are of one such instruction, which the loaded bytes decode to
 abbrev pub Decodes : Job → World → ℕ → ℕ → Type 0
@@ -65,36 +66,116 @@ Takes job s top AtFirst = Names job s top s.words.first
 Takes job s top (AtLink u) = Names job s top (s.words.link u)
 Takes job s top _ = Unit {0}
 
--- ## the limits of scripts
+-- the same of a number alone, as code can ask it of a value that it is handed
+abbrev pub CallTakes : Job → OpenCall → Moment → ℕ → Type 0
+CallTakes job c Fetch v = v < 256
+CallTakes job c (GotHead byte) v = (i : ℕ) × (i < 2 + job.tramps) × (byte ≡ head_of i) × (v ≡ tail_of c.func i)
+CallTakes job c GotBreak v = v < 2 + job.tramps
+CallTakes job c (InTramp s) v = (u : ℕ) × (reg : ℕ) × (u < length job.users) × (v ≡ tramp_word reg u)
+CallTakes job c AtFirst v = v ≤ length job.users
+CallTakes job c (AtLink u) v = v ≤ length job.users
+CallTakes job c _ v = Unit {0}
 
--- the task that control waits for is one of this many
-abbrev pub WaitsFor : ℕ → Ctl → Type 0
-WaitsFor tasks (Until t n) = t < tasks
-WaitsFor tasks (Run c) = Unit {0}
+-- of the top call's operation
+abbrev pub StackTakes : Job → List OpenCall → Moment → ℕ → Type 0
+StackTakes job [] m v = Unit {0}
+StackTakes job (c ∷ below) m v = CallTakes job c m v
 
--- a graph depth that a command may set
-abbrev pub IsLevel : Command → Type 0
-IsLevel (MaxDepth n) = n ≤ GRAPH_DEPTH
-IsLevel _ = Unit {0}
+-- of the present task's operation: a poll loads a request
+abbrev pub PresentTakes : Job → TaskState → Moment → ℕ → Type 0
+PresentTakes job x Polling v = v < greatest_half
+PresentTakes job x First v = Unit {0}
+PresentTakes job x m v = StackTakes job x.stack m v
 
--- What the limits of scripts give of a job: it is well formed, its tasks are on its CPUs, its waits name its tasks, and it has no more lines
--- of control, users, tasks, functions, trampolines and acts, and no greater depths, than a script may have
-pub record IsLimited (job : Job) : Type 0 where
-  pub job' : IsWellFormed job
-  pub placed : Each (λ t. t.cpu < length job.quanta) job.tasks
-  pub waits : Each (WaitsFor (length job.tasks)) job.ctls
-  pub ctls : length job.ctls ≤ COMMANDS + UNTILS
-  pub users : length job.users ≤ USERS
-  pub tasks : length job.tasks ≤ TASKS
-  pub functions : funcs job ≤ FUNCS
-  pub tramps : job.tramps ≤ TRAMPS
-  pub levels : Each IsLevel (commands job)
-  pub acts : sum_by (λ t. length t.acts) job.tasks ≤ ACTS
+-- of a CPU's operation outside a poll's stores
+abbrev pub GoingTakes : Job → Cpu → Bool → ℕ → Type 0
+GoingTakes job me true v = PresentTakes job (me.tasks me.present) (me.tasks me.present).moment v
+GoingTakes job me false v = v < greatest_half
+
+-- of a CPU's operation in a phase
+abbrev pub PhaseTakes : Job → Cpu → Phase → ℕ → Type 0
+PhaseTakes job me Going v = GoingTakes job me (any_has_more job me) v
+PhaseTakes job me _ v = Unit {0}
+
+-- the value fits the CPU's next operation
+abbrev pub CpuTakes : Job → Cpu → ℕ → Type 0
+CpuTakes job me v = PhaseTakes job me me.phase v
+
+-- ## what is never done
+
+-- the user whose state, sets or link a walker of the list will load next, or whom it calls
+abbrev pub walked : Moment → Option ℕ
+walked (TestSel u) = Some u
+walked (TestFilter u copy reg) = Some u
+walked (TestNotrace u copy reg) = Some u
+walked (AtPids u reg) = Some u
+walked (AtDepth u reg) = Some u
+walked (Refusing u reg reason) = Some u
+walked (Calling u reg) = Some u
+walked (Missing u) = Some u
+walked (Acting u o) = Some u
+walked (Ending u) = Some u
+walked (AtLink u) = Some u
+walked _ = None
+
+-- the user and the copy of its sets that a reader will load next
+abbrev pub copy_read : Moment → Option (ℕ × ℕ)
+copy_read (TestFilter u copy reg) = Some (u, copy)
+copy_read (TestNotrace u copy reg) = Some (u, copy)
+copy_read _ = None
+
+-- control is about to store the link of a user that it adds
+abbrev pub IsLinking : Job → World → ℕ → Type 0
+IsLinking job s u = (s.control.position ≡ Push) × (u ≡ subject job s.control.commands_done)
+
+-- control is about to store a word of a copy of a user's sets
+abbrev pub IsWriting : Job → World → ℕ → ℕ → Type 0
+IsWriting job s u copy = (half : ℕ) × (w : ℕ) × (s.control.position ≡ Copy half w) × (u ≡ subject job s.control.commands_done)
+    × (copy ≡ other_copy (s.control.copies u))
+
+-- ## words
+
+-- each word has a content of 64 bits
+abbrev pub AllFit : Words → Type 0
+AllFit ws = (w : Word) → read w ws < 2 ^ 64
+
+-- the job has this word: its function, CPU, task, trampoline or user is one of the job's
+abbrev pub IsThere : Job → Word → Type 0
+IsThere job (Head f) = f < funcs job
+IsThere job (Tail f) = f < funcs job
+IsThere job (Next f) = f < funcs job
+IsThere job (Ack c) = c < length job.quanta
+IsThere job (Quiet t) = t < length job.tasks
+IsThere job (Tramp s) = s < job.tramps
+IsThere job (Link u) = u < length job.users
+IsThere job (Sel u) = u < length job.users
+IsThere job (Bits u copy half w) = (u < length job.users) × (copy < 2) × (half < 2) × (w < set_words job)
+IsThere job _ = Unit {0}
+
+-- an operation, if there is one, is on a word that the job has
+abbrev pub IsOnWord : Job → Option Op → Type 0
+IsOnWord job None = Unit {0}
+IsOnWord job (Some (Load w)) = IsThere job w
+IsOnWord job (Some (Store w x)) = IsThere job w
+IsOnWord job (Some (Mark item)) = Unit {0}
 
 -- ## what goes on from step to step
 
--- the rule, that the history is paid for, and that each word fits: together they need no premise on room
+-- control waits for a CPU or a task that the job has
+abbrev pub WaitsAt : Job → Position → Type 0
+WaitsAt job (Wait1 c) = c < length job.quanta
+WaitsAt job (Wait2 c) = c < length job.quanta
+WaitsAt job (Wait3 c) = c < length job.quanta
+WaitsAt job (WaitQuiet t) = t < length job.tasks
+WaitsAt job _ = Unit {0}
+
+-- What code carries from step to step.
+--   kept     the rule
+--   frugal   the history is paid for, so the clock has room
+--   waits    control waits for somebody that there is
+--   fits     each word fits
 pub record Runs (job : Job) (s : World) : Type 0 where
   pub kept : MachineRule job s
   pub frugal : WithinBudget job s
+  pub waits : WaitsAt job s.control.position
   pub fits : AllFit s.words

@@ -1,0 +1,30 @@
+-- Jobs within the limits of scripts.
+use Rattle.std.specs.Prelude.{◌+◌, ◌<◌, ◌≤◌, ℕ, length, sum_by}
+use Rattle.std.specs.List.{AllByRecursion as Each}
+use Rattle.ft_base.specs.declared.limits.TheConstants.{COMMANDS, UNTILS, USERS, TASKS, FUNCS, TRAMPS, GRAPH_DEPTH, ACTS}
+use Rattle.ft_base.specs.Job.{Job, Command, MaxDepth, Ctl, Run, Until, commands, funcs}
+use Rattle.ft_base.specs.WellFormed.{IsWellFormed}
+
+-- the task that control waits for is one of this many
+abbrev pub WaitsFor : ℕ → Ctl → Type 0
+WaitsFor tasks (Until t n) = t < tasks
+WaitsFor tasks (Run c) = Unit {0}
+
+-- a graph depth that a command may set
+abbrev pub IsLevel : Command → Type 0
+IsLevel (MaxDepth n) = n ≤ GRAPH_DEPTH
+IsLevel _ = Unit {0}
+
+-- What the limits of scripts give of a job: it is well formed, its tasks are on its CPUs, its waits name its tasks, and it has no more lines
+-- of control, users, tasks, functions, trampolines and acts, and no greater depths, than a script may have
+pub record IsLimited (job : Job) : Type 0 where
+  pub job' : IsWellFormed job
+  pub placed : Each (λ t. t.cpu < length job.quanta) job.tasks
+  pub waits : Each (WaitsFor (length job.tasks)) job.ctls
+  pub ctls : length job.ctls ≤ COMMANDS + UNTILS
+  pub users : length job.users ≤ USERS
+  pub tasks : length job.tasks ≤ TASKS
+  pub functions : funcs job ≤ FUNCS
+  pub tramps : job.tramps ≤ TRAMPS
+  pub levels : Each IsLevel (commands job)
+  pub acts : sum_by (λ t. length t.acts) job.tasks ≤ ACTS
