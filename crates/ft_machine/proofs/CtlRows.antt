@@ -9,11 +9,10 @@ use Rattle.ft_base.specs.Desk.{desk}
 use Rattle.plain_machine.specs.State.{State, step}
 use Rattle.plain_machine.specs.Rule.{Rule}
 use Rattle.ft_machine.specs.declared.progress.Progress.{Progress}
-use Rattle.ft_machine.specs.Orders.{command_of}
 use Rattle.ft_machine.specs.Known.{IsKnown}
 use Rattle.ft_machine.specs.Acts.{fresh, answer_by, commanded}
 use Rattle.ft_machine.specs.Kept.{state_by, HasDesk, AreSoFar}
-use Rattle.ft_machine.proofs.FirstDesk.{answer-desk, order-after}
+use Rattle.ft_machine.proofs.FirstDesk.{command_of, answer-desk, order-after}
 use Rattle.ft_machine.proofs.Places.{gone-by}
 
 -- the line that comes next

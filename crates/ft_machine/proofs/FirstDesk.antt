@@ -3,18 +3,22 @@ use Rattle.std.proofs.Common.{cond, ◌≡◌, ℕ, zero, suc, ◌≤◌, Bool, 
 use Rattle.std.specs.Prelude.{slice_get}
 use Rattle.std.specs.List.{list_any, AllByRecursion as Each}
 use Rattle.ft_base.specs.Marks.{empty}
-use Rattle.ft_base.specs.Job.{Job, Spec, Command, funcs, commands}
+use Rattle.ft_base.specs.Job.{Job, Spec, Command, Register, Unregister, funcs, commands}
 use Rattle.ft_base.specs.Desk.{Desk, UserState, desk, after, answer_on, is_accepted, plain_spec, spec_at, target, lowest}
 use Rattle.ft_base.specs.Order.{order_after}
 use Rattle.ft_base.specs.WellFormed.{IsNamed}
 use Rattle.ft_base.proofs.DeskLaws.{desk-suc, length-desk}
 use Rattle.ft_base.proofs.Modifiers.{named-at}
 use Rattle.plain_machine.specs.State.{on_users}
-use Rattle.ft_machine.specs.Orders.{command_of}
 use Rattle.ft_machine.specs.Known.{IsPlainUser, IsKnown}
 use Rattle.ft_machine.specs.Acts.{answer_by, target_by, insn_by}
 use Rattle.ft_machine.specs.Sites.{insn_of}
 use Rattle.ft_machine.specs.Kept.{only_user, order_of, HasUser, HasDesk}
+
+-- the only user is registered or unregistered
+abbrev pub command_of : Bool → Command
+command_of true = Register 0
+command_of false = Unregister 0
 
 -- nothing is in an empty set
 empty-any : (n : ℕ) → list_any (λ b. b) (empty n) ≡ false

@@ -21,9 +21,8 @@ use Rattle.ft_machine.specs.Parts.{ctl_of}
 use Rattle.ft_machine.specs.Running.{Running}
 use Rattle.ft_machine.specs.Kept.{state_of, view_of, IsKept}
 use Rattle.ft_machine.specs.declared.machine.Machine.TheInside.{Inside}
-use Rattle.ft_machine.specs.Orders.{command_of}
 use Rattle.ft_machine.specs.Acts.{fresh, answer_by, commanded}
-use Rattle.ft_machine.proofs.FirstDesk.{next-desk}
+use Rattle.ft_machine.proofs.FirstDesk.{command_of, next-desk}
 use Rattle.ft_machine.proofs.CtlRows.{left-at, left-within, command-at, command-row, met-row, unmet-row, none-row}
 
 next-line : (ls : List FirstCtl) (n : ℕ) (l : FirstCtl) → slice_get ls n ≡ Some l → slice_get (drop n (map ctl_of ls)) 0 ≡ Some (ctl_of l)

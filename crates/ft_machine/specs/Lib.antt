@@ -1,7 +1,6 @@
 pub mod Known
 pub mod Parts
 pub mod Lists
-pub mod Orders
 pub mod Running
 pub mod Sites
 pub mod Stacked

@@ -9,7 +9,6 @@ use ft_machine::{Machine, replay};
 use histories::{THIRD_FIRST, WHOLE};
 use jobs::{D, busy_job, empty_job};
 use std::alloc::Global;
-use std::process::Abort;
 use std::test::Fail;
 
 const CONTROL: Actor = Actor::Control;
@@ -48,11 +47,17 @@ const THIRD_THEN_SECOND: [Turn; 3] = [
     },
 ];
 
-/// Whether a history has exactly these items.
-fn check(rt: &impl Abort, history: &History, want: &[Item]) {
-    assert_eq!(rt; history.len() as usize, want.len());
-    for (p, item) in want.iter().enumerate() {
-        assert_eq!(rt; history.item(p as u32), item, "place {p}");
+/// The first place at which a history differs from these items.
+fn difference(history: &History, want: &[Item]) -> Option<u32> {
+    for p in 0..history.len() {
+        if want.get(p as usize) != Some(history.item(p)) {
+            return Some(p);
+        }
+    }
+    if history.len() as usize == want.len() {
+        None
+    } else {
+        Some(history.len())
     }
 }
 
@@ -61,7 +66,7 @@ fn replays_to_the_end(rt: HostRuntime) -> Result<(), Fail> {
     let alloc = rt.alloc();
     let outcome = replay(alloc, &busy_job(alloc, &IN_TURN)?)?;
     assert!(rt; outcome.ended);
-    check(&rt, &outcome.history, &WHOLE);
+    assert_eq!(rt; difference(&outcome.history, &WHOLE), None);
     Ok(())
 }
 
@@ -70,7 +75,7 @@ fn stops_with_the_schedule(rt: HostRuntime) -> Result<(), Fail> {
     let alloc = rt.alloc();
     let outcome = replay(alloc, &busy_job(alloc, &THIRD_THEN_SECOND)?)?;
     assert!(rt; !outcome.ended);
-    check(&rt, &outcome.history, &THIRD_FIRST);
+    assert_eq!(rt; difference(&outcome.history, &THIRD_FIRST), None);
     Ok(())
 }
 
@@ -98,7 +103,7 @@ fn owns_its_job(rt: HostRuntime) -> Result<(), Fail> {
         }
     }
     assert!(rt; machine.all_end());
-    check(&rt, machine.history(), &WHOLE);
+    assert_eq!(rt; difference(machine.history(), &WHOLE), None);
     Ok(())
 }
 
