@@ -67,8 +67,8 @@ read-told remaining remaining' told read is_told whole =
 -- ## what the top call answers: the code of the reply to what was read, where equal texts have names of their own
 
 module _ (remaining remaining' holds holds' : Option (List ℕ)) (read script text written : List ℕ) (status : Status) (code : ℕ)
-  (whole : ReadWhole remaining remaining' read) (is_script : script ≡ read) (reply : IsReplyTo script status text) (is_code : code ≡ code_of status)
-  (is_written : written ≡ text) (appended : Appends holds holds' written) where
+    (whole : ReadWhole remaining remaining' read) (is_script : script ≡ read) (reply : IsReplyTo script status text) (is_code : code ≡ code_of status)
+    (is_written : written ≡ text) (appended : Appends holds holds' written) where
   reply' : IsReplyTo read status written
   reply' = subst (λ s. IsReplyTo s status written) is_script (subst (IsReplyTo script status) (sym is_written) reply)
 

@@ -48,9 +48,9 @@ module _ (job : Job) (ok : IsWordJob job) (s : World) (kept : MachineRule job s)
   walks-elsewhere : (q u : ℕ) → Walks job (here s kept.base) q u → IsLinking job s u → ⊥
   walks-elsewhere q u (inl there) x =
       let adds : is_adds (effect job s.control.commands_done) ≡ true =
-          subst (λ p. comes_to (effect job s.control.commands_done) p ≡ true) x.0 kept.sites.fit in
+      subst (λ p. comes_to (effect job s.control.commands_done) p ≡ true) x.0 kept.sites.fit in
       let members : has u s.control.order ≡ (state_of job s.control.commands_done u).registered =
-          subst (λ p. has u s.control.order ≡ (state_of job (list_desk p s.control.commands_done) u).registered) x.0 (kept.list.order'.members u) in
+      subst (λ p. has u s.control.order ≡ (state_of job (list_desk p s.control.commands_done) u).registered) x.0 (kept.list.order'.members u) in
       false_true (sym (added-new adds) ∙ ap (λ v. (state_of job s.control.commands_done v).registered) (sym x.1) ∙ sym members ∙ there)
   walks-elsewhere q u (inr g) x = false_true (sym (ap listed x.0) ∙ g.0.0)
 
@@ -86,7 +86,7 @@ module _ (job : Job) (ok : IsWordJob job) (s : World) (kept : MachineRule job s)
       → ReaderAt job s.control.commands_done s.control.position s.control.request q s.control.copies s.words.bits u copy R → IsWriting job s u copy → ⊥
   other q u copy R k x =
       let same : copy ≡ s.control.copies u =
-          (subst (λ p. ReaderAt job s.control.commands_done p s.control.request q s.control.copies s.words.bits u copy R) x.2 k).0 refl in
+      (subst (λ p. ReaderAt job s.control.commands_done p s.control.request q s.control.copies s.words.bits u copy R) x.2 k).0 refl in
       let two = kept.sets.small u in let e = x.4 in absurd (omega (arith, same, two, e))
 
   reads : (q : ℕ) (m : Moment) (u copy : ℕ) → copy_read m ≡ Some (u, copy) → CallAt job (here s kept.base) s.past (s.words.ack c) q top below m

@@ -154,8 +154,8 @@ module _ (job : Job) (ok : IsWordJob job) (h : Here) (past : List Item) (ack fir
   call-there q t x c below (AtExit m rest) o k =
       let owed = k.so.owed.0 in
       let inside : owed.0.user < length job.users =
-          each-contains (λ (y : Visit). y.user < length job.users) k.ms owed.0 (subst (Each (λ (y : Visit). y.user < length job.users)) k.so.those
-          (visited-inside job ok.job' c.call past legal)) owed.1 in
+      each-contains (λ (y : Visit). y.user < length job.users) k.ms owed.0 (subst (Each (λ (y : Visit). y.user < length job.users)) k.so.those
+      (visited-inside job ok.job' c.call past legal)) owed.1 in
       let e = owed.2 in
       omega (arith, inside, e)
   call-there q t x c below (Exiting m rest) o k = tt
