@@ -110,6 +110,7 @@ pub task_carried : (job : Job) (h : Here) (past past' : List Item) (ack word t :
 task_carried job h past past' ack word t x c k = record {
   word' = k.word';
   gone = k.gone;
+  total = k.total;
   quiet = k.quiet;
   first = k.first;
   reached = k.reached;

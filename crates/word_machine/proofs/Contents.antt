@@ -13,7 +13,7 @@ use Rattle.ft_base.specs.Desk.{Desk, UserState, is_allowed, is_matching}
 use Rattle.ft_base.proofs.Small.{false_true}
 use Rattle.ft_base.specs.Marks.{Marks}
 use Rattle.site_set.specs.Marks.{word_of}
-use Rattle.site_set.proofs.MarksLemmas.{bit_at-word_of, bit_at-number_of}
+use Rattle.site_set.proofs.MarksLemmas.{bit_at-word_of, bit_at-number_with_bits}
 use Rattle.word_machine.specs.Words.{high, half_size, sel_word, sel_on, sel_copy, sel_empty, stands, tramp_word, tramp_user, is_marked, mask_of, head_of, tail_of, decode, low, halves}
 use Rattle.word_machine.specs.Commands.{set_words}
 use Rattle.word_machine.specs.HashCopies.{SelIs, Reader}
@@ -122,7 +122,7 @@ mask-is d tasks t few inside =
     let small : t % 64 ≡ t = omega (arith, few, inside) in
     let len : length (range_with_len 0 tasks) ≡ tasks = length-range_with_len 0 tasks in
     ap (λ n. bit_at (mask_of d tasks) n == 1) small
-    ∙ ap (λ n. n == 1) (bit_at-number_of (map (is_allowed d) (range_with_len 0 tasks)) t)
+    ∙ ap (λ n. n == 1) (bit_at-number_with_bits (map (is_allowed d) (range_with_len 0 tasks)) t)
     ∙ digit-one (get_or (map (is_allowed d) (range_with_len 0 tasks)) t false)
     ∙ get_or-map (is_allowed d) (range_with_len 0 tasks) t 0 false (omega (arith, len, inside))
     ∙ ap (λ n. is_allowed d n) (get_or-range_with_len 0 tasks t 0 inside ∙ (let z : 0 + t ≡ t = omega arith in z))

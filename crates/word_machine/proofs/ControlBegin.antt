@@ -15,7 +15,7 @@ use Rattle.ft_base.proofs.Small.{false_true}
 use Rattle.ft_hist.specs.Past.{begun}
 use Rattle.ft_hist.specs.Rules.{IsLegalPast, HasWaited, MayBegin}
 use Rattle.ft_hist.proofs.Laws.{plain-other}
-use Rattle.site_set.specs.Marks.{number_of}
+use Rattle.site_set.specs.Marks.{number_with_bits}
 use Rattle.word_machine.specs.Words.{Words, low, half_size, mask_of, tramp_word}
 use Rattle.word_machine.specs.Commands.{Effect, Adds, Removes, Edits, Enables, Disables, Lists, Levels, Nothing, effect, subject, state_of, changes, has_slot_at}
 use Rattle.word_machine.specs.Control.{Mark, Position, Line, Take, Copy, Select, StorePids, StoreDepth, Close, begin_in, copy_from, control_got}
@@ -35,6 +35,7 @@ use Rattle.word_machine.proofs.Goes.{Goes, cpu_goes}
 use Rattle.word_machine.proofs.NoSwitch.{world, hereby, lines_on}
 use Rattle.word_machine.proofs.DeskKept.{others_same, none_changes, rest_same, order_flips, IsSteady}
 use Rattle.word_machine.proofs.TrampRows.{first_copy}
+use Rattle.word_machine.proofs.Room.{HasRoomFor}
 
 module _ (job : Job) (ok : IsWellFormed job) (d : ℕ) where
   -- a command that stores no user's state leaves all states
@@ -160,7 +161,7 @@ module _ (job : Job) (ok : IsWellFormed job) (d : ℕ) where
         by_pids false e = k.tasks
         by_pids true e =
             let same : is_allowed (desk job d) ≡ is_allowed (desk job (suc d)) = λ i t. sym (pids_same (b.pids e) t) i in
-            k.tasks ∙ ap (λ (f : ℕ → Bool). number_of (map f (range_with_len 0 (length job.tasks)))) same
+            k.tasks ∙ ap (λ (f : ℕ → Bool). number_with_bits (map f (range_with_len 0 (length job.tasks)))) same
 
         by_depth : (x : Bool) → depth_stored p' ≡ x → depth ≡ (desk job (desk_by x d)).depth
         by_depth false e = k.level
@@ -218,7 +219,7 @@ module _ (job : Job) (ok : IsWellFormed job) (ws : Words) (d : ℕ) (c : Command
         (slice_get_within (commands job) d c (let z : d + 0 ≡ d = omega arith in ap (λ n. slice_get (commands job) n) (sym z) ∙ k.lines.commands 0));
   }
 
-  begin_to : (p' : Position) → Begins job ok d p' request → suc (length past) < half_size → HasWaited job past → At Line
+  begin_to : (p' : Position) → Begins job ok d p' request → HasRoomFor job → HasWaited job past → At Line
       → MachineRule job (world (record ws { clock = half_size + 1 + ws.clock }) d (Run c ∷ rest) request copies order cpus (Begin (suc d) ∷ past) p')
   unfolding IsLegalPast
   begin_to p' b room waited k =
@@ -227,15 +228,17 @@ module _ (job : Job) (ok : IsWellFormed job) (ws : Words) (d : ℕ) (c : Command
       (λ f inside ch. stays f ch (patches (effect job d)) refl) (k.sites.asked ∙ ap (λ n. k.base + n) (sym b.none)) (let z = k.sites.few in
       omega (arith, z)) k.sites.want b.position b.fit (inl refl)
       (λ c within s. rw (b.reaches k.base c) (omega arith)) k.sites in
+      let legal : IsLegalPast job (Begin (suc d) ∷ past) =
+      (record { run = λ t. rw (plain-other job past (Begin (suc d)) t refl) (k.runs t); rule = (may_begin k, waited) }, k.legal) in
       record {
         base = k.base;
         counts = record {
           returned = k.counts.returned;
           started = ap (λ n. suc n) k.counts.started ∙ ap (λ (x : Bool). cond x (suc d) d) (sym b.begun);
           clock' = (let z = k.counts.clock' in omega (arith, z));
-          room = room;
+          room = room (Begin (suc d) ∷ past) legal;
         };
-        legal = (record { run = λ t. rw (plain-other job past (Begin (suc d)) t refl) (k.runs t); rule = (may_begin k, waited) }, k.legal);
+        legal = legal;
         runs = λ t. rw (plain-other job past (Begin (suc d)) t refl) (k.runs t);
         lines = lines_on job d Line p' (Run c ∷ rest) _ (λ u. b.to (Run c ∷ rest) (c, rest, refl)) k.lines;
         sites = pass.sites;
@@ -258,7 +261,7 @@ module _ (job : Job) (ok : IsWellFormed job) (ws : Words) (d : ℕ) (c : Command
       stays f ch false e = false_true (sym (none_changes job ok d e f) ∙ ch)
 
   -- the row: the clock has room for one more item, and control's waits are met in the history's words
-  pub begin_keeps : suc (length past) < half_size → HasWaited job past → At Line
+  pub begin_keeps : HasRoomFor job → HasWaited job past → At Line
       → MachineRule job (control_row job (world ws d (Run c ∷ rest) request copies order cpus past Line) (Mark (Begin (suc d))))
   unfolding control_got
   begin_keeps room waited k = by_effect (effect job d) refl

@@ -33,6 +33,7 @@ use Rattle.word_machine.proofs.NoneCalled.{none_called}
 use Rattle.word_machine.proofs.Effects.{passed_of}
 use Rattle.word_machine.proofs.HistCalled.{of_user, there_of, by_task, stranger_none}
 use Rattle.word_machine.proofs.HistCarried.{of_task}
+use Rattle.word_machine.proofs.Room.{HasRoomFor}
 
 -- ## tasks
 
@@ -207,8 +208,8 @@ module _ (job : Job) (ok : IsWordJob job) (ws : Words) (d : ℕ) (remaining : Li
         );
   }
 
-  -- the row; one more item must find room in the clock
-  pub close_keeps : suc (length past) < half_size → At Close
+  -- the row
+  pub close_keeps : HasRoomFor job → At Close
       → MachineRule job (control_row job (world ws d remaining request copies order cpus past Close) (Mark (Return (suc d) (answer_in job d (command job d)))))
   unfolding control_got IsLegalPast
   close_keeps room k =
@@ -216,21 +217,22 @@ module _ (job : Job) (ok : IsWordJob job) (ws : Words) (d : ℕ) (remaining : Li
       let l = lines_close job d remaining _ u.0 u.1 u.2 k.lines in
       let pass : Passed job ws.ack d Close k.base request (suc d) Line request request ws.want ws.head ws.tail ws.next =
       passed_close job d ws.ack Line k.base request ws.want ws.head ws.tail ws.next (λ f. refl) refl (λ b c. refl) tt refl k.sites in
+      let legal : IsLegalPast job (Return (suc d) (answer_in job d (command job d)) ∷ past) = (
+        record {
+          run = λ t. rw (plain-other job past (Return (suc d) (answer_in job d (command job d))) t refl) (k.runs t);
+          rule = may_return k u.0 l.0;
+        },
+        k.legal,
+      ) in
       record {
         base = request;
         counts = record {
           returned = ap (λ n. suc n) k.counts.returned;
           started = k.counts.started;
           clock' = (let z = k.counts.clock' in omega (arith, z));
-          room = room;
+          room = room (Return (suc d) (answer_in job d (command job d)) ∷ past) legal;
         };
-        legal = (
-          record {
-            run = λ t. rw (plain-other job past (Return (suc d) (answer_in job d (command job d))) t refl) (k.runs t);
-            rule = may_return k u.0 l.0;
-          },
-          k.legal,
-        );
+        legal = legal;
         runs = λ t. rw (plain-other job past (Return (suc d) (answer_in job d (command job d))) t refl) (k.runs t);
         lines = subst (λ (x : List Ctl). ControlLines job (suc d) Line x (λ t. (task_in job cpus t).gone)) (ap rest_lines (sym u.2)) l.1;
         sites = pass.sites;

@@ -26,6 +26,7 @@ use Rattle.word_machine.proofs.TrampRows.{take_keeps, release_keeps}
 use Rattle.word_machine.proofs.ControlClose.{close_keeps}
 use Rattle.word_machine.proofs.ControlBegin.{begin_keeps}
 use Rattle.word_machine.proofs.ControlLine.{until_keeps, has_waited, task_passed}
+use Rattle.word_machine.proofs.Room.{has-room}
 
 module _ (job : Job) (ok : IsWordJob job) (ws : Words) (d : ℕ) (request : ℕ) (copies : ℕ → ℕ) (order : List ℕ) (cpus : ℕ → Cpu) (past : List Item) where
   abbrev at : List Ctl → Position → World
@@ -40,15 +41,15 @@ module _ (job : Job) (ok : IsWordJob job) (ws : Words) (d : ℕ) (request : ℕ)
       subst (λ (o : Option PlainTask). IfSome o (λ s. (task_in job cpus t).gone ≤ acts_passed s)) (sym kt.run.is)
       (task_passed job (hereby d p k.base request order copies ws.link ws.bits) past (ws.ack c) (ws.quiet t) t (task_in job cpus t) kt)
 
-  by_line : (remaining : List Ctl) (op : Op) → length (past_after op past) < half_size → MachineRule job (at remaining Line) → line_op d remaining ≡ Some op
+  by_line : (remaining : List Ctl) (op : Op) → MachineRule job (at remaining Line) → line_op d remaining ≡ Some op
       → MachineRule job (control_row job (at remaining Line) op)
-  by_line [] op room k is = absurd (cc)
-  by_line (Until t n ∷ rest) op room k is = subst (λ o. MachineRule job (control_row job (at (Until t n ∷ rest) Line) o)) (same_Some (Load (Quiet t)) op is)
+  by_line [] op k is = absurd (cc)
+  by_line (Until t n ∷ rest) op k is = subst (λ o. MachineRule job (control_row job (at (Until t n ∷ rest) Line) o)) (same_Some (Load (Quiet t)) op is)
       (until_keeps job ok ws d request copies order cpus past t n rest k)
-  by_line (Run c ∷ rest) op room k is =
+  by_line (Run c ∷ rest) op k is =
       subst (λ o. MachineRule job (control_row job (at (Run c ∷ rest) Line) o)) (same_Some (Mark (Begin (suc d))) op is)
       (begin_keeps job ok.job' ws d c rest request copies order cpus past
-      (subst (λ o. length (past_after o past) < half_size) (sym (same_Some (Mark (Begin (suc d))) op is)) room)
+      (has-room job ok)
       (has_waited job ok ws d request copies order cpus past c rest (passes (Run c ∷ rest) Line k) k) k)
 
   module _ (remaining : List Ctl) where
@@ -58,49 +59,49 @@ module _ (job : Job) (ok : IsWordJob job) (ws : Words) (d : ℕ) (request : ℕ)
     row : (p : Position) (x op : Op) → Some x ≡ Some op → Row p x → Row p op
     row p x op is r = subst (λ o. Row p o) (same_Some x op is) r
 
-    by_place : (p : Position) (op : Op) → length (past_after op past) < half_size → MachineRule job (at remaining p)
+    by_place : (p : Position) (op : Op) → MachineRule job (at remaining p)
         → next_in job (at remaining p).control p ≡ Some op → Row p op
-    by_place Line op room k is = by_line remaining op room k is
-    by_place Take op room k is = row Take
+    by_place Line op k is = by_line remaining op k is
+    by_place Take op k is = row Take
         (Store (Tramp (slot_of (state_of job (suc d) (subject job d)).slot)) (tramp_word (state_of job (suc d) (subject job d)).reg (subject job d))) op is
         (take_keeps job ok.job' ws d remaining request copies order cpus past k)
-    by_place (Copy h w) op room k is = row (Copy h w) (Store (Bits (subject job d) (other_copy (copies (subject job d))) h w)
+    by_place (Copy h w) op k is = row (Copy h w) (Store (Bits (subject job d) (other_copy (copies (subject job d))) h w)
         (set_word (state_of job (suc d) (subject job d)) h w)) op is (copy_keeps job ws d remaining request copies order cpus past h w k)
-    by_place Select op room k is = row Select
+    by_place Select op k is = row Select
         (Store (Sel (subject job d)) (sel_of (state_of job (suc d) (subject job d)) (copy_after (effect job d) (copies (subject job d))))) op is
         (select_keeps job ok.job' ws d remaining request copies order cpus past k)
-    by_place Push op room k is = row Push (Store (Link (subject job d)) (name_of order)) op is
+    by_place Push op k is = row Push (Store (Link (subject job d)) (name_of order)) op is
         (push_keeps job ok.job' ws d remaining request copies cpus past order k)
-    by_place Relink op room k is = row Relink (relink_op (effect job d) (subject job d) order) op is
+    by_place Relink op k is = row Relink (relink_op (effect job d) (subject job d) order) op is
         (relink_keeps job ok.job' ws d remaining request copies cpus past order k)
-    by_place StorePids op room k is = row StorePids (Store Pids (mask_of (desk job (suc d)) (length job.tasks))) op is
+    by_place StorePids op k is = row StorePids (Store Pids (mask_of (desk job (suc d)) (length job.tasks))) op is
         (pids_keeps job ok.job' ws d remaining request copies order cpus past k)
-    by_place StoreDepth op room k is = row StoreDepth (Store Depth (desk job (suc d)).depth) op is
+    by_place StoreDepth op k is = row StoreDepth (Store Depth (desk job (suc d)).depth) op is
         (depth_keeps job ok.job' ws d remaining request copies order cpus past k)
-    by_place (NextAt f) op room k is = row (NextAt f) (Store (Next f) (insn job (suc d) f)) op is
+    by_place (NextAt f) op k is = row (NextAt f) (Store (Next f) (insn job (suc d) f)) op is
         (next_keeps job d remaining copies order cpus past ws request f k)
-    by_place (BreakAt f) op room k is = row (BreakAt f) (Store (Head f) breakpoint) op is (break_keeps job d remaining copies order cpus past ws request f k)
-    by_place Ask1 op room k is = row Ask1 (Store Want (suc request)) op is (ask1_keeps job d remaining copies order cpus past ws request k)
-    by_place (Wait1 c) op room k is = row (Wait1 c) (Load (Ack c)) op is (wait1_keeps job d remaining copies order cpus past ws request c k)
-    by_place (TailAt f) op room k is = row (TailAt f) (Store (Tail f) (tail_of f (insn job (suc d) f))) op is
+    by_place (BreakAt f) op k is = row (BreakAt f) (Store (Head f) breakpoint) op is (break_keeps job d remaining copies order cpus past ws request f k)
+    by_place Ask1 op k is = row Ask1 (Store Want (suc request)) op is (ask1_keeps job d remaining copies order cpus past ws request k)
+    by_place (Wait1 c) op k is = row (Wait1 c) (Load (Ack c)) op is (wait1_keeps job d remaining copies order cpus past ws request c k)
+    by_place (TailAt f) op k is = row (TailAt f) (Store (Tail f) (tail_of f (insn job (suc d) f))) op is
         (tail_keeps job d remaining copies order cpus past ws request f k)
-    by_place Ask2 op room k is = row Ask2 (Store Want (suc request)) op is (ask2_keeps job d remaining copies order cpus past ws request k)
-    by_place (Wait2 c) op room k is = row (Wait2 c) (Load (Ack c)) op is (wait2_keeps job d remaining copies order cpus past ws request c k)
-    by_place (HeadAt f) op room k is = row (HeadAt f) (Store (Head f) (head_of (insn job (suc d) f))) op is
+    by_place Ask2 op k is = row Ask2 (Store Want (suc request)) op is (ask2_keeps job d remaining copies order cpus past ws request k)
+    by_place (Wait2 c) op k is = row (Wait2 c) (Load (Ack c)) op is (wait2_keeps job d remaining copies order cpus past ws request c k)
+    by_place (HeadAt f) op k is = row (HeadAt f) (Store (Head f) (head_of (insn job (suc d) f))) op is
         (head_keeps job d remaining copies order cpus past ws request f k)
-    by_place Ask3 op room k is = row Ask3 (Store Want (suc request)) op is (ask3_keeps job d remaining copies order cpus past ws request k)
-    by_place (Wait3 c) op room k is = row (Wait3 c) (Load (Ack c)) op is (wait3_keeps job d remaining copies order cpus past ws request c k)
-    by_place AskQuiet op room k is = row AskQuiet (Store Want (suc request)) op is (ask_quiet_keeps job d remaining copies order cpus past ws request k)
-    by_place (WaitQuiet t) op room k is = row (WaitQuiet t) (Load (Quiet t)) op is (wait_quiet_keeps job d remaining copies order cpus past ws request t k)
-    by_place Release op room k is = row Release (Store (Tramp (slot_of (state_of job d (subject job d)).slot)) 0) op is
+    by_place Ask3 op k is = row Ask3 (Store Want (suc request)) op is (ask3_keeps job d remaining copies order cpus past ws request k)
+    by_place (Wait3 c) op k is = row (Wait3 c) (Load (Ack c)) op is (wait3_keeps job d remaining copies order cpus past ws request c k)
+    by_place AskQuiet op k is = row AskQuiet (Store Want (suc request)) op is (ask_quiet_keeps job d remaining copies order cpus past ws request k)
+    by_place (WaitQuiet t) op k is = row (WaitQuiet t) (Load (Quiet t)) op is (wait_quiet_keeps job d remaining copies order cpus past ws request t k)
+    by_place Release op k is = row Release (Store (Tramp (slot_of (state_of job d (subject job d)).slot)) 0) op is
         (release_keeps job ok.job' ws d remaining request copies order cpus past k)
-    by_place Close op room k is = row Close (Mark (Return (suc d) (answer_in job d (command job d)))) op is
+    by_place Close op k is = row Close (Mark (Return (suc d) (answer_in job d (command job d)))) op is
         (close_keeps job ok ws d remaining request copies order cpus past
-        (subst (λ o. length (past_after o past) < half_size) (sym (same_Some (Mark (Return (suc d) (answer_in job d (command job d)))) op is)) room) k)
+        (has-room job ok) k)
 
--- any row of control; its item must find room in the clock
-pub control_keeps : (job : Job) → IsWordJob job → (s : World) (op : Op) → length (past_after op s.past) < half_size → MachineRule job s
+-- any row of control
+pub control_keeps : (job : Job) → IsWordJob job → (s : World) (op : Op) → MachineRule job s
     → control_next job s.control ≡ Some op → MachineRule job (control_row job s op)
 unfolding control_next
-control_keeps job ok s op room k is =
-    by_place job ok s.words s.control.commands_done s.control.request s.control.copies s.control.order s.cpus s.past s.control.remaining s.control.position op room k is
+control_keeps job ok s op k is =
+    by_place job ok s.words s.control.commands_done s.control.request s.control.copies s.control.order s.cpus s.past s.control.remaining s.control.position op k is

@@ -23,9 +23,9 @@ use Rattle.word_machine.specs.Verdicts.{Here}
 use Rattle.word_machine.specs.Tasks.{TaskRule, scripted_of}
 use Rattle.word_machine.specs.Rule.{MachineRule, here, IsOn, IsWordJob, PollAt}
 use Rattle.word_machine.proofs.Start.{opens}
-use Rattle.word_machine.proofs.Steps.{step_keeps, always_kept}
+use Rattle.word_machine.proofs.Steps.{run_kept, play_kept}
+use Rattle.word_machine.proofs.Room.{legal-turned}
 use Rattle.word_machine.proofs.TasksOf.{task_goes_on}
-use Rattle.word_machine.proofs.Growth.{played-grows}
 
 none-past : (xs : List Command) (i : ℕ) → slice_get xs i ≡ None → length xs ≤ i
 none-past [] i e = omega arith
@@ -108,40 +108,17 @@ module _ (job : Job) (ok : IsWordJob job) (s : World) (kept : MachineRule job s)
     tasks = λ t there. subst (λ p. IfSome (plain job t p) (HasEnded (done p))) (sym (reverse-reverse s.past)) (task-ended t there);
   }
 
--- ## replays
+-- ## runs and replays
 
 module _ (job : Job) (ok : IsWordJob job) where
-  pub played_keeps : (as' : List Actor) (s : World) → length (played job as' s).past < half_size → MachineRule job s → MachineRule job (played job as' s)
-  unfolding played
-  played_keeps [] s room kept = kept
-  played_keeps (a ∷ rest) s room kept = by (all_end job s) room
-      (λ r. played_keeps rest (step job a s) r (step_keeps job ok a s (let y = played-grows job rest (step job a s) in omega (arith, y, r)) kept))
-    where
-      by : (b : Bool) → length (cond b s (played job rest (step job a s))).past < half_size
-          → (length (played job rest (step job a s)).past < half_size → MachineRule job (played job rest (step job a s)))
-          → MachineRule job (cond b s (played job rest (step job a s)))
-      by true room go = kept
-      by false room go = go room
+  pub every_run_is_legal : (as' : List Actor) → IsLegal job (reverse (run job as' (start job)).past)
+  every_run_is_legal as' = legal-turned job (run job as' (start job)).past (run_kept job ok as').legal
 
-  -- the rule holds at the end of the job's replay
-  pub play_kept : length (play job).past < half_size → MachineRule job (play job)
-  unfolding start play
-  play_kept room = played_keeps (actors_of job) (start job) room (opens job ok)
+  pub every_ended_run_is_whole : (as' : List Actor) → all_end job (run job as' (start job)) ≡ true → IsWhole job (reverse (run job as' (start job)).past)
+  every_ended_run_is_whole as' over = whole job ok (run job as' (start job)) (run_kept job ok as') over
 
-  -- its history is legal
-  pub every_play_is_legal : length (play job).past < half_size → IsLegal job (reverse (play job).past)
-  unfolding IsLegal
-  every_play_is_legal room = subst (λ p. IsLegalPast job p) (sym (reverse-reverse (play job).past)) (play_kept room).legal
+  pub every_play_is_legal : IsLegal job (reverse (play job).past)
+  every_play_is_legal = legal-turned job (play job).past (play_kept job ok).legal
 
-  -- and if every actor is at its end, it is whole
-  pub every_ended_play_is_whole : length (play job).past < half_size → all_end job (play job) ≡ true → IsWhole job (reverse (play job).past)
-  every_ended_play_is_whole room over = whole job ok (play job) (play_kept room) over
-
-  -- the same for any run
-  pub every_run_is_legal : (as' : List Actor) → length (run job as' (start job)).past < half_size → IsLegal job (reverse (run job as' (start job)).past)
-  unfolding IsLegal
-  every_run_is_legal as' room = subst (λ p. IsLegalPast job p) (sym (reverse-reverse (run job as' (start job)).past)) (always_kept job ok as' room).legal
-
-  pub every_ended_run_is_whole : (as' : List Actor) → length (run job as' (start job)).past < half_size → all_end job (run job as' (start job)) ≡ true
-      → IsWhole job (reverse (run job as' (start job)).past)
-  every_ended_run_is_whole as' room over = whole job ok (run job as' (start job)) (always_kept job ok as' room) over
+  pub every_ended_play_is_whole : all_end job (play job) ≡ true → IsWhole job (reverse (play job).past)
+  every_ended_play_is_whole over = whole job ok (play job) (play_kept job ok) over

@@ -259,6 +259,7 @@ pub task_goes : (job : Job) (past : List Item) (h h' : Here) (ack word t : ℕ) 
 task_goes job past h h' ack word t x begins le reach goes k = record {
   word' = k.word';
   gone = k.gone;
+  total = k.total;
   quiet = told-later h.request h'.request (has_acts x.acts) greatest_half (low word) le k.quiet;
   first = k.first;
   reached = reach k.reached;

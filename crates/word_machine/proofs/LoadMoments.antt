@@ -136,6 +136,7 @@ module _ (job : Job) (h : Here) (past : List Item) (ack word t : â„•) (next : â„
   task_goes m m' r a at' k = record {
     word' = k.word';
     gone = k.gone;
+    total = k.total;
     quiet = k.quiet;
     first = first-loud m' acts a.quiet';
     reached = k.reached;

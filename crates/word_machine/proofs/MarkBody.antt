@@ -38,7 +38,7 @@ use Rattle.word_machine.proofs.DeskChanges.{between, numbers-kept}
 use Rattle.word_machine.proofs.Marks.{follows, mid_kept}
 use Rattle.word_machine.proofs.MarkDispatch.{task, few-below}
 use Rattle.word_machine.proofs.DeskTargets.{sited_own, sited_nop, off_unsited}
-use Rattle.word_machine.proofs.Told.{told-fewer}
+use Rattle.word_machine.proofs.Told.{told-fewer, one-done}
 use Rattle.plain_machine.specs.State.{has_acts}
 
 -- ## what a target says of users
@@ -215,6 +215,7 @@ module _ (job : Job) (ok : IsWordJob job) (h : Here) (ack word clock : ℕ) (pas
         by true s = record {
           word' = k.word';
           gone = (let g = k.gone in omega (arith, g));
+          total = one-done gone acts _ k.stands.0 k.total;
           quiet = told-fewer h.request (has_acts acts) (has_acts (rest_acts acts)) greatest_half (low word) k.stands.0 k.quiet;
           first = tt;
           reached = k.reached;

@@ -162,6 +162,7 @@ module _ (job : Job) (h : Here) (ack word clock : ℕ) (past : List Item) (count
         record {
           word' = k.word';
           gone = k.gone;
+          total = k.total;
           quiet = k.quiet;
           first = tt;
           reached = k.reached;

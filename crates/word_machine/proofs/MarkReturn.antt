@@ -29,7 +29,7 @@ use Rattle.word_machine.proofs.Stacks.{opens-of, older_untouched}
 use Rattle.word_machine.proofs.Marks.{follows, mid_kept}
 use Rattle.word_machine.proofs.MarkDispatch.{task, few-below, ended-own}
 use Rattle.word_machine.proofs.MarkEnter.{open_first}
-use Rattle.word_machine.proofs.Told.{told-fewer, first-loud}
+use Rattle.word_machine.proofs.Told.{told-fewer, first-loud, one-done}
 use Rattle.plain_machine.specs.State.{has_acts}
 
 -- what all places between the exits have
@@ -125,6 +125,7 @@ module _ (job : Job) (h : Here) (ack word clock : ℕ) (past : List Item) (count
           record {
             word' = k.word';
             gone = k.gone;
+            total = k.total;
             quiet = k.quiet;
             first = first-loud (next_exit c.users) (RetAct ∷ rest) r.quiet;
             reached = k.reached;
@@ -285,6 +286,7 @@ module _ (job : Job) (h : Here) (ack word clock : ℕ) (past : List Item) (count
         by true s = record {
           word' = k.word';
           gone = (let g = k.gone in omega (arith, g));
+          total = one-done gone acts _ k.stands.0 k.total;
           quiet = told-fewer h.request (has_acts acts) (has_acts (rest_acts acts)) greatest_half (low word) k.stands.0 k.quiet;
           first = tt;
           reached = k.reached;

@@ -61,6 +61,7 @@ module _ (job : Job) (h : Here) (ack word t : ℕ) where
       record {
         word' = k.word';
         gone = k.gone;
+        total = k.total;
         quiet = k.quiet;
         first = first-loud m' acts q';
         reached = k.reached;

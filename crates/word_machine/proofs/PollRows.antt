@@ -34,6 +34,7 @@ use Rattle.word_machine.proofs.TasksOf.{task_goes_on}
 use Rattle.word_machine.proofs.Told.{told-more}
 use Rattle.word_machine.proofs.Finished.{task-gone, Grows, grows-put, grows-moved, grows-on, grows-polling, present-is, present-got, polling-of}
 use Rattle.word_machine.proofs.HistCarried.{carries_item}
+use Rattle.word_machine.proofs.Room.{HasRoomFor, has-room}
 
 -- the requests fit a half of a word
 pub request-small : (job : Job) (ok : IsWordJob job) (s : World) → MachineRule job s → s.control.request < greatest_half
@@ -153,6 +154,7 @@ module _ (job : Job) (ok : IsWordJob job) (s : World) (k : MachineRule job s) (c
             record {
               word' = refl;
               gone = rw e.1 (omega arith);
+              total = x.total;
               quiet = rw e.0 small;
               first = x.first;
               reached = rw e.0 reach;
@@ -425,7 +427,7 @@ module _ (job : Job) (ok : IsWordJob job) (s : World) (k : MachineRule job s) (c
     tasks = λ t on. f t on (x.tasks t on);
   }
 
-  kept-did : (op : Op) (me : Cpu) → length (past_after op s.past) < half_size → Did job ok s k c within op (s.cpus c).tasks me → MachineRule job (Then op me)
+  kept-did : (op : Op) (me : Cpu) → HasRoomFor job → Did job ok s k c within op (s.cpus c).tasks me → MachineRule job (Then op me)
   unfolding IsLegalPast
   kept-did (Load w) me room d = record {
     base = k.base;
@@ -486,7 +488,7 @@ module _ (job : Job) (ok : IsWordJob job) (s : World) (k : MachineRule job s) (c
           returned = n.0 ∙ k.counts.returned;
           started = n.1 ∙ k.counts.started;
           clock' = (let c' = k.counts.clock' in let a = n.0 in let b = n.1 in let w = n.2 in omega (arith, c', a, b, w));
-          room = room;
+          room = room (item ∷ s.past) (d.3, k.legal);
         };
         legal = (d.3, k.legal);
         runs = d.3.run;
@@ -507,9 +509,8 @@ module _ (job : Job) (ok : IsWordJob job) (s : World) (k : MachineRule job s) (c
 
 -- each row of a CPU keeps the rule
 pub cpu_keeps : (job : Job) (ok : IsWordJob job) (s : World) (c : ℕ) (op : Op) → c < length job.quanta → MachineRule job s
-    → length (past_after op s.past) < half_size
     → cpu_next job (s.cpus c) ≡ Some op → MachineRule job (cpu_row job s c op)
 unfolding cpu_next cpu_got
-cpu_keeps job ok s c op within k room is =
-    kept-did job ok s k c within op (phase_got job (ticked (s.cpus c)) (s.cpus c).phase (taken op s.words)) room
+cpu_keeps job ok s c op within k is =
+    kept-did job ok s k c within op (phase_got job (ticked (s.cpus c)) (s.cpus c).phase (taken op s.words)) (has-room job ok)
     (cpu-did job ok s k c within (s.cpus c) (k.cpus c within) (s.cpus c).phase refl op is)

@@ -184,6 +184,7 @@ module _ (job : Job) (ok : IsWordJob job) (h : Here) (past : List Item) (ack : â
   first-kept t n gone acts cs w stack to-do k = record {
     word' = k.word';
     gone = k.gone;
+    total = k.total;
     quiet = k.quiet;
     first = to-do;
     reached = k.reached;
@@ -213,6 +214,7 @@ module _ (job : Job) (ok : IsWordJob job) (h : Here) (past : List Item) (ack : â
   silent-kept t n gone a rest cs cs' w stack same script k = record {
     word' = k.word';
     gone = (let g = k.gone in omega (arith, g));
+    total = (let e = k.total in omega (arith, e));
     quiet = told-fewer h.request true (has_acts rest) greatest_half (low (quiet t)) refl k.quiet;
     first = tt;
     reached = k.reached;

@@ -52,8 +52,10 @@ module _ (job : Job) (ok : IsWordJob job) (s : World) (kept : MachineRule job s)
       kept.tramps (task-rule job s kept c t top below (InTramp slot) at').reached k.1
   takes AtFirst at' =
       let k = call-rule job s kept c t top below AtFirst at' in
-      first_fits job ok (here s kept.base) s.past s.words.clock kept.counts kept.legal (s.words.ack c) (low (s.words.quiet t)) top below s.words.first kept.list k.1
+      first_fits job ok (here s kept.base) s.past s.words.clock kept.counts kept.legal (s.words.ack c)
+      (low (s.words.quiet t)) top below s.words.first kept.list k.1
   takes (AtLink u) at' =
       let k = call-rule job s kept c t top below (AtLink u) at' in
-      link_fits job ok (here s kept.base) s.past s.words.clock kept.counts kept.legal (s.words.ack c) (low (s.words.quiet t)) top below u s.words.first kept.list k.1
+      link_fits job ok (here s kept.base) s.past s.words.clock kept.counts kept.legal (s.words.ack c)
+      (low (s.words.quiet t)) top below u s.words.first kept.list k.1
   takes _ at' = tt

@@ -73,6 +73,7 @@ module _ (job : Job) (ok : IsWordJob job) (s : World) (k : MachineRule job s) (c
           record {
             word' = x.word';
             gone = (let g = x.gone in omega (arith, g));
+            total = (let e = x.total in omega (arith, e));
             quiet = told-fewer h.request true (has_acts rest) greatest_half (low word) refl x.quiet;
             first = tt;
             reached = x.reached;
@@ -96,6 +97,7 @@ module _ (job : Job) (ok : IsWordJob job) (s : World) (k : MachineRule job s) (c
       by false e = record {
         word' = x.word';
         gone = x.gone;
+        total = x.total;
         quiet = x.quiet;
         first = tt;
         reached = x.reached;

@@ -1,8 +1,9 @@
 -- What polls have told: at most a request, or the ending value of an actor that has no act left; and what a poll leaves to be done.
-use Rattle.std.proofs.Common.{◌≡◌, ℕ, ◌≤◌, Bool, true, false, List, ◌∙◌, sym, inl, inr, arith}
+use Rattle.std.proofs.Common.{◌≡◌, ℕ, suc, ◌+◌, ◌≤◌, Bool, true, false, List, [], ◌∷◌, length, ◌∙◌, sym, inl, inr, arith}
 use Rattle.ft_base.proofs.Small.{false_true}
 use Rattle.ft_base.specs.declared.task.TaskAct.{TaskAct}
-use Rattle.word_machine.specs.Task.{Moment, Polling, First, is_quiet}
+use Rattle.plain_machine.specs.State.{has_acts}
+use Rattle.word_machine.specs.Task.{Moment, Polling, First, is_quiet, rest_acts}
 use Rattle.word_machine.specs.Tasks.{HasTold, FirstAt}
 
 -- an actor with acts left has told a request
@@ -24,3 +25,8 @@ pub first-loud : (m : Moment) (acts : List TaskAct) → is_quiet m ≡ false →
 first-loud Polling acts e = tt
 first-loud First acts e = false_true (sym e)
 first-loud _ acts e = tt
+
+-- one act fewer remains, and one more is finished
+pub one-done : (gone : ℕ) (acts : List TaskAct) (all : ℕ) → has_acts acts ≡ true → gone + length acts ≡ all → suc gone + length (rest_acts acts) ≡ all
+one-done gone [] all e k = false_true e
+one-done gone (a ∷ rest) all e k = omega (arith, k)

@@ -18,7 +18,7 @@ use Rattle.ft_base.specs.Order.{has}
 use Rattle.ft_base.specs.WellFormed.{IsNamed}
 use Rattle.ft_base.proofs.Modifiers.{named-at}
 use Rattle.ft_base.specs.Marks.{Marks}
-use Rattle.site_set.specs.Marks.{number_of, word_of}
+use Rattle.site_set.specs.Marks.{number_with_bits, word_of}
 use Rattle.plain_machine.specs.State.{has_acts}
 use Rattle.word_machine.specs.Words.{Word, Words, Clock, Want, First as ListHead, Pids, Depth, Head, Tail, Next, Ack, Quiet, Tramp, Link, Sel, Bits, put, bits_put, low, halves, half_size, greatest_half, all_ones, sel_of, set_word, mask_of, head_of, tail_of}
 use Rattle.word_machine.specs.Commands.{Effect, Adds, Removes, Edits, Enables, Disables, Lists, Levels, Nothing, effect, subject, subject_in, command, state_of, insn}
@@ -37,16 +37,13 @@ use Rattle.word_machine.proofs.DeskChanges.{between, SubjectBy}
 use Rattle.word_machine.proofs.DeskNumbers.{registered-inside}
 use Rattle.word_machine.proofs.DeskSlots.{insn-small}
 use Rattle.word_machine.proofs.PollRows.{request-small}
-use Rattle.word_machine.proofs.Growth.{step-grows}
 use Rattle.word_machine.proofs.Steps.{step_keeps}
 use Rattle.word_machine.proofs.Start.{opens}
 use Rattle.word_machine.specs.Progress.{underway}
 use Rattle.ft_base.specs.declared.task.TaskAct.{TaskAct}
 use Rattle.ft_base.specs.declared.task.TaskAct.TheVariants.{Call, Ret as RetAct, Raise, Lower, After}
 use Rattle.word_machine.proofs.Limited.{limited, few-commands}
-use Rattle.word_machine.proofs.Room.{small, step-frugal, start-frugal}
 use Rattle.std.proofs.lemmas.List.FromFn.{length-range_with_len}
-use Rattle.word_machine.specs.Costs.{WithinBudget}
 use Rattle.word_machine.proofs.Waits.{waits-got}
 
 -- ## a store
@@ -92,18 +89,18 @@ abbrev doubled : ℕ → ℕ
 doubled zero = 1
 doubled (suc n) = 2 * doubled n
 
-number-small : (n : ℕ) (bs : Marks) → length bs ≤ n → number_of bs < doubled n
+number-small : (n : ℕ) (bs : Marks) → length bs ≤ n → number_with_bits bs < doubled n
 number-small zero [] le = omega arith
 number-small (suc n) [] le = (let h = number-small n [] (omega arith) in omega (arith, h))
 number-small zero (b ∷ bs) le = absurd (omega (arith, le))
 number-small (suc n) (b ∷ bs) le = (let h = number-small n bs (omega (arith, le)) in
-    if_case (λ x. x + 2 * number_of bs < 2 * doubled n) b 1 0 (λ e. omega (arith, h)) (λ e. omega (arith, h)))
+    if_case (λ x. x + 2 * number_with_bits bs < 2 * doubled n) b 1 0 (λ e. omega (arith, h)) (λ e. omega (arith, h)))
 
 sixty-four : doubled 64 ≡ 18446744073709551616
 sixty-four = refl
 
-marks-small : (bs : Marks) → length bs ≤ 64 → number_of bs < 18446744073709551616
-marks-small bs le = subst (λ n. number_of bs < n) sixty-four (number-small 64 bs le)
+marks-small : (bs : Marks) → length bs ≤ 64 → number_with_bits bs < 18446744073709551616
+marks-small bs le = subst (λ n. number_with_bits bs < n) sixty-four (number-small 64 bs le)
 
 word-small : (s : Marks) (w : ℕ) → word_of s w < 18446744073709551616
 word-small s w = marks-small (take 64 (drop (64 * w) s)) (let e = length-take 64 (drop (64 * w) s) in omega (arith, e))
@@ -244,7 +241,7 @@ going-none job me op is = by (any_has_more job me) is
     by true e = present-none me (me.tasks me.present).moment op e
     by false e = subst (λ o. FitsIn o) (same_Some _ op e) tt
 
-module _ (job : Job) (l : IsLimited job) (s : World) (k : MachineRule job s) (f : WithinBudget job s) where
+module _ (job : Job) (l : IsLimited job) (s : World) (k : MachineRule job s) where
   few : suc s.control.commands_done ≤ 2049
   few = (let a = k.lines.within in let b = few-commands job.ctls in let c = l.ctls in omega (arith, a, b, c))
 
@@ -300,7 +297,8 @@ module _ (job : Job) (l : IsLimited job) (s : World) (k : MachineRule job s) (f 
   quiet-fits : (t r : ℕ) → t < length job.tasks → r ≤ s.control.request → quiet_word r (task_in job s.cpus t) < 18446744073709551616
   quiet-fits t r lt le =
       let x : TaskState = task_in job s.cpus t in
-      let g = f.acts t lt in let a = acts-each job.tasks t lt in let m = l.acts in
+      let g = ((k.cpus (get_or job.tasks t no_task).cpu ((limited job l).placed t lt)).tasks t (lt, refl)).total in
+      let a = acts-each job.tasks t lt in let m = l.acts in
       let q = low-fits (has_acts x.acts) (is_quiet x.moment) (low x.word) (omega arith) in
       omega (arith, g, a, m, q)
     where
@@ -328,7 +326,7 @@ module _ (job : Job) (l : IsLimited job) (s : World) (k : MachineRule job s) (f 
   -- the clock has room for one more item
   clock-fits : (item : Item) → weight item + s.words.clock < 18446744073709551616
   clock-fits item =
-      let c = k.counts.clock' in let m = small job l s k f in let d' = k.counts.returned in let b = begun-most (underway s.control.position) in let e =
+      let c = k.counts.clock' in let m = k.counts.room in let d' = k.counts.returned in let b = begun-most (underway s.control.position) in let e =
       k.counts.started in let n = few in let w = heavy item in
       omega (arith, c, m, d', b, e, n, w)
     where
@@ -348,30 +346,20 @@ module _ (job : Job) (l : IsLimited job) (s : World) (k : MachineRule job s) (f 
 
 -- ## all states
 
-step-fits : (job : Job) (l : IsLimited job) (a : Actor) (s : World) → MachineRule job s → WithinBudget job s → AllFit s.words → AllFit (step job a s).words
+step-fits : (job : Job) (l : IsLimited job) (a : Actor) (s : World) → MachineRule job s → AllFit s.words → AllFit (step job a s).words
 unfolding step control_next cpu_next
-step-fits job l ByControl s k f all = by (control_next job s.control) refl
+step-fits job l ByControl s k all = by (control_next job s.control) refl
   where
     by : (o : Option Op) → control_next job s.control ≡ o → AllFit (control_moved job s o).words
     by None e = all
-    by (Some op) e = after-fits job l s k f op (control-fit job l s k f s.control.position op e) all
-step-fits job l (ByCpu c) s k f all = by_there (nat_lt c.0 (length job.quanta)) refl (cpu_next job (s.cpus c.0)) refl
+    by (Some op) e = after-fits job l s k op (control-fit job l s k s.control.position op e) all
+step-fits job l (ByCpu c) s k all = by_there (nat_lt c.0 (length job.quanta)) refl (cpu_next job (s.cpus c.0)) refl
   where
     by_there : (b : Bool) → nat_lt c.0 (length job.quanta) ≡ b → (o : Option Op) → cpu_next job (s.cpus c.0) ≡ o
         → AllFit (cond b (cpu_moved job s c.0 o) s).words
     by_there false t o e = all
     by_there true t None e = all
-    by_there true t (Some op) e = after-fits job l s k f op (cpu-fit job l s k f c.0 (grind (arith, nat_tests)) (s.cpus c.0).phase refl op e) all
-
-run-fits : (job : Job) (l : IsLimited job) (actors : List Actor) (s : World) → MachineRule job s → WithinBudget job s → AllFit s.words
-    → AllFit (run job actors s).words
-unfolding run
-run-fits job l [] s k f all = all
-run-fits job l (a ∷ rest) s k f all =
-    let ok = limited job l in
-    let g = (step-grows job a s).1 in
-    let m = small job l s k f in
-    run-fits job l rest (step job a s) (step_keeps job ok a s (omega (arith, g, m)) k) (step-frugal job ok a s k f) (step-fits job l a s k f all)
+    by_there true t (Some op) e = after-fits job l s k op (cpu-fit job l s k c.0 (grind (arith, nat_tests)) (s.cpus c.0).phase refl op e) all
 
 start-fits : (job : Job) → IsLimited job → AllFit (start job).words
 unfolding start
@@ -380,14 +368,11 @@ start-fits job l (Head i) = head-small 0
 start-fits job l (Tail i) = tail-small i 0 (omega arith)
 start-fits job l _ = omega arith
 
-pub all_fit : (job : Job) → IsLimited job → (actors : List Actor) → AllFit (run job actors (start job)).words
-all_fit job l actors = run-fits job l actors (start job) (opens job (limited job l)) (start-frugal job) (start-fits job l)
-
 -- ## step by step
 
 pub start-runs : (job : Job) → IsLimited job → Runs job (start job)
 unfolding start
-start-runs job l = record { kept = opens job (limited job l); frugal = start-frugal job; waits = tt; fits = start-fits job l }
+start-runs job l = record { kept = opens job (limited job l); waits = tt; fits = start-fits job l }
 
 step-waits : (job : Job) (a : Actor) (s : World) → WaitsAt job s.control.position → WaitsAt job (step job a s).control.position
 unfolding step
@@ -404,18 +389,11 @@ step-waits job (ByCpu c) s k = by_there (nat_lt c.0 (length job.quanta)) (cpu_ne
     by_there true (Some op) = k
 
 pub step-runs : (job : Job) → IsLimited job → (a : Actor) (s : World) → Runs job s → Runs job (step job a s)
-step-runs job l a s r =
-    let ok = limited job l in
-    let k = r.kept in
-    let f = r.frugal in
-    let g = (step-grows job a s).1 in
-    let m = small job l s k f in
-    record {
-      kept = step_keeps job ok a s (omega (arith, g, m)) k;
-      frugal = step-frugal job ok a s k f;
-      waits = step-waits job a s r.waits;
-      fits = step-fits job l a s k f r.fits;
-    }
+step-runs job l a s r = record {
+  kept = step_keeps job (limited job l) a s r.kept;
+  waits = step-waits job a s r.waits;
+  fits = step-fits job l a s r.kept r.fits;
+}
 
 -- ## row by row
 

@@ -1,8 +1,8 @@
 -- What the laws of the whole machine say: sites that are settled, what is never done, values and words that fit, and what goes on from step
 -- to step.
-use Rattle.std.specs.Prelude.{ℕ, suc, ◌≡◌, ◌≢◌, ◌+◌, ◌<◌, ◌≤◌, ◌⊎◌, Bool, true, false, List, [], ◌∷◌, length, Option, Some, None, ◌^◌}
+use Rattle.std.specs.Prelude.{ℕ, suc, ◌≡◌, ◌≢◌, ◌+◌, ◌<◌, ◌≤◌, ◌⊎◌, Bool, true, false, List, [], ◌∷◌, length, Option, Some, None, ◌^◌, get_or, ◌==◌}
 use Rattle.ft_base.specs.declared.item.Ran.TheVariants.{List as ByList}
-use Rattle.ft_base.specs.Job.{Job, funcs}
+use Rattle.ft_base.specs.Job.{Job, funcs, no_task}
 use Rattle.ft_hist.specs.Past.{done, begun}
 use Rattle.ft_hist.specs.Rules.{IsUnvisited}
 use Rattle.word_machine.specs.Words.{Word, Words, Clock, Want, Head, Tail, Next, Ack, Quiet, Tramp, Link, Sel, Bits, read, half_size, greatest_half, all_ones, head_of, tail_of, tramp_word, tramp_user, breakpoint, decode}
@@ -13,7 +13,7 @@ use Rattle.word_machine.specs.Cpu.{Cpu, Phase, Going, any_has_more}
 use Rattle.word_machine.specs.Machine.{World}
 use Rattle.word_machine.specs.Calls.{under_call}
 use Rattle.word_machine.specs.Rule.{MachineRule, IsOn}
-use Rattle.word_machine.specs.Costs.{WithinBudget}
+use Rattle.std.specs.List.{filter, range_with_len}
 
 -- the clock has room for the items so far
 abbrev pub HasRoom : World → Type 0
@@ -133,6 +133,12 @@ abbrev pub IsWriting : Job → World → ℕ → ℕ → Type 0
 IsWriting job s u copy = (half : ℕ) × (w : ℕ) × (s.control.position ≡ Copy half w) × (u ≡ subject job s.control.commands_done)
     × (copy ≡ other_copy (s.control.copies u))
 
+-- ## the length of a history
+
+-- the tasks of a CPU
+abbrev pub tasks_on : Job → ℕ → List ℕ
+tasks_on job c = filter (λ t. (get_or job.tasks t no_task).cpu == c) (range_with_len 0 (length job.tasks))
+
 -- ## words
 
 -- each word has a content of 64 bits
@@ -170,12 +176,10 @@ WaitsAt job (WaitQuiet t) = t < length job.tasks
 WaitsAt job _ = Unit {0}
 
 -- What code carries from step to step.
---   kept     the rule
---   frugal   the history is paid for, so the clock has room
---   waits    control waits for somebody that there is
---   fits     each word fits
+--   kept    the rule
+--   waits   control waits for somebody that there is
+--   fits    each word fits
 pub record Runs (job : Job) (s : World) : Type 0 where
   pub kept : MachineRule job s
-  pub frugal : WithinBudget job s
   pub waits : WaitsAt job s.control.position
   pub fits : AllFit s.words

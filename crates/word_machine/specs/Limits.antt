@@ -1,9 +1,11 @@
 -- Jobs within the limits of scripts.
-use Rattle.std.specs.Prelude.{◌+◌, ◌<◌, ◌≤◌, ℕ, length, sum_by}
+use Rattle.std.specs.Prelude.{◌+◌, ◌*◌, ◌<◌, ◌≤◌, ℕ, length, sum_by}
 use Rattle.std.specs.List.{AllByRecursion as Each}
-use Rattle.ft_base.specs.declared.limits.TheConstants.{COMMANDS, UNTILS, USERS, TASKS, FUNCS, TRAMPS, GRAPH_DEPTH, ACTS}
+use Rattle.ft_base.specs.declared.limits.TheConstants.{COMMANDS, UNTILS, USERS, TASKS, FUNCS, TRAMPS, GRAPH_DEPTH, ACTS, ITEMS}
 use Rattle.ft_base.specs.Job.{Job, Command, MaxDepth, Ctl, Run, Until, commands, funcs}
 use Rattle.ft_base.specs.WellFormed.{IsWellFormed}
+use Rattle.user_specs.specs.Bound.{call_bound_of}
+use Rattle.history_bound.specs.Bound.{all_calls}
 
 -- the task that control waits for is one of this many
 abbrev pub WaitsFor : ℕ → Ctl → Type 0
@@ -16,7 +18,8 @@ IsLevel (MaxDepth n) = n ≤ GRAPH_DEPTH
 IsLevel _ = Unit {0}
 
 -- What the limits of scripts give of a job: it is well formed, its tasks are on its CPUs, its waits name its tasks, and it has no more lines
--- of control, users, tasks, functions, trampolines and acts, and no greater depths, than a script may have
+-- of control, users, tasks, functions, trampolines and acts, and no greater depths, than a script may have; nor more items that its calls
+-- can make
 pub record IsLimited (job : Job) : Type 0 where
   pub job' : IsWellFormed job
   pub placed : Each (λ t. t.cpu < length job.quanta) job.tasks
@@ -28,3 +31,4 @@ pub record IsLimited (job : Job) : Type 0 where
   pub tramps : job.tramps ≤ TRAMPS
   pub levels : Each IsLevel (commands job)
   pub acts : sum_by (λ t. length t.acts) job.tasks ≤ ACTS
+  pub items : call_bound_of job.users * all_calls job.tasks ≤ ITEMS

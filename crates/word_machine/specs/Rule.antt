@@ -9,6 +9,8 @@ use Rattle.ft_base.specs.WellFormed.{IsWellFormed}
 use Rattle.ft_hist.specs.Past.{done, begun}
 use Rattle.ft_hist.specs.Plain.{plain}
 use Rattle.ft_hist.specs.Rules.{IsLegalPast, waits_before}
+use Rattle.user_specs.specs.Bound.{call_bound_of}
+use Rattle.history_bound.specs.Bound.{all_calls}
 use Rattle.word_machine.specs.Words.{low, half_size, halves, greatest_half, all_ones}
 use Rattle.word_machine.specs.Control.{Position, Line}
 use Rattle.word_machine.specs.Task.{TaskState, Polling, is_fetching}
@@ -143,6 +145,7 @@ pub record MachineRule (job : Job) (s : World) : Type 0 where
 --   placed   each task is on a CPU of the job
 --   waits    control waits for tasks of the job
 --   few, users   requests and names of users fit into a half of a word
+--   room     so do the items of a history: at most two for a command and the bound of a call for each call of a script
 --   tasks    a task has a bit in the word of the traced tasks
 --   sites    each function has an address
 pub record IsWordJob (job : Job) : Type 0 where
@@ -151,5 +154,6 @@ pub record IsWordJob (job : Job) : Type 0 where
   pub waits : (t n : ℕ) (rest before : List Ctl) → job.ctls ≡ before ++ Until t n ∷ rest → t < length job.tasks
   pub few : 4 * length (commands job) + 4 < greatest_half
   pub users : length job.users < greatest_half
+  pub room : 2 * length (commands job) + call_bound_of job.users * all_calls job.tasks < half_size
   pub tasks : length job.tasks ≤ TASKS
   pub sites : funcs job ≤ TABLE_FUNCS

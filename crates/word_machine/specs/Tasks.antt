@@ -1,11 +1,11 @@
 -- The rule of a task: its stack is that of its plain run, its guards and its frames are those of the history, and its quiet word tells
 -- where it is.
-use Rattle.std.specs.Prelude.{ℕ, suc, ◌≡◌, ◌≤◌, ◌⊎◌, Bool, true, false, ◌&&◌, ◌==◌, List, [], ◌∷◌, Option, Some, None, IsSome, if◌then◌else◌}
+use Rattle.std.specs.Prelude.{ℕ, suc, ◌≡◌, ◌≤◌, ◌⊎◌, Bool, true, false, ◌&&◌, ◌==◌, List, [], ◌∷◌, Option, Some, None, IsSome, if◌then◌else◌, ◌+◌, length, get_or}
 use Rattle.std.specs.List.{filter}
 use Rattle.ft_base.specs.declared.item.Item.{Item}
 use Rattle.ft_base.specs.declared.task.TaskAct.{TaskAct}
 use Rattle.ft_base.specs.declared.task.TaskAct.TheVariants.{Call, Ret as RetAct, After}
-use Rattle.ft_base.specs.Job.{Job}
+use Rattle.ft_base.specs.Job.{Job, no_task}
 use Rattle.ft_base.specs.WellFormed.{IsScript}
 use Rattle.ft_base.specs.Desk.{spec_at}
 use Rattle.ft_hist.specs.Past.{done, Callback, callbacks, miss_due}
@@ -151,6 +151,7 @@ FirstAt _ acts = Unit {0}
 -- A task.
 --   word'      it knows its quiet word, so a poll stores only what changes
 --   gone       the word tells of no act that is not finished. Otherwise a wait of control would be met too early
+--   total      it has finished the acts that do not remain
 --   quiet      the word tells of no quiet point after a request that is not stored
 --   first      after its poll it has an act to do
 --   reached    what control has seen of it is so. Otherwise control would go on while the task still uses what it loaded
@@ -164,6 +165,7 @@ FirstAt _ acts = Unit {0}
 pub record TaskRule (job : Job) (h : Here) (past : List Item) (ack word t : ℕ) (x : TaskState) : Type 0 where
   pub word' : x.word ≡ word
   pub gone : high word ≤ x.gone
+  pub total : x.gone + length x.acts ≡ length (get_or job.tasks t no_task).acts
   pub quiet : HasTold h.request (has_acts x.acts) greatest_half (low word)
   pub first : FirstAt x.moment x.acts
   pub reached : quiet_reached (effect job h.d) h.p h.request t ≤ low word

@@ -5,7 +5,7 @@ use Rattle.std.specs.List.{range_with_len}
 use Rattle.std.specs.Int.{bit_at}
 use Rattle.ft_base.specs.Marks.{is_empty}
 use Rattle.ft_base.specs.Desk.{Desk, UserState, is_allowed}
-use Rattle.site_set.specs.Marks.{number_of, word_of}
+use Rattle.site_set.specs.Marks.{number_with_bits, word_of}
 use Rattle.site_bytes.specs.declared.insn.Insn.{Insn}
 use Rattle.site_bytes.specs.declared.insn.Insn.TheVariants.{Nop, List as CallList, Own}
 use Rattle.site_bytes.specs.Bytes.{head_byte, tail_number}
@@ -176,7 +176,7 @@ set_word s (suc h) w = word_of s.notrace w
 
 -- a bit for each of this many tasks, 1 if the task is traced for users with the pid flag
 abbrev pub mask_of : Desk → ℕ → ℕ
-mask_of d tasks = number_of (map (is_allowed d) (range_with_len 0 tasks))
+mask_of d tasks = number_with_bits (map (is_allowed d) (range_with_len 0 tasks))
 
 -- ## instructions, by the numbers that `Next` has for them
 
