@@ -1,3 +1,5 @@
+//! Lines of each form, and the nearest texts that have none.
+
 use ft_base::{CpuNo, Who};
 use script_form::{Ctx, Half, Kind, LineForm, SchedItem, UserAct, UserLine, read_line};
 use std::process::Abort;
