@@ -1,2 +1,3 @@
+pub mod GrammarLemmas
 pub mod PlayLemmas
 pub mod StepLemmas

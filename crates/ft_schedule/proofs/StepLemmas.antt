@@ -46,7 +46,7 @@ or-parts false b h = (refl, h)
 counted : (n : ℕ) → (n == 0) ≡ false → 0 < n
 counted n h = grind (arith, nat_tests)
 
--- items with good counts and known CPUs stand for turns
+-- items with good counts and known CPUs have turns
 pub all-turns : (cpus : ℕ) (items : List SchedItem) → list_any has_bad_count items ≡ false → has_unknown cpus items ≡ false → All (IsTurn cpus) (map turn_from items)
 all-turns cpus [] good known k d h = absurd (omega (arith, h))
 all-turns cpus (item ∷ items) good known zero d h = record {

@@ -1,5 +1,5 @@
--- The items of a schedule's text, and the turns that they stand for.
-use Rattle.std.specs.Prelude.{ℕ, ◌==◌, ◌&&◌, ◌+◌, ◌-◌, nat_le, List, [], ◌∷◌, map, take, drop, position, codes, Option, Some, None, option_map, if◌then◌else◌}
+-- The items of a schedule's text, and their turns.
+use Rattle.std.specs.Prelude.{ℕ, Bool, ◌==◌, ◌&&◌, ◌+◌, ◌-◌, nat_le, List, [], ◌∷◌, map, take, drop, position, codes, Option, Some, None, option_map, if◌then◌else◌}
 use Rattle.std.specs.Str.{bytes_eq}
 use Rattle.ft_base.specs.declared.turn.Who.{Who}
 use Rattle.ft_base.specs.declared.turn.Who.TheVariants.{Control, Cpu, All}
@@ -27,9 +27,13 @@ abbrev pub item_cut : Word → Option ℕ → Option SchedItem
 item_cut word None = item_with (who_of word) (Some 1)
 item_cut word (Some i) = item_with (who_of (take i word)) (number_of (drop (i + 1) word))
 
+-- a `*`
+abbrev pub is_star : ℕ → Bool
+is_star b = b == 42
+
 -- an item is cut at its first `*`; without one its count is 1
 abbrev pub item_of : Word → Option SchedItem
-item_of word = item_cut word (position (λ b. b == 42) word)
+item_of word = item_cut word (position is_star word)
 
 -- the items of these words, if there are words and each is an item
 abbrev pub some_items_of : List Word → Option (List SchedItem)
@@ -40,10 +44,10 @@ some_items_of (word ∷ words) = all_read item_of (word ∷ words)
 unfoldable pub items_in : List ℕ → Option (List SchedItem)
 items_in text = some_items_of (words_of text)
 
--- the turns that an item stands for
+-- the turn of an item
 abbrev pub turn_from : SchedItem → Turn
 turn_from item = record { who = item.who; count = item.count }
 
--- the turns that a text stands for
+-- the turns of a text
 abbrev pub turns_in : List ℕ → Option (List Turn)
 turns_in text = option_map (map turn_from) (items_in text)

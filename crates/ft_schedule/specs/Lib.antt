@@ -1,4 +1,5 @@
 pub mod Items
+pub mod Grammar
 pub mod Causes
 pub mod Coming
 pub mod Counts

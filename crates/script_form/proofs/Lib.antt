@@ -1,1 +1,4 @@
-pub mod Keys
+pub mod FormNames
+pub mod GrammarForms
+pub mod GrammarRules
+pub mod UserRules

@@ -1,8 +1,9 @@
 //! What a line says.
 
-ghost use Rattle.std.specs.Prelude.{◌≡◌, map, option_map, false, IfOk, IfErr};
+ghost use Rattle.std.specs.Prelude.{◌≡◌, map, option_map, false, IfOk, IfErr, IfSome};
 ghost use Rattle.script_text.specs.Lines.{words_of, is_skipped};
 ghost use Rattle.script_form.specs.Lines.{form_of, line_form};
+ghost use Rattle.script_form.specs.Names.{IsWellNamed};
 ghost use Rattle.script_form.specs.Read.{form_read};
 
 use crate::form::LineForm;
@@ -33,6 +34,7 @@ fn read_text(alloc: Global, text: &str) -> Result<Option<LineForm<'_>>, AllocErr
 #[tactic(auto, unfolding(crate::specs::Lines::line_form))]
 pub fn read_line(alloc: Global, line: &[u8]) -> Result<Option<LineForm<'_>>, AllocError>
     ensures form { IfOk result (λ r. option_map form_read r ≡ line_form line.entry.now) }
+    ensures names { IfOk result (λ r. IfSome r (λ form. IsWellNamed (form_read form))) }
     ensures memory { IfErr result (λ _. is_skipped (words_of line.entry.now) ≡ false) }
 {
     // Its bytes are free, so it is no text yet.

@@ -16,7 +16,7 @@ lines_from-last : (part : List ℕ) → 0 < length part → lines_from (part ∷
 lines_from-last [] h = absurd (omega (arith, h))
 lines_from-last (b ∷ rest) h = grind arith
 
--- where a search ends
+-- the place at which a search ends
 module _ (p : ℕ → Bool) (xs : List ℕ) where
   pub found : (i : ℕ) → position p xs ≡ Some i → (position_or_len p xs < length xs) × (i ≡ position_or_len p xs)
   found i e = elim (cases_lt (position_or_len p xs) (length xs)) [

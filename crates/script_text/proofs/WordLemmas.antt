@@ -1,5 +1,6 @@
--- Words that are read one after the other: the steps of a loop over them.
-use Rattle.std.proofs.Common.{◌≡◌, ℕ, ◌+◌, ◌<◌, ◌≤◌, List, [], ◌∷◌, ◌++◌, length, map, drop, get_or, Option, Some, None, refl, ap, ◌∙◌, sym, append_assoc, add-one, drop-cons}
+-- Words that are read one after the other: the steps of a loop over them, and what was read if something is made of it.
+use Rattle.std.proofs.Common.{◌≡◌, ℕ, ◌+◌, ◌<◌, ◌≤◌, List, [], ◌∷◌, ◌++◌, length, map, drop, get_or, Option, Some, None, refl, ap, ◌∙◌, sym, subst, append_assoc, add-one, drop-cons}
+use Rattle.std.specs.Prelude.{option_map}
 use Rattle.std.proofs.lemmas.List.{append-nil, drop_all}
 use Rattle.script_text.specs.Lines.{Word}
 use Rattle.script_text.specs.Words.{both, all_read}
@@ -40,3 +41,14 @@ module _ {A X : Type 0} (read : Word → Option A) (f : X → Word) (words : Lis
 
   pub all_read-end : length words ≤ i → Some values ≡ all_read read (map f words)
   all_read-end past = ap Some (sym (append-nil values)) ∙ ap (λ xs. all_before values (all_read read (map f xs))) (sym (drop_all i words past)) ∙ inv
+
+-- ---- values of which something was made
+
+pub made_of_one : {A B : Type 0} (made : B) (P : B → Type 0) (f : A → B) (a : Option A) → ((x : A) → a ≡ Some x → P (f x)) → option_map f a ≡ Some made → P made
+made_of_one made P f None rule e = absurd (cc)
+made_of_one made P f (Some x) rule e = let same : f x ≡ made = cc in subst P same (rule x refl)
+
+pub made_of_both : {A B C : Type 0} (made : C) (P : C → Type 0) (f : A → B → C) (a : Option A) (b : Option B) → ((x : A) (y : B) → a ≡ Some x → b ≡ Some y → P (f x y)) → both f a b ≡ Some made → P made
+made_of_both made P f None b rule e = absurd (cc)
+made_of_both made P f (Some x) None rule e = absurd (cc)
+made_of_both made P f (Some x) (Some y) rule e = let same : f x y ≡ made = cc in subst P same (rule x y refl refl)

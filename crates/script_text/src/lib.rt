@@ -1,7 +1,7 @@
 //! The text of a script. A *line* ends with a line feed. A line without words, or whose first word
 //! begins with `#`, is *skipped*: it may hold any bytes, and nobody reads its words. Every other
 //! line has to be *plain*: each byte is a *blank*, which is a space or a tab, or one from 0x21 to
-//! 0x7E. A plain line becomes a `&str`, once and here. Its *words* stand between its blanks; some
+//! 0x7E. A plain line becomes a `&str`, once and here. Its *words* come between its blanks; some
 //! are *names*, some are *numbers*.
 //!
 //! Proved: the first line of a text and what comes after it, which lines are skipped, which are

@@ -1,3 +1,5 @@
+//! Lines, words, names and numbers of a script's text.
+
 use crate::{first_line, is_skipped, name, number, plain_text, words};
 use std::alloc::{AllocError, Global};
 use std::test::Fail;

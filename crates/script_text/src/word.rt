@@ -7,7 +7,7 @@ ghost use Rattle.script_text.specs.Words.{all_read};
 
 use std::alloc::{AllocError, Global};
 
-/// The words of a text, which stand between its spaces and tabs.
+/// The words of a text, which come between its spaces and tabs.
 pub fn words(alloc: Global, text: &str) -> Result<Vec<&str>, AllocError>
     ensures { IfOk result (λ v. map (λ w. w.now) v.items ≡ words_of text.entry.now) }
 {

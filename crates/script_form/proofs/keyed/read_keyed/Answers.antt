@@ -1,5 +1,5 @@
 use Rattle.std.proofs.Common.{codes}
-use Rattle.script_form.proofs.Keys.{is_no_key}
+use Rattle.script_text.proofs.KeyLemmas.{is_no_key}
 use Rattle.script_form.proofs.keyed.read_keyed.Goals as goal
 
 pub returns-in_default : goal.returns-in_default
