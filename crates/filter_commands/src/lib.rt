@@ -6,7 +6,8 @@
 //! *selects* functions of the table. The empty text clears the set.
 //!
 //! Promised: `read_edit` gives the edit that the definition gives the text, or the first cause to
-//! refuse it, exactly; the forms are those of a grammar. Only tested: that memory is found.
+//! refuse it, exactly; the forms are those of a grammar. Only tested, in `filter_commands_tests`:
+//! that memory is found.
 #![tactic(auto)]
 
 mod edits;
@@ -15,8 +16,6 @@ mod forms;
 mod laws;
 mod lines;
 mod selector;
-#[cfg(test)]
-mod tests;
 
 pub use edits::read_edit;
 pub use faults::EditFault;

@@ -9,9 +9,9 @@
 //! says why not; `write_all` appends exactly the bytes, or a beginning of them; no count of faults
 //! falls, and a failure comes only if it rose. The ends in memory are known byte for byte.
 //!
-//! Only tested: that the adapters over a reader and a writer ask for many bytes at a time, flush
-//! after each write, and try nothing a second time. What a standard stream gives or shows is not
-//! said.
+//! Only tested, in `ft_io_tests`: that the adapters over a reader and a writer ask for many bytes at
+//! a time, flush after each write, and try nothing a second time. What a standard stream gives or
+//! shows is not said.
 #![tactic(auto)]
 
 mod calls;
@@ -29,6 +29,3 @@ pub use memory_source::MemSource;
 pub use sink::{Sink, WriteFail, write_all};
 pub use source::{Failed, ReadFail, Source, read_all};
 pub use standard::{StdSink, StdSource};
-
-#[cfg(test)]
-mod tests;

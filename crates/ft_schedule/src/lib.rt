@@ -4,8 +4,8 @@
 //!
 //! Proved: which texts are refused and why, the turns of a text, and the actors that a player gives;
 //! and the items are those of a grammar with one rule for each way to write one
-//! ([`grammar_gives_the_item`]). Only tested: that the items of a long text are read when there is
-//! memory.
+//! ([`grammar_gives_the_item`]). Only tested, in `ft_schedule_tests`: that the items of a long text
+//! are read when there is memory.
 #![tactic(auto)]
 
 mod causes;
@@ -22,6 +22,3 @@ pub use item::{SchedItem, read_items};
 pub use laws::grammar_gives_the_item;
 pub use player::Player;
 pub use schedule::{Schedule, push_turns, read_sched};
-
-#[cfg(test)]
-mod tests;

@@ -7,16 +7,14 @@
 //! words are in the language: an option's name is never cut short, and there is no option for help.
 //!
 //! Proved: words that are read give the order that the language gives them; they are refused only
-//! if the language gives them none; and it gives no words two orders. Only tested: that memory is
-//! found for the parser.
+//! if the language gives them none; and it gives no words two orders. Only tested, in
+//! `ft_words_tests`: that memory is found for the parser.
 #![tactic(auto)]
 
 mod command;
 mod order;
 mod reading;
 mod spelling;
-#[cfg(test)]
-mod tests;
 
 pub use order::{Form, Order, WordsFault};
 pub use reading::{read_words, words_give_one_order};

@@ -3,7 +3,8 @@
 //!
 //! Promised: names differ, so names and numbers are one to one; `find` and `name` go from one to the
 //! other; `add` says exactly when it refuses. Names are text of the form that `ft_base::is_name`
-//! tests, which the caller has tested. That memory is found is only tested.
+//! tests, which the caller has tested. That memory is found is only tested, in
+//! `func_table_tests`.
 //!
 //! No caller yet: `FuncTable::ip`.
 #![tactic(auto)]
@@ -13,6 +14,3 @@ mod table;
 
 pub use faults::TableFault;
 pub use table::FuncTable;
-
-#[cfg(test)]
-mod tests;

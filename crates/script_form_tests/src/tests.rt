@@ -223,8 +223,17 @@ fn tells_control_and_schedules_with_a_form(rt: HostRuntime) -> Result<(), Fail> 
     check(&rt, BAD_CONTROL, false)
 }
 
+/// Whether each of these lines is read as its form.
+fn check_forms(rt: &(impl Abort + AllocGlobal), rows: &[(&str, LineForm)]) -> Result<(), Fail> {
+    for (line, form) in rows {
+        let read = read_line(rt.alloc(), line.as_bytes())?;
+        assert!(rt; read.as_ref() == Some(form), "{line}");
+    }
+    Ok(())
+}
+
 #[test]
-fn reads_what_lines_say(rt: HostRuntime) -> Result<(), Fail> {
+fn reads_declarations_and_acts(rt: HostRuntime) -> Result<(), Fail> {
     let rows = [
         ("# a comment", LineForm::Skip),
         ("ftrace 1", LineForm::Version),
@@ -253,6 +262,13 @@ fn reads_what_lines_say(rt: HostRuntime) -> Result<(), Fail> {
         ("nmi", LineForm::Raise { to: Ctx::Nmi }),
         ("iret", LineForm::Lower),
         ("after 0000000012", LineForm::After { commands: 12 }),
+    ];
+    check_forms(&rt, &rows)
+}
+
+#[test]
+fn reads_what_control_is_told(rt: HostRuntime) -> Result<(), Fail> {
+    let rows = [
         ("ctl register u", LineForm::Register { user: "u" }),
         ("ctl unregister u", LineForm::Unregister { user: "u" }),
         (
@@ -301,11 +317,7 @@ fn reads_what_lines_say(rt: HostRuntime) -> Result<(), Fail> {
         ("ctl maxdepth 2", LineForm::MaxDepth { depth: 2 }),
         ("ctl until 10 4", LineForm::Until { pid: 10, acts: 4 }),
     ];
-    for (line, form) in rows {
-        let read = read_line(rt.alloc(), line.as_bytes())?;
-        assert_eq!(rt; read, Some(form), "{line}");
-    }
-    Ok(())
+    check_forms(&rt, &rows)
 }
 
 #[test]

@@ -1,6 +1,6 @@
 //! Texts over three functions: which functions each selects, and which texts are refused.
 
-use crate::{EditFault, read_edit};
+use filter_commands::{EditFault, read_edit};
 use func_table::FuncTable;
 use site_set::SiteSet;
 use std::alloc::{AllocError, Global};

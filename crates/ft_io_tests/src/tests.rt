@@ -1,6 +1,6 @@
 //! Sources and sinks in memory, and the adapters over readers and writers that fail once.
 
-use crate::{
+use ft_io::{
     Failed, Gate, MemSink, MemSource, OpenGate, ReadFail, Sink, Source, StdSink, StdSource,
     WriteFail, read_all, write_all,
 };
@@ -18,7 +18,8 @@ struct Zeros {
 }
 
 impl Zeros {
-    /// A reader of this many zeros that fails in the call with this number, from 1, and in no other.
+    /// A reader of this many zeros that fails in the call with this number, from 1, and in no
+    /// other.
     fn new(remaining: usize, fails: u32) -> Zeros {
         Zeros {
             remaining,

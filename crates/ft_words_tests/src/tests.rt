@@ -1,6 +1,6 @@
 //! Words that are in the language, and words that aren't.
 
-use crate::{Form, Order, WordsFault, read_words};
+use ft_words::{Form, Order, WordsFault, read_words};
 
 #[test]
 fn reads_the_language(rt: HostRuntime) {

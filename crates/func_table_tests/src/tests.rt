@@ -1,8 +1,8 @@
 //! Three functions by name and by number, and the refusals in their order.
 
-use crate::{FuncTable, TableFault};
 use ft_base::FuncNo;
 use ft_base::limits::TABLE_FUNCS;
+use func_table::{FuncTable, TableFault};
 use std::test::Fail;
 
 #[test]

@@ -1,8 +1,10 @@
-use crate::{
+//! What a schedule's text is read as, why it is refused, and the actors that its player gives.
+
+use ft_base::CpuNo;
+use ft_schedule::{
     Actor, Player, SchedFault, SchedItem, Schedule, Turn, Who, has_unknown, is_past_limit,
     push_turns, read_items, read_sched, steps_with,
 };
-use ft_base::CpuNo;
 use script_text::words;
 use std::alloc::Global;
 use std::test::Fail;
