@@ -14,7 +14,7 @@ use Rattle.ft_app.specs.declared.status.Status.TheVariants.{Done, Refused, NoMem
 use Rattle.ft_app.specs.Status.{code_of}
 use Rattle.ft_app.specs.LogText.{log_text}
 use Rattle.ft_app.specs.Reply.{IsReplyTo, IsSound, of_replay, of_refusal, history_of, replay_text, refusal_text}
-use Rattle.ft_app.specs.Main.{ReadWhole, HasReplayed, IsPlayed, IsTurnedDown, HasRun, HasRefused, Answers}
+use Rattle.ft_app.specs.Main.{ReadWhole, HasReplayed, IsPlayed, IsRefused, HasRun, HasRefused, Answers}
 
 pub text-is : (job : Job) (items : List Item) (ended : Bool) (text : List ℕ) → items ≡ history_of job → ended ≡ all_end (play job) → text ≡ log_text job items ended → text ≡ replay_text job
 unfolding replay_text
@@ -44,9 +44,9 @@ module _ (holds holds' : Option (List ℕ)) where
   reply-played script _ _ (of_replay job accepted sound) e written = record { job = job; accepted = accepted; replayed = played job sound written }
   reply-played script _ _ (of_refusal fault refused) e written = absurd (cc)
 
-  pub reply-turned_down : (script : List ℕ) (status : Status) (text : List ℕ) → IsReplyTo script status text → code_of status ≡ 3 → Appends holds holds' text → IsTurnedDown script holds holds'
-  reply-turned_down script _ _ (of_replay job accepted sound) e written = absurd (cc)
-  reply-turned_down script _ _ (of_refusal fault refused) e written = record { fault = fault; refused = refused; written = written }
+  pub reply-refused : (script : List ℕ) (status : Status) (text : List ℕ) → IsReplyTo script status text → code_of status ≡ 3 → Appends holds holds' text → IsRefused script holds holds'
+  reply-refused script _ _ (of_replay job accepted sound) e written = absurd (cc)
+  reply-refused script _ _ (of_refusal fault refused) e written = record { fault = fault; refused = refused; written = written }
 
   -- the reply is the answer to the script
   pub reply-answers : (script : List ℕ) (status : Status) (text : List ℕ) → IsReplyTo script status text → Appends holds holds' text → Answers script (code_of status) holds holds'
@@ -76,7 +76,7 @@ module _ (remaining remaining' holds holds' : Option (List ℕ)) (read script te
   has_run zero = record { script = read; read = whole; played = reply-played holds holds' read status written reply' (sym is_code ∙ zero) appended }
 
   pub has_refused : code ≡ 3 → HasRefused remaining remaining' holds holds'
-  has_refused three = record { script = read; read = whole; refused = reply-turned_down holds holds' read status written reply' (sym is_code ∙ three) appended }
+  has_refused three = record { script = read; read = whole; refused = reply-refused holds holds' read status written reply' (sym is_code ∙ three) appended }
 
   pub answers : (told : List ℕ) → remaining ≡ Some told → Answers told code holds holds'
   answers told is_told =

@@ -35,7 +35,7 @@ pub record IsPlayed (script : List ℕ) (holds holds' : Option (List ℕ)) : Typ
   pub replayed : HasReplayed job holds holds'
 
 -- the text is refused as a script, and the line that says where and why was appended
-pub record IsTurnedDown (script : List ℕ) (holds holds' : Option (List ℕ)) : Type 0 where
+pub record IsRefused (script : List ℕ) (holds holds' : Option (List ℕ)) : Type 0 where
   pub fault : ScriptFault
   pub refused : IsRefusalOf script fault
   pub written : Appends holds holds' (refusal_text fault)
@@ -57,7 +57,7 @@ pub record HasRun (remaining remaining' holds holds' : Option (List ℕ)) : Type
 pub record HasRefused (remaining remaining' holds holds' : Option (List ℕ)) : Type 0 where
   pub script : List ℕ
   pub read : ReadWhole remaining remaining' script
-  pub refused : IsTurnedDown script holds holds'
+  pub refused : IsRefused script holds holds'
 
 -- status 5: the source was read to its end, and a beginning of the text or of the line was appended
 pub record HasBegun (remaining remaining' holds holds' : Option (List ℕ)) : Type 0 where

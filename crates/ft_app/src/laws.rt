@@ -10,6 +10,7 @@ ghost use Rattle.ft_app.specs.LogText.{log_text};
 /// The log tells its history: for a job whose names and pids differ, equal texts come from equal
 /// histories and equal ends. So what is said of a history is said of the text that was written.
 pub fn log_tells_its_history()
-    ensures { (job : PlainJob) (a b : List Item) (x y : Bool) → IsNamedApart job → Each (IsItemOf job) a → Each (IsItemOf job) b → length a < 2 ^ 64 → length b < 2 ^ 64
+    ensures { (job : PlainJob) (a b : List Item) (x y : Bool) → IsNamedApart job
+        → Each (IsItemOf job) a → Each (IsItemOf job) b → length a < 2 ^ 64 → length b < 2 ^ 64
         → log_text job a x ≡ log_text job b y → (a ≡ b) × (x ≡ y) }
 {}

@@ -8,8 +8,9 @@
 //! Proved, for every source and sink: each status says what was read and written, and comes only
 //! for its reason; with status 0 the text is that of the replay of the script's job, whose history
 //! is legal, and whole if the text ends with `end`; and if nothing outside goes wrong, a script is
-//! answered with status 0 and any other text with status 3, unless memory is out. Only tested, in
-//! `ft_app_tests`: that memory is found if there is some.
+//! answered with status 0 and any other text with status 3, unless memory is out. A text tells the
+//! history that it was written for ([`laws`]). Only tested, in `ft_app_tests`: that memory is found
+//! if there is some.
 #![tactic(auto)]
 
 pub mod laws;

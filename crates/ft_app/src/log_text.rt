@@ -2,7 +2,9 @@
 
 ghost use Rattle.std.specs.Prelude.{◌≡◌, [], ◌∷◌, ◌++◌, IfOk, OnOk, Some, string_bytes, codes};
 ghost use Rattle.std.specs.Fmt.{decimal};
-ghost use Rattle.ft_app.specs.LogText.{function_word, user_word, pid_at, call_word, caller_word, context_word, reason_word, ran_words, answer_words, joined, item_words, log_line, last_line, log_text};
+ghost use Rattle.ft_app.specs.LogText.{function_word, user_word, pid_at, call_word, caller_word};
+ghost use Rattle.ft_app.specs.LogText.{context_word, reason_word, ran_words, answer_words, joined};
+ghost use Rattle.ft_app.specs.LogText.{item_words, log_line, last_line, log_text};
 
 use ft_base::{Answer, CallNo, Ctx, FuncNo, Item, NoMemory, Ran, Reason, TaskNo, UserNo};
 use ft_hist::History;
@@ -72,7 +74,8 @@ fn call_name(job: &Job, call: CallNo) -> CallName
 
 /// Adds the enclosing call, or `-` at the outermost level.
 fn push_caller(text: &mut String, job: &Job, caller: Option<CallNo>) -> Result<(), AllocError>
-    ensures { OnOk result (string_bytes text.new ≡ string_bytes text.old ++ caller_word job.now caller) }
+    ensures { OnOk result (string_bytes text.new
+        ≡ string_bytes text.old ++ caller_word job.now caller) }
 {
     match caller {
         None => text.push_str("-"),
@@ -106,7 +109,8 @@ fn reason_name(reason: Reason) -> &'static str
 
 /// Adds what was fetched at a call site.
 fn push_ran(text: &mut String, job: &Job, ran: Ran) -> Result<(), AllocError>
-    ensures { OnOk result (string_bytes text.new ≡ string_bytes text.old ++ joined (ran_words job.now ran)) }
+    ensures { OnOk result (string_bytes text.new
+        ≡ string_bytes text.old ++ joined (ran_words job.now ran)) }
 {
     match ran {
         Ran::Nop => text.push_str("nop"),
@@ -120,7 +124,8 @@ fn push_ran(text: &mut String, job: &Job, ran: Ran) -> Result<(), AllocError>
 
 /// Adds the answer of a command.
 fn push_answer(text: &mut String, job: &Job, answer: Answer) -> Result<(), AllocError>
-    ensures { OnOk result (string_bytes text.new ≡ string_bytes text.old ++ joined (answer_words job.now answer)) }
+    ensures { OnOk result (string_bytes text.new
+        ≡ string_bytes text.old ++ joined (answer_words job.now answer)) }
 {
     match answer {
         Answer::Accepted => text.push_str("ok"),
@@ -138,7 +143,8 @@ fn push_answer(text: &mut String, job: &Job, answer: Answer) -> Result<(), Alloc
 
 /// Adds a word and a call.
 fn push_call(text: &mut String, job: &Job, word: &str, call: CallNo) -> Result<(), AllocError>
-    ensures { OnOk result (string_bytes text.new ≡ string_bytes text.old ++ joined (word.now ∷ call_word job.now call ∷ [])) }
+    ensures { OnOk result (string_bytes text.new
+        ≡ string_bytes text.old ++ joined (word.now ∷ call_word job.now call ∷ [])) }
 {
     let name = call_name(job, call);
     write!(text, "{word} {name}")
@@ -153,7 +159,8 @@ fn push_visit(
     user: UserNo,
 ) -> Result<(), AllocError>
     ensures { OnOk result (string_bytes text.new
-        ≡ string_bytes text.old ++ joined (word.now ∷ call_word job.now call ∷ user_word job.now user.0 ∷ [])) }
+        ≡ string_bytes text.old
+        ++ joined (word.now ∷ call_word job.now call ∷ user_word job.now user.0 ∷ [])) }
 {
     let name = call_name(job, call);
     let user = user_name(job, user);
@@ -162,7 +169,8 @@ fn push_visit(
 
 /// Adds what an item says after its place.
 fn push_item(text: &mut String, job: &Job, item: &Item) -> Result<(), AllocError>
-    ensures { OnOk result (string_bytes text.new ≡ string_bytes text.old ++ joined (item_words job.now item.now)) }
+    ensures { OnOk result (string_bytes text.new
+        ≡ string_bytes text.old ++ joined (item_words job.now item.now)) }
 {
     match *item {
         Item::Begin { k } => write!(text, "begin {k}"),
@@ -176,10 +184,10 @@ fn push_item(text: &mut String, job: &Job, item: &Item) -> Result<(), AllocError
             func,
             caller,
         } => {
-            let name = call_name(job, call);
             let context = context_name(ctx);
             let function = function_name(job, func);
-            write!(text, "enter {name} {context} {function} ")?;
+            push_call(text, job, "enter", call)?;
+            write!(text, " {context} {function} ")?;
             push_caller(text, job, caller)
         }
         Item::Back { call, user } => push_visit(text, job, "back", call, user),
@@ -191,9 +199,9 @@ fn push_item(text: &mut String, job: &Job, item: &Item) -> Result<(), AllocError
         }
         Item::Miss { call, user } => push_visit(text, job, "miss", call, user),
         Item::Body { call, func, ran } => {
-            let name = call_name(job, call);
             let function = function_name(job, func);
-            write!(text, "body {name} {function} ")?;
+            push_call(text, job, "body", call)?;
+            write!(text, " {function} ")?;
             push_ran(text, job, ran)
         }
         Item::Leave { call } => push_call(text, job, "leave", call),
@@ -212,7 +220,8 @@ fn push_item(text: &mut String, job: &Job, item: &Item) -> Result<(), AllocError
 
 /// Adds the line of an item at a place.
 fn push_line(text: &mut String, job: &Job, place: u32, item: &Item) -> Result<(), AllocError>
-    ensures { OnOk result (string_bytes text.new ≡ string_bytes text.old ++ log_line job.now place item.now) }
+    ensures { OnOk result (string_bytes text.new
+        ≡ string_bytes text.old ++ log_line job.now place item.now) }
 {
     write!(text, "{place} ")?;
     push_item(text, job, item)?;

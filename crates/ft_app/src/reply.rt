@@ -42,14 +42,15 @@ pub fn reply_to(alloc: Global, script: &[u8]) -> Result<Reply, NoMemory>
 fn replay_job(alloc: Global, job: &Job) -> Result<String, NoMemory>
     ensures text { IfOk result (λ text. string_bytes text ≡ replay_text job.now) }
     ensures legal { OnOk result (IsLegal job.now (history_of job.now)) }
-    ensures whole { OnOk result (all_end (play job.now) ≡ true → IsWhole job.now (history_of job.now)) }
+    ensures whole { OnOk result
+        (all_end (play job.now) ≡ true → IsWhole job.now (history_of job.now)) }
 {
     let outcome = replay(alloc, job)?;
     print_log(alloc, job, &outcome.history, outcome.ended)
 }
 
-/// The line that says where a script is refused, and why. Running out of memory while it was read is
-/// no refusal.
+/// The line that says where a script is refused, and why. Running out of memory while it was read
+/// is no refusal.
 fn refusal_line(alloc: Global, fault: ScriptFault) -> Result<String, NoMemory>
     ensures refused { OnOk result (fault ≢ no_memory) }
     ensures line { IfOk result (λ line. string_bytes line ≡ refusal_text fault) }

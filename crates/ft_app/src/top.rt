@@ -31,21 +31,27 @@ pub fn ft_main<S: Source, K: Sink, G: Gate>(
     ensures known { (status : Status) × (result ≡ code_of status) }
 
     // Status 2 comes exactly for words outside the language, unless memory is out.
-    ensures language { result ≡ code_of Status.Language → ¬ IsLanguage (map (λ word. word.now) words.now) }
+    ensures language { result ≡ code_of Status.Language
+        → ¬ IsLanguage (map (λ word. word.now) words.now) }
     ensures unspoken { ¬ IsLanguage (map (λ word. word.now) words.now)
         → (result ≡ code_of Status.Language) ⊎ (result ≡ code_of Status.NoMemory) }
     ensures unread { result ≡ code_of Status.Language → source.new ≡ source.old }
 
-    // The text of the replay of the script's job, whose history is legal; or the line of its refusal.
+    // The text of the replay of the script's job, whose history is legal; the line of its refusal.
     ensures run { result ≡ code_of Status.Done
-        → HasRun (S.remaining source.old) (S.remaining source.new) (K.holds sink.old) (K.holds sink.new) }
+        → HasRun (S.remaining source.old) (S.remaining source.new)
+        (K.holds sink.old) (K.holds sink.new) }
     ensures refused { result ≡ code_of Status.Refused
-        → HasRefused (S.remaining source.old) (S.remaining source.new) (K.holds sink.old) (K.holds sink.new) }
+        → HasRefused (S.remaining source.old) (S.remaining source.new)
+        (K.holds sink.old) (K.holds sink.new) }
 
-    ensures read_fault { result ≡ code_of Status.ReadFault → Rose (S.faults source.old) (S.faults source.new) }
-    ensures write_fault { result ≡ code_of Status.WriteFault → Rose (K.faults sink.old) (K.faults sink.new) }
+    ensures read_fault { result ≡ code_of Status.ReadFault
+        → Rose (S.faults source.old) (S.faults source.new) }
+    ensures write_fault { result ≡ code_of Status.WriteFault
+        → Rose (K.faults sink.old) (K.faults sink.new) }
     ensures begun { result ≡ code_of Status.WriteFault
-        → HasBegun (S.remaining source.old) (S.remaining source.new) (K.holds sink.old) (K.holds sink.new) }
+        → HasBegun (S.remaining source.old) (S.remaining source.new)
+        (K.holds sink.old) (K.holds sink.new) }
 
     // Status 7 comes exactly if one byte more than the limit was given.
     ensures too_long { result ≡ code_of Status.TooLong

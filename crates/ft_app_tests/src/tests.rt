@@ -14,12 +14,12 @@ use std::test::Fail;
 const PIECE: usize = 4_096;
 
 /// One function, one user, one task with one call, and one command.
-const FIRST_PATH: &str =
-    "ftrace 1; func a; user tr function; cpu 0 quantum 100; task 10 cpu 0; after 1; call a; ret; ctl register tr";
+const FIRST_PATH: &str = "ftrace 1; func a; user tr function; cpu 0 quantum 100; \
+    task 10 cpu 0; after 1; call a; ret; ctl register tr";
 
 /// What is printed for it.
-const FIRST_PATH_LOG: &str =
-    "0 begin 1; 1 return 1 ok; 2 enter 10.1 normal a -; 3 back 10.1 tr; 4 back-end 10.1 tr; 5 body 10.1 a own tr; 6 leave 10.1; 7 ret 10.1 -; end";
+const FIRST_PATH_LOG: &str = "0 begin 1; 1 return 1 ok; 2 enter 10.1 normal a -; 3 back 10.1 tr; \
+    4 back-end 10.1 tr; 5 body 10.1 a own tr; 6 leave 10.1; 7 ret 10.1 -; end";
 
 /// The text of these lines, with `; ` between them.
 fn text(alloc: Global, lines: &str) -> Result<String, Fail> {
@@ -39,8 +39,8 @@ struct Ended {
     sink: MemSink,
 }
 
-/// Calls the top call with these words. The source gives the script and the sink takes the reply, at
-/// most `piece` bytes a call; they fail in the calls with these numbers.
+/// Calls the top call with these words. The source gives the script and the sink takes the reply,
+/// at most `piece` bytes a call; they fail in the calls with these numbers.
 fn run(
     alloc: Global,
     words: &[&str],

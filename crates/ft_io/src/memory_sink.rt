@@ -43,8 +43,8 @@ impl Model for MemSink {
 impl MemSink {
     /// A sink with room for `room` bytes, which are reserved here, of which one call takes at most
     /// `take`. A call fails, and appends nothing, exactly if its number, from 1, is in `fails`, or
-    /// if the room is full and the piece is not empty. Calls after number `u32::MAX` are not counted
-    /// and fail only if the room is full. The error is that memory is out.
+    /// if the room is full and the piece is not empty. Calls after number `u32::MAX` are not
+    /// counted, and fail only if the room is full. The error is that memory is out.
     pub fn new(
         alloc: Global,
         take: usize,

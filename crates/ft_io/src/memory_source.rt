@@ -11,7 +11,8 @@ use crate::calls::PlannedCalls;
 use crate::source::{Failed, Source};
 use std::marker::Model;
 
-/// A source in memory, which gives its bytes a few at a time and fails in the calls that it is told.
+/// A source in memory, which gives its bytes a few at a time and fails in the calls that it is
+/// told.
 #[derive(Debug, Drop)]
 pub struct MemSource {
     bytes: Vec<u8>,
@@ -70,7 +71,8 @@ impl Source for MemSource {
 
     fn read(&mut self, buf: &mut [u8]) -> Result<usize, Failed>
         ensures bound { ReadsAtMost result buf.new }
-        ensures bytes { ReadConsumes (Some self.old.remaining) (Some self.new.remaining) result buf.new }
+        ensures bytes { ReadConsumes (Some self.old.remaining) (Some self.new.remaining)
+            result buf.new }
         ensures cause { HasCause self.old.calls.faults self.new.calls.faults result }
         ensures answer { result ≡ read_answer self.old (length buf.old) }
         ensures buffer { buf.new ≡ filled self.old buf.old }

@@ -50,7 +50,8 @@ pub enum ReadFail {
 
 /// Reads all bytes up to the source's end. Each turn takes at least one byte or ends the loop.
 pub fn read_all<S: Source>(alloc: Global, source: &mut S) -> Result<Vec<u8>, ReadFail>
-    ensures all { IfOk result (λ v. Consumes (S.remaining source.old) (S.remaining source.new) v.items
+    ensures all { IfOk result
+        (λ v. Consumes (S.remaining source.old) (S.remaining source.new) v.items
         × IsAtEnd (S.remaining source.new)) }
     ensures short { IfOk result (λ v. length v.items ≤ INPUT_BYTES) }
     ensures fault { result ≡ Err ReadFail.Fault → Rose (S.faults source.old) (S.faults source.new) }

@@ -4,7 +4,8 @@ ghost use Rattle.std.specs.Prelude.{◌≡◌, ◌<◌, length, None, Ok, is_err
 ghost use Rattle.std.specs.Io.{ReadsAtMost, WritesAtMost};
 ghost use Rattle.std.specs.Io.KnownBytes.{ReadConsumes};
 ghost use Rattle.ft_io.specs.Causes.{Rose, HasCause, count_after};
-ghost use Rattle.ft_io.specs.Standard.{input_of, output_of, read_faults, write_faults, is_fault, PassesOn};
+ghost use Rattle.ft_io.specs.Standard.{input_of, output_of, read_faults, write_faults};
+ghost use Rattle.ft_io.specs.Standard.{is_fault, PassesOn};
 
 use crate::faults::count_fault;
 use crate::sink::Sink;
@@ -37,7 +38,8 @@ impl<I: Read> Source for StdSource<I> {
     fn read(&mut self, buf: &mut [u8]) -> Result<usize, Failed>
         ensures bound { ReadsAtMost result buf.new }
         ensures cause { HasCause (read_faults self.old) (read_faults self.new) result }
-        ensures counted { read_faults self.new ≡ count_after (is_err result) (read_faults self.old) }
+        ensures counted { read_faults self.new
+            ≡ count_after (is_err result) (read_faults self.old) }
         ensures input { ReadConsumes (I.remaining (input_of self.old))
             (I.remaining (input_of self.new)) result buf.new }
     {

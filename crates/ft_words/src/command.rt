@@ -35,9 +35,12 @@ pub struct Found<'a> {
 /// What the parser finds in the words. `Language` comes only for words that it doesn't take.
 pub fn find<'a>(command: Command<'a>, words: &'a [&'a str]) -> Result<Found<'a>, WordsFault>
     requires { app_of command ≡ app }
-    ensures mode { IfOk result (λ f. option_copied f.mode ≡ value_in (codes "mode") (map (λ w. w.now) words.entry.now)) }
-    ensures print { IfOk result (λ f. option_copied f.print ≡ value_in (codes "print") (map (λ w. w.now) words.entry.now)) }
-    ensures language { result ≡ Err WordsFault.Language → is_taken (map (λ w. w.now) words.entry.now) ≡ false }
+    ensures mode { IfOk result (λ f. option_copied f.mode
+        ≡ value_in (codes "mode") (map (λ w. w.now) words.entry.now)) }
+    ensures print { IfOk result (λ f. option_copied f.print
+        ≡ value_in (codes "print") (map (λ w. w.now) words.entry.now)) }
+    ensures language { result ≡ Err WordsFault.Language
+        → is_taken (map (λ w. w.now) words.entry.now) ≡ false }
 {
     match command.try_get_matches_from(words) {
         Ok(matches) => Ok(Found {

@@ -10,8 +10,8 @@ use crate::spelling::spells;
 use std::alloc::Global;
 
 /// Reads the words of the command, those after the program's name: `replay` and `--print log`, as
-/// the crate's page says. `Language` comes exactly if the words give no order; `NoMemory` may come in
-/// place of any answer.
+/// the crate's page says. `Language` comes exactly if the words give no order; `NoMemory` may come
+/// in place of any answer.
 pub fn read_words(alloc: Global, words: &[&str]) -> Result<Order, WordsFault>
     ensures gives { IfOk result (Gives (map (λ w. w.now) words.now)) }
     ensures language { result ≡ Err WordsFault.Language
@@ -25,7 +25,8 @@ pub fn read_words(alloc: Global, words: &[&str]) -> Result<Order, WordsFault>
     let Some(order) = choose(mode, found.print) else {
         return Err(WordsFault::Language);
     };
-    // It isn't proved that the parser takes no other words, so they are compared with what they can be.
+    // It isn't proved that the parser takes no other words, so they are compared with all that
+    // they can be.
     match spells(alloc, words, mode, found.print) {
         Ok(true) => Ok(order),
         Ok(false) => Err(WordsFault::Language),

@@ -2,7 +2,8 @@
 
 ghost use Rattle.std.specs.Prelude.{◌≡◌, ◌↔◌, [], ◌∷◌, IfOk, IsTrue, map};
 ghost use Rattle.std.specs.Option.{option_copied};
-ghost use Rattle.ft_words.specs.Language.{IsOneOf, spellings_of, spellings_with, Spells, SpellsWith};
+ghost use Rattle.ft_words.specs.Language.{IsOneOf, spellings_of, spellings_with};
+ghost use Rattle.ft_words.specs.Language.{Spells, SpellsWith};
 
 use std::alloc::{AllocError, Global};
 
@@ -22,7 +23,8 @@ fn spells_alone(words: &[&str], mode: &str) -> bool
 
 /// Whether the words say the mode, and the option in one word.
 fn spells_joined(words: &[&str], mode: &str, option: &str) -> bool
-    ensures { IsTrue result ↔ IsOneOf (map (λ w. w.now) words.now) (spellings_with mode.now (option.now ∷ [])) }
+    ensures { IsTrue result
+        ↔ IsOneOf (map (λ w. w.now) words.now) (spellings_with mode.now (option.now ∷ [])) }
 {
     are_these(words, &[option, mode])
         || are_these(words, &[option, "--", mode])
@@ -34,7 +36,8 @@ fn spells_joined(words: &[&str], mode: &str, option: &str) -> bool
 /// Whether the words say the mode, and the option in two words.
 fn spells_apart(words: &[&str], mode: &str, name: &str, value: &str) -> bool
     ensures { IsTrue result
-        ↔ IsOneOf (map (λ w. w.now) words.now) (spellings_with mode.now (name.now ∷ value.now ∷ [])) }
+        ↔ IsOneOf (map (λ w. w.now) words.now)
+        (spellings_with mode.now (name.now ∷ value.now ∷ [])) }
 {
     are_these(words, &[name, value, mode])
         || are_these(words, &[name, value, "--", mode])
@@ -51,7 +54,8 @@ fn spells_with(
     name: &str,
     value: &str,
 ) -> Result<bool, AllocError>
-    ensures { IfOk result (λ b. IsTrue b ↔ SpellsWith (map (λ w. w.now) words.now) mode.now name.now value.now) }
+    ensures { IfOk result (λ b. IsTrue b
+        ↔ SpellsWith (map (λ w. w.now) words.now) mode.now name.now value.now) }
 {
     let joined = format!(in alloc; "{name}={value}")?;
     Ok(spells_apart(words, mode, name, value) || spells_joined(words, mode, joined.as_str()))

@@ -1,7 +1,8 @@
 //! The program `ftcore`: the top call over standard input and output.
 //!
 //! Proved: with each status the program has read and written what the top call says of it, and
-//! nothing else. Only run: that the arguments are the words, and that the status is the exit status.
+//! nothing else. Only tried on the built program: that its arguments are the words, and that the
+//! status is its exit status.
 #![tactic(auto)]
 
 ghost use Rattle.std.specs.Prelude.{◌≡◌, ◌≢◌};
@@ -25,11 +26,14 @@ fn main(rt: HostRuntime) -> ExitCode {
 /// Calls the top call with the arguments after the program's name. Nothing goes to standard error.
 fn run<R: Env + AllocGlobal, S: Source, K: Sink>(rt: &R, source: &mut S, sink: &mut K) -> u8
     ensures run { result ≡ code_of Status.Done
-        → HasRun (S.remaining source.old) (S.remaining source.new) (K.holds sink.old) (K.holds sink.new) }
+        → HasRun (S.remaining source.old) (S.remaining source.new)
+        (K.holds sink.old) (K.holds sink.new) }
     ensures refused { result ≡ code_of Status.Refused
-        → HasRefused (S.remaining source.old) (S.remaining source.new) (K.holds sink.old) (K.holds sink.new) }
+        → HasRefused (S.remaining source.old) (S.remaining source.new)
+        (K.holds sink.old) (K.holds sink.new) }
     ensures begun { result ≡ code_of Status.WriteFault
-        → HasBegun (S.remaining source.old) (S.remaining source.new) (K.holds sink.old) (K.holds sink.new) }
+        → HasBegun (S.remaining source.old) (S.remaining source.new)
+        (K.holds sink.old) (K.holds sink.new) }
     ensures nothing { result ≢ code_of Status.Done → result ≢ code_of Status.Refused
         → result ≢ code_of Status.WriteFault → sink.new ≡ sink.old }
 {

@@ -1,7 +1,7 @@
 //! Patterns with names, the refusals in their order, and a hostile pattern.
 
 use crate::{Pattern, PatternFault};
-use ft_base::limits::PATTERN_BYTES;
+use ft_base::limits::{NAME_BYTES, PATTERN_BYTES};
 use std::alloc::{AllocError, Global};
 use std::test::Fail;
 
@@ -65,13 +65,13 @@ fn refuses_in_order(rt: HostRuntime) -> Result<(), Fail> {
     Ok(())
 }
 
-/// A search that goes back to every `*` would need more tries here than can be made.
+/// A search that goes back to every `*` would make more tries here than there is time for.
 #[test]
 fn ends_at_once_on_a_hostile_pattern(rt: HostRuntime) -> Result<(), Fail> {
     let alloc = rt.alloc();
     let mut text = repeated(alloc, "*a", 127)?;
     text.push_str("b")?;
-    let name = repeated(alloc, "a", 63)?;
+    let name = repeated(alloc, "a", NAME_BYTES as usize)?;
     assert_eq!(rt; Pattern::read(alloc, &text)?.matches(&name), false);
     Ok(())
 }

@@ -4,8 +4,8 @@
 //! records and lists.
 //!
 //! Promised: whether a user wants a frame of the shadow stack, whether the graph depth holds for it,
-//! and `call_bound`, a number by formula. That a scripted call never makes more items than
-//! `call_bound` is not said here: it is a matter of the machine that makes them.
+//! and `call_bound`, a number by formula. That no scripted call of a legal history has more items
+//! than `call_bound` is a law of `history_bound`.
 //!
 //! No caller yet: `wants_frame`, `has_depth`.
 #![tactic(auto)]
