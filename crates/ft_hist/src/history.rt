@@ -1,8 +1,9 @@
 //! A history that the program keeps.
 
 ghost use Rattle.std.specs.Prelude.{◌≡◌, ℕ, ◌+◌, ◌-◌, ◌<◌, ◌≤◌, ◌^◌, List, [], ◌∷◌, ◌++◌, length, IfOk, slice_get};
+ghost use Rattle.ft_hist.specs.Counts.{is_back_of, is_missed_by, backs_of, missed_by};
 
-use ft_base::{Item, NoMemory};
+use ft_base::{Item, NoMemory, Reason, UserNo};
 use std::alloc::Global;
 use std::marker::Model;
 
@@ -58,5 +59,38 @@ impl History {
         ensures room { self.old.spare ≤ self.new.spare + 1 }
     {
         self.kept.push_reserved(item);
+    }
+
+    /// How often a user was called back at the entry of a call.
+    pub fn backs(&self, u: UserNo) -> u32
+        ensures { result ≡ backs_of u.0 self.now.items }
+    {
+        self.kept.iter().filter(|item| is_back(item, u)).count() as u32
+    }
+
+    /// How often an fprobe missed: its callback was refused by the recursion guard, or its exit
+    /// found no frame (`fprobe.rst`, The missed counter).
+    pub fn missed(&self, u: UserNo) -> u32
+        ensures { result ≡ missed_by u.0 self.now.items }
+    {
+        self.kept.iter().filter(|item| is_missed(item, u)).count() as u32
+    }
+}
+
+/// Whether the item is an entry callback of the user.
+fn is_back(item: &Item, u: UserNo) -> bool
+    ensures { result ≡ is_back_of u.0 item.now }
+{
+    matches!(item, Item::Back { user, .. } if *user == u)
+}
+
+/// Whether the item is one that the user missed.
+fn is_missed(item: &Item, u: UserNo) -> bool
+    ensures { result ≡ is_missed_by u.0 item.now }
+{
+    match item {
+        Item::Refuse { user, reason, .. } => *user == u && *reason == Reason::Recursion,
+        Item::Miss { user, .. } => *user == u,
+        _ => false,
     }
 }

@@ -7,8 +7,11 @@
 //! its past, and *whole* if besides all commands have returned and each task has made its run.
 //!
 //! The specs have these definitions: `Past` (what a history tells at a place), `Plain` (plain
-//! runs), `Rules` (which item may come), `Frames` (the users of a call's frame). `theorems` has
-//! what legality promises, in its reader's words. `History` is the list as the program keeps it.
+//! runs), `Rules` (which item may come), `Frames` (the users of a call's frame), `Counts` (how often
+//! a user was called back, or missed). `theorems` has what legality promises, in its reader's words.
+//! `History` is the list as the program keeps it.
+//!
+//! No caller yet: `History::backs` and `History::missed`.
 #![tactic(auto)]
 
 mod history;
