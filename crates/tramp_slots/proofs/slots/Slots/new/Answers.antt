@@ -1,0 +1,5 @@
+use Rattle.std.proofs.lemmas.List.{take-replicate}
+use Rattle.tramp_slots.proofs.slots.Slots.new.Goals as goal
+
+pub returns-clause-free : goal.returns-clause-free
+returns-clause-free c = take-replicate _ 16 _ c.requires
