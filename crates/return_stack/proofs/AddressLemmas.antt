@@ -8,7 +8,7 @@ use Rattle.return_stack.specs.declared.shadow.FrameUser.{FrameUser}
 use Rattle.return_stack.specs.declared.stacks.Address.{Address}
 use Rattle.return_stack.specs.declared.stacks.Address.TheVariants.{Hook, To}
 use Rattle.return_stack.specs.Shadow.{ShadowFrame, users_on, to_on, frames_with_user}
-use Rattle.return_stack.specs.Calls.{OpenCall, top_call, caller_of, top_users, has_frame, address_of, frames_in, with_hook, with_user, if_used, without_empty}
+use Rattle.return_stack.specs.Calls.{StackedCall, top_call, caller_of, top_users, has_frame, address_of, frames_in, with_hook, with_user, if_used, without_empty}
 use Rattle.return_stack.specs.Addresses.{open_calls, AreTied}
 
 -- there are as many open calls as addresses
@@ -53,7 +53,7 @@ address_of-drop k None (Hook ∷ below) (f ∷ fs) d t h = absurd (false≢true 
 address_of-drop zero (Some c) (Hook ∷ below) (f ∷ fs) d t h = refl
 address_of-drop (suc k) (Some c) (Hook ∷ below) (f ∷ fs) d t h = address_of-drop k f.to below fs d t.1 (omega arith)
 
--- the true address of the latest call: it stands there, or the latest frame has kept it
+-- the true address of the latest call: it is there, or the latest frame has kept it
 abbrev pub true_address : Address → List ShadowFrame → Option CallNo
 true_address (To to) fs = to
 true_address Hook fs = to_on fs
@@ -68,7 +68,7 @@ caller_of-open_calls None Hook below (f ∷ fs) t = absurd (false≢true t.0)
 caller_of-open_calls (Some c) Hook below (f ∷ fs) t = top_call-open_calls f.to below fs t.1
 
 -- a call with another address than the hook has no frame
-pub has_frame-unhooked : (calls : List OpenCall) (to : Option CallNo) → address_of calls ≡ To to → has_frame calls ≡ false
+pub has_frame-unhooked : (calls : List StackedCall) (to : Option CallNo) → address_of calls ≡ To to → has_frame calls ≡ false
 has_frame-unhooked calls to e = by_test (has_frame calls) e
   where
     by_test : (b : Bool) → (if b then Hook else To (caller_of calls)) ≡ To to → b ≡ false
@@ -86,12 +86,12 @@ pub AreTied-hook : (call to : Option CallNo) (below : List Address) (fs : List S
     → AreTied call (Hook ∷ below) (record { to = to; users = [] } ∷ fs)
 AreTied-hook call to below fs t = t
 
--- a call that has a frame: the hook stands there, and the latest frame is its own
+-- a call that has a frame: its address is the hook, and the latest frame is its own
 pub record HasFrame (call : Option CallNo) (xs : List Address) (fs : List ShadowFrame) : Type 0 where
   pub frame : 0 < length fs
   pub users : top_users (open_calls call xs fs) ≡ Some (users_on fs)
 
--- the latest call has a frame where the hook stands
+-- a latest call with a frame
 pub has_frame-inv : (call : Option CallNo) (xs : List Address) (fs : List ShadowFrame) → AreTied call xs fs
     → has_frame (open_calls call xs fs) ≡ true → HasFrame call xs fs
 has_frame-inv call [] fs t h = absurd cc
@@ -149,13 +149,13 @@ if_used-none None h = refl
 if_used-none (Some users) h = absurd (false≢true (sym h))
 
 -- a call that has no frame has none without users
-pub without_empty-unhooked : (calls : List OpenCall) → has_frame calls ≡ false → without_empty calls ≡ calls
+pub without_empty-unhooked : (calls : List StackedCall) → has_frame calls ≡ false → without_empty calls ≡ calls
 without_empty-unhooked [] h = refl
 without_empty-unhooked (c ∷ below) h =
     ap (λ (users : Option (List FrameUser)). record c { users = users } ∷ below) (if_used-none c.users h)
 
 -- nor has one whose frame has users
-pub without_empty-used : (calls : List OpenCall) (users : List FrameUser) → top_users calls ≡ Some users → (length users == 0) ≡ false
+pub without_empty-used : (calls : List StackedCall) (users : List FrameUser) → top_users calls ≡ Some users → (length users == 0) ≡ false
     → without_empty calls ≡ calls
 without_empty-used [] users e h = absurd cc
 without_empty-used (c ∷ below) users e h =

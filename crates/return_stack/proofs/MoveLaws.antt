@@ -7,30 +7,30 @@ use Rattle.std.proofs.lemmas.List.{drop-map, length-map}
 use Rattle.ft_base.specs.declared.number.CallNo.{CallNo}
 use Rattle.return_stack.specs.declared.shadow.FrameUser.{FrameUser}
 use Rattle.return_stack.specs.declared.stacks.Address.TheVariants.{Hook, To}
-use Rattle.return_stack.specs.Calls.{OpenCall, CallStack, caller_of, has_frame, address_of, up_to, frames_in, is_full, with_hook, with_user, if_used, without_empty}
+use Rattle.return_stack.specs.Calls.{StackedCall, CallStack, caller_of, has_frame, address_of, up_to, frames_in, is_full, with_hook, with_user, if_used, without_empty}
 use Rattle.return_stack.specs.Moves.{Move, Push, HookTop, AddUser, DropEmpty, Pop, after_move, after_moves, plain_calls, ordinary_move, ordinary}
 
 -- calls without their frames
-abbrev plain : List OpenCall → List CallNo
+abbrev plain : List StackedCall → List CallNo
 plain calls = map (λ c. c.call) calls
 
 -- a hook is no call
-plain-with_hook : (calls : List OpenCall) → plain (with_hook calls) ≡ plain calls
+plain-with_hook : (calls : List StackedCall) → plain (with_hook calls) ≡ plain calls
 plain-with_hook [] = refl
 plain-with_hook (c ∷ below) = refl
 
 -- nor is a user of a frame
-plain-with_user : (calls : List OpenCall) (u : FrameUser) → plain (with_user calls u) ≡ plain calls
+plain-with_user : (calls : List StackedCall) (u : FrameUser) → plain (with_user calls u) ≡ plain calls
 plain-with_user [] u = refl
 plain-with_user (c ∷ below) u = refl
 
 -- nor is a frame that goes
-plain-without_empty : (calls : List OpenCall) → plain (without_empty calls) ≡ plain calls
+plain-without_empty : (calls : List StackedCall) → plain (without_empty calls) ≡ plain calls
 plain-without_empty [] = refl
 plain-without_empty (c ∷ below) = refl
 
 -- a return takes the same call away
-plain-drop : (calls : List OpenCall) → plain (drop 1 calls) ≡ drop 1 (plain calls)
+plain-drop : (calls : List StackedCall) → plain (drop 1 calls) ≡ drop 1 (plain calls)
 plain-drop [] = refl
 plain-drop (c ∷ below) = refl
 
@@ -53,16 +53,16 @@ plain-after_moves s (move ∷ rest) =
     plain-after_moves (after_move s move) rest ∙ ap (λ (calls : List CallNo). ordinary calls rest) (plain-after_move s move)
 
 -- the caller is the call below the top
-pub caller_of-plain : (calls : List OpenCall) → caller_of calls ≡ slice_get (plain calls) 1
+pub caller_of-plain : (calls : List StackedCall) → caller_of calls ≡ slice_get (plain calls) 1
 caller_of-plain [] = refl
 caller_of-plain (c ∷ []) = refl
 caller_of-plain (c ∷ d ∷ below) = refl
 
 -- a call and those before it, without their frames
-plain-up_to : (calls : List OpenCall) (i : ℕ) → plain (up_to calls i) ≡ up_to (plain calls) i
+plain-up_to : (calls : List StackedCall) (i : ℕ) → plain (up_to calls i) ≡ up_to (plain calls) i
 plain-up_to calls i =
-    sym (drop-map (λ (c : OpenCall). c.call) (length calls - suc i) calls)
-    ∙ ap (λ (n : ℕ). drop (n - suc i) (plain calls)) (sym (length-map calls (λ (c : OpenCall). c.call)))
+    sym (drop-map (λ (c : StackedCall). c.call) (length calls - suc i) calls)
+    ∙ ap (λ (n : ℕ). drop (n - suc i) (plain calls)) (sym (length-map calls (λ (c : StackedCall). c.call)))
 
 -- the caller of a call is the one on an ordinary stack
 pub caller_of-after_moves : (s : CallStack) (moves : List Move) → caller_of (after_moves s moves).calls ≡ slice_get (ordinary (plain_calls s) moves) 1
@@ -73,7 +73,7 @@ caller_of-after_moves s moves =
 pub address_of-after_moves : (s : CallStack) (moves : List Move) (i : ℕ) → let calls = up_to (after_moves s moves).calls i in
     address_of calls ≡ (if has_frame calls then Hook else To (slice_get (up_to (ordinary (plain_calls s) moves) i) 1))
 address_of-after_moves s moves i =
-    let calls : List OpenCall = up_to (after_moves s moves).calls i in
+    let calls : List StackedCall = up_to (after_moves s moves).calls i in
     ap (λ (to : Option CallNo). if has_frame calls then Hook else To to)
     (caller_of-plain calls ∙ ap (λ (plains : List CallNo). slice_get plains 1)
     (plain-up_to (after_moves s moves).calls i ∙ ap (λ (plains : List CallNo). up_to plains i) (plain-after_moves s moves)))
@@ -84,7 +84,7 @@ one None = 0
 one (Some users) = 1
 
 -- the frames of a call and of those below it
-frames_in-cons : (c : OpenCall) (below : List OpenCall) → frames_in (c ∷ below) ≡ one c.users + frames_in below
+frames_in-cons : (c : StackedCall) (below : List StackedCall) → frames_in (c ∷ below) ≡ one c.users + frames_in below
 unfolding one
 frames_in-cons c below = by_users c.users
   where
@@ -93,7 +93,7 @@ frames_in-cons c below = by_users c.users
     by_users (Some users) = omega arith
 
 -- a frame that is given takes at most one that is free
-frames_in-with_hook : (calls : List OpenCall) (limit : ℕ) → (not (has_frame calls) && (frames_in calls == limit)) ≡ false → frames_in calls ≤ limit
+frames_in-with_hook : (calls : List StackedCall) (limit : ℕ) → (not (has_frame calls) && (frames_in calls == limit)) ≡ false → frames_in calls ≤ limit
     → frames_in (with_hook calls) ≤ limit
 unfolding one
 frames_in-with_hook [] limit free h = h
@@ -108,7 +108,7 @@ frames_in-with_hook (c ∷ below) limit free h =
     by_users (Some users) free h = h
 
 -- a user of a frame needs no frame of its own
-frames_in-with_user : (calls : List OpenCall) (u : FrameUser) → frames_in (with_user calls u) ≡ frames_in calls
+frames_in-with_user : (calls : List StackedCall) (u : FrameUser) → frames_in (with_user calls u) ≡ frames_in calls
 frames_in-with_user [] u = refl
 frames_in-with_user (c ∷ below) u = by_users c.users
   where
@@ -117,7 +117,7 @@ frames_in-with_user (c ∷ below) u = by_users c.users
     by_users (Some users) = refl
 
 -- a frame that goes is free
-frames_in-without_empty : (calls : List OpenCall) → frames_in (without_empty calls) ≤ frames_in calls
+frames_in-without_empty : (calls : List StackedCall) → frames_in (without_empty calls) ≤ frames_in calls
 frames_in-without_empty [] = omega arith
 frames_in-without_empty (c ∷ below) = by_users c.users
   where
@@ -127,7 +127,7 @@ frames_in-without_empty (c ∷ below) = by_users c.users
     by_users (Some (u ∷ users)) = omega arith
 
 -- so is that of a call that returns
-frames_in-drop : (calls : List OpenCall) → frames_in (drop 1 calls) ≤ frames_in calls
+frames_in-drop : (calls : List StackedCall) → frames_in (drop 1 calls) ≤ frames_in calls
 frames_in-drop [] = omega arith
 frames_in-drop (c ∷ below) = omega (arith, frames_in-cons c below)
 

@@ -11,7 +11,7 @@ use Rattle.return_stack.specs.declared.stacks.Address.{Address}
 use Rattle.return_stack.specs.declared.stacks.Address.TheVariants.{Hook, To}
 use Rattle.return_stack.specs.declared.stacks.Stacks.TheInside.{Inside}
 use Rattle.return_stack.specs.Shadow.{Shadow, ShadowFrame, users_on, to_on, with_frame, with_user_on}
-use Rattle.return_stack.specs.Calls.{OpenCall, CallStack, caller_of, top_users, has_frame, address_of, frames_in, is_full, with_hook, with_user, without_empty}
+use Rattle.return_stack.specs.Calls.{StackedCall, CallStack, caller_of, top_users, has_frame, address_of, frames_in, is_full, with_hook, with_user, without_empty}
 use Rattle.return_stack.specs.Addresses.{open_calls, AreTied}
 use Rattle.return_stack.specs.KeptCalls.{stack_of}
 use Rattle.return_stack.proofs.AddressLemmas.{frames_in-open_calls, true_address, caller_of-open_calls, has_frame-unhooked, has_frame-inv, open_calls-hook, AreTied-hook, open_calls-frames_with_user, AreTied-frames_with_user, open_calls-drop, AreTied-drop, without_empty-unhooked, without_empty-used}
@@ -67,7 +67,7 @@ frames_in-calls s v e t =
     ap (λ (w : CallStack). frames_in w.calls) (sym e) ∙ frames_in-open_calls s.running (reverse s.addresses.items) s.shadow.frames t
 
 -- the calls below the latest one have its frame less
-pub frames_in-below : (calls : List OpenCall) (b : Bool) (n : ℕ) → b ≡ has_frame calls → n ≡ bool_byte b → n + frames_in (drop 1 calls) ≡ frames_in calls
+pub frames_in-below : (calls : List StackedCall) (b : Bool) (n : ℕ) → b ≡ has_frame calls → n ≡ bool_byte b → n + frames_in (drop 1 calls) ≡ frames_in calls
 frames_in-below [] b n e h = omega (arith, h ∙ ap bool_byte e)
 frames_in-below (c ∷ below) b n e h = ap (λ (m : ℕ). m + frames_in below) (h ∙ ap bool_byte e) ∙ by_test (is_some c.users)
   where
@@ -186,8 +186,8 @@ pub used_stays : (s : Inside) (v : CallStack) → stack_of s ≡ v → IsTied s 
     → v ≡ record v { calls = without_empty v.calls }
 used_stays s v e t has used =
     let on = on_frame s v e t has in
-    ap (λ (calls : List OpenCall). record v { calls = calls }) (sym (without_empty-used v.calls (users_on s.shadow.frames) on.users used))
+    ap (λ (calls : List StackedCall). record v { calls = calls }) (sym (without_empty-used v.calls (users_on s.shadow.frames) on.users used))
 
 -- and so does one without a frame
 pub unhooked_stays : (v : CallStack) → has_frame v.calls ≡ false → v ≡ record v { calls = without_empty v.calls }
-unhooked_stays v h = ap (λ (calls : List OpenCall). record v { calls = calls }) (sym (without_empty-unhooked v.calls h))
+unhooked_stays v h = ap (λ (calls : List StackedCall). record v { calls = calls }) (sym (without_empty-unhooked v.calls h))

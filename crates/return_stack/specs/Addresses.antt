@@ -5,15 +5,15 @@ use Rattle.return_stack.specs.declared.shadow.FrameUser.{FrameUser}
 use Rattle.return_stack.specs.declared.stacks.Address.{Address}
 use Rattle.return_stack.specs.declared.stacks.Address.TheVariants.{Hook, To}
 use Rattle.return_stack.specs.Shadow.{ShadowFrame}
-use Rattle.return_stack.specs.Calls.{OpenCall}
+use Rattle.return_stack.specs.Calls.{StackedCall}
 
 -- a call over those below it
-abbrev pub over : Option CallNo → Option (List FrameUser) → List OpenCall → List OpenCall
+abbrev pub over : Option CallNo → Option (List FrameUser) → List StackedCall → List StackedCall
 over None users below = below
 over (Some call) users below = record { call = call; users = users } ∷ below
 
--- the open calls: the latest one, the one that its return address names, and so on. Where the hook stands, the frame has the address
-abbrev pub open_calls : Option CallNo → List Address → List ShadowFrame → List OpenCall
+-- the open calls: the latest one, the one that its return address names, and so on. The address that the hook has replaced is in the frame
+abbrev pub open_calls : Option CallNo → List Address → List ShadowFrame → List StackedCall
 open_calls call [] frames = []
 open_calls call (To to ∷ below) frames = over call None (open_calls to below frames)
 open_calls call (Hook ∷ below) [] = []

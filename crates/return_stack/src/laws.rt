@@ -15,9 +15,9 @@ pub fn returns_reach_true_callers()
         → caller_of (after_moves s moves).calls ≡ slice_get (ordinary (plain_calls s) moves) 1 }
 {}
 
-/// The hook stands exactly where a call has a frame. Every other return address is the one that
-/// stands on an ordinary stack.
-pub fn hooks_stand_for_frames()
+/// The return address of a call is the hook exactly if the call has a frame. Otherwise it is the one
+/// of an ordinary stack.
+pub fn hooked_exactly_with_a_frame()
     ensures { (s : CallStack) (moves : List Move) (i : ℕ) → i < length (after_moves s moves).calls
         → let calls = up_to (after_moves s moves).calls i in
         address_of calls ≡ (if has_frame calls

@@ -10,7 +10,7 @@ use ft_base::{CallNo, NoMemory, UserNo};
 use std::alloc::Global;
 use std::marker::Model;
 
-/// What stands on a task's stack as the return address of a call.
+/// The return address of a call, as it is on the task's stack.
 #[derive(Clone, Copy, Debug, PartialEq, Eq)]
 pub enum Address {
     /// The hook, which looks up the true address in the call's frame.
