@@ -4,6 +4,22 @@ use crate::Guards;
 use ft_base::Ctx;
 
 #[test]
+fn recursion(rt: HostRuntime) {
+    let mut guards = Guards::new();
+    // A callback calls a function that its user traces too.
+    assert!(rt; guards.try_enter());
+    assert!(rt; !guards.try_enter(), "refused in its own context");
+    guards.leave();
+    // The next callback raises an interrupt that calls the function.
+    assert!(rt; guards.try_enter());
+    guards.raise(Ctx::Irq);
+    assert!(rt; guards.try_enter(), "called back in the interrupt");
+    guards.leave();
+    guards.lower();
+    guards.leave();
+}
+
+#[test]
 fn guards_each_context_apart(rt: HostRuntime) {
     let mut guards = Guards::new();
     // The task in its normal context, then interrupted up to the highest one.
