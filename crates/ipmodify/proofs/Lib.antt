@@ -1,0 +1,3 @@
+pub mod LowestLemmas
+pub mod ConflictLemmas
+pub mod DeskLemmas

@@ -1,0 +1,3 @@
+pub mod Conflicts
+pub mod Pairs
+pub mod OnDesk
