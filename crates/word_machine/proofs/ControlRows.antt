@@ -8,11 +8,11 @@ use Rattle.ft_base.specs.Job.{Job, no_task, Ctl, Run, Until}
 use Rattle.ft_base.specs.Desk.{desk}
 use Rattle.ft_hist.specs.Plain.{plain, PlainTask}
 use Rattle.ft_hist.specs.Rules.{acts_passed}
-use Rattle.word_machine.specs.Words.{Words, Want, Pids, Depth, Head, Tail, Next, Ack, Quiet, Tramp, Link, Sel, Bits, half_size, breakpoint, head_of, tail_of, sel_of, tramp_word, set_word, mask_of}
+use Rattle.word_machine.specs.Words.{Words, Want, Pids, Depth, Head, Tail, Next, Ack, Quiet, Tramp, Link, Sel, Bits, breakpoint, head_of, tail_of, sel_of, tramp_word, set_word, mask_of}
 use Rattle.word_machine.specs.Commands.{effect, subject, state_of, command, insn}
 use Rattle.word_machine.specs.Control.{Op, Load, Store, Mark, Position, Line, Take, Copy, Select, Push, Relink, StorePids, StoreDepth, NextAt, BreakAt, Ask1, Wait1, TailAt, Ask2, Wait2, HeadAt, Ask3, Wait3, AskQuiet, WaitQuiet, Release, Close, other_copy, copy_after, slot_of, name_of, relink_op, answer_in, line_op, next_in, control_next}
 use Rattle.word_machine.specs.Cpu.{Cpu}
-use Rattle.word_machine.specs.Machine.{World, control_row, past_after}
+use Rattle.word_machine.specs.Machine.{World, control_row}
 use Rattle.word_machine.specs.Tasks.{TaskRule}
 use Rattle.word_machine.specs.Rule.{MachineRule, IsWordJob, task_in}
 use Rattle.word_machine.proofs.NoSwitch.{world, hereby}

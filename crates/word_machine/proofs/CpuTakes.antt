@@ -6,10 +6,10 @@ use Rattle.ft_hist.specs.Past.{done, begun}
 use Rattle.word_machine.specs.Words.{Want, greatest_half, breakpoint, head_of}
 use Rattle.word_machine.specs.Commands.{insn}
 use Rattle.word_machine.specs.Control.{Op, Load}
-use Rattle.word_machine.specs.Task.{OpenCall, TaskState, Moment, Polling, First, Fetch, GotHead, GotBreak, InTramp, OwnSel, AtFirst, TestSel, TestFilter, TestNotrace, AtPids, AtDepth, Refusing, Calling, Missing, Acting, Ending, AtLink, Closing, Leaving, AtExit, Exiting, EndingExit, Returning, call_op, stack_op}
-use Rattle.word_machine.specs.Cpu.{Cpu, Phase, Going, StoringAck, StoringQuiet, Over, any_has_more, present_op, phase_op, cpu_next}
+use Rattle.word_machine.specs.Task.{OpenCall, TaskState, Moment, Polling, First, Fetch, GotHead, GotBreak, InTramp, AtFirst, AtLink, call_op, stack_op}
+use Rattle.word_machine.specs.Cpu.{Phase, Going, StoringAck, StoringQuiet, Over, any_has_more, present_op, phase_op, cpu_next}
 use Rattle.word_machine.specs.Machine.{World, taken}
-use Rattle.word_machine.specs.Rule.{MachineRule, CpuRule, IsWordJob, here}
+use Rattle.word_machine.specs.Rule.{MachineRule, IsWordJob}
 use Rattle.word_machine.specs.Laws.{HasTarget, OpenAt, IsAt, Names, CallTakes, StackTakes, PresentTakes, GoingTakes, PhaseTakes, CpuTakes}
 use Rattle.word_machine.proofs.Settled.{settled}
 use Rattle.word_machine.proofs.OpenCalls.{call-rule}

@@ -1,22 +1,20 @@
 -- What is never done while a task uses it: a trampoline is not freed, a link is not stored anew, and a copy of sets is not written.
-use Rattle.std.proofs.Common.{◌≡◌, ◌≢◌, ◌⊎◌, ℕ, suc, ◌+◌, ◌*◌, ◌<◌, Bool, true, false, List, ◌∷◌, Some, None, Option, inl, inr, refl, sym, ap, ◌∙◌, subst, arith}
+use Rattle.std.proofs.Common.{◌≡◌, ◌≢◌, ℕ, suc, true, false, List, Some, None, inl, inr, refl, sym, ap, ◌∙◌, subst, arith}
 use Rattle.std.proofs.lemmas.Option.{same_Some}
-use Rattle.ft_base.specs.declared.item.Ran.{Ran}
-use Rattle.ft_base.specs.declared.item.Ran.TheVariants.{Nop, List as ByList, Own}
+use Rattle.ft_base.specs.declared.item.Ran.TheVariants.{List as ByList}
 use Rattle.ft_base.specs.Job.{Job}
 use Rattle.ft_base.specs.Desk.{UserState, desk}
 use Rattle.ft_base.specs.Order.{has}
 use Rattle.ft_hist.specs.Past.{Visit}
 use Rattle.ft_base.proofs.Small.{false_true}
 use Rattle.word_machine.specs.Words.{low}
-use Rattle.word_machine.specs.Commands.{Effect, Adds, Removes, effect, subject, state_of}
-use Rattle.word_machine.specs.Control.{Position, Copy, Push, other_copy}
-use Rattle.word_machine.specs.Task.{OpenCall, Moment, Polling, First, Leaving, AtExit, Exiting, EndingExit, Returning, Fetch, GotHead, GotBreak, InTramp, OwnSel, AtFirst, TestSel, TestFilter, TestNotrace, AtPids, AtDepth, Refusing, Calling, Missing, Acting, Ending, AtLink, Closing}
+use Rattle.word_machine.specs.Commands.{Effect, Adds, effect, subject, state_of}
+use Rattle.word_machine.specs.Task.{OpenCall, Moment, InTramp, TestSel, TestFilter, TestNotrace, AtPids, AtDepth, Refusing, Calling, Missing, Acting, Ending, AtLink}
 use Rattle.word_machine.specs.Machine.{World}
 use Rattle.word_machine.specs.Progress.{listed, is_adds, comes_to}
 use Rattle.word_machine.specs.UserList.{list_desk}
 use Rattle.word_machine.specs.HashCopies.{ReaderAt, InFilter, InNotrace}
-use Rattle.word_machine.specs.Verdicts.{Here, Walks, BeforeVisit, AfterVisit}
+use Rattle.word_machine.specs.Verdicts.{Walks, BeforeVisit, AfterVisit}
 use Rattle.word_machine.specs.Calls.{CallAt}
 use Rattle.word_machine.specs.Rule.{MachineRule, here, IsWordJob}
 use Rattle.word_machine.specs.Laws.{IsAt, IsLinking, IsWriting, walked, copy_read}

@@ -1,5 +1,5 @@
 -- The clock has room for every legal history of a job.
-use Rattle.std.proofs.Common.{◌≡◌, ℕ, ◌<◌, ◌≤◌, List, length, reverse, sym, subst, arith}
+use Rattle.std.proofs.Common.{◌<◌, List, length, reverse, sym, subst, arith}
 use Rattle.std.proofs.lemmas.List.{reverse-reverse, length-reverse}
 use Rattle.ft_base.specs.declared.item.Item.{Item}
 use Rattle.ft_base.specs.Job.{Job}

@@ -1,21 +1,19 @@
 -- An actor is at its end exactly if it has no operation left.
-use Rattle.std.proofs.Common.{cond, ◌≡◌, ℕ, suc, ◌<◌, Bool, true, false, List, [], ◌∷◌, length, Some, None, refl, sym, ◌∙◌, subst, arith}
-use Rattle.std.specs.Prelude.{Option, ◌↔◌}
+use Rattle.std.proofs.Common.{cond, ◌≡◌, ℕ, ◌<◌, Bool, true, false, List, [], ◌∷◌, length, Some, None, refl, sym}
+use Rattle.std.specs.Prelude.{◌↔◌}
 use Rattle.ft_base.specs.declared.task.TaskAct.{TaskAct}
 use Rattle.ft_base.specs.declared.task.TaskAct.TheVariants.{Call, Ret as RetAct, Raise, Lower, After}
-use Rattle.ft_base.specs.declared.turn.Actor.TheVariants.{Control as ByControl, Cpu as ByCpu}
 use Rattle.ft_base.specs.Job.{Job, Ctl, Run, Until}
 use Rattle.ft_base.specs.WellFormed.{IsScript}
 use Rattle.ft_base.proofs.Small.{false_true}
 use Rattle.ft_hist.specs.Frames.{is_nil}
-use Rattle.plain_machine.specs.State.{has_acts}
 use Rattle.word_machine.specs.Words.{Want}
-use Rattle.word_machine.specs.Control.{Op, Load, Control, Position, Line, line_op, next_in, control_next}
+use Rattle.word_machine.specs.Control.{Load, Control, Position, Line, line_op, next_in, control_next}
 use Rattle.word_machine.specs.Task.{OpenCall, TaskState, Moment, Polling, First, is_quiet, first_op, call_op, stack_op}
 use Rattle.word_machine.specs.Cpu.{Cpu, Phase, Going, StoringAck, StoringQuiet, Over, any_has_more, present_op, phase_op, cpu_next}
 use Rattle.word_machine.specs.Machine.{World, is_end, control_is_done}
 use Rattle.word_machine.specs.Tasks.{StandsIn, FirstAt, open_by, is_returning, acts_by}
-use Rattle.word_machine.specs.Rule.{MachineRule, CpuRule, here}
+use Rattle.word_machine.specs.Rule.{MachineRule}
 
 some_none : {A : Type 0} {B : Type 0} (x : A) → Some x ≡ None → B
 some_none x e = absurd (cc)

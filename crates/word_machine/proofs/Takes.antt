@@ -1,5 +1,5 @@
 -- Each value that a task would load next fits its step, as the code that makes the steps asks it.
-use Rattle.std.proofs.Common.{◌≡◌, ◌⊎◌, ℕ, suc, ◌<◌, ◌≤◌, refl, List, ◌∷◌, sym, ◌∙◌, subst, arith, inl, inr}
+use Rattle.std.proofs.Common.{◌≡◌, ◌⊎◌, ℕ, suc, ◌<◌, ◌≤◌, List, sym, subst, arith, inl, inr}
 use Rattle.ft_base.specs.Job.{Job, funcs}
 use Rattle.ft_hist.specs.Past.{done, begun}
 use Rattle.word_machine.specs.Words.{low, decode}

@@ -1,5 +1,5 @@
 -- The next operation of each actor is on a word that the job has.
-use Rattle.std.proofs.Common.{cond, ◌≡◌, ◌⊎◌, ℕ, zero, suc, ◌+◌, ◌/◌, ◌<◌, Bool, true, false, ◌||◌, List, [], ◌∷◌, ◌++◌, length, Some, inl, inr, ⊎_elim, refl, sym, ap, ◌∙◌, subst, arith}
+use Rattle.std.proofs.Common.{cond, ◌≡◌, ℕ, zero, suc, ◌+◌, ◌/◌, ◌<◌, true, false, ◌||◌, List, [], ◌∷◌, ◌++◌, length, Some, inl, inr, ⊎_elim, refl, sym, ap, ◌∙◌, subst, arith}
 use Rattle.std.specs.Prelude.{Option, None, is_some, ◌==◌, Contains, slice_index_or}
 use Rattle.std.specs.List.{AllByRecursion as Each}
 use Rattle.ft_base.specs.declared.number.CallNo.{CallNo}
@@ -18,7 +18,7 @@ use Rattle.ft_hist.specs.Past.{Visit, visit, all_visits, visits, done, begun, en
 use Rattle.ft_hist.specs.Rules.{AtReturnedOrBegun, IsLegalPast, waits_before}
 use Rattle.word_machine.specs.Words.{Word, Want, First as ListHead, Link, low}
 use Rattle.word_machine.specs.Commands.{Effect, Adds, Removes, Edits, Enables, Disables, Lists, Levels, Nothing, effect, subject, state_of, set_words}
-use Rattle.word_machine.specs.Control.{Load, Control, Position, Line, Take, Copy, Select, Push, Relink, StorePids, StoreDepth, NextAt, BreakAt, Ask1, Wait1, TailAt, Ask2, Wait2, HeadAt, Ask3, Wait3, AskQuiet, WaitQuiet, Release, Close, other_copy, slot_of, namer_from, relink_op, line_op, next_in, control_next}
+use Rattle.word_machine.specs.Control.{Load, Position, Line, Take, Copy, Select, Push, Relink, StorePids, StoreDepth, NextAt, BreakAt, Ask1, Wait1, TailAt, Ask2, Wait2, HeadAt, Ask3, Wait3, AskQuiet, WaitQuiet, Release, Close, slot_of, namer_from, relink_op, line_op, next_in, control_next}
 use Rattle.word_machine.specs.Task.{OpenCall, TaskState, Moment, Polling, First, Fetch, GotHead, GotBreak, InTramp, OwnSel, AtFirst, TestSel, TestFilter, TestNotrace, AtPids, AtDepth, Refusing, Calling, Missing, Acting, Ending, AtLink, Closing, Leaving, AtExit, Exiting, EndingExit, Returning, first_op, call_op, stack_op, task_op}
 use Rattle.word_machine.specs.Cpu.{Cpu, Phase, Going, StoringAck, StoringQuiet, Over, any_has_more, present_op, phase_op, cpu_next}
 use Rattle.word_machine.specs.Machine.{World}

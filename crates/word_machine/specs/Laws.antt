@@ -1,11 +1,10 @@
 -- What the laws of the whole machine say: sites that are settled, what is never done, values and words that fit, and what goes on from step
 -- to step.
-use Rattle.std.specs.Prelude.{ℕ, suc, ◌≡◌, ◌≢◌, ◌+◌, ◌<◌, ◌≤◌, ◌⊎◌, Bool, true, false, List, [], ◌∷◌, length, Option, Some, None, ◌^◌, get_or, ◌==◌}
-use Rattle.ft_base.specs.declared.item.Ran.TheVariants.{List as ByList}
+use Rattle.std.specs.Prelude.{ℕ, suc, ◌≡◌, ◌+◌, ◌<◌, ◌≤◌, ◌⊎◌, Bool, true, false, List, [], ◌∷◌, length, Option, Some, None, ◌^◌, get_or, ◌==◌}
 use Rattle.ft_base.specs.Job.{Job, funcs, no_task}
 use Rattle.ft_hist.specs.Past.{done, begun}
 use Rattle.ft_hist.specs.Rules.{IsUnvisited}
-use Rattle.word_machine.specs.Words.{Word, Words, Clock, Want, Head, Tail, Next, Ack, Quiet, Tramp, Link, Sel, Bits, read, half_size, greatest_half, all_ones, head_of, tail_of, tramp_word, tramp_user, breakpoint, decode}
+use Rattle.word_machine.specs.Words.{Word, Words, Head, Tail, Next, Ack, Quiet, Tramp, Link, Sel, Bits, read, half_size, greatest_half, head_of, tail_of, tramp_word, breakpoint, decode}
 use Rattle.word_machine.specs.Commands.{insn, subject, set_words}
 use Rattle.word_machine.specs.Control.{Op, Load, Store, Mark, Position, Copy, Push, Wait1, Wait2, Wait3, WaitQuiet, other_copy}
 use Rattle.word_machine.specs.Task.{OpenCall, TaskState, Moment, Polling, First, Fetch, GotHead, GotBreak, InTramp, AtFirst, TestSel, TestFilter, TestNotrace, AtPids, AtDepth, Refusing, Calling, Missing, Acting, Ending, AtLink}

@@ -1,6 +1,6 @@
 -- The rule that holds between any two steps of the word machine. Here are the CPUs and their polls, control's lines, the counts, and the
 -- whole; the files above have call sites, the list of users, the copies of sets, the trampolines, calls and tasks.
-use Rattle.std.specs.Prelude.{ℕ, suc, ◌≡◌, ◌+◌, ◌*◌, ◌<◌, ◌≤◌, true, false, List, ◌∷◌, ◌++◌, length, get_or, IsSome, slice_get}
+use Rattle.std.specs.Prelude.{ℕ, ◌≡◌, ◌+◌, ◌*◌, ◌<◌, ◌≤◌, true, false, List, ◌∷◌, ◌++◌, length, get_or, IsSome, slice_get}
 use Rattle.std.specs.List.{AllByRecursion as Each}
 use Rattle.ft_base.specs.declared.limits.TheConstants.{TASKS, TABLE_FUNCS}
 use Rattle.ft_base.specs.declared.item.Item.{Item}
