@@ -177,9 +177,9 @@ def random_command(rng, funcs, users, tasks):
     return f"ctl maxdepth {rng.randint(0, 2)}"
 
 
-def log_of(program, script):
+def log_of(program, script, machine="e1"):
     """The lines that the other program prints for a script; None if it refuses it."""
-    came = runs.answer([program, "--machine", "e1", "--features", "none", "replay"], script.encode())
+    came = runs.answer([program, "--machine", machine, "--features", "none", "replay"], script.encode())
     return came.out.decode().split("\n")[:-1] if came.status == 0 else None
 
 
@@ -332,7 +332,10 @@ class Script:
         return f"{made} {call} {user(w[3])}"
 
 
-def sample(name, text, log):
+UNFOLDED = "actors_of repeated start played play all_end step whole desk"
+
+
+def sample(name, text, log, unfolded=UNFOLDED):
     script = Script(text)
     items = listed(script.item(line) for line in log[:-1])
     ended = str(log[-1] == "end").lower()
@@ -340,7 +343,7 @@ def sample(name, text, log):
         f"abbrev pub {name} : Job\n{name} = {script.job()}\n\n"
         f"abbrev pub {name}-items : List Item\n{name}-items = {items}\n\n"
         f"pub {name}-plays : Plays {name} {name}-items {ended}\n"
-        "unfolding actors_of repeated start played play all_end step whole desk\n"
+        f"unfolding {unfolded}\n"
         f"{name}-plays = (refl, refl)\n\n"
     )
 
@@ -364,11 +367,11 @@ use Rattle.plain_machine.proofs.Plays.{Plays, named, call_in}
 """
 
 
-def imports_of(body):
+def imports_of(body, imports=IMPORTS):
     """The imports, with those names alone that the samples use, as `rt tidy` leaves them."""
     words = set(re.split(r"[\s();]+", body)) | {"◌∷◌"}
     lines = []
-    for line in IMPORTS.splitlines():
+    for line in imports.splitlines():
         path, names = line[:-1].split(".{")
         used = [name for name in names.split(", ") if name.split(" as ")[-1] in words]
         if used:
