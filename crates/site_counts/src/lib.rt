@@ -1,0 +1,28 @@
+//! How many users are sited at each function.
+//!
+//! A user is *sited* at the functions that it matches while it is registered, and their call sites are
+//! patched for it. The *row* of a function counts these users, those of them that have the `regs` flag,
+//! and those that replace functions, which have `ipmodify` (`ftrace.rst`, The File System:
+//! `enabled_functions` shows the count, `R` and `I`). A user is added at all its functions at once, and
+//! dropped at all of them.
+//!
+//! Promised: a user that is added or dropped changes the row of each of its functions, by one in the
+//! count and in the count of each flag that it has, and no other row. So each row is its own sum over
+//! the users that have been added and not dropped, which is a law in `laws`. Only [`Counts::new`] takes
+//! memory. Only tested: that memory is found.
+//!
+//! The calls go from member to member of a set, and pass over its empty words.
+//!
+//! No caller yet: the whole crate.
+#![tactic(auto)]
+
+mod counts;
+pub mod laws;
+mod members;
+mod rows;
+
+pub use counts::Counts;
+pub use rows::Row;
+
+#[cfg(test)]
+mod tests;
