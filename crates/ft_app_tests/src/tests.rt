@@ -10,7 +10,7 @@ use ft_io::{MemSink, MemSource, OpenGate};
 use std::alloc::Global;
 use std::test::Fail;
 
-/// The most bytes that one call moves where the size is no matter, and room for every text here.
+/// The most bytes that one call moves when the size is no matter, and room for every text here.
 const PIECE: usize = 4_096;
 
 /// One function, one user, one task with one call, and one command.

@@ -45,7 +45,7 @@ plain_spec = record { name = []; kind = Function; regs = false; ipmodify = None;
 abbrev pub spec_at : Job → ℕ → Spec
 spec_at job u = get_or job.users u plain_spec
 
--- a user matches a function where its filter is empty or holds it, and its notrace set does not hold it
+-- a user matches a function if its filter is empty or holds it, and its notrace set does not hold it
 -- (ftrace.rst, The File System: set_ftrace_filter, set_ftrace_notrace; ftrace-uses.rst, Filtering which functions to trace)
 abbrev pub matches_by : Marks → Marks → ℕ → Bool
 matches_by filter notrace f = (is_empty filter || holds filter f) && not (holds notrace f)
@@ -107,7 +107,7 @@ edited size old e =
 abbrev pub other_modifier : Job → Desk → ℕ → ℕ → ℕ → Bool
 other_modifier job desk u f v = not (v == u) && (user_at desk v).registered && is_some (spec_at job v).ipmodify && is_matching (user_at desk v) f
 
--- `Busy` for the function and its first holder, where there is one
+-- `Busy` for the function and its first holder, if there is one
 abbrev pub busy_or : Option ℕ → Option ℕ → Answer → Answer
 busy_or (Some f) (Some v) otherwise = Busy (record { 0 = f }) (record { 0 = v })
 busy_or _ _ otherwise = otherwise
@@ -179,7 +179,7 @@ abbrev pub with_user : Desk → ℕ → UserState → Desk
 with_user desk u s = record desk { users = set desk.users u s }
 
 -- a user that the k-th command registers: its registration number goes up by 1, it is enabled, and takes the lowest free
--- trampoline slot, or none where none is free
+-- trampoline slot, or none if none is free
 abbrev pub registered_as : Job → Desk → ℕ → UserState → UserState
 registered_as job desk k s = record s { registered = true; reg = suc s.reg; since = k; enabled = true; slot = lowest (is_free desk) 0 job.tramps }
 
@@ -204,7 +204,7 @@ abbrev pub is_accepted : Answer → Bool
 is_accepted Accepted = true
 is_accepted _ = false
 
--- the desk after the k-th command, where there is one
+-- the desk after the k-th command, if there is one
 abbrev pub after : Job → Desk → ℕ → Option Command → Desk
 after job desk k None = desk
 after job desk k (Some c) = if is_accepted (answer_on job desk c) then changed job desk k c else desk

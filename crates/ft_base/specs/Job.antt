@@ -7,7 +7,7 @@ use Rattle.ft_base.specs.declared.user.Act.{Act}
 use Rattle.ft_base.specs.declared.task.TaskAct.{TaskAct}
 use Rattle.ft_base.specs.declared.turn.Turn.{Turn}
 
--- a traceable function: its name, and its module where it has one
+-- a traceable function: its name, and its module if it has one
 pub record Func : Type 0 where
   pub name : List ℕ
   pub owner : Option (List ℕ)

@@ -19,6 +19,6 @@ rank Nmi = 3
 abbrev pub same_ctx : Ctx → Ctx → Bool
 same_ctx a b = rank a == rank b
 
--- the context that an interrupt comes in, where it is above the present one
+-- the context that an interrupt comes in, if it is above the present one
 abbrev pub raised : Ctx → Ctx → Option Ctx
 raised now to = if nat_lt (rank now) (rank to) then Some to else None

@@ -26,8 +26,8 @@ impl Ctx {
     }
 }
 
-/// The context `to`, where it is above the present one. `None` exactly where it isn't, as an
-/// interrupt can't come in its own context or a higher one.
+/// The context `to`, if it is above the present one. `None` exactly if it isn't: an interrupt can't
+/// come in its own context or a higher one.
 pub fn raise(now: Ctx, to: Ctx) -> Option<Ctx>
     ensures { result ≡ raised now to }
 {

@@ -58,7 +58,7 @@ pub record Callback : Type 0 where
   pub user : ℕ
   pub ctx : Option Ctx
 
--- the context of a call, where it has an Enter
+-- the context of a call, if it has an Enter
 abbrev pub ctx_of : CallNo → List Item → Option Ctx
 ctx_of call past = ctx_in (entered call past)
   where
@@ -93,7 +93,7 @@ is_in_callback t x past = list_any (λ b. (b.call.task.0 == t) && is_ctx b.ctx x
 abbrev pub is_called : ℕ → List Item → Bool
 is_called u past = list_any (λ b. b.user == u) (callbacks past)
 
--- what is used where a call has no Enter, which a plain run rules out
+-- what is used if a call has no Enter, which a plain run rules out
 abbrev pub unentered : Entered
 unentered = record { ctx = Normal; func = 0; caller = None; from = 0 }
 
@@ -150,7 +150,7 @@ held_after job call past ms =
     length (filter (λ c. (c.task.0 == call.task.0) && not (same_call c call) && holds_frame job c past ms) (calls past))
 
 -- a Back of the user wants a frame on the shadow stack: always for a graph or profile user, and for an fprobe with an exit
--- where the other calls leave room for one (ftrace.rst, function graph tracer; fprobe.rst, The missed counter)
+-- if the other calls leave room for one (ftrace.rst, function graph tracer; fprobe.rst, The missed counter)
 abbrev pub wants_frame : Job → CallNo → ℕ → List Item → List Visit → Bool
 wants_frame job call u past ms =
     has_depth (spec_at job u).kind || (has_exit (spec_at job u).kind && nat_lt (held_after job call past ms) job.frames)

@@ -19,7 +19,7 @@ pub record Owed : Type 0 where
   pub ctx : Ctx
   pub func : ℕ
 
--- where a call stands: in its dispatch, in an entry callback that may owe a call and may have a Miss directly after its Back,
+-- how far a call is: in its dispatch, in an entry callback that may owe a call and may have a Miss directly after its Back,
 -- in its body, in its return, or in an exit callback
 pub data Phase : Type 0 where
   Dispatch : Phase
@@ -138,17 +138,17 @@ abbrev pub after_back : Job → PlainTask → Frame → List Frame → ℕ → P
 after_back job s t below u Dispatch = Some (on_top s (in_phase t (InBack u (owed_by t.ctx (spec_at job u).act) true)) below)
 after_back job s t below u _ = None
 
--- a Miss stands directly after the Back of its user
+-- a Miss comes directly after the Back of its user
 abbrev pub after_miss : PlainTask → Frame → List Frame → ℕ → Phase → Option PlainTask
 after_miss s t below u (InBack v owed true) = if u == v then Some (on_top s (in_phase t (InBack v owed false)) below) else None
 after_miss s t below u _ = None
 
--- an entry callback ends where its user's act owes nothing more
+-- an entry callback ends only if its user's act owes nothing more
 abbrev pub after_back_end : PlainTask → Frame → List Frame → ℕ → Phase → Option PlainTask
 after_back_end s t below u (InBack v None fresh) = if u == v then Some (on_top s (in_phase t Dispatch) below) else None
 after_back_end s t below u _ = None
 
--- a refusal stands in the dispatch and changes nothing
+-- a refusal comes in the dispatch and changes nothing
 abbrev pub after_refusal : PlainTask → Phase → Option PlainTask
 after_refusal s Dispatch = Some s
 after_refusal s _ = None
@@ -175,7 +175,7 @@ after_leave returned s t below Running =
     else Some (on_top s (in_phase t Leaving) below)
 after_leave returned s t below _ = None
 
--- an exit callback stands in the return
+-- an exit callback comes in the return
 abbrev pub after_exit : PlainTask → Frame → List Frame → ℕ → Phase → Option PlainTask
 after_exit s t below u Leaving = Some (on_top s (in_phase t (InExit u)) below)
 after_exit s t below u _ = None
@@ -195,7 +195,7 @@ abbrev pub on_call : List Frame → CallNo → (Frame → List Frame → Option 
 on_call [] call next = None
 on_call (t ∷ below) call next = if same_call t.call call then next t below else None
 
--- the task after one more item, where a plain run may have it there
+-- the task after one more item, if a plain run may have it there
 unfoldable pub after_item : Job → ℕ → PlainTask → Item → Option PlainTask
 after_item job returned s (Enter call ctx f caller) =
     if (call.n == s.next) && same_top caller (top_call s.stack) then after_enter returned s s.stack call ctx f.0 else None
@@ -214,7 +214,7 @@ after_item job returned s _ = Some s
 abbrev pub at_start : Job → ℕ → PlainTask
 at_start job t = record { next = 1; acts = (get_or job.tasks t no_task).acts; gone = 0; contexts = []; stack = [] }
 
--- the run goes on by one more item, where it came so far
+-- the run goes on by one more item, if it came this far
 abbrev pub after_next : Job → ℕ → Item → Option PlainTask → Option PlainTask
 after_next job returned item None = None
 after_next job returned item (Some s) = after_item job returned s item

@@ -43,7 +43,7 @@ pub record MayVisit (job : Job) (past : List Item) (call : CallNo) (u : ℕ) : T
   pub once : IsUnvisited job call u past
   pub order : Each (λ m. (user_at (desk job (registration_at job call u past)) u).since < m.since) (visits job call past)
 
--- the pid rule where the user is not refused for it
+-- the pid rule for a user that is not refused for it
 abbrev pub PassesPid : Job → List Item → CallNo → ℕ → Type 0
 PassesPid job past call u = (spec_at job u).pid ≡ true → AtReturnedOrBegun past (λ k. is_allowed (desk job k) call.task.0 ≡ true)
 
@@ -100,20 +100,20 @@ pub record MayBody (job : Job) (past : List Item) (call : CallNo) (g : ℕ) (ran
   pub one : OneReplaces (backs_with_replacement job (visits job call past))
   pub runs : g ≡ replacement job (entry_of call past).func (backs_with_replacement job (visits job call past))
 
--- no callback of a user is open where its unregistration or disabling returns
+-- no callback of a user is open when its unregistration or disabling returns
 abbrev pub IsStill : List Item → Command → Type 0
 IsStill past (Unregister u) = is_called u past ≡ false
 IsStill past (Disable u) = is_called u past ≡ false
 IsStill past _ = Unit {0}
 
--- a Return: of the command under way, with its answer, and where that takes a user off no callback of the user is open
+-- a Return: of the command under way, with its answer, and if that takes a user off no callback of the user is open
 -- (ftrace-uses.rst, The ftrace_ops structure; fprobe.rst)
 pub record MayReturn (job : Job) (past : List Item) (k : ℕ) (answer : Answer) : Type 0 where
   pub number : k ≡ suc (done past)
   pub follows : begun past ≡ suc (done past)
   pub command : (c : Command) × (slice_get (commands job) (done past) ≡ Some c) × (answer ≡ answer_at job (done past) c) × (is_accepted answer ≡ true → IsStill past c)
 
--- a Begin: of the next command, where none is under way
+-- a Begin: of the next command, if none is under way
 pub record MayBegin (job : Job) (past : List Item) (k : ℕ) : Type 0 where
   pub number : k ≡ suc (begun past)
   pub follows : begun past ≡ done past

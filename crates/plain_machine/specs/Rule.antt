@@ -38,7 +38,7 @@ Stacked job past t [] [] = Unit {0}
 Stacked job past t (f ∷ fs) (us ∷ rest) = RunningCall job past t f us × Stacked job past t fs rest
 Stacked job past t _ _ = ⊥
 
--- a task stands where its plain run is, its calls run, no more of them hold frames than there are, and its acts to come are
+-- a task is where its plain run is, its calls run, no more of them hold frames than there are, and its acts to come are
 -- balanced over its open calls
 pub record TaskOk (job : Job) (past : List Item) (t : ℕ) (x : TaskState) : Type 0 where
   pub run : RunsAs job past t x.run
@@ -57,7 +57,7 @@ pub record CtlAt (job : Job) (s : State) : Type 0 where
   pub commands : (n : ℕ) → slice_get (commands job) (s.commands_done + n) ≡ slice_get (commands_in s.remaining) n
 
 -- what holds between any two steps: the history is legal so far, no command and no callback is under way, and each actor
--- stands where its items say
+-- is where its items say
 pub record Rule (job : Job) (s : State) : Type 0 where
   pub legal : IsLegalPast job s.past
   pub returned : done s.past ≡ s.commands_done

@@ -22,12 +22,12 @@ use Rattle.ft_base.specs.Schedule.{actors_of}
 use Rattle.ft_hist.specs.Plain.{PlainTask, Frame, Running, Owed, owed_by, context, below_top, top_call, at_start}
 use Rattle.ft_hist.specs.Frames.{FrameUser, is_nil, runs_after}
 
--- where a task stands: its plain run, and beside each call of the stack the users of its frame, in the order of their Backs
+-- where a task is: its plain run, and beside each call of the stack the users of its frame, in the order of their Backs
 pub record TaskState : Type 0 where
   pub run : PlainTask
   pub frames : List (List FrameUser)
 
--- a CPU: its present task, or a number that no task has where it has none, and how many acts it has done since the last switch
+-- a CPU: its present task, or if it has none a number that no task has, and how many acts it has done since the last switch
 pub record CpuState : Type 0 where
   pub present : ℕ
   pub count : ℕ
@@ -83,7 +83,7 @@ abbrev pub refusal : Job → Desk → Around → Ctx → ℕ → Option Reason
 refusal job d a x u =
     refusal_by ((spec_at job u).pid && not (is_allowed d a.task.0)) (is_held a.guards x) (has_depth (spec_at job u).kind && is_deep job d a.level)
 
--- the user wants a frame, where there is room for one
+-- the user wants a frame, and there is room for one
 abbrev pub takes_frame : Job → Around → ℕ → Bool
 takes_frame job a u = has_depth (spec_at job u).kind || (has_exit (spec_at job u).kind && nat_lt a.level job.frames)
 
@@ -95,7 +95,7 @@ misses_frame job a u = has_exit (spec_at job u).kind && not (nat_lt a.level job.
 abbrev pub refused : CallNo → ℕ → Reason → Walk → Walk
 refused call u reason w = record w { past = Refuse call (record { 0 = u }) reason ∷ w.past }
 
--- the Back, and a Miss where the exit finds no frame
+-- the Back, and a Miss if the exit finds no frame
 abbrev pub backed : Job → Around → CallNo → ℕ → List Item → List Item
 backed job a call u past =
     if misses_frame job a u then Miss call (record { 0 = u }) ∷ Back call (record { 0 = u }) ∷ past else Back call (record { 0 = u }) ∷ past
@@ -178,7 +178,7 @@ whole (suc n) job d order a o caller past next =
 abbrev pub idle : TaskState
 idle = record { run = record { next = 1; acts = []; gone = 0; contexts = []; stack = [] }; frames = [] }
 
--- where a task stands
+-- where a task is
 abbrev pub task_at : State → ℕ → TaskState
 task_at s t = get_or s.tasks t idle
 
@@ -303,14 +303,14 @@ cpu_at job s c = get_or s.cpus c (record { present = length job.tasks; count = 0
 abbrev pub with_cpu : ℕ → CpuState → State → State
 with_cpu c x s = record s { cpus = set s.cpus c x }
 
--- the CPU goes on, or switches where its task has ended or waits, or its quantum is used up
+-- the CPU goes on, or switches if its task has ended or waits, or its quantum is used up
 abbrev pub switched : Job → ℕ → CpuState → Bool → State → State
 switched job c x waits s =
     if not (is_left s x.present) || waits || nat_le (get_or job.quanta c 1) (suc x.count)
     then with_cpu c (record { present = next_task job c x.present s; count = 0 }) s
     else with_cpu c (record { present = x.present; count = suc x.count }) s
 
--- a step of a CPU: an act of its present task whole, and perhaps a switch; nothing where no task of it has an act left
+-- a step of a CPU: an act of its present task whole, and perhaps a switch; nothing if no task of it has an act left
 abbrev pub cpu_step : Job → ℕ → CpuState → State → State
 cpu_step job c x s =
     if is_left s x.present
@@ -371,7 +371,7 @@ is_at_end job (Cpu c) s = not (list_any (λ t. is_left s t) (tasks_of job c.0))
 unfoldable pub all_end : State → Bool
 all_end s = is_nil s.remaining && not (list_any (λ x. has_acts x.run.acts) s.tasks)
 
--- a replay of these actors, which stops where all are at their ends
+-- a replay of these actors, which stops when all are at their ends
 unfoldable pub played : Job → List Actor → State → State
 played job [] s = s
 played job (a ∷ rest) s = if all_end s then s else played job rest (step job a s)

@@ -38,7 +38,7 @@ pub fn every_interleaving_is_a_schedule()
     ensures { (cpus : ℕ) (actors : List Actor) → actors_in cpus (map turn_for actors) ≡ actors }
 {}
 
-/// All actors are at their ends exactly if each of the job's actors is, where its tasks are on CPUs
+/// All actors are at their ends exactly if each of the job's actors is, for tasks that are on CPUs
 /// that it has.
 pub fn all_end_if_each_does()
     ensures { (job : PlainJob) (actors : List Actor) → Each (λ t. t.cpu < length job.quanta) job.tasks

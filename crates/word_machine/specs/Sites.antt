@@ -70,7 +70,7 @@ PositionAt job d _ = Unit {0}
 
 -- The words of a site, by its stage n, with the numbers of its old and its new instruction.
 --   before, broken, after   the first byte. Without `broken` a CPU could load the old first byte and then the new tail
---   tail_old, tail_new      the other four. The tail changes only behind the breakpoint
+--   tail_old, tail_new      the other four. The tail changes only under the breakpoint
 --   next_new                the third word, for whoever loads the breakpoint. Without it that CPU would act as an older instruction
 pub record SiteAt (n f old new head tail next : ℕ) : Type 0 where
   pub before : n < 2 → head ≡ head_of old
