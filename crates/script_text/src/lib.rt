@@ -5,9 +5,9 @@
 //! are *names*, some are *numbers*.
 //!
 //! Proved: the first line of a text and what comes after it, which lines are skipped, which are
-//! plain, the words of a text, and what a word says as a name or a number. Only tested: that the
-//! words of a long line are found when there is memory. What the words mean is left to the crates
-//! above.
+//! plain, the words of a text, and what a word says as a name or a number. Only tested, in
+//! `script_text_tests`: that the words of a long line are found when there is memory. What the words
+//! mean is left to the crates above.
 #![tactic(auto)]
 
 mod lines;
@@ -19,6 +19,3 @@ pub use lines::{first_line, is_skipped, plain_text};
 pub use names::name;
 pub use numbers::number;
 pub use word::{all_read, words};
-
-#[cfg(test)]
-mod tests;

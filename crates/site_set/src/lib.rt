@@ -4,10 +4,11 @@
 //! filled and counted a word at a time.
 //!
 //! Promised: each call is its operation on the marks, as an equation. `SiteSet::empty` and
-//! `SiteSet::copy` alone take memory; that it is found is only tested.
+//! `SiteSet::copy` alone take memory; that it is found is only tested, in
+//! `site_set_tests`.
 //!
-//! No caller yet: `first_common` and `count`. The other calls but `empty` and `add` are made by
-//! `filter_hash`, which has no caller itself.
+//! No caller yet: `count`. The other calls but `empty` and `add` are made by `filter_hash`,
+//! `site_counts` and `ipmodify`, which have no callers themselves.
 #![tactic(auto)]
 
 mod edits;
@@ -16,6 +17,3 @@ mod words;
 
 pub use edits::Edit;
 pub use sets::SiteSet;
-
-#[cfg(test)]
-mod tests;

@@ -1,6 +1,6 @@
 //! Lines, words, names and numbers of a script's text.
 
-use crate::{first_line, is_skipped, name, number, plain_text, words};
+use script_text::{first_line, is_skipped, name, number, plain_text, words};
 use std::alloc::{AllocError, Global};
 use std::test::Fail;
 

@@ -1,6 +1,6 @@
 //! Each call once, with enough memory, and the calls at the borders of words.
 
-use crate::SiteSet;
+use site_set::SiteSet;
 use std::test::Fail;
 
 #[test]
