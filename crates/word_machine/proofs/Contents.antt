@@ -21,45 +21,30 @@ use Rattle.word_machine.proofs.Small.{and-false, or-right, digit-one}
 
 -- ## a user's state
 
-on_of : (reg copy : ℕ) (r e b : Bool) → copy < 2 → sel_on (sel_word reg r e copy b) ≡ (r && e)
-on_of reg copy true true true h = grind (arith, nat_tests)
-on_of reg copy true true false h = grind (arith, nat_tests)
-on_of reg copy true false true h = grind (arith, nat_tests)
-on_of reg copy true false false h = grind (arith, nat_tests)
-on_of reg copy false true true h = grind (arith, nat_tests)
-on_of reg copy false true false h = grind (arith, nat_tests)
-on_of reg copy false false true h = grind (arith, nat_tests)
-on_of reg copy false false false h = grind (arith, nat_tests)
+-- what a state's word says, by its bits
+told : (reg copy : ℕ) (r e b : Bool) → copy < 2 → (sel_on (sel_word reg r e copy b) ≡ (r && e)) × (sel_copy (sel_word reg r e copy b) ≡ copy)
+    × (sel_empty (sel_word reg r e copy b) ≡ b) × (high (sel_word reg r e copy b) ≡ reg)
+told reg copy true true true h = (grind (arith, nat_tests), omega arith, grind (arith, nat_tests), omega arith)
+told reg copy true true false h = (grind (arith, nat_tests), omega arith, grind (arith, nat_tests), omega arith)
+told reg copy true false true h = (grind (arith, nat_tests), omega arith, grind (arith, nat_tests), omega arith)
+told reg copy true false false h = (grind (arith, nat_tests), omega arith, grind (arith, nat_tests), omega arith)
+told reg copy false true true h = (grind (arith, nat_tests), omega arith, grind (arith, nat_tests), omega arith)
+told reg copy false true false h = (grind (arith, nat_tests), omega arith, grind (arith, nat_tests), omega arith)
+told reg copy false false true h = (grind (arith, nat_tests), omega arith, grind (arith, nat_tests), omega arith)
+told reg copy false false false h = (grind (arith, nat_tests), omega arith, grind (arith, nat_tests), omega arith)
 
-copy_of : (reg copy : ℕ) (r e b : Bool) → copy < 2 → sel_copy (sel_word reg r e copy b) ≡ copy
-copy_of reg copy true true true h = omega arith
-copy_of reg copy true true false h = omega arith
-copy_of reg copy true false true h = omega arith
-copy_of reg copy true false false h = omega arith
-copy_of reg copy false true true h = omega arith
-copy_of reg copy false true false h = omega arith
-copy_of reg copy false false true h = omega arith
-copy_of reg copy false false false h = omega arith
+module _ (reg copy : ℕ) (r e b : Bool) (h : copy < 2) where
+  on_of : sel_on (sel_word reg r e copy b) ≡ (r && e)
+  on_of = (told reg copy r e b h).0
 
-bare_of : (reg copy : ℕ) (r e b : Bool) → copy < 2 → sel_empty (sel_word reg r e copy b) ≡ b
-bare_of reg copy true true true h = grind (arith, nat_tests)
-bare_of reg copy true true false h = grind (arith, nat_tests)
-bare_of reg copy true false true h = grind (arith, nat_tests)
-bare_of reg copy true false false h = grind (arith, nat_tests)
-bare_of reg copy false true true h = grind (arith, nat_tests)
-bare_of reg copy false true false h = grind (arith, nat_tests)
-bare_of reg copy false false true h = grind (arith, nat_tests)
-bare_of reg copy false false false h = grind (arith, nat_tests)
+  copy_of : sel_copy (sel_word reg r e copy b) ≡ copy
+  copy_of = (told reg copy r e b h).1
 
-reg_of : (reg copy : ℕ) (r e b : Bool) → copy < 2 → high (sel_word reg r e copy b) ≡ reg
-reg_of reg copy true true true h = omega arith
-reg_of reg copy true true false h = omega arith
-reg_of reg copy true false true h = omega arith
-reg_of reg copy true false false h = omega arith
-reg_of reg copy false true true h = omega arith
-reg_of reg copy false true false h = omega arith
-reg_of reg copy false false true h = omega arith
-reg_of reg copy false false false h = omega arith
+  bare_of : sel_empty (sel_word reg r e copy b) ≡ b
+  bare_of = (told reg copy r e b h).2
+
+  reg_of : high (sel_word reg r e copy b) ≡ reg
+  reg_of = (told reg copy r e b h).3
 
 even-off : (v : ℕ) → v % 2 ≡ 0 → sel_on v ≡ false
 even-off v e = rw e refl
