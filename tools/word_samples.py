@@ -12,7 +12,7 @@ scripts are those of plain_samples.py with schedules of single steps: turns of o
 long enough for a whole command or call, some of one step. A random script that REFERENCE refuses,
 or whose history has fewer than eleven items, is passed over, and the next seed is taken.
 
-The samples of crates/word_machine/proofs are
+The samples are, the first two in crates/word_machine/proofs and the others in crates/word_samples/proofs,
 
     RowSamples.antt       word_samples.py REFERENCE rows FILE
     RunSamples.antt       word_samples.py REFERENCE runs FILE
