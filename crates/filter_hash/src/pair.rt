@@ -52,6 +52,17 @@ impl HashPair {
         Ok(HashPair { filter, notrace })
     }
 
+    /// Makes the pair equal to another one of its size.
+    pub fn copy_from(&mut self, other: &HashPair)
+        requires { size_of other.now ≡ size_of self.old }
+        ensures { self.new ≡ other.now }
+    {
+        self.filter.clear();
+        self.filter.unite(&other.filter);
+        self.notrace.clear();
+        self.notrace.unite(&other.notrace);
+    }
+
     /// How many functions there are: each function's number is below it.
     pub fn size(&self) -> u32
         ensures filter { result ≡ size_of self.now }
