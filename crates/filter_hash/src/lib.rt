@@ -8,7 +8,7 @@
 //! a function is matched exactly if that definition says so. `laws` says what the definition of an
 //! edit makes of each function. Only tested: that memory is found.
 //!
-//! No caller yet: the whole crate.
+//! Its one caller is `ft_desk`, which has none itself.
 #![tactic(auto)]
 
 pub mod laws;

@@ -1,0 +1,83 @@
+//! What control can be told to do.
+
+ghost use Rattle.std.specs.Prelude.{◌≡◌, IfOk};
+
+use ft_base::{NoMemory, TaskNo, UserNo};
+use site_set::Edit;
+
+/// A command to the tracer.
+#[derive(Debug, Drop)]
+pub enum Command {
+    /// Registers the user (`ftrace-uses.rst`, "The ftrace_ops structure").
+    Register(UserNo),
+    /// Unregisters the user (the same section).
+    Unregister(UserNo),
+    /// Edits the user's filter (`ftrace.rst`, `set_ftrace_filter`).
+    Filter(UserNo, Edit),
+    /// Edits the user's notrace set (`ftrace.rst`, `set_ftrace_notrace`).
+    Notrace(UserNo, Edit),
+    /// Replaces the pid list (`ftrace.rst`, `set_ftrace_pid`). The mask has a bit for each task;
+    /// bits of no task are ignored.
+    Pid(u64),
+    /// Replaces the nopid list (`ftrace.rst`, `set_ftrace_notrace_pid`), by a mask too.
+    NoPid(u64),
+    /// Enables the user, an fprobe (`fprobe.rst`, "The usage of fprobe").
+    Enable(UserNo),
+    /// Disables the user, an fprobe (the same section).
+    Disable(UserNo),
+    /// Sets the graph depth; 0 means no limit (`ftrace.rst`, `max_graph_depth`).
+    MaxDepth(u32),
+}
+
+/// A line of control.
+#[derive(Debug, Drop)]
+pub enum Ctl {
+    /// Carries out a command.
+    Run(Command),
+    /// Waits until the task has finished this many acts.
+    Until { task: TaskNo, acts: u32 },
+}
+
+impl Ctl {
+    /// An equal line. The error says that memory ran out.
+    pub fn copy(&self) -> Result<Ctl, NoMemory>
+        ensures { IfOk result (λ ctl. ctl ≡ self.now) }
+    {
+        match self {
+            Ctl::Run(command) => Ok(Ctl::Run(copy_command(command)?)),
+            Ctl::Until { task, acts } => Ok(Ctl::Until {
+                task: *task,
+                acts: *acts,
+            }),
+        }
+    }
+}
+
+/// An equal command.
+fn copy_command(command: &Command) -> Result<Command, NoMemory>
+    ensures { IfOk result (λ copy. copy ≡ command.now) }
+{
+    match command {
+        Command::Register(user) => Ok(Command::Register(*user)),
+        Command::Unregister(user) => Ok(Command::Unregister(*user)),
+        Command::Filter(user, edit) => Ok(Command::Filter(*user, copy_edit(edit)?)),
+        Command::Notrace(user, edit) => Ok(Command::Notrace(*user, copy_edit(edit)?)),
+        Command::Pid(mask) => Ok(Command::Pid(*mask)),
+        Command::NoPid(mask) => Ok(Command::NoPid(*mask)),
+        Command::Enable(user) => Ok(Command::Enable(*user)),
+        Command::Disable(user) => Ok(Command::Disable(*user)),
+        Command::MaxDepth(depth) => Ok(Command::MaxDepth(*depth)),
+    }
+}
+
+/// An equal edit.
+fn copy_edit(edit: &Edit) -> Result<Edit, NoMemory>
+    ensures { IfOk result (λ copy. copy ≡ edit.now) }
+{
+    Ok(Edit {
+        append: edit.append,
+        remove: edit.remove,
+        clear: edit.clear,
+        set: edit.set.copy().map_err(|_| NoMemory)?,
+    })
+}
