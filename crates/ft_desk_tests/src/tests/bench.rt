@@ -1,0 +1,212 @@
+//! A desk on the bench: it knows how many users and functions it has, and so asks its desk only what
+//! is in the shape.
+
+ghost use Rattle.std.specs.Prelude.{◌≡◌, ◌<◌, IfOk, length};
+ghost use Rattle.ft_desk.specs.Commands.{IsInShape};
+
+use ft_base::limits::{FUNCS, TRAMPS, USERS};
+use ft_base::{Answer, FuncNo, Kind, UserNo};
+use ft_desk::{Command, Desk, Plan, Shape};
+use site_bytes::Insn;
+use site_counts::Row;
+use site_set::{Edit, SiteSet};
+use std::alloc::Global;
+use std::marker::Model;
+use std::process::Abort;
+use std::test::Fail;
+use user_specs::Spec;
+
+/// How many tasks there are.
+const TASKS: u32 = 3;
+
+/// More commands than a test has.
+const COMMANDS: u32 = 1_000;
+
+/// What is declared of a user: its kind, whether it gets the registers, and what it puts in the place
+/// of the functions that it traces.
+pub type User = (Kind, bool, Option<FuncNo>);
+
+/// How an edit begins: whether it appends, removes and clears.
+pub type Mark = (bool, bool, bool);
+
+pub const REPLACE: Mark = (false, false, false);
+
+pub const APPEND: Mark = (true, false, false);
+
+pub const REMOVE: Mark = (true, true, false);
+
+pub const REMOVE_ANEW: Mark = (false, true, false);
+
+pub const CLEAR: Mark = (false, false, true);
+
+/// A command. The functions that an edit selects are bits, function 0 in bit 0.
+#[derive(Clone, Copy)]
+pub enum Line {
+    Register(u32),
+    Unregister(u32),
+    Filter(u32, Mark, u64),
+    Notrace(u32, Mark, u64),
+    Enable(u32),
+    Disable(u32),
+    Pid(u64),
+    NoPid(u64),
+    MaxDepth(u32),
+}
+
+/// A desk, and how many users and functions it has.
+#[derive(Drop)]
+pub struct Bench {
+    desk: Desk,
+    users: u32,
+    funcs: u32,
+}
+
+impl Model for Bench {
+    ghost use Rattle.std.specs.Prelude.{◌≡◌, length};
+    ghost use Rattle.ft_desk.specs.Seen.{Seen};
+
+    ghost Value = { Seen };
+
+    ghost view = { λ b. b.desk };
+
+    ghost invariant = { λ b. (length b.desk.declared.specs ≡ b.users) × (b.desk.declared.funcs ≡ b.funcs) };
+}
+
+impl Bench {
+    /// A desk of these users and so many functions and trampoline slots.
+    pub fn new(
+        rt: &impl Abort,
+        alloc: Global,
+        users: &[User],
+        funcs: u32,
+        tramps: u8,
+    ) -> Result<Bench, Fail> {
+        let specs = specs_of(alloc, users)?;
+        assert!(rt; specs.len() <= USERS as usize);
+        assert!(rt; funcs <= FUNCS && u32::from(tramps) <= TRAMPS);
+        let users = specs.len() as u32;
+        let shape = Shape {
+            funcs,
+            users,
+            cpus: 1,
+            tasks: TASKS,
+            tramps,
+        };
+        Ok(Bench {
+            desk: Desk::new(alloc, specs.as_slice(), shape)?,
+            users,
+            funcs,
+        })
+    }
+
+    /// The answer to a command.
+    pub fn ask(&mut self, rt: &impl Abort, alloc: Global, line: Line) -> Result<Answer, Fail> {
+        let command = self.command(rt, alloc, line)?;
+        assert!(rt; self.desk.commands() < COMMANDS);
+        Ok(self.desk.plan(&command))
+    }
+
+    fn command(&self, rt: &impl Abort, alloc: Global, line: Line) -> Result<Command, Fail>
+        ensures { IfOk result (λ command. IsInShape self.now.declared command) }
+    {
+        Ok(match line {
+            Line::Register(u) => Command::Register(self.user(rt, u)),
+            Line::Unregister(u) => Command::Unregister(self.user(rt, u)),
+            Line::Filter(u, mark, bits) => {
+                Command::Filter(self.user(rt, u), self.edit(rt, alloc, mark, bits)?)
+            }
+            Line::Notrace(u, mark, bits) => {
+                Command::Notrace(self.user(rt, u), self.edit(rt, alloc, mark, bits)?)
+            }
+            Line::Enable(u) => Command::Enable(self.user(rt, u)),
+            Line::Disable(u) => Command::Disable(self.user(rt, u)),
+            Line::Pid(mask) => Command::Pid(mask),
+            Line::NoPid(mask) => Command::NoPid(mask),
+            Line::MaxDepth(depth) => Command::MaxDepth(depth),
+        })
+    }
+
+    fn user(&self, rt: &impl Abort, user: u32) -> UserNo
+        ensures { result.0 < length self.now.declared.specs }
+    {
+        assert!(rt; user < self.users);
+        UserNo(user)
+    }
+
+    fn func(&self, rt: &impl Abort, f: u32) -> FuncNo
+        ensures { result.0 < self.now.declared.funcs }
+    {
+        assert!(rt; f < self.funcs);
+        FuncNo(f)
+    }
+
+    fn edit(&self, rt: &impl Abort, alloc: Global, mark: Mark, bits: u64) -> Result<Edit, Fail>
+        ensures { IfOk result (λ edit. length edit.set ≡ self.now.declared.funcs) }
+    {
+        let (append, remove, clear) = mark;
+        Ok(Edit {
+            append,
+            remove,
+            clear,
+            set: set_of(rt, alloc, self.funcs, bits)?,
+        })
+    }
+
+    pub fn target(&self, rt: &impl Abort, f: u32) -> Insn {
+        self.desk.target(self.func(rt, f))
+    }
+
+    pub fn row(&self, rt: &impl Abort, f: u32) -> Row {
+        self.desk.row(self.func(rt, f))
+    }
+
+    /// The functions that a user matches, as bits.
+    pub fn matched(&self, rt: &impl Abort, user: u32) -> u64 {
+        let pair = self.desk.pair(self.user(rt, user));
+        let mut bits = 0u64;
+        for f in 0..64 {
+            if f < pair.size() && pair.matches(f) {
+                bits |= 1 << f;
+            }
+        }
+        bits
+    }
+
+    pub fn last(&self) -> &Plan {
+        self.desk.last()
+    }
+
+    pub fn commands(&self) -> u32 {
+        self.desk.commands()
+    }
+}
+
+/// The declarations of these users.
+fn specs_of(alloc: Global, users: &[User]) -> Result<Vec<Spec>, Fail> {
+    let mut specs = Vec::new(alloc);
+    for (kind, regs, ipmodify) in users.iter() {
+        specs.push(Spec {
+            name: String::from_str(alloc, "user")?,
+            kind: *kind,
+            regs: *regs,
+            ipmodify: *ipmodify,
+            pid: false,
+            act: None,
+        })?;
+    }
+    Ok(specs)
+}
+
+/// The set of the functions below a size whose bits are set.
+pub fn set_of(rt: &impl Abort, alloc: Global, size: u32, bits: u64) -> Result<SiteSet, Fail>
+    ensures { IfOk result (λ set. length set ≡ size) }
+{
+    let mut set = SiteSet::empty(alloc, size)?;
+    for f in 0..64 {
+        if (bits >> f) & 1 == 1 && f < set.size() {
+            set.add(f);
+        }
+    }
+    assert!(rt; set.size() == size);
+    Ok(set)
+}
