@@ -37,17 +37,18 @@ fn next_bit(word: u64, from: u32) -> Option<u32>
     }
 }
 
-/// The lowest member of either of two sets of one size that is `from` or more.
+/// The lowest member of either of two sets of one size that is `from` or more: both are read in one
+/// pass, as a set with no member would otherwise be read to its end for each member of the other.
 pub(crate) fn next_of_two(one: &SiteSet, other: &SiteSet, from: u32) -> Option<u32>
     requires { length one.now ≡ length other.now }
     ensures some { IfSome result (IsNextOfTwo one.now other.now from) }
     ensures none { IfNone result ((f : ℕ) → from ≤ f → (holds one.now f || holds other.now f) ≡ false) }
     ensures size { length one.now < 2 ^ 32 }
 {
-    match (next_member(one, from), next_member(other, from)) {
-        (Some(f), Some(g)) => Some(if f < g { f } else { g }),
-        (Some(f), None) => Some(f),
-        (None, Some(g)) => Some(g),
-        (None, None) => None,
+    for w in from / 64..one.size().div_ceil(64) {
+        if let Some(bit) = next_bit(one.word(w) | other.word(w), from.saturating_sub(w * 64)) {
+            return Some(w * 64 + bit);
+        }
     }
+    None
 }
