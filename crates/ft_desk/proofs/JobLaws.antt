@@ -1,13 +1,12 @@
 -- Each job that declares the same has the same desks and answers.
-use Rattle.std.proofs.Common.{cond, ◌≡◌, ℕ, zero, suc, ◌+◌, ◌<◌, ◌==◌, Bool, true, false, not, ◌&&◌, ◌||◌, List, [], ◌∷◌, length, map, get_or, Option, Some, None, is_some, refl, sym, ap, ap₂, ◌∙◌, subst, arith}
+use Rattle.std.proofs.Common.{cond, ◌≡◌, ℕ, zero, suc, ◌==◌, true, not, ◌&&◌, ◌||◌, List, [], ◌∷◌, length, map, get_or, Option, Some, None, is_some, refl, ap, ap₂, ◌∙◌}
 use Rattle.std.specs.Prelude.{replicate}
 use Rattle.std.proofs.lemmas.List.{length-map, length-replicate}
-use Rattle.ft_base.specs.declared.item.Answer.{Answer}
 use Rattle.ft_base.specs.declared.item.Answer.TheVariants.{Accepted, Already, NotThere, Invalid, NoMatch}
 use Rattle.ft_base.specs.Marks.{Marks, empty, is_empty}
 use Rattle.ft_base.specs.Job.{Job, Spec, Task, Edit, Command, Register, Unregister, Filter, Notrace, Pid, NoPid, Enable, Disable, MaxDepth, funcs, no_func, no_task}
 use Rattle.ft_base.specs.Kinds.{is_fprobe}
-use Rattle.ft_base.specs.Desk.{Desk, UserState, answer_on, busy_or, changed, claim, conflicts, edited, edit_answer, holder_at, is_free, is_matching, lowest, matches_by, opening, other_modifier, plain_spec, register_answer, registered_as, spec_at, switch_answer, unseen, user_at, with_user}
+use Rattle.ft_base.specs.Desk.{Desk, UserState, answer_on, busy_or, changed, claim, conflicts, edited, edit_answer, holder_at, is_free, is_matching, lowest, matches_by, opening, other_modifier, plain_spec, register_answer, spec_at, switch_answer, unseen, user_at, with_user}
 use Rattle.ipmodify.proofs.LowestLemmas.{lowest-same}
 use Rattle.ft_desk.specs.Declarations.{Declared, IsOf, bare, job_of}
 use Rattle.ft_desk.proofs.ClaimLaws.{funcs-is}
