@@ -26,7 +26,7 @@ moved_row comes leaves regs modifies row = record {
   ipmodify = moved comes leaves (one_if modifies) row.ipmodify;
 }
 
--- if one user is counted, the total is the number, from 1, of one of so many users
+-- if one user is counted, the total is the number, from 1, of one of this many users
 abbrev pub TellsOne : ℕ → ℕ → ℕ → Type 0
 TellsOne users count total = count ≡ 1 → (0 < total) × (total ≤ users)
 

@@ -124,7 +124,7 @@ row_by users f = record {
 abbrev pub total_by : List User → ℕ → ℕ
 total_by users f = sum_over (number_at f) 0 users
 
--- the instruction of a site at which so many users are sited, with this total. If there is one, the total says which
+-- the instruction of a site at which this many users are sited, with this total. If there is one, the total says which
 abbrev pub insn_by : List User → ℕ → ℕ → Insn
 insn_by users zero total = Nop
 insn_by users (suc zero) total = insn_of_slot (user_of users (total - 1)).slot

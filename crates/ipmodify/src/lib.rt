@@ -7,7 +7,7 @@
 //! Promised: of all conflicts of a set the one at the lowest function, with the first holder that
 //! has it, and none exactly if there is none. No call takes memory. Only tested: nothing.
 //!
-//! No caller yet.
+//! Its one caller is `ft_desk`, which has none itself.
 #![tactic(auto)]
 
 mod conflicts;

@@ -8,7 +8,7 @@
 //! Promised: the mask of the filter has the bits of the allowed tasks and no others. No call takes
 //! memory. Only tested: nothing.
 //!
-//! No caller yet.
+//! Its one caller is `ft_desk`, which has none itself.
 #![tactic(auto)]
 
 pub mod laws;

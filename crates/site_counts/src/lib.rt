@@ -13,7 +13,7 @@
 //!
 //! The calls go from member to member of a set, and pass over its empty words.
 //!
-//! No caller yet: the whole crate.
+//! Its one caller is `ft_desk`, which has none itself.
 #![tactic(auto)]
 
 mod counts;

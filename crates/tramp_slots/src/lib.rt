@@ -9,7 +9,7 @@
 //! refused one exactly if none is free, and then nothing changes; no other slot changes hands. No
 //! call takes memory. Only tested: nothing.
 //!
-//! No caller yet: the whole crate.
+//! Its one caller is `ft_desk`, which has none itself.
 #![tactic(auto)]
 
 pub mod laws;
