@@ -57,7 +57,7 @@ def refused_in(room, change):
     path.write_text(text.replace(change["old"], change["new"]))
     try:
         for crate in CRATES[change["file"].split("/")[1]]:
-            done = subprocess.run(["rt", "check"], cwd=room / "crates" / crate, capture_output=True, text=True)
+            done = subprocess.run(["rt", "check", "--jobs", "1"], cwd=room / "crates" / crate, capture_output=True, text=True)
             if done.returncode:
                 fault = FIRST_FAULT.search(done.stdout + done.stderr)
                 return f"{crate}/{fault.group(0).rsplit('.', 1)[0]}" if fault else crate
