@@ -17,3 +17,5 @@ pub mod Told
 pub mod ToldMore
 pub mod Unregistered
 pub mod ToldExits
+pub mod Carries
+pub mod OpenCallbacks

@@ -16,7 +16,7 @@ use Rattle.word_machine.specs.Calls.{BodyRuns, Leaves, Opened, CallAt, Calls, un
 use Rattle.word_machine.specs.Tasks.{TaskRule, acts_by, gone_by}
 use Rattle.word_machine.specs.Rule.{CpuRule}
 use Rattle.word_machine.specs.Cpu.{Cpu}
-use Rattle.word_machine.proofs.HistCarried.{Carries, carries_item}
+use Rattle.ft_hist.proofs.Carries.{Carries, carries_item}
 
 module _ (job : Job) (h : Here) (past past' : List Item) (le : begun past ≤ begun past') (long : length past ≤ length past') where
   pub window_carried : (call : CallNo) (P : ℕ → Type 0) → Untouched job call past past' → InWindow call past P → InWindow call past' P

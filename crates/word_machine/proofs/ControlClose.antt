@@ -31,8 +31,8 @@ use Rattle.word_machine.proofs.NoSwitch.{world, hereby}
 use Rattle.word_machine.proofs.DeskKept.{others_same}
 use Rattle.word_machine.proofs.NoneCalled.{none_called}
 use Rattle.word_machine.proofs.Effects.{passed_of}
-use Rattle.word_machine.proofs.HistCalled.{of_user, there_of, by_task, stranger_none}
-use Rattle.word_machine.proofs.HistCarried.{of_task}
+use Rattle.ft_hist.proofs.OpenCallbacks.{of_user, there_of, by_task, stranger_none}
+use Rattle.ft_hist.proofs.Carries.{of_task}
 use Rattle.word_machine.proofs.Room.{HasRoomFor}
 
 -- ## tasks

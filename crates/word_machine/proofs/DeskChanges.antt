@@ -1,4 +1,4 @@
--- Laws of desks alone, for ft_base to own with the effects of commands: what one command changes between two desks, by its effect, and when
+-- Laws of desks and the effects of commands: what one command changes between two desks, by its effect, and when
 -- users were registered.
 use Rattle.std.proofs.Common.{cond, ◌≡◌, ◌≢◌, ℕ, zero, suc, ◌+◌, ◌-◌, ◌<◌, ◌≤◌, Bool, true, false, List, [], ◌∷◌, length, map, get_or, Option, Some, None, refl, sym, ap, ◌∙◌, subst, arith, inl, inr}
 use Rattle.std.specs.Prelude.{slice_get, ◌⊎◌}

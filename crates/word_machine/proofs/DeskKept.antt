@@ -1,4 +1,4 @@
--- Laws of desks alone, for ft_base to own: what a command leaves of a user, which commands change no call site, and the order of users after
+-- Laws of desks: what a command leaves of a user, which commands change no call site, and the order of users after
 -- a command.
 use Rattle.std.proofs.Common.{◌≡◌, ◌≢◌, ◌⊎◌, ℕ, suc, ◌+◌, Bool, true, false, ◌&&◌, not, List, [], ◌∷◌, length, get_or, Some, None, cond, inl, inr, refl, sym, ap, ◌∙◌, subst, arith}
 use Rattle.std.specs.Prelude.{Option}

@@ -1,4 +1,4 @@
--- Laws of desks alone, for ft_base to own with the numbers of instructions: an instruction tells the target, and whoever is registered or sited
+-- Laws of desks and the numbers of instructions: an instruction tells the target, and whoever is registered or sited
 -- is a user of the job.
 use Rattle.std.proofs.Common.{◌≡◌, ◌⊎◌, ℕ, zero, suc, ◌+◌, ◌<◌, Bool, true, false, not, ◌&&◌, List, [], ◌∷◌, get_or, Some, None, cond, inl, inr, refl, sym, ap, ◌∙◌, subst, arith, length}
 use Rattle.std.specs.Prelude.{Option, ◌==◌, is_some}

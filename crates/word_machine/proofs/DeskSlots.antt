@@ -1,4 +1,4 @@
--- Laws of desks alone, for ft_base to own: two registered users never have one trampoline, and slots, instructions and registered users are
+-- Laws of desks: two registered users never have one trampoline, and slots, instructions and registered users are
 -- among those of the job.
 use Rattle.std.proofs.Common.{◌≡◌, ◌≢◌, ◌⊎◌, ℕ, zero, suc, Bool, true, not, ◌&&◌, Some, inl, inr, refl, sym, ap, ◌∙◌, subst, ◌+◌, ◌<◌, length, arith}
 use Rattle.std.specs.List.{list_any}

@@ -37,7 +37,7 @@ use Rattle.word_machine.proofs.Stacks.{opens-of, older_untouched}
 use Rattle.word_machine.proofs.DeskChanges.{between, numbers-kept}
 use Rattle.word_machine.proofs.Marks.{follows, mid_kept}
 use Rattle.word_machine.proofs.MarkDispatch.{task, few-below}
-use Rattle.word_machine.proofs.DeskTargets.{sited_own, sited_nop, off_unsited}
+use Rattle.ft_base.proofs.Targets.{sited_own, sited_nop, off_unsited}
 use Rattle.word_machine.proofs.Told.{told-fewer, one-done}
 use Rattle.plain_machine.specs.State.{has_acts}
 

@@ -42,7 +42,7 @@ use Rattle.word_machine.proofs.Seen.{either_of, selected-underway, pids-underway
 use Rattle.word_machine.proofs.DeskChanges.{since-unique, numbers-kept}
 use Rattle.word_machine.proofs.Visiting.{may_meet, walk-since, read-numbers, read-reg}
 use Rattle.word_machine.proofs.Marks.{follows, so_walk, mid_kept}
-use Rattle.word_machine.proofs.HistCarried.{of_task}
+use Rattle.ft_hist.proofs.Carries.{of_task}
 
 -- a call in its dispatch holds a frame if its walk says so
 pub so-holds : (job : Job) (a : Around) (call : CallNo) (e : Entered) (w : Walk) (todo : ℕ → Bool) (past : List Item) → CallSo job a call e w todo past

@@ -16,7 +16,7 @@ use Rattle.word_machine.specs.Task.{OpenCall, Moment, is_quiet, level_of}
 use Rattle.word_machine.specs.Verdicts.{Here}
 use Rattle.word_machine.specs.Calls.{Calls}
 use Rattle.word_machine.specs.Tasks.{Grounded, TaskRule, StandsIn, plain_stack, callbacks_at, miss_at, open_by, is_returning}
-use Rattle.word_machine.proofs.HistCarried.{of_task}
+use Rattle.ft_hist.proofs.Carries.{of_task}
 use Rattle.word_machine.proofs.Told.{first-loud}
 
 -- one more item of a task: it may come, and the task goes on

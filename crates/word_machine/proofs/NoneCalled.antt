@@ -13,7 +13,7 @@ use Rattle.word_machine.specs.Task.{OpenCall, Moment, Missing, Acting, Ending, E
 use Rattle.word_machine.specs.Verdicts.{Here, SeenVisit, SeenLive, Dispatches}
 use Rattle.word_machine.specs.Calls.{Calls, under_call}
 use Rattle.word_machine.specs.Tasks.{callback_at, callbacks_at, with_callback}
-use Rattle.word_machine.proofs.HistCalled.{called, called_visited, each_any, of_user}
+use Rattle.ft_hist.proofs.OpenCallbacks.{called, called_visited, each_any, of_user}
 
 -- of a task's callbacks none is of a user that nobody has found on
 module _ (job : Job) (h : Here) (past : List Item) (ack q t u : ℕ) (none_visited : (m : Visit) (f : ℕ) → SeenVisit job h q m f → m.user ≡ u

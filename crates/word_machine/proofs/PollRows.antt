@@ -33,7 +33,7 @@ use Rattle.word_machine.proofs.Contents.{low-halves, low-small}
 use Rattle.word_machine.proofs.TasksOf.{task_goes_on}
 use Rattle.word_machine.proofs.Told.{told-more}
 use Rattle.word_machine.proofs.Finished.{task-gone, Grows, grows-put, grows-moved, grows-on, grows-polling, present-is, present-got, polling-of}
-use Rattle.word_machine.proofs.HistCarried.{carries_item}
+use Rattle.ft_hist.proofs.Carries.{carries_item}
 use Rattle.word_machine.proofs.Room.{HasRoomFor, has-room}
 
 -- the requests fit a half of a word

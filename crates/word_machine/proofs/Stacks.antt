@@ -17,7 +17,7 @@ use Rattle.word_machine.specs.Task.{OpenCall, TaskState, Moment, guards_under, l
 use Rattle.word_machine.specs.Verdicts.{Here}
 use Rattle.word_machine.specs.Calls.{Calls, under_by, under_call}
 use Rattle.word_machine.specs.Tasks.{RunsAt, plain_stack, callbacks_at}
-use Rattle.word_machine.proofs.HistCarried.{of_task}
+use Rattle.ft_hist.proofs.Carries.{of_task}
 
 abbrev pub calls_of : List OpenCall → List CallNo
 calls_of [] = []

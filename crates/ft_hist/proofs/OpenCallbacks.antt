@@ -1,7 +1,6 @@
--- Laws of histories alone, for ft_hist to own: an open callback of a call without exits is that of a visit, and a task that the job does not
--- have has no items.
-use Rattle.std.proofs.Common.{cond, ◌≡◌, ℕ, ◌≤◌, Bool, true, false, ◌&&◌, ◌||◌, ◌==◌, List, [], ◌∷◌, length, Some, None, inl, inr, refl, sym, ap, ◌∙◌, subst, eqb-true}
-use Rattle.std.specs.Prelude.{Option, IsSome}
+-- An open callback of a call without exits is that of a visit; a task that the job does not have has no items.
+use Rattle.std.proofs.Common.{cond, ◌≡◌, ℕ, zero, suc, ◌≤◌, arith, Bool, true, false, ◌&&◌, ◌||◌, ◌==◌, List, [], ◌∷◌, length, Some, None, inl, inr, refl, sym, ap, ◌∙◌, subst, eqb-true}
+use Rattle.std.specs.Prelude.{Option, IsSome, get_or}
 use Rattle.std.specs.List.{list_any, AllByRecursion as Each}
 use Rattle.ft_base.specs.declared.number.CallNo.{CallNo}
 use Rattle.ft_base.specs.declared.item.Item.{Item}
@@ -11,8 +10,13 @@ use Rattle.ft_base.specs.Job.{Job, Task, no_task}
 use Rattle.ft_base.proofs.Small.{false_true, ==-refl, or-true, or-true_either, or-false_both}
 use Rattle.ft_hist.specs.Past.{is_of, done, Callback, callbacks, ended, Visit, visit, all_visits, visits, exits}
 use Rattle.ft_hist.specs.Plain.{plain, after_next, after_item, at_start, PlainTask}
-use Rattle.word_machine.proofs.Small.{beyond}
-use Rattle.word_machine.proofs.HistCarried.{of_task, carries_item}
+use Rattle.ft_hist.proofs.Carries.{of_task, carries_item}
+
+-- past the end of a list there is nothing
+pub beyond : {A : Type 0} (xs : List A) (i : ℕ) (x : A) → length xs ≤ i → get_or xs i x ≡ x
+beyond [] i x le = refl
+beyond (y ∷ ys) zero x le = absurd (omega (arith, le))
+beyond (y ∷ ys) (suc i) x le = beyond ys i x (omega (arith, le))
 
 -- a callback of this call and user is among these
 abbrev pub called : CallNo → ℕ → List Callback → Bool

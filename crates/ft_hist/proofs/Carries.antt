@@ -1,4 +1,4 @@
--- Laws of histories alone, for ft_hist to own: what an item leaves of the calls of a task that it is not of.
+-- What an item leaves of the calls of a task that it is not of.
 use Rattle.std.proofs.Common.{cond, ◌≡◌, ℕ, ◌≤◌, true, false, ◌==◌, ◌&&◌, List, [], ◌∷◌, length, refl, ap, arith, eqb-true}
 use Rattle.std.specs.List.{filter}
 use Rattle.ft_base.specs.declared.number.CallNo.{CallNo}
