@@ -22,9 +22,9 @@ import tempfile
 TOP = pathlib.Path(__file__).resolve().parent.parent
 CHANGES = pathlib.Path(__file__).with_suffix(".txt")
 CRATES = {
-    "ft_base": ["ft_base", "ft_hist", "plain_machine", "word_machine"],
-    "ft_hist": ["ft_hist", "plain_machine"],
-    "plain_machine": ["plain_machine"],
+    "ft_base": ["ft_base", "ft_hist", "plain_machine", "plain_samples", "word_machine"],
+    "ft_hist": ["ft_hist", "plain_machine", "plain_samples"],
+    "plain_machine": ["plain_machine", "plain_samples"],
 }
 FIRST_FAULT = re.compile(r"(?:proofs|specs|src)/[\w/]*\.(?:antt|rt)(?=:\d+:\d+: error)")
 

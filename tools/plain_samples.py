@@ -8,7 +8,7 @@ proof says by computation that the definition of the plain machine gives that hi
 A random script that REFERENCE refuses, or whose history has fewer than eleven items, is passed
 over, and the next seed is taken.
 
-The samples of crates/plain_machine/proofs are
+The samples are, the first two in crates/plain_machine/proofs and the others in crates/plain_samples/proofs,
 
     RowSamples.antt       plain_samples.py REFERENCE rows FILE
     MoreSamples.antt      plain_samples.py REFERENCE more FILE
@@ -82,6 +82,9 @@ MORE = {
     "task 11 cpu 0;after 3;call a;ret;ctl register t1;ctl register t2;ctl pid 11",
     "max_depth": f"ftrace 1;func a;func b;func c;user g graph;{HEAD};after 2;call a;call b;call c;ret;ret;ret;after 3;call a;call b;ret;ret;"
     "ctl register g;ctl maxdepth 2;ctl until 10 7;ctl maxdepth 1",
+    "more_users_than_slots": f"ftrace 1;func a;func b;tramps 1;user t1 function;user t2 function;{HEAD};after 4;call a;ret;call b;ret;"
+    "after 8;call a;ret;call b;ret;ctl filter t1 > a;ctl filter t2 > b;ctl register t1;ctl register t2;ctl until 10 5;"
+    "ctl unregister t1;ctl unregister t2;ctl register t2;ctl register t1",
     "enabled_again": f"ftrace 1;func a;user p fprobe exit;{HEAD};after 2;call a;ret;after 3;call a;after 4;ret;after 5;call a;ret;"
     "ctl register p;ctl disable p;ctl until 10 3;ctl enable p;ctl until 10 5;ctl disable p;ctl until 10 7;ctl enable p",
 }

@@ -10,9 +10,6 @@ pub mod Plays
 pub mod RowSamples
 pub mod MoreSamples
 pub mod AtEnds
-pub mod RandomSamples1
-pub mod RandomSamples2
-pub mod RandomSamples3
 pub mod RowsLegal
 pub mod NotLegal
 pub mod NotLegalClauses

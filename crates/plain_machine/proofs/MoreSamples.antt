@@ -107,6 +107,16 @@ pub max_depth-plays : Plays max_depth max_depth-items true
 unfolding actors_of repeated start played play all_end step whole desk
 max_depth-plays = (refl, refl)
 
+abbrev pub more_users_than_slots : Job
+more_users_than_slots = record { functions = named (codes "a") None ∷ named (codes "b") None ∷ []; users = record { name = codes "t1"; kind = Function; regs = false; ipmodify = None; pid = false; act = None } ∷ record { name = codes "t2"; kind = Function; regs = false; ipmodify = None; pid = false; act = None } ∷ []; frames = 50; tramps = 1; quanta = 100 ∷ []; tasks = record { pid = 10; cpu = 0; acts = After 4 ∷ Call (record { 0 = 0 }) ∷ RetAct ∷ Call (record { 0 = 1 }) ∷ RetAct ∷ After 8 ∷ Call (record { 0 = 0 }) ∷ RetAct ∷ Call (record { 0 = 1 }) ∷ RetAct ∷ [] } ∷ []; ctls = Run (Filter 0 (record { append = false; remove = false; clear = false; set = true ∷ false ∷ [] })) ∷ Run (Filter 1 (record { append = false; remove = false; clear = false; set = false ∷ true ∷ [] })) ∷ Run (Register 0) ∷ Run (Register 1) ∷ Until 0 5 ∷ Run (Unregister 0) ∷ Run (Unregister 1) ∷ Run (Register 1) ∷ Run (Register 0) ∷ []; schedule = record { who = All; count = 60 } ∷ [] }
+
+abbrev pub more_users_than_slots-items : List Item
+more_users_than_slots-items = Begin 1 ∷ Return 1 Accepted ∷ Begin 2 ∷ Return 2 Accepted ∷ Begin 3 ∷ Return 3 Accepted ∷ Begin 4 ∷ Return 4 Accepted ∷ Enter (call_in 0 1) Normal (record { 0 = 0 }) None ∷ Back (call_in 0 1) (record { 0 = 0 }) ∷ BackEnd (call_in 0 1) (record { 0 = 0 }) ∷ Body (call_in 0 1) (record { 0 = 0 }) (Own (record { 0 = 0 })) ∷ Leave (call_in 0 1) ∷ Ret (call_in 0 1) None ∷ Enter (call_in 0 2) Normal (record { 0 = 1 }) None ∷ Back (call_in 0 2) (record { 0 = 1 }) ∷ BackEnd (call_in 0 2) (record { 0 = 1 }) ∷ Body (call_in 0 2) (record { 0 = 1 }) ByList ∷ Leave (call_in 0 2) ∷ Ret (call_in 0 2) None ∷ Begin 5 ∷ Return 5 Accepted ∷ Begin 6 ∷ Return 6 Accepted ∷ Begin 7 ∷ Return 7 Accepted ∷ Begin 8 ∷ Return 8 Accepted ∷ Enter (call_in 0 3) Normal (record { 0 = 0 }) None ∷ Back (call_in 0 3) (record { 0 = 0 }) ∷ BackEnd (call_in 0 3) (record { 0 = 0 }) ∷ Body (call_in 0 3) (record { 0 = 0 }) ByList ∷ Leave (call_in 0 3) ∷ Ret (call_in 0 3) None ∷ Enter (call_in 0 4) Normal (record { 0 = 1 }) None ∷ Back (call_in 0 4) (record { 0 = 1 }) ∷ BackEnd (call_in 0 4) (record { 0 = 1 }) ∷ Body (call_in 0 4) (record { 0 = 1 }) (Own (record { 0 = 1 })) ∷ Leave (call_in 0 4) ∷ Ret (call_in 0 4) None ∷ []
+
+pub more_users_than_slots-plays : Plays more_users_than_slots more_users_than_slots-items true
+unfolding actors_of repeated start played play all_end step whole desk
+more_users_than_slots-plays = (refl, refl)
+
 abbrev pub enabled_again : Job
 enabled_again = record { functions = named (codes "a") None ∷ []; users = record { name = codes "p"; kind = Fprobe true false; regs = false; ipmodify = None; pid = false; act = None } ∷ []; frames = 50; tramps = 16; quanta = 100 ∷ []; tasks = record { pid = 10; cpu = 0; acts = After 2 ∷ Call (record { 0 = 0 }) ∷ RetAct ∷ After 3 ∷ Call (record { 0 = 0 }) ∷ After 4 ∷ RetAct ∷ After 5 ∷ Call (record { 0 = 0 }) ∷ RetAct ∷ [] } ∷ []; ctls = Run (Register 0) ∷ Run (Disable 0) ∷ Until 0 3 ∷ Run (Enable 0) ∷ Until 0 5 ∷ Run (Disable 0) ∷ Until 0 7 ∷ Run (Enable 0) ∷ []; schedule = record { who = All; count = 60 } ∷ [] }
 

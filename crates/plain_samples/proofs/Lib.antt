@@ -1,0 +1,3 @@
+pub mod RandomSamples1
+pub mod RandomSamples2
+pub mod RandomSamples3
