@@ -5,7 +5,7 @@ use Rattle.std.proofs.lemmas.Bool.{cases_eq}
 use Rattle.ft_desk.specs.declared.user.User.{User}
 use Rattle.ft_desk.specs.declared.desk.Desk.TheInside.{Inside}
 use Rattle.ft_desk.specs.KeptDesks.{IsKept}
-use Rattle.ft_desk.specs.Plans.{digit}
+use Rattle.word_map.specs.Contents.{digit}
 use Rattle.ft_desk.specs.Users.{no_user, user_of}
 
 pub at-still : {X : Type 0} (g : User → X) (users : List User) (u v : ℕ) (y : User) → u < length users → g y ≡ g (user_of users u)

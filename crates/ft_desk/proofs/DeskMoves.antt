@@ -10,7 +10,8 @@ use Rattle.tramp_slots.specs.Holders.{Holders, holder_of, is_free_slot}
 use Rattle.ft_desk.specs.declared.user.User.{User}
 use Rattle.ft_desk.specs.declared.desk.Desk.TheInside.{Inside}
 use Rattle.ft_desk.specs.KeptDesks.{IsKept, times}
-use Rattle.ft_desk.specs.Plans.{digit, user_no}
+use Rattle.word_map.specs.Contents.{digit}
+use Rattle.ft_desk.specs.Plans.{user_no}
 use Rattle.ft_desk.specs.Users.{enrolled, no_user, retired, user_of}
 
 -- ## how many pass a test

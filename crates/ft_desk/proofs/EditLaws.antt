@@ -12,7 +12,7 @@ use Rattle.filter_hash.specs.Pair.{Pair, size_of}
 use Rattle.filter_hash.proofs.EditLaws.{length-edited}
 use Rattle.ft_desk.specs.declared.user.User.{User}
 use Rattle.ft_desk.specs.declared.roster.Roster.TheInside.{Inside}
-use Rattle.ft_desk.specs.Sites.{insn_at}
+use Rattle.word_map.specs.Instructions.{insn_at}
 use Rattle.ft_desk.specs.Users.{desk_by, edited_pair, edited_user, is_at, no_user, number_at, one_at, regs_at, modifier_at, row_by, sum_over, switched, total_by, user_of}
 use Rattle.ft_desk.specs.KeptRosters.{IsHeld, IsKept, IsSized, no_holder}
 use Rattle.ft_desk.proofs.SumLaws.{sum_over-set}

@@ -11,9 +11,11 @@ use Rattle.site_bytes.specs.declared.insn.SiteChange.{SiteChange}
 use Rattle.ft_desk.specs.declared.user.User.{User}
 use Rattle.ft_desk.specs.Commands.{edit_command}
 use Rattle.ft_desk.specs.KeptRosters.{IsSized}
-use Rattle.ft_desk.specs.Plans.{PlainPlan, digit, edit_plan, no_plan, other_copy, sel_of, user_no}
+use Rattle.word_map.specs.Contents.{digit, other_copy, sel_of}
+use Rattle.ft_desk.specs.Plans.{PlainPlan, edit_plan, no_plan, user_no}
 use Rattle.ft_desk.specs.Seen.{Seen, carried_out}
-use Rattle.ft_desk.specs.Sites.{changed_sites, insn_at}
+use Rattle.word_map.specs.Instructions.{insn_at}
+use Rattle.ft_desk.specs.Sites.{changed_sites}
 use Rattle.ft_desk.specs.Users.{desk_by, edited_pair, edited_user, no_user, state_of, user_of}
 use Rattle.ft_desk.proofs.SiteLaws.{changed-ext, changed-none, same_insn-equal}
 use Rattle.ft_desk.proofs.SumLaws.{user_at-is}

@@ -15,9 +15,11 @@ use Rattle.ft_desk.specs.declared.plan.TrampChange.TheVariants.{Keep as KeepTram
 use Rattle.ft_desk.specs.declared.plan.ListChange.{ListChange}
 use Rattle.ft_desk.specs.declared.plan.ListChange.TheVariants.{Push, Unlink}
 use Rattle.ft_desk.specs.KeptDesks.{AreSlots}
-use Rattle.ft_desk.specs.Plans.{PlainPlan, digit, first_of, given_by, no_plan, other_copy, sel_of, taken_by, user_after, user_before, user_no}
+use Rattle.word_map.specs.Contents.{digit, other_copy, sel_of}
+use Rattle.ft_desk.specs.Plans.{PlainPlan, first_of, given_by, no_plan, taken_by, user_after, user_before, user_no}
 use Rattle.ft_desk.specs.Seen.{carried_out}
-use Rattle.ft_desk.specs.Sites.{changed_sites, insn_at}
+use Rattle.word_map.specs.Instructions.{insn_at}
+use Rattle.ft_desk.specs.Sites.{changed_sites}
 use Rattle.ft_desk.specs.Users.{desk_by, enrolled, no_user, retired, state_of, user_of}
 use Rattle.ft_desk.proofs.SumLaws.{user_at-is}
 use Rattle.ft_desk.proofs.ViewLaws.{declared_with, desk_with, map-set, set-back}

@@ -8,7 +8,8 @@ use Rattle.site_counts.specs.declared.rows.Row.{Row}
 use Rattle.site_counts.specs.Rows.{row_of}
 use Rattle.ft_desk.specs.declared.user.User.{User}
 use Rattle.ft_desk.specs.declared.roster.Roster.TheInside.{Inside}
-use Rattle.ft_desk.specs.Sites.{changed_sites, insn_at}
+use Rattle.word_map.specs.Instructions.{insn_at}
+use Rattle.ft_desk.specs.Sites.{changed_sites}
 use Rattle.ft_desk.specs.Users.{desk_by, insn_by, no_user, one_at, row_by, sum_over, total_by, user_of}
 use Rattle.ft_desk.specs.Moves.{moved, moved_row, MayMove, TellsOne, insn_before, insn_after}
 use Rattle.ft_desk.specs.KeptRosters.{IsHeld, IsKept, IsRoom, IsSized, no_holder}

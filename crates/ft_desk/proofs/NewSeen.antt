@@ -16,7 +16,8 @@ use Rattle.ft_desk.specs.declared.user.User.{User}
 use Rattle.ft_desk.specs.declared.desk.Desk.TheInside.{Inside}
 use Rattle.ft_desk.specs.Declarations.{Declared, bare}
 use Rattle.ft_desk.specs.KeptDesks.{IsKept}
-use Rattle.ft_desk.specs.Plans.{PlainPlan, digit, no_plan}
+use Rattle.word_map.specs.Contents.{digit}
+use Rattle.ft_desk.specs.Plans.{PlainPlan, no_plan}
 use Rattle.ft_desk.specs.Seen.{opened}
 use Rattle.ft_desk.specs.Users.{declared_as, spec_by, state_of, user_of}
 use Rattle.ft_desk.proofs.ClaimLaws.{funcs-is}

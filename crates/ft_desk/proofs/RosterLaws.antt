@@ -11,7 +11,7 @@ use Rattle.site_set.proofs.MarksLemmas.{holds-union, holds-difference, length-un
 use Rattle.site_counts.specs.declared.rows.Row.{Row}
 use Rattle.site_counts.specs.Rows.{one_if, HasRoom, HasUser}
 use Rattle.ft_desk.specs.declared.user.User.{User}
-use Rattle.ft_desk.specs.Sites.{insn_at, insn_of_slot}
+use Rattle.word_map.specs.Instructions.{insn_at, insn_of_slot}
 use Rattle.ft_desk.specs.Users.{desk_by, insn_by, is_at, modifier_at, number_at, one_at, regs_at, row_by, sum_over, total_by, user_of}
 use Rattle.ft_desk.specs.Moves.{moved, moved_row, MayMove, TellsOne}
 use Rattle.ft_desk.proofs.SumLaws.{sum_over-set, sum_over-small, total-small, part-small, one-tells, insn-is, IsThere}

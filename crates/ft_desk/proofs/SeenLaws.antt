@@ -15,7 +15,8 @@ use Rattle.site_set.proofs.MarksLemmas.{bit_at-number_with_bits}
 use Rattle.ft_desk.specs.declared.user.User.{User}
 use Rattle.ft_desk.specs.Declarations.{Declared}
 use Rattle.ft_desk.specs.Commands.{switch_command}
-use Rattle.ft_desk.specs.Plans.{PlainPlan, digit, no_plan, sel_of, user_no}
+use Rattle.word_map.specs.Contents.{digit, sel_of}
+use Rattle.ft_desk.specs.Plans.{PlainPlan, no_plan, user_no}
 use Rattle.ft_desk.specs.Seen.{Seen, carried_out}
 use Rattle.ft_desk.specs.Users.{no_user, spec_by, state_of, switched, user_of}
 use Rattle.ft_desk.proofs.SumLaws.{user_at-is}

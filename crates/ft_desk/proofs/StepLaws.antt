@@ -12,7 +12,8 @@ use Rattle.site_bytes.specs.declared.insn.SiteChange.{SiteChange}
 use Rattle.site_counts.specs.Rows.{row_of}
 use Rattle.ft_desk.specs.declared.user.User.{User}
 use Rattle.ft_desk.specs.declared.roster.Roster.TheInside.{Inside}
-use Rattle.ft_desk.specs.Sites.{changed_sites, insn_at}
+use Rattle.word_map.specs.Instructions.{insn_at}
+use Rattle.ft_desk.specs.Sites.{changed_sites}
 use Rattle.ft_desk.specs.Users.{desk_by, enrolled, retired, no_user, user_of}
 use Rattle.ft_desk.specs.Moves.{moved, moved_row, MayMove, insn_before, insn_after}
 use Rattle.ft_desk.specs.KeptRosters.{IsKept, IsRoom, IsSized, no_holder}

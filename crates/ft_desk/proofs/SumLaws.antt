@@ -3,7 +3,7 @@ use Rattle.std.proofs.Common.{cond, ◌≡◌, ℕ, zero, suc, ◌+◌, ◌-◌,
 use Rattle.ft_base.specs.declared.item.Ran.TheVariants.{List as ByList, Own}
 use Rattle.ft_base.specs.Desk.{Desk, UserState, user_at, unseen, sited, sited_from, target_by}
 use Rattle.ft_desk.specs.declared.user.User.{User}
-use Rattle.ft_desk.specs.Sites.{insn_at, insn_of, insn_of_slot}
+use Rattle.word_map.specs.Instructions.{insn_at, insn_of, insn_of_slot}
 use Rattle.ft_desk.specs.Users.{desk_by, insn_by, is_at, number_at, one_at, state_of, sum_over, total_by, user_of}
 
 -- ## one user changes

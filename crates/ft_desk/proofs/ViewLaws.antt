@@ -12,7 +12,8 @@ use Rattle.ft_base.specs.Desk.{Desk, UserState, sited, sited_from, target_by, cl
 use Rattle.site_counts.specs.Rows.{one_if}
 use Rattle.ft_desk.specs.declared.user.User.{User}
 use Rattle.ft_desk.specs.Declarations.{Declared, job_of}
-use Rattle.ft_desk.specs.Sites.{insn_at, insn_of, row_at}
+use Rattle.word_map.specs.Instructions.{insn_at, insn_of}
+use Rattle.ft_desk.specs.Sites.{row_at}
 use Rattle.ft_desk.specs.Commands.{edit_command}
 use Rattle.ft_desk.specs.KeptRosters.{IsSized}
 use Rattle.ft_desk.specs.Users.{desk_by, edited_pair, is_at, row_by, spec_by, state_of, sum_over, user_of}

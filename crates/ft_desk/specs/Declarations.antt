@@ -1,10 +1,9 @@
 -- What a desk keeps of what a job declares: its users, and how many functions, tasks and trampoline slots there are.
-use Rattle.std.specs.Prelude.{◌≡◌, ℕ, ◌≤◌, false, List, [], None, length, map, replicate}
-use Rattle.ft_base.specs.declared.limits.TheConstants.{CPUS, FUNCS, TASKS, TRAMPS, USERS}
+use Rattle.std.specs.Prelude.{◌≡◌, ℕ, false, List, [], None, length, map, replicate}
 use Rattle.ft_base.specs.Job.{Spec, Job, funcs, no_func, no_task}
 use Rattle.user_specs.specs.declared.spec.Spec.{Spec as UserSpec}
 use Rattle.user_specs.specs.Plain.{spec_of}
-use Rattle.ft_desk.specs.declared.shape.Shape.{Shape}
+use Rattle.word_map.specs.declared.shape.Shape.{Shape}
 
 -- a user's declaration as far as a desk needs it: without its name, its pid flag and its act
 abbrev pub bare : Spec → Spec
@@ -36,14 +35,6 @@ job_of d = record {
   ctls = [];
   schedule = [];
 }
-
--- the shape is within the limits
-pub record IsShape (shape : Shape) : Type 0 where
-  pub funcs : shape.funcs ≤ FUNCS
-  pub users : shape.users ≤ USERS
-  pub cpus : shape.cpus ≤ CPUS
-  pub tasks : shape.tasks ≤ TASKS
-  pub tramps : shape.tramps ≤ TRAMPS
 
 -- what these users and this shape declare
 abbrev pub declared_by : List UserSpec → Shape → Declared

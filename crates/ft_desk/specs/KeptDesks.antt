@@ -4,7 +4,8 @@ use Rattle.ft_base.specs.declared.number.UserNo.{UserNo}
 use Rattle.tramp_slots.specs.Holders.{Holders, holder_of}
 use Rattle.ft_desk.specs.declared.user.User.{User}
 use Rattle.ft_desk.specs.declared.desk.Desk.TheInside.{Inside}
-use Rattle.ft_desk.specs.Plans.{digit, plain_plan, user_no}
+use Rattle.word_map.specs.Contents.{digit}
+use Rattle.ft_desk.specs.Plans.{plain_plan, user_no}
 use Rattle.ft_desk.specs.Seen.{Seen}
 use Rattle.ft_desk.specs.Users.{spec_by, state_of, user_of}
 

@@ -1,18 +1,17 @@
 -- What an accepted command stores, by the desk before it and the desk after it.
-use Rattle.std.specs.Prelude.{ℕ, ◌+◌, ◌-◌, ◌*◌, Bool, true, false, ◌==◌, List, [], ◌∷◌, get_or, set, map, Option, Some, None, if◌then◌else◌}
-use Rattle.std.specs.List.{range_with_len}
+use Rattle.std.specs.Prelude.{ℕ, Bool, true, false, ◌==◌, List, [], ◌∷◌, get_or, set, Option, Some, None, if◌then◌else◌}
 use Rattle.ft_base.specs.declared.number.UserNo.{UserNo}
-use Rattle.ft_base.specs.Marks.{is_empty}
 use Rattle.ft_base.specs.Job.{Command, Register, Unregister, Filter, Notrace, Pid, NoPid, Enable, Disable, MaxDepth}
-use Rattle.ft_base.specs.Desk.{Desk, UserState, user_at, is_allowed}
-use Rattle.site_set.specs.Marks.{number_with_bits}
+use Rattle.ft_base.specs.Desk.{Desk, UserState, user_at}
 use Rattle.site_bytes.specs.declared.insn.SiteChange.{SiteChange}
 use Rattle.ft_desk.specs.declared.plan.Plan.{Plan}
 use Rattle.ft_desk.specs.declared.plan.TrampChange.{TrampChange}
 use Rattle.ft_desk.specs.declared.plan.TrampChange.TheVariants.{Keep as KeepTramp, Set, Clear}
 use Rattle.ft_desk.specs.declared.plan.ListChange.{ListChange}
 use Rattle.ft_desk.specs.declared.plan.ListChange.TheVariants.{Keep as KeepList, Push, Unlink}
-use Rattle.ft_desk.specs.Sites.{insn_at, changed_sites}
+use Rattle.word_map.specs.Instructions.{insn_at}
+use Rattle.word_map.specs.Contents.{sel_of, other_copy, mask_of}
+use Rattle.ft_desk.specs.Sites.{changed_sites}
 
 -- a plan, with its sites as a list
 pub record PlainPlan : Type 0 where
@@ -58,21 +57,6 @@ no_plan = record {
 abbrev pub user_no : ℕ → UserNo
 user_no u = record { 0 = u }
 
--- ## the state of a user, as a word
-
--- a bit
-abbrev pub digit : Bool → ℕ
-digit b = if b then 1 else 0
-
--- the registration number in the high half, and in bits 0 to 3 whether the user is registered, whether it is enabled, which copy of
--- its sets is in use, and whether its filter is empty
-abbrev pub sel_of : UserState → ℕ → ℕ
-sel_of s copy = 4294967296 * s.reg + (digit s.registered + 2 * digit s.enabled + 4 * copy + 8 * digit (is_empty s.filter))
-
--- the copy that is not in use
-abbrev pub other_copy : ℕ → ℕ
-other_copy copy = 1 - copy
-
 -- ## trampolines
 
 -- a user with this registration number takes the slot that it has got, if it got one
@@ -115,10 +99,6 @@ abbrev pub unlinked : ℕ → List ℕ → ListChange
 unlinked u order = Unlink (user_before None u order) (user_after u order)
 
 -- ## plans
-
--- a bit for each of this many tasks, 1 if the task is allowed
-abbrev pub mask_of : Desk → ℕ → ℕ
-mask_of desk tasks = number_with_bits (map (is_allowed desk) (range_with_len 0 tasks))
 
 -- the sites of this many functions that change between two desks
 abbrev pub sites_between : Desk → Desk → ℕ → List SiteChange

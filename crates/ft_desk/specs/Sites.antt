@@ -1,28 +1,11 @@
 -- Call sites: the instruction that a desk gives each, and which of them two desks give different ones (ftrace.rst, dynamic ftrace).
-use Rattle.std.specs.Prelude.{ℕ, zero, suc, Bool, true, false, ◌==◌, List, [], ◌∷◌, length, filter, Option, Some, None, is_some, if◌then◌else◌}
-use Rattle.ft_base.specs.declared.item.Ran.{Ran}
-use Rattle.ft_base.specs.declared.item.Ran.TheVariants.{Nop as RanNop, List as RanList, Own as RanOwn}
+use Rattle.std.specs.Prelude.{ℕ, zero, suc, Bool, true, false, ◌==◌, List, [], ◌∷◌, length, filter, is_some, if◌then◌else◌}
 use Rattle.ft_base.specs.Job.{Job}
-use Rattle.ft_base.specs.Desk.{Desk, user_at, sited, target, spec_at}
+use Rattle.ft_base.specs.Desk.{Desk, sited, spec_at}
 use Rattle.site_counts.specs.declared.rows.Row.{Row}
 use Rattle.site_bytes.specs.declared.insn.Insn.{Insn}
 use Rattle.site_bytes.specs.declared.insn.Insn.TheVariants.{Nop, List as CallList, Own}
 use Rattle.site_bytes.specs.declared.insn.SiteChange.{SiteChange}
-
--- a call of a user's own trampoline if it has a slot, and otherwise of the list caller
-abbrev pub insn_of_slot : Option ℕ → Insn
-insn_of_slot None = CallList
-insn_of_slot (Some slot) = Own slot
-
--- the instruction for a target
-abbrev pub insn_of : Desk → Ran → Insn
-insn_of desk RanNop = Nop
-insn_of desk RanList = CallList
-insn_of desk (RanOwn u) = insn_of_slot (user_at desk u.0).slot
-
--- the instruction that the site of a function should have
-unfoldable pub insn_at : Desk → ℕ → Insn
-insn_at desk f = insn_of desk (target desk f)
 
 -- two instructions are the same
 abbrev pub same_insn : Insn → Insn → Bool

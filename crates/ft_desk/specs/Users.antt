@@ -13,7 +13,7 @@ use Rattle.site_bytes.specs.declared.insn.Insn.TheVariants.{Nop, List as CallLis
 use Rattle.site_counts.specs.declared.rows.Row.{Row}
 use Rattle.site_counts.specs.Rows.{one_if}
 use Rattle.ft_desk.specs.declared.user.User.{User}
-use Rattle.ft_desk.specs.Sites.{insn_of_slot}
+use Rattle.word_map.specs.Instructions.{insn_of_slot}
 
 -- a user that was never registered, of this kind and with these flags
 abbrev pub declared_user : ℕ → Kind → Bool → Option FuncNo → User

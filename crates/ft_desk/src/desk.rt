@@ -9,16 +9,17 @@ ghost use Rattle.ft_base.specs.Job.{Register, Unregister, Filter, Notrace, Pid, 
 ghost use Rattle.ft_base.specs.Desk.{user_at};
 ghost use Rattle.pid_filter.specs.Lists.{tasks_in};
 ghost use Rattle.site_set.specs.Edits.{plain_edit};
-ghost use Rattle.ft_desk.specs.Declarations.{declared_by, job_of, IsShape};
+ghost use Rattle.word_map.specs.Shapes.{IsShape};
+ghost use Rattle.ft_desk.specs.Declarations.{declared_by, job_of};
 ghost use Rattle.ft_desk.specs.Commands.{command_of, IsInShape, edit_command, switch_command};
 ghost use Rattle.ft_desk.specs.Plans.{no_plan, plain_plan, first_of, user_after, user_before};
-ghost use Rattle.ft_desk.specs.Sites.{insn_at, row_at};
+ghost use Rattle.word_map.specs.Instructions.{insn_at};
+ghost use Rattle.ft_desk.specs.Sites.{row_at};
 ghost use Rattle.ft_desk.specs.Seen.{answer, carried_out, opened, turned_down};
 
 use crate::command::Command;
 use crate::plan::Plan;
 use crate::roster::Roster;
-use crate::shape::Shape;
 use filter_hash::HashPair;
 use ft_base::{Answer, FuncNo, Half, Kind, NoMemory, UserNo};
 use pid_filter::Pids;
@@ -29,6 +30,7 @@ use std::alloc::Global;
 use std::marker::Model;
 use tramp_slots::Slots;
 use user_specs::Spec;
+use word_map::Shape;
 
 /// All users, with their sets and slots, the lists of tasks, the graph depth, and the plan of the
 /// last command.

@@ -16,11 +16,10 @@ pub mod laws;
 mod members;
 mod plan;
 mod roster;
-mod shape;
 mod sites;
 mod user;
 
 pub use command::{Command, Ctl};
 pub use desk::Desk;
 pub use plan::{ListChange, Plan, TrampChange};
-pub use shape::Shape;
+pub use word_map::Shape;

@@ -2,7 +2,8 @@
 
 ghost use Rattle.std.specs.Prelude.{◌≡◌, ◌≤◌, true, false, Some, IfOk, vec_capacity};
 ghost use Rattle.ft_desk.specs.declared.plan.ListChange.TheVariants.{Push, Unlink};
-ghost use Rattle.ft_desk.specs.Plans.{digit, given_by, no_plan, plain_plan, sel_of, taken_by};
+ghost use Rattle.word_map.specs.Contents.{digit, sel_of};
+ghost use Rattle.ft_desk.specs.Plans.{given_by, no_plan, plain_plan, taken_by};
 ghost use Rattle.ft_desk.specs.Users.{state_of};
 
 use crate::user::User;

@@ -2,7 +2,8 @@
 
 ghost use Rattle.std.specs.Prelude.{◌≡◌, ℕ, ◌+◌, ◌≤◌, ◌<◌, ◌^◌, true, false, ◌&&◌, [], length, map, set, slice_index, slice_index_or, All, IfOk, vec_capacity};
 ghost use Rattle.ft_base.specs.declared.limits.TheConstants.{USERS};
-ghost use Rattle.ft_desk.specs.Sites.{insn_at, changed_sites};
+ghost use Rattle.word_map.specs.Instructions.{insn_at};
+ghost use Rattle.ft_desk.specs.Sites.{changed_sites};
 ghost use Rattle.ft_base.specs.Marks.{empty, holds};
 ghost use Rattle.ft_base.specs.Desk.{claim, matches_by};
 ghost use Rattle.filter_hash.specs.Pair.{size_of};

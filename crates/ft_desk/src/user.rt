@@ -4,7 +4,7 @@ ghost use Rattle.std.specs.Prelude.{◌≡◌, ◌+◌, ◌<◌, ◌^◌, IfOk, 
 ghost use Rattle.filter_hash.specs.Pair.{size_of};
 ghost use Rattle.site_set.specs.Edits.{plain_edit};
 ghost use Rattle.ft_desk.specs.Users.{declared_as, edited_user, enrolled, retired, state_of};
-ghost use Rattle.ft_desk.specs.Plans.{digit, sel_of};
+ghost use Rattle.word_map.specs.Contents.{digit, sel_of};
 
 use filter_hash::HashPair;
 use ft_base::{FuncNo, Half, Kind, NoMemory};

@@ -14,7 +14,8 @@ use Rattle.ft_base.proofs.Small.{false_true}
 use Rattle.ft_base.specs.Marks.{Marks}
 use Rattle.site_set.specs.Marks.{word_of}
 use Rattle.site_set.proofs.MarksLemmas.{bit_at-word_of, bit_at-number_with_bits}
-use Rattle.word_machine.specs.Words.{high, half_size, sel_word, sel_on, sel_copy, sel_empty, stands, tramp_word, tramp_user, is_marked, mask_of, head_of, tail_of, decode, low, halves}
+use Rattle.word_map.specs.Contents.{high, half_size, sel_word, sel_on, sel_copy, sel_empty, stands, tramp_word, tramp_user, is_marked, mask_of, low, halves}
+use Rattle.word_map.specs.Instructions.{head_of, tail_of, decode}
 use Rattle.word_machine.specs.Commands.{set_words}
 use Rattle.word_machine.specs.HashCopies.{SelIs, Reader}
 use Rattle.word_machine.proofs.Small.{and-false, or-right, digit-one}

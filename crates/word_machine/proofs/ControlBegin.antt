@@ -16,9 +16,11 @@ use Rattle.ft_hist.specs.Past.{begun}
 use Rattle.ft_hist.specs.Rules.{IsLegalPast, HasWaited, MayBegin}
 use Rattle.ft_hist.proofs.Laws.{plain-other}
 use Rattle.site_set.specs.Marks.{number_with_bits}
-use Rattle.word_machine.specs.Words.{Words, low, half_size, mask_of, tramp_word}
+use Rattle.word_map.specs.Words.{Words}
+use Rattle.word_map.specs.Contents.{low, half_size, mask_of, tramp_word}
 use Rattle.word_machine.specs.Commands.{Effect, Adds, Removes, Edits, Enables, Disables, Lists, Levels, Nothing, effect, subject, state_of, changes, has_slot_at}
-use Rattle.word_machine.specs.Control.{Mark, Position, Line, Take, Copy, Select, StorePids, StoreDepth, Close, begin_in, copy_from, control_got}
+use Rattle.word_map.specs.Ops.{Mark}
+use Rattle.word_machine.specs.Control.{Position, Line, Take, Copy, Select, StorePids, StoreDepth, Close, begin_in, copy_from, control_got}
 use Rattle.word_machine.specs.Cpu.{Cpu}
 use Rattle.word_machine.specs.Machine.{control_row}
 use Rattle.word_machine.specs.Progress.{SeenAt, selected, listed, took, gave, pids_stored, depth_stored, desk_by, underway, quiet_reached, relinks, patches, selects, is_adds, is_lists, is_levels, writes_copy, comes_to}

@@ -12,9 +12,11 @@ use Rattle.ft_base.proofs.Small.{false_true, and_both}
 use Rattle.ft_hist.specs.Past.{is_called, callbacks}
 use Rattle.ft_hist.specs.Rules.{IsLegalPast, MayReturn, IsStill, waits_before}
 use Rattle.ft_hist.proofs.Laws.{plain-other}
-use Rattle.word_machine.specs.Words.{Words, low}
+use Rattle.word_map.specs.Words.{Words}
+use Rattle.word_map.specs.Contents.{low}
 use Rattle.word_machine.specs.Commands.{Effect, Adds, Removes, Edits, Enables, Disables, Lists, Levels, Nothing, effect, effect_in, effect_by, subject, subject_in, state_of, command}
-use Rattle.word_machine.specs.Control.{Mark, Position, Line, Close, answer_in, rest_lines, control_got}
+use Rattle.word_map.specs.Ops.{Mark}
+use Rattle.word_machine.specs.Control.{Position, Line, Close, answer_in, rest_lines, control_got}
 use Rattle.word_machine.specs.Cpu.{Cpu}
 use Rattle.word_machine.specs.Machine.{control_row}
 use Rattle.word_machine.specs.Progress.{SeenAt, waits, gave, ClosingHolds}

@@ -12,8 +12,10 @@ use Rattle.ft_base.proofs.Small.{false_true, Each-snoc}
 use Rattle.ft_hist.specs.Past.{done, begun}
 use Rattle.ft_hist.specs.Plain.{plain, ahead, Ahead, PlainTask, Frame, Running, below_top}
 use Rattle.ft_hist.specs.Rules.{HasWaited, acts_passed, waits_before}
-use Rattle.word_machine.specs.Words.{Words, Quiet, high, low}
-use Rattle.word_machine.specs.Control.{Load, Line, control_got}
+use Rattle.word_map.specs.Words.{Words, Quiet}
+use Rattle.word_map.specs.Contents.{high, low}
+use Rattle.word_map.specs.Ops.{Load}
+use Rattle.word_machine.specs.Control.{Line, control_got}
 use Rattle.word_machine.specs.Task.{OpenCall, TaskState, Moment, Polling, First, Leaving, is_quiet}
 use Rattle.word_machine.specs.Cpu.{Cpu}
 use Rattle.word_machine.specs.Machine.{control_row}

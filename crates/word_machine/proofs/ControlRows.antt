@@ -8,9 +8,13 @@ use Rattle.ft_base.specs.Job.{Job, no_task, Ctl, Run, Until}
 use Rattle.ft_base.specs.Desk.{desk}
 use Rattle.ft_hist.specs.Plain.{plain, PlainTask}
 use Rattle.ft_hist.specs.Rules.{acts_passed}
-use Rattle.word_machine.specs.Words.{Words, Want, Pids, Depth, Head, Tail, Next, Ack, Quiet, Tramp, Link, Sel, Bits, breakpoint, head_of, tail_of, sel_of, tramp_word, set_word, mask_of}
+use Rattle.site_bytes.specs.Bytes.{breakpoint}
+use Rattle.word_map.specs.Words.{Words, Want, Pids, Depth, Head, Tail, Next, Ack, Quiet, Tramp, Link, Sel, Bits}
+use Rattle.word_map.specs.Contents.{sel_of, tramp_word, set_word, mask_of, other_copy}
+use Rattle.word_map.specs.Instructions.{head_of, tail_of}
 use Rattle.word_machine.specs.Commands.{effect, subject, state_of, command, insn}
-use Rattle.word_machine.specs.Control.{Op, Load, Store, Mark, Position, Line, Take, Copy, Select, Push, Relink, StorePids, StoreDepth, NextAt, BreakAt, Ask1, Wait1, TailAt, Ask2, Wait2, HeadAt, Ask3, Wait3, AskQuiet, WaitQuiet, Release, Close, other_copy, copy_after, slot_of, name_of, relink_op, answer_in, line_op, next_in, control_next}
+use Rattle.word_map.specs.Ops.{WordOp, Load, Store, Mark}
+use Rattle.word_machine.specs.Control.{Position, Line, Take, Copy, Select, Push, Relink, StorePids, StoreDepth, NextAt, BreakAt, Ask1, Wait1, TailAt, Ask2, Wait2, HeadAt, Ask3, Wait3, AskQuiet, WaitQuiet, Release, Close, copy_after, slot_of, name_of, relink_op, answer_in, line_op, next_in, control_next}
 use Rattle.word_machine.specs.Cpu.{Cpu}
 use Rattle.word_machine.specs.Machine.{World, control_row}
 use Rattle.word_machine.specs.Tasks.{TaskRule}
@@ -41,7 +45,7 @@ module _ (job : Job) (ok : IsWordJob job) (ws : Words) (d : ℕ) (request : ℕ)
       subst (λ (o : Option PlainTask). IfSome o (λ s. (task_in job cpus t).gone ≤ acts_passed s)) (sym kt.run.is)
       (task_passed job (hereby d p k.base request order copies ws.link ws.bits) past (ws.ack c) (ws.quiet t) t (task_in job cpus t) kt)
 
-  by_line : (remaining : List Ctl) (op : Op) → MachineRule job (at remaining Line) → line_op d remaining ≡ Some op
+  by_line : (remaining : List Ctl) (op : WordOp) → MachineRule job (at remaining Line) → line_op d remaining ≡ Some op
       → MachineRule job (control_row job (at remaining Line) op)
   by_line [] op k is = absurd (cc)
   by_line (Until t n ∷ rest) op k is = subst (λ o. MachineRule job (control_row job (at (Until t n ∷ rest) Line) o)) (same_Some (Load (Quiet t)) op is)
@@ -53,13 +57,13 @@ module _ (job : Job) (ok : IsWordJob job) (ws : Words) (d : ℕ) (request : ℕ)
       (has_waited job ok ws d request copies order cpus past c rest (passes (Run c ∷ rest) Line k) k) k)
 
   module _ (remaining : List Ctl) where
-    abbrev Row : Position → Op → Type 0
+    abbrev Row : Position → WordOp → Type 0
     Row p op = MachineRule job (control_row job (world ws d remaining request copies order cpus past p) op)
 
-    row : (p : Position) (x op : Op) → Some x ≡ Some op → Row p x → Row p op
+    row : (p : Position) (x op : WordOp) → Some x ≡ Some op → Row p x → Row p op
     row p x op is r = subst (λ o. Row p o) (same_Some x op is) r
 
-    by_place : (p : Position) (op : Op) → MachineRule job (at remaining p)
+    by_place : (p : Position) (op : WordOp) → MachineRule job (at remaining p)
         → next_in job (at remaining p).control p ≡ Some op → Row p op
     by_place Line op k is = by_line remaining op k is
     by_place Take op k is = row Take
@@ -100,7 +104,7 @@ module _ (job : Job) (ok : IsWordJob job) (ws : Words) (d : ℕ) (request : ℕ)
         (has-room job ok) k)
 
 -- any row of control
-pub control_keeps : (job : Job) → IsWordJob job → (s : World) (op : Op) → MachineRule job s
+pub control_keeps : (job : Job) → IsWordJob job → (s : World) (op : WordOp) → MachineRule job s
     → control_next job s.control ≡ Some op → MachineRule job (control_row job s op)
 unfolding control_next
 control_keeps job ok s op k is =

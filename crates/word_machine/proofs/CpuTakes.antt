@@ -3,9 +3,12 @@ use Rattle.std.proofs.Common.{cond, ◌≡◌, ◌⊎◌, ℕ, zero, suc, ◌<�
 use Rattle.std.proofs.lemmas.Option.{same_Some}
 use Rattle.ft_base.specs.Job.{Job}
 use Rattle.ft_hist.specs.Past.{done, begun}
-use Rattle.word_machine.specs.Words.{Want, greatest_half, breakpoint, head_of}
+use Rattle.site_bytes.specs.Bytes.{breakpoint}
+use Rattle.word_map.specs.Words.{Want}
+use Rattle.word_map.specs.Contents.{greatest_half}
+use Rattle.word_map.specs.Instructions.{head_of}
 use Rattle.word_machine.specs.Commands.{insn}
-use Rattle.word_machine.specs.Control.{Op, Load}
+use Rattle.word_map.specs.Ops.{WordOp, Load}
 use Rattle.word_machine.specs.Task.{OpenCall, TaskState, Moment, Polling, First, Fetch, GotHead, GotBreak, InTramp, AtFirst, AtLink, call_op, stack_op}
 use Rattle.word_machine.specs.Cpu.{Phase, Going, StoringAck, StoringQuiet, Over, any_has_more, present_op, phase_op, cpu_next}
 use Rattle.word_machine.specs.Machine.{World, taken}
@@ -32,7 +35,7 @@ module _ (job : Job) (ok : IsWordJob job) (s : World) (k : MachineRule job s) (c
   named w (inl e) = omega (arith, e)
   named w (inr x) = (let e = x.1 in let lt = x.2 in omega (arith, e, lt))
 
-  call-takes : (x : TaskState) (m : Moment) → IsAt job s c t top below m → (op : Op) → call_op x top below m ≡ Some op → CallTakes job top m (taken op s.words)
+  call-takes : (x : TaskState) (m : Moment) → IsAt job s c t top below m → (op : WordOp) → call_op x top below m ≡ Some op → CallTakes job top m (taken op s.words)
   call-takes x Fetch at' op is =
       let inside = (call-rule job s k c t top below Fetch at').0.inside in
       subst (λ o. taken o s.words < 256) (same_Some _ op is) (byte-small top.func (done s.past) (begun s.past) (settled job s k top.func inside).whole)
@@ -55,7 +58,7 @@ module _ (job : Job) (ok : IsWordJob job) (s : World) (k : MachineRule job s) (c
 
   stack-takes : (x : TaskState) (stack : List OpenCall) (m : Moment) → (any_has_more job (s.cpus c) ≡ true)
       → ((s.cpus c).tasks (s.cpus c).present).moment ≡ m → ((s.cpus c).tasks (s.cpus c).present).stack ≡ stack
-      → (op : Op) → stack_op x stack m ≡ Some op → StackTakes job stack m (taken op s.words)
+      → (op : WordOp) → stack_op x stack m ≡ Some op → StackTakes job stack m (taken op s.words)
   stack-takes x [] m goes at' st op is = tt
   stack-takes x (top ∷ below) m goes at' st op is =
       call-takes job ok s k c (s.cpus c).present top below x m (record {
@@ -64,14 +67,14 @@ module _ (job : Job) (ok : IsWordJob job) (s : World) (k : MachineRule job s) (c
         call = subst (λ (y : Moment × List OpenCall). OpenAt y.0 y.1 m top below) (λ i. (sym at' i, sym st i)) (inl (refl, refl, refl));
       }) op is
 
-  present-takes : (m : Moment) → any_has_more job (s.cpus c) ≡ true → ((s.cpus c).tasks (s.cpus c).present).moment ≡ m → (op : Op)
+  present-takes : (m : Moment) → any_has_more job (s.cpus c) ≡ true → ((s.cpus c).tasks (s.cpus c).present).moment ≡ m → (op : WordOp)
       → present_op (s.cpus c) m ≡ Some op → PresentTakes job ((s.cpus c).tasks (s.cpus c).present) m (taken op s.words)
   present-takes Polling goes at' op is = subst (λ o. taken o s.words < greatest_half) (same_Some _ op is) want-small
   present-takes First goes at' op is = tt
   present-takes m goes at' op is =
       let x = (s.cpus c).tasks (s.cpus c).present in stack-takes x x.stack m goes at' refl op is
 
-  phase-takes : (p : Phase) (op : Op) → phase_op job (s.cpus c) p ≡ Some op → PhaseTakes job (s.cpus c) p (taken op s.words)
+  phase-takes : (p : Phase) (op : WordOp) → phase_op job (s.cpus c) p ≡ Some op → PhaseTakes job (s.cpus c) p (taken op s.words)
   phase-takes Going op is = by (any_has_more job (s.cpus c)) refl is
     where
       by : (b : Bool) → any_has_more job (s.cpus c) ≡ b
@@ -83,6 +86,6 @@ module _ (job : Job) (ok : IsWordJob job) (s : World) (k : MachineRule job s) (c
   phase-takes (StoringQuiet r t) op is = tt
   phase-takes Over op is = tt
 
-  pub cpu-takes : (op : Op) → cpu_next job (s.cpus c) ≡ Some op → CpuTakes job (s.cpus c) (taken op s.words)
+  pub cpu-takes : (op : WordOp) → cpu_next job (s.cpus c) ≡ Some op → CpuTakes job (s.cpus c) (taken op s.words)
   unfolding cpu_next
   cpu-takes op is = phase-takes (s.cpus c).phase op is

@@ -12,7 +12,8 @@ use Rattle.ft_base.proofs.Small.{false_true, and_both}
 use Rattle.ft_base.proofs.DeskLaws.{desk-suc, length-desk}
 use Rattle.ft_base.proofs.Order.{order-same, after_command}
 use Rattle.ft_base.proofs.Modifiers.{named-at}
-use Rattle.word_machine.specs.Commands.{Effect, Adds, Removes, Edits, Enables, Disables, Lists, Levels, Nothing, insn, code_by, changes, effect, effect_in, effect_by, edits_or, subject, subject_of, subject_in, state_of, command}
+use Rattle.word_map.specs.Instructions.{code_by}
+use Rattle.word_machine.specs.Commands.{Effect, Adds, Removes, Edits, Enables, Disables, Lists, Levels, Nothing, insn, changes, effect, effect_in, effect_by, edits_or, subject, subject_of, subject_in, state_of, command}
 use Rattle.word_machine.specs.Progress.{waits, patches, relinks, is_adds, is_removes}
 use Rattle.word_machine.proofs.DeskChanges.{SubjectBy, between}
 use Rattle.word_machine.proofs.DeskNumbers.{head_sited}

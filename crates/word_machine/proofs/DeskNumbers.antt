@@ -9,7 +9,8 @@ use Rattle.ft_base.specs.Job.{Job}
 use Rattle.ft_base.specs.WellFormed.{IsWellFormed}
 use Rattle.ft_base.specs.Desk.{Desk, UserState, desk, user_at, unseen, is_sited, is_matching, sited, sited_from, target, target_by}
 use Rattle.ft_base.proofs.Small.{false_true, and_both}
-use Rattle.word_machine.specs.Commands.{Effect, Adds, Removes, Edits, Enables, Disables, Lists, Levels, Nothing, effect, subject, state_of, insn, code_by, changes}
+use Rattle.word_map.specs.Instructions.{code_by}
+use Rattle.word_machine.specs.Commands.{Effect, Adds, Removes, Edits, Enables, Disables, Lists, Levels, Nothing, effect, subject, state_of, insn, changes}
 use Rattle.word_machine.specs.Progress.{waits}
 use Rattle.word_machine.specs.Trampolines.{HasSlot}
 use Rattle.word_machine.proofs.DeskChanges.{SubjectBy, between}

@@ -10,7 +10,8 @@ use Rattle.ft_base.specs.Same.{same_call}
 use Rattle.ft_base.proofs.Small.{false_true, Each-filter}
 use Rattle.ft_hist.specs.Past.{begun, all_visits, visits, Visit}
 use Rattle.ft_hist.specs.Rules.{IsLegalPast, IsUnvisited}
-use Rattle.word_machine.specs.Words.{head_of, tail_of, tramp_word}
+use Rattle.word_map.specs.Contents.{tramp_word}
+use Rattle.word_map.specs.Instructions.{head_of, tail_of}
 use Rattle.word_machine.specs.Commands.{insn, effect, state_of}
 use Rattle.word_machine.specs.Task.{OpenCall, GotHead, GotBreak, InTramp, AtFirst, AtLink, walks_to}
 use Rattle.word_machine.specs.Progress.{SeenAt, selected, quiet_reached}

@@ -14,7 +14,7 @@ use Rattle.ft_hist.specs.Past.{begun, visits, Visit, entry_of}
 use Rattle.ft_hist.specs.Frames.{FrameUser}
 use Rattle.ft_hist.proofs.DispatchLaws.{Watches}
 use Rattle.plain_machine.specs.State.{has_acts}
-use Rattle.word_machine.specs.Words.{low, greatest_half, all_ones}
+use Rattle.word_map.specs.Contents.{low, greatest_half, all_ones}
 use Rattle.word_machine.specs.Commands.{effect, state_of}
 use Rattle.word_machine.specs.Task.{OpenCall, TaskState, Moment, Polling, First, Fetch, GotHead, GotBreak, InTramp, OwnSel, AtFirst, TestSel, TestFilter, TestNotrace, AtPids, AtDepth, Refusing, Calling, Missing, Acting, Ending, AtLink, Closing, Leaving, AtExit, Exiting, EndingExit, Returning, is_quiet, level_of, user_of}
 use Rattle.word_machine.specs.Cpu.{Cpu, Phase, Going, StoringAck, StoringQuiet, Over, any_has_more}

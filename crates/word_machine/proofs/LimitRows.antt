@@ -5,9 +5,11 @@ use Rattle.ft_base.specs.Job.{Job, Ctl}
 use Rattle.ft_base.specs.Desk.{desk, is_allowed}
 use Rattle.ft_base.specs.WellFormed.{IsWellFormed}
 use Rattle.ft_base.proofs.Small.{false_true}
-use Rattle.word_machine.specs.Words.{Words, Pids, Depth, mask_of, low}
+use Rattle.word_map.specs.Words.{Words, Pids, Depth}
+use Rattle.word_map.specs.Contents.{mask_of, low}
 use Rattle.word_machine.specs.Commands.{effect, state_of}
-use Rattle.word_machine.specs.Control.{Store, StorePids, StoreDepth, AskQuiet, control_got}
+use Rattle.word_map.specs.Ops.{Store}
+use Rattle.word_machine.specs.Control.{StorePids, StoreDepth, AskQuiet, control_got}
 use Rattle.word_machine.specs.Cpu.{Cpu}
 use Rattle.word_machine.specs.Machine.{control_row}
 use Rattle.word_machine.specs.Progress.{is_lists, is_levels}

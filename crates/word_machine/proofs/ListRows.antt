@@ -7,9 +7,11 @@ use Rattle.ft_base.specs.Desk.{desk, is_allowed}
 use Rattle.ft_base.specs.Order.{IsOrder, has, order_after}
 use Rattle.ft_base.specs.WellFormed.{IsWellFormed}
 use Rattle.ft_base.proofs.Small.{false_true, or-true}
-use Rattle.word_machine.specs.Words.{Words, put, at_put, First, Link, low}
+use Rattle.word_map.specs.Words.{Words, put, at_put, First, Link}
+use Rattle.word_map.specs.Contents.{low}
 use Rattle.word_machine.specs.Commands.{Effect, Adds, Removes, Edits, Enables, Disables, Lists, Levels, Nothing, effect, subject, state_of}
-use Rattle.word_machine.specs.Control.{Store, Position, Push, Relink, batch, name_of, follower, namer_from, relink_op, relinked, control_got}
+use Rattle.word_map.specs.Ops.{Store}
+use Rattle.word_machine.specs.Control.{Position, Push, Relink, batch, name_of, follower, namer_from, relink_op, relinked, control_got}
 use Rattle.word_machine.specs.Cpu.{Cpu}
 use Rattle.word_machine.specs.Machine.{control_row, words_after, past_after}
 use Rattle.word_machine.specs.Progress.{selected, pids_stored, depth_stored, desk_by, is_adds, relinks, patches}

@@ -9,7 +9,8 @@ use Rattle.ft_base.specs.Job.{Job, funcs}
 use Rattle.ft_base.specs.Desk.{desk, is_sited}
 use Rattle.ft_hist.specs.Past.{begun, visits, entry_of}
 use Rattle.ft_hist.specs.Rules.{InWindow}
-use Rattle.word_machine.specs.Words.{breakpoint, head_of, decode}
+use Rattle.site_bytes.specs.Bytes.{breakpoint}
+use Rattle.word_map.specs.Instructions.{head_of, decode}
 use Rattle.word_machine.specs.Commands.{insn, changes, effect, state_of}
 use Rattle.word_machine.specs.Control.{Position, Wait3}
 use Rattle.word_machine.specs.Task.{OpenCall, Moment, Fetch, GotHead, GotBreak, InTramp, AtFirst, Closing, head_in, fetched, fetched_ran}

@@ -10,7 +10,7 @@ use Rattle.ft_base.proofs.Small.{false_true}
 use Rattle.ft_hist.specs.Past.{visits, Visit}
 use Rattle.ft_hist.specs.Rules.{OnlyThose}
 use Rattle.ft_hist.proofs.DispatchLaws.{WasOff}
-use Rattle.word_machine.specs.Words.{high, half_size, sel_on, stands, tramp_user}
+use Rattle.word_map.specs.Contents.{high, half_size, sel_on, stands, tramp_user}
 use Rattle.word_machine.specs.Commands.{Effect, Adds, Removes, Edits, Enables, Disables, Lists, Levels, Nothing, effect, subject, state_of}
 use Rattle.word_machine.specs.Task.{OpenCall, InTramp, OwnSel, Closing, own_in, begin_call}
 use Rattle.word_machine.specs.Progress.{SeenAt, HoldsAt, waits, selected, desk_by, quiet_reached}

@@ -6,7 +6,7 @@ use Rattle.ft_base.specs.Desk.{desk, is_live}
 use Rattle.ft_hist.specs.Past.{begun, done_at_leave}
 use Rattle.ft_hist.specs.Frames.{FrameUser}
 use Rattle.ft_hist.proofs.Exits.{exits-dead}
-use Rattle.word_machine.specs.Words.{stands}
+use Rattle.word_map.specs.Contents.{stands}
 use Rattle.word_machine.specs.Commands.{state_of}
 use Rattle.word_machine.specs.Task.{OpenCall, exit_in, next_exit}
 use Rattle.word_machine.specs.Progress.{selected, desk_by}

@@ -14,7 +14,7 @@ use Rattle.ft_base.proofs.Small.{false_true, Each-weaker}
 use Rattle.ft_hist.specs.Past.{begun, visits, entry_of, Visit}
 use Rattle.ft_hist.proofs.DispatchLaws.{Watches, WasOff}
 use Rattle.plain_machine.specs.State.{is_held}
-use Rattle.word_machine.specs.Words.{high, sel_on, sel_copy, sel_empty, is_marked}
+use Rattle.word_map.specs.Contents.{high, sel_on, sel_copy, sel_empty, is_marked}
 use Rattle.word_machine.specs.Commands.{effect, state_of, set_words}
 use Rattle.word_machine.specs.Task.{OpenCall, Moment, TestFilter, TestNotrace, AtPids, AtDepth, Refusing, Calling, AtLink, around, level_of, is_too_deep, tests_in, passes_in, allowed_in, depth_in, begin_call, guard_test, guard_in, pid_in}
 use Rattle.word_machine.specs.Progress.{SeenAt, selected, listed, underway, desk_by, pids_stored, depth_stored}

@@ -23,7 +23,7 @@ use Rattle.ft_hist.proofs.WindowLaws.{begun-more}
 use Rattle.ft_hist.proofs.Visiting.{MetOf, at_most_one}
 use Rattle.ft_hist.proofs.Since.{holds, holds-by}
 use Rattle.plain_machine.proofs.CallSo.{entry-is}
-use Rattle.word_machine.specs.Words.{low, greatest_half}
+use Rattle.word_map.specs.Contents.{low, greatest_half}
 use Rattle.word_machine.specs.Commands.{effect, subject, state_of, Effect}
 use Rattle.word_machine.specs.Task.{OpenCall, TaskState, Polling, Closing, Leaving, around, level_of, rest_acts, closed}
 use Rattle.word_machine.specs.Progress.{SeenAt, selected}

@@ -16,7 +16,7 @@ use Rattle.ft_hist.proofs.Laws.{same_call-refl, same_top-refl}
 use Rattle.ft_hist.proofs.WindowLaws.{begun-more}
 use Rattle.ft_hist.proofs.Exits.{exits-start, exits-may, exits-after, exits-lacks}
 use Rattle.ft_hist.proofs.Since.{untouched-item, holds-by}
-use Rattle.word_machine.specs.Words.{low, greatest_half}
+use Rattle.word_map.specs.Contents.{low, greatest_half}
 use Rattle.word_machine.specs.Task.{OpenCall, TaskState, Moment, Polling, First, Leaving, Exiting, EndingExit, Returning, Ending, next_exit, returned, user_of, top_of, level_of, is_quiet, rest_acts}
 use Rattle.word_machine.specs.Progress.{selected}
 use Rattle.word_machine.specs.Verdicts.{Here}

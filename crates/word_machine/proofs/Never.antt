@@ -7,7 +7,7 @@ use Rattle.ft_base.specs.Desk.{UserState, desk}
 use Rattle.ft_base.specs.Order.{has}
 use Rattle.ft_hist.specs.Past.{Visit}
 use Rattle.ft_base.proofs.Small.{false_true}
-use Rattle.word_machine.specs.Words.{low}
+use Rattle.word_map.specs.Contents.{low}
 use Rattle.word_machine.specs.Commands.{Effect, Adds, effect, subject, state_of}
 use Rattle.word_machine.specs.Task.{OpenCall, Moment, InTramp, TestSel, TestFilter, TestNotrace, AtPids, AtDepth, Refusing, Calling, Missing, Acting, Ending, AtLink}
 use Rattle.word_machine.specs.Machine.{World}

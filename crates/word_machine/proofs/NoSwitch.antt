@@ -5,9 +5,10 @@ use Rattle.ft_base.specs.Job.{Job, Ctl}
 use Rattle.ft_base.specs.Desk.{UserState, desk, is_allowed}
 use Rattle.ft_base.specs.Order.{IsOrder}
 use Rattle.ft_hist.specs.Past.{begun}
-use Rattle.word_machine.specs.Words.{Words, low, mask_of}
+use Rattle.word_map.specs.Words.{Words}
+use Rattle.word_map.specs.Contents.{low, mask_of, other_copy}
 use Rattle.word_machine.specs.Commands.{Effect, effect, subject, state_of}
-use Rattle.word_machine.specs.Control.{Position, other_copy}
+use Rattle.word_machine.specs.Control.{Position}
 use Rattle.word_machine.specs.Cpu.{Cpu}
 use Rattle.word_machine.specs.Machine.{World}
 use Rattle.word_machine.specs.Progress.{SeenAt, HoldsAt, selected, listed, took, gave, pids_stored, depth_stored, desk_by, underway, quiet_reached}

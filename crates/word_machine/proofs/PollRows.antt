@@ -12,9 +12,10 @@ use Rattle.ft_base.proofs.Small.{false_true, ==-refl, Each-weaker}
 use Rattle.ft_hist.specs.Past.{is_of, done, begun}
 use Rattle.ft_hist.specs.Rules.{IsLegalPast, MayFollow}
 use Rattle.plain_machine.specs.State.{has_acts, tasks_of}
-use Rattle.word_machine.specs.Words.{Clock, Want, Ack, Quiet, low, half_size, halves, greatest_half, all_ones, at_put}
+use Rattle.word_map.specs.Words.{Clock, Want, Ack, Quiet, at_put}
+use Rattle.word_map.specs.Contents.{low, half_size, halves, greatest_half, all_ones}
 use Rattle.word_machine.specs.Commands.{effect}
-use Rattle.word_machine.specs.Control.{Op, Load, Store, Mark}
+use Rattle.word_map.specs.Ops.{WordOp, Load, Store, Mark}
 use Rattle.word_machine.specs.Task.{OpenCall, TaskState, Moment, Polling, First, is_quiet, is_fetching, quiet_word, task_op, task_got}
 use Rattle.word_machine.specs.Cpu.{Cpu, Phase, Going, StoringAck, StoringQuiet, Over, has_more, any_has_more, ticked, ack_value, poll_on, polling, with_word, moved, is_unmet, present_op, present_got, going_op, going_got, phase_op, phase_got, cpu_next, cpu_got}
 use Rattle.word_machine.specs.Machine.{World, weight, words_after, past_after, taken, cpu_row}
@@ -54,7 +55,7 @@ module _ (job : Job) (ok : IsWordJob job) (s : World) (k : MachineRule job s) (c
   quiet = s.words.quiet
 
   -- what a row of the CPU does
-  abbrev pub Did : Op → (ℕ → TaskState) → Cpu → Type 0
+  abbrev pub Did : WordOp → (ℕ → TaskState) → Cpu → Type 0
   Did (Load w) tasks me = CpuRule job h past ack quiet c me × Grows tasks me.tasks
   Did (Store (Ack i) x) tasks me = (i ≡ c) × CpuRule job h past x quiet c me × Grows tasks me.tasks
   Did (Store (Quiet t) x) tasks me = IsOn job c t × CpuRule job h past ack (at_put quiet t x) c me × Grows tasks me.tasks
@@ -297,7 +298,7 @@ module _ (job : Job) (ok : IsWordJob job) (s : World) (k : MachineRule job s) (c
       moved-on past' unmet x others own =
           moved-kept job ok h past' ack quiet c (ticked me) unmet x kept.number kept.stored going acked below kept.reach is-on own-below still-others others own
 
-      did-op : (op : Op) (unmet : Bool) (x : TaskState) → (me.tasks me.present).gone ≤ x.gone → SteppedBy job h past ack (quiet me.present) me.present op x
+      did-op : (op : WordOp) (unmet : Bool) (x : TaskState) → (me.tasks me.present).gone ≤ x.gone → SteppedBy job h past ack (quiet me.present) me.present op x
           → Did op me.tasks (moved job (ticked me) unmet x)
       did-op (Load w) unmet x le st = (moved-on past unmet x (λ t o ne. kept.tasks t o) st, grows-moved job (ticked me) unmet x le)
       did-op (Store w y) unmet x le st = absurd st
@@ -314,7 +315,7 @@ module _ (job : Job) (ok : IsWordJob job) (s : World) (k : MachineRule job s) (c
           other : (t : ℕ) → t ≢ me.present → (me.present == t) ≡ false
           other t ne = elim (eqb_tells me.present t) [ inl e ↦ absurd (ne (sym e.1)) | inr e ↦ e.0 ]
 
-      present-did : (op : Op) → task_op me.present (me.tasks me.present) (me.tasks me.present).moment ≡ Some op
+      present-did : (op : WordOp) → task_op me.present (me.tasks me.present) (me.tasks me.present).moment ≡ Some op
           → Did op me.tasks (moved job (ticked me) (is_unmet (me.tasks me.present).moment (me.tasks me.present).acts (taken op s.words))
           (task_got job me.present (me.tasks me.present) (me.tasks me.present).moment (taken op s.words)))
       present-did op is =
@@ -332,7 +333,7 @@ module _ (job : Job) (ok : IsWordJob job) (s : World) (k : MachineRule job s) (c
           grows-polling job (ticked me) h.request,
         )
 
-    going-did : me.phase ≡ Going → (op : Op) → going_op job me ≡ Some op → Did op me.tasks (going_got job (ticked me) (taken op s.words))
+    going-did : me.phase ≡ Going → (op : WordOp) → going_op job me ≡ Some op → Did op me.tasks (going_got job (ticked me) (taken op s.words))
     going-did going op is = by (any_has_more job me) refl
       where
         by_poll : (b : Bool) → any_has_more job me ≡ true → is_polling (me.tasks me.present).moment ≡ b → present_op me (me.tasks me.present).moment ≡ Some op
@@ -356,7 +357,7 @@ module _ (job : Job) (ok : IsWordJob job) (s : World) (k : MachineRule job s) (c
         by false e = chosen false e (subst (λ o. Did o me.tasks (polling job (ticked me) (taken o s.words))) (same_Some (Load Want) op (rw e at is))
             (poll-did going (λ y. false_true (sym e ∙ y))))
 
-    cpu-did : (ph : Phase) → me.phase ≡ ph → (op : Op) → phase_op job me ph ≡ Some op → Did op me.tasks (phase_got job (ticked me) ph (taken op s.words))
+    cpu-did : (ph : Phase) → me.phase ≡ ph → (op : WordOp) → phase_op job me ph ≡ Some op → Did op me.tasks (phase_got job (ticked me) ph (taken op s.words))
     cpu-did Going e op is = going-did e op is
     cpu-did (StoringAck r) e op is =
         subst (λ o. Did o me.tasks (phase_got job (ticked me) (StoringAck r) (taken o s.words))) (same_Some _ op is) (
@@ -385,7 +386,7 @@ task-item t (Return k a) before own = false_true (own t ∙ ==-refl t)
 task-item t _ before own = (refl, refl, refl)
 
 module _ (job : Job) (ok : IsWordJob job) (s : World) (k : MachineRule job s) (c : ℕ) (within : c < length job.quanta) where
-  abbrev Then : Op → Cpu → World
+  abbrev Then : WordOp → Cpu → World
   Then op me = record { words = words_after op s.words; control = s.control; cpus = at_put s.cpus c me; past = past_after op s.past }
 
   -- control's waits stay met
@@ -427,7 +428,7 @@ module _ (job : Job) (ok : IsWordJob job) (s : World) (k : MachineRule job s) (c
     tasks = λ t on. f t on (x.tasks t on);
   }
 
-  kept-did : (op : Op) (me : Cpu) → HasRoomFor job → Did job ok s k c within op (s.cpus c).tasks me → MachineRule job (Then op me)
+  kept-did : (op : WordOp) (me : Cpu) → HasRoomFor job → Did job ok s k c within op (s.cpus c).tasks me → MachineRule job (Then op me)
   unfolding IsLegalPast
   kept-did (Load w) me room d = record {
     base = k.base;
@@ -508,7 +509,7 @@ module _ (job : Job) (ok : IsWordJob job) (s : World) (k : MachineRule job s) (c
   kept-did (Store _ x) me room d = absurd d
 
 -- each row of a CPU keeps the rule
-pub cpu_keeps : (job : Job) (ok : IsWordJob job) (s : World) (c : ℕ) (op : Op) → c < length job.quanta → MachineRule job s
+pub cpu_keeps : (job : Job) (ok : IsWordJob job) (s : World) (c : ℕ) (op : WordOp) → c < length job.quanta → MachineRule job s
     → cpu_next job (s.cpus c) ≡ Some op → MachineRule job (cpu_row job s c op)
 unfolding cpu_next cpu_got
 cpu_keeps job ok s c op within k is =

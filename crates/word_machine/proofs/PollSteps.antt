@@ -12,7 +12,8 @@ use Rattle.ft_base.specs.WellFormed.{IsScript}
 use Rattle.ft_hist.specs.Past.{done}
 use Rattle.ft_hist.specs.Plain.{below_top, ahead}
 use Rattle.plain_machine.specs.State.{has_acts, tasks_of}
-use Rattle.word_machine.specs.Words.{low, greatest_half, all_ones, at_put}
+use Rattle.word_map.specs.Words.{at_put}
+use Rattle.word_map.specs.Contents.{low, greatest_half, all_ones}
 use Rattle.word_machine.specs.Task.{OpenCall, TaskState, Moment, Polling, First, is_quiet, is_fetching, quiet_word, begun_act}
 use Rattle.word_machine.specs.Cpu.{Cpu, Phase, Going, Over, has_more, any_has_more, next_task, switched, ack_value, quiet_next, quiet_in, polled, poll_on, moved}
 use Rattle.word_machine.specs.Sites.{reached}

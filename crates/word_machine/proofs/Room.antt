@@ -5,7 +5,7 @@ use Rattle.ft_base.specs.declared.item.Item.{Item}
 use Rattle.ft_base.specs.Job.{Job}
 use Rattle.ft_hist.specs.Rules.{IsLegal, IsLegalPast}
 use Rattle.history_bound.proofs.Bounded.{history-bounded}
-use Rattle.word_machine.specs.Words.{half_size}
+use Rattle.word_map.specs.Contents.{half_size}
 use Rattle.word_machine.specs.Rule.{IsWordJob}
 
 -- the low half of the clock counts the items of a legal history

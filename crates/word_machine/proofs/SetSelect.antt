@@ -8,9 +8,11 @@ use Rattle.ft_base.specs.Desk.{UserState, desk, is_allowed}
 use Rattle.ft_base.specs.Order.{IsOrder}
 use Rattle.ft_base.specs.WellFormed.{IsWellFormed}
 use Rattle.ft_base.proofs.Small.{false_true}
-use Rattle.word_machine.specs.Words.{Words, put, at_put, Sel, sel_of, sel_word, high, low}
+use Rattle.word_map.specs.Words.{Words, put, at_put, Sel}
+use Rattle.word_map.specs.Contents.{sel_of, sel_word, high, low, other_copy}
 use Rattle.word_machine.specs.Commands.{Effect, Adds, Removes, Edits, Enables, Disables, Lists, Levels, Nothing, effect, subject, state_of}
-use Rattle.word_machine.specs.Control.{Store, Position, Select, Push, Relink, AskQuiet, Close, batch, other_copy, copy_after, selected_in, control_got}
+use Rattle.word_map.specs.Ops.{Store}
+use Rattle.word_machine.specs.Control.{Position, Select, Push, Relink, AskQuiet, Close, batch, copy_after, selected_in, control_got}
 use Rattle.word_machine.specs.Cpu.{Cpu}
 use Rattle.word_machine.specs.Machine.{control_row}
 use Rattle.word_machine.specs.Progress.{SeenAt, HoldsAt, selected, listed, took, gave, pids_stored, depth_stored, desk_by, underway, quiet_reached, waits, writes_copy, selects, relinks, patches, is_adds, comes_to}

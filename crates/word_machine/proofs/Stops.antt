@@ -7,8 +7,9 @@ use Rattle.ft_base.specs.Job.{Job, Ctl, Run, Until}
 use Rattle.ft_base.specs.WellFormed.{IsScript}
 use Rattle.ft_base.proofs.Small.{false_true}
 use Rattle.ft_hist.specs.Frames.{is_nil}
-use Rattle.word_machine.specs.Words.{Want}
-use Rattle.word_machine.specs.Control.{Load, Control, Position, Line, line_op, next_in, control_next}
+use Rattle.word_map.specs.Words.{Want}
+use Rattle.word_map.specs.Ops.{Load}
+use Rattle.word_machine.specs.Control.{Control, Position, Line, line_op, next_in, control_next}
 use Rattle.word_machine.specs.Task.{OpenCall, TaskState, Moment, Polling, First, is_quiet, first_op, call_op, stack_op}
 use Rattle.word_machine.specs.Cpu.{Cpu, Phase, Going, StoringAck, StoringQuiet, Over, any_has_more, present_op, phase_op, cpu_next}
 use Rattle.word_machine.specs.Machine.{World, is_end, control_is_done}

@@ -2,7 +2,8 @@
 use Rattle.std.proofs.Common.{◌≡◌, ◌⊎◌, ℕ, suc, ◌<◌, ◌≤◌, List, sym, subst, arith, inl, inr}
 use Rattle.ft_base.specs.Job.{Job, funcs}
 use Rattle.ft_hist.specs.Past.{done, begun}
-use Rattle.word_machine.specs.Words.{low, decode}
+use Rattle.word_map.specs.Contents.{low}
+use Rattle.word_map.specs.Instructions.{decode}
 use Rattle.word_machine.specs.Commands.{insn}
 use Rattle.word_machine.specs.Task.{OpenCall, Moment, GotHead, GotBreak, InTramp, AtFirst, AtLink}
 use Rattle.word_machine.specs.Machine.{World}

@@ -10,8 +10,11 @@ use Rattle.ft_base.specs.Job.{Job}
 use Rattle.ft_base.proofs.Small.{false_true}
 use Rattle.ft_hist.specs.Past.{is_of, done}
 use Rattle.ft_hist.specs.Rules.{MayFollow}
-use Rattle.word_machine.specs.Words.{Words, low, greatest_half, half_size, halves, returned_at, breakpoint, decode, stands, sel_on, sel_empty, is_marked}
-use Rattle.word_machine.specs.Control.{Op, Load, Store, Mark}
+use Rattle.site_bytes.specs.Bytes.{breakpoint}
+use Rattle.word_map.specs.Words.{Words}
+use Rattle.word_map.specs.Contents.{low, greatest_half, half_size, halves, returned_at, stands, sel_on, sel_empty, is_marked}
+use Rattle.word_map.specs.Instructions.{decode}
+use Rattle.word_map.specs.Ops.{WordOp, Load, Store, Mark}
 use Rattle.word_machine.specs.Task.{around, OpenCall, TaskState, Moment, Polling, First, Fetch, GotHead, GotBreak, InTramp, OwnSel, AtFirst, TestSel, TestFilter, TestNotrace, AtPids, AtDepth, Refusing, Calling, Missing, Acting, Ending, AtLink, Closing, Leaving, AtExit, Exiting, EndingExit, Returning, call_op, call_got, task_op, task_got, first_op, first_got, stack_op, stack_got, head_in, level_of, fetched, fetched_ran, begin_call, walks_to, tests_in, guard_test, is_too_deep, exit_in}
 use Rattle.word_machine.specs.Machine.{World, taken}
 use Rattle.word_machine.specs.Progress.{underway}
@@ -144,15 +147,15 @@ module _ (job : Job) (ok : IsWordJob job) (s : World) (k : MachineRule job s) (a
   abbrev KK : Moment → Type 0
   KK m = TaskRule job h' past' ack word t' (x' m)
 
-  abbrev pub By : Op → TaskState → Type 0
+  abbrev pub By : WordOp → TaskState → Type 0
   By (Load l) x = TaskRule job h' past' ack word t' x
   By (Store l y) x = ⊥
   By (Mark item) x = (MayFollow job past' item × TaskRule job h' (item ∷ past') ack word t' x) × ((u : ℕ) → is_of u item ≡ (t' == u))
 
-  abbrev Goes : Moment → Op → Type 0
+  abbrev Goes : Moment → WordOp → Type 0
   Goes m op = By op (call_got job (x' m) c below m (taken op ws'))
 
-  is-op : (m : Moment) (op op' : Op) → Some op ≡ Some op' → Goes m op → Goes m op'
+  is-op : (m : Moment) (op op' : WordOp) → Some op ≡ Some op' → Goes m op → Goes m op'
   is-op m op op' e x = subst (λ o. Goes m o) (same_Some op op' e) x
 
   -- the top call is at another moment of its dispatch, and perhaps something else runs
@@ -161,7 +164,7 @@ module _ (job : Job) (ok : IsWordJob job) (s : World) (k : MachineRule job s) (a
   goes m m' r e e' x d = task_goes job h' past' ack word t' n acts gone cs c below w m m' r (alike m m' e e')
       (call_at job h' past' ack (low word) (running c r) below m' e' d) x
 
-  pub call_step : (m : Moment) → KK m → (op : Op) → call_op (x' m) c below m ≡ Some op → Goes m op
+  pub call_step : (m : Moment) → KK m → (op : WordOp) → call_op (x' m) c below m ≡ Some op → Goes m op
   call_step Polling x op is = absurd cc
   call_step First x op is = absurd cc
   call_step Fetch x op is = is-op Fetch _ op is
@@ -237,7 +240,7 @@ module _ (job : Job) (ok : IsWordJob job) (s : World) (k : MachineRule job s) (a
 -- ## any step
 
 -- what a step of task v comes to
-abbrev pub SteppedBy : (job : Job) → Here → List Item → ℕ → ℕ → ℕ → Op → TaskState → Type 0
+abbrev pub SteppedBy : (job : Job) → Here → List Item → ℕ → ℕ → ℕ → WordOp → TaskState → Type 0
 SteppedBy job h before acked word v (Load w) x = TaskRule job h before acked word v x
 SteppedBy job h before acked word v (Store w y) x = ⊥
 SteppedBy job h before acked word v (Mark item) x = (MayFollow job before item × TaskRule job h (item ∷ before) acked word v x)
@@ -250,13 +253,13 @@ is_polling _ = false
 
 module _ (job : Job) (ok : IsWordJob job) (s : World) (k : MachineRule job s) (c0 word : ℕ) (acked : s.words.ack c0 ≤ s.control.request) (t : ℕ)
     (within : t < length job.tasks) where
-  abbrev S : Op → TaskState → Type 0
+  abbrev S : WordOp → TaskState → Type 0
   S op x = SteppedBy job (here s k.base) s.past (s.words.ack c0) word t op x
 
   abbrev T : TaskState → Type 0
   T x = TaskRule job (here s k.base) s.past (s.words.ack c0) word t x
 
-  first_step : (n gone : ℕ) (acts : List TaskAct) (cs : List Ctx) (w : ℕ) (stack : List OpenCall) → T (task n gone acts cs stack w First) → (op : Op)
+  first_step : (n gone : ℕ) (acts : List TaskAct) (cs : List Ctx) (w : ℕ) (stack : List OpenCall) → T (task n gone acts cs stack w First) → (op : WordOp)
       → first_op t (task n gone acts cs stack w First) acts stack ≡ Some op
       → S op (first_got t (task n gone acts cs stack w First) acts stack (taken op s.words))
   first_step n gone [] cs w stack x op is = absurd cc
@@ -280,7 +283,7 @@ module _ (job : Job) (ok : IsWordJob job) (s : World) (k : MachineRule job s) (c
       subst (λ o. S o (first_got t (task n gone (After m ∷ rest) cs stack w First) (After m ∷ rest) stack (taken o s.words))) (same_Some _ op is)
       (after_row job ok s k c0 t word n gone m rest cs w stack x)
 
-  stack_step : (n gone : ℕ) (acts : List TaskAct) (cs : List Ctx) (w : ℕ) (stack : List OpenCall) (m : Moment) → T (task n gone acts cs stack w m) → (op : Op)
+  stack_step : (n gone : ℕ) (acts : List TaskAct) (cs : List Ctx) (w : ℕ) (stack : List OpenCall) (m : Moment) → T (task n gone acts cs stack w m) → (op : WordOp)
       → stack_op (task n gone acts cs stack w m) stack m ≡ Some op → S op (stack_got job (task n gone acts cs stack w m) stack m (taken op s.words))
   stack_step n gone acts cs w [] m x op is = absurd cc
   stack_step n gone acts cs w (c ∷ below) m x op is =
@@ -288,7 +291,7 @@ module _ (job : Job) (ok : IsWordJob job) (s : World) (k : MachineRule job s) (c
       → SteppedBy job (here s k.base) s.past (s.words.ack c0) word v op (call_got job (task n gone acts cs (c ∷ below) w m) c below m (taken op s.words)))
       x.calls.0.task (λ lt y. stepped op (call_step job ok s k (s.words.ack c0) word acked n gone acts cs w c below lt m y op is)) within x
     where
-      stepped : (op : Op) → By job ok s k (s.words.ack c0) word acked n gone acts cs w c below
+      stepped : (op : WordOp) → By job ok s k (s.words.ack c0) word acked n gone acts cs w c below
           (subst (λ v. v < length job.tasks) (sym x.calls.0.task) within) op (call_got job (task n gone acts cs (c ∷ below) w m) c below m (taken op s.words))
           → SteppedBy job (here s k.base) s.past (s.words.ack c0) word c.call.task.0 op
           (call_got job (task n gone acts cs (c ∷ below) w m) c below m (taken op s.words))
@@ -297,7 +300,7 @@ module _ (job : Job) (ok : IsWordJob job) (s : World) (k : MachineRule job s) (c
       stepped (Mark item) y = y
 
   pub task_step : (n gone : ℕ) (acts : List TaskAct) (cs : List Ctx) (w : ℕ) (stack : List OpenCall) (m : Moment) → T (task n gone acts cs stack w m)
-      → is_polling m ≡ false → (op : Op)
+      → is_polling m ≡ false → (op : WordOp)
       → task_op t (task n gone acts cs stack w m) m ≡ Some op → S op (task_got job t (task n gone acts cs stack w m) m (taken op s.words))
   task_step n gone acts cs w stack Polling x poll op is = false_true (sym poll)
   task_step n gone acts cs w stack First x poll op is = first_step n gone acts cs w stack x op is

@@ -16,9 +16,11 @@ use Rattle.ft_base.specs.Order.{has}
 use Rattle.ft_base.proofs.Small.{false_true, and_both, or-true, ==-refl}
 use Rattle.ft_hist.specs.Past.{Visit, visit, all_visits, visits, done, begun, entry_of}
 use Rattle.ft_hist.specs.Rules.{AtReturnedOrBegun, IsLegalPast, waits_before}
-use Rattle.word_machine.specs.Words.{Word, Want, First as ListHead, Link, low}
+use Rattle.word_map.specs.Words.{Word, Want, First as ListHead, Link}
+use Rattle.word_map.specs.Contents.{low}
 use Rattle.word_machine.specs.Commands.{Effect, Adds, Removes, Edits, Enables, Disables, Lists, Levels, Nothing, effect, subject, state_of, set_words}
-use Rattle.word_machine.specs.Control.{Load, Position, Line, Take, Copy, Select, Push, Relink, StorePids, StoreDepth, NextAt, BreakAt, Ask1, Wait1, TailAt, Ask2, Wait2, HeadAt, Ask3, Wait3, AskQuiet, WaitQuiet, Release, Close, slot_of, namer_from, relink_op, line_op, next_in, control_next}
+use Rattle.word_map.specs.Ops.{Load}
+use Rattle.word_machine.specs.Control.{Position, Line, Take, Copy, Select, Push, Relink, StorePids, StoreDepth, NextAt, BreakAt, Ask1, Wait1, TailAt, Ask2, Wait2, HeadAt, Ask3, Wait3, AskQuiet, WaitQuiet, Release, Close, slot_of, namer_from, relink_op, line_op, next_in, control_next}
 use Rattle.word_machine.specs.Task.{OpenCall, TaskState, Moment, Polling, First, Fetch, GotHead, GotBreak, InTramp, OwnSel, AtFirst, TestSel, TestFilter, TestNotrace, AtPids, AtDepth, Refusing, Calling, Missing, Acting, Ending, AtLink, Closing, Leaving, AtExit, Exiting, EndingExit, Returning, first_op, call_op, stack_op, task_op}
 use Rattle.word_machine.specs.Cpu.{Cpu, Phase, Going, StoringAck, StoringQuiet, Over, any_has_more, present_op, phase_op, cpu_next}
 use Rattle.word_machine.specs.Machine.{World}
@@ -29,7 +31,9 @@ use Rattle.word_machine.specs.Trampolines.{HasSlot}
 use Rattle.word_machine.specs.Verdicts.{Here, Seen, BeforeVisit, AfterVisit, Walks}
 use Rattle.word_machine.specs.Calls.{CallAt, Calls, Opened}
 use Rattle.word_machine.specs.Rule.{MachineRule, here, CpuRule, PollAt, IsWordJob}
-use Rattle.word_machine.specs.Laws.{IsThere, IsOnWord, WaitsAt}
+use Rattle.word_map.specs.Shapes.{shape_of}
+use Rattle.word_map.specs.Places.{IsThere}
+use Rattle.word_machine.specs.Laws.{IsOnWord, WaitsAt}
 use Rattle.word_machine.proofs.Seen.{seen_either}
 use Rattle.word_machine.proofs.DeskChanges.{SubjectBy, between}
 use Rattle.word_machine.proofs.DeskNumbers.{registered-inside}
@@ -204,10 +208,10 @@ module _ (job : Job) (ok : IsWordJob job) (s : World) (k : MachineRule job s) wh
   abbrev d : ℕ
   d = s.control.commands_done
 
-  namer-there : (w : Word) (u : ℕ) (order : List ℕ) → IsThere job w → ((v : ℕ) → has v order ≡ true → v < length job.users) → IsThere job (namer_from w u order)
+  namer-there : (w : Word) (u : ℕ) (order : List ℕ) → IsThere (shape_of job) w → ((v : ℕ) → has v order ≡ true → v < length job.users) → IsThere (shape_of job) (namer_from w u order)
   namer-there w u [] t all = t
   namer-there w u (v ∷ vs) t all =
-      if_case (IsThere job) (v == u) w (namer_from (Link v) u vs) (λ e. t)
+      if_case (IsThere (shape_of job)) (v == u) w (namer_from (Link v) u vs) (λ e. t)
       (λ e. namer-there (Link v) u vs (all v (ap (λ b. b || has v vs) (==-refl v))) (λ x h. all x (ap (λ b. (v == x) || b) h ∙ or-true (v == x))))
 
   line-there : (remaining : List Ctl) → s.control.remaining ≡ remaining → IsOnWord job (line_op d remaining)

@@ -9,9 +9,11 @@ use Rattle.ft_base.specs.Job.{Job, Ctl}
 use Rattle.ft_base.specs.Desk.{UserState, desk}
 use Rattle.ft_base.specs.WellFormed.{IsWellFormed}
 use Rattle.ft_base.proofs.Small.{false_true}
-use Rattle.word_machine.specs.Words.{Words, put, at_put, Tramp, tramp_word, low}
+use Rattle.word_map.specs.Words.{Words, put, at_put, Tramp}
+use Rattle.word_map.specs.Contents.{tramp_word, low, other_copy}
 use Rattle.word_machine.specs.Commands.{Effect, Adds, Removes, effect, subject, state_of, set_words}
-use Rattle.word_machine.specs.Control.{Store, Position, Take, Copy, Select, Release, Close, slot_of, copy_from, other_copy, control_got}
+use Rattle.word_map.specs.Ops.{Store}
+use Rattle.word_machine.specs.Control.{Position, Take, Copy, Select, Release, Close, slot_of, copy_from, control_got}
 use Rattle.word_machine.specs.Cpu.{Cpu}
 use Rattle.word_machine.specs.Machine.{control_row}
 use Rattle.word_machine.specs.Progress.{took, gave, underway, quiet_reached, writes_copy, selects, comes_to, waits, ClosingHolds}

@@ -6,7 +6,7 @@ use Rattle.std.proofs.lemmas.Bool.{cases_lt}
 use Rattle.std.proofs.lemmas.List.{get_or_past}
 use Rattle.std.proofs.lemmas.List.FromFn.{get_or-map-range_with_len, length-map-range_with_len}
 use Rattle.ft_base.specs.Job.{Job}
-use Rattle.word_machine.specs.Words.{at_put}
+use Rattle.word_map.specs.Words.{at_put}
 use Rattle.word_machine.specs.Task.{TaskState, task_start}
 use Rattle.word_machine.specs.Values.{tasks_in, copies_in}
 

@@ -3,7 +3,7 @@ use Rattle.std.proofs.Common.{cond, ◌≡◌, ℕ, zero, suc, ◌<◌, Bool, Li
 use Rattle.std.specs.Prelude.{Option, Some, None, nat_lt, nat_le}
 use Rattle.std.proofs.lemmas.Bool.Decides.{nat_tests}
 use Rattle.ft_base.specs.Job.{Job, Ctl, Run, Until}
-use Rattle.word_machine.specs.Words.{low}
+use Rattle.word_map.specs.Contents.{low}
 use Rattle.word_machine.specs.Commands.{Effect, Adds, Removes, Edits, Enables, Disables, Lists, Levels, Nothing, effect, site_from, has_slot_at, set_words, subject}
 use Rattle.word_machine.specs.Control.{Control, Position, Line, Take, Copy, Select, Push, Relink, StorePids, StoreDepth, NextAt, BreakAt, Ask1, Wait1, TailAt, Ask2, Wait2, HeadAt, Ask3, Wait3, AskQuiet, WaitQuiet, Release, Close, control_got, got_in, line_got, position_or, after_wait, copy_from, begin_in, after_batch_in, after_batch, batch, tails, heads, selected_in, released_in, released}
 use Rattle.word_machine.specs.Laws.{WaitsAt}

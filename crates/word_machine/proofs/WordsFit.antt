@@ -20,9 +20,12 @@ use Rattle.ft_base.proofs.Modifiers.{named-at}
 use Rattle.ft_base.specs.Marks.{Marks}
 use Rattle.site_set.specs.Marks.{number_with_bits, word_of}
 use Rattle.plain_machine.specs.State.{has_acts}
-use Rattle.word_machine.specs.Words.{Word, Words, Clock, Want, First as ListHead, Pids, Depth, Head, Tail, Next, Ack, Quiet, Tramp, Link, Sel, Bits, put, bits_put, low, halves, half_size, greatest_half, all_ones, sel_of, set_word, mask_of, head_of, tail_of}
+use Rattle.word_map.specs.Words.{Word, Words, Clock, Want, First as ListHead, Pids, Depth, Head, Tail, Next, Ack, Quiet, Tramp, Link, Sel, Bits, put, bits_put}
+use Rattle.word_map.specs.Contents.{low, halves, half_size, greatest_half, all_ones, sel_of, set_word, mask_of}
+use Rattle.word_map.specs.Instructions.{head_of, tail_of}
 use Rattle.word_machine.specs.Commands.{Effect, Adds, Removes, Edits, Enables, Disables, Lists, Levels, Nothing, effect, subject, subject_in, command, state_of, insn}
-use Rattle.word_machine.specs.Control.{Op, Load, Store, Mark, Position, Line, Take, Copy, Select, Push, Relink, StorePids, StoreDepth, NextAt, BreakAt, Ask1, TailAt, Ask2, HeadAt, Ask3, AskQuiet, Release, next_in, line_op, relink_op, control_next, copy_after, name_of, follower}
+use Rattle.word_map.specs.Ops.{WordOp, Load, Store, Mark}
+use Rattle.word_machine.specs.Control.{Position, Line, Take, Copy, Select, Push, Relink, StorePids, StoreDepth, NextAt, BreakAt, Ask1, TailAt, Ask2, HeadAt, Ask3, AskQuiet, Release, next_in, line_op, relink_op, control_next, copy_after, name_of, follower}
 use Rattle.word_machine.specs.Task.{TaskState, is_quiet, quiet_word, OpenCall, Moment, Polling, First, call_op, first_op, stack_op}
 use Rattle.word_machine.specs.Cpu.{Cpu, Phase, Going, StoringAck, StoringQuiet, Over, any_has_more, ack_value, phase_op, going_op, present_op, cpu_next}
 use Rattle.word_machine.specs.Machine.{World, words_after, weight, control_moved, cpu_moved, step, run, start, taken, control_row, cpu_row}
@@ -201,7 +204,7 @@ follower-small u (v ∷ vs) users le in' =
 
 -- ## what is stored
 
-abbrev FitsIn : Op → Type 0
+abbrev FitsIn : WordOp → Type 0
 FitsIn (Store w x) = x < 18446744073709551616
 FitsIn _ = Unit {0}
 
@@ -211,12 +214,12 @@ acts-each (x ∷ xs) zero lt = (let e = sum_by-cons (λ (y : Task). length y.act
 acts-each (x ∷ xs) (suc t) lt = (let e = sum_by-cons (λ (y : Task). length y.acts) x xs in let h = acts-each xs t (omega (arith, lt)) in omega (arith, e, h))
 
 -- a task stores nothing
-call-none : (x : TaskState) (c : OpenCall) (below : List OpenCall) (m : Moment) (op : Op) → call_op x c below m ≡ Some op → FitsIn op
+call-none : (x : TaskState) (c : OpenCall) (below : List OpenCall) (m : Moment) (op : WordOp) → call_op x c below m ≡ Some op → FitsIn op
 call-none x c below Polling op is = absurd cc
 call-none x c below First op is = absurd cc
 call-none x c below _ op is = subst (λ o. FitsIn o) (same_Some _ op is) tt
 
-first-none : (t : ℕ) (x : TaskState) (acts : List TaskAct) (stack : List OpenCall) (op : Op) → first_op t x acts stack ≡ Some op → FitsIn op
+first-none : (t : ℕ) (x : TaskState) (acts : List TaskAct) (stack : List OpenCall) (op : WordOp) → first_op t x acts stack ≡ Some op → FitsIn op
 first-none t x [] stack op is = absurd cc
 first-none t x (Call g ∷ rest) stack op is = subst (λ o. FitsIn o) (same_Some _ op is) tt
 first-none t x (RetAct ∷ rest) [] op is = absurd cc
@@ -225,16 +228,16 @@ first-none t x (Raise c ∷ rest) stack op is = absurd cc
 first-none t x (Lower ∷ rest) stack op is = absurd cc
 first-none t x (After n ∷ rest) stack op is = subst (λ o. FitsIn o) (same_Some _ op is) tt
 
-stack-none : (x : TaskState) (stack : List OpenCall) (m : Moment) (op : Op) → stack_op x stack m ≡ Some op → FitsIn op
+stack-none : (x : TaskState) (stack : List OpenCall) (m : Moment) (op : WordOp) → stack_op x stack m ≡ Some op → FitsIn op
 stack-none x [] m op is = absurd cc
 stack-none x (c ∷ below) m op is = call-none x c below m op is
 
-present-none : (me : Cpu) (m : Moment) (op : Op) → present_op me m ≡ Some op → FitsIn op
+present-none : (me : Cpu) (m : Moment) (op : WordOp) → present_op me m ≡ Some op → FitsIn op
 present-none me Polling op is = subst (λ o. FitsIn o) (same_Some _ op is) tt
 present-none me First op is = first-none me.present (me.tasks me.present) (me.tasks me.present).acts (me.tasks me.present).stack op is
 present-none me m op is = stack-none (me.tasks me.present) (me.tasks me.present).stack m op is
 
-going-none : (job : Job) (me : Cpu) (op : Op) → going_op job me ≡ Some op → FitsIn op
+going-none : (job : Job) (me : Cpu) (op : WordOp) → going_op job me ≡ Some op → FitsIn op
 going-none job me op is = by (any_has_more job me) is
   where
     by : (b : Bool) → cond b (present_op me (me.tasks me.present).moment) (Some (Load Want)) ≡ Some op → FitsIn op
@@ -252,7 +255,7 @@ module _ (job : Job) (l : IsLimited job) (s : World) (k : MachineRule job s) whe
   relinks-fit Removes = (let h = follower-small (subject job s.control.commands_done) s.control.order (length job.users) l.users in-order in omega (arith, h))
   relinks-fit _ = (let h = subject-small job l s.control.commands_done in omega (arith, h))
 
-  lines-fit : (n : ℕ) (ls : List Ctl) (op : Op) → line_op n ls ≡ Some op → FitsIn op
+  lines-fit : (n : ℕ) (ls : List Ctl) (op : WordOp) → line_op n ls ≡ Some op → FitsIn op
   lines-fit n [] op is = absurd cc
   lines-fit n (Until t m ∷ rest) op is = subst (λ o. FitsIn o) (same_Some _ op is) tt
   lines-fit n (Run c ∷ rest) op is = subst (λ o. FitsIn o) (same_Some _ op is) tt
@@ -263,7 +266,7 @@ module _ (job : Job) (l : IsLimited job) (s : World) (k : MachineRule job s) whe
   insn-few : (f : ℕ) → insn job (suc s.control.commands_done) f < 18
   insn-few f = (let i = insn-small job l.job' (suc s.control.commands_done) f in let t = l.tramps in omega (arith, i, t))
 
-  control-fit : (p : Position) (op : Op) → next_in job s.control p ≡ Some op → FitsIn op
+  control-fit : (p : Position) (op : WordOp) → next_in job s.control p ≡ Some op → FitsIn op
   control-fit Line op is = lines-fit s.control.commands_done s.control.remaining op is
   control-fit Take op is = subst (λ o. FitsIn o) (same_Some _ op is)
       (let r = reg-small job l (suc s.control.commands_done) (subject job s.control.commands_done) in let u = subject-small job l s.control.commands_done in
@@ -312,7 +315,7 @@ module _ (job : Job) (l : IsLimited job) (s : World) (k : MachineRule job s) whe
     ack-fits r le = if_case (λ n. n < 18446744073709551616) (any_has_more job (s.cpus c)) r all_ones (λ e. let q = request-small job (limited job l) s k in
         omega (arith, le, q)) (λ e. omega arith)
 
-    cpu-fit : (ph : Phase) → (s.cpus c).phase ≡ ph → (op : Op) → phase_op job (s.cpus c) ph ≡ Some op → FitsIn op
+    cpu-fit : (ph : Phase) → (s.cpus c).phase ≡ ph → (op : WordOp) → phase_op job (s.cpus c) ph ≡ Some op → FitsIn op
     cpu-fit Going e op is = going-none job (s.cpus c) op is
     cpu-fit (StoringAck r) e op is =
         let p : PollAt job s.control.request c (s.cpus c) (StoringAck r) = subst (λ p. PollAt job s.control.request c (s.cpus c) p) e (k.cpus c within).polls in
@@ -339,7 +342,7 @@ module _ (job : Job) (l : IsLimited job) (s : World) (k : MachineRule job s) whe
       heavy (Return n a) = omega arith
       heavy _ = omega arith
 
-  after-fits : (op : Op) → FitsIn op → AllFit s.words → AllFit (words_after op s.words)
+  after-fits : (op : WordOp) → FitsIn op → AllFit s.words → AllFit (words_after op s.words)
   after-fits (Load w) is all = all
   after-fits (Store w x) is all = put_fits w x s.words is all
   after-fits (Mark item) is all = put_fits Clock (weight item + s.words.clock) s.words (clock-fits item) all
@@ -350,12 +353,12 @@ step-fits : (job : Job) (l : IsLimited job) (a : Actor) (s : World) → MachineR
 unfolding step control_next cpu_next
 step-fits job l ByControl s k all = by (control_next job s.control) refl
   where
-    by : (o : Option Op) → control_next job s.control ≡ o → AllFit (control_moved job s o).words
+    by : (o : Option WordOp) → control_next job s.control ≡ o → AllFit (control_moved job s o).words
     by None e = all
     by (Some op) e = after-fits job l s k op (control-fit job l s k s.control.position op e) all
 step-fits job l (ByCpu c) s k all = by_there (nat_lt c.0 (length job.quanta)) refl (cpu_next job (s.cpus c.0)) refl
   where
-    by_there : (b : Bool) → nat_lt c.0 (length job.quanta) ≡ b → (o : Option Op) → cpu_next job (s.cpus c.0) ≡ o
+    by_there : (b : Bool) → nat_lt c.0 (length job.quanta) ≡ b → (o : Option WordOp) → cpu_next job (s.cpus c.0) ≡ o
         → AllFit (cond b (cpu_moved job s c.0 o) s).words
     by_there false t o e = all
     by_there true t None e = all
@@ -378,12 +381,12 @@ step-waits : (job : Job) (a : Actor) (s : World) → WaitsAt job s.control.posit
 unfolding step
 step-waits job ByControl s k = by (control_next job s.control)
   where
-    by : (o : Option Op) → WaitsAt job (control_moved job s o).control.position
+    by : (o : Option WordOp) → WaitsAt job (control_moved job s o).control.position
     by None = k
     by (Some op) = waits-got job s.control (taken op s.words) k
 step-waits job (ByCpu c) s k = by_there (nat_lt c.0 (length job.quanta)) (cpu_next job (s.cpus c.0))
   where
-    by_there : (b : Bool) (o : Option Op) → WaitsAt job (cond b (cpu_moved job s c.0 o) s).control.position
+    by_there : (b : Bool) (o : Option WordOp) → WaitsAt job (cond b (cpu_moved job s c.0 o) s).control.position
     by_there false o = k
     by_there true None = k
     by_there true (Some op) = k
@@ -397,11 +400,11 @@ step-runs job l a s r = record {
 
 -- ## row by row
 
-pub control-row-runs : (job : Job) → IsLimited job → (s : World) (op : Op) → Runs job s → control_next job s.control ≡ Some op → Runs job (control_row job s op)
+pub control-row-runs : (job : Job) → IsLimited job → (s : World) (op : WordOp) → Runs job s → control_next job s.control ≡ Some op → Runs job (control_row job s op)
 unfolding step
 control-row-runs job l s op r e = subst (λ o. Runs job (control_moved job s o)) e (step-runs job l ByControl s r)
 
-pub cpu-row-runs : (job : Job) → IsLimited job → (s : World) (c : ℕ) (op : Op) → c < length job.quanta → Runs job s → cpu_next job (s.cpus c) ≡ Some op
+pub cpu-row-runs : (job : Job) → IsLimited job → (s : World) (c : ℕ) (op : WordOp) → c < length job.quanta → Runs job s → cpu_next job (s.cpus c) ≡ Some op
     → Runs job (cpu_row job s c op)
 unfolding step
 cpu-row-runs job l s c op inside r e =

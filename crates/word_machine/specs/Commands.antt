@@ -1,21 +1,11 @@
 -- What a command does to the words: which call sites it changes, and what sort of change it makes.
-use Rattle.std.specs.Prelude.{ℕ, ◌+◌, ◌-◌, ◌/◌, Bool, not, ◌==◌, Option, Some, None, is_some, slice_get, if◌then◌else◌, suc}
-use Rattle.ft_base.specs.declared.item.Ran.{Ran}
-use Rattle.ft_base.specs.declared.item.Ran.TheVariants.{Nop, List as ByList, Own}
+use Rattle.std.specs.Prelude.{ℕ, ◌-◌, Bool, not, ◌==◌, Option, Some, None, is_some, slice_get, if◌then◌else◌, suc}
 use Rattle.ft_base.specs.Job.{Job, Command, Register, Unregister, Filter, Notrace, Pid, NoPid, Enable, Disable, MaxDepth, commands, funcs}
 use Rattle.ft_base.specs.Desk.{Desk, UserState, user_at, desk, target, lowest, answer_on, is_accepted}
+use Rattle.word_map.specs.Instructions.{code_by}
+use Rattle.word_map.specs.Places.{words_for}
 
 -- ## call sites
-
--- the number of a site's instruction, by the target that the desk gives it
-abbrev pub code_by : Desk → Ran → ℕ
-code_by d Nop = 0
-code_by d ByList = 1
-code_by d (Own u) = slot_code (user_at d u.0).slot
-  where
-    slot_code : Option ℕ → ℕ
-    slot_code None = 1
-    slot_code (Some s) = 2 + s
 
 -- the number of the instruction that the site of a function should have after the first k commands
 unfoldable pub insn : Job → ℕ → ℕ → ℕ
@@ -64,7 +54,7 @@ has_slot_at job k u = is_some (state_of job k u).slot
 
 -- how many words the filter of a user has, and its notrace set
 abbrev pub set_words : Job → ℕ
-set_words job = (funcs job + 63) / 64
+set_words job = words_for (funcs job)
 
 -- ## the effect of a command
 

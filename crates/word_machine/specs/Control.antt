@@ -1,21 +1,18 @@
 -- Control: the steps of each command in their order, its next operation, and what the value that the operation gives makes of it.
 -- docs/PROTOCOL.md tells what each store and each wait is for.
-use Rattle.std.specs.Prelude.{ℕ, zero, suc, ◌-◌, Bool, ◌==◌, nat_lt, nat_le, List, [], ◌∷◌, length, Option, Some, None, if◌then◌else◌}
+use Rattle.std.specs.Prelude.{ℕ, zero, suc, Bool, ◌==◌, nat_lt, nat_le, List, [], ◌∷◌, length, Option, Some, None, if◌then◌else◌}
 use Rattle.ft_base.specs.declared.item.Answer.{Answer}
 use Rattle.ft_base.specs.declared.item.Answer.TheVariants.{Accepted}
-use Rattle.ft_base.specs.declared.item.Item.{Item}
 use Rattle.ft_base.specs.declared.item.Item.TheVariants.{Begin, Return}
 use Rattle.ft_base.specs.Job.{Job, Command, Unregister, Ctl, Run, Until}
 use Rattle.ft_base.specs.Order.{order_after}
 use Rattle.ft_base.specs.Desk.{desk, answer_on}
-use Rattle.word_machine.specs.Words.{Word, Want, First, Pids, Depth, Head, Tail, Next, Ack, Quiet, Tramp, Link, Sel, Bits, at_put, low, high, breakpoint, head_of, tail_of, sel_of, tramp_word, set_word, mask_of}
+use Rattle.site_bytes.specs.Bytes.{breakpoint}
+use Rattle.word_map.specs.Words.{Word, Want, First, Pids, Depth, Head, Tail, Next, Ack, Quiet, Tramp, Link, Sel, Bits, at_put}
+use Rattle.word_map.specs.Contents.{low, high, sel_of, tramp_word, set_word, mask_of, other_copy}
+use Rattle.word_map.specs.Instructions.{head_of, tail_of}
+use Rattle.word_map.specs.Ops.{WordOp, Load, Store, Mark}
 use Rattle.word_machine.specs.Commands.{insn, site_from, command, subject, state_of, has_slot_at, set_words, Effect, Adds, Removes, Edits, Enables, Disables, Lists, Levels, Nothing, effect}
-
--- one operation on the words: a load, a store, or a mark, which counts one item
-pub data Op : Type 0 where
-  Load : (w : Word) → Op
-  Store : (w : Word) → (x : ℕ) → Op
-  Mark : (item : Item) → Op
 
 -- Where control stands: at a line, or in a command before this operation.
 --   Take, Release      store a trampoline's word: its user, or 0
@@ -157,7 +154,7 @@ namer_from w u [] = w
 namer_from w u (v ∷ vs) = if v == u then w else namer_from (Link v) u vs
 
 -- the store that takes a user off the list, or puts it at the head
-abbrev pub relink_op : Effect → ℕ → List ℕ → Op
+abbrev pub relink_op : Effect → ℕ → List ℕ → WordOp
 relink_op Removes u order = Store (namer_from First u order) (follower u order)
 relink_op _ u order = Store First (suc u)
 
@@ -167,10 +164,6 @@ relinked Removes u order = order_after order (Unregister u)
 relinked _ u order = u ∷ order
 
 -- ## the copies of a user's sets
-
--- the copy that is not in use
-abbrev pub other_copy : ℕ → ℕ
-other_copy copy = 1 - copy
 
 -- which copy is in use after the store of the user's state
 abbrev pub copy_after : Effect → ℕ → ℕ
@@ -191,13 +184,13 @@ answer_in job d None = Accepted
 answer_in job d (Some c) = answer_on job (desk job d) c
 
 -- at a line: a wait looks at the task, a command begins
-abbrev pub line_op : ℕ → List Ctl → Option Op
+abbrev pub line_op : ℕ → List Ctl → Option WordOp
 line_op d [] = None
 line_op d (Until t n ∷ rest) = Some (Load (Quiet t))
 line_op d (Run c ∷ rest) = Some (Mark (Begin (suc d)))
 
 -- control's next operation at a position
-abbrev pub next_in : Job → Control → Position → Option Op
+abbrev pub next_in : Job → Control → Position → Option WordOp
 next_in job s Line = line_op s.commands_done s.remaining
 next_in job s Take =
     let u = subject job s.commands_done in let new = state_of job (suc s.commands_done) u in
@@ -285,7 +278,7 @@ got_in job s Release v = at_position s Close
 got_in job s Close v = record s { commands_done = suc s.commands_done; remaining = rest_lines s.remaining; position = Line }
 
 -- control's next operation; none at its end
-unfoldable pub control_next : Job → Control → Option Op
+unfoldable pub control_next : Job → Control → Option WordOp
 control_next job s = next_in job s s.position
 
 -- control after its next operation gave this value

@@ -5,8 +5,9 @@ use Rattle.ft_base.specs.declared.task.TaskAct.{TaskAct}
 use Rattle.ft_base.specs.declared.task.TaskAct.TheVariants.{After}
 use Rattle.ft_base.specs.Job.{Job}
 use Rattle.plain_machine.specs.State.{has_acts, tasks_of}
-use Rattle.word_machine.specs.Words.{Want, Ack, Quiet, at_put, all_ones, returned_at}
-use Rattle.word_machine.specs.Control.{Op, Load, Store}
+use Rattle.word_map.specs.Words.{Want, Ack, Quiet, at_put}
+use Rattle.word_map.specs.Contents.{all_ones, returned_at}
+use Rattle.word_map.specs.Ops.{WordOp, Load, Store}
 use Rattle.word_machine.specs.Task.{TaskState, Moment, Polling, First, task_op, task_got, task_start, is_fetching, quiet_word, begun_act}
 
 -- where a CPU stands: at its present task, in a poll that loaded this request (before the store of its own word, or of the word of
@@ -97,16 +98,16 @@ with_word r x = record x { word = quiet_word r x }
 -- ## steps
 
 -- the next operation of the present task, which has an act left: a poll loads the last request
-abbrev pub present_op : Cpu → Moment → Option Op
+abbrev pub present_op : Cpu → Moment → Option WordOp
 present_op me Polling = Some (Load Want)
 present_op me m = task_op me.present (me.tasks me.present) m
 
 -- the same of a CPU; one last poll follows the last act
-abbrev pub going_op : Job → Cpu → Option Op
+abbrev pub going_op : Job → Cpu → Option WordOp
 going_op job me = if any_has_more job me then present_op me (me.tasks me.present).moment else Some (Load Want)
 
 -- the next operation in a phase
-abbrev pub phase_op : Job → Cpu → Phase → Option Op
+abbrev pub phase_op : Job → Cpu → Phase → Option WordOp
 phase_op job me Going = going_op job me
 phase_op job me (StoringAck r) = Some (Store (Ack me.number) (ack_value job me r))
 phase_op job me (StoringQuiet r t) = Some (Store (Quiet t) (quiet_word r (me.tasks t)))
@@ -141,7 +142,7 @@ phase_got job me (StoringQuiet r t) v = poll_on job (record me { tasks = at_put 
 phase_got job me Over v = me
 
 -- a CPU's next operation; none at its end
-unfoldable pub cpu_next : Job → Cpu → Option Op
+unfoldable pub cpu_next : Job → Cpu → Option WordOp
 cpu_next job me = phase_op job me me.phase
 
 -- a CPU after its next operation gave this value

@@ -3,9 +3,9 @@ use Rattle.std.specs.Prelude.{ℕ, suc, ◌≡◌, ◌<◌, ◌⊎◌, true, fal
 use Rattle.ft_base.specs.Marks.{holds, is_empty}
 use Rattle.ft_base.specs.Job.{Job}
 use Rattle.ft_base.specs.Desk.{UserState}
-use Rattle.word_machine.specs.Words.{high, sel_of, set_word}
+use Rattle.word_map.specs.Contents.{high, sel_of, set_word, other_copy}
 use Rattle.word_machine.specs.Commands.{Effect, effect, subject, state_of, set_words}
-use Rattle.word_machine.specs.Control.{Position, Copy, Select, other_copy}
+use Rattle.word_machine.specs.Control.{Position, Copy, Select}
 use Rattle.word_machine.specs.Progress.{selected, desk_by, SeenAt, writes_copy}
 
 -- a copy has the user's sets

@@ -1,12 +1,18 @@
 -- What the laws of the whole machine say: sites that are settled, what is never done, values and words that fit, and what goes on from step
 -- to step.
 use Rattle.std.specs.Prelude.{ℕ, suc, ◌≡◌, ◌+◌, ◌<◌, ◌≤◌, ◌⊎◌, Bool, true, false, List, [], ◌∷◌, length, Option, Some, None, ◌^◌, get_or, ◌==◌}
-use Rattle.ft_base.specs.Job.{Job, funcs, no_task}
+use Rattle.ft_base.specs.Job.{Job, no_task}
 use Rattle.ft_hist.specs.Past.{done, begun}
 use Rattle.ft_hist.specs.Rules.{IsUnvisited}
-use Rattle.word_machine.specs.Words.{Word, Words, Head, Tail, Next, Ack, Quiet, Tramp, Link, Sel, Bits, read, half_size, greatest_half, head_of, tail_of, tramp_word, breakpoint, decode}
-use Rattle.word_machine.specs.Commands.{insn, subject, set_words}
-use Rattle.word_machine.specs.Control.{Op, Load, Store, Mark, Position, Copy, Push, Wait1, Wait2, Wait3, WaitQuiet, other_copy}
+use Rattle.site_bytes.specs.Bytes.{breakpoint}
+use Rattle.word_map.specs.Words.{Word, Words, read}
+use Rattle.word_map.specs.Contents.{half_size, greatest_half, tramp_word, other_copy}
+use Rattle.word_map.specs.Instructions.{head_of, tail_of, decode}
+use Rattle.word_map.specs.Shapes.{shape_of}
+use Rattle.word_map.specs.Places.{IsThere}
+use Rattle.word_machine.specs.Commands.{insn, subject}
+use Rattle.word_map.specs.Ops.{WordOp, Load, Store, Mark}
+use Rattle.word_machine.specs.Control.{Position, Copy, Push, Wait1, Wait2, Wait3, WaitQuiet}
 use Rattle.word_machine.specs.Task.{OpenCall, TaskState, Moment, Polling, First, Fetch, GotHead, GotBreak, InTramp, AtFirst, TestSel, TestFilter, TestNotrace, AtPids, AtDepth, Refusing, Calling, Missing, Acting, Ending, AtLink}
 use Rattle.word_machine.specs.Cpu.{Cpu, Phase, Going, any_has_more}
 use Rattle.word_machine.specs.Machine.{World}
@@ -144,24 +150,11 @@ tasks_on job c = filter (λ t. (get_or job.tasks t no_task).cpu == c) (range_wit
 abbrev pub AllFit : Words → Type 0
 AllFit ws = (w : Word) → read w ws < 2 ^ 64
 
--- the job has this word: its function, CPU, task, trampoline or user is one of the job's
-abbrev pub IsThere : Job → Word → Type 0
-IsThere job (Head f) = f < funcs job
-IsThere job (Tail f) = f < funcs job
-IsThere job (Next f) = f < funcs job
-IsThere job (Ack c) = c < length job.quanta
-IsThere job (Quiet t) = t < length job.tasks
-IsThere job (Tramp s) = s < job.tramps
-IsThere job (Link u) = u < length job.users
-IsThere job (Sel u) = u < length job.users
-IsThere job (Bits u copy half w) = (u < length job.users) × (copy < 2) × (half < 2) × (w < set_words job)
-IsThere job _ = Unit {0}
-
 -- an operation, if there is one, is on a word that the job has
-abbrev pub IsOnWord : Job → Option Op → Type 0
+abbrev pub IsOnWord : Job → Option WordOp → Type 0
 IsOnWord job None = Unit {0}
-IsOnWord job (Some (Load w)) = IsThere job w
-IsOnWord job (Some (Store w x)) = IsThere job w
+IsOnWord job (Some (Load w)) = IsThere (shape_of job) w
+IsOnWord job (Some (Store w x)) = IsThere (shape_of job) w
 IsOnWord job (Some (Mark item)) = Unit {0}
 
 -- ## what goes on from step to step

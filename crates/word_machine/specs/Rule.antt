@@ -11,7 +11,7 @@ use Rattle.ft_hist.specs.Plain.{plain}
 use Rattle.ft_hist.specs.Rules.{IsLegalPast, waits_before}
 use Rattle.user_specs.specs.Bound.{call_bound_of}
 use Rattle.history_bound.specs.Bound.{all_calls}
-use Rattle.word_machine.specs.Words.{low, half_size, halves, greatest_half, all_ones}
+use Rattle.word_map.specs.Contents.{low, half_size, halves, greatest_half, all_ones}
 use Rattle.word_machine.specs.Control.{Position, Line}
 use Rattle.word_machine.specs.Task.{TaskState, Polling, is_fetching}
 use Rattle.word_machine.specs.Cpu.{Cpu, Phase, Going, StoringAck, StoringQuiet, Over, any_has_more, has_more, ack_value}

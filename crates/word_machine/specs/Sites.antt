@@ -1,7 +1,8 @@
 -- The rule of call sites: how far each changed one is, which requests a CPU has acknowledged, and what a fetch under way has loaded.
 use Rattle.std.specs.Prelude.{ℕ, suc, ◌≡◌, ◌+◌, ◌*◌, ◌<◌, ◌≤◌, ◌⊎◌, Bool, true, nat_lt, if◌then◌else◌}
 use Rattle.ft_base.specs.Job.{Job, funcs}
-use Rattle.word_machine.specs.Words.{breakpoint, head_of, tail_of}
+use Rattle.site_bytes.specs.Bytes.{breakpoint}
+use Rattle.word_map.specs.Instructions.{head_of, tail_of}
 use Rattle.word_machine.specs.Commands.{insn, changes, effect, subject, set_words, has_slot_at}
 use Rattle.word_machine.specs.Control.{Position, Copy, NextAt, BreakAt, Ask1, Wait1, TailAt, Ask2, Wait2, HeadAt, Ask3, Wait3, AskQuiet, WaitQuiet, Release, Close, Take}
 use Rattle.word_machine.specs.Task.{Moment, GotHead, GotBreak}

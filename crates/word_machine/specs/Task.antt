@@ -16,8 +16,11 @@ use Rattle.ft_base.specs.Kinds.{has_depth}
 use Rattle.ft_hist.specs.Plain.{Owed, owed_by, context, below_top}
 use Rattle.ft_hist.specs.Frames.{FrameUser, is_nil, runs_after}
 use Rattle.plain_machine.specs.State.{Around, is_held, takes_frame, misses_frame, joined, call_of, has_acts}
-use Rattle.word_machine.specs.Words.{Clock, First as ListHead, Pids, Depth, Head, Tail, Next, Tramp, Link, Sel, Bits, low, high, greatest_half, halves, returned_at, sel_on, sel_copy, sel_empty, stands, tramp_user, is_marked, breakpoint, decode}
-use Rattle.word_machine.specs.Control.{Op, Load, Mark}
+use Rattle.site_bytes.specs.Bytes.{breakpoint}
+use Rattle.word_map.specs.Words.{Clock, First as ListHead, Pids, Depth, Head, Tail, Next, Tramp, Link, Sel, Bits}
+use Rattle.word_map.specs.Contents.{low, high, greatest_half, halves, returned_at, sel_on, sel_copy, sel_empty, stands, tramp_user, is_marked}
+use Rattle.word_map.specs.Instructions.{decode}
+use Rattle.word_map.specs.Ops.{WordOp, Load, Mark}
 
 -- a call that is open: who made it (the script, or a user's act), what was fetched, the function that is to run, whether the call
 -- holds a frame, the users of the frame in the order of their Backs, and the user whose act made the call above it
@@ -189,14 +192,14 @@ exit_in live m rest = if live then Exiting m rest else next_exit rest
 -- ## the next operation
 
 -- an act's first operation
-abbrev pub first_op : ℕ → TaskState → List TaskAct → List OpenCall → Option Op
+abbrev pub first_op : ℕ → TaskState → List TaskAct → List OpenCall → Option WordOp
 first_op t x (Call f ∷ rest) stack = Some (Mark (Enter (call_of (record { 0 = t }) x.next) (context x.contexts) f (top_of stack)))
 first_op t x (RetAct ∷ rest) (c ∷ below) = Some (Mark (Leave c.call))
 first_op t x (After n ∷ rest) stack = Some (Load Clock)
 first_op t x _ stack = None
 
 -- an operation of the top call
-abbrev pub call_op : TaskState → OpenCall → List OpenCall → Moment → Option Op
+abbrev pub call_op : TaskState → OpenCall → List OpenCall → Moment → Option WordOp
 call_op x c below Polling = None
 call_op x c below First = None
 call_op x c below Fetch = Some (Load (Head c.func))
@@ -224,12 +227,12 @@ call_op x c below (EndingExit m rest) = Some (Mark (ExitEnd c.call (record { 0 =
 call_op x c below Returning = Some (Mark (Ret c.call (top_of below)))
 
 -- an operation of the top call, if there is one
-abbrev pub stack_op : TaskState → List OpenCall → Moment → Option Op
+abbrev pub stack_op : TaskState → List OpenCall → Moment → Option WordOp
 stack_op x [] m = None
 stack_op x (c ∷ below) m = call_op x c below m
 
 -- the next operation of task t, which has an act left and is not before a poll
-abbrev pub task_op : ℕ → TaskState → Moment → Option Op
+abbrev pub task_op : ℕ → TaskState → Moment → Option WordOp
 task_op t x First = first_op t x x.acts x.stack
 task_op t x m = stack_op x x.stack m
 

@@ -2,7 +2,7 @@
 use Rattle.std.specs.Prelude.{ℕ, suc, ◌≡◌, ◌≢◌, ◌<◌, true, length, Some}
 use Rattle.ft_base.specs.Job.{Job}
 use Rattle.ft_base.specs.Desk.{UserState, desk}
-use Rattle.word_machine.specs.Words.{tramp_word, mask_of}
+use Rattle.word_map.specs.Contents.{tramp_word, mask_of}
 use Rattle.word_machine.specs.Commands.{effect, subject, state_of}
 use Rattle.word_machine.specs.Control.{Position}
 use Rattle.word_machine.specs.Progress.{took, gave, pids_stored, depth_stored, desk_by}

@@ -3,7 +3,8 @@ use Rattle.ft_base.specs.Marks.{Marks}
 use Rattle.ft_base.specs.Job.{NoPid}
 use Rattle.pid_filter.specs.Lists.{tasks_in}
 use Rattle.ft_desk.specs.declared.user.User.{User}
-use Rattle.ft_desk.specs.Plans.{digit, plain_plan}
+use Rattle.word_map.specs.Contents.{digit}
+use Rattle.ft_desk.specs.Plans.{plain_plan}
 use Rattle.ft_desk.specs.Seen.{Seen, carried_out}
 use Rattle.ft_desk.specs.KeptDesks.{seen_of}
 use Rattle.ft_desk.proofs.SeenLaws.{nopids-seen}

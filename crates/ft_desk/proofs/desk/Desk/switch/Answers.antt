@@ -2,7 +2,8 @@ use Rattle.std.proofs.Common.{◌<◌, ap, ◌∙◌, length, map, refl, arith}
 use Rattle.std.proofs.lemmas.List.{length-map}
 use Rattle.ft_desk.specs.declared.user.User.{User}
 use Rattle.ft_desk.specs.Commands.{switch_command}
-use Rattle.ft_desk.specs.Plans.{digit, plain_plan, sel_of}
+use Rattle.word_map.specs.Contents.{digit, sel_of}
+use Rattle.ft_desk.specs.Plans.{plain_plan}
 use Rattle.ft_desk.specs.Seen.{Seen, carried_out}
 use Rattle.ft_desk.specs.Users.{spec_by, state_of, switched, user_of}
 use Rattle.ft_desk.proofs.DeskKept.{kept-still}

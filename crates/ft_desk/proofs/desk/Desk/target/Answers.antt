@@ -1,6 +1,6 @@
 use Rattle.std.proofs.Common.{ap, ◌∙◌}
 use Rattle.ft_desk.specs.Seen.{Seen}
-use Rattle.ft_desk.specs.Sites.{insn_at}
+use Rattle.word_map.specs.Instructions.{insn_at}
 use Rattle.ft_desk.proofs.ViewLaws.{insn-with}
 use Rattle.ft_desk.proofs.desk.Desk.target.Goals as goal
 

@@ -1,7 +1,8 @@
 use Rattle.std.proofs.Common.{◌≡◌, refl, ap, ◌∙◌, set, arith, length}
 use Rattle.site_set.specs.Edits.{plain_edit}
 use Rattle.ft_desk.specs.Rosters.{Users}
-use Rattle.ft_desk.specs.Sites.{changed_sites, insn_at}
+use Rattle.word_map.specs.Instructions.{insn_at}
+use Rattle.ft_desk.specs.Sites.{changed_sites}
 use Rattle.ft_desk.specs.Users.{desk_by}
 use Rattle.ft_desk.proofs.StepLaws.{IsStep, step-moves, step-sites, step-kept}
 use Rattle.ft_desk.proofs.EditLaws.{edit-step, edit-size}

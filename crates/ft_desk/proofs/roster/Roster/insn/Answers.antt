@@ -1,6 +1,6 @@
 use Rattle.std.proofs.Common.{◌≡◌, ap, ◌∙◌, arith, length}
 use Rattle.ft_desk.specs.Rosters.{Users}
-use Rattle.ft_desk.specs.Sites.{insn_at}
+use Rattle.word_map.specs.Instructions.{insn_at}
 use Rattle.ft_desk.specs.Users.{desk_by}
 use Rattle.ft_desk.proofs.KeptLaws.{insn-here, tells-here}
 use Rattle.ft_desk.proofs.roster.Roster.insn.Goals as goal

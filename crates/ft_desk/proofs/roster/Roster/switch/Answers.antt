@@ -1,6 +1,6 @@
 use Rattle.std.proofs.Common.{◌≡◌, refl, ap, ◌∙◌, arith, length}
 use Rattle.ft_desk.specs.Rosters.{Users}
-use Rattle.ft_desk.specs.Sites.{insn_at}
+use Rattle.word_map.specs.Instructions.{insn_at}
 use Rattle.ft_desk.specs.Users.{desk_by, switched}
 use Rattle.ft_desk.proofs.EditLaws.{switch-kept, switch-sites}
 use Rattle.ft_desk.proofs.roster.Roster.switch.Goals as goal

@@ -1,6 +1,7 @@
 use Rattle.std.proofs.Common.{◌≡◌, refl, ap, ◌∙◌, set, arith, length}
 use Rattle.ft_desk.specs.Rosters.{Users}
-use Rattle.ft_desk.specs.Sites.{changed_sites, insn_at}
+use Rattle.word_map.specs.Instructions.{insn_at}
+use Rattle.ft_desk.specs.Sites.{changed_sites}
 use Rattle.ft_desk.specs.Users.{desk_by, retired, user_of}
 use Rattle.ft_desk.proofs.StepLaws.{IsStep, retire-step, step-moves, step-sites, step-kept}
 use Rattle.ft_desk.proofs.roster.Roster.unregister.Goals as goal

@@ -1,6 +1,6 @@
 use Rattle.std.proofs.Common.{◌≡◌, ℕ, ◌+◌, ◌*◌, ◌<◌, ◌^◌, ◌%◌, Bool, true, false, refl, ◌∙◌, arith}
 use mir.Val.{bool_byte}
-use Rattle.ft_desk.specs.Plans.{digit}
+use Rattle.word_map.specs.Contents.{digit}
 use Rattle.ft_desk.proofs.user.User.sel.Goals as goal
 
 byte-digit : (b : Bool) → bool_byte b ≡ digit b

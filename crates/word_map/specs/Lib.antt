@@ -1,0 +1,6 @@
+pub mod Words
+pub mod Contents
+pub mod Instructions
+pub mod Ops
+pub mod Shapes
+pub mod Places

@@ -1,0 +1,36 @@
+//! Words of two halves, each a number below 2 ^ 32.
+
+ghost use Rattle.std.specs.Prelude.{◌≡◌, ◌<◌};
+ghost use Rattle.word_map.specs.Contents.{greatest_half, halves, high, low, tramp_word};
+
+use ft_base::UserNo;
+
+/// The word that has these two halves.
+pub fn halves(high: u32, low: u32) -> u64
+    ensures { result ≡ halves high low }
+{
+    (u64::from(high) << 32) | u64::from(low)
+}
+
+/// The high half of a word.
+pub fn high(word: u64) -> u32
+    ensures { result ≡ high word }
+{
+    (word >> 32) as u32
+}
+
+/// The low half of a word.
+pub fn low(word: u64) -> u32
+    ensures { result ≡ low word }
+{
+    (word & 0xFFFF_FFFF) as u32
+}
+
+/// What a trampoline's word holds while the trampoline has a user: in the high half the user's
+/// registration number, and in the low half the user's number plus 1. A free one holds 0.
+pub fn tramp_word(reg: u32, user: UserNo) -> u64
+    requires { user.0 < greatest_half }
+    ensures { result ≡ tramp_word reg user.0 }
+{
+    halves(reg, user.0 + 1)
+}

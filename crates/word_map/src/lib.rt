@@ -1,0 +1,24 @@
+//! The words that control and the CPUs share: what each holds, and its place in one array.
+//!
+//! `specs/Words` names the words, `Contents` and `Instructions` say what they hold, and `Ops` what an
+//! actor can do to one: a *load*, a *store*, or a *mark*, which counts an item of the history on the
+//! *clock*. A [`WordMap`] gives each word of a *shape* its place, and all words as they are at the
+//! start. [`halves`] has the words that hold two numbers.
+//!
+//! Promised: words of different names or numbers have different places, all below the map's length,
+//! so a store at one place changes the word of that name and no other ([`laws`]). The list of
+//! [`WordMap::opening`] has at each word's place what the word holds at the start. It alone takes
+//! memory; that it is found is only tested.
+#![tactic(auto)]
+
+pub mod halves;
+pub mod laws;
+mod map;
+mod op;
+mod shape;
+#[cfg(test)]
+mod tests;
+
+pub use map::WordMap;
+pub use op::Op;
+pub use shape::Shape;
