@@ -1,0 +1,4 @@
+pub mod Desks
+pub mod Plans
+pub mod Copies
+pub mod ChangedSites
