@@ -1,0 +1,3 @@
+pub mod Polled
+pub mod Moments
+pub mod Framed

@@ -1,0 +1,40 @@
+-- Where a task of the word machine stands, by its walk of the list and by what it has read of a user.
+use Rattle.std.specs.Prelude.{ℕ}
+use Rattle.ft_base.specs.Job.{Job}
+use Rattle.word_map.specs.Shapes.{shape_of}
+use Rattle.ops_list.specs.declared.walker.WalkPhase.{WalkPhase}
+use Rattle.ops_list.specs.declared.walker.WalkPhase.TheVariants.{Starting, At, Ended as WalkEnded}
+use Rattle.hash_pages.specs.declared.reader.ReadPhase.{ReadPhase}
+use Rattle.hash_pages.specs.declared.reader.ReadPhase.TheVariants.{AtSel, AtFilter, AtNotrace, Ended as ReadEnded}
+use Rattle.hash_pages.specs.declared.reader.Verdict.{Verdict}
+use Rattle.hash_pages.specs.declared.reader.Verdict.TheVariants.{On}
+use Rattle.hash_pages.specs.Reads.{Read}
+use Rattle.word_machine.specs.Task.{OpenCall, Moment, AtFirst, AtLink, TestSel, TestFilter, TestNotrace, Closing}
+
+-- before the next load of a walk: of the head, or of the link of the user where it stands; at its end the dispatch is over
+abbrev pub walking_at : WalkPhase → Moment
+walking_at Starting = AtFirst
+walking_at (At u) = AtLink u.0
+walking_at WalkEnded = Closing
+
+-- the user that a load of the walk has named is asked next, or the dispatch is over
+abbrev pub arrived_at : WalkPhase → Moment
+arrived_at Starting = AtFirst
+arrived_at (At u) = TestSel u.0
+arrived_at WalkEnded = Closing
+
+-- a read of a user for a call
+abbrev pub read_at : Job → OpenCall → ℕ → ReadPhase → Read
+read_at job c u phase = record { shape = shape_of job; user = u; func = c.func; phase = phase }
+
+-- a user that isn't on is passed by; of one that is on the tests follow, which begin at the moment that its registration number gives
+abbrev pub judged : ℕ → (ℕ → Moment) → Verdict → Moment
+judged u on (On reg) = on reg
+judged u on _ = AtLink u
+
+-- before the next load of a read of user u, or after its verdict
+abbrev pub reading_at : ℕ → (ℕ → Moment) → ReadPhase → Moment
+reading_at u on AtSel = TestSel u
+reading_at u on (AtFilter copy reg) = TestFilter u copy reg
+reading_at u on (AtNotrace copy reg) = TestNotrace u copy reg
+reading_at u on (ReadEnded verdict) = judged u on verdict

@@ -1,0 +1,208 @@
+//! The parts of a CPU and the word machine are one: what a poll, a walk of the list, a read of a
+//! user's sets and the stacks of a task do is what the machine's rows do. Each law is a function with
+//! an empty body, whose clauses say it.
+
+ghost use Rattle.std.specs.Prelude.{◌≡◌, ◌<◌, ◌↔◌, ℕ, Bool, true, false, not, ◌&&◌, List, [], ◌∷◌, drop, length, map};
+ghost use Rattle.std.specs.Option.{option_map};
+ghost use Rattle.ft_base.specs.declared.context.Ctx.{Ctx};
+ghost use Rattle.ft_base.specs.declared.item.Ran.TheVariants.{List as ByList};
+ghost use Rattle.ft_base.specs.declared.number.CallNo.{CallNo};
+ghost use Rattle.ft_base.specs.declared.number.UserNo.{UserNo};
+ghost use Rattle.ft_base.specs.declared.user.Kind.{Kind};
+ghost use Rattle.ft_base.specs.Desk.{spec_at};
+ghost use Rattle.ft_base.specs.Job.{Job};
+ghost use Rattle.ft_base.specs.Kinds.{cancels, has_depth, has_exit, is_fprobe};
+ghost use Rattle.ft_hist.specs.Frames.{is_nil};
+ghost use Rattle.plain_machine.specs.State.{misses_frame, tasks_of};
+ghost use Rattle.grace_core.specs.declared.poller.PollPhase.TheVariants.{Asking, Acking, Telling};
+ghost use Rattle.grace_core.specs.Polls.{poll_got, poll_next, told_at, untold};
+ghost use Rattle.grace_core.specs.Views.{acknowledged, told_word};
+ghost use Rattle.ops_list.specs.declared.walker.WalkPhase.{WalkPhase};
+ghost use Rattle.ops_list.specs.declared.walker.WalkPhase.TheVariants.{Starting, At};
+ghost use Rattle.ops_list.specs.Walks.{walk_after, walk_at, walk_op};
+ghost use Rattle.hash_pages.specs.declared.reader.ReadPhase.TheVariants.{AtSel, AtFilter, AtNotrace};
+ghost use Rattle.hash_pages.specs.Reads.{read_got, read_next};
+ghost use Rattle.return_stack.specs.Calls.{caller_of, frames_in, is_full, top_call, with_call, with_hook, with_user, without_empty};
+ghost use Rattle.graph_users.specs.Depth.{MayEnter};
+ghost use Rattle.fprobe.specs.declared.entry.Probe.{Probe};
+ghost use Rattle.fprobe.specs.declared.entry.Probe.TheVariants.{Plain, Wanted, Cancelled, Missed};
+ghost use Rattle.fprobe.specs.Entry.{calls_after};
+ghost use Rattle.word_machine.specs.Task.{AtFirst, AtLink, Moment, OpenCall, Polling, TaskState, TestFilter, TestNotrace, TestSel};
+ghost use Rattle.word_machine.specs.Task.{after_user, around, at_moment, begin_call, call_got, call_op, called_back, fetched};
+ghost use Rattle.word_machine.specs.Task.{is_too_deep, level_of, opened, quiet_word, top_of};
+ghost use Rattle.word_machine.specs.Cpu.{Cpu, StoringAck, StoringQuiet, ack_value, any_has_more, going_op, phase_got, phase_op};
+ghost use Rattle.word_machine.specs.Cpu.{polling, quiet_next};
+ghost use Rattle.cpu_core.specs.Polled.{acked, poll_at, polled_task, polling_at, task_told, view_of, viewed};
+ghost use Rattle.cpu_core.specs.Moments.{arrived_at, read_at, reading_at, walking_at};
+ghost use Rattle.cpu_core.specs.Framed.{AreFramed, probe_of, stack_of, stacked};
+
+/// What a poll is to tell is what the machine's CPU is to tell: its acknowledgement, the word of a
+/// task, and the first task whose word is to change.
+pub fn a_poll_tells_what_the_machine_tells()
+    ensures ack { (job : Job) (me : Cpu) (r : ℕ) → acknowledged (view_of job me) r ≡ ack_value job me r }
+    ensures word { (r t : ℕ) (x : TaskState) → told_word r (viewed t x) ≡ quiet_word r x }
+    ensures next { (job : Job) (me : Cpu) (r : ℕ)
+        → quiet_next me.tasks r (tasks_of job me.number)
+        ≡ option_map (polled_task job me) (untold r (view_of job me).tasks) }
+{}
+
+/// A poll's next operation is the machine's: before an act, and after the last one; before the store
+/// of the CPU's word; and before the store of a task's.
+pub fn a_poll_is_the_machines()
+    ensures act { (job : Job) (me : Cpu) → any_has_more job me ≡ true → (me.tasks me.present).moment ≡ Polling
+        → poll_next (poll_at job me Asking) ≡ going_op job (polling_at job me Asking) }
+    ensures last { (job : Job) (me : Cpu) → any_has_more job me ≡ false
+        → poll_next (poll_at job me Asking) ≡ going_op job (polling_at job me Asking) }
+    ensures acking { (job : Job) (me : Cpu) (r : ℕ)
+        → poll_next (poll_at job me (Acking r)) ≡ phase_op job me (StoringAck r) }
+    ensures telling { (job : Job) (me : Cpu) (r i : ℕ) → i < length (tasks_of job me.number)
+        → poll_next (poll_at job me (Telling r i)) ≡ phase_op job me (StoringQuiet r (polled_task job me i)) }
+{}
+
+/// After a value the machine's CPU stands where the poll does.
+pub fn a_poll_goes_on_as_the_machines()
+    ensures asked { (job : Job) (me : Cpu) (v : ℕ)
+        → polling job me v ≡ polling_at job me (poll_got (poll_at job me Asking) v).phase }
+    ensures acked { (job : Job) (me : Cpu) (r v : ℕ)
+        → phase_got job me (StoringAck r) v
+        ≡ polling_at job (acked job me r) (poll_got (poll_at job me (Acking r)) v).phase }
+    ensures told { (job : Job) (me : Cpu) (r i v : ℕ) → i < length (tasks_of job me.number)
+        → phase_got job me (StoringQuiet r (polled_task job me i)) v
+        ≡ polling_at job (task_told me r (polled_task job me i)) (poll_got (poll_at job me (Telling r i)) v).phase }
+{}
+
+/// After a value the poll is still that CPU's: what it looks at is what the CPU has after the store.
+pub fn a_poll_stays_the_machines()
+    ensures view { (job : Job) (me : Cpu) (r i : ℕ) → i < length (tasks_of job me.number)
+        → view_of job (task_told me r (polled_task job me i)) ≡ told_at r i (view_of job me) }
+    ensures asked { (job : Job) (me : Cpu) (v : ℕ)
+        → let p = poll_got (poll_at job me Asking) v in p ≡ poll_at job me p.phase }
+    ensures acked { (job : Job) (me : Cpu) (r v : ℕ)
+        → let p = poll_got (poll_at job me (Acking r)) v in p ≡ poll_at job (acked job me r) p.phase }
+    ensures told { (job : Job) (me : Cpu) (r i v : ℕ) → i < length (tasks_of job me.number)
+        → let p = poll_got (poll_at job me (Telling r i)) v in
+        p ≡ poll_at job (task_told me r (polled_task job me i)) p.phase }
+{}
+
+/// A walk begins where a fetch has found the list, and goes on where a user is passed by; its next
+/// load is the machine's, of the head or of a link. After the value the task asks the user that it
+/// names, or, at the end of the list, the dispatch is over.
+pub fn a_walk_is_the_machines()
+    ensures begins { fetched 1 ≡ walking_at Starting }
+    ensures passes_by { (u : UserNo) → after_user ByList u.0 ≡ walking_at (At u) }
+    ensures at_no_user { (phase : WalkPhase) → walk_at phase ≡ None → arrived_at phase ≡ walking_at phase }
+    ensures head { (x : TaskState) (c : OpenCall) (below : List OpenCall)
+        → walk_op Starting ≡ call_op x c below (walking_at Starting) }
+    ensures link { (x : TaskState) (c : OpenCall) (below : List OpenCall) (u : UserNo)
+        → walk_op (At u) ≡ call_op x c below (walking_at (At u)) }
+    ensures first { (job : Job) (x : TaskState) (c : OpenCall) (below : List OpenCall) (v : ℕ)
+        → call_got job x c below AtFirst v ≡ at_moment x (arrived_at (walk_after Starting v)) }
+    ensures next { (job : Job) (x : TaskState) (c : OpenCall) (below : List OpenCall) (u : UserNo) (v : ℕ)
+        → call_got job x c below (AtLink u.0) v ≡ at_moment x (arrived_at (walk_after (At u) v)) }
+{}
+
+/// A read of a user begins where the walk arrives at that user; its next load is the machine's, of
+/// the user's state or of a word of one of its sets.
+pub fn a_read_is_the_machines()
+    ensures begins { (u : UserNo) (on : ℕ → Moment) → arrived_at (At u) ≡ reading_at u.0 on AtSel }
+    ensures state { (job : Job) (x : TaskState) (c : OpenCall) (below : List OpenCall) (u : ℕ)
+        → read_next (read_at job c u AtSel) ≡ call_op x c below (TestSel u) }
+    ensures filter { (job : Job) (x : TaskState) (c : OpenCall) (below : List OpenCall) (u copy reg : ℕ)
+        → read_next (read_at job c u (AtFilter copy reg)) ≡ call_op x c below (TestFilter u copy reg) }
+    ensures notrace { (job : Job) (x : TaskState) (c : OpenCall) (below : List OpenCall) (u copy reg : ℕ)
+        → read_next (read_at job c u (AtNotrace copy reg)) ≡ call_op x c below (TestNotrace u copy reg) }
+{}
+
+/// After a value the task stands where the read does; once the read has found that the user is on,
+/// the task begins the user's tests.
+pub fn a_read_goes_on_as_the_machines()
+    ensures state { (job : Job) (x : TaskState) (c : OpenCall) (below : List OpenCall) (u v : ℕ)
+        → let r = read_got (read_at job c u AtSel) v in
+        call_got job x c below (TestSel u) v ≡ at_moment x (reading_at u (begin_call job c below u) r.phase) }
+    ensures filter { (job : Job) (x : TaskState) (c : OpenCall) (below : List OpenCall) (u copy reg v : ℕ)
+        → let r = read_got (read_at job c u (AtFilter copy reg)) v in
+        call_got job x c below (TestFilter u copy reg) v
+        ≡ at_moment x (reading_at u (begin_call job c below u) r.phase) }
+    ensures notrace { (job : Job) (x : TaskState) (c : OpenCall) (below : List OpenCall) (u copy reg v : ℕ)
+        → let r = read_got (read_at job c u (AtNotrace copy reg)) v in
+        call_got job x c below (TestNotrace u copy reg) v
+        ≡ at_moment x (reading_at u (begin_call job c below u) r.phase) }
+{}
+
+/// The stacks tell of a task's open calls what the machine knows of them: how many hold a frame, the
+/// latest call, and the one that it returns to.
+pub fn the_stacks_are_the_machines()
+    ensures frames { (cs : List OpenCall) → frames_in (map stacked cs) ≡ level_of cs }
+    ensures top { (cs : List OpenCall) → top_call (map stacked cs) ≡ top_of cs }
+    ensures caller { (c : OpenCall) (below : List OpenCall) → caller_of (map stacked (c ∷ below)) ≡ top_of below }
+{}
+
+/// A call that is entered goes onto the stacks; at the end of its dispatch a frame that owes nothing
+/// is given back; a call that returns leaves them.
+pub fn a_call_is_stacked_as_the_machines()
+    ensures entered { (call : CallNo) (ctx : Ctx) (f : ℕ) (scripted : Bool) (cs : List OpenCall)
+        → map stacked (opened call ctx f scripted ∷ cs) ≡ with_call (map stacked cs) call }
+    ensures closed { (frames : ℕ) (c : OpenCall) (below : List OpenCall) → AreFramed frames (c ∷ below)
+        → map stacked (record c { framed = not (is_nil c.users) } ∷ below)
+        ≡ without_empty (map stacked (c ∷ below)) }
+    ensures returned { (c : OpenCall) (below : List OpenCall)
+        → drop 1 (map stacked (c ∷ below)) ≡ map stacked below }
+{}
+
+/// A graph or profile user may be called back exactly if the machine doesn't find the call too deep.
+pub fn the_depth_rule_is_the_machines()
+    ensures { (job : Job) (depth : ℕ) (below : List OpenCall)
+        → MayEnter (level_of below) job.frames depth ↔ (is_too_deep job.frames depth (level_of below) ≡ false) }
+{}
+
+/// A user that was called back leaves on the stacks what the machine's call has then: the call's
+/// frame owes a graph or profile user, it owes an fprobe as its kind and the room for frames tell,
+/// and any other user leaves nothing.
+pub fn a_callback_is_stacked_as_the_machines()
+    ensures graph { (job : Job) (c : OpenCall) (below : List OpenCall) (u reg place : ℕ)
+        → AreFramed job.frames (c ∷ below) → has_depth (spec_at job u).kind ≡ true
+        → map stacked (called_back job c below u reg place ∷ below)
+        ≡ with_user (with_hook (map stacked (c ∷ below)))
+        (record { user = record { 0 = u }; reg = reg; entry = place }) }
+    ensures fprobe { (job : Job) (n : ℕ) (c : OpenCall) (below : List OpenCall) (u reg place : ℕ)
+        → AreFramed job.frames (c ∷ below) → is_fprobe (spec_at job u).kind ≡ true
+        → let probe = probe_of (spec_at job u).kind (is_full (stack_of n job.frames (c ∷ below))) in
+        map stacked (called_back job c below u reg place ∷ below)
+        ≡ calls_after probe (map stacked (c ∷ below))
+        (record { user = record { 0 = u }; reg = reg; entry = place }) }
+    ensures other { (job : Job) (c : OpenCall) (below : List OpenCall) (u reg place : ℕ)
+        → has_depth (spec_at job u).kind ≡ false → is_fprobe (spec_at job u).kind ≡ false
+        → map stacked (called_back job c below u reg place ∷ below) ≡ map stacked (c ∷ below) }
+{}
+
+/// An exit is missed exactly if the stacks have no frame for it.
+pub fn a_missed_exit_is_the_machines()
+    ensures { (job : Job) (n : ℕ) (c : OpenCall) (below : List OpenCall) (u : ℕ) → AreFramed job.frames (c ∷ below)
+        → misses_frame job (around c below) u
+        ≡ (has_exit (spec_at job u).kind && is_full (stack_of n job.frames (c ∷ below))) }
+{}
+
+/// What comes of an fprobe's callback, by all that its contract in `fprobe` says of it, is what the
+/// kind and the room for frames tell.
+pub fn a_probe_is_told_by_its_kind()
+    ensures { (kind : Kind) (full : Bool) (probe : Probe) → ((probe ≡ Plain) ↔ (has_exit kind ≡ false))
+        → ((probe ≡ Missed) ↔ ((has_exit kind ≡ true) × (full ≡ true)))
+        → (probe ≡ Cancelled → cancels kind ≡ true) → (probe ≡ Wanted → cancels kind ≡ false)
+        → probe ≡ probe_of kind full }
+{}
+
+/// No call without a frame owes anything, and there are no more frames than there may be: so it is
+/// before the first call, and stays so when a call is entered, when a user is called back for which,
+/// if it is a graph or profile user, there is room, at the end of a dispatch, and when a call returns.
+pub fn stacks_stay_framed()
+    ensures empty { (frames : ℕ) → AreFramed frames [] }
+    ensures entered { (frames : ℕ) (call : CallNo) (ctx : Ctx) (f : ℕ) (scripted : Bool) (cs : List OpenCall)
+        → AreFramed frames cs → AreFramed frames (opened call ctx f scripted ∷ cs) }
+    ensures called_back { (job : Job) (c : OpenCall) (below : List OpenCall) (u reg place : ℕ)
+        → AreFramed job.frames (c ∷ below) → (has_depth (spec_at job u).kind ≡ true → level_of below < job.frames)
+        → AreFramed job.frames (called_back job c below u reg place ∷ below) }
+    ensures closed { (frames : ℕ) (c : OpenCall) (below : List OpenCall) → AreFramed frames (c ∷ below)
+        → AreFramed frames (record c { framed = not (is_nil c.users) } ∷ below) }
+    ensures returned { (frames : ℕ) (c : OpenCall) (below : List OpenCall)
+        → AreFramed frames (c ∷ below) → AreFramed frames below }
+{}
