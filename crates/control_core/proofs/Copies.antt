@@ -24,7 +24,7 @@ own-at g u k = elim (eqb_tells k u) [
   | inr e ↦ rw e.0 refl
 ]
 
-put-own : (g : ℕ → ℕ) (u : ℕ) → g ≡ at_put g u (g u)
+pub put-own : (g : ℕ → ℕ) (u : ℕ) → g ≡ at_put g u (g u)
 put-own g u = λ i k. own-at g u k i
 
 -- the copies after an accepted command, with those of an edit of a user, registered or not
@@ -47,11 +47,11 @@ module _ (copies : List ℕ) where
   accepted job D (Disable u) size w = put-own (copies_in copies) u
   accepted job D (MaxDepth depth) size w = put-own (copies_in copies) 0
 
-module _ (job : Job) (s : Seen) (d : ℕ) (c : Command) (ok : IsWellFormed job) (is : IsOf job s.declared) (same : s.state ≡ desk job d)
+module _ (job : Job) (s : Seen) (d : ℕ) (c : Command) (named : IsNamed job c) (is : IsOf job s.declared) (same : s.state ≡ desk job d)
     (given : command job d ≡ Some c) (size : length s.copies ≡ length job.users) where
-  pub copies-same : copies_in (after_command s c).copies
+  pub copies-named : copies_in (after_command s c).copies
       ≡ at_put (copies_in s.copies) (subject job d) (copy_after (effect job d) (copies_in s.copies (subject job d)))
-  copies-same = by (is_accepted (answer_on job (desk job d) c)) refl
+  copies-named = by (is_accepted (answer_on job (desk job d) c)) refl
     where
       by : (b : Bool) → is_accepted (answer_on job (desk job d) c) ≡ b
           → copies_in (after_command s c).copies
@@ -59,5 +59,13 @@ module _ (job : Job) (s : Seen) (d : ℕ) (c : Command) (ok : IsWellFormed job) 
       by true e =
           rw (if_accepted job s d c is same e, effect_if_accepted job d c given e, subject-is job d c given)
           (ap (λ (D : Desk). copies_in (copies_after D s.copies c)) same
-          ∙ accepted s.copies job (desk job d) c size (named-at (IsNamed job) (commands job) d c given ok.commands))
+          ∙ accepted s.copies job (desk job d) c size named)
       by false e = rw (if_refused job s d c is same e, effect_if_refused job d c given e) (put-own (copies_in s.copies) (subject job d))
+
+-- a well-formed job names users that it has
+pub copies-same : (job : Job) (s : Seen) (d : ℕ) (c : Command) → IsWellFormed job → IsOf job s.declared → s.state ≡ desk job d
+    → command job d ≡ Some c → length s.copies ≡ length job.users
+    → copies_in (after_command s c).copies
+    ≡ at_put (copies_in s.copies) (subject job d) (copy_after (effect job d) (copies_in s.copies (subject job d)))
+copies-same job s d c ok is same given size =
+    copies-named job s d c (named-at (IsNamed job) (commands job) d c given ok.commands) is same given size

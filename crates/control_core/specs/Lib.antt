@@ -1,2 +1,9 @@
 pub mod Followed
 pub mod ChangedSites
+pub mod Positions
+pub mod Plans
+pub mod Lines
+pub mod Phases
+pub mod Seated
+pub mod Steps
+pub mod Kept

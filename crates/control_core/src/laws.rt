@@ -5,15 +5,17 @@ ghost use Rattle.std.specs.Prelude.{◌≡◌, ℕ, ◌<◌, length, suc, Some};
 ghost use Rattle.ft_base.specs.Job.{Job, Command, funcs};
 ghost use Rattle.ft_base.specs.Desk.{desk};
 ghost use Rattle.ft_base.specs.WellFormed.{IsWellFormed};
+ghost use Rattle.word_map.specs.Shapes.{shape_of};
 ghost use Rattle.word_map.specs.Words.{at_put};
 ghost use Rattle.ft_desk.specs.Declarations.{IsOf};
 ghost use Rattle.ft_desk.specs.Plans.{sites_between};
 ghost use Rattle.ft_desk.specs.Seen.{Seen, after_command, answer};
 ghost use Rattle.word_machine.specs.Commands.{command, effect, subject};
-ghost use Rattle.word_machine.specs.Control.{answer_in, copy_after};
+ghost use Rattle.word_machine.specs.Control.{answer_in, control_start, copy_after};
 ghost use Rattle.word_machine.specs.Values.{copies_in};
 ghost use Rattle.control_core.specs.Followed.{order_followed, plan_followed};
 ghost use Rattle.control_core.specs.ChangedSites.{AreChangesFrom};
+ghost use Rattle.control_core.specs.Seated.{Seated, IsFor, IsOpening, control_of};
 
 /// A desk that is that of the job after its first d commands answers the next one as the job's desk
 /// does, and is then the job's next desk; its plan has what the word machine stores for the command,
@@ -38,4 +40,11 @@ pub fn a_plan_is_what_the_machine_stores()
 pub fn the_sites_of_a_plan_are_those_that_change()
     ensures { (job : Job) (d : ℕ)
         → AreChangesFrom job d 0 (sites_between (desk job d) (desk job (suc d)) (funcs job)) }
+{}
+
+/// Control before the first line of a job is control of this job, and the word machine's control at its
+/// start.
+pub fn control_starts_as_the_machine_does()
+    ensures { (job : Job) (c : Seated) → c.shape ≡ shape_of job → c.lines ≡ job.ctls → IsOf job c.desk.declared
+        → IsOpening c → IsFor job c × (control_of c ≡ control_start job) }
 {}

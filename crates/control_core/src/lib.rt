@@ -1,8 +1,20 @@
 //! Control, as a stepper over the shared words: it carries out the lines of a script, and for each
 //! command makes the stores and waits that the desk's plan asks for.
 //!
-//! So far the laws that tie plans to the word machine: a plan of [`ft_desk`] is what the machine
-//! stores for the command.
+//! A *line* is a command or a wait for a task. At a command the desk gives the answer and the plan;
+//! [`Control`] then goes through the *phases* that the plan asks for: the trampoline, the user's sets
+//! and state, the list, the batch of call sites, the wait for quiet points, the trampoline that is
+//! free again. Each phase has a comment that says who could be harmed if it came elsewhere.
+//!
+//! Promised: for every job whose lines and shape it has, its start, its next operation, what a value
+//! makes of it and what it marks are those of the word machine's control. A plan of the desk is what
+//! the machine stores for the command ([`laws`]). Only [`Control::new`] takes memory; that it is found
+//! is only tested. Not promised: that a wait ends.
 #![tactic(auto)]
 
+mod control;
 pub mod laws;
+mod ops;
+mod phase;
+
+pub use control::Control;

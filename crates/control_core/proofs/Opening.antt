@@ -1,0 +1,98 @@
+-- Control before its first line keeps what it should.
+use Rattle.std.proofs.Common.{◌≡◌, ℕ, zero, suc, ◌+◌, ◌*◌, ◌<◌, ◌≤◌, List, [], ◌∷◌, length, map, get_or, Some, sym, ap, ◌∙◌, subst, arith, vec_len, vec_capacity}
+use Rattle.std.specs.Prelude.{All}
+use Rattle.std.proofs.lemmas.List.{get_or-map, length-map, length-replicate}
+use Rattle.std.proofs.lemmas.List.Elements.{All-map, All-nil}
+use Rattle.ft_base.specs.declared.limits.TheConstants.{COMMANDS, UNTILS}
+use Rattle.ft_base.specs.Job.{Spec, funcs}
+use Rattle.ft_base.specs.Desk.{UserState, plain_spec, unseen}
+use Rattle.site_set.proofs.MarksLemmas.{length-empty}
+use Rattle.word_map.specs.declared.shape.Shape.{Shape}
+use Rattle.word_map.specs.Shapes.{IsShape}
+use Rattle.patch_core.specs.Moves.{Batched}
+use Rattle.ft_desk.specs.declared.command.Command.{Command as Code}
+use Rattle.ft_desk.specs.declared.command.Command.TheVariants as code
+use Rattle.ft_desk.specs.declared.command.Ctl.{Ctl}
+use Rattle.ft_desk.specs.declared.command.Ctl.TheVariants.{Run, Until}
+use Rattle.ft_desk.specs.Commands.{IsInShape, command_of, ctl_of}
+use Rattle.ft_desk.specs.Declarations.{Declared, job_of}
+use Rattle.ft_desk.specs.Seen.{Seen, opened}
+use Rattle.ft_desk.proofs.ClaimLaws.{funcs-is}
+use Rattle.control_core.specs.declared.phase.Phase.TheVariants as phase
+use Rattle.control_core.specs.declared.control.Control.TheInside.{Inside}
+use Rattle.control_core.specs.Lines.{IsLineIn, IsNamedIn, IsNamedLine, lines_of}
+use Rattle.control_core.specs.Plans.{IsDeclaredIn, IsDeskIn, IsPlanIn}
+use Rattle.control_core.specs.Kept.{HasLeft, IsKept, asked, busy, seated_of}
+use Rattle.control_core.proofs.DeskIn.{none-in}
+
+-- nobody has a slot
+no-slot : (n : ℕ) (xs : List Spec) (u slot : ℕ) → (get_or (map (λ (s : Spec). unseen n) xs) u (unseen 0)).slot ≡ Some slot → slot < 0
+no-slot n [] u slot e = absurd cc
+no-slot n (x ∷ xs) zero slot e = absurd cc
+no-slot n (x ∷ xs) (suc u) slot e = no-slot n xs u slot e
+
+-- a desk on which nobody is registered
+opened-in : (shape : Shape) (d : Declared) → IsDeclaredIn shape d → IsDeskIn shape (opened d)
+opened-in shape d is = record {
+  declared = is;
+  users = length-map d.specs (λ s. unseen (funcs (job_of d))) ∙ is.users;
+  copies = length-replicate {A = ℕ} (length d.specs) 0 ∙ is.users;
+  filters = λ u h. (let lt : u < length d.specs = (let e = is.users in omega (arith, h, e)) in
+      ap (λ (s : UserState). length s.filter) (get_or-map (λ (s : Spec). unseen (funcs (job_of d))) d.specs u plain_spec (unseen 0) lt)
+      ∙ length-empty (funcs (job_of d)) ∙ funcs-is d.funcs ∙ is.funcs);
+  slots = λ u slot e. (let no = no-slot (funcs (job_of d)) d.specs u slot e in omega (arith, no));
+  order = All-nil (λ u. u < shape.users);
+}
+
+-- the users of lines in the shape
+named-code : (d : Declared) (users tasks : ℕ) → length d.specs ≡ users → (x : Code) → IsInShape d x → IsNamedIn users (command_of tasks x)
+named-code d users tasks e (code.Register u) h = omega (arith, h, e)
+named-code d users tasks e (code.Unregister u) h = omega (arith, h, e)
+named-code d users tasks e (code.Filter u s) h = (let a = h.0 in omega (arith, a, e))
+named-code d users tasks e (code.Notrace u s) h = (let a = h.0 in omega (arith, a, e))
+named-code d users tasks e (code.Pid mask) h = tt
+named-code d users tasks e (code.NoPid mask) h = tt
+named-code d users tasks e (code.Enable u) h = omega (arith, h, e)
+named-code d users tasks e (code.Disable u) h = omega (arith, h, e)
+named-code d users tasks e (code.MaxDepth depth) h = tt
+
+named-line : (d : Declared) (users tasks : ℕ) → length d.specs ≡ users → (l : Ctl) → IsLineIn d l → IsNamedLine users (ctl_of tasks l)
+named-line d users tasks e (Run x) h = named-code d users tasks e x h
+named-line d users tasks e (Until t n) h = tt
+
+named-lines : (d : Declared) (users tasks : ℕ) → length d.specs ≡ users → (xs : List Ctl) → All (IsLineIn d) xs → All (IsNamedLine users) (lines_of tasks xs)
+named-lines d users tasks e xs all =
+    All-map (IsNamedLine users) (ctl_of tasks) xs (λ k y lt. named-line d users tasks e (get_or xs k y) (all k y lt))
+
+-- before the first line
+pub opening-kept : (d : Inside) (xs : List Ctl) → IsShape d.map → d.desk ≡ opened d.desk.declared → IsDeclaredIn d.map d.desk.declared
+    → d.before.value ≡ d.desk → d.lines.items ≡ xs → vec_len d.lines ≡ length xs → All (IsLineIn d.desk.declared) xs → length xs ≤ COMMANDS + UNTILS
+    → d.line ≡ 0 → d.commands_done ≡ 0 → d.request ≡ 0 → d.batch ≡ record { shape = d.map; made = 0 } → d.phase ≡ phase.Line
+    → vec_len d.items ≡ 0 → 2 * length xs ≤ vec_capacity d.items → IsKept d
+opening-kept d xs shape dk dc bf ls len all few line done req batch ph none room =
+    let desk : IsDeskIn d.map d.desk = subst (IsDeskIn d.map) (sym dk) (opened-in d.map d.desk.declared dc) in
+    let commands : d.desk.commands ≡ 0 = ap (λ (s : Seen). s.commands) dk in
+    let idle : busy d.phase ≡ 0 = ap busy ph in
+    let quiet : asked d.phase ≡ 0 = ap asked ph in
+    let made : d.batch.made ≡ 0 = ap (λ (b : Batched). b.made) batch in
+    let all' : All (IsLineIn d.desk.declared) d.lines.items = subst (All (IsLineIn d.desk.declared)) (sym ls) all in
+    let count : length (lines_of d.map.tasks d.lines.items) ≡ length xs = length-map d.lines.items (ctl_of d.map.tasks) ∙ ap length ls in
+    record {
+      safe = record {
+        shape = shape;
+        desk = desk;
+        plan = subst (IsPlanIn d.map) (sym (ap (λ (s : Seen). s.plan) dk)) (none-in d.map);
+        copied = ap (λ (s : Seen). length s.copies) bf ∙ desk.copies;
+        numbered = omega arith;
+        counted = omega arith;
+        within = omega arith;
+        few = omega arith;
+        named = named-lines d.desk.declared d.map.users d.map.tasks dc.users d.lines.items all';
+        moved = omega arith;
+        requests = omega arith;
+        left = subst (HasLeft (seated_of d)) (sym ph) tt;
+      };
+      lines = all';
+      batch = ap (λ (b : Batched). b.shape) batch;
+      room = omega arith;
+    }

@@ -1,0 +1,128 @@
+-- Where control stands in the parts of a command, by what its steppers have done: the word machine's positions.
+use Rattle.std.specs.Prelude.{ℕ, suc, ◌≡◌, ◌+◌, ◌-◌, ◌*◌, ◌==◌, nat_lt, List, get_or, length, is_some, if◌then◌else◌}
+use Rattle.ft_base.specs.Job.{Job}
+use Rattle.site_bytes.specs.declared.insn.Insn.TheVariants.{Nop}
+use Rattle.site_bytes.specs.declared.insn.SiteChange.{SiteChange}
+use Rattle.grace_core.specs.declared.waiter.WaitPhase.{WaitPhase}
+use Rattle.grace_core.specs.declared.waiter.WaitPhase.TheVariants.{Asking, Waiting, Ended as WaitEnded}
+use Rattle.ops_list.specs.declared.linker.LinkPhase.{LinkPhase}
+use Rattle.ops_list.specs.declared.linker.LinkPhase.TheVariants.{Linking as LinkingUser}
+use Rattle.patch_core.specs.Moves.{Move, Do, Sync, Done, batch_next}
+use Rattle.ft_desk.specs.declared.plan.TrampChange.{TrampChange}
+use Rattle.ft_desk.specs.declared.plan.TrampChange.TheVariants.{Set, Clear}
+use Rattle.ft_desk.specs.declared.plan.ListChange.{ListChange}
+use Rattle.ft_desk.specs.declared.plan.ListChange.TheVariants.{Keep as KeepList, Push as PushUser, Unlink}
+use Rattle.ft_desk.specs.Plans.{PlainPlan}
+use Rattle.control_core.specs.Followed.{plan_followed}
+use Rattle.word_machine.specs.Commands.{effect}
+use Rattle.word_machine.specs.Control.{Position, Take, Copy, Select, Push, Relink, StorePids, StoreDepth, NextAt, BreakAt, Ask1, Wait1, TailAt, Ask2, Wait2, HeadAt, Ask3, Wait3, AskQuiet, Release, Close, batch, copy_from}
+
+-- before a word of the copy, or, after the last of them, before the user's state
+abbrev pub writing_at : ℕ → ℕ → Position
+writing_at words k = if nat_lt k words then Copy 0 k else (if nat_lt k (words + words) then Copy 1 (k - words) else Select)
+
+-- in a change of the list
+abbrev pub linking_at : LinkPhase → Position
+linking_at (LinkingUser u first) = Push
+linking_at _ = Relink
+
+-- a change that there is not
+abbrev pub no_change : SiteChange
+no_change = record { func = record { 0 = 0 }; insn = Nop }
+
+-- the function of one of the sites
+abbrev pub func_at : List SiteChange → ℕ → ℕ
+func_at sites k = (get_or sites k no_change).func.0
+
+-- before a store of a batch, after this many moves
+abbrev pub patching_at : List SiteChange → ℕ → Position
+patching_at sites made =
+    let n = length sites in
+    if nat_lt made n then NextAt (func_at sites made)
+    else (if nat_lt made (2 * n) then BreakAt (func_at sites (made - n))
+    else (if nat_lt made (3 * n + 1) then TailAt (func_at sites (made - (2 * n + 1)))
+    else HeadAt (func_at sites (made - (3 * n + 2)))))
+
+-- in a wait
+abbrev pub waiting_at : Position → (ℕ → Position) → WaitPhase → Position
+waiting_at ask at' Asking = ask
+waiting_at ask at' (Waiting c) = at' c
+waiting_at ask at' WaitEnded = ask
+
+-- in a wait that goes on, or after one that is over
+abbrev pub wait_or : (WaitPhase → Position) → Position → WaitPhase → Position
+wait_or at' otherwise WaitEnded = otherwise
+wait_or at' otherwise phase = at' phase
+
+-- a wait is under way, after this many requests: its own request is the next one, or, once it is stored, the last
+abbrev pub IsUnderWay : ℕ → ℕ → WaitPhase → Type 0
+IsUnderWay requests own Asking = own ≡ suc requests
+IsUnderWay requests own (Waiting c) = own ≡ requests
+IsUnderWay requests own WaitEnded = ⊥
+
+-- in one of the syncs of a batch
+abbrev pub syncing_at : List SiteChange → ℕ → WaitPhase → Position
+syncing_at sites made w =
+    let n = length sites in
+    if made == 2 * n then waiting_at Ask1 Wait1 w else (if made == 3 * n + 1 then waiting_at Ask2 Wait2 w else waiting_at Ask3 Wait3 w)
+
+-- ## where a plan leads
+
+-- the plan of the command after the first d
+abbrev pub plan_at : Job → ℕ → (ℕ → ℕ) → List ℕ → PlainPlan
+plan_at job d copies order = plan_followed job d copies order (effect job d)
+
+-- what is stored first, if no trampoline is taken
+abbrev pub stored_by : Job → PlainPlan → Position
+stored_by job plan =
+    if plan.pair then copy_from job 0 0
+    else (if is_some plan.sel then Select
+    else (if is_some plan.pids then StorePids
+    else (if is_some plan.depth then StoreDepth
+    else Close)))
+
+-- the same, by what happens to the trampoline's word
+abbrev pub begun_to : Job → PlainPlan → TrampChange → Position
+begun_to job plan (Set slot reg) = Take
+begun_to job plan _ = stored_by job plan
+
+-- after the Begin of a command with this plan
+abbrev pub begun_by : Job → PlainPlan → Position
+begun_by job plan = begun_to job plan plan.tramp
+
+-- after all other stores: before the wait for quiet points, if there is one
+abbrev pub quiet_by : PlainPlan → Position
+quiet_by plan = if plan.quiet then AskQuiet else Close
+
+-- before the next move of the batch, after this many; a batch that is done leads on
+abbrev pub moving_to : PlainPlan → ℕ → Move → Position
+moving_to plan made (Do op) = patching_at plan.sites made
+moving_to plan made Sync = syncing_at plan.sites made Asking
+moving_to plan made Done = quiet_by plan
+
+-- the same, by the moves of the plan's sites
+abbrev pub moving_by : PlainPlan → ℕ → Position
+moving_by plan made = moving_to plan made (batch_next plan.sites made)
+
+-- after the user's state is stored, by what happens to the list; a list that stays is followed by this
+abbrev pub listed_to : Position → ListChange → Position
+listed_to otherwise KeepList = otherwise
+listed_to otherwise (PushUser first) = Push
+listed_to otherwise (Unlink before after) = Relink
+
+-- the same of a plan; only a command that writes sets may change call sites without a change of the list
+abbrev pub selected_by : Job → ℕ → PlainPlan → Position
+selected_by job d plan = listed_to (if plan.pair then batch job d else quiet_by plan) plan.list
+
+-- the same by the plan alone
+abbrev pub listed_by : PlainPlan → Position
+listed_by plan = listed_to (moving_by plan 0) plan.list
+
+-- after the wait for quiet points, by what happens to the trampoline's word
+abbrev pub released_to : TrampChange → Position
+released_to (Clear slot) = Release
+released_to _ = Close
+
+-- the same of a plan
+abbrev pub released_by : PlainPlan → Position
+released_by plan = released_to plan.tramp
