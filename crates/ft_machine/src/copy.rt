@@ -1,7 +1,7 @@
 //! Equal copies of the parts of a job.
 
 ghost use Rattle.std.specs.Prelude.{◌≡◌, map, IfOk};
-ghost use Rattle.user_specs.specs.Plain.{spec_of, task_of, cpu_of};
+ghost use Rattle.user_specs.specs.Plain.{task_of, cpu_of};
 ghost use Rattle.ft_machine.specs.Parts.{parts_of};
 
 use crate::job::JobParts;
@@ -10,7 +10,7 @@ use ft_base::{FuncNo, NoMemory};
 use ft_schedule::Schedule;
 use func_table::FuncTable;
 use std::alloc::Global;
-use user_specs::{CpuPlan, Spec, TaskPlan};
+use user_specs::{CpuPlan, TaskPlan, copy_specs};
 
 /// A table of the same functions.
 fn copy_table(alloc: Global, table: &FuncTable) -> Result<FuncTable, NoMemory>
@@ -24,32 +24,6 @@ fn copy_table(alloc: Global, table: &FuncTable) -> Result<FuncTable, NoMemory>
         copy.add(alloc, name, owner).map_err(|_| NoMemory)?;
     }
     Ok(copy)
-}
-
-/// An equal user.
-fn copy_spec(alloc: Global, spec: &Spec) -> Result<Spec, NoMemory>
-    ensures { IfOk result (λ s. spec_of s ≡ spec_of spec.now) }
-{
-    Ok(Spec {
-        name: String::from_str(alloc, spec.name.as_str()).map_err(|_| NoMemory)?,
-        kind: spec.kind,
-        regs: spec.regs,
-        ipmodify: spec.ipmodify,
-        pid: spec.pid,
-        act: spec.act,
-    })
-}
-
-/// Equal users.
-fn copy_specs(alloc: Global, specs: &[Spec]) -> Result<Vec<Spec>, NoMemory>
-    ensures { IfOk result (λ v. map spec_of v.items ≡ map spec_of specs.now) }
-{
-    let mut copies = Vec::new(alloc);
-    for spec in specs {
-        let copy = copy_spec(alloc, spec)?;
-        copies.push(copy).map_err(|_| NoMemory)?;
-    }
-    Ok(copies)
 }
 
 /// An equal task.

@@ -5,16 +5,19 @@
 //!
 //! Promised: whether a user wants a frame of the shadow stack, whether the graph depth holds for it,
 //! and `call_bound`, a number by formula. That no scripted call of a legal history has more items
-//! than `call_bound` is a law of `history_bound`.
+//! than `call_bound` is a law of `history_bound`. A copy of users is of equal users; that the memory
+//! for it is found is only tested, in `ft_machine_tests`.
 //!
 //! No caller yet: `wants_frame`, `has_depth`.
 #![tactic(auto)]
 
 mod bound;
+mod copy;
 mod plan;
 mod spec;
 
 pub use bound::call_bound;
+pub use copy::copy_specs;
 pub use ft_base::{Act, Kind, TaskAct};
 pub use plan::{CpuPlan, TaskPlan};
 pub use spec::{Spec, has_depth, wants_frame};
