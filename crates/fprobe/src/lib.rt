@@ -8,6 +8,3 @@
 mod entry;
 
 pub use entry::{Probe, probe_entry};
-
-#[cfg(test)]
-mod tests;

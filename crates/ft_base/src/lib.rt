@@ -29,6 +29,3 @@ pub use number::{CallNo, CpuNo, FuncNo, TaskNo, UserNo};
 pub use task::TaskAct;
 pub use turn::{Actor, Turn, Who};
 pub use user::{Act, Half, Kind};
-
-#[cfg(test)]
-mod tests;

@@ -18,6 +18,3 @@ mod history;
 pub mod theorems;
 
 pub use history::History;
-
-#[cfg(test)]
-mod tests;

@@ -9,8 +9,8 @@
 //!
 //! Promised: `Pattern::read` gives the items that the grammar gives the text, or the first cause to
 //! refuse it; `Pattern::matches` passes exactly if the name can be cut in this way, and takes no
-//! memory. Only tested: that memory is found, and that a hostile pattern doesn't take a time that
-//! doubles with each `*`.
+//! memory. Only tested, in `glob_filter_tests`: that memory is found, and that a hostile pattern
+//! doesn't take a time that doubles with each `*`.
 #![tactic(auto)]
 
 mod faults;
@@ -19,8 +19,6 @@ mod laws;
 mod parse;
 mod pattern;
 mod search;
-#[cfg(test)]
-mod tests;
 mod token;
 
 pub use faults::PatternFault;

@@ -23,6 +23,3 @@ mod waiter;
 pub use poller::{PollPhase, Poller};
 pub use view::{PollView, TaskView};
 pub use waiter::{WaitPhase, Waiter};
-
-#[cfg(test)]
-mod tests;

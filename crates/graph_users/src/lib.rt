@@ -11,6 +11,3 @@ mod frame;
 
 pub use depth::may_enter;
 pub use frame::{enter, exit_next};
-
-#[cfg(test)]
-mod tests;

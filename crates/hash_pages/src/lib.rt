@@ -22,6 +22,3 @@ mod writer;
 
 pub use reader::{PageReader, ReadPhase, Verdict};
 pub use writer::PageWriter;
-
-#[cfg(test)]
-mod tests;

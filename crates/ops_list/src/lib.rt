@@ -23,6 +23,3 @@ mod walker;
 
 pub use linker::{LinkPhase, Linker};
 pub use walker::{WalkPhase, Walker};
-
-#[cfg(test)]
-mod tests;

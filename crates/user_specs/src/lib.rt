@@ -21,6 +21,3 @@ pub use copy::copy_specs;
 pub use ft_base::{Act, Kind, TaskAct};
 pub use plan::{CpuPlan, TaskPlan};
 pub use spec::{Spec, has_depth, wants_frame};
-
-#[cfg(test)]
-mod tests;

@@ -8,7 +8,7 @@
 //! Promised: words of different names or numbers have different places, all below the map's length,
 //! so a store at one place changes the word of that name and no other ([`laws`]). The list of
 //! [`WordMap::opening`] has at each word's place what the word holds at the start. It alone takes
-//! memory; that it is found is only tested.
+//! memory; that it is found is only tested, in `word_map_tests`.
 #![tactic(auto)]
 
 pub mod halves;
@@ -16,8 +16,6 @@ pub mod laws;
 mod map;
 mod op;
 mod shape;
-#[cfg(test)]
-mod tests;
 
 pub use map::WordMap;
 pub use op::Op;

@@ -1,4 +1,4 @@
-use Rattle.std.proofs.Common.{◌≡◌, length, refl, sym, ap, ◌∙◌}
+use Rattle.std.proofs.Common.{◌≡◌, length, sym, ap, ◌∙◌}
 use Rattle.ft_base.specs.Marks.{Marks, union, empty}
 use Rattle.site_set.proofs.MarksLemmas.{union-empty}
 use Rattle.filter_hash.specs.Pair.{Pair, size_of}

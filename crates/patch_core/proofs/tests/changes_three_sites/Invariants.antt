@@ -1,9 +1,0 @@
-use Rattle.std.proofs.Common.{◌≡◌}
-use Rattle.patch_core.proofs.tests.changes_three_sites.Given as goal
-
--- the shape stays, and each row was a move
-abbrev pub invariant-loop-made : goal.invariant-loop-made
-invariant-loop-made g l = record {
-  shape : l.batch.shape ≡ record { funcs = 4; users = 1; cpus = 1; tasks = 1; tramps = 2 };
-  made : l.batch.made ≡ l.made-counter;
-}

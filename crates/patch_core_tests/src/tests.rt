@@ -1,0 +1,80 @@
+//! Batches from their first moves to their ends. The places follow from the shape, and the bytes were
+//! worked out by hand from the addresses of functions, trampolines and the list caller.
+
+use ft_base::FuncNo;
+use patch_core::{Batch, BatchNext};
+use site_bytes::{Insn, SiteChange};
+use word_map::{Op, Shape, WordMap};
+
+static SHAPE: Shape = Shape {
+    funcs: 4,
+    users: 1,
+    cpus: 1,
+    tasks: 1,
+    tramps: 2,
+};
+
+/// One site for each instruction, and not in the order of their functions.
+static SITES: [SiteChange; 3] = [
+    SiteChange {
+        func: FuncNo(3),
+        insn: Insn::Own(1),
+    },
+    SiteChange {
+        func: FuncNo(1),
+        insn: Insn::Nop,
+    },
+    SiteChange {
+        func: FuncNo(0),
+        insn: Insn::List,
+    },
+];
+
+/// Place and value of each store, and `None` for a sync. The heads are at places 5 to 8, the tails at 9
+/// to 12, and the `next` words at 13 to 16.
+static MOVES: [Option<(u32, u64)>; 15] = [
+    Some((16, 3)),
+    Some((14, 0)),
+    Some((13, 1)),
+    Some((8, 0xCC)),
+    Some((6, 0xCC)),
+    Some((5, 0xCC)),
+    None,
+    Some((12, 1_044_539)),
+    Some((10, 0x441F)),
+    Some((9, 978_939)),
+    None,
+    Some((8, 0xE8)),
+    Some((6, 0x0F)),
+    Some((5, 0xE8)),
+    None,
+];
+
+#[test]
+fn changes_three_sites(rt: HostRuntime) {
+    let mut batch = Batch::new(WordMap::new(SHAPE));
+    for (made, row) in MOVES.iter().enumerate() {
+        let next = batch.next(&SITES);
+        match *row {
+            Some((word, value)) => {
+                assert_eq!(rt;
+                    next,
+                    BatchNext::Do(Op::Store { word, value }),
+                    "after {made} moves"
+                );
+                batch.did();
+            }
+            None => {
+                assert_eq!(rt; next, BatchNext::Sync, "after {made} moves");
+                batch.synced();
+            }
+        }
+    }
+    assert_eq!(rt; batch.next(&SITES), BatchNext::Done);
+}
+
+#[test]
+fn changes_no_site(rt: HostRuntime) {
+    let batch = Batch::new(WordMap::new(SHAPE));
+    assert_eq!(rt; batch.next(&[]), BatchNext::Done);
+}
