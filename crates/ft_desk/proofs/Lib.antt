@@ -1,6 +1,5 @@
 pub mod SiteLaws
 pub mod MoveLaws
-pub mod NextLaws
 pub mod SumLaws
 pub mod RosterLaws
 pub mod KeptLaws

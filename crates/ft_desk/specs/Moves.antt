@@ -1,18 +1,11 @@
 -- A user that comes to some functions and leaves others, and what is counted at each.
-use Rattle.std.specs.Prelude.{◌≡◌, ℕ, suc, ◌+◌, ◌-◌, ◌<◌, ◌≤◌, ◌^◌, ◌||◌, Bool, true, false, List, length, get_or, if◌then◌else◌}
+use Rattle.std.specs.Prelude.{◌≡◌, ℕ, suc, ◌+◌, ◌-◌, ◌<◌, ◌≤◌, ◌^◌, Bool, true, false, List, get_or, if◌then◌else◌}
 use Rattle.ft_base.specs.Marks.{Marks, holds}
 use Rattle.site_bytes.specs.declared.insn.Insn.{Insn}
 use Rattle.site_counts.specs.declared.rows.Row.{Row}
 use Rattle.site_counts.specs.Rows.{one_if, row_of, HasRoom, HasUser}
 use Rattle.ft_desk.specs.declared.user.User.{User}
 use Rattle.ft_desk.specs.Users.{insn_by}
-
--- f is the lowest number in either of two sets, of those from a number on
-pub record IsNextOfTwo (one other : Marks) (from f : ℕ) : Type 0 where
-  pub low : from ≤ f
-  pub high : f < length one
-  pub member : (holds one f || holds other f) ≡ true
-  pub least : (g : ℕ) → from ≤ g → g < f → (holds one g || holds other g) ≡ false
 
 -- a number that rises by some amount if the user comes, and falls by it if the user leaves
 abbrev pub moved : Bool → Bool → ℕ → ℕ → ℕ

@@ -13,7 +13,6 @@
 mod command;
 mod desk;
 pub mod laws;
-mod members;
 mod plan;
 mod roster;
 mod sites;

@@ -11,7 +11,6 @@ ghost use Rattle.ft_desk.specs.Sites.{changed_sites, same_insn};
 ghost use Rattle.ft_desk.specs.Users.{insn_by, user_of};
 ghost use Rattle.ft_desk.specs.Moves.{MayMove, TellsOne, moved, moved_row, insn_before, insn_after};
 
-use crate::members::{next_member, next_of_two};
 use crate::user::User;
 use ft_base::{FuncNo, UserNo};
 use ipmodify::Holder;
@@ -41,7 +40,7 @@ pub(crate) fn raise(totals: &mut [u32], set: &SiteSet, user: UserNo)
     ensures { (f : ℕ) → slice_index totals.new f ≡ slice_index totals.old f + (if holds set.now f then suc user.0 else 0) }
 {
     let mut from = 0;
-    while let Some(f) = next_member(set, from) {
+    while let Some(f) = set.next_member(from) {
         totals[f as usize] += user.0 + 1;
         from = f + 1;
     }
@@ -54,7 +53,7 @@ pub(crate) fn lower(totals: &mut [u32], set: &SiteSet, user: UserNo)
     ensures { (f : ℕ) → slice_index totals.new f ≡ slice_index totals.old f - (if holds set.now f then suc user.0 else 0) }
 {
     let mut from = 0;
-    while let Some(f) = next_member(set, from) {
+    while let Some(f) = set.next_member(from) {
         totals[f as usize] -= user.0 + 1;
         from = f + 1;
     }
@@ -126,7 +125,7 @@ pub(crate) fn list_changes(
     ensures capacity { vec_capacity sites.new ≡ vec_capacity sites.old }
 {
     let mut from = 0;
-    while let Some(f) = next_of_two(came, left, from) {
+    while let Some(f) = SiteSet::next_of_two(came, left, from) {
         let count = counts.row(f).count;
         let total = totals[f as usize];
         let old = insn_by(count, total, users);

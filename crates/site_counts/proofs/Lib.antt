@@ -1,5 +1,3 @@
-pub mod BitLemmas
-pub mod MemberLemmas
 pub mod RowLemmas
 pub mod StepLemmas
 pub mod UserLemmas

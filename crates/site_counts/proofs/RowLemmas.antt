@@ -6,7 +6,7 @@ use Rattle.std.proofs.lemmas.List.FromFn.{get_or-map-range_with_len, length-map-
 use Rattle.ft_base.specs.Marks.{Marks, holds}
 use Rattle.site_counts.specs.declared.rows.Row.{Row}
 use Rattle.site_counts.specs.Rows.{no_users, row_of, at_members}
-use Rattle.site_counts.proofs.MemberLemmas.{holds-past}
+use Rattle.site_set.proofs.MemberLemmas.{holds-past}
 
 module _ (on : Marks) (change : Row → Row) (rows : List Row) where
   -- what becomes of the row of a function

@@ -3,15 +3,17 @@
 //! whether it is a *member*. It is kept in words of 64 bits, and sets are joined, subtracted, emptied,
 //! filled and counted a word at a time.
 //!
-//! Promised: each call is its operation on the marks, as an equation. `SiteSet::empty` and
-//! `SiteSet::copy` alone take memory; that it is found is only tested, in
-//! `site_set_tests`.
+//! Promised: each call is its operation on the marks, as an equation; a walk from member to member
+//! goes by `SiteSet::next_member`, or by `SiteSet::next_of_two` over two sets, whose answers are the
+//! lowest member from a number on, or none exactly if there is none. `SiteSet::empty` and
+//! `SiteSet::copy` alone take memory; that it is found is only tested, in `site_set_tests`.
 //!
 //! No caller yet: `count`. The other calls but `empty` and `add` are made by `filter_hash`,
-//! `site_counts` and `ipmodify`, which have no callers themselves.
+//! `site_counts`, `ipmodify` and `ft_desk`, which no program uses yet.
 #![tactic(auto)]
 
 mod edits;
+mod members;
 mod sets;
 mod words;
 

@@ -1,5 +1,5 @@
--- The lowest bit of a word, and the lowest member of a set, from a number on.
-use Rattle.std.specs.Prelude.{◌≡◌, ℕ, ◌≤◌, ◌<◌, true, false, length}
+-- The lowest bit of a word, and the lowest member of a set or of either of two, from a number on.
+use Rattle.std.specs.Prelude.{◌≡◌, ℕ, ◌≤◌, ◌<◌, ◌||◌, true, false, length}
 use Rattle.std.specs.Int.{bit_at}
 use Rattle.ft_base.specs.Marks.{Marks, holds}
 
@@ -16,3 +16,10 @@ pub record IsNextMember (set : Marks) (from f : ℕ) : Type 0 where
   pub high : f < length set
   pub member : holds set f ≡ true
   pub least : (g : ℕ) → from ≤ g → g < f → holds set g ≡ false
+
+-- f is the lowest number in either of two sets, of those from a number on
+pub record IsNextOfTwo (one other : Marks) (from f : ℕ) : Type 0 where
+  pub low : from ≤ f
+  pub high : f < length one
+  pub member : (holds one f || holds other f) ≡ true
+  pub least : (g : ℕ) → from ≤ g → g < f → (holds one g || holds other g) ≡ false

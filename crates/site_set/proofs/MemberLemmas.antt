@@ -4,7 +4,7 @@ use Rattle.std.specs.Int.{bit_at}
 use Rattle.std.proofs.lemmas.Bool.{cases_lt, false≢true}
 use Rattle.std.proofs.lemmas.List.{get_or_past}
 use Rattle.ft_base.specs.Marks.{Marks, holds}
-use Rattle.site_counts.specs.Members.{IsNextBit, IsNextMember}
+use Rattle.site_set.specs.Members.{IsNextBit, IsNextMember}
 
 -- a number past the size is no member
 pub holds-past : (set : Marks) (f : ℕ) → length set ≤ f → holds set f ≡ false

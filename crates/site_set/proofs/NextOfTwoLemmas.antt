@@ -4,9 +4,8 @@ use Rattle.std.specs.Int.{bit_at}
 use Rattle.ft_base.specs.Marks.{Marks, holds, union}
 use Rattle.site_set.proofs.MarksLemmas.{length-union, holds-union}
 use Rattle.site_set.proofs.MergeLemmas.{bit_or_test}
-use Rattle.site_counts.specs.Members.{IsNextBit}
-use Rattle.site_counts.proofs.MemberLemmas.{next_member-some, no_member-word}
-use Rattle.ft_desk.specs.Moves.{IsNextOfTwo}
+use Rattle.site_set.specs.Members.{IsNextBit, IsNextOfTwo}
+use Rattle.site_set.proofs.MemberLemmas.{next_member-some, no_member-word}
 
 module _ (one other : Marks) (from w a b : ℕ) (same : length one ≡ length other) (fits : b < 2 ^ 64)
     (first : (i : ℕ) → i < 64 → (bit_at a i == 1) ≡ holds one (64 * w + i))

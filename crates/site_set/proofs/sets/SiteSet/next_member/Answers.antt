@@ -1,6 +1,6 @@
 use Rattle.std.proofs.Common.{arith}
-use Rattle.site_counts.proofs.MemberLemmas.{next_member-some, no_member-word}
-use Rattle.ft_desk.proofs.members.next_member.Goals as goal
+use Rattle.site_set.proofs.MemberLemmas.{next_member-some, no_member-word}
+use Rattle.site_set.proofs.sets.SiteSet.next_member.Goals as goal
 
 pub returns-in-Some-clause-some : goal.returns-in-Some-clause-some
 returns-in-Some-clause-some c =

@@ -1,6 +1,6 @@
 use Rattle.std.proofs.Common.{arith}
-use Rattle.ft_desk.proofs.NextLaws.{next_of_two-some, none_of_two-word}
-use Rattle.ft_desk.proofs.members.next_of_two.Goals as goal
+use Rattle.site_set.proofs.NextOfTwoLemmas.{next_of_two-some, none_of_two-word}
+use Rattle.site_set.proofs.sets.SiteSet.next_of_two.Goals as goal
 
 pub returns-in-Some-clause-some : goal.returns-in-Some-clause-some
 returns-in-Some-clause-some c =
