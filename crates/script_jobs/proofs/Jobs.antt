@@ -21,7 +21,8 @@ use Rattle.ft_script.proofs.LookUps.{mapped_length}
 use Rattle.ft_script.proofs.JobLaws.{job-is, is_within}
 use Rattle.word_machine.specs.Limits.{WaitsFor, IsLevel, IsLimited}
 use Rattle.script_jobs.proofs.Waits.{WaitsStand, AreThere}
-use Rattle.script_jobs.proofs.Texts.{can_run, waits_stand}
+use Rattle.script_jobs.proofs.Contexts.{TasksRaise, each-raised}
+use Rattle.script_jobs.proofs.Texts.{can_run, waits_stand, tasks_raise}
 
 -- ## the parts of the job, as the machine in use holds them
 
@@ -104,7 +105,7 @@ levels-map n (c ∷ cs) h = by c.ctl h.0 (levels-map n cs h.1)
     by (Run (MaxDepth d)) l rest = absurd l
     by (Until t k) l rest = rest
 
-module _ (above : Above) (run : CanRun above) (stand : WaitsStand above) where
+module _ (above : Above) (run : CanRun above) (stand : WaitsStand above) (raise : TasksRaise above.tasks above.levels) where
   h : Holds above
   h = run.holds
 
@@ -140,10 +141,12 @@ module _ (above : Above) (run : CanRun above) (stand : WaitsStand above) where
     job' = known.job;
     placed = placed-map (length above.quanta) above.tasks h.tasks.placed;
     waits = waits-map (length above.tasks) _ (mapped_length task_of above.tasks) above.ctls stand;
+    raised = each-raised above.levels above.tasks raise;
     ctls = known.ctls;
     users = (let u = known.users in omega (arith, u));
     tasks = known.tasks;
     functions = known.functions;
+    frames = rw h.depth (omega arith);
     tramps = rw h.tramps (omega arith);
     levels = levels-map (length above.users) above.ctls h.users.named;
     acts = known.all_acts;
@@ -154,4 +157,4 @@ module _ (above : Above) (run : CanRun above) (stand : WaitsStand above) where
 -- an accepted script's job
 pub accepted_limited : (text : List ℕ) (job : Job) → IsJobOf text job → IsLimited job
 accepted_limited text job is =
-    subst IsLimited (sym is.meaning) (limited (declared_in text) (can_run text is.accepted) (waits_stand text is.accepted))
+    subst IsLimited (sym is.meaning) (limited (declared_in text) (can_run text is.accepted) (waits_stand text is.accepted) (tasks_raise text is.accepted))

@@ -1,3 +1,5 @@
+mod Clean
 mod Waits
+mod Contexts
 mod Texts
 mod Jobs

@@ -1,23 +1,21 @@
 -- Each wait that the lines of a script declare, if no line has a cause, is for a task that they declare.
-use Rattle.std.proofs.Common.{◌≡◌, ℕ, ◌<◌, ◌≤◌, ◌==◌, not, nat_lt, Bool, true, false, cond, List, [], length, Option, Some, None, refl, sym, arith, if◌then◌else◌}
+use Rattle.std.proofs.Common.{◌≡◌, ℕ, ◌<◌, ◌≤◌, ◌==◌, nat_lt, Bool, true, false, cond, List, [], length, Some, None, refl, arith}
 use Rattle.std.specs.Prelude.{is_some, unwrap_or}
 use Rattle.std.specs.List.{AllByRecursion as Each, position_or_len}
-use Rattle.std.proofs.lemmas.Bool.{ltb-true}
+use Rattle.std.proofs.lemmas.Bool.{ltb-true, not-false}
 use Rattle.std.proofs.lemmas.List.{length_push}
-use Rattle.std.proofs.lemmas.Option.{none-some}
 use Rattle.ft_base.proofs.Small.{false_true, Each-snoc, Each-weaker}
 use Rattle.ft_base.specs.Job.{Ctl, Run, Until}
 use Rattle.script_text.specs.Lines.{Line}
 use Rattle.script_form.specs.Forms.{LineForm, skip, version, func, depth, tramps, user, new_cpu, new_task, call, ret, raise, lower, after, register, unregister, write, pids, enable, disable, max_depth, until, sched}
-use Rattle.script_form.specs.Lines.{line_form}
 use Rattle.script_waits.specs.declared.script.LinedAct.{LinedAct}
 use Rattle.script_waits.specs.Tasks.{LinedTask}
-use Rattle.ft_script.specs.Above.{Above, LinedCtl, declared, with_form, push_act, pids_of, task_number}
-use Rattle.ft_script.specs.Causes.{has_no_pid, is_unknown, first_line_cause, next_line_cause, line_cause, cause_of}
+use Rattle.ft_script.specs.Above.{Above, LinedCtl, declared, push_act, pids_of, task_number}
+use Rattle.ft_script.specs.Causes.{has_no_pid, is_unknown, cause_of}
 use Rattle.ft_script.specs.Script.{with_line}
 use Rattle.ft_script.proofs.LookUps.{mapped_length}
 use Rattle.ft_script.proofs.TaskLaws.{length-push_act}
-use Rattle.ft_script.proofs.Lines.{no-cause}
+use Rattle.script_jobs.proofs.Clean.{line-keeps}
 use Rattle.word_machine.specs.Limits.{WaitsFor}
 
 -- each wait is for one of this many tasks
@@ -36,10 +34,6 @@ waits-more (Run x) k k' le h = tt
 
 there-more : (ctls : List LinedCtl) (k k' : ℕ) → k ≤ k' → AreThere k ctls → AreThere k' ctls
 there-more ctls k k' le h = Each-weaker _ _ ctls (λ c l. waits-more c.ctl k k' le l) h
-
-not-false : (b : Bool) → not b ≡ false → b ≡ true
-not-false true e = refl
-not-false false e = false_true (sym e)
 
 -- a pid that is among the tasks' is that of one of them
 place-below : (p : ℕ → Bool) (xs : List ℕ) → is_some (cond (nat_lt (position_or_len p xs) (length xs)) (Some (position_or_len p xs)) None) ≡ true
@@ -87,28 +81,5 @@ module _ (above : Above) (h : WaitsStand above) where
   declared-stands (until pid n) e = Each-snoc _ above.ctls _ h (task-below above pid e)
   declared-stands (sched items) e = h
 
--- ## a line without a cause
-
-some-none : {X A : Type 0} {x : X} → Some x ≡ None → A
-some-none {x = x} e = absurd (none-some x (sym e))
-
--- line 1 names nothing
-version-knows : (above : Above) (form : LineForm) → first_line_cause (Some form) ≡ None → is_unknown above form ≡ false
-version-knows above version e = refl
-version-knows above _ e = some-none e
-
-knows : (above : Above) (form : LineForm) (below : List Line) → (if above.lines == 0 then first_line_cause (Some form) else next_line_cause above below (Some form)) ≡ None
-    → is_unknown above form ≡ false
-knows above form below e = elim (above.lines == 0) as (λ b. (if b then first_line_cause (Some form) else next_line_cause above below (Some form)) ≡ None → is_unknown above form ≡ false) [
-  | true ↦ λ none. version-knows above form none
-  | false ↦ λ none. (no-cause above form below none).known
-] e
-
 pub line-stands : (above : Above) (line : Line) (below : List Line) → WaitsStand above → cause_of above line below ≡ None → WaitsStand (with_line above line)
-unfolding cause_of with_line
-line-stands above line below h e = by line.ended (line_form line.bytes) e
-  where
-    by : (ended : Bool) (form : Option LineForm) → line_cause above ended form below ≡ None → WaitsStand (with_form above (unwrap_or form skip))
-    by false form e = some-none e
-    by true None e = h
-    by true (Some form) e = declared-stands above h form (knows above form below e)
+line-stands above line below h e = line-keeps WaitsStand above line below h (λ form c. declared-stands above h form c.known) e

@@ -15,8 +15,9 @@ ghost use Rattle.word_machine.specs.Limits.{IsLimited};
 ghost use Rattle.word_machine.specs.Machine.{start, run, all_end};
 
 /// The job of an accepted script is within the limits that the word machine's laws ask of a job: what
-/// its lines name is there, each task is on one of its CPUs, each wait is for one of its tasks, and it
-/// has no more of anything than a script may have.
+/// its lines name is there, each task is on one of its CPUs, each wait is for one of its tasks, each
+/// interrupt comes above its task's present context and goes after it came, and it has no more of
+/// anything than a script may have.
 pub fn accepted_jobs_are_limited()
     ensures { (text : List ℕ) (job : Job) → IsJobOf text job → IsLimited job }
 {}
