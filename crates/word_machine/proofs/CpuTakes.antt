@@ -5,19 +5,20 @@ use Rattle.ft_base.specs.Job.{Job}
 use Rattle.ft_hist.specs.Past.{done, begun}
 use Rattle.site_bytes.specs.Bytes.{breakpoint}
 use Rattle.word_map.specs.Words.{Want}
-use Rattle.word_map.specs.Contents.{greatest_half}
+use Rattle.word_map.specs.Contents.{greatest_half, low}
 use Rattle.word_map.specs.Instructions.{head_of}
 use Rattle.word_machine.specs.Commands.{insn}
 use Rattle.word_map.specs.Ops.{WordOp, Load}
-use Rattle.word_machine.specs.Task.{OpenCall, TaskState, Moment, Polling, First, Fetch, GotHead, GotBreak, InTramp, AtFirst, AtLink, call_op, stack_op}
+use Rattle.word_machine.specs.Task.{OpenCall, TaskState, Moment, Polling, First, Fetch, GotHead, GotBreak, InTramp, AtFirst, Calling, AtLink, call_op, stack_op}
 use Rattle.word_machine.specs.Cpu.{Phase, Going, StoringAck, StoringQuiet, Over, any_has_more, present_op, phase_op, cpu_next}
 use Rattle.word_machine.specs.Machine.{World, taken}
-use Rattle.word_machine.specs.Rule.{MachineRule, IsWordJob}
+use Rattle.word_machine.specs.Rule.{MachineRule, here, IsWordJob}
 use Rattle.word_machine.specs.Laws.{HasTarget, OpenAt, IsAt, Names, CallTakes, StackTakes, PresentTakes, GoingTakes, PhaseTakes, CpuTakes}
 use Rattle.word_machine.proofs.Settled.{settled}
 use Rattle.word_machine.proofs.OpenCalls.{call-rule}
 use Rattle.word_machine.proofs.PollRows.{request-small}
 use Rattle.word_machine.proofs.Takes.{takes}
+use Rattle.word_machine.proofs.FrameRoom.{call-room}
 
 head-small : (i : ℕ) → head_of i < 256
 head-small zero = omega arith
@@ -48,6 +49,9 @@ module _ (job : Job) (ok : IsWordJob job) (s : World) (k : MachineRule job s) (c
       subst (λ o. CallTakes job top (InTramp slot) (taken o s.words)) (same_Some _ op is) (takes job ok s k c t top below (InTramp slot) at')
   call-takes x AtFirst at' op is =
       subst (λ o. CallTakes job top AtFirst (taken o s.words)) (same_Some _ op is) (named s.words.first (takes job ok s k c t top below AtFirst at'))
+  call-takes x (Calling u reg) at' op is =
+      call-room job ok (here s k.base) s.past s.words.clock k.counts k.legal k.list.order' (s.words.ack c) (low (s.words.quiet t)) top below u reg
+      (call-rule job s k c t top below (Calling u reg) at').1
   call-takes x (AtLink u) at' op is =
       subst (λ o. CallTakes job top (AtLink u) (taken o s.words)) (same_Some _ op is) (named (s.words.link u) (takes job ok s k c t top below (AtLink u) at'))
   call-takes x _ at' op is = tt

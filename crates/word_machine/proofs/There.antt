@@ -72,7 +72,7 @@ module _ (job : Job) (ok : IsWellFormed job) where
 
   -- ## who was visited
 
-  either-inside : (past : List Item) (u f : ℕ) → AtReturnedOrBegun past (λ k. is_on (desk job k) u f ≡ true) → u < length job.users
+  pub either-inside : (past : List Item) (u f : ℕ) → AtReturnedOrBegun past (λ k. is_on (desk job k) u f ≡ true) → u < length job.users
   either-inside past u f (inl a) = on-inside (done past) u f a
   either-inside past u f (inr b) = on-inside (begun past) u f b
 
@@ -80,7 +80,7 @@ module _ (job : Job) (ok : IsWellFormed job) where
       → Each (λ (x : Visit). x.user < length job.users) (cond (same_call c call) (m ∷ ms) ms)
   one-inside call c m ms inside h = if_case (Each (λ (x : Visit). x.user < length job.users)) (same_call c call) (m ∷ ms) ms (λ e. (inside, h)) (λ e. h)
 
-  visited-inside : (call : CallNo) (past : List Item) → IsLegalPast job past → Each (λ (m : Visit). m.user < length job.users) (visits job call past)
+  pub visited-inside : (call : CallNo) (past : List Item) → IsLegalPast job past → Each (λ (m : Visit). m.user < length job.users) (visits job call past)
   unfolding IsLegalPast all_visits
   visited-inside call [] l = tt
   visited-inside call (Back c u ∷ past) l =

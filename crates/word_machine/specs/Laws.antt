@@ -71,13 +71,15 @@ Takes job s top AtFirst = Names job s top s.words.first
 Takes job s top (AtLink u) = Names job s top (s.words.link u)
 Takes job s top _ = Unit {0}
 
--- the same of a number alone, as code can ask it of a value that it is handed
+-- The same of a number alone, as code can ask it of a value that it is handed; a mark of a callback, which takes any number, finds room in
+-- the call's frame for one more user. The users of a frame have different numbers, so there are never more of them than users of the job
 abbrev pub CallTakes : Job → OpenCall → Moment → ℕ → Type 0
 CallTakes job c Fetch v = v < 256
 CallTakes job c (GotHead byte) v = (i : ℕ) × (i < 2 + job.tramps) × (byte ≡ head_of i) × (v ≡ tail_of c.func i)
 CallTakes job c GotBreak v = v < 2 + job.tramps
 CallTakes job c (InTramp s) v = (u : ℕ) × (reg : ℕ) × (u < length job.users) × (v ≡ tramp_word reg u)
 CallTakes job c AtFirst v = v ≤ length job.users
+CallTakes job c (Calling u reg) v = length c.users < length job.users
 CallTakes job c (AtLink u) v = v ≤ length job.users
 CallTakes job c _ v = Unit {0}
 
