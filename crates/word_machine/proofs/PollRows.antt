@@ -357,7 +357,7 @@ module _ (job : Job) (ok : IsWordJob job) (s : World) (k : MachineRule job s) (c
         by false e = chosen false e (subst (λ o. Did o me.tasks (polling job (ticked me) (taken o s.words))) (same_Some (Load Want) op (rw e at is))
             (poll-did going (λ y. false_true (sym e ∙ y))))
 
-    cpu-did : (ph : Phase) → me.phase ≡ ph → (op : WordOp) → phase_op job me ph ≡ Some op → Did op me.tasks (phase_got job (ticked me) ph (taken op s.words))
+    pub cpu-did : (ph : Phase) → me.phase ≡ ph → (op : WordOp) → phase_op job me ph ≡ Some op → Did op me.tasks (phase_got job (ticked me) ph (taken op s.words))
     cpu-did Going e op is = going-did e op is
     cpu-did (StoringAck r) e op is =
         subst (λ o. Did o me.tasks (phase_got job (ticked me) (StoringAck r) (taken o s.words))) (same_Some _ op is) (

@@ -1,9 +1,12 @@
 -- What the laws of the whole machine say: sites that are settled, what is never done, values and words that fit, and what goes on from step
 -- to step.
-use Rattle.std.specs.Prelude.{ℕ, suc, ◌≡◌, ◌+◌, ◌<◌, ◌≤◌, ◌⊎◌, Bool, true, false, List, [], ◌∷◌, length, Option, Some, None, ◌^◌, get_or, ◌==◌}
+use Rattle.std.specs.Prelude.{ℕ, suc, ◌≡◌, ◌+◌, ◌*◌, ◌<◌, ◌≤◌, ◌⊎◌, Bool, true, false, List, [], ◌∷◌, length, Option, Some, None, ◌^◌, get_or, ◌==◌, sum_by}
+use Rattle.ft_base.specs.declared.item.Item.{Item}
 use Rattle.ft_base.specs.Job.{Job, no_task}
 use Rattle.ft_hist.specs.Past.{done, begun}
 use Rattle.ft_hist.specs.Rules.{IsUnvisited}
+use Rattle.user_specs.specs.Bound.{call_bound_of}
+use Rattle.history_bound.specs.Bound.{items_of, calls_of}
 use Rattle.site_bytes.specs.Bytes.{breakpoint}
 use Rattle.word_map.specs.Words.{Word, Words, read}
 use Rattle.word_map.specs.Contents.{half_size, greatest_half, tramp_word, other_copy}
@@ -145,6 +148,14 @@ IsWriting job s u copy = (half : ℕ) × (w : ℕ) × (s.control.position ≡ Co
 -- the tasks of a CPU
 abbrev pub tasks_on : Job → ℕ → List ℕ
 tasks_on job c = filter (λ t. (get_or job.tasks t no_task).cpu == c) (range_with_len 0 (length job.tasks))
+
+-- the items that they have among these
+abbrev pub items_on : Job → ℕ → List Item → ℕ
+items_on job c items = sum_by (λ t. items_of t items) (tasks_on job c)
+
+-- the room that code takes for them at its start: `call_bound` for each call of their scripts
+abbrev pub room_on : Job → ℕ → ℕ
+room_on job c = call_bound_of job.users * sum_by (λ t. calls_of job t) (tasks_on job c)
 
 -- ## words
 
