@@ -4,7 +4,7 @@
 //! A *line* is a command or a wait for a task. At a command the desk gives the answer and the plan;
 //! [`Control`] then goes through the *phases* that the plan asks for: the trampoline, the user's sets
 //! and state, the list, the batch of call sites, the wait for quiet points, the trampoline that is
-//! free again. Each phase has a comment that says who could be harmed if it came elsewhere.
+//! free again. Where one must not come before another, a comment says who could be harmed.
 //!
 //! Promised: for every job whose lines and shape it has, its start, its next operation, what a value
 //! makes of it and what it marks are those of the word machine's control. A plan of the desk is what
