@@ -12,7 +12,7 @@ use Rattle.ft_base.proofs.Small.{false_true}
 use Rattle.ft_hist.specs.Frames.{FrameUser}
 use Rattle.plain_machine.specs.State.{takes_frame}
 use Rattle.return_stack.specs.declared.shadow.FrameUser.{FrameUser as OwedUser}
-use Rattle.return_stack.specs.Calls.{StackedCall, is_full}
+use Rattle.return_stack.specs.Calls.{StackedCall, is_full, with_hook, with_user}
 use Rattle.fprobe.specs.declared.entry.Probe.TheVariants.{Plain, Wanted, Cancelled, Missed}
 use Rattle.fprobe.specs.Entry.{calls_after}
 use Rattle.word_machine.specs.Task.{OpenCall, around, called_back, level_of}
@@ -22,6 +22,10 @@ use Rattle.cpu_core.proofs.Stacks.{room-is}
 fprobe-depth : (k : Kind) → is_fprobe k ≡ true → has_depth k ≡ false
 fprobe-depth (Fprobe exit cancel) e = refl
 fprobe-depth _ e = false_true e
+
+depth-keeps : (k : Kind) → has_depth k ≡ true → cancels k ≡ false
+depth-keeps (Fprobe exit cancel) e = false_true e
+depth-keeps _ e = refl
 
 -- the users of a call's frame, if it has one
 abbrev owing : Bool → List FrameUser → Option (List OwedUser)
@@ -72,6 +76,22 @@ module _ (job : Job) (n : ℕ) (c : OpenCall) (below : List OpenCall) (u reg pla
   takes-is k e =
       ap (λ b. b || (has_exit (spec_at job u).kind && nat_lt (level_of below) job.frames)) (fprobe-depth (spec_at job u).kind e)
       ∙ ap (λ b. has_exit (spec_at job u).kind && b) (room-is job.frames n c below k)
+
+  -- a graph or profile user takes a frame, and is owed its exit
+  pub graph-called : AreFramed job.frames (c ∷ below) → has_depth (spec_at job u).kind ≡ true
+      → map stacked (called_back job c below u reg place ∷ below) ≡ with_user (with_hook (map stacked (c ∷ below))) (owed_user user)
+  graph-called k e =
+      ap (λ (y : Bool × Bool). after_callback c (map stacked below) user (y.0 || (has_exit (spec_at job u).kind && nat_lt (level_of below) job.frames)) y.1)
+      (λ i. (e i, depth-keeps (spec_at job u).kind e i))
+      ∙ probe-after c (map stacked below) user true false false k.bare.0
+
+  -- a user without an exit changes nothing
+  pub other-called : AreFramed job.frames (c ∷ below) → has_depth (spec_at job u).kind ≡ false → has_exit (spec_at job u).kind ≡ false
+      → map stacked (called_back job c below u reg place ∷ below) ≡ map stacked (c ∷ below)
+  other-called k e e' =
+      ap (λ (y : Bool × Bool). after_callback c (map stacked below) user (y.0 || (y.1 && nat_lt (level_of below) job.frames)) (cancels (spec_at job u).kind))
+      (λ i. (e i, e' i))
+      ∙ probe-after c (map stacked below) user false false (cancels (spec_at job u).kind) k.bare.0
 
   pub fprobe-called : AreFramed job.frames (c ∷ below) → is_fprobe (spec_at job u).kind ≡ true
       → map stacked (called_back job c below u reg place ∷ below)

@@ -34,7 +34,7 @@ word-same r t x = ap (halves x.gone) (by (has_acts x.acts))
 
 -- ## the next word that is to change
 
-more-below : (i n : ℕ) → nat_lt (suc i) (suc n) ≡ nat_lt i n
+pub more-below : (i n : ℕ) → nat_lt (suc i) (suc n) ≡ nat_lt i n
 more-below i n = grind (arith, nat_tests)
 
 module _ (tasks : ℕ → TaskState) (r : ℕ) where

@@ -1,10 +1,9 @@
 -- What a poll looks at after the store of a task's word is what the CPU has then.
-use Rattle.std.proofs.Common.{cond, ◌≡◌, ◌≢◌, ℕ, zero, suc, ◌<◌, ◌≤◌, Bool, true, false, ◌==◌, List, [], ◌∷◌, length, get_or, set, map, refl, sym, ap, ◌∙◌, arith, inl, inr}
+use Rattle.std.proofs.Common.{◌≡◌, ◌≢◌, ℕ, zero, suc, ◌<◌, List, [], ◌∷◌, length, get_or, set, map, refl, sym, ap, ◌∙◌, arith, inl, inr}
 use Rattle.std.specs.List.{list_any, AllByRecursion as Each}
 use Rattle.std.proofs.lemmas.Bool.{cases_eq}
-use Rattle.ft_base.specs.Job.{Job, Task}
-use Rattle.ft_base.proofs.Small.{Each-weaker}
-use Rattle.plain_machine.specs.State.{has_acts, tasks_from, tasks_of}
+use Rattle.ft_base.specs.Job.{Job}
+use Rattle.plain_machine.specs.State.{has_acts, tasks_of}
 use Rattle.grace_core.specs.declared.view.TaskView.{TaskView}
 use Rattle.grace_core.specs.Polls.{no_task_view, told_at}
 use Rattle.grace_core.specs.Views.{told}
@@ -13,40 +12,16 @@ use Rattle.word_machine.specs.Task.{TaskState}
 use Rattle.word_machine.specs.Cpu.{Cpu, with_word}
 use Rattle.word_machine.proofs.Small.{put_other, put_same}
 use Rattle.cpu_core.specs.Polled.{polled_task, task_told, view_of, viewed}
+use Rattle.cpu_core.proofs.Numbers.{Rises, tasks-rise}
 use Rattle.cpu_core.proofs.Telling.{word-same}
 
 -- ## the tasks of a CPU
 
--- no task stands there twice
-abbrev AreApart : List ℕ → Type 0
-AreApart [] = Unit {0}
-AreApart (t ∷ ts) = Each (λ v. v ≢ t) ts × AreApart ts
-
-tasks-above : (c n : ℕ) (ts : List Task) → Each (λ v. n ≤ v) (tasks_from c n ts)
-tasks-above c n [] = tt
-tasks-above c n (t ∷ ts) =
-    by (t.cpu == c) (Each-weaker (λ v. suc n ≤ v) (λ v. n ≤ v) (tasks_from c (suc n) ts) (λ v h. omega arith) (tasks-above c (suc n) ts))
-  where
-    by : (b : Bool) → Each (λ v. n ≤ v) (tasks_from c (suc n) ts)
-        → Each (λ v. n ≤ v) (cond b (n ∷ tasks_from c (suc n) ts) (tasks_from c (suc n) ts))
-    by true more = (omega arith, more)
-    by false more = more
-
-tasks-apart : (c n : ℕ) (ts : List Task) → AreApart (tasks_from c n ts)
-tasks-apart c n [] = tt
-tasks-apart c n (t ∷ ts) = by (t.cpu == c) (tasks-apart c (suc n) ts)
-  where
-    by : (b : Bool) → AreApart (tasks_from c (suc n) ts) → AreApart (cond b (n ∷ tasks_from c (suc n) ts) (tasks_from c (suc n) ts))
-    by true more = (
-      Each-weaker (λ v. suc n ≤ v) (λ v. v ≢ n) (tasks_from c (suc n) ts) (λ v h. omega arith) (tasks-above c (suc n) ts),
-      more,
-    )
-    by false more = more
-
-apart-at : (t : ℕ) (ts : List ℕ) (i : ℕ) → i < length ts → Each (λ v. v ≢ t) ts → get_or ts i 0 ≢ t
-apart-at t [] i lt h = absurd (omega arith)
-apart-at t (v ∷ vs) zero lt h = h.0
-apart-at t (v ∷ vs) (suc i) lt h = apart-at t vs i (omega arith) h.1
+-- a number below these is none of them
+below-at : (t : ℕ) (ts : List ℕ) (i : ℕ) → i < length ts → Each (λ v. t < v) ts → t < get_or ts i 0
+below-at t [] i lt h = absurd (omega arith)
+below-at t (v ∷ vs) zero lt h = h.0
+below-at t (v ∷ vs) (suc i) lt h = below-at t vs i (omega arith) h.1
 
 -- ## what a poll looks at after a store
 
@@ -70,21 +45,25 @@ module _ (tasks : ℕ → TaskState) (r : ℕ) where
       ap (λ x. viewed t x) (put_same tasks t (with_word r (tasks t)))
       ∙ ap (λ w. let x : TaskView = record (viewed t (tasks t)) { word = w } in x) (sym (word-same r t (tasks t)))
 
-  others-stay : (t : ℕ) (ts : List ℕ) → Each (λ v. v ≢ t) ts → map (λ v. viewed v (after t v)) ts ≡ map (λ v. viewed v (tasks v)) ts
+  others-stay : (t : ℕ) (ts : List ℕ) → Each (λ v. t < v) ts → map (λ v. viewed v (after t v)) ts ≡ map (λ v. viewed v (tasks v)) ts
   others-stay t [] h = refl
-  others-stay t (v ∷ vs) h = rw (ap (λ x. viewed v x) (put_other tasks t (with_word r (tasks t)) v h.0), others-stay t vs h.1) refl
+  others-stay t (v ∷ vs) h =
+      let lt : t < v = h.0 in
+      let ne : v ≢ t = (λ e. absurd (omega arith)) in
+      rw (ap (λ x. viewed v x) (put_other tasks t (with_word r (tasks t)) v ne), others-stay t vs h.1) refl
 
   -- one task has told
   abbrev with_told : List TaskView → ℕ → List TaskView
   with_told views i = set views i (told r (get_or views i no_task_view))
 
-  views-put : (ts : List ℕ) (i : ℕ) → i < length ts → AreApart ts
+  views-put : (ts : List ℕ) (i : ℕ) → i < length ts → Rises ts
       → map (λ v. viewed v (after (get_or ts i 0) v)) ts ≡ with_told (map (λ v. viewed v (tasks v)) ts) i
   views-put [] i lt h = absurd (omega arith)
   views-put (t ∷ ts) zero lt h = rw (told-same t, others-stay t ts h.0) refl
   views-put (t ∷ ts) (suc i) lt h =
       let le : i < length ts = omega arith in
-      let ne : t ≢ get_or ts i 0 = (λ e. apart-at t ts i le h.0 (sym e)) in
+      let lower : t < get_or ts i 0 = below-at t ts i le h.0 in
+      let ne : t ≢ get_or ts i 0 = (λ e. absurd (omega arith)) in
       rw (ap (λ x. viewed t x) (put_other tasks (get_or ts i 0) (with_word r (tasks (get_or ts i 0))) t ne), views-put ts i le h.1) refl
 
 pub view-same : (job : Job) (me : Cpu) (r i : ℕ) → i < length (tasks_of job me.number)
@@ -92,5 +71,5 @@ pub view-same : (job : Job) (me : Cpu) (r i : ℕ) → i < length (tasks_of job 
 view-same job me r i lt =
     rw (
       more-stay me.tasks r (polled_task job me i) (tasks_of job me.number),
-      views-put me.tasks r (tasks_of job me.number) i lt (tasks-apart me.number 0 job.tasks),
+      views-put me.tasks r (tasks_of job me.number) i lt (tasks-rise me.number 0 job.tasks),
     ) refl

@@ -2,7 +2,8 @@
 //! user's sets and the stacks of a task do is what the machine's rows do. Each law is a function with
 //! an empty body, whose clauses say it.
 
-ghost use Rattle.std.specs.Prelude.{◌≡◌, ◌<◌, ◌↔◌, ℕ, Bool, true, false, not, ◌&&◌, List, [], ◌∷◌, drop, length, map};
+ghost use Rattle.std.specs.Prelude.{◌≡◌, ◌<◌, ◌↔◌, ℕ, Bool, true, false, not, ◌&&◌, List, [], ◌∷◌, drop, get_or, length, map};
+ghost use Rattle.std.specs.List.{AllByRecursion as Each};
 ghost use Rattle.std.specs.Option.{option_map};
 ghost use Rattle.ft_base.specs.declared.context.Ctx.{Ctx};
 ghost use Rattle.ft_base.specs.declared.item.Ran.TheVariants.{List as ByList};
@@ -10,10 +11,11 @@ ghost use Rattle.ft_base.specs.declared.number.CallNo.{CallNo};
 ghost use Rattle.ft_base.specs.declared.number.UserNo.{UserNo};
 ghost use Rattle.ft_base.specs.declared.user.Kind.{Kind};
 ghost use Rattle.ft_base.specs.Desk.{spec_at};
-ghost use Rattle.ft_base.specs.Job.{Job};
+ghost use Rattle.ft_base.specs.Job.{Job, no_task};
 ghost use Rattle.ft_base.specs.Kinds.{cancels, has_depth, has_exit, is_fprobe};
+ghost use Rattle.ft_base.specs.WellFormed.{IsActNamed, IsScript};
 ghost use Rattle.ft_hist.specs.Frames.{is_nil};
-ghost use Rattle.plain_machine.specs.State.{misses_frame, tasks_of};
+ghost use Rattle.plain_machine.specs.State.{has_acts, misses_frame, tasks_of};
 ghost use Rattle.grace_core.specs.declared.poller.PollPhase.TheVariants.{Asking, Acking, Telling};
 ghost use Rattle.grace_core.specs.Polls.{poll_got, poll_next, told_at, untold};
 ghost use Rattle.grace_core.specs.Views.{acknowledged, told_word};
@@ -28,13 +30,17 @@ ghost use Rattle.fprobe.specs.declared.entry.Probe.{Probe};
 ghost use Rattle.fprobe.specs.declared.entry.Probe.TheVariants.{Plain, Wanted, Cancelled, Missed};
 ghost use Rattle.fprobe.specs.Entry.{calls_after};
 ghost use Rattle.word_machine.specs.Task.{AtFirst, AtLink, Moment, OpenCall, Polling, TaskState, TestFilter, TestNotrace, TestSel};
-ghost use Rattle.word_machine.specs.Task.{after_user, around, at_moment, begin_call, call_got, call_op, called_back, fetched};
+ghost use Rattle.word_machine.specs.Task.{after_user, around, at_moment, begin_call, begun_act, call_got, call_op, called_back};
+ghost use Rattle.word_machine.specs.Task.{fetched, task_got, task_start};
 ghost use Rattle.word_machine.specs.Task.{is_too_deep, level_of, opened, quiet_word, top_of};
 ghost use Rattle.word_machine.specs.Cpu.{Cpu, StoringAck, StoringQuiet, ack_value, any_has_more, going_op, phase_got, phase_op};
-ghost use Rattle.word_machine.specs.Cpu.{polling, quiet_next};
+ghost use Rattle.word_machine.specs.Cpu.{polling, quiet_next, with_word};
+ghost use Rattle.word_machine.specs.Laws.{PresentTakes};
+ghost use Rattle.word_machine.specs.Limits.{AreRaised};
 ghost use Rattle.cpu_core.specs.Polled.{acked, poll_at, polled_task, polling_at, task_told, view_of, viewed};
 ghost use Rattle.cpu_core.specs.Moments.{arrived_at, read_at, reading_at, walking_at};
 ghost use Rattle.cpu_core.specs.Framed.{AreFramed, probe_of, stack_of, stacked};
+ghost use Rattle.cpu_core.specs.Steady.{IsSteady};
 
 /// What a poll is to tell is what the machine's CPU is to tell: its acknowledgement, the word of a
 /// task, and the first task whose word is to change.
@@ -205,4 +211,17 @@ pub fn stacks_stay_framed()
         → AreFramed frames (record c { framed = not (is_nil c.users) } ∷ below) }
     ensures returned { (frames : ℕ) (c : OpenCall) (below : List OpenCall)
         → AreFramed frames (c ∷ below) → AreFramed frames below }
+{}
+
+/// A task stays steady, by the values that its CPU takes alone: it is so before its first act, if its
+/// returns have their calls and its interrupts come and go in order; where a poll begins an act or is
+/// done with it; when its word is told; and whatever value that fits its next operation gives.
+pub fn tasks_stay_steady()
+    ensures start { (job : Job) (t : ℕ) → let acts = (get_or job.tasks t no_task).acts in
+        IsScript job 0 acts → AreRaised [] acts → IsSteady job (task_start job t) }
+    ensures begun { (job : Job) (x : TaskState) → IsSteady job x → x.moment ≡ Polling → has_acts x.acts ≡ true
+        → IsSteady job (begun_act x x.acts) }
+    ensures told { (job : Job) (r : ℕ) (x : TaskState) → IsSteady job x → IsSteady job (with_word r x) }
+    ensures got { (job : Job) (t v : ℕ) (x : TaskState) → Each (λ s. IsActNamed job s.act) job.users
+        → IsSteady job x → PresentTakes job x x.moment v → IsSteady job (task_got job t x x.moment v) }
 {}

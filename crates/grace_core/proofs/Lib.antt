@@ -1,3 +1,3 @@
-mod Untold
-mod PollLaws
+pub mod Untold
+pub mod PollLaws
 mod WaitLaws

@@ -16,7 +16,7 @@ low-halves : (h w : ℕ) → low (halves h (low w)) ≡ low w
 low-halves h w = omega arith
 
 -- a task that has told has nothing more to tell
-told_low-told : (r : ℕ) (t : TaskView) → told_low r (told r t) ≡ told_low r t
+pub told_low-told : (r : ℕ) (t : TaskView) → told_low r (told r t) ≡ told_low r t
 told_low-told r t = grind (arith, common_steps, low-halves)
 
 -- the same of the task

@@ -1,0 +1,230 @@
+-- The tasks of a CPU of code, looked up as the machine does it.
+use Rattle.std.proofs.Common.{◌≡◌, ℕ, zero, suc, ◌+◌, ◌<◌, ◌≤◌, Bool, true, nat_le, nat_lt, List, [], ◌∷◌, ◌++◌, drop, filter, find, length, map, set, slice_get, Option, Some, None, IsSome, IsSomeAnd, option_map, refl, sym, ap, ◌∙◌, subst, arith, inl, inr}
+use Rattle.std.specs.List.{list_any, AllByRecursion as Each}
+use Rattle.std.specs.Option.{option_or}
+use Rattle.std.proofs.lemmas.Bool.{cases_eq, lt-ltb}
+use Rattle.std.proofs.lemmas.Bool.Decides.{nat_tests}
+use Rattle.std.proofs.lemmas.List.{drop-map}
+use Rattle.std.proofs.lemmas.Option.{none-some, same_Some, slice_get-map}
+use Rattle.ft_base.specs.declared.task.TaskAct.{TaskAct}
+use Rattle.ft_base.specs.Job.{Job}
+use Rattle.grace_core.specs.declared.view.TaskView.{TaskView}
+use Rattle.plain_machine.specs.State.{has_acts, tasks_of}
+use Rattle.return_stack.specs.Calls.{top_users}
+use Rattle.word_map.specs.Words.{at_put}
+use Rattle.word_machine.specs.Task.{TaskState, task_start}
+use Rattle.word_machine.specs.Cpu.{first_of, has_more}
+use Rattle.word_machine.proofs.Small.{put_other, put_same}
+use Rattle.cpu_core.specs.declared.parts.Parts.{Parts}
+use Rattle.cpu_core.specs.declared.task.Task.{Task}
+use Rattle.cpu_core.specs.Cpus.{number_or, numbered, numbers, state_or, tasks_by, tasks_now}
+use Rattle.cpu_core.specs.PlainPolls.{lent_words}
+use Rattle.cpu_core.specs.Polled.{viewed}
+use Rattle.cpu_core.specs.Starts.{is_left, view_of}
+use Rattle.cpu_core.specs.States.{state_of, users_in}
+use Rattle.cpu_core.specs.TaskOps.{top}
+use Rattle.cpu_core.specs.Tied.{IsTaskOf}
+use Rattle.cpu_core.specs.Turns.{any_left, first_left, next_left, with_words}
+use Rattle.cpu_core.proofs.Numbers.{Agrees, Rises, any-numbers, map-numbers, numbered-at, numbered-set, numbers-set, tasks-rise}
+use Rattle.cpu_core.proofs.Telling.{more-below}
+use Rattle.cpu_core.proofs.TiedLeft.{quiet-is}
+use Rattle.cpu_core.proofs.Turns.{after-place, drop-get, first-append, first-below, first-case, first-number, first-turn, next-turn, turn-left, turn-there}
+
+-- ## acts that are left
+
+acts-left : (gone : ℕ) (acts : List TaskAct) → has_acts (drop gone acts) ≡ nat_lt gone (length acts)
+acts-left zero [] = refl
+acts-left zero (a ∷ acts) = sym (lt-ltb 0 (suc (length acts)) (omega arith))
+acts-left (suc gone) [] = grind (arith, nat_tests)
+acts-left (suc gone) (a ∷ acts) = acts-left gone acts ∙ sym (more-below gone (length acts))
+
+pub left-is : (t : Task) → has_acts (state_of t).acts ≡ is_left t
+left-is t = acts-left t.acts.gone t.acts.all
+
+-- ## places
+
+pub get-set : {A : Type 0} (xs : List A) (i : ℕ) (x y : A) → slice_get xs i ≡ Some x → slice_get (set xs i y) i ≡ Some y
+get-set [] i x y e = absurd (none-some x e)
+get-set (z ∷ xs) zero x y e = refl
+get-set (z ∷ xs) (suc i) x y e = get-set xs i x y e
+
+pub each-set : {A : Type 0} (P : A → Type 0) (xs : List A) (i : ℕ) (y : A) → Each P xs → P y → Each P (set xs i y)
+each-set P [] i y k p = tt
+each-set P (x ∷ xs) zero y k p = (p, k.1)
+each-set P (x ∷ xs) (suc i) y k p = (k.0, each-set P xs i y k.1 p)
+
+option-same : {A : Type 0} (o : Option A) → option_map (λ x. x) o ≡ o
+option-same None = refl
+option-same (Some x) = refl
+
+-- ## tasks by number
+
+module _ (job : Job) (n : ℕ) (ts : List Task) (is : numbers ts ≡ tasks_of job n) where
+  pub rises : Rises (numbers ts)
+  rises = subst (λ ns. Rises ns) (sym is) (tasks-rise n 0 job.tasks)
+
+  -- a task is found by its number
+  pub lookup : (i : ℕ) (t : Task) → slice_get ts i ≡ Some t → numbered ts t.number.0 ≡ Some t
+  lookup i t e = numbered-at ts rises i t e
+
+  -- the machine's task
+  pub state-at : (i : ℕ) (t : Task) → slice_get ts i ≡ Some t → tasks_by job ts t.number.0 ≡ state_of t
+  state-at i t e = ap (λ o. state_or (task_start job t.number.0) o) (lookup i t e)
+
+  -- it has an act left where the machine's has
+  pub more-at : (i : ℕ) (t : Task) → slice_get ts i ≡ Some t → has_more (tasks_by job ts) t.number.0 ≡ is_left t
+  more-at i t e = ap (λ (x : TaskState). has_acts x.acts) (state-at i t e) ∙ left-is t
+
+  -- a task has an act left
+  pub any-more : list_any (λ t. has_more (tasks_by job ts) t) (tasks_of job n) ≡ any_left ts
+  any-more = rw (← is) (any-numbers (λ t. has_more (tasks_by job ts) t) is_left ts more-at)
+
+  -- ## turns
+
+  -- the first task that has an act left
+  pub first-is : first_of (λ t. has_more (tasks_by job ts) t) (length job.tasks) (tasks_of job n) ≡ number_or (length job.tasks) (slice_get ts (first_left ts))
+  first-is = rw (← is, first-turn ts) (first-number (λ t. has_more (tasks_by job ts) t) (length job.tasks) ts more-at)
+
+  module _ (i : ℕ) (t : Task) (e : slice_get ts i ≡ Some t) where
+    -- the tasks above this one, and those up to it
+    abbrev above : List ℕ
+    above = filter (λ v. nat_lt t.number.0 v) (numbers ts)
+
+    abbrev upto : List ℕ
+    upto = filter (λ v. nat_le v t.number.0) (numbers ts)
+
+    abbrev more : ℕ → Bool
+    more u = has_more (tasks_by job ts) u
+
+    above-is : above ≡ numbers (drop (suc i) ts)
+    above-is =
+        after-place (numbers ts) rises i t.number.0 (slice_get-map (λ u. u.number.0) ts i ∙ ap (λ o. option_map (λ (u : Task). u.number.0) o) e)
+        ∙ drop-map (λ u. u.number.0) (suc i) ts
+
+    above-agrees : Agrees more is_left (drop (suc i) ts)
+    above-agrees k u at = more-at (suc i + k) u (drop-get ts (suc i) k ∙ at)
+
+    -- the next task after this one
+    pub next-is : first_of (λ u. has_more (tasks_by job ts) u) t.number.0 (filter (λ v. nat_lt t.number.0 v) (tasks_of job n) ++ filter (λ v. nat_le v t.number.0) (tasks_of job n))
+        ≡ number_or 0 (slice_get ts (next_left ts i))
+    next-is =
+        rw (← is, next-turn ts i, e, first-append more t.number.0 above upto, above-is, first-number more (first_of more t.number.0 upto) (drop (suc i) ts) above-agrees)
+        (first-case is_left (drop (suc i) ts)
+        (λ o f. number_or (first_of more t.number.0 upto) f ≡ number_or 0 (option_or f (option_or (find is_left ts) (Some t))))
+        (λ none.
+        first-below more t.number.0 t.number.0 (numbers ts) (ap (λ ns. list_any more ns) above-is ∙ any-numbers more is_left (drop (suc i) ts) above-agrees ∙ none)
+        ∙ first-number more t.number.0 ts more-at
+        ∙ by (find is_left ts))
+        (λ k x at left. refl))
+      where
+        by : (o : Option Task) → number_or t.number.0 o ≡ number_or 0 (option_or o (Some t))
+        by None = refl
+        by (Some x) = refl
+
+  -- ## a task is changed
+
+  module _ (i : ℕ) (t u : Task) (at : slice_get ts i ≡ Some t) (same : u.number ≡ t.number) where
+    changed-rises : Rises (numbers (set ts i u))
+    changed-rises = subst (λ ns. Rises ns) (sym (numbers-set ts i t u at same)) rises
+
+    changed-own : tasks_by job (set ts i u) t.number.0 ≡ state_of u
+    changed-own =
+        let own : u.number.0 ≡ t.number.0 = ap (λ m. m.0) same in
+        let found : numbered (set ts i u) u.number.0 ≡ Some u = numbered-at (set ts i u) changed-rises i u (get-set ts i t u at) in
+        ap (λ o. state_or (task_start job t.number.0) o) (ap (λ k. numbered (set ts i u) k) (sym own) ∙ found)
+
+    put-at : (k : ℕ) → at_put (tasks_by job ts) t.number.0 (state_of u) k ≡ tasks_by job (set ts i u) k
+    put-at k = elim (cases_eq k t.number.0) [
+      | inl e ↦ subst (λ m. at_put (tasks_by job ts) t.number.0 (state_of u) m ≡ tasks_by job (set ts i u) m) (sym e)
+          (put_same (tasks_by job ts) t.number.0 (state_of u) ∙ sym changed-own)
+      | inr ne ↦ put_other (tasks_by job ts) t.number.0 (state_of u) k ne ∙ ap (λ o. state_or (task_start job k) o) (sym (numbered-set ts i t u k at same ne))
+    ]
+
+  pub put-is : (i : ℕ) (t u : Task) → slice_get ts i ≡ Some t → u.number ≡ t.number
+      → at_put (tasks_by job ts) t.number.0 (state_of u) ≡ tasks_by job (set ts i u)
+  put-is i t u at same = λ j k. put-at i t u at same k j
+
+-- ## words of a poll
+
+-- a task with the word that a poll has stored or found, if it has
+abbrev pub worded : Option TaskView → Task → Task
+worded None t = t
+worded (Some v) t = record t { word = v.word }
+
+-- no words
+pub words-none : (ts : List Task) → with_words ts [] ≡ ts
+words-none [] = refl
+words-none (t ∷ ts) = refl
+
+-- no poll is under way
+pub now-is : (c : Parts) → c.polls.poll.view ≡ None → tasks_now c ≡ c.tasks
+now-is c free = ap (λ view. with_words c.tasks (lent_words view)) free ∙ words-none c.tasks
+
+-- the tasks' own words
+pub words-own : (ts : List Task) → with_words ts (map view_of ts) ≡ ts
+words-own [] = refl
+words-own (t ∷ ts) = ap (λ (us : List Task). t ∷ us) (words-own ts)
+
+-- words change neither acts, numbers nor places
+pub words-any : (ts : List Task) (vs : List TaskView) → any_left (with_words ts vs) ≡ any_left ts
+words-any [] vs = refl
+words-any (t ∷ ts) [] = refl
+words-any (t ∷ ts) (v ∷ vs) = rw (words-any ts vs) refl
+
+pub words-numbers : (ts : List Task) (vs : List TaskView) → numbers (with_words ts vs) ≡ numbers ts
+words-numbers [] vs = refl
+words-numbers (t ∷ ts) [] = refl
+words-numbers (t ∷ ts) (v ∷ vs) = ap (λ (ns : List ℕ). t.number.0 ∷ ns) (words-numbers ts vs)
+
+pub words-length : (ts : List Task) (vs : List TaskView) → length (with_words ts vs) ≡ length ts
+words-length [] vs = refl
+words-length (t ∷ ts) [] = refl
+words-length (t ∷ ts) (v ∷ vs) = ap (λ n. suc n) (words-length ts vs)
+
+pub words-get : (ts : List Task) (vs : List TaskView) (i : ℕ) → slice_get (with_words ts vs) i ≡ option_map (worded (slice_get vs i)) (slice_get ts i)
+words-get [] vs i = refl
+words-get (t ∷ ts) [] i = sym (option-same (slice_get (t ∷ ts) i))
+words-get (t ∷ ts) (v ∷ vs) zero = refl
+words-get (t ∷ ts) (v ∷ vs) (suc i) = words-get ts vs i
+
+-- a task's word is stored
+pub words-set : (ts : List Task) (vs : List TaskView) (i : ℕ) (t : Task) (v : TaskView) → slice_get ts i ≡ Some t → i < length vs
+    → with_words ts (set vs i v) ≡ set (with_words ts vs) i (worded (Some v) t)
+words-set [] vs i t v e lt = absurd (none-some t e)
+words-set (x ∷ ts) [] i t v e lt = absurd (omega (arith, lt))
+words-set (x ∷ ts) (w ∷ vs) zero t v e lt = ap (λ (y : Task). worded (Some v) y ∷ with_words ts vs) (same_Some x t e)
+words-set (x ∷ ts) (w ∷ vs) (suc i) t v e lt = ap (λ (us : List Task). worded (Some w) x ∷ us) (words-set ts vs i t v e (omega (arith, lt)))
+
+-- later words are put in the place of the earlier ones
+pub words-over : (ts : List Task) (vs ws : List TaskView) → length vs ≤ length ws → with_words (with_words ts vs) ws ≡ with_words ts ws
+words-over [] vs ws le = refl
+words-over (t ∷ ts) [] ws le = refl
+words-over (t ∷ ts) (v ∷ vs) [] le = absurd (omega (arith, le))
+words-over (t ∷ ts) (v ∷ vs) (w ∷ ws) le = ap (λ (us : List Task). worded (Some w) t ∷ us) (words-over ts vs ws (omega (arith, le)))
+
+-- what the tasks with these words show has these words
+pub words-again : (ts : List Task) (vs : List TaskView) → with_words ts (map view_of (with_words ts vs)) ≡ with_words ts vs
+words-again [] vs = refl
+words-again (t ∷ ts) [] = words-own (t ∷ ts)
+words-again (t ∷ ts) (v ∷ vs) = ap (λ (us : List Task). worded (Some v) t ∷ us) (words-again ts vs)
+
+-- ## the next turn
+
+-- it is there
+pub next-there : (ts : List Task) (i : ℕ) (t : Task) → slice_get ts i ≡ Some t → IsSome (slice_get ts (next_left ts i))
+next-there ts i t e = rw (next-turn ts i) (turn-there ts i t e)
+
+-- it has an act left, if one of the tasks has
+pub next-left : (ts : List Task) (i : ℕ) → any_left ts ≡ true → IsSomeAnd (slice_get ts (next_left ts i)) (λ u. is_left u ≡ true)
+next-left ts i any = rw (next-turn ts i) (turn-left ts i any)
+
+-- ## what a poll looks at
+
+pub view-is : (t : Task) → viewed t.number.0 (state_of t) ≡ view_of t
+view-is t = rw (quiet-is (top t) (users_in (top_users t.stacks.calls)) t.moment, left-is t) refl
+
+pub views-are : (job : Job) (n : ℕ) (ts : List Task) → numbers ts ≡ tasks_of job n → Each (IsTaskOf job) ts
+    → map (λ t. viewed t (tasks_by job ts t)) (tasks_of job n) ≡ map view_of ts
+views-are job n ts is of =
+    rw (← is)
+    (map-numbers (λ t. viewed t (tasks_by job ts t)) view_of ts (λ i t e. ap (λ x. viewed t.number.0 x) (state-at job n ts is i t e) ∙ view-is t))

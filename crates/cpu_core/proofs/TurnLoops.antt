@@ -1,0 +1,12 @@
+-- One more task of a CPU has started.
+use Rattle.std.proofs.Common.{ℕ, List, [], ◌∷◌, ◌++◌}
+use Rattle.user_specs.specs.declared.plan.TaskPlan.{TaskPlan}
+use Rattle.cpu_core.specs.declared.task.Task.{Task}
+use Rattle.cpu_core.specs.Turns.{AreStarted, IsStarted}
+
+pub started-push : (frames : ℕ) (ps : List TaskPlan) (ts : List Task) (p : TaskPlan) (t : Task) → AreStarted frames ps ts → IsStarted frames p t
+    → AreStarted frames (ps ++ p ∷ []) (ts ++ t ∷ [])
+started-push frames [] [] p t h s = (s, tt)
+started-push frames (q ∷ qs) (u ∷ us) p t h s = (h.0, started-push frames qs us p t h.1 s)
+started-push frames [] (u ∷ us) p t h s = elim h [ ]
+started-push frames (q ∷ qs) [] p t h s = elim h [ ]

@@ -1,0 +1,38 @@
+-- A CPU's next operation, by what contracts see of it.
+use Rattle.std.specs.Prelude.{Bool, false, not, slice_get, Option, Some, None, if◌then◌else◌}
+use Rattle.grace_core.specs.Polls.{poll_next}
+use Rattle.word_map.specs.Words.{Want}
+use Rattle.word_map.specs.Ops.{WordOp, Load}
+use Rattle.cpu_core.specs.declared.parts.Parts.{Parts}
+use Rattle.cpu_core.specs.declared.parts.Phase.{Phase}
+use Rattle.cpu_core.specs.declared.parts.Phase.TheVariants.{Going, Polling, Over}
+use Rattle.cpu_core.specs.declared.task.Task.{Task}
+use Rattle.cpu_core.specs.States.{is_polling}
+use Rattle.cpu_core.specs.TaskOps.{op_of}
+
+-- the present task
+abbrev pub present_task : Parts → Option Task
+present_task c = slice_get c.tasks c.present
+
+-- a task makes the next operation
+abbrev pub runs : Option Task → Bool
+runs None = false
+runs (Some t) = not (is_polling t.moment)
+
+abbrev pub is_running : Parts → Bool
+is_running c = runs (present_task c)
+
+-- a task's operation
+abbrev pub op_by : Option Task → Option WordOp
+op_by None = None
+op_by (Some t) = op_of t
+
+-- in a phase
+abbrev pub phase_op : Parts → Phase → Option WordOp
+phase_op c Going = if is_running c then op_by (present_task c) else Some (Load Want)
+phase_op c Polling = poll_next c.polls.poll
+phase_op c Over = None
+
+-- a CPU's next operation; none at its end
+abbrev pub cpu_op : Parts → Option WordOp
+cpu_op c = phase_op c c.phase

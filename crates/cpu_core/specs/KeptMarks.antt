@@ -1,0 +1,12 @@
+-- The fields of a CPU's marks, and what contracts see of them.
+use Rattle.std.specs.Prelude.{◌≤◌, vec_capacity}
+use Rattle.cpu_core.specs.declared.marked.Marked.TheInside.{Inside}
+use Rattle.cpu_core.specs.Marks.{Marks}
+
+-- what contracts see
+abbrev pub marks_of : Inside → Marks
+marks_of d = record { items = d.items.items; room = d.room }
+
+-- there is room for all items
+pub record IsKept (d : Inside) : Type 0 where
+  pub room : d.room ≤ vec_capacity d.items

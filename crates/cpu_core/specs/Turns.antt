@@ -1,0 +1,44 @@
+-- The tasks of a CPU, and which of them runs.
+use Rattle.std.specs.Prelude.{ℕ, suc, ◌+◌, ◌≡◌, Bool, List, [], ◌∷◌, drop, length, position, Option, Some, None, unwrap_or}
+use Rattle.std.specs.Option.{option_map}
+use Rattle.std.specs.List.{list_any}
+use Rattle.user_specs.specs.declared.plan.TaskPlan.{TaskPlan}
+use Rattle.grace_core.specs.declared.view.TaskView.{TaskView}
+use Rattle.cpu_core.specs.declared.task.Task.{Task}
+use Rattle.cpu_core.specs.Starts.{HasRoomFor, is_left, task_at_start}
+
+-- a task of a plan before its first act, with room for its calls
+pub record IsStarted (frames : ℕ) (plan : TaskPlan) (t : Task) : Type 0 where
+  pub start : t ≡ task_at_start plan.task plan.acts.items t.opens.limit frames
+  pub room : HasRoomFor t.opens.limit plan.acts.items
+
+-- the same of all tasks
+abbrev pub AreStarted : ℕ → List TaskPlan → List Task → Type 0
+AreStarted frames [] [] = Unit {0}
+AreStarted frames (p ∷ ps) (t ∷ ts) = IsStarted frames p t × AreStarted frames ps ts
+AreStarted frames _ _ = ⊥
+
+-- a task has an act left
+abbrev pub any_left : List Task → Bool
+any_left ts = list_any is_left ts
+
+-- the first task from an index on that has an act left
+abbrev pub left_from : List Task → ℕ → Option ℕ
+left_from ts from = option_map (λ k. from + k) (position is_left (drop from ts))
+
+-- the first of all, or the number of tasks if none has
+abbrev pub first_left : List Task → ℕ
+first_left ts = unwrap_or (left_from ts 0) (length ts)
+
+-- the next after this one in the cyclic order, or this one if none has
+abbrev pub next_by : Option ℕ → Option ℕ → ℕ → ℕ
+next_by (Some next) first present = next
+next_by None first present = unwrap_or first present
+
+abbrev pub next_left : List Task → ℕ → ℕ
+next_left ts present = next_by (left_from ts (suc present)) (left_from ts 0) present
+
+-- the tasks with the words that a poll has stored or found
+abbrev pub with_words : List Task → List TaskView → List Task
+with_words (t ∷ ts) (v ∷ vs) = record t { word = v.word } ∷ with_words ts vs
+with_words ts vs = ts

@@ -1,0 +1,146 @@
+//! The tasks of a CPU, and which of them runs.
+
+ghost use Rattle.std.specs.Prelude.{◌≡◌, ◌<◌, ◌≤◌, length, map, set, slice_get, Some, All, IfOk, IsSomeAnd};
+ghost use Rattle.ft_base.specs.declared.limits.TheConstants.{ACTS, FRAMES, TASKS};
+ghost use Rattle.user_specs.specs.declared.plan.TaskPlan.{TaskPlan as DeclaredPlan};
+ghost use Rattle.cpu_core.specs.Fits.{CanBegin, HasAct, TaskFits};
+ghost use Rattle.cpu_core.specs.Starts.{view_of};
+ghost use Rattle.cpu_core.specs.TaskOps.{item_in, op_of, present};
+ghost use Rattle.cpu_core.specs.TaskSteps.{begun, task_after};
+ghost use Rattle.cpu_core.specs.Turns.{AreStarted, any_left, first_left, left_from, next_left, with_words};
+
+use crate::setup::Setup;
+use crate::task::Task;
+use ft_base::{Item, NoMemory};
+use grace_core::TaskView;
+use std::alloc::Global;
+use std::marker::Model;
+use user_specs::TaskPlan;
+
+/// The tasks of a CPU, the lowest number first.
+#[derive(Debug, Drop)]
+pub(crate) struct Tasks {
+    tasks: Vec<Task>,
+}
+
+impl Model for Tasks {
+    ghost use Rattle.std.specs.Prelude.{List};
+    ghost use Rattle.cpu_core.specs.declared.task.Task.{Task};
+
+    ghost Value = { List Task };
+
+    ghost use Rattle.cpu_core.specs.KeptTasks.{tasks_of, IsKept};
+
+    ghost view = { tasks_of };
+
+    ghost invariant = { IsKept };
+}
+
+impl Tasks {
+    /// These tasks before their first acts, each with a shadow stack of so many frames. The error
+    /// says that memory ran out.
+    pub(crate) fn new(alloc: Global, plans: &[TaskPlan], frames: u32) -> Result<Tasks, NoMemory>
+        requires few { length plans.now ≤ TASKS }
+        requires acts { All (λ (p : DeclaredPlan). length p.acts.items ≤ ACTS) plans.now }
+        requires frames { frames ≤ FRAMES }
+        ensures { IfOk result (λ ts. AreStarted frames plans.now ts) }
+    {
+        let mut tasks = Vec::with_capacity(alloc, plans.len()).map_err(|_| NoMemory)?;
+        for plan in plans {
+            tasks.push_reserved(Task::new(alloc, plan, frames)?);
+        }
+        Ok(Tasks { tasks })
+    }
+
+    /// How many there are.
+    pub(crate) fn len(&self) -> u32
+        ensures count { result ≡ length self.now }
+        ensures few { result ≤ TASKS }
+    {
+        self.tasks.len() as u32
+    }
+
+    /// The task at this index.
+    pub(crate) fn task(&self, i: u32) -> &Task
+        requires { i < length self.now }
+        ensures { slice_get self.now i ≡ Some result.now }
+    {
+        &self.tasks[i as usize]
+    }
+
+    /// Whether a task has an act left.
+    pub(crate) fn is_any_left(&self) -> bool
+        ensures { result ≡ any_left self.now }
+    {
+        self.tasks.iter().any(|task| task.has_act())
+    }
+
+    /// The first task that has an act left, or the number of tasks if none has.
+    pub(crate) fn first(&self) -> u32
+        ensures { result ≡ first_left self.now }
+    {
+        self.left_from(0).unwrap_or(self.len())
+    }
+
+    /// The next task after this one, in the cyclic order, that has an act left. That may be the same;
+    /// and the same it stays if none has.
+    pub(crate) fn next(&self, present: u32) -> u32
+        requires { present < length self.now }
+        ensures { result ≡ next_left self.now present }
+    {
+        match self.left_from(present as usize + 1) {
+            Some(next) => next,
+            None => self.left_from(0).unwrap_or(present),
+        }
+    }
+
+    /// The first task from an index on that has an act left.
+    fn left_from(&self, from: usize) -> Option<u32>
+        ensures { result ≡ left_from self.now from }
+    {
+        for i in from..self.tasks.len() {
+            if self.tasks[i].has_act() {
+                return Some(i as u32);
+            }
+        }
+        None
+    }
+
+    /// The operation of the task at this index gave this value. If it was a mark, the answer is its
+    /// item.
+    pub(crate) fn got(&mut self, i: u32, setup: &Setup, value: u64) -> Option<Item>
+        requires { IsSomeAnd (slice_get self.old i) (λ t. TaskFits setup.now t value) }
+        ensures tasks { IsSomeAnd (slice_get self.old i) (λ t. self.new ≡ set self.old i (task_after t setup.now value)) }
+        ensures item { IsSomeAnd (slice_get self.old i) (λ t. result ≡ item_in (op_of t)) }
+    {
+        self.tasks[i as usize].got(setup, value)
+    }
+
+    /// The poll of the present act of the task at this index is over.
+    pub(crate) fn begin_act(&mut self, i: u32)
+        requires { IsSomeAnd (slice_get self.old i) (λ t. HasAct t × CanBegin t (present t)) }
+        ensures { IsSomeAnd (slice_get self.old i) (λ t. self.new ≡ set self.old i (begun t (present t))) }
+    {
+        self.tasks[i as usize].begin_act();
+    }
+
+    /// What a poll has stored for each task is what the task's word holds.
+    pub(crate) fn take_words(&mut self, views: &[TaskView])
+        requires { length views.now ≡ length self.old }
+        ensures { self.new ≡ with_words self.old views.now }
+    {
+        for i in 0..self.tasks.len() {
+            self.tasks[i].told(views[i].word);
+        }
+    }
+
+    /// Puts what a poll is to see of each task into these views.
+    pub(crate) fn look(&self, views: &mut [TaskView])
+        requires { length views.old ≡ length self.now }
+        ensures { views.new ≡ map view_of self.now }
+    {
+        for i in 0..self.tasks.len() {
+            views[i] = self.tasks[i].view();
+        }
+    }
+}
