@@ -1,0 +1,145 @@
+-- A step of control: the word machine's row.
+use Rattle.std.proofs.Common.{◌≡◌, ℕ, ◌++◌, inl, option_map, List, ◌∷◌, get_or, length, map, Option, Some, None, refl, sym, ap, ◌∙◌, subst}
+use Rattle.std.proofs.lemmas.List.{append-nil}
+use Rattle.ft_base.specs.declared.item.Item.{Item}
+use Rattle.ft_base.specs.declared.item.Stamped.{Stamped}
+use Rattle.ft_base.specs.declared.turn.Actor.TheVariants as actor
+use Rattle.ft_base.specs.Desk.{desk}
+use Rattle.ft_base.specs.Job.{Job}
+use Rattle.word_map.specs.declared.op.Op.{Op}
+use Rattle.word_map.specs.declared.shape.Shape.{Shape}
+use Rattle.word_map.specs.Contents.{mask_of}
+use Rattle.word_map.specs.Ops.{WordOp, Load, Store, Mark, placed}
+use Rattle.word_map.specs.Shapes.{shape_of}
+use Rattle.word_machine.specs.Control.{control_got, control_next}
+use Rattle.word_machine.specs.Laws.{IsOnWord, Runs, items_on}
+use Rattle.word_machine.specs.Limits.{IsLimited}
+use Rattle.word_machine.specs.Machine.{World, control_moved, control_row, past_after, step}
+use Rattle.word_machine.proofs.Limited.{limited as word-job}
+use Rattle.word_machine.proofs.Marked.{control-mark}
+use Rattle.word_machine.proofs.There.{control-there}
+use Rattle.word_machine.proofs.WordsFit.{control-row-runs}
+use Rattle.control_core.specs.Seated.{IsFor as IsControlFor, Seated, control_of}
+use Rattle.control_core.specs.Steps.{marks_in}
+use Rattle.cpu_core.specs.declared.parts.Parts.{Parts as CpuParts}
+use Rattle.machine_core.specs.Tables.{HasRoomAt, IsOn, gives, made}
+use Rattle.machine_core.specs.Worlds.{IsFor, Parts, lists, past_of, world_of}
+use Rattle.machine_core.proofs.Made.{IsOpThere, gives-is, made-is, made-length, of-job, on-is, room-is}
+use Rattle.machine_core.proofs.Moved.{HasMoved}
+use Rattle.machine_core.proofs.Marking.{Chosen, Follows, chosen, none-next, past-is, places-are}
+
+-- the words, control and CPUs after a step of control
+abbrev pub controlled : Parts → List ℕ → Seated → Parts
+controlled w words d = record { shape = w.shape; words = words; control = d; cpus = w.cpus }
+
+module _ (job : Job) (limited : IsLimited job) (w : Parts) (k : IsFor job w) (r : Runs job (world_of job w)) where
+  -- with no operation nothing happens
+  pub control-rests : control_next job (control_of w.control) ≡ None → world_of job w ≡ step job actor.Control (world_of job w)
+  unfolding step
+  control-rests e = sym (ap (λ o. control_moved job (world_of job w) o) e)
+
+  module _ (op : WordOp) (next : control_next job (control_of w.control) ≡ Some op) where
+    abbrev row : World
+    row = control_row job (world_of job w) op
+
+    runs-on : Runs job row
+    runs-on = control-row-runs job limited (world_of job w) op r next
+
+    there : IsOpThere (shape_of job) op
+    there = of-job job op (subst (λ o. IsOnWord job o) next (control-there job (word-job job limited) (world_of job w) r.kept r.waits))
+
+    on : IsOn (length w.words) (placed (shape_of job) op)
+    on = on-is (shape_of job) (mask_of (desk job 0) (length job.tasks)) w.words k.count op there
+
+    room : HasRoomAt w.words (placed (shape_of job) op)
+    room = room-is (shape_of job) (mask_of (desk job 0) (length job.tasks)) w.words k.count op runs-on.fits
+
+    module _ (d : Seated) (is_for : IsControlFor job d)
+        (is : control_of d ≡ control_got job (control_of w.control) (gives (placed (shape_of job) op) w.words))
+        (items : d.items ≡ w.control.items ++ marks_in (Some op) (gives (placed (shape_of job) op) w.words)) where
+      abbrev after : Parts
+      after = controlled w (made (placed (shape_of job) op) w.words) d
+
+      follows-in : (o : WordOp) → d.items ≡ w.control.items ++ marks_in (Some o) (gives (placed (shape_of job) o) w.words)
+          → Follows o (get_or w.words 0 0) (lists w) (lists after)
+      follows-in (Load x) e = ap (λ (xs : List Stamped). xs ∷ map (λ (c : CpuParts). c.marked.items) w.cpus) (e ∙ append-nil w.control.items)
+      follows-in (Store x y) e = ap (λ (xs : List Stamped). xs ∷ map (λ (c : CpuParts). c.marked.items) w.cpus) (e ∙ append-nil w.control.items)
+      follows-in (Mark item) e = inl (e, refl)
+
+      past-moved : past_of after ≡ past_after op (past_of w)
+      past-moved = past-is job w k.places r.kept k.count op there row refl refl runs-on.kept (lists after) (follows-in op items)
+
+      control-moves : world_of job after ≡ row
+      control-moves = λ i. record {
+        words = made-is (shape_of job) (mask_of (desk job 0) (length job.tasks)) w.words k.count op there i;
+        control = (is ∙ ap (λ v. control_got job (control_of w.control) v) (gives-is (shape_of job) (mask_of (desk job 0) (length job.tasks)) w.words k.count op there)) i;
+        cpus = (world_of job w).cpus;
+        past = past-moved i;
+      }
+
+      -- no CPU has marked anything
+      same-items : (c : ℕ) (o : WordOp) → control_next job (control_of w.control) ≡ Some o → items_on job c (past_after o (past_of w)) ≡ items_on job c (past_of w)
+      same-items c (Load x) e = refl
+      same-items c (Store x y) e = refl
+      same-items c (Mark item) e = control-mark job (world_of job w) c item e
+
+      control-keeps : IsFor job after
+      control-keeps = record {
+        shape' = k.shape';
+        count = made-length (shape_of job) op w.words ∙ k.count;
+        control' = is_for;
+        cpus' = k.cpus';
+        each = λ c x at. (let own = k.each c x at in record {
+          is_for = own.is_for;
+          number = own.number;
+          room = own.room;
+          marked = own.marked ∙ sym (ap (λ (past : List Item). items_on job c past) past-moved ∙ same-items c op next);
+        });
+        places = places-are job w k.places r.kept k.count op there row refl refl runs-on.kept (lists after) (follows-in op items);
+      }
+
+-- ## as code has the operation
+
+module _ (job : Job) (limited : IsLimited job) (w : Parts) (k : IsFor job w) (r : Runs job (world_of job w))
+    (code : Op) (x : Chosen (shape_of job) (control_next job (control_of w.control)) code) where
+  pub control-on : IsOn (length w.words) code
+  control-on = subst (λ o. IsOn (length w.words) o) x.placed' (on job limited w k r x.op x.is)
+
+  pub control-room : HasRoomAt w.words code
+  control-room = subst (λ o. HasRoomAt w.words o) x.placed' (room job limited w k r x.op x.is)
+
+  stepped : control_row job (world_of job w) x.op ≡ step job actor.Control (world_of job w)
+  unfolding step
+  stepped = sym (ap (λ o. control_moved job (world_of job w) o) x.is)
+
+  pub control-moved : (words : List ℕ) → words ≡ made code w.words → (v : ℕ) → v ≡ gives code w.words → (d : Seated) → IsControlFor job d
+      → control_of d ≡ control_got job (control_of w.control) v
+      → d.items ≡ w.control.items ++ marks_in (control_next job (control_of w.control)) v
+      → HasMoved job (controlled w words d) (step job actor.Control (world_of job w))
+  control-moved words words-are v value d is_for is items =
+      let at : v ≡ gives (placed (shape_of job) x.op) w.words = value ∙ ap (λ o. gives o w.words) (sym x.placed') in
+      let is' : control_of d ≡ control_got job (control_of w.control) (gives (placed (shape_of job) x.op) w.words) =
+      is ∙ ap (λ n. control_got job (control_of w.control) n) at in
+      let items' : d.items ≡ w.control.items ++ marks_in (Some x.op) (gives (placed (shape_of job) x.op) w.words) =
+      items ∙ (λ i. w.control.items ++ marks_in (x.is i) (at i)) in
+      let same : made (placed (shape_of job) x.op) w.words ≡ words = ap (λ o. made o w.words) x.placed' ∙ sym words-are in
+      subst (λ ws. HasMoved job (controlled w ws d) (step job actor.Control (world_of job w))) same
+      (record {
+        is_for = control-keeps job limited w k r x.op x.is d is_for is' items';
+        is = control-moves job limited w k r x.op x.is d is_for is' items' ∙ stepped;
+        runs = subst (λ s. Runs job s) (sym (control-moves job limited w k r x.op x.is d is_for is' items')) (runs-on job limited w k r x.op x.is);
+      })
+
+-- ## from the code's answers
+
+module _ (w : Parts) (o : Option Op)
+    (answer : (job : Job) → IsControlFor job w.control → o ≡ option_map (placed w.control.shape) (control_next job (control_of w.control))) where
+  same-next : (job : Job) (k : IsFor job w) → option_map (placed (shape_of job)) (control_next job (control_of w.control)) ≡ o
+  same-next job k =
+      ap (λ (shape : Shape). option_map (placed shape) (control_next job (control_of w.control))) (sym k.control'.shape) ∙ sym (answer job k.control')
+
+  pub control-chosen : (job : Job) → IsFor job w → (code : Op) → o ≡ Some code → Chosen (shape_of job) (control_next job (control_of w.control)) code
+  control-chosen job k code e = chosen (shape_of job) (control_next job (control_of w.control)) code (same-next job k ∙ e)
+
+  pub control-none : (job : Job) → IsFor job w → o ≡ None → control_next job (control_of w.control) ≡ None
+  control-none job k e = none-next (shape_of job) (control_next job (control_of w.control)) (same-next job k ∙ e)

@@ -1,0 +1,10 @@
+pub mod Made
+pub mod Calls
+pub mod Plans
+pub mod Masks
+pub mod Opening
+pub mod Past
+pub mod Marking
+pub mod Moved
+pub mod ControlMoves
+pub mod CpuMoves

@@ -1,0 +1,100 @@
+-- The history that lists of marked items make, and what one more item makes of it.
+use Rattle.std.proofs.Common.{cond, ◌≡◌, ℕ, zero, suc, ◌<◌, ◌≤◌, ◌⊎◌, false, ◌==◌, List, [], ◌∷◌, ◌++◌, map, set, slice_get, Some, None, refl, sym, ap, ◌∙◌, subst, arith, inl, inr}
+use Rattle.std.specs.List.{AllByRecursion as Each}
+use Rattle.std.proofs.lemmas.Bool.Decides.{nat_tests}
+use Rattle.std.proofs.lemmas.Option.{none-some, same_Some}
+use Rattle.ft_base.specs.declared.item.Stamped.{Stamped}
+use Rattle.ft_base.proofs.Small.{==-refl, Each-snoc, Each-weaker}
+use Rattle.machine_core.specs.Worlds.{AreCounted, before, item_among, item_in, or_item, past_below}
+
+apart-after : (a b : ℕ) → a < b → (a == b) ≡ false
+apart-after a b lt = grind (arith, nat_tests)
+
+apart-before : (a b : ℕ) → b < a → (a == b) ≡ false
+apart-before a b lt = grind (arith, nat_tests)
+
+-- no item of a list is marked at a place that its items are below
+none-in : (p : ℕ) (xs : List Stamped) → AreCounted p xs → item_in xs p ≡ None
+none-in p [] k = refl
+none-in p (x ∷ xs) k = ap (λ b. cond b (Some x.item) (item_in xs p)) (apart-after x.place p k.0) ∙ none-in p xs k.1
+
+-- ## one more item
+
+module _ (s : Stamped) where
+  own-in : (xs : List Stamped) → AreCounted s.place xs → item_in (xs ++ s ∷ []) s.place ≡ Some s.item
+  own-in [] k = ap (λ b. cond b (Some s.item) None) (==-refl s.place)
+  own-in (x ∷ xs) k = ap (λ b. cond b (Some x.item) (item_in (xs ++ s ∷ []) s.place)) (apart-after x.place s.place k.0) ∙ own-in xs k.1
+
+  other-in : (p : ℕ) → (s.place == p) ≡ false → (xs : List Stamped) → item_in (xs ++ s ∷ []) p ≡ item_in xs p
+  other-in p e [] = ap (λ b. cond b (Some s.item) None) e
+  other-in p e (x ∷ xs) = ap (λ o. cond (x.place == p) (Some x.item) o) (other-in p e xs)
+
+  -- one of the lists has the item at its end, and the others are as before
+  abbrev pub Grows : List (List Stamped) → List (List Stamped) → Type 0
+  Grows [] ls' = ⊥
+  Grows (xs ∷ ls) [] = ⊥
+  Grows (xs ∷ ls) (ys ∷ ls') = ((ys ≡ xs ++ s ∷ []) × (ls' ≡ ls)) ⊎ ((ys ≡ xs) × Grows ls ls')
+
+  own-among : (ls ls' : List (List Stamped)) → Grows ls ls' → Each (AreCounted s.place) ls → item_among ls' s.place ≡ Some s.item
+  own-among [] ls' g k = absurd g
+  own-among (xs ∷ ls) [] g k = absurd g
+  own-among (xs ∷ ls) (ys ∷ ls') g k = elim g [
+    | inl h ↦ ap (λ zs. or_item (item_in zs s.place) (item_among ls' s.place)) h.0 ∙ ap (λ o. or_item o (item_among ls' s.place)) (own-in xs k.0)
+    | inr h ↦ ap (λ zs. or_item (item_in zs s.place) (item_among ls' s.place)) h.0 ∙ ap (λ o. or_item o (item_among ls' s.place)) (none-in s.place xs k.0)
+        ∙ own-among ls ls' h.1 k.1
+  ]
+
+  other-among : (p : ℕ) → (s.place == p) ≡ false → (ls ls' : List (List Stamped)) → Grows ls ls' → item_among ls' p ≡ item_among ls p
+  other-among p e [] ls' g = absurd g
+  other-among p e (xs ∷ ls) [] g = absurd g
+  other-among p e (xs ∷ ls) (ys ∷ ls') g = elim g [
+    | inl h ↦ (λ i. or_item (item_in (h.0 i) p) (item_among (h.1 i) p)) ∙ ap (λ o. or_item o (item_among ls p)) (other-in p e xs)
+    | inr h ↦ λ i. or_item (item_in (h.0 i) p) (other-among p e ls ls' h.1 i)
+  ]
+
+  module _ (ls ls' : List (List Stamped)) (g : Grows ls ls') where
+    -- the items below its place are as before
+    pub past-below : (m : ℕ) → m ≤ s.place → past_below ls' m ≡ past_below ls m
+    past-below zero le = refl
+    past-below (suc m) le = λ i. before (other-among m (apart-before s.place m le) ls ls' g i) (past-below m (omega (arith, le)) i)
+
+    -- it is the latest
+    pub past-grows : Each (AreCounted s.place) ls → past_below ls' (suc s.place) ≡ s.item ∷ past_below ls s.place
+    past-grows k = λ i. before (own-among ls ls' g k i) (past-below s.place (omega arith) i)
+
+-- ## places that are counted
+
+pub counted-more : (n m : ℕ) → n ≤ m → (ls : List (List Stamped)) → Each (AreCounted n) ls → Each (AreCounted m) ls
+counted-more n m le ls k =
+    Each-weaker (AreCounted n) (AreCounted m) ls
+    (λ xs h. Each-weaker (λ (x : Stamped). x.place < n) (λ (x : Stamped). x.place < m) xs (λ x lt. omega (arith, lt, le)) h) k
+
+pub counted-grows : (s : Stamped) (ls ls' : List (List Stamped)) → Grows s ls ls' → Each (AreCounted s.place) ls → Each (AreCounted (suc s.place)) ls'
+counted-grows s [] ls' g k = absurd g
+counted-grows s (xs ∷ ls) [] g k = absurd g
+counted-grows s (xs ∷ ls) (ys ∷ ls') g k = elim g [
+  | inl h ↦ (
+    subst (λ zs. AreCounted (suc s.place) zs) (sym h.0)
+        (Each-snoc (λ (x : Stamped). x.place < suc s.place) xs s (counted-more s.place (suc s.place) (omega arith) (xs ∷ []) (k.0, tt)).0 (omega arith)),
+    subst (λ zs. Each (AreCounted (suc s.place)) zs) (sym h.1) (counted-more s.place (suc s.place) (omega arith) ls k.1),
+  )
+  | inr h ↦ (
+    subst (λ zs. AreCounted (suc s.place) zs) (sym h.0) (counted-more s.place (suc s.place) (omega arith) (xs ∷ []) (k.0, tt)).0,
+    counted-grows s ls ls' h.1 k.1,
+  )
+]
+
+-- ## one of several actors
+
+module _ {A : Type 0} (f : A → List Stamped) where
+  -- it marks an item
+  pub map-grows : (s : Stamped) (xs : List A) (i : ℕ) (x y : A) → slice_get xs i ≡ Some x → f y ≡ f x ++ s ∷ [] → Grows s (map f xs) (map f (set xs i y))
+  map-grows s [] i x y at e = absurd (none-some x at)
+  map-grows s (z ∷ xs) zero x y at e = inl (e ∙ ap (λ a. f a ++ s ∷ []) (sym (same_Some z x at)), refl)
+  map-grows s (z ∷ xs) (suc i) x y at e = inr (refl, map-grows s xs i x y at e)
+
+  -- it marks nothing
+  pub map-kept : (xs : List A) (i : ℕ) (x y : A) → slice_get xs i ≡ Some x → f y ≡ f x → map f (set xs i y) ≡ map f xs
+  map-kept [] i x y at e = absurd (none-some x at)
+  map-kept (z ∷ xs) zero x y at e = λ j. (e ∙ ap f (sym (same_Some z x at))) j ∷ map f xs
+  map-kept (z ∷ xs) (suc i) x y at e = ap (λ (ys : List (List Stamped)). f z ∷ ys) (map-kept xs i x y at e)

@@ -1,0 +1,20 @@
+use Rattle.std.proofs.Common.{◌≡◌, ◌∙◌, ◌≤◌, length, sym, ap, subst, arith}
+use Rattle.ft_base.specs.declared.turn.Actor.TheVariants as actor
+use Rattle.word_machine.specs.Machine.{step}
+use Rattle.machine_core.specs.Kept.{parts_of}
+use Rattle.machine_core.specs.Worlds.{IsFor, Parts, world_of}
+use Rattle.machine_core.proofs.Moved.{no-cpu}
+use Rattle.machine_core.proofs.world.World.step.Goals as goal
+
+pub returns-else-cpu-len : goal.returns-else-cpu-len
+returns-else-cpu-len c = λ job limited k r.
+    (let w : Parts = parts_of c.self.inside in
+    let none = c.if-cpu-len.false in
+    let many = c.len.ensures in
+    let past : length w.cpus ≤ c.in-Cpu.cpu.0 = omega (arith, none, many) in
+    let own : IsFor job w = subst (λ p. IsFor job p) (sym c.self.view_is) k in
+    let rests = no-cpu job w own c.in-Cpu.cpu past in (
+      k,
+      subst (λ p. world_of job p ≡ step job (actor.Cpu c.in-Cpu.cpu) (world_of job p)) c.self.view_is rests
+          ∙ ap (λ a. step job a (world_of job c.args.self.now)) (sym c.in-Cpu.is),
+    ))

@@ -1,0 +1,81 @@
+use Rattle.std.proofs.Common.{◌≡◌, Some, refl, sym, subst, slice_get}
+use Rattle.ft_base.specs.declared.turn.Actor.TheVariants as actor
+use Rattle.ft_base.specs.Job.{Job}
+use Rattle.word_machine.specs.Laws.{Runs}
+use Rattle.word_machine.specs.Limits.{IsLimited}
+use Rattle.word_machine.specs.Machine.{step}
+use Rattle.cpu_core.specs.declared.parts.Parts.{Parts as CpuParts}
+use Rattle.machine_core.specs.Kept.{parts_of}
+use Rattle.machine_core.specs.Worlds.{IsFor, IsRunning, Parts, world_of}
+use Rattle.machine_core.proofs.CpuMoves.{cpu-again, cpu-chosen, cpu-moved, cpu-none, cpu-on, cpu-rests, cpu-room, cpu-taken, cpu-takes-it, found, ran}
+use Rattle.machine_core.proofs.Moved.{HasMoved, moved-from, running-on}
+use Rattle.machine_core.proofs.world.World.step_cpu.Goals as goal
+
+pub make-value-requires-clause-on : goal.make-value-requires-clause-on
+make-value-requires-clause-on c =
+    let w = parts_of c.self.inside in
+    let run : IsRunning w = c.self.invariant.running in
+    let at = found c.args.self.now w c.self.view_is c.args.cpu.0 c.requires c.index.result.now c.index.ensures in
+    cpu-on run.job run.limited w run.is_for run.runs c.args.cpu.0 c.index.result.now at c.in-Some.op
+    (cpu-chosen w c.args.cpu.0 c.index.result.now at c.next.result c.next.ensures run.job run.limited run.is_for c.in-Some.op c.in-Some.is)
+
+pub make-value-requires-clause-room : goal.make-value-requires-clause-room
+make-value-requires-clause-room c =
+    let w = parts_of c.self.inside in
+    let run : IsRunning w = c.self.invariant.running in
+    let at = found c.args.self.now w c.self.view_is c.args.cpu.0 c.requires c.index.result.now c.index.ensures in
+    cpu-room run.job run.limited w run.is_for run.runs c.args.cpu.0 c.index.result.now at c.in-Some.op
+    (cpu-chosen w c.args.cpu.0 c.index.result.now at c.next.result c.next.ensures run.job run.limited run.is_for c.in-Some.op c.in-Some.is)
+
+pub got-requires : goal.got-requires
+got-requires c =
+    let w = parts_of c.self.inside in
+    let run : IsRunning w = c.self.invariant.running in
+    let lt = c.requires in
+    let at = found c.args.self.now w c.self.view_is c.args.cpu.0 lt c.index_mut.result.now c.index_mut.ensures.value in
+    cpu-taken run.job run.limited w run.is_for run.runs c.args.cpu.0 c.index_mut.result.now at c.in-Some.op
+    (cpu-again c.args.self.now w c.self.view_is c.args.cpu.0 lt c.index.result.now c.index_mut.result.now c.index.ensures c.index_mut.ensures.value
+    c.next.result c.next.ensures c.in-Some.op c.in-Some.is run.job run.limited run.is_for)
+    c.make-value.result c.make-value.ensures.value
+
+module _ (c : goal.After-self-1) where
+  abbrev before : Parts
+  before = parts_of c.self.inside
+
+  -- the CPU that takes the value
+  abbrev cpu : CpuParts
+  cpu = c.index_mut.result.now
+
+  abbrev after : Parts
+  after = ran before c.make-value.new.self c.args.cpu.0 c.got.new.self
+
+  at : slice_get before.cpus c.args.cpu.0 ≡ Some cpu
+  at = found c.args.self.now before c.self.view_is c.args.cpu.0 c.requires cpu c.index_mut.ensures.value
+
+  moved : (job : Job) → IsLimited job → IsFor job before → Runs job (world_of job before) → HasMoved job after (step job (actor.Cpu c.args.cpu) (world_of job before))
+  moved job limited k r =
+      let x = cpu-again c.args.self.now before c.self.view_is c.args.cpu.0 c.requires c.index.result.now cpu c.index.ensures c.index_mut.ensures.value
+      c.next.result c.next.ensures c.in-Some.op c.in-Some.is job limited k in
+      let own = (k.each c.args.cpu.0 cpu at).is_for in
+      let takes = cpu-takes-it job limited before k r c.args.cpu.0 cpu at c.in-Some.op x c.make-value.result c.make-value.ensures.value in
+      cpu-moved job limited before k r c.args.cpu.0 cpu at c.in-Some.op x
+      c.make-value.new.self c.make-value.ensures.words c.make-value.result c.make-value.ensures.value c.got.new.self
+      (c.got.ensures.of job limited own takes) (c.got.ensures.cpu job limited own takes) (c.got.ensures.items job limited own takes) c.got.ensures.room
+      c.args.cpu refl
+
+pub invariant_of-self : goal.invariant_of-self
+invariant_of-self c =
+    let run : IsRunning (before c) = c.self.invariant.running in
+    record { running = running-on run.job run.limited (after c) _ (moved c run.job run.limited run.is_for run.runs) }
+
+pub returns-in-Some : goal.returns-in-Some
+returns-in-Some c = moved-from c.args.self.now (before c) c.self.view_is (after c) (actor.Cpu c.args.cpu) (moved c)
+
+pub returns-in_default : goal.returns-in_default
+returns-in_default c = λ job limited k r.
+    (let w = parts_of c.self.inside in
+    let at = found c.args.self.now w c.self.view_is c.args.cpu.0 c.requires c.index.result.now c.index.ensures in
+    let own : IsFor job w = subst (λ p. IsFor job p) (sym c.self.view_is) k in
+    let rests = cpu-rests job limited w own (subst (λ p. Runs job (world_of job p)) (sym c.self.view_is) r) c.args.cpu.0 c.index.result.now at c.args.cpu refl
+    (cpu-none w c.args.cpu.0 c.index.result.now at c.next.result c.next.ensures job limited own c.in_default.is) in
+    (k, subst (λ p. world_of job p ≡ step job (actor.Cpu c.args.cpu) (world_of job p)) c.self.view_is rests))

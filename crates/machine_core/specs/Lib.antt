@@ -1,0 +1,4 @@
+pub mod Tables
+pub mod Worlds
+pub mod Starts
+pub mod Kept

@@ -1,0 +1,39 @@
+-- The CPUs of a job before their first steps.
+use Rattle.std.specs.Prelude.{ℕ, ◌≡◌, ◌<◌, ◌≤◌, List, [], length, slice_get, Some}
+use Rattle.ft_base.specs.declared.limits.TheConstants.{QUANTUM}
+use Rattle.ft_base.specs.Job.{Job}
+use Rattle.user_specs.specs.declared.plan.CpuPlan.{CpuPlan}
+use Rattle.user_specs.specs.declared.spec.Spec.{Spec}
+use Rattle.word_map.specs.declared.shape.Shape.{Shape}
+use Rattle.word_map.specs.Shapes.{shape_of}
+use Rattle.word_machine.specs.Cpu.{cpu_start}
+use Rattle.word_machine.specs.Laws.{room_on}
+use Rattle.word_machine.specs.Limits.{IsLimited}
+use Rattle.cpu_core.specs.declared.parts.Parts.{Parts}
+use Rattle.cpu_core.specs.Cpus.{IsFor, cpu_of}
+use Rattle.cpu_core.specs.Taken.{IsCpuOf}
+
+-- what is declared for CPU c of a job
+pub record IsPlanOf (job : Job) (p : CpuPlan) (c : ℕ) (specs : List Spec) (frames : ℕ) (shape : Shape) : Type 0 where
+  pub limited : IsLimited job
+  pub inside : c < length job.quanta
+  pub of' : IsCpuOf job p c specs frames shape
+  pub quick : p.quantum ≤ QUANTUM
+
+-- what is declared for all its CPUs
+pub record ArePlansOf (job : Job) (plans : List CpuPlan) (specs : List Spec) (frames : ℕ) (shape : Shape) : Type 0 where
+  pub shape' : shape ≡ shape_of job
+  pub count : length plans ≡ length job.quanta
+  pub each : (c : ℕ) (p : CpuPlan) → slice_get plans c ≡ Some p → IsPlanOf job p c specs frames shape
+
+-- CPU c of a job before its first step: the machine's, with no items, and with room for all that its tasks mark
+pub record IsFirst (job : Job) (c : ℕ) (x : Parts) : Type 0 where
+  pub is_for : IsFor job x
+  pub same : cpu_of job x ≡ cpu_start job c
+  pub none : x.marked.items ≡ []
+  pub room : x.marked.room ≡ room_on job c
+
+-- all its CPUs
+pub record AreFirst (job : Job) (cpus : List Parts) : Type 0 where
+  pub count : length cpus ≡ length job.quanta
+  pub each : (c : ℕ) (x : Parts) → slice_get cpus c ≡ Some x → IsFirst job c x

@@ -1,0 +1,142 @@
+-- The word machine's world that the words, control and CPUs of code stand for.
+use Rattle.std.specs.Prelude.{ℕ, zero, suc, ◌≡◌, ◌<◌, ◌≤◌, ◌==◌, List, [], ◌∷◌, get_or, length, map, slice_get, Option, Some, None, if◌then◌else◌}
+use Rattle.std.specs.List.{AllByRecursion as Each}
+use Rattle.ft_base.specs.declared.item.Item.{Item}
+use Rattle.ft_base.specs.declared.item.Stamped.{Stamped}
+use Rattle.ft_base.specs.declared.limits.TheConstants.{QUANTUM}
+use Rattle.ft_base.specs.Desk.{desk}
+use Rattle.ft_base.specs.Job.{Job}
+use Rattle.user_specs.specs.declared.plan.CpuPlan.{CpuPlan}
+use Rattle.user_specs.specs.declared.spec.Spec.{Spec}
+use Rattle.word_map.specs.declared.shape.Shape.{Shape}
+use Rattle.word_map.specs.Shapes.{shape_of}
+use Rattle.word_map.specs.Words.{Words}
+use Rattle.word_map.specs.Places.{len, words_in}
+use Rattle.word_map.specs.Contents.{low, mask_of}
+use Rattle.ft_desk.specs.declared.command.Ctl.{Ctl}
+use Rattle.ft_desk.specs.Declarations.{IsOf}
+use Rattle.ft_desk.specs.Seen.{Seen, opened}
+use Rattle.word_machine.specs.Cpu.{Cpu, cpu_start}
+use Rattle.word_machine.specs.Laws.{Runs, items_on, room_on}
+use Rattle.word_machine.specs.Limits.{IsLimited}
+use Rattle.word_machine.specs.Machine.{World}
+use Rattle.control_core.specs.Lines.{lines_of}
+use Rattle.control_core.specs.Seated.{Seated, control_of}
+use Rattle.control_core.specs.Seated as control
+use Rattle.cpu_core.specs.declared.parts.Parts.{Parts as CpuParts}
+use Rattle.cpu_core.specs.Cpus.{cpu_of}
+use Rattle.cpu_core.specs.Cpus as cpu
+use Rattle.cpu_core.specs.Taken.{IsCpuOf}
+
+-- the shape of the words, the words, control and the CPUs
+pub record Parts : Type 0 where
+  pub shape : Shape
+  pub words : List ℕ
+  pub control : Seated
+  pub cpus : List CpuParts
+
+-- ## the history
+
+-- the item that is marked at a place, if there is one
+abbrev pub item_in : List Stamped → ℕ → Option Item
+item_in [] p = None
+item_in (s ∷ rest) p = if s.place == p then Some s.item else item_in rest p
+
+-- one of two, the first if there is one
+abbrev pub or_item : Option Item → Option Item → Option Item
+or_item (Some item) other = Some item
+or_item None other = other
+
+-- the same of several lists
+abbrev pub item_among : List (List Stamped) → ℕ → Option Item
+item_among [] p = None
+item_among (xs ∷ rest) p = or_item (item_in xs p) (item_among rest p)
+
+-- an item before others, if there is one
+abbrev pub before : Option Item → List Item → List Item
+before None past = past
+before (Some item) past = item ∷ past
+
+-- the items below a place, the latest first
+abbrev pub past_below : List (List Stamped) → ℕ → List Item
+past_below ls zero = []
+past_below ls (suc p) = before (item_among ls p) (past_below ls p)
+
+-- what control and each CPU have marked
+abbrev pub lists : Parts → List (List Stamped)
+lists w = w.control.items ∷ map (λ c. c.marked.items) w.cpus
+
+-- how many items the clock has counted
+abbrev pub counted : Parts → ℕ
+counted w = low (get_or w.words 0 0)
+
+-- all items, the latest first
+abbrev pub past_of : Parts → List Item
+past_of w = past_below (lists w) (counted w)
+
+-- ## the world
+
+-- the word machine's words; one that the job doesn't have is as at the start
+abbrev pub words_of : Job → List ℕ → Words
+words_of job list = words_in (shape_of job) (mask_of (desk job 0) (length job.tasks)) list
+
+-- the machine's CPU, or another one if there is none
+abbrev pub cpu_or : Job → Cpu → Option CpuParts → Cpu
+cpu_or job otherwise None = otherwise
+cpu_or job otherwise (Some c) = cpu_of job c
+
+-- the machine's CPUs; one that the job doesn't have is as at the start
+abbrev pub cpus_of : Job → List CpuParts → ℕ → Cpu
+cpus_of job cpus c = cpu_or job (cpu_start job c) (slice_get cpus c)
+
+-- the world
+abbrev pub world_of : Job → Parts → World
+world_of job w = record {
+  words = words_of job w.words;
+  control = control_of w.control;
+  cpus = cpus_of job w.cpus;
+  past = past_of w;
+}
+
+-- ## of which job it is the machine
+
+-- CPU c of a job, with room for all that its tasks mark
+pub record IsCpuAt (job : Job) (w : Parts) (c : ℕ) (x : CpuParts) : Type 0 where
+  pub is_for : cpu.IsFor job x
+  pub number : x.polls.poll.cpu ≡ c
+  pub room : x.marked.room ≡ room_on job c
+  pub marked : length x.marked.items ≡ items_on job c (past_of w)
+
+-- the items are marked at places that the clock has counted
+abbrev pub AreCounted : ℕ → List Stamped → Type 0
+AreCounted n items = Each (λ s. s.place < n) items
+
+-- the machine of a job
+pub record IsFor (job : Job) (w : Parts) : Type 0 where
+  pub shape' : w.shape ≡ shape_of job
+  pub count : length w.words ≡ len (shape_of job)
+  pub control' : control.IsFor job w.control
+  pub cpus' : length w.cpus ≡ length job.quanta
+  pub each : (c : ℕ) (x : CpuParts) → slice_get w.cpus c ≡ Some x → IsCpuAt job w c x
+  pub places : Each (AreCounted (counted w)) (lists w)
+
+-- ## what it keeps
+
+-- the machine of some job, whose world runs
+pub record IsRunning (w : Parts) : Type 0 where
+  pub job : Job
+  pub limited : IsLimited job
+  pub is_for : IsFor job w
+  pub runs : Runs job (world_of job w)
+
+-- ## at the start
+
+-- what is declared for the machine of a job
+pub record Declares (job : Job) (d : Seen) (ctls : List Ctl) (plans : List CpuPlan) (specs : List Spec) (frames : ℕ) (shape : Shape) : Type 0 where
+  pub limited : IsLimited job
+  pub desk' : d ≡ opened d.declared
+  pub of' : IsOf job d.declared
+  pub shape' : shape ≡ shape_of job
+  pub lines : lines_of shape.tasks ctls ≡ job.ctls
+  pub cpus : length plans ≡ length job.quanta
+  pub each : (c : ℕ) (p : CpuPlan) → slice_get plans c ≡ Some p → IsCpuOf job p c specs frames shape × (p.quantum ≤ QUANTUM)

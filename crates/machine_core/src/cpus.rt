@@ -1,0 +1,78 @@
+//! The CPUs of a script before their first steps.
+
+ghost use Rattle.std.specs.Prelude.{◌≡◌, ◌≤◌, length, sum_by, All, IfOk};
+ghost use Rattle.ft_base.specs.declared.limits.TheConstants.{ACTS, TASKS};
+ghost use Rattle.ft_base.specs.Job.{Job};
+ghost use Rattle.user_specs.specs.declared.plan.TaskPlan.{TaskPlan as DeclaredPlan};
+ghost use Rattle.history_bound.specs.Bound.{calls_in};
+ghost use Rattle.machine_core.specs.Starts.{AreFirst, ArePlansOf, IsFirst, IsPlanOf};
+
+use cpu_core::Cpu;
+use ft_base::{CpuNo, NoMemory, TaskAct};
+use std::alloc::Global;
+use user_specs::{CpuPlan, Spec, call_bound};
+use word_map::WordMap;
+
+/// A CPU for each of these plans. The error says that memory ran out.
+pub(crate) fn new_cpus(
+    alloc: Global,
+    plans: &[CpuPlan],
+    specs: &[Spec],
+    frames: u32,
+    map: WordMap,
+) -> Result<Vec<Cpu>, NoMemory>
+    requires { (job : Job) × ArePlansOf job plans.now specs.now frames map }
+    ensures { IfOk result (λ cpus. (job : Job) → ArePlansOf job plans.now specs.now frames map → AreFirst job cpus.items) }
+{
+    let mut cpus = Vec::with_capacity(alloc, plans.len()).map_err(|_| NoMemory)?;
+    for c in 0..map.shape().cpus {
+        let plan = &plans[c as usize];
+        cpus.push_reserved(new_cpu(alloc, plan, CpuNo(c), specs, frames, map)?);
+    }
+    Ok(cpus)
+}
+
+/// A CPU of this number, with room for all items that its tasks' calls can make. The error says that
+/// memory ran out.
+fn new_cpu(
+    alloc: Global,
+    plan: &CpuPlan,
+    cpu: CpuNo,
+    specs: &[Spec],
+    frames: u32,
+    map: WordMap,
+) -> Result<Cpu, NoMemory>
+    requires { (job : Job) × IsPlanOf job plan.now cpu.0 specs.now frames map }
+    ensures { IfOk result (λ made. (job : Job) → IsPlanOf job plan.now cpu.0 specs.now frames map → IsFirst job cpu.0 made) }
+{
+    let room = call_bound(specs) * calls_of(plan);
+    Cpu::new(alloc, plan, cpu, specs, frames, room, map)
+}
+
+/// How many calls the scripts of a CPU's tasks make.
+fn calls_of(plan: &CpuPlan) -> u32
+    requires tasks { length plan.now.tasks.items ≤ TASKS }
+    requires acts { All (λ (p : DeclaredPlan). length p.acts.items ≤ ACTS) plan.now.tasks.items }
+    ensures { result ≡ sum_by (λ (p : DeclaredPlan). calls_in p.acts.items) plan.now.tasks.items }
+{
+    let mut calls: u32 = 0;
+    for task in plan.tasks.as_slice() {
+        calls += calls_in(task.acts.as_slice());
+    }
+    calls
+}
+
+/// How many of these acts are calls.
+fn calls_in(acts: &[TaskAct]) -> u32
+    requires { length acts.now ≤ ACTS }
+    ensures calls { result ≡ calls_in acts.now }
+    ensures few { result ≤ length acts.now }
+{
+    let mut calls: u32 = 0;
+    for act in acts {
+        if let TaskAct::Call(_) = act {
+            calls += 1;
+        }
+    }
+    calls
+}

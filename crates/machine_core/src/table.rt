@@ -1,0 +1,58 @@
+//! The shared words in a list, and the operations on them.
+
+ghost use Rattle.std.specs.Prelude.{◌≡◌, ◌<◌, ◌^◌, get_or, length, IfOk};
+ghost use Rattle.word_map.specs.Places.{IsOpening};
+ghost use Rattle.machine_core.specs.Tables.{HasRoomAt, IsOn, gives, made};
+
+use ft_base::NoMemory;
+use std::alloc::Global;
+use std::marker::Model;
+use word_map::{Op, WordMap};
+
+/// The shared words. Contracts see them as a list, the clock first.
+#[derive(Debug, Drop)]
+pub(crate) struct Table {
+    words: Vec<u64>,
+}
+
+impl Model for Table {
+    ghost use Rattle.std.specs.Prelude.{ℕ, List};
+
+    ghost Value = { List ℕ };
+
+    ghost view = { λ d. d.words.items };
+}
+
+impl Table {
+    /// The words at the start, when these tasks are traced: every call site is the nop, and nobody is
+    /// registered. The error says that memory ran out.
+    pub(crate) fn new(alloc: Global, map: &WordMap, pids: u64) -> Result<Table, NoMemory>
+        ensures { IfOk result (λ t. IsOpening map.now pids t) }
+    {
+        let words = map.opening(alloc, pids)?;
+        Ok(Table { words })
+    }
+
+    /// Makes an operation. The answer is the value that it gives: what a loaded word holds, the clock
+    /// before a mark, and 0 for a store.
+    pub(crate) fn make(&mut self, op: Op) -> u64
+        requires on { IsOn (length self.old) op }
+        requires room { HasRoomAt self.old op }
+        ensures words { self.new ≡ made op self.old }
+        ensures value { result ≡ gives op self.old }
+    {
+        match op {
+            Op::Load { word } => self.words[word as usize],
+            Op::Store { word, value } => {
+                self.words[word as usize] = value;
+                0
+            }
+            Op::Mark { command } => {
+                let clock = self.words[0];
+                // The high half counts the items of commands, the low half all items.
+                self.words[0] = clock + if command { 0x1_0000_0001 } else { 1 };
+                clock
+            }
+        }
+    }
+}

@@ -1,0 +1,66 @@
+-- The job of the test: one function, and one CPU without tasks.
+use Rattle.std.proofs.Common.{◌≡◌, ℕ, zero, suc, ◌≤◌, List, [], ◌∷◌, length, map, slice_get, Some, refl, sym, ap, ◌∙◌, subst, arith}
+use Rattle.std.proofs.lemmas.Option.{none-some, same_Some}
+use Rattle.std.specs.List.{AllByRecursion as Each}
+use Rattle.ft_base.specs.declared.limits.TheConstants.{QUANTUM}
+use Rattle.ft_base.specs.Job.{Job, no_func, no_task}
+use Rattle.user_specs.specs.declared.plan.CpuPlan.{CpuPlan}
+use Rattle.user_specs.specs.declared.plan.TaskPlan.{TaskPlan}
+use Rattle.word_map.specs.declared.shape.Shape.{Shape}
+use Rattle.ft_desk.specs.Declarations.{IsOf, declared_by}
+use Rattle.ft_desk.specs.Seen.{Seen, opened}
+use Rattle.word_machine.specs.Limits.{IsLimited}
+use Rattle.cpu_core.specs.Taken.{IsCpuOf}
+use Rattle.machine_core.specs.Worlds.{Declares}
+
+abbrev pub small : Job
+small = record { functions = no_func ∷ []; users = []; frames = 1; tramps = 1; quanta = 1 ∷ []; tasks = []; ctls = []; schedule = [] }
+
+abbrev pub small_shape : Shape
+small_shape = record { funcs = 1; users = 0; cpus = 1; tasks = 0; tramps = 1 }
+
+limited : IsLimited small
+limited = record {
+  job' = record { commands = tt; acts = tt; tasks = tt };
+  placed = tt;
+  waits = tt;
+  raised = tt;
+  ctls = omega arith;
+  users = omega arith;
+  tasks = omega arith;
+  functions = omega arith;
+  frames = omega arith;
+  tramps = omega arith;
+  levels = tt;
+  acts = omega arith;
+  items = omega arith;
+}
+
+module _ (p : CpuPlan) (quantum : p.quantum ≡ 1) (tasks : p.tasks.items ≡ []) where
+  cpu-of : IsCpuOf small p 0 [] 1 small_shape × (p.quantum ≤ QUANTUM)
+  cpu-of = (
+    record {
+      shape' = refl;
+      users = refl;
+      frames' = refl;
+      quantum = quantum;
+      numbers = ap (λ (ps : List TaskPlan). map (λ (t : TaskPlan). t.task.0) ps) tasks;
+      acts = subst (λ (ps : List TaskPlan). Each (λ (t : TaskPlan). t.acts.items ≡ no_task.acts) ps) (sym tasks) tt;
+    },
+    omega (arith, quantum),
+  )
+
+  each : (c : ℕ) (q : CpuPlan) → slice_get (p ∷ []) c ≡ Some q → IsCpuOf small q c [] 1 small_shape × (q.quantum ≤ QUANTUM)
+  each zero q e = subst (λ x. IsCpuOf small x 0 [] 1 small_shape × (x.quantum ≤ QUANTUM)) (same_Some p q e) cpu-of
+  each (suc c) q e = absurd (none-some q e)
+
+  pub declares : (d : Seen) → d ≡ opened (declared_by [] small_shape) → Declares small d [] (p ∷ []) [] 1 small_shape
+  declares d e = record {
+    limited = limited;
+    desk' = e ∙ sym (ap (λ (x : Seen). opened x.declared) e);
+    of' = subst (λ (x : Seen). IsOf small x.declared) (sym e) (record { specs = refl; funcs = refl; tasks = refl; tramps = refl });
+    shape' = refl;
+    lines = refl;
+    cpus = refl;
+    each = each;
+  }
