@@ -6,6 +6,7 @@ use Rattle.ft_base.specs.declared.item.Stamped.{Stamped}
 use Rattle.ft_base.specs.declared.turn.Actor.TheVariants as actor
 use Rattle.ft_base.specs.Desk.{desk}
 use Rattle.ft_base.specs.Job.{Job}
+use Rattle.ft_hist.specs.Shown.{Shown}
 use Rattle.word_map.specs.declared.op.Op.{Op}
 use Rattle.word_map.specs.declared.shape.Shape.{Shape}
 use Rattle.word_map.specs.Contents.{mask_of}
@@ -22,15 +23,17 @@ use Rattle.word_machine.proofs.WordsFit.{control-row-runs}
 use Rattle.control_core.specs.Seated.{IsFor as IsControlFor, Seated, control_of}
 use Rattle.control_core.specs.Steps.{marks_in}
 use Rattle.cpu_core.specs.declared.parts.Parts.{Parts as CpuParts}
+use Rattle.machine_core.specs.Recorded.{HasRoomFor, IsAdded}
 use Rattle.machine_core.specs.Tables.{HasRoomAt, IsOn, gives, made}
 use Rattle.machine_core.specs.Worlds.{IsFor, Parts, lists, past_of, world_of}
 use Rattle.machine_core.proofs.Made.{IsOpThere, gives-is, made-is, made-length, of-job, on-is, room-is}
 use Rattle.machine_core.proofs.Moved.{HasMoved}
-use Rattle.machine_core.proofs.Marking.{Chosen, Follows, chosen, none-next, past-is, places-are}
+use Rattle.machine_core.proofs.Marking.{Chosen, Follows, chosen, none-next, past-is, places-are, stamp}
+use Rattle.machine_core.proofs.Recording.{Marks, recorded-on, room-for}
 
--- the words, control and CPUs after a step of control
-abbrev pub controlled : Parts → List ℕ → Seated → Parts
-controlled w words d = record { shape = w.shape; words = words; control = d; cpus = w.cpus }
+-- the words, control, CPUs and history after a step of control
+abbrev pub controlled : Parts → List ℕ → Seated → Shown → Parts
+controlled w words d h = record { shape = w.shape; words = words; control = d; cpus = w.cpus; history = h }
 
 module _ (job : Job) (limited : IsLimited job) (w : Parts) (k : IsFor job w) (r : Runs job (world_of job w)) where
   -- with no operation nothing happens
@@ -54,11 +57,23 @@ module _ (job : Job) (limited : IsLimited job) (w : Parts) (k : IsFor job w) (r 
     room : HasRoomAt w.words (placed (shape_of job) op)
     room = room-is (shape_of job) (mask_of (desk job 0) (length job.tasks)) w.words k.count op runs-on.fits
 
+    -- its items are one more after a mark
+    marks : (had items : List Stamped) (o : WordOp) → items ≡ had ++ marks_in (Some o) (gives (placed (shape_of job) o) w.words) → Marks o had items
+    marks had items (Load x) e = record {}
+    marks had items (Store x y) e = record {}
+    marks had items (Mark item) e = (stamp (get_or w.words 0 0) item, e, refl)
+
+    -- and the history has room for it
+    space : (items : List Stamped) → items ≡ w.control.items ++ marks_in (Some op) (gives (placed (shape_of job) op) w.words)
+        → HasRoomFor (placed (shape_of job) op) items w.history
+    space items e = room-for job w k.recorded (shape_of job) op runs-on.kept.legal w.control.items items (marks w.control.items items op e)
+
     module _ (d : Seated) (is_for : IsControlFor job d)
         (is : control_of d ≡ control_got job (control_of w.control) (gives (placed (shape_of job) op) w.words))
-        (items : d.items ≡ w.control.items ++ marks_in (Some op) (gives (placed (shape_of job) op) w.words)) where
+        (items : d.items ≡ w.control.items ++ marks_in (Some op) (gives (placed (shape_of job) op) w.words))
+        (h : Shown) (added : IsAdded (placed (shape_of job) op) d.items w.history h) where
       abbrev after : Parts
-      after = controlled w (made (placed (shape_of job) op) w.words) d
+      after = controlled w (made (placed (shape_of job) op) w.words) d h
 
       follows-in : (o : WordOp) → d.items ≡ w.control.items ++ marks_in (Some o) (gives (placed (shape_of job) o) w.words)
           → Follows o (get_or w.words 0 0) (lists w) (lists after)
@@ -96,6 +111,7 @@ module _ (job : Job) (limited : IsLimited job) (w : Parts) (k : IsFor job w) (r 
           marked = own.marked ∙ sym (ap (λ (past : List Item). items_on job c past) past-moved ∙ same-items c op next);
         });
         places = places-are job w k.places r.kept k.count op there row refl refl runs-on.kept (lists after) (follows-in op items);
+        recorded = recorded-on job w k.recorded (shape_of job) op w.control.items d.items (marks w.control.items d.items op items) after past-moved added;
       }
 
 -- ## as code has the operation
@@ -112,22 +128,33 @@ module _ (job : Job) (limited : IsLimited job) (w : Parts) (k : IsFor job w) (r 
   unfolding step
   stepped = sym (ap (λ o. control_moved job (world_of job w) o) x.is)
 
+  module _ (v : ℕ) (value : v ≡ gives code w.words) (items : List Stamped)
+      (items-are : items ≡ w.control.items ++ marks_in (control_next job (control_of w.control)) v) where
+    at-value : v ≡ gives (placed (shape_of job) x.op) w.words
+    at-value = value ∙ ap (λ o. gives o w.words) (sym x.placed')
+
+    items-in : items ≡ w.control.items ++ marks_in (Some x.op) (gives (placed (shape_of job) x.op) w.words)
+    items-in = items-are ∙ (λ i. w.control.items ++ marks_in (x.is i) (at-value i))
+
+    pub control-space : HasRoomFor code items w.history
+    control-space = subst (λ o. HasRoomFor o items w.history) x.placed' (space job limited w k r x.op x.is items items-in)
+
   pub control-moved : (words : List ℕ) → words ≡ made code w.words → (v : ℕ) → v ≡ gives code w.words → (d : Seated) → IsControlFor job d
       → control_of d ≡ control_got job (control_of w.control) v
       → d.items ≡ w.control.items ++ marks_in (control_next job (control_of w.control)) v
-      → HasMoved job (controlled w words d) (step job actor.Control (world_of job w))
-  control-moved words words-are v value d is_for is items =
-      let at : v ≡ gives (placed (shape_of job) x.op) w.words = value ∙ ap (λ o. gives o w.words) (sym x.placed') in
+      → (h : Shown) → IsAdded code d.items w.history h
+      → HasMoved job (controlled w words d h) (step job actor.Control (world_of job w))
+  control-moved words words-are v value d is_for is items h added =
       let is' : control_of d ≡ control_got job (control_of w.control) (gives (placed (shape_of job) x.op) w.words) =
-      is ∙ ap (λ n. control_got job (control_of w.control) n) at in
-      let items' : d.items ≡ w.control.items ++ marks_in (Some x.op) (gives (placed (shape_of job) x.op) w.words) =
-      items ∙ (λ i. w.control.items ++ marks_in (x.is i) (at i)) in
+      is ∙ ap (λ n. control_got job (control_of w.control) n) (at-value v value d.items items) in
+      let items' = items-in v value d.items items in
       let same : made (placed (shape_of job) x.op) w.words ≡ words = ap (λ o. made o w.words) x.placed' ∙ sym words-are in
-      subst (λ ws. HasMoved job (controlled w ws d) (step job actor.Control (world_of job w))) same
+      let added' : IsAdded (placed (shape_of job) x.op) d.items w.history h = subst (λ o. IsAdded o d.items w.history h) (sym x.placed') added in
+      subst (λ ws. HasMoved job (controlled w ws d h) (step job actor.Control (world_of job w))) same
       (record {
-        is_for = control-keeps job limited w k r x.op x.is d is_for is' items';
-        is = control-moves job limited w k r x.op x.is d is_for is' items' ∙ stepped;
-        runs = subst (λ s. Runs job s) (sym (control-moves job limited w k r x.op x.is d is_for is' items')) (runs-on job limited w k r x.op x.is);
+        is_for = control-keeps job limited w k r x.op x.is d is_for is' items' h added';
+        is = control-moves job limited w k r x.op x.is d is_for is' items' h added' ∙ stepped;
+        runs = subst (λ s. Runs job s) (sym (control-moves job limited w k r x.op x.is d is_for is' items' h added')) (runs-on job limited w k r x.op x.is);
       })
 
 -- ## from the code's answers

@@ -11,6 +11,7 @@ use Rattle.ft_base.specs.declared.number.CpuNo.{CpuNo}
 use Rattle.ft_base.specs.Desk.{desk}
 use Rattle.ft_base.specs.Job.{Job}
 use Rattle.ft_base.proofs.Small.{false_true}
+use Rattle.ft_hist.specs.Shown.{Shown}
 use Rattle.word_map.specs.declared.op.Op.{Op}
 use Rattle.word_map.specs.Contents.{mask_of}
 use Rattle.word_map.specs.Ops.{WordOp, Load, Store, Mark, placed}
@@ -32,10 +33,12 @@ use Rattle.cpu_core.specs.CpuSteps.{marks_in}
 use Rattle.cpu_core.specs.Taken.{IsTaken}
 use Rattle.cpu_core.specs.TaskOps.{item_in}
 use Rattle.cpu_core.proofs.Lookups.{get-set}
+use Rattle.machine_core.specs.Recorded.{HasRoomFor, IsAdded}
 use Rattle.machine_core.specs.Tables.{HasRoomAt, IsOn, gives, made}
 use Rattle.machine_core.specs.Worlds.{IsCpuAt, IsFor, Parts, cpu_or, cpus_of, lists, past_of, world_of}
 use Rattle.machine_core.proofs.Made.{IsOpThere, gives-is, made-is, made-length, of-job, on-is, room-is}
-use Rattle.machine_core.proofs.Marking.{Chosen, Follows, chosen, none-next, past-is, places-are}
+use Rattle.machine_core.proofs.Marking.{Chosen, Follows, chosen, none-next, past-is, places-are, stamp}
+use Rattle.machine_core.proofs.Recording.{Marks, recorded-on, room-for}
 use Rattle.machine_core.proofs.Moved.{HasMoved}
 use Rattle.machine_core.proofs.Past.{map-grows, map-kept}
 
@@ -60,9 +63,9 @@ module _ (job : Job) (cpus : List CpuParts) (i : ℕ) (x y : CpuParts) (at : sli
   pub cpus-put : cpus_of job (set cpus i y) ≡ at_put (cpus_of job cpus) i (cpu_of job y)
   cpus-put = λ j k. put-at k j
 
--- the words, control and CPUs after a step of a CPU
-abbrev pub ran : Parts → List ℕ → ℕ → CpuParts → Parts
-ran w words i y = record { shape = w.shape; words = words; control = w.control; cpus = set w.cpus i y }
+-- the words, control, CPUs and history after a step of a CPU
+abbrev pub ran : Parts → List ℕ → ℕ → CpuParts → Shown → Parts
+ran w words i y h = record { shape = w.shape; words = words; control = w.control; cpus = set w.cpus i y; history = h }
 
 module _ (job : Job) (limited : IsLimited job) (w : Parts) (k : IsFor job w) (r : Runs job (world_of job w))
     (i : ℕ) (x : CpuParts) (at : slice_get w.cpus i ≡ Some x) where
@@ -124,12 +127,24 @@ module _ (job : Job) (limited : IsLimited job) (w : Parts) (k : IsFor job w) (r 
         let b = own.room in
         omega (arith, lt, a, b)
 
+    -- its items are one more after a mark
+    marks : (had items : List Stamped) (o : WordOp) → items ≡ had ++ marks_in (Some o) (gives (placed (shape_of job) o) w.words) → Marks o had items
+    marks had items (Load a) e = record {}
+    marks had items (Store a b) e = record {}
+    marks had items (Mark item) e = (stamp (get_or w.words 0 0) item, e, refl)
+
+    -- and the history has room for it
+    space : (items : List Stamped) → items ≡ x.marked.items ++ marks_in (Some op) (gives (placed (shape_of job) op) w.words)
+        → HasRoomFor (placed (shape_of job) op) items w.history
+    space items e = room-for job w k.recorded (shape_of job) op runs-on.kept.legal x.marked.items items (marks x.marked.items items op e)
+
     module _ (y : CpuParts) (is_for : IsCpuFor job y)
         (is : cpu_of job y ≡ cpu_got job (cpu_of job x) (gives (placed (shape_of job) op) w.words))
         (items : y.marked.items ≡ x.marked.items ++ marks_in (Some op) (gives (placed (shape_of job) op) w.words))
-        (same-room : y.marked.room ≡ x.marked.room) where
+        (same-room : y.marked.room ≡ x.marked.room)
+        (h : Shown) (added : IsAdded (placed (shape_of job) op) y.marked.items w.history h) where
       abbrev after : Parts
-      after = ran w (made (placed (shape_of job) op) w.words) i y
+      after = ran w (made (placed (shape_of job) op) w.words) i y h
 
       follows-in : (o : WordOp) → y.marked.items ≡ x.marked.items ++ marks_in (Some o) (gives (placed (shape_of job) o) w.words)
           → Follows o (get_or w.words 0 0) (lists w) (lists after)
@@ -214,6 +229,7 @@ module _ (job : Job) (limited : IsLimited job) (w : Parts) (k : IsFor job w) (r 
         cpus' = length-set w.cpus i y ∙ k.cpus';
         each = each-cpu;
         places = places-are job w k.places r.kept k.count op there row refl refl runs-on.kept (lists after) (follows-in op items);
+        recorded = recorded-on job w k.recorded (shape_of job) op x.marked.items y.marked.items (marks x.marked.items y.marked.items op items) after past-moved added;
       }
 
 -- ## as code has the operation
@@ -240,22 +256,34 @@ module _ (job : Job) (limited : IsLimited job) (w : Parts) (k : IsFor job w) (r 
     room = λ some. mark-fits job limited w k r i x at u.op u.is u.op (next-in job limited w k r i x at u.op u.is) (subst (λ o. IsSome (item_in o)) u.is some);
   }
 
+  module _ (v : ℕ) (value : v ≡ gives code w.words) (items : List Stamped)
+      (items-are : items ≡ x.marked.items ++ marks_in (cpu_next job (cpu_of job x)) v) where
+    at-value : v ≡ gives (placed (shape_of job) u.op) w.words
+    at-value = value ∙ ap (λ o. gives o w.words) (sym u.placed')
+
+    items-in : items ≡ x.marked.items ++ marks_in (Some u.op) (gives (placed (shape_of job) u.op) w.words)
+    items-in = items-are ∙ (λ j. x.marked.items ++ marks_in (u.is j) (at-value j))
+
+    pub cpu-space : HasRoomFor code items w.history
+    cpu-space = subst (λ o. HasRoomFor o items w.history) u.placed' (space job limited w k r i x at u.op u.is items items-in)
+
   pub cpu-moved : (words : List ℕ) → words ≡ made code w.words → (v : ℕ) → v ≡ gives code w.words → (y : CpuParts) → IsCpuFor job y
       → cpu_of job y ≡ cpu_got job (cpu_of job x) v
       → y.marked.items ≡ x.marked.items ++ marks_in (cpu_next job (cpu_of job x)) v
       → y.marked.room ≡ x.marked.room
+      → (h : Shown) → IsAdded code y.marked.items w.history h
       → (n : CpuNo) → n.0 ≡ i
-      → HasMoved job (ran w words i y) (step job (actor.Cpu n) (world_of job w))
-  cpu-moved words words-are v value y is_for is items same-room n e =
-      let at-value : v ≡ gives (placed (shape_of job) u.op) w.words = value ∙ ap (λ o. gives o w.words) (sym u.placed') in
-      let is' : cpu_of job y ≡ cpu_got job (cpu_of job x) (gives (placed (shape_of job) u.op) w.words) = is ∙ ap (λ m. cpu_got job (cpu_of job x) m) at-value in
-      let items' : y.marked.items ≡ x.marked.items ++ marks_in (Some u.op) (gives (placed (shape_of job) u.op) w.words) =
-      items ∙ (λ j. x.marked.items ++ marks_in (u.is j) (at-value j)) in
+      → HasMoved job (ran w words i y h) (step job (actor.Cpu n) (world_of job w))
+  cpu-moved words words-are v value y is_for is items same-room h added n e =
+      let is' : cpu_of job y ≡ cpu_got job (cpu_of job x) (gives (placed (shape_of job) u.op) w.words) =
+      is ∙ ap (λ m. cpu_got job (cpu_of job x) m) (at-value v value y.marked.items items) in
+      let items' = items-in v value y.marked.items items in
       let same-words : made (placed (shape_of job) u.op) w.words ≡ words = ap (λ o. made o w.words) u.placed' ∙ sym words-are in
-      let goes = cpu-moves job limited w k r i x at u.op u.is y is_for is' items' same-room in
-      subst (λ ws. HasMoved job (ran w ws i y) (step job (actor.Cpu n) (world_of job w))) same-words
+      let added' : IsAdded (placed (shape_of job) u.op) y.marked.items w.history h = subst (λ o. IsAdded o y.marked.items w.history h) (sym u.placed') added in
+      let goes = cpu-moves job limited w k r i x at u.op u.is y is_for is' items' same-room h added' in
+      subst (λ ws. HasMoved job (ran w ws i y h) (step job (actor.Cpu n) (world_of job w))) same-words
       (record {
-        is_for = cpu-keeps job limited w k r i x at u.op u.is y is_for is' items' same-room;
+        is_for = cpu-keeps job limited w k r i x at u.op u.is y is_for is' items' same-room h added';
         is = goes ∙ sym (step-is job limited w k r i x at n e ∙ ap (λ o. cpu_moved job (world_of job w) i o) u.is);
         runs = subst (λ s. Runs job s) (sym goes) (runs-on job limited w k r i x at u.op u.is);
       })

@@ -5,6 +5,10 @@ pub mod Masks
 pub mod Opening
 pub mod Past
 pub mod Marking
+pub mod Recording
 pub mod Moved
 pub mod ControlMoves
 pub mod CpuMoves
+pub mod Rooms
+pub mod SiteLaws
+pub mod Ends

@@ -1,13 +1,16 @@
 -- The machine before its first step.
-use Rattle.std.proofs.Common.{◌≡◌, ℕ, suc, ◌+◌, ◌≤◌, List, [], ◌∷◌, length, map, slice_get, sum_by, Option, Some, None, refl, sym, ap, ◌∙◌, subst, arith}
+use Rattle.std.proofs.Common.{◌≡◌, ℕ, suc, ◌+◌, ◌*◌, ◌≤◌, List, [], ◌∷◌, length, map, reverse, slice_get, sum_by, Option, Some, None, refl, sym, ap, ◌∙◌, subst, arith}
 use Rattle.std.specs.List.{AllByRecursion as Each}
 use Rattle.std.proofs.lemmas.List.{length-map}
 use Rattle.std.proofs.lemmas.Option.{slice_get_within}
+use Rattle.ft_base.specs.declared.item.Item.{Item}
 use Rattle.ft_base.specs.declared.limits.TheConstants.{COMMANDS, UNTILS}
 use Rattle.ft_base.specs.Desk.{desk}
-use Rattle.ft_base.specs.Job.{Job}
+use Rattle.ft_base.specs.Job.{Job, commands}
 use Rattle.user_specs.specs.declared.plan.CpuPlan.{CpuPlan}
 use Rattle.user_specs.specs.declared.spec.Spec.{Spec}
+use Rattle.user_specs.specs.Bound.{call_bound_of}
+use Rattle.history_bound.specs.Bound.{all_calls}
 use Rattle.word_map.specs.declared.shape.Shape.{Shape}
 use Rattle.word_map.specs.Shapes.{shape_of}
 use Rattle.word_map.specs.Words.{Clock}
@@ -29,7 +32,7 @@ use Rattle.control_core.specs.Seated as control
 use Rattle.control_core.proofs.StartLaw.{starts}
 use Rattle.cpu_core.specs.declared.parts.Parts.{Parts as CpuParts}
 use Rattle.machine_core.specs.Worlds.{AreCounted, Declares, IsCpuAt, IsFor, IsRunning, Parts, counted, cpu_or, lists, past_below, past_of, world_of}
-use Rattle.machine_core.specs.Starts.{AreFirst, ArePlansOf}
+use Rattle.machine_core.specs.Starts.{AreFirst, AreListsOf, ArePlansOf}
 
 -- ## what is declared
 
@@ -43,10 +46,14 @@ module _ (job : Job) (d : Seen) (ctls : List Ctl) (plans : List CpuPlan) (specs 
         record { limited = h.limited; inside = omega (arith, within, h.cpus); of' = is.0; quick = is.1 };
   }
 
+  as-many : length ctls ≡ length job.ctls
+  as-many = sym (length-map ctls (ctl_of shape.tasks)) ∙ ap length h.lines
+
+  pub declared-lists : AreListsOf job ctls plans specs
+  declared-lists = record { limited = h.limited; lines = as-many; frames = frames; shape = shape; declared = declared-plans }
+
   pub few-lines : length ctls ≤ COMMANDS + UNTILS
-  few-lines =
-      let e : length ctls ≡ length job.ctls = sym (length-map ctls (ctl_of shape.tasks)) ∙ ap length h.lines in
-      omega (arith, e, h.limited.ctls)
+  few-lines = let e = as-many in omega (arith, e, h.limited.ctls)
 
 -- ## no items
 
@@ -67,7 +74,9 @@ module _ (w : Parts) (pids : ℕ) (d : Seen) (ctls : List Ctl) (plans : List Cpu
     (words : IsOpening w.shape pids w.words)
     (seated-shape : w.control.shape ≡ w.shape) (seated-desk : w.control.desk ≡ d) (seated-lines : w.control.lines ≡ lines_of w.shape.tasks ctls)
     (seated : control.IsOpening w.control)
-    (first : (job : Job) → ArePlansOf job plans specs frames w.shape → AreFirst job w.cpus) where
+    (first : (job : Job) → ArePlansOf job plans specs frames w.shape → AreFirst job w.cpus)
+    (blank : w.history.items ≡ [])
+    (room : (job : Job) → AreListsOf job ctls plans specs → 2 * length (commands job) + call_bound_of job.users * all_calls job.tasks ≤ w.history.spare) where
   none-counted : counted w ≡ 0
   none-counted = ap low (words.each Clock tt)
 
@@ -118,6 +127,10 @@ module _ (w : Parts) (pids : ℕ) (d : Seen) (ctls : List Ctl) (plans : List Cpu
       control' = control-is.0;
       cpus' = own.count;
       each = at;
+      recorded = record {
+        items = blank ∙ sym (ap (λ (past : List Item). reverse past) no-past);
+        room = let e = room job (declared-lists job d ctls plans specs frames w.shape h) in omega (arith, e);
+      };
       places = (subst (AreCounted (counted w)) (sym seated.items) tt, none-marked (counted w) w.cpus (λ c x e. (own.each c x e).none));
     }
 

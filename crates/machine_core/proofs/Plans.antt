@@ -27,13 +27,13 @@ use Rattle.machine_core.specs.Starts.{IsFirst, IsPlanOf}
 -- ## a CPU's tasks among those of a job
 
 -- the list has these tasks from a number on
-abbrev Stands : List Task → ℕ → List Task → Type 0
+abbrev pub Stands : List Task → ℕ → List Task → Type 0
 Stands all n ts = (i : ℕ) → get_or all (n + i) no_task ≡ get_or ts i no_task
 
-stands-tail : (all : List Task) (n : ℕ) (t : Task) (ts : List Task) → Stands all n (t ∷ ts) → Stands all (suc n) ts
+pub stands-tail : (all : List Task) (n : ℕ) (t : Task) (ts : List Task) → Stands all n (t ∷ ts) → Stands all (suc n) ts
 stands-tail all n t ts h = λ i. let e : suc n + i ≡ n + suc i = omega arith in ap (λ k. get_or all k no_task) e ∙ h (suc i)
 
-stands-head : (all : List Task) (n : ℕ) (t : Task) (ts : List Task) → Stands all n (t ∷ ts) → get_or all n no_task ≡ t
+pub stands-head : (all : List Task) (n : ℕ) (t : Task) (ts : List Task) → Stands all n (t ∷ ts) → get_or all n no_task ≡ t
 stands-head all n t ts h = let e : n ≡ n + 0 = omega arith in ap (λ k. get_or all k no_task) e ∙ h 0
 
 module _ (all : List Task) (c : ℕ) where
@@ -70,7 +70,7 @@ module _ (all : List Task) (c : ℕ) where
       by false le = omega (arith, le)
 
 -- the tasks of a CPU are those on it
-own-on : (job : Job) (c : ℕ) → tasks_of job c ≡ tasks_on job c
+pub own-on : (job : Job) (c : ℕ) → tasks_of job c ≡ tasks_on job c
 own-on job c = let e : (i : ℕ) → 0 + i ≡ i = λ i. omega arith in
     own-from job.tasks c 0 job.tasks (λ i. ap (λ k. get_or job.tasks k no_task) (e i))
 

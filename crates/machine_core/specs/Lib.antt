@@ -1,4 +1,6 @@
 pub mod Tables
+pub mod Recorded
+pub mod Sites
 pub mod Worlds
 pub mod Starts
 pub mod Kept

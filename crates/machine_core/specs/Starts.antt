@@ -6,6 +6,7 @@ use Rattle.user_specs.specs.declared.plan.CpuPlan.{CpuPlan}
 use Rattle.user_specs.specs.declared.spec.Spec.{Spec}
 use Rattle.word_map.specs.declared.shape.Shape.{Shape}
 use Rattle.word_map.specs.Shapes.{shape_of}
+use Rattle.ft_desk.specs.declared.command.Ctl.{Ctl}
 use Rattle.word_machine.specs.Cpu.{cpu_start}
 use Rattle.word_machine.specs.Laws.{room_on}
 use Rattle.word_machine.specs.Limits.{IsLimited}
@@ -25,6 +26,14 @@ pub record ArePlansOf (job : Job) (plans : List CpuPlan) (specs : List Spec) (fr
   pub shape' : shape ≡ shape_of job
   pub count : length plans ≡ length job.quanta
   pub each : (c : ℕ) (p : CpuPlan) → slice_get plans c ≡ Some p → IsPlanOf job p c specs frames shape
+
+-- the lists that are declared for a job: control's lines, the plans and the users
+pub record AreListsOf (job : Job) (ctls : List Ctl) (plans : List CpuPlan) (specs : List Spec) : Type 0 where
+  pub limited : IsLimited job
+  pub lines : length ctls ≡ length job.ctls
+  pub frames : ℕ
+  pub shape : Shape
+  pub declared : ArePlansOf job plans specs frames shape
 
 -- CPU c of a job before its first step: the machine's, with no items, and with room for all that its tasks mark
 pub record IsFirst (job : Job) (c : ℕ) (x : Parts) : Type 0 where

@@ -1,13 +1,16 @@
 -- The word machine's world that the words, control and CPUs of code stand for.
-use Rattle.std.specs.Prelude.{ℕ, zero, suc, ◌≡◌, ◌<◌, ◌≤◌, ◌==◌, List, [], ◌∷◌, get_or, length, map, slice_get, Option, Some, None, if◌then◌else◌}
+use Rattle.std.specs.Prelude.{ℕ, zero, suc, ◌≡◌, ◌+◌, ◌*◌, ◌<◌, ◌≤◌, ◌==◌, List, [], ◌∷◌, get_or, length, map, reverse, slice_get, Option, Some, None, if◌then◌else◌}
 use Rattle.std.specs.List.{AllByRecursion as Each}
 use Rattle.ft_base.specs.declared.item.Item.{Item}
 use Rattle.ft_base.specs.declared.item.Stamped.{Stamped}
 use Rattle.ft_base.specs.declared.limits.TheConstants.{QUANTUM}
 use Rattle.ft_base.specs.Desk.{desk}
-use Rattle.ft_base.specs.Job.{Job}
+use Rattle.ft_base.specs.Job.{Job, commands}
+use Rattle.ft_hist.specs.Shown.{Shown}
+use Rattle.history_bound.specs.Bound.{all_calls}
 use Rattle.user_specs.specs.declared.plan.CpuPlan.{CpuPlan}
 use Rattle.user_specs.specs.declared.spec.Spec.{Spec}
+use Rattle.user_specs.specs.Bound.{call_bound_of}
 use Rattle.word_map.specs.declared.shape.Shape.{Shape}
 use Rattle.word_map.specs.Shapes.{shape_of}
 use Rattle.word_map.specs.Words.{Words}
@@ -28,12 +31,13 @@ use Rattle.cpu_core.specs.Cpus.{cpu_of}
 use Rattle.cpu_core.specs.Cpus as cpu
 use Rattle.cpu_core.specs.Taken.{IsCpuOf}
 
--- the shape of the words, the words, control and the CPUs
+-- the shape of the words, the words, control, the CPUs, and the history that is kept
 pub record Parts : Type 0 where
   pub shape : Shape
   pub words : List ℕ
   pub control : Seated
   pub cpus : List CpuParts
+  pub history : Shown
 
 -- ## the history
 
@@ -111,6 +115,11 @@ pub record IsCpuAt (job : Job) (w : Parts) (c : ℕ) (x : CpuParts) : Type 0 whe
 abbrev pub AreCounted : ℕ → List Stamped → Type 0
 AreCounted n items = Each (λ s. s.place < n) items
 
+-- the history that is kept has the items in order, and room for all that the job can make
+pub record IsRecorded (job : Job) (w : Parts) : Type 0 where
+  pub items : w.history.items ≡ reverse (past_of w)
+  pub room : 2 * length (commands job) + call_bound_of job.users * all_calls job.tasks ≤ length w.history.items + w.history.spare
+
 -- the machine of a job
 pub record IsFor (job : Job) (w : Parts) : Type 0 where
   pub shape' : w.shape ≡ shape_of job
@@ -119,6 +128,7 @@ pub record IsFor (job : Job) (w : Parts) : Type 0 where
   pub cpus' : length w.cpus ≡ length job.quanta
   pub each : (c : ℕ) (x : CpuParts) → slice_get w.cpus c ≡ Some x → IsCpuAt job w c x
   pub places : Each (AreCounted (counted w)) (lists w)
+  pub recorded : IsRecorded job w
 
 -- ## what it keeps
 

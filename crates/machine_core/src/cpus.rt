@@ -1,10 +1,17 @@
 //! The CPUs of a script before their first steps.
 
-ghost use Rattle.std.specs.Prelude.{◌≡◌, ◌≤◌, length, sum_by, All, IfOk};
+ghost use Rattle.std.specs.Prelude.{ℕ, ◌≡◌, ◌≤◌, ◌*◌, length, sum_by, All, IfOk};
+ghost use Rattle.std.specs.Option.{is_none};
 ghost use Rattle.ft_base.specs.declared.limits.TheConstants.{ACTS, TASKS};
 ghost use Rattle.ft_base.specs.Job.{Job};
 ghost use Rattle.user_specs.specs.declared.plan.TaskPlan.{TaskPlan as DeclaredPlan};
-ghost use Rattle.history_bound.specs.Bound.{calls_in};
+ghost use Rattle.user_specs.specs.Bound.{call_bound_of};
+ghost use Rattle.history_bound.specs.Bound.{all_calls, calls_in};
+ghost use Rattle.word_map.specs.declared.shape.Shape.{Shape};
+ghost use Rattle.word_machine.specs.Cpu.{cpu_next};
+ghost use Rattle.word_machine.specs.Laws.{room_on};
+ghost use Rattle.word_machine.specs.Limits.{IsLimited};
+ghost use Rattle.cpu_core.specs.Cpus.{IsFor, cpu_of};
 ghost use Rattle.machine_core.specs.Starts.{AreFirst, ArePlansOf, IsFirst, IsPlanOf};
 
 use cpu_core::Cpu;
@@ -45,8 +52,36 @@ fn new_cpu(
     requires { (job : Job) × IsPlanOf job plan.now cpu.0 specs.now frames map }
     ensures { IfOk result (λ made. (job : Job) → IsPlanOf job plan.now cpu.0 specs.now frames map → IsFirst job cpu.0 made) }
 {
-    let room = call_bound(specs) * calls_of(plan);
+    let room = room_of(plan, specs);
     Cpu::new(alloc, plan, cpu, specs, frames, room, map)
+}
+
+/// Whether a CPU has no operation left.
+pub(crate) fn has_ended(cpu: &Cpu) -> bool
+    ensures { (job : Job) → IsLimited job → IsFor job cpu.now → result ≡ is_none (cpu_next job (cpu_of job cpu.now)) }
+{
+    cpu.next().is_none()
+}
+
+/// Room for all items that the calls of the tasks of all CPUs can make.
+pub(crate) fn all_rooms(plans: &[CpuPlan], specs: &[Spec]) -> u32
+    requires { (job : Job) × (frames : ℕ) × (shape : Shape) × ArePlansOf job plans.now specs.now frames shape }
+    ensures { (job : Job) (frames : ℕ) (shape : Shape) → IsLimited job → ArePlansOf job plans.now specs.now frames shape
+        → result ≡ call_bound_of job.users * all_calls job.tasks }
+{
+    let mut room: u32 = 0;
+    for plan in plans {
+        room += room_of(plan, specs);
+    }
+    room
+}
+
+/// Room for all items that the calls of a CPU's tasks can make.
+fn room_of(plan: &CpuPlan, specs: &[Spec]) -> u32
+    requires { (job : Job) × (c : ℕ) × (frames : ℕ) × (shape : Shape) × IsPlanOf job plan.now c specs.now frames shape }
+    ensures { (job : Job) (c frames : ℕ) (shape : Shape) → IsPlanOf job plan.now c specs.now frames shape → result ≡ room_on job c }
+{
+    call_bound(specs) * calls_of(plan)
 }
 
 /// How many calls the scripts of a CPU's tasks make.

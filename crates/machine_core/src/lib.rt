@@ -3,12 +3,14 @@
 //!
 //! A *step* of an actor makes its next operation on the words: a load, a store, or a *mark*, which
 //! counts one item in the clock. The actor takes the value that the operation gives, and goes on. Each
-//! actor keeps the items that it has marked, with the place in the history that the clock told.
+//! actor keeps the items that it has marked, with the place in the history that the clock told; the
+//! machine keeps all items in one history, by place.
 //!
 //! Promised: for every job of which it is the machine, its start and each step are those of the word
-//! machine. Only the start takes memory; that it is found is only tested, in `machine_core_tests`.
-//!
-//! No caller yet.
+//! machine; the history has the word machine's items in order; it tells who is at an end, and the five
+//! bytes of each call site. A lemma for the crates above, `whole-site`, says that these bytes are whole.
+//! Only the start takes memory, and with it room for all items that the job can make; that it is found
+//! is only tested, in `machine_core_tests`.
 #![tactic(auto)]
 
 mod cpus;

@@ -33,6 +33,14 @@ impl Table {
         Ok(Table { words })
     }
 
+    /// What the word at a place holds.
+    pub(crate) fn word(&self, place: u32) -> u64
+        requires { place < length self.now }
+        ensures { result ≡ get_or self.now place 0 }
+    {
+        self.words[place as usize]
+    }
+
     /// Makes an operation. The answer is the value that it gives: what a loaded word holds, the clock
     /// before a mark, and 0 for a store.
     pub(crate) fn make(&mut self, op: Op) -> u64

@@ -1,28 +1,34 @@
 //! The words, control and the CPUs, one step at a time.
 
-ghost use Rattle.std.specs.Prelude.{◌≡◌, ◌<◌, length, All, IfOk};
+ghost use Rattle.std.specs.Prelude.{◌≡◌, [], ◌<◌, ◌≤◌, ◌+◌, ◌*◌, length, reverse, All, IfOk};
 ghost use Rattle.ft_base.specs.declared.turn.Actor.TheVariants as Actor;
 ghost use Rattle.ft_base.specs.Desk.{desk};
-ghost use Rattle.ft_base.specs.Job.{Job};
+ghost use Rattle.ft_base.specs.Job.{Job, commands};
+ghost use Rattle.history_bound.specs.Bound.{all_calls};
+ghost use Rattle.user_specs.specs.Bound.{call_bound_of};
 ghost use Rattle.word_map.specs.Contents.{mask_of};
 ghost use Rattle.control_core.specs.Lines.{IsLineIn};
 ghost use Rattle.control_core.specs.Plans.{IsDeclaredIn};
 ghost use Rattle.word_machine.specs.Laws.{Runs};
 ghost use Rattle.word_machine.specs.Limits.{IsLimited};
-ghost use Rattle.word_machine.specs.Machine.{start, step};
-ghost use Rattle.machine_core.specs.Worlds.{Declares, IsFor, world_of};
+ghost use Rattle.word_machine.specs.Machine.{start, step, is_at_end, all_end};
+ghost use Rattle.machine_core.specs.Recorded.{HasRoomFor, IsAdded};
+ghost use Rattle.machine_core.specs.Sites.{site_of};
+ghost use Rattle.machine_core.specs.Starts.{AreListsOf};
+ghost use Rattle.machine_core.specs.Worlds.{Declares, IsFor, past_of, world_of};
 
-use crate::cpus::new_cpus;
+use crate::cpus::{all_rooms, has_ended, new_cpus};
 use crate::table::Table;
 use control_core::Control;
 use cpu_core::Cpu;
-use ft_base::{Actor, CpuNo, NoMemory};
+use ft_base::{Actor, CpuNo, FuncNo, NoMemory, Stamped};
 use ft_desk::{Ctl, Desk};
+use ft_hist::History;
 use pid_filter::Pids;
 use std::alloc::Global;
 use std::marker::Model;
 use user_specs::{CpuPlan, Spec};
-use word_map::WordMap;
+use word_map::{Op, WordMap};
 
 /// The words, control and the CPUs. Contracts see them as lists, of which `world_of` makes the word
 /// machine's world. It is always the machine of some job, and its world one that the job can reach.
@@ -32,6 +38,8 @@ pub struct World {
     table: Table,
     control: Control,
     cpus: Vec<Cpu>,
+    /// All items by place. All the room is taken at the start, so that a step takes no memory.
+    history: History,
 }
 
 impl Model for World {
@@ -63,6 +71,7 @@ impl World {
         requires job { (job : Job) × Declares job desk ctls.now plans.now specs.now frames map }
         ensures { IfOk result (λ w. (job : Job) → Declares job desk ctls.now plans.now specs.now frames map → IsFor job w × (world_of job w ≡ start job)) }
     {
+        let history = new_history(alloc, ctls, plans, specs)?;
         let table = Table::new(alloc, &map, all_tasks(&map))?;
         let control = Control::new(alloc, desk, ctls, map)?;
         let cpus = new_cpus(alloc, plans, specs, frames, map)?;
@@ -71,6 +80,7 @@ impl World {
             table,
             control,
             cpus,
+            history,
         })
     }
 
@@ -98,6 +108,7 @@ impl World {
         if let Some(op) = self.control.next() {
             let value = self.table.make(op);
             self.control.got(value);
+            record_mark(&mut self.history, op, self.control.items());
         }
     }
 
@@ -109,9 +120,93 @@ impl World {
     {
         if let Some(op) = self.cpus[cpu.0 as usize].next() {
             let value = self.table.make(op);
-            self.cpus[cpu.0 as usize].got(value);
+            let own = &mut self.cpus[cpu.0 as usize];
+            own.got(value);
+            record_mark(&mut self.history, op, own.items());
         }
     }
+
+    /// Whether an actor is at its end. A CPU that there is not is as one before its first step.
+    pub fn at_end(&self, actor: Actor) -> bool
+        ensures { (job : Job) → IsLimited job → IsFor job self.now → Runs job (world_of job self.now) → result ≡ is_at_end job actor (world_of job self.now) }
+    {
+        match actor {
+            Actor::Control => self.control.next().is_none(),
+            Actor::Cpu(cpu) => match self.cpus.get(cpu.0 as usize) {
+                Some(own) => has_ended(own),
+                None => false,
+            },
+        }
+    }
+
+    /// Whether every actor is at its end.
+    pub fn all_end(&self) -> bool
+        ensures { (job : Job) → IsLimited job → IsFor job self.now → Runs job (world_of job self.now) → result ≡ all_end job (world_of job self.now) }
+    {
+        self.control.next().is_none() && self.cpus.iter().all(|cpu| has_ended(cpu))
+    }
+
+    /// How many functions have call sites.
+    pub fn functions(&self) -> u32
+        ensures { result ≡ self.now.shape.funcs }
+    {
+        self.map.shape().funcs
+    }
+
+    /// The five bytes of the call site of a function, as its two words have them now (`ftrace.rst`,
+    /// "dynamic ftrace").
+    pub fn site(&self, f: FuncNo) -> [u8; 5]
+        requires { f.0 < self.now.shape.funcs }
+        ensures { (job : Job) → IsFor job self.now → result ≡ site_of (world_of job self.now).words f.0 }
+    {
+        let head = self.table.word(self.map.head(f));
+        let tail = self.table.word(self.map.tail(f));
+        let [first, ..] = head.to_le_bytes();
+        let [second, third, fourth, fifth, ..] = tail.to_le_bytes();
+        [first, second, third, fourth, fifth]
+    }
+
+    /// What has happened so far, by place.
+    pub fn history(&self) -> &History
+        ensures { result.now.items ≡ reverse (past_of self.now) }
+    {
+        &self.history
+    }
+
+    /// What has happened; the machine is used up.
+    pub fn into_history(self) -> History
+        ensures { result.items ≡ reverse (past_of self) }
+    {
+        let World { history, .. } = self;
+        history
+    }
+}
+
+/// After a mark, adds the last of its actor's items, which it has marked.
+fn record_mark(history: &mut History, op: Op, items: &[Stamped])
+    requires { HasRoomFor op items.now history.old }
+    ensures { IsAdded op items.now history.old history.new }
+{
+    if let Op::Mark { .. } = op {
+        history.push(items[items.len() - 1].item);
+    }
+}
+
+/// An empty history with room for all items: two for each command, and what the calls of all tasks
+/// can make. The error says that memory ran out.
+fn new_history(
+    alloc: Global,
+    ctls: &[Ctl],
+    plans: &[CpuPlan],
+    specs: &[Spec],
+) -> Result<History, NoMemory>
+    requires { (job : Job) × AreListsOf job ctls.now plans.now specs.now }
+    ensures empty { IfOk result (λ h. h.items ≡ []) }
+    ensures room { IfOk result (λ h. (job : Job) → AreListsOf job ctls.now plans.now specs.now
+        → 2 * length (commands job) + call_bound_of job.users * all_calls job.tasks ≤ h.spare) }
+{
+    let room = 2 * ctls.len() as u32 + all_rooms(plans, specs);
+    History::with_room(alloc, room)
 }
 
 /// The word of the traced tasks at the start: all tasks.

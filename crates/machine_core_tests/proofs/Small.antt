@@ -1,29 +1,36 @@
--- The job of the test: one function, and one CPU without tasks.
-use Rattle.std.proofs.Common.{◌≡◌, ℕ, zero, suc, ◌≤◌, List, [], ◌∷◌, length, map, slice_get, Some, refl, sym, ap, ◌∙◌, subst, arith}
+-- The job of the test: one function, one CPU without tasks, and a command that sets the graph depth.
+use Rattle.std.proofs.Common.{◌≡◌, ℕ, zero, suc, ◌<◌, ◌≤◌, List, [], ◌∷◌, map, slice_get, Some, refl, sym, ap, ◌∙◌, subst, arith}
 use Rattle.std.proofs.lemmas.Option.{none-some, same_Some}
 use Rattle.std.specs.List.{AllByRecursion as Each}
 use Rattle.ft_base.specs.declared.limits.TheConstants.{QUANTUM}
-use Rattle.ft_base.specs.Job.{Job, no_func, no_task}
+use Rattle.ft_base.specs.Job.{Job, MaxDepth, Run, no_func, no_task}
 use Rattle.user_specs.specs.declared.plan.CpuPlan.{CpuPlan}
 use Rattle.user_specs.specs.declared.plan.TaskPlan.{TaskPlan}
 use Rattle.word_map.specs.declared.shape.Shape.{Shape}
+use Rattle.ft_desk.specs.declared.command.Command.TheVariants as command
+use Rattle.ft_desk.specs.declared.command.Ctl.{Ctl}
+use Rattle.ft_desk.specs.declared.command.Ctl.TheVariants as code
 use Rattle.ft_desk.specs.Declarations.{IsOf, declared_by}
 use Rattle.ft_desk.specs.Seen.{Seen, opened}
 use Rattle.word_machine.specs.Limits.{IsLimited}
 use Rattle.cpu_core.specs.Taken.{IsCpuOf}
-use Rattle.machine_core.specs.Worlds.{Declares}
+use Rattle.machine_core.specs.Worlds.{Declares, IsFor, Parts}
 
 abbrev pub small : Job
-small = record { functions = no_func ∷ []; users = []; frames = 1; tramps = 1; quanta = 1 ∷ []; tasks = []; ctls = []; schedule = [] }
+small = record { functions = no_func ∷ []; users = []; frames = 1; tramps = 1; quanta = 1 ∷ []; tasks = []; ctls = Run (MaxDepth 1) ∷ []; schedule = [] }
 
 abbrev pub small_shape : Shape
 small_shape = record { funcs = 1; users = 0; cpus = 1; tasks = 0; tramps = 1 }
 
+-- the same in code
+abbrev pub lines : List Ctl
+lines = code.Run (command.MaxDepth 1) ∷ []
+
 limited : IsLimited small
 limited = record {
-  job' = record { commands = tt; acts = tt; tasks = tt };
+  job' = record { commands = (record {}, tt); acts = tt; tasks = tt };
   placed = tt;
-  waits = tt;
+  waits = (record {}, tt);
   raised = tt;
   ctls = omega arith;
   users = omega arith;
@@ -31,7 +38,7 @@ limited = record {
   functions = omega arith;
   frames = omega arith;
   tramps = omega arith;
-  levels = tt;
+  levels = (omega arith, tt);
   acts = omega arith;
   items = omega arith;
 }
@@ -54,7 +61,7 @@ module _ (p : CpuPlan) (quantum : p.quantum ≡ 1) (tasks : p.tasks.items ≡ []
   each zero q e = subst (λ x. IsCpuOf small x 0 [] 1 small_shape × (x.quantum ≤ QUANTUM)) (same_Some p q e) cpu-of
   each (suc c) q e = absurd (none-some q e)
 
-  pub declares : (d : Seen) → d ≡ opened (declared_by [] small_shape) → Declares small d [] (p ∷ []) [] 1 small_shape
+  declares : (d : Seen) → d ≡ opened (declared_by [] small_shape) → Declares small d lines (p ∷ []) [] 1 small_shape
   declares d e = record {
     limited = limited;
     desk' = e ∙ sym (ap (λ (x : Seen). opened x.declared) e);
@@ -64,3 +71,13 @@ module _ (p : CpuPlan) (quantum : p.quantum ≡ 1) (tasks : p.tasks.items ≡ []
     cpus = refl;
     each = each;
   }
+
+  -- the same of equal plans and an equal shape
+  pub declares-as : (d : Seen) → d ≡ opened (declared_by [] small_shape) → (ps : List CpuPlan) → ps ≡ p ∷ [] → (s : Shape) → s ≡ small_shape
+      → Declares small d lines ps [] 1 s
+  declares-as d e ps plans s shape =
+      subst (λ x. Declares small d lines ps [] 1 x) (sym shape) (subst (λ x. Declares small d lines x [] 1 small_shape) (sym plans) (declares d e))
+
+-- its machine has a function
+pub has-function : (w : Parts) → IsFor small w → 0 < w.shape.funcs
+has-function w k = let e = ap (λ (s : Shape). s.funcs) k.shape' in omega (arith, e)

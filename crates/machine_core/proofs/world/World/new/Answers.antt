@@ -1,7 +1,13 @@
 -- Each part is that of the machine before its first step.
 use Rattle.machine_core.specs.Worlds.{Parts}
-use Rattle.machine_core.proofs.Opening.{declared-plans, few-lines, opens, opens-running}
+use Rattle.machine_core.proofs.Opening.{declared-lists, declared-plans, few-lines, opens, opens-running}
 use Rattle.machine_core.proofs.world.World.new.Goals as goal
+
+pub new_history-requires : goal.new_history-requires
+new_history-requires c = (
+  c.requires.job.0,
+  declared-lists c.requires.job.0 c.args.desk c.args.ctls.now c.args.plans.now c.args.specs.now c.args.frames c.args.map c.requires.job.1,
+)
 
 pub new-requires-2 : goal.new-requires-2
 new-requires-2 c = record {
@@ -19,17 +25,23 @@ new_cpus-requires c = (
 
 module _ (c : goal.In_ok-cpus) where
   abbrev made : Parts
-  made = record { shape = c.args.map; words = c.in_ok-table.table; control = c.in_ok-control.control; cpus = c.in_ok-cpus.cpus.items }
+  made = record {
+    shape = c.args.map;
+    words = c.in_ok-table.table;
+    control = c.in_ok-control.control;
+    cpus = c.in_ok-cpus.cpus.items;
+    history = c.in_ok-history.history;
+  }
 
 pub returns : goal.returns
 returns c =
     opens (made c) c.all_tasks.result c.args.desk c.args.ctls.now c.args.plans.now c.args.specs.now c.args.frames c.all_tasks.ensures
     (c.in_ok-table.ensures {u = tt}) c.in_ok-control.ensures.shape c.in_ok-control.ensures.desk c.in_ok-control.ensures.lines
-    c.in_ok-control.ensures.opening (c.in_ok-cpus.ensures {u = tt})
+    c.in_ok-control.ensures.opening (c.in_ok-cpus.ensures {u = tt}) c.in_ok-history.ensures.empty c.in_ok-history.ensures.room
 
 pub invariant_of-result : goal.invariant_of-result
 invariant_of-result c = record {
   running = opens-running (made c) c.all_tasks.result c.args.desk c.args.ctls.now c.args.plans.now c.args.specs.now c.args.frames c.all_tasks.ensures
       (c.in_ok-table.ensures {u = tt}) c.in_ok-control.ensures.shape c.in_ok-control.ensures.desk c.in_ok-control.ensures.lines
-      c.in_ok-control.ensures.opening (c.in_ok-cpus.ensures {u = tt}) c.requires.job.0 c.requires.job.1;
+      c.in_ok-control.ensures.opening (c.in_ok-cpus.ensures {u = tt}) c.in_ok-history.ensures.empty c.in_ok-history.ensures.room c.requires.job.0 c.requires.job.1;
 }

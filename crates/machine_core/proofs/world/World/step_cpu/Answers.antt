@@ -1,4 +1,4 @@
-use Rattle.std.proofs.Common.{◌≡◌, Some, refl, sym, subst, slice_get}
+use Rattle.std.proofs.Common.{◌≡◌, Some, refl, sym, ◌∙◌, subst, slice_get}
 use Rattle.ft_base.specs.declared.turn.Actor.TheVariants as actor
 use Rattle.ft_base.specs.Job.{Job}
 use Rattle.word_machine.specs.Laws.{Runs}
@@ -6,8 +6,9 @@ use Rattle.word_machine.specs.Limits.{IsLimited}
 use Rattle.word_machine.specs.Machine.{step}
 use Rattle.cpu_core.specs.declared.parts.Parts.{Parts as CpuParts}
 use Rattle.machine_core.specs.Kept.{parts_of}
+use Rattle.machine_core.specs.Recorded.{IsAdded}
 use Rattle.machine_core.specs.Worlds.{IsFor, IsRunning, Parts, world_of}
-use Rattle.machine_core.proofs.CpuMoves.{cpu-again, cpu-chosen, cpu-moved, cpu-none, cpu-on, cpu-rests, cpu-room, cpu-taken, cpu-takes-it, found, ran}
+use Rattle.machine_core.proofs.CpuMoves.{cpu-again, cpu-chosen, cpu-moved, cpu-none, cpu-on, cpu-rests, cpu-room, cpu-space, cpu-taken, cpu-takes-it, found, ran}
 use Rattle.machine_core.proofs.Moved.{HasMoved, moved-from, running-on}
 use Rattle.machine_core.proofs.world.World.step_cpu.Goals as goal
 
@@ -32,11 +33,25 @@ got-requires c =
     let w = parts_of c.self.inside in
     let run : IsRunning w = c.self.invariant.running in
     let lt = c.requires in
-    let at = found c.args.self.now w c.self.view_is c.args.cpu.0 lt c.index_mut.result.now c.index_mut.ensures.value in
-    cpu-taken run.job run.limited w run.is_for run.runs c.args.cpu.0 c.index_mut.result.now at c.in-Some.op
-    (cpu-again c.args.self.now w c.self.view_is c.args.cpu.0 lt c.index.result.now c.index_mut.result.now c.index.ensures c.index_mut.ensures.value
+    let at = found c.args.self.now w c.self.view_is c.args.cpu.0 lt c.index_mut-own.result.now c.index_mut-own.ensures.value in
+    cpu-taken run.job run.limited w run.is_for run.runs c.args.cpu.0 c.index_mut-own.result.now at c.in-Some.op
+    (cpu-again c.args.self.now w c.self.view_is c.args.cpu.0 lt c.index.result.now c.index_mut-own.result.now c.index.ensures c.index_mut-own.ensures.value
     c.next.result c.next.ensures c.in-Some.op c.in-Some.is run.job run.limited run.is_for)
     c.make-value.result c.make-value.ensures.value
+
+pub record_mark-requires : goal.record_mark-requires
+record_mark-requires c =
+    let w = parts_of c.self.inside in
+    let run : IsRunning w = c.self.invariant.running in
+    let lt = c.requires in
+    let cpu = c.index_mut-own.result.now in
+    let at = found c.args.self.now w c.self.view_is c.args.cpu.0 lt cpu c.index_mut-own.ensures.value in
+    let x = cpu-again c.args.self.now w c.self.view_is c.args.cpu.0 lt c.index.result.now cpu c.index.ensures c.index_mut-own.ensures.value
+    c.next.result c.next.ensures c.in-Some.op c.in-Some.is run.job run.limited run.is_for in
+    let own = (run.is_for.each c.args.cpu.0 cpu at).is_for in
+    let takes = cpu-takes-it run.job run.limited w run.is_for run.runs c.args.cpu.0 cpu at c.in-Some.op x c.make-value.result c.make-value.ensures.value in
+    cpu-space run.job run.limited w run.is_for run.runs c.args.cpu.0 cpu at c.in-Some.op x c.make-value.result c.make-value.ensures.value c.items.result.now
+    (c.items.ensures ∙ c.got.ensures.items run.job run.limited own takes)
 
 module _ (c : goal.After-self-1) where
   abbrev before : Parts
@@ -44,23 +59,24 @@ module _ (c : goal.After-self-1) where
 
   -- the CPU that takes the value
   abbrev cpu : CpuParts
-  cpu = c.index_mut.result.now
+  cpu = c.index_mut-own.result.now
 
   abbrev after : Parts
-  after = ran before c.make-value.new.self c.args.cpu.0 c.got.new.self
+  after = ran before c.make-value.new.self c.args.cpu.0 c.got.new.self c.record_mark.new.history
 
   at : slice_get before.cpus c.args.cpu.0 ≡ Some cpu
-  at = found c.args.self.now before c.self.view_is c.args.cpu.0 c.requires cpu c.index_mut.ensures.value
+  at = found c.args.self.now before c.self.view_is c.args.cpu.0 c.requires cpu c.index_mut-own.ensures.value
 
   moved : (job : Job) → IsLimited job → IsFor job before → Runs job (world_of job before) → HasMoved job after (step job (actor.Cpu c.args.cpu) (world_of job before))
   moved job limited k r =
-      let x = cpu-again c.args.self.now before c.self.view_is c.args.cpu.0 c.requires c.index.result.now cpu c.index.ensures c.index_mut.ensures.value
+      let x = cpu-again c.args.self.now before c.self.view_is c.args.cpu.0 c.requires c.index.result.now cpu c.index.ensures c.index_mut-own.ensures.value
       c.next.result c.next.ensures c.in-Some.op c.in-Some.is job limited k in
       let own = (k.each c.args.cpu.0 cpu at).is_for in
       let takes = cpu-takes-it job limited before k r c.args.cpu.0 cpu at c.in-Some.op x c.make-value.result c.make-value.ensures.value in
       cpu-moved job limited before k r c.args.cpu.0 cpu at c.in-Some.op x
       c.make-value.new.self c.make-value.ensures.words c.make-value.result c.make-value.ensures.value c.got.new.self
       (c.got.ensures.of job limited own takes) (c.got.ensures.cpu job limited own takes) (c.got.ensures.items job limited own takes) c.got.ensures.room
+      c.record_mark.new.history (subst (λ items. IsAdded c.in-Some.op items c.self.inside.history c.record_mark.new.history) c.items.ensures c.record_mark.ensures)
       c.args.cpu refl
 
 pub invariant_of-self : goal.invariant_of-self

@@ -1,0 +1,10 @@
+-- The rooms of the CPUs so far.
+use Rattle.std.proofs.Common.{◌≡◌, ℕ}
+use Rattle.ft_base.specs.Job.{Job}
+use Rattle.word_map.specs.declared.shape.Shape.{Shape}
+use Rattle.machine_core.specs.Starts.{ArePlansOf}
+use Rattle.machine_core.proofs.Rooms.{rooms_below}
+use Rattle.machine_core.proofs.cpus.all_rooms.Given as goal
+
+abbrev pub invariant-loop-plan : goal.invariant-loop-plan
+invariant-loop-plan l = (job : Job) (frames : ℕ) (shape : Shape) → ArePlansOf job l.plans l.specs frames shape → l.room ≡ rooms_below job l.plan-index

@@ -1,0 +1,25 @@
+use Rattle.std.proofs.Common.{◌≡◌, ◌*◌, ap₂, ◌∙◌, arith}
+use Rattle.word_machine.specs.Laws.{room_on}
+use Rattle.machine_core.proofs.Plans.{plan-all-acts, plan-items, plan-room, plan-tasks, plan-users}
+use Rattle.machine_core.proofs.cpus.room_of.Goals as goal
+
+pub call_bound-requires : goal.call_bound-requires
+call_bound-requires c = let r = c.requires in plan-users r.0 c.args.plan.now r.1 c.args.specs.now r.2 r.3 r.4
+
+pub calls_of-requires : goal.calls_of-requires
+calls_of-requires c = let r = c.requires in record {
+  tasks = plan-tasks r.0 c.args.plan.now r.1 c.args.specs.now r.2 r.3 r.4;
+  acts = plan-all-acts r.0 c.args.plan.now r.1 c.args.specs.now r.2 r.3 r.4;
+}
+
+pub overflow_mul-result : goal.overflow_mul-result
+overflow_mul-result c =
+    let r = c.requires in
+    let same : c.call_bound.result * c.calls_of.result ≡ room_on r.0 r.1 =
+    ap₂ (λ a b. a * b) c.call_bound.ensures c.calls_of.ensures ∙ plan-room r.0 c.args.plan.now r.1 c.args.specs.now r.2 r.3 r.4 in
+    let few = plan-items r.0 c.args.plan.now r.1 c.args.specs.now r.2 r.3 r.4 in
+    omega (arith, same, few)
+
+pub returns : goal.returns
+returns c = λ job n frames shape is.
+    ap₂ (λ a b. a * b) c.call_bound.ensures c.calls_of.ensures ∙ plan-room job c.args.plan.now n c.args.specs.now frames shape is
