@@ -8,23 +8,14 @@ use Rattle.user_specs.specs.Plain.{DeclaredTask, task_of, cpu_of}
 use Rattle.user_specs.specs.declared.plan.CpuPlan.{CpuPlan}
 use Rattle.ft_machine.specs.Parts.{found_on, or_else, found_in}
 
--- the pid and the acts of a task are the same on any CPU
-pub pid-on : (n c : ℕ) (ts : List DeclaredTask) → option_map (λ t. t.pid) (found_on n c ts) ≡ option_map (λ t. t.pid) (found_on n 0 ts)
+-- the pid of a task is the same on any CPU
+pid-on : (n c : ℕ) (ts : List DeclaredTask) → option_map (λ t. t.pid) (found_on n c ts) ≡ option_map (λ t. t.pid) (found_on n 0 ts)
 pid-on n c [] = refl
 pid-on n c (t ∷ ts) =
     elim (t.task == n) as (λ b. option_map (λ u. u.pid) (cond b (Some (record { pid = t.pid; cpu = c; acts = t.acts })) (found_on n c ts))
     ≡ option_map (λ u. u.pid) (cond b (Some (record { pid = t.pid; cpu = 0; acts = t.acts })) (found_on n 0 ts))) [
       | true ↦ refl
       | false ↦ pid-on n c ts
-    ]
-
-pub acts-on : (n c : ℕ) (ts : List DeclaredTask) → option_map (λ t. t.acts) (found_on n c ts) ≡ option_map (λ t. t.acts) (found_on n 0 ts)
-acts-on n c [] = refl
-acts-on n c (t ∷ ts) =
-    elim (t.task == n) as (λ b. option_map (λ u. u.acts) (cond b (Some (record { pid = t.pid; cpu = c; acts = t.acts })) (found_on n c ts))
-    ≡ option_map (λ u. u.acts) (cond b (Some (record { pid = t.pid; cpu = 0; acts = t.acts })) (found_on n 0 ts))) [
-      | true ↦ refl
-      | false ↦ acts-on n c ts
     ]
 
 some-map : {A B : Type 0} (f : A → B) (o : Option A) → is_some (option_map f o) ≡ is_some o
@@ -43,14 +34,16 @@ module _ (cpus : List CpuPlan) (n i : ℕ) (x : CpuPlan) (so : found_in n i (map
   cut : found_in n 0 (map cpu_of cpus) ≡ or_else (found_on n i (map task_of x.tasks.items)) (found_in n (suc i) (map cpu_of (drop (i + 1) cpus)))
   cut = sym so ∙ ap (λ (l : List CpuPlan). found_in n i (map cpu_of l)) (drop_more cpus i x lt ∙ ap (λ (y : CpuPlan). y ∷ drop (i + 1) cpus) (sym read))
 
-  module _ {X : Type 0} (f : Task → X) (same : option_map f (found_on n i (map task_of x.tasks.items)) ≡ option_map f (found_on n 0 (map task_of x.tasks.items)))
-      (o : Option X) (is : o ≡ option_map f (found_on n 0 (map task_of x.tasks.items))) where
+  module _ (o : Option ℕ) (is : o ≡ option_map (λ t. t.pid) (found_on n 0 (map task_of x.tasks.items))) where
+    here : option_map (λ t. t.pid) (found_on n i (map task_of x.tasks.items)) ≡ o
+    here = pid-on n i (map task_of x.tasks.items) ∙ sym is
+
     there : is_some (found_on n i (map task_of x.tasks.items)) ≡ is_some o
-    there = sym (some-map f (found_on n i (map task_of x.tasks.items))) ∙ ap (λ (p : Option X). is_some p) (same ∙ sym is)
+    there = sym (some-map (λ (t : Task). t.pid) (found_on n i (map task_of x.tasks.items))) ∙ ap (λ (p : Option ℕ). is_some p) here
 
     -- the task is on this CPU
-    pub found-here : is_some o ≡ true → o ≡ option_map f (found_in n 0 (map cpu_of cpus))
-    found-here some = is ∙ sym same ∙ ap (λ (p : Option Task). option_map f p) (sym (cut ∙ first-some _ _ (there ∙ some)))
+    pub found-here : is_some o ≡ true → o ≡ option_map (λ t. t.pid) (found_in n 0 (map cpu_of cpus))
+    found-here some = sym here ∙ ap (λ (p : Option Task). option_map (λ t. t.pid) p) (sym (cut ∙ first-some _ _ (there ∙ some)))
 
     -- or on a later one
     pub found-later : is_some o ≡ false → found_in n (i + 1) (map cpu_of (drop (i + 1) cpus)) ≡ found_in n 0 (map cpu_of cpus)
@@ -58,8 +51,6 @@ module _ (cpus : List CpuPlan) (n i : ℕ) (x : CpuPlan) (so : found_in n i (map
         let off : found_on n i (map task_of x.tasks.items) ≡ None = none-is _ (there ∙ none) in
         subst (λ (k : ℕ). found_in n k (map cpu_of (drop (i + 1) cpus)) ≡ found_in n 0 (map cpu_of cpus)) (sym (add-one i)) (sym (rw off at cut))
 
-pub some-pids : {A B : Type 0} (f : A → B) (o : Option A) (b : Bool) → b ≡ is_some o → b ≡ true → is_some (option_map f o) ≡ true
-some-pids f o b e some = some-map f o ∙ sym e ∙ some
-
-pub none-pids : {A B : Type 0} (f : A → B) (o : Option A) (b : Bool) → b ≡ is_some o → b ≡ false → is_some (option_map f o) ≡ false
-none-pids f o b e none = some-map f o ∙ sym e ∙ none
+-- whether a task was found tells whether its pid was
+pub told : {A B : Type 0} (f : A → B) (o : Option A) (b was : Bool) → b ≡ is_some o → b ≡ was → is_some (option_map f o) ≡ was
+told f o b was e is = some-map f o ∙ sym e ∙ is

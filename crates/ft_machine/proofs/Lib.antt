@@ -2,14 +2,7 @@ pub mod Numbered
 pub mod FindLaws
 pub mod JobLaws
 pub mod OnCpu
-pub mod FirstDesk
-pub mod Places
-pub mod Switch
-pub mod ActRows
-pub mod CtlRows
-pub mod Rooms
-pub mod KeptLaws
-pub mod ActLaws
-pub mod EndLaws
+pub mod Declared
+pub mod MachineLaws
 pub mod PlayLaws
-pub mod CopyLaws
+pub mod Replays

@@ -1,25 +1,21 @@
 -- Tasks by number, and by CPU: the one gives the other.
 use Rattle.std.proofs.Common.{cond, ◌≡◌, ℕ, zero, suc, ◌+◌, ◌<◌, ◌≤◌, Bool, true, false, ◌==◌, List, [], ◌∷◌, length, Option, Some, None, refl, sym, ap, ◌∙◌, subst, arith, eqb-true, eq-eqb}
-use Rattle.std.specs.Prelude.{slice_get, sum_by}
+use Rattle.std.specs.Prelude.{slice_get}
 use Rattle.std.specs.List.{AllByRecursion as Each}
 use Rattle.std.proofs.lemmas.List.{length-map}
 use Rattle.std.proofs.lemmas.List.Sums.{sum_by-cons}
 use Rattle.ft_base.specs.Job.{Task}
 use Rattle.ft_base.proofs.Small.{false_true, ==-refl, Each-weaker}
 use Rattle.user_specs.specs.Plain.{DeclaredTask, DeclaredCpu}
-use Rattle.ft_machine.specs.Parts.{quanta_of, tasks_on, cpus_with, cpus_from, found_on, or_else, found_in, or_none, tasks_up, tasks_of}
+use Rattle.ft_machine.specs.Parts.{quanta_of, tasks_on, cpus_with, cpus_from, found_on, or_else, found_in, or_none, tasks_up, task_count, tasks_of}
 
 -- two numbers that differ
-pub differ : (a b : ℕ) → (a ≡ b → ⊥) → (a == b) ≡ false
+differ : (a b : ℕ) → (a ≡ b → ⊥) → (a == b) ≡ false
 differ a b no_way = by (a == b) refl
   where
     by : (t : Bool) → (a == b) ≡ t → t ≡ false
     by true e = absurd (no_way (eqb-true a b e))
     by false e = refl
-
--- how many tasks the CPUs have
-abbrev pub size : List DeclaredCpu → ℕ
-size cpus = sum_by (λ c. length c.tasks) cpus
 
 above : (a c : ℕ) → c ≤ a → (a ≡ c → ⊥) → suc c ≤ a
 above a c le other = omega arith
@@ -37,22 +33,22 @@ not-on d c n k (t ∷ ts) lt =
 -- ## one task more
 
 module _ (t : Task) (ts : List Task) (n : ℕ) where
-  count-out : (c : ℕ) (qs : List ℕ) → t.cpu < c → size (cpus_with c qs n (t ∷ ts)) ≡ size (cpus_with c qs (suc n) ts)
+  count-out : (c : ℕ) (qs : List ℕ) → t.cpu < c → task_count (cpus_with c qs n (t ∷ ts)) ≡ task_count (cpus_with c qs (suc n) ts)
   count-out c [] lt = refl
   count-out c (q ∷ qs) lt =
       let off : (t.cpu == c) ≡ false = differ t.cpu c (λ e. omega arith) in
       sum_by-cons (λ (x : DeclaredCpu). length x.tasks) (record { quantum = q; tasks = tasks_on c n (t ∷ ts) }) (cpus_with (suc c) qs n (t ∷ ts))
       ∙ rw (off, count-out (suc c) qs (omega arith)) (sym (sum_by-cons (λ (x : DeclaredCpu). length x.tasks) (record { quantum = q; tasks = tasks_on c (suc n) ts }) (cpus_with (suc c) qs (suc n) ts)))
 
-  count-in : (c : ℕ) (qs : List ℕ) → c ≤ t.cpu → t.cpu < c + length qs → size (cpus_with c qs n (t ∷ ts)) ≡ suc (size (cpus_with c qs (suc n) ts))
+  count-in : (c : ℕ) (qs : List ℕ) → c ≤ t.cpu → t.cpu < c + length qs → task_count (cpus_with c qs n (t ∷ ts)) ≡ suc (task_count (cpus_with c qs (suc n) ts))
   count-in c [] le lt = absurd (omega arith)
   count-in c (q ∷ qs) le lt =
       sum_by-cons (λ (x : DeclaredCpu). length x.tasks) (record { quantum = q; tasks = tasks_on c n (t ∷ ts) }) (cpus_with (suc c) qs n (t ∷ ts))
       ∙ by (t.cpu == c) refl (λ (h : suc c ≤ t.cpu). count-in (suc c) qs h (omega arith))
       ∙ ap suc (sym (sum_by-cons (λ (x : DeclaredCpu). length x.tasks) (record { quantum = q; tasks = tasks_on c (suc n) ts }) (cpus_with (suc c) qs (suc n) ts)))
     where
-      by : (b : Bool) → (t.cpu == c) ≡ b → (suc c ≤ t.cpu → size (cpus_with (suc c) qs n (t ∷ ts)) ≡ suc (size (cpus_with (suc c) qs (suc n) ts)))
-          → length (tasks_on c n (t ∷ ts)) + size (cpus_with (suc c) qs n (t ∷ ts)) ≡ suc (length (tasks_on c (suc n) ts) + size (cpus_with (suc c) qs (suc n) ts))
+      by : (b : Bool) → (t.cpu == c) ≡ b → (suc c ≤ t.cpu → task_count (cpus_with (suc c) qs n (t ∷ ts)) ≡ suc (task_count (cpus_with (suc c) qs (suc n) ts)))
+          → length (tasks_on c n (t ∷ ts)) + task_count (cpus_with (suc c) qs n (t ∷ ts)) ≡ suc (length (tasks_on c (suc n) ts) + task_count (cpus_with (suc c) qs (suc n) ts))
       by true e further = let same : t.cpu ≡ c = eqb-true t.cpu c e in rw (e, count-out (suc c) qs (omega arith)) (omega arith)
       by false e further = rw (e, further (above t.cpu c le (λ s. false_true (sym e ∙ eq-eqb t.cpu c s)))) (omega arith)
 
@@ -85,12 +81,12 @@ found-none : (k c n : ℕ) (qs : List ℕ) → found_in k c (cpus_with c qs n []
 found-none k c n [] = refl
 found-none k c n (q ∷ qs) = found-none k (suc c) n qs
 
-count-none : (c n : ℕ) (qs : List ℕ) → size (cpus_with c qs n []) ≡ 0
+count-none : (c n : ℕ) (qs : List ℕ) → task_count (cpus_with c qs n []) ≡ 0
 count-none c n [] = refl
 count-none c n (q ∷ qs) = sum_by-cons (λ (x : DeclaredCpu). length x.tasks) (record { quantum = q; tasks = [] }) (cpus_with (suc c) qs n []) ∙ (let e = count-none (suc c) n qs in omega (arith, e))
 
 -- a CPU number from c on
-abbrev pub IsOn : ℕ → List ℕ → Task → Type 0
+abbrev IsOn : ℕ → List ℕ → Task → Type 0
 IsOn c qs t = (c ≤ t.cpu) × (t.cpu < c + length qs)
 
 found-from : (c n : ℕ) (qs : List ℕ) (ts : List Task) → Each (IsOn c qs) ts → (i : ℕ) → found_in (n + i) c (cpus_with c qs n ts) ≡ slice_get ts i
@@ -100,7 +96,7 @@ found-from c n qs (t ∷ ts) on (suc i) =
     let s : n + suc i ≡ suc n + i = omega arith in
     found-tail t ts n (n + suc i) c qs (omega arith) ∙ rw s (found-from c (suc n) qs ts on.1 i)
 
-count-from : (c n : ℕ) (qs : List ℕ) (ts : List Task) → Each (IsOn c qs) ts → size (cpus_with c qs n ts) ≡ length ts
+count-from : (c n : ℕ) (qs : List ℕ) (ts : List Task) → Each (IsOn c qs) ts → task_count (cpus_with c qs n ts) ≡ length ts
 count-from c n qs [] on = count-none c n qs
 count-from c n qs (t ∷ ts) on = count-in t ts n c qs on.0.0 on.0.1 ∙ ap suc (count-from c (suc n) qs ts on.1)
 
@@ -155,12 +151,12 @@ up-below cpus n (suc k) some = (by (found_in n 0 cpus) refl, up-below cpus (suc 
     by (Some t) e = let l = found-below n 0 cpus t e in omega arith
 
 -- each task that was found is on one of the CPUs
-pub cpu-below : (cpus : List DeclaredCpu) → Each (λ t. t.cpu < length cpus) (tasks_of cpus)
+cpu-below : (cpus : List DeclaredCpu) → Each (λ t. t.cpu < length cpus) (tasks_of cpus)
 cpu-below [] = tt
-cpu-below (x ∷ cpus) = up-below (x ∷ cpus) 0 (size (x ∷ cpus)) (omega arith)
+cpu-below (x ∷ cpus) = up-below (x ∷ cpus) 0 (task_count (x ∷ cpus)) (omega arith)
 
-pub length-tasks : (cpus : List DeclaredCpu) → length (tasks_of cpus) ≡ size cpus
-length-tasks cpus = by 0 (size cpus)
+pub length-tasks : (cpus : List DeclaredCpu) → length (tasks_of cpus) ≡ task_count cpus
+length-tasks cpus = by 0 (task_count cpus)
   where
     by : (n k : ℕ) → length (tasks_up cpus n k) ≡ k
     by n zero = refl

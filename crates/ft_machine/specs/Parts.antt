@@ -1,13 +1,15 @@
 -- What a script declares, as plain data, and its job.
 use Rattle.std.specs.Prelude.{ℕ, zero, suc, ◌≡◌, ◌≤◌, ◌==◌, List, [], ◌∷◌, length, map, sum_by, Option, Some, None, if◌then◌else◌}
 use Rattle.std.specs.List.{AllByRecursion as Each}
+use Rattle.ft_base.specs.declared.limits.TheConstants.{CPUS, QUANTUM}
 use Rattle.ft_base.specs.declared.turn.Turn.{Turn}
-use Rattle.ft_base.specs.Job.{Func, Spec, Task, no_task, Ctl, Run, Until as Waits, Register as Registers, Unregister as Unregisters, Job}
+use Rattle.ft_base.specs.Job.{Func, Spec, Task, no_task, Job}
 use Rattle.user_specs.specs.Plain.{DeclaredTask, DeclaredCpu, spec_of, cpu_of}
-use Rattle.ft_machine.specs.declared.ctl.FirstCtl.{FirstCtl}
-use Rattle.ft_machine.specs.declared.ctl.FirstCtl.TheVariants.{Register, Unregister, Until}
+use Rattle.ft_desk.specs.declared.command.Ctl.{Ctl}
+use Rattle.ft_desk.specs.Declarations.{Declared, bare}
+use Rattle.control_core.specs.Lines.{IsLineIn, lines_of}
+use Rattle.word_machine.specs.Limits.{IsLimited}
 use Rattle.ft_machine.specs.declared.job.JobParts.{JobParts}
-use Rattle.ft_machine.specs.Known.{IsKnown}
 
 -- functions, users, frames of a task's shadow stack, trampoline slots, CPUs with their tasks, control's lines and the schedule
 pub record Parts : Type 0 where
@@ -16,7 +18,7 @@ pub record Parts : Type 0 where
   pub frames : ℕ
   pub tramps : ℕ
   pub cpus : List DeclaredCpu
-  pub ctls : List FirstCtl
+  pub ctls : List Ctl
   pub schedule : List Turn
 
 -- the parts that the program holds
@@ -76,17 +78,15 @@ abbrev pub tasks_up : List DeclaredCpu → ℕ → ℕ → List Task
 tasks_up cpus n zero = []
 tasks_up cpus n (suc k) = or_none (found_in n 0 cpus) ∷ tasks_up cpus (suc n) k
 
+-- how many tasks the CPUs have
+abbrev pub task_count : List DeclaredCpu → ℕ
+task_count cpus = sum_by (λ c. length c.tasks) cpus
+
 -- all tasks of the CPUs, by number
 abbrev pub tasks_of : List DeclaredCpu → List Task
-tasks_of cpus = tasks_up cpus 0 (sum_by (λ c. length c.tasks) cpus)
+tasks_of cpus = tasks_up cpus 0 (task_count cpus)
 
 -- ## the job
-
--- a line of control
-abbrev pub ctl_of : FirstCtl → Ctl
-ctl_of Register = Run (Registers 0)
-ctl_of Unregister = Run (Unregisters 0)
-ctl_of (Until task acts) = Waits task.0 acts
 
 -- the job of a script
 unfoldable pub job_of : Parts → Job
@@ -97,13 +97,23 @@ job_of p = record {
   tramps = p.tramps;
   quanta = quanta_of p.cpus;
   tasks = tasks_of p.cpus;
-  ctls = map ctl_of p.ctls;
+  ctls = lines_of (task_count p.cpus) p.ctls;
   schedule = p.schedule;
 }
 
--- what the machine asks of a script's parts: the CPUs' tasks are those of the job, which are numbered over all CPUs; a CPU
--- has at most one; and the machine knows the job
+-- what the lines of control may name
+abbrev pub declared_of : Parts → Declared
+declared_of p = record { specs = map bare p.users; funcs = length p.functions; tasks = task_count p.cpus; tramps = p.tramps }
+
+-- What the machine asks of a script's parts.
+--   numbered   the CPUs' tasks are those of the job, which are numbered over all CPUs
+--   limited    the job is within the limits of scripts
+--   lines      the lines of control name users and tasks that there are, and each edit has a set of the functions
+--   cpus       there are no more CPUs than a script may have
+--   quanta     each has a quantum within its limit
 pub record IsWithin (p : Parts) : Type 0 where
   pub numbered : cpus_from 0 (quanta_of p.cpus) (tasks_of p.cpus) ≡ p.cpus
-  pub alone : Each (λ c. length c.tasks ≤ 1) p.cpus
-  pub known : IsKnown (job_of p)
+  pub limited : IsLimited (job_of p)
+  pub lines : Each (IsLineIn (declared_of p)) p.ctls
+  pub cpus : length p.cpus ≤ CPUS
+  pub quanta : Each (λ q. q ≤ QUANTUM) (quanta_of p.cpus)

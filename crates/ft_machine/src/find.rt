@@ -23,8 +23,7 @@ pub(crate) fn count(cpus: &[CpuPlan]) -> u32
 
 /// The task of this number among those of one CPU.
 fn find_on(tasks: &[TaskPlan], task: TaskNo) -> Option<&TaskPlan>
-    ensures pid { option_map (λ p. p.now.pid) result ≡ option_map (λ t. t.pid) (found_on task.0 0 (map task_of tasks.now)) }
-    ensures acts { option_map (λ p. p.now.acts.items) result ≡ option_map (λ t. t.acts) (found_on task.0 0 (map task_of tasks.now)) }
+    ensures { option_map (λ p. p.now.pid) result ≡ option_map (λ t. t.pid) (found_on task.0 0 (map task_of tasks.now)) }
 {
     for plan in tasks {
         if plan.task == task {
@@ -36,8 +35,7 @@ fn find_on(tasks: &[TaskPlan], task: TaskNo) -> Option<&TaskPlan>
 
 /// The task of this number, on whatever CPU.
 pub(crate) fn find(cpus: &[CpuPlan], task: TaskNo) -> Option<&TaskPlan>
-    ensures pid { option_map (λ p. p.now.pid) result ≡ option_map (λ t. t.pid) (found_in task.0 0 (map cpu_of cpus.now)) }
-    ensures acts { option_map (λ p. p.now.acts.items) result ≡ option_map (λ t. t.acts) (found_in task.0 0 (map cpu_of cpus.now)) }
+    ensures { option_map (λ p. p.now.pid) result ≡ option_map (λ t. t.pid) (found_in task.0 0 (map cpu_of cpus.now)) }
 {
     for cpu in cpus {
         let found = find_on(cpu.tasks.as_slice(), task);

@@ -1,25 +1,26 @@
 //! A job: what a script declares.
 
-ghost use Rattle.std.specs.Prelude.{◌≡◌, ◌<◌, map, length, get_or, slice_get, option_map, IfOk, IfSome};
-ghost use Rattle.ft_base.specs.Job.{no_task};
-ghost use Rattle.plain_machine.specs.State.{tasks_of as numbers_on};
+ghost use Rattle.std.specs.Prelude.{◌≡◌, map, length, slice_get, option_map, IfOk};
 ghost use Rattle.user_specs.specs.Plain.{spec_of, cpu_of};
-ghost use Rattle.ft_machine.specs.Parts.{parts_of, quanta_of, cpus_from, ctl_of, IsWithin, job_of};
-ghost use Rattle.ft_machine.specs.Known.{IsKnown};
-ghost use Rattle.ft_machine.specs.Lists.{as_list};
+ghost use Rattle.control_core.specs.Lines.{lines_of};
+ghost use Rattle.word_map.specs.Shapes.{shape_of};
+ghost use Rattle.word_machine.specs.Limits.{IsLimited};
+ghost use Rattle.word_machine.specs.Machine.{start};
+ghost use Rattle.machine_core.specs.Worlds.{IsFor, world_of};
+ghost use Rattle.ft_machine.specs.Parts.{parts_of, quanta_of, cpus_from, IsWithin, job_of};
 
-use crate::copy::copy_parts;
-use crate::ctl::FirstCtl;
 use crate::find::{count, find};
-use ft_base::{CpuNo, NoMemory, TaskAct, TaskNo};
+use ft_base::{NoMemory, TaskNo};
+use ft_desk::{Ctl, Desk};
 use ft_schedule::Schedule;
 use func_table::FuncTable;
+use machine_core::World;
 use std::alloc::Global;
 use std::marker::Model;
-use user_specs::{CpuPlan, Spec, TaskPlan};
+use user_specs::{CpuPlan, Spec};
+use word_map::{Shape, WordMap};
 
-/// What a script declares. For now there is at most one user, of kind function, with no flag and no
-/// act, and each CPU has at most one task. The limits are those of `ft_base::limits`.
+/// What a script declares. The limits are those of `ft_base::limits`.
 #[derive(Drop)]
 pub struct JobParts {
     /// The traceable functions.
@@ -28,13 +29,13 @@ pub struct JobParts {
     pub specs: Vec<Spec>,
     /// How many frames each task's shadow stack has.
     pub frames: u32,
-    /// How many trampolines there are: at least 1.
+    /// How many trampolines there are.
     pub tramps: u8,
     /// The CPUs in order, each with its quantum and its tasks. Tasks are numbered from 0 over all
     /// CPUs.
     pub cpus: Vec<CpuPlan>,
     /// What control does, in order.
-    pub ctls: Vec<FirstCtl>,
+    pub ctls: Vec<Ctl>,
     /// Whose turn it is, step by step.
     pub schedule: Schedule,
 }
@@ -63,14 +64,6 @@ impl Job {
         ensures { result ≡ job_of (parts_of parts) }
     {
         Job { parts }
-    }
-
-    /// A copy, which contracts see as the same job.
-    pub(crate) fn copy(&self, alloc: Global) -> Result<Job, NoMemory>
-        ensures { IfOk result (λ j. j ≡ self.now) }
-    {
-        let parts = copy_parts(alloc, &self.parts)?;
-        Ok(Job::new(parts))
     }
 
     /// The traceable functions.
@@ -116,8 +109,8 @@ impl Job {
 
     /// What control does, in order.
     #[tactic(auto, unfolding(crate::specs::Parts::job_of))]
-    pub fn ctls(&self) -> &[FirstCtl]
-        ensures { map ctl_of result.now ≡ self.now.ctls }
+    pub fn ctls(&self) -> &[Ctl]
+        ensures { lines_of (length self.now.tasks) result.now ≡ self.now.ctls }
     {
         self.parts.ctls.as_slice()
     }
@@ -142,39 +135,41 @@ impl Job {
 
     /// How many tasks there are, over all CPUs.
     pub fn tasks(&self) -> u32
-        ensures count { result ≡ length self.now.tasks }
-        ensures known { IsKnown self.now }
+        ensures { result ≡ length self.now.tasks }
     {
         count(self.parts.cpus.as_slice())
     }
 
-    /// The acts of a task; none if there is no such task.
-    pub(crate) fn acts(&self, task: TaskNo) -> &[TaskAct]
-        ensures { result.now ≡ (get_or self.now.tasks task.0 no_task).acts }
+    /// How many there are of each thing that has words.
+    pub(crate) fn shape(&self) -> Shape
+        ensures { result ≡ shape_of self.now }
     {
-        match find(self.parts.cpus.as_slice(), task) {
-            Some(plan) => plan.acts.as_slice(),
-            None => &[],
+        Shape {
+            funcs: self.parts.table.len(),
+            users: self.parts.specs.len() as u32,
+            cpus: self.parts.cpus.len() as u32,
+            tasks: self.tasks(),
+            tramps: self.parts.tramps,
         }
     }
 
-    /// The quantum of a CPU.
-    pub(crate) fn quantum(&self, cpu: CpuNo) -> u32
-        requires { cpu.0 < length self.now.quanta }
-        ensures { result ≡ get_or self.now.quanta cpu.0 1 }
+    /// Its machine before the first step. The error says that memory ran out.
+    pub(crate) fn world(&self, alloc: Global) -> Result<World, NoMemory>
+        ensures limited { IfOk result (λ _. IsLimited self.now) }
+        ensures of { IfOk result (λ w. IsFor self.now w) }
+        ensures opening { IfOk result (λ w. world_of self.now w ≡ start self.now) }
     {
-        self.parts.cpus[cpu.0 as usize].quantum
-    }
-
-    /// The only task of a CPU. `None` if it has none, or the job doesn't have the CPU.
-    pub(crate) fn task_on(&self, cpu: CpuNo) -> Option<&TaskPlan>
-        ensures on { numbers_on self.now cpu.0 ≡ as_list (option_map (λ p. p.now.task.0) result) }
-        ensures acts { IfSome result (λ p. p.now.acts.items ≡ (get_or self.now.tasks p.now.task.0 no_task).acts) }
-        ensures within { IfSome result (λ p. (p.now.task.0 < length self.now.tasks) × (cpu.0 < length self.now.quanta)) }
-    {
-        match self.parts.cpus.get(cpu.0 as usize) {
-            Some(plan) => plan.tasks.first(),
-            None => None,
-        }
+        let parts = &self.parts;
+        let shape = self.shape();
+        let desk = Desk::new(alloc, parts.specs.as_slice(), shape)?;
+        World::new(
+            alloc,
+            desk,
+            parts.ctls.as_slice(),
+            parts.cpus.as_slice(),
+            parts.specs.as_slice(),
+            parts.frames,
+            WordMap::new(shape),
+        )
     }
 }

@@ -2,7 +2,9 @@
 
 ghost use Rattle.std.specs.Prelude.{◌≡◌, true, reverse, IfOk};
 ghost use Rattle.ft_hist.specs.Rules.{IsLegal, IsWhole};
-ghost use Rattle.plain_machine.specs.State.{play, played, all_end};
+ghost use Rattle.ft_base.specs.Job.{Job as PlainJob};
+ghost use Rattle.word_machine.specs.Machine.{play, played, all_end};
+ghost use Rattle.ft_machine.specs.Machines.{IsOf, state_of};
 
 use crate::job::Job;
 use crate::machine::Machine;
@@ -22,8 +24,8 @@ pub struct Outcome {
 
 /// Lets the actors of a player step, up to the first moment when every actor is at its end.
 fn play(machine: &mut Machine, mut player: Player)
-    ensures state { machine.new.state ≡ played machine.old.job player.entry machine.old.state }
-    ensures job { machine.new.job ≡ machine.old.job }
+    ensures of { (job : PlainJob) → IsOf job machine.old → IsOf job machine.new }
+    ensures state { (job : PlainJob) → IsOf job machine.old → state_of job machine.new ≡ played job player.entry (state_of job machine.old) }
 {
     while !machine.all_end() {
         let Some(actor) = player.next_actor() else {
@@ -37,12 +39,12 @@ fn play(machine: &mut Machine, mut player: Player)
 /// schedule's end. Its only fault is out of memory.
 pub fn replay(alloc: Global, job: &Job) -> Result<Outcome, NoMemory>
     ensures history { IfOk result (λ o. o.history.items ≡ reverse (play job.now).past) }
-    ensures ended { IfOk result (λ o. o.ended ≡ all_end (play job.now)) }
+    ensures ended { IfOk result (λ o. o.ended ≡ all_end job.now (play job.now)) }
     ensures legal { IfOk result (λ o. IsLegal job.now o.history.items) }
     ensures whole { IfOk result (λ o. o.ended ≡ true → IsWhole job.now o.history.items) }
 {
     let mut machine = Machine::start(alloc, job)?;
-    let player = Player::new(job.schedule(), job.cpus().len() as u32);
+    let player = Player::new(job.schedule(), job.shape().cpus);
     play(&mut machine, player);
     let ended = machine.all_end();
     Ok(Outcome {

@@ -3,7 +3,7 @@
 mod histories;
 mod jobs;
 
-use ft_base::{Actor, CpuNo, Item, TaskNo, Turn, Who};
+use ft_base::{Actor, CpuNo, Item, TaskNo};
 use ft_hist::History;
 use ft_machine::{Machine, replay};
 use histories::{THIRD_FIRST, WHOLE};
@@ -25,27 +25,7 @@ const ALL: [Actor; 6] = [
     Actor::Cpu(CpuNo(4)),
 ];
 
-/// Enough turns for all actors.
-const IN_TURN: [Turn; 1] = [Turn {
-    who: Who::All,
-    count: 40,
-}];
-
-/// Not enough turns for any actor.
-const THIRD_THEN_SECOND: [Turn; 3] = [
-    Turn {
-        who: Who::Cpu(CpuNo(2)),
-        count: 3,
-    },
-    Turn {
-        who: Who::Control,
-        count: 2,
-    },
-    Turn {
-        who: Who::Cpu(CpuNo(1)),
-        count: 1,
-    },
-];
+const NOP: [u8; 5] = [0x0F, 0x1F, 0x44, 0x00, 0x00];
 
 /// The first place at which a history differs from these items.
 fn difference(history: &History, want: &[Item]) -> Option<u32> {
@@ -64,7 +44,7 @@ fn difference(history: &History, want: &[Item]) -> Option<u32> {
 #[test]
 fn replays_to_the_end(rt: HostRuntime) -> Result<(), Fail> {
     let alloc = rt.alloc();
-    let outcome = replay(alloc, &busy_job(alloc, &IN_TURN)?)?;
+    let outcome = replay(alloc, &busy_job(alloc, "sched all*1000\n")?)?;
     assert!(rt; outcome.ended);
     assert_eq!(rt; difference(&outcome.history, &WHOLE), None);
     Ok(())
@@ -73,7 +53,7 @@ fn replays_to_the_end(rt: HostRuntime) -> Result<(), Fail> {
 #[test]
 fn stops_with_the_schedule(rt: HostRuntime) -> Result<(), Fail> {
     let alloc = rt.alloc();
-    let outcome = replay(alloc, &busy_job(alloc, &THIRD_THEN_SECOND)?)?;
+    let outcome = replay(alloc, &busy_job(alloc, "sched 2*30 k*3 1*9\n")?)?;
     assert!(rt; !outcome.ended);
     assert_eq!(rt; difference(&outcome.history, &THIRD_FIRST), None);
     Ok(())
@@ -82,22 +62,31 @@ fn stops_with_the_schedule(rt: HostRuntime) -> Result<(), Fail> {
 #[test]
 fn replays_nothing(rt: HostRuntime) -> Result<(), Fail> {
     let alloc = rt.alloc();
-    let outcome = replay(alloc, &empty_job(alloc))?;
+    let outcome = replay(alloc, &empty_job(alloc)?)?;
     assert!(rt; outcome.ended);
     assert_eq!(rt; outcome.history.len(), 0);
     Ok(())
 }
 
+/// The bytes of the site of `d`.
+fn site_of_d(machine: &Machine) -> Option<[u8; 5]> {
+    if D.0 < machine.functions() {
+        Some(machine.site(D))
+    } else {
+        None
+    }
+}
+
 /// A machine whose job is gone.
 fn alone(alloc: Global) -> Result<Machine, Fail> {
-    let job = busy_job(alloc, &[])?;
+    let job = busy_job(alloc, "")?;
     Ok(Machine::start(alloc, &job)?)
 }
 
 #[test]
-fn owns_its_job(rt: HostRuntime) -> Result<(), Fail> {
+fn outlives_its_job(rt: HostRuntime) -> Result<(), Fail> {
     let mut machine = alone(rt.alloc())?;
-    for _ in 0..10 {
+    for _ in 0..1000 {
         for actor in ALL {
             machine.step(actor);
         }
@@ -110,43 +99,54 @@ fn owns_its_job(rt: HostRuntime) -> Result<(), Fail> {
 #[test]
 fn tells_who_is_at_the_end(rt: HostRuntime) -> Result<(), Fail> {
     let mut machine = alone(rt.alloc())?;
-    // The fourth task has no acts, the fifth CPU has no task, and there is no sixth CPU.
-    let ends = [false, false, false, false, true, true];
-    for (actor, end) in ALL.iter().zip(ends) {
-        assert_eq!(rt; machine.at_end(*actor), end);
+    // A CPU comes to its end by a step: also the fourth, whose task has no acts, the fifth, which has
+    // no task, and one that the job doesn't have never does.
+    for actor in ALL {
+        assert!(rt; !machine.at_end(actor));
     }
-    assert!(rt; machine.at_end(Actor::Cpu(CpuNo(5))));
+    for _ in 0..4 {
+        machine.step(Actor::Cpu(CpuNo(4)));
+        machine.step(Actor::Cpu(CpuNo(5)));
+    }
+    assert!(rt; machine.at_end(Actor::Cpu(CpuNo(4))));
+    assert!(rt; !machine.at_end(Actor::Cpu(CpuNo(5))));
     assert!(rt; !machine.all_end());
-    machine.step(SECOND);
-    assert!(rt; !machine.at_end(SECOND));
-    machine.step(SECOND);
+    for _ in 0..20 {
+        machine.step(SECOND);
+    }
     assert!(rt; machine.at_end(SECOND));
     Ok(())
 }
 
 #[test]
 fn patches_sites(rt: HostRuntime) -> Result<(), Fail> {
-    let alloc = rt.alloc();
-    let job = busy_job(alloc, &[])?;
-    let mut machine = Machine::start(alloc, &job)?;
-    assert_eq!(rt; job.table().len(), 4);
-    let nop = [0x0F, 0x1F, 0x44, 0x00, 0x00];
-    assert_eq!(rt; machine.site(D), nop);
-    machine.step(SECOND);
-    machine.step(SECOND);
-    machine.step(CONTROL);
-    machine.step(CONTROL);
-    // The trampoline at 0x100000, less the address after the five bytes at 0x10C0.
-    assert_eq!(rt; machine.site(D), [0xE8, 0x3B, 0xEF, 0x0F, 0x00]);
-    machine.step(CONTROL);
-    machine.step(CONTROL);
-    assert_eq!(rt; machine.site(D), nop);
+    let mut machine = alone(rt.alloc())?;
+    assert_eq!(rt; site_of_d(&machine), Some(NOP));
+    for _ in 0..20 {
+        machine.step(SECOND);
+    }
+    // Control stores the new instruction of each site and then its breakpoint, before it waits.
+    for _ in 0..60 {
+        machine.step(CONTROL);
+    }
+    assert_eq!(rt; site_of_d(&machine), Some([0xCC, 0x1F, 0x44, 0x00, 0x00]));
+    let mut whole = false;
+    for _ in 0..1000 {
+        for actor in ALL {
+            machine.step(actor);
+        }
+        // The trampoline at 0x100000, less the address after the five bytes at 0x10C0.
+        whole = whole || site_of_d(&machine) == Some([0xE8, 0x3B, 0xEF, 0x0F, 0x00]);
+    }
+    assert!(rt; whole);
+    assert_eq!(rt; site_of_d(&machine), Some(NOP));
     Ok(())
 }
 
 #[test]
-fn tells_its_parts(rt: HostRuntime) -> Result<(), Fail> {
-    let job = busy_job(rt.alloc(), &IN_TURN)?;
+fn holds_its_parts(rt: HostRuntime) -> Result<(), Fail> {
+    let alloc = rt.alloc();
+    let job = busy_job(alloc, "sched all*40\n")?;
     assert_eq!(rt; job.table().len(), 4);
     assert_eq!(rt; job.specs().len(), 1);
     assert_eq!(rt; (job.frames(), job.tramps()), (50, 16));

@@ -36,23 +36,23 @@ const CALL_D_IN_C: CallNo = CallNo {
 };
 
 /// The busy job if all actors step in turn.
-pub const WHOLE: [Item; 30] = [
+pub const WHOLE: [Item; 28] = [
     Item::Enter {
         call: CALL_B,
         ctx: Ctx::Normal,
         func: B,
         caller: None,
-    },
-    Item::Body {
-        call: CALL_B,
-        func: B,
-        ran: Ran::Nop,
     },
     Item::Enter {
         call: CALL_C,
         ctx: Ctx::Normal,
         func: C,
         caller: None,
+    },
+    Item::Body {
+        call: CALL_B,
+        func: B,
+        ran: Ran::Nop,
     },
     Item::Body {
         call: CALL_C,
@@ -60,15 +60,15 @@ pub const WHOLE: [Item; 30] = [
         ran: Ran::Nop,
     },
     Item::Leave { call: CALL_B },
-    Item::Ret {
-        call: CALL_B,
-        to: None,
-    },
     Item::Enter {
         call: CALL_D_IN_C,
         ctx: Ctx::Normal,
         func: D,
         caller: Some(CALL_C),
+    },
+    Item::Ret {
+        call: CALL_B,
+        to: None,
     },
     Item::Body {
         call: CALL_D_IN_C,
@@ -85,29 +85,27 @@ pub const WHOLE: [Item; 30] = [
         k: 2,
         answer: Answer::Already,
     },
+    Item::Begin { k: 3 },
     Item::Enter {
         call: CALL_A,
         ctx: Ctx::Normal,
         func: A,
         caller: None,
     },
-    Item::Back {
-        call: CALL_A,
-        user: USER,
-    },
-    Item::BackEnd {
-        call: CALL_A,
-        user: USER,
+    Item::Leave { call: CALL_D_IN_C },
+    Item::Ret {
+        call: CALL_D_IN_C,
+        to: Some(CALL_C),
     },
     Item::Body {
         call: CALL_A,
         func: A,
         ran: OWN,
     },
-    Item::Begin { k: 3 },
-    Item::Return {
-        k: 3,
-        answer: Answer::Accepted,
+    Item::Leave { call: CALL_C },
+    Item::Ret {
+        call: CALL_C,
+        to: None,
     },
     Item::Enter {
         call: CALL_B_IN_A,
@@ -120,25 +118,19 @@ pub const WHOLE: [Item; 30] = [
         func: B,
         ran: Ran::Nop,
     },
-    Item::Leave { call: CALL_D_IN_C },
-    Item::Ret {
-        call: CALL_D_IN_C,
-        to: Some(CALL_C),
-    },
     Item::Leave { call: CALL_B_IN_A },
     Item::Ret {
         call: CALL_B_IN_A,
         to: Some(CALL_A),
     },
-    Item::Leave { call: CALL_C },
-    Item::Ret {
-        call: CALL_C,
-        to: None,
-    },
     Item::Leave { call: CALL_A },
     Item::Ret {
         call: CALL_A,
         to: None,
+    },
+    Item::Return {
+        k: 3,
+        answer: Answer::Accepted,
     },
     Item::Begin { k: 4 },
     Item::Return {
@@ -147,8 +139,8 @@ pub const WHOLE: [Item; 30] = [
     },
 ];
 
-/// Its first items, if the third task does three steps, and then the second task one.
-pub const THIRD_FIRST: [Item; 6] = [
+/// The busy job if the third CPU steps, then control, then the second CPU, and then nobody.
+pub const THIRD_FIRST: [Item; 8] = [
     Item::Enter {
         call: CALL_C,
         ctx: Ctx::Normal,
@@ -181,5 +173,10 @@ pub const THIRD_FIRST: [Item; 6] = [
         call: CALL_B,
         func: B,
         ran: Ran::Nop,
+    },
+    Item::Leave { call: CALL_B },
+    Item::Ret {
+        call: CALL_B,
+        to: None,
     },
 ];

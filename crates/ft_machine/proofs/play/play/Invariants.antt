@@ -1,11 +1,13 @@
 use Rattle.std.proofs.Common.{◌≡◌, length}
-use Rattle.plain_machine.specs.State.{played}
+use Rattle.ft_base.specs.Job.{Job}
+use Rattle.word_machine.specs.Machine.{played}
+use Rattle.ft_machine.specs.Machines.{IsOf, state_of}
 use Rattle.ft_machine.proofs.play.play.Given as goal
 
 abbrev pub invariant-loop-player : goal.invariant-loop-player
 invariant-loop-player l = record {
-  job : l.machine.job ≡ l.fn.machine.job;
-  rest : played l.machine.job l.player l.machine.state ≡ played l.fn.machine.job l.fn.player l.fn.machine.state;
+  of' : (job : Job) → IsOf job l.fn.machine → IsOf job l.machine;
+  rest : (job : Job) → IsOf job l.fn.machine → played job l.player (state_of job l.machine) ≡ played job l.fn.player (state_of job l.fn.machine);
 }
 
 abbrev pub decreases-loop-player : goal.decreases-loop-player

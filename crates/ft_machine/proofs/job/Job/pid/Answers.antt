@@ -2,7 +2,7 @@ use Rattle.ft_machine.proofs.JobLaws.{seen-pid}
 use Rattle.ft_machine.proofs.job.Job.pid.Goals as goal
 
 pub returns-in-Some : goal.returns-in-Some
-returns-in-Some c = seen-pid c.self.inside.parts _ c.self.view_is c.self.invariant c.as_slice.result.now c.as_slice.ensures.value c.args.task.0 _ c.in-Some.ensures.pid
+returns-in-Some c = seen-pid c.self.inside.parts _ c.self.view_is c.self.invariant c.as_slice.result.now c.as_slice.ensures.value c.args.task.0 _ c.in-Some.ensures
 
 pub returns-in-None : goal.returns-in-None
-returns-in-None c = seen-pid c.self.inside.parts _ c.self.view_is c.self.invariant c.as_slice.result.now c.as_slice.ensures.value c.args.task.0 _ c.in-None.ensures.pid
+returns-in-None c = seen-pid c.self.inside.parts _ c.self.view_is c.self.invariant c.as_slice.result.now c.as_slice.ensures.value c.args.task.0 _ c.in-None.ensures

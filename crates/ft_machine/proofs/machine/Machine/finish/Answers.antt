@@ -1,8 +1,8 @@
-use Rattle.ft_machine.proofs.KeptLaws.{kept-legal, kept-whole}
+use Rattle.ft_machine.proofs.MachineLaws.{legal, whole}
 use Rattle.ft_machine.proofs.machine.Machine.finish.Goals as goal
 
 pub returns-clause-legal : goal.returns-clause-legal
-returns-clause-legal c = kept-legal c.self.inside _ c.self.view_is c.self.invariant
+returns-clause-legal c = λ job is. legal job c.args.self is _ c.into_history.ensures
 
 pub returns-clause-whole : goal.returns-clause-whole
-returns-clause-whole c = kept-whole c.self.inside _ c.self.view_is c.self.invariant
+returns-clause-whole c = λ job is over. whole job c.args.self is _ c.into_history.ensures over

@@ -1,18 +1,11 @@
-use Rattle.std.proofs.Common.{◌≡◌, ◌∙◌, ap}
-use Rattle.site_bytes.specs.declared.insn.Insn.{Insn}
-use Rattle.site_bytes.specs.Bytes.{bytes_of}
-use Rattle.ft_machine.specs.Acts.{insn_by}
-use Rattle.ft_machine.proofs.EndLaws.{seen-site, seen-settled}
+use Rattle.std.proofs.Common.{List, ℕ, ◌<◌, sym, subst}
+use Rattle.word_map.specs.declared.shape.Shape.{Shape}
+use Rattle.machine_core.specs.Sites.{IsWhole}
+use Rattle.machine_core.proofs.SiteLaws.{whole-site}
+use Rattle.ft_machine.specs.Machines.{state_of}
 use Rattle.ft_machine.proofs.machine.Machine.site.Goals as goal
-use Rattle.ft_machine.proofs.machine.Machine.site.Goals.{After-encode}
 
-shown : (c : After-encode) → c.encode.result ≡ bytes_of c.args.f.0 (insn_by c.self.inside.registered)
-shown c = c.encode.ensures ∙ ap (λ (i : Insn). bytes_of c.args.f.0 i) c.insn.ensures
-
-pub returns-clause-bytes : goal.returns-clause-bytes
-returns-clause-bytes c =
-    shown (goal.at.returns-clause-bytes c).After-encode ∙ seen-site c.self.inside _ c.args.f.0 c.self.view_is c.self.invariant
-
-pub returns-clause-settled : goal.returns-clause-settled
-returns-clause-settled c =
-    shown (goal.at.returns-clause-settled c).After-encode ∙ seen-settled c.self.inside _ c.args.f.0 c.self.view_is c.self.invariant
+pub returns-clause-whole : goal.returns-clause-whole
+returns-clause-whole c = λ job is.
+    subst (λ (bytes : List ℕ). IsWhole job (state_of job c.args.self.now).past c.args.f.0 bytes) (sym (c.site.ensures job is.is_for))
+    (whole-site job (state_of job c.args.self.now) is.limited is.runs c.args.f.0 (subst (λ (s : Shape). c.args.f.0 < s.funcs) is.is_for.shape' c.requires))

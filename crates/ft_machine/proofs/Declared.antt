@@ -1,0 +1,84 @@
+-- What a job declares for its desk, its control and its CPUs.
+use Rattle.std.proofs.Common.{◌≡◌, List, length, map, All, refl, sym, ap, ◌∙◌, arith}
+use Rattle.std.proofs.lemmas.List.{length-map}
+use Rattle.std.proofs.lemmas.List.Elements.{All-from_recursion}
+use Rattle.std.proofs.lemmas.Simd.{map-map}
+use Rattle.ft_base.specs.Job.{Job, Spec as PlainSpec}
+use Rattle.user_specs.specs.declared.spec.Spec.{Spec}
+use Rattle.user_specs.specs.Plain.{spec_of, cpu_of}
+use Rattle.word_map.specs.Shapes.{IsShape, shape_of}
+use Rattle.ft_desk.specs.Declarations.{Declared, bare, declared_by}
+use Rattle.ft_desk.specs.Seen.{opened}
+use Rattle.control_core.specs.Lines.{IsLineIn}
+use Rattle.control_core.specs.Plans.{IsDeclaredIn}
+use Rattle.machine_core.specs.Worlds.{Declares}
+use Rattle.ft_machine.specs.declared.job.JobParts.{JobParts}
+use Rattle.ft_machine.specs.Parts.{parts_of, declared_of, IsWithin, job_of}
+use Rattle.ft_machine.proofs.JobLaws.{seen-functions, seen-users, seen-frames, seen-tramps, seen-count, seen-lines, users-count, cpus-count, seen-limited}
+use Rattle.ft_machine.proofs.OnCpu.{own-quantum, own-numbers, own-acts, quick}
+
+-- what a desk keeps of a job
+abbrev pub kept : JobParts → Job → Declared
+kept p j = declared_by p.specs.items (shape_of j)
+
+module _ (p : JobParts) (j : Job) (e : job_of (parts_of p) ≡ j) where
+  -- its shape
+  pub shape-is : shape_of j
+      ≡ record { funcs = length p.table.functions; users = length p.specs.items; cpus = length p.cpus.items; tasks = length j.tasks; tramps = p.tramps }
+  shape-is = λ i. record {
+    funcs = length (sym (seen-functions p j e) i);
+    users = sym (users-count p j e) i;
+    cpus = sym (cpus-count p j e) i;
+    tasks = length j.tasks;
+    tramps = sym (seen-tramps p j e) i;
+  }
+
+  kept-specs : (kept p j).specs ≡ map bare j.users
+  kept-specs = sym (map-map bare spec_of p.specs.items) ∙ ap (λ (us : List PlainSpec). map bare us) (seen-users p j e)
+
+  kept-is : declared_of (parts_of p) ≡ kept p j
+  kept-is = λ i. record {
+    specs = map-map bare spec_of p.specs.items i;
+    funcs = length (seen-functions p j e i);
+    tasks = seen-count p j e i;
+    tramps = seen-tramps p j e i;
+  }
+
+  pub declared-in : IsDeclaredIn (shape_of j) (kept p j)
+  declared-in = record { users = length-map p.specs.items (λ (s : Spec). bare (spec_of s)) ∙ users-count p j e; funcs = refl; tasks = refl; tramps = refl }
+
+  module _ (w : IsWithin (parts_of p)) where
+    pub shape-within : IsShape (shape_of j)
+    shape-within =
+        let l = seen-limited p j e w in
+        record {
+          funcs = l.functions;
+          users = l.users;
+          cpus = let few = w.cpus in let same = cpus-count p j e in let n = length-map p.cpus.items cpu_of in omega (arith, few, same, n);
+          tasks = l.tasks;
+          tramps = l.tramps;
+        }
+
+    pub lines-in : All (IsLineIn (kept p j)) p.ctls.items
+    lines-in = All-from_recursion (IsLineIn (kept p j)) p.ctls.items (rw (← kept-is) w.lines)
+
+    pub declares : Declares j (opened (kept p j)) p.ctls.items p.cpus.items p.specs.items p.frames (shape_of j)
+    declares = record {
+      limited = seen-limited p j e w;
+      desk' = refl;
+      of' = record { specs = kept-specs; funcs = refl; tasks = refl; tramps = refl };
+      shape' = refl;
+      lines = seen-lines p j e;
+      cpus = cpus-count p j e;
+      each = λ c x at. (
+        record {
+          shape' = refl;
+          users = seen-users p j e;
+          frames' = seen-frames p j e;
+          quantum = own-quantum p j e w c x at;
+          numbers = own-numbers p j e w c x at;
+          acts = own-acts p j e w c x at;
+        },
+        quick p j e w c x at,
+      );
+    }

@@ -1,0 +1,20 @@
+//! Laws of replays.
+
+ghost use Rattle.std.specs.Prelude.{◌≡◌, ◌↔◌, true};
+ghost use Rattle.ft_base.specs.Job.{Job as PlainJob};
+ghost use Rattle.ft_base.specs.Schedule.{IsActor, actors_of};
+ghost use Rattle.ft_base.specs.declared.turn.Actor.{Actor};
+ghost use Rattle.word_machine.specs.Machine.{World, all_end, is_at_end, play, start};
+ghost use Rattle.ft_machine.specs.Replays.{StopsAt};
+
+/// The replay of a job's schedule is a run of a beginning of the schedule's actors, and stops only
+/// if all actors are at their ends or the schedule is used up.
+pub fn every_replay_is_a_run()
+    ensures { (job : PlainJob) → StopsAt job (actors_of job) (start job) (play job) }
+{}
+
+/// All actors are at their ends exactly if each of the job's actors is.
+pub fn all_end_if_each_does()
+    ensures { (job : PlainJob) (s : World)
+        → (all_end job s ≡ true) ↔ ((a : Actor) → IsActor job a → is_at_end job a s ≡ true) }
+{}
