@@ -1,68 +1,57 @@
--- The parts of an accepted script are within what the machine asks, and make the script's job.
-use Rattle.std.proofs.Common.{cond, ◌≡◌, ℕ, zero, suc, ◌<◌, ◌≤◌, ◌==◌, true, false, List, [], ◌∷◌, length, map, sum_by, None, refl, sym, ap, ◌∙◌, subst, arith, not, ◌||◌}
+-- The job of what is declared is within the limits of scripts, and the parts that a reader makes of it are within what the machine asks.
+use Rattle.std.proofs.Common.{◌≡◌, ℕ, zero, suc, ◌*◌, ◌<◌, ◌≤◌, List, [], ◌∷◌, length, map, sum_by, Option, Some, None, refl, sym, ap, ◌∙◌, subst, arith}
+use Rattle.std.specs.Prelude.{unwrap_or}
 use Rattle.std.specs.List.{AllByRecursion as Each}
+use Rattle.std.proofs.lemmas.List.{length-map}
 use Rattle.std.proofs.lemmas.List.Sums.{sum_by-cons}
-use Rattle.ft_base.proofs.Small.{Each-weaker, false_true}
+use Rattle.ft_base.proofs.Small.{Each-weaker}
+use Rattle.ft_base.specs.declared.limits.TheConstants.{FRAMES, TRAMPS, USUAL_FRAMES, ITEMS}
 use Rattle.ft_base.specs.declared.task.TaskAct.{TaskAct}
 use Rattle.ft_base.specs.declared.task.TaskAct.TheVariants.{Call, Ret, Raise, Lower, After}
-use Rattle.ft_base.specs.Job.{Job, Task, Spec, Ctl, Run, Until, Command, Register, Unregister, commands, commands_in, funcs}
+use Rattle.ft_base.specs.declared.user.Act.{Act}
+use Rattle.ft_base.specs.declared.user.Act.TheVariants.{CallIn, IrqIn}
+use Rattle.ft_base.specs.Job.{Job, Spec, Task, Ctl as PlainCtl, Run as PlainRun, Until as PlainUntil, Command, Register, Unregister, Filter, Notrace, Pid, NoPid, Enable, Disable, MaxDepth, commands_in, funcs}
 use Rattle.ft_base.specs.WellFormed.{IsNamed, IsActNamed, IsScript, IsWellFormed}
+use Rattle.ft_desk.specs.declared.command.Command.TheVariants.{Register as Registers, Unregister as Unregisters, Filter as Filters, Notrace as Notraces, Pid as Pids, NoPid as NoPids, Enable as Enables, Disable as Disables, MaxDepth as MaxDepths}
+use Rattle.ft_desk.specs.declared.command.Ctl.{Ctl}
+use Rattle.ft_desk.specs.declared.command.Ctl.TheVariants.{Run, Until}
+use Rattle.ft_desk.specs.Commands.{ctl_of}
+use Rattle.ft_desk.specs.Declarations.{Declared, bare}
+use Rattle.control_core.specs.Lines.{IsLineIn, lines_of}
 use Rattle.user_specs.specs.Plain.{DeclaredCpu}
-use Rattle.ft_machine.specs.Known.{IsPlainUser, IsBuilt, IsKnown}
-use Rattle.ft_machine.specs.Parts.{Parts, quanta_of, tasks_on, cpus_with, tasks_of, job_of as parts_job, IsWithin}
+use Rattle.user_specs.specs.Bound.{call_bound_of}
+use Rattle.history_bound.specs.Bound.{calls_in, all_calls}
+use Rattle.word_machine.specs.Limits.{WaitsFor, IsLevel, IsLimited}
+use Rattle.ft_machine.specs.Parts.{Parts, quanta_of, cpus_with, tasks_of, task_count, declared_of, job_of as parts_job, IsWithin}
+use Rattle.ft_machine.proofs.Numbered.{tasks_of-from, length-tasks}
 use Rattle.script_waits.specs.declared.script.LinedAct.{LinedAct}
 use Rattle.script_waits.specs.Tasks.{LinedTask}
-use Rattle.std.proofs.Math.Dec.{eqb-suc-zero}
-use Rattle.ft_script.specs.Levels.{is_unfinished, levels_at}
 use Rattle.ft_script.specs.Above.{Above, LinedCtl}
 use Rattle.ft_script.specs.Script.{task_of, job_of}
-use Rattle.ft_script.specs.Holds.{Leads, acts_of, how_many_on, IsLine, Holds, CanRun}
+use Rattle.ft_script.specs.Holds.{Leads, acts_of, IsActIn, IsLine, IsAtMost, Holds, CanRun}
 use Rattle.ft_script.specs.Kept.{AreParts}
-use Rattle.ft_script.proofs.LookUps.{mapped_length}
-use Rattle.ft_script.proofs.TaskLaws.{balanced-each}
-use Rattle.ft_machine.proofs.Numbered.{tasks_of-from}
+use Rattle.ft_script.proofs.TasksKept.{closed-tasks, raised-tasks}
 
 -- ## tasks
 
-leads-script : (j : Job) (size n : ℕ) (acts : List TaskAct) → size ≤ funcs j → Leads size n acts 0 → IsScript j n acts
-leads-script j size n [] le h = h
-leads-script j size n (Call f ∷ rest) le h = (let l = h.0 in omega arith, leads-script j size (suc n) rest le h.1)
-leads-script j size zero (Ret ∷ rest) le h = h
-leads-script j size (suc n) (Ret ∷ rest) le h = leads-script j size n rest le h
-leads-script j size n (Raise c ∷ rest) le h = absurd h
-leads-script j size n (Lower ∷ rest) le h = absurd h
-leads-script j size n (After k ∷ rest) le h = leads-script j size n rest le h
+-- calls that have all returned at the end
+leads-script : (j : Job) (n : ℕ) (acts : List TaskAct) → Leads (funcs j) n acts 0 → IsScript j n acts
+leads-script j n [] h = h
+leads-script j n (Call f ∷ rest) h = (h.0, leads-script j (suc n) rest h.1)
+leads-script j zero (Ret ∷ rest) h = h
+leads-script j (suc n) (Ret ∷ rest) h = leads-script j n rest h
+leads-script j n (Raise c ∷ rest) h = leads-script j n rest h
+leads-script j n (Lower ∷ rest) h = leads-script j n rest h
+leads-script j n (After k ∷ rest) h = leads-script j n rest h
 
-leads-built : (size n m : ℕ) (acts : List TaskAct) → Leads size n acts m → Each IsBuilt acts
-leads-built size n m [] h = tt
-leads-built size n m (Call f ∷ rest) h = (tt, leads-built size (suc n) m rest h.1)
-leads-built size zero m (Ret ∷ rest) h = absurd h
-leads-built size (suc n) m (Ret ∷ rest) h = (tt, leads-built size n m rest h)
-leads-built size n m (Raise c ∷ rest) h = absurd h
-leads-built size n m (Lower ∷ rest) h = absurd h
-leads-built size n m (After k ∷ rest) h = (tt, leads-built size n m rest h)
+-- what holds of each element once it is mapped
+each-map : {X Y : Type 0} (f : X → Y) (P : Y → Type 0) (xs : List X) → Each (λ x. P (f x)) xs → Each P (map f xs)
+each-map f P [] h = tt
+each-map f P (x ∷ xs) h = (h.0, each-map f P xs h.1)
 
--- a fact of each task, without the lines of its acts
-each-task : (P : Task → Type 0) (Q : LinedTask → Type 0) → ((p : LinedTask) → Q p → P (task_of p)) → (ps : List LinedTask) → Each Q ps → Each P (map task_of ps)
-each-task P Q f [] h = tt
-each-task P Q f (p ∷ ps) h = (f p h.0, each-task P Q f ps h.1)
-
-length-on : (c n : ℕ) (ps : List LinedTask) → length (tasks_on c n (map task_of ps)) ≡ how_many_on c ps
-length-on c n [] = refl
-length-on c n (p ∷ ps) = elim (p.cpu == c) as (λ b.
-    length (cond b (record { task = n; pid = p.pid; acts = acts_of p } ∷ tasks_on c (suc n) (map task_of ps)) (tasks_on c (suc n) (map task_of ps)))
-    ≡ cond b (suc (how_many_on c ps)) (how_many_on c ps)) [
-      | true ↦ ap suc (length-on c (suc n) ps)
-      | false ↦ length-on c (suc n) ps
-    ]
-
-alone : (qs : List ℕ) (c : ℕ) (ps : List LinedTask) → ((d : ℕ) → how_many_on d ps ≤ 1) → Each (λ (x : DeclaredCpu). length x.tasks ≤ 1) (cpus_with c qs 0 (map task_of ps))
-alone [] c ps h = tt
-alone (q ∷ qs) c ps h = ((let n = length-on c 0 ps in let l = h c in omega (arith, n, l)), alone qs (suc c) ps h)
-
-quanta-from : (qs : List ℕ) (c n : ℕ) (ts : List Task) → quanta_of (cpus_with c qs n ts) ≡ qs
-quanta-from [] c n ts = refl
-quanta-from (q ∷ qs) c n ts = ap (λ (xs : List ℕ). q ∷ xs) (quanta-from qs (suc c) n ts)
+map-each : {X Y : Type 0} (f : X → Y) (P : Y → Type 0) (xs : List X) → Each P (map f xs) → Each (λ x. P (f x)) xs
+map-each f P [] h = tt
+map-each f P (x ∷ xs) h = (h.0, map-each f P xs h.1)
 
 acts-all : (ps : List LinedTask) → sum_by (λ (t : Task). length t.acts) (map task_of ps) ≡ sum_by (λ (p : LinedTask). length p.acts) ps
 acts-all [] = refl
@@ -70,29 +59,73 @@ acts-all (p ∷ ps) =
     let rest = acts-all ps in
     let one = sum_by-cons (λ (t : Task). length t.acts) (task_of p) (map task_of ps) in
     let all = sum_by-cons (λ (x : LinedTask). length x.acts) p ps in
-    let n = mapped_length (λ (a : LinedAct). a.act) p.acts in
+    let n = length-map p.acts (λ (a : LinedAct). a.act) in
     omega (arith, rest, one, all, n)
 
--- ## commands and users
+calls-all : (ps : List LinedTask) → all_calls (map task_of ps) ≡ sum_by (λ (p : LinedTask). calls_in (acts_of p)) ps
+calls-all [] = refl
+calls-all (p ∷ ps) =
+    let rest = calls-all ps in
+    let all = sum_by-cons (λ (x : LinedTask). calls_in (acts_of x)) p ps in
+    omega (arith, rest, all)
 
-named-commands : (j : Job) (ctls : List LinedCtl) → Each (λ c. IsLine (length j.users) c.ctl) ctls → Each (IsNamed j) (commands_in (map (λ (c : LinedCtl). c.ctl) ctls))
-named-commands j [] h = tt
-named-commands j (c ∷ cs) h = by c.ctl h.0 (named-commands j cs h.1)
-  where
-    by : (x : Ctl) → IsLine (length j.users) x → Each (IsNamed j) (commands_in (map (λ (c : LinedCtl). c.ctl) cs)) → Each (IsNamed j) (commands_in (x ∷ map (λ (c : LinedCtl). c.ctl) cs))
-    by (Run (Register u)) l rest = (l, rest)
-    by (Run (Unregister u)) l rest = (l, rest)
-    by (Run (Rattle.ft_base.specs.Job.Filter u e)) l rest = absurd l
-    by (Run (Rattle.ft_base.specs.Job.Notrace u e)) l rest = absurd l
-    by (Run (Rattle.ft_base.specs.Job.Pid m)) l rest = absurd l
-    by (Run (Rattle.ft_base.specs.Job.NoPid m)) l rest = absurd l
-    by (Run (Rattle.ft_base.specs.Job.Enable u)) l rest = absurd l
-    by (Run (Rattle.ft_base.specs.Job.Disable u)) l rest = absurd l
-    by (Run (Rattle.ft_base.specs.Job.MaxDepth d)) l rest = absurd l
-    by (Until t n) l rest = rest
+-- ## users and lines of control
 
-plain-acts : (j : Job) (s : Spec) → IsPlainUser s → IsActNamed j s.act
-plain-acts j s e = subst (λ (x : Spec). IsActNamed j x.act) (sym e) tt
+act-named : (j : Job) (act : Option Act) → IsActIn (funcs j) act → IsActNamed j act
+act-named j None h = tt
+act-named j (Some (CallIn g)) h = h
+act-named j (Some (IrqIn g)) h = h
+
+module _ (users size tasks : ℕ) where
+  -- what a line of control says of its command
+  each-command : (P : Command → Type 0) → ((c : Command) → IsLine users size tasks (PlainRun c) → P c) → (ctls : List PlainCtl) → Each (IsLine users size tasks) ctls
+      → Each P (commands_in ctls)
+  each-command P f [] h = tt
+  each-command P f (PlainRun c ∷ rest) h = (f c h.0, each-command P f rest h.1)
+  each-command P f (PlainUntil t n ∷ rest) h = each-command P f rest h.1
+
+  command-named : (j : Job) → length j.users ≡ users → (c : Command) → IsLine users size tasks (PlainRun c) → IsNamed j c
+  command-named j e (Register u) h = omega (arith, e, h)
+  command-named j e (Unregister u) h = omega (arith, e, h)
+  command-named j e (Filter u edit) h = (let lt = h.0 in omega (arith, e, lt))
+  command-named j e (Notrace u edit) h = (let lt = h.0 in omega (arith, e, lt))
+  command-named j e (Pid m) h = tt
+  command-named j e (NoPid m) h = tt
+  command-named j e (Enable u) h = omega (arith, e, h)
+  command-named j e (Disable u) h = omega (arith, e, h)
+  command-named j e (MaxDepth d) h = tt
+
+  command-level : (c : Command) → IsLine users size tasks (PlainRun c) → IsLevel c
+  command-level (MaxDepth d) h = h
+  command-level _ h = tt
+
+  line-waits : (k : ℕ) → k ≡ tasks → (c : PlainCtl) → IsLine users size tasks c → WaitsFor k c
+  line-waits k e (PlainRun c) h = tt
+  line-waits k e (PlainUntil t n) h = omega (arith, e, h)
+
+  -- a line of a desk that declares so many
+  line-in : (d : Declared) (n : ℕ) → length d.specs ≡ users → d.funcs ≡ size → d.tasks ≡ tasks → (c : Ctl) → IsLine users size tasks (ctl_of n c) → IsLineIn d c
+  line-in d n u s t (Run (Registers v)) h = omega (arith, u, h)
+  line-in d n u s t (Run (Unregisters v)) h = omega (arith, u, h)
+  line-in d n u s t (Run (Filters v e)) h = (let lt = h.0 in omega (arith, u, lt), h.1 ∙ sym s)
+  line-in d n u s t (Run (Notraces v e)) h = (let lt = h.0 in omega (arith, u, lt), h.1 ∙ sym s)
+  line-in d n u s t (Run (Pids m)) h = tt
+  line-in d n u s t (Run (NoPids m)) h = tt
+  line-in d n u s t (Run (Enables v)) h = omega (arith, u, h)
+  line-in d n u s t (Run (Disables v)) h = omega (arith, u, h)
+  line-in d n u s t (Run (MaxDepths k)) h = tt
+  line-in d n u s t (Until v k) h = omega (arith, t, h)
+
+-- ## numbers
+
+-- a number that the script may say, or the usual one
+at-most : (limit usual : ℕ) → usual ≤ limit → (o : Option ℕ) → IsAtMost limit o → unwrap_or o usual ≤ limit
+at-most limit usual le None h = le
+at-most limit usual le (Some n) h = h
+
+quanta-from : (qs : List ℕ) (c n : ℕ) (ts : List Task) → quanta_of (cpus_with c qs n ts) ≡ qs
+quanta-from [] c n ts = refl
+quanta-from (q ∷ qs) c n ts = ap (λ (xs : List ℕ). q ∷ xs) (quanta-from qs (suc c) n ts)
 
 -- ## the job
 
@@ -100,55 +133,73 @@ module _ (above : Above) (run : CanRun above) where
   h : Holds above
   h = run.holds
 
-  none_left : h.tasks.running ≡ 0
-  none_left = by h.tasks.running refl
-    where
-      by : (k : ℕ) → h.tasks.running ≡ k → h.tasks.running ≡ 0
-      by zero e = e
-      by (suc k) e = false_true (sym run.closed ∙ ap (λ l. is_unfinished l) (h.tasks.level ∙ ap (λ m. levels_at m None None None) e)
-          ∙ ap (λ b. not b || false) (eqb-suc-zero k))
+  -- how many users, functions and tasks there are
+  abbrev users : ℕ
+  users = length above.users
 
-  closed : Each (λ p. Leads (length above.functions) 0 (acts_of p) 0) above.tasks
-  closed = balanced-each (length above.functions) above.tasks (rw none_left at h.tasks.balanced)
+  abbrev size : ℕ
+  size = length above.functions
+
+  abbrev tasks : ℕ
+  tasks = length above.tasks
+
+  lines : Each (IsLine users size tasks) (map (λ (c : LinedCtl). c.ctl) above.ctls)
+  lines = each-map (λ (c : LinedCtl). c.ctl) _ above.ctls h.lines.named
+
+  count-tasks : length (map task_of above.tasks) ≡ tasks
+  count-tasks = length-map above.tasks task_of
 
   is_job : IsWellFormed (job_of above)
   unfolding job_of
   is_job = record {
-    commands = named-commands (job_of above) above.ctls h.users.named;
-    acts = Each-weaker _ _ above.users (λ s p. plain-acts (job_of above) s p) h.users.plain;
-    tasks = each-task (λ t. IsScript (job_of above) 0 t.acts) _ (λ p l. leads-script (job_of above) (length above.functions) 0 (acts_of p) (omega arith) l) above.tasks closed;
+    commands = each-command users size tasks (IsNamed (job_of above)) (command-named users size tasks (job_of above) refl) _ lines;
+    acts = Each-weaker _ _ above.users (λ (s : Spec) a. act-named (job_of above) s.act a) h.users;
+    tasks = each-map task_of (λ (t : Task). IsScript (job_of above) 0 t.acts) above.tasks
+        (Each-weaker _ _ above.tasks (λ (p : LinedTask) l. leads-script (job_of above) 0 (acts_of p) l) (closed-tasks above run));
   }
 
-  is_known : IsKnown (job_of above)
+  pub limited : IsLimited (job_of above)
   unfolding job_of
-  is_known = record {
-    job = is_job;
-    users = h.within.users.one;
-    plain = h.users.plain;
-    quanta = h.quanta;
-    tramps = rw h.tramps (omega arith);
-    acts = each-task (λ t. Each IsBuilt t.acts) _ (λ x l. leads-built (length above.functions) 0 0 (acts_of x) l) above.tasks closed;
-    functions = h.functions;
-    cpus = h.within.few_cpus;
-    tasks = (let n = mapped_length task_of above.tasks in let few = h.within.tasks.few in omega (arith, n, few));
-    all_acts = (let n = acts-all above.tasks in let t = h.tasks.total in let few = h.within.tasks.few_acts in omega (arith, n, t, few));
-    ctls = (let n = mapped_length (λ (c : LinedCtl). c.ctl) above.ctls in let all = h.users.all in let few = h.within.users.few_commands in let fewer = h.within.users.few_waits in omega (arith, n, all, few, fewer));
+  limited = record {
+    job' = is_job;
+    placed = each-map task_of (λ (t : Task). t.cpu < length above.quanta) above.tasks h.tasks.placed;
+    waits = Each-weaker _ _ _ (line-waits users size tasks (length (map task_of above.tasks)) count-tasks) lines;
+    raised = raised-tasks above h;
+    ctls = (let n = length-map above.ctls (λ (c : LinedCtl). c.ctl) in let all = h.lines.all in let few = h.within.few_commands in let fewer = h.within.few_waits in omega (arith, n, all, few, fewer));
+    users = h.within.few_users;
+    tasks = (let n = count-tasks in let few = h.within.tasks.few in omega (arith, n, few));
+    functions = h.within.few_functions;
+    frames = at-most FRAMES USUAL_FRAMES (omega arith) above.depth h.depth;
+    tramps = at-most TRAMPS TRAMPS (omega arith) above.tramps h.tramps;
+    levels = each-command users size tasks IsLevel (command-level users size tasks) _ lines;
+    acts = (let n = acts-all above.tasks in let all = h.tasks.all_acts in let few = h.within.tasks.few_acts in omega (arith, n, all, few));
+    items = subst (λ n. call_bound_of above.users * n ≤ ITEMS) (sym (calls-all above.tasks ∙ h.tasks.all_calls)) h.items;
   }
 
   module _ (p : Parts) (are : AreParts p above) where
     tasks-are : tasks_of p.cpus ≡ map task_of above.tasks
-    tasks-are = ap tasks_of are.cpus ∙ tasks_of-from above.quanta (map task_of above.tasks) (each-task (λ t. t.cpu < length above.quanta) _ (λ x l. l) above.tasks h.tasks.placed)
+    tasks-are = ap tasks_of are.cpus ∙ tasks_of-from above.quanta (map task_of above.tasks) (each-map task_of (λ (t : Task). t.cpu < length above.quanta) above.tasks h.tasks.placed)
 
     quanta-are : quanta_of p.cpus ≡ above.quanta
     quanta-are = ap quanta_of are.cpus ∙ quanta-from above.quanta 0 0 (map task_of above.tasks)
 
+    count-is : task_count p.cpus ≡ tasks
+    count-is = sym (length-tasks p.cpus) ∙ ap (λ (ts : List Task). length ts) tasks-are ∙ count-tasks
+
+    lines-are : lines_of (task_count p.cpus) p.ctls ≡ map (λ c. c.ctl) above.ctls
+    lines-are = subst (λ n. lines_of n p.ctls ≡ map (λ c. c.ctl) above.ctls) (sym count-is) are.ctls
+
     pub job-is : parts_job p ≡ job_of above
     unfolding parts_job job_of
-    job-is = rw (are.functions, are.users, are.frames, are.tramps, quanta-are, tasks-are, are.ctls, are.schedule, h.depth, h.tramps) refl
+    job-is = rw (are.functions, are.users, are.frames, are.tramps, quanta-are, tasks-are, lines-are, are.schedule) refl
 
     pub is_within : IsWithin p
     is_within = record {
       numbered = rw (quanta-are, tasks-are) (sym are.cpus);
-      alone = rw are.cpus (alone above.quanta 0 above.tasks h.tasks.alone);
-      known = rw job-is is_known;
+      limited = subst IsLimited (sym job-is) limited;
+      lines = Each-weaker _ _ p.ctls
+          (line-in users size tasks (declared_of p) tasks (length-map p.users bare ∙ ap (λ (us : List Spec). length us) are.users) (ap (λ fs. length fs) are.functions) count-is)
+          (map-each (ctl_of tasks) _ p.ctls (subst (Each (IsLine users size tasks)) (sym are.ctls) lines));
+      cpus = (let n = length-map p.cpus (λ (c : DeclaredCpu). c.quantum) in let q = ap (λ (qs : List ℕ). length qs) quanta-are in let few = h.within.few_cpus in omega (arith, n, q, few));
+      quanta = rw quanta-are h.quanta;
     }

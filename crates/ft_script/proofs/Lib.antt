@@ -1,10 +1,15 @@
 pub mod LookUps
+pub mod KeptLines
+pub mod Masks
 pub mod Ends
 pub mod Offence
 pub mod Answered
 pub mod FormNames
+pub mod NoCause
 pub mod TaskLaws
-pub mod Accepted
+pub mod Contexts
+pub mod TasksKept
+pub mod Limits
+pub mod LinesKept
 pub mod Lines
 pub mod JobLaws
-pub mod KeptLines

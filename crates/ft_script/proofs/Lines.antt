@@ -1,42 +1,65 @@
--- What an accepted line leaves: the machine can carry out what is declared, and what is open goes on below.
+-- What a line without a cause leaves: what holds of what is declared goes on holding, and what is open goes on below.
 use Rattle.std.proofs.Common.{◌≡◌, ◌==◌, ◌&&◌, Bool, true, false, ℕ, List, [], ◌∷◌, Option, Some, None, refl, sym, ap, ◌∙◌, subst, arith, if◌then◌else◌}
 use Rattle.std.specs.Prelude.{unwrap_or}
-use Rattle.std.proofs.lemmas.Option.{none-some}
+use Rattle.std.proofs.lemmas.Bool.{eqb-true}
 use Rattle.ft_base.proofs.Small.{false_true, or-false_both}
 use Rattle.script_text.specs.Lines.{Line}
 use Rattle.script_form.specs.Forms.{LineForm, skip, version, new_task, call, ret, raise, lower, after}
 use Rattle.script_form.specs.Lines.{line_form}
-use Rattle.ft_script.specs.declared.faults.Cause.{Cause}
 use Rattle.ft_script.specs.declared.levels.Levels.{Levels}
 use Rattle.ft_script.specs.Levels.{is_unfinished}
 use Rattle.ft_script.specs.Above.{Above, none_above, declared, with_form}
-use Rattle.ft_script.specs.Causes.{is_act, is_past_limit, is_duplicate, is_unbalanced, is_later, is_last, is_last_by, form_cause, first_line_cause, next_line_cause, line_cause, cause_of}
+use Rattle.ft_script.specs.Causes.{is_act, is_misplaced, is_unbalanced, is_last, is_last_by, form_cause, first_line_cause, next_line_cause, line_cause, cause_of}
 use Rattle.ft_script.specs.Script.{with_line}
-use Rattle.ft_script.specs.Within.{IsSmall, CanAdd}
+use Rattle.ft_script.specs.Within.{IsWithinLimits, IsInOrder, IsBeforeControl, IsSmall, CanAdd}
 use Rattle.ft_script.specs.Holds.{Holds}
 use Rattle.ft_script.proofs.FormNames.{names-hold}
-use Rattle.ft_script.proofs.Accepted.{NoCause, form-holds, renumbered}
+use Rattle.ft_script.proofs.NoCause.{NoCause, no-cause, some-none, version-alone}
+use Rattle.ft_script.proofs.Limits.{within-declared, order-declared, order-version, items-declared, no-ctls}
+use Rattle.ft_script.proofs.TasksKept.{tasks-declared}
+use Rattle.ft_script.proofs.LinesKept.{lines-declared, users-declared, depth-declared, tramps-declared, quanta-declared}
 
--- ## the causes that a line doesn't have
+-- ## what holds after a line
 
-some-none : {X : Type 0} {x : X} → Some x ≡ None → ⊥
-some-none {x = x} e = none-some x (sym e)
+-- the number of the last line and its rank make no difference to the limits
+within-renumbered : (above : Above) (lines rank : ℕ) → IsWithinLimits above → IsWithinLimits (record above { lines = lines; rank = rank })
+within-renumbered above lines rank w = record {
+  few_functions = w.few_functions;
+  few_users = w.few_users;
+  few_cpus = w.few_cpus;
+  tasks = w.tasks;
+  few_commands = w.few_commands;
+  few_waits = w.few_waits;
+  few_steps = w.few_steps;
+}
 
--- a test that would be a cause, if there is none
-passes : (b : Bool) (cause : Cause) (next : Option Cause) → (if b then Some cause else next) ≡ None → (b ≡ false) × (next ≡ None)
-passes true cause next e = absurd (some-none e)
-passes false cause next e = (refl, e)
+pub form-holds : (above : Above) → Holds above → (form : LineForm) (below : List Line) → NoCause above form below
+    → (is_last_by (Some form) (is_last below) ≡ true → is_unfinished above.levels ≡ false) → Holds (with_form above form)
+form-holds above h form below n closed = record {
+  within = within-renumbered (declared above form) _ _ (within-declared above h form below n);
+  order = order-declared above h.order form below n;
+  depth = depth-declared above h form below n;
+  tramps = tramps-declared above h form below n;
+  users = users-declared above h form below n;
+  quanta = quanta-declared above h form below n;
+  tasks = tasks-declared above h form below n closed;
+  lines = lines-declared above h form below n;
+  items = items-declared above h form below n;
+}
 
-pub no-cause : (above : Above) (form : LineForm) (below : List Line) → form_cause above form below ≡ None → NoCause above form below
-no-cause above form below e =
-    let a = passes _ _ _ e in
-    let b = passes _ _ _ a.1 in
-    let c = passes _ _ _ b.1 in
-    let d = passes _ _ _ c.1 in
-    let p = passes _ _ _ d.1 in
-    let u = passes _ _ _ p.1 in
-    let l = passes _ _ _ u.1 in
-    record { placed = a.0; limit = b.0; new = c.0; known = d.0; balanced = u.0; built = l.0 }
+-- line 1 says the version, and declares nothing
+first-holds : (above : Above) → Holds above → above.lines ≡ 0 → Holds (with_form above version)
+first-holds above h first = record {
+  within = within-renumbered above _ _ h.within;
+  order = order-version above h.order first;
+  depth = h.depth;
+  tramps = h.tramps;
+  users = h.users;
+  quanta = h.quanta;
+  tasks = h.tasks;
+  lines = h.lines;
+  items = h.items;
+}
 
 -- ## what is open goes on below
 
@@ -83,27 +106,37 @@ module _ (above : Above) (below : List Line) (form : LineForm) (s : Holds above)
       let n = no-cause above form below e in
       record { holds = form-holds above s form below n closed; goes_on = goes_on above form below n.balanced goes }
 
-  version-holds : form ≡ version → HoldsAbove (with_form above form) below
-  version-holds e = subst (λ f. (is_unfinished above.levels ≡ true → is_last_by (Some f) (is_last below) ≡ false) → HoldsAbove (with_form above f) below) (sym e)
-      (λ g. record { holds = renumbered above s _ _; goes_on = other-goes_on above version below refl refl g }) goes
+  version-holds : above.lines ≡ 0 → form ≡ version → HoldsAbove (with_form above form) below
+  version-holds first e = subst (λ f. (is_unfinished above.levels ≡ true → is_last_by (Some f) (is_last below) ≡ false) → HoldsAbove (with_form above f) below) (sym e)
+      (λ g. record { holds = first-holds above s first; goes_on = other-goes_on above version below refl refl g }) goes
 
--- line 1 says the version
-version-alone : (form : LineForm) → first_line_cause (Some form) ≡ None → form ≡ version
-version-alone version e = refl
-version-alone _ e = absurd (some-none e)
+-- ## a line without a cause can be added
 
--- a line without a cause can be added
+before-control : (above : Above) → IsInOrder above → (form : LineForm) → is_misplaced above form ≡ false → IsBeforeControl above form
+before-control above order (new_task pid cpu) placed = no-ctls above order (new_task pid cpu) placed (omega arith)
+before-control above order form placed = tt
+
+version-added : (above : Above) → IsSmall above → CanAdd above version
+version-added above small = record { small = small; names = refl; before = tt; limit = refl; new = refl; known = refl; text = refl }
+
+judged-added : (above : Above) (line : List ℕ) (form : LineForm) (below : List Line) → IsSmall above → line_form line ≡ Some form → NoCause above form below → CanAdd above form
+judged-added above line form below small is n = record {
+  small = small;
+  names = names-hold above line form is n.limit;
+  before = before-control above small.order form n.placed;
+  limit = n.limit;
+  new = n.new;
+  known = n.known;
+  text = n.text;
+}
+
 pub can_add : (above : Above) (ended : Bool) (line : List ℕ) (form : LineForm) (below : List Line) → IsSmall above → line_form line ≡ Some form
     → line_cause above ended (Some form) below ≡ None → CanAdd above form
 can_add above false line form below small is e = absurd (some-none e)
-can_add above true line form below small is e = record { small = small; names = names-hold above line form is c.0; limit = c.0; new = c.1; built = c.2 }
-  where
-    c : (is_past_limit above form ≡ false) × (is_duplicate above form ≡ false) × (is_later above form ≡ false)
-    c = elim (above.lines == 0) as (λ b. (if b then first_line_cause (Some form) else next_line_cause above below (Some form)) ≡ None
-        → (is_past_limit above form ≡ false) × (is_duplicate above form ≡ false) × (is_later above form ≡ false)) [
-          | true ↦ λ none. rw (version-alone form none) (refl, refl, refl)
-          | false ↦ λ none. let n = no-cause above form below none in (n.limit, n.new, n.built)
-        ] e
+can_add above true line form below small is e = elim (above.lines == 0) as (λ b. (if b then first_line_cause (Some form) else next_line_cause above below (Some form)) ≡ None → CanAdd above form) [
+  | true ↦ λ none. subst (CanAdd above) (sym (version-alone form none)) (version-added above small)
+  | false ↦ λ none. judged-added above line form below small is (no-cause above form below none)
+] e
 
 -- a line without a cause
 pub line-holds : (above : Above) (line : Line) (below : List Line) → HoldsAbove above (line ∷ below) → cause_of above line below ≡ None → HoldsAbove (with_line above line) below
@@ -119,10 +152,10 @@ line-holds above line below s e = by line.ended (line_form line.bytes) refl e
     ] e
     by true (Some form) is e =
         let goes : is_unfinished above.levels ≡ true → is_last_by (Some form) (is_last below) ≡ false = λ running. sym (ap (λ f. is_last_by f (is_last below)) is) ∙ s.goes_on running in
-        elim (above.lines == 0) as (λ b. (if b then first_line_cause (Some form) else next_line_cause above below (Some form)) ≡ None → HoldsAbove (with_form above form) below) [
-          | true ↦ λ none. version-holds above below form s.holds goes (version-alone form none)
-          | false ↦ λ none. judged-holds above below form s.holds goes none
-        ] e
+        elim (above.lines == 0) as (λ b. (above.lines == 0) ≡ b → (if b then first_line_cause (Some form) else next_line_cause above below (Some form)) ≡ None → HoldsAbove (with_form above form) below) [
+          | true ↦ λ first none. version-holds above below form s.holds goes (eqb-true above.lines 0 first) (version-alone form none)
+          | false ↦ λ first none. judged-holds above below form s.holds goes none
+        ] refl e
 
 -- ## the beginning and the end of a text
 
@@ -138,17 +171,22 @@ pub none-holds : (lines : List Line) → HoldsAbove none_above lines
 none-holds lines = record {
   holds = record {
     within = record {
-      users = record { one = omega arith; few_commands = omega arith; few_waits = omega arith };
+      few_functions = omega arith;
+      few_users = omega arith;
       few_cpus = omega arith;
       tasks = record { few = omega arith; few_acts = omega arith; few_calls = omega arith; few_open = omega arith };
+      few_commands = omega arith;
+      few_waits = omega arith;
       few_steps = omega arith;
     };
-    functions = omega arith;
-    depth = refl;
-    tramps = refl;
-    users = record { plain = tt; named = tt; all = refl };
+    order = record { first_calls = λ first. refl; first_ctls = λ first. refl; calls = λ low. refl; ctls = λ low. refl };
+    depth = tt;
+    tramps = tt;
+    users = tt;
     quanta = tt;
-    tasks = record { placed = tt; alone = λ c. omega arith; running = 0; level = refl; balanced = refl; total = refl };
+    tasks = record { placed = tt; balanced = refl; raised = tt; all_acts = refl; all_calls = refl };
+    lines = record { named = tt; all = refl };
+    items = omega arith;
   };
   goes_on = λ running. false_true running;
 }

@@ -1,15 +1,15 @@
 -- Tasks with one more act, and with one more task.
-use Rattle.std.proofs.Common.{◌≡◌, ℕ, zero, suc, ◌+◌, ◌<◌, ◌≤◌, ◌==◌, true, false, cond, List, [], ◌∷◌, ◌++◌, length, map, sum_by, ◌||◌, refl, sym, ap, arith}
-use Rattle.std.specs.List.{AllByRecursion as Each, list_any}
-use Rattle.std.proofs.lemmas.List.{length_push}
+use Rattle.std.proofs.Common.{◌≡◌, ℕ, zero, suc, ◌+◌, ◌<◌, ◌≤◌, List, [], ◌∷◌, ◌++◌, length, sum_by, refl, ap, ◌∙◌, arith}
+use Rattle.std.specs.List.{AllByRecursion as Each}
+use Rattle.std.proofs.lemmas.List.{length_push, map_push}
 use Rattle.std.proofs.lemmas.List.Sums.{sum_by-cons}
-use Rattle.ft_base.proofs.Small.{false_true}
 use Rattle.ft_base.specs.declared.task.TaskAct.{TaskAct}
 use Rattle.ft_base.specs.declared.task.TaskAct.TheVariants.{Call, Ret, Raise, Lower, After}
+use Rattle.history_bound.specs.Bound.{calls_in}
 use Rattle.script_waits.specs.declared.script.LinedAct.{LinedAct}
 use Rattle.script_waits.specs.Tasks.{LinedTask}
 use Rattle.ft_script.specs.Above.{push_act}
-use Rattle.ft_script.specs.Holds.{Leads, acts_of, Balanced, how_many_on}
+use Rattle.ft_script.specs.Holds.{Leads, acts_of, Balanced}
 
 -- ## acts
 
@@ -18,8 +18,8 @@ leads-more size size' n m [] le h = h
 leads-more size size' n m (Call f ∷ rest) le h = (let lt = h.0 in omega arith, leads-more size size' (suc n) m rest le h.1)
 leads-more size size' zero m (Ret ∷ rest) le h = h
 leads-more size size' (suc n) m (Ret ∷ rest) le h = leads-more size size' n m rest le h
-leads-more size size' n m (Raise c ∷ rest) le h = h
-leads-more size size' n m (Lower ∷ rest) le h = h
+leads-more size size' n m (Raise c ∷ rest) le h = leads-more size size' n m rest le h
+leads-more size size' n m (Lower ∷ rest) le h = leads-more size size' n m rest le h
 leads-more size size' n m (After k ∷ rest) le h = leads-more size size' n m rest le h
 
 -- one act more
@@ -28,13 +28,9 @@ leads-snoc size n m k [] a h last = let e : n ≡ m = h in rw e last
 leads-snoc size n m k (Call f ∷ rest) a h last = (h.0, leads-snoc size (suc n) m k rest a h.1 last)
 leads-snoc size zero m k (Ret ∷ rest) a h last = absurd h
 leads-snoc size (suc n) m k (Ret ∷ rest) a h last = leads-snoc size n m k rest a h last
-leads-snoc size n m k (Raise c ∷ rest) a h last = absurd h
-leads-snoc size n m k (Lower ∷ rest) a h last = absurd h
+leads-snoc size n m k (Raise c ∷ rest) a h last = leads-snoc size n m k rest a h last
+leads-snoc size n m k (Lower ∷ rest) a h last = leads-snoc size n m k rest a h last
 leads-snoc size n m k (After j ∷ rest) a h last = leads-snoc size n m k rest a h last
-
-acts-snoc : (acts : List LinedAct) (a : LinedAct) → map (λ (x : LinedAct). x.act) (acts ++ a ∷ []) ≡ map (λ (x : LinedAct). x.act) acts ++ a.act ∷ []
-acts-snoc [] a = refl
-acts-snoc (x ∷ acts) a = ap (λ (l : List TaskAct). x.act ∷ l) (acts-snoc acts a)
 
 -- ## tasks
 
@@ -60,7 +56,7 @@ length-push_act (p ∷ q ∷ ps) a = ap suc (length-push_act (q ∷ ps) a)
 
 pub balanced-act : (size running now : ℕ) (ps : List LinedTask) (a : LinedAct) → 1 ≤ length ps → Leads size running (a.act ∷ []) now → Balanced size ps running → Balanced size (push_act ps a) now
 balanced-act size running now [] a some step h = absurd (omega arith)
-balanced-act size running now (p ∷ []) a some step h = rw (acts-snoc p.acts a) (leads-snoc size 0 running now (acts_of p) a.act h step)
+balanced-act size running now (p ∷ []) a some step h = rw (map_push (λ (x : LinedAct). x.act) p.acts a) (leads-snoc size 0 running now (acts_of p) a.act h step)
 balanced-act size running now (p ∷ q ∷ ps) a some step h =
     let n = length-push_act (q ∷ ps) a in
     balanced-cons size now p (push_act (q ∷ ps) a) (omega (arith, n)) h.0 (balanced-act size running now (q ∷ ps) a (omega arith) step h.1)
@@ -82,46 +78,49 @@ placed-act k [] a h = tt
 placed-act k (p ∷ []) a h = h
 placed-act k (p ∷ q ∷ ps) a h = (h.0, placed-act k (q ∷ ps) a h.1)
 
-pub many-act : (c : ℕ) (ps : List LinedTask) (a : LinedAct) → how_many_on c (push_act ps a) ≡ how_many_on c ps
-many-act c [] a = refl
-many-act c (p ∷ []) a = refl
-many-act c (p ∷ q ∷ ps) a = ap (λ n. cond (p.cpu == c) (suc n) n) (many-act c (q ∷ ps) a)
+-- ## sums over tasks
 
--- one more task: on another CPU it is not counted
-pub many-task : (c pid cpu : ℕ) (ps : List LinedTask)
-    → how_many_on c (ps ++ record { pid = pid; cpu = cpu; acts = [] } ∷ []) ≡ how_many_on c ps + cond (cpu == c) 1 0
-many-task c pid cpu [] = elim (cpu == c) as (λ b. cond b 1 0 ≡ 0 + cond b 1 0) [ true ↦ refl | false ↦ refl ]
-many-task c pid cpu (p ∷ ps) = elim (p.cpu == c) as (λ b.
-    cond b (suc (how_many_on c (ps ++ record { pid = pid; cpu = cpu; acts = [] } ∷ []))) (how_many_on c (ps ++ record { pid = pid; cpu = cpu; acts = [] } ∷ []))
-    ≡ cond b (suc (how_many_on c ps)) (how_many_on c ps) + cond (cpu == c) 1 0) [
-      | true ↦ (let more = many-task c pid cpu ps in omega (arith, more))
-      | false ↦ many-task c pid cpu ps
-    ]
+-- if one more act adds k to its task's count, it adds k to the sum
+sum-act : (f : LinedTask → ℕ) (ps : List LinedTask) (a : LinedAct) (k : ℕ) → ((p : LinedTask) → f (record p { acts = p.acts ++ a ∷ [] }) ≡ f p + k) → 1 ≤ length ps → sum_by f (push_act ps a) ≡ sum_by f ps + k
+sum-act f [] a k more some = absurd (omega arith)
+sum-act f (p ∷ []) a k more some =
+    let m = more p in
+    let one = sum_by-cons f (record p { acts = p.acts ++ a ∷ [] }) [] in
+    let all = sum_by-cons f p [] in
+    omega (arith, m, one, all)
+sum-act f (p ∷ q ∷ ps) a k more some =
+    let rest = sum-act f (q ∷ ps) a k more (omega arith) in
+    let one = sum_by-cons f p (push_act (q ∷ ps) a) in
+    let all = sum_by-cons f p (q ∷ ps) in
+    omega (arith, rest, one, all)
 
--- no task is on a CPU that none of them names
-pub many-none : (c : ℕ) (ps : List LinedTask) → list_any (λ (p : LinedTask). p.cpu == c) ps ≡ false → how_many_on c ps ≡ 0
-many-none c [] e = refl
-many-none c (p ∷ ps) e =
-    elim (p.cpu == c) as (λ b. (b || list_any (λ (q : LinedTask). q.cpu == c) ps) ≡ false → cond b (suc (how_many_on c ps)) (how_many_on c ps) ≡ 0) [
-      | true ↦ λ no. false_true (sym no)
-      | false ↦ λ no. many-none c ps no
-    ] e
+-- a task that counts nothing leaves the sum
+pub sum-task : (f : LinedTask → ℕ) (ps : List LinedTask) (p : LinedTask) → f p ≡ 0 → sum_by f (ps ++ p ∷ []) ≡ sum_by f ps
+sum-task f [] p none =
+    let one = sum_by-cons f p [] in
+    omega (arith, none, one)
+sum-task f (q ∷ ps) p none =
+    let rest = sum-task f ps p none in
+    let one = sum_by-cons f q (ps ++ p ∷ []) in
+    let all = sum_by-cons f q ps in
+    omega (arith, rest, one, all)
 
--- ## acts in all
+calls-snoc : (acts : List TaskAct) (a : TaskAct) → calls_in (acts ++ a ∷ []) ≡ calls_in acts + calls_in (a ∷ [])
+calls-snoc [] a = omega arith
+calls-snoc (Call f ∷ rest) a = let more = calls-snoc rest a in omega (arith, more)
+calls-snoc (Ret ∷ rest) a = calls-snoc rest a
+calls-snoc (Raise c ∷ rest) a = calls-snoc rest a
+calls-snoc (Lower ∷ rest) a = calls-snoc rest a
+calls-snoc (After n ∷ rest) a = calls-snoc rest a
 
-pub sum-act : (ps : List LinedTask) (a : LinedAct) → 1 ≤ length ps → sum_by (λ (p : LinedTask). length p.acts) (push_act ps a) ≡ suc (sum_by (λ (p : LinedTask). length p.acts) ps)
-sum-act [] a some = absurd (omega arith)
-sum-act (p ∷ []) a some = let n = length_push p.acts a in omega (arith, n)
-sum-act (p ∷ q ∷ ps) a some =
-    let more = sum-act (q ∷ ps) a (omega arith) in
-    let one = sum_by-cons (λ (x : LinedTask). length x.acts) p (push_act (q ∷ ps) a) in
-    let all = sum_by-cons (λ (x : LinedTask). length x.acts) p (q ∷ ps) in
-    omega (arith, more, one, all)
+-- one more act in all
+pub sum_acts-act : (ps : List LinedTask) (a : LinedAct) → 1 ≤ length ps → sum_by (λ (p : LinedTask). length p.acts) (push_act ps a) ≡ sum_by (λ (p : LinedTask). length p.acts) ps + 1
+sum_acts-act ps a some = sum-act (λ (p : LinedTask). length p.acts) ps a 1 (λ p. length_push p.acts a) some
 
-pub sum-task : (pid cpu : ℕ) (ps : List LinedTask) → sum_by (λ (p : LinedTask). length p.acts) (ps ++ record { pid = pid; cpu = cpu; acts = [] } ∷ []) ≡ sum_by (λ (p : LinedTask). length p.acts) ps
-sum-task pid cpu [] = refl
-sum-task pid cpu (p ∷ ps) =
-    let more = sum-task pid cpu ps in
-    let one = sum_by-cons (λ (x : LinedTask). length x.acts) p (ps ++ record { pid = pid; cpu = cpu; acts = [] } ∷ []) in
-    let all = sum_by-cons (λ (x : LinedTask). length x.acts) p ps in
-    omega (arith, more, one, all)
+-- one more call in all, if the act is one
+pub sum_calls-act : (ps : List LinedTask) (a : LinedAct) → 1 ≤ length ps
+    → sum_by (λ (p : LinedTask). calls_in (acts_of p)) (push_act ps a) ≡ sum_by (λ (p : LinedTask). calls_in (acts_of p)) ps + calls_in (a.act ∷ [])
+sum_calls-act ps a some =
+    sum-act (λ (p : LinedTask). calls_in (acts_of p)) ps a (calls_in (a.act ∷ []))
+    (λ p. ap (λ acts. calls_in acts) (map_push (λ (x : LinedAct). x.act) p.acts a) ∙ calls-snoc (acts_of p) a.act)
+    some

@@ -4,8 +4,6 @@ use Rattle.std.specs.Prelude.{ℕ, ◌+◌, ◌*◌, ◌^◌, ◌==◌, ◌&&◌
 use Rattle.std.specs.List.{list_any}
 use Rattle.std.specs.Str.{bytes_eq}
 use Rattle.ft_base.specs.declared.limits.TheConstants.{CPUS, TASKS, USERS, TRAMPS, FUNCS, COMMANDS, UNTILS, ACTS, LEVELS, FRAMES, GRAPH_DEPTH, ITEMS, QUANTUM, PID, NAME_BYTES}
-use Rattle.ft_base.specs.declared.user.Kind.{Kind}
-use Rattle.ft_base.specs.declared.user.Kind.TheVariants.{Function}
 use Rattle.ft_base.specs.Same.{rank}
 use Rattle.filter_commands.specs.Causes.{first_cause}
 use Rattle.ft_schedule.specs.Causes.{is_past_limit as is_past_sched_limit, has_unknown}
@@ -14,9 +12,8 @@ use Rattle.script_text.specs.Lines.{Word, Line}
 use Rattle.script_form.specs.Forms.{LineForm, version, func, depth, tramps, user, new_cpu, new_task, call, ret, raise, lower, after, register, unregister, write, pids, enable, disable, max_depth, until, sched}
 use Rattle.script_form.specs.Forms.{UserLine, UserAct, calls, irqs}
 use Rattle.script_form.specs.Lines.{line_form}
-use Rattle.script_waits.specs.Tasks.{LinedTask}
 use Rattle.ft_script.specs.declared.faults.Cause.{Cause}
-use Rattle.ft_script.specs.declared.faults.Cause.TheVariants.{Version, Syntax, Limit, Duplicate, Unknown, Pattern, Unbalanced, Later}
+use Rattle.ft_script.specs.declared.faults.Cause.TheVariants.{Version, Syntax, Limit, Duplicate, Unknown, Pattern, Unbalanced}
 use Rattle.ft_script.specs.declared.levels.Levels.{Levels}
 use Rattle.ft_script.specs.Levels.{present, open_here, open_calls, is_raised, is_unfinished}
 use Rattle.ft_script.specs.Above.{Above, function_names, user_names, pids_of, rank_of, declared}
@@ -205,40 +202,6 @@ is_last (line ∷ below) = is_last_by (line_form line.bytes) (is_last below)
 abbrev pub is_unbalanced : Above → LineForm → List Line → Bool
 is_unbalanced above form below = is_unmatched above.levels form || (is_act form && (is_unfinished (declared above form).levels && is_last below))
 
--- ## later
-
--- the kind of a user is function
-abbrev pub is_kind_function : Kind → Bool
-is_kind_function Function = true
-is_kind_function _ = false
-
--- a user of another kind, or with an option
-abbrev pub is_special : UserLine → Bool
-is_special u = not (is_kind_function u.kind) || (u.regs || (is_some u.ipmodify || (u.pid || is_some u.act)))
-
--- the machine carries out lines of this form
-abbrev pub is_built : LineForm → Bool
-is_built (depth frames) = false
-is_built (tramps slots) = false
-is_built (raise to) = false
-is_built lower = false
-is_built (write half append name text) = false
-is_built (pids excluded list) = false
-is_built (enable name) = false
-is_built (disable name) = false
-is_built (max_depth n) = false
-is_built _ = true
-
--- a task is on this CPU
-abbrev pub has_task_on : List LinedTask → ℕ → Bool
-has_task_on tasks cpu = list_any (λ task. task.cpu == cpu) tasks
-
--- the machine can't carry out the line yet: its form, a special user, a second user, or a second task of a CPU
-abbrev pub is_later : Above → LineForm → Bool
-is_later above (user u) = is_special u || nat_le 1 (length above.users)
-is_later above (new_task pid cpu) = has_task_on above.tasks cpu
-is_later above form = not (is_built form)
-
 -- ## the first cause of a line
 
 -- the first cause of a line of this form that isn't line 1
@@ -250,8 +213,7 @@ form_cause above form below =
     else (if is_unknown above form then Some Unknown
     else (if is_bad_text above form then Some Pattern
     else (if is_unbalanced above form below then Some Unbalanced
-    else (if is_later above form then Some Later
-    else None))))))
+    else None)))))
 
 -- line 1 is `ftrace 1`
 abbrev pub first_line_cause : Option LineForm → Option Cause

@@ -2,7 +2,7 @@
 use Rattle.std.specs.Prelude.{List, ℕ, ◌++◌, codes}
 use Rattle.std.specs.Fmt.{decimal}
 use Rattle.ft_script.specs.declared.faults.Cause.{Cause}
-use Rattle.ft_script.specs.declared.faults.Cause.TheVariants.{Version, Syntax, Limit, Duplicate, Unknown, Pattern, Unbalanced, Later, Deadlock, NoMemory}
+use Rattle.ft_script.specs.declared.faults.Cause.TheVariants.{Version, Syntax, Limit, Duplicate, Unknown, Pattern, Unbalanced, Deadlock, NoMemory}
 use Rattle.ft_script.specs.declared.faults.ScriptFault.{ScriptFault}
 
 -- the word for a cause
@@ -14,7 +14,6 @@ cause_word Duplicate = codes "duplicate"
 cause_word Unknown = codes "unknown"
 cause_word Pattern = codes "pattern"
 cause_word Unbalanced = codes "unbalanced"
-cause_word Later = codes "later"
 cause_word Deadlock = codes "deadlock"
 cause_word NoMemory = codes "no memory"
 

@@ -1,26 +1,36 @@
 -- What holds of what is declared, if no line has a cause.
-use Rattle.std.specs.Prelude.{ℕ, zero, suc, ◌≡◌, ◌+◌, ◌<◌, ◌≤◌, ◌==◌, false, List, [], ◌∷◌, length, map, sum_by, None, if◌then◌else◌}
+use Rattle.std.specs.Prelude.{ℕ, zero, suc, ◌≡◌, ◌+◌, ◌*◌, ◌<◌, ◌≤◌, false, List, [], ◌∷◌, length, map, sum_by, Option, Some, None}
 use Rattle.std.specs.List.{AllByRecursion as Each}
-use Rattle.ft_base.specs.declared.limits.TheConstants.{FUNCS}
+use Rattle.ft_base.specs.declared.context.Ctx.{Ctx}
+use Rattle.ft_base.specs.declared.context.Ctx.TheVariants.{Softirq, Irq, Nmi}
+use Rattle.ft_base.specs.declared.limits.TheConstants.{FRAMES, TRAMPS, GRAPH_DEPTH, ITEMS, QUANTUM}
 use Rattle.ft_base.specs.declared.task.TaskAct.{TaskAct}
 use Rattle.ft_base.specs.declared.task.TaskAct.TheVariants.{Call, Ret, Raise, Lower, After}
-use Rattle.ft_machine.specs.Known.{IsPlainUser, IsQuantum}
-use Rattle.ft_base.specs.Job.{Spec, Ctl, Run, Until, Register, Unregister}
+use Rattle.ft_base.specs.declared.user.Act.{Act}
+use Rattle.ft_base.specs.declared.user.Act.TheVariants.{CallIn, IrqIn}
+use Rattle.ft_base.specs.Same.{rank}
+use Rattle.ft_base.specs.Job.{Spec, Ctl, Run, Until, Register, Unregister, Filter, Notrace, Pid, NoPid, Enable, Disable, MaxDepth}
+use Rattle.ft_hist.specs.Plain.{context}
+use Rattle.history_bound.specs.Bound.{calls_in}
+use Rattle.user_specs.specs.Bound.{call_bound_of}
 use Rattle.script_waits.specs.declared.script.LinedAct.{LinedAct}
 use Rattle.script_waits.specs.Tasks.{LinedTask}
+use Rattle.word_machine.specs.Limits.{AreRaised}
 use Rattle.ft_script.specs.declared.levels.Levels.{Levels}
-use Rattle.ft_script.specs.Levels.{levels_at, is_unfinished}
+use Rattle.ft_script.specs.Levels.{open_calls, is_unfinished}
 use Rattle.ft_script.specs.Above.{Above, LinedCtl}
-use Rattle.ft_script.specs.Within.{IsWithinLimits}
+use Rattle.ft_script.specs.Within.{IsWithinLimits, IsInOrder}
 
--- acts lead from n open calls to m: each calls a function below `size`, each return has its call, and no context is raised
+-- ## tasks
+
+-- acts lead from n open calls to m: each calls a function below `size`, and each return has its call
 abbrev pub Leads : ℕ → ℕ → List TaskAct → ℕ → Type 0
 Leads size n [] m = n ≡ m
 Leads size n (Call f ∷ rest) m = (f.0 < size) × Leads size (suc n) rest m
 Leads size zero (Ret ∷ rest) m = ⊥
 Leads size (suc n) (Ret ∷ rest) m = Leads size n rest m
-Leads size n (Raise c ∷ rest) m = ⊥
-Leads size n (Lower ∷ rest) m = ⊥
+Leads size n (Raise c ∷ rest) m = Leads size n rest m
+Leads size n (Lower ∷ rest) m = Leads size n rest m
 Leads size n (After k ∷ rest) m = Leads size n rest m
 
 -- the acts of a task, without their lines
@@ -33,42 +43,85 @@ Balanced size [] running = running ≡ 0
 Balanced size (p ∷ []) running = Leads size 0 (acts_of p) running
 Balanced size (p ∷ q ∷ ps) running = Leads size 0 (acts_of p) 0 × Balanced size (q ∷ ps) running
 
--- how many tasks are on a CPU
-abbrev pub how_many_on : ℕ → List LinedTask → ℕ
-how_many_on c [] = 0
-how_many_on c (p ∷ ps) = if p.cpu == c then suc (how_many_on c ps) else how_many_on c ps
+-- a context above these, if it is raised
+abbrev pub above_them : Ctx → Option ℕ → List Ctx → List Ctx
+above_them c None cs = cs
+above_them c (Some n) cs = c ∷ cs
 
--- tasks on CPUs, at most one on each, with this many acts in all; their acts are balanced. There are `size` functions
-pub record TasksHold (size cpus : ℕ) (tasks : List LinedTask) (levels : Levels) (acts : ℕ) : Type 0 where
+-- the raised contexts, the latest first
+abbrev pub contexts_in : Levels → List Ctx
+contexts_in l = above_them Nmi l.nmi (above_them Irq l.irq (above_them Softirq l.softirq []))
+
+-- acts lead from these contexts to those: each interrupt comes above the present one, and goes after it came
+abbrev pub RaisesTo : List Ctx → List TaskAct → List Ctx → Type 0
+RaisesTo cs [] cs' = cs ≡ cs'
+RaisesTo cs (Call f ∷ rest) cs' = RaisesTo cs rest cs'
+RaisesTo cs (Ret ∷ rest) cs' = RaisesTo cs rest cs'
+RaisesTo cs (Raise c ∷ rest) cs' = (rank (context cs) < rank c) × RaisesTo (c ∷ cs) rest cs'
+RaisesTo [] (Lower ∷ rest) cs' = ⊥
+RaisesTo (c ∷ cs) (Lower ∷ rest) cs' = RaisesTo cs rest cs'
+RaisesTo cs (After n ∷ rest) cs' = RaisesTo cs rest cs'
+
+-- each task's interrupts do so, and those of the last one lead to the contexts that the levels tell
+abbrev pub TasksRaise : List LinedTask → Levels → Type 0
+TasksRaise [] l = Unit {0}
+TasksRaise (p ∷ []) l = RaisesTo [] (acts_of p) (contexts_in l)
+TasksRaise (p ∷ q ∷ ps) l = AreRaised [] (acts_of p) × TasksRaise (q ∷ ps) l
+
+-- tasks on so many CPUs, with so many acts and calls in all; their acts are balanced, and their interrupts come and go in order. There are
+-- `size` functions
+pub record TasksHold (size cpus : ℕ) (tasks : List LinedTask) (levels : Levels) (acts calls : ℕ) : Type 0 where
   pub placed : Each (λ p. p.cpu < cpus) tasks
-  pub alone : (c : ℕ) → how_many_on c tasks ≤ 1
-  pub running : ℕ
-  pub level : levels ≡ levels_at running None None None
-  pub balanced : Balanced size tasks running
-  pub total : sum_by (λ (p : LinedTask). length p.acts) tasks ≡ acts
+  pub balanced : Balanced size tasks (open_calls levels)
+  pub raised : TasksRaise tasks levels
+  pub all_acts : sum_by (λ (p : LinedTask). length p.acts) tasks ≡ acts
+  pub all_calls : sum_by (λ (p : LinedTask). calls_in (acts_of p)) tasks ≡ calls
 
--- a line of control that the machine can carry out, if there are this many users
-abbrev pub IsLine : ℕ → Ctl → Type 0
-IsLine users (Run (Register u)) = u < users
-IsLine users (Run (Unregister u)) = u < users
-IsLine users (Until t n) = Unit {0}
-IsLine users _ = ⊥
+-- ## users and lines of control
 
--- plain users, and lines of control, of which this many are commands and waits
-pub record UsersHold (users : List Spec) (ctls : List LinedCtl) (commands waits : ℕ) : Type 0 where
-  pub plain : Each IsPlainUser users
-  pub named : Each (λ c. IsLine (length users) c.ctl) ctls
+-- the function that a user's act calls is one of so many
+abbrev pub IsActIn : ℕ → Option Act → Type 0
+IsActIn size None = Unit {0}
+IsActIn size (Some (CallIn g)) = g.0 < size
+IsActIn size (Some (IrqIn g)) = g.0 < size
+
+-- a line of control: its user is one of so many, its set has so many functions, its task is one of so many, and its depth is within the
+-- limit
+abbrev pub IsLine : (users size tasks : ℕ) → Ctl → Type 0
+IsLine users size tasks (Run (Register u)) = u < users
+IsLine users size tasks (Run (Unregister u)) = u < users
+IsLine users size tasks (Run (Filter u e)) = (u < users) × (length e.set ≡ size)
+IsLine users size tasks (Run (Notrace u e)) = (u < users) × (length e.set ≡ size)
+IsLine users size tasks (Run (Pid pids)) = Unit {0}
+IsLine users size tasks (Run (NoPid pids)) = Unit {0}
+IsLine users size tasks (Run (Enable u)) = u < users
+IsLine users size tasks (Run (Disable u)) = u < users
+IsLine users size tasks (Run (MaxDepth n)) = n ≤ GRAPH_DEPTH
+IsLine users size tasks (Until t n) = t < tasks
+
+-- lines of control, of which so many are commands and waits
+pub record LinesHold (users size tasks : ℕ) (ctls : List LinedCtl) (commands waits : ℕ) : Type 0 where
+  pub named : Each (λ c. IsLine users size tasks c.ctl) ctls
   pub all : length ctls ≡ commands + waits
 
--- what is declared is within the limits, and the machine can carry it out
+-- a number that the script may say is at most this, if it says it
+abbrev pub IsAtMost : ℕ → Option ℕ → Type 0
+IsAtMost limit None = Unit {0}
+IsAtMost limit (Some n) = n ≤ limit
+
+-- ## all
+
+-- what is declared is within the limits and in order, and names what is there; its calls make no more items than a history may have
 pub record Holds (above : Above) : Type 0 where
   pub within : IsWithinLimits above
-  pub functions : length above.functions ≤ FUNCS
-  pub depth : above.depth ≡ None
-  pub tramps : above.tramps ≡ None
-  pub users : UsersHold above.users above.ctls above.commands above.waits
-  pub quanta : Each IsQuantum above.quanta
-  pub tasks : TasksHold (length above.functions) (length above.quanta) above.tasks above.levels above.acts
+  pub order : IsInOrder above
+  pub depth : IsAtMost FRAMES above.depth
+  pub tramps : IsAtMost TRAMPS above.tramps
+  pub users : Each (λ (s : Spec). IsActIn (length above.functions) s.act) above.users
+  pub quanta : Each (λ q. q ≤ QUANTUM) above.quanta
+  pub tasks : TasksHold (length above.functions) (length above.quanta) above.tasks above.levels above.acts above.calls
+  pub lines : LinesHold (length above.users) (length above.functions) (length above.tasks) above.ctls above.commands above.waits
+  pub items : call_bound_of above.users * above.calls ≤ ITEMS
 
 -- the same, and nothing is left open
 pub record CanRun (above : Above) : Type 0 where

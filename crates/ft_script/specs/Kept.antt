@@ -1,7 +1,9 @@
 -- What a reader keeps of the lines above.
-use Rattle.std.specs.Prelude.{◌≡◌, map, None}
+use Rattle.std.specs.Prelude.{◌≡◌, ℕ, length, map, unwrap_or}
 use Rattle.ft_base.specs.declared.limits.TheConstants.{TRAMPS, USUAL_FRAMES}
-use Rattle.ft_machine.specs.Parts.{Parts, cpus_from, ctl_of}
+use Rattle.ft_desk.specs.Commands.{ctl_of}
+use Rattle.control_core.specs.Lines.{lines_of}
+use Rattle.ft_machine.specs.Parts.{Parts, cpus_from}
 use Rattle.user_specs.specs.Plain.{spec_of}
 use Rattle.script_waits.specs.declared.script.ControlLine.{ControlLine}
 use Rattle.script_waits.specs.Tasks.{lined_task}
@@ -10,21 +12,21 @@ use Rattle.ft_script.specs.declared.reader.LinedCtl.{LinedCtl as KeptLine}
 use Rattle.ft_script.specs.Above.{Above, LinedCtl}
 use Rattle.ft_script.specs.Script.{wait_of, task_of, schedule_of}
 
--- a line of control that the reader keeps
-abbrev pub lined_ctl : KeptLine → LinedCtl
-lined_ctl c = record { ctl = ctl_of c.ctl; line = c.line }
+-- a line of control that the reader keeps, if there are this many tasks
+abbrev pub lined_ctl : ℕ → KeptLine → LinedCtl
+lined_ctl tasks c = record { ctl = ctl_of tasks c.ctl; line = c.line }
 
--- what it is for those that wait
+-- what it is for those that wait; there the number of tasks makes no difference
 abbrev pub control_line : KeptLine → ControlLine
-control_line c = record { wait = wait_of (ctl_of c.ctl); line = c.line }
+control_line c = record { wait = wait_of (ctl_of 0 c.ctl); line = c.line }
 
--- what the lines that a reader has read declare; `depth` and `tramps` are refused as `later`, so none of them has one
+-- what the lines that a reader has read declare
 abbrev pub above_of : Reader → Above
 above_of r = record {
   lines = r.lines;
   rank = r.rank;
-  depth = None;
-  tramps = None;
+  depth = r.depth;
+  tramps = r.tramps;
   functions = r.functions.functions;
   users = map spec_of r.users.items;
   quanta = r.quanta.items;
@@ -32,7 +34,7 @@ above_of r = record {
   levels = r.levels;
   acts = r.acts;
   calls = r.calls;
-  ctls = map lined_ctl r.ctls.items;
+  ctls = map (lined_ctl (length r.tasks.items)) r.ctls.items;
   commands = r.commands;
   waits = r.waits;
   turns = r.turns.items;
@@ -43,8 +45,8 @@ above_of r = record {
 pub record AreParts (p : Parts) (above : Above) : Type 0 where
   pub functions : p.functions ≡ above.functions
   pub users : p.users ≡ above.users
-  pub frames : p.frames ≡ USUAL_FRAMES
-  pub tramps : p.tramps ≡ TRAMPS
+  pub frames : p.frames ≡ unwrap_or above.depth USUAL_FRAMES
+  pub tramps : p.tramps ≡ unwrap_or above.tramps TRAMPS
   pub cpus : p.cpus ≡ cpus_from 0 above.quanta (map task_of above.tasks)
-  pub ctls : map ctl_of p.ctls ≡ map (λ c. c.ctl) above.ctls
+  pub ctls : lines_of (length above.tasks) p.ctls ≡ map (λ c. c.ctl) above.ctls
   pub schedule : p.schedule ≡ schedule_of above.turns

@@ -26,8 +26,6 @@ pub enum Cause {
     Pattern,
     /// A call and its return, or an interrupt and its return, don't match.
     Unbalanced,
-    /// The machine can't carry out the line yet.
-    Later,
     /// No line has another cause, and the script can't end: this is the lowest line that would be
     /// left waiting.
     Deadlock,
@@ -48,7 +46,6 @@ impl Cause {
             Cause::Unknown => "unknown",
             Cause::Pattern => "pattern",
             Cause::Unbalanced => "unbalanced",
-            Cause::Later => "later",
             Cause::Deadlock => "deadlock",
             Cause::NoMemory => "no memory",
         }

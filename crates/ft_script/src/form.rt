@@ -1,16 +1,15 @@
-//! What the form of a line says by itself: its rank, whether it is an act, whether its names and
-//! numbers are within their limits, and whether the machine carries out such lines.
+//! What the form of a line says by itself: its rank, whether it is an act, and whether its names
+//! and numbers are within their limits.
 
 ghost use Rattle.std.specs.Prelude.{◌≡◌, nat_le, nat_lt, option_map};
 ghost use Rattle.std.specs.List.{list_any};
 ghost use Rattle.std.specs.Option.{option_copied};
 ghost use Rattle.script_form.specs.Read.{form_read, user_read};
 ghost use Rattle.ft_script.specs.Above.{rank_of};
-ghost use Rattle.ft_script.specs.Causes.{is_act, is_long, is_long_or_none, has_long_name, act_name, is_big, is_bad_count, is_bad_pid, is_bad_depth, is_bad_quantum, is_special, is_built};
+ghost use Rattle.ft_script.specs.Causes.{is_act, is_long, is_long_or_none, has_long_name, act_name, is_big, is_bad_count, is_bad_pid, is_bad_depth, is_bad_quantum};
 
 use ft_base::limits::{FRAMES, NAME_BYTES, PID, QUANTUM};
 use script_form::{LineForm, UserAct, UserLine};
-use user_specs::Kind;
 
 /// Whether it is an act of a task.
 pub fn is_act(form: &LineForm) -> bool
@@ -47,35 +46,6 @@ pub fn rank_of(form: &LineForm, before: u8) -> u8
         LineForm::Sched { .. } => 7,
         _ => 6,
     }
-}
-
-/// Whether the machine carries out lines of this form.
-pub fn is_built(form: &LineForm) -> bool
-    ensures { result ≡ is_built (form_read form.now) }
-{
-    !matches!(
-        form,
-        LineForm::Depth { .. }
-            | LineForm::Tramps { .. }
-            | LineForm::Raise { .. }
-            | LineForm::Lower
-            | LineForm::Write { .. }
-            | LineForm::Pids { .. }
-            | LineForm::Enable { .. }
-            | LineForm::Disable { .. }
-            | LineForm::MaxDepth { .. }
-    )
-}
-
-/// Whether the user is of another kind than function, or has an option.
-pub fn is_special(user: &UserLine) -> bool
-    ensures { result ≡ is_special (user_read user.now) }
-{
-    user.kind != Kind::Function
-        || user.regs
-        || user.ipmodify.is_some()
-        || user.pid
-        || user.act.is_some()
 }
 
 // ## limits

@@ -1,7 +1,7 @@
 //! The open calls of a task, in each context that it is in.
 
 ghost use Rattle.std.specs.Prelude.{◌≡◌, ◌≤◌};
-ghost use Rattle.ft_script.specs.Levels.{level_ground, present, open_in, open_here, open_calls, with_open, without, levels_after, has_open_call, is_raised, is_unfinished};
+ghost use Rattle.ft_script.specs.Levels.{present, open_in, open_here, open_calls, with_open, without, levels_after, has_open_call, is_raised, is_unfinished};
 
 use ft_base::limits::LEVELS;
 use ft_base::{Ctx, TaskAct};

@@ -1,9 +1,11 @@
 //! The reader of scripts, which takes one line after the other.
 //!
 //! `causes` has the causes for which a line is refused, and `past_limit` the limits among them;
-//! `declare` has what a line adds; `find` looks up names and pids; `parts` makes the job.
+//! `declare` has what a line adds, and `commands` what a line of control adds; `find` looks up names
+//! and pids; `parts` makes the job.
 
 mod causes;
+mod commands;
 mod declare;
 mod find;
 mod parts;
@@ -16,7 +18,7 @@ use crate::faults::ScriptFault;
 use crate::levels::Levels;
 use ft_base::Turn;
 use ft_base::limits::FUNCS;
-use ft_machine::FirstCtl;
+use ft_machine::Ctl;
 use func_table::FuncTable;
 use script_form::read_line;
 use script_waits::LinedTask;
@@ -24,9 +26,9 @@ use std::alloc::Global;
 use user_specs::Spec;
 
 /// A line of control, and its number in the script.
-#[derive(Clone, Copy)]
+#[derive(Drop)]
 pub struct LinedCtl {
-    pub ctl: FirstCtl,
+    pub ctl: Ctl,
     pub line: u32,
 }
 
@@ -37,6 +39,10 @@ pub struct Reader {
     lines: u32,
     /// The rank of the last of them that has one.
     rank: u8,
+    /// The frames of a shadow stack, if the script says.
+    depth: Option<u32>,
+    /// The trampoline slots, if the script says.
+    tramps: Option<u32>,
     functions: FuncTable,
     users: Vec<Spec>,
     /// The quantum of each CPU.
@@ -73,6 +79,8 @@ impl Reader {
         Reader {
             lines: 0,
             rank: 0,
+            depth: None,
+            tramps: None,
             functions: FuncTable::new(alloc, FUNCS),
             users: Vec::new(alloc),
             quanta: Vec::new(alloc),

@@ -81,7 +81,14 @@ fn no_form_or_place(rt: HostRuntime) -> Result<(), Fail> {
                 "ftrace 1; cpu 0 quantum 5; cpu 1 quantum 5; cpu 2 quantum 5; cpu 3 quantum 5; cpu 4 quantum 5; cpu 5 quantum 5; cpu 6 quantum 5; cpu 7 quantum 5; cpu 9 quantum 5",
                 10,
             ),
+            ("ftrace 1; depth 3; depth 3", 3),
+            ("ftrace 1; tramps 3; # x; tramps 99", 4),
+            ("ftrace 1; user t function; depth 3", 3),
             ("ftrace 1; call a", 2),
+            (
+                "ftrace 1; func a; cpu 0 quantum 5; task 10 cpu 0; call a; ctl maxdepth 1; ret",
+                7,
+            ),
             (
                 "ftrace 1; func a; cpu 0 quantum 5; task 10 cpu 0; call a; ret; func b",
                 7,
@@ -266,63 +273,31 @@ fn calls_and_returns(rt: HostRuntime) -> Result<(), Fail> {
                 5,
             ),
             ("ftrace 1; func a; cpu 0 quantum 5; task 10 cpu 0; irq", 5),
+            (
+                "ftrace 1; cpu 0 quantum 5; task 10 cpu 0; irq; softirq; iret; iret",
+                5,
+            ),
+            (
+                "ftrace 1; cpu 0 quantum 5; task 10 cpu 0; nmi; nmi; iret",
+                5,
+            ),
+            (
+                "ftrace 1; func a; cpu 0 quantum 5; task 10 cpu 0; call a; irq; ret; iret; ret",
+                7,
+            ),
+            (
+                "ftrace 1; func a; cpu 0 quantum 5; task 10 cpu 0; irq; call a; iret; ret",
+                7,
+            ),
+            (
+                "ftrace 1; cpu 0 quantum 5; task 10 cpu 0; softirq; iret; irq; task 11 cpu 0",
+                6,
+            ),
             ("ftrace 1; func a; cpu 0 quantum 5; task 10 cpu 0; iret", 5),
             (
                 "ftrace 1; func a; cpu 0 quantum 5; cpu 1 quantum 5; task 10 cpu 0; call a; task 11 cpu 1; ret",
                 6,
             ),
-        ],
-    )
-}
-
-#[test]
-fn not_built_yet(rt: HostRuntime) -> Result<(), Fail> {
-    refuses(
-        &rt,
-        rt.alloc(),
-        Cause::Later,
-        &[
-            ("ftrace 1; func read; user t function; ctl filter t > 1", 4),
-            ("ftrace 1; func a; user t function; ctl notrace t >> !*", 4),
-            ("ftrace 1; depth 3", 2),
-            ("ftrace 1; depth 3; depth 3", 2),
-            ("ftrace 1; tramps 16", 2),
-            ("ftrace 1; user t function; user v function", 3),
-            ("ftrace 1; user t graph", 2),
-            ("ftrace 1; user t function regs", 2),
-            ("ftrace 1; user t function pid", 2),
-            ("ftrace 1; func regs; user t function ipmodify regs", 3),
-            ("ftrace 1; func call; user call function call call", 3),
-            (
-                "ftrace 1; func pid; user t function regs ipmodify pid pid",
-                3,
-            ),
-            ("ftrace 1; cpu 0 quantum 5; task 10 cpu 0; task 11 cpu 0", 4),
-            (
-                "ftrace 1; func a; cpu 0 quantum 5; task 10 cpu 0; irq; iret",
-                5,
-            ),
-            (
-                "ftrace 1; func a; cpu 0 quantum 5; task 10 cpu 0; softirq; iret",
-                5,
-            ),
-            (
-                "ftrace 1; func a; cpu 0 quantum 5; task 10 cpu 0; nmi; iret",
-                5,
-            ),
-            (
-                "ftrace 1; func a; cpu 0 quantum 5; task 10 cpu 0; call a; ctl maxdepth 1; ret",
-                6,
-            ),
-            ("ftrace 1; ctl pid", 2),
-            ("ftrace 1; cpu 0 quantum 5; task 10 cpu 0; ctl nopid 10", 4),
-            ("ftrace 1; user t function; ctl enable t", 3),
-            ("ftrace 1; user t function; ctl disable t", 3),
-            (
-                "ftrace 1; cpu 0 quantum 5; task 10 cpu 0; after 1; ctl maxdepth 1",
-                5,
-            ),
-            ("ftrace 1; user t function; ctl filter t >", 3),
         ],
     )
 }
@@ -343,6 +318,10 @@ fn never_ending(rt: HostRuntime) -> Result<(), Fail> {
                 7,
             ),
             ("ftrace 1; cpu 0 quantum 5; task 10 cpu 0; after 1", 4),
+            (
+                "ftrace 1; cpu 0 quantum 5; task 10 cpu 0; after 2; ctl maxdepth 1; ctl until 10 1; ctl pid 10",
+                4,
+            ),
             (
                 "ftrace 1; cpu 0 quantum 5; cpu 1 quantum 5; task 10 cpu 0; after 1; task 11 cpu 1; ctl until 11 1",
                 5,
@@ -398,6 +377,25 @@ fn accepts_scripts(rt: HostRuntime) -> Result<(), Fail> {
         "ftrace 1; cpu 0 quantum 5; cpu 1 quantum 5; cpu 2 quantum 5; cpu 3 quantum 5; cpu 4 quantum 5; cpu 5 quantum 5; cpu 6 quantum 5; cpu 7 quantum 5",
         "ftrace 1; cpu 0 quantum 5; task 4194304 cpu 0",
         "ftrace 1; func a; user t function; cpu 0 quantum 5; task 10 cpu 0; after 1; call a; call a; ret; ret; after 2; ctl register t; ctl until 10 3; ctl unregister t; sched k 0*3 all",
+        "ftrace 1; depth 3",
+        "ftrace 1; tramps 16; depth 64",
+        "ftrace 1; tramps 0",
+        "ftrace 1; user t function; user v function",
+        "ftrace 1; user t graph; user u profile; user v fprobe; user w fprobe exit; user x fprobe exit cancel",
+        "ftrace 1; user t function regs; user u function pid",
+        "ftrace 1; func regs; user t function ipmodify regs",
+        "ftrace 1; func call; user call function call call",
+        "ftrace 1; func pid; user t function regs ipmodify pid pid irq pid",
+        "ftrace 1; cpu 0 quantum 5; task 10 cpu 0; task 11 cpu 0",
+        "ftrace 1; cpu 0 quantum 5; task 10 cpu 0; irq; iret",
+        "ftrace 1; cpu 0 quantum 5; task 10 cpu 0; softirq; irq; nmi; iret; iret; iret; nmi; iret",
+        "ftrace 1; func a; cpu 0 quantum 5; task 10 cpu 0; call a; softirq; call a; nmi; iret; ret; iret; ret",
+        "ftrace 1; func read; user t function; ctl filter t > 1; ctl notrace t >> !*; ctl filter t >",
+        "ftrace 1; func a m; user t function; ctl filter t >> !a:mod:m",
+        "ftrace 1; ctl pid; ctl nopid",
+        "ftrace 1; cpu 0 quantum 5; task 10 cpu 0; task 9 cpu 0; ctl nopid 10; ctl pid 9 10 9",
+        "ftrace 1; user t fprobe; ctl enable t; ctl disable t",
+        "ftrace 1; cpu 0 quantum 5; task 10 cpu 0; after 1; ctl maxdepth 512",
     ];
     for lines in rows.iter() {
         let text = text(alloc, lines)?;

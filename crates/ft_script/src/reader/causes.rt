@@ -1,10 +1,10 @@
 //! The causes for which a line is refused: one test for each, and the first of them.
 
 use crate::faults::Cause;
-use crate::form::{act_name, is_act, is_built, is_special, rank_of};
+use crate::form::{act_name, is_act, rank_of};
 use crate::last_act::is_last;
 use crate::reader::Reader;
-use crate::reader::find::{has_task_on, task_number, user_number};
+use crate::reader::find::{task_number, user_number};
 use filter_commands::{EditFault, read_edit};
 use ft_base::{FuncNo, TaskAct, raise};
 use ft_schedule::has_unknown;
@@ -12,14 +12,14 @@ use script_form::LineForm;
 use std::alloc::{AllocError, Global};
 
 impl Reader {
-    ghost use Rattle.std.specs.Prelude.{◌≡◌, ◌≤◌, ◌&&◌, option_map, IfOk};
+    ghost use Rattle.std.specs.Prelude.{◌≡◌, ◌&&◌, option_map, IfOk};
     ghost use Rattle.std.specs.List.{list_any};
     ghost use Rattle.std.specs.Option.{option_copied};
     ghost use Rattle.script_text.specs.Lines.{lines_of};
     ghost use Rattle.script_form.specs.Read.{form_read};
-    ghost use Rattle.ft_script.specs.Levels.{open_calls, is_unfinished};
+    ghost use Rattle.ft_script.specs.Levels.{is_unfinished};
     ghost use Rattle.ft_script.specs.Above.{declared};
-    ghost use Rattle.ft_script.specs.Causes.{is_act, is_misplaced, is_out_of_place, is_duplicate, is_unknown, has_no_function, has_no_user, lacks_function, has_pid, has_no_pid, is_bad_text, is_unmatched, is_unbalanced, is_later, form_cause, line_cause};
+    ghost use Rattle.ft_script.specs.Causes.{is_act, is_misplaced, is_out_of_place, is_duplicate, is_unknown, has_no_function, has_no_user, lacks_function, has_pid, has_no_pid, is_bad_text, is_unmatched, is_unbalanced, form_cause, line_cause};
     ghost use Rattle.ft_script.specs.Within.{IsWithinLimits};
     ghost use Rattle.ft_script.specs.Kept.{above_of};
 
@@ -31,6 +31,8 @@ impl Reader {
     {
         match form {
             LineForm::Version => true,
+            LineForm::Depth { .. } => self.depth.is_some(),
+            LineForm::Tramps { .. } => self.tramps.is_some(),
             LineForm::NewCpu { cpu, .. } => *cpu != self.quanta.len() as u64,
             other => is_act(other) && self.tasks.is_empty(),
         }
@@ -185,18 +187,6 @@ impl Reader {
         Ok(false)
     }
 
-    // ## later
-
-    fn is_later(&self, form: &LineForm) -> bool
-        ensures { result ≡ is_later (above_of self.now) (form_read form.now) }
-    {
-        match form {
-            LineForm::User(user) => is_special(user) || !self.users.is_empty(),
-            LineForm::NewTask { cpu, .. } => has_task_on(self.tasks.as_slice(), *cpu),
-            other => !is_built(other),
-        }
-    }
-
     // ## the first cause
 
     /// The first cause of a line of this form that isn't line 1; `below` is the text below it.
@@ -226,9 +216,6 @@ impl Reader {
         }
         if self.is_unbalanced(alloc, form, below)? {
             return Ok(Some(Cause::Unbalanced));
-        }
-        if self.is_later(form) {
-            return Ok(Some(Cause::Later));
         }
         Ok(None)
     }

@@ -1,25 +1,25 @@
-//! What a line that isn't refused adds to what is declared.
+//! What a line that isn't refused adds to what is declared, but for lines of control.
 
-ghost use Rattle.std.specs.Prelude.{◌≡◌, map, OnOk};
+ghost use Rattle.std.specs.Prelude.{◌≡◌, map, length, OnOk};
 ghost use Rattle.script_waits.specs.Tasks.{lined_task};
 ghost use Rattle.ft_script.specs.Above.{push_act};
 
 use crate::form::rank_of;
 use crate::levels::Levels;
-use crate::reader::find::task_number;
-use crate::reader::{LinedCtl, Reader};
-use ft_base::limits::{FUNCS, TASKS};
-use ft_base::{FuncNo, TaskAct, TaskNo};
-use ft_machine::FirstCtl;
+use crate::reader::Reader;
+use ft_base::limits::FUNCS;
+use ft_base::{Act, FuncNo, TaskAct};
+use ft_machine::Command;
 use ft_schedule::{push_turns, steps_with};
-use script_form::{LineForm, SchedItem, UserLine};
+use script_form::{LineForm, SchedItem, UserAct, UserLine};
 use script_waits::{LinedAct, LinedTask};
 use std::alloc::{AllocError, Global};
 use user_specs::Spec;
 
 /// Adds an act to the last task.
 fn push_act(tasks: &mut Vec<LinedTask>, act: LinedAct) -> Result<(), AllocError>
-    ensures { OnOk result (map lined_task tasks.new.items ≡ push_act (map lined_task tasks.old.items) act) }
+    ensures pushed { OnOk result (map lined_task tasks.new.items ≡ push_act (map lined_task tasks.old.items) act) }
+    ensures count { OnOk result (length tasks.new.items ≡ length tasks.old.items) }
 {
     let count = tasks.len();
     if count == 0 {
@@ -30,16 +30,15 @@ fn push_act(tasks: &mut Vec<LinedTask>, act: LinedAct) -> Result<(), AllocError>
 }
 
 impl Reader {
-    ghost use Rattle.std.specs.Prelude.{◌≤◌, ◌<◌, ◌^◌, suc, length, true, false};
+    ghost use Rattle.std.specs.Prelude.{◌<◌, ◌^◌, [], true, false, option_map};
     ghost use Rattle.std.specs.Option.{option_copied};
     ghost use Rattle.ft_base.specs.Name.{is_name_text};
     ghost use Rattle.func_table.specs.Rows.{is_name_or_none};
-    ghost use Rattle.ft_machine.specs.Parts.{ctl_of};
     ghost use Rattle.ft_schedule.specs.Causes.{is_past_limit as is_past_sched_limit};
-    ghost use Rattle.script_form.specs.Forms.{func, user, new_task, call, after, until, sched};
-    ghost use Rattle.script_form.specs.Read.{form_read, user_read};
-    ghost use Rattle.ft_script.specs.Above.{declared, with_cpu, with_act, with_ctl, with_form, function_number, task_number};
-    ghost use Rattle.ft_script.specs.Causes.{is_duplicate, is_special};
+    ghost use Rattle.script_form.specs.Forms.{func, depth, tramps, user, new_task, call, after, sched};
+    ghost use Rattle.script_form.specs.Read.{form_read, act_read, user_read};
+    ghost use Rattle.ft_script.specs.Above.{declared, with_cpu, with_act, with_form, declared_act, function_number};
+    ghost use Rattle.ft_script.specs.Causes.{is_duplicate};
     ghost use Rattle.ft_script.specs.Within.{IsSmall, CanAdd};
     ghost use Rattle.ft_script.specs.Kept.{above_of};
 
@@ -52,13 +51,24 @@ impl Reader {
         }
     }
 
-    fn task_number(&self, pid: u64) -> TaskNo
-        requires { length self.now.tasks.items ≤ TASKS }
-        ensures { result.0 ≡ task_number (above_of self.now) pid }
+    /// The number of the function that is named, if one is.
+    fn named_function(&self, name: Option<&str>) -> Option<FuncNo>
+        ensures { result ≡ option_map (function_number (above_of self.now)) (option_copied name.entry) }
     {
-        match task_number(self.tasks.as_slice(), pid) {
-            Some(number) => TaskNo(number as u32),
-            None => TaskNo(0),
+        match name {
+            None => None,
+            Some(name) => Some(self.function_number(name)),
+        }
+    }
+
+    /// What a user does at its callbacks.
+    fn own_act(&self, act: Option<UserAct>) -> Option<Act>
+        ensures { result ≡ option_map (declared_act (above_of self.now)) (option_map act_read act.entry) }
+    {
+        match act {
+            None => None,
+            Some(UserAct::Call { function }) => Some(Act::CallIn(self.function_number(function))),
+            Some(UserAct::Irq { function }) => Some(Act::IrqIn(self.function_number(function))),
         }
     }
 
@@ -76,18 +86,33 @@ impl Reader {
         }
     }
 
+    fn add_depth(&mut self, frames: u64)
+        requires { frames < 2 ^ 32 }
+        ensures { above_of self.new ≡ declared (above_of self.old) (depth frames) }
+    {
+        self.depth = Some(frames as u32);
+    }
+
+    fn add_tramps(&mut self, slots: u64)
+        requires { slots < 2 ^ 32 }
+        ensures { above_of self.new ≡ declared (above_of self.old) (tramps slots) }
+    {
+        self.tramps = Some(slots as u32);
+    }
+
     fn add_user(&mut self, alloc: Global, line: &UserLine) -> Result<(), AllocError>
-        requires { is_special (user_read line.now) ≡ false }
         ensures { OnOk result (above_of self.new ≡ declared (above_of self.old) (user (user_read line.now))) }
     {
         let name = String::from_str(alloc, line.name)?;
+        let ipmodify = self.named_function(line.ipmodify);
+        let act = self.own_act(line.act);
         self.users.push(Spec {
             name,
             kind: line.kind,
             regs: line.regs,
-            ipmodify: None,
+            ipmodify,
             pid: line.pid,
-            act: None,
+            act,
         })?;
         Ok(())
     }
@@ -104,6 +129,7 @@ impl Reader {
     fn add_task(&mut self, alloc: Global, pid: u64, cpu: u64) -> Result<(), AllocError>
         requires pid { pid < 2 ^ 32 }
         requires cpu { cpu < 2 ^ 32 }
+        requires before { (above_of self.old).ctls ≡ [] }
         ensures { OnOk result (above_of self.new ≡ declared (above_of self.old) (new_task pid cpu)) }
     {
         self.tasks.push(LinedTask {
@@ -145,32 +171,6 @@ impl Reader {
         self.add_act(TaskAct::After(commands as u32), self.calls)
     }
 
-    fn add_command(&mut self, ctl: FirstCtl) -> Result<(), AllocError>
-        requires { IsSmall (above_of self.old) }
-        ensures { OnOk result (above_of self.new ≡ with_ctl (above_of self.old) (ctl_of ctl) (suc self.old.commands) self.old.waits) }
-    {
-        let line = self.lines + 1;
-        self.ctls.push(LinedCtl { ctl, line })?;
-        self.commands += 1;
-        Ok(())
-    }
-
-    fn add_until(&mut self, pid: u64, acts: u64) -> Result<(), AllocError>
-        requires small { IsSmall (above_of self.old) }
-        requires fits { acts < 2 ^ 32 }
-        ensures { OnOk result (above_of self.new ≡ declared (above_of self.old) (until pid acts)) }
-    {
-        let task = self.task_number(pid);
-        let acts = acts as u32;
-        let line = self.lines + 1;
-        self.ctls.push(LinedCtl {
-            ctl: FirstCtl::Until { task, acts },
-            line,
-        })?;
-        self.waits += 1;
-        Ok(())
-    }
-
     fn add_turns(&mut self, items: &[SchedItem]) -> Result<(), AllocError>
         requires small { IsSmall (above_of self.old) }
         requires fits { is_past_sched_limit (length self.old.quanta.items) self.old.steps items.now ≡ false }
@@ -193,19 +193,42 @@ impl Reader {
         match form {
             LineForm::Skip | LineForm::Version => Ok(()),
             LineForm::Func { name, owner } => self.add_func(alloc, name, *owner),
+            LineForm::Depth { frames } => {
+                self.add_depth(*frames);
+                Ok(())
+            }
+            LineForm::Tramps { slots } => {
+                self.add_tramps(*slots);
+                Ok(())
+            }
             LineForm::User(line) => self.add_user(alloc, line),
             LineForm::NewCpu { quantum, .. } => self.add_cpu(*quantum),
             LineForm::NewTask { pid, cpu } => self.add_task(alloc, *pid, *cpu),
             LineForm::Call { function } => self.add_call(function),
             LineForm::Ret => self.add_act(TaskAct::Ret, self.calls),
+            LineForm::Raise { to } => self.add_act(TaskAct::Raise(*to), self.calls),
+            LineForm::Lower => self.add_act(TaskAct::Lower, self.calls),
             LineForm::After { commands } => self.add_after(*commands),
-            // There is at most one user, so the name is that user's.
-            LineForm::Register { .. } => self.add_command(FirstCtl::Register),
-            LineForm::Unregister { .. } => self.add_command(FirstCtl::Unregister),
+            LineForm::Register { user } => {
+                self.add_command(Command::Register(self.user_number(user)))
+            }
+            LineForm::Unregister { user } => {
+                self.add_command(Command::Unregister(self.user_number(user)))
+            }
+            LineForm::Write {
+                half,
+                append,
+                user,
+                text,
+            } => self.add_write(alloc, *half, *append, user, text),
+            LineForm::Pids { excluded, pids } => self.add_pids(*excluded, pids),
+            LineForm::Enable { user } => self.add_command(Command::Enable(self.user_number(user))),
+            LineForm::Disable { user } => {
+                self.add_command(Command::Disable(self.user_number(user)))
+            }
+            LineForm::MaxDepth { depth } => self.add_command(Command::MaxDepth(*depth as u32)),
             LineForm::Until { pid, acts } => self.add_until(*pid, *acts),
             LineForm::Sched { items } => self.add_turns(items),
-            // The machine can't carry out the others.
-            _ => unreachable!(),
         }
     }
 

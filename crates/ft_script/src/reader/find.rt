@@ -1,14 +1,15 @@
-//! Look-ups of users by name, and of tasks by pid and by CPU. There are few of them, so each look-up
-//! goes through all. The first function of each pair speaks of the program's users and tasks, and the
-//! second of those of the definitions.
+//! Look-ups of users by name, and of tasks by pid, one or several. There are few of them, so each
+//! look-up goes through all. The first function of a pair speaks of the program's users and tasks, and
+//! the second of those of the definitions.
 
-ghost use Rattle.std.specs.Prelude.{◌≡◌, ◌==◌, ◌<◌, map, position, string_bytes, IfSome, length};
-ghost use Rattle.std.specs.Str.{bytes_eq};
+ghost use Rattle.std.specs.Prelude.{◌≡◌, ◌==◌, ◌<◌, ◌≤◌, map, position, string_bytes, IfSome, length};
 ghost use Rattle.std.specs.List.{list_any};
+ghost use Rattle.std.specs.Str.{bytes_eq};
 ghost use Rattle.user_specs.specs.Plain.{spec_of};
+ghost use Rattle.pid_filter.specs.Lists.{tasks_in};
 ghost use Rattle.script_waits.specs.Tasks.{lined_task};
-ghost use Rattle.ft_script.specs.Causes.{has_task_on};
 
+use ft_base::limits::TASKS;
 use script_waits::LinedTask;
 use user_specs::Spec;
 
@@ -42,15 +43,24 @@ pub fn task_number(tasks: &[LinedTask], pid: u64) -> Option<usize>
     task_place(tasks, pid)
 }
 
-fn any_on(tasks: &[LinedTask], cpu: u64) -> bool
-    ensures { result ≡ list_any (λ task. task.cpu == cpu) tasks.now }
+/// Whether the list has the pid.
+fn is_listed(list: &[u64], pid: u32) -> bool
+    ensures { result ≡ list_any (λ p. p == pid) list.now }
 {
-    tasks.iter().any(|task| u64::from(task.cpu) == cpu)
+    list.iter().any(|p| *p == u64::from(pid))
 }
 
-/// Whether a task is on the CPU.
-pub fn has_task_on(tasks: &[LinedTask], cpu: u64) -> bool
-    ensures { result ≡ has_task_on (map lined_task tasks.now) cpu }
+/// A mask with a bit for each task, set if the list has its pid.
+pub fn pid_mask(tasks: &[LinedTask], list: &[u64]) -> u64
+    requires { length tasks.now ≤ TASKS }
+    ensures { tasks_in (length tasks.now) result ≡ map (λ task. list_any (λ p. p == task.pid) list.now) (map lined_task tasks.now) }
 {
-    any_on(tasks, cpu)
+    let mut mask = 0;
+    for i in 0..tasks.len() {
+        let task = &tasks[i];
+        if is_listed(list, task.pid) {
+            mask |= 1 << i;
+        }
+    }
+    mask
 }

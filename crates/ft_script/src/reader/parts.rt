@@ -10,7 +10,7 @@ ghost use Rattle.ft_script.specs.Script.{task_of, schedule_of};
 use crate::reader::{LinedCtl, Reader};
 use ft_base::limits::{CPUS, TASKS, TRAMPS, USUAL_FRAMES, USUAL_TURNS};
 use ft_base::{TaskAct, TaskNo, Turn, Who};
-use ft_machine::{FirstCtl, JobParts};
+use ft_machine::{Ctl, JobParts};
 use ft_schedule::Schedule;
 use script_waits::{ControlLine, LinedAct, LinedTask, Wait, deadlock};
 use std::alloc::{AllocError, Global};
@@ -22,9 +22,12 @@ use user_specs::{CpuPlan, TaskPlan};
 fn control_line(line: &LinedCtl) -> ControlLine
     ensures { result ≡ control_line line.now }
 {
-    let wait = match line.ctl {
-        FirstCtl::Register | FirstCtl::Unregister => Wait::Command,
-        FirstCtl::Until { task, acts } => Wait::Until { task, acts },
+    let wait = match &line.ctl {
+        Ctl::Run(_) => Wait::Command,
+        Ctl::Until { task, acts } => Wait::Until {
+            task: *task,
+            acts: *acts,
+        },
     };
     ControlLine {
         wait,
@@ -85,10 +88,10 @@ fn cpu_plans(alloc: Global, quanta: &[u32], tasks: &[LinedTask]) -> Result<Vec<C
 }
 
 /// The lines of control without their numbers.
-fn plain_ctls(alloc: Global, lines: &[LinedCtl]) -> Result<Vec<FirstCtl>, AllocError>
-    ensures { IfOk result (λ v. v.items ≡ map (λ c. c.ctl) lines.now) }
+fn plain_ctls(alloc: Global, lines: Vec<LinedCtl>) -> Result<Vec<Ctl>, AllocError>
+    ensures { IfOk result (λ v. v.items ≡ map (λ c. c.ctl) lines.items) }
 {
-    lines.iter().map(|line| line.ctl).collect(alloc)
+    lines.into_iter().map(|line| line.ctl).collect(alloc)
 }
 
 /// The schedule. Without a `sched` line, control and each CPU step in turn.
@@ -111,6 +114,7 @@ impl Reader {
     ghost use Rattle.ft_machine.specs.Parts.{parts_of};
     ghost use Rattle.script_waits.specs.Tasks.{tracks_of};
     ghost use Rattle.script_waits.specs.Greedy.{IsDeadlock};
+    ghost use Rattle.ft_script.specs.Holds.{IsAtMost};
     ghost use Rattle.ft_script.specs.Kept.{above_of, AreParts};
     ghost use Rattle.ft_script.specs.Script.{control_of};
 
@@ -126,13 +130,15 @@ impl Reader {
     pub fn into_parts(self, alloc: Global) -> Result<JobParts, AllocError>
         requires cpus { length self.quanta.items ≤ CPUS }
         requires tasks { length self.tasks.items ≤ TASKS }
+        requires tramps { IsAtMost TRAMPS self.tramps }
         ensures { IfOk result (λ p. AreParts (parts_of p) (above_of self)) }
     {
         let cpus = cpu_plans(alloc, self.quanta.as_slice(), self.tasks.as_slice())?;
-        let ctls = plain_ctls(alloc, self.ctls.as_slice())?;
         let Reader {
             lines: _,
             rank: _,
+            depth,
+            tramps,
             functions,
             users,
             quanta: _,
@@ -140,18 +146,19 @@ impl Reader {
             levels: _,
             acts: _,
             calls: _,
-            ctls: _,
+            ctls,
             commands: _,
             waits: _,
             turns,
             steps: _,
         } = self;
+        let ctls = plain_ctls(alloc, ctls)?;
         let schedule = schedule(turns)?;
         Ok(JobParts {
             table: functions,
             specs: users,
-            frames: USUAL_FRAMES,
-            tramps: TRAMPS as u8,
+            frames: depth.unwrap_or(USUAL_FRAMES),
+            tramps: tramps.unwrap_or(TRAMPS) as u8,
             cpus,
             ctls,
             schedule,

@@ -13,7 +13,7 @@ use script_form::{LineForm, SchedItem};
 use user_specs::call_bound;
 
 impl Reader {
-    ghost use Rattle.std.specs.Prelude.{◌≡◌, ◌||◌, nat_le, length};
+    ghost use Rattle.std.specs.Prelude.{◌≡◌, length};
     ghost use Rattle.std.specs.Option.{option_copied};
     ghost use Rattle.ft_schedule.specs.Causes.{is_past_limit as is_past_sched_limit};
     ghost use Rattle.script_form.specs.Read.{form_read};

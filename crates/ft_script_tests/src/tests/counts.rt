@@ -81,27 +81,78 @@ fn acts(rt: HostRuntime) -> Result<(), Fail> {
     at_most(&rt, rt.alloc(), TASK, "call a\nret\n", "", 10000, 20006)
 }
 
-/// A script with this many functions.
-fn with_functions(alloc: Global, count: u32) -> Result<String, Fail> {
-    let mut text = String::from_str(alloc, "ftrace 1\n")?;
-    for n in 0..count {
-        let line = format!(in alloc; "func f{n}\n")?;
+/// A script that begins with `first`, and has this many lines that differ by a number, which stands
+/// between two texts.
+pub fn numbered(
+    alloc: Global,
+    first: &str,
+    before: &str,
+    after: &str,
+    count: u32,
+) -> Result<String, Fail>
+    requires { count < 100000 }
+{
+    let mut text = String::from_str(alloc, first)?;
+    for n in 1..=count {
+        let line = format!(in alloc; "{before}{n}{after}\n")?;
         text.push_str(line.as_str())?;
     }
     Ok(text)
 }
 
-#[test]
-fn functions(rt: HostRuntime) -> Result<(), Fail> {
-    let script = with_functions(rt.alloc(), 1024)?;
-    assert_eq!(rt; fault_of(rt.alloc(), script.as_str()), None);
-    let script = with_functions(rt.alloc(), 1025)?;
+/// This many such lines are accepted, and one more is refused.
+fn numbered_at_most(
+    rt: &impl Abort,
+    alloc: Global,
+    first: &str,
+    before: &str,
+    after: &str,
+    most: u32,
+    refused: u32,
+) -> Result<(), Fail>
+    requires { most < 10000 }
+{
+    let script = numbered(alloc, first, before, after, most)?;
+    assert_eq!(rt; fault_of(alloc, script.as_str()), None, "{before}");
+    let script = numbered(alloc, first, before, after, most + 1)?;
     let fault = ScriptFault {
-        line: 1026,
+        line: refused,
         cause: Cause::Limit,
     };
-    assert_eq!(rt; fault_of(rt.alloc(), script.as_str()), Some(fault));
+    assert_eq!(rt; fault_of(alloc, script.as_str()), Some(fault), "{before}");
     Ok(())
+}
+
+#[test]
+fn functions(rt: HostRuntime) -> Result<(), Fail> {
+    numbered_at_most(&rt, rt.alloc(), "ftrace 1\n", "func f", "", 1024, 1026)
+}
+
+#[test]
+fn users(rt: HostRuntime) -> Result<(), Fail> {
+    numbered_at_most(&rt, rt.alloc(), "ftrace 1\n", "user u", " graph", 16, 18)
+}
+
+#[test]
+fn tasks(rt: HostRuntime) -> Result<(), Fail> {
+    let first = "ftrace 1\ncpu 0 quantum 5\n";
+    numbered_at_most(&rt, rt.alloc(), first, "task ", " cpu 0", 64, 67)
+}
+
+/// With 16 users that call a function, the bound for one call is 6548 items, and 611 calls could make
+/// more than 4000000.
+#[test]
+fn items_of_calls(rt: HostRuntime) -> Result<(), Fail> {
+    let alloc = rt.alloc();
+    let mut first = numbered(
+        alloc,
+        "ftrace 1\nfunc a\n",
+        "user u",
+        " function call a",
+        16,
+    )?;
+    first.push_str("cpu 0 quantum 5\ntask 10 cpu 0\n")?;
+    at_most(&rt, alloc, first.as_str(), "call a\nret\n", "", 610, 1241)
 }
 
 /// Only an act looks for the next act of its task. If each line below the open call did, it would take

@@ -10,7 +10,7 @@ use Rattle.ft_script.proofs.script.read_lines.Goals as goal
 pub read-requires : goal.read-requires
 read-requires c =
     let inv = c.loop-rest.invariant in
-    record { numbered = omega (arith, inv.few, c.first_line-ended.ensures.shorter); within = inv.holds.holds.within }
+    record { numbered = omega (arith, inv.few, c.first_line-ended.ensures.shorter); within = inv.holds.holds.within; order = inv.holds.holds.order }
 
 pub loop-rest-init : goal.loop-rest-init
 loop-rest-init c =

@@ -1,18 +1,21 @@
-use Rattle.std.proofs.Common.{List, map, refl, ap, ◌∙◌}
-use Rattle.ft_machine.specs.declared.ctl.FirstCtl.{FirstCtl}
-use Rattle.ft_machine.specs.Parts.{ctl_of}
-use Rattle.ft_script.specs.declared.reader.LinedCtl.{LinedCtl as KeptLine}
+use Rattle.std.proofs.Common.{length, map, refl, ap, ◌∙◌}
+use Rattle.control_core.specs.Lines.{lines_of}
+use Rattle.script_waits.specs.Tasks.{lined_task}
 use Rattle.ft_script.proofs.KeptLines.{ctls-kept}
+use Rattle.ft_script.proofs.LookUps.{mapped_length}
 use Rattle.ft_script.proofs.reader.Reader.into_parts.Goals as goal
 
 pub returns : goal.returns
 returns c =
+    let tasks = c.args.self.tasks.items in
     record {
       functions = refl;
       users = refl;
-      frames = refl;
-      tramps = refl;
+      frames = c.unwrap_or.ensures;
+      tramps = c.unwrap_or-2.ensures;
       cpus = rw (c.as_slice.ensures.value, c.as_slice-2.ensures.value) at c.in_ok-cpus.ensures;
-      ctls = ap (λ (xs : List FirstCtl). map ctl_of xs) (c.in_ok-ctls.ensures ∙ ap (λ (cs : List KeptLine). map (λ (x : KeptLine). x.ctl) cs) c.as_slice-3.ensures.value) ∙ ctls-kept c.args.self.ctls.items;
+      ctls = ap (lines_of (length (map lined_task tasks))) c.in_ok-ctls.ensures
+          ∙ ap (λ n. lines_of n (map (λ x. x.ctl) c.args.self.ctls.items)) (mapped_length lined_task tasks)
+          ∙ ctls-kept (length tasks) c.args.self.ctls.items;
       schedule = c.in_ok-schedule.ensures;
     }
