@@ -1,5 +1,1 @@
-mod Clean
-mod Waits
-mod Contexts
 mod Texts
-mod Jobs

@@ -2,8 +2,10 @@
 //! of every script that is accepted.
 //!
 //! `ft_script` says which texts are scripts and what their jobs are (`IsJobOf`), and `word_machine` of
-//! which jobs its laws speak (`IsLimited`). Neither uses the other, so the law that joins them is here.
-//! There is no code, and no definition of its own that an edit could turn.
+//! which jobs its laws speak (`IsLimited`). The reader of scripts shows that what a text declares keeps
+//! to the limits, line by line, since the machine asks for it; here that is said of whole texts. So it
+//! holds of each script by what it says alone, also where there is no memory to read it. There is no
+//! code, and no definition of its own that an edit could turn.
 #![tactic(auto)]
 
 ghost use Rattle.std.specs.Prelude.{ℕ, ◌≡◌, true, List, reverse};

@@ -1,5 +1,5 @@
 use Rattle.script_jobs.proofs.every_history_of_a_script_is_legal.Goals as goal
-use Rattle.script_jobs.proofs.Jobs.{accepted_limited}
+use Rattle.script_jobs.proofs.Texts.{accepted_limited}
 use Rattle.word_machine.proofs.Limited.{limited}
 use Rattle.word_machine.proofs.Ends.{every_run_is_legal, every_ended_run_is_whole}
 
