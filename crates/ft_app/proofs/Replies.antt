@@ -5,7 +5,7 @@ use Rattle.std.specs.Io.KnownBytes.{Consumes, Appends, IsAtEnd}
 use Rattle.std.proofs.KnownBytes.{Consumes-whole}
 use Rattle.ft_base.specs.declared.item.Item.{Item}
 use Rattle.ft_base.specs.Job.{Job}
-use Rattle.plain_machine.specs.State.{play, all_end}
+use Rattle.word_machine.specs.Machine.{play, all_end}
 use Rattle.ft_script.specs.declared.faults.ScriptFault.{ScriptFault}
 use Rattle.ft_script.specs.Script.{IsJobOf, IsRefusalOf, IsFaultOf, no_memory}
 use Rattle.ft_script.proofs.Answered.{not_both, one_job, one_fault}
@@ -16,7 +16,7 @@ use Rattle.ft_app.specs.LogText.{log_text}
 use Rattle.ft_app.specs.Reply.{IsReplyTo, IsSound, of_replay, of_refusal, history_of, replay_text, refusal_text}
 use Rattle.ft_app.specs.Main.{ReadWhole, HasReplayed, IsPlayed, IsRefused, HasRun, HasRefused, Answers}
 
-pub text-is : (job : Job) (items : List Item) (ended : Bool) (text : List ℕ) → items ≡ history_of job → ended ≡ all_end (play job) → text ≡ log_text job items ended → text ≡ replay_text job
+pub text-is : (job : Job) (items : List Item) (ended : Bool) (text : List ℕ) → items ≡ history_of job → ended ≡ all_end job (play job) → text ≡ log_text job items ended → text ≡ replay_text job
 unfolding replay_text
 text-is job items ended text i e t = rw (i, e) at t
 

@@ -3,7 +3,7 @@ use Rattle.std.specs.Prelude.{ℕ, ◌≡◌, ◌++◌, true, List, codes, rever
 use Rattle.ft_base.specs.declared.item.Item.{Item}
 use Rattle.ft_base.specs.Job.{Job}
 use Rattle.ft_hist.specs.Rules.{IsLegal, IsWhole}
-use Rattle.plain_machine.specs.State.{play, all_end}
+use Rattle.word_machine.specs.Machine.{play, all_end}
 use Rattle.ft_script.specs.declared.faults.ScriptFault.{ScriptFault}
 use Rattle.ft_script.specs.FaultText.{fault_text}
 use Rattle.ft_script.specs.Script.{IsJobOf, IsRefusalOf}
@@ -17,7 +17,7 @@ history_of job = reverse (play job).past
 
 -- the text of the replay of a job
 unfoldable pub replay_text : Job → List ℕ
-replay_text job = log_text job (history_of job) (all_end (play job))
+replay_text job = log_text job (history_of job) (all_end job (play job))
 
 -- the line that says where a script is refused, and why
 abbrev pub refusal_text : ScriptFault → List ℕ
@@ -26,7 +26,7 @@ refusal_text fault = fault_text fault ++ codes "\n"
 -- the history of the replay of a job is legal, and whole if every actor comes to its end
 pub record IsSound (job : Job) : Type 0 where
   pub legal : IsLegal job (history_of job)
-  pub whole : all_end (play job) ≡ true → IsWhole job (history_of job)
+  pub whole : all_end job (play job) ≡ true → IsWhole job (history_of job)
 
 -- what is written for a script, and the status once it is written in full: the text of its job's replay, or the line of its refusal
 pub data IsReplyTo (script : List ℕ) : Status → List ℕ → Type 0 where

@@ -2,7 +2,7 @@
 
 ghost use Rattle.std.specs.Prelude.{◌≡◌, ◌≢◌, ◌≤◌, length, true, string_bytes, IfOk, OnOk};
 ghost use Rattle.ft_hist.specs.Rules.{IsLegal, IsWhole};
-ghost use Rattle.plain_machine.specs.State.{play, all_end};
+ghost use Rattle.word_machine.specs.Machine.{play, all_end};
 ghost use Rattle.ft_script.specs.Script.{no_memory};
 ghost use Rattle.ft_app.specs.Reply.{IsReplyTo, history_of, replay_text, refusal_text};
 
@@ -43,7 +43,7 @@ fn replay_job(alloc: Global, job: &Job) -> Result<String, NoMemory>
     ensures text { IfOk result (λ text. string_bytes text ≡ replay_text job.now) }
     ensures legal { OnOk result (IsLegal job.now (history_of job.now)) }
     ensures whole { OnOk result
-        (all_end (play job.now) ≡ true → IsWhole job.now (history_of job.now)) }
+        (all_end job.now (play job.now) ≡ true → IsWhole job.now (history_of job.now)) }
 {
     let outcome = replay(alloc, job)?;
     print_log(alloc, job, &outcome.history, outcome.ended)

@@ -41,7 +41,6 @@ fn each_cause(rt: HostRuntime) -> Result<(), Fail> {
             "ftrace 1; func a; cpu 0 quantum 5; task 10 cpu 0; call a",
             "line 5: unbalanced",
         ),
-        ("ftrace 1; depth 3", "line 2: later"),
         (
             "ftrace 1; func a; user t function; cpu 0 quantum 5; \
             task 10 cpu 0; after 1; ctl until 10 1; ctl register t",
