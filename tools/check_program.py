@@ -117,13 +117,11 @@ def streams():
 
 
 def acts_log(count):
-    """What the script of this many acts prints: control begins, and then the two CPUs take turns."""
+    """What the script of this many acts prints: the command, and then the same of both tasks, which take turns step by step."""
     items = ["begin 1", "return 1 ok"]
-    for number in range(1, count // 4 + 1):
-        for call in (f"10.{number}", f"11.{number}"):
-            items += [f"enter {call} normal a -", f"back {call} t", f"back-end {call} t", f"body {call} a own t"]
-        for call in (f"10.{number}", f"11.{number}"):
-            items += [f"leave {call}", f"ret {call} -"]
+    for number in range(1, count // 4):
+        for item in ["enter {} normal a -", "back {} t", "back-end {} t", "body {} a own t", "leave {}", "ret {} -"]:
+            items += [item.format(f"10.{number}"), item.format(f"11.{number}")]
     return script([f"{place} {item}" for place, item in enumerate(items)], "end")
 
 
@@ -170,19 +168,47 @@ def functions(count):
     return script("ftrace 1", [f"func {name}" for name in names], TASK, f"call {names[0]}", "ret", f"call {names[-1]}", "ret")
 
 
+def users(count):
+    """All of them are registered, and called back in one call."""
+    names = [f"u{number}" for number in range(count)]
+    return script(FUNCTION, [f"user {name} function" for name in names], TASK, f"after {count}", CALL, [f"ctl register {name}" for name in names])
+
+
 def cpus(count):
     tasks = [line for cpu in range(count) for line in [f"task {10 + cpu} cpu {cpu}", *CALL]]
     return script(FUNCTION, [f"cpu {cpu} quantum 9" for cpu in range(count)], tasks)
 
 
+def tasks(count):
+    """On the most CPUs, in turn."""
+    lines = [line for number in range(count) for line in [f"task {10 + number} cpu {number % forms.CPUS}", *CALL]]
+    return script(FUNCTION, [f"cpu {cpu} quantum 9" for cpu in range(forms.CPUS)], lines)
+
+
 def acts(count):
-    """Half of them on each of two CPUs."""
-    half = CALL * (count // 4)
+    """Half of them on each of two CPUs, whose tasks wait for the command and then go on in step."""
+    half = ["after 1"] * 2 + CALL * (count // 4 - 1)
     return script(USER, CPU, "cpu 1 quantum 9", "task 10 cpu 0", half, "task 11 cpu 1", half, ["after 1"] * (count % 2), "ctl register t")
 
 
 def levels(count):
     return script(USER, TASK, ["call a"] * count, ["ret"] * count, "ctl register t")
+
+
+def levels_in_contexts(count):
+    """A quarter of them in each context."""
+    quarter, last = ["call a"] * (count // 4), ["call a"] * (count - count // 4 * 3)
+    up = [line for context in forms.CONTEXTS[1:] for line in [*quarter, context]] + last
+    down = ["ret"] * len(last) + ["iret", *["ret"] * len(quarter)] * 3
+    return script(FUNCTION, TASK, up, down)
+
+
+def calls(count):
+    """Each is told to the most users, which all make a call in an interrupt. The longest history of these scripts."""
+    names = [f"u{number}" for number in range(forms.USERS)]
+    lines = [f"user {name} graph irq a" for name in names]
+    registered = [f"ctl register {name}" for name in names]
+    return script(FUNCTION, lines, TASK, f"after {forms.USERS}", CALL * count, registered, f"sched all*{forms.STEPS // 2}")
 
 
 def commands(count):
@@ -202,8 +228,13 @@ def step_items(count):
     return script(FUNCTION, TASK, CALL, "sched" + " k" * count)
 
 
+def steps_in_a_wait(count):
+    """Nearly all of them are control's, which waits for a task that has no turn any more."""
+    return script(FUNCTION, TASK, CALL, "ctl maxdepth 1", f"sched 0*3 k*{count - 3}")
+
+
 def turns(count):
-    return script(FUNCTION, TASK, CALL, f"sched 0*{count} 0")
+    return script(FUNCTION, TASK, CALL, f"sched 0*{count} 0*100")
 
 
 def function_name(count):
@@ -240,6 +271,15 @@ def pid(number):
 
 def waited_pid(number):
     return script(FUNCTION, CPU, f"task {forms.PID} cpu 0", CALL, f"ctl until {number} 2")
+
+
+def listed_pid(number):
+    return script(FUNCTION, CPU, f"task {forms.PID} cpu 0", "task 1 cpu 0", CALL, f"ctl pid {number}")
+
+
+def pids(count):
+    """In one list, the same pid each time."""
+    return script(FUNCTION, TASK, CALL, "ctl nopid" + " 10" * count)
 
 
 def after(number):
@@ -303,7 +343,7 @@ def turn_by_turn(count):
 
 
 def large(count):
-    """The script of docs/BENCH.md: the most functions, CPUs and commands, and this many calls on each CPU."""
+    """The script of docs/BENCH.md: the most functions, CPUs and commands, too many for a schedule, and this many calls on each CPU."""
     lines = ["ftrace 1"] + [f"func f{number}" for number in range(forms.FUNCS)] + ["user tr function"]
     lines += [f"cpu {cpu} quantum {5 + cpu}" for cpu in range(forms.CPUS)]
     for cpu in range(forms.CPUS):
@@ -326,15 +366,23 @@ class Limit(NamedTuple):
     seconds: float = 0.02  # that the longer run takes; it may take a hundred times as long
 
 
+# the calls that a script may have with the users of `calls`
+CALLS = forms.ITEMS // forms.call_bound([["user", "u", "graph", "irq", "a"]] * forms.USERS)
+
 LIMITS = [
     Limit("functions", functions, forms.FUNCS, "end", 9, forms.FUNCS + 1, "line 1026: limit"),
+    Limit("users", users, forms.USERS, "end", 69, forms.USERS + 1, "line 19: limit"),
     Limit("CPUs", cpus, forms.CPUS, "end", 33, forms.CPUS + 1, "line 11: limit"),
-    Limit("acts", acts, forms.ACTS, "end", 60_003, forms.ACTS + 1, "line 20008: limit"),
-    Limit("open calls", levels, forms.LEVELS, "end", 3_075, forms.LEVELS + 1, "line 518: limit"),
+    Limit("tasks", tasks, forms.TASKS, "end", 257, forms.TASKS + 1, "line 203: limit"),
+    Limit("acts", acts, forms.ACTS, "end", 59_991, forms.ACTS + 1, "line 20008: limit"),
+    Limit("open calls", levels, forms.LEVELS, "end", 3_073, forms.LEVELS + 1, "line 518: limit"),
+    Limit("open calls in all contexts", levels_in_contexts, forms.LEVELS, "end", 2_049, forms.LEVELS + 1, "line 520: limit"),
+    Limit("calls beside users that make calls", calls, CALLS, "end", 705_193, CALLS + 1, "line 1242: limit", 0.2),
     Limit("commands", commands, forms.COMMANDS, "end", 2_049, forms.COMMANDS + 1, "line 1028: limit"),
     Limit("until lines", waits, forms.UNTILS, "end", 5, forms.UNTILS + 1, "line 1031: limit"),
     Limit("steps", steps, forms.STEPS, "stopped", 1, forms.STEPS + 1, "line 8: limit"),
     Limit("steps, each an item", step_items, forms.STEPS, "stopped", 1, forms.STEPS + 1, "line 7: limit", 0.3),
+    Limit("steps in a wait", steps_in_a_wait, forms.STEPS, "stopped", 3, forms.STEPS + 1, "line 8: limit", 0.05),
     Limit("COUNT", turns, 1, "end", 5, 0, "line 7: limit"),
     Limit("name of a function", function_name, forms.NAME_BYTES, "end", 5, forms.NAME_BYTES + 1, "line 2: limit"),
     Limit("name in a call", called_name, forms.NAME_BYTES, "end", 5, forms.NAME_BYTES + 1, "line 5: limit"),
@@ -348,13 +396,15 @@ LIMITS = [
     Limit("pid", pid, forms.PID, "end", 5, forms.PID + 1, "line 4: limit"),
     Limit("least pid", pid, 1, "end", 5, 0, "line 4: limit"),
     Limit("pid of a wait", waited_pid, forms.PID, "end", 5, forms.PID + 1, "line 7: limit"),
+    Limit("pid of a list", listed_pid, forms.PID, "end", 7, forms.PID + 1, "line 8: limit"),
+    Limit("least pid of a list", listed_pid, 1, "end", 7, 0, "line 8: limit"),
     Limit("N of after", after, 1, "end", 9, 0, "line 6: limit"),
     Limit("N of until", until, 1, "end", 5, 0, "line 7: limit"),
-    # not built: these are refused as `later` at the limit
-    Limit("depth", depth, forms.FRAMES, "line 3: later", 1, forms.FRAMES + 1, "line 3: limit"),
-    Limit("tramps", tramps, forms.TRAMPS, "line 3: later", 1, forms.TRAMPS + 1, "line 3: limit"),
-    Limit("maxdepth", graph_depth, forms.GRAPH_DEPTH, "line 7: later", 1, forms.GRAPH_DEPTH + 1, "line 7: limit"),
-    Limit("glob", glob, forms.PATTERN_BYTES, "line 4: later", 1, forms.PATTERN_BYTES + 1, "line 4: pattern"),
+    Limit("depth", depth, forms.FRAMES, "end", 5, forms.FRAMES + 1, "line 3: limit"),
+    Limit("least depth", depth, 1, "end", 5, 0, "line 3: limit"),
+    Limit("tramps", tramps, forms.TRAMPS, "end", 5, forms.TRAMPS + 1, "line 3: limit"),
+    Limit("maxdepth", graph_depth, forms.GRAPH_DEPTH, "end", 7, forms.GRAPH_DEPTH + 1, "line 7: limit"),
+    Limit("glob", glob, forms.PATTERN_BYTES, "end", 3, forms.PATTERN_BYTES + 1, "line 4: pattern"),
     # the most bytes, and scripts whose time could grow faster than their size
     Limit("bytes", one_comment, forms.INPUT_BYTES, "end", 1, forms.INPUT_BYTES + 1, None, 0.03),
     Limit("bytes in short lines", comments, forms.INPUT_BYTES, "end", 1, forms.INPUT_BYTES + 1, None, 0.06),
@@ -362,8 +412,9 @@ LIMITS = [
     Limit("comments in 512 open calls", comments_in_calls, 4_000_000, "end", 2_049, seconds=0.15),
     Limit("comments between 20,000 acts", comments_between_acts, 400, "end", 40_001, seconds=0.25),
     Limit("words of a line", words_of_line, 8_000_000, "line 2: syntax", 1, seconds=0.2),
+    Limit("pids in a list", pids, 2_000_000, "end", 7, seconds=0.2),
     Limit("task and control turn by turn", turn_by_turn, forms.UNTILS, "end", 7_169),
-    Limit("the script of docs/BENCH.md", large, 1_250, "end", 46_145),
+    Limit("the script of docs/BENCH.md", large, 1_250, "stopped", 46_500, seconds=0.06),
 ]
 
 

@@ -2,27 +2,23 @@
 """Compares ftcore with another program on random scripts, accepted and refused.
 
 REFERENCE is a program that was written from the same rules by other hands, and isn't part of this
-repository. It builds every form, so it doesn't know the cause `later`. The N scripts of each source
-have the seeds from S on:
+repository. The N scripts of each source have the seeds from S on:
 
     plain      script_forms.py, scripts that are accepted
     mutated    script_forms.py, slightly broken ones
     generated  `REFERENCE gen`, each second one through `REFERENCE mutate`
+    stepped    `REFERENCE gen`, with a schedule of single steps in place of its own, which chooses the
+               turn of every load and store
 
-Each script goes through `PROGRAM replay` and `REFERENCE --machine e1 --features none replay`. They
-agree if status and bytes are the same and nothing is written to standard error. They also agree
-if PROGRAM says `line N: later` and REFERENCE accepts the script, or refuses it at a line after N,
-or as a deadlock, which comes only if no line has another cause.
-
-With --exact, PROGRAM must also say `later` exactly if the lowest line of a form that isn't
-built yet comes first, by script_forms.first_later. Without it PROGRAM may build more forms.
+Each script goes through `PROGRAM replay` and `REFERENCE --machine e2 --features none replay`. They
+agree exactly if status and bytes are the same and PROGRAM writes nothing to standard error.
 
 Each difference is printed with its seed, and its script is kept in FOLDER with what the two
 programs printed and the commands that made it. A script that REFERENCE can't generate is printed
 too, and the others are still compared. The status is 1 if there is either. Two processes run at a time.
 
 To try the comparison itself, let PROGRAM be a script that runs
-`REFERENCE --machine e1 --features none "$@"`: then nothing differs.
+`REFERENCE --machine e2 --features none "$@"`: then nothing differs.
 """
 import argparse
 import collections
@@ -37,7 +33,7 @@ sys.dont_write_bytecode = True
 import runs  # noqa: E402
 import script_forms  # noqa: E402
 
-SOURCES = ["plain", "mutated", "generated"]
+SOURCES = ["plain", "mutated", "generated", "stepped"]
 REFUSAL = re.compile(rb"line (\d+): ([a-z]+)\n")
 FOLDER = pathlib.Path(tempfile.gettempdir()) / "script-differences"
 WORKERS = 2
@@ -46,16 +42,17 @@ SECONDS = 120
 
 def commands_of(source, seed, reference):
     """The commands that write the script of this source and seed, each of which reads what the one before it wrote."""
-    if source != "generated":
-        return [[sys.executable, script_forms.__file__, "--seed", str(seed)] + ["--mutate"] * (source == "mutated")]
+    forms = [sys.executable, script_forms.__file__, "--seed", str(seed)]
+    if source in ("plain", "mutated"):
+        return [forms + ["--mutate"] * (source == "mutated")]
     size = "medium" if seed % 8 == 7 else "small"
     gen = [reference, "gen", "--seed", str(seed), "--size", size, "--features", "none"]
-    return [gen] + [[reference, "mutate", "--seed", str(seed)]] * (seed % 2)
+    return [gen, forms + ["--step"]] if source == "stepped" else [gen] + [[reference, "mutate", "--seed", str(seed)]] * (seed % 2)
 
 
 def text_of(source, seed, reference):
     """The script of this source and seed, and what went wrong if there is none."""
-    if source != "generated":
+    if source in ("plain", "mutated"):
         return script_forms.script(seed) if source == "plain" else script_forms.mutated(seed), None
     text = b""
     for command in commands_of(source, seed, reference):
@@ -72,33 +69,19 @@ def refusal(came):
     return (int(found[1]), found[2].decode()) if found else None
 
 
-def comes_first(later, theirs):
-    """Whether `later` at this line comes before what REFERENCE says, which doesn't know that cause."""
-    fault = refusal(theirs)
-    if theirs.status == 0 or fault is None:
-        return theirs.status == 0
-    return fault[1] == "deadlock" or fault[0] > later
-
-
-def agree(ours, theirs, text, exact):
-    """Whether the two answers agree on this script."""
-    if ours.status is None or theirs.status is None or ours.err:
-        return False
-    fault, is_same = refusal(ours), ours[:2] == theirs[:2]
-    is_later = fault is not None and fault[1] == "later"
-    if exact:
-        line = script_forms.first_later(text)
-        is_due = line is not None and comes_first(line, theirs)
-        return fault == (line, "later") if is_due else not is_later and is_same
-    return comes_first(fault[0], theirs) if is_later else is_same
+def agree(ours, theirs):
+    """Whether the two answers agree."""
+    return ours.status is not None and ours[:2] == theirs[:2] and not ours.err
 
 
 def cause_of(ours):
-    """What became of a script, in a word or two."""
+    """What became of a script, in a word or two: the cause of its refusal, or how its log ends."""
     fault = refusal(ours)
     if fault:
         return fault[1]
-    return {0: "accepted", None: "took too long"}.get(ours.status, f"status {ours.status}")
+    if ours.status == 0:
+        return {b"end\n": "ended", b"stopped\n": "stopped"}.get(ours.out[ours.out.rfind(b"\n", 0, -1) + 1 :], "accepted")
+    return "took too long" if ours.status is None else f"status {ours.status}"
 
 
 def compare(job):
@@ -108,8 +91,8 @@ def compare(job):
     if text is None:
         return source, seed, "not generated", fault
     ours = runs.answer([options.program, "replay"], text, SECONDS)
-    theirs = runs.answer([options.reference, "--machine", "e1", "--features", "none", "replay"], text, SECONDS)
-    return source, seed, cause_of(ours), None if agree(ours, theirs, text, options.exact) else (text, ours, theirs)
+    theirs = runs.answer([options.reference, "--machine", "e2", "--features", "none", "replay"], text, SECONDS)
+    return source, seed, cause_of(ours), None if agree(ours, theirs) else (text, ours, theirs)
 
 
 def brief(came):
@@ -139,7 +122,6 @@ def read_options():
     parser.add_argument("reference", metavar="REFERENCE", help="the other program")
     parser.add_argument("--count", type=int, required=True, metavar="N", help="scripts of each source")
     parser.add_argument("--seed", type=int, default=0, metavar="S", help="the first seed, else 0")
-    parser.add_argument("--exact", action="store_true", help="`later` exactly at the lowest line of a form that isn't built yet")
     parser.add_argument("--keep", type=pathlib.Path, default=FOLDER, metavar="FOLDER", help=f"where scripts that differ are kept, else {FOLDER}")
     options = parser.parse_args()
     for path in (options.program, options.reference):

@@ -1,26 +1,30 @@
 #!/usr/bin/env python3
-"""Writes a random script of the forms that are built so far, to standard output.
+"""Writes a random script of any form, to standard output.
 
-    script_forms.py --seed N             a script that is accepted
-    script_forms.py --seed N --mutate    a slightly broken variant, of which some are still accepted
+    script_forms.py --seed N                   a script that is accepted
+    script_forms.py --seed N --mutate          a slightly broken variant, of which some are still accepted
+    script_forms.py --seed N --step < SCRIPT   that script, with a schedule of single steps in place of its own
 
-One seed gives one script. compare_scripts.py and check_program.py take `script`, `mutated` and
-`first_later` from here. When a form is built, its lines move from `LATER_LINES` and `is_later` to `plain`.
+One seed gives one script. compare_scripts.py and check_program.py take `script` and `mutated` from here.
 """
 import argparse
 import random
-import re
 import sys
 
 # The ranks of the lines and the limits, as docs/LANGUAGE.md has them.
 RANKS = {"ftrace": 0, "func": 1, "depth": 2, "tramps": 2, "user": 3, "cpu": 4, "ctl": 6, "sched": 7}
-RANKS.update(dict.fromkeys(["task", "call", "ret", "after", "softirq", "irq", "nmi", "iret"], 5))
+CONTEXTS = ["normal", "softirq", "irq", "nmi"]  # each of the last three interrupts those before it
+ACT_WORDS = ["call", "ret", "after", *CONTEXTS[1:], "iret"]
+RANKS.update(dict.fromkeys(["task", *ACT_WORDS], 5))
 FUNCS = 1_024
+USERS = 16
 CPUS = 8
+TASKS = 64
 COMMANDS = 1_024
 UNTILS = 1_024
 ACTS = 20_000
 LEVELS = 512
+ITEMS = 4_000_000  # that the calls may make, by `call_bound`
 STEPS = 4_000_000
 QUANTUM = 1_000_000
 PID = 4_194_304
@@ -34,8 +38,14 @@ GRAPH_DEPTH = 512
 INPUT_BYTES = 16_777_216
 
 # What the scripts are made of.
-FUNCTIONS = ["a", "b", "vfs_read", "ext3_read", "ext3_write", "snd_play", "_", "_x.1", "k", "all", "ret", "regs"]
+FUNCTIONS = ["a", "b", "vfs_read", "ext3_read", "ext3_write", "snd_play", "_", "_x.1", "k", "all", "ret", "regs", "pid", "call", "irq"]
 FUNCTIONS += ["function", "Z9", "after", "mod.x", "x" * NAME_BYTES, "ftrace"]
+USER_NAMES = ["t", "tr", "a", "function", "user_2", "u" * NAME_BYTES, "g", "p.1", "regs", "fprobe", "pid", "ipmodify", "call", "_", "Z", "all"]
+USER_NAMES += ["exit", "k", "t2"]
+KINDS = ["function", "function", "graph", "profile", "fprobe", "fprobe exit", "fprobe exit cancel"]
+PIDS = [1, 2, 10, 11, 99, PID - 1, PID, *range(100, 170)]
+GLOBS = ["*", "?", "*_*", "ext3_*", "*read", "[a-c]*", "[!a-c]*", "[_xk]*", "*e*t*", "a*b?c", "zz*", "[]a]", "[a", "[c-a]", "?*_w*"]
+MODULE_GLOBS = ["ext3", "snd", "s?d", "*", "[em]*", "zz", "!ext3", "!s*", "!*", "![!a-m]*"]
 MODULES = ["ext3", "snd", "m.1", "y" * NAME_BYTES]
 COMMENTS = ["#", "# a comment", "#ret", "# func a a a", "#\tctl register", "# \u00e9\u20ac", "##"]
 BLANKS = [" ", "\t", "  ", " \t ", "\t\t"]
@@ -49,30 +59,93 @@ def numeral(rng, number):
     return text.rjust(rng.randint(len(text), DIGITS), "0") if rng.random() < 0.04 else text
 
 
-def acts(rng, functions, count, deepest):
-    """Balanced calls and returns with waits between them."""
-    lines, depth = [], 0
+def user(rng, name, functions):
+    """The line of a user of any kind, with options."""
+    kind = rng.choice(KINDS)
+    is_replacing = functions and kind == "function" and rng.random() < 0.4
+    words = ["user", name, *kind.split()]
+    words += ["regs"] * (rng.random() < (0.9 if is_replacing else 0.2))
+    words += ["ipmodify", rng.choice(functions)] if is_replacing else []
+    words += ["pid"] * (rng.random() < 0.25)
+    return words + ([rng.choice(["call", "irq"]), rng.choice(functions)] if functions and rng.random() < 0.25 else [])
+
+
+def has_act(words):
+    """Whether the line of a user says which function its entry callback calls."""
+    rest = words[3:]
+    for option, count in [("exit", 1), ("cancel", 1), ("regs", 1), ("ipmodify", 2), ("pid", 1)]:
+        rest = rest[count:] if rest[:1] == [option] else rest
+    return bool(rest)
+
+
+def call_bound(users):
+    """The most items that a call of a script with these lines of users can make."""
+    count, acting = len(users), sum(has_act(words) for words in users)
+    return 4 + 5 * count + acting * (4 + 5 * count + acting * (4 + count))
+
+
+def acts(rng, functions, count, deepest, room):
+    """Calls that return and interrupts that end, with waits among them; at most `room` calls."""
+    lines = [["after", str(rng.randint(1, 6))]] if rng.random() < 0.4 else []
+    levels = [(0, 0)]  # the number of each context that is raised, and of its open calls
+    interrupting = rng.choice([0, 0, 0.05, 0.2])
     for _ in range(count):
-        if rng.random() < 0.12:
+        (context, opened), pick = levels[-1], rng.random()
+        if pick < 0.1:
             lines.append(["after", str(rng.choice([1, 1, 2, 3, rng.randint(1, 12)]))])
-        elif functions and depth < deepest and (depth == 0 or rng.random() < 0.5):
+        elif pick < 0.1 + interrupting and context < 3:
+            levels.append((rng.randint(context + 1, 3), 0))
+            lines.append([CONTEXTS[levels[-1][0]]])
+        elif context > 0 and opened == 0 and rng.random() < 0.3:
+            levels.pop()
+            lines.append(["iret"])
+        elif functions and room > 0 and sum(calls for _, calls in levels) < deepest and (opened == 0 or rng.random() < 0.5):
+            levels[-1], room = (context, opened + 1), room - 1
             lines.append(["call", rng.choice(functions)])
-            depth += 1
-        elif depth > 0:
+        elif opened > 0:
+            levels[-1] = (context, opened - 1)
             lines.append(["ret"])
-            depth -= 1
-    return lines + [["ret"]] * depth
+    for context, opened in reversed(levels):
+        lines += [["ret"]] * opened + [["iret"]] * (context > 0)
+    return lines
 
 
-def commands(rng, users, tasks, count):
-    """Lines of control: commands, and waits for tasks."""
-    lines = []
+def good_text(rng, functions):
+    """A filter text that is accepted."""
+    mark = "!" * (rng.random() < 0.2)
+    if functions and rng.random() < 0.2:
+        return mark + numeral(rng, rng.randint(1, len(functions)))
+    glob = rng.choice(GLOBS + functions)
+    return mark + (f"{rng.choice([glob, glob, ''])}:mod:{rng.choice(MODULE_GLOBS)}" if rng.random() < 0.3 else glob)
+
+
+def command(rng, names, functions, pids):
+    """A command of any form."""
+    of_users = ["register"] * 5 + ["unregister"] * 3 + ["filter"] * 3 + ["notrace"] * 2 + ["enable", "disable"]
+    word = rng.choice((of_users if names else []) + ["pid", "nopid", "maxdepth"])
+    if word == "maxdepth":
+        return [word, numeral(rng, rng.choice([0, 0, 1, 2, 3, GRAPH_DEPTH, rng.randint(0, GRAPH_DEPTH)]))]
+    if word in ("pid", "nopid"):
+        return [word] + [numeral(rng, pid) for pid in (rng.choices(pids, k=rng.choice([0, 1, 1, 2, 5])) if pids else [])]
+    if word in ("filter", "notrace"):
+        edit = [">"] if rng.random() < 0.15 else [rng.choice([">", ">>"]), good_text(rng, functions)]
+        return [word, rng.choice(names)] + edit
+    return [word, rng.choice(names)]
+
+
+def commands(rng, users, functions, tasks, count):
+    """Lines of control: registrations, some of them with a filter, and then any commands and waits for tasks."""
+    lines, names = [], [words[1] for words in users]
+    for words in users:
+        if functions and rng.random() < (0.8 if "ipmodify" in words[3:] else 0.2):
+            lines.append(["filter", words[1], ">", rng.choice(functions + ["*", "?"])])
+        lines += [["register", words[1]]] * (rng.random() < 0.5)
     for _ in range(count):
-        if tasks and rng.random() < 0.3:
+        if tasks and rng.random() < 0.2:
             pid, _, todo = rng.choice(tasks)
             lines.append(["until", str(pid), str(rng.randint(1, max(1, len(todo))))])
-        elif users:
-            lines.append([rng.choice(["register", "register", "unregister"]), rng.choice(users)])
+        else:
+            lines.append(command(rng, names, functions, [pid for pid, _, _ in tasks]))
     return lines
 
 
@@ -101,42 +174,67 @@ def without_deadlock(rng, tasks, control):
         del lines[place]
 
 
+def item(rng, who, count):
+    """An item of a schedule: so many turns of an actor, or of all."""
+    return who if count == 1 and rng.random() < 0.8 else f"{who}*{numeral(rng, count)}"
+
+
+def single_steps(rng, cpus, parts):
+    """Turns of one actor each, some long enough for a whole command or call. In each part some actors are faster than others."""
+    actors, items = ["k"] + [str(cpu) for cpu in range(cpus)], []
+    for _ in range(parts):
+        speeds = [rng.choice([1, 1, 1, 5, 30]) for _ in actors]
+        most = rng.choice([1, 1, 3, 8, 20, 45, 200])
+        for who in rng.choices(actors, speeds, k=rng.randint(1, 60)):
+            items.append(item(rng, who, rng.randint(1, most)))
+    return items
+
+
+def full_turns(rng, cpus, most):
+    """An item, at times, with which some scripts come to their ends: full turns of at most so many steps."""
+    return [f"all*{rng.choice([300, 3_000, most // (1 + cpus)])}"] if rng.random() < 0.8 else []
+
+
+def coarse_turns(rng, cpus):
+    """Turns of any actors, at times many of them."""
+    items = []
+    for _ in range(rng.randint(1, 6)):
+        who = rng.choice(["k", "all", "all"] + [str(cpu) for cpu in range(cpus)] * 2)
+        items.append(item(rng, who, rng.choice([1, 1, 1, 2, 3, 7, rng.randint(1, 60), rng.randint(1, 3_000)])))
+    return items
+
+
 def schedule(rng, cpus):
-    """The `sched` lines, none at times; within the most turns."""
-    lines, left = [], STEPS
-    for _ in range(rng.choice([0, 0, 1, 1, 2, 4])):
-        items = []
-        for _ in range(rng.randint(1, 6)):
-            who = rng.choice(["k", "all", "all"] + [str(cpu) for cpu in range(cpus)] * 2)
-            count = rng.choice([1, 1, 1, 2, 3, 7, rng.randint(1, 60), rng.randint(1, 3000)])
-            cost = count * (1 + cpus if who == "all" else 1)
-            if cost <= left:
-                left -= cost
-                items.append(who if count == 1 and rng.random() < 0.8 else f"{who}*{numeral(rng, count)}")
-        if items:
-            lines.append(["sched"] + items)
-    if lines and rng.random() < 0.5:
-        lines.append(["sched", f"all*{min(4000, left // (1 + cpus))}"])
-    return lines
+    """The `sched` lines, none at times. They come to fewer steps than there may be."""
+    lines = [coarse_turns(rng, cpus) for _ in range(rng.choice([0, 0, 1, 2]))]
+    lines += [single_steps(rng, cpus, rng.randint(1, 12)) for _ in range(rng.choice([0, 1, 1, 2]))]
+    rng.shuffle(lines)
+    lines += [full_turns(rng, cpus, 1_000_000)] if lines else []
+    return [["sched"] + items for items in lines if items]
 
 
 def plain(rng):
     """The lines of a script that is accepted."""
     scale = rng.choice([1, 1, 2, 4, 12])
     functions = rng.sample(FUNCTIONS, rng.randint(0, min(len(FUNCTIONS), 2 * scale)))
-    users = [rng.choice(["t", "tr", "a", "function", "user_2", "u" * NAME_BYTES])] if rng.random() < 0.85 else []
-    cpus = rng.choice([0, 1, 1, 2, 2, 3, 5, 8])
-    pids = rng.sample([1, 2, 10, 11, 99, PID - 1, PID] + list(range(100, 120)), cpus)
-    on = rng.sample(range(cpus), rng.randint(0, cpus) if rng.random() < 0.3 else cpus)
-    deepest = rng.choice([1, 2, 3, 8, 40])
-    tasks = [(pids[cpu], cpu, acts(rng, functions, rng.randint(0, 12 * scale), deepest)) for cpu in on]
-    control = commands(rng, users, tasks, rng.randint(0, 8 * scale))
+    names = rng.sample(USER_NAMES, rng.choice([0, 1, 1, 2, 2, 3, 5, USERS]))
+    users = [user(rng, name, functions) for name in names]
+    sizes = [["depth", numeral(rng, rng.choice([1, 2, 3, FRAMES]))]] if rng.random() < 0.4 else []
+    sizes += [["tramps", numeral(rng, rng.choice([0, 1, 2, TRAMPS]))]] if rng.random() < 0.4 else []
+    cpus = rng.choice([0, 1, 1, 2, 2, 3, 5, CPUS])
+    pids = rng.sample(PIDS, rng.choice([0, 1, 2, 3, cpus, cpus, 2 * cpus, 3 * cpus, TASKS if scale > 1 else 4])) if cpus else []
+    deepest, most = rng.choice([1, 2, 3, 8, 40]), max(4, 12 * scale * cpus // max(1, len(pids)))
+    tasks, room = [], ITEMS // call_bound(users)
+    for pid in pids:
+        todo = acts(rng, functions, rng.randint(0, most), deepest, room)
+        room -= sum(line[0] == "call" for line in todo)
+        tasks.append((pid, rng.randrange(cpus), todo))
+    control = commands(rng, users, functions, tasks, rng.randint(0, 8 * scale))
     without_deadlock(rng, tasks, control)
     lines = [["ftrace", "1"]]
     lines += [["func", name] + ([rng.choice(MODULES)] if rng.random() < 0.4 else []) for name in functions]
-    lines += [["user", name, "function"] for name in users]
-    quanta = [rng.choice([1, 2, 3, 7, 100, QUANTUM]) for _ in range(cpus)]
-    lines += [["cpu", numeral(rng, cpu), "quantum", numeral(rng, quanta[cpu])] for cpu in range(cpus)]
+    lines += rng.sample(sizes, len(sizes)) + users
+    lines += [["cpu", numeral(rng, cpu), "quantum", numeral(rng, rng.choice([1, 2, 3, 7, 15, 40, 100, QUANTUM]))] for cpu in range(cpus)]
     for pid, cpu, todo in tasks:
         lines += [["task", numeral(rng, pid), "cpu", numeral(rng, cpu)]] + todo
     return lines + [["ctl"] + line for line in control] + schedule(rng, cpus)
@@ -157,20 +255,23 @@ def dressed(rng, lines):
 
 # Broken variants. Each function changes the lines in place, or does nothing if it finds no line to change.
 
-# by rank, for a user, a pid and a function of the script; `;` ends a line
-LATER_LINES = {
+# good lines and bad ones, by rank, for a user, a pid and a function of the script; `;` ends a line
+FURTHER_LINES = {
     2: ["depth 1", f"depth {FRAMES}", f"depth {FRAMES + 1}", "depth 0", "tramps 0", f"tramps {TRAMPS}", f"tramps {TRAMPS + 1}"],
     3: ["user u2 function", "user u2 graph", "user u2 profile", "user u2 fprobe", "user u2 fprobe exit"]
     + ["user u2 fprobe exit cancel", "user u2 function regs", "user u2 function pid", "user u2 function regs ipmodify {function}"]
     + ["user u2 function ipmodify {function}", "user u2 function call {function}", "user u2 graph irq {function}"]
     + ["user u2 function pid call {function}", "user u2 graph ipmodify {function}", "user u2 function pid regs"]
     + ["user u2 function call {function} irq {function}", "user u2 fprobe cancel", "user u2 function call"]
-    + ["user ipmodify function ipmodify ipmodify", "user u2 function regs regs", "user u2"],
+    + ["user ipmodify function ipmodify ipmodify", "user u2 function regs regs", "user u2", "user u2 fprobe regs exit"]
+    + ["user {user} graph", "user u2 function call nobody", "user u2 profile regs pid irq nobody", "user u2 function ipmodify nobody"],
     5: ["softirq", "irq", "nmi", "iret", "softirq;iret", "irq;call {function};ret;iret", "nmi;iret", "irq;softirq;iret;iret"]
-    + ["irq;call {function};iret;ret"],
+    + ["irq;call {function};iret;ret", "softirq;irq;nmi;iret;iret;iret", "softirq;softirq;iret;iret", "nmi;nmi;iret;iret"]
+    + ["call {function};irq;ret;iret", "softirq;call {function};nmi;call {function};ret;iret;ret;iret", "irq;iret;iret", "softirq iret"],
     6: ["ctl enable {user}", "ctl disable {user}", "ctl maxdepth 0", f"ctl maxdepth {GRAPH_DEPTH}", f"ctl maxdepth {GRAPH_DEPTH + 1}"]
     + ["ctl pid", "ctl nopid", "ctl pid {pid}", "ctl nopid {pid} {pid}", "ctl pid 0", f"ctl nopid {PID + 1}", "ctl pid 77"]
-    + ["ctl filter {user} >", "ctl notrace {user} >", "ctl filter {user} >>", "ctl notrace {user}"],
+    + ["ctl filter {user} >", "ctl notrace {user} >", "ctl filter {user} >>", "ctl notrace {user}", "ctl enable nobody"]
+    + ["ctl pid {pid} 77", f"ctl nopid {{pid}} {PID}", "ctl maxdepth", "ctl disable {user} {user}", "ctl filter nobody > :", "ctl"],
 }
 TEXTS = ["*", "a", "1", "!1", "0", "2", "99", "007", str(NUMBER + 2), "!", "!!", "!a*", ":mod:ext3", ":mod:", ":mod:!", ":mod:!*", "*:mod:s?d"]
 TEXTS += ["!*:mod:!snd", "a:b", "a:mod:m:n", "a\\b", "[a", "[!]", "[c-a]", "a:mod:!!m", ":", "x" * PATTERN_BYTES, "x" * (PATTERN_BYTES + 1)]
@@ -180,10 +281,13 @@ ODD_WORDS += ["sched", "k", "all", "0", "8", "07", "k*0", "all*2", "0*", "*3", "
 ODD_WORDS += ["x" * (NAME_BYTES + 1), "function", "graph"]
 EDGES = {
     "quantum": [0, 1, QUANTUM, QUANTUM + 1], "pid": [0, 1, PID, PID + 1], "cpu": [0, CPUS - 1, CPUS, CPUS + 1, 63],
-    "wait": [0, 1, 2, COMMANDS, COMMANDS + 1], "count": [0, 1, 2, STEPS, STEPS + 1],
+    "wait": [0, 1, 2, COMMANDS, COMMANDS + 1], "count": [0, 1, 2, STEPS, STEPS + 1], "frames": [0, 1, FRAMES, FRAMES + 1],
+    "slots": [0, 1, TRAMPS, TRAMPS + 1], "depth": [0, 1, GRAPH_DEPTH, GRAPH_DEPTH + 1],
 }
 TOO_BIG = [NUMBER, NUMBER + 1, 9_999_999_999, 10_000_000_000, "00000000001", "0000000001", "00"]
-NUMBERS = {"cpu": {1: "cpu", 3: "quantum"}, "task": {1: "pid", 3: "cpu"}, "after": {1: "wait"}, "ctl": {2: "pid", 3: "wait"}}
+# where the numbers of a line are, by its first word, or by the second one of control
+NUMBERS = {"depth": {1: "frames"}, "tramps": {1: "slots"}, "cpu": {1: "cpu", 3: "quantum"}, "task": {1: "pid", 3: "cpu"}, "after": {1: "wait"}}
+NUMBERS.update({"until": {2: "pid", 3: "wait"}, "pid": {2: "pid", 3: "pid"}, "nopid": {2: "pid", 3: "pid"}, "maxdepth": {2: "depth"}})
 
 
 def rank_of(line):
@@ -243,7 +347,8 @@ def double_line(rng, lines):
 
 def set_number(rng, lines):
     """A number at a limit, or one past it."""
-    found = [(number, at, kind) for number in places(lines, *NUMBERS) for at, kind in NUMBERS[lines[number][0]].items()]
+    keys = [(number, line[1] if line[0] == "ctl" and len(line) > 1 else line[0]) for number, line in enumerate(lines) if line]
+    found = [(number, at, kind) for number, key in keys for at, kind in NUMBERS.get(key, {}).items()]
     found = [(number, at, kind) for number, at, kind in found if at < len(lines[number]) and lines[number][at].isdigit()]
     if found:
         number, at, kind = rng.choice(found)
@@ -263,12 +368,13 @@ def set_turns(rng, lines):
 
 def unknown(rng, lines):
     """A name, a pid or a CPU that isn't declared above."""
-    found = places(lines, "call", "ctl", "task", "sched")
+    found = places(lines, "call", "ctl", "task", "sched") + [number for number in places(lines, "user") if has_act(lines[number])]
     if found:
         line = lines[rng.choice(found)]
-        at = {"call": 1, "ctl": 2, "task": 3, "sched": len(line) - 1}[line[0]]
+        at = {"call": 1, "ctl": 2, "task": 3}.get(line[0], len(line) - 1)
+        is_pid = line[0] == "ctl" and line[1:2] in (["until"], ["pid"], ["nopid"])
         if at < len(line):
-            line[at] = {"call": "nobody", "ctl": "77" if line[1] == "until" else "nobody", "task": "9", "sched": "7*2"}[line[0]]
+            line[at] = "77" if is_pid else {"task": "9", "sched": "7*2"}.get(line[0], "nobody")
 
 
 def declare_again(rng, lines):
@@ -282,30 +388,28 @@ def declare_again(rng, lines):
 
 
 def unbalance(rng, lines):
-    """A return too many or too few, or a call that stays open."""
-    found = places(lines, "ret")
+    """A return too many or too few, or a call or an interrupt that stays open."""
+    found = places(lines, "ret", "iret")
     if found and rng.random() < 0.5:
         del lines[rng.choice(found)]
     elif places(lines, "task"):
-        extra = rng.choice([["ret"], ["call", "a"], ["call", "b"], ["after", "1"]])
+        extra = rng.choice([["ret"], ["iret"], ["call", "a"], ["call", "b"], ["after", "1"], ["softirq"], ["irq"], ["nmi"]])
         lines.insert(at_rank(rng, lines, 5), extra)
 
 
-def add_later(rng, lines):
-    """A line of a form that isn't built yet."""
-    rank = rng.choice(list(LATER_LINES))
-    form = rng.choice(LATER_LINES[rank])
-    user, pid = rng.choice(declared(lines, "user") or ["nobody"]), rng.choice(declared(lines, "task") or ["10"])
+def add_lines(rng, lines):
+    """Lines of any form, mostly where they may come."""
+    rank = rng.choice(list(FURTHER_LINES))
+    form = rng.choice(FURTHER_LINES[rank])
+    user_name, pid = rng.choice(declared(lines, "user") or ["nobody"]), rng.choice(declared(lines, "task") or ["10"])
     function = rng.choice(declared(lines, "func") or ["nobody"])
-    new = [line.split() for line in form.format(user=user, pid=pid, function=function).split(";")]
-    if rank == 3 and rng.random() < 0.5:  # the only user, of another form
-        lines[:] = [line for line in lines if not line or line[0] != "user"]
+    new = [line.split() for line in form.format(user=user_name, pid=pid, function=function).split(";")]
     place = at_rank(rng, lines, rank if rng.random() < 0.9 else rng.randint(0, 7))
     lines[place:place] = new
 
 
 def add_task(rng, lines):
-    """A second task on a CPU."""
+    """A task amid the others and their acts."""
     if places(lines, "cpu"):
         lines.insert(at_rank(rng, lines, 5), ["task", "55", "cpu", str(rng.randint(0, len(places(lines, "cpu"))))])
 
@@ -345,13 +449,22 @@ def many_functions(rng, lines, more):
     return [["func", f"f{n}"] for n in range(FUNCS + more - len(places(lines, "func")))]
 
 
+def many_users(rng, lines, more):
+    return [["user", f"v{n}", rng.choice(KINDS[:4])] for n in range(USERS + more - len(places(lines, "user")))]
+
+
 def many_cpus(rng, lines, more):
     return [["cpu", str(n), "quantum", "5"] for n in range(len(places(lines, "cpu")), CPUS + more)]
 
 
+def many_tasks(rng, lines, more):
+    return [["task", str(200 + n), "cpu", "0"] for n in range(TASKS + more - len(places(lines, "task")))]
+
+
 def many_commands(rng, lines, more):
-    have = sum(line[1:2] in (["register"], ["unregister"]) for line in lines)
-    return [["ctl", "register", user] for user in declared(lines, "user")[:1]] * (COMMANDS + more - have)
+    have = sum(line[1:2] != ["until"] for line in lines if line[:1] == ["ctl"])
+    command_line = rng.choice([["ctl", "register", user] for user in declared(lines, "user")] + [["ctl", "maxdepth", "1"]])
+    return [command_line] * (COMMANDS + more - have)
 
 
 def many_waits(rng, lines, more):
@@ -360,33 +473,46 @@ def many_waits(rng, lines, more):
 
 
 def many_levels(rng, lines, more):
+    """At times half of them within an interrupt."""
     if not declared(lines, "func") or not declared(lines, "task"):
         return []
-    return [["call", declared(lines, "func")[0]]] * (LEVELS + more) + [["ret"]] * (LEVELS + more)
+    call, half = [["call", declared(lines, "func")[0]]], LEVELS // 2
+    between, below = rng.choice([([], []), ([[rng.choice(CONTEXTS[1:])]], [["iret"]])])
+    return call * half + between + call * (half + more) + [["ret"]] * (half + more) + below + [["ret"]] * half
+
+
+def many_items(rng, lines, more):
+    """As many calls as the most users may have, all of which make calls too."""
+    functions, have = declared(lines, "func"), [lines[number] for number in places(lines, "user")]
+    if not functions or not declared(lines, "task"):
+        return []
+    new = [["user", f"w{n}", "profile", "irq", functions[0]] for n in range(USERS - len(have))]
+    count = ITEMS // call_bound(have + new) + more - len(places(lines, "call"))
+    return new + [["call", functions[0]], ["ret"]] * count
 
 
 def many_acts(rng, lines, more):
     """Seldom, since such a script is large."""
     if not declared(lines, "func") or not declared(lines, "task") or rng.random() >= 0.3:
         return []
-    have = len(places(lines, "call", "ret", "after"))
+    have = len(places(lines, *ACT_WORDS))
     return [["call", declared(lines, "func")[0]], ["ret"]] * ((ACTS + 1 - have) // 2) + [["after", "1"]] * more
 
 
-MANY = [long_name, long_module, many_functions, many_cpus, many_commands, many_waits, many_levels, many_acts]
-MANY += [long_name, long_module, many_cpus]
+MANY = [long_name, long_module, many_functions, many_users, many_cpus, many_tasks, many_commands, many_waits, many_levels, many_items, many_acts]
+MANY += [long_name, long_module, many_users, many_cpus, many_tasks, many_items]
 
 
 def many(rng, lines):
     """As many lines or bytes of one kind as are accepted, or one more."""
-    more = rng.choice([0, 1])
-    new = rng.choice(MANY)(rng, lines, more)
-    place = sum(rank_of(line) <= rank_of(new[0]) for line in lines) if new else 0
-    lines[place:place] = [list(line) for line in new]
+    new = rng.choice(MANY)(rng, lines, rng.choice([0, 1]))
+    for rank in sorted({rank_of(line) for line in new}):
+        place = sum(rank_of(line) <= rank for line in lines)
+        lines[place:place] = [list(line) for line in new if rank_of(line) == rank]
 
 
 CHANGES = [change_word, drop_word, double_word, swap_lines, drop_line, double_line, set_number, set_turns, unknown, declare_again]
-CHANGES += [unbalance, add_later, add_later, add_task, add_text, add_text, add_wait, change_version, many]
+CHANGES += [unbalance, add_lines, add_lines, add_task, add_text, add_text, add_wait, change_version, many]
 
 
 def broken_bytes(rng, text):
@@ -416,41 +542,24 @@ def mutated(seed):
     return broken_bytes(rng, text) if how is None or rng.random() < 0.04 else text
 
 
-# The forms that aren't built yet.
-
-def is_later(words, users, cpus):
-    """Whether a line of these words has such a form, below this many users and below tasks on these CPUs."""
-    key = words[0]
-    if key == "user":
-        return users > 0 or words[2:] != ["function"]
-    if key == "task":
-        return len(words) == 4 and words[3].isdigit() and int(words[3]) in cpus
-    if key == "ctl":
-        return len(words) > 1 and words[1] not in ("register", "unregister", "until")
-    return key in ("depth", "tramps", "softirq", "irq", "nmi", "iret")
-
-
-def first_later(text):
-    """The lowest line of a form that isn't built yet, else None. It is right if no line above it has a cause."""
-    users, cpus = 0, set()
-    for number, line in enumerate(text.decode("latin-1").split("\n"), 1):
-        words = [word for word in re.split("[ \t]+", line) if word]
-        if not words or words[0].startswith("#"):
-            continue
-        if is_later(words, users, cpus):
-            return number
-        users += words[0] == "user"
-        if words[0] == "task" and len(words) == 4 and words[3].isdigit():
-            cpus.add(int(words[3]))
-    return None
+def stepped(text, seed):
+    """The text of a script with the schedule of single steps of this seed, in place of its own."""
+    rng = random.Random(f"stepped {seed}")
+    lines = [line for line in text.splitlines(keepends=True) if line.split()[:1] != [b"sched"]]
+    cpus = sum(line.split()[:1] == [b"cpu"] for line in lines)
+    items = single_steps(rng, cpus, rng.choice([1, 3, 12, 40])) + full_turns(rng, cpus, STEPS // 2)
+    return b"".join(lines) + f"sched {' '.join(items)}\n".encode()
 
 
 def main():
-    parser = argparse.ArgumentParser(description="Writes a random script of the forms that are built so far.")
+    parser = argparse.ArgumentParser(description="Writes a random script of any form.")
     parser.add_argument("--seed", type=int, required=True)
-    parser.add_argument("--mutate", action="store_true", help="a slightly broken variant")
+    how = parser.add_mutually_exclusive_group()
+    how.add_argument("--mutate", action="store_true", help="a slightly broken variant")
+    how.add_argument("--step", action="store_true", help="the script of standard input, with a schedule of single steps in place of its own")
     words = parser.parse_args()
-    sys.stdout.buffer.write(mutated(words.seed) if words.mutate else script(words.seed))
+    made = mutated(words.seed) if words.mutate else stepped(sys.stdin.buffer.read(), words.seed) if words.step else script(words.seed)
+    sys.stdout.buffer.write(made)
 
 
 if __name__ == "__main__":
