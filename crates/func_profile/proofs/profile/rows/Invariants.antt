@@ -1,0 +1,10 @@
+use Rattle.std.proofs.Common.{length, ◌≡◌}
+use Rattle.func_profile.specs.Tallies.{IsTally, past_at}
+use Rattle.func_profile.proofs.profile.rows.Given as goal
+
+-- what is kept is what the items so far tell
+abbrev pub invariant-loop-place : goal.invariant-loop-place
+invariant-loop-place l = record {
+  functions : length l.tally.rows.items ≡ l.funcs;
+  so_far : IsTally l.user.0 l.funcs (past_at l.place l.history.items) l.tally;
+}
