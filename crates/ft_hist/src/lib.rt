@@ -10,8 +10,6 @@
 //! runs), `Rules` (which item may come), `Frames` (the users of a call's frame), `Counts` (how often
 //! a user was called back, or missed). `theorems` has what legality promises, in its reader's words.
 //! `History` is the list as the program keeps it.
-//!
-//! No caller yet: `History::backs` and `History::missed`.
 #![tactic(auto)]
 
 mod history;

@@ -14,8 +14,6 @@
 //!
 //! A history is gone through once. A map has the functions of the calls so far, and a table the row
 //! of each function.
-//!
-//! No caller yet: [`rows`].
 #![tactic(auto)]
 
 pub mod laws;

@@ -5,8 +5,6 @@
 //! other; `add` says exactly when it refuses. Names are text of the form that `ft_base::is_name`
 //! tests, which the caller has tested. That memory is found is only tested, in
 //! `func_table_tests`.
-//!
-//! No caller yet: `FuncTable::ip`.
 #![tactic(auto)]
 
 mod faults;

@@ -9,8 +9,6 @@
 //! have the same bytes, and that none begins with the breakpoint. Tests compare the bytes of some
 //! instructions with ones worked out by hand. The order in which a site's bytes are written is left
 //! to the crates above.
-//!
-//! No caller yet: `decode`, `head_of`, `tail_of`, `join`, `BREAKPOINT`, `SiteChange`.
 #![tactic(auto)]
 
 mod codec;

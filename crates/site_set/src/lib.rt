@@ -7,9 +7,6 @@
 //! goes by `SiteSet::next_member`, or by `SiteSet::next_of_two` over two sets, whose answers are the
 //! lowest member from a number on, or none exactly if there is none. `SiteSet::empty` and
 //! `SiteSet::copy` alone take memory; that it is found is only tested, in `site_set_tests`.
-//!
-//! No caller yet: `count`. The other calls but `empty` and `add` are made by `filter_hash`,
-//! `site_counts`, `ipmodify` and `ft_desk`, which no program uses yet.
 #![tactic(auto)]
 
 mod edits;

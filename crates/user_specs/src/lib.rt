@@ -7,8 +7,6 @@
 //! and `call_bound`, a number by formula. That no scripted call of a legal history has more items
 //! than `call_bound` is a law of `history_bound`. A copy of users is of equal users; that the memory
 //! for it is found is only tested, in `ft_machine_tests`.
-//!
-//! No caller yet: `wants_frame`, `has_depth`.
 #![tactic(auto)]
 
 mod bound;
