@@ -1,3 +1,4 @@
 pub mod SameWords
 pub mod OnWords
+pub mod Seeds
 pub mod Found

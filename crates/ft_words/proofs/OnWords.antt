@@ -10,16 +10,21 @@ pub simple : is_simple app ≡ true
 unfolding clap_on_literals app
 simple = refl
 
--- the parser takes the words, and finds this mode and this value
-pub record Reads (mode : Text) (print : Option Text) (words : List Text) : Type 0 where
+-- the parser takes the words, and finds this mode and this value of the argument
+pub record Reads (mode id : Text) (value : Option Text) (words : List Text) : Type 0 where
   pub taken : is_taken words ≡ true
   pub mode_is : value_in (codes "mode") words ≡ Some mode
-  pub print_is : value_in (codes "print") words ≡ print
+  pub value_is : value_in id words ≡ value
 
 -- the text is not empty, and does not begin with `-`
 abbrev pub IsPlain : Text → Type 0
 IsPlain [] = ⊥
 IsPlain (x ∷ xs) = nat_eq x 45 ≡ false
+
+-- the value is plain, if there is one
+abbrev pub IsPlainIfSaid : Option Text → Type 0
+IsPlainIfSaid None = Unit {0}
+IsPlainIfSaid (Some text) = IsPlain text
 
 -- each of the list
 abbrev AllOf : {X : Type 0} → (X → Type 0) → List X → Type 0
@@ -31,68 +36,138 @@ at P x [] h all = absurd h
 at P x (y ∷ ys) (inl e) all = subst P (sym e) all.0
 at P x (y ∷ ys) (inr h) all = at P x ys h all.1
 
--- ## the lines one by one
+-- ## `--print`, line by line
 
-alone-1 : (m : ℕ) (ms : Text) → nat_eq m 45 ≡ false → Reads (m ∷ ms) None ((m ∷ ms) ∷ [])
+print-alone-1 : (m : ℕ) (ms : Text) → nat_eq m 45 ≡ false → Reads (m ∷ ms) (codes "print") None ((m ∷ ms) ∷ [])
 unfolding clap_on_literals app is_taken value_in
-alone-1 m ms e = record { taken = simp e; mode_is = simp e; print_is = simp e }
+print-alone-1 m ms e = record { taken = simp e; mode_is = simp e; value_is = simp e }
 
-alone-2 : (m : ℕ) (ms : Text) → nat_eq m 45 ≡ false → Reads (m ∷ ms) None (codes "--" ∷ (m ∷ ms) ∷ [])
+print-alone-2 : (m : ℕ) (ms : Text) → nat_eq m 45 ≡ false → Reads (m ∷ ms) (codes "print") None (codes "--" ∷ (m ∷ ms) ∷ [])
 unfolding clap_on_literals app is_taken value_in
-alone-2 m ms e = record { taken = refl; mode_is = refl; print_is = refl }
+print-alone-2 m ms e = record { taken = refl; mode_is = refl; value_is = refl }
 
-alone-3 : (m : ℕ) (ms : Text) → nat_eq m 45 ≡ false → Reads (m ∷ ms) None ((m ∷ ms) ∷ codes "--" ∷ [])
+print-alone-3 : (m : ℕ) (ms : Text) → nat_eq m 45 ≡ false → Reads (m ∷ ms) (codes "print") None ((m ∷ ms) ∷ codes "--" ∷ [])
 unfolding clap_on_literals app is_taken value_in
-alone-3 m ms e = record { taken = simp e; mode_is = simp e; print_is = simp e }
+print-alone-3 m ms e = record { taken = simp e; mode_is = simp e; value_is = simp e }
 
-apart-1 : (m v : ℕ) (ms vs : Text) → nat_eq m 45 ≡ false → nat_eq v 45 ≡ false → Reads (m ∷ ms) (Some (v ∷ vs)) (codes "--print" ∷ (v ∷ vs) ∷ (m ∷ ms) ∷ [])
+print-apart-1 : (m v : ℕ) (ms vs : Text) → nat_eq m 45 ≡ false → nat_eq v 45 ≡ false → Reads (m ∷ ms) (codes "print") (Some (v ∷ vs)) (codes "--print" ∷ (v ∷ vs) ∷ (m ∷ ms) ∷ [])
 unfolding clap_on_literals app is_taken value_in
-apart-1 m v ms vs e f = record { taken = simp (e, f); mode_is = simp (e, f); print_is = simp (e, f) }
+print-apart-1 m v ms vs e f = record { taken = simp (e, f); mode_is = simp (e, f); value_is = simp (e, f) }
 
-apart-2 : (m v : ℕ) (ms vs : Text) → nat_eq m 45 ≡ false → nat_eq v 45 ≡ false → Reads (m ∷ ms) (Some (v ∷ vs)) (codes "--print" ∷ (v ∷ vs) ∷ codes "--" ∷ (m ∷ ms) ∷ [])
+print-apart-2 : (m v : ℕ) (ms vs : Text) → nat_eq m 45 ≡ false → nat_eq v 45 ≡ false → Reads (m ∷ ms) (codes "print") (Some (v ∷ vs)) (codes "--print" ∷ (v ∷ vs) ∷ codes "--" ∷ (m ∷ ms) ∷ [])
 unfolding clap_on_literals app is_taken value_in
-apart-2 m v ms vs e f = record { taken = simp f; mode_is = simp f; print_is = simp f }
+print-apart-2 m v ms vs e f = record { taken = simp f; mode_is = simp f; value_is = simp f }
 
-apart-3 : (m v : ℕ) (ms vs : Text) → nat_eq m 45 ≡ false → nat_eq v 45 ≡ false → Reads (m ∷ ms) (Some (v ∷ vs)) (codes "--print" ∷ (v ∷ vs) ∷ (m ∷ ms) ∷ codes "--" ∷ [])
+print-apart-3 : (m v : ℕ) (ms vs : Text) → nat_eq m 45 ≡ false → nat_eq v 45 ≡ false → Reads (m ∷ ms) (codes "print") (Some (v ∷ vs)) (codes "--print" ∷ (v ∷ vs) ∷ (m ∷ ms) ∷ codes "--" ∷ [])
 unfolding clap_on_literals app is_taken value_in
-apart-3 m v ms vs e f = record { taken = simp (e, f); mode_is = simp (e, f); print_is = simp (e, f) }
+print-apart-3 m v ms vs e f = record { taken = simp (e, f); mode_is = simp (e, f); value_is = simp (e, f) }
 
-apart-4 : (m v : ℕ) (ms vs : Text) → nat_eq m 45 ≡ false → nat_eq v 45 ≡ false → Reads (m ∷ ms) (Some (v ∷ vs)) ((m ∷ ms) ∷ codes "--print" ∷ (v ∷ vs) ∷ [])
+print-apart-4 : (m v : ℕ) (ms vs : Text) → nat_eq m 45 ≡ false → nat_eq v 45 ≡ false → Reads (m ∷ ms) (codes "print") (Some (v ∷ vs)) ((m ∷ ms) ∷ codes "--print" ∷ (v ∷ vs) ∷ [])
 unfolding clap_on_literals app is_taken value_in
-apart-4 m v ms vs e f = record { taken = simp (e, f); mode_is = simp (e, f); print_is = simp (e, f) }
+print-apart-4 m v ms vs e f = record { taken = simp (e, f); mode_is = simp (e, f); value_is = simp (e, f) }
 
-apart-5 : (m v : ℕ) (ms vs : Text) → nat_eq m 45 ≡ false → nat_eq v 45 ≡ false → Reads (m ∷ ms) (Some (v ∷ vs)) ((m ∷ ms) ∷ codes "--print" ∷ (v ∷ vs) ∷ codes "--" ∷ [])
+print-apart-5 : (m v : ℕ) (ms vs : Text) → nat_eq m 45 ≡ false → nat_eq v 45 ≡ false → Reads (m ∷ ms) (codes "print") (Some (v ∷ vs)) ((m ∷ ms) ∷ codes "--print" ∷ (v ∷ vs) ∷ codes "--" ∷ [])
 unfolding clap_on_literals app is_taken value_in
-apart-5 m v ms vs e f = record { taken = simp (e, f); mode_is = simp (e, f); print_is = simp (e, f) }
+print-apart-5 m v ms vs e f = record { taken = simp (e, f); mode_is = simp (e, f); value_is = simp (e, f) }
 
-joined-1 : (m v : ℕ) (ms vs : Text) → nat_eq m 45 ≡ false → Reads (m ∷ ms) (Some (v ∷ vs)) ((codes "--print=" ++ (v ∷ vs)) ∷ (m ∷ ms) ∷ [])
+print-joined-1 : (m v : ℕ) (ms vs : Text) → nat_eq m 45 ≡ false → Reads (m ∷ ms) (codes "print") (Some (v ∷ vs)) ((codes "--print=" ++ (v ∷ vs)) ∷ (m ∷ ms) ∷ [])
 unfolding clap_on_literals app is_taken value_in
-joined-1 m v ms vs e = record { taken = simp e; mode_is = simp e; print_is = simp e }
+print-joined-1 m v ms vs e = record { taken = simp e; mode_is = simp e; value_is = simp e }
 
-joined-2 : (m v : ℕ) (ms vs : Text) → nat_eq m 45 ≡ false → Reads (m ∷ ms) (Some (v ∷ vs)) ((codes "--print=" ++ (v ∷ vs)) ∷ codes "--" ∷ (m ∷ ms) ∷ [])
+print-joined-2 : (m v : ℕ) (ms vs : Text) → nat_eq m 45 ≡ false → Reads (m ∷ ms) (codes "print") (Some (v ∷ vs)) ((codes "--print=" ++ (v ∷ vs)) ∷ codes "--" ∷ (m ∷ ms) ∷ [])
 unfolding clap_on_literals app is_taken value_in
-joined-2 m v ms vs e = record { taken = refl; mode_is = refl; print_is = refl }
+print-joined-2 m v ms vs e = record { taken = refl; mode_is = refl; value_is = refl }
 
-joined-3 : (m v : ℕ) (ms vs : Text) → nat_eq m 45 ≡ false → Reads (m ∷ ms) (Some (v ∷ vs)) ((codes "--print=" ++ (v ∷ vs)) ∷ (m ∷ ms) ∷ codes "--" ∷ [])
+print-joined-3 : (m v : ℕ) (ms vs : Text) → nat_eq m 45 ≡ false → Reads (m ∷ ms) (codes "print") (Some (v ∷ vs)) ((codes "--print=" ++ (v ∷ vs)) ∷ (m ∷ ms) ∷ codes "--" ∷ [])
 unfolding clap_on_literals app is_taken value_in
-joined-3 m v ms vs e = record { taken = simp e; mode_is = simp e; print_is = simp e }
+print-joined-3 m v ms vs e = record { taken = simp e; mode_is = simp e; value_is = simp e }
 
-joined-4 : (m v : ℕ) (ms vs : Text) → nat_eq m 45 ≡ false → Reads (m ∷ ms) (Some (v ∷ vs)) ((m ∷ ms) ∷ (codes "--print=" ++ (v ∷ vs)) ∷ [])
+print-joined-4 : (m v : ℕ) (ms vs : Text) → nat_eq m 45 ≡ false → Reads (m ∷ ms) (codes "print") (Some (v ∷ vs)) ((m ∷ ms) ∷ (codes "--print=" ++ (v ∷ vs)) ∷ [])
 unfolding clap_on_literals app is_taken value_in
-joined-4 m v ms vs e = record { taken = simp e; mode_is = simp e; print_is = simp e }
+print-joined-4 m v ms vs e = record { taken = simp e; mode_is = simp e; value_is = simp e }
 
-joined-5 : (m v : ℕ) (ms vs : Text) → nat_eq m 45 ≡ false → Reads (m ∷ ms) (Some (v ∷ vs)) ((m ∷ ms) ∷ (codes "--print=" ++ (v ∷ vs)) ∷ codes "--" ∷ [])
+print-joined-5 : (m v : ℕ) (ms vs : Text) → nat_eq m 45 ≡ false → Reads (m ∷ ms) (codes "print") (Some (v ∷ vs)) ((m ∷ ms) ∷ (codes "--print=" ++ (v ∷ vs)) ∷ codes "--" ∷ [])
 unfolding clap_on_literals app is_taken value_in
-joined-5 m v ms vs e = record { taken = simp e; mode_is = simp e; print_is = simp e }
+print-joined-5 m v ms vs e = record { taken = simp e; mode_is = simp e; value_is = simp e }
 
--- the parser finds what the words say
-pub Reads-Spells : (words : List Text) (mode : Text) (print : Option Text) → IsPlain mode → ((t : Text) → print ≡ Some t → IsPlain t) → Spells words mode print → Reads mode print words
-Reads-Spells words [] print plain p h = absurd plain
-Reads-Spells words (m ∷ ms) None e p h =
-    at (Reads (m ∷ ms) None) words (spellings_of (m ∷ ms)) h (alone-1 m ms e, (alone-2 m ms e, (alone-3 m ms e, tt)))
-Reads-Spells words (m ∷ ms) (Some []) e p h = absurd (p [] refl)
-Reads-Spells words (m ∷ ms) (Some (v ∷ vs)) e p (inl h) =
-    let f : nat_eq v 45 ≡ false = p (v ∷ vs) refl in
-    at (Reads (m ∷ ms) (Some (v ∷ vs))) words (spellings_with (m ∷ ms) (codes "--print" ∷ (v ∷ vs) ∷ [])) h (apart-1 m v ms vs e f, (apart-2 m v ms vs e f, (apart-3 m v ms vs e f, (apart-4 m v ms vs e f, (apart-5 m v ms vs e f, tt)))))
-Reads-Spells words (m ∷ ms) (Some (v ∷ vs)) e p (inr h) =
-    at (Reads (m ∷ ms) (Some (v ∷ vs))) words (spellings_with (m ∷ ms) ((codes "--print=" ++ (v ∷ vs)) ∷ [])) h (joined-1 m v ms vs e, (joined-2 m v ms vs e, (joined-3 m v ms vs e, (joined-4 m v ms vs e, (joined-5 m v ms vs e, tt)))))
+-- the parser finds what the words say of `--print`
+pub Reads-print : (words : List Text) (mode : Text) (value : Option Text) → IsPlain mode → IsPlainIfSaid value → Spells words mode (codes "--print") value → Reads mode (codes "print") value words
+Reads-print words [] value e p h = absurd e
+Reads-print words (m ∷ ms) None e p h =
+    at (Reads (m ∷ ms) (codes "print") None) words (spellings_of (m ∷ ms)) h
+    (print-alone-1 m ms e, (print-alone-2 m ms e, (print-alone-3 m ms e, tt)))
+Reads-print words (m ∷ ms) (Some []) e p h = absurd p
+Reads-print words (m ∷ ms) (Some (v ∷ vs)) e f (inl h) =
+    at (Reads (m ∷ ms) (codes "print") (Some (v ∷ vs))) words (spellings_with (m ∷ ms) (codes "--print" ∷ (v ∷ vs) ∷ [])) h
+    (print-apart-1 m v ms vs e f, (print-apart-2 m v ms vs e f, (print-apart-3 m v ms vs e f, (print-apart-4 m v ms vs e f, (print-apart-5 m v ms vs e f, tt)))))
+Reads-print words (m ∷ ms) (Some (v ∷ vs)) e f (inr h) =
+    at (Reads (m ∷ ms) (codes "print") (Some (v ∷ vs))) words (spellings_with (m ∷ ms) ((codes "--print=" ++ (v ∷ vs)) ∷ [])) h
+    (print-joined-1 m v ms vs e, (print-joined-2 m v ms vs e, (print-joined-3 m v ms vs e, (print-joined-4 m v ms vs e, (print-joined-5 m v ms vs e, tt)))))
+
+-- ## `--seed`, line by line
+
+seed-alone-1 : (m : ℕ) (ms : Text) → nat_eq m 45 ≡ false → Reads (m ∷ ms) (codes "seed") None ((m ∷ ms) ∷ [])
+unfolding clap_on_literals app is_taken value_in
+seed-alone-1 m ms e = record { taken = simp e; mode_is = simp e; value_is = simp e }
+
+seed-alone-2 : (m : ℕ) (ms : Text) → nat_eq m 45 ≡ false → Reads (m ∷ ms) (codes "seed") None (codes "--" ∷ (m ∷ ms) ∷ [])
+unfolding clap_on_literals app is_taken value_in
+seed-alone-2 m ms e = record { taken = refl; mode_is = refl; value_is = refl }
+
+seed-alone-3 : (m : ℕ) (ms : Text) → nat_eq m 45 ≡ false → Reads (m ∷ ms) (codes "seed") None ((m ∷ ms) ∷ codes "--" ∷ [])
+unfolding clap_on_literals app is_taken value_in
+seed-alone-3 m ms e = record { taken = simp e; mode_is = simp e; value_is = simp e }
+
+seed-apart-1 : (m v : ℕ) (ms vs : Text) → nat_eq m 45 ≡ false → nat_eq v 45 ≡ false → Reads (m ∷ ms) (codes "seed") (Some (v ∷ vs)) (codes "--seed" ∷ (v ∷ vs) ∷ (m ∷ ms) ∷ [])
+unfolding clap_on_literals app is_taken value_in
+seed-apart-1 m v ms vs e f = record { taken = simp (e, f); mode_is = simp (e, f); value_is = simp (e, f) }
+
+seed-apart-2 : (m v : ℕ) (ms vs : Text) → nat_eq m 45 ≡ false → nat_eq v 45 ≡ false → Reads (m ∷ ms) (codes "seed") (Some (v ∷ vs)) (codes "--seed" ∷ (v ∷ vs) ∷ codes "--" ∷ (m ∷ ms) ∷ [])
+unfolding clap_on_literals app is_taken value_in
+seed-apart-2 m v ms vs e f = record { taken = simp f; mode_is = simp f; value_is = simp f }
+
+seed-apart-3 : (m v : ℕ) (ms vs : Text) → nat_eq m 45 ≡ false → nat_eq v 45 ≡ false → Reads (m ∷ ms) (codes "seed") (Some (v ∷ vs)) (codes "--seed" ∷ (v ∷ vs) ∷ (m ∷ ms) ∷ codes "--" ∷ [])
+unfolding clap_on_literals app is_taken value_in
+seed-apart-3 m v ms vs e f = record { taken = simp (e, f); mode_is = simp (e, f); value_is = simp (e, f) }
+
+seed-apart-4 : (m v : ℕ) (ms vs : Text) → nat_eq m 45 ≡ false → nat_eq v 45 ≡ false → Reads (m ∷ ms) (codes "seed") (Some (v ∷ vs)) ((m ∷ ms) ∷ codes "--seed" ∷ (v ∷ vs) ∷ [])
+unfolding clap_on_literals app is_taken value_in
+seed-apart-4 m v ms vs e f = record { taken = simp (e, f); mode_is = simp (e, f); value_is = simp (e, f) }
+
+seed-apart-5 : (m v : ℕ) (ms vs : Text) → nat_eq m 45 ≡ false → nat_eq v 45 ≡ false → Reads (m ∷ ms) (codes "seed") (Some (v ∷ vs)) ((m ∷ ms) ∷ codes "--seed" ∷ (v ∷ vs) ∷ codes "--" ∷ [])
+unfolding clap_on_literals app is_taken value_in
+seed-apart-5 m v ms vs e f = record { taken = simp (e, f); mode_is = simp (e, f); value_is = simp (e, f) }
+
+seed-joined-1 : (m v : ℕ) (ms vs : Text) → nat_eq m 45 ≡ false → Reads (m ∷ ms) (codes "seed") (Some (v ∷ vs)) ((codes "--seed=" ++ (v ∷ vs)) ∷ (m ∷ ms) ∷ [])
+unfolding clap_on_literals app is_taken value_in
+seed-joined-1 m v ms vs e = record { taken = simp e; mode_is = simp e; value_is = simp e }
+
+seed-joined-2 : (m v : ℕ) (ms vs : Text) → nat_eq m 45 ≡ false → Reads (m ∷ ms) (codes "seed") (Some (v ∷ vs)) ((codes "--seed=" ++ (v ∷ vs)) ∷ codes "--" ∷ (m ∷ ms) ∷ [])
+unfolding clap_on_literals app is_taken value_in
+seed-joined-2 m v ms vs e = record { taken = refl; mode_is = refl; value_is = refl }
+
+seed-joined-3 : (m v : ℕ) (ms vs : Text) → nat_eq m 45 ≡ false → Reads (m ∷ ms) (codes "seed") (Some (v ∷ vs)) ((codes "--seed=" ++ (v ∷ vs)) ∷ (m ∷ ms) ∷ codes "--" ∷ [])
+unfolding clap_on_literals app is_taken value_in
+seed-joined-3 m v ms vs e = record { taken = simp e; mode_is = simp e; value_is = simp e }
+
+seed-joined-4 : (m v : ℕ) (ms vs : Text) → nat_eq m 45 ≡ false → Reads (m ∷ ms) (codes "seed") (Some (v ∷ vs)) ((m ∷ ms) ∷ (codes "--seed=" ++ (v ∷ vs)) ∷ [])
+unfolding clap_on_literals app is_taken value_in
+seed-joined-4 m v ms vs e = record { taken = simp e; mode_is = simp e; value_is = simp e }
+
+seed-joined-5 : (m v : ℕ) (ms vs : Text) → nat_eq m 45 ≡ false → Reads (m ∷ ms) (codes "seed") (Some (v ∷ vs)) ((m ∷ ms) ∷ (codes "--seed=" ++ (v ∷ vs)) ∷ codes "--" ∷ [])
+unfolding clap_on_literals app is_taken value_in
+seed-joined-5 m v ms vs e = record { taken = simp e; mode_is = simp e; value_is = simp e }
+
+-- the parser finds what the words say of `--seed`
+pub Reads-seed : (words : List Text) (mode : Text) (value : Option Text) → IsPlain mode → IsPlainIfSaid value → Spells words mode (codes "--seed") value → Reads mode (codes "seed") value words
+Reads-seed words [] value e p h = absurd e
+Reads-seed words (m ∷ ms) None e p h =
+    at (Reads (m ∷ ms) (codes "seed") None) words (spellings_of (m ∷ ms)) h
+    (seed-alone-1 m ms e, (seed-alone-2 m ms e, (seed-alone-3 m ms e, tt)))
+Reads-seed words (m ∷ ms) (Some []) e p h = absurd p
+Reads-seed words (m ∷ ms) (Some (v ∷ vs)) e f (inl h) =
+    at (Reads (m ∷ ms) (codes "seed") (Some (v ∷ vs))) words (spellings_with (m ∷ ms) (codes "--seed" ∷ (v ∷ vs) ∷ [])) h
+    (seed-apart-1 m v ms vs e f, (seed-apart-2 m v ms vs e f, (seed-apart-3 m v ms vs e f, (seed-apart-4 m v ms vs e f, (seed-apart-5 m v ms vs e f, tt)))))
+Reads-seed words (m ∷ ms) (Some (v ∷ vs)) e f (inr h) =
+    at (Reads (m ∷ ms) (codes "seed") (Some (v ∷ vs))) words (spellings_with (m ∷ ms) ((codes "--seed=" ++ (v ∷ vs)) ∷ [])) h
+    (seed-joined-1 m v ms vs e, (seed-joined-2 m v ms vs e, (seed-joined-3 m v ms vs e, (seed-joined-4 m v ms vs e, (seed-joined-5 m v ms vs e, tt)))))

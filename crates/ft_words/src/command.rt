@@ -16,11 +16,13 @@ pub fn command<'a>(alloc: Global) -> Result<Command<'a>, AllocError>
 {
     let mode = Arg::new(alloc, "mode").required(true);
     let print = Arg::new(alloc, "print").long("print");
+    let seed = Arg::new(alloc, "seed").long("seed");
     Command::new(alloc, "ftcore")
         .no_binary_name(true)
         .disable_help_flag(true)
         .arg(mode)?
-        .arg(print)
+        .arg(print)?
+        .arg(seed)
 }
 
 /// What the parser found in the words.
@@ -30,6 +32,8 @@ pub struct Found<'a> {
     pub mode: Option<&'a str>,
     /// The value of `--print`.
     pub print: Option<&'a str>,
+    /// The value of `--seed`.
+    pub seed: Option<&'a str>,
 }
 
 /// What the parser finds in the words. `Language` comes only for words that it doesn't take.
@@ -39,6 +43,8 @@ pub fn find<'a>(command: Command<'a>, words: &'a [&'a str]) -> Result<Found<'a>,
         ≡ value_in (codes "mode") (map (λ w. w.now) words.entry.now)) }
     ensures print { IfOk result (λ f. option_copied f.print
         ≡ value_in (codes "print") (map (λ w. w.now) words.entry.now)) }
+    ensures seed { IfOk result (λ f. option_copied f.seed
+        ≡ value_in (codes "seed") (map (λ w. w.now) words.entry.now)) }
     ensures language { result ≡ Err WordsFault.Language
         → is_taken (map (λ w. w.now) words.entry.now) ≡ false }
 {
@@ -46,6 +52,7 @@ pub fn find<'a>(command: Command<'a>, words: &'a [&'a str]) -> Result<Found<'a>,
         Ok(matches) => Ok(Found {
             mode: matches.get_str("mode"),
             print: matches.get_str("print"),
+            seed: matches.get_str("seed"),
         }),
         Err(error) => match error.kind() {
             ErrorKind::OutOfMemory => Err(WordsFault::NoMemory),

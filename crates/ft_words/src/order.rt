@@ -1,18 +1,37 @@
-//! What the words can order, and the order that a mode and a form's name give.
+//! What the words can order, and the form that is said.
 
 ghost use Rattle.std.specs.Prelude.{◌≡◌, ◌≢◌, IfSome, IfNone};
 ghost use Rattle.std.specs.Option.{option_copied};
 ghost use Rattle.ft_words.specs.declared.order.Form.{Form};
-ghost use Rattle.ft_words.specs.declared.order.Order.{Order};
-ghost use Rattle.ft_words.specs.Language.{form_name, Means};
+ghost use Rattle.ft_words.specs.Language.{form_name, SaysForm};
 
 use thiserror::Error;
 
-/// The form in which a history is printed.
+/// What is printed of a history, or of the functions that are traced at its end.
 #[derive(Clone, Copy, Debug, PartialEq, Eq)]
 pub enum Form {
-    /// The whole history, with a line for each item.
+    /// The whole history, with a line for each item. The lines are this project's own: no tool
+    /// prints the like.
     Log,
+    /// A line for each entry callback of a user of the kind `function`: the task, its CPU and
+    /// context, the place in the history, the function that is called, the one that calls it, and
+    /// the user. The kernel's tracer `function` prints the like into the file `trace` (ftrace.rst,
+    /// Output format), and so does `trace-cmd report`.
+    Function,
+    /// For each user of the kind `graph`, the calls that it traced as nested braces, with the
+    /// places that each took. The kernel's tracer `function_graph` prints the like into the file
+    /// `trace` (ftrace.rst, function graph tracer), and so does `uftrace replay`.
+    Graph,
+    /// For each user of the kind `profile`, how often each function was hit, and the places that
+    /// its calls took; for each fprobe, its hits and those that it missed. The kernel prints the
+    /// like into the files `trace_stat/function<cpu>` (ftrace.rst, The File System,
+    /// function_profile_enabled), and so does `uftrace report`.
+    Profile,
+    /// The functions that are traced after the commands that have returned: how many users each
+    /// has, whether one of them asks for registers and whether one replaces the function, and what
+    /// the call site calls. The kernel prints the like into the file `enabled_functions`
+    /// (ftrace.rst, The File System).
+    Enabled,
 }
 
 /// What the program is to do.
@@ -20,6 +39,9 @@ pub enum Form {
 pub enum Order {
     /// Carry out the script that the source gives, and print its history in this form.
     Replay(Form),
+    /// Carry out the script that is generated from this seed, and print a summary of its history.
+    /// The source isn't read.
+    Bulk(u32),
 }
 
 /// Why the words give no order.
@@ -40,21 +62,21 @@ fn form_of(name: &str) -> Option<Form>
 {
     match name {
         "log" => Some(Form::Log),
+        "function" => Some(Form::Function),
+        "graph" => Some(Form::Graph),
+        "profile" => Some(Form::Profile),
+        "enabled" => Some(Form::Enabled),
         _ => None,
     }
 }
 
-/// The order of a mode, and of the form's name if one is said.
-pub fn choose(mode: &str, print: Option<&str>) -> Option<Order>
-    ensures some { IfSome result (Means mode.now (option_copied print.entry)) }
-    ensures none { IfNone result ((o : Order) → ¬ Means mode.now (option_copied print.entry) o) }
+/// The form that is said with `--print`, if anything is.
+pub fn form_said(print: Option<&str>) -> Option<Form>
+    ensures some { IfSome result (SaysForm (option_copied print.entry)) }
+    ensures none { IfNone result ((f : Form) → ¬ SaysForm (option_copied print.entry) f) }
 {
-    let form = match print {
-        Some(name) => form_of(name)?,
-        None => Form::Log,
-    };
-    match mode {
-        "replay" => Some(Order::Replay(form)),
-        _ => None,
+    match print {
+        Some(name) => form_of(name),
+        None => Some(Form::Log),
     }
 }

@@ -1,9 +1,8 @@
 //! Whether words are one of the ways to say a mode and an option's value.
 
-ghost use Rattle.std.specs.Prelude.{◌≡◌, ◌↔◌, [], ◌∷◌, IfOk, IsTrue, map};
+ghost use Rattle.std.specs.Prelude.{◌≡◌, ◌↔◌, [], ◌∷◌, Some, IfOk, IsTrue, map};
 ghost use Rattle.std.specs.Option.{option_copied};
-ghost use Rattle.ft_words.specs.Language.{IsOneOf, spellings_of, spellings_with};
-ghost use Rattle.ft_words.specs.Language.{Spells, SpellsWith};
+ghost use Rattle.ft_words.specs.Language.{IsOneOf, spellings_of, spellings_with, Spells};
 
 use std::alloc::{AllocError, Global};
 
@@ -46,7 +45,7 @@ fn spells_apart(words: &[&str], mode: &str, name: &str, value: &str) -> bool
         || are_these(words, &[mode, name, value, "--"])
 }
 
-/// Whether the words say this mode, and this value of the option.
+/// Whether the words say this mode, and this value of its option of this name.
 fn spells_with(
     alloc: Global,
     words: &[&str],
@@ -55,24 +54,25 @@ fn spells_with(
     value: &str,
 ) -> Result<bool, AllocError>
     ensures { IfOk result (λ b. IsTrue b
-        ↔ SpellsWith (map (λ w. w.now) words.now) mode.now name.now value.now) }
+        ↔ Spells (map (λ w. w.now) words.now) mode.now name.now (Some value.now)) }
 {
     let joined = format!(in alloc; "{name}={value}")?;
     Ok(spells_apart(words, mode, name, value) || spells_joined(words, mode, joined.as_str()))
 }
 
-/// Whether the words say this mode, and this value of `--print` if there is one.
+/// Whether the words say this mode, and this value of its option of this name if there is one.
 pub fn spells(
     alloc: Global,
     words: &[&str],
     mode: &str,
-    print: Option<&str>,
+    name: &str,
+    value: Option<&str>,
 ) -> Result<bool, AllocError>
     ensures { IfOk result (λ b. IsTrue b
-        ↔ Spells (map (λ w. w.now) words.now) mode.now (option_copied print.entry)) }
+        ↔ Spells (map (λ w. w.now) words.now) mode.now name.now (option_copied value.entry)) }
 {
-    match print {
+    match value {
         None => Ok(spells_alone(words, mode)),
-        Some(form) => spells_with(alloc, words, mode, "--print", form),
+        Some(value) => spells_with(alloc, words, mode, name, value),
     }
 }

@@ -4,68 +4,200 @@ use ft_words::{Form, Order, WordsFault, read_words};
 
 #[test]
 fn reads_the_language(rt: HostRuntime) {
-    let good: [&[&str]; 13] = [
-        &["replay"],
-        &["--", "replay"],
-        &["replay", "--"],
-        &["--print", "log", "replay"],
-        &["--print", "log", "--", "replay"],
-        &["--print", "log", "replay", "--"],
-        &["replay", "--print", "log"],
-        &["replay", "--print", "log", "--"],
-        &["--print=log", "replay"],
-        &["--print=log", "--", "replay"],
-        &["--print=log", "replay", "--"],
-        &["replay", "--print=log"],
-        &["replay", "--print=log", "--"],
+    let good: [(&[&str], Order); 48] = [
+        (&["replay"], Order::Replay(Form::Log)),
+        (&["--", "replay"], Order::Replay(Form::Log)),
+        (&["replay", "--"], Order::Replay(Form::Log)),
+        // Each form, in both spellings of the option.
+        (&["replay", "--print", "log"], Order::Replay(Form::Log)),
+        (&["replay", "--print=log"], Order::Replay(Form::Log)),
+        (
+            &["replay", "--print", "function"],
+            Order::Replay(Form::Function),
+        ),
+        (
+            &["replay", "--print=function"],
+            Order::Replay(Form::Function),
+        ),
+        (&["replay", "--print", "graph"], Order::Replay(Form::Graph)),
+        (&["replay", "--print=graph"], Order::Replay(Form::Graph)),
+        (
+            &["replay", "--print", "profile"],
+            Order::Replay(Form::Profile),
+        ),
+        (&["replay", "--print=profile"], Order::Replay(Form::Profile)),
+        (
+            &["replay", "--print", "enabled"],
+            Order::Replay(Form::Enabled),
+        ),
+        (&["replay", "--print=enabled"], Order::Replay(Form::Enabled)),
+        // The option before the mode, and each place of `--`.
+        (&["--print", "graph", "replay"], Order::Replay(Form::Graph)),
+        (
+            &["--print", "graph", "--", "replay"],
+            Order::Replay(Form::Graph),
+        ),
+        (
+            &["--print", "graph", "replay", "--"],
+            Order::Replay(Form::Graph),
+        ),
+        (
+            &["replay", "--print", "graph", "--"],
+            Order::Replay(Form::Graph),
+        ),
+        (&["--print=enabled", "replay"], Order::Replay(Form::Enabled)),
+        (
+            &["--print=enabled", "--", "replay"],
+            Order::Replay(Form::Enabled),
+        ),
+        (
+            &["--print=enabled", "replay", "--"],
+            Order::Replay(Form::Enabled),
+        ),
+        (
+            &["replay", "--print=enabled", "--"],
+            Order::Replay(Form::Enabled),
+        ),
+        (&["--print=log", "--", "replay"], Order::Replay(Form::Log)),
+        (&["bulk"], Order::Bulk(1)),
+        (&["--", "bulk"], Order::Bulk(1)),
+        (&["bulk", "--"], Order::Bulk(1)),
+        (&["bulk", "--seed", "7"], Order::Bulk(7)),
+        (&["bulk", "--seed=7"], Order::Bulk(7)),
+        (&["--seed", "7", "bulk"], Order::Bulk(7)),
+        (&["--seed", "7", "--", "bulk"], Order::Bulk(7)),
+        (&["--seed", "7", "bulk", "--"], Order::Bulk(7)),
+        (&["bulk", "--seed", "7", "--"], Order::Bulk(7)),
+        (&["--seed=7", "bulk"], Order::Bulk(7)),
+        (&["--seed=7", "--", "bulk"], Order::Bulk(7)),
+        (&["--seed=7", "bulk", "--"], Order::Bulk(7)),
+        (&["bulk", "--seed=7", "--"], Order::Bulk(7)),
+        // Numbers: the least and the greatest, zeros in front, and as many digits as may be.
+        (&["bulk", "--seed", "0"], Order::Bulk(0)),
+        (&["bulk", "--seed=0"], Order::Bulk(0)),
+        (&["bulk", "--seed", "1"], Order::Bulk(1)),
+        (&["bulk", "--seed", "007"], Order::Bulk(7)),
+        (&["bulk", "--seed=007"], Order::Bulk(7)),
+        (&["bulk", "--seed", "999999999"], Order::Bulk(999_999_999)),
+        (
+            &["bulk", "--seed", "1000000000"],
+            Order::Bulk(1_000_000_000),
+        ),
+        (
+            &["bulk", "--seed", "1234567890"],
+            Order::Bulk(1_234_567_890),
+        ),
+        (&["bulk", "--seed", "0123456789"], Order::Bulk(123_456_789)),
+        (&["bulk", "--seed", "0000000000"], Order::Bulk(0)),
+        (&["bulk", "--seed=0000000001"], Order::Bulk(1)),
+        (
+            &["bulk", "--seed", "4294967295"],
+            Order::Bulk(4_294_967_295),
+        ),
+        (&["bulk", "--seed=4294967295"], Order::Bulk(4_294_967_295)),
     ];
-    for words in good.iter() {
+    for (words, order) in good.iter() {
+        assert_eq!(rt; read_words(rt.alloc(), words), Ok(*order), "{words:?}");
+    }
+}
+
+#[test]
+fn refuses_other_words(rt: HostRuntime) {
+    let bad: [&[&str]; 44] = [
+        &[],
+        &[""],
+        &["frob"],
+        &["run"],
+        &["Replay"],
+        &["repla"],
+        &["Bulk"],
+        &["bulk "],
+        &["--"],
+        &["--print", "log"],
+        &["--seed", "1"],
+        &["-h"],
+        &["--help"],
+        &["replay", "-h"],
+        &["replay", "--help"],
+        &["bulk", "--help"],
+        &["replay", "run"],
+        &["replay", "replay"],
+        &["replay", "bulk"],
+        &["bulk", "bulk"],
+        &["run", "--print", "log"],
+        &["run", "--seed", "1"],
+        &["replay", "--", "replay"],
+        &["replay", "--", "--"],
+        &["--", "replay", "--"],
+        &["--", "bulk", "--"],
+        &["--", "replay", "--print", "log"],
+        &["--", "bulk", "--seed", "1"],
+        &["replay", "--", "--print=log"],
+        &["bulk", "--", "--seed=1"],
+        &["--print", "--", "replay"],
+        &["--seed", "--", "bulk"],
+        &["replay", "--print", "--", "log"],
+        &["bulk", "--seed", "--", "1"],
+        &["replay", "--prin", "log"],
+        &["bulk", "--see", "1"],
+        &["bulk", "-s", "1"],
+        &["replay", "--print=log", "--print=log"],
+        &["replay", "--print", "log", "--print", "graph"],
+        &["bulk", "--seed", "1", "--seed", "2"],
+        &["bulk", "--seed=1", "--seed=1"],
+        &["replay", "--print", "log", "--", "--", "replay"],
+        &["--print", "log", "--", "replay", "--", "--", "--"],
+        &["replay", "a", "b", "c", "d", "e", "f", "g", "h", "i", "j"],
+    ];
+    for words in bad.iter() {
         assert_eq!(rt;
             read_words(rt.alloc(), words),
-            Ok(Order::Replay(Form::Log)),
+            Err(WordsFault::Language),
             "{words:?}"
         );
     }
 }
 
 #[test]
-fn refuses_all_other_words(rt: HostRuntime) {
-    let bad: [&[&str]; 35] = [
-        &[],
-        &[""],
-        &["frob"],
-        &["run"],
-        &["bulk"],
-        &["Replay"],
-        &["repla"],
-        &["--"],
-        &["--print", "log"],
-        &["-h"],
-        &["--help"],
-        &["replay", "-h"],
-        &["replay", "--help"],
-        &["replay", "run"],
-        &["replay", "replay"],
-        &["replay", "--", "replay"],
-        &["replay", "--", "--"],
-        &["--", "replay", "--"],
-        &["--", "replay", "--print", "log"],
-        &["replay", "--", "--print=log"],
-        &["--print", "--", "replay"],
-        &["replay", "--print", "--", "log"],
+fn refuses_other_values(rt: HostRuntime) {
+    let bad: [&[&str]; 36] = [
         &["replay", "--print"],
         &["replay", "--print="],
         &["replay", "--print", ""],
-        &["replay", "--print", "graph"],
+        &["replay", "--print", "xml"],
         &["replay", "--print=xml"],
-        &["replay", "--prin", "log"],
-        &["replay", "--print=log", "--print=log"],
-        &["bulk", "--print", "log"],
-        &["bulk", "--seed", "1", "--seed", "2"],
+        &["replay", "--print", "Log"],
+        &["replay", "--print", "lo"],
+        &["replay", "--print", "logs"],
+        &["replay", "--print=log "],
+        &["replay", "--print==log"],
+        &["replay", "--print", "functions"],
+        &["replay", "--print", "graph,log"],
+        &["replay", "--print", "modules"],
+        &["replay", "--print", "1"],
+        &["bulk", "--seed"],
+        &["bulk", "--seed="],
+        &["bulk", "--seed", ""],
+        &["bulk", "--seed", "+1"],
+        &["bulk", "--seed", "-1"],
+        &["bulk", "--seed=+1"],
+        &["bulk", "--seed=-1"],
+        &["bulk", "--seed", "1 "],
+        &["bulk", "--seed", "0x1"],
+        &["bulk", "--seed", "1_000"],
+        &["bulk", "--seed", "one"],
+        &["bulk", "--seed", "4294967296"],
+        &["bulk", "--seed=4294967296"],
+        &["bulk", "--seed", "9999999999"],
+        &["bulk", "--seed", "00000000001"],
+        &["bulk", "--seed=00000000000"],
+        &["bulk", "--seed", "12345678901"],
+        &["bulk", "--seed", "18446744073709551617"],
+        // An option of the other mode, alone or beside its own.
         &["replay", "--seed", "1"],
-        &["replay", "--print", "log", "--", "--", "replay"],
-        &["--print", "log", "--", "replay", "--", "--", "--"],
-        &["replay", "a", "b", "c", "d", "e", "f", "g", "h", "i", "j"],
+        &["bulk", "--print", "log"],
+        &["replay", "--print", "log", "--seed", "1"],
+        &["bulk", "--print=log", "--seed=1"],
     ];
     for words in bad.iter() {
         assert_eq!(rt;

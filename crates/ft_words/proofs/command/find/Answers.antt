@@ -17,6 +17,9 @@ returns-in-Ok-clause-mode c = c.get_str.ensures ∙ read (app_of c.args.command)
 pub returns-in-Ok-clause-print : goal.returns-in-Ok-clause-print
 returns-in-Ok-clause-print c = c.get_str-in-Ok.ensures ∙ read (app_of c.args.command) (map (λ w. w.now) c.args.words.now) c.in-Ok.matches (codes "print") c.requires c.in-Ok.ensures.matches
 
+pub returns-in-Ok-clause-seed : goal.returns-in-Ok-clause-seed
+returns-in-Ok-clause-seed c = c.get_str-in-Ok-2.ensures ∙ read (app_of c.args.command) (map (λ w. w.now) c.args.words.now) c.in-Ok.matches (codes "seed") c.requires c.in-Ok.ensures.matches
+
 taken_by : (a : App) (words : List Text) → a ≡ app → is_taken words ≡ true → takes a words ≡ true
 unfolding is_taken
 taken_by a words e h = ap (λ b. takes b words) e ∙ h
@@ -25,6 +28,7 @@ pub returns : goal.returns
 returns c = record {
   mode = tt;
   print = tt;
+  seed = tt;
   language = λ _. false_from_ne_true _ (λ taken. c.in_default.not-OutOfMemory (c.kind.ensures
       ∙ c.in-Err.ensures.passes (taken_by (app_of c.args.command) (map (λ w. w.now) c.args.words.now) c.requires taken)));
 }

@@ -1,9 +1,9 @@
-use Rattle.std.proofs.Common.{◌≡◌, ap, sym, ◌∙◌, true≢false, Err}
+use Rattle.std.proofs.Common.{◌≡◌, ap, sym, ◌∙◌, Err}
 use Rattle.std.specs.Option.{option_copied}
 use Rattle.std.proofs.lemmas.Result.{err_from_is_err_and}
 use Rattle.ft_words.specs.declared.order.WordsFault.{WordsFault}
 use Rattle.ft_words.specs.declared.order.WordsFault.TheVariants.{Language}
-use Rattle.ft_words.proofs.Found.{none-not_taken, none-no_mode, none-no_meaning, none-not_spelt}
+use Rattle.ft_words.proofs.Found.{none-not_taken, none-no_mode, none-other_mode, none-no_form, none-no_seed}
 use Rattle.ft_words.proofs.reading.read_words.Goals as goal
 
 pub returns-in_err-found-clause-language : goal.returns-in_err-found-clause-language
@@ -15,13 +15,23 @@ returns-in_err-found-clause-language c = λ e.
 pub returns-in_default-clause-language : goal.returns-in_default-clause-language
 returns-in_default-clause-language c = λ _. none-no_mode _ (sym (ap option_copied c.in_default.is) ∙ c.in_ok-found.ensures.mode)
 
-pub returns-in_default-choose-clause-language : goal.returns-in_default-choose-clause-language
-returns-in_default-choose-clause-language c = λ _.
-    none-no_meaning _ c.in-Some.mode.now (option_copied c.in_ok-found.found.print)
-    (sym (ap option_copied c.in-Some.is) ∙ c.in_ok-found.ensures.mode) c.in_ok-found.ensures.print c.in_default-choose.ensures.none
+pub returns-in_err-read_form-in-replay-clause-language : goal.returns-in_err-read_form-in-replay-clause-language
+returns-in_err-read_form-in-replay-clause-language c = λ e.
+    let p = err_from_is_err_and c.from_residual-in_err-read_form-in-replay.result c.from_residual-in_err-read_form-in-replay.ensures.1 in
+    let same : c.in_err-read_form-in-replay.field-0.0 ≡ Language = cc in
+    none-no_form _ c.in-Some.mode.now (option_copied c.in_ok-found.found.print)
+    (sym (ap option_copied c.in-Some.is) ∙ c.in_ok-found.ensures.mode) c.in-replay.is c.in_ok-found.ensures.print
+    (c.in_err-read_form-in-replay.ensures.language (ap (λ (f : WordsFault). Err f) same))
 
-pub returns-in-Ok-false-clause-language : goal.returns-in-Ok-false-clause-language
-returns-in-Ok-false-clause-language c = λ _.
-    none-not_spelt _ c.in-Some.mode.now (option_copied c.in_ok-found.found.print)
-    (sym (ap option_copied c.in-Some.is) ∙ c.in_ok-found.ensures.mode) c.in_ok-found.ensures.print
-    (λ h. true≢false (sym (c.in-Ok-false.ensures.1 h) ∙ c.in-Ok-false.field-0-test))
+pub returns-in_err-read_seed-in-bulk-clause-language : goal.returns-in_err-read_seed-in-bulk-clause-language
+returns-in_err-read_seed-in-bulk-clause-language c = λ e.
+    let p = err_from_is_err_and c.from_residual-in_err-read_seed-in-bulk.result c.from_residual-in_err-read_seed-in-bulk.ensures.1 in
+    let same : c.in_err-read_seed-in-bulk.field-0.0 ≡ Language = cc in
+    none-no_seed _ c.in-Some.mode.now (option_copied c.in_ok-found.found.seed)
+    (sym (ap option_copied c.in-Some.is) ∙ c.in_ok-found.ensures.mode) c.in-bulk.is c.in_ok-found.ensures.seed
+    (c.in_err-read_seed-in-bulk.ensures.language (ap (λ (f : WordsFault). Err f) same))
+
+pub returns-in_default-mode-clause-language : goal.returns-in_default-mode-clause-language
+returns-in_default-mode-clause-language c = λ _.
+    none-other_mode _ c.in-Some.mode.now (sym (ap option_copied c.in-Some.is) ∙ c.in_ok-found.ensures.mode)
+    c.in_default-mode.not-replay c.in_default-mode.not-bulk
