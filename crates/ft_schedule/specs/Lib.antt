@@ -3,3 +3,4 @@ pub mod Grammar
 pub mod Causes
 pub mod Coming
 pub mod Counts
+pub mod Bulk

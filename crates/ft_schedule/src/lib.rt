@@ -2,12 +2,19 @@
 //! other; an item names control, a CPU or all, and says how often. An item becomes a *turn*, and a
 //! *player* gives the *actors* of the turns, one a step.
 //!
+//! Here is also the *generated script*: a whole script that is drawn from a number, as a load for
+//! tests and measurements ([`bulk_script`]). It has no schedule of its own.
+//!
 //! Proved: which texts are refused and why, the turns of a text, and the actors that a player gives;
-//! and the items are those of a grammar with one rule for each way to write one
-//! ([`grammar_gives_the_item`]). Only tested, in `ft_schedule_tests`: that the items of a long text
-//! are read when there is memory.
+//! the items are those of a grammar with one rule for each way to write one
+//! ([`grammar_gives_the_item`]); and the text of the generated script is the one that its rule says,
+//! line by line, for each number, and within the limit of scripts. Only tested, in
+//! `ft_schedule_tests`: that the items of a long text are read, and a script is generated, when there
+//! is memory; and some lines of generated scripts, as a test of the constants. That a generated
+//! script is accepted isn't proved: nothing here reads scripts.
 #![tactic(auto)]
 
+mod bulk;
 mod causes;
 mod faults;
 mod item;
@@ -15,6 +22,7 @@ mod laws;
 mod player;
 mod schedule;
 
+pub use bulk::bulk_script;
 pub use causes::{has_unknown, is_past_limit, steps_with};
 pub use faults::SchedFault;
 pub use ft_base::{Actor, Turn, Who};
