@@ -1,8 +1,9 @@
 -- A roster keeps its rule while one user changes.
-use Rattle.std.proofs.Common.{cond, ◌≡◌, ℕ, suc, ◌<◌, ◌≤◌, Bool, List, length, set, get_or, is_some, refl, sym, ap, ◌∙◌, subst, arith, inl, inr, length-set, get_or-set_same, get_or-set_other}
+use Rattle.std.proofs.Common.{cond, ◌≡◌, ℕ, suc, ◌<◌, ◌≤◌, Bool, List, length, set, get_or, is_some, refl, sym, ap, ap₂, ◌∙◌, subst, arith, inl, inr, length-set, get_or-set_same, get_or-set_other}
 use Rattle.std.proofs.lemmas.Bool.{cases_eq}
 use Rattle.std.proofs.lemmas.List.{get_or_read}
 use Rattle.ft_base.specs.Marks.{Marks, holds, union, difference}
+use Rattle.ft_base.specs.Desk.{target}
 use Rattle.ipmodify.specs.declared.conflicts.Holder.{Holder}
 use Rattle.site_counts.specs.declared.rows.Row.{Row}
 use Rattle.site_counts.specs.Rows.{row_of}
@@ -10,10 +11,11 @@ use Rattle.ft_desk.specs.declared.user.User.{User}
 use Rattle.ft_desk.specs.declared.roster.Roster.TheInside.{Inside}
 use Rattle.word_map.specs.Instructions.{insn_at}
 use Rattle.ft_desk.specs.Sites.{changed_sites}
-use Rattle.ft_desk.specs.Users.{desk_by, insn_by, no_user, one_at, row_by, sum_over, total_by, user_of}
+use Rattle.ft_desk.specs.Users.{desk_by, insn_by, no_user, one_at, ran_by, row_by, sum_over, total_by, user_of}
 use Rattle.ft_desk.specs.Moves.{moved, moved_row, MayMove, TellsOne, insn_before, insn_after}
 use Rattle.ft_desk.specs.KeptRosters.{IsHeld, IsKept, IsRoom, IsSized, no_holder}
 use Rattle.ft_desk.proofs.SiteLaws.{changed-ext}
+use Rattle.ft_desk.proofs.SumLaws.{ran-is}
 use Rattle.ft_desk.proofs.RosterLaws.{tells-one, SameKind, SameSlots, IsMove, may-move-at, row-moved, total-moved, insn-known, held-after}
 
 moved-rows : (a a' b b' asks changes : Bool) (row row' : Row) → a ≡ a' → b ≡ b' → row ≡ row' → moved_row a b asks changes row ≡ moved_row a' b' asks changes row'
@@ -33,6 +35,10 @@ module _ (r : Inside) (k : IsKept r) (users : List User) (f total : ℕ) (row : 
 
   pub insn-here : insn_by users row.count total ≡ insn_at (desk_by r.users.items) f
   insn-here = ap (λ (us : List User). insn_by us row.count total) eu ∙ insn-known r.users.items r.users.items f row.count total (λ v there. refl) count-is total-is
+
+  -- and what a call of it runs
+  pub ran-here : ran_by users row.count total ≡ target (desk_by r.users.items) f
+  ran-here = ap (λ (us : List User). ran_by us row.count total) eu ∙ ap₂ (ran_by r.users.items) count-is total-is ∙ sym (ran-is r.users.items f)
 
   pub tells-here : TellsOne (length users) row.count total
   tells-here e =

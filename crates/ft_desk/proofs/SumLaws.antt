@@ -1,10 +1,10 @@
 -- Sums over users, and what they tell of the users at a function.
 use Rattle.std.proofs.Common.{cond, ◌≡◌, ℕ, zero, suc, ◌+◌, ◌-◌, ◌*◌, ◌<◌, ◌≤◌, Bool, true, false, List, [], ◌∷◌, length, map, set, get_or, Option, Some, None, is_some, refl, sym, ap, ap₂, ◌∙◌, subst, arith}
 use Rattle.ft_base.specs.declared.item.Ran.TheVariants.{List as ByList, Own}
-use Rattle.ft_base.specs.Desk.{Desk, UserState, user_at, unseen, sited, sited_from, target_by}
+use Rattle.ft_base.specs.Desk.{Desk, UserState, user_at, unseen, sited, sited_from, target, target_by}
 use Rattle.ft_desk.specs.declared.user.User.{User}
 use Rattle.word_map.specs.Instructions.{insn_at, insn_of, insn_of_slot}
-use Rattle.ft_desk.specs.Users.{desk_by, insn_by, is_at, number_at, one_at, state_of, sum_over, total_by, user_of}
+use Rattle.ft_desk.specs.Users.{desk_by, insn_by, is_at, number_at, one_at, ran_by, state_of, sum_over, total_by, user_of}
 
 -- ## one user changes
 
@@ -124,3 +124,18 @@ insn-by-list users (u ∷ v ∷ rest) = refl
 pub insn-is : (users : List User) (f : ℕ) → insn_at (desk_by users) f ≡ insn_by users (sum_over (one_at f) 0 users) (total_by users f)
 unfolding insn_at
 insn-is users f = insn-by-list users (sited (desk_by users) f) ∙ ap₂ (insn_by users) (sited-count (desk_by users) f 0 users) (sited-total (desk_by users) f 0 users)
+
+-- ## what a call runs
+
+-- by a list of those sited
+ran-by-list : (users : List User) (us : List ℕ) → target_by (desk_by users) us ≡ ran_by users (length us) (weigh us)
+ran-by-list users [] = refl
+ran-by-list users (u ∷ []) =
+    let e : (suc u + 0) - 1 ≡ u = omega arith in
+    ap (λ (s : UserState). cond (is_some s.slot) (Own (record { 0 = u })) ByList) (user_at-is users u)
+    ∙ ap (λ k. cond (is_some (user_of users k).slot) (Own (record { 0 = k })) ByList) (sym e)
+ran-by-list users (u ∷ v ∷ rest) = refl
+
+-- by what is counted
+pub ran-is : (users : List User) (f : ℕ) → target (desk_by users) f ≡ ran_by users (sum_over (one_at f) 0 users) (total_by users f)
+ran-is users f = ran-by-list users (sited (desk_by users) f) ∙ ap₂ (ran_by users) (sited-count (desk_by users) f 0 users) (sited-total (desk_by users) f 0 users)

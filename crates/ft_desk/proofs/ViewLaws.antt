@@ -8,7 +8,7 @@ use Rattle.ft_base.specs.declared.user.Half.{Half}
 use Rattle.ft_base.specs.declared.user.Half.TheVariants.{Filter as FilterHalf, Notrace as NotraceHalf}
 use Rattle.ft_base.specs.Marks.{Marks, is_empty}
 use Rattle.ft_base.specs.Job.{Spec, Edit, no_func}
-use Rattle.ft_base.specs.Desk.{Desk, UserState, sited, sited_from, target_by, claim, register_answer, plain_spec, answer_on, edited}
+use Rattle.ft_base.specs.Desk.{Desk, UserState, sited, sited_from, target, target_by, claim, register_answer, plain_spec, answer_on, edited}
 use Rattle.site_counts.specs.Rows.{one_if}
 use Rattle.ft_desk.specs.declared.user.User.{User}
 use Rattle.ft_desk.specs.Declarations.{Declared, job_of}
@@ -47,6 +47,17 @@ insn-with users pids nopids depth f =
     insn-list users pids nopids depth (sited (desk_by users) f)
     ∙ ap (λ us. insn_of (desk_with users pids nopids depth) (target_by (desk_with users pids nopids depth) us))
     (sited-same (desk_by users) (desk_with users pids nopids depth) f 0 (map state_of users))
+
+target-list : (users : List User) (pids nopids : Marks) (depth : ℕ) (us : List ℕ) → target_by (desk_by users) us ≡ target_by (desk_with users pids nopids depth) us
+target-list users pids nopids depth [] = refl
+target-list users pids nopids depth (u ∷ []) = refl
+target-list users pids nopids depth (u ∷ v ∷ rest) = refl
+
+-- and so does what a call runs
+pub target-with : (users : List User) (pids nopids : Marks) (depth f : ℕ) → target (desk_by users) f ≡ target (desk_with users pids nopids depth) f
+target-with users pids nopids depth f =
+    target-list users pids nopids depth (sited (desk_by users) f)
+    ∙ ap (target_by (desk_with users pids nopids depth)) (sited-same (desk_by users) (desk_with users pids nopids depth) f 0 (map state_of users))
 
 -- of those sited, how many pass a test
 sited-filter : (d : Desk) (f from : ℕ) (users : List User) (q : ℕ → Bool) (p : User → Bool)

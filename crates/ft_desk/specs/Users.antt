@@ -1,5 +1,7 @@
 -- The users of a desk as they are kept, and what they mean.
 use Rattle.std.specs.Prelude.{ℕ, zero, suc, ◌+◌, ◌-◌, Bool, true, false, not, ◌&&◌, List, [], ◌∷◌, get_or, map, Option, None, is_some, if◌then◌else◌}
+use Rattle.ft_base.specs.declared.item.Ran.{Ran}
+use Rattle.ft_base.specs.declared.item.Ran.TheVariants.{Nop as RanNop, List as RanList, Own as RanOwn}
 use Rattle.ft_base.specs.declared.number.FuncNo.{FuncNo}
 use Rattle.ft_base.specs.declared.user.Kind.{Kind}
 use Rattle.ft_base.specs.declared.user.Kind.TheVariants.{Function}
@@ -129,3 +131,9 @@ abbrev pub insn_by : List User → ℕ → ℕ → Insn
 insn_by users zero total = Nop
 insn_by users (suc zero) total = insn_of_slot (user_of users (total - 1)).slot
 insn_by users (suc (suc n)) total = CallList
+
+-- what a call of a function runs at which this many users are sited, with this total. If there is one, the total says which
+abbrev pub ran_by : List User → ℕ → ℕ → Ran
+ran_by users zero total = RanNop
+ran_by users (suc zero) total = if is_some (user_of users (total - 1)).slot then RanOwn (record { 0 = total - 1 }) else RanList
+ran_by users (suc (suc n)) total = RanList

@@ -6,7 +6,7 @@ ghost use Rattle.tramp_slots.specs.Holders.{is_free_slot};
 ghost use Rattle.ft_base.specs.declared.limits.TheConstants.{USERS};
 ghost use Rattle.ft_base.specs.declared.item.Answer.TheVariants.{Accepted};
 ghost use Rattle.ft_base.specs.Job.{Register, Unregister, Filter, Notrace, Pid, NoPid, Enable, Disable, MaxDepth};
-ghost use Rattle.ft_base.specs.Desk.{user_at};
+ghost use Rattle.ft_base.specs.Desk.{target, user_at};
 ghost use Rattle.pid_filter.specs.Lists.{tasks_in};
 ghost use Rattle.site_set.specs.Edits.{plain_edit};
 ghost use Rattle.word_map.specs.Shapes.{IsShape};
@@ -21,7 +21,7 @@ use crate::command::Command;
 use crate::plan::Plan;
 use crate::roster::Roster;
 use filter_hash::HashPair;
-use ft_base::{Answer, FuncNo, Half, Kind, NoMemory, UserNo};
+use ft_base::{Answer, FuncNo, Half, Kind, NoMemory, Ran, UserNo};
 use pid_filter::Pids;
 use site_bytes::Insn;
 use site_counts::Row;
@@ -160,6 +160,14 @@ impl Desk {
         ensures { result ≡ insn_at self.now.state f.0 }
     {
         self.roster.insn(f)
+    }
+
+    /// What a call of the function runs: nothing, one user's own trampoline, or the list caller.
+    pub fn ran(&self, f: FuncNo) -> Ran
+        requires { f.0 < self.now.declared.funcs }
+        ensures { result ≡ target self.now.state f.0 }
+    {
+        self.roster.ran(f)
     }
 
     /// How many users are sited at the function, and how many of them get the registers and replace

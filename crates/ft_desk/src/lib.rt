@@ -4,10 +4,8 @@
 //!
 //! Promised: the answer is that of the definition, and so is the desk after it; a refused command
 //! changes nothing. The plan has the values that an accepted command stores, each by its definition,
-//! and names exactly the sites whose instruction changes. Only [`Desk::new`] and the copies take
-//! memory; that it is found is only tested.
-//!
-//! No caller yet: the whole crate.
+//! and names exactly the sites whose instruction changes. [`Desk::ran`] is what a call of a function
+//! runs. Only [`Desk::new`] and the copies take memory; that it is found is only tested.
 #![tactic(auto)]
 
 mod command;

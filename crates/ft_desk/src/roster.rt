@@ -5,7 +5,7 @@ ghost use Rattle.ft_base.specs.declared.limits.TheConstants.{USERS};
 ghost use Rattle.word_map.specs.Instructions.{insn_at};
 ghost use Rattle.ft_desk.specs.Sites.{changed_sites};
 ghost use Rattle.ft_base.specs.Marks.{empty, holds};
-ghost use Rattle.ft_base.specs.Desk.{claim, matches_by};
+ghost use Rattle.ft_base.specs.Desk.{claim, matches_by, target};
 ghost use Rattle.filter_hash.specs.Pair.{size_of};
 ghost use Rattle.site_set.specs.Edits.{plain_edit};
 ghost use Rattle.ipmodify.specs.Conflicts.{conflict_of};
@@ -14,10 +14,10 @@ ghost use Rattle.ft_desk.specs.Users.{declared_as, desk_by, edited_pair, edited_
 ghost use Rattle.ft_desk.specs.Rosters.{claim_of, job_by};
 ghost use Rattle.ft_desk.specs.KeptRosters.{IsRoom, IsSized, no_holder};
 
-use crate::sites::{insn_by, resite};
+use crate::sites::{insn_by, ran_by, resite};
 use crate::user::User;
 use filter_hash::HashPair;
-use ft_base::{Answer, FuncNo, Half, NoMemory, UserNo};
+use ft_base::{Answer, FuncNo, Half, NoMemory, Ran, UserNo};
 use ipmodify::{Holder, check};
 use site_bytes::{Insn, SiteChange};
 use site_counts::{Counts, Row};
@@ -102,6 +102,18 @@ impl Roster {
         ensures { result ≡ insn_at (desk_by self.now.users) f.0 }
     {
         insn_by(
+            self.counts.row(f.0).count,
+            self.totals[f.0 as usize],
+            self.users.as_slice(),
+        )
+    }
+
+    /// What a call of the function runs.
+    pub(crate) fn ran(&self, f: FuncNo) -> Ran
+        requires { f.0 < self.now.funcs }
+        ensures { result ≡ target (desk_by self.now.users) f.0 }
+    {
+        ran_by(
             self.counts.row(f.0).count,
             self.totals[f.0 as usize],
             self.users.as_slice(),

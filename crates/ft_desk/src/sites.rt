@@ -5,14 +5,15 @@
 //! user alone is sited, the total says which.
 
 ghost use Rattle.std.specs.Prelude.{◌≡◌, ℕ, suc, ◌+◌, ◌-◌, ◌≤◌, ◌<◌, ◌^◌, true, [], length, slice_index, is_some, not, false, ◌∷◌, ◌++◌, vec_len, vec_capacity, if◌then◌else◌};
+ghost use Rattle.ft_base.specs.declared.item.Ran.TheVariants.{List as ByList, Own};
 ghost use Rattle.ft_base.specs.Marks.{holds, union, difference};
 ghost use Rattle.site_counts.specs.Rows.{row_of};
 ghost use Rattle.ft_desk.specs.Sites.{changed_sites, same_insn};
-ghost use Rattle.ft_desk.specs.Users.{insn_by, user_of};
+ghost use Rattle.ft_desk.specs.Users.{insn_by, ran_by, user_of};
 ghost use Rattle.ft_desk.specs.Moves.{MayMove, TellsOne, moved, moved_row, insn_before, insn_after};
 
 use crate::user::User;
-use ft_base::{FuncNo, UserNo};
+use ft_base::{FuncNo, Ran, UserNo};
 use ipmodify::Holder;
 use site_bytes::{Insn, SiteChange};
 use site_counts::Counts;
@@ -30,6 +31,30 @@ pub(crate) fn insn_by(count: u32, total: u32, users: &[User]) -> Insn
             None => Insn::List,
         },
         _ => Insn::List,
+    }
+}
+
+/// What a call of a function runs at which this many users are sited, with this total.
+pub(crate) fn ran_by(count: u32, total: u32, users: &[User]) -> Ran
+    requires { TellsOne (length users.now) count total }
+    ensures { result ≡ ran_by users.now count total }
+{
+    match count {
+        0 => Ran::Nop,
+        1 => ran_alone(UserNo(total - 1), users),
+        _ => Ran::List,
+    }
+}
+
+/// What a call of a function runs at which this user alone is sited.
+fn ran_alone(user: UserNo, users: &[User]) -> Ran
+    requires { user.0 < length users.now }
+    ensures { result ≡ (if is_some (user_of users.now user.0).slot then Own user else ByList) }
+{
+    if users[user.0 as usize].slot.is_some() {
+        Ran::Own(user)
+    } else {
+        Ran::List
     }
 }
 
