@@ -18,6 +18,16 @@ pid-on n c (t ∷ ts) =
       | false ↦ pid-on n c ts
     ]
 
+-- the CPU of a task that is found on one is that one
+cpu-on : (n c : ℕ) (ts : List DeclaredTask) → is_some (found_on n c ts) ≡ true → option_map (λ t. t.cpu) (found_on n c ts) ≡ Some c
+cpu-on n c [] = λ e. false_true e
+cpu-on n c (t ∷ ts) =
+    elim (t.task == n) as (λ b. is_some (cond b (Some (record { pid = t.pid; cpu = c; acts = t.acts })) (found_on n c ts)) ≡ true
+    → option_map (λ u. u.cpu) (cond b (Some (record { pid = t.pid; cpu = c; acts = t.acts })) (found_on n c ts)) ≡ Some c) [
+      | true ↦ λ e. refl
+      | false ↦ cpu-on n c ts
+    ]
+
 some-map : {A B : Type 0} (f : A → B) (o : Option A) → is_some (option_map f o) ≡ is_some o
 some-map f None = refl
 some-map f (Some a) = refl
@@ -44,6 +54,11 @@ module _ (cpus : List CpuPlan) (n i : ℕ) (x : CpuPlan) (so : found_in n i (map
     -- the task is on this CPU
     pub found-here : is_some o ≡ true → o ≡ option_map (λ t. t.pid) (found_in n 0 (map cpu_of cpus))
     found-here some = sym here ∙ ap (λ (p : Option Task). option_map (λ t. t.pid) p) (sym (cut ∙ first-some _ _ (there ∙ some)))
+
+    -- so its CPU is this one
+    pub cpu-here : is_some o ≡ true → Some i ≡ option_map (λ t. t.cpu) (found_in n 0 (map cpu_of cpus))
+    cpu-here some =
+        sym (cpu-on n i (map task_of x.tasks.items) (there ∙ some)) ∙ ap (λ (p : Option Task). option_map (λ t. t.cpu) p) (sym (cut ∙ first-some _ _ (there ∙ some)))
 
     -- or on a later one
     pub found-later : is_some o ≡ false → found_in n (i + 1) (map cpu_of (drop (i + 1) cpus)) ≡ found_in n 0 (map cpu_of cpus)

@@ -73,3 +73,8 @@ module _ (p : JobParts) (j : Job) (e : job_of (parts_of p) ≡ j) where
     pub seen-pid : (cpus : List CpuPlan) → cpus ≡ p.cpus.items → (n : ℕ) (o : Option ℕ) → o ≡ option_map (λ t. t.pid) (found_in n 0 (map cpu_of cpus))
         → o ≡ option_map (λ t. t.pid) (slice_get j.tasks n)
     seen-pid cpus is n o h = (rw is at h) ∙ ap (λ (t : Option Task). option_map (λ u. u.pid) t) (seen-found n)
+
+    -- and its CPU
+    pub seen-cpu : (cpus : List CpuPlan) → cpus ≡ p.cpus.items → (n : ℕ) (o : Option ℕ) → o ≡ option_map (λ t. t.cpu) (found_in n 0 (map cpu_of cpus))
+        → o ≡ option_map (λ t. t.cpu) (slice_get j.tasks n)
+    seen-cpu cpus is n o h = (rw is at h) ∙ ap (λ (t : Option Task). option_map (λ u. u.cpu) t) (seen-found n)

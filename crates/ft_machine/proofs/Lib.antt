@@ -3,6 +3,7 @@ pub mod FindLaws
 pub mod JobLaws
 pub mod OnCpu
 pub mod Declared
+pub mod DeskLaws
 pub mod MachineLaws
 pub mod PlayLaws
 pub mod Replays

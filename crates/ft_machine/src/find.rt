@@ -2,11 +2,12 @@
 //! look-up by number scans at most 8 CPUs.
 
 ghost use Rattle.std.specs.Prelude.{◌≡◌, ◌≤◌, map, length, sum_by, option_map};
+ghost use Rattle.ft_base.specs.declared.limits.TheConstants.{CPUS};
 ghost use Rattle.user_specs.specs.Plain.{task_of, cpu_of};
 ghost use Rattle.ft_machine.specs.Parts.{found_on, found_in};
 
-use ft_base::TaskNo;
 use ft_base::limits::TASKS;
+use ft_base::{CpuNo, TaskNo};
 use user_specs::{CpuPlan, TaskPlan};
 
 /// How many tasks the CPUs have.
@@ -41,6 +42,19 @@ pub(crate) fn find(cpus: &[CpuPlan], task: TaskNo) -> Option<&TaskPlan>
         let found = find_on(cpu.tasks.as_slice(), task);
         if found.is_some() {
             return found;
+        }
+    }
+    None
+}
+
+/// The CPU that has the task of this number.
+pub(crate) fn find_cpu(cpus: &[CpuPlan], task: TaskNo) -> Option<CpuNo>
+    requires { length cpus.now ≤ CPUS }
+    ensures { option_map (λ c. c.0) result ≡ option_map (λ t. t.cpu) (found_in task.0 0 (map cpu_of cpus.now)) }
+{
+    for (number, cpu) in cpus.iter().enumerate() {
+        if find_on(cpu.tasks.as_slice(), task).is_some() {
+            return Some(CpuNo(number as u32));
         }
     }
     None

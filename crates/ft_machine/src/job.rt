@@ -1,16 +1,21 @@
 //! A job: what a script declares.
 
-ghost use Rattle.std.specs.Prelude.{◌≡◌, map, length, slice_get, option_map, IfOk};
+ghost use Rattle.std.specs.Prelude.{◌≡◌, ℕ, map, length, slice_get, option_map, All, IfOk};
+ghost use Rattle.ft_base.specs.Desk.{desk};
+ghost use Rattle.ft_base.specs.Job.{Job as PlainJob, funcs};
 ghost use Rattle.user_specs.specs.Plain.{spec_of, cpu_of};
-ghost use Rattle.control_core.specs.Lines.{lines_of};
+ghost use Rattle.ft_desk.specs.Declarations.{IsOf, job_of as job_of_desk};
+ghost use Rattle.ft_desk.specs.Seen.{opened};
+ghost use Rattle.ft_desk.specs.Sites.{row_at};
+ghost use Rattle.control_core.specs.Lines.{IsLineIn, lines_of};
 ghost use Rattle.word_map.specs.Shapes.{shape_of};
 ghost use Rattle.word_machine.specs.Limits.{IsLimited};
 ghost use Rattle.word_machine.specs.Machine.{start};
 ghost use Rattle.machine_core.specs.Worlds.{IsFor, world_of};
 ghost use Rattle.ft_machine.specs.Parts.{parts_of, quanta_of, cpus_from, IsWithin, job_of};
 
-use crate::find::{count, find};
-use ft_base::{NoMemory, TaskNo};
+use crate::find::{count, find, find_cpu};
+use ft_base::{CpuNo, NoMemory, TaskNo};
 use ft_desk::{Ctl, Desk};
 use ft_schedule::Schedule;
 use func_table::FuncTable;
@@ -82,6 +87,14 @@ impl Job {
         self.parts.specs.as_slice()
     }
 
+    /// How many users there are. A job is within the limits of `ft_base::limits`.
+    pub fn users(&self) -> u32
+        ensures count { result ≡ length self.now.users }
+        ensures limited { IsLimited self.now }
+    {
+        self.parts.specs.len() as u32
+    }
+
     /// How many frames each task's shadow stack has.
     #[tactic(auto, unfolding(crate::specs::Parts::job_of))]
     pub fn frames(&self) -> u32
@@ -133,6 +146,25 @@ impl Job {
         }
     }
 
+    /// The CPU of the task of this number. `None` exactly if there is no such task.
+    pub fn cpu(&self, task: TaskNo) -> Option<CpuNo>
+        ensures { option_map (λ c. c.0) result ≡ option_map (λ t. t.cpu) (slice_get self.now.tasks task.0) }
+    {
+        find_cpu(self.parts.cpus.as_slice(), task)
+    }
+
+    /// The desk after the first `k` commands of the job, or after all of them if there are fewer. The
+    /// error says that memory ran out.
+    pub fn desk(&self, alloc: Global, k: u32) -> Result<Desk, NoMemory>
+        ensures state { IfOk result (λ d. d.state ≡ desk self.now k) }
+        ensures funcs { IfOk result (λ d. d.declared.funcs ≡ funcs self.now) }
+        ensures rows { IfOk result (λ d. (f : ℕ) → row_at (job_of_desk d.declared) d.state f ≡ row_at self.now (desk self.now k) f) }
+    {
+        let mut desk = Desk::new(alloc, self.parts.specs.as_slice(), self.shape())?;
+        plan_first(&mut desk, self.parts.ctls.as_slice(), k);
+        Ok(desk)
+    }
+
     /// How many tasks there are, over all CPUs.
     pub fn tasks(&self) -> u32
         ensures { result ≡ length self.now.tasks }
@@ -171,5 +203,24 @@ impl Job {
             parts.frames,
             WordMap::new(shape),
         )
+    }
+}
+
+/// Plans the first `k` commands among these lines on a desk that was just made, or all of them if
+/// there are fewer.
+fn plan_first(present: &mut Desk, ctls: &[Ctl], k: u32)
+    requires opened { present.old ≡ opened present.old.declared }
+    requires lines { All (IsLineIn present.old.declared) ctls.now }
+    ensures declared { present.new.declared ≡ present.old.declared }
+    ensures state { (job : PlainJob) → IsOf job present.old.declared → lines_of present.old.declared.tasks ctls.now ≡ job.ctls
+        → present.new.state ≡ desk job k }
+{
+    for line in ctls {
+        if present.commands() == k {
+            return;
+        }
+        if let Ctl::Run(command) = line {
+            present.plan(command);
+        }
     }
 }

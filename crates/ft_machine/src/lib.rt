@@ -5,7 +5,8 @@
 //!
 //! Promised: after any steps a machine's state is that of the word machine, which `word_machine`
 //! defines; its history is legal at every moment, and whole once every actor is at its end; each call
-//! site is whole; a step takes no memory. A replay is a run of a beginning of its schedule's actors. Out of memory is the only fault.
+//! site is whole; a step takes no memory. A replay is a run of a beginning of its schedule's actors.
+//! [`Job::desk`] is the desk after the first commands of a job. Out of memory is the only fault.
 //!
 //! Only tested, in the crate `ft_machine_tests`: that a job isn't refused for its size.
 #![tactic(auto)]

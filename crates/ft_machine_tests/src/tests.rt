@@ -3,9 +3,9 @@
 mod histories;
 mod jobs;
 
-use ft_base::{Actor, CpuNo, Item, TaskNo};
+use ft_base::{Actor, CpuNo, Item, NoMemory, TaskNo};
 use ft_hist::History;
-use ft_machine::{Machine, replay};
+use ft_machine::{Job, Machine, replay};
 use histories::{THIRD_FIRST, WHOLE};
 use jobs::{D, busy_job, empty_job};
 use std::alloc::Global;
@@ -156,5 +156,29 @@ fn holds_its_parts(rt: HostRuntime) -> Result<(), Fail> {
     assert_eq!(rt; job.tasks(), 4);
     assert_eq!(rt; job.pid(TaskNo(2)), Some(12));
     assert_eq!(rt; job.pid(TaskNo(4)), None);
+    assert_eq!(rt; job.cpu(TaskNo(2)), Some(CpuNo(2)));
+    assert_eq!(rt; job.cpu(TaskNo(4)), None);
+    Ok(())
+}
+
+/// How many users are sited at `d` after the first `k` commands.
+fn sited_at_d(alloc: Global, job: &Job, k: u32) -> Result<Option<u32>, NoMemory> {
+    let desk = job.desk(alloc, k)?;
+    if D.0 < desk.functions() {
+        Ok(Some(desk.row(D).count))
+    } else {
+        Ok(None)
+    }
+}
+
+#[test]
+fn has_a_desk_after_each_command(rt: HostRuntime) -> Result<(), Fail> {
+    let alloc = rt.alloc();
+    let job = busy_job(alloc, "")?;
+    // The second and the fourth of the four commands are refused.
+    let rows = [(0, 0), (1, 1), (2, 1), (3, 0), (4, 0), (9, 0)];
+    for (k, users) in rows {
+        assert_eq!(rt; sited_at_d(alloc, &job, k)?, Some(users), "{k}");
+    }
     Ok(())
 }
