@@ -1,7 +1,2 @@
-pub mod Lookups
-pub mod LogLines
-pub mod LogSamples
-pub mod LogWords
-pub mod LogReads
-pub mod LogTells
 pub mod Replies
+pub mod Orders

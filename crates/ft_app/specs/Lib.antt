@@ -1,5 +1,3 @@
-pub mod LogText
-pub mod LogItems
 pub mod Status
 pub mod Reply
 pub mod Main

@@ -1,11 +1,13 @@
 -- What the top call promises, status by status.
-use Rattle.std.specs.Prelude.{ℕ, ◌≡◌, ◌≤◌, ◌⊎◌, List, Option, length}
+use Rattle.std.specs.Prelude.{ℕ, ◌≡◌, ◌≤◌, ◌⊎◌, List, Option, Some, length}
 use Rattle.std.specs.Io.KnownBytes.{Consumes, Appends, IsAtEnd}
 use Rattle.ft_base.specs.declared.limits.TheConstants.{INPUT_BYTES}
 use Rattle.ft_base.specs.Job.{Job}
 use Rattle.ft_io.specs.Causes.{AppendsFront}
 use Rattle.ft_words.specs.declared.order.Order.{Order}
+use Rattle.ft_words.specs.declared.order.Order.TheVariants.{Replay, Bulk}
 use Rattle.ft_words.specs.Language.{Gives}
+use Rattle.ft_schedule.specs.Bulk.{bulk_text}
 use Rattle.ft_script.specs.declared.faults.ScriptFault.{ScriptFault}
 use Rattle.ft_script.specs.Script.{IsJobOf, IsRefusalOf}
 use Rattle.ft_app.specs.declared.status.Status.{Status}
@@ -17,22 +19,36 @@ use Rattle.ft_app.specs.Reply.{IsReplyTo, IsSound, replay_text, refusal_text}
 abbrev pub IsLanguage : List (List ℕ) → Type 0
 IsLanguage words = (order : Order) × Gives words order
 
+-- ## the script of an order
+
 -- a source was read to its end, and gave this text, which isn't too long
 pub record ReadWhole (remaining remaining' : Option (List ℕ)) (script : List ℕ) : Type 0 where
   pub all : Consumes remaining remaining' script
   pub end : IsAtEnd remaining'
   pub short : length script ≤ INPUT_BYTES
 
--- the text of the replay of a job was appended, and that replay's history is legal
-pub record HasReplayed (job : Job) (holds holds' : Option (List ℕ)) : Type 0 where
-  pub written : Appends holds holds' (replay_text job)
+-- the script came from the source, which was read to its end; or it was generated, and the source stays as it was
+abbrev pub Gets : Order → (remaining remaining' : Option (List ℕ)) → List ℕ → Type 0
+Gets (Replay form) remaining remaining' script = ReadWhole remaining remaining' script
+Gets (Bulk n) remaining remaining' script = (script ≡ bulk_text n) × (remaining' ≡ remaining)
+
+-- the script that is to come: all that the source tells, if that isn't too long, or the generated one
+abbrev pub IsToGet : Order → Option (List ℕ) → List ℕ → Type 0
+IsToGet (Replay form) remaining script = (remaining ≡ Some script) × (length script ≤ INPUT_BYTES)
+IsToGet (Bulk n) remaining script = script ≡ bulk_text n
+
+-- ## what is written for it
+
+-- what the order prints of the replay of a job was appended, and that replay's history is legal
+pub record HasReplayed (order : Order) (job : Job) (holds holds' : Option (List ℕ)) : Type 0 where
+  pub written : Appends holds holds' (replay_text order job)
   pub sound : IsSound job
 
--- the text is a script, and the text of its job's replay was appended
-pub record IsPlayed (script : List ℕ) (holds holds' : Option (List ℕ)) : Type 0 where
+-- the text is a script, and what the order prints of its job's replay was appended
+pub record IsPlayed (order : Order) (script : List ℕ) (holds holds' : Option (List ℕ)) : Type 0 where
   pub job : Job
   pub accepted : IsJobOf script job
-  pub replayed : HasReplayed job holds holds'
+  pub replayed : HasReplayed order job holds holds'
 
 -- the text is refused as a script, and the line that says where and why was appended
 pub record IsRefused (script : List ℕ) (holds holds' : Option (List ℕ)) : Type 0 where
@@ -41,32 +57,35 @@ pub record IsRefused (script : List ℕ) (holds holds' : Option (List ℕ)) : Ty
   pub written : Appends holds holds' (refusal_text fault)
 
 -- a beginning of the reply to a script was appended
-pub record IsBegun (script : List ℕ) (holds holds' : Option (List ℕ)) : Type 0 where
+pub record IsBegun (order : Order) (script : List ℕ) (holds holds' : Option (List ℕ)) : Type 0 where
   pub status : Status
   pub text : List ℕ
-  pub is_reply : IsReplyTo script status text
+  pub is_reply : IsReplyTo order script status text
   pub front : AppendsFront holds holds' text
 
--- status 0: the source was read to its end, and its bytes were played
-pub record HasRun (remaining remaining' holds holds' : Option (List ℕ)) : Type 0 where
-  pub script : List ℕ
-  pub read : ReadWhole remaining remaining' script
-  pub played : IsPlayed script holds holds'
+-- ## the statuses
 
--- status 3: the source was read to its end, and its bytes were refused
-pub record HasRefused (remaining remaining' holds holds' : Option (List ℕ)) : Type 0 where
+-- status 0: the order's script was played
+pub record HasRun (order : Order) (remaining remaining' holds holds' : Option (List ℕ)) : Type 0 where
   pub script : List ℕ
-  pub read : ReadWhole remaining remaining' script
+  pub read : Gets order remaining remaining' script
+  pub played : IsPlayed order script holds holds'
+
+-- status 3: the order's script was refused
+pub record HasRefused (order : Order) (remaining remaining' holds holds' : Option (List ℕ)) : Type 0 where
+  pub script : List ℕ
+  pub read : Gets order remaining remaining' script
   pub refused : IsRefused script holds holds'
 
--- status 5: the source was read to its end, and a beginning of the text or of the line was appended
-pub record HasBegun (remaining remaining' holds holds' : Option (List ℕ)) : Type 0 where
+-- status 5: a beginning of the text or of the line was appended
+pub record HasBegun (order : Order) (remaining remaining' holds holds' : Option (List ℕ)) : Type 0 where
   pub script : List ℕ
-  pub read : ReadWhole remaining remaining' script
-  pub begun : IsBegun script holds holds'
+  pub read : Gets order remaining remaining' script
+  pub begun : IsBegun order script holds holds'
 
--- a script is answered with status 0 and the text of its replay, and any other text with status 3 and the line of its refusal, unless memory is out
-pub record Answers (script : List ℕ) (status : ℕ) (holds holds' : Option (List ℕ)) : Type 0 where
-  pub replayed : (job : Job) → IsJobOf script job → ((status ≡ code_of Done) × HasReplayed job holds holds') ⊎ (status ≡ code_of NoMemory)
+-- a script is answered with status 0 and what the order prints of its replay, and any other text with status 3 and the line of its
+-- refusal, unless memory is out
+pub record Answers (order : Order) (script : List ℕ) (status : ℕ) (holds holds' : Option (List ℕ)) : Type 0 where
+  pub replayed : (job : Job) → IsJobOf script job → ((status ≡ code_of Done) × HasReplayed order job holds holds') ⊎ (status ≡ code_of NoMemory)
   pub refused : (fault : ScriptFault) → IsRefusalOf script fault
       → ((status ≡ code_of Refused) × Appends holds holds' (refusal_text fault)) ⊎ (status ≡ code_of NoMemory)

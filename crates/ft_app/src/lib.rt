@@ -1,23 +1,23 @@
 //! The top call: the command's *words* and a script's bytes come in, and a text and a *status* go
 //! out.
 //!
-//! The script is read to its end, its job is replayed, and the text of the replay's history is
-//! written; or the line is written that says where the script is refused, and why. That text or
-//! line is the *reply* to the script.
+//! The words give an *order*. Its script is read to its end, or generated; its job is replayed, and
+//! what the order prints of the replay's history is written; or the line is written that says where
+//! the script is refused, and why. That text or line is the *reply* to the script.
 //!
 //! Proved, for every source and sink: each status says what was read and written, and comes only
-//! for its reason; with status 0 the text is that of the replay of the script's job, whose history
-//! is legal, and whole if the text ends with `end`; and if nothing outside goes wrong, a script is
-//! answered with status 0 and any other text with status 3, unless memory is out. A text tells the
-//! history that it was written for ([`laws`]). Only tested, in `ft_app_tests`: that memory is found
-//! if there is some.
+//! for its reason; with status 0 the text is what the order prints of the replay of the script's
+//! job, whose history is legal, and whole if the text ends with `end`; and if nothing outside goes
+//! wrong, a script is answered with status 0 and any other text with status 3, unless memory is out.
+//! A log tells the history that it was written for (`trace_print::laws`). Only tested, in
+//! `ft_app_tests`: that memory is found if there is some, and that generated scripts are accepted.
 #![tactic(auto)]
 
-pub mod laws;
-mod log_text;
+mod plain;
 mod reply;
 pub mod status;
 mod top;
 
 pub use ft_words::{Form, Order, WordsFault, read_words};
+pub use plain::ft_plain;
 pub use top::ft_main;

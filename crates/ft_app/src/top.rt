@@ -2,21 +2,22 @@
 
 ghost use Rattle.std.specs.Prelude.{◌≡◌, ◌≢◌, ◌≤◌, ◌⊎◌, ℕ, List, length, map, Some};
 ghost use Rattle.ft_io.specs.Causes.{Rose, GaveMore, GaveAtMost};
+ghost use Rattle.ft_words.specs.declared.order.Order.{Order};
+ghost use Rattle.ft_words.specs.declared.order.Order.TheVariants.{Bulk};
+ghost use Rattle.ft_words.specs.Language.{Gives};
 ghost use Rattle.ft_app.specs.declared.status.Status.{Status};
 ghost use Rattle.ft_app.specs.Status.{code_of};
-ghost use Rattle.ft_app.specs.Main.{IsLanguage, HasRun, HasRefused, HasBegun, Answers};
+ghost use Rattle.ft_app.specs.Main.{IsLanguage, IsToGet, HasRun, HasRefused, HasBegun, Answers};
 
-use crate::reply::reply_to;
+use crate::plain::ft_plain;
 use crate::status::Status;
-use ft_base::NoMemory;
 use ft_base::limits::INPUT_BYTES;
-use ft_io::{Gate, ReadFail, Sink, Source, WriteFail, read_all, write_all};
-use ft_words::{Form, Order, WordsFault, read_words};
+use ft_io::{Gate, Sink, Source};
+use ft_words::{WordsFault, read_words};
 use std::alloc::Global;
 
-/// Reads a script from the source, replays it and writes the text of its history to the sink; or
-/// writes the line that says where the script is refused, and why. The words are the command's,
-/// without the program's name; the gate is for running threads.
+/// Reads the order that the words give, and carries it out, as [`ft_plain`] says. The words are the
+/// command's, without the program's name; the gate is for running threads.
 ///
 /// It gives the number of its [`Status`], and writes nothing elsewhere. The steps come in this
 /// order: words, read, script, memory for the replay, write. `NoMemory` may come in place of any
@@ -37,20 +38,28 @@ pub fn ft_main<S: Source, K: Sink, G: Gate>(
         → (result ≡ code_of Status.Language) ⊎ (result ≡ code_of Status.NoMemory) }
     ensures unread { result ≡ code_of Status.Language → source.new ≡ source.old }
 
-    // The text of the replay of the script's job, whose history is legal; the line of its refusal.
-    ensures run { result ≡ code_of Status.Done
-        → HasRun (S.remaining source.old) (S.remaining source.new)
+    // The words give an order. What it prints of the replay of the script's job, whose history is
+    // legal; the line of its refusal.
+    ensures run { result ≡ code_of Status.Done → (order : Order)
+        × Gives (map (λ word. word.now) words.now) order
+        × HasRun order (S.remaining source.old) (S.remaining source.new)
         (K.holds sink.old) (K.holds sink.new) }
-    ensures refused { result ≡ code_of Status.Refused
-        → HasRefused (S.remaining source.old) (S.remaining source.new)
+    ensures refused { result ≡ code_of Status.Refused → (order : Order)
+        × Gives (map (λ word. word.now) words.now) order
+        × HasRefused order (S.remaining source.old) (S.remaining source.new)
         (K.holds sink.old) (K.holds sink.new) }
+
+    // A generated script isn't read.
+    ensures generated { (n : ℕ) → Gives (map (λ word. word.now) words.now) (Bulk n)
+        → source.new ≡ source.old }
 
     ensures read_fault { result ≡ code_of Status.ReadFault
         → Rose (S.faults source.old) (S.faults source.new) }
     ensures write_fault { result ≡ code_of Status.WriteFault
         → Rose (K.faults sink.old) (K.faults sink.new) }
-    ensures begun { result ≡ code_of Status.WriteFault
-        → HasBegun (S.remaining source.old) (S.remaining source.new)
+    ensures begun { result ≡ code_of Status.WriteFault → (order : Order)
+        × Gives (map (λ word. word.now) words.now) order
+        × HasBegun order (S.remaining source.old) (S.remaining source.new)
         (K.holds sink.old) (K.holds sink.new) }
 
     // Status 7 comes exactly if one byte more than the limit was given.
@@ -63,31 +72,17 @@ pub fn ft_main<S: Source, K: Sink, G: Gate>(
         → result ≢ code_of Status.WriteFault → sink.new ≡ sink.old }
 
     // If nothing outside goes wrong, a script is replayed and any other text is refused.
-    ensures complete { IsLanguage (map (λ word. word.now) words.now)
+    ensures complete { (order : Order) → Gives (map (λ word. word.now) words.now) order
         → ¬ Rose (S.faults source.old) (S.faults source.new)
         → ¬ Rose (K.faults sink.old) (K.faults sink.new)
-        → (script : List ℕ) → S.remaining source.old ≡ Some script → length script ≤ INPUT_BYTES
-        → Answers script result (K.holds sink.old) (K.holds sink.new) }
+        → (script : List ℕ) → IsToGet order (S.remaining source.old) script
+        → Answers order script result (K.holds sink.old) (K.holds sink.new) }
 {
     // Nothing runs at the same time yet, so nothing passes the gate: threads come later.
     let _ = gate;
     match read_words(alloc, words) {
-        Ok(Order::Replay(Form::Log)) => {}
-        Err(WordsFault::Language) => return Status::Language.code(),
-        Err(WordsFault::NoMemory) => return Status::NoMemory.code(),
-    }
-    let script = match read_all(alloc, source) {
-        Ok(script) => script,
-        Err(ReadFail::Fault) => return Status::ReadFault.code(),
-        Err(ReadFail::TooLong) => return Status::TooLong.code(),
-        Err(ReadFail::NoMemory) => return Status::NoMemory.code(),
-    };
-    let reply = match reply_to(alloc, &script) {
-        Ok(reply) => reply,
-        Err(NoMemory) => return Status::NoMemory.code(),
-    };
-    match write_all(sink, reply.text.as_bytes()) {
-        Ok(()) => reply.status.code(),
-        Err(WriteFail) => Status::WriteFault.code(),
+        Ok(order) => ft_plain(alloc, &order, source, sink),
+        Err(WordsFault::Language) => Status::Language.code(),
+        Err(WordsFault::NoMemory) => Status::NoMemory.code(),
     }
 }

@@ -2,6 +2,7 @@
 
 ghost use Rattle.std.specs.Prelude.{◌≤◌};
 
+mod forms;
 mod refusals;
 mod scripts;
 
@@ -91,7 +92,7 @@ fn words_of_the_language(rt: HostRuntime) -> Result<(), Fail> {
 #[test]
 fn other_words(rt: HostRuntime) -> Result<(), Fail> {
     let alloc = rt.alloc();
-    let bad: [&[&str]; 11] = [
+    let bad: [&[&str]; 13] = [
         &["frob"],
         &[],
         &["replay", "run"],
@@ -99,7 +100,9 @@ fn other_words(rt: HostRuntime) -> Result<(), Fail> {
         &["replay", "--print=xml"],
         &["replay "],
         &["run"],
-        &["replay", "--print", "graph"],
+        &["replay", "--seed", "1"],
+        &["bulk", "--seed", "1", "--seed", "2"],
+        &["bulk", "--seed", "4294967296"],
         &["replay", "--print", "log", "--print", "log"],
         &["--help"],
         &["-h"],

@@ -6,6 +6,7 @@
 #![tactic(auto)]
 
 ghost use Rattle.std.specs.Prelude.{◌≡◌, ◌≢◌};
+ghost use Rattle.ft_words.specs.declared.order.Order.{Order};
 ghost use Rattle.ft_app.specs.Status.{code_of};
 ghost use Rattle.ft_app.specs.Main.{HasRun, HasRefused, HasBegun};
 
@@ -26,13 +27,13 @@ fn main(rt: HostRuntime) -> ExitCode {
 /// Calls the top call with the arguments after the program's name. Nothing goes to standard error.
 fn run<R: Env + AllocGlobal, S: Source, K: Sink>(rt: &R, source: &mut S, sink: &mut K) -> u8
     ensures run { result ≡ code_of Status.Done
-        → HasRun (S.remaining source.old) (S.remaining source.new)
+        → (order : Order) × HasRun order (S.remaining source.old) (S.remaining source.new)
         (K.holds sink.old) (K.holds sink.new) }
     ensures refused { result ≡ code_of Status.Refused
-        → HasRefused (S.remaining source.old) (S.remaining source.new)
+        → (order : Order) × HasRefused order (S.remaining source.old) (S.remaining source.new)
         (K.holds sink.old) (K.holds sink.new) }
     ensures begun { result ≡ code_of Status.WriteFault
-        → HasBegun (S.remaining source.old) (S.remaining source.new)
+        → (order : Order) × HasBegun order (S.remaining source.old) (S.remaining source.new)
         (K.holds sink.old) (K.holds sink.new) }
     ensures nothing { result ≢ code_of Status.Done → result ≢ code_of Status.Refused
         → result ≢ code_of Status.WriteFault → sink.new ≡ sink.old }

@@ -1,5 +1,0 @@
-use Rattle.ft_app.proofs.LogTells.{same-text}
-use Rattle.ft_app.proofs.laws.log_tells_its_history.Goals as goal
-
-pub returns : goal.returns
-returns c = λ job a b x y apart. same-text job apart a b x y

@@ -1,0 +1,28 @@
+use Rattle.std.proofs.Common.{ap, Err, ◌∙◌}
+use Rattle.ft_app.proofs.Orders.{not-too-long, has_run, has_refused, answers}
+use Rattle.ft_app.proofs.plain.ft_plain.Goals as goal
+
+-- ## a source that gives too much
+
+pub returns-in-Err-TooLong-clause-complete : goal.returns-in-Err-TooLong-clause-complete
+returns-in-Err-TooLong-clause-complete g c = λ _ _ script is_to_get.
+    absurd (not-too-long c.args.order.now _ _ script is_to_get
+    (c.script_for.ensures.too_long (c.in-Err-TooLong.is ∙ ap (λ f. Err f) c.in-Err-TooLong.field-0-is))
+    (λ n e. c.script_for.ensures.never_long n e (c.in-Err-TooLong.is ∙ ap (λ f. Err f) c.in-Err-TooLong.field-0-is)))
+
+-- ## the reply was written in full
+
+pub returns-in-Ok-write_all-clause-run : goal.returns-in-Ok-write_all-clause-run
+returns-in-Ok-write_all-clause-run g c =
+    has_run c.args.order.now _ _ _ _ c.in-Ok.script.items _ _ _ c.in-Ok-reply_to.reply.status _
+    c.in-Ok.ensures.gets c.deref.ensures.value c.in-Ok-reply_to.ensures c.code-in-Ok-write_all.ensures c.as_slice.ensures.value c.in-Ok-write_all.ensures.all
+
+pub returns-in-Ok-write_all-clause-refused : goal.returns-in-Ok-write_all-clause-refused
+returns-in-Ok-write_all-clause-refused g c =
+    has_refused c.args.order.now _ _ _ _ c.in-Ok.script.items _ _ _ c.in-Ok-reply_to.reply.status _
+    c.in-Ok.ensures.gets c.deref.ensures.value c.in-Ok-reply_to.ensures c.code-in-Ok-write_all.ensures c.as_slice.ensures.value c.in-Ok-write_all.ensures.all
+
+pub returns-in-Ok-write_all-clause-complete : goal.returns-in-Ok-write_all-clause-complete
+returns-in-Ok-write_all-clause-complete g c = λ _ _ told is_told.
+    answers c.args.order.now _ _ _ _ c.in-Ok.script.items _ _ _ c.in-Ok-reply_to.reply.status _
+    c.in-Ok.ensures.gets c.deref.ensures.value c.in-Ok-reply_to.ensures c.code-in-Ok-write_all.ensures c.as_slice.ensures.value c.in-Ok-write_all.ensures.all told is_told

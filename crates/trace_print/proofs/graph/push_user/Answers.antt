@@ -1,0 +1,41 @@
+use Rattle.std.proofs.Common.{◌+◌, ap, refl, sym, ◌∙◌, subst, arith, length}
+use Rattle.ft_base.specs.Job.{Job}
+use Rattle.trace_print.specs.Leaves.{AreInTasks}
+use Rattle.trace_print.specs.GraphText.{graph_part}
+use Rattle.trace_print.specs.GraphLines.{IsWalkAt}
+use Rattle.trace_print.proofs.GraphUsers.{tasks-in, walk-start, texts-next}
+use Rattle.trace_print.proofs.ItemTexts.{texts-all}
+use Rattle.trace_print.proofs.Results.{from_ok}
+use Rattle.trace_print.proofs.graph.push_user.Goals as goal
+
+pub leaf_exits-requires : goal.leaf_exits-requires
+leaf_exits-requires c =
+    let tasks = c.tasks-tasks.ensures ∙ ap (λ (job : Job). length job.tasks) c.job.ensures in
+    subst (λ n. AreInTasks n c.args.history.now.items) (sym tasks) (tasks-in c.args.names.now c.args.history.now.items c.requires)
+
+pub loop-place-init : goal.loop-place-init
+loop-place-init c = record {
+  kept = walk-start c.args.names.now c.args.user.0 c.tasks-tasks.result c.args.history.now.items _ c.requires (c.tasks-tasks.ensures ∙ ap (λ (job : Job). length job.tasks) c.job.ensures)
+      (c.in_ok-walk.ensures c.args.user.0 c.args.history.now.items c.in_ok-leaves.ensures);
+  so_far = refl;
+}
+
+pub push_part-requires-clause-so_far : goal.push_part-requires-clause-so_far
+push_part-requires-clause-so_far c =
+    let kept = c.loop-place.invariant.kept in
+    subst (λ n. IsWalkAt c.args.user.0 n c.loop-place.place c.args.history.now.items c.loop-place.walk) (sym kept.kept.open'.tasks') kept
+
+pub follow-requires-clause-so_far : goal.follow-requires-clause-so_far
+follow-requires-clause-so_far c =
+    let kept = c.loop-place.invariant.kept in
+    subst (λ n. IsWalkAt c.args.user.0 n c.loop-place.place c.args.history.now.items c.loop-place.walk) (sym kept.kept.open'.tasks') kept
+
+pub loop-place-preserved : goal.loop-place-preserved
+loop-place-preserved c = record {
+  kept = subst (λ n. IsWalkAt c.args.user.0 n (c.loop-place.place + 1) c.args.history.now.items c.follow.new.self) c.loop-place.invariant.kept.kept.open'.tasks' c.in_ok-follow.ensures;
+  so_far = texts-next (graph_part c.args.names.now c.args.user.0) c.args.history.now.items c.loop-place.place _ _ _ (omega arith)
+      (from_ok c.push_part.result (sym c.in_ok-map_err.ensures.variant) c.push_part.ensures) c.loop-place.invariant.so_far;
+}
+
+pub returns : goal.returns
+returns c = texts-all (graph_part c.args.names.now c.args.user.0) c.args.history.now.items c.loop-place.place _ _ (omega arith) c.loop-place.invariant.so_far

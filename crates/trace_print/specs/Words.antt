@@ -1,0 +1,71 @@
+-- Words that the printed texts share: names, pids and CPUs by number, and columns.
+use Rattle.std.specs.Prelude.{ℕ, suc, Bool, true, false, ◌-◌, List, [], ◌∷◌, ◌++◌, length, replicate, get_or, codes, if◌then◌else◌}
+use Rattle.ft_base.specs.declared.user.Kind.{Kind}
+use Rattle.ft_base.specs.declared.user.Kind.TheVariants.{Function, Graph, Profile}
+use Rattle.ft_base.specs.declared.item.Item.{Item}
+use Rattle.ft_base.specs.Job.{Job, Spec, no_task, no_func}
+use Rattle.ft_base.specs.Desk.{spec_at}
+
+-- the bytes of a word
+abbrev pub Word : Type 0
+Word = List ℕ
+
+-- the name of a function, empty for a number that the job doesn't have
+abbrev pub function_word : Job → ℕ → Word
+function_word job f = (get_or job.functions f no_func).name
+
+-- the name of a user, empty for a number that the job doesn't have
+abbrev pub user_word : Job → ℕ → Word
+user_word job u = (spec_at job u).name
+
+-- the pid of a task, 0 for a number that the job doesn't have
+abbrev pub pid_at : Job → ℕ → ℕ
+pid_at job t = (get_or job.tasks t no_task).pid
+
+-- the CPU of a task, 0 for a number that the job doesn't have
+abbrev pub cpu_at : Job → ℕ → ℕ
+cpu_at job t = (get_or job.tasks t no_task).cpu
+
+-- the last line, which says whether every actor is at its end
+abbrev pub last_line : Bool → List ℕ
+last_line ended = if ended then codes "end\n" else codes "stopped\n"
+
+-- ## columns
+
+-- this many spaces
+abbrev pub spaces : ℕ → List ℕ
+spaces n = replicate n 32
+
+-- a word at the right of a column, which a longer word exceeds
+abbrev pub right_in : ℕ → Word → List ℕ
+right_in width word = spaces (width - length word) ++ word
+
+-- a number's digits with zeros before them, up to this many places
+abbrev pub zeros_in : ℕ → Word → List ℕ
+zeros_in width digits = replicate (width - length digits) 48 ++ digits
+
+-- ## one text after the other
+
+-- the texts of the items of a history, in order; each is told the items before it, the latest first, and those after it
+abbrev pub item_texts : (List Item → Item → List Item → List ℕ) → List Item → List Item → List ℕ
+item_texts text past [] = []
+item_texts text past (item ∷ rest) = text past item rest ++ item_texts text (item ∷ past) rest
+
+-- the texts of the users from a number on, in order; each is told its number and its declaration
+abbrev pub user_texts : (ℕ → Spec → List ℕ) → ℕ → List Spec → List ℕ
+user_texts text u [] = []
+user_texts text u (spec ∷ rest) = text u spec ++ user_texts text (suc u) rest
+
+-- ## kinds of users
+
+abbrev pub is_function : Kind → Bool
+is_function Function = true
+is_function _ = false
+
+abbrev pub is_graph : Kind → Bool
+is_graph Graph = true
+is_graph _ = false
+
+abbrev pub is_profile : Kind → Bool
+is_profile Profile = true
+is_profile _ = false

@@ -1,0 +1,32 @@
+//! The texts of a history. A *form* is a way to print: the whole log, or a view as the kernel's
+//! tracers and the files of tracefs give it. A *part* is what one item, user or function prints.
+//!
+//! | form | like | lines |
+//! |---|---|---|
+//! | log | | one an item, by place |
+//! | function | the function tracer (`ftrace.rst`, "function") | one an entry callback of a function user |
+//! | graph | the function graph tracer (`ftrace.rst`, "function graph tracer") | for each graph user, one an entry callback and one an exit callback; one for both if nothing is between |
+//! | profile | `trace_stat` (`ftrace.rst`, `function_profile_enabled`), an fprobe's `nmissed` | for each profile user one a function; one an fprobe |
+//! | enabled | `enabled_functions` (`ftrace.rst`, "The File System") | one a function that some users trace |
+//!
+//! Promised: [`print`] gives, for each legal history of a job, exactly the text of its form, as the
+//! specs define it; [`summary`] exactly the counts. The text of the form log tells the history that it
+//! was written for ([`laws`]). Only tested, in `ft_app_tests`: that memory is found.
+#![tactic(auto)]
+
+mod columns;
+mod enabled;
+mod forms;
+mod function;
+mod graph;
+pub mod laws;
+mod leaves;
+mod log;
+mod names;
+mod profile;
+mod stacks;
+mod totals;
+
+pub use forms::print;
+pub use ft_words::Form;
+pub use totals::summary;
