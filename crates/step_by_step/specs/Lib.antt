@@ -1,0 +1,2 @@
+pub mod TheJob
+pub mod Silence
