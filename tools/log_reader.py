@@ -1,0 +1,198 @@
+"""Reads a script and its printed log: who there is, and what happened, as boxes that lie in one another.
+
+Both are as docs/LANGUAGE.md has them. A script is taken to be an accepted one, so its lines are read and not judged. What
+the log has to fit is the script (its commands, tasks, users and functions) and itself: each box ends where it began.
+"""
+import dataclasses
+import re
+from typing import Dict, List, NamedTuple, Optional
+
+REFUSAL = re.compile(r"line [0-9]+: [a-z]+")
+SLOTS = 16  # of trampolines, if the script doesn't say how many
+
+# How many words each item has after its place and its name.
+WORDS = {"begin": (1,), "return": (2, 4), "enter": (4,), "back": (2,), "back-end": (2,), "refuse": (3,), "miss": (2,)}
+WORDS.update({"body": (3, 4), "leave": (1,), "exit": (3,), "exit-end": (2,), "ret": (2,)})
+# The items of a task that open a box, those that close it, and those that are one at a single place.
+OPENED = {"enter": "call", "back": "entry", "body": "body", "exit": "exit"}
+CLOSED = {"ret": "call", "back-end": "entry", "leave": "body", "exit-end": "exit"}
+POINTS = {"refuse": "refusal", "miss": "miss"}
+
+
+class Fault(Exception):
+    """Why a script and a log can't be drawn, in words for who gave them."""
+
+
+class Function(NamedTuple):
+    name: str
+    module: Optional[str]
+
+
+class Script(NamedTuple):
+    """What a script declares, each in the order of its lines; a command is its words after `ctl`."""
+
+    functions: List[Function]
+    slots: int
+    users: List[str]
+    tasks: Dict[int, int]  # the CPU of each pid
+    commands: List[List[str]]
+
+
+@dataclasses.dataclass(eq=False)
+class Box:
+    """Something that has a beginning and an end in the history; `end` is None if the log ends before it does.
+
+    what     name             note
+    command  its words        the answer, None before the return
+    call     the function     the context
+    entry    the user         -
+    exit     the user         the place of its entry
+    body     whose it is      what was fetched: `nop`, `list` or `own U`
+    refusal  the user         the reason; it begins and ends at one place, as a miss does
+    miss     the user         -
+    """
+
+    what: str
+    key: str  # the number of a command; the call, as 10.1, in which the others are
+    name: str
+    note: Optional[str]
+    begin: int
+    end: Optional[int] = None
+    parent: Optional["Box"] = None
+    depth: int = 0  # how many boxes it lies in
+
+
+class History(NamedTuple):
+    """What a log tells. The boxes of a task are in the order in which they begin."""
+
+    lines: List[str]  # the items
+    commands: List[Box]
+    tasks: Dict[int, List[Box]]
+    calls: Dict[str, Box]
+    bodies: Dict[str, Box]  # of the calls whose body began
+    is_ended: bool
+
+
+def read_script(text):
+    """What the script with these bytes declares."""
+    script, slots = Script([], SLOTS, [], {}, []), SLOTS
+    for number, line in enumerate(text.decode("latin-1").split("\n"), 1):
+        words = line.split()
+        try:
+            if words[:1] == ["func"]:
+                script.functions.append(Function(words[1], words[2] if len(words) > 2 else None))
+            elif words[:1] == ["tramps"]:
+                slots = int(words[1])
+            elif words[:1] == ["user"]:
+                script.users.append(words[1])
+            elif words[:1] == ["task"]:
+                script.tasks[int(words[1])] = int(words[3])
+            elif words[:1] == ["ctl"] and words[1] != "until":
+                script.commands.append(words[1:])
+        except (IndexError, ValueError):
+            raise Fault(f"line {number} of the script has no form: {line.strip()[:60]!r}") from None
+    return script._replace(slots=slots)
+
+
+class Reader:
+    """Goes through the items of a log, and keeps which boxes are open."""
+
+    def __init__(self, script):
+        self.script = script
+        self.functions = {function.name for function in script.functions}
+        self.history = History([], [], {pid: [] for pid in script.tasks}, {}, {}, True)
+        self.open: Dict[int, List[Box]] = {pid: [] for pid in script.tasks}
+
+    def require(self, is_so, what):
+        """What is asked of the item that is being read."""
+        if not is_so:
+            place = len(self.history.lines) - 1
+            raise Fault(f"the log doesn't fit the script: at place {place} {what}: {self.history.lines[-1][:60]!r}")
+
+    def item(self, line):
+        """One more line of the log."""
+        self.history.lines.append(line)
+        place, _, rest = line.partition(" ")
+        kind, *words = rest.split(" ")
+        self.require(len(words) in WORDS.get(kind, ()) and place == str(len(self.history.lines) - 1), "there is no such item")
+        if kind in ("begin", "return"):
+            self.control(kind, *words)
+        else:
+            self.task(kind, *words)
+
+    def control(self, kind, number, *answer):
+        commands, place = self.history.commands, len(self.history.lines) - 1
+        is_open = bool(commands) and commands[-1].end is None
+        if kind == "begin":
+            self.require(not is_open and number == str(len(commands) + 1), "is no command's turn")
+            self.require(len(commands) < len(self.script.commands), "there is no such command")
+            commands.append(Box("command", number, " ".join(self.script.commands[len(commands)]), None, place))
+        else:
+            self.require(is_open and number == commands[-1].key, "no such command is under way")
+            commands[-1].end, commands[-1].note = place, " ".join(answer)
+
+    def task(self, kind, call, *words):
+        pid = int(call.split(".")[0]) if re.fullmatch(r"\d+\.\d+", call) else None
+        self.require(pid in self.open, "there is no such task")
+        if kind in CLOSED:
+            self.close(self.open[pid], CLOSED[kind], call, words)
+        else:
+            self.begin(pid, kind, call, words)
+
+    def begin(self, pid, kind, call, words):
+        """A box begins; a refusal and a miss end at once."""
+        name, note = (words[1], words[0]) if kind == "enter" else (words[0], " ".join(words[1:]) or None)
+        declared = self.functions if kind in ("enter", "body") else self.script.users
+        self.require(name in declared, f"{name} isn't declared")
+        stack = self.open[pid]
+        parent = stack[-1] if stack else None
+        caller = words[2] if kind == "enter" else call
+        self.require((parent.key if parent else "-") == caller, "that call isn't the innermost open one")
+        place = len(self.history.lines) - 1
+        box = Box(OPENED.get(kind) or POINTS[kind], call, name, note, place, place if kind in POINTS else None, parent, len(stack))
+        self.history.tasks[pid].append(box)
+        if box.end is None:
+            stack.append(box)
+        self.keep(box)
+
+    def keep(self, box):
+        """Calls and their bodies are found by the call, too."""
+        kept = {"call": self.history.calls, "body": self.history.bodies}.get(box.what)
+        if kept is not None:
+            self.require(box.key not in kept, "there is one already")
+            kept[box.key] = box
+
+    def close(self, stack, what, call, words):
+        """The innermost box ends; its user is named again."""
+        name = words[0] if what in ("entry", "exit") else None
+        top = stack[-1] if stack else None
+        self.require(top and (top.what, top.key) == (what, call) and name in (None, top.name), "ends what isn't the innermost open one")
+        stack.pop().end = len(self.history.lines) - 1
+
+
+def read_log(text, script):
+    """The history that a log with these bytes tells of a script."""
+    lines = text.decode("latin-1").split("\n")
+    if len(lines) == 2 and REFUSAL.fullmatch(lines[0]):
+        raise Fault(f"the script was refused ({lines[0]}), so there is no history to draw")
+    if lines[-1] or lines[-2:-1] not in (["end"], ["stopped"]):
+        raise Fault("the log isn't whole: its last line is neither `end` nor `stopped`")
+    reader = Reader(script)
+    for line in lines[:-2]:
+        reader.item(line)
+    return reader.history._replace(is_ended=lines[-2] == "end")
+
+
+def window_places(history, call):
+    """The places of a call's `enter` and of its `body`, or of the last item if it has none."""
+    if call not in history.calls:
+        raise Fault(f"the log has no call {call}")
+    body = history.bodies.get(call)
+    return history.calls[call].begin, len(history.lines) - 1 if body is None else body.begin
+
+
+def window(history, call):
+    """The commands of a call's window: the number of the last that had returned at its `enter`, and of the last that had begun at its `body`."""
+    entered, ran = window_places(history, call)
+    done = sum(command.end is not None and command.end < entered for command in history.commands)
+    return done, sum(command.begin <= ran for command in history.commands)
