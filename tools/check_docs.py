@@ -1,9 +1,24 @@
 #!/usr/bin/env python3
 """Runs what the pages show through the built program, which must give those very bytes and the status that belongs to them:
 
-- each script of examples/, as first_path.ft, which prints first_path.log;
+- each script of examples/: NAME.ft prints NAME.log, and NAME.function, NAME.graph, NAME.profile and NAME.enabled
+  with `--print` and that word. The log has to be there, the others may be; there are no other files;
 - each row of docs/LANGUAGE.md that has its script, in a table whose first two columns are `script` and `prints`;
-- each script that README.md or a page of docs/ writes out: a block whose first line is `ftrace 1`; the next block is what it prints.
+- the blocks of README.md and of each page of docs/ that are scripts or commands.
+
+The program that docs/LIBRARY.md has in full isn't run here, but by `rt ci`: the page has to have the bytes of its source and
+of the output that is stored beside it.
+
+A block is lines of a page that begin with four blanks, with no other line between them.
+
+- If its first line is `ftrace 1`, it is a script. Either the next block is its log, or a command below reads it.
+- If its first line begins with `$ ftcore`, it is a command and, from the next line on, what that prints; more
+  commands may follow in it, each with what it prints. A command is `$ ftcore` and the program's words, without
+  quotes. It reads the nearest script above it on its page or, if it ends with `< examples/NAME.ft`, that one.
+  `bulk` reads none.
+
+Other blocks are left alone: pictures, and commands of other programs. But no command is: a line that begins with
+`$ ftcore` and can't be run counts as failed, wherever on a page it is, and so does a script that nothing runs.
 
 The last line is `docs: N passed, M failed`, and the status is 0 if nothing failed.
 """
@@ -15,6 +30,11 @@ import runs  # noqa: E402
 
 REFUSED = re.compile(rb"line [1-9][0-9]*: [a-z]+\n")
 ENDS = (b"end\n", b"stopped\n")
+FORMS = {form: ["replay", "--print", form] for form in ("function", "graph", "profile", "enabled")}
+FORMS["log"] = ["replay"]
+COMMAND = re.compile(rb"\$ ftcore((?: [\w=.-]+)*)(?: < (examples/[\w.]+\.ft))?\n")
+IS_COMMAND = re.compile(r"[\s>*+-]*\$\s*\S*ftcore\b")
+NOT_EMPTY = ("README.md", "TOUR.md")  # the pages that have a script at least
 
 
 def status_of(text):
@@ -25,27 +45,31 @@ def status_of(text):
     return 3 if REFUSED.fullmatch(text) else None
 
 
-def show(rows, program, name, script, wanted):
-    """One row: this script prints this text."""
+def show(rows, program, name, script, wanted, words=("replay",)):
+    """One row: with these words this script prints this text."""
     status = status_of(wanted)
     if status is None:
         rows.row(name, ["what it prints ends with none of `end`, `stopped` and a cause"])
         return
-    came = runs.answer([program, "replay"], script)
+    came = runs.answer([program, *words], script)
     rows.row(name, runs.faults(came, status, wanted), came.seconds)
 
 
 def show_examples(rows, program, folder):
-    """Each script of the folder, beside the text of the same name; neither may be there alone."""
-    names = sorted({path.stem for path in folder.iterdir() if path.suffix in (".ft", ".log")})
-    for name in names:
-        script, log = folder / f"{name}.ft", folder / f"{name}.log"
-        alone = next((path for path in (script, log) if not path.exists()), None)
-        if alone:
-            rows.row(f"examples/{name}", [f"there is no {alone.name}"])
+    """Each text of the folder, beside the script of the same name; a script without a log, and any other file, counts as failed."""
+    paths = sorted(folder.iterdir())
+    for path in paths:
+        name, script, form = f"examples/{path.name}", path.with_suffix(".ft"), path.suffix[1:]
+        if path == script:
+            if path.with_suffix(".log") not in paths:
+                rows.row(name, [f"there is no {path.stem}.log"])
+        elif form not in FORMS:
+            rows.row(name, ["it is neither a script nor a form of what one prints"])
+        elif script not in paths:
+            rows.row(name, [f"there is no {script.name}"])
         else:
-            show(rows, program, f"examples/{name}.ft", script.read_bytes(), log.read_bytes())
-    if not names:
+            show(rows, program, name, script.read_bytes(), path.read_bytes(), FORMS[form])
+    if not any(path.suffix == ".ft" for path in paths):
         rows.row("examples", ["there are no scripts"])
 
 
@@ -98,17 +122,93 @@ def blocks(text):
     return found
 
 
-def show_blocks(rows, program, page):
-    """Each script that the page writes out, and gives how many there are."""
-    found = blocks(page.read_text())
-    scripts = [at for at, (_, text) in enumerate(found) if text.startswith(b"ftrace 1\n")]
-    for at in scripts:
-        name = f"{page.name}, line {found[at][0]}"
-        if at + 1 < len(found):
-            show(rows, program, name, found[at][1], found[at + 1][1])
+def show_library(rows, page, crate):
+    """Two rows: the page has the program of this crate, and what that prints, each as the first block of its kind."""
+    text = page.read_bytes()
+    for kind, path in ((b"rust", crate / "src" / "main.rt"), (b"text", crate / "stdout")):
+        found = re.search(rb"^```" + kind + rb"\n(.*?)^```$", text, re.DOTALL | re.MULTILINE)
+        fault = runs.other_text(found[1], path.read_bytes()) if found else "there is no such block"
+        rows.row(f"{page.name}, {path.name} of {crate.name}", [fault] if fault else [])
+
+
+def commands(number, block):
+    """The commands of a block: of each the number of its line, that line, and what is said to be printed."""
+    found = []
+    for at, line in enumerate(re.findall(rb"[^\n]*\n", block), number):
+        if line.startswith(b"$ "):
+            found.append([at, line, b""])
         else:
-            rows.row(name, ["no block below says what it prints"])
-    return len(scripts)
+            found[-1][2] += line
+    return found
+
+
+class Page:
+    """A page whose blocks are run one by one: the nearest script, with the number of its line, and the lines that were run."""
+
+    def __init__(self, rows, words, path):
+        self.rows, self.program, self.top, self.path = rows, words.program, words.top, path
+        self.script, self.scripts, self.ran = None, [], set()
+
+    def name(self, number):
+        return f"{self.path.name}, line {number}"
+
+    def fail(self, number, why):
+        self.rows.row(self.name(number), [why])
+
+    def begin(self, number, block):
+        """From here on this script is the nearest one."""
+        self.script = block
+        self.scripts.append(number)
+
+    def read_by(self, words, example):
+        """What a command with these words reads; None if there is no such script."""
+        if "bulk" in words:
+            return b""
+        if example is None:
+            self.ran.update(self.scripts[-1:])
+            return self.script
+        path = self.top / example
+        return path.read_bytes() if path.is_file() else None
+
+    def run(self, number, line, wanted):
+        """One row: the command of this line prints this text."""
+        self.ran.add(number)
+        found = COMMAND.fullmatch(line)
+        if not found:
+            self.fail(number, "it has something other than words and `< examples/NAME.ft`")
+            return
+        words, example = found[1].decode().split(), found[2] and found[2].decode()
+        script = self.read_by(words, example)
+        if script is None:
+            self.fail(number, f"there is no {example or 'script above it'}")
+        else:
+            show(self.rows, self.program, self.name(number), script, wanted, words)
+
+    def show(self):
+        """Each script and each command, and gives how many scripts there are."""
+        text, is_below = self.path.read_text(), False
+        for number, block in blocks(text):
+            is_script = block.startswith(b"ftrace 1\n")
+            if is_script:
+                self.begin(number, block)
+            elif block.startswith(b"$ ftcore"):
+                for command in commands(number, block):
+                    self.run(*command)
+            elif is_below:
+                self.ran.add(self.scripts[-1])
+                show(self.rows, self.program, self.name(self.scripts[-1]), self.script, block)
+            is_below = is_script
+        self.show_left(text)
+        return len(self.scripts)
+
+    def show_left(self, text):
+        """What was to be run and wasn't."""
+        for number in self.scripts:
+            if number not in self.ran:
+                self.fail(number, "nothing says what the script prints")
+        for number, line in enumerate(text.split("\n"), 1):
+            if IS_COMMAND.match(line) and number not in self.ran:
+                self.fail(number, "the command isn't run: it isn't in a block that begins with `$ ftcore`")
 
 
 def main():
@@ -116,10 +216,10 @@ def main():
     rows = runs.Rows("docs", words.verbose)
     show_examples(rows, words.program, words.top / "examples")
     show_table_rows(rows, words.program, words.top / "docs" / "LANGUAGE.md")
-    if not show_blocks(rows, words.program, words.top / "README.md"):
-        rows.row("README.md", ["no example"])
-    for page in sorted((words.top / "docs").glob("*.md")):
-        show_blocks(rows, words.program, page)
+    show_library(rows, words.top / "docs" / "LIBRARY.md", words.top / "crates" / "step_by_step")
+    for path in [words.top / "README.md", *sorted((words.top / "docs").glob("*.md"))]:
+        if not Page(rows, words, path).show() and path.name in NOT_EMPTY:
+            rows.row(path.name, ["no example"])
     return rows.end()
 
 

@@ -1,82 +1,34 @@
 #!/usr/bin/env python3
 """Runs the built program at its edges, where no proof reaches:
 
-- the words of the command, in the language and not: those of docs/LANGUAGE.md and those of the tables below;
+- the words of the command, in the language and not: those of command_words.py;
 - each status with its cause: streams that fail, too little memory, too long an input;
 - each limit of the language reached and passed, in at most a hundred times the time that it takes now;
-- random scripts of script_forms.py.
+- a long history in each printed form;
+- random scripts of script_forms.py and viewed_scripts.py, whose forms have to follow from the log.
 
 Each row asks for the status and for what is written; nothing may be written to standard error.
 The last line is `edges: N passed, M failed`, and the status is 0 if nothing failed.
 """
-import os
-import re
 import resource
 import shlex
 import sys
-import tempfile
 from typing import Callable, NamedTuple, Optional
 
 sys.dont_write_bytecode = True
 import check_docs  # noqa: E402
+import command_words  # noqa: E402
 import runs  # noqa: E402
 import script_forms as forms  # noqa: E402
+import text_lines  # noqa: E402
+import viewed_scripts  # noqa: E402
+import views_of_log  # noqa: E402
 
 SCRIPT = b"ftrace 1\nfunc a\nuser tr function\ncpu 0 quantum 100\ntask 10 cpu 0\nafter 1\ncall a\nret\nctl register tr\n"
 LOG = b"0 begin 1\n1 return 1 ok\n2 enter 10.1 normal a -\n3 back 10.1 tr\n4 back-end 10.1 tr\n"
 LOG += b"5 body 10.1 a own tr\n6 leave 10.1\n7 ret 10.1 -\nend\n"
+CALLED = b"     10 [000] .        3: a <-root (tr)\nend\n"  # the form function
 SEEDS = 50
-
-
-# The words of the command.
-
-GOOD_WORDS = ["replay", "-- replay", "replay --", "--print log replay", "--print log -- replay", "--print log replay --"]
-GOOD_WORDS += ["replay --print log", "replay --print log --", "--print=log replay", "--print=log -- replay", "--print=log replay --"]
-GOOD_WORDS += ["replay --print=log", "replay --print=log --"]
-BAD_WORDS = ["", "''", "frob", "run", "bulk", "Replay", "repla", "--", "--print log", "-h", "--help", "replay -h", "replay --help"]
-BAD_WORDS += ["replay run", "replay replay", "replay -- replay", "replay -- --", "-- replay --", "-- replay --print log"]
-BAD_WORDS += ["replay -- --print=log", "--print -- replay", "replay --print -- log", "replay --print", "replay --print=", "replay --print ''"]
-BAD_WORDS += ["replay --print graph", "replay --print=xml", "replay --prin log", "replay --print=log --print=log", "bulk --print log"]
-BAD_WORDS += ["bulk --seed 1 --seed 2", "replay --seed 1", "replay ''", "'' replay", "replay 'replay '", "replay \u00e9", "r\u00e9play"]
-NOT_TEXT = [[b"\xff"], [b"replay\xff"], [b"\xff", b"replay"], [b"replay", b"\xff"], [b"replay", b"--print", b"log\x80"]]
-NOT_TEXT += [[b"--print=log", b"--", b"replay", b"\xc3"], [b"replay", b"\xc0\xaf"], [b"replay", b"\xed\xa0\x80"]]
-
-
-def page_words(page):
-    """The words of the page's tables with the columns `words` and `in the language`, each with its line, and whether they are."""
-    for number, head, cells in check_docs.table_rows(page.read_text()):
-        if head[:2] == ["words", "in the language"]:
-            for item in re.findall(r"`([^`]*)`|(no words)", cells[0]):
-                yield number, item[0], cells[1].startswith("yes")
-
-
-def try_words(rows, program, name, words, is_good):
-    """Words that are in the language have the script replayed; others end with 2, and nothing is read."""
-    with tempfile.TemporaryFile() as source:
-        source.write(SCRIPT)
-        source.flush()
-        source.seek(0)
-        came = runs.answer([program, *words], stdin=source)
-        found = runs.faults(came, 0, LOG) if is_good else runs.faults(came, 2, b"")
-        if not is_good and os.lseek(source.fileno(), 0, os.SEEK_CUR):
-            found.append("the input was read")
-    rows.row(f"words: {name}", found, came.seconds)
-
-
-def check_words(rows, program, page):
-    listed = list(page_words(page))
-    if not {True, False} <= {is_good for _, _, is_good in listed}:
-        rows.row(page.name, ["no table has the words that are in the language and those that aren't"])
-    for number, words, is_good in listed:
-        try_words(rows, program, f"{words or 'none'} ({page.name}, line {number})", shlex.split(words), is_good)
-    for words in GOOD_WORDS:
-        try_words(rows, program, words, shlex.split(words), True)
-    for words in BAD_WORDS:
-        try_words(rows, program, words or "none", shlex.split(words), False)
-    for words in NOT_TEXT:
-        try_words(rows, program, f"not text: {b' '.join(words)!r}", words, False)
-    try_words(rows, program, "a thousand times replay", ["replay"] * 1000, False)
-    try_words(rows, program, "a word of 100,000 bytes", ["replay", "x" * 100_000], False)
 
 
 # The statuses with their causes.
@@ -92,28 +44,50 @@ class Stream(NamedTuple):
     words: str = "replay"
 
 
-def streams():
-    refused, words = b"ftrace 1\nfunc a\nfunc a\n", "replay frob"
-    yield Stream("a refused script", 3, b"line 3: duplicate\n", '"$@"', refused)
-    yield Stream("no bytes", 3, b"line 1: version\n", '"$@" </dev/null')
-    for what, given in [("a directory as input", "</"), ("a closed input", "<&-"), ("an input that can't be read", "0>/dev/null")]:
-        yield Stream(what, 4, b"", f'"$@" {given}')
-        yield Stream(f"{what}, a full device", 4, b"", f'"$@" {given} >/dev/full')
+NO_INPUTS = [("a directory as input", "</"), ("a closed input", "<&-"), ("an input that can't be read", "0>/dev/null")]
+FILE_OF = "trap '' XFSZ; out=$(mktemp); (ulimit -f {}; \"$@\" >$out); status=$?; cat $out; rm $out; exit $status"  # of so many KiB
+NO_OUTPUTS = [("a full device", ">/dev/full"), ("a closed output", ">&-"), ("an output that can't be written", "1</dev/null")]
+
+
+def replay_streams():
+    """Streams of `replay`, and of words that aren't in the language."""
+    refused, form, words = b"ftrace 1\nfunc a\nfunc a\n", "replay --print function", "replay frob"
+    yield Stream("a form", 0, CALLED, '"$@"', words=form)
+    for name, order in [("", "replay"), (", a form", form)]:
+        yield Stream(f"a refused script{name}", 3, b"line 3: duplicate\n", '"$@"', refused, order)
+        yield Stream(f"no bytes{name}", 3, b"line 1: version\n", '"$@" </dev/null', words=order)
+        for what, given in NO_INPUTS:
+            yield Stream(f"{what}{name}", 4, b"", f'"$@" {given}', words=order)
+            yield Stream(f"{what}, a full device{name}", 4, b"", f'"$@" {given} >/dev/full', words=order)
+        for what, given in NO_OUTPUTS:
+            yield Stream(f"{what}{name}", 5, b"", f'"$@" {given}', words=order)
+            yield Stream(f"{what}, a refused script{name}", 5, b"", f'"$@" {given}', refused, order)
+        yield Stream(f"an input without an end{name}", 7, b"", '"$@" </dev/zero', words=order)
+        yield Stream(f"an input without an end, a full device{name}", 7, b"", '"$@" </dev/zero >/dev/full', words=order)
+    for what, given in [*NO_INPUTS, *NO_OUTPUTS, ("an input without an end", "</dev/zero")]:
         yield Stream(f"{what}, other words", 2, b"", f'"$@" {given}', words=words)
-    for what, given in [("a full device", ">/dev/full"), ("a closed output", ">&-"), ("an output that can't be written", "1</dev/null")]:
-        yield Stream(what, 5, b"", f'"$@" {given}')
-        yield Stream(f"{what}, a refused script", 5, b"", f'"$@" {given}', refused)
-        yield Stream(f"{what}, other words", 2, b"", f'"$@" {given}', words=words)
-    yield Stream("an input without an end", 7, b"", '"$@" </dev/zero')
-    yield Stream("an input without an end, a full device", 7, b"", '"$@" </dev/zero >/dev/full')
-    yield Stream("an input without an end, other words", 2, b"", '"$@" </dev/zero', words=words)
     yield Stream("an input byte by byte", 0, LOG, 'dd bs=1 status=none | "$@"')
+
+
+def bulk_streams(summary):
+    """Streams of `bulk`, which reads nothing."""
+    for what, given in [*NO_INPUTS, ("an input without an end", "</dev/zero"), ("no bytes", "</dev/null")]:
+        yield Stream(f"{what}, bulk", 0, summary, f'"$@" {given}', words="bulk")
+        for other, taken in NO_OUTPUTS:
+            yield Stream(f"{what}, {other}, bulk", 5, b"", f'"$@" {given} {taken}', words="bulk")
+    yield Stream("what bulk leaves of its input", 0, summary + SCRIPT, '{ "$@"; status=$?; cat; exit $status; }', words="bulk")
+    yield Stream("a file that may have no bytes, bulk", 5, b"", FILE_OF.format(0), words="bulk")
+
+
+def large_streams():
+    """Outputs that are cut off."""
     many, log = acts(forms.ACTS), acts_log(forms.ACTS)
     yield Stream("a large output", 0, log, '"$@"', many)
     for count in (0, 10, 100_000):
         yield Stream(f"a reader that goes after {count} bytes", 5, log[:count], f'"$@" | head -c {count}; exit ${{PIPESTATUS[0]}}', many)
-    shell = "trap '' XFSZ; out=$(mktemp); (ulimit -f 1; \"$@\" >$out); status=$?; cat $out; rm $out; exit $status"
-    yield Stream("a file that may have 1,024 bytes", 5, log[:1024], shell, many)
+    called = CALLED.replace(b"tr", b"t")[:10]
+    yield Stream("a reader that goes after 10 bytes, a form", 5, called, '"$@" | head -c 10; exit ${PIPESTATUS[0]}', many, "replay --print function")
+    yield Stream("a file that may have 1,024 bytes", 5, log[:1024], FILE_OF.format(1), many)
 
 
 def acts_log(count):
@@ -126,7 +100,8 @@ def acts_log(count):
 
 
 def check_streams(rows, program):
-    for stream in streams():
+    """The summary is the one that command_words counts."""
+    for stream in [*replay_streams(), *bulk_streams(command_words.summary(program, 1)), *large_streams()]:
         came = runs.answer(["bash", "-c", stream.shell, "bash", program, *shlex.split(stream.words)], stream.text)
         rows.row(f"streams: {stream.what}", runs.faults(came, stream.status, stream.out), came.seconds)
 
@@ -142,6 +117,7 @@ def check_memory(rows, program):
     tries = [("a small script", 0, LOG, SCRIPT, ["replay"]), ("the most bytes", 6, b"", most, ["replay"])]
     tries += [("the most acts", 6, b"", acts(forms.ACTS), ["replay"]), ("the most bytes, other words", 2, b"", most, ["frob"])]
     tries += [("1,500,000 bytes of arguments", 6, b"", SCRIPT, ["x" * 100_000] * 15)]
+    tries += [("a form", 0, CALLED, SCRIPT, ["replay", "--print", "function"]), ("bulk", 6, b"", b"", ["bulk"])]
     for what, status, out, text, words in tries:
         came = runs.answer([program, *words], text, preexec_fn=take_memory)
         rows.row(f"memory: {what}", runs.faults(came, status, out), came.seconds)
@@ -418,25 +394,6 @@ LIMITS = [
 ]
 
 
-# The forms of a log's items; C is a call.
-ITEMS = [rb"begin \d+", rb"return \d+ (ok|already|not-there|invalid|no-match|busy \S+ \S+)", rb"enter C (normal|softirq|irq|nmi) \S+ (-|C)"]
-ITEMS += [rb"(back|back-end|miss|exit-end) C \S+", rb"refuse C \S+ (pid|recursion|depth)", rb"body C \S+ (nop|list|own \S+)"]
-ITEMS += [rb"leave C", rb"exit C \S+ \d+", rb"ret C (-|C)"]
-ITEM = re.compile(rb"(\d+) (" + b"|".join(ITEMS).replace(b"C", rb"\d+\.\d+") + b")")
-
-
-def log_faults(out):
-    """What is wrong with the log of an accepted script: each line is to be an item with its place, and the last one an end."""
-    lines = out.split(b"\n")
-    if lines[-1] or lines[-2:-1] not in ([b"end"], [b"stopped"]):
-        return [f"the last line is {runs.brief(b' '.join(lines[-2:]))}"]
-    for place, line in enumerate(lines[:-2]):
-        found = ITEM.fullmatch(line)
-        if not found or int(found[1]) != place:
-            return [f"line {place + 1} is {runs.brief(line)}, which is no item with the place {place}"]
-    return []
-
-
 def limit_faults(came, last, count):
     """What is wrong with an answer that is to have this many lines, the last of them a refusal or the end of a log."""
     is_accepted = last.encode() + b"\n" in check_docs.ENDS
@@ -445,7 +402,7 @@ def limit_faults(came, last, count):
         found.append(f"{len(lines) - 1} lines, not {count}")
     if lines[-2:] != [last.encode(), b""]:
         found.append(f"the last line is {runs.brief(b' '.join(lines[-2:]))}, not {last!r}")
-    return found or (log_faults(came.out) if is_accepted else [])
+    return found or (text_lines.faults("log", came.out) if is_accepted else [])
 
 
 def check_limits(rows, program):
@@ -460,26 +417,73 @@ def check_limits(rows, program):
         rows.row(f"limits: {limit.what}: {limit.past:,}", found, came.seconds)
 
 
+# A long history in each printed form.
+
+NEST = 31  # calls within each other, fewer than a shadow stack has frames
+NESTS = 5  # as many as the most tasks may each have
+FORM_SECONDS = 10  # that a text may take; a body that looks through the history for each line takes hours
+
+
+def nests():
+    """Four users of each kind that a form is about, called back in nested calls of the most tasks, which take turns step by step."""
+    users = [f"user u{number} {kind}" for number, kind in enumerate(["function", "graph", "profile", "fprobe exit"] * (forms.USERS // 4))]
+    todo = [f"after {len(users)}"] + (["call a"] * NEST + ["ret"] * NEST) * NESTS
+    tasks = [line for number in range(forms.TASKS) for line in [f"task {10 + number} cpu {number % forms.CPUS}", *todo]]
+    control = [f"ctl register u{number}" for number in range(len(users))]
+    return script(FUNCTION, users, [f"cpu {cpu} quantum 9" for cpu in range(forms.CPUS)], tasks, control)
+
+
+def nests_lines():
+    """How many lines that script prints in each form. In a call 16 users are called back, of which 12 have an exit."""
+    calls = NEST * NESTS * forms.TASKS
+    graph = 1 + (2 * NEST - 1) * NESTS * forms.TASKS  # a heading; the innermost call of a nest has one line
+    return {"log": 2 * forms.USERS + calls * (4 + 2 * 16 + 2 * 12) + 1, "function": 4 * calls + 1, "graph": 4 * graph + 1, "profile": 4 * 2 + 4 + 1, "enabled": 2}
+
+
+def text_faults(came, form):
+    """What is wrong with an answer that is to be the text of an accepted script."""
+    return runs.faults(came, 0) or text_lines.faults(form, came.out)
+
+
+def check_forms(rows, program):
+    text = nests()
+    for form, count in nests_lines().items():
+        came = runs.answer([program, "replay", "--print", form], text, FORM_SECONDS)
+        found, lines = text_faults(came, form), came.out.count(b"\n")
+        rows.row(f"forms: nests of calls: {form}", found + [f"{lines} lines, not {count}"] * (lines != count), came.seconds)
+
+
 # Random scripts.
 
+def check_accepted(rows, program, name, script):
+    """The log of an accepted script, and its other forms as views_of_log works them out of the log."""
+    log = runs.answer([program, "replay"], script)
+    found = text_faults(log, "log")
+    rows.row(f"random: {name}: log", found, log.seconds)
+    for form in [] if found else views_of_log.VIEWS:
+        came = runs.answer([program, "replay", "--print", form], script)
+        rows.row(f"random: {name}: {form}", runs.faults(came, 0, views_of_log.text(form, script, log.out)), came.seconds)
+
+
 def check_random(rows, program):
-    """Scripts that are accepted, and broken variants, which are accepted or refused."""
+    """Scripts that are accepted, in each form; and broken variants, which are accepted or refused, in one form each."""
     for seed in range(SEEDS):
-        came = runs.answer([program, "replay"], forms.script(seed))
-        rows.row(f"random: script_forms.py --seed {seed}", runs.faults(came, 0) or log_faults(came.out), came.seconds)
-        came = runs.answer([program, "replay"], forms.mutated(seed))
-        is_refused = check_docs.REFUSED.fullmatch(came.out)
-        found = runs.faults(came, 3) if is_refused else runs.faults(came, 0) or log_faults(came.out)
-        rows.row(f"random: script_forms.py --seed {seed} --mutate", found, came.seconds)
+        check_accepted(rows, program, f"script_forms.py --seed {seed}", forms.script(seed))
+        check_accepted(rows, program, f"viewed_scripts.py --seed {seed}", viewed_scripts.script(seed))
+        form = text_lines.FORMS[seed % len(text_lines.FORMS)]
+        came = runs.answer([program, "replay", "--print", form], forms.mutated(seed))
+        found = runs.faults(came, 3) if check_docs.REFUSED.fullmatch(came.out) else text_faults(came, form)
+        rows.row(f"random: script_forms.py --seed {seed} --mutate: {form}", found, came.seconds)
 
 
 def main():
     options = runs.read_options(runs.options(__doc__))
     rows = runs.Rows("edges", options.verbose)
-    check_words(rows, options.program, options.top / "docs" / "LANGUAGE.md")
+    command_words.check(rows, options.program, options.top)
     check_streams(rows, options.program)
     check_memory(rows, options.program)
     check_limits(rows, options.program)
+    check_forms(rows, options.program)
     check_random(rows, options.program)
     return rows.end()
 

@@ -1,21 +1,31 @@
 #!/usr/bin/env python3
-"""Compares ftcore with another program on random scripts, accepted and refused.
+"""Compares ftcore with another program on random scripts, accepted and refused, in each printed form, and on `bulk`.
 
 REFERENCE is a program that was written from the same rules by other hands, and isn't part of this
 repository. The N scripts of each source have the seeds from S on:
 
     plain      script_forms.py, scripts that are accepted
     mutated    script_forms.py, slightly broken ones
+    viewed     viewed_scripts.py, scripts that most forms have lines of
     generated  `REFERENCE gen`, each second one through `REFERENCE mutate`
     stepped    `REFERENCE gen`, with a schedule of single steps in place of its own, which chooses the
                turn of every load and store
 
-Each script goes through `PROGRAM replay` and `REFERENCE --machine e2 --features none replay`. They
-agree exactly if status and bytes are the same and PROGRAM writes nothing to standard error.
+Each script goes through `PROGRAM replay --print FORM` and `REFERENCE --machine e2 --features none
+replay --print FORM`, for each form of --forms: all five, if it isn't given. They agree exactly if status
+and bytes are the same and PROGRAM writes nothing to standard error.
 
-Each difference is printed with its seed, and its script is kept in FOLDER with what the two
+With --bulk M there is a sixth source, bulk, of M seeds: S and those after it, but each fourth one is among
+the largest that there are. The scripts are those of bulk_script.py, which are compared in the forms too;
+and `PROGRAM bulk --seed SEED` has to print what REFERENCE prints with these words. With --count 0 these are
+all that is compared.
+
+Each difference is printed with its seed and form, and its script is kept in FOLDER with what the two
 programs printed and the commands that made it. A script that REFERENCE can't generate is printed
 too, and the others are still compared. The status is 1 if there is either. Two processes run at a time.
+
+At the end there is a line for each source: what became of its scripts, and how many printed a line that
+tells something in each form. `# user U`, an fprobe without hits, and the last line tell nothing.
 
 To try the comparison itself, let PROGRAM be a script that runs
 `REFERENCE --machine e2 --features none "$@"`: then nothing differs.
@@ -28,32 +38,57 @@ import re
 import shutil
 import sys
 import tempfile
+from typing import NamedTuple
 
 sys.dont_write_bytecode = True
+import bulk_script  # noqa: E402
 import runs  # noqa: E402
 import script_forms  # noqa: E402
+import text_lines  # noqa: E402
+import viewed_scripts  # noqa: E402
 
-SOURCES = ["plain", "mutated", "generated", "stepped"]
+SCRIPTS = {"plain": script_forms.script, "mutated": script_forms.mutated, "viewed": viewed_scripts.script, "bulk": bulk_script.script}
+SOURCES = ["plain", "mutated", "viewed", "generated", "stepped"]
 REFUSAL = re.compile(rb"line (\d+): ([a-z]+)\n")
 FOLDER = pathlib.Path(tempfile.gettempdir()) / "script-differences"
 WORKERS = 2
 SECONDS = 120
 
 
+class Difference(NamedTuple):
+    """What the two programs gave for these words, where that isn't the same."""
+
+    words: list
+    ours: runs.Answer
+    theirs: runs.Answer
+
+
+class Compared(NamedTuple):
+    """A script that was compared: what became of it, the forms that tell something of it, and the differences."""
+
+    source: str
+    seed: int
+    cause: str
+    telling: list
+    text: bytes
+    differences: list
+
+
 def commands_of(source, seed, reference):
     """The commands that write the script of this source and seed, each of which reads what the one before it wrote."""
-    forms = [sys.executable, script_forms.__file__, "--seed", str(seed)]
-    if source in ("plain", "mutated"):
-        return [forms + ["--mutate"] * (source == "mutated")]
+    tool = {"viewed": viewed_scripts, "bulk": bulk_script}.get(source, script_forms)
+    written = [sys.executable, tool.__file__, "--seed", str(seed)]
+    if source in SCRIPTS:
+        return [written + ["--mutate"] * (source == "mutated")]
     size = "medium" if seed % 8 == 7 else "small"
     gen = [reference, "gen", "--seed", str(seed), "--size", size, "--features", "none"]
-    return [gen, forms + ["--step"]] if source == "stepped" else [gen] + [[reference, "mutate", "--seed", str(seed)]] * (seed % 2)
+    return [gen, written + ["--step"]] if source == "stepped" else [gen] + [[reference, "mutate", "--seed", str(seed)]] * (seed % 2)
 
 
 def text_of(source, seed, reference):
     """The script of this source and seed, and what went wrong if there is none."""
-    if source in ("plain", "mutated"):
-        return script_forms.script(seed) if source == "plain" else script_forms.mutated(seed), None
+    if source in SCRIPTS:
+        return SCRIPTS[source](seed), None
     text = b""
     for command in commands_of(source, seed, reference):
         came = runs.answer(command, text, SECONDS)
@@ -75,7 +110,7 @@ def agree(ours, theirs):
 
 
 def cause_of(ours):
-    """What became of a script, in a word or two: the cause of its refusal, or how its log ends."""
+    """What became of a script, in a word or two: the cause of its refusal, or how its text ends."""
     fault = refusal(ours)
     if fault:
         return fault[1]
@@ -84,15 +119,25 @@ def cause_of(ours):
     return "took too long" if ours.status is None else f"status {ours.status}"
 
 
+def words_of(options, source, seed):
+    """The words with which both programs are given a script of this source."""
+    return [["replay", "--print", form] for form in options.forms] + [["bulk", "--seed", str(seed)]] * (source == "bulk")
+
+
 def compare(job):
-    """One script: its source and seed, its cause, and what is to be told of it: a text, or the script with both answers."""
+    """One script, with all its words; a text if there is none."""
     options, source, seed = job
     text, fault = text_of(source, seed, options.reference)
     if text is None:
-        return source, seed, "not generated", fault
-    ours = runs.answer([options.program, "replay"], text, SECONDS)
-    theirs = runs.answer([options.reference, "--machine", "e2", "--features", "none", "replay"], text, SECONDS)
-    return source, seed, cause_of(ours), None if agree(ours, theirs) else (text, ours, theirs)
+        return f"{source} seed {seed}: {fault}"
+    causes, telling, differences = [], [], []
+    for words in words_of(options, source, seed):
+        ours = runs.answer([options.program, *words], text, SECONDS)
+        theirs = runs.answer([options.reference, "--machine", "e2", "--features", "none", *words], text, SECONDS)
+        causes.append(cause_of(ours))
+        telling += [words[-1]] * (words[0] == "replay" and ours.status == 0 and text_lines.tells(ours.out))
+        differences += [] if agree(ours, theirs) else [Difference(words, ours, theirs)]
+    return Compared(source, seed, causes[0], telling, text, differences)
 
 
 def brief(came):
@@ -102,17 +147,32 @@ def brief(came):
     return said + (", writes to standard error" if came.err else "")
 
 
-def keep(options, source, seed, difference):
+def keep(options, done):
     """Writes the script, the commands that made it, and what the two programs printed."""
-    text, ours, theirs = difference
     options.keep.mkdir(parents=True, exist_ok=True)
-    path = options.keep / f"{source}-{seed}.ft"
-    path.write_bytes(text)
-    path.with_suffix(".program").write_bytes(ours.out)
-    path.with_suffix(".reference").write_bytes(theirs.out)
-    commands = " | ".join(" ".join(command) for command in commands_of(source, seed, options.reference))
+    path = options.keep / f"{done.source}-{done.seed}.ft"
+    path.write_bytes(done.text)
+    commands = " | ".join(" ".join(command) for command in commands_of(done.source, done.seed, options.reference))
     path.with_suffix(".command").write_text(f"{commands} > {path.name}\n")
-    print(f"differs: {source} seed {seed}: program {brief(ours)}; reference {brief(theirs)}; kept as {path}", flush=True)
+    for words, ours, theirs in done.differences:
+        name = words[-1] if words[0] == "replay" else words[0]
+        path.with_suffix(f".{name}.program").write_bytes(ours.out)
+        path.with_suffix(f".{name}.reference").write_bytes(theirs.out)
+        print(f"differs: {done.source} seed {done.seed}, {name}: program {brief(ours)}; reference {brief(theirs)}; kept as {path}", flush=True)
+
+
+def seeds_of_bulk(options):
+    """The seeds of the source bulk."""
+    seeds = range(options.seed, options.seed + options.bulk)
+    return [script_forms.NUMBER - at // 4 if at % 4 == 3 else seed for at, seed in enumerate(seeds)]
+
+
+def forms_of(text):
+    """The forms that are named, with commas between them."""
+    names = text.split(",")
+    if not names or set(names) - set(text_lines.FORMS):
+        raise argparse.ArgumentTypeError(f"the forms are {', '.join(text_lines.FORMS)}")
+    return names
 
 
 def read_options():
@@ -120,7 +180,9 @@ def read_options():
     parser = argparse.ArgumentParser(description=title[0], epilog=title[1], formatter_class=argparse.RawDescriptionHelpFormatter)
     parser.add_argument("program", metavar="PROGRAM", help="the program, as crates/ftcore/out/ftcore")
     parser.add_argument("reference", metavar="REFERENCE", help="the other program")
-    parser.add_argument("--count", type=int, required=True, metavar="N", help="scripts of each source")
+    parser.add_argument("--count", type=int, required=True, metavar="N", help="scripts of each source but bulk")
+    parser.add_argument("--forms", type=forms_of, default=text_lines.FORMS, metavar="FORM,..", help="the forms, else all five")
+    parser.add_argument("--bulk", type=int, default=0, metavar="M", help="seeds of bulk, else none")
     parser.add_argument("--seed", type=int, default=0, metavar="S", help="the first seed, else 0")
     parser.add_argument("--keep", type=pathlib.Path, default=FOLDER, metavar="FOLDER", help=f"where scripts that differ are kept, else {FOLDER}")
     options = parser.parse_args()
@@ -130,24 +192,45 @@ def read_options():
     return options
 
 
+class Totals:
+    """What was found: of each source the causes and the telling forms; and how many differ, or weren't generated."""
+
+    def __init__(self, options):
+        self.options, self.scripts, self.texts, self.differ, self.lacking = options, 0, 0, 0, 0
+        self.causes, self.telling = collections.defaultdict(collections.Counter), collections.defaultdict(collections.Counter)
+
+    def add(self, done):
+        self.scripts += 1
+        if isinstance(done, str):
+            self.lacking += 1
+            print(f"no script: {done}", flush=True)
+            return
+        self.causes[done.source][done.cause] += 1
+        self.telling[done.source].update(done.telling)
+        self.texts += len(words_of(self.options, done.source, done.seed))
+        self.differ += bool(done.differences)
+        if done.differences:
+            keep(self.options, done)
+
+    def show(self):
+        """Prints the last lines, and gives the status."""
+        for source, causes in self.causes.items():
+            counts = ", ".join(f"{cause} {count}" for cause, count in sorted(causes.items()))
+            lines = ", ".join(f"{form} {self.telling[source][form]}" for form in self.options.forms)
+            print(f"{source}: {sum(causes.values())} scripts: {counts}; with lines in {lines}")
+        print(f"{self.scripts} scripts, {self.texts} texts, {self.differ} scripts differ" + (f", {self.lacking} not generated" if self.lacking else ""))
+        return 1 if self.differ or self.lacking else 0
+
+
 def main():
     options = read_options()
     jobs = [(options, source, seed) for source in SOURCES for seed in range(options.seed, options.seed + options.count)]
-    causes, differ, lacking = collections.defaultdict(collections.Counter), 0, 0
+    jobs += [(options, "bulk", seed) for seed in seeds_of_bulk(options)]
+    totals = Totals(options)
     with concurrent.futures.ThreadPoolExecutor(WORKERS) as workers:
-        for source, seed, cause, told in workers.map(compare, jobs):
-            causes[source][cause] += 1
-            if isinstance(told, str):
-                lacking += 1
-                print(f"no script: {source} seed {seed}: {told}", flush=True)
-            elif told:
-                differ += 1
-                keep(options, source, seed, told)
-    for source in SOURCES:
-        counts = ", ".join(f"{cause} {count}" for cause, count in sorted(causes[source].items()))
-        print(f"{source}: {sum(causes[source].values())} scripts: {counts}")
-    print(f"{len(jobs)} scripts, {differ} differ" + (f", {lacking} not generated" if lacking else ""))
-    return 1 if differ or lacking else 0
+        for done in workers.map(compare, jobs):
+            totals.add(done)
+    return totals.show()
 
 
 if __name__ == "__main__":

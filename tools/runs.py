@@ -85,7 +85,7 @@ def options(text):
     """A parser of the options that the checks share."""
     parser = argparse.ArgumentParser(description=text, formatter_class=argparse.RawDescriptionHelpFormatter)
     parser.add_argument("--program", type=pathlib.Path, default=PROGRAM, metavar="PATH", help="the program; else the one that ./ftcore builds")
-    parser.add_argument("--top", type=pathlib.Path, default=TOP, metavar="FOLDER", help="where README.md, docs/ and examples/ are; else this repository")
+    parser.add_argument("--top", type=pathlib.Path, default=TOP, metavar="FOLDER", help="where README.md, docs/, examples/ and crates/ are; else this repository")
     parser.add_argument("--verbose", action="store_true", help="tell the rows that passed, too")
     return parser
 

@@ -59,9 +59,9 @@ def numeral(rng, number):
     return text.rjust(rng.randint(len(text), DIGITS), "0") if rng.random() < 0.04 else text
 
 
-def user(rng, name, functions):
-    """The line of a user of any kind, with options."""
-    kind = rng.choice(KINDS)
+def user(rng, name, functions, kinds=KINDS):
+    """The line of a user of one of these kinds, with options."""
+    kind = rng.choice(kinds)
     is_replacing = functions and kind == "function" and rng.random() < 0.4
     words = ["user", name, *kind.split()]
     words += ["regs"] * (rng.random() < (0.9 if is_replacing else 0.2))

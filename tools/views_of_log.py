@@ -1,0 +1,179 @@
+#!/usr/bin/env python3
+"""Works out the forms function, graph, profile and enabled of a history from a script and its printed log.
+
+    ./ftcore replay < x.ft > x.log
+    tools/views_of_log.py x.ft x.log graph
+
+It is written by the words of docs/LANGUAGE.md, "The printed forms", so that check_program.py can ask whether the program
+prints the same: of the program's text for the form log this takes each item's words, and nothing else.
+"""
+import argparse
+import collections
+import pathlib
+import sys
+from typing import NamedTuple, Optional
+
+sys.dont_write_bytecode = True
+import log_desk  # noqa: E402
+import log_reader  # noqa: E402
+
+LETTERS = {"normal": ".", "softirq": "s", "irq": "h", "nmi": "z"}
+
+
+class User(NamedTuple):
+    name: str
+    kind: str
+    has_regs: bool
+    is_replacing: bool
+
+
+class Callback(NamedTuple):
+    """An item `back` or `exit`, in a call of a function; of an exit the place of its entry."""
+
+    place: int
+    call: str
+    func: str
+    entry: Optional[int]
+
+
+def pid_of(call):
+    return int(call.partition(".")[0])
+
+
+def user_of(words):
+    """The user of a line."""
+    options = words[3:]
+    for part in ("exit", "cancel"):
+        options = options[options[:1] == [part]:]
+    has_regs = options[:1] == ["regs"]
+    return User(words[1], words[2], has_regs, options[has_regs:][:1] == ["ipmodify"])
+
+
+class Told:
+    """What a script and its log tell: the users, the items in words, the last line, and the calls."""
+
+    def __init__(self, script, log):
+        self.script = log_reader.read_script(script)
+        lines = (line.split() for line in script.decode("latin-1").split("\n"))
+        self.users = [user_of(words) for words in lines if words[:1] == ["user"]]
+        *items, self.last = log.decode("latin-1").splitlines()
+        self.items = [item.split(" ")[1:] for item in items]
+        self.entered = {words[1]: words[2:] for words in self.items if words[0] == "enter"}  # context, function, caller
+
+    def of_kind(self, kind):
+        return [user.name for user in self.users if user.kind == kind]
+
+    def func(self, call):
+        return self.entered[call][1]
+
+    def callbacks(self, user):
+        """The user's, at entries and at exits."""
+        return [Callback(place, words[1], self.func(words[1]), int(words[3]) if words[0] == "exit" else None)
+                for place, words in enumerate(self.items) if words[0] in ("back", "exit") and words[2] == user]
+
+    def count(self, *item):
+        """How many items of this name and user there are; with a further word, of this one."""
+        return sum(words[0] == item[0] and tuple(words[2:]) == item[1:] for words in self.items)
+
+
+def function_lines(told):
+    """A call's body runs from its `body` on; in a call without one it is a callback that calls."""
+    running, users = {}, set(told.of_kind("function"))
+    for place, words in enumerate(told.items):
+        if words[0] == "enter":
+            running[words[1]] = words[3]
+        elif words[0] == "body":
+            running[words[1]] = words[2]
+        elif words[0] == "back" and words[2] in users:
+            context, func, caller = told.entered[words[1]]
+            pid, parent = pid_of(words[1]), running.get(caller, "root")
+            yield f"{pid:>7} [{told.script.tasks[pid]:03}] {LETTERS[context]} {place:>8}: {func} <-{parent} ({words[2]})"
+
+
+def levels(told, user):
+    """The level of each of the user's callbacks, by place: of the calls with a `back` of the user and no `ret`, all but its own."""
+    found, opened = {}, collections.defaultdict(set)
+    for place, words in enumerate(told.items):
+        call = words[1]
+        if words[0] == "ret":
+            opened[pid_of(call)].discard(call)
+        elif words[0] in ("back", "exit") and words[2] == user:
+            found[place] = len(opened[pid_of(call)] - {call})
+            opened[pid_of(call)].add(call)
+    return found
+
+
+def leaves(callbacks):
+    """The exit of each leaf, by the place of its entry: the next callback of the task."""
+    found, latest = {}, {}
+    for callback in callbacks:
+        pid = pid_of(callback.call)
+        if callback.entry is not None and callback.entry == latest.get(pid):
+            found[callback.entry] = callback.place
+        latest[pid] = callback.place
+    return found
+
+
+def graph_lines(told):
+    for user in told.of_kind("graph"):
+        yield f"# user {user}"
+        callbacks, level = told.callbacks(user), levels(told, user)
+        exits = leaves(callbacks)
+        for place, call, func, entry in callbacks:
+            if entry in exits:
+                continue
+            end = place if entry is not None else exits.get(place)
+            text = f"}} /* {func} */" if entry is not None else f"{func}() {{" if end is None else f"{func}();"
+            time = "" if end is None else end - (place if entry is None else entry)
+            yield f"{told.script.tasks[pid_of(call)]:>2}) {pid_of(call):>7} | {time:>8} | {'  ' * level[place]}{text}"
+
+
+def profile_lines(told):
+    for user in told.of_kind("profile"):
+        yield f"# user {user}"
+        hits, times = collections.Counter(), collections.Counter()
+        for place, _, func, entry in told.callbacks(user):
+            hits[func] += entry is None
+            times[func] += 0 if entry is None else place - entry
+        for function in told.script.functions:
+            if hits[function.name]:
+                yield f"{function.name} {hits[function.name]} {times[function.name]}"
+    for user in told.of_kind("fprobe"):
+        missed = told.count("miss", user) + told.count("refuse", user, "recursion")
+        yield f"# fprobe {user} hits {told.count('back', user)} missed {missed}"
+
+
+def enabled_lines(told):
+    desk = log_desk.Desk(told.script)
+    for words in told.items:
+        command = told.script.commands[int(words[1]) - 1] if words[0] == "return" else None
+        if command and words[2] == "ok" and command[0] in ("register", "unregister", "filter", "notrace"):
+            desk.carry_out(*command)
+    for number, function in enumerate(told.script.functions):
+        sited = [user for user in told.users if number in desk.matched.get(user.name, ())]
+        flags = "".join(f" {letter}" if has else "  " for letter, has in
+                        [("R", any(user.has_regs for user in sited)), ("I", any(user.is_replacing for user in sited))])
+        if sited:
+            yield f"{function.name} ({len(sited)}){flags} {desk.target(number)}"
+
+
+VIEWS = {"function": function_lines, "graph": graph_lines, "profile": profile_lines, "enabled": enabled_lines}
+
+
+def text(form, script, log):
+    """The text of an accepted script with this log, in one of the four forms."""
+    told = Told(script, log)
+    return "".join(line + "\n" for line in [*VIEWS[form](told), told.last]).encode("latin-1")
+
+
+def main():
+    parser = argparse.ArgumentParser(description="Works out a form of a history from a script and its printed log.")
+    parser.add_argument("script", type=pathlib.Path, metavar="SCRIPT")
+    parser.add_argument("log", type=pathlib.Path, metavar="LOG")
+    parser.add_argument("form", choices=list(VIEWS))
+    words = parser.parse_args()
+    sys.stdout.buffer.write(text(words.form, words.script.read_bytes(), words.log.read_bytes()))
+
+
+if __name__ == "__main__":
+    main()
