@@ -1,0 +1,2 @@
+# fprobe p hits 2 missed 0
+end

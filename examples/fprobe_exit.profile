@@ -1,0 +1,3 @@
+# fprobe entry hits 2 missed 0
+# fprobe both hits 2 missed 0
+end

@@ -1,0 +1,3 @@
+# user pr
+vfs_read 1 4
+end

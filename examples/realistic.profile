@@ -1,0 +1,33 @@
+# user pr
+sys_0 5 702
+sys_1 5 772
+sys_2 5 721
+sys_3 5 750
+sys_4 5 723
+sys_5 5 770
+sys_6 5 647
+sys_7 5 494
+sys_8 5 480
+sys_9 5 469
+ext3_0 5 149
+ext3_1 5 174
+ext3_2 5 131
+ext3_3 5 145
+ext3_4 5 161
+ext3_5 5 144
+ext3_6 5 132
+ext3_7 5 128
+ext3_8 5 89
+ext3_9 5 99
+snd_0 5 168
+snd_1 5 132
+snd_2 5 168
+snd_3 5 152
+snd_4 5 149
+snd_5 5 151
+snd_6 5 130
+snd_7 5 84
+snd_8 5 118
+snd_9 5 104
+# fprobe fp hits 50 missed 0
+end
