@@ -19,3 +19,5 @@ pub mod Unregistered
 pub mod ToldExits
 pub mod Carries
 pub mod OpenCallbacks
+pub mod Placing
+pub mod Written

@@ -1,6 +1,6 @@
 //! A history that the program keeps.
 
-ghost use Rattle.std.specs.Prelude.{◌≡◌, ℕ, ◌+◌, ◌-◌, ◌<◌, ◌≤◌, ◌^◌, List, [], ◌∷◌, ◌++◌, length, IfOk, slice_get};
+ghost use Rattle.std.specs.Prelude.{◌≡◌, ℕ, ◌+◌, ◌-◌, ◌<◌, ◌≤◌, ◌^◌, List, [], ◌∷◌, ◌++◌, length, IfOk, set, slice_get};
 ghost use Rattle.ft_hist.specs.Counts.{is_back_of, is_missed_by, backs_of, missed_by};
 
 use ft_base::{Item, NoMemory, Reason, UserNo};
@@ -59,6 +59,14 @@ impl History {
         ensures room { self.old.spare ≤ self.new.spare + 1 }
     {
         self.kept.push_reserved(item);
+    }
+
+    /// Puts an item in place of the one at a place.
+    pub(crate) fn set(&mut self, p: u32, item: Item)
+        requires { p < length self.old.items }
+        ensures { self.new.items ≡ set self.old.items p item }
+    {
+        self.kept[p as usize] = item;
     }
 
     /// How often a user was called back at the entry of a call.

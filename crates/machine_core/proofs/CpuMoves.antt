@@ -40,7 +40,7 @@ use Rattle.machine_core.proofs.Made.{IsOpThere, gives-is, made-is, made-length, 
 use Rattle.machine_core.proofs.Marking.{Chosen, Follows, chosen, none-next, past-is, places-are, stamp}
 use Rattle.machine_core.proofs.Recording.{Marks, recorded-on, room-for}
 use Rattle.machine_core.proofs.Moved.{HasMoved}
-use Rattle.machine_core.proofs.Past.{map-grows, map-kept}
+use Rattle.ft_hist.proofs.Placing.{map-grows, map-kept}
 
 -- ## the list of CPUs
 

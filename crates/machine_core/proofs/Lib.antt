@@ -3,7 +3,6 @@ pub mod Calls
 pub mod Plans
 pub mod Masks
 pub mod Opening
-pub mod Past
 pub mod Marking
 pub mod Recording
 pub mod Moved

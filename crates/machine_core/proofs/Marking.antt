@@ -17,9 +17,10 @@ use Rattle.ft_base.specs.Desk.{desk}
 use Rattle.word_machine.specs.Machine.{World, past_after, words_after}
 use Rattle.word_machine.specs.Rule.{MachineRule}
 use Rattle.machine_core.specs.Tables.{made}
-use Rattle.machine_core.specs.Worlds.{AreCounted, Parts, counted, lists, past_below, past_of, words_of, world_of}
+use Rattle.ft_hist.specs.Placing.{AreCounted, past_below}
+use Rattle.machine_core.specs.Worlds.{Parts, counted, lists, past_of, words_of, world_of}
 use Rattle.machine_core.proofs.Made.{IsOpThere, clock-is, past-counted}
-use Rattle.machine_core.proofs.Past.{Grows, counted-grows, past-grows}
+use Rattle.ft_hist.proofs.Placing.{Grows, counted-grows, past-grows}
 
 -- ## an operation by name, and as code has it
 

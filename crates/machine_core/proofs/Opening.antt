@@ -31,7 +31,8 @@ use Rattle.control_core.specs.Seated.{control_of}
 use Rattle.control_core.specs.Seated as control
 use Rattle.control_core.proofs.StartLaw.{starts}
 use Rattle.cpu_core.specs.declared.parts.Parts.{Parts as CpuParts}
-use Rattle.machine_core.specs.Worlds.{AreCounted, Declares, IsCpuAt, IsFor, IsRunning, Parts, counted, cpu_or, lists, past_below, past_of, world_of}
+use Rattle.ft_hist.specs.Placing.{AreCounted, past_below}
+use Rattle.machine_core.specs.Worlds.{Declares, IsCpuAt, IsFor, IsRunning, Parts, counted, cpu_or, lists, past_of, world_of}
 use Rattle.machine_core.specs.Starts.{AreFirst, AreListsOf, ArePlansOf}
 
 -- ## what is declared

@@ -6,6 +6,7 @@ use Rattle.ft_base.specs.declared.item.Stamped.{Stamped}
 use Rattle.ft_base.specs.declared.limits.TheConstants.{QUANTUM}
 use Rattle.ft_base.specs.Desk.{desk}
 use Rattle.ft_base.specs.Job.{Job, commands}
+use Rattle.ft_hist.specs.Placing.{AreCounted, past_below}
 use Rattle.ft_hist.specs.Shown.{Shown}
 use Rattle.history_bound.specs.Bound.{all_calls}
 use Rattle.user_specs.specs.declared.plan.CpuPlan.{CpuPlan}
@@ -40,31 +41,6 @@ pub record Parts : Type 0 where
   pub history : Shown
 
 -- ## the history
-
--- the item that is marked at a place, if there is one
-abbrev pub item_in : List Stamped → ℕ → Option Item
-item_in [] p = None
-item_in (s ∷ rest) p = if s.place == p then Some s.item else item_in rest p
-
--- one of two, the first if there is one
-abbrev pub or_item : Option Item → Option Item → Option Item
-or_item (Some item) other = Some item
-or_item None other = other
-
--- the same of several lists
-abbrev pub item_among : List (List Stamped) → ℕ → Option Item
-item_among [] p = None
-item_among (xs ∷ rest) p = or_item (item_in xs p) (item_among rest p)
-
--- an item before others, if there is one
-abbrev pub before : Option Item → List Item → List Item
-before None past = past
-before (Some item) past = item ∷ past
-
--- the items below a place, the latest first
-abbrev pub past_below : List (List Stamped) → ℕ → List Item
-past_below ls zero = []
-past_below ls (suc p) = before (item_among ls p) (past_below ls p)
 
 -- what control and each CPU have marked
 abbrev pub lists : Parts → List (List Stamped)
@@ -110,10 +86,6 @@ pub record IsCpuAt (job : Job) (w : Parts) (c : ℕ) (x : CpuParts) : Type 0 whe
   pub number : x.polls.poll.cpu ≡ c
   pub room : x.marked.room ≡ room_on job c
   pub marked : length x.marked.items ≡ items_on job c (past_of w)
-
--- the items are marked at places that the clock has counted
-abbrev pub AreCounted : ℕ → List Stamped → Type 0
-AreCounted n items = Each (λ s. s.place < n) items
 
 -- the history that is kept has the items in order, and room for all that the job can make
 pub record IsRecorded (job : Job) (w : Parts) : Type 0 where
