@@ -3,7 +3,8 @@
 //! *player* gives the *actors* of the turns, one a step.
 //!
 //! Here is also the *generated script*: a whole script that is drawn from a number, as a load for
-//! tests and measurements ([`bulk_script`]). It has no schedule of its own.
+//! tests and measurements ([`bulk_script`]). It has no schedule of its own. And there are *hostile
+//! schedules*, which hold an actor at some moment while another goes on ([`held`]).
 //!
 //! Proved: which texts are refused and why, the turns of a text, and the actors that a player gives;
 //! the items are those of a grammar with one rule for each way to write one
@@ -17,6 +18,7 @@
 mod bulk;
 mod causes;
 mod faults;
+mod hostile;
 mod item;
 mod laws;
 mod player;
@@ -26,6 +28,7 @@ pub use bulk::bulk_script;
 pub use causes::{has_unknown, is_past_limit, steps_with};
 pub use faults::SchedFault;
 pub use ft_base::{Actor, Turn, Who};
+pub use hostile::{LAST_ROUNDS, held};
 pub use item::{SchedItem, read_items};
 pub use laws::grammar_gives_the_item;
 pub use player::Player;

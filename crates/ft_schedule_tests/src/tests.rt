@@ -2,8 +2,8 @@
 
 use ft_base::CpuNo;
 use ft_schedule::{
-    Actor, Player, SchedFault, SchedItem, Schedule, Turn, Who, has_unknown, is_past_limit,
-    push_turns, read_items, read_sched, steps_with,
+    Actor, LAST_ROUNDS, Player, SchedFault, SchedItem, Schedule, Turn, Who, has_unknown, held,
+    is_past_limit, push_turns, read_items, read_sched, steps_with,
 };
 use script_text::words;
 use std::alloc::Global;
@@ -210,5 +210,22 @@ fn skips_counts_of_zero(rt: HostRuntime) -> Result<(), Fail> {
     let mut player = Player::new(&schedule, 2);
     assert_eq!(rt; player.next_actor(), Some(Actor::Control));
     assert_eq!(rt; player.next_actor(), None);
+    Ok(())
+}
+
+#[test]
+fn holds_an_actor(rt: HostRuntime) -> Result<(), Fail> {
+    let alloc = rt.alloc();
+    let schedule = held(alloc, Who::Control, 7, cpu(0), 200)?;
+    let turns = [
+        turn(Who::Control, 7),
+        turn(cpu(0), 200),
+        turn(Who::All, LAST_ROUNDS),
+    ];
+    assert_eq!(rt; schedule.turns.as_slice(), &turns[..]);
+    // A turn of no steps is left out.
+    let schedule = held(alloc, cpu(0), 0, Who::Control, 1)?;
+    let turns = [turn(Who::Control, 1), turn(Who::All, LAST_ROUNDS)];
+    assert_eq!(rt; schedule.turns.as_slice(), &turns[..]);
     Ok(())
 }
