@@ -182,6 +182,14 @@ impl Control {
         self.items.as_slice()
     }
 
+    /// What it has marked, in the order of the places; control is used up.
+    pub fn into_items(self) -> Vec<Stamped>
+        ensures { result.items ≡ self.items }
+    {
+        let Control { items, .. } = self;
+        items
+    }
+
     /// The desk, after the command under way if there is one.
     pub fn desk(&self) -> &Desk
         ensures { result.now ≡ self.now.desk }

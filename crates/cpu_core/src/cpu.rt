@@ -108,4 +108,13 @@ impl Cpu {
     {
         self.parts.marked.items()
     }
+
+    /// What it has marked, in the order of the places; the CPU is used up.
+    pub fn into_items(self) -> Vec<Stamped>
+        ensures { result.items ≡ self.marked.items }
+    {
+        let Cpu { parts } = self;
+        let Parts { marked, .. } = parts;
+        marked.into_items()
+    }
 }

@@ -42,6 +42,14 @@ impl Marked {
         self.items.as_slice()
     }
 
+    /// All items; they are used up.
+    pub(crate) fn into_items(self) -> Vec<Stamped>
+        ensures { result.items ≡ self.items }
+    {
+        let Marked { items, .. } = self;
+        items
+    }
+
     /// One more item.
     pub(crate) fn push(&mut self, stamped: Stamped)
         requires { length self.old.items < self.old.room }

@@ -7,3 +7,4 @@ pub mod DeskLaws
 pub mod MachineLaws
 pub mod PlayLaws
 pub mod Replays
+pub mod FedLaws

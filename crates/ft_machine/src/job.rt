@@ -1,6 +1,7 @@
 //! A job: what a script declares.
 
-ghost use Rattle.std.specs.Prelude.{◌≡◌, ℕ, map, length, slice_get, option_map, All, IfOk};
+ghost use Rattle.std.specs.Prelude.{◌≡◌, ◌≤◌, ℕ, map, length, slice_get, option_map, All, IfOk};
+ghost use Rattle.ft_base.specs.declared.limits.TheConstants.{CPUS};
 ghost use Rattle.ft_base.specs.Desk.{desk};
 ghost use Rattle.ft_base.specs.Job.{Job as PlainJob, funcs};
 ghost use Rattle.user_specs.specs.Plain.{spec_of, cpu_of};
@@ -111,11 +112,12 @@ impl Job {
         self.parts.tramps
     }
 
-    /// The CPUs in order, each with its quantum and its tasks.
+    /// The CPUs in order, each with its quantum and its tasks; at most `ft_base::limits::CPUS`.
     #[tactic(auto, unfolding(crate::specs::Parts::job_of))]
     pub fn cpus(&self) -> &[CpuPlan]
         ensures quanta { quanta_of (map cpu_of result.now) ≡ self.now.quanta }
         ensures tasks { map cpu_of result.now ≡ cpus_from 0 self.now.quanta self.now.tasks }
+        ensures few { length result.now ≤ CPUS }
     {
         self.parts.cpus.as_slice()
     }

@@ -1,10 +1,11 @@
 //! Laws of replays.
 
-ghost use Rattle.std.specs.Prelude.{◌≡◌, ◌↔◌, true};
+ghost use Rattle.std.specs.Prelude.{◌≡◌, ◌↔◌, ◌<◌, ℕ, true, List, length};
 ghost use Rattle.ft_base.specs.Job.{Job as PlainJob};
 ghost use Rattle.ft_base.specs.Schedule.{IsActor, actors_of};
 ghost use Rattle.ft_base.specs.declared.turn.Actor.{Actor};
-ghost use Rattle.word_machine.specs.Machine.{World, all_end, is_at_end, play, start};
+ghost use Rattle.word_machine.specs.Machine.{World, all_end, is_at_end, play, run, start};
+ghost use Rattle.ft_machine.specs.Fed.{control_fed, control_takes, cpu_fed, cpu_takes};
 ghost use Rattle.ft_machine.specs.Replays.{StopsAt};
 
 /// The replay of a job's schedule is a run of a beginning of the schedule's actors, and stops only
@@ -17,4 +18,13 @@ pub fn every_replay_is_a_run()
 pub fn all_end_if_each_does()
     ensures { (job : PlainJob) (s : World)
         → (all_end job s ≡ true) ↔ ((a : Actor) → IsActor job a → is_at_end job a s ≡ true) }
+{}
+
+/// After every list of actors each actor's state is that of the values that its own steps took: it
+/// knows of the others by these alone.
+pub fn each_actor_is_fed_its_values()
+    ensures control { (job : PlainJob) (actors : List Actor)
+        → (run job actors (start job)).control ≡ control_fed job (control_takes job actors (start job)) }
+    ensures cpus { (job : PlainJob) (actors : List Actor) (c : ℕ) → c < length job.quanta
+        → (run job actors (start job)).cpus c ≡ cpu_fed job c (cpu_takes job c actors (start job)) }
 {}

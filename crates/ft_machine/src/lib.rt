@@ -6,7 +6,9 @@
 //! Promised: after any steps a machine's state is that of the word machine, which `word_machine`
 //! defines; its history is legal at every moment, and whole once every actor is at its end; each call
 //! site is whole; a step takes no memory. A replay is a run of a beginning of its schedule's actors.
-//! [`Job::desk`] is the desk after the first commands of a job. Out of memory is the only fault.
+//! An actor's state is a function of the values that its own steps took, so a machine can be taken
+//! apart ([`Machine::into_parts`]) and its actors can step at the same time. [`Job::desk`] is the desk
+//! after the first commands of a job. Out of memory is the only fault.
 //!
 //! Only tested, in the crate `ft_machine_tests`: that a job isn't refused for its size.
 #![tactic(auto)]
@@ -19,6 +21,7 @@ mod play;
 
 pub use ft_desk::{Command, Ctl};
 pub use job::{Job, JobParts};
-pub use laws::{all_end_if_each_does, every_replay_is_a_run};
+pub use laws::{all_end_if_each_does, each_actor_is_fed_its_values, every_replay_is_a_run};
 pub use machine::Machine;
+pub use machine_core::WorldParts;
 pub use play::{Outcome, replay};

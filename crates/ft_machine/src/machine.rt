@@ -10,7 +10,7 @@ ghost use Rattle.ft_machine.specs.Machines.{IsOf, state_of};
 use crate::job::Job;
 use ft_base::{Actor, FuncNo, NoMemory};
 use ft_hist::History;
-use machine_core::World;
+use machine_core::{World, WorldParts};
 use std::alloc::Global;
 
 /// The machine of a job, in one of its states. It keeps what it needs of the job. Contracts speak of
@@ -81,6 +81,17 @@ impl Machine {
         ensures whole { (job : PlainJob) → IsOf job self.now → all_end job (state_of job self.now) ≡ true → IsWhole job result.now.items }
     {
         self.world.history()
+    }
+
+    /// What it is made of, for those who let the actors step at the same time; the machine is used up.
+    pub fn into_parts(self) -> WorldParts
+        ensures words { result.words.items ≡ self.world.words }
+        ensures control { result.control ≡ self.world.control }
+        ensures cpus { result.cpus.items ≡ self.world.cpus }
+        ensures history { result.history ≡ self.world.history }
+    {
+        let Machine { world } = self;
+        world.into_parts()
     }
 
     /// What has happened; the machine is used up.

@@ -17,4 +17,4 @@ mod cpus;
 mod table;
 mod world;
 
-pub use world::World;
+pub use world::{World, WorldParts};

@@ -33,6 +33,14 @@ impl Table {
         Ok(Table { words })
     }
 
+    /// The list of the words; the table is used up.
+    pub(crate) fn into_words(self) -> Vec<u64>
+        ensures { result.items ≡ self }
+    {
+        let Table { words } = self;
+        words
+    }
+
     /// What the word at a place holds.
     pub(crate) fn word(&self, place: u32) -> u64
         requires { place < length self.now }

@@ -42,6 +42,19 @@ pub struct World {
     history: History,
 }
 
+/// The words, control and the CPUs apart, for those who let them step at the same time.
+#[derive(Drop)]
+pub struct WorldParts {
+    /// The shared words, the clock first.
+    pub words: Vec<u64>,
+    /// Control.
+    pub control: Control,
+    /// The CPUs by number.
+    pub cpus: Vec<Cpu>,
+    /// What has happened, with room for all items that the job can make.
+    pub history: History,
+}
+
 impl Model for World {
     ghost use Rattle.machine_core.specs.Worlds.{Parts};
 
@@ -179,6 +192,28 @@ impl World {
     {
         let World { history, .. } = self;
         history
+    }
+
+    /// What it is made of; the machine is used up.
+    pub fn into_parts(self) -> WorldParts
+        ensures words { result.words.items ≡ self.words }
+        ensures control { result.control ≡ self.control }
+        ensures cpus { result.cpus.items ≡ self.cpus }
+        ensures history { result.history ≡ self.history }
+    {
+        let World {
+            map: _,
+            table,
+            control,
+            cpus,
+            history,
+        } = self;
+        WorldParts {
+            words: table.into_words(),
+            control,
+            cpus,
+            history,
+        }
     }
 }
 
