@@ -7,7 +7,7 @@ use Rattle.std.proofs.lemmas.Option.{same_Some, none-some}
 use Rattle.ft_words.specs.declared.order.Form.{Form}
 use Rattle.ft_words.specs.declared.order.Form.TheVariants.{Log, Function, Graph, Profile, Enabled}
 use Rattle.ft_words.specs.declared.order.Order.{Order}
-use Rattle.ft_words.specs.declared.order.Order.TheVariants.{Replay, Bulk}
+use Rattle.ft_words.specs.declared.order.Order.TheVariants.{Replay, Run, Bulk}
 use Rattle.ft_words.specs.Command.{is_taken, value_in}
 use Rattle.ft_words.specs.Language.{Text, Spells, form_name, SaysForm, SaysSeed, Gives}
 use Rattle.ft_words.proofs.OnWords.{IsPlain, IsPlainIfSaid, Reads, Reads-print, Reads-seed}
@@ -35,32 +35,49 @@ IsPlain-seed (Some (d ∷ ds)) n h = digit-no_dash d (and_parts _ _ h.digits).0
 
 -- ## what the parser finds in words that give an order
 
--- the mode of an order, and the parser's name for its option
+-- the mode of an order, the name of its option, and the parser's name for that
 mode_of : Order → Text
 mode_of (Replay form) = codes "replay"
+mode_of (Run form) = codes "run"
 mode_of (Bulk seed) = codes "bulk"
+
+name_of : Order → Text
+name_of (Replay form) = codes "--print"
+name_of (Run form) = codes "--print"
+name_of (Bulk seed) = codes "--seed"
 
 option_of : Order → Text
 option_of (Replay form) = codes "print"
+option_of (Run form) = codes "print"
 option_of (Bulk seed) = codes "seed"
 
--- the words say this mode, and this value of its option
-says-Replay : (words : List Text) (f : Form) (g : Gives words (Replay f)) → Spells words (codes "replay") (codes "--print") g.value
-says-Replay words f g = subst (λ x. Spells words x (codes "--print") g.value) g.means.0 (subst (λ x. Spells words g.mode x g.value) g.means.1 g.spelt)
+respelt : (words : List Text) (mode mode' name name' : Text) (value : Option Text) → mode ≡ mode' → name ≡ name' → Spells words mode name value → Spells words mode' name' value
+respelt words mode mode' name name' value m n h = subst (λ x. Spells words x name' value) m (subst (λ x. Spells words mode x value) n h)
 
-says-Bulk : (words : List Text) (n : ℕ) (g : Gives words (Bulk n)) → Spells words (codes "bulk") (codes "--seed") g.value
-says-Bulk words n g = subst (λ x. Spells words x (codes "--seed") g.value) g.means.0 (subst (λ x. Spells words g.mode x g.value) g.means.1 g.spelt)
+-- the words say this mode, and this value of its option
+says : (words : List Text) (o : Order) (g : Gives words o) → Spells words (mode_of o) (name_of o) g.value
+unfolding mode_of name_of
+says words (Replay f) g = respelt words g.mode (codes "replay") g.name (codes "--print") g.value g.means.0 g.means.1 g.spelt
+says words (Run f) g = respelt words g.mode (codes "run") g.name (codes "--print") g.value g.means.0 g.means.1 g.spelt
+says words (Bulk n) g = respelt words g.mode (codes "bulk") g.name (codes "--seed") g.value g.means.0 g.means.1 g.spelt
 
 Reads-Gives : (words : List Text) (o : Order) (g : Gives words o) → Reads (mode_of o) (option_of o) g.value words
-unfolding mode_of option_of
-Reads-Gives words (Replay f) g = Reads-print words (codes "replay") g.value refl (IsPlain-form g.value f g.means.2) (says-Replay words f g)
-Reads-Gives words (Bulk n) g = Reads-seed words (codes "bulk") g.value refl (IsPlain-seed g.value n g.means.2) (says-Bulk words n g)
+unfolding mode_of name_of option_of
+Reads-Gives words (Replay f) g = Reads-print words (codes "replay") g.value refl (IsPlain-form g.value f g.means.2) (says words (Replay f) g)
+Reads-Gives words (Run f) g = Reads-print words (codes "run") g.value refl (IsPlain-form g.value f g.means.2) (says words (Run f) g)
+Reads-Gives words (Bulk n) g = Reads-seed words (codes "bulk") g.value refl (IsPlain-seed g.value n g.means.2) (says words (Bulk n) g)
 
 same_mode : (words : List Text) (m : Text) → Some m ≡ value_in (codes "mode") words → (o : Order) → Gives words o → m ≡ mode_of o
 same_mode words m e o g = same_Some m (mode_of o) (e ∙ (Reads-Gives words o g).mode_is)
 
-replay≢bulk : codes "replay" ≡ codes "bulk" → ⊥
+replay≢run : codes "replay" ≡ codes "run" → ⊥
+replay≢run e = omega (arith, ap length e)
+
+pub replay≢bulk : codes "replay" ≡ codes "bulk" → ⊥
 replay≢bulk e = omega (arith, ap length e)
+
+pub run≢bulk : codes "run" ≡ codes "bulk" → ⊥
+run≢bulk e = omega (arith, ap length e)
 
 -- ## if the words give no order
 
@@ -70,28 +87,34 @@ none-not_taken words e o g = true≢false (sym (Reads-Gives words o g).taken ∙
 pub none-no_mode : (words : List Text) → None ≡ value_in (codes "mode") words → (o : Order) → Gives words o → ⊥
 none-no_mode words e o g = none-some (mode_of o) (e ∙ (Reads-Gives words o g).mode_is)
 
-pub none-other_mode : (words : List Text) (m : Text) → Some m ≡ value_in (codes "mode") words → (m ≡ codes "replay" → ⊥) → (m ≡ codes "bulk" → ⊥) → (o : Order) → Gives words o → ⊥
+pub none-other_mode : (words : List Text) (m : Text) → Some m ≡ value_in (codes "mode") words → (m ≡ codes "replay" → ⊥) → (m ≡ codes "run" → ⊥) → (m ≡ codes "bulk" → ⊥) → (o : Order) → Gives words o → ⊥
 unfolding mode_of
-none-other_mode words m e r b (Replay f) g = r (same_mode words m e (Replay f) g)
-none-other_mode words m e r b (Bulk n) g = b (same_mode words m e (Bulk n) g)
+none-other_mode words m e p r b (Replay f) g = p (same_mode words m e (Replay f) g)
+none-other_mode words m e p r b (Run f) g = r (same_mode words m e (Run f) g)
+none-other_mode words m e p r b (Bulk n) g = b (same_mode words m e (Bulk n) g)
 
 -- what is said with the mode that the parser found, and with the value that it found, is what the words give
 module _ (words : List Text) (m : Text) (value : Option Text) (found : Some m ≡ value_in (codes "mode") words) where
-  pub none-no_form : m ≡ codes "replay" → value ≡ value_in (codes "print") words → ((f : Form) → SaysForm value f → Spells words m (codes "--print") value → ⊥) → (o : Order) → Gives words o → ⊥
-  unfolding mode_of option_of
-  none-no_form is e none (Replay f) g =
-      let same : g.value ≡ value = sym (Reads-Gives words (Replay f) g).value_is ∙ sym e in
-      none f (subst (λ v. SaysForm v f) same g.means.2)
-      (subst (Spells words m (codes "--print")) same (subst (λ x. Spells words x (codes "--print") g.value) (sym is) (says-Replay words f g)))
-  none-no_form is e none (Bulk n) g = replay≢bulk (sym is ∙ same_mode words m found (Bulk n) g)
+  said : (o : Order) (g : Gives words o) → value ≡ value_in (option_of o) words → g.value ≡ value
+  said o g e = sym (Reads-Gives words o g).value_is ∙ sym e
+
+  -- the words say the mode that the parser found, and the value that it found, of the option of the order
+  spelt : (o : Order) (g : Gives words o) → value ≡ value_in (option_of o) words → Spells words m (name_of o) value
+  spelt o g e =
+      subst (Spells words m (name_of o)) (said o g e)
+      (respelt words (mode_of o) m (name_of o) (name_of o) g.value (sym (same_mode words m found o g)) refl (says words o g))
+
+  pub none-no_form : (m ≡ codes "bulk" → ⊥) → value ≡ value_in (codes "print") words → ((f : Form) → SaysForm value f → Spells words m (codes "--print") value → ⊥) → (o : Order) → Gives words o → ⊥
+  unfolding mode_of name_of option_of
+  none-no_form not e none (Replay f) g = none f (subst (λ v. SaysForm v f) (said (Replay f) g e) g.means.2) (spelt (Replay f) g e)
+  none-no_form not e none (Run f) g = none f (subst (λ v. SaysForm v f) (said (Run f) g e) g.means.2) (spelt (Run f) g e)
+  none-no_form not e none (Bulk n) g = not (same_mode words m found (Bulk n) g)
 
   pub none-no_seed : m ≡ codes "bulk" → value ≡ value_in (codes "seed") words → ((n : ℕ) → SaysSeed value n → Spells words m (codes "--seed") value → ⊥) → (o : Order) → Gives words o → ⊥
-  unfolding mode_of option_of
+  unfolding mode_of name_of option_of
   none-no_seed is e none (Replay f) g = replay≢bulk (sym (same_mode words m found (Replay f) g) ∙ is)
-  none-no_seed is e none (Bulk n) g =
-      let same : g.value ≡ value = sym (Reads-Gives words (Bulk n) g).value_is ∙ sym e in
-      none n (subst (λ v. SaysSeed v n) same g.means.2)
-      (subst (Spells words m (codes "--seed")) same (subst (λ x. Spells words x (codes "--seed") g.value) (sym is) (says-Bulk words n g)))
+  none-no_seed is e none (Run f) g = run≢bulk (sym (same_mode words m found (Run f) g) ∙ is)
+  none-no_seed is e none (Bulk n) g = none n (subst (λ v. SaysSeed v n) (said (Bulk n) g e) g.means.2) (spelt (Bulk n) g e)
 
 -- ## one order
 
@@ -115,13 +138,25 @@ one_seed : (value : Option Text) (n k : ℕ) → SaysSeed value n → SaysSeed v
 one_seed None n k a b = a ∙ sym b
 one_seed (Some text) n k a b = a.value ∙ sym b.value
 
+-- two orders that the same words give have one mode
+one_mode : (words : List Text) (a b : Order) → Gives words a → Gives words b → mode_of a ≡ mode_of b
+one_mode words a b g h = same_mode words (mode_of a) (sym (Reads-Gives words a g).mode_is) b h
+
+-- and one value, if the parser has one name for their options
+one_value : (words : List Text) (a b : Order) (g : Gives words a) (h : Gives words b) → option_of b ≡ option_of a → h.value ≡ g.value
+one_value words a b g h e = sym (Reads-Gives words b h).value_is ∙ ap (λ id. value_in id words) e ∙ (Reads-Gives words a g).value_is
+
 pub one_order : (words : List Text) (a b : Order) → Gives words a → Gives words b → a ≡ b
 unfolding mode_of option_of
 one_order words (Replay f) (Replay k) g h =
-    let same = sym (Reads-Gives words (Replay k) h).value_is ∙ (Reads-Gives words (Replay f) g).value_is in
-    ap Replay (one_form g.value f k g.means.2 (subst (λ v. SaysForm v k) same h.means.2))
-one_order words (Replay f) (Bulk n) g h = absurd (replay≢bulk (same_mode words _ (sym (Reads-Gives words (Replay f) g).mode_is) (Bulk n) h))
-one_order words (Bulk n) (Replay f) g h = absurd (replay≢bulk (same_mode words _ (sym (Reads-Gives words (Replay f) h).mode_is) (Bulk n) g))
+    ap Replay (one_form g.value f k g.means.2 (subst (λ v. SaysForm v k) (one_value words (Replay f) (Replay k) g h refl) h.means.2))
+one_order words (Replay f) (Run k) g h = absurd (replay≢run (one_mode words (Replay f) (Run k) g h))
+one_order words (Replay f) (Bulk n) g h = absurd (replay≢bulk (one_mode words (Replay f) (Bulk n) g h))
+one_order words (Run f) (Replay k) g h = absurd (replay≢run (one_mode words (Replay k) (Run f) h g))
+one_order words (Run f) (Run k) g h =
+    ap Run (one_form g.value f k g.means.2 (subst (λ v. SaysForm v k) (one_value words (Run f) (Run k) g h refl) h.means.2))
+one_order words (Run f) (Bulk n) g h = absurd (run≢bulk (one_mode words (Run f) (Bulk n) g h))
+one_order words (Bulk n) (Replay f) g h = absurd (replay≢bulk (one_mode words (Replay f) (Bulk n) h g))
+one_order words (Bulk n) (Run f) g h = absurd (run≢bulk (one_mode words (Run f) (Bulk n) h g))
 one_order words (Bulk n) (Bulk k) g h =
-    let same = sym (Reads-Gives words (Bulk k) h).value_is ∙ (Reads-Gives words (Bulk n) g).value_is in
-    ap Bulk (one_seed g.value n k g.means.2 (subst (λ v. SaysSeed v k) same h.means.2))
+    ap Bulk (one_seed g.value n k g.means.2 (subst (λ v. SaysSeed v k) (one_value words (Bulk n) (Bulk k) g h refl) h.means.2))

@@ -7,7 +7,7 @@ use Rattle.ft_words.specs.declared.seed.TheConstants.{SEED_DIGITS}
 use Rattle.ft_words.specs.declared.order.Form.{Form}
 use Rattle.ft_words.specs.declared.order.Form.TheVariants.{Log, Function, Graph, Profile, Enabled}
 use Rattle.ft_words.specs.declared.order.Order.{Order}
-use Rattle.ft_words.specs.declared.order.Order.TheVariants.{Replay, Bulk}
+use Rattle.ft_words.specs.declared.order.Order.TheVariants.{Replay, Run, Bulk}
 
 -- a word: its bytes
 abbrev pub Text : Type 0
@@ -66,6 +66,7 @@ SaysSeed (Some text) seed = IsSeed text seed
 -- the order is that of this mode, and of this value of its option of this name if one is said
 abbrev pub Means : Text → Text → Option Text → Order → Type 0
 Means mode name value (Replay form) = (mode ≡ codes "replay") × (name ≡ codes "--print") × SaysForm value form
+Means mode name value (Run form) = (mode ≡ codes "run") × (name ≡ codes "--print") × SaysForm value form
 Means mode name value (Bulk seed) = (mode ≡ codes "bulk") × (name ≡ codes "--seed") × SaysSeed value seed
 
 -- the words are in the language, and give this order: they say a mode, and its option with a value if one is said

@@ -39,6 +39,9 @@ pub enum Form {
 pub enum Order {
     /// Carry out the script that the source gives, and print its history in this form.
     Replay(Form),
+    /// Carry out the script that the source gives with running threads, and print their history in
+    /// this form.
+    Run(Form),
     /// Carry out the script that is generated from this seed, and print a summary of its history.
     /// The source isn't read.
     Bulk(u32),

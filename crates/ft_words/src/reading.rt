@@ -82,8 +82,8 @@ fn read_seed(
 }
 
 /// Reads the words of the command, those after the program's name, as the crate's page says:
-/// `replay` with `--print FORM`, or `bulk` with `--seed N`. `Language` comes exactly if the words
-/// give no order; `NoMemory` may come in place of any answer.
+/// `replay` or `run` with `--print FORM`, or `bulk` with `--seed N`. `Language` comes exactly if the
+/// words give no order; `NoMemory` may come in place of any answer.
 pub fn read_words(alloc: Global, words: &[&str]) -> Result<Order, WordsFault>
     ensures gives { IfOk result (Gives (map (λ w. w.now) words.now)) }
     ensures language { result ≡ Err WordsFault.Language
@@ -96,6 +96,7 @@ pub fn read_words(alloc: Global, words: &[&str]) -> Result<Order, WordsFault>
     };
     match mode {
         "replay" => Ok(Order::Replay(read_form(alloc, words, mode, found.print)?)),
+        "run" => Ok(Order::Run(read_form(alloc, words, mode, found.print)?)),
         "bulk" => Ok(Order::Bulk(read_seed(alloc, words, mode, found.seed)?)),
         _ => Err(WordsFault::Language),
     }

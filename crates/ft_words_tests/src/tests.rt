@@ -4,7 +4,7 @@ use ft_words::{Form, Order, WordsFault, read_words};
 
 #[test]
 fn reads_the_language(rt: HostRuntime) {
-    let good: [(&[&str], Order); 48] = [
+    let good: [(&[&str], Order); 61] = [
         (&["replay"], Order::Replay(Form::Log)),
         (&["--", "replay"], Order::Replay(Form::Log)),
         (&["replay", "--"], Order::Replay(Form::Log)),
@@ -59,6 +59,19 @@ fn reads_the_language(rt: HostRuntime) {
             Order::Replay(Form::Enabled),
         ),
         (&["--print=log", "--", "replay"], Order::Replay(Form::Log)),
+        (&["run"], Order::Run(Form::Log)),
+        (&["--", "run"], Order::Run(Form::Log)),
+        (&["run", "--"], Order::Run(Form::Log)),
+        (&["run", "--print=log"], Order::Run(Form::Log)),
+        (&["run", "--print", "function"], Order::Run(Form::Function)),
+        (&["run", "--print", "graph"], Order::Run(Form::Graph)),
+        (&["run", "--print=graph"], Order::Run(Form::Graph)),
+        (&["run", "--print=profile"], Order::Run(Form::Profile)),
+        (&["run", "--print", "enabled"], Order::Run(Form::Enabled)),
+        (&["--print", "graph", "run"], Order::Run(Form::Graph)),
+        (&["--print", "graph", "--", "run"], Order::Run(Form::Graph)),
+        (&["--print=enabled", "run", "--"], Order::Run(Form::Enabled)),
+        (&["run", "--print=enabled", "--"], Order::Run(Form::Enabled)),
         (&["bulk"], Order::Bulk(1)),
         (&["--", "bulk"], Order::Bulk(1)),
         (&["bulk", "--"], Order::Bulk(1)),
@@ -103,11 +116,12 @@ fn reads_the_language(rt: HostRuntime) {
 
 #[test]
 fn refuses_other_words(rt: HostRuntime) {
-    let bad: [&[&str]; 44] = [
+    let bad: [&[&str]; 52] = [
         &[],
         &[""],
         &["frob"],
-        &["run"],
+        &["Run"],
+        &["run "],
         &["Replay"],
         &["repla"],
         &["Bulk"],
@@ -121,11 +135,17 @@ fn refuses_other_words(rt: HostRuntime) {
         &["replay", "--help"],
         &["bulk", "--help"],
         &["replay", "run"],
+        &["run", "replay"],
+        &["run", "run"],
+        &["run", "bulk"],
+        &["run", "--help"],
         &["replay", "replay"],
         &["replay", "bulk"],
         &["bulk", "bulk"],
-        &["run", "--print", "log"],
         &["run", "--seed", "1"],
+        &["run", "--", "run"],
+        &["--", "run", "--"],
+        &["--", "run", "--print", "log"],
         &["replay", "--", "replay"],
         &["replay", "--", "--"],
         &["--", "replay", "--"],
@@ -142,6 +162,7 @@ fn refuses_other_words(rt: HostRuntime) {
         &["bulk", "--see", "1"],
         &["bulk", "-s", "1"],
         &["replay", "--print=log", "--print=log"],
+        &["run", "--print=log", "--print=log"],
         &["replay", "--print", "log", "--print", "graph"],
         &["bulk", "--seed", "1", "--seed", "2"],
         &["bulk", "--seed=1", "--seed=1"],
@@ -160,7 +181,7 @@ fn refuses_other_words(rt: HostRuntime) {
 
 #[test]
 fn refuses_other_values(rt: HostRuntime) {
-    let bad: [&[&str]; 36] = [
+    let bad: [&[&str]; 41] = [
         &["replay", "--print"],
         &["replay", "--print="],
         &["replay", "--print", ""],
@@ -175,6 +196,9 @@ fn refuses_other_values(rt: HostRuntime) {
         &["replay", "--print", "graph,log"],
         &["replay", "--print", "modules"],
         &["replay", "--print", "1"],
+        &["run", "--print"],
+        &["run", "--print="],
+        &["run", "--print", "xml"],
         &["bulk", "--seed"],
         &["bulk", "--seed="],
         &["bulk", "--seed", ""],
@@ -195,8 +219,10 @@ fn refuses_other_values(rt: HostRuntime) {
         &["bulk", "--seed", "18446744073709551617"],
         // An option of the other mode, alone or beside its own.
         &["replay", "--seed", "1"],
+        &["run", "--seed=1"],
         &["bulk", "--print", "log"],
         &["replay", "--print", "log", "--seed", "1"],
+        &["run", "--print", "log", "--seed", "1"],
         &["bulk", "--print=log", "--seed=1"],
     ];
     for words in bad.iter() {
