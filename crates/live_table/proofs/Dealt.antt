@@ -1,0 +1,47 @@
+-- Seats after one more CPU was split off from control's.
+use Rattle.std.proofs.Common.{◌≡◌, ℕ, ◌+◌, ◌<◌, List, [], ◌∷◌, ◌++◌, length, slice_get, Some, refl, sym, ap, ◌∙◌, subst}
+use Rattle.atomic_table.specs.Table.{Me}
+use Rattle.ft_base.specs.Job.{Job}
+use Rattle.word_machine.specs.Limits.{IsLimited}
+use Rattle.control_core.specs.Seated.{Seated}
+use Rattle.cpu_core.specs.declared.parts.Parts.{Parts as CpuParts}
+use Rattle.machine_core.specs.Starts.{AreFirst, IsFirst}
+use Rattle.live_table.specs.declared.view.View.{View}
+use Rattle.live_table.specs.Seats.{ControlSits, CpuSits}
+use Rattle.live_table.specs.Views.{cpu_view, dealer, dealt, view}
+use Rattle.live_table.proofs.AtStart.{cpu-first}
+
+-- ## the next CPU
+
+pub get-middle : {A : Type 0} (xs : List A) (y : A) (zs : List A) → slice_get (xs ++ y ∷ zs) (length xs) ≡ Some y
+get-middle [] y zs = refl
+get-middle (x ∷ xs) y zs = get-middle xs y zs
+
+-- it has not stepped
+pub next-first : (job q : Job) (done left all : List CpuParts) (x : CpuParts) (n : ℕ) → AreFirst job all → done ++ x ∷ left ≡ all → q ≡ job → n ≡ length done
+    → IsFirst q n x
+next-first job q done left all x n first is same here =
+    subst (λ (u : Job × ℕ). IsFirst u.0 u.1 x) (λ i. (sym same i, sym here i))
+    (first.each (length done) x (ap (λ (l : List CpuParts). slice_get l (length done)) (sym is) ∙ get-middle done x left))
+
+-- ## seats
+
+-- control is as it was
+pub control-deals : {S : Type 0} (me m : Me S View) (x : Seated) → ControlSits me x → m ≡ (dealer me.0, me.1) → ControlSits {S = S} m x
+control-deals {S} me m x sits is =
+    subst (λ (u : Me S View). ControlSits {S = S} u x) (sym (is ∙ ap (λ (u : Me S View). (view me.0.job (me.0.split + 1) u.0.parts, u.1)) sits.view'))
+    record {
+      view' = refl;
+      limited = sits.limited;
+      is_for = sits.is_for;
+      fed = sits.fed;
+      marked = sits.marked;
+      rising = sits.rising;
+      next = sits.next;
+    }
+
+-- the CPU is as it was before its first step
+pub cpu-deals : {S : Type 0} (v : View) (m : Me S View) (job : Job) (c : ℕ) (x : CpuParts) → IsLimited job → v.job ≡ job → v.split ≡ c
+    → c < length job.quanta → m ≡ (dealt v, []) → IsFirst job c x → CpuSits {S = S} m c x
+cpu-deals v m job c x l same number inside is first =
+    cpu-first m job c x l inside (is ∙ (λ i. (cpu_view (same i) (number i) [], []))) first

@@ -1,0 +1,141 @@
+-- All seats together: what their actors have marked is the history of which the rule speaks.
+use Rattle.std.proofs.Common.{◌≡◌, ℕ, zero, suc, ◌+◌, ◌*◌, ◌<◌, ◌≤◌, List, [], ◌∷◌, ◌++◌, length, map, reverse, slice_get, Some, None, refl, sym, ap, ◌∙◌, subst, arith}
+use Rattle.std.proofs.lemmas.List.{reverse-reverse}
+use Rattle.std.proofs.lemmas.Option.{same_Some}
+use mathlib.Core.Option.{some}
+use lib.ListN.{get_elem?}
+use Rattle.atomic_table.specs.Table.{State}
+use Rattle.ft_base.specs.declared.item.Item.{Item}
+use Rattle.ft_base.specs.declared.turn.Actor.{Actor}
+use Rattle.ft_base.specs.declared.turn.Actor.TheVariants.{Control as ByControl}
+use Rattle.ft_base.specs.Job.{Job, commands}
+use Rattle.ft_hist.specs.Placing.{ArePlaced, past_below, total}
+use Rattle.ft_hist.specs.Rules.{IsLegal, IsLegalPast, IsWhole}
+use Rattle.user_specs.specs.Bound.{call_bound_of}
+use Rattle.history_bound.specs.Bound.{all_calls}
+use Rattle.history_bound.proofs.Bounded.{history-most}
+use Rattle.word_machine.specs.Control.{control_next}
+use Rattle.word_machine.specs.Cpu.{cpu_next}
+use Rattle.word_machine.specs.Machine.{World}
+use Rattle.word_machine.proofs.Ends.{whole}
+use Rattle.word_machine.proofs.Limited.{limited as word-job}
+use Rattle.ft_machine.specs.Fed.{control_fed, control_items, cpu_fed, cpu_items}
+use Rattle.live_table.specs.declared.view.Part.{Part}
+use Rattle.live_table.specs.declared.view.View.{View}
+use Rattle.live_table.specs.Laws.{IsAlwaysLegal}
+use Rattle.live_table.specs.Recorded.{cpu, cpu_lists, lists}
+use Rattle.live_table.specs.Rule.{LiveRule, world_with}
+use Rattle.live_table.specs.Seats.{AreAtEnd, AreSeats, Board, ControlPlace, CpuPlace, history_of, items_at, lists_at, parts_of}
+use Rattle.live_table.specs.Views.{part, view}
+use Rattle.live_table.proofs.Ends.{all-ended}
+
+-- ## lists of seats
+
+parts-at : (ss : List CpuPlace) (k : ℕ) (s : CpuPlace) → slice_get ss k ≡ Some s → get_elem? (parts_of ss) k ≡ some (part (cpu s.number) s.values)
+parts-at [] k s e = absurd (cc)
+parts-at (x ∷ xs) zero s e = ap (λ (z : CpuPlace). some (part (cpu z.number) z.values)) (same_Some x s e)
+parts-at (x ∷ xs) (suc k) s e = parts-at xs k s e
+
+seat-at : (ss : List CpuPlace) (k : ℕ) → k < length ss → (s : CpuPlace) × (slice_get ss k ≡ Some s)
+seat-at [] k lt = absurd (omega (arith, lt))
+seat-at (x ∷ xs) zero lt = (x, refl)
+seat-at (x ∷ xs) (suc k) lt = seat-at xs k (omega (arith, lt))
+
+lists-from : (job : Job) (values : Actor → List ℕ) (ss : List CpuPlace) (c : ℕ)
+    → ((k : ℕ) (s : CpuPlace) → slice_get ss k ≡ Some s → cpu_items job (c + k) (values (cpu (c + k))) ≡ items_at s)
+    → cpu_lists job values c (length ss) ≡ map items_at ss
+lists-from job values [] c same = refl
+lists-from job values (s ∷ ss) c same = λ i. here i ∷ lists-from job values ss (suc c) (λ k x e. later k ∙ same (suc k) x e) i
+  where
+    here : cpu_items job c (values (cpu c)) ≡ items_at s
+    here = let e : c ≡ c + 0 = omega arith in ap (λ n. cpu_items job n (values (cpu n))) e ∙ same 0 s refl
+
+    later : (k : ℕ) → cpu_items job (suc c + k) (values (cpu (suc c + k))) ≡ cpu_items job (c + suc k) (values (cpu (c + suc k)))
+    later k = let e : suc c + k ≡ c + suc k = omega arith in ap (λ n. cpu_items job n (values (cpu n))) e
+
+-- one more seat that is joined
+pub parts-more : (ss : List CpuPlace) (s : CpuPlace) → parts_of (ss ++ s ∷ []) ≡ parts_of ss ++ part (cpu s.number) s.values ∷ []
+parts-more [] s = refl
+parts-more (x ∷ xs) s = ap (λ (l : List Part). part (cpu x.number) x.values ∷ l) (parts-more xs s)
+
+-- ## the history
+
+legal-turned : (job : Job) (past : List Item) → IsLegalPast job past → IsLegal job (reverse past)
+unfolding IsLegal
+legal-turned job past l = subst (IsLegalPast job) (sym (reverse-reverse past)) l
+
+pub always-legal : IsAlwaysLegal
+always-legal job t r = (r.runs.kept, legal-turned job r.past r.runs.kept.legal)
+
+-- What the seats of a table have marked, once all are joined.
+--   placed   each place has one item
+--   few      there are no more items than the job can make
+--   legal    the history is legal
+--   whole'   it is whole, if each seat is at its end
+pub record Gathered (job : Job) (control : ControlPlace) (cpus : List CpuPlace) : Type 0 where
+  pub placed : ArePlaced (total (lists_at control cpus)) (lists_at control cpus)
+  pub few : total (lists_at control cpus) ≤ 2 * length (commands job) + call_bound_of job.users * all_calls job.tasks
+  pub legal : IsLegal job (history_of control cpus)
+  pub whole' : AreAtEnd control cpus → IsWhole job (history_of control cpus)
+
+module _ {S : Type 0} (b : Board) (control : ControlPlace) (cpus : List CpuPlace) (id : ℕ) (t : State S View)
+    (same : control.job ≡ b.job) (seats : AreSeats b cpus) (r : LiveRule b.job t)
+    (at : get_elem? t.views id ≡ some (view control.job control.split (part ByControl control.values ∷ parts_of cpus))) where
+  abbrev all : View
+  all = view control.job control.split (part ByControl control.values ∷ parts_of cpus)
+
+  abbrev s : World
+  s = world_with b.job t.words r.values r.past
+
+  control-has : control.values ≡ r.values ByControl
+  control-has = (r.covers.fits id all at 0 (part ByControl control.values) refl).has
+
+  cpu-has : (k : ℕ) (x : CpuPlace) → slice_get cpus k ≡ Some x → x.values ≡ r.values (cpu k)
+  cpu-has k x e =
+      (r.covers.fits id all at (suc k) (part (cpu x.number) x.values) (parts-at cpus k x e)).has ∙ ap (λ c. r.values (cpu c)) (seats.each k x e).1
+
+  -- the lists of the rule are those of the seats
+  lists-are : lists b.job r.values ≡ lists_at control cpus
+  lists-are =
+      let rest : cpu_lists b.job r.values 0 (length b.job.quanta) ≡ map items_at cpus =
+      ap (cpu_lists b.job r.values 0) (sym seats.count)
+      ∙ lists-from b.job r.values cpus 0
+      (λ k x e.
+      let n = seats.each k x e in
+      let z : 0 + k ≡ k = omega arith in
+      ap (λ c. cpu_items b.job c (r.values (cpu c))) z ∙ (λ i. cpu_items (sym n.0.1 i) (sym n.1 i) (sym (cpu-has k x e) i))) in
+      λ i. control_items (sym same i) (sym control-has i) ∷ rest i
+
+  placed-past : ArePlaced (length r.past) (lists_at control cpus)
+  placed-past = subst (λ ls. ArePlaced (length r.past) ls) lists-are r.recorded.placed
+
+  many : total (lists_at control cpus) ≡ length r.past
+  many = placed-past.count
+
+  history-is : history_of control cpus ≡ reverse r.past
+  history-is = ap (λ (past : List Item). reverse past) (sym (r.recorded.items ∙ (λ i. past_below (lists-are i) (sym many i))))
+
+  control-over : AreAtEnd control cpus → control_next b.job s.control ≡ None
+  control-over over = (λ i. control_next (sym same i) (control_fed (sym same i) (sym control-has i))) ∙ over.control_over
+
+  cpu-over : AreAtEnd control cpus → (c : ℕ) → c < length b.job.quanta → cpu_next b.job (s.cpus c) ≡ None
+  cpu-over over c inside =
+      let x = seat-at cpus c (let n = seats.count in omega (arith, n, inside)) in
+      let n = seats.each c x.0 x.1 in
+      (λ i. cpu_next (sym n.0.1 i) (cpu_fed (sym n.0.1 i) (sym n.1 i) (sym (cpu-has c x.0 x.1) i))) ∙ over.cpus_over c x.0 x.1
+
+  all-gathered : Gathered b.job control cpus
+  all-gathered = record {
+    placed = subst (λ n. ArePlaced n (lists_at control cpus)) (sym many) placed-past;
+    few = (let most = history-most b.job r.past r.runs.kept.legal in let e = many in omega (arith, most, e));
+    legal = subst (IsLegal b.job) (sym history-is) (legal-turned b.job r.past r.runs.kept.legal);
+    whole' = λ over. subst (IsWhole b.job) (sym history-is)
+        (whole b.job (word-job b.job r.limited) s r.runs.kept (all-ended b.job s r.runs.kept (control-over over) (cpu-over over)));
+  }
+
+-- at a table and a seat that are known
+pub gathered : {S : Type 0} (b : Board) (control : ControlPlace) (cpus : List CpuPlace) (id : ℕ) (t : State S View) (key : Job) (v : View)
+    → key ≡ b.job → control.job ≡ b.job → AreSeats b cpus → LiveRule key t → get_elem? t.views id ≡ some v
+    → v ≡ view control.job control.split (part ByControl control.values ∷ parts_of cpus) → Gathered b.job control cpus
+gathered {S} b control cpus id t key v is same seats r at last =
+    all-gathered b control cpus id t same seats (subst (λ (job : Job). LiveRule {S = S} job t) is r) (at ∙ ap (λ (u : View). some u) last)

@@ -1,0 +1,17 @@
+pub mod Values
+pub mod Recording
+pub mod Tables
+pub mod CpuRows
+pub mod ControlRows
+pub mod Moves
+pub mod Opening
+pub mod Seating
+pub mod Ends
+pub mod Gathering
+pub mod Rising
+pub mod CpuStep
+pub mod ControlStep
+pub mod AtStart
+pub mod Dealt
+pub mod Joined
+pub mod Sent

@@ -1,0 +1,41 @@
+-- The rule held to the end, so what the seats have marked is the history of which it spoke.
+use Rattle.std.proofs.Common.{sym, ap, ◌∙◌, ◌+◌, ◌*◌, length, subst, arith}
+use Rattle.ft_base.specs.Job.{Job, commands}
+use Rattle.ft_hist.specs.Placing.{ArePlaced, by_place, total}
+use Rattle.ft_hist.specs.Rules.{IsLegal, IsWhole}
+use Rattle.user_specs.specs.Bound.{call_bound_of}
+use Rattle.history_bound.specs.Bound.{all_calls}
+use Rattle.live_table.proofs.Gathering.{Gathered, gathered}
+use Rattle.live_table.proofs.live.Live.gather.Goals as goal
+use Rattle.live_table.proofs.live.Live.gather.Goals.{After-settle}
+
+all : (c : After-settle) → Gathered c.args.self.job c.args.control c.args.cpus.items
+all c =
+    let t = c.settle.ensures in
+    gathered c.args.self c.args.control c.args.cpus.items _ t.0 _ _ (ap (λ b. b.job) c.self.view_is) c.requires.control.1 c.requires.cpus t.1 t.2
+    c.join_all-seat.ensures.parts
+
+pub merge-requires-clause-empty : goal.merge-requires-clause-empty
+merge-requires-clause-empty c = c.self.invariant.empty
+
+pub merge-requires-clause-space : goal.merge-requires-clause-space
+merge-requires-clause-space c =
+    let few = (all (goal.at.merge-requires-clause-space c).After-settle).few in
+    let space = c.self.invariant.space in
+    let same = ap (λ (j : Job). 2 * length (commands j) + call_bound_of j.users * all_calls j.tasks) (ap (λ b. b.job) c.self.view_is) in
+    let many = ap total c.join_all-seat.ensures.lists in
+    omega (arith, few, space, same, many)
+
+pub merge-requires-clause-places : goal.merge-requires-clause-places
+merge-requires-clause-places c =
+    subst (λ ls. ArePlaced (total ls) ls) (sym c.join_all-seat.ensures.lists) (all (goal.at.merge-requires-clause-places c).After-settle).placed
+
+pub returns-clause-legal : goal.returns-clause-legal
+returns-clause-legal c =
+    let same = c.merge.ensures ∙ ap by_place c.join_all-seat.ensures.lists in
+    subst (IsLegal c.args.self.job) (sym same) (all (goal.at.returns-clause-legal c).After-settle).legal
+
+pub returns-clause-whole : goal.returns-clause-whole
+returns-clause-whole c =
+    let same = c.merge.ensures ∙ ap by_place c.join_all-seat.ensures.lists in
+    λ over. subst (IsWhole c.args.self.job) (sym same) ((all (goal.at.returns-clause-whole c).After-settle).whole' over)

@@ -1,0 +1,31 @@
+-- What the rule of the table says at any moment.
+use Rattle.std.specs.Prelude.{ℕ, ◌≡◌, ◌≤◌, reverse}
+use mathlib.Core.Option.{some}
+use lib.ListN.{get_elem?}
+use Rattle.atomic_table.specs.Table.{State}
+use Rattle.ft_base.specs.Job.{Job}
+use Rattle.ft_hist.specs.Rules.{IsLegal}
+use Rattle.word_machine.specs.Cpu.{cpu_start}
+use Rattle.word_machine.specs.Rule.{MachineRule}
+use Rattle.live_table.specs.declared.view.Part.{Part}
+use Rattle.live_table.specs.declared.view.View.{View}
+use Rattle.live_table.specs.Rule.{LiveRule, world_with}
+
+-- no actor stands in two views
+abbrev pub OneSeatEach : Type 0
+OneSeatEach =
+    (job : Job) (t : State (Unit {0}) View) (i j : ℕ) (v w : View) (k l : ℕ) (x y : Part)
+    → LiveRule job t → get_elem? t.views i ≡ some v → get_elem? v.parts k ≡ some x → get_elem? t.views j ≡ some w → get_elem? w.parts l ≡ some y
+    → x.actor ≡ y.actor → i ≡ j
+
+-- the state keeps the word machine's rule, and its history is legal
+abbrev pub IsAlwaysLegal : Type 0
+IsAlwaysLegal =
+    (job : Job) (t : State (Unit {0}) View) → (r : LiveRule job t)
+    → MachineRule job (world_with job t.words r.values r.past) × IsLegal job (reverse r.past)
+
+-- a CPU that was not split off is as at the start
+abbrev pub UnsplitHaveNotStepped : Type 0
+UnsplitHaveNotStepped =
+    (job : Job) (t : State (Unit {0}) View) → (r : LiveRule job t) → (c : ℕ) → r.split ≤ c
+    → (world_with job t.words r.values r.past).cpus c ≡ cpu_start job c

@@ -1,0 +1,7 @@
+pub mod Operations
+pub mod Recorded
+pub mod Views
+pub mod Rule
+pub mod Seats
+pub mod Steps
+pub mod Laws

@@ -1,0 +1,160 @@
+-- What contracts see of the table and of seats.
+use Rattle.std.specs.Prelude.{ℕ, ◌≡◌, ◌+◌, ◌*◌, ◌<◌, ◌≤◌, List, [], ◌∷◌, length, map, slice_get, Some, None}
+use Rattle.atomic_table.specs.Seated.{TableId}
+use Rattle.atomic_table.specs.Table.{Me}
+use Rattle.ft_base.specs.declared.item.Item.{Item}
+use Rattle.ft_base.specs.declared.item.Stamped.{Stamped}
+use Rattle.ft_base.specs.Job.{Job, commands}
+use Rattle.ft_hist.specs.Placing.{by_place}
+use Rattle.ft_hist.specs.Shown.{Shown}
+use Rattle.user_specs.specs.Bound.{call_bound_of}
+use Rattle.history_bound.specs.Bound.{all_calls}
+use Rattle.word_map.specs.Places.{len}
+use Rattle.word_map.specs.Shapes.{shape_of}
+use Rattle.word_machine.specs.Control.{Control, control_next}
+use Rattle.word_machine.specs.Cpu.{Cpu, cpu_next}
+use Rattle.word_machine.specs.Laws.{IsOnWord, room_on}
+use Rattle.word_machine.specs.Limits.{IsLimited}
+use Rattle.control_core.specs.Seated.{Seated, control_of}
+use Rattle.control_core.specs.Seated as control
+use Rattle.cpu_core.specs.declared.parts.Parts.{Parts as CpuParts}
+use Rattle.cpu_core.specs.Cpus.{cpu_of}
+use Rattle.cpu_core.specs.Cpus as cpu
+use Rattle.ft_machine.specs.Fed.{control_fed, control_items, cpu_fed, cpu_items}
+use Rattle.live_table.specs.declared.view.Part.{Part}
+use Rattle.live_table.specs.declared.view.View.{View}
+use Rattle.live_table.specs.Recorded.{cpu as cpu_actor}
+use Rattle.live_table.specs.Views.{control_view, cpu_view, part, values_of}
+
+-- ## the table
+
+-- which table it is, and the job
+pub record Board : Type 0 where
+  pub table_id : TableId
+  pub job : Job
+
+-- the table is the job's, and has room for all items that the job can make
+pub record IsTable (b : Board) (room : Shown) : Type 0 where
+  pub limited : IsLimited b.job
+  pub words : b.table_id.words ≡ len (shape_of b.job)
+  pub slots : b.table_id.slots ≡ 0
+  pub empty : room.items ≡ []
+  pub space : 2 * length (commands b.job) + call_bound_of b.job.users * all_calls b.job.tasks ≤ room.spare
+
+-- ## seats
+
+-- a CPU's seat: its table, its id there, the job, the CPU's number, and the values that it has taken
+pub record CpuPlace : Type 0 where
+  pub table_id : TableId
+  pub id : ℕ
+  pub job : Job
+  pub number : ℕ
+  pub values : List ℕ
+
+-- control's seat: besides, how many CPUs were split off
+pub record ControlPlace : Type 0 where
+  pub table_id : TableId
+  pub id : ℕ
+  pub job : Job
+  pub split : ℕ
+  pub values : List ℕ
+
+-- places that increase
+abbrev pub IsRising : List Stamped → Type 0
+IsRising items = (j k : ℕ) (x y : Stamped) → j < k → slice_get items j ≡ Some x → slice_get items k ≡ Some y → x.place < y.place
+
+-- What a CPU's seat keeps.
+--   view'          the seat knows the CPU's values, and nothing else
+--   limited, is_for, within   the CPU is one of the job's
+--   fed            it is what these values make of it
+--   marked, rising the items that it has marked are those values', and their places increase
+--   room           it has room for all that it can mark
+--   next           its next operation is on a word of the job
+pub record CpuSits {S : Type 0} (me : Me S View) (c : ℕ) (x : CpuParts) : Type 0 where
+  pub view' : me ≡ (cpu_view me.0.job c (values_of me.0.parts), [])
+  pub limited : IsLimited me.0.job
+  pub is_for : cpu.IsFor me.0.job x
+  pub within : c < length me.0.job.quanta
+  pub fed : cpu_of me.0.job x ≡ cpu_fed me.0.job c (values_of me.0.parts)
+  pub marked : x.marked.items ≡ cpu_items me.0.job c (values_of me.0.parts)
+  pub rising : IsRising x.marked.items
+  pub room : x.marked.room ≡ room_on me.0.job c
+  pub next : IsOnWord me.0.job (cpu_next me.0.job (cpu_of me.0.job x))
+
+-- what control's keeps
+pub record ControlSits {S : Type 0} (me : Me S View) (x : Seated) : Type 0 where
+  pub view' : me ≡ (control_view me.0.job me.0.split (values_of me.0.parts), [])
+  pub limited : IsLimited me.0.job
+  pub is_for : control.IsFor me.0.job x
+  pub fed : control_of x ≡ control_fed me.0.job (values_of me.0.parts)
+  pub marked : x.items ≡ control_items me.0.job (values_of me.0.parts)
+  pub rising : IsRising x.items
+  pub next : IsOnWord me.0.job (control_next me.0.job (control_of x))
+
+-- the CPU that sits there
+abbrev pub cpu_at : CpuPlace → Cpu
+cpu_at s = cpu_fed s.job s.number s.values
+
+-- the control that sits there
+abbrev pub control_at : ControlPlace → Control
+control_at s = control_fed s.job s.values
+
+-- what the CPU has marked
+abbrev pub items_at : CpuPlace → List Stamped
+items_at s = cpu_items s.job s.number s.values
+
+-- what control has marked
+abbrev pub control_items_at : ControlPlace → List Stamped
+control_items_at s = control_items s.job s.values
+
+-- ## the seats of a table
+
+-- control has not stepped, and so many CPUs were split off
+abbrev pub IsOpen : Board → ControlPlace → ℕ → Type 0
+IsOpen b s split = (s.table_id ≡ b.table_id) × (s.job ≡ b.job) × (s.split ≡ split) × (s.values ≡ [])
+
+-- one more CPU was split off
+abbrev pub IsDealt : ControlPlace → ControlPlace → Type 0
+IsDealt s t = t ≡ record { table_id = s.table_id; id = s.id; job = s.job; split = s.split + 1; values = s.values }
+
+-- the seat of CPU c, which has not stepped
+abbrev pub IsNewCpu : Board → CpuPlace → ℕ → Type 0
+IsNewCpu b s c = (s.table_id ≡ b.table_id) × (s.job ≡ b.job) × (s.number ≡ c) × (s.values ≡ [])
+
+-- these are the seats of the table's CPUs in order, and none has stepped
+pub record AreNew (b : Board) (cpus : List CpuPlace) : Type 0 where
+  pub count : length cpus ≡ length b.job.quanta
+  pub each : (k : ℕ) (s : CpuPlace) → slice_get cpus k ≡ Some s → IsNewCpu b s k
+
+-- a seat of the table
+abbrev pub SitsAt : Board → CpuPlace → Type 0
+SitsAt b s = (s.table_id ≡ b.table_id) × (s.job ≡ b.job)
+
+-- control's seat at the table
+abbrev pub ControlSitsAt : Board → ControlPlace → Type 0
+ControlSitsAt b s = (s.table_id ≡ b.table_id) × (s.job ≡ b.job)
+
+-- these are the seats of the table's CPUs in order
+pub record AreSeats (b : Board) (cpus : List CpuPlace) : Type 0 where
+  pub count : length cpus ≡ length b.job.quanta
+  pub each : (k : ℕ) (s : CpuPlace) → slice_get cpus k ≡ Some s → SitsAt b s × (s.number ≡ k)
+
+-- ## all seats together
+
+-- what they know of their actors
+abbrev pub parts_of : List CpuPlace → List Part
+parts_of [] = []
+parts_of (s ∷ ss) = part (cpu_actor s.number) s.values ∷ parts_of ss
+
+-- what all have marked
+abbrev pub lists_at : ControlPlace → List CpuPlace → List (List Stamped)
+lists_at control cpus = control_items_at control ∷ map items_at cpus
+
+-- the history that they make
+abbrev pub history_of : ControlPlace → List CpuPlace → List Item
+history_of control cpus = by_place (lists_at control cpus)
+
+-- each is at its end
+pub record AreAtEnd (control : ControlPlace) (cpus : List CpuPlace) : Type 0 where
+  pub control_over : control_next control.job (control_at control) ≡ None
+  pub cpus_over : (k : ℕ) (s : CpuPlace) → slice_get cpus k ≡ Some s → cpu_next s.job (cpu_at s) ≡ None

@@ -1,0 +1,107 @@
+-- What seats know: their views, what a step adds to one, and what it tells.
+use Rattle.std.specs.Prelude.{ℕ, ◌≡◌, ◌+◌, ◌<◌, List, [], ◌∷◌, ◌++◌, length, Some, Option, IsSome}
+use Rattle.atomic_table.specs.Table.{Me}
+use Rattle.ft_base.specs.declared.item.Item.{Item}
+use Rattle.ft_base.specs.declared.item.Stamped.{Stamped}
+use Rattle.ft_base.specs.declared.turn.Actor.{Actor}
+use Rattle.ft_base.specs.declared.turn.Actor.TheVariants.{Control as ByControl, Cpu as ByCpu}
+use Rattle.ft_base.specs.Job.{Job}
+use Rattle.ft_hist.specs.Placing.{AreCounted}
+use Rattle.word_map.specs.Contents.{low}
+use Rattle.word_map.specs.Ops.{WordOp, Mark}
+use Rattle.word_machine.specs.Control.{control_next}
+use Rattle.word_machine.specs.Cpu.{cpu_next}
+use Rattle.word_machine.specs.Laws.{CpuTakes, IsOnWord, room_on}
+use Rattle.cpu_core.specs.TaskOps.{item_in}
+use Rattle.ft_machine.specs.Fed.{control_fed, control_items, cpu_fed, cpu_items}
+use Rattle.live_table.specs.declared.view.Part.{Part}
+use Rattle.live_table.specs.declared.view.View.{View}
+use Rattle.live_table.specs.Recorded.{cpu}
+
+-- ## views
+
+-- an actor, with the values that it has taken
+abbrev pub part : Actor → List ℕ → Part
+part a values = record { actor = a; values = values }
+
+-- a seat's view: the job, how many CPUs were split off, the seat's own actor, and those of the seats that joined it
+abbrev pub view : Job → ℕ → List Part → View
+view job split parts = record { job = job; split = split; parts = parts }
+
+-- control's, after so many CPUs were split off
+abbrev pub control_view : Job → ℕ → List ℕ → View
+control_view job split values = view job split (part ByControl values ∷ [])
+
+-- CPU c's
+abbrev pub cpu_view : Job → ℕ → List ℕ → View
+cpu_view job c values = view job 0 (part (cpu c) values ∷ [])
+
+-- a job of nobody
+abbrev pub no_job : Job
+no_job = record { functions = []; users = []; frames = 0; tramps = 0; quanta = []; tasks = []; ctls = []; schedule = [] }
+
+-- the view of a seat that has joined another
+abbrev pub spent : View
+spent = view no_job 0 []
+
+-- the values of the seat's own actor
+abbrev pub values_of : List Part → List ℕ
+values_of [] = []
+values_of (x ∷ xs) = x.values
+
+-- ## moves
+
+-- the first of these takes a value
+abbrev pub took_in : ℕ → List Part → List Part
+took_in v [] = []
+took_in v (x ∷ xs) = part x.actor (x.values ++ v ∷ []) ∷ xs
+
+-- the seat's own actor takes a value
+abbrev pub took : View → ℕ → View
+took w v = view w.job w.split (took_in v w.parts)
+
+-- control's view after one more CPU was split off
+abbrev pub dealer : View → View
+dealer v = view v.job (v.split + 1) v.parts
+
+-- the view of that CPU
+abbrev pub dealt : View → View
+dealt v = cpu_view v.job v.split []
+
+-- the view of a seat that another joined
+abbrev pub joined : View → View → View
+joined v w = view v.job v.split (v.parts ++ w.parts)
+
+-- ## what a step tells
+
+-- Of an operation that gave v, if the actor had marked these items, and of the operation after it.
+--   rising   the place of a mark is after those of the items
+--   next     the next operation is on a word of the job
+pub record IsTold (job : Job) (items : List Stamped) (op next : Option WordOp) (v : ℕ) : Type 0 where
+  pub rising : (item : Item) → op ≡ Some (Mark item) → AreCounted (low v) items
+  pub next' : IsOnWord job next
+
+-- of control's
+abbrev pub ControlTold : Job → ℕ → List ℕ → Type 0
+ControlTold job v values =
+    IsTold job (control_items job values) (control_next job (control_fed job values)) (control_next job (control_fed job (values ++ v ∷ []))) v
+
+-- of CPU c's: besides, the value fits, and there is room for what is marked
+pub record CpuTold (job : Job) (c v : ℕ) (values : List ℕ) : Type 0 where
+  pub fits : CpuTakes job (cpu_fed job c values) v
+  pub room : IsSome (item_in (cpu_next job (cpu_fed job c values))) → length (cpu_items job c values) < room_on job c
+  pub told : IsTold job (cpu_items job c values) (cpu_next job (cpu_fed job c values)) (cpu_next job (cpu_fed job c (values ++ v ∷ []))) v
+
+-- of an actor's
+abbrev pub ToldAt : Job → ℕ → List ℕ → Actor → Type 0
+ToldAt job v values ByControl = ControlTold job v values
+ToldAt job v values (ByCpu c) = CpuTold job c.0 v values
+
+-- of the seat's own actor's
+abbrev pub ToldIn : Job → ℕ → List Part → Type 0
+ToldIn job v [] = ⊥
+ToldIn job v (x ∷ xs) = ToldAt job v x.values x.actor
+
+-- the seat's own actor takes a value, and what is told of it
+abbrev pub TakesOne : {S : Type 0} → Me S View → ℕ → Me S View → Type 0
+TakesOne m v n = (n ≡ (took m.0 v, m.1)) × ToldIn m.0.job v m.0.parts

@@ -1,0 +1,26 @@
+//! Running threads: the words of a machine in a table that threads share, and a seat for each actor.
+//!
+//! A *seat* steps with one actor: control or a CPU. Each step is a single atomic operation on one word
+//! of the table, the same that the actor's stepper makes in a replay, with whatever value the word
+//! holds at that moment. A seat knows the values that its actor has taken, and nothing else; from these
+//! alone follows what its actor is. So the seats may step at the same time, in any order of their
+//! operations.
+//!
+//! Promised: from the start on, between any two operations of any threads, the words and the actors
+//! make up a state of the word machine that keeps that machine's rule ([`Rules`], `specs/Rule`); a step
+//! makes exactly the next operation, or answers that there is none; the history that the seats' items
+//! make is legal, and whole if each seat is at its end. Steps take no memory and never wait. That two
+//! threads step at the same time is only tested.
+#![tactic(auto)]
+
+pub mod laws;
+mod live;
+mod rule;
+mod seats;
+mod table;
+mod view;
+
+pub use live::{GatherFault, Going, Live, Started};
+pub use rule::{Deals, Gathers, Puts, Rules, Takes};
+pub use seats::{ControlSeat, CpuSeat};
+pub use view::{Part, View};

@@ -1,0 +1,233 @@
+//! The words that threads share, and the steps of their seats.
+
+ghost use Rattle.std.specs.Prelude.{◌≡◌, ◌+◌, ◌<◌, ◌≤◌, [], ◌∷◌, length, vec_capacity, IfErr, IfOk};
+ghost use Rattle.ft_base.specs.declared.turn.Actor.TheVariants as Actor;
+ghost use Rattle.ft_hist.specs.Placing.{items_of};
+ghost use Rattle.ft_hist.specs.Rules.{IsLegal, IsWhole};
+ghost use Rattle.machine_core.specs.Starts.{AreFirst, IsFirst};
+ghost use Rattle.live_table.specs.Seats.{AreAtEnd, AreNew, AreSeats, ControlSitsAt, IsDealt, IsNewCpu, IsOpen, SitsAt, history_of, lists_at, parts_of};
+ghost use Rattle.live_table.specs.Steps.{ControlSteps, CpuSteps};
+ghost use Rattle.live_table.specs.Views.{part, view};
+
+use crate::rule::{Deals, Gathers, Rules};
+use crate::seats::{ControlSeat, CpuSeat};
+use crate::table::{make, open, settle};
+use crate::view::View;
+use atomic_table::{Seat, Table};
+use cpu_core::Cpu;
+use ft_base::{CpuNo, NoMemory, Stamped};
+use ft_hist::{History, merge};
+use ft_machine::{Job, Machine, WorldParts};
+use std::alloc::Global;
+use std::marker::Model;
+
+/// The words that threads share. Contracts see which table it is, and the job.
+#[derive(Drop)]
+pub struct Live {
+    table: Table<(), View, Job, Rules, Global>,
+    /// Empty, with room for all items that the job can make.
+    room: History,
+}
+
+impl Model for Live {
+    ghost use Rattle.live_table.specs.Seats.{Board, IsTable};
+
+    ghost Value = { Board };
+
+    ghost view = { λ l. record { table_id = l.table.shared.table_id; job = l.table.shared.key } };
+
+    ghost invariant = { λ l. IsTable (record { table_id = l.table.shared.table_id; job = l.table.shared.key }) l.room };
+}
+
+/// A job before its first step, with a seat for each actor.
+#[derive(Drop)]
+pub struct Started {
+    /// The words.
+    pub live: Live,
+    /// Control's seat.
+    pub control: ControlSeat,
+    /// The CPUs' seats by number.
+    pub cpus: Vec<CpuSeat>,
+}
+
+/// Memory ran out. All comes back as it was.
+#[derive(Drop)]
+pub struct GatherFault {
+    /// The words.
+    pub live: Live,
+    /// Control's seat.
+    pub control: ControlSeat,
+    /// The CPUs' seats by number.
+    pub cpus: Vec<CpuSeat>,
+}
+
+/// Whether a step was made.
+#[derive(Clone, Copy, Debug, PartialEq, Eq)]
+pub enum Going {
+    /// It was.
+    More,
+    /// The actor has no step left.
+    End,
+}
+
+impl Live {
+    /// The job before its first step, with a seat for each actor and room for all items that the job can
+    /// make. The error says that memory ran out.
+    pub fn start(alloc: Global, job: &Job) -> Result<Started, NoMemory>
+        ensures job { IfOk result (λ s. s.live.job ≡ job.now) }
+        ensures control { IfOk result (λ s. IsOpen s.live s.control (length job.now.quanta)) }
+        ensures cpus { IfOk result (λ s. AreNew s.live s.cpus.items) }
+    {
+        let (live, mut control, cpus) = Live::open(alloc, job)?;
+        let cpus = live.deal_all(alloc, job, &mut control, cpus)?;
+        Ok(Started {
+            live,
+            control,
+            cpus,
+        })
+    }
+
+    /// The words, control's seat and the CPUs, which have none yet. The error says that memory ran out.
+    fn open(alloc: Global, job: &Job) -> Result<(Live, ControlSeat, Vec<Cpu>), NoMemory>
+        ensures job { IfOk result (λ r. r.0.job ≡ job.now) }
+        ensures control { IfOk result (λ r. IsOpen r.0 r.1 0) }
+        ensures cpus { IfOk result (λ r. AreFirst job.now r.2.items) }
+    {
+        let machine = Machine::start(alloc, job)?;
+        // A machine that steps as one and actors that step at the same time begin alike.
+        let WorldParts {
+            words,
+            control,
+            cpus,
+            history,
+        } = machine.into_parts();
+        let (table, seat) = open(alloc, words.as_slice(), job)?;
+        let live = Live {
+            table,
+            room: history,
+        };
+        Ok((live, ControlSeat { seat, control }, cpus))
+    }
+
+    /// A seat for each CPU. The error says that memory ran out.
+    fn deal_all(
+        &self,
+        alloc: Global,
+        job: &Job,
+        control: &mut ControlSeat,
+        cpus: Vec<Cpu>,
+    ) -> Result<Vec<CpuSeat>, NoMemory>
+        requires job { self.now.job ≡ job.now }
+        requires control { IsOpen self.now control.old 0 }
+        requires cpus { AreFirst job.now cpus.items }
+        ensures control { IfOk result (λ _. IsOpen self.now control.new (length job.now.quanta)) }
+        ensures cpus { IfOk result (λ seats. AreNew self.now seats.items) }
+    {
+        let count = job.cpus().len();
+        let mut seats = Vec::with_capacity(alloc, count).map_err(|_| NoMemory)?;
+        for cpu in cpus {
+            let number = CpuNo(seats.len() as u32);
+            seats.push_reserved(self.deal(control, cpu, number));
+        }
+        Ok(seats)
+    }
+
+    /// The seat of the next CPU, split off from control's.
+    fn deal(&self, control: &mut ControlSeat, cpu: Cpu, number: CpuNo) -> CpuSeat
+        requires own { ControlSitsAt self.now control.old }
+        requires next { (control.old.split ≡ number.0) × (number.0 < length self.now.job.quanta) }
+        requires first { IsFirst self.now.job number.0 cpu }
+        ensures control { IsDealt control.old control.new }
+        ensures seat { IsNewCpu self.now result number.0 }
+    {
+        let seat = self.table.shared.split_seat::<Deals>(&mut control.seat);
+        CpuSeat { seat, cpu, number }
+    }
+
+    /// One step of the seat's CPU: its next operation. It takes no memory and does not wait.
+    pub fn cpu_step(&self, seat: &mut CpuSeat) -> Going
+        requires { SitsAt self.now seat.old }
+        ensures { CpuSteps seat.old result seat.new }
+    {
+        let Some(op) = seat.cpu.next() else {
+            return Going::End;
+        };
+        let value = make(&self.table.shared, &mut seat.seat, op);
+        seat.cpu.got(value);
+        Going::More
+    }
+
+    /// One step of control: its next operation. It takes no memory and does not wait.
+    pub fn control_step(&self, seat: &mut ControlSeat) -> Going
+        requires { ControlSitsAt self.now seat.old }
+        ensures { ControlSteps seat.old result seat.new }
+    {
+        let Some(op) = seat.control.next() else {
+            return Going::End;
+        };
+        let value = make(&self.table.shared, &mut seat.seat, op);
+        seat.control.got(value);
+        Going::More
+    }
+
+    /// What the seats' actors have marked, by place; the table and the seats are used up. All memory is
+    /// taken before any seat is joined, and the fault says that it ran out.
+    pub fn gather(
+        self,
+        alloc: Global,
+        control: ControlSeat,
+        cpus: Vec<CpuSeat>,
+    ) -> Result<History, GatherFault>
+        requires control { ControlSitsAt self control }
+        requires cpus { AreSeats self cpus.items }
+        ensures items { IfOk result (λ h. h.items ≡ history_of control cpus.items) }
+        ensures legal { IfOk result (λ h. IsLegal self.job h.items) }
+        ensures whole { IfOk result (λ h. AreAtEnd control cpus.items → IsWhole self.job h.items) }
+        ensures fault { IfErr result (λ e. (e.live ≡ self) × (e.control ≡ control) × (e.cpus.items ≡ cpus.items)) }
+    {
+        let Ok(lists) = Vec::with_capacity(alloc, 1 + cpus.len()) else {
+            return Err(GatherFault {
+                live: self,
+                control,
+                cpus,
+            });
+        };
+        let (seat, lists) = self.join_all(control, cpus, lists);
+        let Live { table, room } = self;
+        settle(table, seat);
+        Ok(merge(room, lists))
+    }
+
+    /// Joins the CPUs' seats to control's, and takes from all what they have marked. There is room for
+    /// these lists.
+    fn join_all(
+        &self,
+        control: ControlSeat,
+        cpus: Vec<CpuSeat>,
+        mut lists: Vec<Vec<Stamped>>,
+    ) -> (Seat<(), View>, Vec<Vec<Stamped>>)
+        requires control { ControlSitsAt self.now control }
+        requires cpus { AreSeats self.now cpus.items }
+        requires empty { lists.items ≡ [] }
+        requires room { 1 + length cpus.items ≤ vec_capacity lists }
+        ensures table { result.0.table_id ≡ self.now.table_id }
+        ensures parts { result.0.me.0 ≡ view control.job control.split (part Actor.Control control.values ∷ parts_of cpus.items) }
+        ensures lists { items_of result.1.items ≡ lists_at control cpus.items }
+    {
+        let ControlSeat {
+            mut seat,
+            control: own,
+        } = control;
+        lists.push_reserved(own.into_items());
+        for joining in cpus {
+            let CpuSeat {
+                seat: other,
+                cpu,
+                number: _,
+            } = joining;
+            self.table.shared.join_seat::<Gathers>(&mut seat, other);
+            lists.push_reserved(cpu.into_items());
+        }
+        (seat, lists)
+    }
+}

@@ -1,0 +1,76 @@
+//! The seats of the actors.
+
+ghost use Rattle.std.specs.Prelude.{◌≡◌};
+ghost use Rattle.live_table.specs.Seats.{IsRising, control_items_at, items_at};
+
+use crate::view::View;
+use atomic_table::Seat;
+use control_core::Control;
+use cpu_core::Cpu;
+use ft_base::{CpuNo, Stamped};
+use std::marker::Model;
+
+/// A CPU's seat. Contracts see which seat it is, and the values that its CPU has taken.
+#[derive(Drop)]
+pub struct CpuSeat {
+    pub(crate) seat: Seat<(), View>,
+    pub(crate) cpu: Cpu,
+    pub(crate) number: CpuNo,
+}
+
+impl Model for CpuSeat {
+    ghost use Rattle.live_table.specs.Seats.{CpuPlace, CpuSits};
+    ghost use Rattle.live_table.specs.Views.{values_of};
+
+    ghost Value = { CpuPlace };
+
+    ghost view = { λ s. record { table_id = s.seat.table_id; id = s.seat.id; job = s.seat.me.0.job; number = s.number.0; values = values_of s.seat.me.0.parts } };
+
+    ghost invariant = { λ s. CpuSits s.seat.me s.number.0 s.cpu };
+}
+
+impl CpuSeat {
+    /// The CPU's number.
+    pub fn number(&self) -> CpuNo
+        ensures { result.0 ≡ self.now.number }
+    {
+        self.number
+    }
+
+    /// What the CPU has marked so far. The places increase.
+    pub fn items(&self) -> &[Stamped]
+        ensures items { result.now ≡ items_at self.now }
+        ensures rising { IsRising result.now }
+    {
+        self.cpu.items()
+    }
+}
+
+/// Control's seat. Contracts see which seat it is, how many CPUs were split off from it, and the
+/// values that control has taken.
+#[derive(Drop)]
+pub struct ControlSeat {
+    pub(crate) seat: Seat<(), View>,
+    pub(crate) control: Control,
+}
+
+impl Model for ControlSeat {
+    ghost use Rattle.live_table.specs.Seats.{ControlPlace, ControlSits};
+    ghost use Rattle.live_table.specs.Views.{values_of};
+
+    ghost Value = { ControlPlace };
+
+    ghost view = { λ s. record { table_id = s.seat.table_id; id = s.seat.id; job = s.seat.me.0.job; split = s.seat.me.0.split; values = values_of s.seat.me.0.parts } };
+
+    ghost invariant = { λ s. ControlSits s.seat.me s.control };
+}
+
+impl ControlSeat {
+    /// What control has marked so far. The places increase.
+    pub fn items(&self) -> &[Stamped]
+        ensures items { result.now ≡ control_items_at self.now }
+        ensures rising { IsRising result.now }
+    {
+        self.control.items()
+    }
+}

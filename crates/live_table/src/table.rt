@@ -1,0 +1,79 @@
+//! The words in a table, and one operation on them.
+
+ghost use Rattle.std.specs.Prelude.{◌≡◌, ℕ, ◌<◌, [], length, reverse, IfOk};
+ghost use mathlib.Core.Option.{some};
+ghost use lib.ListN.{get_elem?};
+ghost use Rattle.atomic_table.specs.Table.{Allows, State};
+ghost use Rattle.word_map.specs.Places.{len};
+ghost use Rattle.word_map.specs.Shapes.{shape_of};
+ghost use Rattle.word_machine.specs.Limits.{IsLimited};
+ghost use Rattle.word_machine.specs.Machine.{start};
+ghost use Rattle.machine_core.specs.Worlds.{words_of};
+ghost use Rattle.word_machine.specs.Machine.{opening_words};
+ghost use Rattle.live_table.specs.declared.view.View.{View as SeatView};
+ghost use Rattle.live_table.specs.Operations.{op_after, op_gives, op_word};
+ghost use Rattle.live_table.specs.Rule.{LiveRule};
+ghost use Rattle.live_table.specs.Views.{TakesOne, control_view};
+
+use crate::rule::{Puts, Rules, Takes};
+use crate::view::View;
+use atomic_table::{Seat, Shared, Table};
+use ft_base::NoMemory;
+use ft_machine::Job;
+use std::alloc::Global;
+use word_map::Op;
+
+/// A table over the words of a job before its first step, with control's seat. The error says that
+/// memory ran out.
+pub(crate) fn open(
+    alloc: Global,
+    words: &[u64],
+    job: &Job,
+) -> Result<(Table<(), View, Job, Rules, Global>, Seat<(), View>), NoMemory>
+    requires limited { IsLimited job.now }
+    requires count { length words.now ≡ len (shape_of job.now) }
+    requires opening { words_of job.now words.now ≡ opening_words job.now }
+    ensures table { IfOk result (λ r. (r.0.shared.key ≡ job.now) × (r.0.shared.table_id.words ≡ len (shape_of job.now)) × (r.0.shared.table_id.slots ≡ 0)) }
+    ensures seat { IfOk result (λ r. (r.1.table_id ≡ r.0.shared.table_id) × (r.1.me ≡ (control_view job.now 0 [], []))) }
+{
+    Table::of_words(alloc, words, job).map_err(|_| NoMemory)
+}
+
+/// Makes an operation on a word, in a single atomic step. The answer is the value that it gives.
+///
+/// The table makes each of them sequentially consistent, and its contract lets no weaker order through:
+/// the rule speaks of one order of all operations. With a weaker order of
+///
+/// - a load, a fetch could get a site's byte of before the acknowledgement that its CPU has stored:
+///   control would go on patching under it, and the task would run half an instruction;
+/// - a store, a request could be seen before what control has stored ahead of it: a CPU would
+///   acknowledge bytes that it doesn't see yet, and so would its tasks;
+/// - a mark, a call could be counted after the return of a registration whose stores it doesn't see:
+///   the user would miss the call.
+pub(crate) fn make(shared: &Shared<(), View, Job, Rules>, seat: &mut Seat<(), View>, op: Op) -> u64
+    requires table { seat.old.table_id ≡ shared.now.table_id }
+    requires word { op_word op < shared.now.table_id.words }
+    requires allows { Allows (LiveRule shared.now.key) shared.now.table_id.slots seat.old.id seat.old.me (op_word op) (op_after op) (λ n m. TakesOne seat.old.me (op_gives op n) m) }
+    ensures same { (seat.new.table_id ≡ seat.old.table_id) × (seat.new.id ≡ seat.old.id) }
+    ensures took { (n : ℕ) × (result ≡ op_gives op n) × TakesOne seat.old.me (op_gives op n) seat.new.me }
+{
+    match op {
+        Op::Load { word } => shared.load::<Takes>(seat, word as usize),
+        Op::Store { word, value } => {
+            shared.store::<Puts>(seat, word as usize, value);
+            0
+        }
+        Op::Mark { command: true } => shared.fetch_add::<Takes>(seat, 0, 0x1_0000_0001),
+        Op::Mark { command: false } => shared.fetch_add::<Takes>(seat, 0, 1),
+    }
+}
+
+/// Closes the table. Its rule held to the end, with what the seat knows.
+pub(crate) fn settle(table: Table<(), View, Job, Rules, Global>, seat: Seat<(), View>)
+    requires table { seat.table_id ≡ table.shared.table_id }
+    requires slots { table.shared.table_id.slots ≡ 0 }
+    ensures { (t : State (Unit {0}) SeatView) × LiveRule table.shared.key t × (get_elem? t.views seat.id ≡ some seat.me.0) }
+{
+    let closed = table.close_with(seat);
+    closed.free();
+}
