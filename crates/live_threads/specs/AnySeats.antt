@@ -1,0 +1,77 @@
+-- Seats of either kind.
+use Rattle.std.specs.Prelude.{◌≡◌, ℕ, ◌+◌, List, ◌∷◌, map, Option, None}
+use Rattle.std.specs.List.{All, AllZip}
+use Rattle.atomic_table.specs.Seated.{TableId}
+use Rattle.ft_base.specs.Job.{Job}
+use Rattle.word_map.specs.Ops.{WordOp}
+use Rattle.word_machine.specs.Control.{control_next}
+use Rattle.word_machine.specs.Cpu.{cpu_next}
+use Rattle.live_table.specs.Seats.{Board, ControlPlace, CpuPlace, control_at, cpu_at}
+use Rattle.live_threads.specs.declared.seat.AnySeat.{AnySeat}
+use Rattle.live_threads.specs.declared.seat.AnySeat.TheVariants.{Control, Cpu}
+
+-- ## one seat
+
+-- its table
+abbrev pub table_of : AnySeat → TableId
+table_of (Control s) = s.table_id
+table_of (Cpu s) = s.table_id
+
+-- its id there
+abbrev pub id_of : AnySeat → ℕ
+id_of (Control s) = s.id
+id_of (Cpu s) = s.id
+
+-- its job
+abbrev pub job_of : AnySeat → Job
+job_of (Control s) = s.job
+job_of (Cpu s) = s.job
+
+-- its actor, as gates number them: 0 is control, and c + 1 is CPU c
+abbrev pub actor_of : AnySeat → ℕ
+actor_of (Control s) = 0
+actor_of (Cpu s) = s.number + 1
+
+-- how many CPUs were split off from it: none from a CPU's
+abbrev pub split_of : AnySeat → ℕ
+split_of (Control s) = s.split
+split_of (Cpu s) = 0
+
+-- its next operation; none at its end
+abbrev pub next_of : AnySeat → Option WordOp
+next_of (Control s) = control_next s.job (control_at s)
+next_of (Cpu s) = cpu_next s.job (cpu_at s)
+
+-- it is one of the table's
+abbrev pub IsSeatOf : Board → AnySeat → Type 0
+IsSeatOf b s = (table_of s ≡ b.table_id) × (job_of s ≡ b.job)
+
+-- the same seat, whatever values its actor has taken
+pub record IsSameSeat (s t : AnySeat) : Type 0 where
+  pub table_id : table_of t ≡ table_of s
+  pub id : id_of t ≡ id_of s
+  pub job : job_of t ≡ job_of s
+  pub actor : actor_of t ≡ actor_of s
+  pub split : split_of t ≡ split_of s
+
+-- the same seat, at its end
+abbrev pub IsEndedSeat : AnySeat → AnySeat → Type 0
+IsEndedSeat s t = IsSameSeat s t × (next_of t ≡ None)
+
+-- ## the seats of a table
+
+-- control's seat, and after it the CPUs'
+abbrev pub all_of : ControlPlace → List CpuPlace → List AnySeat
+all_of control cpus = Control control ∷ map (λ s. Cpu s) cpus
+
+-- each is one of the table's
+abbrev pub AreSeatsOf : Board → List AnySeat → Type 0
+AreSeatsOf b seats = All (IsSeatOf b) seats
+
+-- the same seats in the same order
+abbrev pub AreSameSeats : List AnySeat → List AnySeat → Type 0
+AreSameSeats ss ts = AllZip IsSameSeat ss ts
+
+-- the same seats in the same order, each at its end
+abbrev pub AreEndedSeats : List AnySeat → List AnySeat → Type 0
+AreEndedSeats ss ts = AllZip IsEndedSeat ss ts

@@ -1,0 +1,4 @@
+pub mod Ends
+pub mod AnySeats
+pub mod Places
+pub mod Rooms

@@ -1,0 +1,63 @@
+//! A seat of either kind, and its steps up to its end.
+
+ghost use Rattle.std.specs.Prelude.{◌≡◌, ◌≤◌, None};
+ghost use Rattle.live_threads.specs.AnySeats.{IsEndedSeat, IsSameSeat, IsSeatOf, actor_of, next_of};
+
+use ft_io::Gate;
+use live_table::{ControlSeat, CpuSeat, Going, Live};
+use std::sync::Wait;
+use std::thread;
+
+/// A seat of either kind.
+#[derive(Drop)]
+pub(crate) enum AnySeat {
+    Control(ControlSeat),
+    Cpu(CpuSeat),
+}
+
+impl AnySeat {
+    /// Its actor, as gates number them.
+    fn actor(&self) -> u32
+        ensures { actor_of self.now ≤ u32.MAX → result ≡ actor_of self.now }
+    {
+        match self {
+            AnySeat::Control(_) => 0,
+            AnySeat::Cpu(seat) => seat.number().0.saturating_add(1),
+        }
+    }
+}
+
+/// Passes the gate and makes one step, if there is one. `steps` is the number of the seat's steps so far.
+pub(crate) fn step_seat<G: Gate>(live: &Live, gate: &G, steps: u64, seat: &mut AnySeat) -> Going
+    requires { IsSeatOf live.now seat.old }
+    ensures same { IsSameSeat seat.old seat.new }
+    ensures end { result ≡ Going.End → next_of seat.new ≡ None }
+{
+    gate.pass(seat.actor(), steps);
+    match seat {
+        AnySeat::Control(seat) => live.control_step(seat),
+        AnySeat::Cpu(seat) => live.cpu_step(seat),
+    }
+}
+
+/// Steps a seat that hasn't stepped until its end.
+pub(crate) fn run_seat<R: Wait, G: Gate>(
+    rt: &R,
+    live: &Live,
+    gate: &G,
+    mut seat: AnySeat,
+) -> AnySeat
+    requires { IsSeatOf live.now seat }
+    ensures { IsEndedSeat seat result }
+{
+    let mut steps: u64 = 0;
+    for _ in rt.forever() {
+        if step_seat(live, gate, steps, &mut seat) == Going::End {
+            break;
+        }
+        steps = steps.saturating_add(1);
+        // What this seat waits for may need the processor.
+        thread::yield_now();
+    }
+    seat
+}

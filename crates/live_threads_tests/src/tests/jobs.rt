@@ -1,0 +1,81 @@
+//! The jobs of the tests, which are read from scripts.
+
+use ft_base::limits::INPUT_BYTES;
+use ft_machine::Job;
+use ft_script::read_script;
+use std::alloc::{AllocError, Global};
+use std::test::Fail;
+
+/// Two tasks on a CPU each, and control between them: all wait for one another in turn, so the items
+/// have one order. A user is unregistered and registered again within a call.
+const ONE_ORDER: &str = "ftrace 1
+func a
+func b
+user gr graph
+cpu 0 quantum 100
+cpu 1 quantum 100
+task 10 cpu 0
+after 1
+call a
+call b
+ret
+after 3
+ret
+call a
+ret
+task 11 cpu 1
+after 4
+call b
+ret
+ctl register gr
+ctl until 10 4
+ctl unregister gr
+ctl register gr
+ctl until 10 8
+ctl maxdepth 1
+ctl until 11 3
+ctl unregister gr
+";
+
+/// Two CPUs; their tasks and a user follow.
+const TWO_CPUS: &str = "ftrace 1
+func a
+user t function
+cpu 0 quantum 100
+cpu 1 quantum 100
+";
+
+/// Calls of each task.
+const CALLS: u32 = 10;
+
+/// The job of a text; none if it is refused. The texts here are short enough.
+fn read(alloc: Global, text: &str) -> Option<Job> {
+    if text.len() > INPUT_BYTES as usize {
+        return None;
+    }
+    read_script(alloc, text.as_bytes()).ok()
+}
+
+/// The job whose items have one order.
+pub fn one_order(alloc: Global) -> Result<Job, Fail> {
+    Ok(read(alloc, ONE_ORDER).ok_or("refused")?)
+}
+
+/// A task of ten calls, on this CPU.
+fn add_task(text: &mut String, head: &str) -> Result<(), AllocError> {
+    text.push_str(head)?;
+    for _ in 0..CALLS {
+        text.push_str("call a\nret\n")?;
+    }
+    Ok(())
+}
+
+/// Two CPUs with a task of ten calls each, and control registers one user.
+pub fn three_at_once(alloc: Global) -> Result<Job, Fail> {
+    let mut text = String::new(alloc);
+    text.push_str(TWO_CPUS)?;
+    add_task(&mut text, "task 10 cpu 0\n")?;
+    add_task(&mut text, "task 11 cpu 1\n")?;
+    text.push_str("ctl register t\n")?;
+    Ok(read(alloc, text.as_str()).ok_or("refused")?)
+}
