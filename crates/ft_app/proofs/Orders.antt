@@ -6,7 +6,7 @@ use Rattle.std.proofs.KnownBytes.{Consumes-nil, Consumes-whole}
 use Rattle.ft_base.specs.declared.limits.TheConstants.{INPUT_BYTES}
 use Rattle.ft_io.specs.Causes.{GaveAtMost, GaveMore}
 use Rattle.ft_words.specs.declared.order.Order.{Order}
-use Rattle.ft_words.specs.declared.order.Order.TheVariants.{Replay, Bulk}
+use Rattle.ft_words.specs.declared.order.Order.TheVariants.{Replay, Run, Bulk}
 use Rattle.ft_app.specs.declared.status.Status.{Status}
 use Rattle.ft_app.specs.Status.{code_of}
 use Rattle.ft_app.specs.Reply.{IsReplyTo}
@@ -25,11 +25,13 @@ read-told remaining remaining' told read is_told whole =
 -- an order gets the script that is to come
 got-told : (order : Order) (remaining remaining' : Option (List ℕ)) (told read : List ℕ) → IsToGet order remaining told → Gets order remaining remaining' read → read ≡ told
 got-told (Replay form) remaining remaining' told read is_told gets = read-told remaining remaining' told read is_told.0 gets
+got-told (Run form) remaining remaining' told read is_told gets = read-told remaining remaining' told read is_told.0 gets
 got-told (Bulk n) remaining remaining' told read is_told gets = gets.0 ∙ sym is_told
 
 -- and no more than a script may have
 pub gets-within : (order : Order) (remaining remaining' : Option (List ℕ)) (script : List ℕ) → Gets order remaining remaining' script → GaveAtMost INPUT_BYTES remaining remaining'
 gets-within (Replay form) remaining remaining' script gets = (script, gets.all, gets.short)
+gets-within (Run form) remaining remaining' script gets = (script, gets.all, gets.short)
 gets-within (Bulk n) remaining remaining' script gets = unread-within remaining remaining' gets.1
 
 -- a source gives no more than it tells
@@ -41,14 +43,17 @@ no-more (Some xs) (Some ys) told given e h =
     let long = ap (λ (zs : List ℕ). length zs) (sym same ∙ h) ∙ length-append given ys in
     omega (arith, long)
 
+too-long : (remaining remaining' : Option (List ℕ)) (script : List ℕ) → remaining ≡ Some script → length script ≤ INPUT_BYTES → GaveMore INPUT_BYTES remaining remaining' → ⊥
+too-long remaining remaining' script told short more =
+    let le = no-more remaining remaining' script more.0 told more.1 in
+    let long = more.2 in
+    absurd (omega (arith, le, short, long))
+
 -- a source that is to give a script that isn't too long doesn't give more
 pub not-too-long : (order : Order) (remaining remaining' : Option (List ℕ)) (script : List ℕ) → IsToGet order remaining script → GaveMore INPUT_BYTES remaining remaining'
     → ((n : ℕ) → order ≡ Bulk n → ⊥) → ⊥
-not-too-long (Replay form) remaining remaining' script is_to_get more generated =
-    let le = no-more remaining remaining' script more.0 is_to_get.0 more.1 in
-    let short = is_to_get.1 in
-    let long = more.2 in
-    absurd (omega (arith, le, short, long))
+not-too-long (Replay form) remaining remaining' script is_to_get more generated = too-long remaining remaining' script is_to_get.0 is_to_get.1 more
+not-too-long (Run form) remaining remaining' script is_to_get more generated = too-long remaining remaining' script is_to_get.0 is_to_get.1 more
 not-too-long (Bulk n) remaining remaining' script is_to_get more generated = generated n refl
 
 -- ## the code of the reply to what was got, where equal texts have names of their own

@@ -1,11 +1,12 @@
 -- What the top call promises, status by status.
-use Rattle.std.specs.Prelude.{ℕ, ◌≡◌, ◌≤◌, ◌⊎◌, List, Option, Some, length}
+use Rattle.std.specs.Prelude.{ℕ, ◌≡◌, ◌≤◌, ◌⊎◌, Bool, List, Option, Some, length}
 use Rattle.std.specs.Io.KnownBytes.{Consumes, Appends, IsAtEnd}
 use Rattle.ft_base.specs.declared.limits.TheConstants.{INPUT_BYTES}
+use Rattle.ft_base.specs.declared.item.Item.{Item}
 use Rattle.ft_base.specs.Job.{Job}
 use Rattle.ft_io.specs.Causes.{AppendsFront}
 use Rattle.ft_words.specs.declared.order.Order.{Order}
-use Rattle.ft_words.specs.declared.order.Order.TheVariants.{Replay, Bulk}
+use Rattle.ft_words.specs.declared.order.Order.TheVariants.{Replay, Run, Bulk}
 use Rattle.ft_words.specs.Language.{Gives}
 use Rattle.ft_schedule.specs.Bulk.{bulk_text}
 use Rattle.ft_script.specs.declared.faults.ScriptFault.{ScriptFault}
@@ -13,11 +14,17 @@ use Rattle.ft_script.specs.Script.{IsJobOf, IsRefusalOf}
 use Rattle.ft_app.specs.declared.status.Status.{Status}
 use Rattle.ft_app.specs.declared.status.Status.TheVariants.{Done, Refused, NoMemory}
 use Rattle.ft_app.specs.Status.{code_of}
-use Rattle.ft_app.specs.Reply.{IsReplyTo, IsSound, replay_text, refusal_text}
+use Rattle.ft_app.specs.Reply.{IsReplyTo, IsHistoryFor, printed, refusal_text}
 
 -- the words are in the command's language: they give an order
 abbrev pub IsLanguage : List (List ℕ) → Type 0
 IsLanguage words = (order : Order) × Gives words order
+
+-- the order is carried out without running threads
+abbrev pub IsPlain : Order → Type 0
+IsPlain (Replay form) = Unit {0}
+IsPlain (Run form) = ⊥
+IsPlain (Bulk n) = Unit {0}
 
 -- ## the script of an order
 
@@ -30,25 +37,29 @@ pub record ReadWhole (remaining remaining' : Option (List ℕ)) (script : List �
 -- the script came from the source, which was read to its end; or it was generated, and the source stays as it was
 abbrev pub Gets : Order → (remaining remaining' : Option (List ℕ)) → List ℕ → Type 0
 Gets (Replay form) remaining remaining' script = ReadWhole remaining remaining' script
+Gets (Run form) remaining remaining' script = ReadWhole remaining remaining' script
 Gets (Bulk n) remaining remaining' script = (script ≡ bulk_text n) × (remaining' ≡ remaining)
 
 -- the script that is to come: all that the source tells, if that isn't too long, or the generated one
 abbrev pub IsToGet : Order → Option (List ℕ) → List ℕ → Type 0
 IsToGet (Replay form) remaining script = (remaining ≡ Some script) × (length script ≤ INPUT_BYTES)
+IsToGet (Run form) remaining script = (remaining ≡ Some script) × (length script ≤ INPUT_BYTES)
 IsToGet (Bulk n) remaining script = script ≡ bulk_text n
 
 -- ## what is written for it
 
--- what the order prints of the replay of a job was appended, and that replay's history is legal
-pub record HasReplayed (order : Order) (job : Job) (holds holds' : Option (List ℕ)) : Type 0 where
-  pub written : Appends holds holds' (replay_text order job)
-  pub sound : IsSound job
+-- what the order prints of a history of the job was appended: of its replay, or with `Run` of running threads
+pub record HasPrinted (order : Order) (job : Job) (holds holds' : Option (List ℕ)) : Type 0 where
+  pub items : List Item
+  pub ended : Bool
+  pub history : IsHistoryFor order job items ended
+  pub written : Appends holds holds' (printed order job items ended)
 
--- the text is a script, and what the order prints of its job's replay was appended
+-- the text is a script, and what the order prints of a history of its job was appended
 pub record IsPlayed (order : Order) (script : List ℕ) (holds holds' : Option (List ℕ)) : Type 0 where
   pub job : Job
   pub accepted : IsJobOf script job
-  pub replayed : HasReplayed order job holds holds'
+  pub written : HasPrinted order job holds holds'
 
 -- the text is refused as a script, and the line that says where and why was appended
 pub record IsRefused (script : List ℕ) (holds holds' : Option (List ℕ)) : Type 0 where
@@ -83,9 +94,9 @@ pub record HasBegun (order : Order) (remaining remaining' holds holds' : Option 
   pub read : Gets order remaining remaining' script
   pub begun : IsBegun order script holds holds'
 
--- a script is answered with status 0 and what the order prints of its replay, and any other text with status 3 and the line of its
--- refusal, unless memory is out
+-- a script is answered with status 0 and what the order prints of a history of its job, and any other text with status 3 and the line
+-- of its refusal, unless memory is out
 pub record Answers (order : Order) (script : List ℕ) (status : ℕ) (holds holds' : Option (List ℕ)) : Type 0 where
-  pub replayed : (job : Job) → IsJobOf script job → ((status ≡ code_of Done) × HasReplayed order job holds holds') ⊎ (status ≡ code_of NoMemory)
+  pub accepted : (job : Job) → IsJobOf script job → ((status ≡ code_of Done) × HasPrinted order job holds holds') ⊎ (status ≡ code_of NoMemory)
   pub refused : (fault : ScriptFault) → IsRefusalOf script fault
       → ((status ≡ code_of Refused) × Appends holds holds' (refusal_text fault)) ⊎ (status ≡ code_of NoMemory)

@@ -1,20 +1,26 @@
 //! The top call: the command's *words* and a script's bytes come in, and a text and a *status* go
 //! out.
 //!
-//! The words give an *order*. Its script is read to its end, or generated; its job is replayed, and
-//! what the order prints of the replay's history is written; or the line is written that says where
-//! the script is refused, and why. That text or line is the *reply* to the script.
+//! The words give an *order*. Its script is read to its end, or generated; its job is carried out, by
+//! a replay of its schedule or by running threads, and what the order prints of the history is
+//! written; or the line is written that says where the script is refused, and why. That text or line
+//! is the *reply* to the script.
 //!
-//! Proved, for every source and sink: each status says what was read and written, and comes only
-//! for its reason; with status 0 the text is what the order prints of the replay of the script's
-//! job, whose history is legal, and whole if the text ends with `end`; and if nothing outside goes
-//! wrong, a script is answered with status 0 and any other text with status 3, unless memory is out.
-//! A log tells the history that it was written for (`trace_print::laws`). Only tested, in
-//! `ft_app_tests`: that memory is found if there is some, and that generated scripts are accepted.
+//! Proved, for every source, sink and gate: each status says what was read and written, and comes
+//! only for its reason; with status 0 the text is what the order prints of a history of the script's
+//! job, that of its replay or one of running threads; that history is legal, and whole if the text
+//! ends with `end`, as it does with threads; and if nothing outside goes wrong, a script is answered
+//! with status 0 and any other text with status 3, unless memory is out. A log tells the history that
+//! it was written for (`trace_print::laws`). With running threads this holds if the call returns:
+//! it may wait, and no proof says that it ends. Only tested, in `ft_app_tests`: that it does in some
+//! runs, that the history is that of the threads, that memory is found if there is some, and that
+//! generated scripts are accepted.
 #![tactic(auto)]
 
+mod answer;
 mod plain;
 mod reply;
+mod run;
 pub mod status;
 mod top;
 

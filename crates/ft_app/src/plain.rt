@@ -1,24 +1,24 @@
-//! An order carried out over any source and sink.
+//! An order carried out over any source and sink, without running threads.
 
-ghost use Rattle.std.specs.Prelude.{◌≡◌, ◌≢◌, ◌≤◌, ℕ, List, length, IfOk, IfErr, OnOk};
+ghost use Rattle.std.specs.Prelude.{◌≡◌, ◌≢◌, ℕ, List};
 ghost use Rattle.ft_io.specs.Causes.{Rose, GaveMore, GaveAtMost};
 ghost use Rattle.ft_words.specs.declared.order.Order.TheVariants.{Bulk};
 ghost use Rattle.ft_app.specs.declared.status.Status.{Status};
 ghost use Rattle.ft_app.specs.Status.{code_of};
-ghost use Rattle.ft_app.specs.Main.{Gets, IsToGet, HasRun, HasRefused, HasBegun, Answers};
+ghost use Rattle.ft_app.specs.Main.{IsPlain, IsToGet, HasRun, HasRefused, HasBegun, Answers};
 
-use crate::reply::reply_to;
+use crate::answer::answer;
 use crate::status::Status;
-use ft_base::NoMemory;
 use ft_base::limits::INPUT_BYTES;
-use ft_io::{ReadFail, Sink, Source, WriteFail, read_all, write_all};
-use ft_schedule::bulk_script;
+use ft_io::{Sink, Source};
+use ft_machine::replay;
 use ft_words::Order;
 use std::alloc::Global;
 
-/// Carries an order out. `Replay` reads a script from the source, replays it and writes its history
-/// to the sink, in the order's form. `Bulk` generates the script, reads nothing, and writes a summary
-/// of the history. A script that is refused has the line written that says where and why.
+/// Carries an order out that isn't `Run`. `Replay` reads a script from the source, replays it and
+/// writes its history to the sink, in the order's form. `Bulk` generates the script, reads nothing,
+/// and writes a summary of the history. A script that is refused has the line written that says where
+/// and why.
 ///
 /// It gives the number of its [`Status`], which is never [`Status::Language`]. The steps come in
 /// this order: read, script, memory for the replay, write. `NoMemory` may come in place of any step
@@ -29,6 +29,7 @@ pub fn ft_plain<S: Source, K: Sink>(
     source: &mut S,
     sink: &mut K,
 ) -> u8
+    requires { IsPlain order.now }
     ensures known { (status : Status) × (result ≡ code_of status) }
     ensures spoken { result ≢ code_of Status.Language }
 
@@ -67,40 +68,5 @@ pub fn ft_plain<S: Source, K: Sink>(
         → (script : List ℕ) → IsToGet order.now (S.remaining source.old) script
         → Answers order.now script result (K.holds sink.old) (K.holds sink.new) }
 {
-    let script = match script_for(alloc, order, source) {
-        Ok(script) => script,
-        Err(ReadFail::Fault) => return Status::ReadFault.code(),
-        Err(ReadFail::TooLong) => return Status::TooLong.code(),
-        Err(ReadFail::NoMemory) => return Status::NoMemory.code(),
-    };
-    let reply = match reply_to(alloc, *order, &script) {
-        Ok(reply) => reply,
-        Err(NoMemory) => return Status::NoMemory.code(),
-    };
-    match write_all(sink, reply.text.as_slice()) {
-        Ok(()) => reply.status.code(),
-        Err(WriteFail) => Status::WriteFault.code(),
-    }
-}
-
-/// The script of an order: all that the source gives, or the generated one.
-fn script_for<S: Source>(alloc: Global, order: &Order, source: &mut S) -> Result<Vec<u8>, ReadFail>
-    ensures gets { IfOk result
-        (λ v. Gets order.now (S.remaining source.old) (S.remaining source.new) v.items) }
-    ensures short { IfOk result (λ v. length v.items ≤ INPUT_BYTES) }
-    ensures generated { (n : ℕ) → order.now ≡ Bulk n → source.new ≡ source.old }
-    ensures fault { result ≡ Err ReadFail.Fault → Rose (S.faults source.old) (S.faults source.new) }
-    ensures too_long { result ≡ Err ReadFail.TooLong
-        → GaveMore INPUT_BYTES (S.remaining source.old) (S.remaining source.new) }
-    ensures within { IfErr result (λ fail. fail ≢ ReadFail.TooLong
-        → GaveAtMost INPUT_BYTES (S.remaining source.old) (S.remaining source.new)) }
-    ensures never_long { (n : ℕ) → order.now ≡ Bulk n → result ≢ Err ReadFail.TooLong }
-{
-    match order {
-        Order::Replay(_) => read_all(alloc, source),
-        Order::Bulk(n) => match bulk_script(alloc, *n) {
-            Ok(script) => Ok(script),
-            Err(NoMemory) => Err(ReadFail::NoMemory),
-        },
-    }
+    answer(alloc, order, |job| replay(alloc, job), source, sink)
 }

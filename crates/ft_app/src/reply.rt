@@ -1,16 +1,16 @@
-//! What is written for a script: what an order prints of its replay, or the line of its refusal.
+//! What is written for a script: what an order prints of a history of its job, or the line of its
+//! refusal.
 
-ghost use Rattle.std.specs.Prelude.{◌≡◌, ◌≢◌, ◌≤◌, length, true, string_bytes, IfOk, OnOk};
-ghost use Rattle.ft_hist.specs.Rules.{IsLegal, IsWhole};
-ghost use Rattle.word_machine.specs.Machine.{play, all_end};
+ghost use Rattle.std.specs.Prelude.{◌≡◌, ◌≢◌, ◌≤◌, length, string_bytes, IfOk, OnOk};
+ghost use Rattle.std.specs.Fn.{FnOnceReturnsAt};
+ghost use Rattle.ft_hist.specs.Rules.{IsLegal};
 ghost use Rattle.ft_script.specs.Script.{no_memory};
-ghost use Rattle.ft_app.specs.Reply.{IsReplyTo, history_of, printed, replay_text, refusal_text};
+ghost use Rattle.ft_app.specs.Reply.{IsReplyTo, Serves, printed, refusal_text};
 
 use crate::status::Status;
 use ft_base::NoMemory;
 use ft_base::limits::INPUT_BYTES;
-use ft_hist::History;
-use ft_machine::{Job, replay};
+use ft_machine::{Job, Outcome};
 use ft_script::{Cause, ScriptFault, read_script};
 use ft_words::Order;
 use std::alloc::Global;
@@ -23,16 +23,26 @@ pub struct Reply {
     pub text: Vec<u8>,
 }
 
-/// The reply of an order to a script.
-pub fn reply_to(alloc: Global, order: Order, script: &[u8]) -> Result<Reply, NoMemory>
-    requires { length script.now ≤ INPUT_BYTES }
+/// The reply of an order to a script; `carry_out` carries the script's job out.
+pub(crate) fn reply_to<C: FnOnce(&Job) -> Result<Outcome, NoMemory> + Drop>(
+    alloc: Global,
+    order: Order,
+    carry_out: C,
+    script: &[u8],
+) -> Result<Reply, NoMemory>
+    requires short { length script.now ≤ INPUT_BYTES }
+    requires callable { C.IsAlwaysCallable carry_out }
+    requires serves { Serves order (FnOnceReturnsAt C.FnOnce carry_out) }
     ensures { IfOk result (λ reply. IsReplyTo order script.now reply.status reply.text.items) }
 {
     match read_script(alloc, script) {
-        Ok(job) => Ok(Reply {
-            status: Status::Done,
-            text: replay_job(alloc, order, &job)?,
-        }),
+        Ok(job) => {
+            let outcome = carry_out(&job)?;
+            Ok(Reply {
+                status: Status::Done,
+                text: print_for(alloc, order, &job, &outcome)?,
+            })
+        }
         Err(fault) => Ok(Reply {
             status: Status::Refused,
             text: refusal_line(alloc, fault)?,
@@ -40,31 +50,16 @@ pub fn reply_to(alloc: Global, order: Order, script: &[u8]) -> Result<Reply, NoM
     }
 }
 
-/// What an order prints of the replay of a job.
-fn replay_job(alloc: Global, order: Order, job: &Job) -> Result<Vec<u8>, NoMemory>
-    ensures text { IfOk result (λ text. text.items ≡ replay_text order job.now) }
-    ensures legal { OnOk result (IsLegal job.now (history_of job.now)) }
-    ensures whole { OnOk result
-        (all_end job.now (play job.now) ≡ true → IsWhole job.now (history_of job.now)) }
-{
-    let outcome = replay(alloc, job)?;
-    print_for(alloc, order, job, &outcome.history, outcome.ended)
-}
-
 /// What an order prints of a history of the job.
-fn print_for(
-    alloc: Global,
-    order: Order,
-    job: &Job,
-    history: &History,
-    ended: bool,
-) -> Result<Vec<u8>, NoMemory>
-    requires { IsLegal job.now history.now.items }
-    ensures { IfOk result (λ text. text.items ≡ printed order job.now history.now.items ended) }
+fn print_for(alloc: Global, order: Order, job: &Job, outcome: &Outcome) -> Result<Vec<u8>, NoMemory>
+    requires { IsLegal job.now outcome.now.history.items }
+    ensures { IfOk result (λ text. text.items
+        ≡ printed order job.now outcome.now.history.items outcome.now.ended) }
 {
+    let Outcome { history, ended } = outcome;
     match order {
-        Order::Replay(form) => print(alloc, job, history, ended, form),
-        Order::Bulk(n) => summary(alloc, n, history, ended),
+        Order::Replay(form) | Order::Run(form) => print(alloc, job, history, *ended, form),
+        Order::Bulk(n) => summary(alloc, n, history, *ended),
     }
 }
 

@@ -4,12 +4,15 @@ ghost use Rattle.std.specs.Prelude.{◌≤◌};
 
 mod forms;
 mod refusals;
+mod running;
 mod scripts;
 
 use ft_app::ft_main;
-use ft_io::{MemSink, MemSource, OpenGate};
+use ft_io::{Gate, MemSink, MemSource, OpenGate};
 use std::alloc::Global;
+use std::sync::Wait;
 use std::test::Fail;
+use std::thread::Threads;
 
 /// The most bytes that one call moves when the size is no matter, and room for every text here.
 const PIECE: usize = 4_096;
@@ -40,10 +43,11 @@ struct Ended {
     sink: MemSink,
 }
 
-/// Calls the top call with these words. The source gives the script and the sink takes the reply,
-/// at most `piece` bytes a call; they fail in the calls with these numbers.
-fn run(
-    alloc: Global,
+/// Calls the top call with these words and this gate. The source gives the script and the sink takes
+/// the reply, at most `piece` bytes a call; they fail in the calls with these numbers.
+fn call_under<R: AllocGlobal + Threads + Wait + Sync, G: Gate>(
+    rt: &R,
+    gate: &G,
     words: &[&str],
     script: &[u8],
     piece: usize,
@@ -51,9 +55,10 @@ fn run(
 ) -> Result<Ended, Fail>
     requires { 1 ≤ piece }
 {
+    let alloc = rt.alloc();
     let mut source = MemSource::new(script.to_vec(alloc)?, piece, fails.0.to_vec(alloc)?);
     let mut sink = MemSink::new(alloc, piece, PIECE, fails.1.to_vec(alloc)?)?;
-    let status = ft_main(alloc, words, &mut source, &mut sink, &OpenGate);
+    let status = ft_main(rt, alloc, words, &mut source, &mut sink, gate);
     Ok(Ended {
         status,
         source,
@@ -61,26 +66,43 @@ fn run(
     })
 }
 
-/// Calls it with `replay`, over a source and a sink that don't fail.
-fn replay(alloc: Global, script: &[u8]) -> Result<Ended, Fail> {
-    run(alloc, &["replay"], script, PIECE, (&[], &[]))
+/// Calls it with an open gate.
+fn call<R: AllocGlobal + Threads + Wait + Sync>(
+    rt: &R,
+    words: &[&str],
+    script: &[u8],
+    piece: usize,
+    fails: (&[u32], &[u32]),
+) -> Result<Ended, Fail>
+    requires { 1 ≤ piece }
+{
+    call_under(rt, &OpenGate, words, script, piece, fails)
 }
 
-/// The words of the language. Out of memory would be an answer too, to each of them.
+/// Calls it with `replay`, over a source and a sink that don't fail.
+fn replay<R: AllocGlobal + Threads + Wait + Sync>(rt: &R, script: &[u8]) -> Result<Ended, Fail> {
+    call(rt, &["replay"], script, PIECE, (&[], &[]))
+}
+
+/// Words of the language, for a script that has one history, replayed or run by threads. Out of
+/// memory would be an answer too, to each of them.
 #[test]
 fn words_of_the_language(rt: HostRuntime) -> Result<(), Fail> {
     let alloc = rt.alloc();
     let script = text(alloc, FIRST_PATH)?;
     let log = text(alloc, FIRST_PATH_LOG)?;
-    let good: [&[&str]; 5] = [
+    let good: [&[&str]; 8] = [
         &["replay"],
+        &["run"],
+        &["--print=log", "--", "run"],
+        &["run", "--print", "log"],
         &["--print=log", "--", "replay"],
         &["replay", "--print", "log"],
         &["--print", "log", "replay"],
         &["replay", "--"],
     ];
     for words in good.iter() {
-        let ended = run(alloc, words, script.as_bytes(), PIECE, (&[], &[]))?;
+        let ended = call(&rt, words, script.as_bytes(), PIECE, (&[], &[]))?;
         assert_eq!(rt; ended.status, 0, "{words:?}");
         assert_eq!(rt; ended.sink.bytes(), log.as_bytes());
         assert_eq!(rt; ended.source.remaining(), b"".as_slice());
@@ -99,7 +121,7 @@ fn other_words(rt: HostRuntime) -> Result<(), Fail> {
         &["bulk", "--print", "log"],
         &["replay", "--print=xml"],
         &["replay "],
-        &["run"],
+        &["run", "--seed", "1"],
         &["replay", "--seed", "1"],
         &["bulk", "--seed", "1", "--seed", "2"],
         &["bulk", "--seed", "4294967296"],
@@ -108,7 +130,7 @@ fn other_words(rt: HostRuntime) -> Result<(), Fail> {
         &["-h"],
     ];
     for words in bad.iter() {
-        let ended = run(alloc, words, b"ftrace 1\n", PIECE, (&[], &[]))?;
+        let ended = call(&rt, words, b"ftrace 1\n", PIECE, (&[], &[]))?;
         assert_eq!(rt; ended.status, 2, "{words:?}");
         assert_eq!(rt; ended.sink.bytes(), b"".as_slice());
         assert_eq!(rt; ended.source.remaining(), b"ftrace 1\n".as_slice());
@@ -121,7 +143,7 @@ fn moves_a_byte_at_a_time(rt: HostRuntime) -> Result<(), Fail> {
     let alloc = rt.alloc();
     let script = text(alloc, FIRST_PATH)?;
     let log = text(alloc, FIRST_PATH_LOG)?;
-    let ended = run(alloc, &["replay"], script.as_bytes(), 1, (&[], &[]))?;
+    let ended = call(&rt, &["replay"], script.as_bytes(), 1, (&[], &[]))?;
     assert_eq!(rt; ended.status, 0);
     assert_eq!(rt; ended.sink.bytes(), log.as_bytes());
     assert_eq!(rt; ended.source.remaining(), b"".as_slice());
@@ -131,7 +153,7 @@ fn moves_a_byte_at_a_time(rt: HostRuntime) -> Result<(), Fail> {
 #[test]
 fn failing_read(rt: HostRuntime) -> Result<(), Fail> {
     let alloc = rt.alloc();
-    let ended = run(alloc, &["replay"], b"ftrace 1\n", 4, (&[2], &[]))?;
+    let ended = call(&rt, &["replay"], b"ftrace 1\n", 4, (&[2], &[]))?;
     assert_eq!(rt; ended.status, 4);
     assert_eq!(rt; ended.sink.bytes(), b"".as_slice());
     Ok(())
@@ -144,7 +166,7 @@ fn failing_write(rt: HostRuntime) -> Result<(), Fail> {
     let rows: [(&str, &[u8]); 2] = [(FIRST_PATH, b"0 begin "), ("ftrace 2", b"line 1: ")];
     for (lines, front) in rows {
         let script = text(alloc, lines)?;
-        let ended = run(alloc, &["replay"], script.as_bytes(), 8, (&[], &[2]))?;
+        let ended = call(&rt, &["replay"], script.as_bytes(), 8, (&[], &[2]))?;
         assert_eq!(rt; ended.status, 5, "{lines}");
         assert_eq!(rt; ended.sink.bytes(), front);
     }

@@ -1,8 +1,8 @@
 //! The program `ftcore`: the top call over standard input and output.
 //!
 //! Proved: with each status the program has read and written what the top call says of it, and
-//! nothing else. Only tried on the built program: that its arguments are the words, and that the
-//! status is its exit status.
+//! nothing else. With running threads it may wait, and then it has no status. Only tried on the built
+//! program: that its arguments are the words, and that the status is its exit status.
 #![tactic(auto)]
 
 ghost use Rattle.std.specs.Prelude.{◌≡◌, ◌≢◌};
@@ -17,6 +17,8 @@ use std::env;
 use std::io::ErrorKind;
 use std::process::ExitCode;
 use std::rt::Env;
+use std::sync::Wait;
+use std::thread::Threads;
 
 fn main(rt: HostRuntime) -> ExitCode {
     let mut source = StdSource::new(rt.stdin());
@@ -25,7 +27,11 @@ fn main(rt: HostRuntime) -> ExitCode {
 }
 
 /// Calls the top call with the arguments after the program's name. Nothing goes to standard error.
-fn run<R: Env + AllocGlobal, S: Source, K: Sink>(rt: &R, source: &mut S, sink: &mut K) -> u8
+fn run<R: Env + AllocGlobal + Threads + Wait + Sync, S: Source, K: Sink>(
+    rt: &R,
+    source: &mut S,
+    sink: &mut K,
+) -> u8
     ensures run { result ≡ code_of Status.Done
         → (order : Order) × HasRun order (S.remaining source.old) (S.remaining source.new)
         (K.holds sink.old) (K.holds sink.new) }
@@ -55,5 +61,5 @@ fn run<R: Env + AllocGlobal, S: Source, K: Sink>(rt: &R, source: &mut S, sink: &
     else {
         return Status::NoMemory.code();
     };
-    ft_main(alloc, &words, source, sink, &OpenGate)
+    ft_main(rt, alloc, &words, source, sink, &OpenGate)
 }

@@ -1,7 +1,7 @@
 //! Scripts whose histories are printed in other forms than the log, and the summary of a generated
 //! script.
 
-use super::{PIECE, run, text};
+use super::{PIECE, call, text};
 use std::test::Fail;
 
 /// Each script is printed in this form.
@@ -76,7 +76,7 @@ fn forms(rt: HostRuntime) -> Result<(), Fail> {
         let script = text(alloc, lines)?;
         let printed = text(alloc, printed)?;
         let words = ["replay", "--print", form];
-        let ended = run(alloc, &words, script.as_bytes(), PIECE, (&[], &[]))?;
+        let ended = call(&rt, &words, script.as_bytes(), PIECE, (&[], &[]))?;
         assert_eq!(rt; ended.status, 0, "{form}");
         assert_eq!(rt; ended.sink.bytes(), printed.as_bytes(), "{form}");
     }
@@ -95,7 +95,7 @@ fn refused_in_any_form(rt: HostRuntime) -> Result<(), Fail> {
     let line = text(alloc, "line 8: pattern")?;
     for form in ["log", "function", "graph", "profile", "enabled"] {
         let words = ["replay", "--print", form];
-        let ended = run(alloc, &words, script.as_bytes(), PIECE, (&[], &[]))?;
+        let ended = call(&rt, &words, script.as_bytes(), PIECE, (&[], &[]))?;
         assert_eq!(rt; ended.status, 3, "{form}");
         assert_eq!(rt; ended.sink.bytes(), line.as_bytes(), "{form}");
     }
@@ -112,7 +112,7 @@ fn generated_scripts(rt: HostRuntime) -> Result<(), Fail> {
     )?;
     let ways: [&[&str]; 2] = [&["bulk"], &["bulk", "--seed", "1"]];
     for words in ways.iter() {
-        let ended = run(alloc, words, b"not a script", PIECE, (&[1], &[]))?;
+        let ended = call(&rt, words, b"not a script", PIECE, (&[1], &[]))?;
         assert_eq!(rt; ended.status, 0, "{words:?}");
         assert_eq!(rt; ended.sink.bytes(), summary.as_bytes());
         assert_eq!(rt; ended.source.remaining(), b"not a script".as_slice());

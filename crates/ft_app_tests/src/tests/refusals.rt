@@ -3,15 +3,20 @@
 use super::{PIECE, replay, text};
 use ft_app::ft_main;
 use ft_io::{MemSink, MemSource, OpenGate};
-use std::alloc::Global;
 use std::fmt::Write;
 use std::process::Abort;
+use std::sync::Wait;
 use std::test::Fail;
+use std::thread::Threads;
 
 /// The script has the status 3 and this line, which is given without its line feed.
-fn refuses(rt: &impl Abort, alloc: Global, script: &[u8], line: &str) -> Result<(), Fail> {
-    let ended = replay(alloc, script)?;
-    let line = text(alloc, line)?;
+fn refuses<R: Abort + AllocGlobal + Threads + Wait + Sync>(
+    rt: &R,
+    script: &[u8],
+    line: &str,
+) -> Result<(), Fail> {
+    let ended = replay(rt, script)?;
+    let line = text(rt.alloc(), line)?;
     assert_eq!(rt; ended.status, 3, "{line}");
     assert_eq!(rt; ended.sink.bytes(), line.as_bytes());
     Ok(())
@@ -49,7 +54,7 @@ fn each_cause(rt: HostRuntime) -> Result<(), Fail> {
     ];
     for (lines, line) in rows {
         let script = text(alloc, lines)?;
-        refuses(&rt, alloc, script.as_bytes(), line)?;
+        refuses(&rt, script.as_bytes(), line)?;
     }
     Ok(())
 }
@@ -64,7 +69,7 @@ fn odd_bytes(rt: HostRuntime) -> Result<(), Fail> {
         (b"ftrace 1\n# \x80\n\x80\n", "line 3: syntax"),
     ];
     for (script, line) in rows {
-        refuses(&rt, rt.alloc(), script, line)?;
+        refuses(&rt, script, line)?;
     }
     Ok(())
 }
@@ -77,7 +82,7 @@ fn late_refusals(rt: HostRuntime) -> Result<(), Fail> {
     for n in 0..1025u32 {
         writeln!(&mut script, "# function {n}:\nfunc f{n}")?;
     }
-    refuses(&rt, alloc, script.as_bytes(), "line 2051: limit")
+    refuses(&rt, script.as_bytes(), "line 2051: limit")
 }
 
 /// One byte more than a script may have is refused.
@@ -90,7 +95,7 @@ fn largest_input(rt: HostRuntime) -> Result<(), Fail> {
         script[bytes - 1] = b'\n';
         let mut source = MemSource::new(script, bytes, Vec::new(alloc));
         let mut sink = MemSink::new(alloc, PIECE, PIECE, Vec::new(alloc))?;
-        let answer = ft_main(alloc, &["replay"], &mut source, &mut sink, &OpenGate);
+        let answer = ft_main(&rt, alloc, &["replay"], &mut source, &mut sink, &OpenGate);
         assert_eq!(rt; answer, status);
         assert_eq!(rt; sink.bytes(), text.as_bytes());
     }

@@ -1,16 +1,39 @@
-//! Scripts that are replayed, and what is written for them.
+//! Scripts that are replayed, or run by threads, and what is written for them.
 
-use super::{replay, text};
-use std::alloc::Global;
+use super::{PIECE, call, replay, text};
 use std::process::Abort;
+use std::sync::Wait;
 use std::test::Fail;
+use std::thread::Threads;
 
 /// Each script has the status 0 and this text.
-fn replays(rt: &impl Abort, alloc: Global, rows: &[(&str, &str)]) -> Result<(), Fail> {
+fn replays<R: Abort + AllocGlobal + Threads + Wait + Sync>(
+    rt: &R,
+    rows: &[(&str, &str)],
+) -> Result<(), Fail> {
+    let alloc = rt.alloc();
     for (lines, log) in rows.iter() {
         let script = text(alloc, lines)?;
         let log = text(alloc, log)?;
-        let ended = replay(alloc, script.as_bytes())?;
+        let ended = replay(rt, script.as_bytes())?;
+        assert_eq!(rt; ended.status, 0, "{lines}");
+        assert_eq!(rt; ended.sink.bytes(), log.as_bytes(), "{lines}");
+    }
+    Ok(())
+}
+
+/// Each script has the status 0 and this text, whether it is replayed or run by threads: its waits
+/// leave one order of what happens.
+fn replays_and_runs<R: Abort + AllocGlobal + Threads + Wait + Sync>(
+    rt: &R,
+    rows: &[(&str, &str)],
+) -> Result<(), Fail> {
+    replays(rt, rows)?;
+    let alloc = rt.alloc();
+    for (lines, log) in rows.iter() {
+        let script = text(alloc, lines)?;
+        let log = text(alloc, log)?;
+        let ended = call(rt, &["run"], script.as_bytes(), PIECE, (&[], &[]))?;
         assert_eq!(rt; ended.status, 0, "{lines}");
         assert_eq!(rt; ended.sink.bytes(), log.as_bytes(), "{lines}");
     }
@@ -38,7 +61,7 @@ fn small_scripts(rt: HostRuntime) -> Result<(), Fail> {
             4 back-end 10.1 tr; 5 body 10.1 a own tr; 6 leave 10.1; 7 ret 10.1 -; end",
         ),
     ];
-    replays(&rt, rt.alloc(), &rows)
+    replays_and_runs(&rt, &rows)
 }
 
 /// A call site is patched while a CPU fetches it.
@@ -60,7 +83,7 @@ fn sites_under_patching(rt: HostRuntime) -> Result<(), Fail> {
             5 return 1 ok; end",
         ),
     ];
-    replays(&rt, rt.alloc(), &rows)
+    replays(&rt, &rows)
 }
 
 /// An unregistration waits for a callback whose task is switched away.
@@ -75,7 +98,7 @@ fn preempted_in_a_callback(rt: HostRuntime) -> Result<(), Fail> {
             5 back-end 10.1 tr; 6 body 10.1 a own tr; 7 leave 10.1; 8 ret 10.1 -; \
             9 return 2 ok; end",
     )];
-    replays(&rt, rt.alloc(), &rows)
+    replays(&rt, &rows)
 }
 
 /// Several users: by the list and by a trampoline, two that replace functions, and filters.
@@ -131,7 +154,7 @@ fn several_users(rt: HostRuntime) -> Result<(), Fail> {
             4 back-end 10.1 tr; 5 body 10.1 a list; 6 leave 10.1; 7 ret 10.1 -; end",
         ),
     ];
-    replays(&rt, rt.alloc(), &rows)
+    replays_and_runs(&rt, &rows)
 }
 
 /// A callback that calls a function, and one that is interrupted.
@@ -157,7 +180,7 @@ fn acts_of_users(rt: HostRuntime) -> Result<(), Fail> {
             12 leave 10.1; 13 ret 10.1 -; end",
         ),
     ];
-    replays(&rt, rt.alloc(), &rows)
+    replays_and_runs(&rt, &rows)
 }
 
 /// Users that want a frame of the shadow stack.
@@ -225,7 +248,7 @@ fn frames(rt: HostRuntime) -> Result<(), Fail> {
             16 exit-end 10.1 p; 17 ret 10.1 -; end",
         ),
     ];
-    replays(&rt, rt.alloc(), &rows)
+    replays_and_runs(&rt, &rows)
 }
 
 /// The notrace set of a user is changed while a call walks the list of users.
@@ -253,7 +276,7 @@ fn hash_changed_in_a_walk(rt: HostRuntime) -> Result<(), Fail> {
             10 ret 10.1 -; 11 return 3 ok; end",
         ),
     ];
-    replays(&rt, rt.alloc(), &rows)
+    replays(&rt, &rows)
 }
 
 /// Tasks that are not traced, and interrupts.
@@ -287,7 +310,7 @@ fn pids_and_contexts(rt: HostRuntime) -> Result<(), Fail> {
             33 leave 10.1; 34 ret 10.1 -; end",
         ),
     ];
-    replays(&rt, rt.alloc(), &rows)
+    replays(&rt, &rows)
 }
 
 /// Commands that are answered otherwise than ok.
@@ -302,7 +325,7 @@ fn refused_commands(rt: HostRuntime) -> Result<(), Fail> {
             10 begin 6; 11 return 6 ok; 12 begin 7; 13 return 7 ok; 14 begin 8; \
             15 return 8 invalid; end",
     )];
-    replays(&rt, rt.alloc(), &rows)
+    replays(&rt, &rows)
 }
 
 /// A schedule decides each step, and may end before the script does.
@@ -321,5 +344,5 @@ fn two_cpus(rt: HostRuntime) -> Result<(), Fail> {
             "0 enter 11.1 normal b -; 1 enter 10.1 normal a -; 2 body 10.1 a nop; stopped",
         ),
     ];
-    replays(&rt, rt.alloc(), &rows)
+    replays(&rt, &rows)
 }

@@ -1,4 +1,4 @@
-use Rattle.std.proofs.Common.{ap, subst, sym, Err, ◌∙◌}
+use Rattle.std.proofs.Common.{ap, subst, Err, ◌∙◌}
 use Rattle.ft_words.proofs.Found.{one_order}
 use Rattle.ft_words.specs.declared.order.Order.{Order}
 use Rattle.ft_words.specs.declared.order.Order.TheVariants.{Bulk}
@@ -16,21 +16,29 @@ returns-in-Err-Language-clause-complete g c = λ order gives _ _ _ _.
 
 -- ## the order that the words give is the one that is carried out
 
-pub returns-in-Ok-clause-run : goal.returns-in-Ok-clause-run
-returns-in-Ok-clause-run g c = λ done. (c.in-Ok.order, c.in-Ok.ensures.gives, c.ft_plain.ensures.run done)
+pub returns-in-Run-clause-generated : goal.returns-in-Run-clause-generated
+returns-in-Run-clause-generated g c = λ n gives.
+    c.answer.ensures.generated n (one_order _ c.in-Ok.order (Bulk n) c.in-Ok.ensures.gives gives)
 
-pub returns-in-Ok-clause-refused : goal.returns-in-Ok-clause-refused
-returns-in-Ok-clause-refused g c = λ refused. (c.in-Ok.order, c.in-Ok.ensures.gives, c.ft_plain.ensures.refused refused)
+pub returns-in-Run-clause-complete : goal.returns-in-Run-clause-complete
+returns-in-Run-clause-complete g c = λ order gives read written script.
+    subst (λ (o : Order). IsToGet o (g.S.Source.remaining c.args.source.now) script → Answers o script c.answer.result (g.K.Sink.holds c.args.sink.now) (g.K.Sink.holds c.answer.new.sink))
+    (one_order _ c.in-Ok.order order c.in-Ok.ensures.gives gives) (c.answer.ensures.complete read written script)
 
-pub returns-in-Ok-clause-generated : goal.returns-in-Ok-clause-generated
-returns-in-Ok-clause-generated g c = λ n gives.
+pub returns-in_default-clause-run : goal.returns-in_default-clause-run
+returns-in_default-clause-run g c = λ done. (c.in-Ok.order, c.in-Ok.ensures.gives, c.ft_plain.ensures.run done)
+
+pub returns-in_default-clause-refused : goal.returns-in_default-clause-refused
+returns-in_default-clause-refused g c = λ refused. (c.in-Ok.order, c.in-Ok.ensures.gives, c.ft_plain.ensures.refused refused)
+
+pub returns-in_default-clause-generated : goal.returns-in_default-clause-generated
+returns-in_default-clause-generated g c = λ n gives.
     c.ft_plain.ensures.generated n (one_order _ c.in-Ok.order (Bulk n) c.in-Ok.ensures.gives gives)
 
-pub returns-in-Ok-clause-begun : goal.returns-in-Ok-clause-begun
-returns-in-Ok-clause-begun g c = λ failed. (c.in-Ok.order, c.in-Ok.ensures.gives, c.ft_plain.ensures.begun failed)
+pub returns-in_default-clause-begun : goal.returns-in_default-clause-begun
+returns-in_default-clause-begun g c = λ failed. (c.in-Ok.order, c.in-Ok.ensures.gives, c.ft_plain.ensures.begun failed)
 
-pub returns-in-Ok-clause-complete : goal.returns-in-Ok-clause-complete
-returns-in-Ok-clause-complete g c = λ order gives read written script is_to_get.
-    let same = one_order _ c.in-Ok.order order c.in-Ok.ensures.gives gives in
-    subst (λ (o : Order). Answers o script c.ft_plain.result (g.K.Sink.holds c.args.sink.now) (g.K.Sink.holds c.ft_plain.new.sink)) same
-    (c.ft_plain.ensures.complete read written script (subst (λ (o : Order). IsToGet o (g.S.Source.remaining c.args.source.now) script) (sym same) is_to_get))
+pub returns-in_default-clause-complete : goal.returns-in_default-clause-complete
+returns-in_default-clause-complete g c = λ order gives read written script.
+    subst (λ (o : Order). IsToGet o (g.S.Source.remaining c.args.source.now) script → Answers o script c.ft_plain.result (g.K.Sink.holds c.args.sink.now) (g.K.Sink.holds c.ft_plain.new.sink))
+    (one_order _ c.in-Ok.order order c.in-Ok.ensures.gives gives) (c.ft_plain.ensures.complete read written script)

@@ -1,6 +1,6 @@
 use Rattle.std.proofs.Common.{ap, Err, ◌∙◌}
 use Rattle.ft_app.proofs.Orders.{not-too-long, has_run, has_refused, answers}
-use Rattle.ft_app.proofs.plain.ft_plain.Goals as goal
+use Rattle.ft_app.proofs.answer.answer.Goals as goal
 
 -- ## a source that gives too much
 

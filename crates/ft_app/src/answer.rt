@@ -1,0 +1,106 @@
+//! An order carried out over any source and sink, whatever carries its job out.
+
+ghost use Rattle.std.specs.Prelude.{◌≡◌, ◌≢◌, ◌≤◌, ℕ, List, length, IfOk, IfErr};
+ghost use Rattle.std.specs.Fn.{FnOnceReturnsAt};
+ghost use Rattle.ft_io.specs.Causes.{Rose, GaveMore, GaveAtMost};
+ghost use Rattle.ft_words.specs.declared.order.Order.TheVariants.{Bulk};
+ghost use Rattle.ft_app.specs.declared.status.Status.{Status};
+ghost use Rattle.ft_app.specs.Status.{code_of};
+ghost use Rattle.ft_app.specs.Reply.{Serves};
+ghost use Rattle.ft_app.specs.Main.{Gets, IsToGet, HasRun, HasRefused, HasBegun, Answers};
+
+use crate::reply::reply_to;
+use crate::status::Status;
+use ft_base::NoMemory;
+use ft_base::limits::INPUT_BYTES;
+use ft_io::{ReadFail, Sink, Source, WriteFail, read_all, write_all};
+use ft_machine::{Job, Outcome};
+use ft_schedule::bulk_script;
+use ft_words::Order;
+use std::alloc::Global;
+
+/// Carries an order out; `carry_out` does so with the script's job. It gives the number of the
+/// [`Status`].
+pub(crate) fn answer<C: FnOnce(&Job) -> Result<Outcome, NoMemory> + Drop, S: Source, K: Sink>(
+    alloc: Global,
+    order: &Order,
+    carry_out: C,
+    source: &mut S,
+    sink: &mut K,
+) -> u8
+    requires callable { C.IsAlwaysCallable carry_out }
+    requires serves { Serves order.now (FnOnceReturnsAt C.FnOnce carry_out) }
+    ensures known { (status : Status) × (result ≡ code_of status) }
+    ensures spoken { result ≢ code_of Status.Language }
+
+    // What the order prints of a history of the script's job; the line of its refusal.
+    ensures run { result ≡ code_of Status.Done
+        → HasRun order.now (S.remaining source.old) (S.remaining source.new)
+        (K.holds sink.old) (K.holds sink.new) }
+    ensures refused { result ≡ code_of Status.Refused
+        → HasRefused order.now (S.remaining source.old) (S.remaining source.new)
+        (K.holds sink.old) (K.holds sink.new) }
+
+    // A generated script isn't read.
+    ensures generated { (n : ℕ) → order.now ≡ Bulk n → source.new ≡ source.old }
+
+    ensures read_fault { result ≡ code_of Status.ReadFault
+        → Rose (S.faults source.old) (S.faults source.new) }
+    ensures write_fault { result ≡ code_of Status.WriteFault
+        → Rose (K.faults sink.old) (K.faults sink.new) }
+    ensures begun { result ≡ code_of Status.WriteFault
+        → HasBegun order.now (S.remaining source.old) (S.remaining source.new)
+        (K.holds sink.old) (K.holds sink.new) }
+
+    // Status 7 comes exactly if one byte more than the limit was given.
+    ensures too_long { result ≡ code_of Status.TooLong
+        → GaveMore INPUT_BYTES (S.remaining source.old) (S.remaining source.new) }
+    ensures within { result ≢ code_of Status.TooLong
+        → GaveAtMost INPUT_BYTES (S.remaining source.old) (S.remaining source.new) }
+
+    ensures nothing { result ≢ code_of Status.Done → result ≢ code_of Status.Refused
+        → result ≢ code_of Status.WriteFault → sink.new ≡ sink.old }
+
+    // If nothing outside goes wrong, a script is carried out and any other text is refused.
+    ensures complete { ¬ Rose (S.faults source.old) (S.faults source.new)
+        → ¬ Rose (K.faults sink.old) (K.faults sink.new)
+        → (script : List ℕ) → IsToGet order.now (S.remaining source.old) script
+        → Answers order.now script result (K.holds sink.old) (K.holds sink.new) }
+{
+    let script = match script_for(alloc, order, source) {
+        Ok(script) => script,
+        Err(ReadFail::Fault) => return Status::ReadFault.code(),
+        Err(ReadFail::TooLong) => return Status::TooLong.code(),
+        Err(ReadFail::NoMemory) => return Status::NoMemory.code(),
+    };
+    let reply = match reply_to(alloc, *order, carry_out, &script) {
+        Ok(reply) => reply,
+        Err(NoMemory) => return Status::NoMemory.code(),
+    };
+    match write_all(sink, reply.text.as_slice()) {
+        Ok(()) => reply.status.code(),
+        Err(WriteFail) => Status::WriteFault.code(),
+    }
+}
+
+/// The script of an order: all that the source gives, or the generated one.
+fn script_for<S: Source>(alloc: Global, order: &Order, source: &mut S) -> Result<Vec<u8>, ReadFail>
+    ensures gets { IfOk result
+        (λ v. Gets order.now (S.remaining source.old) (S.remaining source.new) v.items) }
+    ensures short { IfOk result (λ v. length v.items ≤ INPUT_BYTES) }
+    ensures generated { (n : ℕ) → order.now ≡ Bulk n → source.new ≡ source.old }
+    ensures fault { result ≡ Err ReadFail.Fault → Rose (S.faults source.old) (S.faults source.new) }
+    ensures too_long { result ≡ Err ReadFail.TooLong
+        → GaveMore INPUT_BYTES (S.remaining source.old) (S.remaining source.new) }
+    ensures within { IfErr result (λ fail. fail ≢ ReadFail.TooLong
+        → GaveAtMost INPUT_BYTES (S.remaining source.old) (S.remaining source.new)) }
+    ensures never_long { (n : ℕ) → order.now ≡ Bulk n → result ≢ Err ReadFail.TooLong }
+{
+    match order {
+        Order::Replay(_) | Order::Run(_) => read_all(alloc, source),
+        Order::Bulk(n) => match bulk_script(alloc, *n) {
+            Ok(script) => Ok(script),
+            Err(NoMemory) => Err(ReadFail::NoMemory),
+        },
+    }
+}
