@@ -5,11 +5,13 @@
 - each status with its cause: streams that fail, too little memory, too long an input;
 - each limit of the language reached and passed, in at most a hundred times the time that it takes now;
 - a long history in each printed form;
+- runs by threads: scripts with one order only print what a replay of them prints, and others come to their ends;
 - random scripts of script_forms.py and viewed_scripts.py, whose forms have to follow from the log.
 
 Each row asks for the status and for what is written; nothing may be written to standard error.
 The last line is `edges: N passed, M failed`, and the status is 0 if nothing failed.
 """
+import collections
 import resource
 import shlex
 import sys
@@ -53,7 +55,7 @@ def replay_streams():
     """Streams of `replay`, and of words that aren't in the language."""
     refused, form, words = b"ftrace 1\nfunc a\nfunc a\n", "replay --print function", "replay frob"
     yield Stream("a form", 0, CALLED, '"$@"', words=form)
-    for name, order in [("", "replay"), (", a form", form)]:
+    for name, order in [("", "replay"), (", a form", form), (", run", "run")]:
         yield Stream(f"a refused script{name}", 3, b"line 3: duplicate\n", '"$@"', refused, order)
         yield Stream(f"no bytes{name}", 3, b"line 1: version\n", '"$@" </dev/null', words=order)
         for what, given in NO_INPUTS:
@@ -67,6 +69,7 @@ def replay_streams():
     for what, given in [*NO_INPUTS, *NO_OUTPUTS, ("an input without an end", "</dev/zero")]:
         yield Stream(f"{what}, other words", 2, b"", f'"$@" {given}', words=words)
     yield Stream("an input byte by byte", 0, LOG, 'dd bs=1 status=none | "$@"')
+    yield Stream("an input byte by byte, run", 0, LOG, 'dd bs=1 status=none | "$@"', words="run")
 
 
 def bulk_streams(summary):
@@ -112,12 +115,14 @@ def take_memory():
 
 
 def check_memory(rows, program):
-    """In one MiB of memory there is room for a small script, but not for the most bytes, acts or arguments."""
+    """In one MiB of memory there is room for a small script, but not for the most bytes, acts or arguments, nor for a thread: a run then
+    makes the steps of all actors in turn."""
     most = one_comment(forms.INPUT_BYTES)
     tries = [("a small script", 0, LOG, SCRIPT, ["replay"]), ("the most bytes", 6, b"", most, ["replay"])]
     tries += [("the most acts", 6, b"", acts(forms.ACTS), ["replay"]), ("the most bytes, other words", 2, b"", most, ["frob"])]
     tries += [("1,500,000 bytes of arguments", 6, b"", SCRIPT, ["x" * 100_000] * 15)]
     tries += [("a form", 0, CALLED, SCRIPT, ["replay", "--print", "function"]), ("bulk", 6, b"", b"", ["bulk"])]
+    tries += [("a small script, run", 0, LOG, SCRIPT, ["run"]), ("the most acts, run", 6, b"", acts(forms.ACTS), ["run"])]
     for what, status, out, text, words in tries:
         came = runs.answer([program, *words], text, preexec_fn=take_memory)
         rows.row(f"memory: {what}", runs.faults(came, status, out), came.seconds)
@@ -453,6 +458,51 @@ def check_forms(rows, program):
         rows.row(f"forms: nests of calls: {form}", found + [f"{lines} lines, not {count}"] * (lines != count), came.seconds)
 
 
+# Runs by threads.
+
+# Examples whose waits leave one order of what happens, whoever steps when.
+ORDERED = ["answers", "contexts", "filters", "first_path", "fprobe_cancel", "fprobe_exit", "full_shadow_stack", "graph", "graph_depth"]
+ORDERED += ["interrupted_callback", "ipmodify", "list_then_own", "missed_exit", "nested_calls", "no_trampoline", "profile", "refused_depth"]
+ORDERED += ["refused_recursion", "registered_again", "unregistered_in_call", "until"]
+RUN_SECONDS = 60  # that a run may take
+
+
+def visits(log):
+    """How often each user is called back or refused in a log."""
+    words = [line.split() for line in log.splitlines()]
+    return collections.Counter((line[1], *line[3:]) for line in words if line[1:2] and line[1] in (b"back", b"refuse"))
+
+
+def check_calls_after_commands(rows, program, path):
+    """A run of a script whose calls come after all commands: whoever steps when, the same users are called back in them."""
+    came = runs.answer([program, "run"], path.read_bytes(), RUN_SECONDS)
+    same = visits(came.out) == visits(path.with_suffix(".log").read_bytes())
+    rows.row(f"runs: {path.name}: callbacks", command_words.run_faults(came, "log") + ["other users are called back"] * (not same), came.seconds)
+    came = runs.answer([program, "run", "--print", "enabled"], path.read_bytes(), RUN_SECONDS)
+    rows.row(f"runs: {path.name}: enabled", runs.faults(came, 0, path.with_suffix(".enabled").read_bytes()), came.seconds)
+
+
+def check_runs(rows, program, top):
+    check_calls_after_commands(rows, program, top / "examples" / "realistic.ft")
+    for name in ORDERED:
+        path = top / "examples" / f"{name}.ft"
+        for form in text_lines.FORMS:
+            if path.with_suffix(f".{form}").exists():
+                came = runs.answer([program, "run", "--print", form], path.read_bytes(), RUN_SECONDS)
+                rows.row(f"runs: {path.name}: {form}", runs.faults(came, 0, path.with_suffix(f".{form}").read_bytes()), came.seconds)
+    for path in sorted((top / "examples").glob("*.ft")):
+        if path.stem not in ORDERED and path.stem != "refused":
+            came = runs.answer([program, "run"], path.read_bytes(), RUN_SECONDS)
+            rows.row(f"runs: {path.name}", command_words.run_faults(came, "log"), came.seconds)
+    for what, make, most in [("CPUs", cpus, forms.CPUS), ("tasks", tasks, forms.TASKS), ("acts", acts, forms.ACTS), ("commands", commands, forms.COMMANDS)]:
+        came = runs.answer([program, "run"], make(most), RUN_SECONDS)
+        rows.row(f"runs: {what}: {most:,}", command_words.run_faults(came, "log"), came.seconds)
+    for form, count in nests_lines().items():
+        came = runs.answer([program, "run", "--print", form], nests(), RUN_SECONDS)
+        found, lines = command_words.run_faults(came, form), came.out.count(b"\n")
+        rows.row(f"runs: nests of calls: {form}", found + [f"{lines} lines, not {count}"] * (lines != count), came.seconds)
+
+
 # Random scripts.
 
 def check_accepted(rows, program, name, script):
@@ -474,6 +524,8 @@ def check_random(rows, program):
         came = runs.answer([program, "replay", "--print", form], forms.mutated(seed))
         found = runs.faults(came, 3) if check_docs.REFUSED.fullmatch(came.out) else text_faults(came, form)
         rows.row(f"random: script_forms.py --seed {seed} --mutate: {form}", found, came.seconds)
+        came = runs.answer([program, "run", "--print", form], forms.script(seed), RUN_SECONDS)
+        rows.row(f"random: script_forms.py --seed {seed}: run, {form}", command_words.run_faults(came, form), came.seconds)
 
 
 def main():
@@ -484,6 +536,7 @@ def main():
     check_memory(rows, options.program)
     check_limits(rows, options.program)
     check_forms(rows, options.program)
+    check_runs(rows, options.program, options.top)
     check_random(rows, options.program)
     return rows.end()
 

@@ -1,14 +1,14 @@
 """Words of the command line, in its language and not, each run by the program.
 
 They are those of the tables of docs/LANGUAGE.md, those of the tests of ft_words, and those of the tables below, which
-have bytes and sizes that the former haven't. An order is a form for `replay`, a seed for `bulk`, and None for words that
-aren't in the language.
+have bytes and sizes that the former haven't. Words that aren't in the language give None in place of an order.
 """
 import functools
 import os
 import re
 import shlex
 import tempfile
+from typing import NamedTuple, Optional
 
 import bulk_script
 import check_docs
@@ -17,19 +17,33 @@ import text_lines
 
 EXAMPLE = "realistic"  # of examples/: it has a text in each form, and these differ
 BAD_WORDS = ["''", "replay ''", "'' replay", "bulk ''", "'' bulk", "replay 'replay '", "replay --print ' log'", "replay '--print log'"]
-BAD_WORDS += ["replay '--print= log'", "bulk --seed '1\n'", "bulk '--seed 1'", "replay \u00e9", "r\u00e9play", "bulk --seed \u0661", "bulk --seed 1.0"]
+BAD_WORDS += ["run ''", "'run '", "replay '--print= log'", "bulk --seed '1\n'", "bulk '--seed 1'", "replay \u00e9", "r\u00e9play", "bulk --seed \u0661", "bulk --seed 1.0"]
 NOT_TEXT = [[b"\xff"], [b"replay\xff"], [b"\xff", b"replay"], [b"replay", b"\xff"], [b"replay", b"--print", b"log\x80"]]
 NOT_TEXT += [[b"--print=log", b"--", b"replay", b"\xc3"], [b"replay", b"\xc0\xaf"], [b"replay", b"\xed\xa0\x80"], [b"bulk", b"--seed", b"1\xff"]]
 HUGE = [["replay"] * 1000, ["bulk", *["--seed", "1"] * 1000], ["replay", "x" * 100_000], ["bulk", "--seed", "0" * 100_000]]
 LISTS = re.compile(r"let (good|bad): .*?; (\d+)\] = \[\n(.*?)\n    \];", re.S)
 LIST = re.compile(r'&\[((?:\s*"[^"]*",?)*)\s*\]')
-ORDER = re.compile(r"Order::(?:Replay\(Form::(\w+)\)|Bulk\(([\d_]+)\))")
+ORDER = re.compile(r"Order::(Replay|Run|Bulk)\((?:Form::)?(\w+)\)")
+
+
+class Order(NamedTuple):
+    """What words order: a mode, with a form or a seed."""
+
+    mode: str
+    form: Optional[str] = None
+    seed: Optional[int] = None
 
 
 def order_of(words):
     """The order of words that are in the language."""
     said = dict(re.findall(r"--(print|seed)[ =](\S+)", " ".join(words)))
-    return int(said.get("seed", 1)) if "bulk" in words else said.get("print", "log")
+    mode = next(word for word in words if word in ("replay", "run", "bulk"))
+    return Order(mode, seed=int(said.get("seed", 1))) if mode == "bulk" else Order(mode, form=said.get("print", "log"))
+
+
+def test_order(mode, value):
+    """The order of a test, by its mode and by the name of its form, or by its seed."""
+    return Order("bulk", seed=int(value)) if mode == "Bulk" else Order(mode.lower(), form=value.lower())
 
 
 def page_words(rows, page):
@@ -50,7 +64,7 @@ def test_words(rows, path):
         rows.row(path.name, ["it hasn't the words that are in the language and those that aren't"])
     for kind, count, text in found:
         lists = [re.findall(r'"([^"]*)"', words) for words in LIST.findall(text)]
-        orders = [form.lower() or int(seed) for form, seed in ORDER.findall(text)] if kind == "good" else [None] * len(lists)
+        orders = [test_order(*found) for found in ORDER.findall(text)] if kind == "good" else [None] * len(lists)
         if not len(lists) == len(orders) == int(count):
             rows.row(path.name, [f"of {count} lists of words {len(lists)} were found, and {len(orders)} orders"])
         for words, order in zip(lists, orders):
@@ -73,8 +87,15 @@ def summary(program, seed):
     return bulk_script.summary(seed, came.out) if came.status == 0 else b""
 
 
+def run_faults(came, form):
+    """What is wrong with the answer to a run. Its threads may go in any order, but they come to their ends."""
+    found = runs.faults(came, 0) or text_lines.faults(form, came.out)
+    return found or ([] if came.out.endswith(b"end\n") else ["the last line isn't end"])
+
+
 def try_words(rows, program, example, name, words, order):
-    """Words that order a replay have the script replayed in that form; with others nothing is read, and `bulk` prints its summary."""
+    """Words that order a replay have the script replayed in that form, and those that order a run have it run; with others nothing is
+    read, and `bulk` prints its summary."""
     with tempfile.TemporaryFile() as source:
         source.write(example.with_suffix(".ft").read_bytes())
         source.flush()
@@ -82,11 +103,13 @@ def try_words(rows, program, example, name, words, order):
         came = runs.answer([program, *words], stdin=source)
         if order is None:
             found = runs.faults(came, 2, b"")
-        elif order in text_lines.FORMS:
-            found = runs.faults(came, 0, example.with_suffix("." + order).read_bytes())
+        elif order.mode == "run":
+            found = run_faults(came, order.form)
+        elif order.mode == "replay":
+            found = runs.faults(came, 0, example.with_suffix("." + order.form).read_bytes())
         else:
-            found = runs.faults(came, 0, summary(program, order))
-        if order not in text_lines.FORMS and os.lseek(source.fileno(), 0, os.SEEK_CUR):
+            found = runs.faults(came, 0, summary(program, order.seed))
+        if (order is None or order.mode == "bulk") and os.lseek(source.fileno(), 0, os.SEEK_CUR):
             found.append("the input was read")
     rows.row(name, found, came.seconds)
 

@@ -1,0 +1,144 @@
+#!/usr/bin/env python3
+"""Runs random scripts with threads, and has each log judged by another program.
+
+REFERENCE is a program that was written from the same rules by other hands, and isn't part of this
+repository. The N scripts of each source have the seeds from S on:
+
+    plain      script_forms.py
+    viewed     viewed_scripts.py, scripts that most forms have lines of
+    generated  `REFERENCE gen`
+    crowded    script_forms.py, with a task of calls more on each of the most CPUs, up to the most tasks
+
+Each script that `PROGRAM replay` accepts goes through `PROGRAM run`, which has to end within SECONDS with
+status 0 and write nothing to standard error; and `REFERENCE check --log LOG` has to call the log whole. So
+many runs of a script are made as --times says. The last line says how many runs there were, how many scripts
+had more than one log, and what was found; the status is 1 if anything was. What is wrong is kept in FOLDER.
+Two runs go on at a time, each with threads of its own.
+"""
+import argparse
+import concurrent.futures
+import pathlib
+import shutil
+import sys
+import tempfile
+from typing import NamedTuple
+
+sys.dont_write_bytecode = True
+import runs  # noqa: E402
+import script_forms  # noqa: E402
+import viewed_scripts  # noqa: E402
+
+FOLDER = pathlib.Path(tempfile.gettempdir()) / "run-faults"
+WORKERS = 2
+SECONDS = 120
+
+
+class Ran(NamedTuple):
+    """A script with its runs: whether it is accepted, how many logs there were, and what is wrong with them."""
+
+    source: str
+    seed: int
+    text: bytes
+    accepted: bool
+    logs: set
+    faults: list
+
+
+def crowded(seed):
+    """A script whose CPUs and tasks are as many as there may be, each task with calls of a script of this seed."""
+    lines = script_forms.script(seed).decode().splitlines()
+    head = ["ftrace 1"] + [line for line in lines if line.split(" ", 1)[0] in ("func", "depth", "tramps", "user")]
+    control = [line for line in lines if line.startswith("ctl ") and line.split()[1] not in ("until", "pid", "nopid")]
+    names = [line.split()[1] for line in head if line.startswith("func ")] or ["f"]
+    if not any(line.startswith("func ") for line in head):
+        head.insert(1, "func f")
+    cpus = [f"cpu {cpu} quantum {3 + (seed + cpu) % 9}" for cpu in range(script_forms.CPUS)]
+    tasks = []
+    for number in range(script_forms.TASKS):
+        tasks.append(f"task {100 + number} cpu {number % script_forms.CPUS}")
+        for call in range(1 + (seed + number) % 4):
+            name = names[(seed + number * 7 + call * 3) % len(names)]
+            tasks += [f"call {name}", f"call {names[call % len(names)]}", "ret", "ret"]
+    return ("\n".join([*head, *cpus, *tasks, *control]) + "\n").encode()
+
+
+def text_of(source, seed, reference):
+    """The script of this source and seed."""
+    if source == "generated":
+        size = "medium" if seed % 8 == 7 else "small"
+        return runs.answer([reference, "gen", "--seed", str(seed), "--size", size, "--features", "none"], b"", SECONDS).out
+    return {"plain": script_forms.script, "viewed": viewed_scripts.script, "crowded": crowded}[source](seed)
+
+
+def faults_of(came, text, reference):
+    """What is wrong with a run's answer."""
+    if came.status is None:
+        return [f"it has not ended in {SECONDS} seconds"]
+    found = [f"status {came.status}"] * (came.status != 0) + ["it writes to standard error"] * bool(came.err)
+    if found:
+        return found
+    with tempfile.NamedTemporaryFile(suffix=".log") as log:
+        log.write(came.out)
+        log.flush()
+        judged = runs.answer([reference, "check", "--log", log.name], text, SECONDS)
+    return [] if judged.status == 0 and judged.out.strip() == b"whole" else [f"{judged.out.decode(errors='replace').strip()}"]
+
+
+def try_script(job):
+    options, source, seed = job
+    text = text_of(source, seed, options.reference)
+    accepted = runs.answer([options.program, "replay"], text, SECONDS).status == 0
+    logs, faults = set(), []
+    for _ in range(options.times if accepted else 0):
+        came = runs.answer([options.program, "run"], text, SECONDS)
+        logs.add(came.out)
+        faults += faults_of(came, text, options.reference)
+    return Ran(source, seed, text, accepted, logs, faults)
+
+
+def keep(options, done):
+    """Writes the script and the logs."""
+    options.keep.mkdir(parents=True, exist_ok=True)
+    path = options.keep / f"{done.source}-{done.seed}.ft"
+    path.write_bytes(done.text)
+    for number, log in enumerate(sorted(done.logs)):
+        path.with_suffix(f".{number}.log").write_bytes(log)
+    for fault in done.faults:
+        print(f"wrong: {done.source} seed {done.seed}: {fault}; kept as {path}", flush=True)
+
+
+def read_options():
+    title = __doc__.split("\n", 1)
+    parser = argparse.ArgumentParser(description=title[0], epilog=title[1], formatter_class=argparse.RawDescriptionHelpFormatter)
+    parser.add_argument("program", metavar="PROGRAM", help="the program, as crates/ftcore/out/ftcore")
+    parser.add_argument("reference", metavar="REFERENCE", help="the other program")
+    parser.add_argument("--count", type=int, required=True, metavar="N", help="scripts of each source")
+    parser.add_argument("--times", type=int, default=1, metavar="K", help="runs of each script, else 1")
+    parser.add_argument("--seed", type=int, default=0, metavar="S", help="the first seed, else 0")
+    parser.add_argument("--keep", type=pathlib.Path, default=FOLDER, metavar="FOLDER", help=f"where scripts with faults are kept, else {FOLDER}")
+    options = parser.parse_args()
+    for path in (options.program, options.reference):
+        if not shutil.which(path):
+            parser.error(f"there is no program {path}")
+    return options
+
+
+def main():
+    options = read_options()
+    sources = ["plain", "viewed", "generated", "crowded"]
+    jobs = [(options, source, seed) for source in sources for seed in range(options.seed, options.seed + options.count)]
+    accepted, several, wrong = dict.fromkeys(sources, 0), 0, 0
+    with concurrent.futures.ThreadPoolExecutor(WORKERS) as workers:
+        for done in workers.map(try_script, jobs):
+            accepted[done.source] += done.accepted
+            several += len(done.logs) > 1
+            wrong += len(done.faults)
+            if done.faults:
+                keep(options, done)
+    said = ", ".join(f"{source} {count}" for source, count in accepted.items())
+    print(f"{sum(accepted.values())} scripts ({said}), {options.times} runs each; {several} with more than one log; {wrong} faults")
+    return 1 if wrong else 0
+
+
+if __name__ == "__main__":
+    sys.exit(main())
