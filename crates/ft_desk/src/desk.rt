@@ -188,6 +188,31 @@ impl Desk {
         &self.roster.user(u).pair
     }
 
+    /// Whether the user is registered.
+    pub fn is_registered(&self, u: UserNo) -> bool
+        requires { u.0 < length self.now.declared.specs }
+        ensures { result ≡ (user_at self.now.state u.0).registered }
+    {
+        self.roster.user(u).registered
+    }
+
+    /// Whether the user is enabled (`fprobe.rst`, `disable_fprobe`). It says nothing of a user that
+    /// isn't registered.
+    pub fn is_enabled(&self, u: UserNo) -> bool
+        requires { u.0 < length self.now.declared.specs }
+        ensures { result ≡ (user_at self.now.state u.0).enabled }
+    {
+        self.roster.user(u).enabled
+    }
+
+    /// The number of the command, from 1, that registered the user last; 0 if none has.
+    pub fn since(&self, u: UserNo) -> u32
+        requires { u.0 < length self.now.declared.specs }
+        ensures { result ≡ (user_at self.now.state u.0).since }
+    {
+        self.roster.user(u).since
+    }
+
     /// The answer to a command.
     fn answer(&mut self, command: &Command) -> Answer
         requires { IsInShape self.old.declared command.now }
