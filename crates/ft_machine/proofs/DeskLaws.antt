@@ -2,7 +2,7 @@
 use Rattle.std.proofs.Common.{◌≡◌, ℕ, zero, suc, ◌+◌, ◌-◌, ◌≤◌, List, [], ◌∷◌, length, take, map, get_or, Some, is_some, refl, sym, ap, ap₂, ◌∙◌, subst, arith, add-one}
 use Rattle.std.specs.Prelude.{filter, option_map, slice_get}
 use Rattle.std.proofs.lemmas.Option.{slice_get-map, slice_get_past}
-use Rattle.std.proofs.lemmas.List.{length-map, take_all}
+use Rattle.std.proofs.lemmas.List.{length-map, length-take, take_all}
 use Rattle.ft_base.specs.declared.number.TaskNo.{TaskNo}
 use Rattle.ft_base.specs.Job.{Job, Spec, Ctl as PlainCtl, Run as PlainRun, commands, commands_in}
 use Rattle.ft_base.specs.Desk.{Desk, after, desk, opening, plain_spec, sited, spec_at}
@@ -16,6 +16,7 @@ use Rattle.ft_desk.specs.Declarations.{Declared, IsOf, bare, job_of}
 use Rattle.ft_desk.specs.Seen.{Seen, after_command, opened}
 use Rattle.ft_desk.specs.Sites.{row_at}
 use Rattle.ft_desk.proofs.JobLaws.{opening-is}
+use Rattle.word_machine.proofs.Limited.{few-commands}
 use Rattle.control_core.specs.Lines.{lines_of}
 use Rattle.control_core.proofs.DeskIn.{commands-after, declared-after}
 use Rattle.control_core.proofs.Desks.{state-same}
@@ -48,7 +49,7 @@ unfolding desk
 desk-zero job = refl
 
 -- after the last command the desk stays
-desk-past : (job : Job) (n m : ℕ) → length (commands job) ≤ n → desk job (n + m) ≡ desk job n
+pub desk-past : (job : Job) (n m : ℕ) → length (commands job) ≤ n → desk job (n + m) ≡ desk job n
 desk-past job n zero past = let e : n + 0 ≡ n = omega arith in ap (desk job) e
 desk-past job n (suc m) past =
     let e : n + suc m ≡ suc (n + m) = omega arith in
@@ -77,6 +78,11 @@ module _ (old : Declared) (xs : List Ctl) (i : ℕ) (s : Seen) (kept : s.declare
   seen-line : (y : Ctl) → slice_get xs i ≡ Some y → slice_get (lines_of old.tasks xs) i ≡ Some (ctl_of old.tasks y)
   seen-line y at = slice_get-map (ctl_of old.tasks) xs i ∙ ap (option_map (ctl_of old.tasks)) at
 
+  -- no more commands than lines were planned
+  pub few-planned : s.commands ≤ i
+  few-planned =
+      let a = few-commands (take i (lines_of old.tasks xs)) in let b = length-take i (lines_of old.tasks xs) in omega (arith, counted, a, b)
+
   next-count : length (commands_in (take (suc i) (lines_of old.tasks xs))) ≡ length (commands_in (take (i + 1) (lines_of old.tasks xs)))
   next-count = ap (λ n. length (commands_in (take n (lines_of old.tasks xs)))) (sym (add-one i))
 
@@ -99,18 +105,25 @@ module _ (old : Declared) (xs : List Ctl) (i : ℕ) (s : Seen) (kept : s.declare
     counted-next =
         commands-next ∙ ap suc counted ∙ sym (count-run (lines_of old.tasks xs) i (command_of s.declared.tasks x) command-is) ∙ next-count
 
+    -- it is the job's next command
+    pub command-next : (job : Job) → lines_of old.tasks xs ≡ job.ctls → slice_get (commands job) s.commands ≡ Some (command_of s.declared.tasks x)
+    command-next job lines =
+        ap₂ (λ (ls : List PlainCtl) n. slice_get (commands_in ls) n) (sym lines) counted
+        ∙ command-at (lines_of old.tasks xs) i (command_of s.declared.tasks x) command-is
+
     pub state-next : (job : Job) → IsOf job old → lines_of old.tasks xs ≡ job.ctls → s.state ≡ desk job s.commands → next.state ≡ desk job next.commands
     state-next job is lines same =
         ap (λ (t : Seen). t.state) then
-        ∙ state-same job s s.commands (command_of s.declared.tasks x) (subst (IsOf job) (sym kept) is) same
-        (ap₂ (λ (ls : List PlainCtl) n. slice_get (commands_in ls) n) (sym lines) counted
-        ∙ command-at (lines_of old.tasks xs) i (command_of s.declared.tasks x) command-is) refl
+        ∙ state-same job s s.commands (command_of s.declared.tasks x) (subst (IsOf job) (sym kept) is) same (command-next job lines) refl
         ∙ ap (desk job) (sym commands-next)
 
   -- the lines are over
+  pub counted-over : (job : Job) → lines_of old.tasks xs ≡ job.ctls → length xs ≤ i → s.commands ≡ length (commands job)
+  counted-over job lines past =
+      counted ∙ ap (λ (ls : List PlainCtl). length (commands_in ls)) (take_all i (lines_of old.tasks xs) (let n = length-map xs (ctl_of old.tasks) in omega (arith, n, past)) ∙ lines)
+
   pub state-over : (job : Job) (k : ℕ) → lines_of old.tasks xs ≡ job.ctls → length xs ≤ i → s.commands ≤ k → s.state ≡ desk job s.commands → s.state ≡ desk job k
   state-over job k lines past few same =
-      let all : s.commands ≡ length (commands job) =
-      counted ∙ ap (λ (ls : List PlainCtl). length (commands_in ls)) (take_all i (lines_of old.tasks xs) (let n = length-map xs (ctl_of old.tasks) in omega (arith, n, past)) ∙ lines) in
+      let all = counted-over job lines past in
       let e : s.commands + (k - s.commands) ≡ k = omega (arith, few) in
       same ∙ sym (desk-past job s.commands (k - s.commands) (omega (arith, all))) ∙ ap (desk job) e

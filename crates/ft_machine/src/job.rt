@@ -162,9 +162,21 @@ impl Job {
         ensures funcs { IfOk result (λ d. d.declared.funcs ≡ funcs self.now) }
         ensures rows { IfOk result (λ d. (f : ℕ) → row_at (job_of_desk d.declared) d.state f ≡ row_at self.now (desk self.now k) f) }
     {
-        let mut desk = Desk::new(alloc, self.parts.specs.as_slice(), self.shape())?;
-        plan_first(&mut desk, self.parts.ctls.as_slice(), k);
+        let (mut desk, lines) = self.opening(alloc)?;
+        plan_first(&mut desk, lines, k);
         Ok(desk)
+    }
+
+    /// The desk before the first command, and the lines of control, which can be planned on it. The
+    /// error says that memory ran out.
+    pub(crate) fn opening(&self, alloc: Global) -> Result<(Desk, &[Ctl]), NoMemory>
+        ensures opened { IfOk result (λ p. p.0 ≡ opened p.0.declared) }
+        ensures declared { IfOk result (λ p. IsOf self.now p.0.declared) }
+        ensures named { IfOk result (λ p. All (IsLineIn p.0.declared) p.1.now) }
+        ensures lines { IfOk result (λ p. lines_of p.0.declared.tasks p.1.now ≡ self.now.ctls) }
+    {
+        let desk = Desk::new(alloc, self.parts.specs.as_slice(), self.shape())?;
+        Ok((desk, self.parts.ctls.as_slice()))
     }
 
     /// How many tasks there are, over all CPUs.
