@@ -1,7 +1,9 @@
 //! Replays and steps of a job in which each kind of line and act comes, and of an empty one.
 
 mod histories;
+mod hostile;
 mod jobs;
+mod judged;
 
 use ft_base::{Actor, CpuNo, Item, NoMemory, TaskNo};
 use ft_hist::History;

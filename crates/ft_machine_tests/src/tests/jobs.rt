@@ -55,7 +55,7 @@ ctl unregister t
 ";
 
 /// The job of a text; none if it is refused. The texts here are short enough.
-fn read(alloc: Global, text: &str) -> Option<Job> {
+pub fn read(alloc: Global, text: &str) -> Option<Job> {
     if text.len() > INPUT_BYTES as usize {
         return None;
     }

@@ -1,0 +1,120 @@
+//! Schedules that hold an actor at each moment, while another goes on: what a CPU sees of a command
+//! that is half carried out, and what control waits for. Each history keeps the rules of callbacks.
+
+use super::jobs::read;
+use ft_base::{CpuNo, NoMemory, Who};
+use ft_machine::{Job, Machine, backs_legal, replay};
+use ft_schedule::{Player, Schedule, held};
+use std::alloc::Global;
+use std::test::Fail;
+
+/// The one CPU, whose task makes calls while control goes on.
+const CPU: Who = Who::Cpu(CpuNo(0));
+
+/// The lines of that CPU. Its first call can be entered before control has begun.
+const CALLS: &str = "cpu 0 quantum 100
+task 10 cpu 0
+call a
+ret
+call a
+ret
+call a
+ret
+call a
+ret
+";
+
+/// Users and commands: a registration and an unregistration; one of two users on the list
+/// unregistered; what a user traces changed while the list may be walked; an fprobe disabled, perhaps
+/// between a call and its return; a graph user unregistered and registered again.
+const JOBS: [(&str, &str); 5] = [
+    ("user t function\n", "ctl register t\nctl unregister t\n"),
+    (
+        "user t function\nuser s function\n",
+        "ctl register t\nctl register s\nctl unregister t\n",
+    ),
+    (
+        "user t function\nuser s function\n",
+        "ctl register t\nctl register s\nctl notrace t > a\n",
+    ),
+    ("user p fprobe exit\n", "ctl register p\nctl disable p\n"),
+    (
+        "user g graph\n",
+        "ctl register g\nctl unregister g\nctl register g\n",
+    ),
+];
+
+/// The last moment at which an actor is held, in its own steps.
+const LAST: u32 = 80;
+
+/// How long the other actor goes on meanwhile.
+const HELD: u32 = 200;
+
+/// The quanta that are tried are below this one.
+const QUANTA: u32 = 21;
+
+/// Two tasks of which the second may be switched away within its callback, with this quantum.
+const PREEMPTED: [&str; 2] = [
+    "ftrace 1\nfunc a\nuser tr function\ncpu 0 quantum ",
+    "\ntask 11 cpu 0\nafter 1\nsoftirq\niret\nsoftirq\niret\ntask 10 cpu 0\nafter 1\nsoftirq\niret\ncall a\nret\n\
+     ctl register tr\nctl unregister tr\nsched all*2000\n",
+];
+
+/// A callback that calls a function, in its own context or by an interrupt, with this quantum.
+const CALLING: [&str; 2] = [
+    "ftrace 1\nfunc a\nfunc b\nuser t1 function call b\ncpu 0 quantum ",
+    "\ntask 10 cpu 0\nafter 1\ncall a\nret\nctl register t1\nsched all*2000\n",
+];
+
+const INTERRUPTED: [&str; 2] = [
+    "ftrace 1\nfunc a\nfunc b\nuser t1 function irq b\ncpu 0 quantum ",
+    "\ntask 10 cpu 0\nafter 1\ncall a\nret\nctl register t1\nsched all*2000\n",
+];
+
+/// Whether a job comes to its end under a schedule, and its history keeps the rules.
+fn keeps_rules(alloc: Global, job: &Job, schedule: &Schedule) -> Result<bool, NoMemory> {
+    let mut machine = Machine::start(alloc, job)?;
+    let mut player = Player::new(schedule, 1);
+    while let Some(actor) = player.next_actor() {
+        machine.step(actor);
+    }
+    Ok(machine.all_end() && backs_legal(alloc, job, machine.history())?)
+}
+
+/// The first moment at which holding an actor breaks a rule, if there is one.
+fn broken(alloc: Global, job: &Job, first: Who, hold: Who) -> Result<Option<u32>, NoMemory> {
+    for at in 0..LAST + 1 {
+        let schedule = held(alloc, first, at, hold, HELD)?;
+        if !keeps_rules(alloc, job, &schedule)? {
+            return Ok(Some(at));
+        }
+    }
+    Ok(None)
+}
+
+#[test]
+fn keeps_rules_whoever_is_held(rt: HostRuntime) -> Result<(), Fail> {
+    let alloc = rt.alloc();
+    for (users, commands) in JOBS {
+        let text = format!(in alloc; "ftrace 1\nfunc a\n{users}{CALLS}{commands}")?;
+        let job = read(alloc, text.as_str()).ok_or("refused")?;
+        assert_eq!(rt; broken(alloc, &job, Who::Control, CPU)?, None, "{commands}");
+        assert_eq!(rt; broken(alloc, &job, CPU, Who::Control)?, None, "{commands}");
+    }
+    Ok(())
+}
+
+#[test]
+fn keeps_rules_at_each_quantum(rt: HostRuntime) -> Result<(), Fail> {
+    let alloc = rt.alloc();
+    for [before, after] in [PREEMPTED, CALLING, INTERRUPTED] {
+        for quantum in 1..QUANTA {
+            let text = format!(in alloc; "{before}{quantum}{after}")?;
+            let job = read(alloc, text.as_str()).ok_or("refused")?;
+            let outcome = replay(alloc, &job)?;
+            assert!(rt; outcome.ended, "{quantum}");
+            assert!(rt; backs_legal(alloc, &job, &outcome.history)?, "{quantum}");
+        }
+    }
+    Ok(())
+}
