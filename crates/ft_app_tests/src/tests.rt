@@ -1,7 +1,8 @@
-//! Words, and sources and sinks that fail or move a few bytes at a time.
+//! Words, and what all tests share.
 
-ghost use Rattle.std.specs.Prelude.{◌≤◌};
-
+mod cuts;
+mod ends;
+mod faults;
 mod forms;
 mod refusals;
 mod running;
@@ -43,21 +44,16 @@ struct Ended {
     sink: MemSink,
 }
 
-/// Calls the top call with these words and this gate. The source gives the script and the sink takes
-/// the reply, at most `piece` bytes a call; they fail in the calls with these numbers.
+/// Calls the top call with these words and this gate, over a source that gives the script.
 fn call_under<R: AllocGlobal + Threads + Wait + Sync, G: Gate>(
     rt: &R,
     gate: &G,
     words: &[&str],
     script: &[u8],
-    piece: usize,
-    fails: (&[u32], &[u32]),
-) -> Result<Ended, Fail>
-    requires { 1 ≤ piece }
-{
+) -> Result<Ended, Fail> {
     let alloc = rt.alloc();
-    let mut source = MemSource::new(script.to_vec(alloc)?, piece, fails.0.to_vec(alloc)?);
-    let mut sink = MemSink::new(alloc, piece, PIECE, fails.1.to_vec(alloc)?)?;
+    let mut source = MemSource::new(script.to_vec(alloc)?, PIECE, Vec::new(alloc));
+    let mut sink = MemSink::new(alloc, PIECE, PIECE, Vec::new(alloc))?;
     let status = ft_main(rt, alloc, words, &mut source, &mut sink, gate);
     Ok(Ended {
         status,
@@ -71,17 +67,13 @@ fn call<R: AllocGlobal + Threads + Wait + Sync>(
     rt: &R,
     words: &[&str],
     script: &[u8],
-    piece: usize,
-    fails: (&[u32], &[u32]),
-) -> Result<Ended, Fail>
-    requires { 1 ≤ piece }
-{
-    call_under(rt, &OpenGate, words, script, piece, fails)
+) -> Result<Ended, Fail> {
+    call_under(rt, &OpenGate, words, script)
 }
 
-/// Calls it with `replay`, over a source and a sink that don't fail.
+/// Calls it with `replay`.
 fn replay<R: AllocGlobal + Threads + Wait + Sync>(rt: &R, script: &[u8]) -> Result<Ended, Fail> {
-    call(rt, &["replay"], script, PIECE, (&[], &[]))
+    call(rt, &["replay"], script)
 }
 
 /// Words of the language, for a script that has one history, replayed or run by threads. Out of
@@ -102,7 +94,7 @@ fn words_of_the_language(rt: HostRuntime) -> Result<(), Fail> {
         &["replay", "--"],
     ];
     for words in good.iter() {
-        let ended = call(&rt, words, script.as_bytes(), PIECE, (&[], &[]))?;
+        let ended = call(&rt, words, script.as_bytes())?;
         assert_eq!(rt; ended.status, 0, "{words:?}");
         assert_eq!(rt; ended.sink.bytes(), log.as_bytes());
         assert_eq!(rt; ended.source.remaining(), b"".as_slice());
@@ -130,45 +122,10 @@ fn other_words(rt: HostRuntime) -> Result<(), Fail> {
         &["-h"],
     ];
     for words in bad.iter() {
-        let ended = call(&rt, words, b"ftrace 1\n", PIECE, (&[], &[]))?;
+        let ended = call(&rt, words, b"ftrace 1\n")?;
         assert_eq!(rt; ended.status, 2, "{words:?}");
         assert_eq!(rt; ended.sink.bytes(), b"".as_slice());
         assert_eq!(rt; ended.source.remaining(), b"ftrace 1\n".as_slice());
-    }
-    Ok(())
-}
-
-#[test]
-fn moves_a_byte_at_a_time(rt: HostRuntime) -> Result<(), Fail> {
-    let alloc = rt.alloc();
-    let script = text(alloc, FIRST_PATH)?;
-    let log = text(alloc, FIRST_PATH_LOG)?;
-    let ended = call(&rt, &["replay"], script.as_bytes(), 1, (&[], &[]))?;
-    assert_eq!(rt; ended.status, 0);
-    assert_eq!(rt; ended.sink.bytes(), log.as_bytes());
-    assert_eq!(rt; ended.source.remaining(), b"".as_slice());
-    Ok(())
-}
-
-#[test]
-fn failing_read(rt: HostRuntime) -> Result<(), Fail> {
-    let alloc = rt.alloc();
-    let ended = call(&rt, &["replay"], b"ftrace 1\n", 4, (&[2], &[]))?;
-    assert_eq!(rt; ended.status, 4);
-    assert_eq!(rt; ended.sink.bytes(), b"".as_slice());
-    Ok(())
-}
-
-/// A beginning of the text, or of the line of a refusal, is written.
-#[test]
-fn failing_write(rt: HostRuntime) -> Result<(), Fail> {
-    let alloc = rt.alloc();
-    let rows: [(&str, &[u8]); 2] = [(FIRST_PATH, b"0 begin "), ("ftrace 2", b"line 1: ")];
-    for (lines, front) in rows {
-        let script = text(alloc, lines)?;
-        let ended = call(&rt, &["replay"], script.as_bytes(), 8, (&[], &[2]))?;
-        assert_eq!(rt; ended.status, 5, "{lines}");
-        assert_eq!(rt; ended.sink.bytes(), front);
     }
     Ok(())
 }

@@ -1,6 +1,7 @@
 //! Scripts whose histories are printed in other forms than the log, and the summary of a generated
 //! script.
 
+use super::ends::{by, call_between};
 use super::{PIECE, call, text};
 use std::test::Fail;
 
@@ -76,7 +77,7 @@ fn forms(rt: HostRuntime) -> Result<(), Fail> {
         let script = text(alloc, lines)?;
         let printed = text(alloc, printed)?;
         let words = ["replay", "--print", form];
-        let ended = call(&rt, &words, script.as_bytes(), PIECE, (&[], &[]))?;
+        let ended = call(&rt, &words, script.as_bytes())?;
         assert_eq!(rt; ended.status, 0, "{form}");
         assert_eq!(rt; ended.sink.bytes(), printed.as_bytes(), "{form}");
     }
@@ -95,14 +96,14 @@ fn refused_in_any_form(rt: HostRuntime) -> Result<(), Fail> {
     let line = text(alloc, "line 8: pattern")?;
     for form in ["log", "function", "graph", "profile", "enabled"] {
         let words = ["replay", "--print", form];
-        let ended = call(&rt, &words, script.as_bytes(), PIECE, (&[], &[]))?;
+        let ended = call(&rt, &words, script.as_bytes())?;
         assert_eq!(rt; ended.status, 3, "{form}");
         assert_eq!(rt; ended.sink.bytes(), line.as_bytes(), "{form}");
     }
     Ok(())
 }
 
-/// A generated script is accepted and comes to its end. The source isn't read.
+/// A generated script is accepted and comes to its end. The source, which would fail, isn't asked.
 #[test]
 fn generated_scripts(rt: HostRuntime) -> Result<(), Fail> {
     let alloc = rt.alloc();
@@ -112,10 +113,10 @@ fn generated_scripts(rt: HostRuntime) -> Result<(), Fail> {
     )?;
     let ways: [&[&str]; 2] = [&["bulk"], &["bulk", "--seed", "1"]];
     for words in ways.iter() {
-        let ended = call(&rt, words, b"not a script", PIECE, (&[1], &[]))?;
+        let ended = call_between(&rt, words, b"not a script", by(PIECE, 1), by(PIECE, 0));
         assert_eq!(rt; ended.status, 0, "{words:?}");
-        assert_eq!(rt; ended.sink.bytes(), summary.as_bytes());
-        assert_eq!(rt; ended.source.remaining(), b"not a script".as_slice());
+        assert_eq!(rt; ended.writer.held.as_slice(), summary.as_bytes());
+        assert_eq!(rt; ended.reader.calls, 0);
     }
     Ok(())
 }

@@ -59,13 +59,41 @@ fn each_cause(rt: HostRuntime) -> Result<(), Fail> {
     Ok(())
 }
 
+/// Lines without a form, numbers and names that aren't there, and levels that don't fit.
+#[test]
+fn faulty_lines(rt: HostRuntime) -> Result<(), Fail> {
+    let alloc = rt.alloc();
+    let rows = [
+        ("ftrace 1; user f fprobe cancel", "line 2: syntax"),
+        ("ftrace 1; func 1a", "line 2: syntax"),
+        ("ftrace 1; cpu 0 quantum 0", "line 2: limit"),
+        ("ftrace 1; sched k*0", "line 2: limit"),
+        (
+            "ftrace 1; cpu 0 quantum 5; task 10 cpu 0; after 0",
+            "line 4: limit",
+        ),
+        ("ftrace 1; sched 0", "line 2: unknown"),
+        ("ftrace 1; ctl until 10 1", "line 2: unknown"),
+        (
+            "ftrace 1; cpu 0 quantum 5; task 10 cpu 0; irq; softirq",
+            "line 5: unbalanced",
+        ),
+    ];
+    for (lines, line) in rows {
+        let script = text(alloc, lines)?;
+        refuses(&rt, script.as_bytes(), line)?;
+    }
+    Ok(())
+}
+
 /// No line at all, a last line without its line feed, and a byte that only a comment may have.
 #[test]
 fn odd_bytes(rt: HostRuntime) -> Result<(), Fail> {
-    let rows: [(&[u8], &str); 4] = [
+    let rows: [(&[u8], &str); 5] = [
         (b"", "line 1: version"),
         (b"ftrace 1", "line 1: syntax"),
         (b"ftrace 1\nfunc a", "line 2: syntax"),
+        (b"ftrace 1\n\x80\n", "line 2: syntax"),
         (b"ftrace 1\n# \x80\n\x80\n", "line 3: syntax"),
     ];
     for (script, line) in rows {
@@ -85,13 +113,18 @@ fn late_refusals(rt: HostRuntime) -> Result<(), Fail> {
     refuses(&rt, script.as_bytes(), "line 2051: limit")
 }
 
-/// One byte more than a script may have is refused.
+/// One byte more than a script may have is told before its lines are looked at.
 #[test]
 fn largest_input(rt: HostRuntime) -> Result<(), Fail> {
     let alloc = rt.alloc();
-    for (bytes, status, text) in [(16_777_216, 0, "end\n"), (16_777_217, 7, "")] {
+    for (line, bytes, status, text) in [
+        (b"ftrace 1\n", 16_777_216, 0, "end\n"),
+        (b"ftrace 1\n", 16_777_217, 7, ""),
+        (b"ftrace 2\n", 16_777_216, 3, "line 1: version\n"),
+        (b"ftrace 2\n", 16_777_217, 7, ""),
+    ] {
         let mut script = vec![in alloc; b'#'; bytes]?;
-        script[..9].copy_from_slice(b"ftrace 1\n");
+        script[..9].copy_from_slice(line);
         script[bytes - 1] = b'\n';
         let mut source = MemSource::new(script, bytes, Vec::new(alloc));
         let mut sink = MemSink::new(alloc, PIECE, PIECE, Vec::new(alloc))?;

@@ -1,6 +1,6 @@
 //! Scripts that are carried out by running threads.
 
-use super::{PIECE, call_under, text};
+use super::{call_under, text};
 use ft_io::Gate;
 use std::process::Abort;
 use std::sync::Wait;
@@ -93,7 +93,7 @@ fn runs_under<R: Abort + AllocGlobal + Threads + Wait + Sync>(
     let script = text(alloc, PATCHED)?;
     let log = text(alloc, log)?;
     let gate = HoldingGate::new(holds);
-    let ended = call_under(rt, &gate, &["run"], script.as_bytes(), PIECE, (&[], &[]))?;
+    let ended = call_under(rt, &gate, &["run"], script.as_bytes())?;
     assert_eq!(rt; ended.status, 0, "{holds:?}");
     assert_eq!(rt; ended.sink.bytes(), log.as_bytes(), "{holds:?}");
     assert!(rt; !gate.gave_up.load(Ordering::SeqCst), "{holds:?}");

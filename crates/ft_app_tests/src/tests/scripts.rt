@@ -1,6 +1,6 @@
 //! Scripts that are replayed, or run by threads, and what is written for them.
 
-use super::{PIECE, call, replay, text};
+use super::{call, replay, text};
 use std::process::Abort;
 use std::sync::Wait;
 use std::test::Fail;
@@ -33,7 +33,7 @@ fn replays_and_runs<R: Abort + AllocGlobal + Threads + Wait + Sync>(
     for (lines, log) in rows.iter() {
         let script = text(alloc, lines)?;
         let log = text(alloc, log)?;
-        let ended = call(rt, &["run"], script.as_bytes(), PIECE, (&[], &[]))?;
+        let ended = call(rt, &["run"], script.as_bytes())?;
         assert_eq!(rt; ended.status, 0, "{lines}");
         assert_eq!(rt; ended.sink.bytes(), log.as_bytes(), "{lines}");
     }
