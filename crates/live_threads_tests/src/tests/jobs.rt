@@ -37,6 +37,18 @@ ctl until 11 3
 ctl unregister gr
 ";
 
+/// Commands that change call sites, and no CPU.
+const COMMANDS: &str = "ftrace 1
+func a
+func b
+user t function
+user gr graph
+ctl register t
+ctl filter gr > b
+ctl register gr
+ctl unregister t
+";
+
 /// Two CPUs; their tasks and a user follow.
 const TWO_CPUS: &str = "ftrace 1
 func a
@@ -61,6 +73,11 @@ pub fn one_order(alloc: Global) -> Result<Job, Fail> {
     Ok(read(alloc, ONE_ORDER).ok_or("refused")?)
 }
 
+/// The job of commands alone.
+pub fn commands_alone(alloc: Global) -> Result<Job, Fail> {
+    Ok(read(alloc, COMMANDS).ok_or("refused")?)
+}
+
 /// A task of ten calls, on this CPU.
 fn add_task(text: &mut String, head: &str) -> Result<(), AllocError> {
     text.push_str(head)?;
@@ -77,5 +94,15 @@ pub fn three_at_once(alloc: Global) -> Result<Job, Fail> {
     add_task(&mut text, "task 10 cpu 0\n")?;
     add_task(&mut text, "task 11 cpu 1\n")?;
     text.push_str("ctl register t\n")?;
+    Ok(read(alloc, text.as_str()).ok_or("refused")?)
+}
+
+/// Two CPUs, one with a task of ten calls and one with two of them, and no command.
+pub fn calls_alone(alloc: Global) -> Result<Job, Fail> {
+    let mut text = String::new(alloc);
+    text.push_str(TWO_CPUS)?;
+    add_task(&mut text, "task 10 cpu 0\n")?;
+    add_task(&mut text, "task 11 cpu 1\n")?;
+    add_task(&mut text, "task 12 cpu 1\n")?;
     Ok(read(alloc, text.as_str()).ok_or("refused")?)
 }
