@@ -5,36 +5,30 @@ use super::jobs::read;
 use ft_base::{CpuNo, NoMemory, Who};
 use ft_machine::{Job, Machine, backs_legal, replay};
 use ft_schedule::{Player, Schedule, held};
-use std::alloc::Global;
+use std::alloc::{AllocError, Global};
 use std::test::Fail;
 
 /// The one CPU, whose task makes calls while control goes on.
 const CPU: Who = Who::Cpu(CpuNo(0));
 
-/// The lines of that CPU. Its first call can be entered before control has begun.
-const CALLS: &str = "cpu 0 quantum 100
-task 10 cpu 0
-call a
-ret
-call a
-ret
-call a
-ret
-call a
-ret
-";
+/// How many calls its task makes, so that there are calls before, during and after each command.
+const CALLS: u32 = 20;
 
 /// Users and commands: a registration and an unregistration; one of two users on the list
 /// unregistered; what a user traces changed while the list may be walked; an fprobe disabled, perhaps
-/// between a call and its return; a graph user unregistered and registered again.
+/// between a call and its return; a graph user unregistered and registered again. Callbacks that call
+/// a function last for a while.
 const JOBS: [(&str, &str); 5] = [
-    ("user t function\n", "ctl register t\nctl unregister t\n"),
     (
-        "user t function\nuser s function\n",
-        "ctl register t\nctl register s\nctl unregister t\n",
+        "user t function call b\n",
+        "ctl register t\nctl unregister t\n",
     ),
     (
-        "user t function\nuser s function\n",
+        "user t function\nuser s function call b\n",
+        "ctl register t\nctl register s\nctl unregister s\n",
+    ),
+    (
+        "user t function call b\nuser s function call b\n",
         "ctl register t\nctl register s\nctl notrace t > a\n",
     ),
     ("user p fprobe exit\n", "ctl register p\nctl disable p\n"),
@@ -92,11 +86,23 @@ fn broken(alloc: Global, job: &Job, first: Who, hold: Who) -> Result<Option<u32>
     Ok(None)
 }
 
+/// The script of a job: two functions, these users, the CPU with the task, and these commands.
+fn script(alloc: Global, users: &str, commands: &str) -> Result<String, AllocError> {
+    let mut text = format!(in alloc;
+        "ftrace 1\nfunc a\nfunc b\n{users}cpu 0 quantum 3\ntask 10 cpu 0\n"
+    )?;
+    for _ in 0..CALLS {
+        text.push_str("call a\nret\n")?;
+    }
+    text.push_str(commands)?;
+    Ok(text)
+}
+
 #[test]
 fn keeps_rules_whoever_is_held(rt: HostRuntime) -> Result<(), Fail> {
     let alloc = rt.alloc();
     for (users, commands) in JOBS {
-        let text = format!(in alloc; "ftrace 1\nfunc a\n{users}{CALLS}{commands}")?;
+        let text = script(alloc, users, commands)?;
         let job = read(alloc, text.as_str()).ok_or("refused")?;
         assert_eq!(rt; broken(alloc, &job, Who::Control, CPU)?, None, "{commands}");
         assert_eq!(rt; broken(alloc, &job, CPU, Who::Control)?, None, "{commands}");
