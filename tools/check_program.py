@@ -10,6 +10,12 @@
 
 Each row asks for the status and for what is written; nothing may be written to standard error.
 The last line is `edges: N passed, M failed`, and the status is 0 if nothing failed.
+
+With --long MINUTES none of this is done, but the long check: for so many minutes, random scripts through
+the program and REFERENCE, a program that was written from the same rules by other hands and isn't part of
+this repository (long_check.py says what is done with each). The last line then is `long: seed S, MINUTES
+minutes, N scripts, N texts, N logs, N runs, N found`, and the status is 1 if anything was found; what is
+wrong is kept in FOLDER. One seed gives the same scripts in the same order.
 """
 import collections
 import resource
@@ -20,6 +26,7 @@ from typing import Callable, NamedTuple, Optional
 sys.dont_write_bytecode = True
 import check_docs  # noqa: E402
 import command_words  # noqa: E402
+import long_check  # noqa: E402
 import runs  # noqa: E402
 import script_forms as forms  # noqa: E402
 import text_lines  # noqa: E402
@@ -529,7 +536,11 @@ def check_random(rows, program):
 
 
 def main():
-    options = runs.read_options(runs.options(__doc__))
+    parser = runs.options(__doc__)
+    long_check.add_options(parser)
+    options = runs.read_options(parser)
+    if options.long is not None:
+        return long_check.check(options)
     rows = runs.Rows("edges", options.verbose)
     command_words.check(rows, options.program, options.top)
     check_streams(rows, options.program)

@@ -70,18 +70,23 @@ def text_of(source, seed, reference):
     return {"plain": script_forms.script, "viewed": viewed_scripts.script, "crowded": crowded}[source](seed)
 
 
+def judgement(log, text, reference):
+    """What the other program says of a log of this script: `whole`, `legal, stopped`, or what is wrong with it."""
+    with tempfile.NamedTemporaryFile(suffix=".log") as file:
+        file.write(log)
+        file.flush()
+        came = runs.answer([reference, "check", "--log", file.name], text, SECONDS)
+    said = came.out.decode(errors="replace").strip()
+    return said if came.status == 0 else f"status {came.status} of the judgement: {said}"
+
+
 def faults_of(came, text, reference):
     """What is wrong with a run's answer."""
     if came.status is None:
         return [f"it has not ended in {SECONDS} seconds"]
     found = [f"status {came.status}"] * (came.status != 0) + ["it writes to standard error"] * bool(came.err)
-    if found:
-        return found
-    with tempfile.NamedTemporaryFile(suffix=".log") as log:
-        log.write(came.out)
-        log.flush()
-        judged = runs.answer([reference, "check", "--log", log.name], text, SECONDS)
-    return [] if judged.status == 0 and judged.out.strip() == b"whole" else [f"{judged.out.decode(errors='replace').strip()}"]
+    said = "whole" if found else judgement(came.out, text, reference)
+    return found + [said] * (said != "whole")
 
 
 def try_script(job):

@@ -119,6 +119,11 @@ def cause_of(ours):
     return "took too long" if ours.status is None else f"status {ours.status}"
 
 
+def replaying(reference):
+    """The other program, with the machine and the language that are ftcore's."""
+    return [reference, "--machine", "e2", "--features", "none"]
+
+
 def words_of(options, source, seed):
     """The words with which both programs are given a script of this source."""
     return [["replay", "--print", form] for form in options.forms] + [["bulk", "--seed", str(seed)]] * (source == "bulk")
@@ -133,7 +138,7 @@ def compare(job):
     causes, telling, differences = [], [], []
     for words in words_of(options, source, seed):
         ours = runs.answer([options.program, *words], text, SECONDS)
-        theirs = runs.answer([options.reference, "--machine", "e2", "--features", "none", *words], text, SECONDS)
+        theirs = runs.answer([*replaying(options.reference), *words], text, SECONDS)
         causes.append(cause_of(ours))
         telling += [words[-1]] * (words[0] == "replay" and ours.status == 0 and text_lines.tells(ours.out))
         differences += [] if agree(ours, theirs) else [Difference(words, ours, theirs)]

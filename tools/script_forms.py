@@ -542,13 +542,21 @@ def mutated(seed):
     return broken_bytes(rng, text) if how is None or rng.random() < 0.04 else text
 
 
+def cpus_of(text):
+    """How many CPUs the text of a script declares."""
+    return sum(line.split()[:1] == [b"cpu"] for line in text.splitlines())
+
+
+def scheduled(text, items):
+    """The text of a script with this schedule, in place of its own."""
+    lines = [line for line in text.splitlines(keepends=True) if line.split()[:1] != [b"sched"]]
+    return b"".join(lines) + f"sched {' '.join(items)}\n".encode()
+
+
 def stepped(text, seed):
     """The text of a script with the schedule of single steps of this seed, in place of its own."""
-    rng = random.Random(f"stepped {seed}")
-    lines = [line for line in text.splitlines(keepends=True) if line.split()[:1] != [b"sched"]]
-    cpus = sum(line.split()[:1] == [b"cpu"] for line in lines)
-    items = single_steps(rng, cpus, rng.choice([1, 3, 12, 40])) + full_turns(rng, cpus, STEPS // 2)
-    return b"".join(lines) + f"sched {' '.join(items)}\n".encode()
+    rng, cpus = random.Random(f"stepped {seed}"), cpus_of(text)
+    return scheduled(text, single_steps(rng, cpus, rng.choice([1, 3, 12, 40])) + full_turns(rng, cpus, STEPS // 2))
 
 
 def main():
