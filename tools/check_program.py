@@ -2,7 +2,7 @@
 """Runs the built program at its edges, where no proof reaches:
 
 - the words of the command, in the language and not: those of command_words.py;
-- each status with its cause: streams that fail, too little memory, too long an input;
+- each status with its cause: streams that fail, too long an input, too little memory, from too little to begin up to ample;
 - each limit of the language reached and passed, in at most a hundred times the time that it takes now;
 - a long history in each printed form;
 - runs by threads: scripts with one order only print what a replay of them prints, and others come to their ends;
@@ -27,6 +27,7 @@ sys.dont_write_bytecode = True
 import check_docs  # noqa: E402
 import command_words  # noqa: E402
 import long_check  # noqa: E402
+import memory_limits  # noqa: E402
 import runs  # noqa: E402
 import script_forms as forms  # noqa: E402
 import text_lines  # noqa: E402
@@ -37,6 +38,7 @@ SCRIPT = b"ftrace 1\nfunc a\nuser tr function\ncpu 0 quantum 100\ntask 10 cpu 0\
 LOG = b"0 begin 1\n1 return 1 ok\n2 enter 10.1 normal a -\n3 back 10.1 tr\n4 back-end 10.1 tr\n"
 LOG += b"5 body 10.1 a own tr\n6 leave 10.1\n7 ret 10.1 -\nend\n"
 CALLED = b"     10 [000] .        3: a <-root (tr)\nend\n"  # the form function
+CALLS_OF_TASK = 3_000  # that are made under limits on the address space
 SEEDS = 50
 
 
@@ -100,13 +102,18 @@ def large_streams():
     yield Stream("a file that may have 1,024 bytes", 5, log[:1024], FILE_OF.format(1), many)
 
 
-def acts_log(count):
-    """What the script of this many acts prints: the command, and then the same of both tasks, which take turns step by step."""
+def calls_log(count, pids, user):
+    """What a script prints of its command, which registers the user, and then of so many calls of each task; they take turns step by step."""
     items = ["begin 1", "return 1 ok"]
-    for number in range(1, count // 4):
-        for item in ["enter {} normal a -", "back {} t", "back-end {} t", "body {} a own t", "leave {}", "ret {} -"]:
-            items += [item.format(f"10.{number}"), item.format(f"11.{number}")]
+    for number in range(1, count + 1):
+        for item in ["enter {} normal a -", "back {} U", "back-end {} U", "body {} a own U", "leave {}", "ret {} -"]:
+            items += [item.replace("U", user).format(f"{pid}.{number}") for pid in pids]
     return script([f"{place} {item}" for place, item in enumerate(items)], "end")
+
+
+def acts_log(count):
+    """What the script of this many acts prints."""
+    return calls_log(count // 4 - 1, (10, 11), "t")
 
 
 def check_streams(rows, program):
@@ -133,6 +140,19 @@ def check_memory(rows, program):
     for what, status, out, text, words in tries:
         came = runs.answer([program, *words], text, preexec_fn=take_memory)
         rows.row(f"memory: {what}", runs.faults(came, status, out), came.seconds)
+    for what, words, text, status, out in orders_of_memory(program):
+        memory_limits.check(rows, f"{what}: {' '.join(words)}", memory_limits.Order(program, words, text, status, out))
+
+
+def orders_of_memory(program):
+    """What is tried under each limit on the address space: each has one text that it may print, as one task makes all calls."""
+    many, refused = SCRIPT.replace(b"call a\nret\n", b"call a\nret\n" * CALLS_OF_TASK), SCRIPT.replace(b"cpu", b"frob", 1)
+    for mode in ("replay", "run"):
+        yield "a small script", [mode], SCRIPT, 0, LOG
+        yield f"{CALLS_OF_TASK:,} calls", [mode], many, 0, calls_log(CALLS_OF_TASK, [10], "tr")
+        yield "a refused script", [mode], refused, 3, b"line 4: syntax\n"
+    yield "a form", ["run", "--print", "function"], SCRIPT, 0, CALLED
+    yield "no bytes", ["bulk"], b"", 0, command_words.summary(program, 1)
 
 
 # The limits. Each function makes a script with this much of something.
