@@ -2,7 +2,7 @@
 """Runs the built program at its edges, where no proof reaches:
 
 - the words of the command, in the language and not: those of command_words.py;
-- each status with its cause: streams that fail, too long an input, too little memory, from too little to begin up to ample;
+- each status with its cause: streams that fail, too long an input, and memory from too little to begin up to ample;
 - each limit of the language reached and passed, in at most a hundred times the time that it takes now;
 - a long history in each printed form;
 - runs by threads: scripts with one order only print what a replay of them prints, and others come to their ends;
@@ -130,7 +130,7 @@ def take_memory():
 
 def check_memory(rows, program):
     """In one MiB of memory there is room for a small script, but not for the most bytes, acts or arguments, nor for a thread: a run then
-    makes the steps of all actors in turn."""
+    makes the steps of all actors in turn. And with any address space the program does all or nothing."""
     most = one_comment(forms.INPUT_BYTES)
     tries = [("a small script", 0, LOG, SCRIPT, ["replay"]), ("the most bytes", 6, b"", most, ["replay"])]
     tries += [("the most acts", 6, b"", acts(forms.ACTS), ["replay"]), ("the most bytes, other words", 2, b"", most, ["frob"])]

@@ -7,14 +7,14 @@ the minutes. Each is one of
     plain, mutated, viewed, generated   those of compare_scripts.py
     crowded                             those of check_runs.py, with the most CPUs and tasks
 
-and half of them get other quanta, from 1 to 20, or another schedule: one of single steps, or a hostile one, which
-holds an actor after some steps, in the midst of a command or a call, while another goes on. Each script is
+Half of them get quanta from 1 to 20. Half get another schedule: one of single steps, or a hostile one, which holds an
+actor after some steps, in the midst of a command or a call, while another goes on. Each script is
 
 - replayed in the five forms by both: status and bytes have to be the same;
 - judged: REFERENCE has to call the log of its replay legal, and whole if it comes to its end;
 - run by threads: REFERENCE has to call the log whole, and a script that is refused has to get the same line.
 
-Each twentieth one has a number for `bulk`, too, whose summaries have to be the same. Nothing may be written to
+About one in twenty has a number for `bulk`, too, whose summaries have to be the same. Nothing may be written to
 standard error. Two scripts are tried at a time.
 """
 import collections

@@ -5,6 +5,7 @@ loader, which maps its libraries, by status 127 and a message. From then on the 
 write nothing, or to do all that it does without a limit; it never writes to standard error.
 """
 import collections
+import functools
 import resource
 
 import runs
@@ -12,6 +13,7 @@ import runs
 PAGE = resource.getpagesize()
 MOST = 2**30  # bytes, which are ample for each order here
 BELOW, BETWEEN, ABOVE = 8, 20, 8  # limits under which it can't start, may run out of memory, and has enough
+TOLD = 3  # faults of an order, the first ones
 UNMAPPED, UNLOADED, REFUSED, WHOLE = "not mapped", "not loaded", "out of memory", "whole"
 
 
@@ -19,11 +21,11 @@ class Order:
     """A run of the program that is to end with this status and to write this, if it has the memory."""
 
     def __init__(self, program, words, text, status, out):
-        self.command, self.text, self.wanted = [program, *words], text, (status, out)
+        self.program, self.words, self.text, self.wanted = program, words, text, (status, out)
 
     def under(self, limit):
         """The answer with so many bytes of address space."""
-        return runs.answer(self.command, self.text, preexec_fn=lambda: resource.setrlimit(resource.RLIMIT_AS, (limit, limit)))
+        return runs.answer([self.program, *self.words], self.text, preexec_fn=lambda: resource.setrlimit(resource.RLIMIT_AS, (limit, limit)))
 
     def end(self, came):
         """How an answer ended; None if it may not end so."""
@@ -47,12 +49,18 @@ class Order:
         return few * PAGE
 
     def limits(self):
-        """Limits in steps, from none on."""
-        start = self.least([REFUSED, WHOLE, None], 0)
-        ample = self.least([WHOLE], start)
-        found = [start * step // BELOW for step in range(BELOW)]
-        found += [start + (ample - start) * step // BETWEEN // PAGE * PAGE for step in range(BETWEEN)]
+        """Limits in steps, from no memory on."""
+        least = beginning(self.program)
+        ample = self.least([WHOLE], least)
+        found = [least * step // BELOW for step in range(BELOW)]
+        found += [least + (ample - least) * step // BETWEEN // PAGE * PAGE for step in range(BETWEEN)]
         return found + [int(ample * (MOST / ample) ** (step / ABOVE)) for step in range(ABOVE + 1)]
+
+
+@functools.cache
+def beginning(program):
+    """The least limit under which the program begins, tried with words that aren't in its language: it then does nothing more."""
+    return Order(program, ["frob"], b"", 2, b"").least([REFUSED, WHOLE, None], 0)
 
 
 def faults(order):
@@ -66,7 +74,7 @@ def faults(order):
             found.append(f"with {limit // 1024:,} KiB: {'; '.join(runs.faults(came, *order.wanted))}")
         else:
             ends[end] += 1
-    return ends, found + [f"no run ended so: {end}" for end in (UNLOADED, REFUSED, WHOLE) if not ends[end]]
+    return ends, found[:TOLD] + [f"no run ended so: {end}" for end in (UNLOADED, REFUSED, WHOLE) if not ends[end]]
 
 
 def check(rows, what, order):
