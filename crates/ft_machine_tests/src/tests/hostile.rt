@@ -8,33 +8,48 @@ use ft_schedule::{Player, Schedule, held};
 use std::alloc::{AllocError, Global};
 use std::test::Fail;
 
-/// The one CPU, whose task makes calls while control goes on.
+/// The one CPU.
 const CPU: Who = Who::Cpu(CpuNo(0));
 
-/// How many calls its task makes, so that there are calls before, during and after each command.
+/// How many calls a task makes, so that there are calls before, during and after each command.
 const CALLS: u32 = 20;
 
-/// Users and commands: a registration and an unregistration; one of two users on the list
-/// unregistered; what a user traces changed while the list may be walked; an fprobe disabled, perhaps
-/// between a call and its return; a graph user unregistered and registered again. Callbacks that call
-/// a function last for a while.
-const JOBS: [(&str, &str); 5] = [
+/// Users, how many tasks there are, and commands. A user is registered and unregistered; one of two
+/// users on the list is unregistered; what a user traces changes while the list may be walked; an
+/// fprobe is disabled, perhaps between a call and its return; a graph user is unregistered and
+/// registered again. Then one of three users on the list is unregistered, and one while a task may be
+/// switched away within its callback. Callbacks that call a function last for a while.
+const JOBS: [(&str, u8, &str); 7] = [
     (
         "user t function call b\n",
+        1,
         "ctl register t\nctl unregister t\n",
     ),
     (
         "user t function\nuser s function call b\n",
+        1,
         "ctl register t\nctl register s\nctl unregister s\n",
     ),
     (
-        "user t function call b\nuser s function call b\n",
-        "ctl register t\nctl register s\nctl notrace t > a\n",
+        "user t function call b\nuser s function\nuser r function call b\n",
+        1,
+        "ctl register t\nctl register s\nctl register r\nctl notrace t > a\n",
     ),
-    ("user p fprobe exit\n", "ctl register p\nctl disable p\n"),
+    ("user p fprobe exit\n", 1, "ctl register p\nctl disable p\n"),
     (
         "user g graph\n",
+        1,
         "ctl register g\nctl unregister g\nctl register g\n",
+    ),
+    (
+        "user t function\nuser s function call b\nuser r function\n",
+        1,
+        "ctl register t\nctl register s\nctl register r\nctl unregister s\n",
+    ),
+    (
+        "user t function call b\n",
+        2,
+        "ctl register t\nctl unregister t\n",
     ),
 ];
 
@@ -86,13 +101,15 @@ fn broken(alloc: Global, job: &Job, first: Who, hold: Who) -> Result<Option<u32>
     Ok(None)
 }
 
-/// The script of a job: two functions, these users, the CPU with the task, and these commands.
-fn script(alloc: Global, users: &str, commands: &str) -> Result<String, AllocError> {
-    let mut text = format!(in alloc;
-        "ftrace 1\nfunc a\nfunc b\n{users}cpu 0 quantum 3\ntask 10 cpu 0\n"
-    )?;
-    for _ in 0..CALLS {
-        text.push_str("call a\nret\n")?;
+/// The script of a job: two functions, these users, a CPU with so many tasks, and these commands.
+fn script(alloc: Global, users: &str, tasks: u8, commands: &str) -> Result<String, AllocError> {
+    let mut text = format!(in alloc; "ftrace 1\nfunc a\nfunc b\n{users}cpu 0 quantum 3\n")?;
+    for task in 0..tasks {
+        let pid = 10 + u32::from(task);
+        write!(text, "task {pid} cpu 0\n")?;
+        for _ in 0..CALLS {
+            text.push_str("call a\nret\n")?;
+        }
     }
     text.push_str(commands)?;
     Ok(text)
@@ -101,8 +118,8 @@ fn script(alloc: Global, users: &str, commands: &str) -> Result<String, AllocErr
 #[test]
 fn keeps_rules_whoever_is_held(rt: HostRuntime) -> Result<(), Fail> {
     let alloc = rt.alloc();
-    for (users, commands) in JOBS {
-        let text = script(alloc, users, commands)?;
+    for (users, tasks, commands) in JOBS {
+        let text = script(alloc, users, tasks, commands)?;
         let job = read(alloc, text.as_str()).ok_or("refused")?;
         assert_eq!(rt; broken(alloc, &job, Who::Control, CPU)?, None, "{commands}");
         assert_eq!(rt; broken(alloc, &job, CPU, Who::Control)?, None, "{commands}");
