@@ -83,7 +83,7 @@ def judgement(log, text, reference):
 def faults_of(came, text, reference):
     """What is wrong with a run's answer."""
     if came.status is None:
-        return [f"it has not ended in {SECONDS} seconds"]
+        return [came.err.decode()]
     found = [f"status {came.status}"] * (came.status != 0) + ["it writes to standard error"] * bool(came.err)
     said = "whole" if found else judgement(came.out, text, reference)
     return found + [said] * (said != "whole")

@@ -42,6 +42,7 @@ SCHEDULES = ["own", "own", "steps", "hostile"]
 MOST_QUANTUM = 20
 QUANTUM = re.compile(rb"^([ \t]*cpu[ \t]+\d+[ \t]+quantum[ \t]+)\d+", re.M)
 SECONDS = compare_scripts.SECONDS  # that an answer may take
+RUN_SECONDS = 600  # that a run by threads may take: beside work of a higher priority each step of a thread may wait for its turn
 BULK = 0.05  # of the scripts, which have a number for `bulk` beside them
 BATCH = 20  # scripts, between two looks at the clock
 
@@ -115,7 +116,7 @@ def log_faults(options, log, text):
 
 def run_faults(options, replayed, text, files):
     """What is wrong with a run by threads of a script whose replay is known; one that is refused has the same answer."""
-    came = runs.answer([options.program, "run"], text, SECONDS)
+    came = runs.answer([options.program, "run"], text, RUN_SECONDS)
     if replayed.status == 0:
         found = check_runs.faults_of(came, text, options.reference)
     else:

@@ -13,7 +13,7 @@ option; their waits leave one order of what happens. examples/realistic.ft is re
 1,000th call on, as only `bulk` makes them, each step is a hundredth of the way.
 
 There is a line for each order; with --verbose it has the numbers of the refused calls that the program did
-without. The last line says how many runs there were and what was found; the status is 1 if anything was. It
+without. The last line says in how many runs a call was refused, and what was found; the status is 1 if anything was. It
 takes some minutes, needs `cc`, and isn't part of `.ci/run`.
 """
 import collections
@@ -96,11 +96,11 @@ EACH_KIND = check_program.script(
 )
 SECONDS = 60  # that a run may take
 EACH = 1_000  # calls, which are all tried
-BEYOND = 3  # calls in turn that no run reaches, after which there are no more; that a run of threads makes isn't fixed
+BEYOND = 3  # calls in turn that aren't made, after which there are no more: how many a run by threads makes may change
 
 
 class Refusals:
-    """Runs of a program in which calls are refused, counted by how they end."""
+    """Runs of a program in which a call is refused, and how many of them ended as they may not."""
 
     def __init__(self, program, library, is_told):
         self.program, self.library, self.is_told, self.runs, self.wrong = program, library, is_told, 0, 0
@@ -120,7 +120,7 @@ class Refusals:
         while beyond < BEYOND:
             call += call // 100 if call >= EACH else 1
             came, was_made = self.answer(words, text, kind, which, call)
-            self.runs, beyond = self.runs + 1, 0 if was_made else beyond + 1
+            self.runs, beyond = self.runs + was_made, 0 if was_made else beyond + 1
             end = came[:3] if came[:3] == (6, b"", b"") and kind == "calls" else (0, wanted, b"")
             found = runs.faults(came, end[0], end[1])
             if found:
