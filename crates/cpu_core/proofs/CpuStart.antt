@@ -1,5 +1,5 @@
 -- A CPU before its first step is the machine's.
-use Rattle.std.proofs.Common.{cond, ◌≡◌, ℕ, zero, suc, ◌+◌, ◌<◌, ◌≤◌, Bool, true, false, not, ◌==◌, ◌||◌, List, [], ◌∷◌, find, get_or, length, map, slice_get, Some, IsSomeAnd, refl, sym, ap, ◌∙◌, subst, arith}
+use Rattle.std.proofs.Common.{cond, ◌≡◌, ℕ, zero, suc, ◌+◌, ◌-◌, ◌<◌, ◌≤◌, Bool, true, false, not, ◌==◌, ◌||◌, List, [], ◌∷◌, find, get_or, length, map, slice_get, Some, IsSomeAnd, refl, sym, ap, ◌∙◌, subst, arith}
 use Rattle.std.specs.List.{list_any, AllByRecursion as Each}
 use Rattle.std.proofs.lemmas.Bool.{eqb-true, false≢true}
 use Rattle.ft_base.specs.declared.context.Ctx.{Ctx}
@@ -151,9 +151,9 @@ module _ (job : Job) (limited : IsLimited job) where
   each-of [] h = tt
   each-of (t ∷ ts) h = (h.0.of', each-of ts h.1)
 
-  each-next : (ts : List Task) → Each (HasBegun job) ts → Each (λ t. t.next ≤ 1) ts
-  each-next [] h = tt
-  each-next (t ∷ ts) h = ((let e = h.0.next in omega (arith, e)), each-next ts h.1)
+  each-next : (n : ℕ) (ts : List Task) → Each (HasBegun job) ts → Each (λ t. t.next ≤ suc n) ts
+  each-next n [] h = tt
+  each-next n (t ∷ ts) h = ((let e = h.0.next in omega (arith, e)), each-next n ts h.1)
 
   -- ## the CPU
 
@@ -181,7 +181,7 @@ module _ (job : Job) (limited : IsLimited job) where
       size = refl;
       numbers' = is;
       tasks = subst (Each (IsTaskOf job)) (sym (words-none ts)) (each-of ts h);
-      calls = each-next ts h;
+      calls = each-next (0 + (ITEMS - room)) ts h;
       room = small;
       items = omega arith;
       present = λ any. subst (λ o. IsSomeAnd o (λ t. is_left t ≡ true)) (sym (first-turn ts)) (found is_left ts any);

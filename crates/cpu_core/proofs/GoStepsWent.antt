@@ -28,7 +28,7 @@ use Rattle.cpu_core.specs.declared.task.Task.{Task}
 use Rattle.cpu_core.specs.CpuFits.{CpuFits, FitsIn, GoFits}
 use Rattle.cpu_core.specs.CpuOps.{is_running, present_task, phase_op as phase_code_op}
 use Rattle.cpu_core.specs.CpuSteps.{marks_in, stamped, stepped, stepped_in, switched, ticked, went, with_step}
-use Rattle.cpu_core.specs.Cpus.{IsFor, cpu_of, number_or, numbers, phase_in, tasks_by, tasks_now}
+use Rattle.cpu_core.specs.Cpus.{IsFor, cpu_of, most_marked, number_or, numbers, phase_in, tasks_by, tasks_now}
 use Rattle.cpu_core.specs.Fits.{TaskFits}
 use Rattle.cpu_core.specs.Leads.{is_fetching}
 use Rattle.cpu_core.specs.Marks.{Marks}
@@ -165,8 +165,8 @@ module _ (job : Job) (c : Parts) (k : IsFor job c) (going : c.phase ≡ code.Goi
     went-or : went (ticked c) v ≡ cond (is_fetching after.moment) stepped-one (switched stepped-one (is_unmet t v))
     went-or = rw e refl
 
-    next-fits : t.next ≤ suc (length c.marked.items)
-    next-fits = named-at (λ u. u.next ≤ suc (length c.marked.items)) c.tasks c.present t e k.calls
+    next-fits : t.next ≤ suc (most_marked c.marked)
+    next-fits = named-at (λ u. u.next ≤ suc (most_marked c.marked)) c.tasks c.present t e k.calls
 
     marked : length stepped-one.marked.items ≡ length c.marked.items + length (marks_in (op_of t) v)
     marked = length-append c.marked.items (marks_in (op_of t) v)
@@ -182,8 +182,8 @@ module _ (job : Job) (c : Parts) (k : IsFor job c) (going : c.phase ≡ code.Goi
       numbers' = numbers-kept;
       tasks = subst (λ ts. Each (IsTaskOf job) ts) (sym (now-is stepped-one free))
           (each-set (IsTaskOf job) c.tasks c.present after (subst (λ ts. Each (IsTaskOf job) ts) (now-is c free) k.tasks) after-of);
-      calls = each-set (λ u. u.next ≤ suc (length stepped-one.marked.items)) c.tasks c.present after
-          (Each-weaker (λ u. u.next ≤ suc (length c.marked.items)) (λ u. u.next ≤ suc (length stepped-one.marked.items)) c.tasks
+      calls = each-set (λ u. u.next ≤ suc (most_marked stepped-one.marked)) c.tasks c.present after
+          (Each-weaker (λ u. u.next ≤ suc (most_marked c.marked)) (λ u. u.next ≤ suc (most_marked stepped-one.marked)) c.tasks
           (λ u le. omega (arith, marked)) k.calls)
           (omega (arith, next-within t c.setup v, next-fits, marked));
       room = k.room;

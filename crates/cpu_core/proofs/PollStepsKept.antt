@@ -19,7 +19,7 @@ use Rattle.cpu_core.specs.declared.moment.Moment.TheVariants as moment
 use Rattle.cpu_core.specs.declared.task.Task.{Task}
 use Rattle.cpu_core.specs.CpuOps.{present_task}
 use Rattle.cpu_core.specs.CpuSteps.{act_begun, after_poll, ended_poll, switched, ticked, with_poll_over}
-use Rattle.cpu_core.specs.Cpus.{IsFor, IsOver, IsPolling, IsUnderWay, poll_steps}
+use Rattle.cpu_core.specs.Cpus.{IsFor, IsOver, IsPolling, IsUnderWay, most_marked, poll_steps}
 use Rattle.cpu_core.specs.PlainPolls.{looked, over}
 use Rattle.cpu_core.specs.Polled.{view_of}
 use Rattle.cpu_core.specs.Starts.{is_left}
@@ -120,7 +120,7 @@ module _ (job : Job) (c : Parts) (me : Cpu) (k : IsFor job c) (end : CanEnd job 
     size = k.size ∙ sym (words-length c.tasks (view_of job me).tasks);
     numbers' = end.numbers';
     tasks = subst (λ ts. Each (IsTaskOf job) ts) (sym (words-none (told_tasks job c me))) end.tasks;
-    calls = words-calls (suc (length c.marked.items)) c.tasks (view_of job me).tasks k.calls;
+    calls = words-calls (suc (most_marked c.marked)) c.tasks (view_of job me).tasks k.calls;
     room = k.room;
     items = k.items;
     present = λ any. false_true (sym none ∙ any);
@@ -141,7 +141,7 @@ module _ (job : Job) (c : Parts) (me : Cpu) (k : IsFor job c) (end : CanEnd job 
     tasks =
         subst (λ us. Each (IsTaskOf job) us) (sym (words-none (set ts c.present u)))
         (each-set (IsTaskOf job) ts c.present u end.tasks (begun-of job t (named-at (IsTaskOf job) ts c.present t there end.tasks) before left));
-    calls = each-set (λ x. x.next ≤ suc (length c.marked.items)) ts c.present u calls' within;
+    calls = each-set (λ x. x.next ≤ suc (most_marked c.marked)) ts c.present u calls' within;
     room = k.room;
     items = k.items;
     going = refl;
@@ -154,13 +154,13 @@ module _ (job : Job) (c : Parts) (me : Cpu) (k : IsFor job c) (end : CanEnd job 
       u : Task
       u = begun t (present t)
 
-      calls' : Each (λ x. x.next ≤ suc (length c.marked.items)) ts
-      calls' = words-calls (suc (length c.marked.items)) c.tasks (view_of job me).tasks k.calls
+      calls' : Each (λ x. x.next ≤ suc (most_marked c.marked)) ts
+      calls' = words-calls (suc (most_marked c.marked)) c.tasks (view_of job me).tasks k.calls
 
-      within : u.next ≤ suc (length c.marked.items)
+      within : u.next ≤ suc (most_marked c.marked)
       within =
-          subst (λ n. n ≤ suc (length c.marked.items)) (sym (begun-next t (present t)))
-          (named-at (λ x. x.next ≤ suc (length c.marked.items)) ts c.present t there calls')
+          subst (λ n. n ≤ suc (most_marked c.marked)) (sym (begun-next t (present t)))
+          (named-at (λ x. x.next ≤ suc (most_marked c.marked)) ts c.present t there calls')
 
   -- and the CPU perhaps switches
   acted-for : any_left (told_tasks job (ticked c) me) ≡ true → c.polls.poll.cpu ≡ me.number

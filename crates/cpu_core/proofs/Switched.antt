@@ -17,7 +17,7 @@ use Rattle.cpu_core.specs.declared.parts.Phase.TheVariants as code
 use Rattle.cpu_core.specs.declared.task.Task.{Task}
 use Rattle.cpu_core.specs.CpuOps.{present_task}
 use Rattle.cpu_core.specs.CpuSteps.{switched, switched_from}
-use Rattle.cpu_core.specs.Cpus.{IsFor, IsGoing, IsIn, cpu_of, fetch_step, number_or, numbers, phase_in, tasks_now}
+use Rattle.cpu_core.specs.Cpus.{IsFor, IsGoing, IsIn, cpu_of, fetch_step, most_marked, number_or, numbers, phase_in, tasks_now}
 use Rattle.cpu_core.specs.Setups.{setup_in}
 use Rattle.cpu_core.specs.Starts.{is_left}
 use Rattle.cpu_core.specs.Tied.{IsTaskOf}
@@ -87,7 +87,7 @@ pub record IsReady (job : Job) (c : Parts) : Type 0 where
   pub size : c.polls.size ≡ length c.tasks
   pub numbers' : numbers c.tasks ≡ tasks_of job c.polls.poll.cpu
   pub tasks : Each (IsTaskOf job) (tasks_now c)
-  pub calls : Each (λ t. t.next ≤ suc (length c.marked.items)) c.tasks
+  pub calls : Each (λ t. t.next ≤ suc (most_marked c.marked)) c.tasks
   pub room : c.marked.room ≤ ITEMS
   pub items : length c.marked.items ≤ c.marked.room
   pub going : c.phase ≡ code.Going

@@ -1,5 +1,5 @@
 -- The word machine's CPU that a CPU of code stands for.
-use Rattle.std.specs.Prelude.{ℕ, suc, ◌+◌, ◌≡◌, ◌<◌, ◌≤◌, true, false, ◌==◌, List, [], ◌∷◌, get_or, length, map, Option, Some, None, IsSomeAnd, if◌then◌else◌}
+use Rattle.std.specs.Prelude.{ℕ, suc, ◌+◌, ◌-◌, ◌≡◌, ◌<◌, ◌≤◌, true, false, ◌==◌, List, [], ◌∷◌, get_or, length, map, Option, Some, None, IsSomeAnd, if◌then◌else◌}
 use Rattle.std.specs.List.{AllByRecursion as Each}
 use Rattle.ft_base.specs.declared.limits.TheConstants.{ITEMS, QUANTUM}
 use Rattle.ft_base.specs.Job.{Job}
@@ -18,6 +18,7 @@ use Rattle.cpu_core.specs.declared.moment.Moment.TheVariants as moment
 use Rattle.cpu_core.specs.declared.task.Task.{Task}
 use Rattle.cpu_core.specs.CpuOps.{present_task}
 use Rattle.cpu_core.specs.Leads.{is_fetching}
+use Rattle.cpu_core.specs.Marks.{Marks}
 use Rattle.cpu_core.specs.PlainPolls.{lent_words, looked}
 use Rattle.cpu_core.specs.Setups.{setup_in}
 use Rattle.cpu_core.specs.Starts.{is_left}
@@ -82,6 +83,10 @@ cpu_of job c = record {
 
 -- ## of which job it is the CPU
 
+-- how many items it has marked, with those that are forgotten, if its room was the greatest at the start
+abbrev pub most_marked : Marks → ℕ
+most_marked m = length m.items + (ITEMS - m.room)
+
 -- the present task is before a poll, if it is to have one
 abbrev pub IsBeforePoll : Option Task → Type 0
 IsBeforePoll None = ⊥
@@ -133,7 +138,7 @@ IsIn c code.Over = IsOver c
 -- A CPU of a job.
 --   setup, shape, cpu, quantum, quick   it is one of the job's CPUs, and looks up what the job declares
 --   size, numbers, tasks                its tasks are the job's
---   calls, room                         the numbers of calls grow no faster than the items that are marked, for which there is room
+--   calls, room, items                  the numbers of calls grow no faster than the items that are marked, for which there is room
 --   present                             its present task has an act, as long as one has
 --   phase'                              it stands where its tasks and its poll do
 pub record IsFor (job : Job) (c : Parts) : Type 0 where
@@ -145,7 +150,7 @@ pub record IsFor (job : Job) (c : Parts) : Type 0 where
   pub size : c.polls.size ≡ length c.tasks
   pub numbers' : numbers c.tasks ≡ tasks_of job c.polls.poll.cpu
   pub tasks : Each (IsTaskOf job) (tasks_now c)
-  pub calls : Each (λ t. t.next ≤ suc (length c.marked.items)) c.tasks
+  pub calls : Each (λ t. t.next ≤ suc (most_marked c.marked)) c.tasks
   pub room : c.marked.room ≤ ITEMS
   pub items : length c.marked.items ≤ c.marked.room
   pub present : any_left c.tasks ≡ true → IsSomeAnd (present_task c) (λ t. is_left t ≡ true)

@@ -1,5 +1,5 @@
 -- The fields of a CPU's marks, and what contracts see of them.
-use Rattle.std.specs.Prelude.{◌≤◌, vec_capacity}
+use Rattle.std.specs.Prelude.{◌≤◌, vec_len, vec_capacity}
 use Rattle.cpu_core.specs.declared.marked.Marked.TheInside.{Inside}
 use Rattle.cpu_core.specs.Marks.{Marks}
 
@@ -7,6 +7,7 @@ use Rattle.cpu_core.specs.Marks.{Marks}
 abbrev pub marks_of : Inside → Marks
 marks_of d = record { items = d.items.items; room = d.room }
 
--- there is room for all items
+-- there is room for all items, of which there are no more
 pub record IsKept (d : Inside) : Type 0 where
+  pub few : vec_len d.items ≤ d.room
   pub room : d.room ≤ vec_capacity d.items

@@ -44,6 +44,7 @@ impl Cpu {
     ghost use Rattle.word_machine.specs.Limits.{IsLimited};
     ghost use Rattle.cpu_core.specs.Cpus.{IsFor, cpu_of};
     ghost use Rattle.cpu_core.specs.CpuSteps.{marks_in};
+    ghost use Rattle.cpu_core.specs.Marks.{emptied};
     ghost use Rattle.cpu_core.specs.Taken.{IsCpuOf, IsTaken};
 
     /// CPU `cpu` of a script before its first step, with these tasks and users. `frames` is how many
@@ -100,6 +101,16 @@ impl Cpu {
         ensures room { self.new.marked.room ≡ self.old.marked.room }
     {
         self.parts.step(value);
+    }
+
+    /// Empties the list of what it has marked, once its caller has noted that elsewhere: a machine
+    /// that keeps all items in one history need not keep each of them twice. There is room for as many
+    /// fewer after it.
+    pub fn forget_items(&mut self)
+        ensures of { (job : Job) → IsFor job self.old → IsFor job self.new }
+        ensures parts { self.new ≡ record self.old { marked = emptied self.old.marked } }
+    {
+        self.parts.marked.empty();
     }
 
     /// What it has marked, in the order of the places.

@@ -1,6 +1,7 @@
 //! The items that a CPU has marked.
 
 ghost use Rattle.std.specs.Prelude.{◌≡◌, ◌<◌, ◌++◌, ◌∷◌, [], length, IfOk};
+ghost use Rattle.cpu_core.specs.Marks.{emptied};
 
 use ft_base::{NoMemory, Stamped};
 use std::alloc::Global;
@@ -56,5 +57,13 @@ impl Marked {
         ensures { self.new ≡ record self.old { items = self.old.items ++ stamped ∷ [] } }
     {
         self.items.push_reserved(stamped);
+    }
+
+    /// Empties the list. There is room for as many fewer after it.
+    pub(crate) fn empty(&mut self)
+        ensures { self.new ≡ emptied self.old }
+    {
+        self.room -= self.items.len() as u32;
+        self.items.clear();
     }
 }
