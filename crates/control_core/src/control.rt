@@ -182,6 +182,14 @@ impl Control {
         self.items.as_slice()
     }
 
+    /// Empties the list of what it has marked, once its caller has noted that elsewhere: a machine
+    /// that keeps all items in one history need not keep each of them twice.
+    pub fn forget_items(&mut self)
+        ensures { self.new ≡ record self.old { items = [] } }
+    {
+        self.items.clear();
+    }
+
     /// What it has marked, in the order of the places; control is used up.
     pub fn into_items(self) -> Vec<Stamped>
         ensures { result.items ≡ self.items }
