@@ -6,8 +6,9 @@
 //! library, as over standard input and output.
 //!
 //! Proved, for every source and sink: `read_all` gives exactly the bytes up to the source's end, or
-//! says why not; `write_all` appends exactly the bytes, or a beginning of them; no count of faults
-//! falls, and a failure comes only if it rose. The ends in memory are known byte for byte.
+//! says why not; `write_all` appends exactly the bytes, or a beginning of them, and so does `Pieces`,
+//! which gathers them into large writes; no count of faults falls, and a failure comes only if it
+//! rose. The ends in memory are known byte for byte.
 //!
 //! Only tested, in `ft_io_tests`: that the adapters over a reader and a writer ask for many bytes at
 //! a time, flush after each write, and try nothing a second time. What a standard stream gives or
@@ -19,6 +20,7 @@ mod faults;
 mod gate;
 mod memory_sink;
 mod memory_source;
+mod pieces;
 mod sink;
 mod source;
 mod standard;
@@ -26,6 +28,7 @@ mod standard;
 pub use gate::{Gate, OpenGate};
 pub use memory_sink::MemSink;
 pub use memory_source::MemSource;
+pub use pieces::Pieces;
 pub use sink::{Sink, WriteFail, write_all};
 pub use source::{Failed, ReadFail, Source, read_all};
 pub use standard::{StdSink, StdSource};

@@ -1,7 +1,7 @@
 //! Sources and sinks in memory, and the adapters over readers and writers that fail once.
 
 use ft_io::{
-    Failed, Gate, MemSink, MemSource, OpenGate, ReadFail, Sink, Source, StdSink, StdSource,
+    Failed, Gate, MemSink, MemSource, OpenGate, Pieces, ReadFail, Sink, Source, StdSink, StdSource,
     WriteFail, read_all, write_all,
 };
 use std::alloc::Global;
@@ -153,6 +153,49 @@ fn full_room(rt: HostRuntime) -> Result<(), Fail> {
     assert_eq!(rt; sink.bytes(), b"abc".as_slice());
     assert_eq!(rt; sink.write(b"d"), Err(Failed));
     assert_eq!(rt; sink.write(b""), Ok(0));
+    Ok(())
+}
+
+/// Many short puts cross the size of a piece; one is longer than a piece. Of 7 bytes each, 9,362
+/// fit into a piece.
+#[test]
+fn pieces_reach_the_sink(rt: HostRuntime) -> Result<(), Fail> {
+    let alloc = rt.alloc();
+    let mut sink = MemSink::new(alloc, 50_000, 300_000, Vec::new(alloc))?;
+    let mut pieces = Pieces::new(alloc)?;
+    let mut want = Vec::new(alloc);
+    for n in 0..20_000u32 {
+        let line: &[u8] = if n % 3 == 0 { b"enter 1" } else { b"leave 2" };
+        pieces.put(&mut sink, line);
+        want.extend_from_slice(line)?;
+    }
+    assert_eq!(rt; sink.bytes().len(), 131_068);
+    let long = vec![in alloc; b'#'; 70_000]?;
+    pieces.put(&mut sink, long.as_slice());
+    pieces.put(&mut sink, b"end");
+    assert_eq!(rt; sink.bytes().len(), 210_000);
+    want.extend_from_slice(long.as_slice())?;
+    want.extend_from_slice(b"end")?;
+    assert!(rt; !pieces.has_failed());
+    assert_eq!(rt; pieces.finish(&mut sink), Ok(()));
+    assert!(rt; sink.bytes() == want.as_slice());
+    Ok(())
+}
+
+/// The sink fails at its second piece and would take the third: it gets nothing more.
+#[test]
+fn a_failed_sink_gets_no_more_pieces(rt: HostRuntime) -> Result<(), Fail> {
+    let alloc = rt.alloc();
+    let mut sink = MemSink::new(alloc, 70_000, 300_000, [2].to_vec(alloc)?)?;
+    let mut pieces = Pieces::new(alloc)?;
+    for byte in [b'a', b'b', b'c', b'd', b'e'] {
+        let part = vec![in alloc; byte; 40_000]?;
+        pieces.put(&mut sink, part.as_slice());
+    }
+    assert!(rt; pieces.has_failed());
+    assert_eq!(rt; pieces.finish(&mut sink), Err(WriteFail));
+    let front = vec![in alloc; b'a'; 40_000]?;
+    assert!(rt; sink.bytes() == front.as_slice());
     Ok(())
 }
 

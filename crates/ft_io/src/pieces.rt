@@ -1,0 +1,103 @@
+//! Bytes on their way to a sink, which gets them in pieces.
+
+ghost use Rattle.std.specs.Prelude.{◌≡◌, ◌≤◌, [], IfOk};
+ghost use Rattle.ft_io.specs.Pieces.{nothing, Puts, Ends};
+
+use crate::sink::{Sink, WriteFail, write_all};
+use std::alloc::{AllocError, Global};
+use std::marker::Model;
+
+// How many bytes are held for one piece.
+const PIECE_BYTES: usize = 65_536;
+
+/// Bytes on their way to a sink, which gets them in pieces of 65,536. All memory is taken at the
+/// start. If the sink fails, the bytes that come after are dropped, and `finish` says so, as C's
+/// stdio keeps `ferror`.
+#[derive(Debug, Drop)]
+pub struct Pieces {
+    held: Vec<u8>,
+    failed: bool,
+}
+
+impl Model for Pieces {
+    ghost use Rattle.std.specs.Prelude.{◌≤◌, vec_len, vec_capacity};
+    ghost use Rattle.ft_io.specs.Pieces.{OnTheWay};
+    ghost use Rattle.ft_io.specs.declared.pieces.TheConstants.{PIECE_BYTES};
+
+    ghost Value = { OnTheWay };
+
+    ghost view = { λ p. record { held = p.held.items; failed = p.failed } };
+
+    ghost invariant = { λ p. (vec_len p.held ≤ PIECE_BYTES)
+        × (PIECE_BYTES ≤ vec_capacity p.held) };
+}
+
+impl Pieces {
+    /// No bytes yet. The error is that memory is out.
+    pub fn new(alloc: Global) -> Result<Pieces, AllocError>
+        ensures { IfOk result (λ pieces. pieces ≡ nothing) }
+    {
+        let held = Vec::with_capacity(alloc, PIECE_BYTES)?;
+        Ok(Pieces {
+            held,
+            failed: false,
+        })
+    }
+
+    /// Puts the bytes after those before. It takes no memory.
+    pub fn put<K: Sink>(&mut self, sink: &mut K, bytes: &[u8])
+        ensures { Puts K.holds K.faults bytes.now sink.old self.old sink.new self.new }
+    {
+        if bytes.len() > PIECE_BYTES - self.held.len() {
+            self.put_after_piece(sink, bytes);
+        } else if !self.failed {
+            // It does not fail: there is room for the bytes.
+            let _ = self.held.extend_from_slice(bytes);
+        }
+    }
+
+    /// Writes the piece that is held, and puts the bytes after it.
+    fn put_after_piece<K: Sink>(&mut self, sink: &mut K, bytes: &[u8])
+        ensures { Puts K.holds K.faults bytes.now sink.old self.old sink.new self.new }
+    {
+        self.send(sink);
+        if self.failed {
+            return;
+        }
+        if bytes.len() > PIECE_BYTES {
+            self.failed = write_all(sink, bytes).is_err();
+        } else {
+            // It does not fail: nothing is held.
+            let _ = self.held.extend_from_slice(bytes);
+        }
+    }
+
+    /// Writes the piece that is held, and holds nothing.
+    fn send<K: Sink>(&mut self, sink: &mut K)
+        ensures puts { Puts K.holds K.faults [] sink.old self.old sink.new self.new }
+        ensures empty { self.new.held ≡ [] }
+    {
+        if !self.failed {
+            self.failed = write_all(sink, self.held.as_slice()).is_err();
+        }
+        self.held.clear();
+    }
+
+    /// Whether the sink has failed, so that what comes is dropped.
+    pub fn has_failed(&self) -> bool
+        ensures { result ≡ self.now.failed }
+    {
+        self.failed
+    }
+
+    /// Writes what is held. The error is that the sink failed, now or before.
+    pub fn finish<K: Sink>(self, sink: &mut K) -> Result<(), WriteFail>
+        ensures ends { Ends K.holds K.faults sink.old self sink.new result }
+        ensures faults { K.faults sink.old ≤ K.faults sink.new }
+    {
+        if self.failed {
+            return Err(WriteFail);
+        }
+        write_all(sink, self.held.as_slice())
+    }
+}
