@@ -1,15 +1,16 @@
 -- A step of control: the word machine's row.
-use Rattle.std.proofs.Common.{◌≡◌, ℕ, ◌++◌, inl, option_map, List, ◌∷◌, get_or, length, map, Option, Some, None, refl, sym, ap, ◌∙◌, subst}
-use Rattle.std.proofs.lemmas.List.{append-nil}
+use Rattle.std.proofs.Common.{◌≡◌, ℕ, ◌+◌, ◌<◌, ◌++◌, Bool, option_map, List, [], length, Option, Some, None, refl, sym, ap, ◌∙◌, subst}
 use Rattle.ft_base.specs.declared.item.Item.{Item}
 use Rattle.ft_base.specs.declared.item.Stamped.{Stamped}
 use Rattle.ft_base.specs.declared.turn.Actor.TheVariants as actor
 use Rattle.ft_base.specs.Desk.{desk}
 use Rattle.ft_base.specs.Job.{Job}
+use Rattle.ft_hist.specs.Rules.{IsLegalPast}
 use Rattle.ft_hist.specs.Shown.{Shown}
 use Rattle.word_map.specs.declared.op.Op.{Op}
+use Rattle.word_map.specs.declared.op.Op.TheVariants.{Mark as CodeMark}
 use Rattle.word_map.specs.declared.shape.Shape.{Shape}
-use Rattle.word_map.specs.Contents.{mask_of}
+use Rattle.word_map.specs.Contents.{low, mask_of}
 use Rattle.word_map.specs.Ops.{WordOp, Load, Store, Mark, placed}
 use Rattle.word_map.specs.Shapes.{shape_of}
 use Rattle.word_machine.specs.Control.{control_got, control_next}
@@ -22,14 +23,12 @@ use Rattle.word_machine.proofs.There.{control-there}
 use Rattle.word_machine.proofs.WordsFit.{control-row-runs}
 use Rattle.control_core.specs.Seated.{IsFor as IsControlFor, Seated, control_of}
 use Rattle.control_core.specs.Steps.{marks_in}
-use Rattle.cpu_core.specs.declared.parts.Parts.{Parts as CpuParts}
-use Rattle.machine_core.specs.Recorded.{HasRoomFor, IsAdded}
 use Rattle.machine_core.specs.Tables.{HasRoomAt, IsOn, gives, made}
-use Rattle.machine_core.specs.Worlds.{IsFor, Parts, lists, past_of, world_of}
+use Rattle.machine_core.specs.Worlds.{IsFor, Parts, past_of, world_of}
+use Rattle.machine_core.proofs.Chosen.{Chosen, chosen, none-next}
 use Rattle.machine_core.proofs.Made.{IsOpThere, gives-is, made-is, made-length, of-job, on-is, room-is}
 use Rattle.machine_core.proofs.Moved.{HasMoved}
-use Rattle.machine_core.proofs.Marking.{Chosen, Follows, chosen, none-next, past-is, places-are, stamp}
-use Rattle.machine_core.proofs.Recording.{Marks, recorded-on, room-for}
+use Rattle.machine_core.proofs.Recording.{IsMarked, IsNoted, has-room, mark-item, noted-past, noted-room}
 
 -- the words, control, CPUs and history after a step of control
 abbrev pub controlled : Parts → List ℕ → Seated → Shown → Parts
@@ -57,39 +56,28 @@ module _ (job : Job) (limited : IsLimited job) (w : Parts) (k : IsFor job w) (r 
     room : HasRoomAt w.words (placed (shape_of job) op)
     room = room-is (shape_of job) (mask_of (desk job 0) (length job.tasks)) w.words k.count op runs-on.fits
 
-    -- its items are one more after a mark
-    marks : (had items : List Stamped) (o : WordOp) → items ≡ had ++ marks_in (Some o) (gives (placed (shape_of job) o) w.words) → Marks o had items
-    marks had items (Load x) e = record {}
-    marks had items (Store x y) e = record {}
-    marks had items (Mark item) e = (stamp (get_or w.words 0 0) item, e, refl)
+    -- the history has room for what it marks
+    space : (item : Item) → op ≡ Mark item → 0 < w.history.spare
+    space item e = has-room job w.history k.room item (subst (λ o. IsLegalPast job (past_after o (past_of w))) e runs-on.kept.legal)
 
-    -- and the history has room for it
-    space : (items : List Stamped) → items ≡ w.control.items ++ marks_in (Some op) (gives (placed (shape_of job) op) w.words)
-        → HasRoomFor (placed (shape_of job) op) items w.history
-    space items e = room-for job w k.recorded (shape_of job) op runs-on.kept.legal w.control.items items (marks w.control.items items op e)
+    -- its list was empty
+    marked : (o : WordOp) (v : ℕ) (items : List Stamped) → items ≡ w.control.items ++ marks_in (Some o) v → IsMarked o items
+    marked (Load x) v items e = e ∙ ap (λ (had : List Stamped). had ++ []) k.none
+    marked (Store x y) v items e = e ∙ ap (λ (had : List Stamped). had ++ []) k.none
+    marked (Mark item) v items e = (record { place = low v; item = item }, e ∙ ap (λ (had : List Stamped). had ++ marks_in (Some (Mark item)) v) k.none, refl)
 
-    module _ (d : Seated) (is_for : IsControlFor job d)
+    module _ (d : Seated) (is_for : IsControlFor job d) (none : d.items ≡ [])
         (is : control_of d ≡ control_got job (control_of w.control) (gives (placed (shape_of job) op) w.words))
-        (items : d.items ≡ w.control.items ++ marks_in (Some op) (gives (placed (shape_of job) op) w.words))
-        (h : Shown) (added : IsAdded (placed (shape_of job) op) d.items w.history h) where
+        (h : Shown) (noted : IsNoted op w.history h) where
       abbrev after : Parts
       after = controlled w (made (placed (shape_of job) op) w.words) d h
-
-      follows-in : (o : WordOp) → d.items ≡ w.control.items ++ marks_in (Some o) (gives (placed (shape_of job) o) w.words)
-          → Follows o (get_or w.words 0 0) (lists w) (lists after)
-      follows-in (Load x) e = ap (λ (xs : List Stamped). xs ∷ map (λ (c : CpuParts). c.marked.items) w.cpus) (e ∙ append-nil w.control.items)
-      follows-in (Store x y) e = ap (λ (xs : List Stamped). xs ∷ map (λ (c : CpuParts). c.marked.items) w.cpus) (e ∙ append-nil w.control.items)
-      follows-in (Mark item) e = inl (e, refl)
-
-      past-moved : past_of after ≡ past_after op (past_of w)
-      past-moved = past-is job w k.places r.kept k.count op there row refl refl runs-on.kept (lists after) (follows-in op items)
 
       control-moves : world_of job after ≡ row
       control-moves = λ i. record {
         words = made-is (shape_of job) (mask_of (desk job 0) (length job.tasks)) w.words k.count op there i;
         control = (is ∙ ap (λ v. control_got job (control_of w.control) v) (gives-is (shape_of job) (mask_of (desk job 0) (length job.tasks)) w.words k.count op there)) i;
         cpus = (world_of job w).cpus;
-        past = past-moved i;
+        past = noted-past op w.history h noted i;
       }
 
       -- no CPU has marked anything
@@ -103,15 +91,15 @@ module _ (job : Job) (limited : IsLimited job) (w : Parts) (k : IsFor job w) (r 
         shape' = k.shape';
         count = made-length (shape_of job) op w.words ∙ k.count;
         control' = is_for;
+        none = none;
         cpus' = k.cpus';
         each = λ c x at. (let own = k.each c x at in record {
           is_for = own.is_for;
           number = own.number;
-          room = own.room;
-          marked = own.marked ∙ sym (ap (λ (past : List Item). items_on job c past) past-moved ∙ same-items c op next);
+          none = own.none;
+          room = ap (λ n. x.marked.room + n) (ap (λ (past : List Item). items_on job c past) (noted-past op w.history h noted) ∙ same-items c op next) ∙ own.room;
         });
-        places = places-are job w k.places r.kept k.count op there row refl refl runs-on.kept (lists after) (follows-in op items);
-        recorded = recorded-on job w k.recorded (shape_of job) op w.control.items d.items (marks w.control.items d.items op items) after past-moved added;
+        room = noted-room op w.history h noted _ k.room;
       }
 
 -- ## as code has the operation
@@ -124,37 +112,30 @@ module _ (job : Job) (limited : IsLimited job) (w : Parts) (k : IsFor job w) (r 
   pub control-room : HasRoomAt w.words code
   control-room = subst (λ o. HasRoomAt w.words o) x.placed' (room job limited w k r x.op x.is)
 
+  -- what it has marked, before its list is emptied
+  pub control-marked : (v : ℕ) (items : List Stamped) → items ≡ w.control.items ++ marks_in (control_next job (control_of w.control)) v → IsMarked x.op items
+  control-marked v items e = marked job limited w k r x.op x.is x.op v items (e ∙ ap (λ o. w.control.items ++ marks_in o v) x.is)
+
+  pub control-space : (command : Bool) → code ≡ CodeMark command → 0 < w.history.spare
+  control-space command e = let m = mark-item (shape_of job) command x.op (x.placed' ∙ e) in space job limited w k r x.op x.is m.0 m.1
+
   stepped : control_row job (world_of job w) x.op ≡ step job actor.Control (world_of job w)
   unfolding step
   stepped = sym (ap (λ o. control_moved job (world_of job w) o) x.is)
 
-  module _ (v : ℕ) (value : v ≡ gives code w.words) (items : List Stamped)
-      (items-are : items ≡ w.control.items ++ marks_in (control_next job (control_of w.control)) v) where
-    at-value : v ≡ gives (placed (shape_of job) x.op) w.words
-    at-value = value ∙ ap (λ o. gives o w.words) (sym x.placed')
-
-    items-in : items ≡ w.control.items ++ marks_in (Some x.op) (gives (placed (shape_of job) x.op) w.words)
-    items-in = items-are ∙ (λ i. w.control.items ++ marks_in (x.is i) (at-value i))
-
-    pub control-space : HasRoomFor code items w.history
-    control-space = subst (λ o. HasRoomFor o items w.history) x.placed' (space job limited w k r x.op x.is items items-in)
-
-  pub control-moved : (words : List ℕ) → words ≡ made code w.words → (v : ℕ) → v ≡ gives code w.words → (d : Seated) → IsControlFor job d
-      → control_of d ≡ control_got job (control_of w.control) v
-      → d.items ≡ w.control.items ++ marks_in (control_next job (control_of w.control)) v
-      → (h : Shown) → IsAdded code d.items w.history h
+  pub control-moved : (words : List ℕ) → words ≡ made code w.words → (v : ℕ) → v ≡ gives code w.words → (d : Seated) → IsControlFor job d → d.items ≡ []
+      → control_of d ≡ control_got job (control_of w.control) v → (h : Shown) → IsNoted x.op w.history h
       → HasMoved job (controlled w words d h) (step job actor.Control (world_of job w))
-  control-moved words words-are v value d is_for is items h added =
+  control-moved words words-are v value d is_for none is h noted =
       let is' : control_of d ≡ control_got job (control_of w.control) (gives (placed (shape_of job) x.op) w.words) =
-      is ∙ ap (λ n. control_got job (control_of w.control) n) (at-value v value d.items items) in
-      let items' = items-in v value d.items items in
+      is ∙ ap (λ n. control_got job (control_of w.control) n) (value ∙ ap (λ o. gives o w.words) (sym x.placed')) in
       let same : made (placed (shape_of job) x.op) w.words ≡ words = ap (λ o. made o w.words) x.placed' ∙ sym words-are in
-      let added' : IsAdded (placed (shape_of job) x.op) d.items w.history h = subst (λ o. IsAdded o d.items w.history h) (sym x.placed') added in
+      let goes = control-moves job limited w k r x.op x.is d is_for none is' h noted in
       subst (λ ws. HasMoved job (controlled w ws d h) (step job actor.Control (world_of job w))) same
       (record {
-        is_for = control-keeps job limited w k r x.op x.is d is_for is' items' h added';
-        is = control-moves job limited w k r x.op x.is d is_for is' items' h added' ∙ stepped;
-        runs = subst (λ s. Runs job s) (sym (control-moves job limited w k r x.op x.is d is_for is' items' h added')) (runs-on job limited w k r x.op x.is);
+        is_for = control-keeps job limited w k r x.op x.is d is_for none is' h noted;
+        is = goes ∙ stepped;
+        runs = subst (λ s. Runs job s) (sym goes) (runs-on job limited w k r x.op x.is);
       })
 
 -- ## from the code's answers

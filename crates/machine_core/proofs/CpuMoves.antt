@@ -1,7 +1,6 @@
 -- A step of a CPU: the word machine's row.
-use Rattle.std.proofs.Common.{◌≡◌, ◌≢◌, ℕ, zero, suc, ◌<◌, ◌++◌, inl, inr, List, [], ◌∷◌, get_or, length, set, slice_get, Option, Some, None, IsSome, option_map, refl, sym, ap, ◌∙◌, subst, arith, length-set}
+use Rattle.std.proofs.Common.{◌≡◌, ◌≢◌, ℕ, zero, suc, ◌+◌, ◌<◌, ◌++◌, Bool, inl, inr, List, [], ◌∷◌, get_or, length, set, slice_get, Option, Some, None, IsSome, option_map, refl, sym, ap, ◌∙◌, subst, arith, length-set}
 use Rattle.std.proofs.lemmas.Bool.{cases_eq, lt-ltb}
-use Rattle.std.proofs.lemmas.List.{append-nil, length-append}
 use Rattle.std.proofs.lemmas.Option.{same_Some, slice_get_read, slice_get_within}
 use Rattle.std.specs.Prelude.{nat_lt, cond}
 use Rattle.ft_base.specs.declared.item.Item.{Item}
@@ -11,14 +10,16 @@ use Rattle.ft_base.specs.declared.number.CpuNo.{CpuNo}
 use Rattle.ft_base.specs.Desk.{desk}
 use Rattle.ft_base.specs.Job.{Job}
 use Rattle.ft_base.proofs.Small.{false_true}
+use Rattle.ft_hist.specs.Rules.{IsLegalPast}
 use Rattle.ft_hist.specs.Shown.{Shown}
 use Rattle.word_map.specs.declared.op.Op.{Op}
-use Rattle.word_map.specs.Contents.{mask_of}
+use Rattle.word_map.specs.declared.op.Op.TheVariants.{Mark as CodeMark}
+use Rattle.word_map.specs.Contents.{low, mask_of}
 use Rattle.word_map.specs.Ops.{WordOp, Load, Store, Mark, placed}
 use Rattle.word_map.specs.Shapes.{shape_of}
 use Rattle.word_map.specs.Words.{at_put}
 use Rattle.word_machine.specs.Cpu.{Cpu, cpu_got, cpu_next, cpu_start}
-use Rattle.word_machine.specs.Laws.{CpuTakes, IsOnWord, Runs, items_on}
+use Rattle.word_machine.specs.Laws.{CpuTakes, IsOnWord, Runs, items_on, room_on}
 use Rattle.word_machine.specs.Limits.{IsLimited}
 use Rattle.word_machine.specs.Machine.{World, cpu_moved, cpu_row, past_after, step, taken}
 use Rattle.word_machine.proofs.CpuTakes.{cpu-takes}
@@ -33,14 +34,12 @@ use Rattle.cpu_core.specs.CpuSteps.{marks_in}
 use Rattle.cpu_core.specs.Taken.{IsTaken}
 use Rattle.cpu_core.specs.TaskOps.{item_in}
 use Rattle.cpu_core.proofs.Lookups.{get-set}
-use Rattle.machine_core.specs.Recorded.{HasRoomFor, IsAdded}
 use Rattle.machine_core.specs.Tables.{HasRoomAt, IsOn, gives, made}
-use Rattle.machine_core.specs.Worlds.{IsCpuAt, IsFor, Parts, cpu_or, cpus_of, lists, past_of, world_of}
+use Rattle.machine_core.specs.Worlds.{IsCpuAt, IsFor, Parts, cpu_or, cpus_of, past_of, world_of}
+use Rattle.machine_core.proofs.Chosen.{Chosen, chosen, none-next}
 use Rattle.machine_core.proofs.Made.{IsOpThere, gives-is, made-is, made-length, of-job, on-is, room-is}
-use Rattle.machine_core.proofs.Marking.{Chosen, Follows, chosen, none-next, past-is, places-are, stamp}
-use Rattle.machine_core.proofs.Recording.{Marks, recorded-on, room-for}
 use Rattle.machine_core.proofs.Moved.{HasMoved}
-use Rattle.ft_hist.proofs.Placing.{map-grows, map-kept}
+use Rattle.machine_core.proofs.Recording.{IsLeft, IsMarked, IsNoted, has-room, mark-item, noted-past, noted-room}
 
 -- ## the list of CPUs
 
@@ -117,45 +116,30 @@ module _ (job : Job) (limited : IsLimited job) (w : Parts) (k : IsFor job w) (r 
     own : IsCpuAt job w i x
     own = k.each i x at
 
-    -- there is room for what it marks
+    -- there is room for what it marks, in the history too
     mark-fits : (o : WordOp) → cpu_next job ((world_of job w).cpus i) ≡ Some o → IsSome (item_in (Some o)) → length x.marked.items < x.marked.room
     mark-fits (Load y) e some = false_true some
     mark-fits (Store y z) e some = false_true some
     mark-fits (Mark item) e some =
         let lt = mark-room job (word-job job limited) (world_of job w) r.kept i inside item e in
-        let a = own.marked in
-        let b = own.room in
-        omega (arith, lt, a, b)
+        let none = ap (λ (xs : List Stamped). length xs) own.none in
+        let room = own.room in
+        omega (arith, lt, none, room)
 
-    -- its items are one more after a mark
-    marks : (had items : List Stamped) (o : WordOp) → items ≡ had ++ marks_in (Some o) (gives (placed (shape_of job) o) w.words) → Marks o had items
-    marks had items (Load a) e = record {}
-    marks had items (Store a b) e = record {}
-    marks had items (Mark item) e = (stamp (get_or w.words 0 0) item, e, refl)
+    space : (item : Item) → op ≡ Mark item → 0 < w.history.spare
+    space item e = has-room job w.history k.room item (subst (λ o. IsLegalPast job (past_after o (past_of w))) e runs-on.kept.legal)
 
-    -- and the history has room for it
-    space : (items : List Stamped) → items ≡ x.marked.items ++ marks_in (Some op) (gives (placed (shape_of job) op) w.words)
-        → HasRoomFor (placed (shape_of job) op) items w.history
-    space items e = room-for job w k.recorded (shape_of job) op runs-on.kept.legal x.marked.items items (marks x.marked.items items op e)
+    -- its list was empty
+    marked : (o : WordOp) (v : ℕ) (items : List Stamped) → items ≡ x.marked.items ++ marks_in (Some o) v → IsMarked o items
+    marked (Load y) v items e = e ∙ ap (λ (had : List Stamped). had ++ []) own.none
+    marked (Store y z) v items e = e ∙ ap (λ (had : List Stamped). had ++ []) own.none
+    marked (Mark item) v items e = (record { place = low v; item = item }, e ∙ ap (λ (had : List Stamped). had ++ marks_in (Some (Mark item)) v) own.none, refl)
 
-    module _ (y : CpuParts) (is_for : IsCpuFor job y)
+    module _ (y : CpuParts) (is_for : IsCpuFor job y) (none : y.marked.items ≡ []) (left : IsLeft op x.marked.room y.marked.room)
         (is : cpu_of job y ≡ cpu_got job (cpu_of job x) (gives (placed (shape_of job) op) w.words))
-        (items : y.marked.items ≡ x.marked.items ++ marks_in (Some op) (gives (placed (shape_of job) op) w.words))
-        (same-room : y.marked.room ≡ x.marked.room)
-        (h : Shown) (added : IsAdded (placed (shape_of job) op) y.marked.items w.history h) where
+        (h : Shown) (noted : IsNoted op w.history h) where
       abbrev after : Parts
       after = ran w (made (placed (shape_of job) op) w.words) i y h
-
-      follows-in : (o : WordOp) → y.marked.items ≡ x.marked.items ++ marks_in (Some o) (gives (placed (shape_of job) o) w.words)
-          → Follows o (get_or w.words 0 0) (lists w) (lists after)
-      follows-in (Load a) e =
-          ap (λ (ls : List (List Stamped)). w.control.items ∷ ls) (map-kept (λ (c : CpuParts). c.marked.items) w.cpus i x y at (e ∙ append-nil x.marked.items))
-      follows-in (Store a b) e =
-          ap (λ (ls : List (List Stamped)). w.control.items ∷ ls) (map-kept (λ (c : CpuParts). c.marked.items) w.cpus i x y at (e ∙ append-nil x.marked.items))
-      follows-in (Mark item) e = inr (refl, map-grows (λ (c : CpuParts). c.marked.items) _ w.cpus i x y at e)
-
-      past-moved : past_of after ≡ past_after op (past_of w)
-      past-moved = past-is job w k.places r.kept k.count op there row refl refl runs-on.kept (lists after) (follows-in op items)
 
       got-is : cpu_of job y ≡ cpu_got job ((world_of job w).cpus i) (taken op (world_of job w).words)
       got-is = is ∙ λ j. cpu_got job (sym same j) (value-is j)
@@ -165,21 +149,18 @@ module _ (job : Job) (limited : IsLimited job) (w : Parts) (k : IsFor job w) (r 
         words = made-is (shape_of job) (mask_of (desk job 0) (length job.tasks)) w.words k.count op there j;
         control = (world_of job w).control;
         cpus = (cpus-put job w.cpus i x y at ∙ ap (λ me. at_put (cpus_of job w.cpus) i me) got-is) j;
-        past = past-moved j;
+        past = noted-past op w.history h noted j;
       }
 
-      -- its own items
-      own-count : (o : WordOp) → cpu_next job ((world_of job w).cpus i) ≡ Some o
-          → y.marked.items ≡ x.marked.items ++ marks_in (Some o) (gives (placed (shape_of job) o) w.words)
-          → length y.marked.items ≡ items_on job i (past_after o (past_of w))
-      own-count (Load a) e m = ap (λ (xs : List Stamped). length xs) (m ∙ append-nil x.marked.items) ∙ own.marked
-      own-count (Store a b) e m = ap (λ (xs : List Stamped). length xs) (m ∙ append-nil x.marked.items) ∙ own.marked
-      own-count (Mark item) e m =
+      -- its own room
+      own-room : (o : WordOp) → cpu_next job ((world_of job w).cpus i) ≡ Some o → IsLeft o x.marked.room y.marked.room
+          → y.marked.room + items_on job i (past_after o (past_of w)) ≡ room_on job i
+      own-room (Load a) e l = ap (λ n. n + items_on job i (past_of w)) l ∙ own.room
+      own-room (Store a b) e l = ap (λ n. n + items_on job i (past_of w)) l ∙ own.room
+      own-room (Mark item) e l =
           let more = own-mark job (word-job job limited) (world_of job w) r.kept i inside item e in
-          let one = length-append x.marked.items (marks_in (Some (Mark item)) (gives (placed (shape_of job) (Mark item)) w.words)) in
-          let many = ap (λ (xs : List Stamped). length xs) m in
-          let had = own.marked in
-          omega (arith, more, one, many, had)
+          let had = own.room in
+          omega (arith, more, l, had)
 
       -- no other CPU has marked anything
       other-count : (c : ℕ) → c ≢ i → (o : WordOp) → cpu_next job ((world_of job w).cpus i) ≡ Some o
@@ -194,22 +175,22 @@ module _ (job : Job) (limited : IsLimited job) (w : Parts) (k : IsFor job w) (r 
           ∙ (runs-on.kept.cpus i inside).number
 
       on-past : (c : ℕ) → items_on job c (past_of after) ≡ items_on job c (past_after op (past_of w))
-      on-past c = ap (λ (past : List Item). items_on job c past) past-moved
+      on-past c = ap (λ (past : List Item). items_on job c past) (noted-past op w.history h noted)
 
       this-cpu : IsCpuAt job after i y
       this-cpu = record {
         is_for = is_for;
         number = number-is;
-        room = same-room ∙ own.room;
-        marked = own-count op next-in items ∙ sym (on-past i);
+        none = none;
+        room = ap (λ n. y.marked.room + n) (on-past i) ∙ own-room op next-in left;
       }
 
       other-cpu : (c : ℕ) → c ≢ i → (z : CpuParts) → slice_get w.cpus c ≡ Some z → IsCpuAt job after c z
       other-cpu c ne z there-is = let kept = k.each c z there-is in record {
         is_for = kept.is_for;
         number = kept.number;
-        room = kept.room;
-        marked = kept.marked ∙ sym (on-past c ∙ other-count c ne op next-in);
+        none = kept.none;
+        room = ap (λ n. z.marked.room + n) (on-past c ∙ other-count c ne op next-in) ∙ kept.room;
       }
 
       each-cpu : (c : ℕ) (z : CpuParts) → slice_get (set w.cpus i y) c ≡ Some z → IsCpuAt job after c z
@@ -226,10 +207,10 @@ module _ (job : Job) (limited : IsLimited job) (w : Parts) (k : IsFor job w) (r 
         shape' = k.shape';
         count = made-length (shape_of job) op w.words ∙ k.count;
         control' = k.control';
+        none = k.none;
         cpus' = length-set w.cpus i y ∙ k.cpus';
         each = each-cpu;
-        places = places-are job w k.places r.kept k.count op there row refl refl runs-on.kept (lists after) (follows-in op items);
-        recorded = recorded-on job w k.recorded (shape_of job) op x.marked.items y.marked.items (marks x.marked.items y.marked.items op items) after past-moved added;
+        room = noted-room op w.history h noted _ k.room;
       }
 
 -- ## as code has the operation
@@ -246,6 +227,9 @@ module _ (job : Job) (limited : IsLimited job) (w : Parts) (k : IsFor job w) (r 
   pub cpu-takes-it : (v : ℕ) → v ≡ gives code w.words → CpuTakes job (cpu_of job x) v
   cpu-takes-it v value = subst (λ n. CpuTakes job (cpu_of job x) n) (sym (value ∙ ap (λ o. gives o w.words) (sym u.placed'))) (takes job limited w k r i x at u.op u.is)
 
+  pub cpu-fits : IsSome (item_in (cpu_next job (cpu_of job x))) → length x.marked.items < x.marked.room
+  cpu-fits some = mark-fits job limited w k r i x at u.op u.is u.op (next-in job limited w k r i x at u.op u.is) (subst (λ o. IsSome (item_in o)) u.is some)
+
   pub cpu-taken : (v : ℕ) → v ≡ gives code w.words → IsTaken x v
   cpu-taken v value = record {
     job = job;
@@ -253,37 +237,35 @@ module _ (job : Job) (limited : IsLimited job) (w : Parts) (k : IsFor job w) (r 
     is_for = (k.each i x at).is_for;
     takes = cpu-takes-it v value;
     next = subst (λ (o : Option WordOp). IsSome o) (sym u.is) refl;
-    room = λ some. mark-fits job limited w k r i x at u.op u.is u.op (next-in job limited w k r i x at u.op u.is) (subst (λ o. IsSome (item_in o)) u.is some);
+    room = cpu-fits;
   }
 
-  module _ (v : ℕ) (value : v ≡ gives code w.words) (items : List Stamped)
-      (items-are : items ≡ x.marked.items ++ marks_in (cpu_next job (cpu_of job x)) v) where
-    at-value : v ≡ gives (placed (shape_of job) u.op) w.words
-    at-value = value ∙ ap (λ o. gives o w.words) (sym u.placed')
+  -- what it has marked, before its list is emptied
+  pub cpu-marked : (v : ℕ) (items : List Stamped) → items ≡ x.marked.items ++ marks_in (cpu_next job (cpu_of job x)) v → IsMarked u.op items
+  cpu-marked v items e = marked job limited w k r i x at u.op u.is u.op v items (e ∙ ap (λ o. x.marked.items ++ marks_in o v) u.is)
 
-    items-in : items ≡ x.marked.items ++ marks_in (Some u.op) (gives (placed (shape_of job) u.op) w.words)
-    items-in = items-are ∙ (λ j. x.marked.items ++ marks_in (u.is j) (at-value j))
+  pub cpu-space : (command : Bool) → code ≡ CodeMark command → 0 < w.history.spare
+  cpu-space command e = let m = mark-item (shape_of job) command u.op (u.placed' ∙ e) in space job limited w k r i x at u.op u.is m.0 m.1
 
-    pub cpu-space : HasRoomFor code items w.history
-    cpu-space = subst (λ o. HasRoomFor o items w.history) u.placed' (space job limited w k r i x at u.op u.is items items-in)
+  -- there was room for a mark
+  pub cpu-had-room : (command : Bool) → code ≡ CodeMark command → 0 < x.marked.room
+  cpu-had-room command e =
+      let m = mark-item (shape_of job) command u.op (u.placed' ∙ e) in
+      let lt = cpu-fits (subst (λ o. IsSome (item_in o)) (sym (u.is ∙ ap (λ o. Some o) m.1)) refl) in
+      omega (arith, lt)
 
-  pub cpu-moved : (words : List ℕ) → words ≡ made code w.words → (v : ℕ) → v ≡ gives code w.words → (y : CpuParts) → IsCpuFor job y
-      → cpu_of job y ≡ cpu_got job (cpu_of job x) v
-      → y.marked.items ≡ x.marked.items ++ marks_in (cpu_next job (cpu_of job x)) v
-      → y.marked.room ≡ x.marked.room
-      → (h : Shown) → IsAdded code y.marked.items w.history h
+  pub cpu-moved : (words : List ℕ) → words ≡ made code w.words → (v : ℕ) → v ≡ gives code w.words → (y : CpuParts) → IsCpuFor job y → y.marked.items ≡ []
+      → IsLeft u.op x.marked.room y.marked.room → cpu_of job y ≡ cpu_got job (cpu_of job x) v → (h : Shown) → IsNoted u.op w.history h
       → (n : CpuNo) → n.0 ≡ i
       → HasMoved job (ran w words i y h) (step job (actor.Cpu n) (world_of job w))
-  cpu-moved words words-are v value y is_for is items same-room h added n e =
+  cpu-moved words words-are v value y is_for none left is h noted n e =
       let is' : cpu_of job y ≡ cpu_got job (cpu_of job x) (gives (placed (shape_of job) u.op) w.words) =
-      is ∙ ap (λ m. cpu_got job (cpu_of job x) m) (at-value v value y.marked.items items) in
-      let items' = items-in v value y.marked.items items in
+      is ∙ ap (λ m. cpu_got job (cpu_of job x) m) (value ∙ ap (λ o. gives o w.words) (sym u.placed')) in
       let same-words : made (placed (shape_of job) u.op) w.words ≡ words = ap (λ o. made o w.words) u.placed' ∙ sym words-are in
-      let added' : IsAdded (placed (shape_of job) u.op) y.marked.items w.history h = subst (λ o. IsAdded o y.marked.items w.history h) (sym u.placed') added in
-      let goes = cpu-moves job limited w k r i x at u.op u.is y is_for is' items' same-room h added' in
+      let goes = cpu-moves job limited w k r i x at u.op u.is y is_for none left is' h noted in
       subst (λ ws. HasMoved job (ran w ws i y h) (step job (actor.Cpu n) (world_of job w))) same-words
       (record {
-        is_for = cpu-keeps job limited w k r i x at u.op u.is y is_for is' items' same-room h added';
+        is_for = cpu-keeps job limited w k r i x at u.op u.is y is_for none left is' h noted;
         is = goes ∙ sym (step-is job limited w k r i x at n e ∙ ap (λ o. cpu_moved job (world_of job w) i o) u.is);
         runs = subst (λ s. Runs job s) (sym goes) (runs-on job limited w k r i x at u.op u.is);
       })

@@ -3,8 +3,9 @@ pub mod Calls
 pub mod Plans
 pub mod Masks
 pub mod Opening
-pub mod Marking
+pub mod Chosen
 pub mod Recording
+pub mod Forgotten
 pub mod Moved
 pub mod ControlMoves
 pub mod CpuMoves

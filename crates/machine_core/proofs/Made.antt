@@ -1,14 +1,14 @@
 -- An operation on the list of the words is the word machine's operation on the words by name.
-use Rattle.std.proofs.Common.{◌≡◌, ◌≢◌, ℕ, suc, ◌+◌, ◌<◌, Bool, true, false, List, get_or, length, Some, refl, sym, ap, ◌∙◌, arith, get_or-set_same, get_or-set_other, length-set}
+use Rattle.std.proofs.Common.{◌≡◌, ℕ, ◌+◌, ◌<◌, List, get_or, length, Some, refl, sym, ap, ◌∙◌, arith, length-set}
 use Rattle.ft_base.specs.declared.item.Item.{Item}
 use Rattle.ft_base.specs.declared.item.Item.TheVariants.{Begin, Return}
 use Rattle.ft_base.specs.Job.{Job}
 use Rattle.word_map.specs.declared.shape.Shape.{Shape}
-use Rattle.word_map.specs.Contents.{greatest_half, low}
+use Rattle.word_map.specs.Contents.{low}
 use Rattle.word_map.specs.Ops.{WordOp, Load, Store, Mark, is_command, placed}
 use Rattle.word_map.specs.Places.{IsThere, len, place, words_in}
 use Rattle.word_map.specs.Shapes.{shape_of}
-use Rattle.word_map.specs.Words.{Word, Words, Clock, put}
+use Rattle.word_map.specs.Words.{Clock, put}
 use Rattle.word_map.proofs.PlaceLaws.{is_map, put_flat, read_there}
 use Rattle.word_machine.specs.Laws.{AllFit, IsOnWord}
 use Rattle.word_machine.specs.Machine.{World, taken, weight, words_after}
@@ -34,11 +34,6 @@ weight-is : (item : Item) → counts (is_command item) ≡ weight item
 weight-is (Begin k) = refl
 weight-is (Return k answer) = refl
 weight-is _ = refl
-
--- a mark counts 1 in the low half, if that has room
-low-counts : (v : ℕ) (command : Bool) → low v < greatest_half → low (v + counts command) ≡ suc (low v)
-low-counts v true room = omega (arith, room)
-low-counts v false room = omega (arith, room)
 
 -- the clock has counted the items of the history
 pub past-counted : (job : Job) (s : World) → MachineRule job s → low s.words.clock ≡ length s.past
@@ -85,25 +80,3 @@ module _ (shape : Shape) (pids : ℕ) (list : List ℕ) (many : length list ≡ 
   room-is (Load w) fits = record {}
   room-is (Store w x) fits = record {}
   room-is (Mark item) fits = let e = weight-is item in let f = fits Clock in omega (arith, e, f)
-
-  -- the clock is the machine's. For a step that keeps the machine's rule `past-counted` says what its low half is, before and after
-  pub clock-is : (op : WordOp) → IsOpThere shape op
-      → get_or (made (placed shape op) list) 0 0 ≡ (words_after op (words_in shape pids list)).clock
-  clock-is op t = ap (λ (ws : Words). ws.clock) (made-is op t)
-
-  -- a mark counts one item
-  pub counted-is : (item : Item) → low (get_or list 0 0) < greatest_half
-      → low (get_or (made (placed shape (Mark item)) list) 0 0) ≡ suc (low (get_or list 0 0))
-  counted-is item room =
-      ap low (get_or-set_same list 0 (get_or list 0 0 + counts (is_command item)) 0 clock-there)
-      ∙ low-counts (get_or list 0 0) (is_command item) room
-
-  -- a load leaves the clock
-  pub counted-loaded : (w : Word) → get_or (made (placed shape (Load w)) list) 0 0 ≡ get_or list 0 0
-  counted-loaded w = refl
-
-  -- so does a store into another word
-  pub counted-stored : (w : Word) (x : ℕ) → IsThere shape w → w ≢ Clock
-      → get_or (made (placed shape (Store w x)) list) 0 0 ≡ get_or list 0 0
-  counted-stored w x t ne =
-      get_or-set_other list (place shape w) 0 x 0 (λ e. (is_map shape).apart w Clock t (record {}) ne (sym e))

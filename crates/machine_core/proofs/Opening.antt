@@ -1,6 +1,5 @@
 -- The machine before its first step.
-use Rattle.std.proofs.Common.{◌≡◌, ℕ, suc, ◌+◌, ◌*◌, ◌≤◌, List, [], ◌∷◌, length, map, reverse, slice_get, sum_by, Option, Some, None, refl, sym, ap, ◌∙◌, subst, arith}
-use Rattle.std.specs.List.{AllByRecursion as Each}
+use Rattle.std.proofs.Common.{◌≡◌, ℕ, ◌+◌, ◌*◌, ◌≤◌, List, [], ◌∷◌, length, reverse, slice_get, sum_by, Option, Some, None, refl, sym, ap, ◌∙◌, subst, arith}
 use Rattle.std.proofs.lemmas.List.{length-map}
 use Rattle.std.proofs.lemmas.Option.{slice_get_within}
 use Rattle.ft_base.specs.declared.item.Item.{Item}
@@ -13,9 +12,8 @@ use Rattle.user_specs.specs.Bound.{call_bound_of}
 use Rattle.history_bound.specs.Bound.{all_calls}
 use Rattle.word_map.specs.declared.shape.Shape.{Shape}
 use Rattle.word_map.specs.Shapes.{shape_of}
-use Rattle.word_map.specs.Words.{Clock}
 use Rattle.word_map.specs.Places.{IsOpening}
-use Rattle.word_map.specs.Contents.{low, mask_of}
+use Rattle.word_map.specs.Contents.{mask_of}
 use Rattle.word_map.proofs.PlaceLaws.{opening_is}
 use Rattle.ft_desk.specs.declared.command.Ctl.{Ctl}
 use Rattle.ft_desk.specs.Commands.{ctl_of}
@@ -31,8 +29,7 @@ use Rattle.control_core.specs.Seated.{control_of}
 use Rattle.control_core.specs.Seated as control
 use Rattle.control_core.proofs.StartLaw.{starts}
 use Rattle.cpu_core.specs.declared.parts.Parts.{Parts as CpuParts}
-use Rattle.ft_hist.specs.Placing.{AreCounted, past_below}
-use Rattle.machine_core.specs.Worlds.{Declares, IsCpuAt, IsFor, IsRunning, Parts, counted, cpu_or, lists, past_of, world_of}
+use Rattle.machine_core.specs.Worlds.{Declares, IsCpuAt, IsFor, IsRunning, Parts, cpu_or, past_of, world_of}
 use Rattle.machine_core.specs.Starts.{AreFirst, AreListsOf, ArePlansOf}
 
 -- ## what is declared
@@ -58,14 +55,13 @@ module _ (job : Job) (d : Seen) (ctls : List Ctl) (plans : List CpuPlan) (specs 
 
 -- ## no items
 
-none-marked : (n : ℕ) (cpus : List CpuParts) → ((c : ℕ) (x : CpuParts) → slice_get cpus c ≡ Some x → x.marked.items ≡ [])
-    → Each (AreCounted n) (map (λ (x : CpuParts). x.marked.items) cpus)
-none-marked n [] h = tt
-none-marked n (x ∷ xs) h = (subst (AreCounted n) (sym (h 0 x refl)) tt, none-marked n xs (λ k. h (suc k)))
-
 none-summed : (xs : List ℕ) → sum_by (λ (t : ℕ). 0) xs ≡ 0
 none-summed [] = refl
 none-summed (x ∷ xs) = none-summed xs
+
+-- nor of a CPU's tasks
+pub none-on : (job : Job) (c : ℕ) → items_on job c [] ≡ 0
+none-on job c = none-summed (tasks_on job c)
 
 -- ## the machine
 
@@ -78,11 +74,8 @@ module _ (w : Parts) (pids : ℕ) (d : Seen) (ctls : List Ctl) (plans : List Cpu
     (first : (job : Job) → ArePlansOf job plans specs frames w.shape → AreFirst job w.cpus)
     (blank : w.history.items ≡ [])
     (room : (job : Job) → AreListsOf job ctls plans specs → 2 * length (commands job) + call_bound_of job.users * all_calls job.tasks ≤ w.history.spare) where
-  none-counted : counted w ≡ 0
-  none-counted = ap low (words.each Clock tt)
-
   no-past : past_of w ≡ []
-  no-past = ap (past_below (lists w)) none-counted
+  no-past = ap (λ (items : List Item). reverse items) blank
 
   module _ (job : Job) (h : Declares job d ctls plans specs frames w.shape) where
     own : AreFirst job w.cpus
@@ -110,15 +103,12 @@ module _ (w : Parts) (pids : ℕ) (d : Seen) (ctls : List Ctl) (plans : List Cpu
       past = no-past i;
     }
 
-    none-on : (c : ℕ) → items_on job c (past_of w) ≡ 0
-    none-on c = ap (items_on job c) no-past ∙ none-summed (tasks_on job c)
-
     at : (c : ℕ) (x : CpuParts) → slice_get w.cpus c ≡ Some x → IsCpuAt job w c x
     at c x e = let is = own.each c x e in record {
       is_for = is.is_for;
       number = ap (λ (y : Cpu). y.number) is.same;
-      room = is.room;
-      marked = ap length is.none ∙ sym (none-on c);
+      none = is.none;
+      room = let none = ap (items_on job c) no-past ∙ none-on job c in let room = is.room in omega (arith, none, room);
     }
 
     is-for : IsFor job w
@@ -126,13 +116,10 @@ module _ (w : Parts) (pids : ℕ) (d : Seen) (ctls : List Ctl) (plans : List Cpu
       shape' = h.shape';
       count = words-open.count;
       control' = control-is.0;
+      none = seated.items;
       cpus' = own.count;
       each = at;
-      recorded = record {
-        items = blank ∙ sym (ap (λ (past : List Item). reverse past) no-past);
-        room = let e = room job (declared-lists job d ctls plans specs frames w.shape h) in omega (arith, e);
-      };
-      places = (subst (AreCounted (counted w)) (sym seated.items) tt, none-marked (counted w) w.cpus (λ c x e. (own.each c x e).none));
+      room = let e = room job (declared-lists job d ctls plans specs frames w.shape h) in omega (arith, e);
     }
 
     pub opens : IsFor job w × (world_of job w ≡ start job)

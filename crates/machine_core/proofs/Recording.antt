@@ -1,5 +1,5 @@
--- The history that is kept goes on with the world's.
-use Rattle.std.proofs.Common.{◌≡◌, ◌+◌, ◌*◌, ◌<◌, ◌≤◌, List, [], ◌∷◌, ◌++◌, length, reverse, sym, ap, ◌∙◌, subst, arith}
+-- The machine's history goes on with the world's: it takes in what an operation marks.
+use Rattle.std.proofs.Common.{◌≡◌, ◌≢◌, ℕ, suc, ◌+◌, ◌-◌, ◌*◌, ◌<◌, ◌≤◌, Bool, List, [], ◌∷◌, ◌++◌, length, map, reverse, refl, sym, ap, ◌∙◌, subst, arith}
 use Rattle.std.proofs.lemmas.List.{length-append, length-reverse, reverse-append}
 use Rattle.ft_base.specs.declared.item.Item.{Item}
 use Rattle.ft_base.specs.declared.item.Stamped.{Stamped}
@@ -9,54 +9,97 @@ use Rattle.ft_hist.specs.Shown.{Shown}
 use Rattle.user_specs.specs.Bound.{call_bound_of}
 use Rattle.history_bound.specs.Bound.{all_calls}
 use Rattle.history_bound.proofs.Bounded.{history-most}
+use Rattle.word_map.specs.declared.op.Op.{Op}
+use Rattle.word_map.specs.declared.op.Op.TheVariants.{Mark as CodeMark}
 use Rattle.word_map.specs.declared.shape.Shape.{Shape}
 use Rattle.word_map.specs.Ops.{WordOp, Load, Store, Mark, placed}
 use Rattle.word_machine.specs.Machine.{past_after}
-use Rattle.machine_core.specs.Recorded.{HasRoomFor, IsAdded}
-use Rattle.machine_core.specs.Worlds.{IsRecorded, Parts, past_of}
 
--- an actor's items after an operation: one more for a mark, at the end
-abbrev pub Marks : WordOp → List Stamped → List Stamped → Type 0
-Marks (Mark item) had items = (s : Stamped) × (items ≡ had ++ s ∷ []) × (s.item ≡ item)
-Marks _ had items = Unit {0}
+-- ## what is marked
 
-module _ (job : Job) (w : Parts) (r : IsRecorded job w) where
-  kept-length : length w.history.items ≡ length (past_of w)
-  kept-length = ap (λ (items : List Item). length items) r.items ∙ length-reverse (past_of w)
+-- what an actor with an empty list has in it after an operation
+abbrev pub IsMarked : WordOp → List Stamped → Type 0
+IsMarked (Mark item) items = (s : Stamped) × (items ≡ s ∷ []) × (s.item ≡ item)
+IsMarked _ items = items ≡ []
 
-  -- a legal history has at most the items for which there was room, and a mark adds one
-  spare : (item : Item) → IsLegalPast job (item ∷ past_of w) → 0 < w.history.spare
-  spare item legal =
-      let most = history-most job (item ∷ past_of w) legal in
-      let e = kept-length in
-      let room = r.room in
-      omega (arith, most, e, room)
+-- a history after an operation: an item that is marked is one more at its end
+abbrev pub IsNoted : WordOp → Shown → Shown → Type 0
+IsNoted (Mark item) h h' = (h'.items ≡ h.items ++ item ∷ []) × (h.spare ≤ h'.spare + 1)
+IsNoted _ h h' = h' ≡ h
 
-  pub room-for : (shape : Shape) (op : WordOp) → IsLegalPast job (past_after op (past_of w)) → (had items : List Stamped) → Marks op had items
-      → HasRoomFor (placed shape op) items w.history
-  room-for shape (Load x) legal had items m = record {}
-  room-for shape (Store x y) legal had items m = record {}
-  room-for shape (Mark item) legal had items m =
-      let e = ap (λ (xs : List Stamped). length xs) m.1 ∙ length-append had (m.0 ∷ []) in
-      (omega (arith, e), spare item legal)
+-- the room of a list that was emptied after an operation
+abbrev pub IsLeft : WordOp → ℕ → ℕ → Type 0
+IsLeft (Mark item) room room' = suc room' ≡ room
+IsLeft _ room room' = room' ≡ room
 
-  -- no item more
-  kept : (w' : Parts) → past_of w' ≡ past_of w → w'.history ≡ w.history → IsRecorded job w'
-  kept w' past same = record {
-    items = ap (λ (h : Shown). h.items) same ∙ r.items ∙ ap (λ (xs : List Item). reverse xs) (sym past);
-    room = subst (λ (h : Shown). 2 * length (commands job) + call_bound_of job.users * all_calls job.tasks ≤ length h.items + h.spare) (sym same) r.room;
-  }
+-- ## as code has the operation
 
-  pub recorded-on : (shape : Shape) (op : WordOp) (had items : List Stamped) → Marks op had items → (w' : Parts) → past_of w' ≡ past_after op (past_of w)
-      → IsAdded (placed shape op) items w.history w'.history → IsRecorded job w'
-  recorded-on shape (Load x) had items m w' past same = kept w' past same
-  recorded-on shape (Store x y) had items m w' past same = kept w' past same
-  recorded-on shape (Mark item) had items m w' past added =
-      let more : w'.history.items ≡ w.history.items ++ item ∷ [] = added.added had m.0 m.1 ∙ ap (λ (i : Item). w.history.items ++ i ∷ []) m.2 in
-      let e = ap (λ (xs : List Item). length xs) more ∙ length-append w.history.items (item ∷ []) in
-      let left = added.room in
-      let room = r.room in
-      record {
-        items = more ∙ ap (λ (xs : List Item). xs ++ item ∷ []) r.items ∙ sym (reverse-append (item ∷ []) (past_of w)) ∙ ap (λ (xs : List Item). reverse xs) (sym past);
-        room = omega (arith, e, left, room);
-      }
+-- a mark is one of some item
+pub mark-item : (shape : Shape) (command : Bool) (op : WordOp) → placed shape op ≡ CodeMark command → (item : Item) × (op ≡ Mark item)
+mark-item shape command (Load w) e = absurd cc
+mark-item shape command (Store w x) e = absurd cc
+mark-item shape command (Mark item) e = (item, refl)
+
+-- what it leaves
+module _ (shape : Shape) (command : Bool) (items : List Stamped) where
+  pub mark-one : (op : WordOp) → placed shape op ≡ CodeMark command → IsMarked op items → length items ≡ 1
+  mark-one (Load w) e m = absurd cc
+  mark-one (Store w x) e m = absurd cc
+  mark-one (Mark item) e m = ap (λ (xs : List Stamped). length xs) m.1
+
+  pub mark-noted : (op : WordOp) → placed shape op ≡ CodeMark command → IsMarked op items → (h h' : Shown)
+      → h'.items ≡ h.items ++ map (λ (s : Stamped). s.item) items → h.spare ≤ h'.spare + 1 → IsNoted op h h'
+  mark-noted (Load w) e m h h' added spare = absurd cc
+  mark-noted (Store w x) e m h h' added spare = absurd cc
+  mark-noted (Mark item) e m h h' added spare = (
+    added ∙ ap (λ (xs : List Stamped). h.items ++ map (λ (s : Stamped). s.item) xs) m.1 ∙ ap (λ i. h.items ++ i ∷ []) m.2,
+    spare,
+  )
+
+  pub mark-left : (op : WordOp) → placed shape op ≡ CodeMark command → IsMarked op items → (room room' : ℕ) → 0 < room → room' ≡ room - length items
+      → IsLeft op room room'
+  mark-left (Load w) e m room room' some is = absurd cc
+  mark-left (Store w x) e m room room' some is = absurd cc
+  mark-left (Mark item) e m room room' some is = let one = ap (λ (xs : List Stamped). length xs) m.1 in omega (arith, is, one, some)
+
+-- any other operation leaves all as it was
+module _ (shape : Shape) (code : Op) (other : (command : Bool) → code ≢ CodeMark command) where
+  pub none-marked : (op : WordOp) → placed shape op ≡ code → (items : List Stamped) → IsMarked op items → items ≡ []
+  none-marked (Load w) e items m = m
+  none-marked (Store w x) e items m = m
+  none-marked (Mark item) e items m = absurd (other _ (sym e))
+
+  pub none-noted : (op : WordOp) → placed shape op ≡ code → (h : Shown) → IsNoted op h h
+  none-noted (Load w) e h = refl
+  none-noted (Store w x) e h = refl
+  none-noted (Mark item) e h = absurd (other _ (sym e))
+
+  pub none-left : (op : WordOp) → placed shape op ≡ code → (room : ℕ) → IsLeft op room room
+  none-left (Load w) e room = refl
+  none-left (Store w x) e room = refl
+  none-left (Mark item) e room = absurd (other _ (sym e))
+
+-- ## the history
+
+-- its items are the world's, the latest first
+pub noted-past : (op : WordOp) (h h' : Shown) → IsNoted op h h' → reverse h'.items ≡ past_after op (reverse h.items)
+noted-past (Load w) h h' same = ap (λ (x : Shown). reverse x.items) same
+noted-past (Store w x) h h' same = ap (λ (x : Shown). reverse x.items) same
+noted-past (Mark item) h h' more = ap (λ (xs : List Item). reverse xs) more.0 ∙ reverse-append h.items (item ∷ [])
+
+-- there is as much room for all of them
+pub noted-room : (op : WordOp) (h h' : Shown) → IsNoted op h h' → (n : ℕ) → n ≤ length h.items + h.spare → n ≤ length h'.items + h'.spare
+noted-room (Load w) h h' same n room = subst (λ (x : Shown). n ≤ length x.items + x.spare) (sym same) room
+noted-room (Store w x) h h' same n room = subst (λ (x : Shown). n ≤ length x.items + x.spare) (sym same) room
+noted-room (Mark item) h h' more n room =
+    let e = ap (λ (xs : List Item). length xs) more.0 ∙ length-append h.items (item ∷ []) in
+    let left = more.1 in
+    omega (arith, e, left, room)
+
+-- a legal history has at most the items for which there was room, and a mark adds one
+pub has-room : (job : Job) (h : Shown) → 2 * length (commands job) + call_bound_of job.users * all_calls job.tasks ≤ length h.items + h.spare
+    → (item : Item) → IsLegalPast job (item ∷ reverse h.items) → 0 < h.spare
+has-room job h room item legal =
+    let most = history-most job (item ∷ reverse h.items) legal in
+    let e = length-reverse h.items in
+    omega (arith, most, e, room)

@@ -1,5 +1,4 @@
 pub mod Tables
-pub mod Recorded
 pub mod Sites
 pub mod Worlds
 pub mod Starts

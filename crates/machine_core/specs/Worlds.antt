@@ -1,12 +1,9 @@
 -- The word machine's world that the words, control and CPUs of code stand for.
-use Rattle.std.specs.Prelude.{ℕ, zero, suc, ◌≡◌, ◌+◌, ◌*◌, ◌<◌, ◌≤◌, ◌==◌, List, [], ◌∷◌, get_or, length, map, reverse, slice_get, Option, Some, None, if◌then◌else◌}
-use Rattle.std.specs.List.{AllByRecursion as Each}
+use Rattle.std.specs.Prelude.{ℕ, ◌≡◌, ◌+◌, ◌*◌, ◌≤◌, List, [], length, reverse, slice_get, Option, Some, None}
 use Rattle.ft_base.specs.declared.item.Item.{Item}
-use Rattle.ft_base.specs.declared.item.Stamped.{Stamped}
 use Rattle.ft_base.specs.declared.limits.TheConstants.{QUANTUM}
 use Rattle.ft_base.specs.Desk.{desk}
 use Rattle.ft_base.specs.Job.{Job, commands}
-use Rattle.ft_hist.specs.Placing.{AreCounted, past_below}
 use Rattle.ft_hist.specs.Shown.{Shown}
 use Rattle.history_bound.specs.Bound.{all_calls}
 use Rattle.user_specs.specs.declared.plan.CpuPlan.{CpuPlan}
@@ -16,7 +13,7 @@ use Rattle.word_map.specs.declared.shape.Shape.{Shape}
 use Rattle.word_map.specs.Shapes.{shape_of}
 use Rattle.word_map.specs.Words.{Words}
 use Rattle.word_map.specs.Places.{len, words_in}
-use Rattle.word_map.specs.Contents.{low, mask_of}
+use Rattle.word_map.specs.Contents.{mask_of}
 use Rattle.ft_desk.specs.declared.command.Ctl.{Ctl}
 use Rattle.ft_desk.specs.Declarations.{IsOf}
 use Rattle.ft_desk.specs.Seen.{Seen, opened}
@@ -32,7 +29,7 @@ use Rattle.cpu_core.specs.Cpus.{cpu_of}
 use Rattle.cpu_core.specs.Cpus as cpu
 use Rattle.cpu_core.specs.Taken.{IsCpuOf}
 
--- the shape of the words, the words, control, the CPUs, and the history that is kept
+-- the shape of the words, the words, control, the CPUs, and the history
 pub record Parts : Type 0 where
   pub shape : Shape
   pub words : List ℕ
@@ -40,21 +37,11 @@ pub record Parts : Type 0 where
   pub cpus : List CpuParts
   pub history : Shown
 
--- ## the history
-
--- what control and each CPU have marked
-abbrev pub lists : Parts → List (List Stamped)
-lists w = w.control.items ∷ map (λ c. c.marked.items) w.cpus
-
--- how many items the clock has counted
-abbrev pub counted : Parts → ℕ
-counted w = low (get_or w.words 0 0)
-
--- all items, the latest first
-abbrev pub past_of : Parts → List Item
-past_of w = past_below (lists w) (counted w)
-
 -- ## the world
+
+-- the items so far, the latest first
+abbrev pub past_of : Parts → List Item
+past_of w = reverse w.history.items
 
 -- the word machine's words; one that the job doesn't have is as at the start
 abbrev pub words_of : Job → List ℕ → Words
@@ -80,27 +67,26 @@ world_of job w = record {
 
 -- ## of which job it is the machine
 
--- CPU c of a job, with room for all that its tasks mark
+-- CPU c of a job.
+--   none   what it marked is in the history, and not in its list
+--   room   with the items of its tasks so far it has room for all that they mark
 pub record IsCpuAt (job : Job) (w : Parts) (c : ℕ) (x : CpuParts) : Type 0 where
   pub is_for : cpu.IsFor job x
   pub number : x.polls.poll.cpu ≡ c
-  pub room : x.marked.room ≡ room_on job c
-  pub marked : length x.marked.items ≡ items_on job c (past_of w)
+  pub none : x.marked.items ≡ []
+  pub room : x.marked.room + items_on job c (past_of w) ≡ room_on job c
 
--- the history that is kept has the items in order, and room for all that the job can make
-pub record IsRecorded (job : Job) (w : Parts) : Type 0 where
-  pub items : w.history.items ≡ reverse (past_of w)
-  pub room : 2 * length (commands job) + call_bound_of job.users * all_calls job.tasks ≤ length w.history.items + w.history.spare
-
--- the machine of a job
+-- The machine of a job.
+--   none   what control marked is in the history, and not in its list
+--   room   the history has room for all that the job can make
 pub record IsFor (job : Job) (w : Parts) : Type 0 where
   pub shape' : w.shape ≡ shape_of job
   pub count : length w.words ≡ len (shape_of job)
   pub control' : control.IsFor job w.control
+  pub none : w.control.items ≡ []
   pub cpus' : length w.cpus ≡ length job.quanta
   pub each : (c : ℕ) (x : CpuParts) → slice_get w.cpus c ≡ Some x → IsCpuAt job w c x
-  pub places : Each (AreCounted (counted w)) (lists w)
-  pub recorded : IsRecorded job w
+  pub room : 2 * length (commands job) + call_bound_of job.users * all_calls job.tasks ≤ length w.history.items + w.history.spare
 
 -- ## what it keeps
 

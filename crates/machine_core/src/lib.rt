@@ -2,9 +2,9 @@
 //! which step one at a time.
 //!
 //! A *step* of an actor makes its next operation on the words: a load, a store, or a *mark*, which
-//! counts one item in the clock. The actor takes the value that the operation gives, and goes on. Each
-//! actor keeps the items that it has marked, with the place in the history that the clock told; the
-//! machine keeps all items in one history, by place.
+//! counts one item in the clock. The actor takes the value that the operation gives, and goes on. An
+//! item that it has marked goes into the machine's history at once, and the actor forgets it: each item
+//! is kept once, and between two steps the actors' own lists are empty.
 //!
 //! Promised: for every job of which it is the machine, its start and each step are those of the word
 //! machine; the history has the word machine's items in order; it tells who is at an end, and the five

@@ -1,6 +1,6 @@
 //! The words, control and the CPUs, one step at a time.
 
-ghost use Rattle.std.specs.Prelude.{◌≡◌, [], ◌<◌, ◌≤◌, ◌+◌, ◌*◌, length, reverse, All, IfOk};
+ghost use Rattle.std.specs.Prelude.{◌≡◌, [], ◌++◌, ◌<◌, ◌≤◌, ◌+◌, ◌*◌, length, map, reverse, All, IfOk};
 ghost use Rattle.ft_base.specs.declared.turn.Actor.TheVariants as Actor;
 ghost use Rattle.ft_base.specs.Desk.{desk};
 ghost use Rattle.ft_base.specs.Job.{Job, commands};
@@ -12,10 +12,9 @@ ghost use Rattle.control_core.specs.Plans.{IsDeclaredIn};
 ghost use Rattle.word_machine.specs.Laws.{Runs};
 ghost use Rattle.word_machine.specs.Limits.{IsLimited};
 ghost use Rattle.word_machine.specs.Machine.{start, step, is_at_end, all_end};
-ghost use Rattle.machine_core.specs.Recorded.{HasRoomFor, IsAdded};
 ghost use Rattle.machine_core.specs.Sites.{site_of};
 ghost use Rattle.machine_core.specs.Starts.{AreListsOf};
-ghost use Rattle.machine_core.specs.Worlds.{Declares, IsFor, past_of, world_of};
+ghost use Rattle.machine_core.specs.Worlds.{Declares, IsFor, world_of};
 
 use crate::cpus::{all_rooms, has_ended, new_cpus};
 use crate::table::Table;
@@ -38,7 +37,8 @@ pub struct World {
     table: Table,
     control: Control,
     cpus: Vec<Cpu>,
-    /// All items by place. All the room is taken at the start, so that a step takes no memory.
+    /// All items by place; an actor's own list is empty between two steps. All the room is taken at the
+    /// start, so that a step takes no memory.
     history: History,
 }
 
@@ -121,7 +121,10 @@ impl World {
         if let Some(op) = self.control.next() {
             let value = self.table.make(op);
             self.control.got(value);
-            record_mark(&mut self.history, op, self.control.items());
+            if let Op::Mark { .. } = op {
+                note(&mut self.history, self.control.items());
+                self.control.forget_items();
+            }
         }
     }
 
@@ -135,7 +138,10 @@ impl World {
             let value = self.table.make(op);
             let own = &mut self.cpus[cpu.0 as usize];
             own.got(value);
-            record_mark(&mut self.history, op, own.items());
+            if let Op::Mark { .. } = op {
+                note(&mut self.history, own.items());
+                own.forget_items();
+            }
         }
     }
 
@@ -181,14 +187,14 @@ impl World {
 
     /// What has happened so far, by place.
     pub fn history(&self) -> &History
-        ensures { result.now.items ≡ reverse (past_of self.now) }
+        ensures { result.now ≡ self.now.history }
     {
         &self.history
     }
 
     /// What has happened; the machine is used up.
     pub fn into_history(self) -> History
-        ensures { result.items ≡ reverse (past_of self) }
+        ensures { result ≡ self.history }
     {
         let World { history, .. } = self;
         history
@@ -217,14 +223,14 @@ impl World {
     }
 }
 
-/// After a mark, adds the last of its actor's items, which it has marked.
-fn record_mark(history: &mut History, op: Op, items: &[Stamped])
-    requires { HasRoomFor op items.now history.old }
-    ensures { IsAdded op items.now history.old history.new }
+/// Adds the one item that an actor has marked.
+fn note(history: &mut History, marked: &[Stamped])
+    requires one { length marked.now ≡ 1 }
+    requires room { 0 < history.old.spare }
+    ensures added { history.new.items ≡ history.old.items ++ map (λ s. s.item) marked.now }
+    ensures room { history.old.spare ≤ history.new.spare + 1 }
 {
-    if let Op::Mark { .. } = op {
-        history.push(items[items.len() - 1].item);
-    }
+    history.push(marked[0].item);
 }
 
 /// An empty history with room for all items: two for each command, and what the calls of all tasks

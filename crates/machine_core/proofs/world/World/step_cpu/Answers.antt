@@ -1,15 +1,17 @@
-use Rattle.std.proofs.Common.{◌≡◌, Some, refl, sym, ◌∙◌, subst, slice_get}
+use Rattle.std.proofs.Common.{◌≡◌, ◌-◌, Some, length, refl, sym, ap, ◌∙◌, subst, slice_get}
 use Rattle.ft_base.specs.declared.turn.Actor.TheVariants as actor
 use Rattle.ft_base.specs.Job.{Job}
+use Rattle.word_map.specs.Shapes.{shape_of}
 use Rattle.word_machine.specs.Laws.{Runs}
 use Rattle.word_machine.specs.Limits.{IsLimited}
 use Rattle.word_machine.specs.Machine.{step}
 use Rattle.cpu_core.specs.declared.parts.Parts.{Parts as CpuParts}
 use Rattle.machine_core.specs.Kept.{parts_of}
-use Rattle.machine_core.specs.Recorded.{IsAdded}
 use Rattle.machine_core.specs.Worlds.{IsFor, IsRunning, Parts, world_of}
-use Rattle.machine_core.proofs.CpuMoves.{cpu-again, cpu-chosen, cpu-moved, cpu-none, cpu-on, cpu-rests, cpu-room, cpu-space, cpu-taken, cpu-takes-it, found, ran}
+use Rattle.machine_core.proofs.CpuMoves.{cpu-again, cpu-chosen, cpu-had-room, cpu-marked, cpu-moved, cpu-none, cpu-on, cpu-rests, cpu-room, cpu-space, cpu-taken, cpu-takes-it, found, ran}
+use Rattle.machine_core.proofs.Forgotten.{cpu-same}
 use Rattle.machine_core.proofs.Moved.{HasMoved, moved-from, running-on}
+use Rattle.machine_core.proofs.Recording.{IsLeft, mark-left, mark-noted, mark-one, none-left, none-marked, none-noted}
 use Rattle.machine_core.proofs.world.World.step_cpu.Goals as goal
 
 pub make-value-requires-clause-on : goal.make-value-requires-clause-on
@@ -39,8 +41,8 @@ got-requires c =
     c.next.result c.next.ensures c.in-Some.op c.in-Some.is run.job run.limited run.is_for)
     c.make-value.result c.make-value.ensures.value
 
-pub record_mark-requires : goal.record_mark-requires
-record_mark-requires c =
+pub note-requires-clause-one : goal.note-requires-clause-one
+note-requires-clause-one c =
     let w = parts_of c.self.inside in
     let run : IsRunning w = c.self.invariant.running in
     let lt = c.requires in
@@ -48,10 +50,23 @@ record_mark-requires c =
     let at = found c.args.self.now w c.self.view_is c.args.cpu.0 lt cpu c.index_mut-own.ensures.value in
     let x = cpu-again c.args.self.now w c.self.view_is c.args.cpu.0 lt c.index.result.now cpu c.index.ensures c.index_mut-own.ensures.value
     c.next.result c.next.ensures c.in-Some.op c.in-Some.is run.job run.limited run.is_for in
-    let own = (run.is_for.each c.args.cpu.0 cpu at).is_for in
     let takes = cpu-takes-it run.job run.limited w run.is_for run.runs c.args.cpu.0 cpu at c.in-Some.op x c.make-value.result c.make-value.ensures.value in
-    cpu-space run.job run.limited w run.is_for run.runs c.args.cpu.0 cpu at c.in-Some.op x c.make-value.result c.make-value.ensures.value c.items.result.now
-    (c.items.ensures ∙ c.got.ensures.items run.job run.limited own takes)
+    mark-one (shape_of run.job) c.in-Mark.command c.items.result.now x.op (x.placed' ∙ c.in-Mark.is)
+    (cpu-marked run.job run.limited w run.is_for run.runs c.args.cpu.0 cpu at c.in-Some.op x c.make-value.result c.items.result.now
+    (c.items.ensures ∙ c.got.ensures.items run.job run.limited (run.is_for.each c.args.cpu.0 cpu at).is_for takes))
+
+pub note-requires-clause-room : goal.note-requires-clause-room
+note-requires-clause-room c =
+    let w = parts_of c.self.inside in
+    let run : IsRunning w = c.self.invariant.running in
+    let lt = c.requires in
+    let cpu = c.index_mut-own.result.now in
+    let at = found c.args.self.now w c.self.view_is c.args.cpu.0 lt cpu c.index_mut-own.ensures.value in
+    let x = cpu-again c.args.self.now w c.self.view_is c.args.cpu.0 lt c.index.result.now cpu c.index.ensures c.index_mut-own.ensures.value
+    c.next.result c.next.ensures c.in-Some.op c.in-Some.is run.job run.limited run.is_for in
+    cpu-space run.job run.limited w run.is_for run.runs c.args.cpu.0 cpu at c.in-Some.op x c.in-Mark.command c.in-Mark.is
+
+-- ## after a mark
 
 module _ (c : goal.After-self-1) where
   abbrev before : Parts
@@ -62,7 +77,7 @@ module _ (c : goal.After-self-1) where
   cpu = c.index_mut-own.result.now
 
   abbrev after : Parts
-  after = ran before c.make-value.new.self c.args.cpu.0 c.got.new.self c.record_mark.new.history
+  after = ran before c.make-value.new.self c.args.cpu.0 c.forget_items.new.self c.note.new.history
 
   at : slice_get before.cpus c.args.cpu.0 ≡ Some cpu
   at = found c.args.self.now before c.self.view_is c.args.cpu.0 c.requires cpu c.index_mut-own.ensures.value
@@ -73,10 +88,20 @@ module _ (c : goal.After-self-1) where
       c.next.result c.next.ensures c.in-Some.op c.in-Some.is job limited k in
       let own = (k.each c.args.cpu.0 cpu at).is_for in
       let takes = cpu-takes-it job limited before k r c.args.cpu.0 cpu at c.in-Some.op x c.make-value.result c.make-value.ensures.value in
+      let is = x.placed' ∙ c.in-Mark.is in
+      let marked = cpu-marked job limited before k r c.args.cpu.0 cpu at c.in-Some.op x c.make-value.result c.items.result.now
+      (c.items.ensures ∙ c.got.ensures.items job limited own takes) in
+      let room : c.forget_items.new.self.marked.room ≡ cpu.marked.room - length c.items.result.now =
+      ap (λ (y : CpuParts). y.marked.room) c.forget_items.ensures.parts ∙ (λ i. c.got.ensures.room i - length (sym c.items.ensures i)) in
       cpu-moved job limited before k r c.args.cpu.0 cpu at c.in-Some.op x
-      c.make-value.new.self c.make-value.ensures.words c.make-value.result c.make-value.ensures.value c.got.new.self
-      (c.got.ensures.of job limited own takes) (c.got.ensures.cpu job limited own takes) (c.got.ensures.items job limited own takes) c.got.ensures.room
-      c.record_mark.new.history (subst (λ items. IsAdded c.in-Some.op items c.self.inside.history c.record_mark.new.history) c.items.ensures c.record_mark.ensures)
+      c.make-value.new.self c.make-value.ensures.words c.make-value.result c.make-value.ensures.value c.forget_items.new.self
+      (c.forget_items.ensures.of job (c.got.ensures.of job limited own takes))
+      (ap (λ (y : CpuParts). y.marked.items) c.forget_items.ensures.parts)
+      (mark-left (shape_of job) c.in-Mark.command c.items.result.now x.op is marked cpu.marked.room c.forget_items.new.self.marked.room
+      (cpu-had-room job limited before k r c.args.cpu.0 cpu at c.in-Some.op x c.in-Mark.command c.in-Mark.is) room)
+      (cpu-same job c.got.new.self c.forget_items.new.self _ c.forget_items.ensures.parts ∙ c.got.ensures.cpu job limited own takes)
+      c.note.new.history
+      (mark-noted (shape_of job) c.in-Mark.command c.items.result.now x.op is marked c.self.inside.history c.note.new.history c.note.ensures.added c.note.ensures.room)
       c.args.cpu refl
 
 pub invariant_of-self : goal.invariant_of-self
@@ -84,8 +109,52 @@ invariant_of-self c =
     let run : IsRunning (before c) = c.self.invariant.running in
     record { running = running-on run.job run.limited (after c) _ (moved c run.job run.limited run.is_for run.runs) }
 
-pub returns-in-Some : goal.returns-in-Some
-returns-in-Some c = moved-from c.args.self.now (before c) c.self.view_is (after c) (actor.Cpu c.args.cpu) (moved c)
+pub returns-in-Mark : goal.returns-in-Mark
+returns-in-Mark c = moved-from c.args.self.now (before c) c.self.view_is (after c) (actor.Cpu c.args.cpu) (moved c)
+
+-- ## after any other operation
+
+module _ (c : goal.After-self-in_default-op-1) where
+  abbrev before' : Parts
+  before' = parts_of c.self.inside
+
+  abbrev cpu' : CpuParts
+  cpu' = c.index_mut-own.result.now
+
+  abbrev after' : Parts
+  after' = ran before' c.make-value.new.self c.args.cpu.0 c.got.new.self c.self.inside.history
+
+  at' : slice_get before'.cpus c.args.cpu.0 ≡ Some cpu'
+  at' = found c.args.self.now before' c.self.view_is c.args.cpu.0 c.requires cpu' c.index_mut-own.ensures.value
+
+  moved' : (job : Job) → IsLimited job → IsFor job before' → Runs job (world_of job before') → HasMoved job after' (step job (actor.Cpu c.args.cpu) (world_of job before'))
+  moved' job limited k r =
+      let x = cpu-again c.args.self.now before' c.self.view_is c.args.cpu.0 c.requires c.index.result.now cpu' c.index.ensures c.index_mut-own.ensures.value
+      c.next.result c.next.ensures c.in-Some.op c.in-Some.is job limited k in
+      let own = (k.each c.args.cpu.0 cpu' at').is_for in
+      let takes = cpu-takes-it job limited before' k r c.args.cpu.0 cpu' at' c.in-Some.op x c.make-value.result c.make-value.ensures.value in
+      let other = c.in_default-op.not-Mark in
+      let marked = cpu-marked job limited before' k r c.args.cpu.0 cpu' at' c.in-Some.op x c.make-value.result c.got.new.self.marked.items
+      (c.got.ensures.items job limited own takes) in
+      cpu-moved job limited before' k r c.args.cpu.0 cpu' at' c.in-Some.op x
+      c.make-value.new.self c.make-value.ensures.words c.make-value.result c.make-value.ensures.value c.got.new.self
+      (c.got.ensures.of job limited own takes)
+      (none-marked (shape_of job) c.in-Some.op other x.op x.placed' c.got.new.self.marked.items marked)
+      (subst (λ n. IsLeft x.op cpu'.marked.room n) (sym c.got.ensures.room) (none-left (shape_of job) c.in-Some.op other x.op x.placed' cpu'.marked.room))
+      (c.got.ensures.cpu job limited own takes)
+      c.self.inside.history
+      (none-noted (shape_of job) c.in-Some.op other x.op x.placed' c.self.inside.history)
+      c.args.cpu refl
+
+pub invariant_of-self-in_default-op : goal.invariant_of-self-in_default-op
+invariant_of-self-in_default-op c =
+    let run : IsRunning (before' c) = c.self.invariant.running in
+    record { running = running-on run.job run.limited (after' c) _ (moved' c run.job run.limited run.is_for run.runs) }
+
+pub returns-in_default-op : goal.returns-in_default-op
+returns-in_default-op c = moved-from c.args.self.now (before' c) c.self.view_is (after' c) (actor.Cpu c.args.cpu) (moved' c)
+
+-- ## at its end
 
 pub returns-in_default : goal.returns-in_default
 returns-in_default c = λ job limited k r.
