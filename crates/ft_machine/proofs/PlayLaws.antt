@@ -1,22 +1,48 @@
 -- A replay of a schedule, actor by actor.
-use Rattle.std.proofs.Common.{◌≡◌, true, false, List, [], ◌∷◌, drop, Some, refl, sym, ap, ◌∙◌}
-use Rattle.std.specs.Prelude.{slice_get}
+use Rattle.std.proofs.Common.{cond, ◌≡◌, ℕ, Bool, true, false, List, [], ◌∷◌, drop, length, Some, refl, sym, ap, ◌∙◌}
+use Rattle.std.specs.Prelude.{nat_lt, slice_get}
+use Rattle.std.proofs.lemmas.Bool.{ltb-true}
 use Rattle.ft_base.specs.declared.turn.Actor.{Actor}
+use Rattle.ft_base.specs.declared.turn.Actor.TheVariants.{Control, Cpu}
 use Rattle.ft_base.specs.declared.turn.Turn.{Turn}
 use Rattle.ft_base.specs.Job.{Job}
 use Rattle.ft_base.specs.Schedule.{actors_in, actors_of}
+use Rattle.ft_base.proofs.Small.{false_true}
 use Rattle.word_map.specs.declared.shape.Shape.{Shape}
 use Rattle.word_map.specs.Shapes.{shape_of}
-use Rattle.word_machine.specs.Machine.{World, step, all_end, played, play, start}
+use Rattle.word_machine.specs.Cpu.{Phase, Over, cpu_next, phase_op}
+use Rattle.word_machine.specs.Machine.{World, all_end, cpu_moved, is_at_end, is_end, play, played, start, step}
+use Rattle.word_machine.proofs.Stops.{control-ends}
+use Rattle.ft_machine.proofs.Replays.{ends-alike}
 
 played-over : (j : Job) (actors : List Actor) (s : World) → all_end j s ≡ true → played j actors s ≡ s
 unfolding played
 played-over j [] s over = refl
 played-over j (a ∷ rest) s over = rw over refl
 
-played-step : (j : Job) (a : Actor) (rest : List Actor) (s : World) → all_end j s ≡ false → played j (a ∷ rest) s ≡ played j rest (step j a s)
+-- once all are at their ends a step changes nothing
+moves-none : (j : Job) (s : World) (c : ℕ) (p : Phase) → is_end p ≡ true → cpu_moved j s c (phase_op j (s.cpus c) p) ≡ s
+moves-none j s c Over e = refl
+moves-none j s c _ e = false_true e
+
+rests : (j : Job) (a : Actor) (s : World) → all_end j s ≡ true → step j a s ≡ s
+unfolding step cpu_next is_at_end
+rests j Control s over =
+    let done = (ends-alike j s).0 over Control tt in
+    let none = (control-ends j s.control).0 done in rw none refl
+rests j (Cpu c) s over = by (nat_lt c.0 (length j.quanta)) refl
+  where
+    by : (b : Bool) → nat_lt c.0 (length j.quanta) ≡ b → cond b (cpu_moved j s c.0 (phase_op j (s.cpus c.0) (s.cpus c.0).phase)) s ≡ s
+    by true e = moves-none j s c.0 (s.cpus c.0).phase ((ends-alike j s).0 over (Cpu c) (ltb-true c.0 (length j.quanta) e))
+    by false e = refl
+
+played-step : (j : Job) (a : Actor) (rest : List Actor) (s : World) → played j (a ∷ rest) s ≡ played j rest (step j a s)
 unfolding played
-played-step j a rest s more = rw more refl
+played-step j a rest s = by (all_end j s) refl
+  where
+    by : (b : Bool) → all_end j s ≡ b → cond b s (played j rest (step j a s)) ≡ played j rest (step j a s)
+    by true over = sym (ap (played j rest) (rests j a s over) ∙ played-over j rest s over)
+    by false more = refl
 
 played-none : (j : Job) (s : World) → played j [] s ≡ s
 unfolding played
@@ -35,12 +61,12 @@ pub stops_used_up : (j : Job) (actors : List Actor) (s t : World) → actors ≡
 stops_used_up j actors s t none e = sym (played-none j s) ∙ (let h : played j [] s ≡ t = rw none at e in h)
 
 -- one actor steps
-pub goes_on : (j : Job) (actors rest : List Actor) (a : Actor) (s s1 t : World) → all_end j s ≡ false → Some a ≡ slice_get actors 0 → rest ≡ drop 1 actors → s1 ≡ step j a s
+pub goes_on : (j : Job) (actors rest : List Actor) (a : Actor) (s s1 t : World) → Some a ≡ slice_get actors 0 → rest ≡ drop 1 actors → s1 ≡ step j a s
     → played j actors s ≡ t → played j rest s1 ≡ t
-goes_on j actors rest a s s1 t more first behind stepped e =
+goes_on j actors rest a s s1 t first behind stepped e =
     let cut : actors ≡ a ∷ rest = first-rest actors a first ∙ ap (λ (l : List Actor). a ∷ l) (sym behind) in
     let h : played j (a ∷ rest) s ≡ t = rw cut at e in
-    rw stepped (sym (played-step j a rest s more) ∙ h)
+    rw stepped (sym (played-step j a rest s) ∙ h)
 
 -- the actors of a job's schedule, among its CPUs
 pub all-actors : (j : Job) (turns : List Turn) (shape : Shape) → turns ≡ j.schedule → shape ≡ shape_of j → actors_in shape.cpus turns ≡ actors_of j

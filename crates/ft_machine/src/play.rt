@@ -22,16 +22,22 @@ pub struct Outcome {
     pub ended: bool,
 }
 
-/// Lets the actors of a player step, up to the first moment when every actor is at its end.
+// After how many turns it is asked again whether every actor is at its end.
+const TURNS_TO_ASK: u32 = 64;
+
+/// Lets the actors of a player step, up to a moment when every actor is at its end. That is asked at
+/// some turns only: steps after the end change nothing, and to ask costs as much as a step.
 fn play(machine: &mut Machine, mut player: Player)
     ensures of { (job : PlainJob) → IsOf job machine.old → IsOf job machine.new }
     ensures state { (job : PlainJob) → IsOf job machine.old → state_of job machine.new ≡ played job player.entry (state_of job machine.old) }
 {
-    while !machine.all_end() {
-        let Some(actor) = player.next_actor() else {
-            return;
-        };
+    let mut turns: u32 = 0;
+    while let Some(actor) = player.next_actor() {
         machine.step(actor);
+        turns = turns.wrapping_add(1);
+        if turns % TURNS_TO_ASK == 0 && machine.all_end() {
+            return;
+        }
     }
 }
 

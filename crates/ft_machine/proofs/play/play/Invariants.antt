@@ -4,11 +4,11 @@ use Rattle.word_machine.specs.Machine.{played}
 use Rattle.ft_machine.specs.Machines.{IsOf, state_of}
 use Rattle.ft_machine.proofs.play.play.Given as goal
 
-abbrev pub invariant-loop-player : goal.invariant-loop-player
-invariant-loop-player l = record {
+abbrev pub invariant-loop-actor : goal.invariant-loop-actor
+invariant-loop-actor l = record {
   of' : (job : Job) → IsOf job l.fn.machine → IsOf job l.machine;
   rest : (job : Job) → IsOf job l.fn.machine → played job l.player (state_of job l.machine) ≡ played job l.fn.player (state_of job l.fn.machine);
 }
 
-abbrev pub decreases-loop-player : goal.decreases-loop-player
-decreases-loop-player l = length l.player
+abbrev pub decreases-loop-actor : goal.decreases-loop-actor
+decreases-loop-actor l = length l.player
