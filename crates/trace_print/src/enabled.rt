@@ -7,11 +7,12 @@ ghost use Rattle.ft_desk.specs.Declarations.{job_of};
 ghost use Rattle.ft_desk.specs.Sites.{row_at};
 ghost use Rattle.ft_hist.specs.Past.{done};
 ghost use Rattle.trace_print.specs.Words.{last_line};
+ghost use Rattle.trace_print.specs.LogText.{ran_words, joined};
 ghost use Rattle.trace_print.specs.Returned.{done_with};
 ghost use Rattle.trace_print.specs.EnabledText.{enabled_line, enabled_lines, enabled_part, enabled_text, flag_column};
 
 use crate::columns::last_line;
-use crate::log::push_ran;
+use crate::log::ran_parts;
 use crate::names::Names;
 use ft_base::{FuncNo, Item, NoMemory, Ran};
 use ft_desk::Desk;
@@ -54,6 +55,15 @@ fn ipmodify_column(row: Row) -> &'static str
     ensures { result.now ≡ flag_column (codes "I") row.ipmodify }
 {
     if row.ipmodify > 0 { " I" } else { "  " }
+}
+
+/// Adds what was fetched at a call site.
+fn push_ran(text: &mut String, names: &Names, ran: Ran) -> Result<(), AllocError>
+    ensures { OnOk result (string_bytes text.new
+        ≡ string_bytes text.old ++ joined (ran_words names.now ran)) }
+{
+    let (word, user) = ran_parts(names, ran);
+    write!(text, "{word}{user}")
 }
 
 /// Adds the line of a function.

@@ -1,6 +1,6 @@
 //! The text of a history in each form.
 
-ghost use Rattle.std.specs.Prelude.{◌≡◌, IfOk, string_bytes};
+ghost use Rattle.std.specs.Prelude.{◌≡◌, IfOk};
 ghost use Rattle.ft_hist.specs.Rules.{IsLegal};
 ghost use Rattle.trace_print.specs.Texts.{text_of};
 
@@ -30,25 +30,11 @@ pub fn print(
     ensures { IfOk result (λ text. text.items ≡ text_of form job.now history.now.items ended) }
 {
     let names = Names::new(alloc, job)?;
-    Ok(write_text(alloc, &names, history, ended, form)?.into_bytes())
-}
-
-/// The text, as text.
-fn write_text(
-    alloc: Global,
-    names: &Names,
-    history: &History,
-    ended: bool,
-    form: Form,
-) -> Result<String, NoMemory>
-    requires { IsLegal names.now history.now.items }
-    ensures { IfOk result (λ text. string_bytes text ≡ text_of form names.now history.now.items ended) }
-{
     match form {
-        Form::Log => log_text(alloc, names, history, ended).map_err(|_| NoMemory),
-        Form::Function => function_text(alloc, names, history, ended),
-        Form::Graph => graph_text(alloc, names, history, ended),
-        Form::Profile => profile_text(alloc, names, history, ended),
-        Form::Enabled => enabled_text(alloc, names, history, ended),
+        Form::Log => log_text(alloc, &names, history, ended),
+        Form::Function => Ok(function_text(alloc, &names, history, ended)?.into_bytes()),
+        Form::Graph => Ok(graph_text(alloc, &names, history, ended)?.into_bytes()),
+        Form::Profile => Ok(profile_text(alloc, &names, history, ended)?.into_bytes()),
+        Form::Enabled => Ok(enabled_text(alloc, &names, history, ended)?.into_bytes()),
     }
 }

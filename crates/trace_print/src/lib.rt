@@ -10,8 +10,10 @@
 //! | enabled | `enabled_functions` (`ftrace.rst`, "The File System") | one a function that some users trace |
 //!
 //! Promised: [`print`] gives, for each legal history of a job, exactly the text of its form, as the
-//! specs define it; [`summary`] exactly the counts. The text of the form log tells the history that it
-//! was written for ([`laws`]). Only tested, in `ft_app_tests`: that memory is found.
+//! specs define it; [`write_log`] writes the text of the form log, of any history, to a sink in pieces,
+//! or a beginning of it if the sink fails; [`summary`] gives exactly the counts. The text of the form
+//! log tells the history that it was written for ([`laws`]). Only tested, in `ft_app_tests`: that
+//! memory is found.
 #![tactic(auto)]
 
 mod columns;
@@ -19,6 +21,7 @@ mod enabled;
 mod forms;
 mod function;
 mod graph;
+mod grown;
 pub mod laws;
 mod leaves;
 mod log;
@@ -29,4 +32,5 @@ mod totals;
 
 pub use forms::print;
 pub use ft_words::Form;
+pub use log::{LogFail, write_log};
 pub use totals::summary;

@@ -1,58 +1,63 @@
 //! The text of a history, form log: a line for each item, and a last line.
 
-ghost use Rattle.std.specs.Prelude.{◌≡◌, [], ◌∷◌, ◌++◌, IfOk, OnOk, Some, string_bytes, codes};
+ghost use Rattle.std.specs.Prelude.{◌≡◌, ◌≤◌, [], ◌∷◌, ◌++◌, IfOk, OnOk, OnErr, codes};
 ghost use Rattle.std.specs.Fmt.{decimal};
-ghost use Rattle.trace_print.specs.Words.{user_word, pid_at};
+ghost use Rattle.std.specs.Io.KnownBytes.{Appends};
+ghost use Rattle.ft_io.specs.Causes.{Rose, AppendsFront};
+ghost use Rattle.ft_io.specs.Pieces.{nothing, Puts};
+ghost use Rattle.trace_print.specs.Words.{user_word};
 ghost use Rattle.trace_print.specs.LogText.{call_word, caller_word};
 ghost use Rattle.trace_print.specs.LogText.{context_word, reason_word, ran_words, answer_words, joined};
 ghost use Rattle.trace_print.specs.LogText.{item_words, log_line, log_text};
 
 use crate::columns::last_line;
+use crate::grown::GrownText;
 use crate::names::Names;
-use ft_base::{Answer, CallNo, Ctx, Item, Ran, Reason, UserNo};
+use ft_base::{Answer, CallNo, Ctx, Item, NoMemory, Ran, Reason, UserNo};
 use ft_hist::History;
-use std::alloc::{AllocError, Global};
-use std::fmt;
-use std::fmt::Write;
+use ft_io::{Pieces, Sink, WriteFail};
+use ft_machine::Job;
+use itoa::Buffer;
+use std::alloc::Global;
+use thiserror::Error;
 
-/// A call as the text names it: the pid of its task, a dot and its number.
-#[derive(Drop)]
-struct CallName {
-    pid: u32,
-    number: u32,
+/// Why the log was not written whole.
+#[derive(Clone, Copy, Debug, PartialEq, Eq, Drop, Error)]
+pub enum LogFail {
+    /// Out of memory; nothing was written.
+    #[error("out of memory")]
+    NoMemory,
+    /// The sink failed: its count of faults rose, and a beginning of the log was appended.
+    #[error("the sink failed")]
+    Sink,
 }
 
-impl fmt::Display for CallName {
-    ghost output = { λ c. Some (decimal c.pid ++ (codes "." ++ decimal c.number)) };
-
-    fn fmt<W: fmt::Write>(&self, f: &mut fmt::Formatter<W>) -> fmt::Result {
-        let pid = self.pid;
-        let number = self.number;
-        write!(f, "{pid}.{number}")
-    }
-}
-
-fn call_name(names: &Names, call: CallNo) -> CallName
-    ensures pid { result.pid ≡ pid_at names.now call.task.0 }
-    ensures number { result.number ≡ call.n }
+/// Puts a number, in decimal.
+fn put_number<K: Sink>(pieces: &mut Pieces, sink: &mut K, n: u32)
+    ensures { Puts K.holds K.faults (decimal n) sink.old pieces.old sink.new pieces.new }
 {
-    CallName {
-        pid: names.task(call.task).pid,
-        number: call.n,
-    }
+    let mut buffer = Buffer::new();
+    pieces.put(sink, buffer.format(n).as_bytes());
 }
 
-/// Adds the enclosing call, or `-` at the outermost level.
-fn push_caller(text: &mut String, names: &Names, caller: Option<CallNo>) -> Result<(), AllocError>
-    ensures { OnOk result (string_bytes text.new
-        ≡ string_bytes text.old ++ caller_word names.now caller) }
+/// Puts a call: the pid of its task, a dot and its number.
+fn put_call<K: Sink>(pieces: &mut Pieces, sink: &mut K, names: &Names, call: CallNo)
+    ensures { Puts K.holds K.faults (call_word names.now call)
+        sink.old pieces.old sink.new pieces.new }
+{
+    put_number(pieces, sink, names.task(call.task).pid);
+    pieces.put(sink, b".");
+    put_number(pieces, sink, call.n);
+}
+
+/// Puts the enclosing call, or `-` at the outermost level.
+fn put_caller<K: Sink>(pieces: &mut Pieces, sink: &mut K, names: &Names, caller: Option<CallNo>)
+    ensures { Puts K.holds K.faults (caller_word names.now caller)
+        sink.old pieces.old sink.new pieces.new }
 {
     match caller {
-        None => text.push_str("-"),
-        Some(call) => {
-            let name = call_name(names, call);
-            write!(text, "{name}")
-        }
+        None => pieces.put(sink, b"-"),
+        Some(call) => put_call(pieces, sink, names, call),
     }
 }
 
@@ -77,76 +82,73 @@ fn reason_name(reason: Reason) -> &'static str
     }
 }
 
-/// Adds what was fetched at a call site.
-pub(crate) fn push_ran(text: &mut String, names: &Names, ran: Ran) -> Result<(), AllocError>
-    ensures { OnOk result (string_bytes text.new
-        ≡ string_bytes text.old ++ joined (ran_words names.now ran)) }
+/// What was fetched at a call site, and the name of a user that goes with it, else nothing.
+pub(crate) fn ran_parts<'a>(names: &'a Names, ran: Ran) -> (&'static str, &'a str)
+    ensures { result.0.now ++ result.1.now ≡ joined (ran_words names.now ran) }
 {
     match ran {
-        Ran::Nop => text.push_str("nop"),
-        Ran::List => text.push_str("list"),
-        Ran::Own(user) => {
-            let name = names.user(user);
-            write!(text, "own {name}")
-        }
+        Ran::Nop => ("nop", ""),
+        Ran::List => ("list", ""),
+        Ran::Own(user) => ("own ", names.user(user)),
     }
 }
 
-/// Adds the answer of a command.
-fn push_answer(text: &mut String, names: &Names, answer: Answer) -> Result<(), AllocError>
-    ensures { OnOk result (string_bytes text.new
-        ≡ string_bytes text.old ++ joined (answer_words names.now answer)) }
+/// Puts the answer of a command.
+fn put_answer<K: Sink>(pieces: &mut Pieces, sink: &mut K, names: &Names, answer: Answer)
+    ensures { Puts K.holds K.faults (joined (answer_words names.now answer))
+        sink.old pieces.old sink.new pieces.new }
 {
     match answer {
-        Answer::Accepted => text.push_str("ok"),
-        Answer::Already => text.push_str("already"),
-        Answer::NotThere => text.push_str("not-there"),
-        Answer::Invalid => text.push_str("invalid"),
-        Answer::NoMatch => text.push_str("no-match"),
+        Answer::Accepted => pieces.put(sink, b"ok"),
+        Answer::Already => pieces.put(sink, b"already"),
+        Answer::NotThere => pieces.put(sink, b"not-there"),
+        Answer::Invalid => pieces.put(sink, b"invalid"),
+        Answer::NoMatch => pieces.put(sink, b"no-match"),
         Answer::Busy { func, holder } => {
             let function = names.function(func);
-            let user = names.user(holder);
-            write!(text, "busy {function} {user}")
+            let holder = names.user(holder);
+            pieces.put(sink, b"busy ");
+            pieces.put(sink, function.as_bytes());
+            pieces.put(sink, b" ");
+            pieces.put(sink, holder.as_bytes());
         }
     }
 }
 
-/// Adds a word and a call.
-fn push_call(text: &mut String, names: &Names, word: &str, call: CallNo) -> Result<(), AllocError>
-    ensures { OnOk result (string_bytes text.new
-        ≡ string_bytes text.old ++ joined (word.now ∷ call_word names.now call ∷ [])) }
-{
-    let name = call_name(names, call);
-    write!(text, "{word} {name}")
-}
-
-/// Adds a word, a call and a user.
-fn push_visit(
-    text: &mut String,
+/// Puts a word, which ends with a space, a call and a user.
+fn put_visit<K: Sink>(
+    pieces: &mut Pieces,
+    sink: &mut K,
     names: &Names,
-    word: &str,
+    word: &[u8],
     call: CallNo,
     user: UserNo,
-) -> Result<(), AllocError>
-    ensures { OnOk result (string_bytes text.new
-        ≡ string_bytes text.old
-        ++ joined (word.now ∷ call_word names.now call ∷ user_word names.now user.0 ∷ [])) }
+)
+    ensures { Puts K.holds K.faults
+        (word.now ++ joined (call_word names.now call ∷ user_word names.now user.0 ∷ []))
+        sink.old pieces.old sink.new pieces.new }
 {
-    let name = call_name(names, call);
-    let user = names.user(user);
-    write!(text, "{word} {name} {user}")
+    pieces.put(sink, word);
+    put_call(pieces, sink, names, call);
+    pieces.put(sink, b" ");
+    pieces.put(sink, names.user(user).as_bytes());
 }
 
-/// Adds what an item says after its place.
-fn push_item(text: &mut String, names: &Names, item: &Item) -> Result<(), AllocError>
-    ensures { OnOk result (string_bytes text.new
-        ≡ string_bytes text.old ++ joined (item_words names.now item.now)) }
+/// Puts what an item says after its place.
+fn put_item<K: Sink>(pieces: &mut Pieces, sink: &mut K, names: &Names, item: &Item)
+    ensures { Puts K.holds K.faults (joined (item_words names.now item.now))
+        sink.old pieces.old sink.new pieces.new }
 {
     match *item {
-        Item::Begin { k } => write!(text, "begin {k}"),
+        Item::Begin { k } => {
+            pieces.put(sink, b"begin ");
+            put_number(pieces, sink, k);
+        }
         Item::Return { k, answer } => {
-            write!(text, "return {k} ")?;
-            push_answer(text, names, answer)
+            pieces.put(sink, b"return ");
+            put_number(pieces, sink, k);
+            pieces.put(sink, b" ");
+            put_answer(pieces, sink, names, answer);
         }
         Item::Enter {
             call,
@@ -154,64 +156,134 @@ fn push_item(text: &mut String, names: &Names, item: &Item) -> Result<(), AllocE
             func,
             caller,
         } => {
-            let context = context_name(ctx);
-            let function = names.function(func);
-            push_call(text, names, "enter", call)?;
-            write!(text, " {context} {function} ")?;
-            push_caller(text, names, caller)
+            pieces.put(sink, b"enter ");
+            put_call(pieces, sink, names, call);
+            pieces.put(sink, b" ");
+            pieces.put(sink, context_name(ctx).as_bytes());
+            pieces.put(sink, b" ");
+            pieces.put(sink, names.function(func).as_bytes());
+            pieces.put(sink, b" ");
+            put_caller(pieces, sink, names, caller);
         }
-        Item::Back { call, user } => push_visit(text, names, "back", call, user),
-        Item::BackEnd { call, user } => push_visit(text, names, "back-end", call, user),
+        Item::Back { call, user } => put_visit(pieces, sink, names, b"back ", call, user),
+        Item::BackEnd { call, user } => put_visit(pieces, sink, names, b"back-end ", call, user),
         Item::Refuse { call, user, reason } => {
-            let reason = reason_name(reason);
-            push_visit(text, names, "refuse", call, user)?;
-            write!(text, " {reason}")
+            put_visit(pieces, sink, names, b"refuse ", call, user);
+            pieces.put(sink, b" ");
+            pieces.put(sink, reason_name(reason).as_bytes());
         }
-        Item::Miss { call, user } => push_visit(text, names, "miss", call, user),
+        Item::Miss { call, user } => put_visit(pieces, sink, names, b"miss ", call, user),
         Item::Body { call, func, ran } => {
-            let function = names.function(func);
-            push_call(text, names, "body", call)?;
-            write!(text, " {function} ")?;
-            push_ran(text, names, ran)
+            let (word, user) = ran_parts(names, ran);
+            pieces.put(sink, b"body ");
+            put_call(pieces, sink, names, call);
+            pieces.put(sink, b" ");
+            pieces.put(sink, names.function(func).as_bytes());
+            pieces.put(sink, b" ");
+            pieces.put(sink, word.as_bytes());
+            pieces.put(sink, user.as_bytes());
         }
-        Item::Leave { call } => push_call(text, names, "leave", call),
+        Item::Leave { call } => {
+            pieces.put(sink, b"leave ");
+            put_call(pieces, sink, names, call);
+        }
         Item::Exit { call, user, entry } => {
-            push_visit(text, names, "exit", call, user)?;
-            write!(text, " {entry}")
+            put_visit(pieces, sink, names, b"exit ", call, user);
+            pieces.put(sink, b" ");
+            put_number(pieces, sink, entry);
         }
-        Item::ExitEnd { call, user } => push_visit(text, names, "exit-end", call, user),
+        Item::ExitEnd { call, user } => put_visit(pieces, sink, names, b"exit-end ", call, user),
         Item::Ret { call, to } => {
-            push_call(text, names, "ret", call)?;
-            text.push_str(" ")?;
-            push_caller(text, names, to)
+            pieces.put(sink, b"ret ");
+            put_call(pieces, sink, names, call);
+            pieces.put(sink, b" ");
+            put_caller(pieces, sink, names, to);
         }
     }
 }
 
-/// Adds the line of an item at a place.
-fn push_line(text: &mut String, names: &Names, place: u32, item: &Item) -> Result<(), AllocError>
-    ensures { OnOk result (string_bytes text.new
-        ≡ string_bytes text.old ++ log_line names.now place item.now) }
+/// Puts the line of an item at a place.
+fn put_line<K: Sink>(pieces: &mut Pieces, sink: &mut K, names: &Names, place: u32, item: &Item)
+    ensures { Puts K.holds K.faults (log_line names.now place item.now)
+        sink.old pieces.old sink.new pieces.new }
 {
-    write!(text, "{place} ")?;
-    push_item(text, names, item)?;
-    writeln!(text)
+    put_number(pieces, sink, place);
+    pieces.put(sink, b" ");
+    put_item(pieces, sink, names, item);
+    pieces.put(sink, b"\n");
 }
 
-/// The text, form log: a line for each item in order, which begins with the item's place, and the
-/// last line, `end` if every actor is at its end, else `stopped`.
+/// Writes the text, form log: a line for each item in order, which begins with the item's place,
+/// and the last line, `end` if every actor is at its end, else `stopped`. It takes no memory, and
+/// stops at the first line after the sink has failed.
+fn send_log<K: Sink>(
+    mut pieces: Pieces,
+    sink: &mut K,
+    names: &Names,
+    history: &History,
+    ended: bool,
+) -> Result<(), WriteFail>
+    requires { pieces ≡ nothing }
+    ensures all { OnOk result (Appends (K.holds sink.old) (K.holds sink.new)
+        (log_text names.now history.now.items ended)) }
+    ensures front { OnErr result (AppendsFront (K.holds sink.old) (K.holds sink.new)
+        (log_text names.now history.now.items ended)) }
+    ensures fault { OnErr result (Rose (K.faults sink.old) (K.faults sink.new)) }
+    ensures faults { K.faults sink.old ≤ K.faults sink.new }
+{
+    for place in 0..history.len() {
+        if pieces.has_failed() {
+            return Err(WriteFail);
+        }
+        put_line(&mut pieces, sink, names, place, history.item(place));
+    }
+    pieces.put(sink, last_line(ended).as_bytes());
+    pieces.finish(sink)
+}
+
+/// Writes the text of a history of the job, form log, to the sink, in pieces. All memory is taken
+/// before the first byte is written. Its last line is `end` if every actor is at its end, else
+/// `stopped`. It takes time linear in the history and in the text.
+pub fn write_log<K: Sink>(
+    alloc: Global,
+    job: &Job,
+    history: &History,
+    ended: bool,
+    sink: &mut K,
+) -> Result<(), LogFail>
+    ensures all { OnOk result (Appends (K.holds sink.old) (K.holds sink.new)
+        (log_text job.now history.now.items ended)) }
+    ensures front { result ≡ Err LogFail.Sink → AppendsFront (K.holds sink.old) (K.holds sink.new)
+        (log_text job.now history.now.items ended) }
+    ensures fault { result ≡ Err LogFail.Sink → Rose (K.faults sink.old) (K.faults sink.new) }
+    ensures memory { result ≡ Err LogFail.NoMemory → sink.new ≡ sink.old }
+    ensures faults { K.faults sink.old ≤ K.faults sink.new }
+{
+    let Ok(names) = Names::new(alloc, job) else {
+        return Err(LogFail::NoMemory);
+    };
+    let Ok(pieces) = Pieces::new(alloc) else {
+        return Err(LogFail::NoMemory);
+    };
+    match send_log(pieces, sink, &names, history, ended) {
+        Ok(()) => Ok(()),
+        Err(_) => Err(LogFail::Sink),
+    }
+}
+
+/// The text of a history, form log. The error says that memory ran out.
 pub(crate) fn log_text(
     alloc: Global,
     names: &Names,
     history: &History,
     ended: bool,
-) -> Result<String, AllocError>
-    ensures { IfOk result (λ text. string_bytes text ≡ log_text names.now history.now.items ended) }
+) -> Result<Vec<u8>, NoMemory>
+    ensures { IfOk result (λ text. text.items ≡ log_text names.now history.now.items ended) }
 {
-    let mut text = String::new(alloc);
-    for place in 0..history.len() {
-        push_line(&mut text, names, place, history.item(place))?;
+    let pieces = Pieces::new(alloc).map_err(|_| NoMemory)?;
+    let mut text = GrownText::new(alloc);
+    match send_log(pieces, &mut text, names, history, ended) {
+        Ok(()) => Ok(text.into_bytes()),
+        Err(_) => Err(NoMemory),
     }
-    text.push_str(last_line(ended))?;
-    Ok(text)
 }
