@@ -4,6 +4,7 @@ ghost use Rattle.std.specs.Prelude.{◌≡◌, ◌≤◌, [], IfOk};
 ghost use Rattle.ft_io.specs.Pieces.{nothing, Puts, Ends};
 
 use crate::sink::{Sink, WriteFail, write_all};
+use bytes::BytesMut;
 use std::alloc::{AllocError, Global};
 use std::marker::Model;
 
@@ -15,12 +16,12 @@ const PIECE_BYTES: usize = 65_536;
 /// stdio keeps `ferror`.
 #[derive(Debug, Drop)]
 pub struct Pieces {
-    held: Vec<u8>,
+    held: BytesMut,
     failed: bool,
 }
 
 impl Model for Pieces {
-    ghost use Rattle.std.specs.Prelude.{◌≤◌, vec_len, vec_capacity};
+    ghost use Rattle.std.specs.Prelude.{◌+◌, ◌≤◌, length};
     ghost use Rattle.ft_io.specs.Pieces.{OnTheWay};
     ghost use Rattle.ft_io.specs.declared.pieces.TheConstants.{PIECE_BYTES};
 
@@ -28,8 +29,8 @@ impl Model for Pieces {
 
     ghost view = { λ p. record { held = p.held.items; failed = p.failed } };
 
-    ghost invariant = { λ p. (vec_len p.held ≤ PIECE_BYTES)
-        × (PIECE_BYTES ≤ vec_capacity p.held) };
+    ghost invariant = { λ p. (length p.held.items ≤ PIECE_BYTES)
+        × (PIECE_BYTES ≤ length p.held.items + p.held.spare) };
 }
 
 impl Pieces {
@@ -37,7 +38,7 @@ impl Pieces {
     pub fn new(alloc: Global) -> Result<Pieces, AllocError>
         ensures { IfOk result (λ pieces. pieces ≡ nothing) }
     {
-        let held = Vec::with_capacity(alloc, PIECE_BYTES)?;
+        let held = BytesMut::with_capacity(alloc, PIECE_BYTES)?;
         Ok(Pieces {
             held,
             failed: false,
@@ -45,14 +46,14 @@ impl Pieces {
     }
 
     /// Puts the bytes after those before. It takes no memory.
+    #[inline]
     pub fn put<K: Sink>(&mut self, sink: &mut K, bytes: &[u8])
         ensures { Puts K.holds K.faults bytes.now sink.old self.old sink.new self.new }
     {
         if bytes.len() > PIECE_BYTES - self.held.len() {
             self.put_after_piece(sink, bytes);
         } else if !self.failed {
-            // It does not fail: there is room for the bytes.
-            let _ = self.held.extend_from_slice(bytes);
+            self.held.extend_reserved(bytes);
         }
     }
 
@@ -67,8 +68,7 @@ impl Pieces {
         if bytes.len() > PIECE_BYTES {
             self.failed = write_all(sink, bytes).is_err();
         } else {
-            // It does not fail: nothing is held.
-            let _ = self.held.extend_from_slice(bytes);
+            self.held.extend_reserved(bytes);
         }
     }
 
