@@ -1,23 +1,18 @@
 -- What a machine is made of before its first step, and what the seats of its actors keep then.
-use Rattle.std.proofs.Common.{◌≡◌, ℕ, zero, suc, ◌*◌, ◌+◌, ◌<◌, ◌≤◌, List, [], ◌∷◌, length, map, reverse, slice_get, Some, refl, sym, ap, ◌∙◌, subst, arith}
-use Rattle.std.specs.List.{AllByRecursion as Each}
-use Rattle.std.proofs.lemmas.Option.{same_Some}
+use Rattle.std.proofs.Common.{◌≡◌, ℕ, ◌*◌, ◌+◌, ◌<◌, ◌≤◌, List, [], length, reverse, slice_get, Some, refl, sym, ap, ◌∙◌, subst, arith}
+use Rattle.std.proofs.lemmas.List.{reverse-reverse}
 use Rattle.atomic_table.specs.Seated.{TableId}
 use Rattle.atomic_table.specs.Table.{Me}
 use Rattle.ft_base.specs.declared.item.Item.{Item}
-use Rattle.ft_base.specs.declared.item.Stamped.{Stamped}
 use Rattle.ft_base.specs.Job.{Job, commands}
-use Rattle.ft_hist.specs.Placing.{AreCounted}
 use Rattle.ft_hist.specs.Shown.{Shown}
 use Rattle.user_specs.specs.Bound.{call_bound_of}
 use Rattle.history_bound.specs.Bound.{all_calls}
-use Rattle.word_map.specs.Contents.{low}
 use Rattle.word_map.specs.Places.{len}
 use Rattle.word_map.specs.Shapes.{shape_of}
-use Rattle.word_map.specs.Words.{Words}
 use Rattle.word_machine.specs.Control.{control_next, control_start}
 use Rattle.word_machine.specs.Cpu.{cpu_next, cpu_start}
-use Rattle.word_machine.specs.Laws.{IsOnWord}
+use Rattle.word_machine.specs.Laws.{IsOnWord, items_on}
 use Rattle.word_machine.specs.Limits.{IsLimited}
 use Rattle.word_machine.specs.Machine.{World, opening_words, start}
 use Rattle.word_machine.proofs.Limited.{limited as word-job}
@@ -28,22 +23,11 @@ use Rattle.control_core.specs.Seated as control
 use Rattle.cpu_core.specs.declared.parts.Parts.{Parts as CpuParts}
 use Rattle.cpu_core.specs.Cpus.{cpu_of}
 use Rattle.machine_core.specs.Starts.{AreFirst, IsFirst}
-use Rattle.machine_core.specs.Worlds.{IsFor, Parts, counted, cpu_or, past_of, words_of, world_of}
+use Rattle.machine_core.specs.Worlds.{IsFor, Parts, cpu_or, past_of, words_of, world_of}
+use Rattle.machine_core.proofs.Opening.{none-on}
 use Rattle.live_table.specs.declared.view.View.{View}
 use Rattle.live_table.specs.Seats.{ControlSits, CpuSits, IsRising, IsTable}
 use Rattle.live_table.specs.Views.{control_view, cpu_view}
-
--- ## no items
-
-none-below : (items : List Stamped) → AreCounted 0 items → items ≡ []
-none-below [] h = refl
-none-below (s ∷ rest) h = let low = h.0 in absurd (omega (arith, low))
-
-each-counted : (n : ℕ) (cpus : List CpuParts) → Each (AreCounted n) (map (λ (c : CpuParts). c.marked.items) cpus) → (k : ℕ) (x : CpuParts)
-    → slice_get cpus k ≡ Some x → AreCounted n x.marked.items
-each-counted n [] h k x e = absurd (cc)
-each-counted n (y ∷ ys) h zero x e = subst (λ (z : CpuParts). AreCounted n z.marked.items) (same_Some y x e) h.0
-each-counted n (y ∷ ys) h (suc k) x e = each-counted n ys h.1 k x e
 
 -- ## seats
 
@@ -93,9 +77,6 @@ module _ (job : Job) (w : Parts) (k : IsFor job w) (e : world_of job w ≡ start
   unfolding start
   words-open = ap (λ (s : World). s.words) e
 
-  none-counted : counted w ≡ 0
-  none-counted = ap (λ (ws : Words). low ws.clock) words-open
-
   none-yet : past_of w ≡ []
   unfolding start
   none-yet = ap (λ (s : World). s.past) e
@@ -104,12 +85,12 @@ module _ (job : Job) (w : Parts) (k : IsFor job w) (e : world_of job w ≡ start
   unfolding start
   control-opens = ap (λ (s : World). s.control) e
 
-  control-none : w.control.items ≡ []
-  control-none = none-below w.control.items (subst (λ n. AreCounted n w.control.items) none-counted k.places.0)
-
   cpu-opens : (c : ℕ) (x : CpuParts) → slice_get w.cpus c ≡ Some x → cpu_of job x ≡ cpu_start job c
   unfolding start
   cpu-opens c x at = sym (ap (λ o. cpu_or job (cpu_start job c) o) at) ∙ ap (λ (s : World). s.cpus c) e
+
+  none-on-cpu : (c : ℕ) → items_on job c (past_of w) ≡ 0
+  none-on-cpu c = ap (λ (past : List Item). items_on job c past) none-yet ∙ none-on job c
 
   all-first : AreFirst job w.cpus
   all-first = record {
@@ -117,16 +98,16 @@ module _ (job : Job) (w : Parts) (k : IsFor job w) (e : world_of job w ≡ start
     each = λ c x at. let own = k.each c x at in record {
       is_for = own.is_for;
       same = cpu-opens c x at;
-      none = none-below x.marked.items (subst (λ n. AreCounted n x.marked.items) none-counted (each-counted (counted w) w.cpus k.places.1 c x at));
-      room = own.room;
+      none = own.none;
+      room = let none = none-on-cpu c in let room = own.room in omega (arith, none, room);
     };
   }
 
   blank : w.history.items ≡ []
-  blank = k.recorded.items ∙ ap (λ (past : List Item). reverse past) none-yet
+  blank = sym (reverse-reverse w.history.items) ∙ ap (λ (past : List Item). reverse past) none-yet
 
   space : 2 * length (commands job) + call_bound_of job.users * all_calls job.tasks ≤ w.history.spare
-  space = let room = k.recorded.room in let none = ap length blank in omega (arith, room, none)
+  space = let room = k.room in let none = ap length blank in omega (arith, room, none)
 
   -- ## the table and its seats
 
@@ -144,7 +125,7 @@ module _ (job : Job) (w : Parts) (k : IsFor job w) (e : world_of job w ≡ start
 
   pub opens-control : {S : Type 0} (me : Me S View) (x : Seated) → IsLimited job → me ≡ (control_view job 0 [], []) → x ≡ w.control → ControlSits {S = S} me x
   opens-control {S} me x l is same =
-      subst (λ (y : Seated). ControlSits {S = S} me y) (sym same) (control-first {S = S} me job w.control l is k.control' control-opens control-none)
+      subst (λ (y : Seated). ControlSits {S = S} me y) (sym same) (control-first {S = S} me job w.control l is k.control' control-opens k.none)
 
   pub opens-cpus : (xs : List CpuParts) → xs ≡ w.cpus → AreFirst job xs
   opens-cpus xs same = subst (AreFirst job) (sym same) all-first

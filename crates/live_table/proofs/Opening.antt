@@ -1,5 +1,5 @@
 -- The rule of the table holds of the words of a job before its first step, with control's seat.
-use Rattle.std.proofs.Common.{◌≡◌, ℕ, zero, suc, List, [], ◌∷◌, length, sum_by, refl, sym, subst, arith}
+use Rattle.std.proofs.Common.{◌≡◌, ℕ, zero, suc, List, [], ◌∷◌, length, refl, sym, subst, arith}
 use Rattle.std.specs.List.{AllByRecursion as Each}
 use mathlib.Core.Option.{some, some-ne-none, some-injective}
 use lib.ListN.{get_elem?}
@@ -10,11 +10,12 @@ use Rattle.ft_base.specs.Job.{Job}
 use Rattle.ft_hist.specs.Placing.{AreCounted, total}
 use Rattle.word_map.specs.Places.{len}
 use Rattle.word_map.specs.Shapes.{shape_of}
-use Rattle.word_machine.specs.Laws.{Runs, tasks_on}
+use Rattle.word_machine.specs.Laws.{Runs}
 use Rattle.word_machine.specs.Limits.{IsLimited}
 use Rattle.word_machine.specs.Machine.{opening_words, start}
 use Rattle.word_machine.proofs.WordsFit.{start-runs}
 use Rattle.machine_core.specs.Worlds.{words_of}
+use Rattle.machine_core.proofs.Opening.{none-on}
 use Rattle.live_table.specs.declared.view.View.{View}
 use Rattle.live_table.specs.Recorded.{IsRecorded, cpu_lists}
 use Rattle.live_table.specs.Rule.{Fits, LiveRule}
@@ -35,10 +36,6 @@ counted-none : (job : Job) (b n : ℕ) → Each (AreCounted 0) (cpu_lists job no
 counted-none job b zero = tt
 counted-none job b (suc n) = (tt, counted-none job (suc b) n)
 
-summed-none : (xs : List ℕ) → sum_by (λ (t : ℕ). 0) xs ≡ 0
-summed-none [] = refl
-summed-none (x ∷ xs) = summed-none xs
-
 none-recorded : (job : Job) → IsRecorded job none []
 none-recorded job = record {
   placed = record {
@@ -47,7 +44,7 @@ none-recorded job = record {
     once = λ p lt. absurd (omega (arith, lt));
   };
   items = refl;
-  own = λ c inside. sym (summed-none (tasks_on job c));
+  own = λ c inside. sym (none-on job c);
 }
 
 -- ## the table

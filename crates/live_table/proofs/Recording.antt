@@ -18,9 +18,20 @@ use Rattle.word_machine.specs.Rule.{MachineRule}
 use Rattle.control_core.specs.Steps.{marks_in as control_marks_in}
 use Rattle.cpu_core.specs.CpuSteps.{marks_in}
 use Rattle.machine_core.proofs.Made.{past-counted}
-use Rattle.machine_core.proofs.Marking.{Follows, stamp}
 use Rattle.ft_machine.specs.Fed.{control_items, cpu_items}
 use Rattle.live_table.specs.Recorded.{cpu, cpu_lists, lists}
+
+-- ## an item more
+
+-- the item of a mark at a place that this clock tells
+abbrev pub stamp : ℕ → Item → Stamped
+stamp v item = record { place = low v; item = item }
+
+-- lists after an operation: a mark is one more item of one of them
+abbrev pub Follows : WordOp → ℕ → List (List Stamped) → List (List Stamped) → Type 0
+Follows (Load w) v ls ls' = ls' ≡ ls
+Follows (Store w x) v ls ls' = ls' ≡ ls
+Follows (Mark item) v ls ls' = Grows (stamp v item) ls ls'
 
 -- ## the lists of all actors
 

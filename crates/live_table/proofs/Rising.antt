@@ -9,8 +9,8 @@ use Rattle.word_map.specs.Contents.{low}
 use Rattle.word_map.specs.Ops.{WordOp, Load, Store, Mark}
 use Rattle.control_core.specs.Steps.{marks_in as control_marks_in}
 use Rattle.cpu_core.specs.CpuSteps.{marks_in}
-use Rattle.machine_core.proofs.Marking.{stamp}
 use Rattle.live_table.specs.Seats.{IsRising}
+use Rattle.live_table.proofs.Recording.{stamp}
 
 -- an element of a list and one more is the new one, or one of the others
 pub get-more : {A : Type 0} (xs : List A) (a b : A) (k : ℕ) → slice_get (xs ++ a ∷ []) k ≡ Some b → (slice_get xs k ≡ Some b) ⊎ ((k ≡ length xs) × (a ≡ b))
