@@ -1,7 +1,7 @@
 -- What an order gets, and what its status says once the reply was written in full.
 use Rattle.std.proofs.Common.{◌≡◌, ℕ, ◌≤◌, List, [], Option, Some, None, refl, sym, ap, subst, ◌∙◌, length, length-append, arith}
 use Rattle.std.specs.Prelude.{IfSome}
-use Rattle.std.specs.Io.KnownBytes.{Consumes, Appends}
+use Rattle.std.specs.Io.KnownBytes.{Consumes}
 use Rattle.std.proofs.KnownBytes.{Consumes-nil, Consumes-whole}
 use Rattle.ft_base.specs.declared.limits.TheConstants.{INPUT_BYTES}
 use Rattle.ft_io.specs.Causes.{GaveAtMost, GaveMore}
@@ -9,8 +9,7 @@ use Rattle.ft_words.specs.declared.order.Order.{Order}
 use Rattle.ft_words.specs.declared.order.Order.TheVariants.{Replay, Run, Bulk}
 use Rattle.ft_app.specs.declared.status.Status.{Status}
 use Rattle.ft_app.specs.Status.{code_of}
-use Rattle.ft_app.specs.Reply.{IsReplyTo}
-use Rattle.ft_app.specs.Main.{ReadWhole, Gets, IsToGet, HasRun, HasRefused, Answers}
+use Rattle.ft_app.specs.Main.{ReadWhole, Gets, IsToGet, HasRun, HasRefused, IsReplied, Answers}
 use Rattle.ft_app.proofs.Replies.{reply-played, reply-refused, reply-answers}
 
 -- a source that is left as it was gave nothing
@@ -58,19 +57,18 @@ not-too-long (Bulk n) remaining remaining' script is_to_get more generated = gen
 
 -- ## the code of the reply to what was got, where equal texts have names of their own
 
-module _ (order : Order) (remaining remaining' holds holds' : Option (List ℕ)) (got script text written : List ℕ) (status : Status) (code : ℕ)
-    (gets : Gets order remaining remaining' got) (is_script : script ≡ got) (reply : IsReplyTo order script status text) (is_code : code ≡ code_of status)
-    (is_written : written ≡ text) (appended : Appends holds holds' written) where
-  reply' : IsReplyTo order got status written
-  reply' = subst (λ s. IsReplyTo order s status written) is_script (subst (IsReplyTo order script status) (sym is_written) reply)
+module _ (order : Order) (remaining remaining' holds holds' : Option (List ℕ)) (got script : List ℕ) (status : Status) (code : ℕ)
+    (gets : Gets order remaining remaining' got) (is_script : script ≡ got) (replied : IsReplied order script status holds holds') (is_code : code ≡ code_of status) where
+  replied' : IsReplied order got status holds holds'
+  replied' = subst (λ s. IsReplied order s status holds holds') is_script replied
 
   pub has_run : code ≡ 0 → HasRun order remaining remaining' holds holds'
-  has_run zero = record { script = got; read = gets; played = reply-played order holds holds' got status written reply' (sym is_code ∙ zero) appended }
+  has_run zero = record { script = got; read = gets; played = reply-played order holds holds' got status replied'.text replied'.is_reply (sym is_code ∙ zero) replied'.written }
 
   pub has_refused : code ≡ 3 → HasRefused order remaining remaining' holds holds'
-  has_refused three = record { script = got; read = gets; refused = reply-refused order holds holds' got status written reply' (sym is_code ∙ three) appended }
+  has_refused three = record { script = got; read = gets; refused = reply-refused order holds holds' got status replied'.text replied'.is_reply (sym is_code ∙ three) replied'.written }
 
   pub answers : (told : List ℕ) → IsToGet order remaining told → Answers order told code holds holds'
   answers told is_told =
       subst (λ s. Answers order s code holds holds') (got-told order remaining remaining' told got is_told gets)
-      (subst (λ n. Answers order got n holds holds') (sym is_code) (reply-answers order holds holds' got status written reply' appended))
+      (subst (λ n. Answers order got n holds holds') (sym is_code) (reply-answers order holds holds' got status replied'.text replied'.is_reply replied'.written))

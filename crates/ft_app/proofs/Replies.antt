@@ -1,11 +1,12 @@
 -- What is written for a script, and what the statuses say of it.
-use Rattle.std.proofs.Common.{◌≡◌, ◌≢◌, ℕ, Bool, List, Option, inl, inr, refl, sym, subst}
+use Rattle.std.proofs.Common.{◌≡◌, ◌≢◌, ℕ, Bool, List, Option, inl, inr, refl, subst}
 use Rattle.std.specs.Io.KnownBytes.{Appends}
 use Rattle.ft_base.specs.declared.item.Item.{Item}
 use Rattle.ft_base.specs.Job.{Job}
 use Rattle.ft_hist.specs.Rules.{IsLegal}
 use Rattle.ft_words.specs.declared.order.Order.{Order}
 use Rattle.ft_words.specs.declared.order.Order.TheVariants.{Replay, Run, Bulk}
+use Rattle.ft_io.specs.Causes.{AppendsFront}
 use Rattle.ft_script.specs.declared.faults.ScriptFault.{ScriptFault}
 use Rattle.ft_script.specs.Script.{IsJobOf, IsRefusalOf, IsFaultOf, no_memory}
 use Rattle.ft_script.proofs.Answered.{not_both, one_job, one_fault}
@@ -13,7 +14,7 @@ use Rattle.ft_app.specs.declared.status.Status.{Status}
 use Rattle.ft_app.specs.declared.status.Status.TheVariants.{Done, Refused}
 use Rattle.ft_app.specs.Status.{code_of}
 use Rattle.ft_app.specs.Reply.{IsReplyTo, of_history, of_refusal, IsHistoryFor, printed, refusal_text}
-use Rattle.ft_app.specs.Main.{HasPrinted, IsPlayed, IsRefused, Answers}
+use Rattle.ft_app.specs.Main.{HasPrinted, IsPlayed, IsRefused, IsReplied, IsBegun, Answers}
 
 -- a fault that isn't out of memory is a refusal
 pub real-refusal : (script : List ℕ) (fault : ScriptFault) → IsFaultOf script fault → fault ≢ no_memory → IsRefusalOf script fault
@@ -27,17 +28,17 @@ history-legal (Run form) job items ended h = h.whole.legal
 history-legal (Bulk n) job items ended h = h.legal
 
 module _ (order : Order) where
-  -- ## the reply to a script, with a text that is equal
-
-  pub history-reply : (script text : List ℕ) (job : Job) (items : List Item) (ended : Bool) → IsJobOf script job → IsHistoryFor order job items ended → text ≡ printed order job items ended → IsReplyTo order script Done text
-  history-reply script text job items ended accepted history e = subst (IsReplyTo order script Done) (sym e) (of_history job accepted items ended history)
-
-  pub refusal-reply : (script text : List ℕ) (fault : ScriptFault) → IsRefusalOf script fault → text ≡ refusal_text fault → IsReplyTo order script Refused text
-  refusal-reply script text fault refused e = subst (IsReplyTo order script Refused) (sym e) (of_refusal fault refused)
-
   -- ## a reply that was written in full
 
   module _ (holds holds' : Option (List ℕ)) where
+    pub history-replied : (script : List ℕ) (job : Job) (items : List Item) (ended : Bool) → IsJobOf script job → IsHistoryFor order job items ended
+        → Appends holds holds' (printed order job items ended) → IsReplied order script Done holds holds'
+    history-replied script job items ended accepted history written =
+        record { text = printed order job items ended; is_reply = of_history job accepted items ended history; written = written }
+
+    pub refusal-replied : (script : List ℕ) (fault : ScriptFault) → IsRefusalOf script fault → Appends holds holds' (refusal_text fault) → IsReplied order script Refused holds holds'
+    refusal-replied script fault refused written = record { text = refusal_text fault; is_reply = of_refusal fault refused; written = written }
+
     has_printed : (job : Job) (items : List Item) (ended : Bool) → IsHistoryFor order job items ended → Appends holds holds' (printed order job items ended) → HasPrinted order job holds holds'
     has_printed job items ended history written = record { items = items; ended = ended; history = history; written = written }
 
@@ -59,3 +60,13 @@ module _ (order : Order) where
       accepted = λ job a. absurd (not_both script job fault a refused);
       refused = λ fault' r. inl (refl, subst (λ f. Appends holds holds' (refusal_text f)) (one_fault script fault fault' refused r) written);
     }
+
+    -- ## a reply that was begun
+
+    pub history-begun : (script : List ℕ) (job : Job) (items : List Item) (ended : Bool) → IsJobOf script job → IsHistoryFor order job items ended
+        → AppendsFront holds holds' (printed order job items ended) → IsBegun order script holds holds'
+    history-begun script job items ended accepted history front =
+        record { status = Done; text = printed order job items ended; is_reply = of_history job accepted items ended history; front = front }
+
+    pub refusal-begun : (script : List ℕ) (fault : ScriptFault) → IsRefusalOf script fault → AppendsFront holds holds' (refusal_text fault) → IsBegun order script holds holds'
+    refusal-begun script fault refused front = record { status = Refused; text = refusal_text fault; is_reply = of_refusal fault refused; front = front }

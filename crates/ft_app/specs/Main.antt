@@ -67,6 +67,12 @@ pub record IsRefused (script : List ℕ) (holds holds' : Option (List ℕ)) : Ty
   pub refused : IsRefusalOf script fault
   pub written : Appends holds holds' (refusal_text fault)
 
+-- the reply to a script was appended, and this is the status that says so
+pub record IsReplied (order : Order) (script : List ℕ) (status : Status) (holds holds' : Option (List ℕ)) : Type 0 where
+  pub text : List ℕ
+  pub is_reply : IsReplyTo order script status text
+  pub written : Appends holds holds' text
+
 -- a beginning of the reply to a script was appended
 pub record IsBegun (order : Order) (script : List ℕ) (holds holds' : Option (List ℕ)) : Type 0 where
   pub status : Status

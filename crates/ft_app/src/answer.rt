@@ -9,11 +9,11 @@ ghost use Rattle.ft_app.specs.Status.{code_of};
 ghost use Rattle.ft_app.specs.Reply.{Serves};
 ghost use Rattle.ft_app.specs.Main.{Gets, IsToGet, HasRun, HasRefused, HasBegun, Answers};
 
-use crate::reply::reply_to;
+use crate::reply::{ReplyFail, write_reply};
 use crate::status::Status;
 use ft_base::NoMemory;
 use ft_base::limits::INPUT_BYTES;
-use ft_io::{ReadFail, Sink, Source, WriteFail, read_all, write_all};
+use ft_io::{ReadFail, Sink, Source, read_all};
 use ft_machine::{Job, Outcome};
 use ft_schedule::bulk_script;
 use ft_words::Order;
@@ -73,13 +73,10 @@ pub(crate) fn answer<C: FnOnce(&Job) -> Result<Outcome, NoMemory> + Drop, S: Sou
         Err(ReadFail::TooLong) => return Status::TooLong.code(),
         Err(ReadFail::NoMemory) => return Status::NoMemory.code(),
     };
-    let reply = match reply_to(alloc, *order, carry_out, &script) {
-        Ok(reply) => reply,
-        Err(NoMemory) => return Status::NoMemory.code(),
-    };
-    match write_all(sink, reply.text.as_slice()) {
-        Ok(()) => reply.status.code(),
-        Err(WriteFail) => Status::WriteFault.code(),
+    match write_reply(alloc, *order, carry_out, &script, sink) {
+        Ok(status) => status.code(),
+        Err(ReplyFail::NoMemory) => Status::NoMemory.code(),
+        Err(ReplyFail::Sink) => Status::WriteFault.code(),
     }
 }
 

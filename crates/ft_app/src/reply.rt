@@ -1,66 +1,80 @@
 //! What is written for a script: what an order prints of a history of its job, or the line of its
 //! refusal.
 
-ghost use Rattle.std.specs.Prelude.{◌≡◌, ◌≢◌, ◌≤◌, length, string_bytes, IfOk, OnOk};
+ghost use Rattle.std.specs.Prelude.{◌≡◌, ◌≢◌, ◌≤◌, length, IfOk, OnOk, Err};
+ghost use Rattle.std.specs.Io.KnownBytes.{Appends};
 ghost use Rattle.std.specs.Fn.{FnOnceReturnsAt};
-ghost use Rattle.ft_hist.specs.Rules.{IsLegal};
+ghost use Rattle.ft_io.specs.Causes.{Rose, AppendsFront};
 ghost use Rattle.ft_script.specs.Script.{no_memory};
-ghost use Rattle.ft_app.specs.Reply.{IsReplyTo, Serves, printed, refusal_text};
+ghost use Rattle.ft_app.specs.Reply.{Serves, refusal_text};
+ghost use Rattle.ft_app.specs.Main.{IsReplied, IsBegun};
 
+use crate::printed::write_printed;
 use crate::status::Status;
 use ft_base::NoMemory;
 use ft_base::limits::INPUT_BYTES;
+use ft_io::{Sink, write_all};
 use ft_machine::{Job, Outcome};
 use ft_script::{Cause, ScriptFault, read_script};
 use ft_words::Order;
 use std::alloc::Global;
-use trace_print::{print, summary};
 
-/// What is written for a script, and the status once it is written in full.
-#[derive(Drop)]
-pub struct Reply {
-    pub status: Status,
-    pub text: Vec<u8>,
+/// Why a reply wasn't written in full. All memory has to be had before the first byte is written: what
+/// the sink has taken can't be taken back, and [`Status::NoMemory`] promises that nothing was written.
+/// So a reply that was begun ends whole, or with a failure of the sink.
+#[derive(Clone, Copy, Debug, PartialEq, Eq, Drop)]
+pub(crate) enum ReplyFail {
+    /// Out of memory. Nothing was written.
+    NoMemory,
+    /// The sink failed. A beginning of the reply was written.
+    Sink,
 }
 
-/// The reply of an order to a script; `carry_out` carries the script's job out.
-pub(crate) fn reply_to<C: FnOnce(&Job) -> Result<Outcome, NoMemory> + Drop>(
+/// Writes the reply of an order to a script; `carry_out` carries the script's job out. It gives the
+/// status that says which reply was written.
+pub(crate) fn write_reply<C: FnOnce(&Job) -> Result<Outcome, NoMemory> + Drop, K: Sink>(
     alloc: Global,
     order: Order,
     carry_out: C,
     script: &[u8],
-) -> Result<Reply, NoMemory>
+    sink: &mut K,
+) -> Result<Status, ReplyFail>
     requires short { length script.now ≤ INPUT_BYTES }
     requires callable { C.IsAlwaysCallable carry_out }
     requires serves { Serves order (FnOnceReturnsAt C.FnOnce carry_out) }
-    ensures { IfOk result (λ reply. IsReplyTo order script.now reply.status reply.text.items) }
+    ensures all { IfOk result
+        (λ status. IsReplied order script.now status (K.holds sink.old) (K.holds sink.new)) }
+    ensures front { result ≡ Err ReplyFail.Sink
+        → IsBegun order script.now (K.holds sink.old) (K.holds sink.new) }
+    ensures fault { result ≡ Err ReplyFail.Sink → Rose (K.faults sink.old) (K.faults sink.new) }
+    ensures memory { result ≡ Err ReplyFail.NoMemory → sink.new ≡ sink.old }
 {
     match read_script(alloc, script) {
         Ok(job) => {
-            let outcome = carry_out(&job)?;
-            Ok(Reply {
-                status: Status::Done,
-                text: print_for(alloc, order, &job, &outcome)?,
-            })
+            let Ok(outcome) = carry_out(&job) else {
+                return Err(ReplyFail::NoMemory);
+            };
+            write_printed(alloc, order, &job, &outcome, sink)?;
+            Ok(Status::Done)
         }
-        Err(fault) => Ok(Reply {
-            status: Status::Refused,
-            text: refusal_line(alloc, fault)?,
-        }),
+        Err(fault) => {
+            write_refusal(alloc, fault, sink)?;
+            Ok(Status::Refused)
+        }
     }
 }
 
-/// What an order prints of a history of the job.
-fn print_for(alloc: Global, order: Order, job: &Job, outcome: &Outcome) -> Result<Vec<u8>, NoMemory>
-    requires { IsLegal job.now outcome.now.history.items }
-    ensures { IfOk result (λ text. text.items
-        ≡ printed order job.now outcome.now.history.items outcome.now.ended) }
+/// Writes the line that says where a script is refused, and why.
+fn write_refusal<K: Sink>(alloc: Global, fault: ScriptFault, sink: &mut K) -> Result<(), ReplyFail>
+    ensures refused { result ≢ Err ReplyFail.NoMemory → fault ≢ no_memory }
+    ensures all { OnOk result (Appends (K.holds sink.old) (K.holds sink.new) (refusal_text fault)) }
+    ensures front { result ≡ Err ReplyFail.Sink
+        → AppendsFront (K.holds sink.old) (K.holds sink.new) (refusal_text fault) }
+    ensures fault { result ≡ Err ReplyFail.Sink → Rose (K.faults sink.old) (K.faults sink.new) }
+    ensures memory { result ≡ Err ReplyFail.NoMemory → sink.new ≡ sink.old }
 {
-    let Outcome { history, ended } = outcome;
-    match order {
-        Order::Replay(form) | Order::Run(form) => print(alloc, job, history, *ended, form),
-        Order::Bulk(n) => summary(alloc, n, history, *ended),
-    }
+    let line = refusal_line(alloc, fault).map_err(|_| ReplyFail::NoMemory)?;
+    write_all(sink, line.as_slice()).map_err(|_| ReplyFail::Sink)
 }
 
 /// The line that says where a script is refused, and why. Running out of memory while it was read

@@ -12,17 +12,17 @@ returns-in-Err-TooLong-clause-complete g c = λ _ _ script is_to_get.
 
 -- ## the reply was written in full
 
-pub returns-in-Ok-write_all-clause-run : goal.returns-in-Ok-write_all-clause-run
-returns-in-Ok-write_all-clause-run g c =
-    has_run c.args.order.now _ _ _ _ c.in-Ok.script.items _ _ _ c.in-Ok-reply_to.reply.status _
-    c.in-Ok.ensures.gets c.deref.ensures.value c.in-Ok-reply_to.ensures c.code-in-Ok-write_all.ensures c.as_slice.ensures.value c.in-Ok-write_all.ensures.all
+pub returns-in-Ok-write_reply-clause-run : goal.returns-in-Ok-write_reply-clause-run
+returns-in-Ok-write_reply-clause-run g c =
+    has_run c.args.order.now _ _ _ _ c.in-Ok.script.items _ c.in-Ok-write_reply.status _
+    c.in-Ok.ensures.gets c.deref.ensures.value c.in-Ok-write_reply.ensures.all c.code-in-Ok-write_reply.ensures
 
-pub returns-in-Ok-write_all-clause-refused : goal.returns-in-Ok-write_all-clause-refused
-returns-in-Ok-write_all-clause-refused g c =
-    has_refused c.args.order.now _ _ _ _ c.in-Ok.script.items _ _ _ c.in-Ok-reply_to.reply.status _
-    c.in-Ok.ensures.gets c.deref.ensures.value c.in-Ok-reply_to.ensures c.code-in-Ok-write_all.ensures c.as_slice.ensures.value c.in-Ok-write_all.ensures.all
+pub returns-in-Ok-write_reply-clause-refused : goal.returns-in-Ok-write_reply-clause-refused
+returns-in-Ok-write_reply-clause-refused g c =
+    has_refused c.args.order.now _ _ _ _ c.in-Ok.script.items _ c.in-Ok-write_reply.status _
+    c.in-Ok.ensures.gets c.deref.ensures.value c.in-Ok-write_reply.ensures.all c.code-in-Ok-write_reply.ensures
 
-pub returns-in-Ok-write_all-clause-complete : goal.returns-in-Ok-write_all-clause-complete
-returns-in-Ok-write_all-clause-complete g c = λ _ _ told is_told.
-    answers c.args.order.now _ _ _ _ c.in-Ok.script.items _ _ _ c.in-Ok-reply_to.reply.status _
-    c.in-Ok.ensures.gets c.deref.ensures.value c.in-Ok-reply_to.ensures c.code-in-Ok-write_all.ensures c.as_slice.ensures.value c.in-Ok-write_all.ensures.all told is_told
+pub returns-in-Ok-write_reply-clause-complete : goal.returns-in-Ok-write_reply-clause-complete
+returns-in-Ok-write_reply-clause-complete g c = λ _ _ told is_told.
+    answers c.args.order.now _ _ _ _ c.in-Ok.script.items _ c.in-Ok-write_reply.status _
+    c.in-Ok.ensures.gets c.deref.ensures.value c.in-Ok-write_reply.ensures.all c.code-in-Ok-write_reply.ensures told is_told

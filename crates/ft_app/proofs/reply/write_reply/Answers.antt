@@ -1,0 +1,37 @@
+use Rattle.std.proofs.Common.{◌≡◌, Err, refl, rules}
+use Rattle.std.proofs.lemmas.Fn.{gave_at}
+use Rattle.ft_app.specs.declared.reply.ReplyFail.TheVariants.{Sink}
+use Rattle.ft_app.proofs.Replies.{history-legal, history-replied, history-begun, refusal-replied, refusal-begun, real-refusal}
+use Rattle.ft_app.proofs.reply.write_reply.Goals as goal
+
+-- ## the text of a history
+
+pub write_printed-requires : goal.write_printed-requires
+write_printed-requires g c =
+    history-legal c.args.order c.in-Ok.job _ _ (c.requires.serves _ _ (gave_at g.C.FnOnce c.in-Ok-carry_out.ensures refl))
+
+pub returns-in_ok-write_printed-in-Ok-clause-all : goal.returns-in_ok-write_printed-in-Ok-clause-all
+returns-in_ok-write_printed-in-Ok-clause-all g c =
+    history-replied c.args.order _ _ c.args.script.now c.in-Ok.job _ _ c.in-Ok.ensures.job
+    (c.requires.serves _ _ (gave_at g.C.FnOnce c.in-Ok-carry_out.ensures refl)) c.in_ok-write_printed-in-Ok.ensures.all
+
+pub returns-in_err-write_printed-in-Ok-clause-front : goal.returns-in_err-write_printed-in-Ok-clause-front
+returns-in_err-write_printed-in-Ok-clause-front g c = λ e.
+    let failed : c.write_printed.result ≡ Err Sink = search rules in
+    history-begun c.args.order _ _ c.args.script.now c.in-Ok.job _ _ c.in-Ok.ensures.job
+    (c.requires.serves _ _ (gave_at g.C.FnOnce c.in-Ok-carry_out.ensures refl)) (c.write_printed.ensures.front failed)
+
+-- ## the line of a refusal
+
+pub returns-in_ok-write_refusal-in-Err-clause-all : goal.returns-in_ok-write_refusal-in-Err-clause-all
+returns-in_ok-write_refusal-in-Err-clause-all g c =
+    refusal-replied c.args.order _ _ c.args.script.now c.in-Err.fault
+    (real-refusal c.args.script.now c.in-Err.fault c.in-Err.ensures.refused (c.in_ok-write_refusal-in-Err.ensures.refused (λ e. cc)))
+    c.in_ok-write_refusal-in-Err.ensures.all
+
+pub returns-in_err-write_refusal-in-Err-clause-front : goal.returns-in_err-write_refusal-in-Err-clause-front
+returns-in_err-write_refusal-in-Err-clause-front g c = λ e.
+    let failed : c.write_refusal.result ≡ Err Sink = search rules in
+    refusal-begun c.args.order _ _ c.args.script.now c.in-Err.fault
+    (real-refusal c.args.script.now c.in-Err.fault c.in-Err.ensures.refused (c.write_refusal.ensures.refused (λ e'. cc)))
+    (c.write_refusal.ensures.front failed)
