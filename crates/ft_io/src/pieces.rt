@@ -46,7 +46,8 @@ impl Pieces {
     }
 
     /// Puts the bytes after those before. It takes no memory.
-    #[inline]
+    // In place, a few bytes that are known there are put by a store or two.
+    #[inline(always)]
     pub fn put<K: Sink>(&mut self, sink: &mut K, bytes: &[u8])
         ensures { Puts K.holds K.faults bytes.now sink.old self.old sink.new self.new }
     {
@@ -58,6 +59,8 @@ impl Pieces {
     }
 
     /// Writes the piece that is held, and puts the bytes after it.
+    #[cold]
+    #[inline(never)]
     fn put_after_piece<K: Sink>(&mut self, sink: &mut K, bytes: &[u8])
         ensures { Puts K.holds K.faults bytes.now sink.old self.old sink.new self.new }
     {

@@ -116,6 +116,7 @@ fn put_answer<K: Sink>(pieces: &mut Pieces, sink: &mut K, names: &Names, answer:
 }
 
 /// Puts a word, which ends with a space, a call and a user.
+#[inline(always)]
 fn put_visit<K: Sink>(
     pieces: &mut Pieces,
     sink: &mut K,
