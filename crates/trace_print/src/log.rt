@@ -17,7 +17,7 @@ use ft_base::{Answer, CallNo, Ctx, Item, NoMemory, Ran, Reason, UserNo};
 use ft_hist::History;
 use ft_io::{Pieces, Sink, WriteFail};
 use ft_machine::Job;
-use itoa::Buffer;
+use itoa::write_digits;
 use std::alloc::Global;
 use thiserror::Error;
 
@@ -36,8 +36,10 @@ pub enum LogFail {
 fn put_number<K: Sink>(pieces: &mut Pieces, sink: &mut K, n: u32)
     ensures { Puts K.holds K.faults (decimal n) sink.old pieces.old sink.new pieces.new }
 {
-    let mut buffer = Buffer::new();
-    pieces.put(sink, buffer.format(n).as_bytes());
+    // No number of 32 bits has more digits.
+    let mut digits = [0; 10];
+    let start = write_digits(u64::from(n), &mut digits, 10);
+    pieces.put(sink, &digits[start..]);
 }
 
 /// Puts a call: the pid of its task, a dot and its number.
@@ -115,7 +117,7 @@ fn put_answer<K: Sink>(pieces: &mut Pieces, sink: &mut K, names: &Names, answer:
     }
 }
 
-/// Puts a word, which ends with a space, a call and a user.
+/// Puts a word between two spaces, a call and a user.
 #[inline(always)]
 fn put_visit<K: Sink>(
     pieces: &mut Pieces,
@@ -135,18 +137,18 @@ fn put_visit<K: Sink>(
     pieces.put(sink, names.user(user).as_bytes());
 }
 
-/// Puts what an item says after its place.
+/// Puts a space, and what an item says after its place.
 fn put_item<K: Sink>(pieces: &mut Pieces, sink: &mut K, names: &Names, item: &Item)
-    ensures { Puts K.holds K.faults (joined (item_words names.now item.now))
+    ensures { Puts K.holds K.faults (codes " " ++ joined (item_words names.now item.now))
         sink.old pieces.old sink.new pieces.new }
 {
     match *item {
         Item::Begin { k } => {
-            pieces.put(sink, b"begin ");
+            pieces.put(sink, b" begin ");
             put_number(pieces, sink, k);
         }
         Item::Return { k, answer } => {
-            pieces.put(sink, b"return ");
+            pieces.put(sink, b" return ");
             put_number(pieces, sink, k);
             pieces.put(sink, b" ");
             put_answer(pieces, sink, names, answer);
@@ -157,7 +159,7 @@ fn put_item<K: Sink>(pieces: &mut Pieces, sink: &mut K, names: &Names, item: &It
             func,
             caller,
         } => {
-            pieces.put(sink, b"enter ");
+            pieces.put(sink, b" enter ");
             put_call(pieces, sink, names, call);
             pieces.put(sink, b" ");
             pieces.put(sink, context_name(ctx).as_bytes());
@@ -166,17 +168,17 @@ fn put_item<K: Sink>(pieces: &mut Pieces, sink: &mut K, names: &Names, item: &It
             pieces.put(sink, b" ");
             put_caller(pieces, sink, names, caller);
         }
-        Item::Back { call, user } => put_visit(pieces, sink, names, b"back ", call, user),
-        Item::BackEnd { call, user } => put_visit(pieces, sink, names, b"back-end ", call, user),
+        Item::Back { call, user } => put_visit(pieces, sink, names, b" back ", call, user),
+        Item::BackEnd { call, user } => put_visit(pieces, sink, names, b" back-end ", call, user),
         Item::Refuse { call, user, reason } => {
-            put_visit(pieces, sink, names, b"refuse ", call, user);
+            put_visit(pieces, sink, names, b" refuse ", call, user);
             pieces.put(sink, b" ");
             pieces.put(sink, reason_name(reason).as_bytes());
         }
-        Item::Miss { call, user } => put_visit(pieces, sink, names, b"miss ", call, user),
+        Item::Miss { call, user } => put_visit(pieces, sink, names, b" miss ", call, user),
         Item::Body { call, func, ran } => {
             let (word, user) = ran_parts(names, ran);
-            pieces.put(sink, b"body ");
+            pieces.put(sink, b" body ");
             put_call(pieces, sink, names, call);
             pieces.put(sink, b" ");
             pieces.put(sink, names.function(func).as_bytes());
@@ -185,17 +187,17 @@ fn put_item<K: Sink>(pieces: &mut Pieces, sink: &mut K, names: &Names, item: &It
             pieces.put(sink, user.as_bytes());
         }
         Item::Leave { call } => {
-            pieces.put(sink, b"leave ");
+            pieces.put(sink, b" leave ");
             put_call(pieces, sink, names, call);
         }
         Item::Exit { call, user, entry } => {
-            put_visit(pieces, sink, names, b"exit ", call, user);
+            put_visit(pieces, sink, names, b" exit ", call, user);
             pieces.put(sink, b" ");
             put_number(pieces, sink, entry);
         }
-        Item::ExitEnd { call, user } => put_visit(pieces, sink, names, b"exit-end ", call, user),
+        Item::ExitEnd { call, user } => put_visit(pieces, sink, names, b" exit-end ", call, user),
         Item::Ret { call, to } => {
-            pieces.put(sink, b"ret ");
+            pieces.put(sink, b" ret ");
             put_call(pieces, sink, names, call);
             pieces.put(sink, b" ");
             put_caller(pieces, sink, names, to);
@@ -209,7 +211,6 @@ fn put_line<K: Sink>(pieces: &mut Pieces, sink: &mut K, names: &Names, place: u3
         sink.old pieces.old sink.new pieces.new }
 {
     put_number(pieces, sink, place);
-    pieces.put(sink, b" ");
     put_item(pieces, sink, names, item);
     pieces.put(sink, b"\n");
 }

@@ -20,7 +20,7 @@ returns-in-Enter g c = rw c.in-Enter.is (puts-then c.put-in-Enter.ensures (puts-
     (puts-then (puts-equal (c.as_bytes-in-Enter.ensures.value ∙ c.function.ensures) c.put-in-Enter-5.ensures) (puts-then c.put-in-Enter-6.ensures c.put_caller.ensures)))))))
 
 pub returns-in-Refuse : goal.returns-in-Refuse
-returns-in-Refuse g c = rw c.in-Refuse.is (puts-equal (visit-more (codes "refuse ") (call_word c.args.names.now c.in-Refuse.call) (user_word c.args.names.now c.in-Refuse.user.0) (codes " " ++ reason_word c.in-Refuse.reason))
+returns-in-Refuse g c = rw c.in-Refuse.is (puts-equal (visit-more (codes " refuse ") (call_word c.args.names.now c.in-Refuse.call) (user_word c.args.names.now c.in-Refuse.user.0) (codes " " ++ reason_word c.in-Refuse.reason))
     (puts-then c.put_visit-in-Refuse.ensures (puts-then c.put-in-Refuse.ensures (puts-equal (c.as_bytes-in-Refuse.ensures.value ∙ c.reason_name.ensures) c.put-in-Refuse-2.ensures))))
 
 pub returns-in-Body : goal.returns-in-Body
@@ -33,7 +33,7 @@ pub returns-in-Leave : goal.returns-in-Leave
 returns-in-Leave g c = rw c.in-Leave.is (puts-then c.put-in-Leave.ensures c.put_call-in-Leave.ensures)
 
 pub returns-in-Exit : goal.returns-in-Exit
-returns-in-Exit g c = rw c.in-Exit.is (puts-equal (visit-more (codes "exit ") (call_word c.args.names.now c.in-Exit.call) (user_word c.args.names.now c.in-Exit.user.0) (codes " " ++ decimal c.in-Exit.entry))
+returns-in-Exit g c = rw c.in-Exit.is (puts-equal (visit-more (codes " exit ") (call_word c.args.names.now c.in-Exit.call) (user_word c.args.names.now c.in-Exit.user.0) (codes " " ++ decimal c.in-Exit.entry))
     (puts-then c.put_visit-in-Exit.ensures (puts-then c.put-in-Exit.ensures c.put_number-in-Exit.ensures)))
 
 pub returns-in-Ret : goal.returns-in-Ret
