@@ -26,3 +26,5 @@ pub mod WalkLaws
 pub mod PartLaws
 pub mod GraphUsers
 pub mod TaskLists
+pub mod InColumns
+pub mod LineTexts

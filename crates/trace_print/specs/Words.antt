@@ -46,6 +46,11 @@ zeros_in width digits = replicate (width - length digits) 48 ++ digits
 
 -- ## one text after the other
 
+-- the texts of lines, in order
+abbrev pub lines_text : {L : Type 0} → (L → List ℕ) → List L → List ℕ
+lines_text text [] = []
+lines_text text (line ∷ lines) = text line ++ lines_text text lines
+
 -- the texts of the items of a history, in order; each is told the items before it, the latest first, and those after it
 abbrev pub item_texts : (List Item → Item → List Item → List ℕ) → List Item → List Item → List ℕ
 item_texts text past [] = []

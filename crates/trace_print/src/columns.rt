@@ -1,9 +1,69 @@
-//! What the texts share: columns of spaces, and the last line.
+//! What the texts share: numbers, columns, and the last line.
 
-ghost use Rattle.std.specs.Prelude.{◌≡◌, ◌++◌, OnOk, string_bytes};
-ghost use Rattle.trace_print.specs.Words.{spaces, last_line};
+ghost use Rattle.std.specs.Prelude.{◌≡◌, ◌*◌, ◌≤◌, ◌++◌, OnOk, string_bytes};
+ghost use Rattle.std.specs.Fmt.{decimal};
+ghost use Rattle.ft_io.specs.Pieces.{Puts};
+ghost use Rattle.trace_print.specs.Words.{spaces, right_in, zeros_in, last_line};
 
+use ft_io::{Pieces, Sink};
+use itoa::write_digits;
 use std::alloc::AllocError;
+
+/// The most digits that a number of 32 bits has.
+const DIGITS: usize = 10;
+
+/// What comes before a number in a column.
+const SPACES: &[u8] = b"        ";
+const ZEROS: &[u8] = b"000";
+
+/// The digits of a number, in decimal.
+fn decimal_digits(room: &mut [u8; DIGITS], n: u32) -> &[u8]
+    ensures { result.now ≡ decimal n }
+{
+    let start = write_digits(u64::from(n), room, 10);
+    &room[start..]
+}
+
+/// Puts a number, in decimal.
+pub(crate) fn put_number<K: Sink>(pieces: &mut Pieces, sink: &mut K, n: u32)
+    ensures { Puts K.holds K.faults (decimal n) sink.old pieces.old sink.new pieces.new }
+{
+    let mut room = [0; DIGITS];
+    pieces.put(sink, decimal_digits(&mut room, n));
+}
+
+/// Puts a number at the right of a column of at most eight, which a longer number exceeds.
+pub(crate) fn put_right<K: Sink>(pieces: &mut Pieces, sink: &mut K, width: usize, n: u32)
+    requires { width ≤ 8 }
+    ensures { Puts K.holds K.faults (right_in width (decimal n))
+        sink.old pieces.old sink.new pieces.new }
+{
+    let mut room = [0; DIGITS];
+    let number = decimal_digits(&mut room, n);
+    pieces.put(sink, &SPACES[..width.saturating_sub(number.len())]);
+    pieces.put(sink, number);
+}
+
+/// Puts a number with zeros before it, up to three places.
+pub(crate) fn put_three_digits<K: Sink>(pieces: &mut Pieces, sink: &mut K, n: u32)
+    ensures { Puts K.holds K.faults (zeros_in 3 (decimal n))
+        sink.old pieces.old sink.new pieces.new }
+{
+    let mut room = [0; DIGITS];
+    let number = decimal_digits(&mut room, n);
+    pieces.put(sink, &ZEROS[..ZEROS.len().saturating_sub(number.len())]);
+    pieces.put(sink, number);
+}
+
+/// Puts two spaces for each level.
+pub(crate) fn put_indent<K: Sink>(pieces: &mut Pieces, sink: &mut K, level: u32)
+    ensures { Puts K.holds K.faults (spaces (2 * level))
+        sink.old pieces.old sink.new pieces.new }
+{
+    for _ in 0..level {
+        pieces.put(sink, b"  ");
+    }
+}
 
 /// Adds this many spaces.
 pub(crate) fn push_spaces(text: &mut String, n: u32) -> Result<(), AllocError>

@@ -24,6 +24,7 @@ mod graph;
 mod grown;
 pub mod laws;
 mod leaves;
+mod lines;
 mod log;
 mod names;
 mod profile;

@@ -1,7 +1,6 @@
 //! The text of a history, form log: a line for each item, and a last line.
 
 ghost use Rattle.std.specs.Prelude.{◌≡◌, ◌≤◌, [], ◌∷◌, ◌++◌, IfOk, OnOk, OnErr, codes};
-ghost use Rattle.std.specs.Fmt.{decimal};
 ghost use Rattle.std.specs.Io.KnownBytes.{Appends};
 ghost use Rattle.ft_io.specs.Causes.{Rose, AppendsFront};
 ghost use Rattle.ft_io.specs.Pieces.{nothing, Puts};
@@ -10,14 +9,13 @@ ghost use Rattle.trace_print.specs.LogText.{call_word, caller_word};
 ghost use Rattle.trace_print.specs.LogText.{context_word, reason_word, ran_words, answer_words, joined};
 ghost use Rattle.trace_print.specs.LogText.{item_words, log_line, log_text};
 
-use crate::columns::last_line;
+use crate::columns::{last_line, put_number};
 use crate::grown::GrownText;
 use crate::names::Names;
 use ft_base::{Answer, CallNo, Ctx, Item, NoMemory, Ran, Reason, UserNo};
 use ft_hist::History;
 use ft_io::{Pieces, Sink, WriteFail};
 use ft_machine::Job;
-use itoa::write_digits;
 use std::alloc::Global;
 use thiserror::Error;
 
@@ -30,16 +28,6 @@ pub enum LogFail {
     /// The sink failed: its count of faults rose, and a beginning of the log was appended.
     #[error("the sink failed")]
     Sink,
-}
-
-/// Puts a number, in decimal.
-fn put_number<K: Sink>(pieces: &mut Pieces, sink: &mut K, n: u32)
-    ensures { Puts K.holds K.faults (decimal n) sink.old pieces.old sink.new pieces.new }
-{
-    // No number of 32 bits has more digits.
-    let mut digits = [0; 10];
-    let start = write_digits(u64::from(n), &mut digits, 10);
-    pieces.put(sink, &digits[start..]);
 }
 
 /// Puts a call: the pid of its task, a dot and its number.

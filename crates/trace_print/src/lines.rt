@@ -1,0 +1,40 @@
+//! The lines of a view. A view is worked out line by line, as numbers, and then put: what takes
+//! memory comes before the first byte that is written.
+
+ghost use Rattle.ft_io.specs.Pieces.{Puts};
+ghost use Rattle.trace_print.specs.Words.{lines_text};
+
+use crate::names::Names;
+use ft_io::{Pieces, Sink};
+
+/// A line of a view, as numbers.
+pub(crate) trait Line {
+    ghost use Rattle.std.specs.Prelude.{ℕ, List};
+    ghost use Rattle.ft_base.specs.Job.{Job};
+
+    /// Its text, with the names of a job.
+    ghost text: { Job → Self → List ℕ };
+
+    /// Puts its text. It takes no memory.
+    fn put<K: Sink>(&self, pieces: &mut Pieces, sink: &mut K, names: &Names)
+        ensures { Puts K.holds K.faults (text names.now self.now)
+            sink.old pieces.old sink.new pieces.new };
+}
+
+/// Puts the lines of a view, up to the first after the sink has failed.
+pub(crate) fn put_lines<L: Line, K: Sink>(
+    pieces: &mut Pieces,
+    sink: &mut K,
+    names: &Names,
+    lines: &[L],
+)
+    ensures { Puts K.holds K.faults (lines_text (L.text names.now) lines.now)
+        sink.old pieces.old sink.new pieces.new }
+{
+    for line in lines {
+        if pieces.has_failed() {
+            return;
+        }
+        line.put(pieces, sink, names);
+    }
+}
