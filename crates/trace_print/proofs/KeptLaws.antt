@@ -22,7 +22,7 @@ use Rattle.ft_hist.proofs.RunLaws.{some_inj, sound}
 use Rattle.ft_hist.proofs.WindowLaws.{entry_of-more}
 use Rattle.trace_print.specs.declared.function.OpenCall.{OpenCall}
 use Rattle.trace_print.specs.FunctionText.{body_of, running, parent_word}
-use Rattle.trace_print.specs.KeptCalls.{func_no, kept_call, HasOpenCalls, runs, parent_in}
+use Rattle.trace_print.specs.KeptCalls.{func_no, kept_call, HasOpenCalls, runs, parent_name}
 use Rattle.trace_print.specs.OpenCalls.{open_calls}
 use Rattle.trace_print.specs.Words.{function_word}
 use Rattle.trace_print.specs.TaskStacks.{stack_at, with_top}
@@ -138,14 +138,14 @@ module _ (job : Job) (past : List Item) (stacks : List (List OpenCall)) (told : 
       ap (λ (os : List OpenCall). slice_get os 1) (stack-top call (Back call u ∷ past) w) ∙ first-kept past w.below ∙ ap (λ (o : Option CallNo). option_map (kept_call past) o) (sym links.0)
 
 -- what a kept call is in
-runs-is : (past : List Item) (call : CallNo) → runs (kept_call past call) ≡ running call past
+runs-is : (past : List Item) (call : CallNo) → runs (kept_call past call) ≡ func_no (running call past)
 runs-is past call = of (body_of call past) refl
   where
-    of : (b : Option ℕ) → body_of call past ≡ b → runs (kept_call past call) ≡ running call past
+    of : (b : Option ℕ) → body_of call past ≡ b → runs (kept_call past call) ≡ func_no (running call past)
     of None e = rw e refl
     of (Some g) e = rw e refl
 
 -- so the parent that is printed is the caller's function
-pub parent-is : (job : Job) (past : List Item) (caller : Option CallNo) → parent_in job (option_map (kept_call past) caller) ≡ parent_word job past caller
+pub parent-is : (job : Job) (past : List Item) (caller : Option CallNo) → parent_name job (option_map runs (option_map (kept_call past) caller)) ≡ parent_word job past caller
 parent-is job past None = refl
-parent-is job past (Some call) = ap (λ (f : ℕ). function_word job f) (runs-is past call)
+parent-is job past (Some call) = ap (λ (f : FuncNo). function_word job f.0) (runs-is past call)

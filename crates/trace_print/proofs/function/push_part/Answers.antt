@@ -1,7 +1,9 @@
 use Rattle.std.proofs.Common.{◌∙◌, sym, ap, ◌++◌, List, ℕ}
-use Rattle.std.specs.Prelude.{string_bytes}
-use Rattle.std.proofs.lemmas.Result.{on_ok_weaker}
+use Rattle.trace_print.specs.KeptCalls.{function_line_text}
+use Rattle.trace_print.specs.Words.{lines_text}
 use Rattle.trace_print.proofs.FunctionLines.{back-task, back-top, back-line}
+use Rattle.trace_print.proofs.LineTexts.{line-after}
+use Rattle.trace_print.proofs.Results.{on_ok_if}
 use Rattle.trace_print.proofs.function.push_part.Goals as goal
 
 pub top-requires : goal.top-requires
@@ -15,8 +17,8 @@ unreachable-requires c =
 
 pub returns : goal.returns
 returns c =
-    on_ok_weaker c.push_line.result
-    (λ pushed. pushed ∙ ap (λ (line : List ℕ). string_bytes c.args.text.now ++ line)
+    on_ok_if c.map_err.result
+    (λ done. ap (lines_text (function_line_text c.args.names.now)) (rw (sym c.map_err.ensures.variant ∙ done) at c.push.ensures.items) ∙ line-after (function_line_text c.args.names.now) c.args.lines.now.items _
+    ∙ ap (λ (line : List ℕ). lines_text (function_line_text c.args.names.now) c.args.lines.now.items ++ line)
     (back-line c.args.names.now c.args.history.now.items c.args.place c.item.result.now c.in-Back.call c.in-Back.user c.args.calls.now c.item.ensures c.in-Back.is c.requires.legal c.requires.calls
-    (sym c.is_function.ensures ∙ c.if-not-is_function.false) c.in-Some.top (sym c.in-Some.is ∙ c.top.ensures) c.parent_name-parent.result.now c.parent_name-parent.ensures))
-    c.push_line.ensures
+    (sym c.is_function.ensures ∙ c.if-not-is_function.false) c.in-Some.top (sym c.in-Some.is ∙ c.top.ensures) c.parent_of.result c.parent_of.ensures))

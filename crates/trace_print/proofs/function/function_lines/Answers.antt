@@ -1,10 +1,9 @@
-use Rattle.std.proofs.Common.{refl, sym, arith, add-one}
-use Rattle.trace_print.specs.FunctionText.{function_part, function_text}
+use Rattle.std.proofs.Common.{arith, add-one}
+use Rattle.trace_print.specs.FunctionText.{function_part}
 use Rattle.trace_print.specs.Places.{past_at}
 use Rattle.trace_print.proofs.ItemTexts.{legal-at, past-next, texts-more, texts-all}
-use Rattle.trace_print.proofs.Results.{from_ok}
 use Rattle.trace_print.proofs.TopCalls.{named}
-use Rattle.trace_print.proofs.function.function_text.Goals as goal
+use Rattle.trace_print.proofs.function.function_lines.Goals as goal
 
 pub follow-requires : goal.follow-requires
 follow-requires c = λ t own.
@@ -18,12 +17,8 @@ loop-place-preserved c = record {
       (c.in_ok-follow.ensures c.args.names.now (past_at c.loop-place.place c.args.history.now.items)
       (legal-at c.args.history.now.items c.loop-place.place c.item.result.now c.item.ensures c.args.names.now c.requires) c.loop-place.invariant.open_calls);
   texts = texts-more c.args.history.now.items c.loop-place.place c.item.result.now c.item.ensures (function_part c.args.names.now) _ _ _
-      (from_ok c.push_part.result (sym c.in_ok-map_err.ensures.variant) c.push_part.ensures) c.loop-place.invariant.texts;
+      c.in_ok-push_part.ensures c.loop-place.invariant.texts;
 }
 
 pub returns : goal.returns
-unfolding function_text
-returns c =
-    let all = texts-all (function_part c.args.names.now) c.args.history.now.items c.loop-place.place _ _ (omega arith) c.loop-place.invariant.texts in
-    let written = rw (sym c.in_ok-map_err-2.ensures.variant) at c.push_str.ensures.bytes in
-    rw (written, all, c.last_line.ensures) refl
+returns c = texts-all (function_part c.args.names.now) c.args.history.now.items c.loop-place.place _ _ (omega arith) c.loop-place.invariant.texts
