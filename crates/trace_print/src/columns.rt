@@ -1,19 +1,19 @@
 //! What the texts share: numbers, columns, and the last line.
 
-ghost use Rattle.std.specs.Prelude.{◌≡◌, ◌*◌, ◌≤◌, ◌++◌, OnOk, string_bytes};
+ghost use Rattle.std.specs.Prelude.{◌≡◌, ◌*◌, ◌≤◌};
 ghost use Rattle.std.specs.Fmt.{decimal};
 ghost use Rattle.ft_io.specs.Pieces.{Puts};
 ghost use Rattle.trace_print.specs.Words.{spaces, right_in, zeros_in, last_line};
 
 use ft_io::{Pieces, Sink};
 use itoa::write_digits;
-use std::alloc::AllocError;
 
 /// The most digits that a number of 32 bits has.
 const DIGITS: usize = 10;
 
 /// What comes before a number in a column.
 const SPACES: &[u8] = b"        ";
+
 const ZEROS: &[u8] = b"000";
 
 /// The digits of a number, in decimal.
@@ -63,16 +63,6 @@ pub(crate) fn put_indent<K: Sink>(pieces: &mut Pieces, sink: &mut K, level: u32)
     for _ in 0..level {
         pieces.put(sink, b"  ");
     }
-}
-
-/// Adds this many spaces.
-pub(crate) fn push_spaces(text: &mut String, n: u32) -> Result<(), AllocError>
-    ensures { OnOk result (string_bytes text.new ≡ string_bytes text.old ++ spaces n) }
-{
-    for _ in 0..n {
-        text.push_str(" ")?;
-    }
-    Ok(())
 }
 
 /// The last line, which says whether every actor is at its end.

@@ -1,39 +1,30 @@
-//! The text of a history, form graph: for each graph user its calls as nested blocks.
+//! The lines of a history, form graph: for each graph user its calls as nested blocks.
 
-ghost use Rattle.std.specs.Prelude.{◌≡◌, ℕ, ◌+◌, ◌-◌, ◌<◌, ◌≤◌, ◌^◌, ◌++◌, List, [], Option, Some, None, length, reverse, drop, slice_set, slice_index, slice_index_or, IfOk, OnOk, IfSome, string_bytes};
+ghost use Rattle.std.specs.Prelude.{◌≡◌, ℕ, ◌+◌, ◌-◌, ◌<◌, ◌≤◌, ◌^◌, ◌++◌, List, [], Option, Some, None, length, reverse, drop, slice_set, slice_index, slice_index_or, IfOk, OnOk, IfSome};
 ghost use Rattle.ft_base.specs.declared.item.Item.{Item as PlainItem};
+ghost use Rattle.ft_base.specs.Job.{Job as PlainJob};
 ghost use Rattle.ft_base.specs.Desk.{spec_at};
 ghost use Rattle.ft_hist.specs.Rules.{IsLegal};
 ghost use Rattle.trace_print.specs.Places.{part_at};
-ghost use Rattle.trace_print.specs.Words.{function_word, item_texts, is_graph};
+ghost use Rattle.trace_print.specs.Words.{item_texts, user_texts, lines_text, is_graph};
 ghost use Rattle.trace_print.specs.TaskStacks.{stack_at, with_top};
 ghost use Rattle.trace_print.specs.Leaves.{leaf_exits};
-ghost use Rattle.trace_print.specs.GraphText.{time_column, graph_part, graph_text, user_graph};
-ghost use Rattle.trace_print.specs.GraphLines.{graph_front, entry_text, exit_text, top_at, with_back, first_leaf, time_to, is_at, IsWalk, IsWalkAt};
+ghost use Rattle.trace_print.specs.GraphText.{graph_part, user_graph};
+ghost use Rattle.trace_print.specs.GraphLines.{graph_line_text, top_at, with_back, first_leaf, time_to, is_at, IsWalk, IsWalkAt};
 
-use crate::columns::{last_line, push_spaces};
+use crate::graph_lines::{GraphLine, Shown};
 use crate::leaves::leaf_exits;
-use crate::names::{Names, TaskName};
+use crate::names::Names;
 use crate::stacks::Stacks;
 use ft_base::{FuncNo, Item, Kind, NoMemory, TaskNo, UserNo};
 use ft_hist::History;
-use std::alloc::{AllocError, Global};
-use std::fmt::Write;
+use std::alloc::Global;
 
 /// An open call: the called function, and how often the user was called back in it.
 #[derive(Clone, Copy)]
 pub(crate) struct GraphCall {
     func: FuncNo,
     backs: u32,
-}
-
-/// An open call as its lines show it: its level is how many other open calls of the task have a
-/// callback of the user.
-#[derive(Clone, Copy)]
-struct Shown {
-    task: TaskNo,
-    func: FuncNo,
-    level: u32,
 }
 
 /// Where a user is in a history.
@@ -196,83 +187,37 @@ impl Walk {
     }
 }
 
-/// Adds the column of a time, which is empty at an entry.
-fn push_time(text: &mut String, time: Option<u32>) -> Result<(), AllocError>
-    ensures { OnOk result (string_bytes text.new ≡ string_bytes text.old ++ time_column time) }
+/// Adds a line.
+fn add_line(lines: &mut Vec<GraphLine>, line: GraphLine) -> Result<(), NoMemory>
+    ensures { OnOk result ((job : PlainJob) → lines_text (graph_line_text job) lines.new.items
+        ≡ lines_text (graph_line_text job) lines.old.items ++ graph_line_text job line) }
 {
-    match time {
-        Some(time) => write!(text, "{time:>8}"),
-        None => push_spaces(text, 8),
-    }
+    lines.push(line).map_err(|_| NoMemory)
 }
 
-/// Adds a line of a task up to its text: the CPU, the pid, the time and the spaces of a level, two
-/// for each.
-fn push_front(
-    text: &mut String,
-    names: &Names,
-    task: TaskNo,
-    time: Option<u32>,
-    level: u32,
-) -> Result<(), AllocError>
-    ensures { OnOk result (string_bytes text.new ≡ string_bytes text.old ++ graph_front names.now task.0 time level) }
-{
-    let TaskName { pid, cpu } = names.task(task);
-    write!(text, "{cpu:>2}) {pid:>7} | ")?;
-    push_time(text, time)?;
-    text.push_str(" | ")?;
-    push_spaces(text, level)?;
-    push_spaces(text, level)
-}
-
-/// Adds the line of an entry callback; a leaf has a time.
-fn push_entry(
-    text: &mut String,
-    names: &Names,
-    shown: Shown,
-    time: Option<u32>,
-) -> Result<(), AllocError>
-    ensures { OnOk result (string_bytes text.new
-        ≡ string_bytes text.old ++ entry_text names.now shown.task.0 shown.level (function_word names.now shown.func.0) time) }
-{
-    let function = names.function(shown.func);
-    push_front(text, names, shown.task, time, shown.level)?;
-    match time {
-        None => writeln!(text, "{function}() {{"),
-        Some(_) => writeln!(text, "{function}();"),
-    }
-}
-
-/// Adds the line of an exit callback.
-fn push_exit(text: &mut String, names: &Names, shown: Shown, time: u32) -> Result<(), AllocError>
-    ensures { OnOk result (string_bytes text.new
-        ≡ string_bytes text.old ++ exit_text names.now shown.task.0 shown.level (function_word names.now shown.func.0) time) }
-{
-    let function = names.function(shown.func);
-    push_front(text, names, shown.task, Some(time), shown.level)?;
-    writeln!(text, "}} /* {function} */")
-}
-
-/// Adds what the item at a place prints for the user.
-fn push_part(
-    text: &mut String,
-    names: &Names,
+/// Adds the line that the item at a place prints for the user, if it prints one.
+fn add_part(
+    lines: &mut Vec<GraphLine>,
     history: &History,
     place: u32,
     user: UserNo,
     walk: &Walk,
-) -> Result<(), AllocError>
+) -> Result<(), NoMemory>
     requires place { place < length history.now.items }
     requires so_far { IsWalkAt user.0 (length walk.now.open) place history.now.items walk.now }
-    ensures { OnOk result (string_bytes text.new
-        ≡ string_bytes text.old ++ part_at (graph_part names.now user.0) place history.now.items) }
+    ensures { OnOk result ((job : PlainJob) → lines_text (graph_line_text job) lines.new.items
+        ≡ lines_text (graph_line_text job) lines.old.items ++ part_at (graph_part job user.0) place history.now.items) }
 {
     match *history.item(place) {
         Item::Back { call, user: whose } => {
             if whose != user {
                 return Ok(());
             }
-            push_entry(text, names, walk.shown(call.task), walk.time(place))
+            let line = GraphLine::Entry {
+                shown: walk.shown(call.task),
+                time: walk.time(place),
+            };
+            add_line(lines, line)
         }
         Item::Exit {
             call,
@@ -282,29 +227,33 @@ fn push_part(
             if whose != user || walk.ends_leaf(call.task, entry) {
                 return Ok(());
             }
-            push_exit(text, names, walk.shown(call.task), place - entry)
+            let line = GraphLine::Exit {
+                shown: walk.shown(call.task),
+                time: place - entry,
+            };
+            add_line(lines, line)
         }
         _ => Ok(()),
     }
 }
 
 /// Adds the lines of a user.
-fn push_user(
+fn add_user(
     alloc: Global,
-    text: &mut String,
+    lines: &mut Vec<GraphLine>,
     names: &Names,
     history: &History,
     user: UserNo,
 ) -> Result<(), NoMemory>
     requires { IsLegal names.now history.now.items }
-    ensures { OnOk result (string_bytes text.new
-        ≡ string_bytes text.old ++ item_texts (graph_part names.now user.0) [] history.now.items) }
+    ensures { OnOk result (lines_text (graph_line_text names.now) lines.new.items
+        ≡ lines_text (graph_line_text names.now) lines.old.items ++ item_texts (graph_part names.now user.0) [] history.now.items) }
 {
     let tasks = names.job().tasks();
     let leaves = leaf_exits(alloc, history, tasks, user)?;
     let mut walk = Walk::new(alloc, tasks, leaves)?;
     for place in 0..history.len() {
-        push_part(text, names, history, place, user, &walk).map_err(|_| NoMemory)?;
+        add_part(lines, history, place, user, &walk)?;
         walk.follow(history, place, user)?;
     }
     Ok(())
@@ -318,9 +267,9 @@ fn is_graph(kind: Kind) -> bool
 }
 
 /// Adds what a user prints: if it is a graph user, a line with its name and its lines.
-fn push_graph(
+fn add_graph(
     alloc: Global,
-    text: &mut String,
+    lines: &mut Vec<GraphLine>,
     names: &Names,
     history: &History,
     user: UserNo,
@@ -328,33 +277,31 @@ fn push_graph(
 ) -> Result<(), NoMemory>
     requires legal { IsLegal names.now history.now.items }
     requires kind { kind ≡ (spec_at names.now user.0).kind }
-    ensures { OnOk result (string_bytes text.new
-        ≡ string_bytes text.old ++ user_graph names.now history.now.items user.0 (spec_at names.now user.0)) }
+    ensures { OnOk result (lines_text (graph_line_text names.now) lines.new.items
+        ≡ lines_text (graph_line_text names.now) lines.old.items ++ user_graph names.now history.now.items user.0 (spec_at names.now user.0)) }
 {
     if !is_graph(kind) {
         return Ok(());
     }
-    let name = names.user(user);
-    writeln!(text, "# user {name}").map_err(|_| NoMemory)?;
-    push_user(alloc, text, names, history, user)
+    add_line(lines, GraphLine::User(user))?;
+    add_user(alloc, lines, names, history, user)
 }
 
-/// The text, form graph.
-pub(crate) fn graph_text(
+/// The lines of a history, form graph. The error says that memory ran out.
+pub(crate) fn graph_lines(
     alloc: Global,
     names: &Names,
     history: &History,
-    ended: bool,
-) -> Result<String, NoMemory>
+) -> Result<Vec<GraphLine>, NoMemory>
     requires { IsLegal names.now history.now.items }
-    ensures { IfOk result (λ text. string_bytes text ≡ graph_text names.now history.now.items ended) }
+    ensures { IfOk result (λ lines. lines_text (graph_line_text names.now) lines.items
+        ≡ user_texts (user_graph names.now history.now.items) 0 names.now.users) }
 {
-    let mut text = String::new(alloc);
+    let mut lines = Vec::new(alloc);
     let specs = names.job().specs();
     for u in 0..names.job().users() {
         let kind = specs[u as usize].kind;
-        push_graph(alloc, &mut text, names, history, UserNo(u), kind)?;
+        add_graph(alloc, &mut lines, names, history, UserNo(u), kind)?;
     }
-    text.push_str(last_line(ended)).map_err(|_| NoMemory)?;
-    Ok(text)
+    Ok(lines)
 }

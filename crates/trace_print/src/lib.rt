@@ -21,6 +21,7 @@ mod enabled;
 mod forms;
 mod function;
 mod graph;
+mod graph_lines;
 mod grown;
 pub mod laws;
 mod leaves;

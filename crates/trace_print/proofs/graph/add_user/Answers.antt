@@ -5,8 +5,7 @@ use Rattle.trace_print.specs.GraphText.{graph_part}
 use Rattle.trace_print.specs.GraphLines.{IsWalkAt}
 use Rattle.trace_print.proofs.GraphUsers.{tasks-in, walk-start, texts-next}
 use Rattle.trace_print.proofs.ItemTexts.{texts-all}
-use Rattle.trace_print.proofs.Results.{from_ok}
-use Rattle.trace_print.proofs.graph.push_user.Goals as goal
+use Rattle.trace_print.proofs.graph.add_user.Goals as goal
 
 pub leaf_exits-requires : goal.leaf_exits-requires
 leaf_exits-requires c =
@@ -20,8 +19,8 @@ loop-place-init c = record {
   so_far = refl;
 }
 
-pub push_part-requires-clause-so_far : goal.push_part-requires-clause-so_far
-push_part-requires-clause-so_far c =
+pub add_part-requires-clause-so_far : goal.add_part-requires-clause-so_far
+add_part-requires-clause-so_far c =
     let kept = c.loop-place.invariant.kept in
     subst (λ n. IsWalkAt c.args.user.0 n c.loop-place.place c.args.history.now.items c.loop-place.walk) (sym kept.kept.open'.tasks') kept
 
@@ -34,7 +33,7 @@ pub loop-place-preserved : goal.loop-place-preserved
 loop-place-preserved c = record {
   kept = subst (λ n. IsWalkAt c.args.user.0 n (c.loop-place.place + 1) c.args.history.now.items c.follow.new.self) c.loop-place.invariant.kept.kept.open'.tasks' c.in_ok-follow.ensures;
   so_far = texts-next (graph_part c.args.names.now c.args.user.0) c.args.history.now.items c.loop-place.place _ _ _ (omega arith)
-      (from_ok c.push_part.result (sym c.in_ok-map_err.ensures.variant) c.push_part.ensures) c.loop-place.invariant.so_far;
+      (c.in_ok-add_part.ensures c.args.names.now) c.loop-place.invariant.so_far;
 }
 
 pub returns : goal.returns

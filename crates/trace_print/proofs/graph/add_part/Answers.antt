@@ -1,12 +1,13 @@
 -- A callback's line is by the latest open call of its task.
 use Rattle.std.proofs.Common.{◌==◌, ◌++◌, length, sym, ap, ◌∙◌, arith}
-use Rattle.std.specs.Prelude.{string_bytes}
 use Rattle.std.proofs.lemmas.Result.{on_ok_weaker}
 use Rattle.ft_base.specs.declared.item.Item.TheVariants.{Back, Exit}
+use Rattle.trace_print.specs.Words.{lines_text}
+use Rattle.trace_print.specs.GraphLines.{graph_line_text}
 use Rattle.trace_print.proofs.LeafLaws.{not_false}
 use Rattle.trace_print.proofs.PartLaws.{leaf-after, back-line, exit-line}
 use Rattle.trace_print.proofs.WalkLaws.{Walking, walking-as, nests-here, place-is, in-open, in-levels, in-latest, is-open, backs-within}
-use Rattle.trace_print.proofs.graph.push_part.Goals as goal
+use Rattle.trace_print.proofs.graph.add_part.Goals as goal
 
 pub shown-requires-clause-task : goal.shown-requires-clause-task
 shown-requires-clause-task c =
@@ -68,8 +69,8 @@ shown-requires-in-Exit-clause-backs c =
     let k = walking-as at (Exit c.in-Exit.call c.in-Exit.whose c.in-Exit.entry) c.in-Exit.is in
     backs-within k c.in-Exit.call (nests-here k).0.0
 
-pub overflow_sub-place : goal.overflow_sub-place
-overflow_sub-place c =
+pub overflow_sub-line : goal.overflow_sub-line
+overflow_sub-line c =
     let at : Walking c.args.user.0 (length c.args.walk.now.open) c.args.place c.args.history.now.items c.args.walk.now c.item.result.now = record { at = c.requires.so_far; here = c.item.ensures } in
     let k = walking-as at (Exit c.in-Exit.call c.in-Exit.whose c.in-Exit.entry) c.in-Exit.is in
     let lt = (nests-here k).0.1 in
@@ -80,17 +81,17 @@ pub returns-else-ne : goal.returns-else-ne
 returns-else-ne c =
     let at : Walking c.args.user.0 (length c.args.walk.now.open) c.args.place c.args.history.now.items c.args.walk.now c.item.result.now = record { at = c.requires.so_far; here = c.item.ensures } in
     let k = walking-as at (Back c.in-Back.call c.in-Back.whose) c.in-Back.is in
-    on_ok_weaker c.push_entry.result
-    (λ said. said ∙ ap (λ line. string_bytes c.args.text.now ++ line)
-    (back-line c.args.names.now c.in-Back.call c.shown.result c.shown.ensures.same c.shown.ensures.func c.shown.ensures.shown c.in-Back.whose k (not_false (c.in-Back.whose.0 == c.args.user.0) (sym c.ne.ensures ∙ c.if-ne.false)) c.time.result c.time.ensures))
-    c.push_entry.ensures
+    on_ok_weaker c.add_line.result
+    (λ said job. said job ∙ ap (λ line. lines_text (graph_line_text job) c.args.lines.now.items ++ line)
+    (back-line job c.in-Back.call c.shown.result c.shown.ensures.same c.shown.ensures.func c.shown.ensures.shown c.in-Back.whose k (not_false (c.in-Back.whose.0 == c.args.user.0) (sym c.ne.ensures ∙ c.if-ne.false)) c.time.result c.time.ensures))
+    c.add_line.ensures
 
 pub returns-else-ends_leaf : goal.returns-else-ends_leaf
 returns-else-ends_leaf c =
     let at : Walking c.args.user.0 (length c.args.walk.now.open) c.args.place c.args.history.now.items c.args.walk.now c.item.result.now = record { at = c.requires.so_far; here = c.item.ensures } in
     let k = walking-as at (Exit c.in-Exit.call c.in-Exit.whose c.in-Exit.entry) c.in-Exit.is in
-    on_ok_weaker c.push_exit.result
-    (λ said. said ∙ ap (λ line. string_bytes c.args.text.now ++ line)
-    (exit-line c.args.names.now c.in-Exit.call c.shown-in-Exit.result c.shown-in-Exit.ensures.same c.shown-in-Exit.ensures.func c.shown-in-Exit.ensures.shown c.in-Exit.whose c.in-Exit.entry k
+    on_ok_weaker c.add_line-in-Exit.result
+    (λ said job. said job ∙ ap (λ line. lines_text (graph_line_text job) c.args.lines.now.items ++ line)
+    (exit-line job c.in-Exit.call c.shown-in-Exit.result c.shown-in-Exit.ensures.same c.shown-in-Exit.ensures.func c.shown-in-Exit.ensures.shown c.in-Exit.whose c.in-Exit.entry k
     (not_false (c.in-Exit.whose.0 == c.args.user.0) (sym c.ne-in-Exit.ensures ∙ c.if-ne-2.false)) (sym c.ends_leaf.ensures ∙ c.if-ends_leaf.false)))
-    c.push_exit.ensures
+    c.add_line-in-Exit.ensures
