@@ -1,20 +1,18 @@
 -- The lines of the form enabled, one after the other.
-use Rattle.std.proofs.Common.{◌≡◌, ℕ, suc, ◌+◌, ◌-◌, ◌<◌, ◌≤◌, List, [], ◌++◌, codes, refl, sym, ap, ◌∙◌, subst, arith, append_assoc, append-nil, add-one}
-use Rattle.std.specs.Fmt.{decimal}
-use Rattle.ft_base.specs.declared.item.Ran.{Ran}
+use Rattle.std.proofs.Common.{◌≡◌, false, ℕ, suc, ◌+◌, ◌-◌, ◌<◌, ◌≤◌, ◌==◌, List, [], ◌∷◌, ◌++◌, refl, sym, ap, ◌∙◌, subst, arith, append_assoc, append-nil, add-one}
+use Rattle.std.proofs.lemmas.Bool.Decides.{nat_tests}
 use Rattle.ft_base.specs.Job.{Job}
 use Rattle.ft_base.specs.Desk.{Desk, target}
-use Rattle.site_counts.specs.declared.rows.Row.{Row}
 use Rattle.ft_desk.specs.Sites.{row_at}
-use Rattle.trace_print.specs.Words.{function_word}
-use Rattle.trace_print.specs.LogText.{ran_words, joined}
-use Rattle.trace_print.specs.EnabledText.{flag_column, enabled_line, enabled_part, enabled_lines}
+use Rattle.trace_print.specs.declared.enabled.EnabledLine.{EnabledLine}
+use Rattle.trace_print.specs.Words.{lines_text}
+use Rattle.trace_print.specs.EnabledText.{enabled_line_text, enabled_part, enabled_lines}
+use Rattle.trace_print.proofs.LineTexts.{line-after}
 
-pub enabled_line-pushed : (job : Job) (f : ℕ) (row : Row) (ran : Ran) (old head said new : List ℕ)
-    → head ≡ old ++ (function_word job f ++ (codes " (" ++ (decimal row.count ++ (codes ")" ++ (flag_column (codes "R") row.regs ++ (flag_column (codes "I") row.ipmodify ++ codes " "))))))
-    → said ≡ head ++ joined (ran_words job ran) → new ≡ said ++ codes "\n" → new ≡ old ++ enabled_line job f row ran
-unfolding enabled_line
-enabled_line-pushed job f row ran old head said new e1 e2 e3 = rw (e3, e2, e1) (simp append_assoc)
+-- a line after others, if some users trace its function
+pub part-after : (job : Job) (lines : List EnabledLine) (line : EnabledLine) → 0 < line.row.count
+    → lines_text (enabled_line_text job) (lines ++ line ∷ []) ≡ lines_text (enabled_line_text job) lines ++ enabled_part job line.function.0 line.row line.ran
+part-after job lines line some = let traced : line.row.count == 0 ≡ false = grind (arith, nat_tests) in rw traced (line-after (enabled_line_text job) lines line)
 
 module _ (job : Job) (d : Desk) (n : ℕ) where
   lines-step : (f : ℕ) → f < n → enabled_lines job d f (n - f) ≡ enabled_part job f (row_at job d f) (target d f) ++ enabled_lines job d (f + 1) (n - (f + 1))

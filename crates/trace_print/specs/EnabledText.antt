@@ -9,6 +9,7 @@ use Rattle.ft_base.specs.Desk.{Desk, desk, target}
 use Rattle.site_counts.specs.declared.rows.Row.{Row}
 use Rattle.ft_desk.specs.Sites.{row_at}
 use Rattle.ft_hist.specs.Past.{done}
+use Rattle.trace_print.specs.declared.enabled.EnabledLine.{EnabledLine}
 use Rattle.trace_print.specs.Words.{function_word, last_line}
 use Rattle.trace_print.specs.LogText.{ran_words, joined}
 
@@ -22,6 +23,10 @@ unfoldable pub enabled_line : Job → ℕ → Row → Ran → List ℕ
 enabled_line job f row ran =
     function_word job f ++ (codes " (" ++ (decimal row.count ++ (codes ")" ++ (flag_column (codes "R") row.regs ++ (flag_column (codes "I") row.ipmodify
     ++ (codes " " ++ (joined (ran_words job ran) ++ codes "\n")))))))
+
+-- the text of a line
+abbrev pub enabled_line_text : Job → EnabledLine → List ℕ
+enabled_line_text job line = enabled_line job line.function.0 line.row line.ran
 
 -- what a function prints
 abbrev pub enabled_part : Job → ℕ → Row → Ran → List ℕ

@@ -1,25 +1,78 @@
-//! The text of a history, form enabled: the functions whose call sites are patched.
+//! The lines of a history, form enabled: the functions whose call sites are patched.
 
-ghost use Rattle.std.specs.Prelude.{◌≡◌, ◌++◌, ℕ, ◌+◌, ◌<◌, ◌^◌, reverse, IfOk, OnOk, string_bytes, codes};
-ghost use Rattle.ft_base.specs.Job.{funcs};
-ghost use Rattle.ft_base.specs.Desk.{target};
+ghost use Rattle.std.specs.Prelude.{◌≡◌, ◌++◌, ℕ, ◌+◌, ◌<◌, ◌^◌, reverse, IfOk, OnOk, codes};
+ghost use Rattle.ft_base.specs.Job.{funcs, Job as PlainJob};
+ghost use Rattle.ft_base.specs.Desk.{desk};
 ghost use Rattle.ft_desk.specs.Declarations.{job_of};
 ghost use Rattle.ft_desk.specs.Sites.{row_at};
 ghost use Rattle.ft_hist.specs.Past.{done};
-ghost use Rattle.trace_print.specs.Words.{last_line};
+ghost use Rattle.ft_io.specs.Pieces.{Puts};
+ghost use Rattle.trace_print.specs.Words.{lines_text};
 ghost use Rattle.trace_print.specs.LogText.{ran_words, joined};
 ghost use Rattle.trace_print.specs.Returned.{done_with};
-ghost use Rattle.trace_print.specs.EnabledText.{enabled_line, enabled_lines, enabled_part, enabled_text, flag_column};
+ghost use Rattle.trace_print.specs.EnabledText.{enabled_line_text, enabled_lines, enabled_part, flag_column};
 
-use crate::columns::last_line;
+use crate::columns::put_number;
+use crate::lines::Line;
 use crate::log::ran_parts;
 use crate::names::Names;
 use ft_base::{FuncNo, Item, NoMemory, Ran};
 use ft_desk::Desk;
 use ft_hist::History;
+use ft_io::{Pieces, Sink};
 use site_counts::Row;
 use std::alloc::{AllocError, Global};
-use std::fmt::Write;
+
+/// A line: a function that some users trace, its row of counts, and what a call of it runs.
+#[derive(Clone, Copy)]
+pub(crate) struct EnabledLine {
+    function: FuncNo,
+    row: Row,
+    ran: Ran,
+}
+
+impl Line for EnabledLine {
+    ghost text = { enabled_line_text };
+
+    fn put<K: Sink>(&self, pieces: &mut Pieces, sink: &mut K, names: &Names)
+        ensures { Puts K.holds K.faults (enabled_line_text names.now self.now)
+            sink.old pieces.old sink.new pieces.new }
+    {
+        pieces.put(sink, names.function(self.function).as_bytes());
+        pieces.put(sink, b" (");
+        put_number(pieces, sink, self.row.count);
+        pieces.put(sink, b")");
+        pieces.put(sink, regs_column(self.row).as_bytes());
+        pieces.put(sink, ipmodify_column(self.row).as_bytes());
+        pieces.put(sink, b" ");
+        put_ran(pieces, sink, names, self.ran);
+        pieces.put(sink, b"\n");
+    }
+}
+
+/// The column that says whether a user gets the registers.
+fn regs_column(row: Row) -> &'static str
+    ensures { result.now ≡ flag_column (codes "R") row.regs }
+{
+    if row.regs > 0 { " R" } else { "  " }
+}
+
+/// The column that says whether a user replaces the function.
+fn ipmodify_column(row: Row) -> &'static str
+    ensures { result.now ≡ flag_column (codes "I") row.ipmodify }
+{
+    if row.ipmodify > 0 { " I" } else { "  " }
+}
+
+/// Puts what was fetched at a call site.
+fn put_ran<K: Sink>(pieces: &mut Pieces, sink: &mut K, names: &Names, ran: Ran)
+    ensures { Puts K.holds K.faults (joined (ran_words names.now ran))
+        sink.old pieces.old sink.new pieces.new }
+{
+    let (word, user) = ran_parts(names, ran);
+    pieces.put(sink, word.as_bytes());
+    pieces.put(sink, user.as_bytes());
+}
 
 /// How many commands have returned after an item, if so many had before it.
 fn with_item(returned: u32, item: &Item) -> u32
@@ -43,110 +96,51 @@ fn returned(history: &History) -> u32
     returned
 }
 
-/// The column that says whether a user gets the registers.
-fn regs_column(row: Row) -> &'static str
-    ensures { result.now ≡ flag_column (codes "R") row.regs }
+/// Adds a line, if some users trace its function.
+fn push_part(lines: &mut Vec<EnabledLine>, line: EnabledLine) -> Result<(), AllocError>
+    ensures { OnOk result ((job : PlainJob) → lines_text (enabled_line_text job) lines.new.items
+        ≡ lines_text (enabled_line_text job) lines.old.items
+        ++ enabled_part job line.function.0 line.row line.ran) }
 {
-    if row.regs > 0 { " R" } else { "  " }
-}
-
-/// The column that says whether a user replaces the function.
-fn ipmodify_column(row: Row) -> &'static str
-    ensures { result.now ≡ flag_column (codes "I") row.ipmodify }
-{
-    if row.ipmodify > 0 { " I" } else { "  " }
-}
-
-/// Adds what was fetched at a call site.
-fn push_ran(text: &mut String, names: &Names, ran: Ran) -> Result<(), AllocError>
-    ensures { OnOk result (string_bytes text.new
-        ≡ string_bytes text.old ++ joined (ran_words names.now ran)) }
-{
-    let (word, user) = ran_parts(names, ran);
-    write!(text, "{word}{user}")
-}
-
-/// Adds the line of a function.
-fn push_line(
-    text: &mut String,
-    names: &Names,
-    function: FuncNo,
-    row: Row,
-    ran: Ran,
-) -> Result<(), AllocError>
-    ensures { OnOk result (string_bytes text.new ≡ string_bytes text.old
-        ++ enabled_line names.now function.0 row ran) }
-{
-    let name = names.function(function);
-    let count = row.count;
-    let regs = regs_column(row);
-    let ipmodify = ipmodify_column(row);
-    write!(text, "{name} ({count}){regs}{ipmodify} ")?;
-    push_ran(text, names, ran)?;
-    writeln!(text)
-}
-
-/// Adds the line of a function, if some users trace it.
-fn push_part(
-    text: &mut String,
-    names: &Names,
-    function: FuncNo,
-    row: Row,
-    ran: Ran,
-) -> Result<(), AllocError>
-    ensures { OnOk result (string_bytes text.new ≡ string_bytes text.old
-        ++ enabled_part names.now function.0 row ran) }
-{
-    if row.count == 0 {
-        return Ok(());
-    }
-    push_line(text, names, function, row, ran)
-}
-
-/// Adds the lines of the functions on a desk of the job.
-fn push_lines(text: &mut String, names: &Names, desk: &Desk) -> Result<(), AllocError>
-    requires funcs { desk.now.declared.funcs ≡ funcs names.now }
-    requires rows { (f : ℕ) → row_at (job_of desk.now.declared) desk.now.state f ≡ row_at names.now desk.now.state f }
-    ensures { OnOk result (string_bytes text.new ≡ string_bytes text.old
-        ++ enabled_lines names.now desk.now.state 0 (funcs names.now)) }
-{
-    for f in 0..names.functions() {
-        let function = FuncNo(f);
-        push_part(
-            text,
-            names,
-            function,
-            desk.row(function),
-            desk.ran(function),
-        )?;
+    if line.row.count > 0 {
+        lines.push(line)?;
     }
     Ok(())
 }
 
-/// Adds the lines of the functions, and the last line.
-fn push_all(text: &mut String, names: &Names, desk: &Desk, ended: bool) -> Result<(), AllocError>
+/// Adds the lines of the functions on a desk of the job.
+fn push_lines(lines: &mut Vec<EnabledLine>, names: &Names, desk: &Desk) -> Result<(), AllocError>
     requires funcs { desk.now.declared.funcs ≡ funcs names.now }
     requires rows { (f : ℕ) → row_at (job_of desk.now.declared) desk.now.state f ≡ row_at names.now desk.now.state f }
-    ensures { OnOk result (string_bytes text.new ≡ string_bytes text.old
-        ++ (enabled_lines names.now desk.now.state 0 (funcs names.now) ++ last_line ended)) }
+    ensures { OnOk result (lines_text (enabled_line_text names.now) lines.new.items
+        ≡ lines_text (enabled_line_text names.now) lines.old.items
+        ++ enabled_lines names.now desk.now.state 0 (funcs names.now)) }
 {
-    push_lines(text, names, desk)?;
-    text.push_str(last_line(ended))
+    for f in 0..names.functions() {
+        let function = FuncNo(f);
+        let line = EnabledLine {
+            function,
+            row: desk.row(function),
+            ran: desk.ran(function),
+        };
+        push_part(lines, line)?;
+    }
+    Ok(())
 }
 
-/// The text, form enabled.
-pub(crate) fn enabled_text(
+/// The lines, by the function's number. The error says that memory ran out.
+pub(crate) fn enabled_lines(
     alloc: Global,
     names: &Names,
     history: &History,
-    ended: bool,
-) -> Result<String, NoMemory>
-    ensures { IfOk result (λ text. string_bytes text ≡ enabled_text names.now history.now.items ended) }
+) -> Result<Vec<EnabledLine>, NoMemory>
+    ensures { IfOk result (λ lines. lines_text (enabled_line_text names.now) lines.items
+        ≡ enabled_lines names.now (desk names.now (done (reverse history.now.items))) 0 (funcs names.now)) }
 {
     let desk = names.job().desk(alloc, returned(history))?;
-    let mut text = String::new(alloc);
-    match push_all(&mut text, names, &desk, ended) {
-        Ok(()) => Ok(text),
+    let mut lines = Vec::new(alloc);
+    match push_lines(&mut lines, names, &desk) {
+        Ok(()) => Ok(lines),
         Err(_) => Err(NoMemory),
     }
 }

@@ -1,165 +1,237 @@
-//! The text of a history, form profile: the rows of the profile users, and the counts of the fprobes.
+//! The lines of a history, form profile: the rows of the profile users, and the counts of the fprobes.
 
-ghost use Rattle.std.specs.Prelude.{◌≡◌, ◌++◌, length, IfOk, OnOk, string_bytes};
+ghost use Rattle.std.specs.Prelude.{◌≡◌, ◌∷◌, ◌++◌, length, map, IfOk, OnOk};
+ghost use Rattle.std.specs.Fmt.{decimal};
 ghost use Rattle.ft_base.specs.Desk.{spec_at};
 ghost use Rattle.ft_base.specs.Job.{funcs};
 ghost use Rattle.ft_hist.specs.Rules.{IsLegal};
+ghost use Rattle.ft_io.specs.Pieces.{Puts};
 ghost use Rattle.func_profile.specs.Rows.{HasRows};
-ghost use Rattle.trace_print.specs.Words.{last_line, user_texts, user_word};
-ghost use Rattle.trace_print.specs.ProfileText.{profile_text, user_profile, user_rows, fprobe_line, row_line, row_lines};
+ghost use Rattle.trace_print.specs.Words.{lines_text, user_texts, user_word};
+ghost use Rattle.trace_print.specs.ProfileText.{profile_line_text, user_profile, user_line, fprobe_line, counts_line, row_line};
+ghost use Rattle.trace_print.specs.declared.profile.ProfileLine.TheVariants.{User, Row};
 
-use crate::columns::last_line;
+use crate::columns::put_number;
+use crate::lines::Line;
 use crate::names::Names;
 use ft_base::{Kind, NoMemory, UserNo};
 use ft_hist::History;
+use ft_io::{Pieces, Sink};
 use func_profile::{ProfileRow, rows};
+use itoa::write_digits;
 use std::alloc::{AllocError, Global};
-use std::fmt::Write;
 
-/// Adds the line of a row.
-fn push_row(text: &mut String, names: &Names, row: &ProfileRow) -> Result<(), AllocError>
-    ensures { OnOk result (string_bytes text.new ≡ string_bytes text.old ++ row_line names.now row.now) }
+/// The most digits that a time has.
+const TIME_DIGITS: usize = 20;
+
+/// A line.
+#[derive(Clone, Copy)]
+pub(crate) enum ProfileLine {
+    /// The name of the profile user whose rows follow.
+    User(UserNo),
+    /// A function's hits and time.
+    Row(ProfileRow),
+    /// How often an fprobe was called back, and how often it missed.
+    Fprobe {
+        user: UserNo,
+        hits: u32,
+        missed: u32,
+    },
+}
+
+impl Line for ProfileLine {
+    ghost text = { profile_line_text };
+
+    fn put<K: Sink>(&self, pieces: &mut Pieces, sink: &mut K, names: &Names)
+        ensures { Puts K.holds K.faults (profile_line_text names.now self.now)
+            sink.old pieces.old sink.new pieces.new }
+    {
+        match *self {
+            ProfileLine::User(user) => put_user(pieces, sink, names, user),
+            ProfileLine::Row(row) => put_row(pieces, sink, names, row),
+            ProfileLine::Fprobe { user, hits, missed } => {
+                put_fprobe(pieces, sink, names, user, hits, missed);
+            }
+        }
+    }
+}
+
+/// Puts the line with the name of a profile user.
+fn put_user<K: Sink>(pieces: &mut Pieces, sink: &mut K, names: &Names, user: UserNo)
+    ensures { Puts K.holds K.faults (user_line (user_word names.now user.0))
+        sink.old pieces.old sink.new pieces.new }
 {
-    let function = names.function(row.func);
-    let hits = row.hits;
-    let time = row.time;
-    writeln!(text, "{function} {hits} {time}")
+    pieces.put(sink, b"# user ");
+    pieces.put(sink, names.user(user).as_bytes());
+    pieces.put(sink, b"\n");
+}
+
+/// Puts a time, in decimal.
+fn put_time<K: Sink>(pieces: &mut Pieces, sink: &mut K, time: u64)
+    ensures { Puts K.holds K.faults (decimal time) sink.old pieces.old sink.new pieces.new }
+{
+    let mut room = [0; TIME_DIGITS];
+    let start = write_digits(time, &mut room, TIME_DIGITS);
+    pieces.put(sink, &room[start..]);
+}
+
+/// Puts the line of a row.
+fn put_row<K: Sink>(pieces: &mut Pieces, sink: &mut K, names: &Names, row: ProfileRow)
+    ensures { Puts K.holds K.faults (row_line names.now row)
+        sink.old pieces.old sink.new pieces.new }
+{
+    pieces.put(sink, names.function(row.func).as_bytes());
+    pieces.put(sink, b" ");
+    put_number(pieces, sink, row.hits);
+    pieces.put(sink, b" ");
+    put_time(pieces, sink, row.time);
+    pieces.put(sink, b"\n");
+}
+
+/// Puts the line of an fprobe.
+fn put_fprobe<K: Sink>(
+    pieces: &mut Pieces,
+    sink: &mut K,
+    names: &Names,
+    user: UserNo,
+    hits: u32,
+    missed: u32,
+)
+    ensures { Puts K.holds K.faults (counts_line (user_word names.now user.0) hits missed)
+        sink.old pieces.old sink.new pieces.new }
+{
+    pieces.put(sink, b"# fprobe ");
+    pieces.put(sink, names.user(user).as_bytes());
+    pieces.put(sink, b" hits ");
+    put_number(pieces, sink, hits);
+    pieces.put(sink, b" missed ");
+    put_number(pieces, sink, missed);
+    pieces.put(sink, b"\n");
 }
 
 /// Adds the lines of rows.
-fn push_rows(text: &mut String, names: &Names, rows: &[ProfileRow]) -> Result<(), AllocError>
-    ensures { OnOk result (string_bytes text.new ≡ string_bytes text.old ++ row_lines names.now rows.now) }
+fn push_rows(lines: &mut Vec<ProfileLine>, rows: &[ProfileRow]) -> Result<(), AllocError>
+    ensures { OnOk result (lines.new.items ≡ lines.old.items ++ map Row rows.now) }
 {
     for row in rows {
-        push_row(text, names, row)?;
+        lines.push(ProfileLine::Row(*row))?;
     }
     Ok(())
 }
 
 /// Adds a line with a user's name, and the lines of its rows.
 fn push_user(
-    text: &mut String,
-    names: &Names,
+    lines: &mut Vec<ProfileLine>,
     user: UserNo,
     rows: &[ProfileRow],
 ) -> Result<(), AllocError>
-    ensures { OnOk result (string_bytes text.new ≡ string_bytes text.old
-        ++ user_rows names.now (user_word names.now user.0) rows.now) }
+    ensures { OnOk result (lines.new.items ≡ lines.old.items ++ User user ∷ map Row rows.now) }
 {
-    let name = names.user(user);
-    writeln!(text, "# user {name}")?;
-    push_rows(text, names, rows)
+    lines.push(ProfileLine::User(user))?;
+    push_rows(lines, rows)
 }
 
-/// Adds what a user prints if it is a profile user.
+/// Adds the lines of a user if it is a profile user.
+#[tactic(auto, using(crate::proofs::ProfileLines::user_after))]
 fn push_profile(
     alloc: Global,
-    text: &mut String,
+    lines: &mut Vec<ProfileLine>,
     names: &Names,
     history: &History,
     user: UserNo,
 ) -> Result<(), NoMemory>
     requires { HasRows (funcs names.now) history.now.items }
-    ensures { OnOk result (string_bytes text.new ≡ string_bytes text.old
+    ensures { OnOk result (lines_text (profile_line_text names.now) lines.new.items
+        ≡ lines_text (profile_line_text names.now) lines.old.items
         ++ user_profile names.now history.now.items user.0 (spec_at names.now user.0)) }
 {
     match names.kind(user) {
         Kind::Profile => {
             let rows = rows(alloc, history, user, names.functions())?;
-            push_user(text, names, user, rows.as_slice()).map_err(|_| NoMemory)
+            push_user(lines, user, rows.as_slice()).map_err(|_| NoMemory)
         }
         _ => Ok(()),
     }
 }
 
 /// Adds the line of a user if it is an fprobe.
+#[tactic(auto, using(crate::proofs::ProfileLines::fprobe_after))]
 fn push_fprobe(
-    text: &mut String,
+    lines: &mut Vec<ProfileLine>,
     names: &Names,
     history: &History,
     user: UserNo,
 ) -> Result<(), AllocError>
-    ensures { OnOk result (string_bytes text.new ≡ string_bytes text.old
+    ensures { OnOk result (lines_text (profile_line_text names.now) lines.new.items
+        ≡ lines_text (profile_line_text names.now) lines.old.items
         ++ fprobe_line history.now.items user.0 (spec_at names.now user.0)) }
 {
     match names.kind(user) {
         Kind::Fprobe { .. } => {
-            let name = names.user(user);
             let hits = history.backs(user);
             let missed = history.missed(user);
-            writeln!(text, "# fprobe {name} hits {hits} missed {missed}")
+            lines.push(ProfileLine::Fprobe { user, hits, missed })?;
+            Ok(())
         }
         _ => Ok(()),
     }
 }
 
-/// Adds what the profile users print, in order.
+/// Adds the lines of the profile users, in order.
 fn push_profiles(
     alloc: Global,
-    text: &mut String,
+    lines: &mut Vec<ProfileLine>,
     names: &Names,
     history: &History,
     users: u32,
 ) -> Result<(), NoMemory>
     requires users { users ≡ length names.now.users }
     requires rows { HasRows (funcs names.now) history.now.items }
-    ensures { OnOk result (string_bytes text.new ≡ string_bytes text.old
+    ensures { OnOk result (lines_text (profile_line_text names.now) lines.new.items
+        ≡ lines_text (profile_line_text names.now) lines.old.items
         ++ user_texts (user_profile names.now history.now.items) 0 names.now.users) }
 {
     for u in 0..users {
-        push_profile(alloc, text, names, history, UserNo(u))?;
+        push_profile(alloc, lines, names, history, UserNo(u))?;
     }
     Ok(())
 }
 
 /// Adds the lines of the fprobes, in order.
 fn push_fprobes(
-    text: &mut String,
+    lines: &mut Vec<ProfileLine>,
     names: &Names,
     history: &History,
     users: u32,
 ) -> Result<(), AllocError>
     requires { users ≡ length names.now.users }
-    ensures { OnOk result (string_bytes text.new ≡ string_bytes text.old
+    ensures { OnOk result (lines_text (profile_line_text names.now) lines.new.items
+        ≡ lines_text (profile_line_text names.now) lines.old.items
         ++ user_texts (fprobe_line history.now.items) 0 names.now.users) }
 {
     for u in 0..users {
-        push_fprobe(text, names, history, UserNo(u))?;
+        push_fprobe(lines, names, history, UserNo(u))?;
     }
     Ok(())
 }
 
-/// Adds the lines of the fprobes, and the last line.
-fn push_rest(
-    text: &mut String,
-    names: &Names,
-    history: &History,
-    users: u32,
-    ended: bool,
-) -> Result<(), AllocError>
-    requires { users ≡ length names.now.users }
-    ensures { OnOk result (string_bytes text.new ≡ string_bytes text.old
-        ++ (user_texts (fprobe_line history.now.items) 0 names.now.users ++ last_line ended)) }
-{
-    push_fprobes(text, names, history, users)?;
-    text.push_str(last_line(ended))
-}
-
-/// The text, form profile.
-pub(crate) fn profile_text(
+/// The lines: those of the profile users in order, then those of the fprobes. The error says that
+/// memory ran out.
+pub(crate) fn profile_lines(
     alloc: Global,
     names: &Names,
     history: &History,
-    ended: bool,
-) -> Result<String, NoMemory>
+) -> Result<Vec<ProfileLine>, NoMemory>
     requires { IsLegal names.now history.now.items }
-    ensures { IfOk result (λ text. string_bytes text ≡ profile_text names.now history.now.items ended) }
+    ensures { IfOk result (λ lines. lines_text (profile_line_text names.now) lines.items
+        ≡ user_texts (user_profile names.now history.now.items) 0 names.now.users
+        ++ user_texts (fprobe_line history.now.items) 0 names.now.users) }
 {
     let users = names.job().users();
-    let mut text = String::new(alloc);
-    push_profiles(alloc, &mut text, names, history, users)?;
-    match push_rest(&mut text, names, history, users, ended) {
-        Ok(()) => Ok(text),
+    let mut lines = Vec::new(alloc);
+    push_profiles(alloc, &mut lines, names, history, users)?;
+    match push_fprobes(&mut lines, names, history, users) {
+        Ok(()) => Ok(lines),
         Err(_) => Err(NoMemory),
     }
 }

@@ -3,18 +3,16 @@ use Rattle.ft_base.specs.Job.{Job}
 use Rattle.ft_base.specs.Desk.{Desk, desk}
 use Rattle.ft_desk.specs.Sites.{row_at}
 use Rattle.ft_hist.specs.Past.{done}
-use Rattle.trace_print.specs.EnabledText.{enabled_text}
-use Rattle.trace_print.proofs.enabled.enabled_text.Goals as goal
+use Rattle.trace_print.proofs.enabled.enabled_lines.Goals as goal
 
-pub push_all-requires-clause-rows : goal.push_all-requires-clause-rows
-push_all-requires-clause-rows c = λ f.
+pub push_lines-requires-clause-rows : goal.push_lines-requires-clause-rows
+push_lines-requires-clause-rows c = λ f.
     c.in_ok-desk.ensures.rows f
     ∙ ap (λ (j : Job). row_at j (desk j c.returned.result) f) c.job.ensures
     ∙ sym (ap (λ (d : Desk). row_at c.args.names.now d f) (c.in_ok-desk.ensures.state ∙ ap (λ (j : Job). desk j c.returned.result) c.job.ensures))
 
 pub returns-in-Ok : goal.returns-in-Ok
-unfolding enabled_text
 returns-in-Ok c =
     let s : c.in_ok-desk.desk.state ≡ desk c.args.names.now (done (reverse c.args.history.now.items)) =
     c.in_ok-desk.ensures.state ∙ ap (λ (j : Job). desk j c.returned.result) c.job.ensures ∙ ap (desk c.args.names.now) c.returned.ensures in
-    rw (c.in-Ok.ensures, c.new-text.ensures.bytes, s) refl
+    rw (c.in-Ok.ensures, c.new-lines.ensures.items, s) refl
