@@ -4,7 +4,6 @@ pub mod LogSamples
 pub mod LogWords
 pub mod LogReads
 pub mod LogTells
-pub mod Padding
 pub mod StackSteps
 pub mod CountLaws
 pub mod UserTexts

@@ -4,8 +4,8 @@ use Rattle.std.specs.Prelude.{if◌then◌else◌}
 use Rattle.ft_base.specs.declared.item.Item.{Item}
 use Rattle.ft_base.specs.Job.{Job}
 use Rattle.ft_base.specs.Desk.{spec_at}
-use Rattle.trace_print.specs.declared.graph_lines.GraphLine.{GraphLine}
-use Rattle.trace_print.specs.declared.graph_lines.GraphLine.TheVariants.{User}
+use Rattle.trace_print.specs.declared.graph_line.GraphLine.{GraphLine}
+use Rattle.trace_print.specs.declared.graph_line.GraphLine.TheVariants.{User}
 use Rattle.trace_print.specs.Words.{lines_text, item_texts, is_graph}
 use Rattle.trace_print.specs.GraphText.{graph_line, graph_part, user_graph}
 use Rattle.trace_print.specs.GraphLines.{graph_front, entry_text, exit_text, graph_line_text}

@@ -1,6 +1,8 @@
 -- The texts of lines, one after the other.
-use Rattle.std.proofs.Common.{◌≡◌, ℕ, ◌+◌, ◌<◌, ◌≤◌, List, [], ◌∷◌, ◌++◌, length, drop, get_or, refl, sym, ap, ◌∙◌, append_assoc, append-nil}
+use Rattle.std.proofs.Common.{◌≡◌, ℕ, ◌+◌, ◌<◌, ◌≤◌, List, [], ◌∷◌, ◌++◌, Option, length, drop, get_or, refl, sym, ap, ◌∙◌, append_assoc, append-nil}
 use Rattle.std.proofs.lemmas.List.{drop_all, drop_more}
+use Rattle.ft_io.specs.Pieces.{OnTheWay, nothing, IsUnderWay, Puts}
+use Rattle.ft_io.proofs.PieceLaws.{starts, puts-then, puts-equal}
 use Rattle.trace_print.specs.Words.{lines_text}
 
 module _ {L : Type 0} (text : L → List ℕ) where
@@ -25,3 +27,8 @@ module _ {L : Type 0} (text : L → List ℕ) where
     -- all lines
     pub lines-all : length lines ≤ i → t ++ lines_text text (drop i lines) ≡ all → t ≡ all
     lines-all past so_far = let a : t ++ [] ≡ all = rw (drop_all i lines past) at so_far in sym (append-nil t) ∙ a
+
+-- two texts that were put into no bytes yet are under way
+pub both-under_way : {K : Type 0} {holds : K → Option (List ℕ)} {faults : K → ℕ} {text last said : List ℕ} {k l m : K} {p q r : OnTheWay} → p ≡ nothing → said ≡ last
+    → Puts holds faults text k p l q → Puts holds faults said l q m r → IsUnderWay holds faults (text ++ last) (holds k) (faults k) m r
+both-under_way {k = k} none is first second = (puts-then first (puts-equal is second)).adds [] _ _ (rw none (starts k))

@@ -1,5 +1,5 @@
 -- The text of a history, line by line.
-use Rattle.std.proofs.Common.{◌≡◌, Bool, ap, ℕ, zero, suc, ◌+◌, ◌≤◌, List, [], ◌∷◌, ◌++◌, codes, Some, length, drop, refl, sym, ◌∙◌, append_assoc, append-nil, add-one}
+use Rattle.std.proofs.Common.{◌≡◌, ℕ, zero, suc, ◌+◌, ◌≤◌, List, [], ◌∷◌, ◌++◌, codes, Some, length, drop, refl, sym, ◌∙◌, append_assoc, append-nil, add-one}
 use Rattle.std.specs.Prelude.{slice_get}
 use Rattle.std.specs.Fmt.{decimal}
 use Rattle.std.proofs.lemmas.List.{drop_all}
@@ -10,8 +10,8 @@ use Rattle.ft_base.specs.declared.item.Ran.TheVariants.{Nop, List as ByList, Own
 use Rattle.ft_base.specs.declared.item.Answer.{Answer}
 use Rattle.ft_base.specs.declared.item.Answer.TheVariants.{Accepted, Already, NotThere, Invalid, NoMatch, Busy}
 use Rattle.ft_base.specs.Job.{Job}
-use Rattle.trace_print.specs.Words.{Word, last_line}
-use Rattle.trace_print.specs.LogText.{joined, ran_words, answer_words, item_words, log_line, log_lines, log_text}
+use Rattle.trace_print.specs.Words.{Word}
+use Rattle.trace_print.specs.LogText.{joined, ran_words, answer_words, item_words, log_line, log_lines}
 
 joined-place : (job : Job) (p : ℕ) (item : Item) → joined (decimal p ∷ item_words job item) ≡ decimal p ++ (codes " " ++ joined (item_words job item))
 joined-place job p (Begin k) = refl
@@ -56,15 +56,3 @@ log_lines-more job items p x t t' all here grown so_far =
 -- all lines
 pub log_lines-all : (job : Job) (items : List Item) (p : ℕ) (t : List ℕ) → length items ≤ p → t ++ log_lines job p (drop p items) ≡ log_lines job 0 items → t ≡ log_lines job 0 items
 log_lines-all job items p t past so_far = let a : t ++ [] ≡ log_lines job 0 items = rw (drop_all p items past) at so_far in sym (append-nil t) ∙ a
-
--- all lines and the last line
-pub log_text-said : (job : Job) (items : List Item) (ended : Bool) (p : ℕ) (t last : List ℕ) → length items ≤ p → t ++ log_lines job p (drop p items) ≡ log_lines job 0 items → last ≡ last_line ended
-    → t ++ last ≡ log_text job items ended
-unfolding log_text
-log_text-said job items ended p t last past so_far is = rw (is, log_lines-all job items p t past so_far) refl
-
--- the lines so far are a beginning
-pub log_text-front : (job : Job) (items : List Item) (ended : Bool) (p : ℕ) (t : List ℕ) → t ++ log_lines job p (drop p items) ≡ log_lines job 0 items
-    → t ++ (log_lines job p (drop p items) ++ last_line ended) ≡ log_text job items ended
-unfolding log_text
-log_text-front job items ended p t so_far = sym (append_assoc t (log_lines job p (drop p items)) (last_line ended)) ∙ ap (λ (lines : List ℕ). lines ++ last_line ended) so_far

@@ -10,7 +10,7 @@ use Rattle.ft_base.specs.declared.item.Item.{Item}
 use Rattle.ft_base.specs.declared.item.Item.TheVariants.{Back, Exit}
 use Rattle.ft_base.specs.Job.{Job}
 use Rattle.trace_print.specs.declared.graph.GraphCall.{GraphCall}
-use Rattle.trace_print.specs.declared.graph_lines.Shown.{Shown}
+use Rattle.trace_print.specs.declared.graph_line.Shown.{Shown}
 use Rattle.trace_print.specs.declared.graph.Walk.{Walk}
 use Rattle.trace_print.specs.Places.{past_at, part_at}
 use Rattle.trace_print.specs.Words.{function_word}

@@ -5,8 +5,8 @@ use Rattle.ft_base.specs.declared.number.UserNo.{UserNo}
 use Rattle.func_profile.specs.declared.profile.ProfileRow.{ProfileRow}
 use Rattle.trace_print.specs.declared.profile.ProfileLine.{ProfileLine}
 use Rattle.trace_print.specs.declared.profile.ProfileLine.TheVariants.{User, Row, Fprobe}
-use Rattle.trace_print.specs.Words.{lines_text, user_word}
-use Rattle.trace_print.specs.ProfileText.{profile_line_text, user_line, row_line, counts_line}
+use Rattle.trace_print.specs.Words.{lines_text, user_line, user_word}
+use Rattle.trace_print.specs.ProfileText.{profile_line_text, row_line, counts_line}
 use Rattle.trace_print.proofs.LineTexts.{lines-after, line-after}
 
 module _ (job : Job) where

@@ -6,7 +6,3 @@ use Rattle.std.specs.Result.{is_ok}
 pub on_ok_if : {T E P : Type 0} (r : Result T E) → (is_ok r ≡ true → P) → OnOk r P
 on_ok_if (Ok x) h = h refl
 on_ok_if (Err e) h = tt
-
-pub from_ok : {T E P : Type 0} (r : Result T E) → is_ok r ≡ true → OnOk r P → P
-from_ok (Ok x) ok h = h
-from_ok (Err e) ok h = absurd cc

@@ -9,12 +9,11 @@ use Rattle.std.proofs.lemmas.List.Elements.{filter_passes, recursion_from_All}
 use Rattle.ft_base.specs.declared.number.CallNo.{CallNo}
 use Rattle.ft_base.specs.declared.number.FuncNo.{FuncNo}
 use Rattle.ft_base.specs.declared.number.UserNo.{UserNo}
-use Rattle.ft_base.specs.declared.item.Reason.{Reason}
 use Rattle.ft_base.specs.declared.item.Ran.{Ran}
 use Rattle.ft_base.specs.declared.context.Ctx.{Ctx}
 use Rattle.ft_base.specs.declared.item.Item.{Item}
 use Rattle.ft_base.specs.declared.task.TaskAct.{TaskAct}
-use Rattle.ft_base.specs.declared.item.Item.TheVariants.{Begin, Return, Enter, Back, BackEnd, Refuse, Miss, Body, Leave, Exit, ExitEnd, Ret}
+use Rattle.ft_base.specs.declared.item.Item.TheVariants.{Begin, Return, Enter, Back, Body, Exit, Ret}
 use Rattle.ft_base.specs.Same.{same_call}
 use Rattle.ft_base.specs.Job.{Job, Task, no_task}
 use Rattle.ft_base.proofs.Small.{false_true, ==-refl, and_both, and-false, Each-weaker, Each-filter, Contains-head, Contains-more}
@@ -103,26 +102,11 @@ module _ (job : Job) where
   pub top-back : (call : CallNo) (u : UserNo) (past : List Item) → IsLegalPast job (Back call u ∷ past) → IsTop call past (Back call u ∷ past)
   top-back call u past l = top-kept call (Back call u) past (==-refl call.task.0) (λ p s m. m) l
 
-  pub top-back_end : (call : CallNo) (u : UserNo) (past : List Item) → IsLegalPast job (BackEnd call u ∷ past) → IsTop call past (BackEnd call u ∷ past)
-  top-back_end call u past l = top-kept call (BackEnd call u) past (==-refl call.task.0) (λ p s m. m) l
-
-  pub top-refuse : (call : CallNo) (u : UserNo) (reason : Reason) (past : List Item) → IsLegalPast job (Refuse call u reason ∷ past) → IsTop call past (Refuse call u reason ∷ past)
-  top-refuse call u reason past l = top-kept call (Refuse call u reason) past (==-refl call.task.0) (λ p s m. m) l
-
-  pub top-miss : (call : CallNo) (u : UserNo) (past : List Item) → IsLegalPast job (Miss call u ∷ past) → IsTop call past (Miss call u ∷ past)
-  top-miss call u past l = top-kept call (Miss call u) past (==-refl call.task.0) (λ p s m. m) l
-
   pub top-body : (call : CallNo) (g : FuncNo) (ran : Ran) (past : List Item) → IsLegalPast job (Body call g ran ∷ past) → IsTop call past (Body call g ran ∷ past)
   top-body call g ran past l = top-kept call (Body call g ran) past (==-refl call.task.0) (λ p s m. m) l
 
-  pub top-leave : (call : CallNo) (past : List Item) → IsLegalPast job (Leave call ∷ past) → IsTop call past (Leave call ∷ past)
-  top-leave call past l = top-kept call (Leave call) past (==-refl call.task.0) (λ p s m. m) l
-
   pub top-exit : (call : CallNo) (u : UserNo) (entry : ℕ) (past : List Item) → IsLegalPast job (Exit call u entry ∷ past) → IsTop call past (Exit call u entry ∷ past)
   top-exit call u entry past l = top-kept call (Exit call u entry) past (==-refl call.task.0) (λ p s m. m) l
-
-  pub top-exit_end : (call : CallNo) (u : UserNo) (past : List Item) → IsLegalPast job (ExitEnd call u ∷ past) → IsTop call past (ExitEnd call u ∷ past)
-  top-exit_end call u past l = top-kept call (ExitEnd call u) past (==-refl call.task.0) (λ p s m. m) l
 
   -- ## an item of another task, or of control
 
@@ -162,9 +146,6 @@ module _ (job : Job) where
       ] refl o
   open-kept p call (Ret c to ∷ past) passes o = open-kept p call past passes (and_both (not (same_call c call)) (is_open call past) o).1
   open-kept p call (_ ∷ past) passes o = open-kept p call past passes o
-
-  pub open-there : (call : CallNo) (past : List Item) → is_open call past ≡ true → Contains (open_calls call.task.0 past) call
-  open-there call past o = open-kept (λ c. (c.task.0 == call.task.0) && is_open c past) call past (rw (==-refl call.task.0, o) refl) o
 
   -- ## the caller of each call is the one below
 

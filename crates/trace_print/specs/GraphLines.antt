@@ -8,9 +8,9 @@ use Rattle.ft_hist.specs.Past.{entry_of}
 use Rattle.trace_print.specs.Places.{past_at}
 use Rattle.trace_print.specs.declared.graph.GraphCall.{GraphCall}
 use Rattle.trace_print.specs.declared.graph.Walk.{Walk}
-use Rattle.trace_print.specs.declared.graph_lines.GraphLine.{GraphLine}
-use Rattle.trace_print.specs.declared.graph_lines.GraphLine.TheVariants.{User, Entry, Exit}
-use Rattle.trace_print.specs.Words.{function_word, user_word, pid_at, cpu_at, spaces, right_in}
+use Rattle.trace_print.specs.declared.graph_line.GraphLine.{GraphLine}
+use Rattle.trace_print.specs.declared.graph_line.GraphLine.TheVariants.{User, Entry, Exit}
+use Rattle.trace_print.specs.Words.{function_word, user_line, user_word, pid_at, cpu_at, spaces, right_in}
 use Rattle.trace_print.specs.TaskStacks.{stack_at}
 use Rattle.trace_print.specs.ByTask.{IsByTask}
 use Rattle.trace_print.specs.Leaves.{leaf_exits}
@@ -85,6 +85,6 @@ exit_text job t lvl function time = graph_line job t (Some time) lvl (codes "} /
 
 -- a line
 abbrev pub graph_line_text : Job → GraphLine → List ℕ
-graph_line_text job (User u) = codes "# user " ++ (user_word job u.0 ++ codes "\n")
+graph_line_text job (User u) = user_line (user_word job u.0)
 graph_line_text job (Entry shown time) = entry_text job shown.task.0 shown.level (function_word job shown.func.0) time
 graph_line_text job (Exit shown time) = exit_text job shown.task.0 shown.level (function_word job shown.func.0) time

@@ -8,7 +8,7 @@ use Rattle.ft_base.specs.declared.item.Item.TheVariants.{Back, Exit}
 use Rattle.ft_base.specs.Same.{same_call}
 use Rattle.ft_base.specs.Job.{Job, Spec}
 use Rattle.ft_hist.specs.Past.{entry_of, is_open}
-use Rattle.trace_print.specs.Words.{function_word, pid_at, cpu_at, last_line, spaces, right_in, item_texts, user_texts, is_graph}
+use Rattle.trace_print.specs.Words.{function_word, user_line, pid_at, cpu_at, last_line, spaces, right_in, item_texts, user_texts, is_graph}
 
 -- ## levels
 
@@ -91,7 +91,7 @@ graph_part job u past _ rest = []
 -- the lines of a user, after a line with its name; a user of another kind has none
 abbrev pub user_graph : Job → List Item → ℕ → Spec → List ℕ
 user_graph job items u spec =
-    if is_graph spec.kind then codes "# user " ++ (spec.name ++ (codes "\n" ++ item_texts (graph_part job u) [] items)) else []
+    if is_graph spec.kind then user_line spec.name ++ item_texts (graph_part job u) [] items else []
 
 -- the text
 unfoldable pub graph_text : Job → List Item → Bool → List ℕ

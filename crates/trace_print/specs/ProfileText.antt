@@ -10,11 +10,7 @@ use Rattle.func_profile.specs.declared.profile.ProfileRow.{ProfileRow}
 use Rattle.func_profile.specs.Rows.{rows_of}
 use Rattle.trace_print.specs.declared.profile.ProfileLine.{ProfileLine}
 use Rattle.trace_print.specs.declared.profile.ProfileLine.TheVariants.{User, Row, Fprobe}
-use Rattle.trace_print.specs.Words.{Word, function_word, user_word, last_line, lines_text, user_texts, is_profile}
-
--- the line with the name of a profile user, whose rows follow
-unfoldable pub user_line : Word → List ℕ
-user_line name = codes "# user " ++ (name ++ codes "\n")
+use Rattle.trace_print.specs.Words.{Word, function_word, user_word, user_line, last_line, lines_text, user_texts, is_profile}
 
 -- the line of a row: the function, its hits and its time
 unfoldable pub row_line : Job → ProfileRow → List ℕ

@@ -1,14 +1,19 @@
--- The text of a history in each form.
+-- The text of a history in each form, and of the lines that are worked out for it.
 use Rattle.std.specs.Prelude.{ℕ, Bool, List}
 use Rattle.ft_base.specs.declared.item.Item.{Item}
 use Rattle.ft_base.specs.Job.{Job}
 use Rattle.ft_words.specs.declared.order.Form.{Form}
 use Rattle.ft_words.specs.declared.order.Form.TheVariants.{Log, Function, Graph, Profile, Enabled}
-use Rattle.trace_print.specs.LogText.{log_text}
+use Rattle.trace_print.specs.declared.forms.Lines.{Lines}
+use Rattle.trace_print.specs.declared.forms.Lines.TheVariants as lines
+use Rattle.trace_print.specs.Words.{lines_text}
+use Rattle.trace_print.specs.LogText.{log_text, log_lines}
 use Rattle.trace_print.specs.FunctionText.{function_text}
+use Rattle.trace_print.specs.KeptCalls.{function_line_text}
 use Rattle.trace_print.specs.GraphText.{graph_text}
-use Rattle.trace_print.specs.ProfileText.{profile_text}
-use Rattle.trace_print.specs.EnabledText.{enabled_text}
+use Rattle.trace_print.specs.GraphLines.{graph_line_text}
+use Rattle.trace_print.specs.ProfileText.{profile_text, profile_line_text}
+use Rattle.trace_print.specs.EnabledText.{enabled_text, enabled_line_text}
 
 abbrev pub text_of : Form → Job → List Item → Bool → List ℕ
 text_of Log = log_text
@@ -16,3 +21,11 @@ text_of Function = function_text
 text_of Graph = graph_text
 text_of Profile = profile_text
 text_of Enabled = enabled_text
+
+-- the text of lines that are worked out, which are all but the last
+abbrev pub body_of : Job → List Item → Lines → List ℕ
+body_of job items lines.Log = log_lines job 0 items
+body_of job items (lines.Function ls) = lines_text (function_line_text job) ls.items
+body_of job items (lines.Graph ls) = lines_text (graph_line_text job) ls.items
+body_of job items (lines.Profile ls) = lines_text (profile_line_text job) ls.items
+body_of job items (lines.Enabled ls) = lines_text (enabled_line_text job) ls.items

@@ -26,6 +26,10 @@ pid_at job t = (get_or job.tasks t no_task).pid
 abbrev pub cpu_at : Job → ℕ → ℕ
 cpu_at job t = (get_or job.tasks t no_task).cpu
 
+-- the line with the name of a user, whose lines follow
+unfoldable pub user_line : Word → List ℕ
+user_line name = codes "# user " ++ (name ++ codes "\n")
+
 -- the last line, which says whether every actor is at its end
 abbrev pub last_line : Bool → List ℕ
 last_line ended = if ended then codes "end\n" else codes "stopped\n"

@@ -9,15 +9,18 @@ use ft_io::{Pieces, Sink};
 use itoa::write_digits;
 
 /// The most digits that a number of 32 bits has.
-const DIGITS: usize = 10;
+const DIGITS_OF_U32: usize = 10;
 
-/// What comes before a number in a column.
+/// The most digits that a number of 64 bits has.
+const DIGITS_OF_U64: usize = 20;
+
+/// What comes before a number in a column: spaces, or zeros.
 const SPACES: &[u8] = b"        ";
 
 const ZEROS: &[u8] = b"000";
 
 /// The digits of a number, in decimal.
-fn decimal_digits(room: &mut [u8; DIGITS], n: u32) -> &[u8]
+fn decimal_digits(room: &mut [u8; DIGITS_OF_U32], n: u32) -> &[u8]
     ensures { result.now ≡ decimal n }
 {
     let start = write_digits(u64::from(n), room, 10);
@@ -25,11 +28,22 @@ fn decimal_digits(room: &mut [u8; DIGITS], n: u32) -> &[u8]
 }
 
 /// Puts a number, in decimal.
+// In place: a line of the log has three or four.
+#[inline(always)]
 pub(crate) fn put_number<K: Sink>(pieces: &mut Pieces, sink: &mut K, n: u32)
     ensures { Puts K.holds K.faults (decimal n) sink.old pieces.old sink.new pieces.new }
 {
-    let mut room = [0; DIGITS];
+    let mut room = [0; DIGITS_OF_U32];
     pieces.put(sink, decimal_digits(&mut room, n));
+}
+
+/// Puts a number of 64 bits, in decimal.
+pub(crate) fn put_u64<K: Sink>(pieces: &mut Pieces, sink: &mut K, n: u64)
+    ensures { Puts K.holds K.faults (decimal n) sink.old pieces.old sink.new pieces.new }
+{
+    let mut room = [0; DIGITS_OF_U64];
+    let start = write_digits(n, &mut room, DIGITS_OF_U64);
+    pieces.put(sink, &room[start..]);
 }
 
 /// Puts a number at the right of a column of at most eight, which a longer number exceeds.
@@ -38,7 +52,7 @@ pub(crate) fn put_right<K: Sink>(pieces: &mut Pieces, sink: &mut K, width: usize
     ensures { Puts K.holds K.faults (right_in width (decimal n))
         sink.old pieces.old sink.new pieces.new }
 {
-    let mut room = [0; DIGITS];
+    let mut room = [0; DIGITS_OF_U32];
     let number = decimal_digits(&mut room, n);
     pieces.put(sink, &SPACES[..width.saturating_sub(number.len())]);
     pieces.put(sink, number);
@@ -49,7 +63,7 @@ pub(crate) fn put_three_digits<K: Sink>(pieces: &mut Pieces, sink: &mut K, n: u3
     ensures { Puts K.holds K.faults (zeros_in 3 (decimal n))
         sink.old pieces.old sink.new pieces.new }
 {
-    let mut room = [0; DIGITS];
+    let mut room = [0; DIGITS_OF_U32];
     let number = decimal_digits(&mut room, n);
     pieces.put(sink, &ZEROS[..ZEROS.len().saturating_sub(number.len())]);
     pieces.put(sink, number);

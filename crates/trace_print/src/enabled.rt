@@ -34,10 +34,7 @@ pub(crate) struct EnabledLine {
 impl Line for EnabledLine {
     ghost text = { enabled_line_text };
 
-    fn put<K: Sink>(&self, pieces: &mut Pieces, sink: &mut K, names: &Names)
-        ensures { Puts K.holds K.faults (enabled_line_text names.now self.now)
-            sink.old pieces.old sink.new pieces.new }
-    {
+    fn put<K: Sink>(&self, pieces: &mut Pieces, sink: &mut K, names: &Names) {
         pieces.put(sink, names.function(self.function).as_bytes());
         pieces.put(sink, b" (");
         put_number(pieces, sink, self.row.count);

@@ -1,29 +1,172 @@
 //! The text of a history in each form.
 
-ghost use Rattle.std.specs.Prelude.{◌≡◌, ◌++◌, IfOk};
+ghost use Rattle.std.specs.Prelude.{◌≡◌, ◌≤◌, ◌++◌, Bool, Err, IfOk, OnOk};
+ghost use Rattle.std.specs.Io.KnownBytes.{Appends};
 ghost use Rattle.ft_hist.specs.Rules.{IsLegal};
-ghost use Rattle.trace_print.specs.Texts.{text_of};
-ghost use Rattle.trace_print.specs.Words.{last_line, lines_text};
+ghost use Rattle.ft_io.specs.Causes.{Rose, AppendsFront};
+ghost use Rattle.ft_io.specs.Pieces.{Puts};
+ghost use Rattle.trace_print.specs.LogText.{log_text};
+ghost use Rattle.trace_print.specs.Texts.{body_of, text_of};
+ghost use Rattle.trace_print.specs.Words.{last_line};
 
 use crate::columns::last_line;
-use crate::enabled::enabled_lines;
-use crate::function::function_lines;
+use crate::enabled::{EnabledLine, enabled_lines};
+use crate::function::{FunctionLine, function_lines};
 use crate::graph::graph_lines;
+use crate::graph_line::GraphLine;
 use crate::grown::GrownText;
-use crate::lines::{Line, put_lines};
-use crate::log::log_text;
+use crate::lines::put_lines;
+use crate::log::put_log;
 use crate::names::Names;
-use crate::profile::profile_lines;
+use crate::profile::{ProfileLine, profile_lines};
 use ft_base::NoMemory;
 use ft_hist::History;
-use ft_io::Pieces;
+use ft_io::{Pieces, Sink};
 use ft_machine::Job;
 use ft_words::Form;
 use std::alloc::Global;
+use thiserror::Error;
 
-/// The text of a history of the job in a form. Its last line is `end` if every actor is at its end,
-/// else `stopped`. It takes time linear in the history and in the text, once for each graph or
-/// profile user and fprobe. The error says that memory ran out.
+/// Why a text was not written whole.
+#[derive(Clone, Copy, Debug, PartialEq, Eq, Drop, Error)]
+pub enum TextFail {
+    /// Out of memory; nothing was written.
+    #[error("out of memory")]
+    NoMemory,
+    /// The sink failed: its count of faults rose, and a beginning of the text was appended.
+    #[error("the sink failed")]
+    Sink,
+}
+
+/// The lines of a text but the last one, worked out: to put them takes no memory. Those of the log
+/// are the items themselves.
+#[derive(Drop)]
+enum Lines {
+    Log,
+    Function(Vec<FunctionLine>),
+    Graph(Vec<GraphLine>),
+    Profile(Vec<ProfileLine>),
+    Enabled(Vec<EnabledLine>),
+}
+
+/// Works out the lines of a form.
+fn lines_of(alloc: Global, names: &Names, history: &History, form: Form) -> Result<Lines, NoMemory>
+    requires { IsLegal names.now history.now.items }
+    ensures { IfOk result (λ lines. (ended : Bool) → body_of names.now history.now.items lines ++ last_line ended
+        ≡ text_of form names.now history.now.items ended) }
+{
+    match form {
+        Form::Log => Ok(Lines::Log),
+        Form::Function => Ok(Lines::Function(function_lines(alloc, names, history)?)),
+        Form::Graph => Ok(Lines::Graph(graph_lines(alloc, names, history)?)),
+        Form::Profile => Ok(Lines::Profile(profile_lines(alloc, names, history)?)),
+        Form::Enabled => Ok(Lines::Enabled(enabled_lines(alloc, names, history)?)),
+    }
+}
+
+/// Puts the lines of a form.
+fn put_body<K: Sink>(
+    pieces: &mut Pieces,
+    sink: &mut K,
+    names: &Names,
+    history: &History,
+    lines: &Lines,
+)
+    ensures { Puts K.holds K.faults (body_of names.now history.now.items lines.now)
+        sink.old pieces.old sink.new pieces.new }
+{
+    match lines {
+        Lines::Log => put_log(pieces, sink, names, history),
+        Lines::Function(lines) => put_lines(pieces, sink, names, lines.as_slice()),
+        Lines::Graph(lines) => put_lines(pieces, sink, names, lines.as_slice()),
+        Lines::Profile(lines) => put_lines(pieces, sink, names, lines.as_slice()),
+        Lines::Enabled(lines) => put_lines(pieces, sink, names, lines.as_slice()),
+    }
+}
+
+/// Writes lines and the last line. The memory for the pieces is the last that is taken.
+fn send<K: Sink>(
+    alloc: Global,
+    names: &Names,
+    history: &History,
+    lines: &Lines,
+    ended: bool,
+    sink: &mut K,
+) -> Result<(), TextFail>
+    ensures all { OnOk result (Appends (K.holds sink.old) (K.holds sink.new)
+        (body_of names.now history.now.items lines.now ++ last_line ended)) }
+    ensures front { result ≡ Err TextFail.Sink → AppendsFront (K.holds sink.old) (K.holds sink.new)
+        (body_of names.now history.now.items lines.now ++ last_line ended) }
+    ensures fault { result ≡ Err TextFail.Sink → Rose (K.faults sink.old) (K.faults sink.new) }
+    ensures memory { result ≡ Err TextFail.NoMemory → sink.new ≡ sink.old }
+    ensures faults { K.faults sink.old ≤ K.faults sink.new }
+{
+    let Ok(mut pieces) = Pieces::new(alloc) else {
+        return Err(TextFail::NoMemory);
+    };
+    put_body(&mut pieces, sink, names, history, lines);
+    pieces.put(sink, last_line(ended).as_bytes());
+    match pieces.finish(sink) {
+        Ok(()) => Ok(()),
+        Err(_) => Err(TextFail::Sink),
+    }
+}
+
+/// Writes the text of a history of the job in a form to the sink, in pieces. All memory is taken
+/// before the first byte is written. The last line is `end` if every actor is at its end, else
+/// `stopped`. It takes time linear in the history and in the text, once for each graph or profile
+/// user and fprobe.
+pub fn write_text<K: Sink>(
+    alloc: Global,
+    job: &Job,
+    history: &History,
+    ended: bool,
+    form: Form,
+    sink: &mut K,
+) -> Result<(), TextFail>
+    requires { IsLegal job.now history.now.items }
+    ensures all { OnOk result (Appends (K.holds sink.old) (K.holds sink.new)
+        (text_of form job.now history.now.items ended)) }
+    ensures front { result ≡ Err TextFail.Sink → AppendsFront (K.holds sink.old) (K.holds sink.new)
+        (text_of form job.now history.now.items ended) }
+    ensures fault { result ≡ Err TextFail.Sink → Rose (K.faults sink.old) (K.faults sink.new) }
+    ensures memory { result ≡ Err TextFail.NoMemory → sink.new ≡ sink.old }
+    ensures faults { K.faults sink.old ≤ K.faults sink.new }
+{
+    let Ok(names) = Names::new(alloc, job) else {
+        return Err(TextFail::NoMemory);
+    };
+    let Ok(lines) = lines_of(alloc, &names, history, form) else {
+        return Err(TextFail::NoMemory);
+    };
+    send(alloc, &names, history, &lines, ended, sink)
+}
+
+/// Writes the text of a history of the job, form log, as [`write_text`] does. The history need not
+/// be legal.
+pub fn write_log<K: Sink>(
+    alloc: Global,
+    job: &Job,
+    history: &History,
+    ended: bool,
+    sink: &mut K,
+) -> Result<(), TextFail>
+    ensures all { OnOk result (Appends (K.holds sink.old) (K.holds sink.new)
+        (log_text job.now history.now.items ended)) }
+    ensures front { result ≡ Err TextFail.Sink → AppendsFront (K.holds sink.old) (K.holds sink.new)
+        (log_text job.now history.now.items ended) }
+    ensures fault { result ≡ Err TextFail.Sink → Rose (K.faults sink.old) (K.faults sink.new) }
+    ensures memory { result ≡ Err TextFail.NoMemory → sink.new ≡ sink.old }
+    ensures faults { K.faults sink.old ≤ K.faults sink.new }
+{
+    let Ok(names) = Names::new(alloc, job) else {
+        return Err(TextFail::NoMemory);
+    };
+    send(alloc, &names, history, &Lines::Log, ended, sink)
+}
+
+/// The text of a history of the job in a form, as [`write_text`] writes it. The error says that
+/// memory ran out.
 pub fn print(
     alloc: Global,
     job: &Job,
@@ -34,43 +177,8 @@ pub fn print(
     requires { IsLegal job.now history.now.items }
     ensures { IfOk result (λ text. text.items ≡ text_of form job.now history.now.items ended) }
 {
-    let names = Names::new(alloc, job)?;
-    match form {
-        Form::Log => log_text(alloc, &names, history, ended),
-        Form::Function => {
-            let lines = function_lines(alloc, &names, history)?;
-            text_of_lines(alloc, &names, lines.as_slice(), ended)
-        }
-        Form::Graph => {
-            let lines = graph_lines(alloc, &names, history)?;
-            text_of_lines(alloc, &names, lines.as_slice(), ended)
-        }
-        Form::Profile => {
-            let lines = profile_lines(alloc, &names, history)?;
-            text_of_lines(alloc, &names, lines.as_slice(), ended)
-        }
-        Form::Enabled => {
-            let lines = enabled_lines(alloc, &names, history)?;
-            text_of_lines(alloc, &names, lines.as_slice(), ended)
-        }
-    }
-}
-
-/// The text of lines and the last line.
-fn text_of_lines<L: Line>(
-    alloc: Global,
-    names: &Names,
-    lines: &[L],
-    ended: bool,
-) -> Result<Vec<u8>, NoMemory>
-    ensures { IfOk result (λ text. text.items
-        ≡ lines_text (L.text names.now) lines.now ++ last_line ended) }
-{
-    let mut pieces = Pieces::new(alloc).map_err(|_| NoMemory)?;
     let mut text = GrownText::new(alloc);
-    put_lines(&mut pieces, &mut text, names, lines);
-    pieces.put(&mut text, last_line(ended).as_bytes());
-    match pieces.finish(&mut text) {
+    match write_text(alloc, job, history, ended, form, &mut text) {
         Ok(()) => Ok(text.into_bytes()),
         Err(_) => Err(NoMemory),
     }

@@ -18,6 +18,7 @@ use crate::columns::{put_right, put_three_digits};
 use crate::lines::Line;
 use crate::names::{Names, TaskName};
 use crate::stacks::Stacks;
+use crate::totals::counted;
 use ft_base::{Ctx, FuncNo, Item, Kind, NoMemory, TaskNo, UserNo};
 use ft_hist::History;
 use ft_io::{Pieces, Sink};
@@ -38,10 +39,7 @@ pub(crate) struct FunctionLine {
 impl Line for FunctionLine {
     ghost text = { function_line_text };
 
-    fn put<K: Sink>(&self, pieces: &mut Pieces, sink: &mut K, names: &Names)
-        ensures { Puts K.holds K.faults (function_line_text names.now self.now)
-            sink.old pieces.old sink.new pieces.new }
-    {
+    fn put<K: Sink>(&self, pieces: &mut Pieces, sink: &mut K, names: &Names) {
         self.put_front(pieces, sink, names);
         self.put_call(pieces, sink, names);
     }
@@ -229,7 +227,9 @@ pub(crate) fn function_lines(
     ensures { IfOk result (λ lines. lines_text (function_line_text names.now) lines.items
         ≡ item_texts (function_part names.now) [] history.now.items) }
 {
-    let mut lines = Vec::new(alloc);
+    // Room for all lines at once: one that grows as they come would be copied to ever larger places.
+    let room = counted(history).backs as usize;
+    let mut lines = Vec::with_capacity(alloc, room).map_err(|_| NoMemory)?;
     let mut calls = Stacks::new(alloc, names.job().tasks())?;
     for place in 0..history.len() {
         push_part(&mut lines, names, history, place, &calls)?;

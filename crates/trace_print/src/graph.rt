@@ -12,10 +12,11 @@ ghost use Rattle.trace_print.specs.Leaves.{leaf_exits};
 ghost use Rattle.trace_print.specs.GraphText.{graph_part, user_graph};
 ghost use Rattle.trace_print.specs.GraphLines.{graph_line_text, top_at, with_back, first_leaf, time_to, is_at, IsWalk, IsWalkAt};
 
-use crate::graph_lines::{GraphLine, Shown};
+use crate::graph_line::{GraphLine, Shown};
 use crate::leaves::leaf_exits;
 use crate::names::Names;
 use crate::stacks::Stacks;
+use crate::totals::counted;
 use ft_base::{FuncNo, Item, Kind, NoMemory, TaskNo, UserNo};
 use ft_hist::History;
 use std::alloc::Global;
@@ -297,8 +298,11 @@ pub(crate) fn graph_lines(
     ensures { IfOk result (λ lines. lines_text (graph_line_text names.now) lines.items
         ≡ user_texts (user_graph names.now history.now.items) 0 names.now.users) }
 {
-    let mut lines = Vec::new(alloc);
     let specs = names.job().specs();
+    // Room for all lines at once: one that grows as they come would be copied to ever larger places.
+    let counts = counted(history);
+    let room = specs.len() + counts.backs as usize + counts.exits as usize;
+    let mut lines = Vec::with_capacity(alloc, room).map_err(|_| NoMemory)?;
     for u in 0..names.job().users() {
         let kind = specs[u as usize].kind;
         add_graph(alloc, &mut lines, names, history, UserNo(u), kind)?;

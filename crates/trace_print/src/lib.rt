@@ -10,10 +10,13 @@
 //! | enabled | `enabled_functions` (`ftrace.rst`, "The File System") | one a function that some users trace |
 //!
 //! Promised: [`print`] gives, for each legal history of a job, exactly the text of its form, as the
-//! specs define it; [`write_log`] writes the text of the form log, of any history, to a sink in pieces,
-//! or a beginning of it if the sink fails; [`summary`] gives exactly the counts. The text of the form
-//! log tells the history that it was written for ([`laws`]). Only tested, in `ft_app_tests`: that
-//! memory is found.
+//! specs define it; [`write_text`] writes it to a sink in pieces, or a beginning of it if the sink
+//! fails, and [`write_log`] does so with the form log of any history; [`summary`] gives exactly the
+//! counts. The text of the form log tells the history that it was written for ([`laws`]). Only tested,
+//! in `trace_print_tests` and `ft_app_tests`: that memory is found.
+//!
+//! A form is worked out line by line, as numbers, which takes memory. Then the lines are put, which
+//! takes none: what was written can't be taken back if memory runs out.
 #![tactic(auto)]
 
 mod columns;
@@ -21,7 +24,7 @@ mod enabled;
 mod forms;
 mod function;
 mod graph;
-mod graph_lines;
+mod graph_line;
 mod grown;
 pub mod laws;
 mod leaves;
@@ -32,7 +35,6 @@ mod profile;
 mod stacks;
 mod totals;
 
-pub use forms::print;
+pub use forms::{TextFail, print, write_log, write_text};
 pub use ft_words::Form;
-pub use log::{LogFail, write_log};
 pub use totals::summary;

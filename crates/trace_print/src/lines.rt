@@ -2,9 +2,10 @@
 //! memory comes before the first byte that is written.
 
 ghost use Rattle.ft_io.specs.Pieces.{Puts};
-ghost use Rattle.trace_print.specs.Words.{lines_text};
+ghost use Rattle.trace_print.specs.Words.{lines_text, user_line, user_word};
 
 use crate::names::Names;
+use ft_base::UserNo;
 use ft_io::{Pieces, Sink};
 
 /// A line of a view, as numbers.
@@ -19,6 +20,16 @@ pub(crate) trait Line {
     fn put<K: Sink>(&self, pieces: &mut Pieces, sink: &mut K, names: &Names)
         ensures { Puts K.holds K.faults (text names.now self.now)
             sink.old pieces.old sink.new pieces.new };
+}
+
+/// Puts the line with the name of a user, whose lines follow.
+pub(crate) fn put_user<K: Sink>(pieces: &mut Pieces, sink: &mut K, names: &Names, user: UserNo)
+    ensures { Puts K.holds K.faults (user_line (user_word names.now user.0))
+        sink.old pieces.old sink.new pieces.new }
+{
+    pieces.put(sink, b"# user ");
+    pieces.put(sink, names.user(user).as_bytes());
+    pieces.put(sink, b"\n");
 }
 
 /// Puts the lines of a view, up to the first after the sink has failed.

@@ -1,34 +1,17 @@
-//! The text of a history, form log: a line for each item, and a last line.
+//! The text of a history, form log: a line for each item.
 
-ghost use Rattle.std.specs.Prelude.{◌≡◌, ◌≤◌, [], ◌∷◌, ◌++◌, IfOk, OnOk, OnErr, codes};
-ghost use Rattle.std.specs.Io.KnownBytes.{Appends};
-ghost use Rattle.ft_io.specs.Causes.{Rose, AppendsFront};
-ghost use Rattle.ft_io.specs.Pieces.{nothing, Puts};
+ghost use Rattle.std.specs.Prelude.{◌≡◌, [], ◌∷◌, ◌++◌, codes};
+ghost use Rattle.ft_io.specs.Pieces.{Puts};
 ghost use Rattle.trace_print.specs.Words.{user_word};
 ghost use Rattle.trace_print.specs.LogText.{call_word, caller_word};
 ghost use Rattle.trace_print.specs.LogText.{context_word, reason_word, ran_words, answer_words, joined};
-ghost use Rattle.trace_print.specs.LogText.{item_words, log_line, log_text};
+ghost use Rattle.trace_print.specs.LogText.{item_words, log_line, log_lines};
 
-use crate::columns::{last_line, put_number};
-use crate::grown::GrownText;
+use crate::columns::put_number;
 use crate::names::Names;
-use ft_base::{Answer, CallNo, Ctx, Item, NoMemory, Ran, Reason, UserNo};
+use ft_base::{Answer, CallNo, Ctx, Item, Ran, Reason, UserNo};
 use ft_hist::History;
-use ft_io::{Pieces, Sink, WriteFail};
-use ft_machine::Job;
-use std::alloc::Global;
-use thiserror::Error;
-
-/// Why the log was not written whole.
-#[derive(Clone, Copy, Debug, PartialEq, Eq, Drop, Error)]
-pub enum LogFail {
-    /// Out of memory; nothing was written.
-    #[error("out of memory")]
-    NoMemory,
-    /// The sink failed: its count of faults rose, and a beginning of the log was appended.
-    #[error("the sink failed")]
-    Sink,
-}
+use ft_io::{Pieces, Sink};
 
 /// Puts a call: the pid of its task, a dot and its number.
 fn put_call<K: Sink>(pieces: &mut Pieces, sink: &mut K, names: &Names, call: CallNo)
@@ -203,77 +186,16 @@ fn put_line<K: Sink>(pieces: &mut Pieces, sink: &mut K, names: &Names, place: u3
     pieces.put(sink, b"\n");
 }
 
-/// Writes the text, form log: a line for each item in order, which begins with the item's place,
-/// and the last line, `end` if every actor is at its end, else `stopped`. It takes no memory, and
-/// stops at the first line after the sink has failed.
-fn send_log<K: Sink>(
-    mut pieces: Pieces,
-    sink: &mut K,
-    names: &Names,
-    history: &History,
-    ended: bool,
-) -> Result<(), WriteFail>
-    requires { pieces ≡ nothing }
-    ensures all { OnOk result (Appends (K.holds sink.old) (K.holds sink.new)
-        (log_text names.now history.now.items ended)) }
-    ensures front { OnErr result (AppendsFront (K.holds sink.old) (K.holds sink.new)
-        (log_text names.now history.now.items ended)) }
-    ensures fault { OnErr result (Rose (K.faults sink.old) (K.faults sink.new)) }
-    ensures faults { K.faults sink.old ≤ K.faults sink.new }
+/// Puts the line of each item in order, which begins with the item's place, up to the first line after
+/// the sink has failed.
+pub(crate) fn put_log<K: Sink>(pieces: &mut Pieces, sink: &mut K, names: &Names, history: &History)
+    ensures { Puts K.holds K.faults (log_lines names.now 0 history.now.items)
+        sink.old pieces.old sink.new pieces.new }
 {
     for place in 0..history.len() {
         if pieces.has_failed() {
-            return Err(WriteFail);
+            return;
         }
-        put_line(&mut pieces, sink, names, place, history.item(place));
-    }
-    pieces.put(sink, last_line(ended).as_bytes());
-    pieces.finish(sink)
-}
-
-/// Writes the text of a history of the job, form log, to the sink, in pieces. All memory is taken
-/// before the first byte is written. Its last line is `end` if every actor is at its end, else
-/// `stopped`. It takes time linear in the history and in the text.
-pub fn write_log<K: Sink>(
-    alloc: Global,
-    job: &Job,
-    history: &History,
-    ended: bool,
-    sink: &mut K,
-) -> Result<(), LogFail>
-    ensures all { OnOk result (Appends (K.holds sink.old) (K.holds sink.new)
-        (log_text job.now history.now.items ended)) }
-    ensures front { result ≡ Err LogFail.Sink → AppendsFront (K.holds sink.old) (K.holds sink.new)
-        (log_text job.now history.now.items ended) }
-    ensures fault { result ≡ Err LogFail.Sink → Rose (K.faults sink.old) (K.faults sink.new) }
-    ensures memory { result ≡ Err LogFail.NoMemory → sink.new ≡ sink.old }
-    ensures faults { K.faults sink.old ≤ K.faults sink.new }
-{
-    let Ok(names) = Names::new(alloc, job) else {
-        return Err(LogFail::NoMemory);
-    };
-    let Ok(pieces) = Pieces::new(alloc) else {
-        return Err(LogFail::NoMemory);
-    };
-    match send_log(pieces, sink, &names, history, ended) {
-        Ok(()) => Ok(()),
-        Err(_) => Err(LogFail::Sink),
-    }
-}
-
-/// The text of a history, form log. The error says that memory ran out.
-pub(crate) fn log_text(
-    alloc: Global,
-    names: &Names,
-    history: &History,
-    ended: bool,
-) -> Result<Vec<u8>, NoMemory>
-    ensures { IfOk result (λ text. text.items ≡ log_text names.now history.now.items ended) }
-{
-    let pieces = Pieces::new(alloc).map_err(|_| NoMemory)?;
-    let mut text = GrownText::new(alloc);
-    match send_log(pieces, &mut text, names, history, ended) {
-        Ok(()) => Ok(text.into_bytes()),
-        Err(_) => Err(NoMemory),
+        put_line(pieces, sink, names, place, history.item(place));
     }
 }

@@ -1,28 +1,23 @@
 //! The lines of a history, form profile: the rows of the profile users, and the counts of the fprobes.
 
 ghost use Rattle.std.specs.Prelude.{◌≡◌, ◌∷◌, ◌++◌, length, map, IfOk, OnOk};
-ghost use Rattle.std.specs.Fmt.{decimal};
 ghost use Rattle.ft_base.specs.Desk.{spec_at};
 ghost use Rattle.ft_base.specs.Job.{funcs};
 ghost use Rattle.ft_hist.specs.Rules.{IsLegal};
 ghost use Rattle.ft_io.specs.Pieces.{Puts};
 ghost use Rattle.func_profile.specs.Rows.{HasRows};
 ghost use Rattle.trace_print.specs.Words.{lines_text, user_texts, user_word};
-ghost use Rattle.trace_print.specs.ProfileText.{profile_line_text, user_profile, user_line, fprobe_line, counts_line, row_line};
+ghost use Rattle.trace_print.specs.ProfileText.{profile_line_text, user_profile, fprobe_line, counts_line, row_line};
 ghost use Rattle.trace_print.specs.declared.profile.ProfileLine.TheVariants.{User, Row};
 
-use crate::columns::put_number;
-use crate::lines::Line;
+use crate::columns::{put_number, put_u64};
+use crate::lines::{Line, put_user};
 use crate::names::Names;
 use ft_base::{Kind, NoMemory, UserNo};
 use ft_hist::History;
 use ft_io::{Pieces, Sink};
 use func_profile::{ProfileRow, rows};
-use itoa::write_digits;
 use std::alloc::{AllocError, Global};
-
-/// The most digits that a time has.
-const TIME_DIGITS: usize = 20;
 
 /// A line.
 #[derive(Clone, Copy)]
@@ -42,10 +37,7 @@ pub(crate) enum ProfileLine {
 impl Line for ProfileLine {
     ghost text = { profile_line_text };
 
-    fn put<K: Sink>(&self, pieces: &mut Pieces, sink: &mut K, names: &Names)
-        ensures { Puts K.holds K.faults (profile_line_text names.now self.now)
-            sink.old pieces.old sink.new pieces.new }
-    {
+    fn put<K: Sink>(&self, pieces: &mut Pieces, sink: &mut K, names: &Names) {
         match *self {
             ProfileLine::User(user) => put_user(pieces, sink, names, user),
             ProfileLine::Row(row) => put_row(pieces, sink, names, row),
@@ -54,25 +46,6 @@ impl Line for ProfileLine {
             }
         }
     }
-}
-
-/// Puts the line with the name of a profile user.
-fn put_user<K: Sink>(pieces: &mut Pieces, sink: &mut K, names: &Names, user: UserNo)
-    ensures { Puts K.holds K.faults (user_line (user_word names.now user.0))
-        sink.old pieces.old sink.new pieces.new }
-{
-    pieces.put(sink, b"# user ");
-    pieces.put(sink, names.user(user).as_bytes());
-    pieces.put(sink, b"\n");
-}
-
-/// Puts a time, in decimal.
-fn put_time<K: Sink>(pieces: &mut Pieces, sink: &mut K, time: u64)
-    ensures { Puts K.holds K.faults (decimal time) sink.old pieces.old sink.new pieces.new }
-{
-    let mut room = [0; TIME_DIGITS];
-    let start = write_digits(time, &mut room, TIME_DIGITS);
-    pieces.put(sink, &room[start..]);
 }
 
 /// Puts the line of a row.
@@ -84,7 +57,7 @@ fn put_row<K: Sink>(pieces: &mut Pieces, sink: &mut K, names: &Names, row: Profi
     pieces.put(sink, b" ");
     put_number(pieces, sink, row.hits);
     pieces.put(sink, b" ");
-    put_time(pieces, sink, row.time);
+    put_u64(pieces, sink, row.time);
     pieces.put(sink, b"\n");
 }
 

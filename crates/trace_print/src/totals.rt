@@ -12,12 +12,12 @@ use std::fmt::Write;
 
 /// How many items of some kinds there are.
 #[derive(Clone, Copy)]
-struct Counts {
-    calls: u32,
-    backs: u32,
-    refused: u32,
-    exits: u32,
-    missed: u32,
+pub(crate) struct Counts {
+    pub(crate) calls: u32,
+    pub(crate) backs: u32,
+    pub(crate) refused: u32,
+    pub(crate) exits: u32,
+    pub(crate) missed: u32,
 }
 
 /// No item.
@@ -51,7 +51,7 @@ fn with_item(counts: Counts, item: &Item) -> Counts
 }
 
 /// The counts of a history.
-fn counted(history: &History) -> Counts
+pub(crate) fn counted(history: &History) -> Counts
     ensures { IsCounted history.now.items result }
 {
     let mut counts = no_items();

@@ -6,4 +6,4 @@ use Rattle.trace_print.proofs.profile.put_row.Goals as goal
 pub returns : goal.returns
 unfolding row_line
 returns g c = puts-then (puts-equal (c.as_bytes.ensures.value ∙ c.function.ensures) c.put.ensures)
-    (puts-then c.put-2.ensures (puts-then c.put_number.ensures (puts-then c.put-3.ensures (puts-then c.put_time.ensures c.put-4.ensures))))
+    (puts-then c.put-2.ensures (puts-then c.put_number.ensures (puts-then c.put-3.ensures (puts-then c.put_u64.ensures c.put-4.ensures))))

@@ -2,7 +2,7 @@ use Rattle.std.proofs.Common.{ap}
 use Rattle.std.specs.Fmt.{decimal}
 use Rattle.ft_io.proofs.PieceLaws.{puts-then, puts-equal}
 use Rattle.trace_print.specs.Words.{right_in}
-use Rattle.trace_print.proofs.graph_lines.put_front.Goals as goal
+use Rattle.trace_print.proofs.graph_line.put_front.Goals as goal
 
 pub returns : goal.returns
 returns g c =

@@ -1,7 +1,7 @@
 use Rattle.std.proofs.Common.{◌∙◌}
 use Rattle.ft_io.proofs.PieceLaws.{puts-then, puts-equal}
-use Rattle.trace_print.specs.ProfileText.{user_line}
-use Rattle.trace_print.proofs.profile.put_user.Goals as goal
+use Rattle.trace_print.specs.Words.{user_line}
+use Rattle.trace_print.proofs.lines.put_user.Goals as goal
 
 pub returns : goal.returns
 unfolding user_line

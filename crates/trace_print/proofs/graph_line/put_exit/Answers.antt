@@ -2,7 +2,7 @@ use Rattle.std.proofs.Common.{◌∙◌}
 use Rattle.ft_io.proofs.PieceLaws.{puts-then, puts-equal}
 use Rattle.trace_print.specs.Words.{function_word}
 use Rattle.trace_print.proofs.LineLaws.{exit-said}
-use Rattle.trace_print.proofs.graph_lines.put_exit.Goals as goal
+use Rattle.trace_print.proofs.graph_line.put_exit.Goals as goal
 
 pub returns : goal.returns
 returns g c =

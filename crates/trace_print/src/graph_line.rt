@@ -6,7 +6,7 @@ ghost use Rattle.trace_print.specs.GraphText.{time_column};
 ghost use Rattle.trace_print.specs.GraphLines.{graph_front, entry_text, exit_text, graph_line_text};
 
 use crate::columns::{put_indent, put_right};
-use crate::lines::Line;
+use crate::lines::{Line, put_user};
 use crate::names::{Names, TaskName};
 use ft_base::{FuncNo, TaskNo, UserNo};
 use ft_io::{Pieces, Sink};
@@ -99,16 +99,9 @@ fn put_exit<K: Sink>(pieces: &mut Pieces, sink: &mut K, names: &Names, shown: Sh
 impl Line for GraphLine {
     ghost text = { graph_line_text };
 
-    fn put<K: Sink>(&self, pieces: &mut Pieces, sink: &mut K, names: &Names)
-        ensures { Puts K.holds K.faults (graph_line_text names.now self.now)
-            sink.old pieces.old sink.new pieces.new }
-    {
+    fn put<K: Sink>(&self, pieces: &mut Pieces, sink: &mut K, names: &Names) {
         match *self {
-            GraphLine::User(user) => {
-                pieces.put(sink, b"# user ");
-                pieces.put(sink, names.user(user).as_bytes());
-                pieces.put(sink, b"\n");
-            }
+            GraphLine::User(user) => put_user(pieces, sink, names, user),
             GraphLine::Entry { shown, time } => put_entry(pieces, sink, names, shown, time),
             GraphLine::Exit { shown, time } => put_exit(pieces, sink, names, shown, time),
         }

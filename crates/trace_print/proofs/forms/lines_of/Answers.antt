@@ -1,0 +1,33 @@
+use Rattle.std.proofs.Common.{List, ℕ, ◌++◌, ap, refl, ◌∙◌, append_assoc}
+use Rattle.trace_print.specs.Words.{last_line, user_texts}
+use Rattle.trace_print.specs.LogText.{log_text}
+use Rattle.trace_print.specs.FunctionText.{function_text}
+use Rattle.trace_print.specs.GraphText.{graph_text}
+use Rattle.trace_print.specs.ProfileText.{profile_text, user_profile, fprobe_line}
+use Rattle.trace_print.specs.EnabledText.{enabled_text}
+use Rattle.trace_print.proofs.forms.lines_of.Goals as goal
+
+pub returns-in-Log : goal.returns-in-Log
+unfolding log_text
+returns-in-Log c = rw c.in-Log.is (λ ended. refl)
+
+pub returns-in_ok-function_lines-in-Function : goal.returns-in_ok-function_lines-in-Function
+unfolding function_text
+returns-in_ok-function_lines-in-Function c =
+    rw c.in-Function.is (λ ended. ap (λ (t : List ℕ). t ++ last_line ended) c.in_ok-function_lines-in-Function.ensures)
+
+pub returns-in_ok-graph_lines-in-Graph : goal.returns-in_ok-graph_lines-in-Graph
+unfolding graph_text
+returns-in_ok-graph_lines-in-Graph c =
+    rw c.in-Graph.is (λ ended. ap (λ (t : List ℕ). t ++ last_line ended) c.in_ok-graph_lines-in-Graph.ensures)
+
+pub returns-in_ok-profile_lines-in-Profile : goal.returns-in_ok-profile_lines-in-Profile
+unfolding profile_text
+returns-in_ok-profile_lines-in-Profile c =
+    rw c.in-Profile.is (λ ended. ap (λ (t : List ℕ). t ++ last_line ended) c.in_ok-profile_lines-in-Profile.ensures
+    ∙ append_assoc (user_texts (user_profile c.args.names.now c.args.history.now.items) 0 c.args.names.now.users) (user_texts (fprobe_line c.args.history.now.items) 0 c.args.names.now.users) (last_line ended))
+
+pub returns-in_ok-enabled_lines-in-Enabled : goal.returns-in_ok-enabled_lines-in-Enabled
+unfolding enabled_text
+returns-in_ok-enabled_lines-in-Enabled c =
+    rw c.in-Enabled.is (λ ended. ap (λ (t : List ℕ). t ++ last_line ended) c.in_ok-enabled_lines-in-Enabled.ensures)
