@@ -4,8 +4,8 @@
 //! The words give an *order*. Its script is read to its end, or generated; its job is carried out, by
 //! a replay of its schedule or by running threads, and what the order prints of the history is
 //! written; or the line is written that says where the script is refused, and why. That text or line
-//! is the *reply* to the script. A log is written in pieces, so that it is never whole in memory; any
-//! other reply is made whole first. Either way all memory is had before the first byte is written.
+//! is the *reply* to the script. The text of a history is written in pieces, so that it is never whole
+//! in memory. All memory is had before the first byte is written.
 //!
 //! Proved, for every source, sink and gate: each status says what was read and written, and comes
 //! only for its reason; with status 0 the text is what the order prints of a history of the script's
