@@ -1,0 +1,68 @@
+#!/usr/bin/env python3
+"""Tries the further wrong bodies: tools/further.py NAME ..
+
+`rt ci` tries the edits of each crate's must-fail/. Beside them a crate may have more in further/, of the same form, which
+the whole check leaves out, since an edit costs it 10 to 40 seconds. Whoever changes a crate tries its further edits by this:
+in a copy of the repository they stand in the place of must-fail/, and `rt must-fail` tries them. Each has to be refused; an
+edit that can't be applied or read counts as failed, too. With no NAME all crates that have such edits are tried. What was
+refused once isn't tried again on the same machine until the crate, one below it, or the edit changes.
+
+The last line is `further: N passed, M failed`, and the status is 0 if nothing failed.
+"""
+import argparse
+import pathlib
+import re
+import subprocess
+import sys
+import tempfile
+
+sys.dont_write_bytecode = True
+import crate_list  # noqa: E402
+
+RESULT = re.compile(r"rt: (?:must-fail )?(\w+/[\w.-]+\.edit): (.*)")
+REFUSED = "refused, as it must be"
+
+
+def edits_of(name):
+    """The further edits of a crate, by their files' names."""
+    return sorted(it.name for it in (crate_list.TOP / "crates" / name / "further").glob("*.edit"))
+
+
+def try_edits(names, room):
+    """Tries the further edits of these crates in a copy, says each result as it comes, and gives the results by edit."""
+    crate_list.copy_repository(room, names, extra=["further"])
+    for name in names:
+        (room / "crates" / name / "further").rename(room / "crates" / name / "must-fail")
+    said = {}
+    command = ["rt", "must-fail", *names]
+    with subprocess.Popen(command, cwd=room, stdout=subprocess.PIPE, stderr=subprocess.STDOUT, text=True) as tried:
+        for line in tried.stdout:
+            print(line, end="", flush=True)
+            found = RESULT.match(line)
+            if found:
+                said[found[1]] = found[2]
+    return said
+
+
+def main():
+    """Tries the edits of the crates that are named, or of all, and counts them."""
+    parser = argparse.ArgumentParser(description=__doc__, formatter_class=argparse.RawDescriptionHelpFormatter)
+    parser.add_argument("names", nargs="*", metavar="NAME", help="a crate that has further edits")
+    words = parser.parse_args()
+    have = [name for name in crate_list.read_crates() if edits_of(name)]
+    unknown = [name for name in words.names if name not in have]
+    if unknown:
+        parser.exit(2, f"further: there is no crate {unknown[0]} with further edits\n")
+    names = [name for name in have if name in words.names or not words.names]
+    with tempfile.TemporaryDirectory(prefix="further-") as folder:
+        said = try_edits(names, pathlib.Path(folder) / "copy")
+    wanted = [f"{name}/{edit}" for name in names for edit in edits_of(name)]
+    failed = [edit for edit in wanted if not said.get(edit, "").startswith(REFUSED)]
+    for edit in failed:
+        print(f"further: FAILED: {edit}: {said.get(edit, 'it was not tried')[:200]}")
+    print(f"further: {len(wanted) - len(failed)} passed, {len(failed)} failed")
+    return 1 if failed else 0
+
+
+if __name__ == "__main__":
+    sys.exit(main())
