@@ -1,0 +1,184 @@
+#!/usr/bin/env python3
+"""Proves the program's crates and builds the program: ./prove
+
+The crates that the program stands on, without tests and without must-fail edits, are copied to a folder of their own and
+checked there by `rt ci`: side by side if they don't wait for each other, on all processors, as memory allows. What is proved
+is kept on this machine, so after an interruption the next ./prove goes on where this one was. The program then stands in
+crates/ftcore/out/ftcore, where ./ftcore finds it. While a newer source is there, it counts as not built.
+
+On a terminal each crate that is proved gives a line, otherwise each half minute does. The status is 0 if the program is
+there, 1 if something isn't proved (which is named, with the log), and 2 if nothing could be tried.
+"""
+import argparse
+import os
+import pathlib
+import re
+import shutil
+import signal
+import subprocess
+import sys
+import tempfile
+import threading
+import time
+
+sys.dont_write_bytecode = True
+import cost_table  # noqa: E402
+import crate_list  # noqa: E402
+import rattle_processes  # noqa: E402
+
+OUT = crate_list.TOP / "crates" / crate_list.PROGRAM / "out"
+BUILT, LOG = OUT / crate_list.PROGRAM, OUT / "prove.log"
+EVERY = 30  # seconds between two lines if nobody sits at a terminal
+ENDED = re.compile(r"rt: (\w+) (proved|is kept)\b")
+FAILED = re.compile(r"rt: (\w+)(?:: its tests are)? NOT PROVED")
+FUNCTION = re.compile(r"fn (\S+): not proved")
+PLACE = re.compile(r"(?:note: )?(?:\./)?((?:src|specs|proofs)/\S+?:\d+):\d+:")
+
+
+def is_built():
+    """Whether the program is there, and no source of it is newer."""
+    if not os.access(BUILT, os.X_OK):
+        return False
+    crates, built = crate_list.read_crates(), BUILT.stat().st_mtime_ns
+    files = [crate_list.TOP / "crates.txt"]
+    for name in crate_list.with_those_below(crates, [crate_list.PROGRAM]):
+        for part in crate_list.PARTS:
+            files += (crate_list.TOP / "crates" / name / part).rglob("*")
+    return all(it.stat().st_mtime_ns <= built for it in files)
+
+
+def longest_chain(crates, seconds):
+    """The most seconds that crates take of which each waits for the one before."""
+    taken = {}
+    for name in crates:  # in the order of crates.txt, where a crate comes after those it stands on
+        taken[name] = seconds.get(name, 0) + max((taken.get(it, 0) for it in crates[name][1]), default=0)
+    return max(taken.values(), default=0)
+
+
+class Progress:
+    """How far the proofs are: which crates are done, and how fast the seconds of docs/COST.md go by on this machine."""
+
+    def __init__(self, names):
+        self.crates = {name: told for name, told in crate_list.read_crates().items() if name in names}
+        self.seconds = {name: row.proof for name, row in cost_table.read().items() if name in names}
+        self.done, self.proved, self.begun = set(), 0.0, time.monotonic()
+
+    def note(self, name, is_kept):
+        """This crate is proved, now or by an earlier run."""
+        self.done.add(name)
+        self.proved += 0 if is_kept else self.seconds.get(name, 0)
+
+    def minutes_left(self):
+        """About how long the rest will take."""
+        left = {name: self.seconds.get(name, 0) for name in self.crates if name not in self.done}
+        processors = len(os.sched_getaffinity(0))
+        taken = time.monotonic() - self.begun
+        speed = self.proved / taken if self.proved > 60 else processors  # seconds of the table, in a second
+        chain = longest_chain(self.crates, left) * min(4.0, max(1.0, processors / max(speed, 0.1)))
+        return max(1, round(max(sum(left.values()) / max(speed, 0.1), chain) / 60))
+
+    def line(self, now):
+        """The line that tells it; `now` are the crates that are being proved."""
+        minutes = self.minutes_left()
+        left = f"about {minutes} minute{'s' * (minutes > 1)} left"
+        return f"prove: {len(self.done)} of {len(self.crates)} crates; {', '.join(sorted(now)) or 'the program'}; {left}"
+
+
+class Check:
+    """A run of `rt ci` in a copy, whose lines are read as they come and kept in a log."""
+
+    def __init__(self, room, names, words):
+        self.progress, self.is_told, self.failed = Progress(names), sys.stdout.isatty(), None
+        how = {"stdout": subprocess.PIPE, "stderr": subprocess.STDOUT, "stdin": subprocess.DEVNULL}
+        self.process = subprocess.Popen(["rt", "ci", *words], cwd=room, text=True, errors="replace", start_new_session=True, **how)
+
+    def now(self):
+        """The crates that are being proved."""
+        return {it.crate for it in rattle_processes.provers_below(self.process.pid)}
+
+    def tell(self):
+        """Prints how far it is, now and then, until the run has ended."""
+        while self.process.poll() is None:
+            time.sleep(EVERY)
+            if self.process.poll() is None:
+                print(self.progress.line(self.now()), flush=True)
+
+    def read(self, log):
+        """Reads the lines of the run to their end, and gives its status."""
+        if not self.is_told:
+            threading.Thread(target=self.tell, daemon=True).start()
+        for line in self.process.stdout:
+            log.write(line)
+            log.flush()
+            ended, failed = ENDED.match(line), FAILED.match(line)
+            if ended:
+                self.progress.note(ended[1], ended[2] != "proved")
+                if self.is_told:
+                    print(self.progress.line(self.now()), flush=True)
+            self.failed = self.failed or failed and failed[1]
+        return self.process.wait()
+
+    def stop(self):
+        """Ends the run and what it has started."""
+        if self.process.poll() is None:
+            os.killpg(self.process.pid, signal.SIGKILL)
+            self.process.wait()
+
+
+def fault_of(name, text):
+    """What the log of a run says of a crate that isn't proved: the first function and the first place, if it names them."""
+    block = text.partition(f"== {name}\n")[2].partition(f"rt: {name} NOT PROVED")[0]
+    function, place = FUNCTION.search(block), PLACE.search(block)
+    said = [f"fn {function[1]}"] if function else []
+    said += [f"crates/{name}/{place[1]}"] if place else []
+    return ", ".join(said) or "no function is named"
+
+
+def prove(words):
+    """Proves the crates and puts the program in its place; gives the status."""
+    begun, started = time.time_ns(), time.monotonic()
+    OUT.mkdir(parents=True, exist_ok=True)
+    with tempfile.TemporaryDirectory(prefix="prove-") as folder:
+        room = pathlib.Path(folder) / "copy"
+        names = crate_list.copy_repository(room, [crate_list.PROGRAM])
+        check = Check(room, names, words)
+        try:
+            with open(LOG, "w") as log:
+                status = check.read(log)
+        finally:
+            check.stop()
+        if status:
+            what = f"{check.failed} isn't proved: {fault_of(check.failed, LOG.read_text())}" if check.failed else "nothing was built"
+            print(f"prove: {what}; the whole log is {LOG}", flush=True)
+            return 1
+        new = OUT / "ftcore.new"
+        shutil.copy(room / "crates" / crate_list.PROGRAM / "out" / crate_list.PROGRAM, new)
+    os.utime(new, ns=(begun, begun))  # a source that has changed meanwhile counts as newer
+    new.rename(BUILT)
+    print(f"prove: the proved program is there, after {(time.monotonic() - started) / 60:.0f} minutes: ./ftcore runs it", flush=True)
+    return 0
+
+
+def main():
+    """Reads the options and proves."""
+    parser = argparse.ArgumentParser(prog="prove", description=__doc__, formatter_class=argparse.RawDescriptionHelpFormatter)
+    parser.add_argument("--anew", action="store_true", help="prove all again, whatever this machine has kept")
+    parser.add_argument("--is-built", action="store_true", help="only tell, by the status, whether the proved program is there")
+    words = parser.parse_args()
+    if words.is_built:
+        return 0 if is_built() else 1
+    if is_built() and not words.anew:
+        print("prove: the proved program is there: ./ftcore runs it")
+        return 0
+    if not shutil.which("rt"):
+        parser.exit(2, "prove: rt, the command of the Rattle kit, isn't on the path\n")
+    signal.signal(signal.SIGTERM, lambda number, _: sys.exit(128 + number))
+    try:
+        return prove(["--anew"] if words.anew else [])
+    except KeyboardInterrupt:
+        print("prove: broken off; what is proved is kept, and the next ./prove goes on there")
+        return 130
+
+
+if __name__ == "__main__":
+    sys.exit(main())
