@@ -20,12 +20,17 @@ A block is lines of a page that begin with four blanks, with no other line betwe
 Other blocks are left alone: pictures, and commands of other programs. But no command is: a line that begins with
 `$ ftcore` and can't be run counts as failed, wherever on a page it is, and so does a script that nothing runs.
 
-The last line is `docs: N passed, M failed`, and the status is 0 if nothing failed.
+- If its lines begin with `./ftcore`, they are commands that a reader types: each is run and has to end with 0. What stands after
+  two blanks says what it does; the commands of other blocks, with pipes or files of the reader's, aren't run.
+
+page_names.py looks whether what a page names is there. The last line is `docs: N passed, M failed`, and the status is 0 if
+nothing failed.
 """
 import re
 import sys
 
 sys.dont_write_bytecode = True
+import page_names  # noqa: E402
 import runs  # noqa: E402
 
 REFUSED = re.compile(rb"line [1-9][0-9]*: [a-z]+\n")
@@ -33,6 +38,7 @@ ENDS = (b"end\n", b"stopped\n")
 FORMS = {form: ["replay", "--print", form] for form in ("function", "graph", "profile", "enabled")}
 FORMS["log"] = ["replay"]
 COMMAND = re.compile(rb"\$ ftcore((?: [\w=.-]+)*)(?: < (examples/[\w.]+\.ft))?\n")
+TYPED = re.compile(rb"\./ftcore((?: [\w=.-]+)*)(?: < (examples/[\w.]+\.ft))?(?:  .*)?\n")
 IS_COMMAND = re.compile(r"[\s>*+-]*\$\s*\S*ftcore\b")
 NOT_EMPTY = ("README.md", "TOUR.md")  # the pages that have a script at least
 
@@ -184,6 +190,15 @@ class Page:
         else:
             show(self.rows, self.program, self.name(number), script, wanted, words)
 
+    def type(self, number, block):
+        """One row for each command of the block that a reader can type as it is: it ends with 0."""
+        for at, line in enumerate(block.splitlines(keepends=True), number):
+            found = TYPED.fullmatch(line)
+            if found:
+                words, path = found[1].decode().split(), self.top / (found[2] or b"examples/first_path.ft").decode()
+                came = runs.answer([self.program, *words], path.read_bytes() if path.is_file() else b"")
+                self.rows.row(self.name(at), runs.faults(came, 0))
+
     def show(self):
         """Each script and each command, and gives how many scripts there are."""
         text, is_below = self.path.read_text(), False
@@ -194,6 +209,8 @@ class Page:
             elif block.startswith(b"$ ftcore"):
                 for command in commands(number, block):
                     self.run(*command)
+            elif block.startswith(b"./ftcore"):
+                self.type(number, block)
             elif is_below:
                 self.ran.add(self.scripts[-1])
                 show(self.rows, self.program, self.name(self.scripts[-1]), self.script, block)
@@ -217,7 +234,9 @@ def main():
     show_examples(rows, words.program, words.top / "examples")
     show_table_rows(rows, words.program, words.top / "docs" / "LANGUAGE.md")
     show_library(rows, words.top / "docs" / "LIBRARY.md", words.top / "crates" / "step_by_step")
-    for path in [words.top / "README.md", *sorted((words.top / "docs").glob("*.md"))]:
+    pages = [words.top / "README.md", *sorted((words.top / "docs").glob("*.md"))]
+    page_names.check(rows, words.top, pages)
+    for path in pages:
         if not Page(rows, words, path).show() and path.name in NOT_EMPTY:
             rows.row(path.name, ["no example"])
     return rows.end()
