@@ -18,7 +18,6 @@ that turns it off. The trace is always of the whole log.
 """
 import argparse
 import pathlib
-import re
 import sys
 
 sys.dont_write_bytecode = True
