@@ -108,7 +108,7 @@ def check_prove(rows, copy):
     failed = b"prove: ftcore isn't proved: fn ftcore::main, crates/ftcore/src/main.rt:7; the whole log is "
     rows.row("a proof fails", ends_with(copy.call("prove", how="no proof"), 1, failed))
     rows.row("the log", [] if (copy.top / "crates/ftcore/out/prove.log").read_text().endswith("1 failed\n") else ["it isn't that of the run"])
-    rows.row("a proved program", ends_with(copy.call("prove"), 0, b"prove: the proved program is there, after 0 minutes: ./ftcore runs it\n"))
+    rows.row("a proved program", ends_with(copy.call("prove"), 0, b"prove: the proved program is there, after 1 minute: ./ftcore runs it\n"))
     rows.row("it is run, and nothing is said", same(copy.call("ftcore", "replay", "a b"), 5, b"replay,a b," + SCRIPT, b""))
     rows.row("it is there", ends_with(copy.call("prove"), 0, b"prove: the proved program is there: ./ftcore runs it\n"))
     (copy.top / "crates/other_tests/src/lib.rt").write_text("// newer")

@@ -47,6 +47,12 @@ def is_built():
     return all(it.stat().st_mtime_ns <= built for it in files)
 
 
+def minutes(seconds):
+    """These seconds in words, one minute at least."""
+    number = max(1, round(seconds / 60))
+    return f"{number} minute{'s' * (number > 1)}"
+
+
 def longest_chain(crates, seconds):
     """The most seconds that crates take of which each waits for the one before."""
     taken = {}
@@ -68,20 +74,19 @@ class Progress:
         self.done.add(name)
         self.proved += 0 if is_kept else self.seconds.get(name, 0)
 
-    def minutes_left(self):
+    def seconds_left(self):
         """About how long the rest will take."""
         left = {name: self.seconds.get(name, 0) for name in self.crates if name not in self.done}
         processors = len(os.sched_getaffinity(0))
         taken = time.monotonic() - self.begun
         speed = self.proved / taken if self.proved > 60 else processors  # seconds of the table, in a second
         chain = longest_chain(self.crates, left) * min(4.0, max(1.0, processors / max(speed, 0.1)))
-        return max(1, round(max(sum(left.values()) / max(speed, 0.1), chain) / 60))
+        return max(sum(left.values()) / max(speed, 0.1), chain)
 
     def line(self, now):
         """The line that tells it; `now` are the crates that are being proved."""
-        minutes = self.minutes_left()
-        left = f"about {minutes} minute{'s' * (minutes > 1)} left"
-        return f"prove: {len(self.done)} of {len(self.crates)} crates; {', '.join(sorted(now)) or 'the program'}; {left}"
+        doing = ", ".join(sorted(now)) or "the program"
+        return f"prove: {len(self.done)} of {len(self.crates)} crates; {doing}; about {minutes(self.seconds_left())} left"
 
 
 class Check:
@@ -155,7 +160,7 @@ def prove(words):
         shutil.copy(room / "crates" / crate_list.PROGRAM / "out" / crate_list.PROGRAM, new)
     os.utime(new, ns=(begun, begun))  # a source that has changed meanwhile counts as newer
     new.rename(BUILT)
-    print(f"prove: the proved program is there, after {(time.monotonic() - started) / 60:.0f} minutes: ./ftcore runs it", flush=True)
+    print(f"prove: the proved program is there, after {minutes(time.monotonic() - started)}: ./ftcore runs it", flush=True)
     return 0
 
 
