@@ -12,6 +12,7 @@ use Rattle.ft_base.proofs.Small.{false_true, ==-refl, and-false, Each-weaker}
 use Rattle.ft_base.specs.Kinds.{cancels}
 use Rattle.ft_hist.specs.Past.{is_of, done, is_open, calls, held, all_visits, is_dispatched, has_frame_user}
 use Rattle.ft_hist.specs.Plain.{plain, after_next, PlainTask, at_start}
+use Rattle.ft_hist.specs.Telling.{open_calls}
 use Rattle.ft_hist.proofs.Laws.{same_call-refl}
 use Rattle.ft_hist.proofs.RunLaws.{some_inj, calls_on, Keeps, Moves, moves}
 use Rattle.ft_hist.proofs.Since.{IsOlder, apart, holding, holds}
@@ -61,10 +62,6 @@ filter-nest a n o q (x ∷ xs) =
 abbrev pub Falls : List CallNo → Type 0
 Falls [] = Unit {0}
 Falls (c ∷ cs) = Each (λ d. d.n < c.n) cs × Falls cs
-
--- the task's open calls, the latest first
-abbrev pub open_calls : ℕ → List Item → List CallNo
-open_calls t past = filter (λ c. (c.task.0 == t) && is_open c past) (calls past)
 
 pub record Opens (t : ℕ) (past : List Item) (next : ℕ) (stack : List CallNo) : Type 0 where
   pub number : Each (λ c. c.n < next) stack

@@ -17,6 +17,8 @@ pub mod Told
 pub mod ToldMore
 pub mod Unregistered
 pub mod ToldExits
+pub mod FullStack
+pub mod EnteredOnce
 pub mod Carries
 pub mod OpenCallbacks
 pub mod Placing

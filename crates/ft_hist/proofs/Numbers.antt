@@ -85,7 +85,7 @@ module _ (job : Job) where
           (r.0, r.1, subst (λ (p : PlainTask). call.n < p.next) same h.2)
 
   -- a call that was entered isn't entered again
-  enters-fresh : (call : CallNo) (item : Item) (past : List Item) → IsLegalPast job (item ∷ past) → IsPast call past → is_enter call item ≡ false
+  pub enters-fresh : (call : CallNo) (item : Item) (past : List Item) → IsLegalPast job (item ∷ past) → IsPast call past → is_enter call item ≡ false
   enters-fresh call (Enter c x f caller) past l h = by (same_call c call) refl
     where
       by : (b : Bool) → same_call c call ≡ b → same_call c call ≡ false

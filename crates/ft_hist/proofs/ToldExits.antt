@@ -1,5 +1,5 @@
 -- The laws of exits and of what is open at an unregistration, by items.
-use Rattle.std.proofs.Common.{◌≡◌, ℕ, zero, suc, ◌<◌, ◌≤◌, ◌⊎◌, Bool, true, false, ◌==◌, List, [], ◌∷◌, ◌++◌, length, reverse, Option, Some, refl, sym, ap, ◌∙◌, subst, arith, inl, inr, lt-ltb}
+use Rattle.std.proofs.Common.{◌≡◌, ℕ, zero, suc, ◌<◌, ◌≤◌, ◌⊎◌, Bool, true, false, ◌==◌, List, [], ◌∷◌, ◌++◌, length, reverse, Option, Some, refl, sym, ap, ◌∙◌, subst, arith, cond, inl, inr, lt-ltb}
 use Rattle.std.specs.Prelude.{slice_get, get_or, Contains}
 use Rattle.std.specs.List.{list_any, AllByRecursion as Each}
 use Rattle.std.proofs.lemmas.List.{reverse-reverse, length-reverse}
@@ -8,14 +8,16 @@ use Rattle.ft_base.specs.declared.number.CallNo.{CallNo}
 use Rattle.ft_base.specs.declared.number.UserNo.{UserNo}
 use Rattle.ft_base.specs.declared.item.Answer.TheVariants.{Accepted}
 use Rattle.ft_base.specs.declared.item.Item.{Item}
-use Rattle.ft_base.specs.declared.item.Item.TheVariants.{Return, Back, Exit, Ret}
+use Rattle.ft_base.specs.declared.item.Item.TheVariants.{Begin, Return, Enter, Back, BackEnd, Refuse, Miss, Body, Leave, Exit, ExitEnd, Ret}
 use Rattle.ft_base.specs.Job.{Job, Command, commands}
 use Rattle.ft_base.specs.Desk.{desk, is_live, is_accepted, spec_at, user_at}
+use Rattle.ft_base.specs.Same.{same_call}
 use Rattle.ft_base.specs.Kinds.{has_depth, has_exit, cancels}
 use Rattle.ft_base.proofs.Small.{false_true}
 use Rattle.ft_hist.specs.Past.{done, begun, callbacks, is_called, held, registration_at, visit, visits, all_visits, exits, done_at_leave}
 use Rattle.ft_hist.specs.Rules.{IsLegal, HasExit, AtReturnedOrBegun, IsStill}
 use Rattle.ft_hist.specs.Telling.{is_begin_by, is_end_by, is_exit_for, TakesOff, MayLackExit}
+use Rattle.ft_hist.proofs.Laws.{same_call-refl}
 use Rattle.ft_hist.proofs.Splitting.{splits, split-reverse}
 use Rattle.ft_hist.proofs.ByItems.{any-reverse, opened-since, opened-now, opened-called, HasBack, told, of-back, exit-item}
 use Rattle.ft_hist.proofs.Told.{later_at}
@@ -53,10 +55,10 @@ each-at P [] i x lt e h = absurd (omega arith)
 each-at P (y ∷ xs) zero x lt e h = subst P e h.0
 each-at P (y ∷ xs) (suc i) x lt e h = each-at P xs i x (omega arith) e h.1
 
-each-of : {X : Type 0} (P : X → Type 0) (xs : List X) (x : X) → Contains xs x → Each P xs → P x
+pub each-of : {X : Type 0} (P : X → Type 0) (xs : List X) (x : X) → Contains xs x → Each P xs → P x
 each-of P xs x c h = each-at P xs c.0 x c.1 c.2 h
 
-user_no : (user : UserNo) (v : ℕ) → v ≡ user.0 → record { 0 = v } ≡ user
+pub user_no : (user : UserNo) (v : ℕ) → v ≡ user.0 → record { 0 = v } ≡ user
 user_no user v e = rw e refl
 
 module _ (job : Job) (items first rest : List Item) (call : CallNo) (user : UserNo) (entry : ℕ) (legal : IsLegal job items) (e : items ≡ first ++ Exit call user entry ∷ rest) where
@@ -75,6 +77,33 @@ module _ (job : Job) (items first rest : List Item) (call : CallNo) (user : User
       let reg : m.reg ≡ (user_at (desk job (registration_at job call user.0 (reverse (reverse older)))) user.0).reg =
       has.4 ∙ ap (λ (v : ℕ). (user_at (desk job (registration_at job call v older)) v).reg) of.2 ∙ ap (λ (xs : List Item). (user_at (desk job (registration_at job call user.0 xs)) user.0).reg) (sym (reverse-reverse older)) in
       (reverse older, reverse has.0, shape, place, subst (λ r. AtReturnedOrBegun (reverse first) (λ k. is_live (desk job k) user.0 r ≡ true)) reg of.5)
+
+-- a later exit belongs to a later Back
+exits-since : (call : CallNo) (user : UserNo) (entry : ℕ) (P : ℕ → Type 0) (newer past : List Item) → Each P (exits call (newer ++ Exit call user entry ∷ past)) → P entry
+exits-since call user entry P [] past h = (rw (same_call-refl call) at h).0
+exits-since call user entry P (Exit c v n ∷ newer) past h = exits-since call user entry P newer past (rest (same_call c call) n (exits call (newer ++ Exit call user entry ∷ past)) h)
+  where
+    rest : (b : Bool) (n : ℕ) (es : List ℕ) → Each P (cond b (n ∷ es) es) → Each P es
+    rest true n es k = k.1
+    rest false n es k = k
+exits-since call user entry P (Begin k ∷ newer) past h = exits-since call user entry P newer past h
+exits-since call user entry P (Return k a ∷ newer) past h = exits-since call user entry P newer past h
+exits-since call user entry P (Enter c x f caller ∷ newer) past h = exits-since call user entry P newer past h
+exits-since call user entry P (Back c v ∷ newer) past h = exits-since call user entry P newer past h
+exits-since call user entry P (BackEnd c v ∷ newer) past h = exits-since call user entry P newer past h
+exits-since call user entry P (Refuse c v reason ∷ newer) past h = exits-since call user entry P newer past h
+exits-since call user entry P (Miss c v ∷ newer) past h = exits-since call user entry P newer past h
+exits-since call user entry P (Body c g ran ∷ newer) past h = exits-since call user entry P newer past h
+exits-since call user entry P (Leave c ∷ newer) past h = exits-since call user entry P newer past h
+exits-since call user entry P (ExitEnd c v ∷ newer) past h = exits-since call user entry P newer past h
+exits-since call user entry P (Ret c to ∷ newer) past h = exits-since call user entry P newer past h
+
+pub exit-after : (job : Job) (items a b c : List Item) (call : CallNo) (user user' : UserNo) (entry entry' : ℕ) → IsLegal job items
+    → items ≡ a ++ Exit call user entry ∷ (b ++ Exit call user' entry' ∷ c) → entry < entry'
+exit-after job items a b c call user user' entry entry' legal e =
+    let order = (later_at job items a b c (Exit call user entry) (Exit call user' entry') legal e).rule.0.order in
+    exits-since call user entry (λ n. n < entry') (reverse b) (reverse a)
+    (subst (λ (past : List Item). Each (λ n. n < entry') (exits call past)) (split-reverse a (Exit call user entry) b) order)
 
 module _ (job : Job) (items first second rest : List Item) (call : CallNo) (user : UserNo) (to : Option CallNo) (legal : IsLegal job items)
     (e : items ≡ first ++ Back call user ∷ (second ++ Ret call to ∷ rest)) where

@@ -62,6 +62,21 @@ module _ (job : Job) (items before mid rest : List Item) (call : CallNo) (ctx : 
       let m = (at_x job items before mid rest call ctx f caller (Back call user) legal e).rule.0 in
       subst (λ c. is_in_callback call.task.0 c (reverse (before ++ Enter call ctx f caller ∷ mid)) ≡ false) (ctx_is job items before mid rest call ctx f caller (Back call user) legal e) m.free
 
+  -- and its user passed the pid rule, and the graph depth
+  pub back-allowed : (e : items ≡ before ++ Enter call ctx f caller ∷ (mid ++ Back call user ∷ rest)) → (spec_at job user.0).pid ≡ true
+      → AtSomeCommand before (before ++ Enter call ctx f caller ∷ mid) (λ k. is_allowed (desk job k) call.task.0 ≡ true)
+  back-allowed e flag =
+      let m = (at_x job items before mid rest call ctx f caller (Back call user) legal e).rule.0 in
+      from-now job items before mid rest call ctx f caller (Back call user) legal e (λ k. is_allowed (desk job k) call.task.0 ≡ true) (m.pid flag)
+
+  pub back-shallow : (e : items ≡ before ++ Enter call ctx f caller ∷ (mid ++ Back call user ∷ rest)) → has_depth (spec_at job user.0).kind ≡ true
+      → (held job call (reverse (before ++ Enter call ctx f caller ∷ mid)) < job.frames)
+      × AtSomeCommand before (before ++ Enter call ctx f caller ∷ mid) (λ k. ((desk job k).depth ≡ 0) ⊎ (held job call (reverse (before ++ Enter call ctx f caller ∷ mid)) < (desk job k).depth))
+  back-shallow e kind =
+      let past = reverse (before ++ Enter call ctx f caller ∷ mid) in
+      let m = (at_x job items before mid rest call ctx f caller (Back call user) legal e).rule.0 in
+      (m.room kind, from-now job items before mid rest call ctx f caller (Back call user) legal e (λ k. ((desk job k).depth ≡ 0) ⊎ (held job call past < (desk job k).depth)) (m.level kind))
+
 -- ## returns
 
 module _ (job : Job) (items before mid rest : List Item) (call : CallNo) (ctx : Ctx) (f : FuncNo) (caller to : Option CallNo) (legal : IsLegal job items)

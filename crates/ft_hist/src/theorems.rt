@@ -5,14 +5,14 @@
 //! > entry to its dispatch and none that was off throughout, save those refused by a named
 //! > recursion, pid or depth rule; no callback begins after its user's unregistration has
 //! > returned, unless a new registration has begun; every return reaches its true caller; every
-//! > fetched site is whole.
+//! > fetched site is whole; a full shadow stack leaves that call without an exit.
 //!
 //! None of the functions does anything: a law is proved where a contract names it.
 ghost use Rattle.std.specs.Prelude.{◌≡◌, ◌≢◌, ◌↔◌, ◌⊎◌, ℕ, suc, ◌<◌, ◌≤◌, true, false, ◌==◌, List, ◌∷◌, ◌++◌, Option, Some, length, reverse, slice_get};
 ghost use Rattle.std.specs.List.{list_any};
 ghost use Rattle.ft_base.specs.Job.{Job as PlainJob, Command, Register, Unregister, commands};
 ghost use Rattle.ft_base.specs.Desk.{desk, is_on, is_allowed, is_live, spec_at, target, user_at};
-ghost use Rattle.ft_base.specs.Kinds.{has_depth};
+ghost use Rattle.ft_base.specs.Kinds.{has_depth, has_exit};
 ghost use Rattle.ft_base.specs.WellFormed.{IsWellFormed};
 ghost use Rattle.ft_base.specs.declared.context.Ctx.{Ctx};
 ghost use Rattle.ft_base.specs.declared.number.CallNo.{CallNo};
@@ -23,10 +23,10 @@ ghost use Rattle.ft_base.specs.declared.item.Ran.{Ran};
 ghost use Rattle.ft_base.specs.declared.item.Reason.{Reason};
 ghost use Rattle.ft_base.specs.declared.item.Reason.TheVariants.{Pid as ByPid, Recursion, Depth};
 ghost use Rattle.ft_base.specs.declared.item.Item.{Item};
-ghost use Rattle.ft_base.specs.declared.item.Item.TheVariants.{Return, Enter, Back, Refuse, Body, Exit, Ret};
-ghost use Rattle.ft_hist.specs.Past.{begun, held, is_in_callback, registration_at};
+ghost use Rattle.ft_base.specs.declared.item.Item.TheVariants.{Return, Enter, Back, Refuse, Miss, Body, Exit, Ret};
+ghost use Rattle.ft_hist.specs.Past.{begun, held, is_in_callback, is_of, registration_at};
 ghost use Rattle.ft_hist.specs.Rules.{AtReturnedOrBegun, IsLegal, MayFollow};
-ghost use Rattle.ft_hist.specs.Telling.{AtEachCommand, AtSomeCommand, MayLackExit, TakesOff, is_begin_by, is_end_by, is_exit_for, is_ret_of, is_visit_by};
+ghost use Rattle.ft_hist.specs.Telling.{AtEachCommand, AtSomeCommand, MayLackExit, TakesOff, call_of, is_begin_by, is_end_by, is_exit_for, is_ret_of, is_visit_by, open_calls};
 
 /// A history is legal exactly if each of its items, wherever the list is split at it, may come
 /// after the items before it. What comes later plays no part.
@@ -73,6 +73,19 @@ pub fn refused_for_its_pid()
     ensures { (job : PlainJob) (items before mid rest : List Item) (call : CallNo) (ctx : Ctx) (f : FuncNo) (caller : Option CallNo) (user : UserNo)
         → IsLegal job items → items ≡ before ++ Enter call ctx f caller ∷ (mid ++ Refuse call user ByPid ∷ rest)
         → ((spec_at job user.0).pid ≡ true) × AtSomeCommand before (before ++ Enter call ctx f caller ∷ mid) (λ k. is_allowed (desk job k) call.task.0 ≡ false) }
+{}
+
+/// Whoever is called back passed these rules: after some command of the window the task was allowed,
+/// if the user has the pid flag; and a graph or profile user found a frame, and was within the graph
+/// depth after some command of it.
+pub fn called_back_within_the_rules()
+    ensures pid { (job : PlainJob) (items before mid rest : List Item) (call : CallNo) (ctx : Ctx) (f : FuncNo) (caller : Option CallNo) (user : UserNo)
+        → IsLegal job items → items ≡ before ++ Enter call ctx f caller ∷ (mid ++ Back call user ∷ rest) → (spec_at job user.0).pid ≡ true
+        → AtSomeCommand before (before ++ Enter call ctx f caller ∷ mid) (λ k. is_allowed (desk job k) call.task.0 ≡ true) }
+    ensures depth { (job : PlainJob) (items before mid rest : List Item) (call : CallNo) (ctx : Ctx) (f : FuncNo) (caller : Option CallNo) (user : UserNo)
+        → IsLegal job items → items ≡ before ++ Enter call ctx f caller ∷ (mid ++ Back call user ∷ rest) → has_depth (spec_at job user.0).kind ≡ true
+        → (held job call (reverse (before ++ Enter call ctx f caller ∷ mid)) < job.frames)
+        × AtSomeCommand before (before ++ Enter call ctx f caller ∷ mid) (λ k. ((desk job k).depth ≡ 0) ⊎ (held job call (reverse (before ++ Enter call ctx f caller ∷ mid)) < (desk job k).depth)) }
 {}
 
 /// "save those refused by a named recursion .. rule": a callback of the task and context is open
@@ -128,6 +141,12 @@ pub fn exits_belong_to_their_registration()
         × AtReturnedOrBegun (reverse first) (λ k. is_live (desk job k) user.0 (user_at (desk job (registration_at job call user.0 (reverse a))) user.0).reg ≡ true) }
 {}
 
+/// An entry callback has at most one exit, and exits come in the order of their entry callbacks.
+pub fn exits_come_in_order()
+    ensures { (job : PlainJob) (items a b c : List Item) (call : CallNo) (user user' : UserNo) (entry entry' : ℕ)
+        → IsLegal job items → items ≡ a ++ Exit call user entry ∷ (b ++ Exit call user' entry' ∷ c) → entry < entry' }
+{}
+
 /// An exit is lacking only for a reason: at a call's Ret, each entry callback of it has had its
 /// exit, or its user has none or cancels it, or the shadow stack was full, or the registration was
 /// not live after some command since the Leave.
@@ -137,8 +156,46 @@ pub fn exits_lack_only_for_a_reason()
         → (list_any (is_exit_for call (length first)) (first ++ Back call user ∷ second) ≡ true) ⊎ MayLackExit job first second call user }
 {}
 
-/// "every return reaches its true caller": the Ret of a call names the call in which it was
-/// entered, and it has no Ret before.
+/// "a full shadow stack leaves that call without an exit": if the task's other calls hold all frames
+/// where a user is called back, the user is no graph or profile user, that callback never has an
+/// exit, and if the user has an exit handler, its Miss is the next item of the task. A Miss comes
+/// there alone.
+pub fn a_full_stack_leaves_no_exit()
+    ensures kind { (job : PlainJob) (items first rest : List Item) (call : CallNo) (user : UserNo)
+        → IsLegal job items → items ≡ first ++ Back call user ∷ rest → held job call (reverse first) ≡ job.frames
+        → has_depth (spec_at job user.0).kind ≡ false }
+    ensures exit { (job : PlainJob) (items first rest : List Item) (call : CallNo) (user : UserNo)
+        → IsLegal job items → items ≡ first ++ Back call user ∷ rest → held job call (reverse first) ≡ job.frames
+        → list_any (is_exit_for call (length first)) rest ≡ false }
+    ensures miss { (job : PlainJob) (items first mid rest : List Item) (call : CallNo) (user : UserNo) (x : Item)
+        → IsLegal job items → items ≡ first ++ Back call user ∷ (mid ++ x ∷ rest) → held job call (reverse first) ≡ job.frames
+        → has_exit (spec_at job user.0).kind ≡ true → list_any (is_of call.task.0) mid ≡ false → is_of call.task.0 x ≡ true → x ≡ Miss call user }
+    ensures alone { (job : PlainJob) (items first rest : List Item) (call : CallNo) (user : UserNo)
+        → IsLegal job items → items ≡ first ++ Miss call user ∷ rest
+        → (a : List Item) × (b : List Item) × (first ≡ a ++ Back call user ∷ b) × (list_any (is_of call.task.0) b ≡ false)
+        × (has_exit (spec_at job user.0).kind ≡ true) × (held job call (reverse a) ≡ job.frames) }
+{}
+
+/// Each call is entered once, before its other items, and these come before it has returned.
+pub fn each_call_is_entered_once_and_first()
+    ensures first { (job : PlainJob) (items first rest : List Item) (call : CallNo) (x : Item)
+        → IsLegal job items → items ≡ first ++ x ∷ rest → call_of x ≡ Some call
+        → ((ctx : Ctx) (f : FuncNo) (caller : Option CallNo) → x ≢ Enter call ctx f caller)
+        → (a : List Item) × (ctx : Ctx) × (f : FuncNo) × (caller : Option CallNo) × (b : List Item)
+        × (first ≡ a ++ Enter call ctx f caller ∷ b) × (list_any (is_ret_of call) b ≡ false) }
+    ensures once { (job : PlainJob) (items a b c : List Item) (call : CallNo) (ctx ctx' : Ctx) (f f' : FuncNo) (caller caller' : Option CallNo)
+        → IsLegal job items → items ≢ a ++ Enter call ctx f caller ∷ (b ++ Enter call ctx' f' caller' ∷ c) }
+{}
+
+/// "every return reaches its true caller": the Enter of a call names the latest call of its task
+/// that is open there, or none if none is.
+pub fn calls_are_entered_from_the_latest_open_one()
+    ensures { (job : PlainJob) (items first rest : List Item) (call : CallNo) (ctx : Ctx) (f : FuncNo) (caller : Option CallNo)
+        → IsLegal job items → items ≡ first ++ Enter call ctx f caller ∷ rest
+        → caller ≡ slice_get (open_calls call.task.0 (reverse first)) 0 }
+{}
+
+/// And the Ret of a call names the call that its Enter named, and it has no Ret before.
 pub fn returns_reach_their_callers()
     ensures caller { (job : PlainJob) (items before mid rest : List Item) (call : CallNo) (ctx : Ctx) (f : FuncNo) (caller to : Option CallNo)
         → IsLegal job items → items ≡ before ++ Enter call ctx f caller ∷ (mid ++ Ret call to ∷ rest) → to ≡ caller }

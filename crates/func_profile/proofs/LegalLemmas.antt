@@ -14,7 +14,8 @@ use Rattle.ft_base.proofs.Small.{false_true, ==-refl, and_both}
 use Rattle.ft_hist.specs.Past.{Entered, entered, done, is_open, calls}
 use Rattle.ft_hist.specs.Plain.{plain, PlainTask}
 use Rattle.ft_hist.specs.Rules.{IsLegal, IsLegalPast}
-use Rattle.ft_hist.proofs.HeldLaws.{open_calls, opens}
+use Rattle.ft_hist.specs.Telling.{open_calls}
+use Rattle.ft_hist.proofs.HeldLaws.{opens}
 use Rattle.ft_hist.proofs.Numbers.{moved, some-run}
 use Rattle.ft_hist.proofs.RunLaws.{calls_on, Keeps}
 use Rattle.ft_hist.proofs.Told.{legal-to}
