@@ -15,6 +15,3 @@ mod guards;
 pub mod laws;
 
 pub use guards::Guards;
-
-#[cfg(test)]
-mod tests;

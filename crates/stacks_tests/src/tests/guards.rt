@@ -1,7 +1,7 @@
-//! A task's callbacks take and give back their guards.
+//! [`recursion_guard::Guards`]: a task's callbacks take and give back their guards.
 
-use crate::Guards;
 use ft_base::Ctx;
+use recursion_guard::Guards;
 
 #[test]
 fn recursion(rt: HostRuntime) {
@@ -55,7 +55,7 @@ fn interrupts_past_a_context(rt: HostRuntime) {
     guards.raise(Ctx::Irq);
     assert!(rt; guards.try_enter());
     guards.lower();
-    assert_eq!(rt; guards.ctx(), Ctx::Normal);
+    assert!(rt; guards.ctx() == Ctx::Normal);
     assert!(rt;
         guards.try_enter(),
         "the guard of the interrupt is another one"
