@@ -14,6 +14,3 @@ mod conflicts;
 pub mod laws;
 
 pub use conflicts::{Conflict, Holder, check};
-
-#[cfg(test)]
-mod tests;

@@ -15,6 +15,3 @@ pub mod laws;
 mod pids;
 
 pub use pids::{Pids, allowed};
-
-#[cfg(test)]
-mod tests;

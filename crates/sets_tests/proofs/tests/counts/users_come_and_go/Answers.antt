@@ -1,7 +1,11 @@
 use Rattle.std.proofs.Common.{arith, true, false}
 use Rattle.ft_base.specs.Marks.{holds}
 use Rattle.site_counts.proofs.StepLemmas.{at_most-none, at_most-more, room-at_most, has-added, has-more}
-use Rattle.site_counts_tests.proofs.tests.users_come_and_go.Goals as goal
+use Rattle.sets_tests.proofs.tests.counts.users_come_and_go.Goals as goal
+
+pub add_user-requires-clause-room : goal.add_user-requires-clause-room
+add_user-requires-clause-room g c = λ f member.
+    room-at_most 0 _ (at_most-none _ (c.in_ok-counts.ensures.each f)) (omega arith)
 
 pub add_user-requires-2-clause-room : goal.add_user-requires-2-clause-room
 add_user-requires-2-clause-room g c = λ f member.

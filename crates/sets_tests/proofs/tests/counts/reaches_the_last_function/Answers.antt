@@ -1,7 +1,7 @@
 use Rattle.std.proofs.Common.{false, true}
 use Rattle.ft_base.specs.Marks.{holds}
 use Rattle.site_counts.proofs.StepLemmas.{has-added}
-use Rattle.site_counts_tests.proofs.tests.reaches_the_last_function.Goals as goal
+use Rattle.sets_tests.proofs.tests.counts.reaches_the_last_function.Goals as goal
 
 pub drop_user-requires-clause-there : goal.drop_user-requires-clause-there
 drop_user-requires-clause-there g c = λ f member.
