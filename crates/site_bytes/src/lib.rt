@@ -14,8 +14,6 @@
 mod codec;
 mod insn;
 mod laws;
-#[cfg(test)]
-mod tests;
 
 pub use codec::{BREAKPOINT, decode, encode, head_of, join, tail_of};
 pub use insn::{Insn, SiteChange};

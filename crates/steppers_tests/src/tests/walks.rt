@@ -1,4 +1,4 @@
-//! Walks meet users that come and go.
+//! `ops_list`: walks meet users that come and go.
 
 ghost use Rattle.std.specs.Prelude.{◌≡◌};
 
@@ -10,6 +10,7 @@ use word_map::{Op, Shape, WordMap};
 /// How many words the map of the tests has.
 const WORDS: usize = 28;
 
+/// A map with three users.
 fn three_users() -> WordMap
     ensures { result.users ≡ 3 }
 {
@@ -22,7 +23,7 @@ fn three_users() -> WordMap
     })
 }
 
-// Makes the next store of a change. False if there is none.
+/// Makes the next store of a change. False if there is none.
 fn store(words: &mut [u64; WORDS], linker: &mut Linker) -> bool {
     let Some(Op::Store { word, value }) = linker.next() else {
         return false;
@@ -34,7 +35,7 @@ fn store(words: &mut [u64; WORDS], linker: &mut Linker) -> bool {
     true
 }
 
-// Makes the next load of a walk. The user that it is at then.
+/// Makes the next load of a walk. The user that it is at then.
 fn load(rt: &impl Abort, words: &[u64; WORDS], walker: &mut Walker) -> Option<UserNo>
     requires { walker.old.shape.users ≡ 3 }
     ensures { walker.new.shape ≡ walker.old.shape }
@@ -48,13 +49,13 @@ fn load(rt: &impl Abort, words: &[u64; WORDS], walker: &mut Walker) -> Option<Us
     walker.at()
 }
 
-// Makes a change whole.
+/// Makes a change whole.
 fn change(words: &mut [u64; WORDS], mut linker: Linker) {
     store(words, &mut linker);
     store(words, &mut linker);
 }
 
-// The users that a new walk is at after each of four loads.
+/// The users that a new walk is at after each of four loads.
 fn visited(rt: &impl Abort, words: &[u64; WORDS], map: WordMap) -> [Option<UserNo>; 4]
     requires { map.users ≡ 3 }
 {
@@ -70,23 +71,17 @@ fn visited(rt: &impl Abort, words: &[u64; WORDS], map: WordMap) -> [Option<UserN
 fn users_come_and_go(rt: HostRuntime) {
     let (zero, one, two) = (UserNo(0), UserNo(1), UserNo(2));
     let map = three_users();
-    assert_eq!(rt; map.len() as usize, WORDS);
+    assert!(rt; map.len() as usize == WORDS);
     let mut words = [0; WORDS];
-    assert_eq!(rt; visited(&rt, &words, map), [None; 4]);
+    assert!(rt; visited(&rt, &words, map) == [None; 4]);
     change(&mut words, Linker::push(zero, None, map));
     change(&mut words, Linker::push(one, Some(zero), map));
     change(&mut words, Linker::push(two, Some(one), map));
-    assert_eq!(rt;
-        visited(&rt, &words, map),
-        [Some(two), Some(one), Some(zero), None]
-    );
+    assert!(rt; visited(&rt, &words, map) == [Some(two), Some(one), Some(zero), None]);
     change(&mut words, Linker::unlink(None, Some(one), map));
-    assert_eq!(rt;
-        visited(&rt, &words, map),
-        [Some(one), Some(zero), None, None]
-    );
+    assert!(rt; visited(&rt, &words, map) == [Some(one), Some(zero), None, None]);
     change(&mut words, Linker::unlink(Some(one), None, map));
-    assert_eq!(rt; visited(&rt, &words, map), [Some(one), None, None, None]);
+    assert!(rt; visited(&rt, &words, map) == [Some(one), None, None, None]);
 }
 
 #[test]
@@ -97,12 +92,11 @@ fn walks_go_on_through_changes(rt: HostRuntime) {
     change(&mut words, Linker::push(zero, None, map));
     change(&mut words, Linker::push(one, Some(zero), map));
     let mut walker = Walker::new(map);
-    assert_eq!(rt; walker.at(), None, "before the first load");
+    assert!(rt; walker.at() == None, "before the first load");
     let mut push = Linker::push(two, Some(one), map);
     assert!(rt; store(&mut words, &mut push));
-    assert_eq!(rt;
-        load(&rt, &words, &mut walker),
-        Some(one),
+    assert!(rt;
+        load(&rt, &words, &mut walker) == Some(one),
         "two is linked, and not yet the first"
     );
     assert!(rt; store(&mut words, &mut push));
@@ -110,15 +104,11 @@ fn walks_go_on_through_changes(rt: HostRuntime) {
     let mut unlink = Linker::unlink(Some(two), Some(zero), map);
     assert!(rt; store(&mut words, &mut unlink));
     assert!(rt; !store(&mut words, &mut unlink), "an unlink is one store");
-    assert_eq!(rt;
-        load(&rt, &words, &mut walker),
-        Some(zero),
+    assert!(rt;
+        load(&rt, &words, &mut walker) == Some(zero),
         "from the user that was taken off"
     );
-    assert_eq!(rt; load(&rt, &words, &mut walker), None);
-    assert_eq!(rt; walker.next(), None);
-    assert_eq!(rt;
-        visited(&rt, &words, map),
-        [Some(two), Some(zero), None, None]
-    );
+    assert!(rt; load(&rt, &words, &mut walker) == None);
+    assert!(rt; walker.next() == None);
+    assert!(rt; visited(&rt, &words, map) == [Some(two), Some(zero), None, None]);
 }

@@ -1,4 +1,4 @@
-//! Polls of one CPU, one after the other, and waits, with the operations that each makes.
+//! `grace_core`: polls of one CPU, one after the other, and waits, with the operations that each makes.
 //!
 //! The map has two CPUs and three tasks: the request is at place 1, the words of the CPUs at 8 and 9,
 //! and those of the tasks at 10, 11 and 12. The CPU that polls is 1, and its tasks are 0 and 2.
@@ -151,17 +151,17 @@ fn poll(
     ensures shape { poller.new.shape ≡ poller.old.shape }
 {
     poller.begin(view);
-    assert_eq!(rt; poller.next(), Some(Op::Load { word: 1 }));
+    assert!(rt; poller.next() == Some(Op::Load { word: 1 }));
     poller.got(u64::from(request));
     for (word, value) in stores {
         let store = Op::Store {
             word: *word,
             value: *value,
         };
-        assert_eq!(rt; poller.next(), Some(store));
+        assert!(rt; poller.next() == Some(store), "at {word}");
         poller.got(0);
     }
-    assert_eq!(rt; poller.next(), None);
+    assert!(rt; poller.next().is_none());
     poller.hand_back()
 }
 
@@ -173,26 +173,26 @@ fn a_poll_tells_what_changes(rt: HostRuntime) -> Result<(), Fail> {
         assert!(rt; *request < u32::MAX && poller.next().is_none());
         let lent = view(rt.alloc(), *all_ended, *tasks, words)?;
         let back = poll(&rt, &mut poller, lent, *request, stores);
-        assert_eq!(rt; back.tasks.len(), 2);
+        assert!(rt; back.tasks.len() == 2);
         words = [back.tasks[0].word, back.tasks[1].word];
-        assert_eq!(rt; words, *after, "after poll {row}");
+        assert!(rt; words == *after, "after poll {row}");
     }
     Ok(())
 }
 
+/// Whether a wait makes these operations, which give these values, and then is over.
+fn makes(mut waiter: Waiter, operations: &[(Op, u64)]) -> bool {
+    for (op, value) in operations {
+        if waiter.next() != Some(*op) {
+            return false;
+        }
+        waiter.got(*value);
+    }
+    waiter.next().is_none()
+}
+
 #[test]
 fn a_wait_looks_until_all_have_reached_it(rt: HostRuntime) {
-    let mut sync = Waiter::sync(2, map());
-    for (op, value) in &SYNC {
-        assert_eq!(rt; sync.next(), Some(*op));
-        sync.got(*value);
-    }
-    assert_eq!(rt; sync.next(), None);
-
-    let mut quiet = Waiter::quiet(2, map());
-    for (op, value) in &QUIET {
-        assert_eq!(rt; quiet.next(), Some(*op));
-        quiet.got(*value);
-    }
-    assert_eq!(rt; quiet.next(), None);
+    assert!(rt; makes(Waiter::sync(2, map()), &SYNC));
+    assert!(rt; makes(Waiter::quiet(2, map()), &QUIET));
 }

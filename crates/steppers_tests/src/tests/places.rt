@@ -1,4 +1,4 @@
-//! Places of a small shape and of the greatest one, the words at the start, and words of two halves.
+//! [`word_map::WordMap`]: places of a small shape and of the greatest one, the words at the start, and words of two halves.
 
 use ft_base::limits::{CPUS, FUNCS, TASKS, TRAMPS, USERS};
 use ft_base::{CpuNo, FuncNo, Half, TaskNo, UserNo};
@@ -58,20 +58,21 @@ fn words_stand_one_after_the_other(rt: HostRuntime) {
         map.bits(UserNo(1), 1, Half::Notrace, 0),
     ];
     for (i, place) in places.iter().enumerate() {
-        assert_eq!(rt; *place as usize, i);
+        assert!(rt; *place as usize == i, "place {i}");
     }
-    assert_eq!(rt; map.len() as usize, places.len());
+    assert!(rt; map.len() as usize == places.len());
 }
+
+/// The five single words, then the heads and the tails of the two sites, and the rest.
+static OPENING: [u64; 28] = [
+    0, 0, 0, 5, 0, 0x0F, 0x0F, 0x441F, 0x441F, 0, 0, 0, 0, 0, 0, 0, 0, 0, 0, 0, 0, 0, 0, 0, 0, 0,
+    0, 0,
+];
 
 #[test]
 fn opens_with_nops_and_traced_tasks(rt: HostRuntime) -> Result<(), Fail> {
     let list = WordMap::new(SMALL).opening(rt.alloc(), 0b101)?;
-    // the five single words, then the heads and the tails of the two sites, and the rest
-    let words = [
-        0, 0, 0, 5, 0, 0x0F, 0x0F, 0x441F, 0x441F, 0, 0, 0, 0, 0, 0, 0, 0, 0, 0, 0, 0, 0, 0, 0, 0,
-        0, 0, 0,
-    ];
-    assert_eq!(rt; list.as_slice(), words.as_slice());
+    assert!(rt; list.as_slice() == OPENING.as_slice());
     Ok(())
 }
 
@@ -80,24 +81,17 @@ fn reaches_full_size(rt: HostRuntime) -> Result<(), Fail> {
     let map = WordMap::new(GREATEST);
     // 5 single words, 3 words a function, 1 a CPU, a task and a trampoline, 2 a user, and 4 sets
     // of 16 words a user
-    assert_eq!(rt;
-        map.len(),
-        5 + 3 * 1_024 + 8 + 64 + 16 + 2 * 16 + 16 * 4 * 16
-    );
-    assert_eq!(rt;
-        map.bits(UserNo(15), 1, Half::Notrace, 15),
-        4_220,
-        "the last word"
-    );
+    assert!(rt; map.len() == 5 + 3 * 1_024 + 8 + 64 + 16 + 2 * 16 + 16 * 4 * 16);
+    let last = map.bits(UserNo(15), 1, Half::Notrace, 15);
+    assert!(rt; last == 4_220, "the last word");
     let list = map.opening(rt.alloc(), u64::MAX)?;
-    assert_eq!(rt; list.len(), 4_221);
-    assert_eq!(rt; list.get(3).copied(), Some(u64::MAX));
-    assert_eq!(rt;
-        list.get(2_052).copied(),
-        Some(0x441F),
+    assert!(rt; list.len() == 4_221);
+    assert!(rt; list.get(3).copied() == Some(u64::MAX));
+    assert!(rt;
+        list.get(2_052).copied() == Some(0x441F),
         "the tail of the last function"
     );
-    assert_eq!(rt; list.get(2_053).copied(), Some(0));
+    assert!(rt; list.get(2_053).copied() == Some(0));
     Ok(())
 }
 
@@ -113,8 +107,8 @@ static HALVES: [(u32, u32, u64); 5] = [
 #[test]
 fn halves_there_and_back(rt: HostRuntime) {
     for (upper, lower, word) in HALVES {
-        assert_eq!(rt; halves(upper, lower), word);
-        assert_eq!(rt; (high(word), low(word)), (upper, lower), "{word}");
+        assert!(rt; halves(upper, lower) == word, "{word}");
+        assert!(rt; high(word) == upper && low(word) == lower, "{word}");
     }
-    assert_eq!(rt; tramp_word(7, UserNo(2)), 30_064_771_075);
+    assert!(rt; tramp_word(7, UserNo(2)) == 30_064_771_075);
 }

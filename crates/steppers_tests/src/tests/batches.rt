@@ -1,4 +1,4 @@
-//! Batches from their first moves to their ends. The places follow from the shape, and the bytes were
+//! [`patch_core::Batch`]: batches from their first moves to their ends. The places follow from the shape, and the bytes were
 //! worked out by hand from the addresses of functions, trampolines and the list caller.
 
 use ft_base::FuncNo;
@@ -50,31 +50,30 @@ static MOVES: [Option<(u32, u64)>; 15] = [
     None,
 ];
 
+/// What a batch gives for a row.
+fn next_of(row: Option<(u32, u64)>) -> BatchNext {
+    match row {
+        Some((word, value)) => BatchNext::Do(Op::Store { word, value }),
+        None => BatchNext::Sync,
+    }
+}
+
 #[test]
 fn changes_three_sites(rt: HostRuntime) {
     let mut batch = Batch::new(WordMap::new(SHAPE));
     for (made, row) in MOVES.iter().enumerate() {
         let next = batch.next(&SITES);
-        match *row {
-            Some((word, value)) => {
-                assert_eq!(rt;
-                    next,
-                    BatchNext::Do(Op::Store { word, value }),
-                    "after {made} moves"
-                );
-                batch.did();
-            }
-            None => {
-                assert_eq!(rt; next, BatchNext::Sync, "after {made} moves");
-                batch.synced();
-            }
+        assert!(rt; next == next_of(*row), "after {made} moves");
+        match row {
+            Some(_) => batch.did(),
+            None => batch.synced(),
         }
     }
-    assert_eq!(rt; batch.next(&SITES), BatchNext::Done);
+    assert!(rt; batch.next(&SITES) == BatchNext::Done);
 }
 
 #[test]
 fn changes_no_site(rt: HostRuntime) {
     let batch = Batch::new(WordMap::new(SHAPE));
-    assert_eq!(rt; batch.next(&[]), BatchNext::Done);
+    assert!(rt; batch.next(&[]) == BatchNext::Done);
 }

@@ -1,5 +1,5 @@
 use Rattle.std.proofs.Common.{◌≡◌}
-use Rattle.patch_core_tests.proofs.tests.changes_three_sites.Given as goal
+use Rattle.steppers_tests.proofs.tests.batches.changes_three_sites.Given as goal
 
 -- the shape stays, and each row was a move
 abbrev pub invariant-loop-made : goal.invariant-loop-made

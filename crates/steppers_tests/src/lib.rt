@@ -1,0 +1,7 @@
+//! Tests of the words that are shared and of call sites, and of the steppers that read and write them:
+//! a module for each crate. They have a crate of their own, since a crate is proved once more with the
+//! tests inside it.
+#![tactic(auto)]
+
+#[cfg(test)]
+mod tests;
