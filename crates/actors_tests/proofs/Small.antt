@@ -1,4 +1,4 @@
--- The job of the test: one function, one CPU without tasks, and a command that sets the graph depth.
+-- The job of the machine of tests/worlds: one function, one CPU without tasks, and a command that sets the graph depth.
 use Rattle.std.proofs.Common.{◌≡◌, ℕ, zero, suc, ◌<◌, ◌≤◌, List, [], ◌∷◌, map, slice_get, Some, refl, sym, ap, ◌∙◌, subst, arith}
 use Rattle.std.proofs.lemmas.Option.{none-some, same_Some}
 use Rattle.std.specs.List.{AllByRecursion as Each}

@@ -1,16 +1,16 @@
-//! Control carries out a script over words in one list, while one CPU and one task tell each request
-//! at once. What it stores is compared with what was worked out by hand.
+//! [`control_core::Control`]: control carries out a script over words in one list, while one CPU and one
+//! task tell each request at once. What it stores is compared with what was worked out by hand.
 
 ghost use Rattle.std.specs.Prelude.{◌≡◌};
 ghost use Rattle.control_core.specs.Lines.{IsLineIn};
 
+use super::user;
 use control_core::Control;
 use ft_base::{Answer, Item, Kind, Stamped, UserNo};
 use ft_desk::{Command, Ctl, Desk, Shape};
 use std::alloc::Global;
 use std::process::Abort;
 use std::test::Fail;
-use user_specs::Spec;
 use word_map::{Op, WordMap};
 
 const SHAPE: Shape = Shape {
@@ -58,19 +58,6 @@ static STORES: [(u32, u64); 26] = [
     (1, 8),
 ];
 
-fn specs(alloc: Global) -> Result<Vec<Spec>, Fail> {
-    let mut specs = Vec::new(alloc);
-    specs.push(Spec {
-        name: String::from_str(alloc, "t")?,
-        kind: Kind::Function,
-        regs: false,
-        ipmodify: None,
-        pid: false,
-        act: None,
-    })?;
-    Ok(specs)
-}
-
 /// A line that the desk takes.
 fn line(rt: &impl Abort, desk: &Desk, command: Command) -> Ctl
     ensures { IsLineIn desk.now.declared result }
@@ -104,8 +91,8 @@ fn done(words: &mut Vec<u64>, op: Op) -> u64 {
 fn start(rt: &impl Abort, alloc: Global, map: WordMap) -> Result<Control, Fail>
     requires { map ≡ SHAPE }
 {
-    let specs = specs(alloc)?;
-    assert_eq!(rt; specs.len(), 1);
+    let user = user(alloc, Kind::Function)?;
+    let specs = vec![in alloc; user]?;
     let desk = Desk::new(alloc, specs.as_slice(), SHAPE)?;
     let lines = [
         line(rt, &desk, Command::Register(UserNo(0))),
@@ -132,6 +119,21 @@ fn stores_of(
     Ok(stores)
 }
 
+/// The last item that control marks.
+static LAST: Stamped = Stamped {
+    place: 5,
+    item: Item::Return {
+        k: 3,
+        answer: Answer::Accepted,
+    },
+};
+
+/// Whether control has marked six items and run its three commands.
+fn has_run_all(control: &Control) -> bool {
+    let items = control.items();
+    items.len() == 6 && items.last().copied() == Some(LAST) && control.desk().commands() == 3
+}
+
 #[test]
 fn a_user_comes_and_goes(rt: HostRuntime) -> Result<(), Fail> {
     let alloc = rt.alloc();
@@ -139,16 +141,7 @@ fn a_user_comes_and_goes(rt: HostRuntime) -> Result<(), Fail> {
     let mut control = start(&rt, alloc, map)?;
     let mut words = map.opening(alloc, 0)?;
     let stores = stores_of(alloc, &mut control, &mut words)?;
-    assert_eq!(rt; stores.as_slice(), STORES.as_slice());
-    assert_eq!(rt; control.items().len(), 6);
-    let last = Stamped {
-        place: 5,
-        item: Item::Return {
-            k: 3,
-            answer: Answer::Accepted,
-        },
-    };
-    assert_eq!(rt; control.items().last().copied(), Some(last));
-    assert_eq!(rt; control.desk().commands(), 3);
+    assert!(rt; stores.as_slice() == STORES.as_slice());
+    assert!(rt; has_run_all(&control));
     Ok(())
 }

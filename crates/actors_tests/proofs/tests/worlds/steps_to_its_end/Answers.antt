@@ -1,6 +1,6 @@
 use Rattle.std.proofs.Common.{refl, ◌∙◌}
-use Rattle.machine_core_tests.proofs.Small.{declares-as, has-function, small}
-use Rattle.machine_core_tests.proofs.tests.steps_to_its_end.Goals as goal
+use Rattle.actors_tests.proofs.Small.{declares-as, has-function, small}
+use Rattle.actors_tests.proofs.tests.worlds.steps_to_its_end.Goals as goal
 
 pub new-requires-3-clause-job : goal.new-requires-3-clause-job
 new-requires-3-clause-job g c = (
