@@ -2,7 +2,7 @@
 use Rattle.std.proofs.Common.{sym, subst, lit<}
 use Rattle.func_profile.specs.Rows.{HasRows}
 use Rattle.func_profile.proofs.WrittenOut.{rows-by}
-use Rattle.func_profile_tests.proofs.tests.profiles_nested_calls.Goals as goal
+use Rattle.history_tests.proofs.tests.profiles.profiles_nested_calls.Goals as goal
 
 pub rows-requires : goal.rows-requires
 rows-requires g c =

@@ -1,5 +1,5 @@
 use Rattle.std.proofs.Common.{◌≡◌, ◌+◌, ◌≤◌, length, take}
-use Rattle.func_profile_tests.proofs.tests.history_of.Given as goal
+use Rattle.history_tests.proofs.tests.history_of.Given as goal
 
 -- the items so far are there, and there is room for the others
 abbrev pub invariant-loop-item : goal.invariant-loop-item

@@ -1,6 +1,0 @@
-//! Tests of [`ft_hist::History`]. They have a crate of their own, since a crate is proved once more
-//! with the tests inside it.
-#![tactic(auto)]
-
-#[cfg(test)]
-mod tests;
