@@ -10,7 +10,7 @@
 //! it and what it marks are those of the word machine's CPU ([`cpu_laws`], over [`task_laws`] and, of
 //! its parts, [`laws`]). Asked: that each value fits its operation, and that there is room for what a
 //! mark adds; the word machine's laws say that both are so. Only [`Cpu::new`] takes memory; that it is
-//! found is only tested, in `cpu_core_tests`.
+//! found is only tested, in `actors_tests`.
 #![tactic(auto)]
 
 mod acts;

@@ -6,7 +6,7 @@
 //! *selects* functions of the table. The empty text clears the set.
 //!
 //! Promised: `read_edit` gives the edit that the definition gives the text, or the first cause to
-//! refuse it, exactly; the forms are those of a grammar. Only tested, in `filter_commands_tests`:
+//! refuse it, exactly; the forms are those of a grammar. Only tested, in `sets_tests`:
 //! that memory is found.
 #![tactic(auto)]
 

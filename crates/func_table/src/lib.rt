@@ -4,7 +4,7 @@
 //! Promised: names differ, so names and numbers are one to one; `find` and `name` go from one to the
 //! other; `add` says exactly when it refuses. Names are text of the form that `ft_base::is_name`
 //! tests, which the caller has tested. That memory is found is only tested, in
-//! `func_table_tests`.
+//! `sets_tests`.
 #![tactic(auto)]
 
 mod faults;

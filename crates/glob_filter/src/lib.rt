@@ -9,7 +9,7 @@
 //!
 //! Promised: `Pattern::read` gives the items that the grammar gives the text, or the first cause to
 //! refuse it; `Pattern::matches` passes exactly if the name can be cut in this way, and takes no
-//! memory. Only tested, in `glob_filter_tests`: that memory is found, and that a hostile pattern
+//! memory. Only tested, in `sets_tests`: that memory is found, and that a hostile pattern
 //! doesn't take a time that doubles with each `*`.
 #![tactic(auto)]
 

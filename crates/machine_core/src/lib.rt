@@ -10,7 +10,7 @@
 //! machine; the history has the word machine's items in order; it tells who is at an end, and the five
 //! bytes of each call site. A lemma for the crates above, `whole-site`, says that these bytes are whole.
 //! Only the start takes memory, and with it room for all items that the job can make; that it is found
-//! is only tested, in `machine_core_tests`.
+//! is only tested, in `actors_tests`.
 #![tactic(auto)]
 
 mod cpus;

@@ -11,7 +11,7 @@
 //!
 //! Promised: [`Batch::next`] gives the moves of the definition in their order, and then that the batch
 //! is done. The [`laws`] say what that order is: how many moves there are and which are syncs, and when
-//! each site gets its four stores. No call takes memory. `patch_core_tests` compares the
+//! each site gets its four stores. No call takes memory. `steppers_tests` compares the
 //! moves of three sites with ones worked out by hand. No clause says that a call takes the same time
 //! however many sites there are.
 #![tactic(auto)]

@@ -8,7 +8,7 @@
 //! Promised: words of different names or numbers have different places, all below the map's length,
 //! so a store at one place changes the word of that name and no other ([`laws`]). The list of
 //! [`WordMap::opening`] has at each word's place what the word holds at the start. It alone takes
-//! memory; that it is found is only tested, in `word_map_tests`.
+//! memory; that it is found is only tested, in `steppers_tests`.
 #![tactic(auto)]
 
 pub mod halves;
