@@ -4,8 +4,8 @@ use Rattle.std.specs.Prelude.{slice_get, option_map, unwrap_or}
 use Rattle.std.proofs.lemmas.List.FromFn.{length-map-range_with_len, get_or-map-range_with_len}
 use Rattle.std.proofs.lemmas.Option.{slice_get_within, get_or_from_slice_get}
 use Rattle.ft_base.specs.Job.{Job, Task, no_task}
-use Rattle.trace_print.specs.declared.names.TaskName.{TaskName}
-use Rattle.trace_print.specs.Words.{pid_at, cpu_at}
+use Rattle.trace_views.specs.declared.named.TaskName.{TaskName}
+use Rattle.trace_views.specs.Words.{pid_at, cpu_at}
 use Rattle.trace_print.specs.TaskNames.{name_at, names_of}
 
 -- a number of a task, or 0 if there is no such task

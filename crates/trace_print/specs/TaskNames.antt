@@ -2,8 +2,8 @@
 use Rattle.std.specs.Prelude.{ℕ, List, length, map}
 use Rattle.std.specs.List.{range_with_len}
 use Rattle.ft_base.specs.Job.{Job}
-use Rattle.trace_print.specs.declared.names.TaskName.{TaskName}
-use Rattle.trace_print.specs.Words.{pid_at, cpu_at}
+use Rattle.trace_views.specs.declared.named.TaskName.{TaskName}
+use Rattle.trace_views.specs.Words.{pid_at, cpu_at}
 
 -- the pid and the CPU of a task
 abbrev pub name_at : Job → ℕ → TaskName

@@ -6,14 +6,14 @@ use Rattle.ft_words.specs.declared.order.Form.{Form}
 use Rattle.ft_words.specs.declared.order.Form.TheVariants.{Log, Function, Graph, Profile, Enabled}
 use Rattle.trace_print.specs.declared.forms.Lines.{Lines}
 use Rattle.trace_print.specs.declared.forms.Lines.TheVariants as lines
-use Rattle.trace_print.specs.Words.{lines_text}
-use Rattle.trace_print.specs.LogText.{log_text, log_lines}
-use Rattle.trace_print.specs.FunctionText.{function_text}
-use Rattle.trace_print.specs.KeptCalls.{function_line_text}
-use Rattle.trace_print.specs.GraphText.{graph_text}
-use Rattle.trace_print.specs.GraphLines.{graph_line_text}
-use Rattle.trace_print.specs.ProfileText.{profile_text, profile_line_text}
-use Rattle.trace_print.specs.EnabledText.{enabled_text, enabled_line_text}
+use Rattle.trace_views.specs.Words.{lines_text}
+use Rattle.trace_views.specs.LogText.{log_text, log_lines}
+use Rattle.trace_views.specs.FunctionText.{function_text}
+use Rattle.trace_views.specs.KeptCalls.{function_line_text}
+use Rattle.trace_views.specs.GraphText.{graph_text}
+use Rattle.trace_views.specs.GraphLines.{graph_line_text}
+use Rattle.trace_views.specs.ProfileText.{profile_text, profile_line_text}
+use Rattle.trace_views.specs.EnabledText.{enabled_text, enabled_line_text}
 
 abbrev pub text_of : Form → Job → List Item → Bool → List ℕ
 text_of Log = log_text

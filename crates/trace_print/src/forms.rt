@@ -1,24 +1,19 @@
 //! The text of a history in each form.
 
-ghost use Rattle.std.specs.Prelude.{◌≡◌, ◌≤◌, ◌++◌, Bool, Err, IfOk, OnOk};
+ghost use Rattle.std.specs.Prelude.{◌≡◌, ◌≤◌, ◌++◌, Bool, Err, reverse, IfOk, OnOk};
 ghost use Rattle.std.specs.Io.KnownBytes.{Appends};
+ghost use Rattle.ft_base.specs.Desk.{desk};
+ghost use Rattle.ft_base.specs.Job.{funcs};
+ghost use Rattle.ft_hist.specs.Past.{done};
 ghost use Rattle.ft_hist.specs.Rules.{IsLegal};
 ghost use Rattle.ft_io.specs.Causes.{Rose, AppendsFront};
 ghost use Rattle.ft_io.specs.Pieces.{Puts};
-ghost use Rattle.trace_print.specs.LogText.{log_text};
+ghost use Rattle.trace_views.specs.LogText.{log_text};
 ghost use Rattle.trace_print.specs.Texts.{body_of, text_of};
-ghost use Rattle.trace_print.specs.Words.{last_line};
+ghost use Rattle.trace_views.specs.EnabledText.{enabled_line_text, enabled_lines};
+ghost use Rattle.trace_views.specs.Words.{last_line, lines_text};
 
-use crate::columns::last_line;
-use crate::enabled::{EnabledLine, enabled_lines};
-use crate::function::{FunctionLine, function_lines};
-use crate::graph::graph_lines;
-use crate::graph_line::GraphLine;
-use crate::grown::GrownText;
-use crate::lines::put_lines;
-use crate::log::put_log;
 use crate::names::Names;
-use crate::profile::{ProfileLine, profile_lines};
 use ft_base::NoMemory;
 use ft_hist::History;
 use ft_io::{Pieces, Sink};
@@ -26,6 +21,11 @@ use ft_machine::Job;
 use ft_words::Form;
 use std::alloc::Global;
 use thiserror::Error;
+use trace_lines::{GrownText, last_line, put_lines, put_log};
+use trace_views::{
+    EnabledLine, FunctionLine, GraphLine, ProfileLine, enabled_lines, function_lines, graph_lines,
+    profile_lines, returned,
+};
 
 /// Why a text was not written whole.
 #[derive(Clone, Copy, Debug, PartialEq, Eq, Drop, Error)]
@@ -49,6 +49,19 @@ enum Lines {
     Enabled(Vec<EnabledLine>),
 }
 
+/// Works out the lines of the form enabled.
+fn lines_of_desk(
+    alloc: Global,
+    names: &Names,
+    history: &History,
+) -> Result<Vec<EnabledLine>, NoMemory>
+    ensures { IfOk result (λ lines. lines_text (enabled_line_text names.now) lines.items
+        ≡ enabled_lines names.now (desk names.now (done (reverse history.now.items))) 0 (funcs names.now)) }
+{
+    let desk = names.job().desk(alloc, returned(history))?;
+    enabled_lines(alloc, names, &desk)
+}
+
 /// Works out the lines of a form.
 fn lines_of(alloc: Global, names: &Names, history: &History, form: Form) -> Result<Lines, NoMemory>
     requires { IsLegal names.now history.now.items }
@@ -60,7 +73,7 @@ fn lines_of(alloc: Global, names: &Names, history: &History, form: Form) -> Resu
         Form::Function => Ok(Lines::Function(function_lines(alloc, names, history)?)),
         Form::Graph => Ok(Lines::Graph(graph_lines(alloc, names, history)?)),
         Form::Profile => Ok(Lines::Profile(profile_lines(alloc, names, history)?)),
-        Form::Enabled => Ok(Lines::Enabled(enabled_lines(alloc, names, history)?)),
+        Form::Enabled => Ok(Lines::Enabled(lines_of_desk(alloc, names, history)?)),
     }
 }
 

@@ -15,26 +15,15 @@
 //! counts. The text of the form log tells the history that it was written for ([`laws`]). Only tested,
 //! in `trace_print_tests` and `ft_app_tests`: that memory is found.
 //!
-//! A form is worked out line by line, as numbers, which takes memory. Then the lines are put, which
-//! takes none: what was written can't be taken back if memory runs out.
+//! A form is worked out line by line, as numbers, which takes memory (`trace_views`). Then the lines
+//! are put, which takes none (`trace_lines`): what was written can't be taken back if memory runs out.
 #![tactic(auto)]
 
-mod columns;
-mod enabled;
 mod forms;
-mod function;
-mod graph;
-mod graph_line;
-mod grown;
-pub mod laws;
-mod leaves;
-mod lines;
-mod log;
 mod names;
-mod profile;
-mod stacks;
 mod totals;
 
 pub use forms::{TextFail, print, write_log, write_text};
 pub use ft_words::Form;
 pub use totals::summary;
+pub use trace_lines::laws;

@@ -1,15 +1,13 @@
 //! A job's names, and the pid and the CPU of each task, found by number in constant time.
 
-ghost use Rattle.std.specs.Prelude.{◌≡◌, length, IfOk};
-ghost use Rattle.ft_base.specs.Desk.{spec_at};
-ghost use Rattle.ft_base.specs.Job.{funcs};
-ghost use Rattle.trace_print.specs.Words.{function_word, user_word, pid_at, cpu_at};
+ghost use Rattle.std.specs.Prelude.{◌≡◌, IfOk};
 ghost use Rattle.trace_print.specs.TaskNames.{name_at};
 
 use ft_base::{FuncNo, Kind, NoMemory, TaskNo, UserNo};
 use ft_machine::Job;
 use std::alloc::Global;
 use std::marker::Model;
+use trace_views::{Named, TaskName};
 
 /// The names of a job's functions and users, and its tasks by number. Contracts see the job. A job
 /// keeps each task at its CPU, so that one would have to be looked for at each line.
@@ -17,13 +15,6 @@ use std::marker::Model;
 pub(crate) struct Names<'a> {
     job: &'a Job,
     tasks: Vec<TaskName>,
-}
-
-/// How a task is named: its pid and its CPU.
-#[derive(Clone, Copy)]
-pub(crate) struct TaskName {
-    pub(crate) pid: u32,
-    pub(crate) cpu: u32,
 }
 
 impl<'a> Model for Names<'a> {
@@ -56,11 +47,12 @@ impl<'a> Names<'a> {
     {
         self.job
     }
+}
 
-    /// The name of a function. Empty if the job doesn't have the number.
-    pub(crate) fn function(&self, function: FuncNo) -> &str
-        ensures { result.now ≡ function_word self.now function.0 }
-    {
+impl<'a> Named for Names<'a> {
+    ghost job = { λ n. n };
+
+    fn function(&self, function: FuncNo) -> &str {
         let table = self.job.table();
         if function.0 < table.len() {
             table.name(function)
@@ -69,42 +61,37 @@ impl<'a> Names<'a> {
         }
     }
 
-    /// The name of a user. Empty if the job doesn't have the number.
-    pub(crate) fn user(&self, user: UserNo) -> &str
-        ensures { result.now ≡ user_word self.now user.0 }
-    {
+    fn user(&self, user: UserNo) -> &str {
         match self.job.specs().get(user.0 as usize) {
             Some(spec) => spec.name.as_str(),
             None => "",
         }
     }
 
-    /// How many functions there are.
-    pub(crate) fn functions(&self) -> u32
-        ensures { result ≡ funcs self.now }
-    {
+    fn functions(&self) -> u32 {
         self.job.table().len()
     }
 
-    /// The kind of a user. `Function` if the job doesn't have the number.
-    pub(crate) fn kind(&self, user: UserNo) -> Kind
-        ensures { result ≡ (spec_at self.now user.0).kind }
-    {
+    fn kind(&self, user: UserNo) -> Kind {
         match self.job.specs().get(user.0 as usize) {
             Some(spec) => spec.kind,
             None => Kind::Function,
         }
     }
 
-    /// The pid and the CPU of a task. Both are 0 if the job doesn't have the number.
-    pub(crate) fn task(&self, task: TaskNo) -> TaskName
-        ensures pid { result.pid ≡ pid_at self.now task.0 }
-        ensures cpu { result.cpu ≡ cpu_at self.now task.0 }
-    {
+    fn task(&self, task: TaskNo) -> TaskName {
         match self.tasks.get(task.0 as usize) {
             Some(name) => *name,
             None => TaskName { pid: 0, cpu: 0 },
         }
+    }
+
+    fn users(&self) -> u32 {
+        self.job.users()
+    }
+
+    fn tasks(&self) -> u32 {
+        self.job.tasks()
     }
 }
 

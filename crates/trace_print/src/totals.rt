@@ -1,65 +1,14 @@
 //! The summary of a history: how many items of each kind it has.
 
-ghost use Rattle.std.specs.Prelude.{◌≡◌, ◌++◌, [], IfOk, OnOk, string_bytes};
+ghost use Rattle.std.specs.Prelude.{◌≡◌, ◌++◌, IfOk, OnOk, string_bytes};
 ghost use Rattle.trace_print.specs.SummaryText.{number_line, summary_text};
-ghost use Rattle.trace_print.specs.Counted.{IsCounted, HasRoom, with_item};
 
-use crate::columns::last_line;
-use ft_base::{Item, NoMemory};
+use ft_base::NoMemory;
 use ft_hist::History;
 use std::alloc::{AllocError, Global};
 use std::fmt::Write;
-
-/// How many items of some kinds there are.
-#[derive(Clone, Copy)]
-pub(crate) struct Counts {
-    pub(crate) calls: u32,
-    pub(crate) backs: u32,
-    pub(crate) refused: u32,
-    pub(crate) exits: u32,
-    pub(crate) missed: u32,
-}
-
-/// No item.
-fn no_items() -> Counts
-    ensures { IsCounted [] result }
-{
-    Counts {
-        calls: 0,
-        backs: 0,
-        refused: 0,
-        exits: 0,
-        missed: 0,
-    }
-}
-
-/// The counts with one more item.
-fn with_item(counts: Counts, item: &Item) -> Counts
-    requires { HasRoom counts }
-    ensures { result ≡ with_item item.now counts }
-{
-    let mut more = counts;
-    match item {
-        Item::Enter { .. } => more.calls += 1,
-        Item::Back { .. } => more.backs += 1,
-        Item::Refuse { .. } => more.refused += 1,
-        Item::Exit { .. } => more.exits += 1,
-        Item::Miss { .. } => more.missed += 1,
-        _ => {}
-    }
-    more
-}
-
-/// The counts of a history.
-pub(crate) fn counted(history: &History) -> Counts
-    ensures { IsCounted history.now.items result }
-{
-    let mut counts = no_items();
-    for place in 0..history.len() {
-        counts = with_item(counts, history.item(place));
-    }
-    counts
-}
+use trace_lines::last_line;
+use trace_views::counted;
 
 /// Adds a line of a word and a number.
 fn push_number(text: &mut String, word: &str, n: u32) -> Result<(), AllocError>

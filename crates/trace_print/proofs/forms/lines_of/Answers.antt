@@ -1,10 +1,10 @@
 use Rattle.std.proofs.Common.{List, ℕ, ◌++◌, ap, refl, ◌∙◌, append_assoc}
-use Rattle.trace_print.specs.Words.{last_line, user_texts}
-use Rattle.trace_print.specs.LogText.{log_text}
-use Rattle.trace_print.specs.FunctionText.{function_text}
-use Rattle.trace_print.specs.GraphText.{graph_text}
-use Rattle.trace_print.specs.ProfileText.{profile_text, user_profile, fprobe_line}
-use Rattle.trace_print.specs.EnabledText.{enabled_text}
+use Rattle.trace_views.specs.Words.{last_line, user_texts}
+use Rattle.trace_views.specs.LogText.{log_text}
+use Rattle.trace_views.specs.FunctionText.{function_text}
+use Rattle.trace_views.specs.GraphText.{graph_text}
+use Rattle.trace_views.specs.ProfileText.{profile_text, user_profile, fprobe_line}
+use Rattle.trace_views.specs.EnabledText.{enabled_text}
 use Rattle.trace_print.proofs.forms.lines_of.Goals as goal
 
 pub returns-in-Log : goal.returns-in-Log
@@ -27,7 +27,7 @@ returns-in_ok-profile_lines-in-Profile c =
     rw c.in-Profile.is (λ ended. ap (λ (t : List ℕ). t ++ last_line ended) c.in_ok-profile_lines-in-Profile.ensures
     ∙ append_assoc (user_texts (user_profile c.args.names.now c.args.history.now.items) 0 c.args.names.now.users) (user_texts (fprobe_line c.args.history.now.items) 0 c.args.names.now.users) (last_line ended))
 
-pub returns-in_ok-enabled_lines-in-Enabled : goal.returns-in_ok-enabled_lines-in-Enabled
+pub returns-in_ok-lines_of_desk-in-Enabled : goal.returns-in_ok-lines_of_desk-in-Enabled
 unfolding enabled_text
-returns-in_ok-enabled_lines-in-Enabled c =
-    rw c.in-Enabled.is (λ ended. ap (λ (t : List ℕ). t ++ last_line ended) c.in_ok-enabled_lines-in-Enabled.ensures)
+returns-in_ok-lines_of_desk-in-Enabled c =
+    rw c.in-Enabled.is (λ ended. ap (λ (t : List ℕ). t ++ last_line ended) c.in_ok-lines_of_desk-in-Enabled.ensures)

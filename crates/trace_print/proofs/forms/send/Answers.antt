@@ -1,5 +1,5 @@
 use Rattle.std.proofs.Common.{◌∙◌, arith}
-use Rattle.trace_print.proofs.LineTexts.{both-under_way}
+use Rattle.trace_print.proofs.TwoTexts.{both-under_way}
 use Rattle.trace_print.proofs.forms.send.Goals as goal
 
 pub returns-in-Ok-finish-clause-all : goal.returns-in-Ok-finish-clause-all

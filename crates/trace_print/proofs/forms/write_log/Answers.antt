@@ -1,4 +1,4 @@
-use Rattle.trace_print.specs.LogText.{log_text}
+use Rattle.trace_views.specs.LogText.{log_text}
 use Rattle.trace_print.proofs.forms.write_log.Goals as goal
 
 pub returns-clause-all : goal.returns-clause-all

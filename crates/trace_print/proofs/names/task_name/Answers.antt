@@ -2,7 +2,7 @@ use Rattle.std.proofs.Common.{◌≡◌, ℕ, Option, refl, sym, ap, ◌∙◌}
 use Rattle.std.specs.Prelude.{unwrap_or, option_map}
 use Rattle.ft_base.specs.declared.number.CpuNo.{CpuNo}
 use Rattle.ft_base.specs.Job.{Task}
-use Rattle.trace_print.specs.declared.names.TaskName.{TaskName}
+use Rattle.trace_views.specs.declared.named.TaskName.{TaskName}
 use Rattle.trace_print.specs.TaskNames.{name_at}
 use Rattle.trace_print.proofs.TaskLookups.{number-or}
 use Rattle.trace_print.proofs.names.task_name.Goals as goal

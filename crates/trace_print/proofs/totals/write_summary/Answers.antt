@@ -1,4 +1,4 @@
-use Rattle.trace_print.proofs.CountLaws.{summary-is}
+use Rattle.trace_print.proofs.SummaryLines.{summary-is}
 use Rattle.trace_print.proofs.totals.write_summary.Goals as goal
 
 pub returns : goal.returns

@@ -1,7 +1,7 @@
 use Rattle.std.proofs.Common.{◌++◌, ◌∷◌, [], map, ap, sym, ◌∙◌, arith}
 use Rattle.std.specs.List.{range_with_len}
 use Rattle.std.proofs.lemmas.List.FromFn.{map-range_with_len_more}
-use Rattle.trace_print.specs.declared.names.TaskName.{TaskName}
+use Rattle.trace_views.specs.declared.named.TaskName.{TaskName}
 use Rattle.trace_print.specs.TaskNames.{name_at}
 use Rattle.trace_print.proofs.names.Names.new.Goals as goal
 

@@ -1,0 +1,7 @@
+pub mod LogLines
+pub mod LogSamples
+pub mod LogWords
+pub mod LogReads
+pub mod LogTells
+pub mod InColumns
+pub mod GraphFronts

@@ -1,0 +1,22 @@
+//! How the lines of a text are put into a sink, piece by piece: those of the log, one an item by
+//! place, and those of the views, which `trace_views` works out and whose texts it defines.
+//!
+//! Promised: [`put_log`] and [`put_lines`] put exactly the texts of their lines, and take no memory:
+//! what was written can't be taken back if memory runs out. The text of the log tells the history
+//! that it was written for ([`laws`]). A [`GrownText`] is a sink in memory.
+#![tactic(auto)]
+
+mod columns;
+mod enabled;
+mod function;
+mod graph;
+mod grown;
+pub mod laws;
+mod lines;
+mod log;
+mod profile;
+
+pub use columns::last_line;
+pub use grown::GrownText;
+pub use lines::{Line, put_lines};
+pub use log::put_log;

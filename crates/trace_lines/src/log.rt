@@ -1,0 +1,212 @@
+//! The text of a history, log: a line for each item.
+
+ghost use Rattle.std.specs.Prelude.{◌≡◌, [], ◌∷◌, ◌++◌, codes};
+ghost use Rattle.ft_io.specs.Pieces.{Puts};
+ghost use Rattle.trace_views.specs.Words.{user_word};
+ghost use Rattle.trace_views.specs.LogText.{call_word, caller_word};
+ghost use Rattle.trace_views.specs.LogText.{context_word, reason_word, ran_words, answer_words, joined};
+ghost use Rattle.trace_views.specs.LogText.{item_words, log_line, log_lines};
+
+use crate::columns::put_number;
+use ft_base::{Answer, CallNo, Ctx, Item, Ran, Reason, UserNo};
+use ft_hist::History;
+use ft_io::{Pieces, Sink};
+use trace_views::Named;
+
+/// Puts a call: the pid of its task, a dot and its number.
+fn put_call<K: Sink, N: Named>(pieces: &mut Pieces, sink: &mut K, names: &N, call: CallNo)
+    ensures { Puts K.holds K.faults (call_word (N.job names.now) call)
+        sink.old pieces.old sink.new pieces.new }
+{
+    put_number(pieces, sink, names.task(call.task).pid);
+    pieces.put(sink, b".");
+    put_number(pieces, sink, call.n);
+}
+
+/// Puts the enclosing call, or `-` at the outermost level.
+fn put_caller<K: Sink, N: Named>(
+    pieces: &mut Pieces,
+    sink: &mut K,
+    names: &N,
+    caller: Option<CallNo>,
+)
+    ensures { Puts K.holds K.faults (caller_word (N.job names.now) caller)
+        sink.old pieces.old sink.new pieces.new }
+{
+    match caller {
+        None => pieces.put(sink, b"-"),
+        Some(call) => put_call(pieces, sink, names, call),
+    }
+}
+
+fn context_name(ctx: Ctx) -> &'static str
+    ensures { result.now ≡ context_word ctx }
+{
+    match ctx {
+        Ctx::Normal => "normal",
+        Ctx::Softirq => "softirq",
+        Ctx::Irq => "irq",
+        Ctx::Nmi => "nmi",
+    }
+}
+
+fn reason_name(reason: Reason) -> &'static str
+    ensures { result.now ≡ reason_word reason }
+{
+    match reason {
+        Reason::Pid => "pid",
+        Reason::Recursion => "recursion",
+        Reason::Depth => "depth",
+    }
+}
+
+/// What was fetched at a call site, and the name of a user that goes with it, else nothing.
+pub(crate) fn ran_parts<'a, N: Named>(names: &'a N, ran: Ran) -> (&'static str, &'a str)
+    ensures { result.0.now ++ result.1.now ≡ joined (ran_words (N.job names.now) ran) }
+{
+    match ran {
+        Ran::Nop => ("nop", ""),
+        Ran::List => ("list", ""),
+        Ran::Own(user) => ("own ", names.user(user)),
+    }
+}
+
+/// Puts the answer of a command.
+fn put_answer<K: Sink, N: Named>(pieces: &mut Pieces, sink: &mut K, names: &N, answer: Answer)
+    ensures { Puts K.holds K.faults (joined (answer_words (N.job names.now) answer))
+        sink.old pieces.old sink.new pieces.new }
+{
+    match answer {
+        Answer::Accepted => pieces.put(sink, b"ok"),
+        Answer::Already => pieces.put(sink, b"already"),
+        Answer::NotThere => pieces.put(sink, b"not-there"),
+        Answer::Invalid => pieces.put(sink, b"invalid"),
+        Answer::NoMatch => pieces.put(sink, b"no-match"),
+        Answer::Busy { func, holder } => {
+            let function = names.function(func);
+            let holder = names.user(holder);
+            pieces.put(sink, b"busy ");
+            pieces.put(sink, function.as_bytes());
+            pieces.put(sink, b" ");
+            pieces.put(sink, holder.as_bytes());
+        }
+    }
+}
+
+/// Puts a word between two spaces, a call and a user.
+#[inline(always)]
+fn put_visit<K: Sink, N: Named>(
+    pieces: &mut Pieces,
+    sink: &mut K,
+    names: &N,
+    word: &[u8],
+    call: CallNo,
+    user: UserNo,
+)
+    ensures { Puts K.holds K.faults
+        (word.now ++ joined (call_word (N.job names.now) call ∷ user_word (N.job names.now) user.0 ∷ []))
+        sink.old pieces.old sink.new pieces.new }
+{
+    pieces.put(sink, word);
+    put_call(pieces, sink, names, call);
+    pieces.put(sink, b" ");
+    pieces.put(sink, names.user(user).as_bytes());
+}
+
+/// Puts a space, and what an item says after its place.
+fn put_item<K: Sink, N: Named>(pieces: &mut Pieces, sink: &mut K, names: &N, item: &Item)
+    ensures { Puts K.holds K.faults (codes " " ++ joined (item_words (N.job names.now) item.now))
+        sink.old pieces.old sink.new pieces.new }
+{
+    match *item {
+        Item::Begin { k } => {
+            pieces.put(sink, b" begin ");
+            put_number(pieces, sink, k);
+        }
+        Item::Return { k, answer } => {
+            pieces.put(sink, b" return ");
+            put_number(pieces, sink, k);
+            pieces.put(sink, b" ");
+            put_answer(pieces, sink, names, answer);
+        }
+        Item::Enter {
+            call,
+            ctx,
+            func,
+            caller,
+        } => {
+            pieces.put(sink, b" enter ");
+            put_call(pieces, sink, names, call);
+            pieces.put(sink, b" ");
+            pieces.put(sink, context_name(ctx).as_bytes());
+            pieces.put(sink, b" ");
+            pieces.put(sink, names.function(func).as_bytes());
+            pieces.put(sink, b" ");
+            put_caller(pieces, sink, names, caller);
+        }
+        Item::Back { call, user } => put_visit(pieces, sink, names, b" back ", call, user),
+        Item::BackEnd { call, user } => put_visit(pieces, sink, names, b" back-end ", call, user),
+        Item::Refuse { call, user, reason } => {
+            put_visit(pieces, sink, names, b" refuse ", call, user);
+            pieces.put(sink, b" ");
+            pieces.put(sink, reason_name(reason).as_bytes());
+        }
+        Item::Miss { call, user } => put_visit(pieces, sink, names, b" miss ", call, user),
+        Item::Body { call, func, ran } => {
+            let (word, user) = ran_parts(names, ran);
+            pieces.put(sink, b" body ");
+            put_call(pieces, sink, names, call);
+            pieces.put(sink, b" ");
+            pieces.put(sink, names.function(func).as_bytes());
+            pieces.put(sink, b" ");
+            pieces.put(sink, word.as_bytes());
+            pieces.put(sink, user.as_bytes());
+        }
+        Item::Leave { call } => {
+            pieces.put(sink, b" leave ");
+            put_call(pieces, sink, names, call);
+        }
+        Item::Exit { call, user, entry } => {
+            put_visit(pieces, sink, names, b" exit ", call, user);
+            pieces.put(sink, b" ");
+            put_number(pieces, sink, entry);
+        }
+        Item::ExitEnd { call, user } => put_visit(pieces, sink, names, b" exit-end ", call, user),
+        Item::Ret { call, to } => {
+            pieces.put(sink, b" ret ");
+            put_call(pieces, sink, names, call);
+            pieces.put(sink, b" ");
+            put_caller(pieces, sink, names, to);
+        }
+    }
+}
+
+/// Puts the line of an item at a place.
+fn put_line<K: Sink, N: Named>(
+    pieces: &mut Pieces,
+    sink: &mut K,
+    names: &N,
+    place: u32,
+    item: &Item,
+)
+    ensures { Puts K.holds K.faults (log_line (N.job names.now) place item.now)
+        sink.old pieces.old sink.new pieces.new }
+{
+    put_number(pieces, sink, place);
+    put_item(pieces, sink, names, item);
+    pieces.put(sink, b"\n");
+}
+
+/// Puts the line of each item in order, which begins with the item's place, up to the first line after
+/// the sink has failed.
+pub fn put_log<K: Sink, N: Named>(pieces: &mut Pieces, sink: &mut K, names: &N, history: &History)
+    ensures { Puts K.holds K.faults (log_lines (N.job names.now) 0 history.now.items)
+        sink.old pieces.old sink.new pieces.new }
+{
+    for place in 0..history.len() {
+        if pieces.has_failed() {
+            return;
+        }
+        put_line(pieces, sink, names, place, history.item(place));
+    }
+}

@@ -1,7 +1,0 @@
-use Rattle.ft_io.proofs.PieceLaws.{puts-then}
-use Rattle.trace_print.specs.KeptCalls.{function_line_text}
-use Rattle.trace_print.proofs.function.FunctionLineLine.put.Goals as goal
-
-pub returns : goal.returns
-unfolding function_line_text
-returns g c = puts-then c.put_front.ensures c.put_call.ensures

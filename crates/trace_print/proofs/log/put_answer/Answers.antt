@@ -1,7 +1,0 @@
-use Rattle.std.proofs.Common.{◌∙◌}
-use Rattle.ft_io.proofs.PieceLaws.{puts-then, puts-equal}
-use Rattle.trace_print.proofs.log.put_answer.Goals as goal
-
-pub returns-in-Busy : goal.returns-in-Busy
-returns-in-Busy g c = rw c.in-Busy.is (puts-then c.put-in-Busy.ensures (puts-then (puts-equal (c.as_bytes.ensures.value ∙ c.function-function.ensures) c.put-in-Busy-2.ensures)
-    (puts-then c.put-in-Busy-3.ensures (puts-equal (c.as_bytes-in-Busy.ensures.value ∙ c.user-holder.ensures) c.put-in-Busy-4.ensures))))

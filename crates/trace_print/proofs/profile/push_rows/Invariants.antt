@@ -1,6 +1,0 @@
-use Rattle.std.proofs.Common.{◌≡◌, ◌++◌, map, take}
-use Rattle.trace_print.specs.declared.profile.ProfileLine.TheVariants.{Row}
-use Rattle.trace_print.proofs.profile.push_rows.Given as goal
-
-abbrev pub invariant-loop-row : goal.invariant-loop-row
-invariant-loop-row l = l.lines.items ≡ l.initial.lines.items ++ map Row (take l.row-index l.rows)

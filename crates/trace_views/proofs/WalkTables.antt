@@ -1,0 +1,84 @@
+-- What is kept of each task, over one more item.
+use Rattle.std.proofs.Common.{cond, ◌≡◌, ℕ, Bool, true, false, ◌==◌, List, [], ◌∷◌, map, drop, Option, refl, sym, ap, ◌∙◌, subst, eqb-true}
+use Rattle.std.specs.List.{AllByRecursion as Each}
+use Rattle.std.proofs.lemmas.List.{drop-map}
+use Rattle.ft_base.specs.declared.number.CallNo.{CallNo}
+use Rattle.ft_base.specs.declared.number.FuncNo.{FuncNo}
+use Rattle.ft_base.specs.declared.number.UserNo.{UserNo}
+use Rattle.ft_base.specs.declared.context.Ctx.{Ctx}
+use Rattle.ft_base.specs.declared.item.Item.{Item}
+use Rattle.ft_base.specs.declared.item.Item.TheVariants.{Enter, Back, Ret}
+use Rattle.ft_base.specs.Same.{same_call}
+use Rattle.ft_base.proofs.Small.{and_both, Each-weaker, Each-filter}
+use Rattle.ft_hist.specs.Past.{is_open, calls}
+use Rattle.ft_hist.proofs.Laws.{same_call-refl}
+use Rattle.trace_views.specs.OpenCalls.{open_calls}
+use Rattle.trace_views.specs.TaskStacks.{with_top}
+use Rattle.trace_views.specs.GraphWalks.{is_open_in, IsFresh, IsTop, Nests}
+use Rattle.trace_views.specs.GraphLines.{graph_call, graph_calls, with_back}
+use Rattle.trace_views.proofs.GraphLevels.{other-task}
+use Rattle.trace_views.proofs.GraphItems.{passes-open, below-apart, open-enter, open-ret, backs-new, backs-own, backs-others}
+
+-- ## the open calls of a task
+
+map-each : {A B : Type 0} (f g : A → B) (xs : List A) → Each (λ x. f x ≡ g x) xs → map f xs ≡ map g xs
+map-each f g [] h = refl
+map-each f g (x ∷ xs) h = rw h.0 (ap (λ ys. g x ∷ ys) (map-each f g xs h.1))
+
+-- a call that is entered is put on its task's
+pub calls-enter : (tasks u t : ℕ) (call : CallNo) (ctx : Ctx) (f : FuncNo) (caller : Option CallNo) (past : List Item) → Nests tasks past → IsFresh call (calls past)
+    → graph_calls u t (Enter call ctx f caller ∷ past) ≡ cond (call.task.0 == t) (record { func = f; backs = 0 } ∷ graph_calls u t past) (graph_calls u t past)
+calls-enter tasks u t call ctx f caller past nests fresh =
+    ap (λ cs. map (graph_call u (Enter call ctx f caller ∷ past)) cs) (open-enter t call ctx f caller past fresh) ∙ by (call.task.0 == t)
+  where
+    others : map (graph_call u (Enter call ctx f caller ∷ past)) (open_calls t past) ≡ graph_calls u t past
+    others =
+        map-each (graph_call u (Enter call ctx f caller ∷ past)) (graph_call u past) (open_calls t past)
+        (Each-weaker (λ c. same_call call c ≡ false) (λ c. graph_call u (Enter call ctx f caller ∷ past) c ≡ graph_call u past c) (open_calls t past) (λ c e. rw e refl)
+        (Each-filter (λ c. same_call call c ≡ false) (is_open_in t past) (calls past) fresh))
+
+    first : graph_call u (Enter call ctx f caller ∷ past) call ≡ record { func = f; backs = 0 }
+    first = rw (same_call-refl call, backs-new tasks u call past nests fresh) refl
+
+    by : (b : Bool) → map (graph_call u (Enter call ctx f caller ∷ past)) (cond b (call ∷ open_calls t past) (open_calls t past)) ≡ cond b (record { func = f; backs = 0 } ∷ graph_calls u t past) (graph_calls u t past)
+    by true = rw (first, others) refl
+    by false = others
+
+-- one that returns is taken away
+pub calls-ret : (tasks u t : ℕ) (call : CallNo) (to : Option CallNo) (past : List Item) → Nests tasks past → IsTop tasks call past
+    → graph_calls u t (Ret call to ∷ past) ≡ cond (call.task.0 == t) (drop 1 (graph_calls u t past)) (graph_calls u t past)
+calls-ret tasks u t call to past nests top = ap (λ cs. map (graph_call u past) cs) (open-ret tasks t call to past nests top) ∙ by (call.task.0 == t)
+  where
+    by : (b : Bool) → map (graph_call u past) (cond b (drop 1 (open_calls t past)) (open_calls t past)) ≡ cond b (drop 1 (graph_calls u t past)) (graph_calls u t past)
+    by true = sym (drop-map (graph_call u past) 1 (open_calls t past))
+    by false = refl
+
+-- one with a callback of the user has one more
+pub calls-back : (tasks u t : ℕ) (call : CallNo) (v : UserNo) (past : List Item) → Nests tasks past → IsTop tasks call past → (v.0 == u) ≡ true
+    → graph_calls u t (Back call v ∷ past) ≡ cond (call.task.0 == t) (with_top (with_back (graph_call u past call)) (graph_calls u call.task.0 past)) (graph_calls u t past)
+calls-back tasks u t call v past nests top own = by (call.task.0 == t) refl
+  where
+    same : (cs : List CallNo) → IsFresh call cs → map (graph_call u (Back call v ∷ past)) cs ≡ map (graph_call u past) cs
+    same cs fresh =
+        map-each (graph_call u (Back call v ∷ past)) (graph_call u past) cs
+        (Each-weaker (λ c. same_call call c ≡ false) (λ c. graph_call u (Back call v ∷ past) c ≡ graph_call u past c) cs (λ c e. ap (λ n. record { func = (graph_call u past c).func; backs = n }) (backs-others u call v past own c e)) fresh)
+
+    first : graph_call u (Back call v ∷ past) call ≡ with_back (graph_call u past call)
+    first = ap (λ n. record { func = (graph_call u past call).func; backs = n }) (backs-own u call v past own)
+
+    here : graph_calls u call.task.0 (Back call v ∷ past) ≡ with_top (with_back (graph_call u past call)) (graph_calls u call.task.0 past)
+    here = rw top.2 (rw (first, same top.1 (below-apart tasks call past top nests)) refl)
+
+    by : (b : Bool) → (call.task.0 == t) ≡ b → graph_calls u t (Back call v ∷ past) ≡ cond b (with_top (with_back (graph_call u past call)) (graph_calls u call.task.0 past)) (graph_calls u t past)
+    by true e = let is : call.task.0 ≡ t = eqb-true call.task.0 t e in subst (λ n. graph_calls u n (Back call v ∷ past) ≡ with_top (with_back (graph_call u past call)) (graph_calls u call.task.0 past)) is here
+    by false e =
+        same (open_calls t past)
+        (Each-weaker (λ c. is_open_in t past c ≡ true) (λ c. same_call call c ≡ false) (open_calls t past) (λ c q. other-task call c t e (and_both (c.task.0 == t) (is_open c past) q).0) (passes-open t past))
+
+-- a callback of another user leaves them
+pub calls-back-other : (u t : ℕ) (call : CallNo) (v : UserNo) (past : List Item) → (v.0 == u) ≡ false → graph_calls u t (Back call v ∷ past) ≡ graph_calls u t past
+calls-back-other u t call v past other = by (open_calls t past)
+  where
+    by : (cs : List CallNo) → map (graph_call u (Back call v ∷ past)) cs ≡ map (graph_call u past) cs
+    by [] = refl
+    by (c ∷ cs) = let first : graph_call u (Back call v ∷ past) c ≡ graph_call u past c = rw other refl in rw (first, by cs) refl

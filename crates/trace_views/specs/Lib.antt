@@ -1,0 +1,17 @@
+pub mod Words
+pub mod LogText
+pub mod OpenCalls
+pub mod Places
+pub mod TaskStacks
+pub mod ByTask
+pub mod Leaves
+pub mod KeptCalls
+pub mod GraphWalks
+pub mod GraphLines
+pub mod GraphText
+pub mod FunctionText
+pub mod ProfileText
+pub mod EnabledText
+pub mod ItemCounts
+pub mod Counted
+pub mod Returned

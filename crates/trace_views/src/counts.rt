@@ -1,0 +1,63 @@
+//! How many items of each kind a history has.
+
+ghost use Rattle.std.specs.Prelude.{◌≡◌, []};
+ghost use Rattle.trace_views.specs.Counted.{IsCounted, HasRoom, with_item};
+
+use ft_base::Item;
+use ft_hist::History;
+
+/// How many items of some kinds there are.
+#[derive(Clone, Copy)]
+pub struct Counts {
+    /// Calls: items that enter one.
+    pub calls: u32,
+    /// Entry callbacks.
+    pub backs: u32,
+    /// Refusals.
+    pub refused: u32,
+    /// Exit callbacks.
+    pub exits: u32,
+    /// Misses.
+    pub missed: u32,
+}
+
+/// No item.
+fn no_items() -> Counts
+    ensures { IsCounted [] result }
+{
+    Counts {
+        calls: 0,
+        backs: 0,
+        refused: 0,
+        exits: 0,
+        missed: 0,
+    }
+}
+
+/// The counts with one more item.
+fn with_item(counts: Counts, item: &Item) -> Counts
+    requires { HasRoom counts }
+    ensures { result ≡ with_item item.now counts }
+{
+    let mut more = counts;
+    match item {
+        Item::Enter { .. } => more.calls += 1,
+        Item::Back { .. } => more.backs += 1,
+        Item::Refuse { .. } => more.refused += 1,
+        Item::Exit { .. } => more.exits += 1,
+        Item::Miss { .. } => more.missed += 1,
+        _ => {}
+    }
+    more
+}
+
+/// The counts of a history.
+pub fn counted(history: &History) -> Counts
+    ensures { IsCounted history.now.items result }
+{
+    let mut counts = no_items();
+    for place in 0..history.len() {
+        counts = with_item(counts, history.item(place));
+    }
+    counts
+}

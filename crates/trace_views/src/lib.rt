@@ -1,0 +1,34 @@
+//! The views of a history, as the kernel's tracers and the files of tracefs give it: which lines each
+//! has, worked out as numbers. What the text of each line is, and that of the log, is defined here in
+//! `specs`; `trace_lines` puts the lines, and `trace_print` chooses among the forms.
+//!
+//! | view | like | lines |
+//! |---|---|---|
+//! | function | the function tracer (`ftrace.rst`, "function") | one an entry callback of a function user |
+//! | graph | the function graph tracer (`ftrace.rst`, "function graph tracer") | for each graph user, one an entry callback and one an exit callback; one for both if nothing is between |
+//! | profile | `trace_stat` (`ftrace.rst`, `function_profile_enabled`), an fprobe's `nmissed` | for each profile user one a function; one an fprobe |
+//! | enabled | `enabled_functions` (`ftrace.rst`, "The File System") | one a function that some users trace |
+//!
+//! Promised: [`function_lines`], [`graph_lines`] and [`profile_lines`] give, for each legal history of a
+//! job, and [`enabled_lines`] for the desk that it leaves, lines whose texts are exactly those of the
+//! view. What they need of a job is [`Named`]. Only tested, in `trace_print_tests`: that memory is
+//! found.
+#![tactic(auto)]
+
+mod counts;
+mod enabled;
+mod function;
+mod graph;
+mod graph_line;
+mod leaves;
+mod named;
+mod profile;
+mod stacks;
+
+pub use counts::{Counts, counted};
+pub use enabled::{EnabledLine, enabled_lines, returned};
+pub use function::{FunctionLine, function_lines};
+pub use graph::graph_lines;
+pub use graph_line::{GraphLine, Shown};
+pub use named::{Named, TaskName};
+pub use profile::{ProfileLine, profile_lines};
