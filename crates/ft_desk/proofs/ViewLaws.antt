@@ -7,8 +7,8 @@ use Rattle.ft_base.specs.declared.item.Answer.TheVariants.{Accepted, Already, In
 use Rattle.ft_base.specs.declared.user.Half.{Half}
 use Rattle.ft_base.specs.declared.user.Half.TheVariants.{Filter as FilterHalf, Notrace as NotraceHalf}
 use Rattle.ft_base.specs.Marks.{Marks, is_empty}
-use Rattle.ft_base.specs.Job.{Spec, Edit, no_func}
-use Rattle.ft_base.specs.Desk.{Desk, UserState, sited, sited_from, target, target_by, claim, register_answer, plain_spec, answer_on, edited}
+use Rattle.ft_base.specs.Job.{Job, Spec, Edit, no_func, funcs as func_count}
+use Rattle.ft_base.specs.Desk.{Desk, UserState, sited, sited_from, target, target_by, claim, register_answer, plain_spec, spec_at, user_at, answer_on, edited}
 use Rattle.site_counts.specs.Rows.{one_if}
 use Rattle.ft_desk.specs.declared.user.User.{User}
 use Rattle.ft_desk.specs.Declarations.{Declared, job_of}
@@ -149,8 +149,52 @@ edit-claims users funcs tasks tramps pids nopids depth u NotraceHalf e sized er 
     (claim (job_of (declared_with users funcs tasks tramps)) (desk_with users pids nopids depth) u s.filter (edited (length (replicate funcs no_func)) s.notrace e))
     s.filter) (user_at-is users u) (spec_at-is users u))
 
+-- an edit that selects nothing
+unmatched-tests : (a b : Bool) (e : Edit) (shut : Bool) (claimed : Answer) → (e.clear || not (is_empty e.set)) ≡ false
+    → NoMatch
+    ≡ cond ((a && b) && (e.clear || not (is_empty e.set)) && shut) Invalid (cond (not (e.clear || not (is_empty e.set))) NoMatch (cond (a && b) claimed Accepted))
+unmatched-tests true true e shut claimed es = rw es refl
+unmatched-tests true false e shut claimed es = rw es refl
+unmatched-tests false b e shut claimed es = rw es refl
+
+pub edit-unmatched : (job : Job) (desk : Desk) (u : ℕ) (half : Half) (e : Edit) → (e.clear || not (is_empty e.set)) ≡ false
+    → NoMatch ≡ answer_on job desk (edit_command u half e)
+edit-unmatched job desk u FilterHalf e es =
+    let s = user_at desk u in
+    let next = edited (func_count job) s.filter e in
+    unmatched-tests s.registered (is_some (spec_at job u).ipmodify) e (is_empty next) (claim job desk u next s.notrace) es
+edit-unmatched job desk u NotraceHalf e es =
+    let s = user_at desk u in
+    unmatched-tests s.registered (is_some (spec_at job u).ipmodify) e (is_empty s.filter) (claim job desk u s.filter (edited (func_count job) s.notrace e)) es
+
+-- an edit of a user that is not registered, or replaces nothing
+unbound-tests : (a b : Bool) (e : Edit) (shut : Bool) (claimed : Answer) → (a && b) ≡ false → (e.clear || not (is_empty e.set)) ≡ true
+    → Accepted
+    ≡ cond ((a && b) && (e.clear || not (is_empty e.set)) && shut) Invalid (cond (not (e.clear || not (is_empty e.set))) NoMatch (cond (a && b) claimed Accepted))
+unbound-tests a b e shut claimed eb es = rw (eb, es) refl
+
+pub edit-unbound : (users : List User) (funcs tasks tramps : ℕ) (pids nopids : Marks) (depth u : ℕ) (half : Half) (e : Edit)
+    → ((user_of users u).registered && is_some (user_of users u).ipmodify) ≡ false → (e.clear || not (is_empty e.set)) ≡ true
+    → Accepted ≡ answer_on (job_of (declared_with users funcs tasks tramps)) (desk_with users pids nopids depth) (edit_command u half e)
+edit-unbound users funcs tasks tramps pids nopids depth u FilterHalf e eb es =
+    let job = job_of (declared_with users funcs tasks tramps) in
+    let desk = desk_with users pids nopids depth in
+    let s = user_at desk u in
+    let next = edited (func_count job) s.filter e in
+    unbound-tests s.registered (is_some (spec_at job u).ipmodify) e (is_empty next) (claim job desk u next s.notrace)
+    (ap₂ (λ (t : UserState) (p : Spec). t.registered && is_some p.ipmodify) (user_at-is users u) (spec_at-is users u) ∙ eb) es
+edit-unbound users funcs tasks tramps pids nopids depth u NotraceHalf e eb es =
+    let job = job_of (declared_with users funcs tasks tramps) in
+    let desk = desk_with users pids nopids depth in
+    let s = user_at desk u in
+    unbound-tests s.registered (is_some (spec_at job u).ipmodify) e (is_empty s.filter) (claim job desk u s.filter (edited (func_count job) s.notrace e))
+    (ap₂ (λ (t : UserState) (p : Spec). t.registered && is_some p.ipmodify) (user_at-is users u) (spec_at-is users u) ∙ eb) es
+
 pub clear-not : (a b : Bool) → a ≡ true → (a || not b) ≡ true
 clear-not a b e = rw e refl
+
+pub clear-nothing : (a b : Bool) → a ≡ false → b ≡ true → (a || not b) ≡ false
+clear-nothing a b ea eb = rw (ea, eb) refl
 
 pub empty-not : (a b : Bool) → b ≡ false → (a || not b) ≡ true
 empty-not true b e = refl

@@ -67,14 +67,17 @@ impl Desk {
         requires users { length specs.now ≡ shape.users }
         ensures { IfOk result (λ desk. desk ≡ opened (declared_by specs.now shape)) }
     {
+        let roster = Roster::new(alloc, specs, shape.funcs)?;
+        let order = new_order(alloc, specs.len())?;
+        let plan = Plan::new(alloc, shape.funcs)?;
         Ok(Desk {
-            roster: Roster::new(alloc, specs, shape.funcs)?,
-            order: new_order(alloc, specs.len())?,
+            roster,
+            order,
             slots: Slots::new(shape.tramps),
             pids: Pids::new(shape.tasks),
             depth: 0,
             commands: 0,
-            plan: Plan::new(alloc, shape.funcs)?,
+            plan,
         })
     }
 

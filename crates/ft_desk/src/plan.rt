@@ -69,6 +69,7 @@ impl Plan {
         ensures plan { IfOk result (λ p. plain_plan p ≡ no_plan) }
         ensures room { IfOk result (λ p. funcs ≤ vec_capacity p.sites) }
     {
+        let sites = Vec::with_capacity(alloc, funcs as usize).map_err(|_| NoMemory)?;
         Ok(Plan {
             user: None,
             pair: false,
@@ -77,7 +78,7 @@ impl Plan {
             list: ListChange::Keep,
             pids: None,
             depth: None,
-            sites: Vec::with_capacity(alloc, funcs as usize).map_err(|_| NoMemory)?,
+            sites,
             quiet: false,
         })
     }

@@ -272,12 +272,17 @@ impl Roster {
         ensures users { IfOk result (λ r. r.users ≡ map (declared_as funcs) specs.now) }
         ensures funcs { IfOk result (λ r. r.funcs ≡ funcs) }
     {
+        let users = new_users(alloc, specs, funcs)?;
+        let counts = Counts::new(alloc, funcs)?;
+        let totals = new_totals(alloc, funcs)?;
+        let holders = new_holders(alloc, specs.len() as u32, funcs)?;
+        let room = new_room(alloc, funcs)?;
         Ok(Roster {
-            users: new_users(alloc, specs, funcs)?,
-            counts: Counts::new(alloc, funcs)?,
-            totals: new_totals(alloc, funcs)?,
-            holders: new_holders(alloc, specs.len() as u32, funcs)?,
-            room: new_room(alloc, funcs)?,
+            users,
+            counts,
+            totals,
+            holders,
+            room,
         })
     }
 }
@@ -339,11 +344,15 @@ fn new_holders(alloc: Global, users: u32, funcs: u32) -> Result<Vec<Holder>, NoM
 fn new_room(alloc: Global, funcs: u32) -> Result<Room, NoMemory>
     ensures { IfOk result (IsRoom funcs) }
 {
+    let trial = HashPair::new(alloc, funcs)?;
+    let came = new_set(alloc, funcs)?;
+    let left = new_set(alloc, funcs)?;
+    let reach = new_set(alloc, funcs)?;
     Ok(Room {
-        trial: HashPair::new(alloc, funcs)?,
-        came: new_set(alloc, funcs)?,
-        left: new_set(alloc, funcs)?,
-        reach: new_set(alloc, funcs)?,
+        trial,
+        came,
+        left,
+        reach,
     })
 }
 

@@ -39,6 +39,7 @@ impl User {
     pub(crate) fn new(alloc: Global, spec: &Spec, funcs: u32) -> Result<User, NoMemory>
         ensures { IfOk result (λ user. user ≡ declared_as funcs spec.now) }
     {
+        let pair = HashPair::new(alloc, funcs)?;
         Ok(User {
             kind: spec.kind,
             regs: spec.regs,
@@ -47,7 +48,7 @@ impl User {
             reg: 0,
             since: 0,
             enabled: false,
-            pair: HashPair::new(alloc, funcs)?,
+            pair,
             slot: None,
             second: false,
         })
