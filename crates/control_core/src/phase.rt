@@ -15,7 +15,7 @@ use patch_core::{Batch, BatchNext};
 use word_map::WordMap;
 
 /// Where control stands: at a line, or in a command before its next operation.
-#[derive(Debug, Drop)]
+#[derive(Drop)]
 pub(crate) enum Phase {
     /// At a line, or after the last one.
     Line,

@@ -10,7 +10,7 @@ use std::marker::Model;
 use word_map::{Op, WordMap};
 
 /// The shared words. Contracts see them as a list, the clock first.
-#[derive(Debug, Drop)]
+#[derive(Drop)]
 pub(crate) struct Table {
     words: Vec<u64>,
 }
