@@ -8,10 +8,3 @@ pub mod MachineLaws
 pub mod PlayLaws
 pub mod Replays
 pub mod FedLaws
-pub mod KeptDesks
-pub mod KeptMaps
-pub mod BacksLaws
-pub mod NoteLaws
-pub mod SilentLaws
-pub mod EndLaws
-pub mod PastLaws

@@ -169,7 +169,7 @@ impl Job {
 
     /// The desk before the first command, and the lines of control, which can be planned on it. The
     /// error says that memory ran out.
-    pub(crate) fn opening(&self, alloc: Global) -> Result<(Desk, &[Ctl]), NoMemory>
+    pub fn opening(&self, alloc: Global) -> Result<(Desk, &[Ctl]), NoMemory>
         ensures opened { IfOk result (λ p. p.0 ≡ opened p.0.declared) }
         ensures declared { IfOk result (λ p. IsOf self.now p.0.declared) }
         ensures named { IfOk result (λ p. All (IsLineIn p.0.declared) p.1.now) }

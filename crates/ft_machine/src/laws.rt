@@ -1,15 +1,12 @@
-//! Laws of replays, and of what is checked of histories.
+//! Laws of replays.
 
 ghost use Rattle.std.specs.Prelude.{◌≡◌, ◌↔◌, ◌<◌, ℕ, true, List, length};
 ghost use Rattle.ft_base.specs.Job.{Job as PlainJob};
 ghost use Rattle.ft_base.specs.Schedule.{IsActor, actors_of};
 ghost use Rattle.ft_base.specs.declared.turn.Actor.{Actor};
-ghost use Rattle.ft_base.specs.declared.item.Item.{Item};
-ghost use Rattle.ft_hist.specs.Rules.{IsLegal};
 ghost use Rattle.word_machine.specs.Machine.{World, all_end, is_at_end, play, run, start};
 ghost use Rattle.ft_machine.specs.Fed.{control_fed, control_takes, cpu_fed, cpu_takes};
 ghost use Rattle.ft_machine.specs.Replays.{StopsAt};
-ghost use Rattle.ft_machine.specs.Backs.{AreBacksLegal};
 
 /// The replay of a job's schedule is a run of a beginning of the schedule's actors, and stops only
 /// if all actors are at their ends or the schedule is used up.
@@ -30,9 +27,4 @@ pub fn each_actor_is_fed_its_values()
         → (run job actors (start job)).control ≡ control_fed job (control_takes job actors (start job)) }
     ensures cpus { (job : PlainJob) (actors : List Actor) (c : ℕ) → c < length job.quanta
         → (run job actors (start job)).cpus c ≡ cpu_fed job c (cpu_takes job c actors (start job)) }
-{}
-
-/// Each legal history keeps the rules of callbacks and of silence, which `backs_legal` checks.
-pub fn legal_histories_keep_backs()
-    ensures { (job : PlainJob) (items : List Item) → IsLegal job items → AreBacksLegal job items }
 {}

@@ -8,28 +8,20 @@
 //! site is whole; a step takes no memory. A replay is a run of a beginning of its schedule's actors.
 //! An actor's state is a function of the values that its own steps took, so a machine can be taken
 //! apart ([`Machine::into_parts`]) and its actors can step at the same time. [`Job::desk`] is the desk
-//! after the first commands of a job. [`backs_legal`] checks a finished history by the rules of
-//! callbacks and of silence alone; it knows the desks and the items, and nothing of the machine. Out
-//! of memory is the only fault.
+//! after the first commands of a job. Out of memory is the only fault.
 //!
 //! Only tested, in the crate `ft_machine_tests`: that a job isn't refused for its size.
 #![tactic(auto)]
 
-mod backs;
-mod desks;
 mod find;
 mod job;
 mod laws;
 mod machine;
 mod play;
 
-pub use backs::backs_legal;
 pub use ft_desk::{Command, Ctl};
 pub use job::{Job, JobParts};
-pub use laws::{
-    all_end_if_each_does, each_actor_is_fed_its_values, every_replay_is_a_run,
-    legal_histories_keep_backs,
-};
+pub use laws::{all_end_if_each_does, each_actor_is_fed_its_values, every_replay_is_a_run};
 pub use machine::Machine;
 pub use machine_core::WorldParts;
 pub use play::{Outcome, replay};

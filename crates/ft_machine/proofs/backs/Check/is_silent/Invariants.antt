@@ -1,9 +1,0 @@
-use Rattle.std.proofs.Common.{◌≡◌, ℕ, ◌<◌, false, List}
-use Rattle.ft_base.specs.declared.item.Item.{Item}
-use Rattle.ft_base.specs.Job.{Job}
-use Rattle.ft_machine.specs.KeptBacks.{IsCheck, WasOff, is_visited}
-use Rattle.ft_machine.proofs.backs.Check.is_silent.Given as goal
-
--- each user so far was visited, or was off
-abbrev pub invariant-loop-u : goal.invariant-loop-u
-invariant-loop-u l = (job : Job) (past : List Item) → IsCheck job past l.self → (v : ℕ) → v < l.u → is_visited l.self l.call v ≡ false → WasOff job past l.entry.from v l.entry.func.0

@@ -1,7 +1,0 @@
--- Before the first item nothing is kept.
-use Rattle.std.proofs.Common.{refl}
-use Rattle.ft_machine.proofs.BacksLaws.{at-start}
-use Rattle.ft_machine.proofs.backs.Check.new.Goals as goal
-
-pub returns : goal.returns
-returns c = at-start c.args.job.now _ c.in_ok-new.ensures refl refl c.new-2.ensures.empty c.new-3.ensures.empty c.new-4.ensures.items

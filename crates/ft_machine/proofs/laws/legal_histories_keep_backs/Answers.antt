@@ -1,5 +1,0 @@
-use Rattle.ft_machine.proofs.PastLaws.{legal-keeps}
-use Rattle.ft_machine.proofs.laws.legal_histories_keep_backs.Goals as goal
-
-pub returns : goal.returns
-returns c = λ job items legal. legal-keeps job items legal

@@ -1,0 +1,10 @@
+use Rattle.history_check.specs.Backs.{AreBacksLegalPast}
+use Rattle.history_check.specs.KeptBacks.{IsCheck, past_at}
+use Rattle.history_check.proofs.backs.backs_legal.Given as goal
+
+-- the items so far keep the rules, and what is kept is what they tell
+abbrev pub invariant-loop-place : goal.invariant-loop-place
+invariant-loop-place l = record {
+  so_far : AreBacksLegalPast l.job (past_at l.place l.history.items);
+  kept : IsCheck l.job (past_at l.place l.history.items) l.check;
+}

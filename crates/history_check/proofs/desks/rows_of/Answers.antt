@@ -1,0 +1,90 @@
+use Rattle.std.proofs.Common.{suc, refl, sym, ap, ◌∙◌, subst, arith}
+use Rattle.std.specs.Prelude.{option_map}
+use Rattle.std.specs.Global.{Vec}
+use Rattle.std.proofs.lemmas.List.{length_push}
+use Rattle.ft_base.specs.declared.number.UserNo.{UserNo}
+use Rattle.ft_desk.specs.declared.command.Ctl.TheVariants.{Run, Until}
+use Rattle.ft_desk.specs.Commands.{command_of}
+use Rattle.ft_desk.specs.Declarations.{IsOf}
+use Rattle.control_core.proofs.Lines.{line-at, planned}
+use Rattle.history_check.specs.declared.desks.Row.{Row}
+use Rattle.history_check.specs.KeptDesks.{IsRowOf}
+use Rattle.ft_machine.proofs.DeskLaws.{command-next, commands-next, counted-next, counted-over, counted-wait, declared-next, few-planned, new-commands, new-state, state-next}
+use Rattle.history_check.proofs.KeptDesks.{each-pushed, first-made, next-made}
+use Rattle.history_check.proofs.desks.rows_of.Goals as goal
+use Rattle.history_check.proofs.desks.rows_of.Goals.{in-Run+in_ok-next+in_ok-map_err-2, in_default}
+
+pub loop-line-init : goal.loop-line-init
+loop-line-init c =
+    let s = c.args.present in
+    let new = c.requires.opened in
+    let made = c.in_ok-first.ensures in
+    let none = new-commands s new in
+    let items = (rw (sym c.in_ok-map_err.ensures.variant) at c.push.ensures.items) in
+    rw (items, c.new-rows.ensures.items) (record {
+      declared = refl;
+      counted = none;
+      state = λ job is lines. new-state s new job is;
+      size = omega (arith, none);
+      each = λ job is lines. first-made job s is new c.in_ok-first.first made.users made.each made.off;
+    })
+
+pub plan-requires-clause-room : goal.plan-requires-clause-room
+plan-requires-clause-room c =
+    let h = c.loop-line.invariant in
+    let few = few-planned c.args.present.declared c.args.lines.now c.loop-line.line-index c.loop-line.present h.declared h.counted in
+    let room = c.requires.few in
+    omega (arith, few, room)
+
+pub loop-line-preserved : goal.loop-line-preserved
+loop-line-preserved c =
+    let old = c.args.present.declared in
+    let xs = c.args.lines.now in
+    let i = c.loop-line.line-index in
+    let was = c.loop-line.present in
+    let rows = c.loop-line.rows.items in
+    let h = c.loop-line.invariant in
+    elim c.match-line.branch [
+      | in-Run+in_ok-next+in_ok-map_err-2 w ↦
+          let x = w.in-Run.command in
+          let at = line-at xs xs i c.line-item.result (Run x) refl c.loop-line-test.true c.line-item.is w.in-Run.is in
+          let next = w.plan.new.self in
+          let then = planned w.plan.result was next _ w.plan.ensures.answer w.plan.ensures.accepted w.plan.ensures.refused in
+          let kept = declared-next old xs i was h.declared h.counted x at next then in
+          let more = commands-next old xs i was h.declared h.counted x at next then in
+          let made = w.in_ok-next.ensures in
+          let row = w.in_ok-next.next in
+          let items = ap (λ (v : Vec Row). v.items) w.rows-is ∙ (rw (sym w.in_ok-map_err-2.ensures.variant) at w.push-in-Run.ensures.items) in
+          let size = length_push rows row in
+          let before = h.size in
+          rw (w.present-is, items) (record {
+            declared = kept;
+            counted = counted-next old xs i was h.declared h.counted x at next then;
+            state = λ job is lines. state-next old xs i was h.declared h.counted x at next then job is lines (h.state job is lines);
+            size = omega (arith, size, before, more);
+            each = λ job is lines.
+                each-pushed (IsRowOf job) rows row (h.each job is lines)
+                (subst (λ n. IsRowOf job n row) (sym before)
+                (next-made job next (subst (IsOf job) (sym kept) is) was.commands more (command_of was.declared.tasks x)
+                (command-next old xs i was h.declared h.counted x at next then job lines)
+                row (state-next old xs i was h.declared h.counted x at next then job is lines (h.state job is lines)) made.users made.each
+                (ap (option_map (λ (u : UserNo). u.0)) made.off ∙ w.taken_by.ensures was.declared.tasks)));
+          })
+      | in_default w ↦
+          let at = line-at xs xs i c.line-item.result (Until w.in_default.field-0 w.in_default.field-1) refl c.loop-line-test.true c.line-item.is w.in_default.is in
+          rw (w.present-is, w.rows-is) (record {
+            declared = h.declared;
+            counted = counted-wait old xs i was h.declared h.counted w.in_default.field-0 w.in_default.field-1 at;
+            state = h.state;
+            size = h.size;
+            each = h.each;
+          })
+    ]
+
+pub returns : goal.returns
+returns c = λ job is lines.
+    let h = c.loop-line.invariant in
+    record {
+      size = h.size ∙ ap suc (counted-over c.args.present.declared c.args.lines.now c.loop-line.line-index c.loop-line.present h.declared h.counted job lines c.loop-line-test.false);
+      each = h.each job is lines;
+    }

@@ -1,0 +1,4 @@
+pub mod TakenOff
+pub mod KeptDesks
+pub mod Backs
+pub mod KeptBacks
