@@ -1,6 +1,0 @@
-//! Tests of the lines, words, names and numbers of `script_text`. They have a crate of their own, since
-//! a crate is proved once more with the tests inside it.
-#![tactic(auto)]
-
-#[cfg(test)]
-mod tests;
