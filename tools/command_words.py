@@ -21,7 +21,7 @@ BAD_WORDS += ["run ''", "'run '", "replay '--print= log'", "bulk --seed '1\n'", 
 NOT_TEXT = [[b"\xff"], [b"replay\xff"], [b"\xff", b"replay"], [b"replay", b"\xff"], [b"replay", b"--print", b"log\x80"]]
 NOT_TEXT += [[b"--print=log", b"--", b"replay", b"\xc3"], [b"replay", b"\xc0\xaf"], [b"replay", b"\xed\xa0\x80"], [b"bulk", b"--seed", b"1\xff"]]
 HUGE = [["replay"] * 1000, ["bulk", *["--seed", "1"] * 1000], ["replay", "x" * 100_000], ["bulk", "--seed", "0" * 100_000]]
-LISTS = re.compile(r"let (good|bad): .*?; (\d+)\] = \[\n(.*?)\n    \];", re.S)
+LISTS = re.compile(r"static (GOOD|BAD)\w*: [^\n]*?; (\d+)\] = \[\n(.*?)\n\];", re.S)
 LIST = re.compile(r'&\[((?:\s*"[^"]*",?)*)\s*\]')
 ORDER = re.compile(r"Order::(Replay|Run|Bulk)\((?:Form::)?(\w+)\)")
 
@@ -60,11 +60,11 @@ def page_words(rows, page):
 def test_words(rows, path):
     """The words of the lists in the tests; each list says how many it has, and each good one which order it gives."""
     found = LISTS.findall(path.read_text())
-    if {kind for kind, _, _ in found} != {"good", "bad"}:
+    if {kind for kind, _, _ in found} != {"GOOD", "BAD"}:
         rows.row(path.name, ["it hasn't the words that are in the language and those that aren't"])
     for kind, count, text in found:
         lists = [re.findall(r'"([^"]*)"', words) for words in LIST.findall(text)]
-        orders = [test_order(*found) for found in ORDER.findall(text)] if kind == "good" else [None] * len(lists)
+        orders = [test_order(*found) for found in ORDER.findall(text)] if kind == "GOOD" else [None] * len(lists)
         if not len(lists) == len(orders) == int(count):
             rows.row(path.name, [f"of {count} lists of words {len(lists)} were found, and {len(orders)} orders"])
         for words, order in zip(lists, orders):
@@ -116,7 +116,7 @@ def try_words(rows, program, example, name, words, order):
 
 def check(rows, program, top):
     """A row for each list of words."""
-    lists = [*page_words(rows, top / "docs" / "LANGUAGE.md"), *test_words(rows, top / "crates" / "ft_words_tests" / "src" / "tests.rt"), *other_words()]
+    lists = [*page_words(rows, top / "docs" / "LANGUAGE.md"), *test_words(rows, top / "crates" / "ends_tests" / "src" / "words.rt"), *other_words()]
     for where, words, order in lists:
         said = " ".join(words) if where != "not text" else repr(b" ".join(words))
         try_words(rows, program, top / "examples" / EXAMPLE, f"words: {said[:80] or 'none'} ({where})", words, order)
