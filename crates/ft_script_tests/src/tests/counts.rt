@@ -4,27 +4,44 @@ ghost use Rattle.std.specs.Prelude.{◌<◌};
 
 use super::fault_of;
 use ft_script::{Cause, ScriptFault};
-use std::alloc::Global;
+use std::alloc::{AllocError, Global};
 use std::process::Abort;
 use std::test::Fail;
 
-/// A script that begins with `first`, and has the line `line` this many times, and then `last` as
-/// often.
-fn repeated(
+/// Puts a text last this many times.
+fn put_times(text: &mut String, line: &str, times: u32) -> Result<(), AllocError> {
+    for _ in 0..times {
+        text.push_str(line)?;
+    }
+    Ok(())
+}
+
+/// Puts the line `line` last this many times, and then `last` as often.
+fn put_repeated(text: &mut String, line: &str, last: &str, times: u32) -> Result<(), AllocError> {
+    put_times(text, line, times)?;
+    put_times(text, last, times)
+}
+
+/// Why the script is refused that begins with `first`, and has the line `line` this many times, and
+/// then `last` as often.
+fn fault_of_repeated(
     alloc: Global,
     first: &str,
     line: &str,
     last: &str,
     times: u32,
-) -> Result<String, Fail> {
+) -> Result<Option<ScriptFault>, AllocError> {
     let mut text = String::from_str(alloc, first)?;
-    for _ in 0..times {
-        text.push_str(line)?;
-    }
-    for _ in 0..times {
-        text.push_str(last)?;
-    }
-    Ok(text)
+    put_repeated(&mut text, line, last, times)?;
+    Ok(fault_of(alloc, text.as_str()))
+}
+
+/// Why a script is refused that has one more of something than there may be, at this line.
+fn too_many(line: u32) -> Option<ScriptFault> {
+    Some(ScriptFault {
+        line,
+        cause: Cause::Limit,
+    })
 }
 
 /// This many are accepted, and with one more a line is refused.
@@ -39,14 +56,10 @@ fn at_most(
 ) -> Result<(), Fail>
     requires { most < 100000 }
 {
-    let script = repeated(alloc, first, line, last, most)?;
-    assert_eq!(rt; fault_of(alloc, script.as_str()), None, "{first}");
-    let script = repeated(alloc, first, line, last, most + 1)?;
-    let fault = ScriptFault {
-        line: refused,
-        cause: Cause::Limit,
-    };
-    assert_eq!(rt; fault_of(alloc, script.as_str()), Some(fault), "{first}");
+    let fault = fault_of_repeated(alloc, first, line, last, most)?;
+    assert!(rt; fault.is_none(), "{first}");
+    let fault = fault_of_repeated(alloc, first, line, last, most + 1)?;
+    assert!(rt; fault == too_many(refused), "{first}");
     Ok(())
 }
 
@@ -81,6 +94,21 @@ fn acts(rt: HostRuntime) -> Result<(), Fail> {
     at_most(&rt, rt.alloc(), TASK, "call a\nret\n", "", 10000, 20006)
 }
 
+/// Puts this many lines last, which differ by a number, from 1, between two texts.
+fn put_all_numbered(
+    text: &mut String,
+    before: &str,
+    after: &str,
+    count: u32,
+) -> Result<(), AllocError>
+    requires { count < 100000 }
+{
+    for number in 1..=count {
+        writeln!(text, "{before}{number}{after}")?;
+    }
+    Ok(())
+}
+
 /// A script that begins with `first`, and has this many lines that differ by a number, which stands
 /// between two texts.
 pub fn numbered(
@@ -89,15 +117,26 @@ pub fn numbered(
     before: &str,
     after: &str,
     count: u32,
-) -> Result<String, Fail>
+) -> Result<String, AllocError>
     requires { count < 100000 }
 {
     let mut text = String::from_str(alloc, first)?;
-    for n in 1..=count {
-        let line = format!(in alloc; "{before}{n}{after}\n")?;
-        text.push_str(line.as_str())?;
-    }
+    put_all_numbered(&mut text, before, after, count)?;
     Ok(text)
+}
+
+/// Why such a script is refused.
+fn fault_of_numbered(
+    alloc: Global,
+    first: &str,
+    before: &str,
+    after: &str,
+    count: u32,
+) -> Result<Option<ScriptFault>, AllocError>
+    requires { count < 100000 }
+{
+    let text = numbered(alloc, first, before, after, count)?;
+    Ok(fault_of(alloc, text.as_str()))
 }
 
 /// This many such lines are accepted, and one more is refused.
@@ -112,14 +151,10 @@ fn numbered_at_most(
 ) -> Result<(), Fail>
     requires { most < 10000 }
 {
-    let script = numbered(alloc, first, before, after, most)?;
-    assert_eq!(rt; fault_of(alloc, script.as_str()), None, "{before}");
-    let script = numbered(alloc, first, before, after, most + 1)?;
-    let fault = ScriptFault {
-        line: refused,
-        cause: Cause::Limit,
-    };
-    assert_eq!(rt; fault_of(alloc, script.as_str()), Some(fault), "{before}");
+    let fault = fault_of_numbered(alloc, first, before, after, most)?;
+    assert!(rt; fault.is_none(), "{before}");
+    let fault = fault_of_numbered(alloc, first, before, after, most + 1)?;
+    assert!(rt; fault == too_many(refused), "{before}");
     Ok(())
 }
 
@@ -143,16 +178,25 @@ fn tasks(rt: HostRuntime) -> Result<(), Fail> {
 /// more than 4000000.
 #[test]
 fn items_of_calls(rt: HostRuntime) -> Result<(), Fail> {
-    let alloc = rt.alloc();
-    let mut first = numbered(
-        alloc,
-        "ftrace 1\nfunc a\n",
-        "user u",
-        " function call a",
-        16,
+    let first = with_16_users(rt.alloc())?;
+    at_most(
+        &rt,
+        rt.alloc(),
+        first.as_str(),
+        "call a\nret\n",
+        "",
+        610,
+        1241,
     )?;
-    first.push_str("cpu 0 quantum 5\ntask 10 cpu 0\n")?;
-    at_most(&rt, alloc, first.as_str(), "call a\nret\n", "", 610, 1241)
+    Ok(())
+}
+
+/// A script of a task and 16 users that call a function.
+fn with_16_users(alloc: Global) -> Result<String, AllocError> {
+    let mut text = String::from_str(alloc, "ftrace 1\nfunc a\n")?;
+    put_all_numbered(&mut text, "user u", " function call a", 16)?;
+    text.push_str("cpu 0 quantum 5\ntask 10 cpu 0\n")?;
+    Ok(text)
 }
 
 /// Only an act looks for the next act of its task. If each line below the open call did, it would take
@@ -160,11 +204,14 @@ fn items_of_calls(rt: HostRuntime) -> Result<(), Fail> {
 #[test]
 fn comments_below_an_open_call(rt: HostRuntime) -> Result<(), Fail> {
     let mut script = String::from_str(rt.alloc(), TASK)?;
-    script.push_str("call a\n")?;
-    for _ in 0..200_000 {
-        script.push_str("#\n")?;
-    }
-    script.push_str("ret\n")?;
-    assert_eq!(rt; fault_of(rt.alloc(), script.as_str()), None);
+    put_open_call(&mut script)?;
+    assert!(rt; fault_of(rt.alloc(), script.as_str()).is_none());
     Ok(())
+}
+
+/// Puts a call last, with 200,000 comments before its end.
+fn put_open_call(text: &mut String) -> Result<(), AllocError> {
+    text.push_str("call a\n")?;
+    put_times(text, "#\n", 200_000)?;
+    text.push_str("ret\n")
 }

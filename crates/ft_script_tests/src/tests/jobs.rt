@@ -5,7 +5,8 @@ use ft_base::{Act, Ctx, FuncNo, Kind, TaskAct, TaskNo, Turn, UserNo, Who};
 use ft_machine::{Command, Ctl, Job};
 use ft_script::read_script;
 use site_set::Edit;
-use std::alloc::Global;
+use std::alloc::{AllocError, Global};
+use std::process::Abort;
 use std::test::Fail;
 
 fn job_of(alloc: Global, script: &str) -> Result<Job, Fail> {
@@ -18,77 +19,109 @@ fn job_of(alloc: Global, script: &str) -> Result<Job, Fail> {
 const PLAIN: &str =
     "ftrace 1\nfunc a\nfunc b m\nuser t function\ncpu 0 quantum 5\ncpu 1 quantum 6\ntask 20 cpu 1\ncall b\nret\ntask 10 cpu 0\nafter 1\nctl register t\nctl until 10 1\nctl unregister t\nsched k 1*3\nsched all\n";
 
-#[test]
-fn reads_a_job(rt: HostRuntime) -> Result<(), Fail> {
-    let job = job_of(rt.alloc(), PLAIN)?;
-    assert_eq!(rt; job.table().len(), 2);
-    assert_eq!(rt; job.table().find("b"), Some(FuncNo(1)));
-    assert_eq!(rt; job.specs().len(), 1);
-    assert_eq!(rt; job.cpus().len(), 2);
-    assert_eq!(rt; (job.frames(), job.tramps()), (50, 16));
-    let pids = [TaskNo(0), TaskNo(1), TaskNo(2)].map(|task| job.pid(task));
-    assert_eq!(rt; pids, [Some(20), Some(10), None]);
+/// Whether there are as many of each thing as the script declares.
+fn are_declared_counts(job: &Job) -> bool {
+    job.table().len() == 2
+        && job.table().find("b") == Some(FuncNo(1))
+        && job.specs().len() == 1
+        && job.cpus().len() == 2
+        && job.frames() == 50
+        && job.tramps() == 16
+}
+
+/// Whether the tasks have the pids of the script.
+fn are_declared_pids(job: &Job) -> bool {
+    job.pid(TaskNo(0)) == Some(20) && job.pid(TaskNo(1)) == Some(10) && job.pid(TaskNo(2)).is_none()
+}
+
+/// Whether the lines of control are the three of the script.
+fn are_plain_lines(job: &Job) -> bool {
     let [first, second, third] = job.ctls() else {
-        return Err("three lines".into());
+        return false;
     };
-    assert!(rt; matches!(first, Ctl::Run(Command::Register(UserNo(0)))));
-    assert!(rt;
-        matches!(
-            second,
-            Ctl::Until {
-                task: TaskNo(1),
-                acts: 1
-            }
-        )
+    let until = matches!(
+        second,
+        Ctl::Until {
+            task: TaskNo(1),
+            acts: 1
+        }
     );
-    assert!(rt; matches!(third, Ctl::Run(Command::Unregister(UserNo(0)))));
+    until
+        && matches!(first, Ctl::Run(Command::Register(UserNo(0))))
+        && matches!(third, Ctl::Run(Command::Unregister(UserNo(0))))
+}
+
+/// Whether the last turn is one of all actors.
+fn is_last_turn_of_all(job: &Job) -> bool {
     let last = Turn {
         who: Who::All,
         count: 1,
     };
-    assert_eq!(rt; job.schedule().turns.last(), Some(&last));
+    job.schedule().turns.last() == Some(&last)
+}
+
+/// The parts of the job of that script.
+fn check_plain(rt: &impl Abort, job: &Job) {
+    assert!(rt; are_declared_counts(job));
+    assert!(rt; are_declared_pids(job));
+    assert!(rt; are_plain_lines(job));
+    assert!(rt; is_last_turn_of_all(job));
+}
+
+#[test]
+fn reads_a_job(rt: HostRuntime) -> Result<(), Fail> {
+    check_plain(&rt, &job_of(rt.alloc(), PLAIN)?);
     Ok(())
 }
 
 const DECLARED: &str =
     "ftrace 1\nfunc a\nfunc b\nfunc c\ntramps 2\ndepth 3\nuser t function regs ipmodify b\nuser g graph pid call c\nuser p fprobe exit irq a\ncpu 0 quantum 5\ntask 10 cpu 0\nsoftirq\ncall c\nret\niret\ntask 11 cpu 0\nirq\niret\n";
 
-#[test]
-fn reads_users_and_tasks(rt: HostRuntime) -> Result<(), Fail> {
-    let job = job_of(rt.alloc(), DECLARED)?;
-    assert_eq!(rt; (job.frames(), job.tramps()), (3, 2));
+/// Whether the users are the three of the script.
+fn are_declared_users(job: &Job) -> bool {
     let [t, g, p] = job.specs() else {
-        return Err("three users".into());
+        return false;
     };
-    assert_eq!(rt; (t.kind, t.regs, t.pid), (Kind::Function, true, false));
-    assert_eq!(rt; (t.ipmodify, t.act), (Some(FuncNo(1)), None));
-    assert_eq!(rt; (g.kind, g.regs, g.pid), (Kind::Graph, false, true));
-    assert_eq!(rt; (g.ipmodify, g.act), (None, Some(Act::CallIn(FuncNo(2)))));
-    assert_eq!(rt;
-        (p.name.as_str(), p.act),
-        ("p", Some(Act::IrqIn(FuncNo(0))))
-    );
+    let first = t.kind == Kind::Function && t.regs && !t.pid;
+    let first = first && t.ipmodify == Some(FuncNo(1)) && t.act.is_none();
+    let second = g.kind == Kind::Graph && !g.regs && g.pid;
+    let second = second && g.ipmodify.is_none() && g.act == Some(Act::CallIn(FuncNo(2)));
+    first && second && p.name.as_str() == "p" && p.act == Some(Act::IrqIn(FuncNo(0)))
+}
+
+static FIRST_ACTS: [TaskAct; 4] = [
+    TaskAct::Raise(Ctx::Softirq),
+    TaskAct::Call(FuncNo(2)),
+    TaskAct::Ret,
+    TaskAct::Lower,
+];
+
+static SECOND_ACTS: [TaskAct; 2] = [TaskAct::Raise(Ctx::Irq), TaskAct::Lower];
+
+/// Whether the tasks are the two of the script, of one CPU, with their acts.
+fn are_declared_tasks(job: &Job) -> bool {
     let [cpu] = job.cpus() else {
-        return Err("one CPU".into());
+        return false;
     };
     let [first, second] = cpu.tasks.as_slice() else {
-        return Err("two tasks".into());
+        return false;
     };
-    let acts = [
-        TaskAct::Raise(Ctx::Softirq),
-        TaskAct::Call(FuncNo(2)),
-        TaskAct::Ret,
-        TaskAct::Lower,
-    ];
-    assert_eq!(rt;
-        (first.task, first.acts.as_slice()),
-        (TaskNo(0), acts.as_slice())
-    );
-    let acts = [TaskAct::Raise(Ctx::Irq), TaskAct::Lower];
-    assert_eq!(rt;
-        (second.task, second.acts.as_slice()),
-        (TaskNo(1), acts.as_slice())
-    );
+    first.task == TaskNo(0)
+        && first.acts.as_slice() == FIRST_ACTS.as_slice()
+        && second.task == TaskNo(1)
+        && second.acts.as_slice() == SECOND_ACTS.as_slice()
+}
+
+/// The parts of the job of that script.
+fn check_declared(rt: &impl Abort, job: &Job) {
+    assert!(rt; job.frames() == 3 && job.tramps() == 2);
+    assert!(rt; are_declared_users(job));
+    assert!(rt; are_declared_tasks(job));
+}
+
+#[test]
+fn reads_users_and_tasks(rt: HostRuntime) -> Result<(), Fail> {
+    check_declared(&rt, &job_of(rt.alloc(), DECLARED)?);
     Ok(())
 }
 
@@ -104,49 +137,82 @@ fn selects(edit: &Edit, marks: [bool; 3]) -> bool {
         && set.contains(2) == marks[2]
 }
 
+/// Whether a line replaces the filter of user 1 by the functions that `a*` matches.
+fn is_filter_of_p(line: &Ctl) -> bool {
+    let Ctl::Run(Command::Filter(UserNo(1), edit)) = line else {
+        return false;
+    };
+    !edit.append && !edit.remove && !edit.clear && selects(edit, [true, true, false])
+}
+
+/// Whether a line takes the third function out of the notrace set of user 0.
+fn is_notrace_of_t(line: &Ctl) -> bool {
+    let Ctl::Run(Command::Notrace(UserNo(0), edit)) = line else {
+        return false;
+    };
+    edit.append && edit.remove && !edit.clear && selects(edit, [false, false, true])
+}
+
+/// Whether a line clears the filter of user 0.
+fn is_clearing_of_t(line: &Ctl) -> bool {
+    let Ctl::Run(Command::Filter(UserNo(0), edit)) = line else {
+        return false;
+    };
+    !edit.append && !edit.remove && edit.clear && selects(edit, [false, false, false])
+}
+
+/// Whether these lines are the six that write no set.
+fn are_other_commands(lines: &[Ctl]) -> bool {
+    let [pid, nopid, none, enable, disable, depth] = lines else {
+        return false;
+    };
+    matches!(pid, Ctl::Run(Command::Pid(0b101)))
+        && matches!(nopid, Ctl::Run(Command::NoPid(0b010)))
+        && matches!(none, Ctl::Run(Command::Pid(0)))
+        && matches!(enable, Ctl::Run(Command::Enable(UserNo(1))))
+        && matches!(disable, Ctl::Run(Command::Disable(UserNo(1))))
+        && matches!(depth, Ctl::Run(Command::MaxDepth(7)))
+}
+
+/// Whether these lines of control are those of the script.
+fn are_commands(lines: &[Ctl]) -> bool {
+    let [first, second, third, others @ ..] = lines else {
+        return false;
+    };
+    is_filter_of_p(first)
+        && is_notrace_of_t(second)
+        && is_clearing_of_t(third)
+        && are_other_commands(others)
+}
+
 #[test]
 fn reads_commands(rt: HostRuntime) -> Result<(), Fail> {
     let job = job_of(rt.alloc(), COMMANDS)?;
-    let [first, second, third, others @ ..] = job.ctls() else {
-        return Err("more lines".into());
-    };
-    let Ctl::Run(Command::Filter(UserNo(1), edit)) = first else {
-        return Err("a filter of p".into());
-    };
-    assert!(rt; !edit.append && !edit.remove && !edit.clear && selects(edit, [true, true, false]));
-    let Ctl::Run(Command::Notrace(UserNo(0), edit)) = second else {
-        return Err("a notrace set of t".into());
-    };
-    assert!(rt; edit.append && edit.remove && !edit.clear && selects(edit, [false, false, true]));
-    let Ctl::Run(Command::Filter(UserNo(0), edit)) = third else {
-        return Err("a filter of t".into());
-    };
-    assert!(rt; !edit.append && !edit.remove && edit.clear && selects(edit, [false, false, false]));
-    let [pid, nopid, none, enable, disable, depth] = others else {
-        return Err("six lines".into());
-    };
-    assert!(rt; matches!(pid, Ctl::Run(Command::Pid(0b101))));
-    assert!(rt; matches!(nopid, Ctl::Run(Command::NoPid(0b010))));
-    assert!(rt; matches!(none, Ctl::Run(Command::Pid(0))));
-    assert!(rt; matches!(enable, Ctl::Run(Command::Enable(UserNo(1)))));
-    assert!(rt; matches!(disable, Ctl::Run(Command::Disable(UserNo(1)))));
-    assert!(rt; matches!(depth, Ctl::Run(Command::MaxDepth(7))));
+    assert!(rt; are_commands(job.ctls()));
     Ok(())
+}
+
+/// A script of as many tasks as there may be, with a list of the last and the first.
+fn most_tasks(alloc: Global) -> Result<String, AllocError> {
+    let mut script = numbered(alloc, "ftrace 1\ncpu 0 quantum 5\n", "task ", " cpu 0", 64)?;
+    script.push_str("ctl nopid 64 1\n")?;
+    Ok(script)
+}
+
+/// Whether the last task is there, and both are in the list.
+fn are_first_and_last(job: &Job) -> bool {
+    let listed = matches!(
+        job.ctls(),
+        [Ctl::Run(Command::NoPid(0x8000_0000_0000_0001))]
+    );
+    listed && job.pid(TaskNo(63)) == Some(64)
 }
 
 /// The mask has a bit for each of the most tasks.
 #[test]
 fn reads_the_last_task(rt: HostRuntime) -> Result<(), Fail> {
-    let alloc = rt.alloc();
-    let mut script = numbered(alloc, "ftrace 1\ncpu 0 quantum 5\n", "task ", " cpu 0", 64)?;
-    script.push_str("ctl nopid 64 1\n")?;
-    let job = job_of(alloc, script.as_str())?;
-    assert_eq!(rt; job.pid(TaskNo(63)), Some(64));
-    assert!(rt;
-        matches!(
-            job.ctls(),
-            [Ctl::Run(Command::NoPid(0x8000_0000_0000_0001))]
-        )
-    );
+    let script = most_tasks(rt.alloc())?;
+    let job = job_of(rt.alloc(), script.as_str())?;
+    assert!(rt; are_first_and_last(&job));
     Ok(())
 }
