@@ -69,6 +69,11 @@ fn is_nothing(plan: &Plan) -> bool {
         && !plan.quiet
 }
 
+/// Whether this was the answer, and nothing is stored where it is a refusal.
+fn is_answered(answer: Answer, wanted: Answer, plan: &Plan) -> bool {
+    answer == wanted && (answer == ACCEPTED || is_nothing(plan))
+}
+
 /// Commands with their answers. A refused one stores nothing.
 fn answers(
     rt: &impl Abort,
@@ -77,10 +82,8 @@ fn answers(
     rows: &[(Line, Answer)],
 ) -> Result<(), Fail> {
     for (n, (line, answer)) in rows.iter().enumerate() {
-        assert_eq!(rt; bench.ask(rt, alloc, *line)?, *answer, "command {n}");
-        if *answer != ACCEPTED {
-            assert!(rt; is_nothing(bench.last()), "command {n}");
-        }
+        let given = bench.ask(rt, alloc, *line)?;
+        assert!(rt; is_answered(given, *answer, bench.last()), "command {n}");
     }
     Ok(())
 }
@@ -93,10 +96,18 @@ fn matches(
     rows: &[(Line, Answer, u64)],
 ) -> Result<(), Fail> {
     for (n, (line, answer, bits)) in rows.iter().enumerate() {
-        assert_eq!(rt; bench.ask(rt, alloc, *line)?, *answer, "command {n}");
-        assert_eq!(rt; bench.matched(rt, 0), *bits, "command {n}");
+        let given = bench.ask(rt, alloc, *line)?;
+        assert!(rt;
+            given == *answer && bench.matched(rt, 0) == *bits,
+            "command {n}"
+        );
     }
     Ok(())
+}
+
+/// Whether the sites of three functions should have these.
+fn should_have(rt: &impl Abort, bench: &Bench, first: Insn, second: Insn, third: Insn) -> bool {
+    bench.target(rt, 0) == first && bench.target(rt, 1) == second && bench.target(rt, 2) == third
 }
 
 /// Commands that are accepted, and what the sites of three functions should have then.
@@ -107,10 +118,11 @@ fn sites(
     rows: &[(Line, Insn, Insn, Insn)],
 ) -> Result<(), Fail> {
     for (n, (line, first, second, third)) in rows.iter().enumerate() {
-        assert_eq!(rt; bench.ask(rt, alloc, *line)?, ACCEPTED, "command {n}");
-        assert_eq!(rt; bench.target(rt, 0), *first, "command {n}");
-        assert_eq!(rt; bench.target(rt, 1), *second, "command {n}");
-        assert_eq!(rt; bench.target(rt, 2), *third, "command {n}");
+        assert!(rt; bench.ask(rt, alloc, *line)? == ACCEPTED, "command {n}");
+        assert!(rt;
+            should_have(rt, bench, *first, *second, *third),
+            "command {n}"
+        );
     }
     Ok(())
 }
@@ -134,10 +146,15 @@ fn two_users_that_replace_functions(rt: HostRuntime) -> Result<(), Fail> {
     let alloc = rt.alloc();
     let mut bench = Bench::new(&rt, alloc, &[MODIFIER, MODIFIER], 3, 16)?;
     answers(&rt, alloc, &mut bench, &TWO_MODIFIERS)?;
-    let row = bench.row(&rt, 2);
-    assert!(rt; row.count == 1 && row.regs == 1 && row.ipmodify == 1);
-    assert!(rt; bench.matched(&rt, 0) == 0b001 && bench.commands() == 11);
+    check_modifiers(&rt, &bench);
     Ok(())
+}
+
+/// What is there after those commands.
+fn check_modifiers(rt: &impl Abort, bench: &Bench) {
+    let row = bench.row(rt, 2);
+    assert!(rt; row.count == 1 && row.regs == 1 && row.ipmodify == 1);
+    assert!(rt; bench.matched(rt, 0) == 0b001 && bench.commands() == 11);
 }
 
 // User 0 lacks the registers. An edit that selects nothing is no match, and one that would leave the
@@ -197,7 +214,8 @@ static MATCHES: [(Line, Answer, u64); 13] = [
 fn notrace_wins(rt: HostRuntime) -> Result<(), Fail> {
     let alloc = rt.alloc();
     let mut bench = Bench::new(&rt, alloc, &[PLAIN], 3, 16)?;
-    matches(&rt, alloc, &mut bench, &MATCHES)
+    matches(&rt, alloc, &mut bench, &MATCHES)?;
+    Ok(())
 }
 
 static SWITCHES: [(Line, Answer); 19] = [
@@ -227,7 +245,8 @@ fn switches_are_for_fprobes(rt: HostRuntime) -> Result<(), Fail> {
     let alloc = rt.alloc();
     let users = [PLAIN, PROBE, GRAPH, PROFILE];
     let mut bench = Bench::new(&rt, alloc, &users, 3, 16)?;
-    answers(&rt, alloc, &mut bench, &SWITCHES)
+    answers(&rt, alloc, &mut bench, &SWITCHES)?;
+    Ok(())
 }
 
 const NOP: Insn = Insn::Nop;
@@ -280,5 +299,6 @@ static SLOTS: [(Line, Insn, Insn, Insn); 17] = [
 fn slots_and_lists(rt: HostRuntime) -> Result<(), Fail> {
     let alloc = rt.alloc();
     let mut bench = Bench::new(&rt, alloc, &[PLAIN, PLAIN, PLAIN], 3, 2)?;
-    sites(&rt, alloc, &mut bench, &SLOTS)
+    sites(&rt, alloc, &mut bench, &SLOTS)?;
+    Ok(())
 }

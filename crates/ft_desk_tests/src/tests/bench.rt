@@ -10,7 +10,7 @@ use ft_desk::{Command, Desk, Plan, Shape};
 use site_bytes::Insn;
 use site_counts::Row;
 use site_set::{Edit, SiteSet};
-use std::alloc::Global;
+use std::alloc::{AllocError, Global};
 use std::marker::Model;
 use std::process::Abort;
 use std::test::Fail;
@@ -81,9 +81,20 @@ impl Bench {
         funcs: u32,
         tramps: u8,
     ) -> Result<Bench, Fail> {
-        let specs = specs_of(alloc, users)?;
-        assert!(rt; specs.len() <= USERS as usize);
-        assert!(rt; funcs <= FUNCS && u32::from(tramps) <= TRAMPS);
+        let mut specs = Vec::new(alloc);
+        put_specs(alloc, &mut specs, users)?;
+        Bench::of(rt, alloc, specs.as_slice(), funcs, tramps)
+    }
+
+    /// A desk of users with these declarations and so many functions and trampoline slots.
+    fn of(
+        rt: &impl Abort,
+        alloc: Global,
+        specs: &[Spec],
+        funcs: u32,
+        tramps: u8,
+    ) -> Result<Bench, Fail> {
+        assert!(rt; specs.len() <= USERS as usize && funcs <= FUNCS && u32::from(tramps) <= TRAMPS);
         let users = specs.len() as u32;
         let shape = Shape {
             funcs,
@@ -92,38 +103,61 @@ impl Bench {
             tasks: TASKS,
             tramps,
         };
-        Ok(Bench {
-            desk: Desk::new(alloc, specs.as_slice(), shape)?,
-            users,
-            funcs,
-        })
+        let desk = Desk::new(alloc, specs, shape)?;
+        Ok(Bench { desk, users, funcs })
     }
 
     /// The answer to a command.
     pub fn ask(&mut self, rt: &impl Abort, alloc: Global, line: Line) -> Result<Answer, Fail> {
-        let command = self.command(rt, alloc, line)?;
         assert!(rt; self.desk.commands() < COMMANDS);
+        let command = self.command(rt, alloc, line)?;
         Ok(self.desk.plan(&command))
     }
 
     fn command(&self, rt: &impl Abort, alloc: Global, line: Line) -> Result<Command, Fail>
         ensures { IfOk result (λ command. IsInShape self.now.declared command) }
     {
-        Ok(match line {
-            Line::Register(u) => Command::Register(self.user(rt, u)),
-            Line::Unregister(u) => Command::Unregister(self.user(rt, u)),
-            Line::Filter(u, mark, bits) => {
-                Command::Filter(self.user(rt, u), self.edit(rt, alloc, mark, bits)?)
-            }
-            Line::Notrace(u, mark, bits) => {
-                Command::Notrace(self.user(rt, u), self.edit(rt, alloc, mark, bits)?)
-            }
-            Line::Enable(u) => Command::Enable(self.user(rt, u)),
-            Line::Disable(u) => Command::Disable(self.user(rt, u)),
-            Line::Pid(mask) => Command::Pid(mask),
-            Line::NoPid(mask) => Command::NoPid(mask),
-            Line::MaxDepth(depth) => Command::MaxDepth(depth),
-        })
+        match line {
+            Line::Register(u) => Ok(Command::Register(self.user(rt, u))),
+            Line::Unregister(u) => Ok(Command::Unregister(self.user(rt, u))),
+            Line::Filter(u, mark, bits) => self.filter(rt, alloc, u, mark, bits),
+            Line::Notrace(u, mark, bits) => self.notrace(rt, alloc, u, mark, bits),
+            Line::Enable(u) => Ok(Command::Enable(self.user(rt, u))),
+            Line::Disable(u) => Ok(Command::Disable(self.user(rt, u))),
+            Line::Pid(mask) => Ok(Command::Pid(mask)),
+            Line::NoPid(mask) => Ok(Command::NoPid(mask)),
+            Line::MaxDepth(depth) => Ok(Command::MaxDepth(depth)),
+        }
+    }
+
+    /// An edit of the filter of a user.
+    fn filter(
+        &self,
+        rt: &impl Abort,
+        alloc: Global,
+        u: u32,
+        mark: Mark,
+        bits: u64,
+    ) -> Result<Command, Fail>
+        ensures { IfOk result (λ command. IsInShape self.now.declared command) }
+    {
+        let edit = self.edit(rt, alloc, mark, bits)?;
+        Ok(Command::Filter(self.user(rt, u), edit))
+    }
+
+    /// An edit of the notrace set of a user.
+    fn notrace(
+        &self,
+        rt: &impl Abort,
+        alloc: Global,
+        u: u32,
+        mark: Mark,
+        bits: u64,
+    ) -> Result<Command, Fail>
+        ensures { IfOk result (λ command. IsInShape self.now.declared command) }
+    {
+        let edit = self.edit(rt, alloc, mark, bits)?;
+        Ok(Command::Notrace(self.user(rt, u), edit))
     }
 
     fn user(&self, rt: &impl Abort, user: u32) -> UserNo
@@ -144,11 +178,12 @@ impl Bench {
         ensures { IfOk result (λ edit. length edit.set ≡ self.now.declared.funcs) }
     {
         let (append, remove, clear) = mark;
+        let set = set_of(rt, alloc, self.funcs, bits)?;
         Ok(Edit {
             append,
             remove,
             clear,
-            set: set_of(rt, alloc, self.funcs, bits)?,
+            set,
         })
     }
 
@@ -181,20 +216,27 @@ impl Bench {
     }
 }
 
-/// The declarations of these users.
-fn specs_of(alloc: Global, users: &[User]) -> Result<Vec<Spec>, Fail> {
-    let mut specs = Vec::new(alloc);
-    for (kind, regs, ipmodify) in users.iter() {
-        specs.push(Spec {
-            name: String::from_str(alloc, "user")?,
-            kind: *kind,
-            regs: *regs,
-            ipmodify: *ipmodify,
-            pid: false,
-            act: None,
-        })?;
+/// The declaration of a user.
+fn spec_of(alloc: Global, user: &User) -> Result<Spec, AllocError> {
+    let name = String::from_str(alloc, "user")?;
+    let (kind, regs, ipmodify) = *user;
+    Ok(Spec {
+        name,
+        kind,
+        regs,
+        ipmodify,
+        pid: false,
+        act: None,
+    })
+}
+
+/// Puts the declarations of these users last.
+fn put_specs(alloc: Global, specs: &mut Vec<Spec>, users: &[User]) -> Result<(), AllocError> {
+    for user in users.iter() {
+        let spec = spec_of(alloc, user)?;
+        specs.push(spec)?;
     }
-    Ok(specs)
+    Ok(())
 }
 
 /// The set of the functions below a size whose bits are set.

@@ -10,11 +10,12 @@ use std::test::Fail;
 
 /// An edit of the filter of user 2.
 fn line(rt: &impl Abort, alloc: Global) -> Result<Ctl, Fail> {
+    let set = set_of(rt, alloc, 3, 0b101)?;
     let edit = Edit {
         append: true,
         remove: true,
         clear: false,
-        set: set_of(rt, alloc, 3, 0b101)?,
+        set,
     };
     Ok(Ctl::Run(Command::Filter(UserNo(2), edit)))
 }
