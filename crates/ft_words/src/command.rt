@@ -2,12 +2,12 @@
 
 ghost use Rattle.std.specs.Prelude.{◌≡◌, IfOk, map, false, codes};
 ghost use Rattle.std.specs.Option.{option_copied};
-ghost use Rattle.clap.specs.Words.{app_of};
+ghost use Rattle.clap.specs.Words.{app_of, first_value, found_of};
 ghost use Rattle.ft_words.specs.Command.{app, is_taken, value_in};
 
 use crate::order::WordsFault;
 use clap::error::ErrorKind;
-use clap::{Arg, Command};
+use clap::{Arg, ArgMatches, Command};
 use std::alloc::{AllocError, Global};
 
 /// The command line, as the parser is told it.
@@ -36,6 +36,19 @@ pub struct Found<'a> {
     pub seed: Option<&'a str>,
 }
 
+/// What the parser's matches have.
+fn found_in<'a>(matches: &ArgMatches<'a>) -> Found<'a>
+    ensures mode { option_copied result.mode ≡ first_value (found_of matches.entry.now) (codes "mode") }
+    ensures print { option_copied result.print ≡ first_value (found_of matches.entry.now) (codes "print") }
+    ensures seed { option_copied result.seed ≡ first_value (found_of matches.entry.now) (codes "seed") }
+{
+    Found {
+        mode: matches.get_str("mode"),
+        print: matches.get_str("print"),
+        seed: matches.get_str("seed"),
+    }
+}
+
 /// What the parser finds in the words. `Language` comes only for words that it doesn't take.
 pub fn find<'a>(command: Command<'a>, words: &'a [&'a str]) -> Result<Found<'a>, WordsFault>
     requires { app_of command ≡ app }
@@ -49,11 +62,7 @@ pub fn find<'a>(command: Command<'a>, words: &'a [&'a str]) -> Result<Found<'a>,
         → is_taken (map (λ w. w.now) words.entry.now) ≡ false }
 {
     match command.try_get_matches_from(words) {
-        Ok(matches) => Ok(Found {
-            mode: matches.get_str("mode"),
-            print: matches.get_str("print"),
-            seed: matches.get_str("seed"),
-        }),
+        Ok(matches) => Ok(found_in(&matches)),
         Err(error) => match error.kind() {
             ErrorKind::OutOfMemory => Err(WordsFault::NoMemory),
             _ => Err(WordsFault::Language),

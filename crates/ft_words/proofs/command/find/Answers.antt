@@ -12,13 +12,13 @@ unfolding value_in
 read a words m id e h = first_value-rows (found_of m) id ∙ ap (first_of id) ((h (ap is_simple e ∙ simple)).0 ∙ ap (λ b. matches_of b words) e)
 
 pub returns-in-Ok-clause-mode : goal.returns-in-Ok-clause-mode
-returns-in-Ok-clause-mode c = c.get_str.ensures ∙ read (app_of c.args.command) (map (λ w. w.now) c.args.words.now) c.in-Ok.matches (codes "mode") c.requires c.in-Ok.ensures.matches
+returns-in-Ok-clause-mode c = c.found_in.ensures.mode ∙ read (app_of c.args.command) (map (λ w. w.now) c.args.words.now) c.in-Ok.matches (codes "mode") c.requires c.in-Ok.ensures.matches
 
 pub returns-in-Ok-clause-print : goal.returns-in-Ok-clause-print
-returns-in-Ok-clause-print c = c.get_str-in-Ok.ensures ∙ read (app_of c.args.command) (map (λ w. w.now) c.args.words.now) c.in-Ok.matches (codes "print") c.requires c.in-Ok.ensures.matches
+returns-in-Ok-clause-print c = c.found_in.ensures.print ∙ read (app_of c.args.command) (map (λ w. w.now) c.args.words.now) c.in-Ok.matches (codes "print") c.requires c.in-Ok.ensures.matches
 
 pub returns-in-Ok-clause-seed : goal.returns-in-Ok-clause-seed
-returns-in-Ok-clause-seed c = c.get_str-in-Ok-2.ensures ∙ read (app_of c.args.command) (map (λ w. w.now) c.args.words.now) c.in-Ok.matches (codes "seed") c.requires c.in-Ok.ensures.matches
+returns-in-Ok-clause-seed c = c.found_in.ensures.seed ∙ read (app_of c.args.command) (map (λ w. w.now) c.args.words.now) c.in-Ok.matches (codes "seed") c.requires c.in-Ok.ensures.matches
 
 taken_by : (a : App) (words : List Text) → a ≡ app → is_taken words ≡ true → takes a words ≡ true
 unfolding is_taken
