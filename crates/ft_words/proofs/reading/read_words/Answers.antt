@@ -1,4 +1,4 @@
-use Rattle.std.proofs.Common.{◌≡◌, ap, sym, ◌∙◌, Err}
+use Rattle.std.proofs.Common.{rules, ◌≡◌, ap, sym, ◌∙◌, Err}
 use Rattle.std.specs.Option.{option_copied}
 use Rattle.std.proofs.lemmas.Result.{err_from_is_err_and}
 use Rattle.ft_words.specs.declared.order.WordsFault.{WordsFault}
@@ -43,3 +43,9 @@ pub returns-in_default-mode-clause-language : goal.returns-in_default-mode-claus
 returns-in_default-mode-clause-language c = λ _.
     none-other_mode _ c.in-Some.mode.now (sym (ap option_copied c.in-Some.is) ∙ c.in_ok-found.ensures.mode)
     c.in_default-mode.not-replay c.in_default-mode.not-run c.in_default-mode.not-bulk
+
+pub returns-in_err-command-clause-language : goal.returns-in_err-command-clause-language
+returns-in_err-command-clause-language c = search rules
+
+pub returns-in_ok-read_form-in-run-clause-gives : goal.returns-in_ok-read_form-in-run-clause-gives
+returns-in_ok-read_form-in-run-clause-gives c = search rules
