@@ -1,6 +1,6 @@
 //! The lines of control.
 
-ghost use Rattle.std.specs.Prelude.{◌≡◌, map, option_map, IfOk};
+ghost use Rattle.std.specs.Prelude.{◌≡◌, [], ◌∷◌, map, option_map, IfOk};
 ghost use Rattle.script_form.specs.Forms.{arrow_of, write_form, pids_form, until_form, command_form, control_form, ctl_form};
 ghost use Rattle.script_form.specs.Read.{form_read};
 
@@ -21,23 +21,43 @@ fn read_arrow(word: &str) -> Option<bool>
     }
 }
 
+/// `filter` or `notrace`, and `U >`.
+fn read_clear<'a>(half: Half, user: &'a str, arrow: &str) -> Option<LineForm<'a>>
+    ensures { option_map form_read result ≡ write_form half (user.entry.now ∷ arrow.now ∷ []) }
+{
+    if arrow != ">" {
+        return None;
+    }
+    let user = name(user)?;
+    Some(LineForm::Write {
+        half,
+        append: false,
+        user,
+        text: "",
+    })
+}
+
+/// `filter` or `notrace`, and `U > TEXT` or `U >> TEXT`.
+fn read_put<'a>(half: Half, user: &'a str, arrow: &str, text: &'a str) -> Option<LineForm<'a>>
+    ensures { option_map form_read result ≡ write_form half (user.entry.now ∷ arrow.now ∷ text.entry.now ∷ []) }
+{
+    let append = read_arrow(arrow)?;
+    let user = name(user)?;
+    Some(LineForm::Write {
+        half,
+        append,
+        user,
+        text,
+    })
+}
+
 /// `filter` or `notrace`, and `U > TEXT`, `U >> TEXT` or `U >`.
 fn read_write<'a>(half: Half, args: &[&'a str]) -> Option<LineForm<'a>>
     ensures { option_map form_read result ≡ write_form half (map (λ w. w.now) args.now) }
 {
     match args {
-        [user, arrow] if *arrow == ">" => Some(LineForm::Write {
-            half,
-            append: false,
-            user: name(user)?,
-            text: "",
-        }),
-        [user, arrow, text] => Some(LineForm::Write {
-            half,
-            append: read_arrow(arrow)?,
-            user: name(user)?,
-            text,
-        }),
+        [user, arrow] => read_clear(half, user, arrow),
+        [user, arrow, text] => read_put(half, user, arrow, text),
         _ => None,
     }
 }
@@ -47,10 +67,11 @@ fn read_until<'a>(args: &[&'a str]) -> Option<LineForm<'a>>
     ensures { option_map form_read result ≡ until_form (map (λ w. w.now) args.now) }
 {
     match args {
-        [pid, acts] => Some(LineForm::Until {
-            pid: number(pid)?,
-            acts: number(acts)?,
-        }),
+        [pid, acts] => {
+            let pid = number(pid)?;
+            let acts = number(acts)?;
+            Some(LineForm::Until { pid, acts })
+        }
         _ => None,
     }
 }

@@ -22,14 +22,18 @@ pub fn read_func<'a>(args: &[&'a str]) -> Option<LineForm<'a>>
     ensures { option_map form_read result ≡ func_form (map (λ w. w.now) args.now) }
 {
     match args {
-        [function] => Some(LineForm::Func {
-            name: name(function)?,
-            owner: None,
-        }),
-        [function, owner] => Some(LineForm::Func {
-            name: name(function)?,
-            owner: Some(name(owner)?),
-        }),
+        [function] => {
+            let name = name(function)?;
+            Some(LineForm::Func { name, owner: None })
+        }
+        [function, owner] => {
+            let function = name(function)?;
+            let owner = name(owner)?;
+            Some(LineForm::Func {
+                name: function,
+                owner: Some(owner),
+            })
+        }
         _ => None,
     }
 }
@@ -39,10 +43,11 @@ pub fn read_cpu<'a>(args: &[&'a str]) -> Option<LineForm<'a>>
     ensures { option_map form_read result ≡ cpu_form (map (λ w. w.now) args.now) }
 {
     match args {
-        [cpu, word, quantum] if *word == "quantum" => Some(LineForm::NewCpu {
-            cpu: number(cpu)?,
-            quantum: number(quantum)?,
-        }),
+        [cpu, word, quantum] if *word == "quantum" => {
+            let cpu = number(cpu)?;
+            let quantum = number(quantum)?;
+            Some(LineForm::NewCpu { cpu, quantum })
+        }
         _ => None,
     }
 }
@@ -52,10 +57,11 @@ pub fn read_task<'a>(args: &[&'a str]) -> Option<LineForm<'a>>
     ensures { option_map form_read result ≡ task_form (map (λ w. w.now) args.now) }
 {
     match args {
-        [pid, word, cpu] if *word == "cpu" => Some(LineForm::NewTask {
-            pid: number(pid)?,
-            cpu: number(cpu)?,
-        }),
+        [pid, word, cpu] if *word == "cpu" => {
+            let pid = number(pid)?;
+            let cpu = number(cpu)?;
+            Some(LineForm::NewTask { pid, cpu })
+        }
         _ => None,
     }
 }

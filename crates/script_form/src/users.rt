@@ -86,13 +86,15 @@ fn read_options<'a>(name: &'a str, kind: Kind, words: &[&'a str]) -> Option<Line
     let (regs, words) = flag("regs", words);
     let (modifies, words) = argument("ipmodify", words);
     let (pid, words) = flag("pid", words);
+    let ipmodify = read_ipmodify(kind, modifies)?;
+    let act = read_last(words)?;
     Some(LineForm::User(UserLine {
         name,
         kind,
         regs,
-        ipmodify: read_ipmodify(kind, modifies)?,
+        ipmodify,
         pid,
-        act: read_last(words)?,
+        act,
     }))
 }
 
