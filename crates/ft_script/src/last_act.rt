@@ -2,6 +2,7 @@
 
 ghost use Rattle.std.specs.Prelude.{◌≡◌, IfOk, Bool, option_map, unwrap_or};
 ghost use Rattle.script_text.specs.Lines.{lines_of};
+ghost use Rattle.script_form.specs.Lines.{line_form};
 ghost use Rattle.script_form.specs.Read.{form_read};
 ghost use Rattle.ft_script.specs.Causes.{is_last, is_last_by};
 
@@ -21,6 +22,14 @@ fn decides(form: &Option<LineForm>) -> Option<bool>
     }
 }
 
+/// What a line of the script says of the act above it.
+fn line_decides(alloc: Global, line: &[u8]) -> Result<Option<bool>, AllocError>
+    ensures { IfOk result (λ said. (below : Bool) → is_last_by (line_form line.now) below ≡ unwrap_or said below) }
+{
+    let form = read_line(alloc, line)?;
+    Ok(decides(&form))
+}
+
 /// Whether no act of the same task comes below. This reads the lines down to the next act or task. It
 /// is asked of acts alone, so that each line is read at most twice.
 pub fn is_last(alloc: Global, below: &[u8]) -> Result<bool, AllocError>
@@ -29,8 +38,7 @@ pub fn is_last(alloc: Global, below: &[u8]) -> Result<bool, AllocError>
     let mut rest = below;
     while !rest.is_empty() {
         let (line, _, later) = first_line(rest);
-        let form = read_line(alloc, line)?;
-        if let Some(last) = decides(&form) {
+        if let Some(last) = line_decides(alloc, line)? {
             return Ok(last);
         }
         rest = later;

@@ -7,7 +7,7 @@ use ft_base::limits::LEVELS;
 use ft_base::{Ctx, TaskAct};
 
 /// How many calls are open in each context. A context that isn't raised has none.
-#[derive(Clone, Copy, Debug, PartialEq, Eq)]
+#[derive(Clone, Copy)]
 pub struct Levels {
     pub normal: u32,
     pub softirq: Option<u32>,
