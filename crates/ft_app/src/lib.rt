@@ -5,7 +5,8 @@
 //! a replay of its schedule or by running threads, and what the order prints of the history is
 //! written; or the line is written that says where the script is refused, and why. That text or line
 //! is the *reply* to the script. The text of a history is written in pieces, so that it is never whole
-//! in memory. All memory is had before the first byte is written.
+//! in memory. All memory is had before the first byte is written. The program makes that call with its
+//! arguments as the words.
 //!
 //! Proved, for every source, sink and gate: each status says what was read and written, and comes
 //! only for its reason; with status 0 the text is what the order prints of a history of the script's
@@ -21,6 +22,7 @@
 mod answer;
 mod plain;
 mod printed;
+mod program;
 mod reply;
 mod run;
 pub mod status;
@@ -28,4 +30,5 @@ mod top;
 
 pub use ft_words::{Form, Order, WordsFault, read_words};
 pub use plain::ft_plain;
+pub use program::run_program;
 pub use top::ft_main;

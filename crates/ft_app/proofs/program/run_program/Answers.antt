@@ -1,4 +1,4 @@
-use Rattle.ftcore.proofs.run.Goals as goal
+use Rattle.ft_app.proofs.program.run_program.Goals as goal
 
 pub returns-clause-run : goal.returns-clause-run
 returns-clause-run g c = λ done. (let w = c.ft_main.ensures.run done in (w.0, w.2))
