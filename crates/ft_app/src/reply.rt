@@ -22,7 +22,7 @@ use std::alloc::Global;
 /// Why a reply wasn't written in full. All memory has to be had before the first byte is written: what
 /// the sink has taken can't be taken back, and [`Status::NoMemory`] promises that nothing was written.
 /// So a reply that was begun ends whole, or with a failure of the sink.
-#[derive(Clone, Copy, Debug, PartialEq, Eq, Drop)]
+#[derive(Clone, Copy, Drop)]
 pub(crate) enum ReplyFail {
     /// Out of memory. Nothing was written.
     NoMemory,

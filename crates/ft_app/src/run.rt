@@ -2,6 +2,7 @@
 
 ghost use Rattle.std.specs.Prelude.{IfOk};
 ghost use Rattle.ft_hist.specs.Rules.{IsWhole};
+ghost use Rattle.live_table.specs.Seats.{AreAtEnd, AreSeats, ControlSitsAt};
 ghost use Rattle.ft_app.specs.Reply.{IsRunOf};
 
 use ft_base::NoMemory;
@@ -44,11 +45,21 @@ fn run_job<R: Threads + Wait + Sync, G: Gate>(
         control,
         cpus,
     } = Live::start(alloc, job)?;
-    let Ok(Ended { control, cpus }) = run_live(rt, alloc, &live, control, cpus, gate) else {
-        return Err(NoMemory);
-    };
-    let Ok(history) = live.gather(alloc, control, cpus) else {
-        return Err(NoMemory);
-    };
-    Ok(history)
+    match run_live(rt, alloc, &live, control, cpus, gate) {
+        Ok(ended) => gathered(alloc, live, ended),
+        Err(_) => Err(NoMemory),
+    }
+}
+
+/// The history of a table whose seats have all come to their ends.
+fn gathered(alloc: Global, live: Live, ended: Ended) -> Result<History, NoMemory>
+    requires control { ControlSitsAt live ended.control }
+    requires cpus { AreSeats live ended.cpus.items }
+    requires ended { AreAtEnd ended.control ended.cpus.items }
+    ensures { IfOk result (λ h. IsWhole live.job h.items) }
+{
+    match live.gather(alloc, ended.control, ended.cpus) {
+        Ok(history) => Ok(history),
+        Err(_) => Err(NoMemory),
+    }
 }

@@ -1,6 +1,14 @@
-use Rattle.std.proofs.Common.{ap, Err, ◌∙◌}
+use Rattle.std.proofs.Common.{ap, Err, ◌∙◌, rules}
 use Rattle.ft_app.proofs.Orders.{not-too-long, has_run, has_refused, answers}
 use Rattle.ft_app.proofs.answer.answer.Goals as goal
+
+-- ## nothing is written where reading failed or memory ran out
+
+pub returns-in-Err-Fault-clause-nothing : goal.returns-in-Err-Fault-clause-nothing
+returns-in-Err-Fault-clause-nothing g c = search rules
+
+pub returns-in-Err-NoMemory-write_reply-clause-nothing : goal.returns-in-Err-NoMemory-write_reply-clause-nothing
+returns-in-Err-NoMemory-write_reply-clause-nothing g c = search rules
 
 -- ## a source that gives too much
 

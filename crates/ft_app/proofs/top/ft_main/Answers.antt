@@ -1,4 +1,4 @@
-use Rattle.std.proofs.Common.{ap, subst, Err, ◌∙◌}
+use Rattle.std.proofs.Common.{ap, subst, Err, ◌∙◌, rules}
 use Rattle.ft_words.proofs.Found.{one_order}
 use Rattle.ft_words.specs.declared.order.Order.{Order}
 use Rattle.ft_words.specs.declared.order.Order.TheVariants.{Bulk}
@@ -15,6 +15,9 @@ returns-in-Err-Language-clause-complete g c = λ order gives _ _ _ _.
     absurd (c.read_words.ensures.language (c.in-Err-Language.is ∙ ap (λ f. Err f) c.in-Err-Language.field-0-is) order gives)
 
 -- ## the order that the words give is the one that is carried out
+
+pub answer-requires-clause-serves : goal.answer-requires-clause-serves
+answer-requires-clause-serves g c = search rules
 
 pub returns-in-Run-clause-generated : goal.returns-in-Run-clause-generated
 returns-in-Run-clause-generated g c = λ n gives.
