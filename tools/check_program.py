@@ -2,6 +2,7 @@
 """Runs the built program at its edges, where no proof reaches:
 
 - the words of the command, in the language and not: those of command_words.py;
+- scripts with what is printed for them, and refusals: those of script_texts.py;
 - each status with its cause: streams that fail, too long an input, and memory from too little to begin up to ample;
 - each limit of the language reached and passed, in at most a hundred times the time that it takes now;
 - a long history in each printed form;
@@ -30,6 +31,7 @@ import long_check  # noqa: E402
 import memory_limits  # noqa: E402
 import runs  # noqa: E402
 import script_forms as forms  # noqa: E402
+import script_texts  # noqa: E402
 import text_lines  # noqa: E402
 import viewed_scripts  # noqa: E402
 import views_of_log  # noqa: E402
@@ -563,6 +565,7 @@ def main():
         return long_check.check(options)
     rows = runs.Rows("edges", options.verbose)
     command_words.check(rows, options.program, options.top)
+    script_texts.check(rows, options.program)
     check_streams(rows, options.program)
     check_memory(rows, options.program)
     check_limits(rows, options.program)

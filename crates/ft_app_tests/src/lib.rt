@@ -1,6 +1,6 @@
-//! Tests of `ft_app` by its public calls: whole runs of the top call over a source and a sink in
-//! memory. The expected texts are those of a program that was written from the same rules by other
-//! hands.
+//! Tests of `ft_app` by the top call over a source and a sink of their own, which fail, count their
+//! calls or hold threads. What is written for a script, and the status, are asked of the built program
+//! (tools/script_texts.py and docs/LANGUAGE.md).
 #![tactic(auto)]
 
 #[cfg(test)]

@@ -2,7 +2,7 @@
 //! their calls.
 
 use ft_app::ft_main;
-use ft_io::{OpenGate, StdSink, StdSource};
+use ft_io::{Gate, OpenGate, StdSink, StdSource};
 use std::alloc::Global;
 use std::io;
 use std::io::{ErrorKind, Read, Write};
@@ -18,7 +18,7 @@ pub struct Way {
 }
 
 /// So many bytes a call, of which this call fails.
-pub fn by(piece: usize, fails: u32) -> Way {
+pub fn by((piece, fails): (usize, u32)) -> Way {
     Way { piece, fails }
 }
 
@@ -99,9 +99,18 @@ pub struct Ended<'a> {
     pub writer: Writer,
 }
 
-/// Calls the top call with these words; the script is read and the text is written in these ways.
-pub fn call_between<'a, R: AllocGlobal + Threads + Wait + Sync>(
+impl Ended<'_> {
+    /// Whether this is its status, and the writer holds these bytes.
+    pub fn is(&self, status: u8, held: &[u8]) -> bool {
+        self.status == status && self.writer.held.as_slice() == held
+    }
+}
+
+/// Calls the top call with these words and this gate; the script is read and the text is written in
+/// these ways.
+pub fn call_under<'a, R: AllocGlobal + Threads + Wait + Sync, G: Gate>(
     rt: &R,
+    gate: &G,
     words: &[&str],
     script: &'a [u8],
     from: Way,
@@ -116,11 +125,22 @@ pub fn call_between<'a, R: AllocGlobal + Threads + Wait + Sync>(
         words,
         &mut StdSource::new(&mut reader),
         &mut StdSink::new(&mut writer),
-        &OpenGate,
+        gate,
     );
     Ended {
         status,
         reader,
         writer,
     }
+}
+
+/// Calls it with an open gate.
+pub fn call_between<'a, R: AllocGlobal + Threads + Wait + Sync>(
+    rt: &R,
+    words: &[&str],
+    script: &'a [u8],
+    from: Way,
+    to: Way,
+) -> Ended<'a> {
+    call_under(rt, &OpenGate, words, script, from, to)
 }

@@ -2,117 +2,173 @@
 //! or written. No contract says that a fault isn't tried again.
 
 use super::ends::{Way, by, call_between};
-use super::{FIRST_PATH, FIRST_PATH_LOG, PIECE, text};
-use std::test::Fail;
+use super::{FIRST_PATH, FIRST_PATH_LOG, PIECE};
+use std::sync::Wait;
+use std::thread::Threads;
+
+/// Ways of the two ends, and the status and the bytes held that they lead to.
+type Failing = ((usize, u32), (usize, u32), u8, &'static [u8]);
 
 /// The first path under faults of one end, of both, and of none.
+static FAILING: [Failing; 8] = [
+    ((4, 2), (PIECE, 0), 4, b""),
+    ((4, 2), (1, 1), 4, b""),
+    ((PIECE, 1), (PIECE, 1), 4, b""),
+    ((PIECE, 0), (8, 2), 5, b"0 begin "),
+    ((PIECE, 0), (8, 1), 5, b""),
+    ((4, 0), (1, 9), 5, b"0 begin "),
+    ((1, 0), (PIECE, 1), 5, b""),
+    ((1, 0), (1, 0), 0, FIRST_PATH_LOG),
+];
+
+/// Whether the call with this word ends so.
+fn fails_so<R: AllocGlobal + Threads + Wait + Sync>(rt: &R, word: &str, row: &Failing) -> bool {
+    let (from, to, status, held) = *row;
+    call_between(rt, &[word], FIRST_PATH, by(from), by(to)).is(status, held)
+}
+
 #[test]
-fn failing_ends(rt: HostRuntime) -> Result<(), Fail> {
-    let alloc = rt.alloc();
-    let script = text(alloc, FIRST_PATH)?;
-    let log = text(alloc, FIRST_PATH_LOG)?;
-    let rows: [(Way, Way, u8, &[u8]); 8] = [
-        (by(4, 2), by(PIECE, 0), 4, b""),
-        (by(4, 2), by(1, 1), 4, b""),
-        (by(PIECE, 1), by(PIECE, 1), 4, b""),
-        (by(PIECE, 0), by(8, 2), 5, b"0 begin "),
-        (by(PIECE, 0), by(8, 1), 5, b""),
-        (by(4, 0), by(1, 9), 5, b"0 begin "),
-        (by(1, 0), by(PIECE, 1), 5, b""),
-        (by(1, 0), by(1, 0), 0, log.as_bytes()),
-    ];
-    for (from, to, status, held) in rows {
-        for words in [["replay"], ["run"]] {
-            let ended = call_between(&rt, &words, script.as_bytes(), from, to);
-            assert_eq!(rt; ended.status, status, "{words:?} {from:?} {to:?}");
-            assert_eq!(rt;
-                ended.writer.held.as_slice(),
-                held,
-                "{words:?} {from:?} {to:?}"
-            );
-        }
+fn failing_ends(rt: HostRuntime) {
+    for row in FAILING.iter() {
+        assert!(rt; fails_so(&rt, "replay", row), "replay: {row:?}");
+        assert!(rt; fails_so(&rt, "run", row), "run: {row:?}");
     }
-    Ok(())
+}
+
+/// Whether the last of so many reads fails: the status is 4, these bytes are left, no more is read, and
+/// nothing is written.
+fn fails_at_read<R: AllocGlobal + Threads + Wait + Sync>(
+    rt: &R,
+    from: Way,
+    to: Way,
+    reads: u32,
+    left: &[u8],
+) -> bool {
+    let ended = call_between(rt, &["replay"], FIRST_PATH, from, to);
+    ended.is(4, b"")
+        && ended.reader.left == left
+        && ended.reader.calls == reads
+        && ended.writer.calls == 0
 }
 
 /// Each read fails in turn, also the one that would find the end, whatever the sink does. No byte is
 /// asked for after the fault, and none is written.
 #[test]
-fn each_read_fails(rt: HostRuntime) -> Result<(), Fail> {
-    let alloc = rt.alloc();
-    let script = text(alloc, FIRST_PATH)?;
-    let script = script.as_bytes();
-    // It has a hundred bytes.
+fn each_read_fails(rt: HostRuntime) {
+    // The script has a hundred bytes.
     for (piece, reads) in [(1, 101), (4, 26), (PIECE, 2)] {
         for done in 0..reads {
-            let from = by(piece, done + 1);
-            let taken = piece.saturating_mul(done as usize).min(script.len());
-            for to in [by(1, 0), by(PIECE, 0), by(PIECE, 1)] {
-                let ended = call_between(&rt, &["replay"], script, from, to);
-                assert_eq!(rt; ended.status, 4, "{from:?} {to:?}");
-                assert_eq!(rt; ended.reader.left, &script[taken..], "{from:?} {to:?}");
-                assert_eq!(rt; ended.reader.calls, done + 1, "{from:?} {to:?}");
-                assert_eq!(rt; ended.writer.calls, 0, "{from:?} {to:?}");
-            }
+            let from = by((piece, done + 1));
+            let taken = piece.saturating_mul(done as usize).min(FIRST_PATH.len());
+            let left = &FIRST_PATH[taken..];
+            assert!(rt;
+                fails_at_read(&rt, from, by((1, 0)), done + 1, left),
+                "{from:?}"
+            );
+            assert!(rt;
+                fails_at_read(&rt, from, by((PIECE, 0)), done + 1, left),
+                "{from:?}"
+            );
+            assert!(rt;
+                fails_at_read(&rt, from, by((PIECE, 1)), done + 1, left),
+                "{from:?}"
+            );
         }
     }
-    Ok(())
+}
+
+/// Whether the last of so many writes fails: the status is 5, these bytes are held, the script was read
+/// to its end, and nothing more is written.
+fn fails_at_write<R: AllocGlobal + Threads + Wait + Sync>(
+    rt: &R,
+    from: Way,
+    to: Way,
+    writes: u32,
+    held: &[u8],
+) -> bool {
+    let ended = call_between(rt, &["replay"], FIRST_PATH, from, to);
+    ended.is(5, held) && ended.writer.calls == writes && ended.reader.left.is_empty()
 }
 
 /// Each write fails in turn, however the script is read. It was read to its end, the sink holds what it
 /// took before the fault, and is given nothing after it.
 #[test]
-fn each_write_fails(rt: HostRuntime) -> Result<(), Fail> {
-    let alloc = rt.alloc();
-    let script = text(alloc, FIRST_PATH)?;
-    let log = text(alloc, FIRST_PATH_LOG)?;
-    let log = log.as_bytes();
-    // It has 133 bytes.
+fn each_write_fails(rt: HostRuntime) {
+    // The log has 133 bytes.
     for (piece, writes) in [(1, 133), (8, 17), (PIECE, 1)] {
         for done in 0..writes {
-            let to = by(piece, done + 1);
-            let taken = piece.saturating_mul(done as usize).min(log.len());
-            for from in [by(1, 0), by(4, 0), by(PIECE, 0)] {
-                let ended = call_between(&rt, &["replay"], script.as_bytes(), from, to);
-                assert_eq!(rt; ended.status, 5, "{from:?} {to:?}");
-                assert_eq!(rt;
-                    ended.writer.held.as_slice(),
-                    &log[..taken],
-                    "{from:?} {to:?}"
-                );
-                assert_eq!(rt; ended.writer.calls, done + 1, "{from:?} {to:?}");
-                assert_eq!(rt; ended.reader.left, b"".as_slice(), "{from:?} {to:?}");
-            }
+            let to = by((piece, done + 1));
+            let taken = piece
+                .saturating_mul(done as usize)
+                .min(FIRST_PATH_LOG.len());
+            let held = &FIRST_PATH_LOG[..taken];
+            assert!(rt;
+                fails_at_write(&rt, by((1, 0)), to, done + 1, held),
+                "{to:?}"
+            );
+            assert!(rt;
+                fails_at_write(&rt, by((4, 0)), to, done + 1, held),
+                "{to:?}"
+            );
+            assert!(rt;
+                fails_at_write(&rt, by((PIECE, 0)), to, done + 1, held),
+                "{to:?}"
+            );
         }
     }
-    Ok(())
 }
 
+/// A word, ways of the two ends, and the status, the bytes held and the calls of each end.
+type InOrder = (
+    &'static str,
+    (usize, u32),
+    (usize, u32),
+    u8,
+    &'static [u8],
+    (u32, u32),
+);
+
 /// The words come before the reading, and a read fault before the refusal of what was read; a refusal
-/// whose line can't be written is a write fault. Beside the status stand what the sink holds and how
-/// often each end was asked: for other words, and with `bulk`, the source never is.
+/// whose line can't be written is a write fault. For other words, and with `bulk`, the source is never
+/// asked.
+static IN_ORDER: [InOrder; 8] = [
+    ("frob", (PIECE, 1), (PIECE, 1), 2, b"", (0, 0)),
+    ("replay ", (PIECE, 1), (PIECE, 1), 2, b"", (0, 0)),
+    ("replay", (4, 2), (PIECE, 1), 4, b"", (2, 0)),
+    ("run", (4, 2), (PIECE, 1), 4, b"", (2, 0)),
+    ("replay", (PIECE, 0), (PIECE, 1), 5, b"", (2, 1)),
+    ("replay", (PIECE, 0), (8, 2), 5, b"line 1: ", (2, 2)),
+    ("run", (PIECE, 0), (8, 2), 5, b"line 1: ", (2, 2)),
+    ("bulk", (PIECE, 1), (4, 2), 5, b"seed", (0, 2)),
+];
+
+/// Whether the call for a script of another version ends so.
+fn answers_so<R: AllocGlobal + Threads + Wait + Sync>(rt: &R, row: &InOrder) -> bool {
+    let (word, from, to, status, held, (reads, writes)) = *row;
+    let ended = call_between(rt, &[word], b"ftrace 2\n", by(from), by(to));
+    ended.is(status, held) && ended.reader.calls == reads && ended.writer.calls == writes
+}
+
 #[test]
-fn order_of_answers(rt: HostRuntime) -> Result<(), Fail> {
-    let rows: [(&str, Way, Way, u8, &[u8], (u32, u32)); 8] = [
-        ("frob", by(PIECE, 1), by(PIECE, 1), 2, b"", (0, 0)),
-        ("replay ", by(PIECE, 1), by(PIECE, 1), 2, b"", (0, 0)),
-        ("replay", by(4, 2), by(PIECE, 1), 4, b"", (2, 0)),
-        ("run", by(4, 2), by(PIECE, 1), 4, b"", (2, 0)),
-        ("replay", by(PIECE, 0), by(PIECE, 1), 5, b"", (2, 1)),
-        ("replay", by(PIECE, 0), by(8, 2), 5, b"line 1: ", (2, 2)),
-        ("run", by(PIECE, 0), by(8, 2), 5, b"line 1: ", (2, 2)),
-        ("bulk", by(PIECE, 1), by(4, 2), 5, b"seed", (0, 2)),
-    ];
-    for (word, from, to, status, held, calls) in rows {
-        let ended = call_between(&rt, &[word], b"ftrace 2\n", from, to);
-        assert_eq!(rt; ended.status, status, "{word} {from:?} {to:?}");
-        assert_eq!(rt;
-            ended.writer.held.as_slice(),
-            held,
-            "{word} {from:?} {to:?}"
-        );
-        let asked = (ended.reader.calls, ended.writer.calls);
-        assert_eq!(rt; asked, calls, "{word} {from:?} {to:?}");
+fn order_of_answers(rt: HostRuntime) {
+    for row in IN_ORDER.iter() {
+        assert!(rt; answers_so(&rt, row), "{row:?}");
     }
-    Ok(())
+}
+
+/// What is printed of the script that the number 1 gives, which comes to its end.
+const SUMMARY: &[u8] = b"seed 1\nitems 109693\ncalls 9600\nbacks 17205\nrefused 6493\n\
+    exits 15095\nmissed 0\nend\n";
+
+/// Whether these words print that; the source, which would fail, isn't asked.
+fn summarizes<R: AllocGlobal + Threads + Wait + Sync>(rt: &R, words: &[&str]) -> bool {
+    let ended = call_between(rt, words, b"not a script", by((PIECE, 1)), by((PIECE, 0)));
+    ended.is(0, SUMMARY) && ended.reader.calls == 0
+}
+
+/// A generated script is accepted and comes to its end.
+#[test]
+fn generated_scripts(rt: HostRuntime) {
+    assert!(rt; summarizes(&rt, &["bulk"]));
+    assert!(rt; summarizes(&rt, &["bulk", "--seed", "1"]));
 }

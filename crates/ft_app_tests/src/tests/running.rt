@@ -1,11 +1,10 @@
 //! Scripts that are carried out by running threads.
 
-use super::{call_under, text};
+use super::PIECE;
+use super::ends::{by, call_under};
 use ft_io::Gate;
-use std::process::Abort;
 use std::sync::Wait;
 use std::sync::atomic::{AtomicBool, AtomicU64, Ordering};
-use std::test::Fail;
 use std::thread;
 use std::thread::Threads;
 
@@ -18,12 +17,12 @@ const CPU: u32 = 1;
 const TURNS: u32 = 10_000_000;
 
 /// A call site is patched while a CPU may fetch it. Its schedule isn't used here.
-const PATCHED: &str = "ftrace 1; func a; user tr function; cpu 0 quantum 100; task 10 cpu 0; \
-    call a; ret; ctl register tr; sched k*9 0*13 all*1000";
+const PATCHED: &[u8] = b"ftrace 1\nfunc a\nuser tr function\ncpu 0 quantum 100\ntask 10 cpu 0\n\
+    call a\nret\nctl register tr\nsched k*9 0*13 all*1000\n";
 
 /// Keeps an actor in its pass with this step until the other one has come into its pass with the
 /// step `until`.
-#[derive(Clone, Copy, Debug)]
+#[derive(Clone, Copy)]
 struct Hold {
     actor: u32,
     step: u64,
@@ -83,77 +82,68 @@ impl Gate for HoldingGate<'_> {
     }
 }
 
-/// The threads of the patched call site have this history under these holds.
-fn runs_under<R: Abort + AllocGlobal + Threads + Wait + Sync>(
-    rt: &R,
-    holds: &[Hold],
-    log: &str,
-) -> Result<(), Fail> {
-    let alloc = rt.alloc();
-    let script = text(alloc, PATCHED)?;
-    let log = text(alloc, log)?;
+/// Whether the threads of the patched call site have this history under these holds, of which none is
+/// given up.
+fn runs_so<R: AllocGlobal + Threads + Wait + Sync>(rt: &R, holds: &[Hold], log: &[u8]) -> bool {
     let gate = HoldingGate::new(holds);
-    let ended = call_under(rt, &gate, &["run"], script.as_bytes())?;
-    assert_eq!(rt; ended.status, 0, "{holds:?}");
-    assert_eq!(rt; ended.sink.bytes(), log.as_bytes(), "{holds:?}");
-    assert!(rt; !gate.gave_up.load(Ordering::SeqCst), "{holds:?}");
-    Ok(())
+    let whole = by((PIECE, 0));
+    let ended = call_under(rt, &gate, &["run"], PATCHED, whole, whole);
+    ended.is(0, log) && !gate.gave_up.load(Ordering::SeqCst)
 }
 
-/// The text is that of the threads' own history: each gate leaves one, and they differ.
-#[test]
-fn prints_the_threads_history(rt: HostRuntime) -> Result<(), Fail> {
-    // The call is over before the command begins.
-    let call_first = [Hold {
-        actor: CONTROL,
+/// The call is over before the command begins.
+static CALL_FIRST: [Hold; 1] = [Hold {
+    actor: CONTROL,
+    step: 0,
+    until: 9,
+}];
+
+const CALL_FIRST_LOG: &[u8] = b"0 enter 10.1 normal a -\n1 body 10.1 a nop\n2 leave 10.1\n\
+    3 ret 10.1 -\n4 begin 1\n5 return 1 ok\nend\n";
+
+/// The CPU reads the breakpoint.
+static BREAKPOINT_FIRST: [Hold; 2] = [
+    Hold {
+        actor: CPU,
         step: 0,
         until: 9,
-    }];
-    runs_under(
-        &rt,
-        &call_first,
-        "0 enter 10.1 normal a -; 1 body 10.1 a nop; 2 leave 10.1; 3 ret 10.1 -; 4 begin 1; \
-        5 return 1 ok; end",
-    )?;
-    // The CPU reads the breakpoint.
-    let breakpoint_first = [
+    },
+    Hold {
+        actor: CONTROL,
+        step: 9,
+        until: 13,
+    },
+];
+
+const BREAKPOINT_FIRST_LOG: &[u8] = b"0 begin 1\n1 enter 10.1 normal a -\n2 back 10.1 tr\n\
+    3 back-end 10.1 tr\n4 body 10.1 a own tr\n5 leave 10.1\n6 ret 10.1 -\n7 return 1 ok\nend\n";
+
+/// The command has begun, and up to this step of control no breakpoint is stored before the call is
+/// over.
+fn call_within(step: u64) -> [Hold; 2] {
+    [
         Hold {
             actor: CPU,
             step: 0,
-            until: 9,
+            until: step,
         },
         Hold {
             actor: CONTROL,
-            step: 9,
-            until: 13,
+            step,
+            until: 9,
         },
-    ];
-    runs_under(
-        &rt,
-        &breakpoint_first,
-        "0 begin 1; 1 enter 10.1 normal a -; 2 back 10.1 tr; 3 back-end 10.1 tr; \
-        4 body 10.1 a own tr; 5 leave 10.1; 6 ret 10.1 -; 7 return 1 ok; end",
-    )?;
-    // The command has begun, and no breakpoint is stored before the call is over.
+    ]
+}
+
+const CALL_WITHIN_LOG: &[u8] = b"0 begin 1\n1 enter 10.1 normal a -\n2 body 10.1 a nop\n\
+    3 leave 10.1\n4 ret 10.1 -\n5 return 1 ok\nend\n";
+
+/// The text is that of the threads' own history: each gate leaves one, and they differ.
+#[test]
+fn prints_the_threads_history(rt: HostRuntime) {
+    assert!(rt; runs_so(&rt, &CALL_FIRST, CALL_FIRST_LOG));
+    assert!(rt; runs_so(&rt, &BREAKPOINT_FIRST, BREAKPOINT_FIRST_LOG));
     for step in 1..9 {
-        let call_within = [
-            Hold {
-                actor: CPU,
-                step: 0,
-                until: step,
-            },
-            Hold {
-                actor: CONTROL,
-                step,
-                until: 9,
-            },
-        ];
-        runs_under(
-            &rt,
-            &call_within,
-            "0 begin 1; 1 enter 10.1 normal a -; 2 body 10.1 a nop; 3 leave 10.1; 4 ret 10.1 -; \
-            5 return 1 ok; end",
-        )?;
+        assert!(rt; runs_so(&rt, &call_within(step), CALL_WITHIN_LOG), "{step}");
     }
-    Ok(())
 }
