@@ -11,23 +11,23 @@ use Rattle.return_stack.specs.Calls.{top_users}
 use Rattle.plain_machine.specs.State.{has_acts}
 use Rattle.word_machine.specs.Task.{begun_act}
 use Rattle.word_machine.specs.Task as machine
-use Rattle.cpu_core.specs.declared.moment.Moment.TheVariants.{Polling}
-use Rattle.cpu_core.specs.declared.task.Task.{Task}
-use Rattle.cpu_core.specs.Fits.{CanBegin, HasAct}
-use Rattle.cpu_core.specs.Starts.{is_left}
-use Rattle.cpu_core.specs.States.{moment_at, moment_of, stack_of, state_of, users_in}
-use Rattle.cpu_core.specs.Steady.{HasCallRoom, IsSteady, act_raised}
-use Rattle.cpu_core.specs.TaskOps.{present, top}
-use Rattle.cpu_core.specs.TaskSteps.{begun}
-use Rattle.cpu_core.specs.Tied.{IsTaskOf}
-use Rattle.cpu_core.proofs.FitsCalls.{present-first}
+use Rattle.task_core.specs.declared.moment.Moment.TheVariants.{Polling}
+use Rattle.task_core.specs.declared.task.Task.{Task}
+use Rattle.task_core.specs.Fits.{CanBegin, HasAct}
+use Rattle.task_core.specs.Starts.{is_left}
+use Rattle.task_core.specs.States.{moment_at, moment_of, stack_of, state_of, users_in}
+use Rattle.task_core.specs.Steady.{HasCallRoom, IsSteady, act_raised}
+use Rattle.task_core.specs.TaskOps.{present, top}
+use Rattle.task_core.specs.TaskSteps.{begun}
+use Rattle.task_core.specs.Tied.{IsTaskOf}
+use Rattle.task_core.proofs.FitsCalls.{present-first}
 use Rattle.cpu_core.proofs.FitsOperation.{can-begin, has-act}
-use Rattle.cpu_core.proofs.FitsUsers.{few-begun}
-use Rattle.cpu_core.proofs.HeldGot.{guards-begun, polling-raised}
+use Rattle.task_core.proofs.FitsUsers.{few-begun}
+use Rattle.task_core.proofs.HeldGot.{guards-begun, polling-raised}
 use Rattle.cpu_core.proofs.Lookups.{left-is}
-use Rattle.cpu_core.proofs.SteadyGot.{room-begun, steady-begun}
-use Rattle.cpu_core.proofs.TiedKept.{IsSameTask, begun-same}
-use Rattle.cpu_core.proofs.TiedLaw.{acts-same, frames-same, gone-begun, limits-same, moment-begun, number-same, tied-begun, two-same}
+use Rattle.task_core.proofs.SteadyGot.{room-begun, steady-begun}
+use Rattle.task_core.proofs.TiedKept.{IsSameTask, begun-same}
+use Rattle.task_core.proofs.TiedLaw.{acts-same, frames-same, gone-begun, limits-same, moment-begun, number-same, tied-begun, two-same}
 
 module _ (job : Job) (t : Task) (k : IsTaskOf job t) (e : t.moment ≡ Polling) where
   -- it is before its poll

@@ -16,14 +16,14 @@ use Rattle.word_machine.specs.Task.{TaskState}
 use Rattle.cpu_core.specs.declared.parts.Parts.{Parts}
 use Rattle.cpu_core.specs.declared.parts.Phase.{Phase}
 use Rattle.cpu_core.specs.declared.parts.Phase.TheVariants.{Going, Polling, Over}
-use Rattle.cpu_core.specs.declared.task.Task.{Task}
+use Rattle.task_core.specs.declared.task.Task.{Task}
 use Rattle.cpu_core.specs.CpuFits.{CanBeginAct, CpuFits, FitsIn, GoFits, PollFits, StartFits}
 use Rattle.cpu_core.specs.CpuOps.{is_running, phase_op, present_task}
 use Rattle.cpu_core.specs.CpuSteps.{began_poll, marks_in, polled_on, stamped, stepped, stepped_in, ticked, went}
 use Rattle.cpu_core.specs.Cpus.{IsBeforePoll, IsFor, cpu_of, phase_in}
 use Rattle.cpu_core.specs.Marks.{Marks}
-use Rattle.cpu_core.specs.States.{moment_at, state_of, users_in}
-use Rattle.cpu_core.specs.TaskOps.{item_in, top}
+use Rattle.task_core.specs.States.{moment_at, state_of, users_in}
+use Rattle.task_core.specs.TaskOps.{item_in, top}
 use Rattle.cpu_core.proofs.CpuNext.{cpu-op-is, more-is}
 use Rattle.cpu_core.proofs.GoSteps.{count-fits, is-going, waiting}
 use Rattle.cpu_core.proofs.GoStepsWent.{going-for, going-is, going-items, running-fits}

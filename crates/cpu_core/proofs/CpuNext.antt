@@ -22,31 +22,31 @@ use Rattle.word_machine.specs.Task as machine
 use Rattle.word_machine.specs.Cpu.{Cpu, any_has_more, cpu_next, going_op, phase_op as machine_op, present_op}
 use Rattle.word_machine.proofs.Finished.{present-is}
 use Rattle.word_machine.proofs.TaskSteps.{is_polling as polls}
-use Rattle.cpu_core.specs.declared.moment.Moment.{Moment}
-use Rattle.cpu_core.specs.declared.moment.Moment.TheVariants.{Polling, First, Load, Mark}
-use Rattle.cpu_core.specs.declared.open_call.OpenCall.{OpenCall}
+use Rattle.task_core.specs.declared.moment.Moment.{Moment}
+use Rattle.task_core.specs.declared.moment.Moment.TheVariants.{Polling, First, Load, Mark}
+use Rattle.task_core.specs.declared.open_call.OpenCall.{OpenCall}
 use Rattle.cpu_core.specs.declared.parts.Parts.{Parts}
 use Rattle.cpu_core.specs.declared.parts.Phase.{Phase}
 use Rattle.cpu_core.specs.declared.parts.Phase.TheVariants as code
-use Rattle.cpu_core.specs.declared.task.Task.{Task}
+use Rattle.task_core.specs.declared.task.Task.{Task}
 use Rattle.cpu_core.specs.CpuFits.{HasNext, NextAt}
 use Rattle.cpu_core.specs.CpuOps.{cpu_op, is_running, op_by, phase_op, present_task, runs}
 use Rattle.cpu_core.specs.Cpus.{IsFor, IsIn, IsPolling, IsUnderWay, cpu_of, number_or, numbers, phase_in, polling_in, tasks_by, tasks_now}
-use Rattle.cpu_core.specs.Fits.{IsTaskThere}
+use Rattle.task_core.specs.Fits.{IsTaskThere}
 use Rattle.cpu_core.specs.PlainPolls.{lent_words, looked}
 use Rattle.cpu_core.specs.Polled.{view_of, viewed}
-use Rattle.cpu_core.specs.Setups.{PlainSetup}
-use Rattle.cpu_core.specs.Starts.{is_left}
-use Rattle.cpu_core.specs.States.{is_polling, moment_at, moment_of, state_of, users_in}
-use Rattle.cpu_core.specs.TaskOps.{op_of, top}
-use Rattle.cpu_core.specs.Tied.{IsTaskOf}
+use Rattle.task_core.specs.Setups.{PlainSetup}
+use Rattle.task_core.specs.Starts.{is_left}
+use Rattle.task_core.specs.States.{is_polling, moment_at, moment_of, state_of, users_in}
+use Rattle.task_core.specs.TaskOps.{op_of, top}
+use Rattle.task_core.specs.Tied.{IsTaskOf}
 use Rattle.cpu_core.specs.Turns.{any_left}
 use Rattle.cpu_core.proofs.FitsThere.{task-there}
 use Rattle.cpu_core.proofs.Lookups.{any-more, now-is, state-at, views-are, words-any, words-numbers}
-use Rattle.cpu_core.proofs.RowMoments.{load-loud, mark-loud}
-use Rattle.cpu_core.proofs.RowOps.{operation-is}
+use Rattle.task_core.proofs.RowMoments.{load-loud, mark-loud}
+use Rattle.task_core.proofs.RowOps.{operation-is}
 use Rattle.cpu_core.proofs.Telling.{ack-same, word-same}
-use Rattle.cpu_core.proofs.TiedLeft.{act-left}
+use Rattle.task_core.proofs.TiedLeft.{act-left}
 
 -- ## a task before a poll
 

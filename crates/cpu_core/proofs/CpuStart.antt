@@ -23,20 +23,20 @@ use Rattle.word_machine.specs.Task.{TaskState, task_start}
 use Rattle.word_machine.specs.Task as task
 use Rattle.cpu_core.specs.declared.parts.Parts.{Parts}
 use Rattle.cpu_core.specs.declared.parts.Phase.TheVariants.{Going}
-use Rattle.cpu_core.specs.declared.moment.Moment.TheVariants.{Polling}
-use Rattle.cpu_core.specs.declared.task.Task.{Task}
+use Rattle.task_core.specs.declared.moment.Moment.TheVariants.{Polling}
+use Rattle.task_core.specs.declared.task.Task.{Task}
 use Rattle.cpu_core.specs.Cpus.{IsFor, cpu_of, number_or, numbered, numbers, state_or, tasks_by}
 use Rattle.cpu_core.specs.CpuFits.{HasNext, NextAt}
 use Rattle.cpu_core.specs.CpuOps.{runs}
-use Rattle.cpu_core.specs.Setups.{setup_in}
-use Rattle.cpu_core.specs.Starts.{HasRoomFor, is_left, task_at_start}
-use Rattle.cpu_core.specs.States.{is_polling, state_of}
-use Rattle.cpu_core.specs.Steady.{IsSteady}
+use Rattle.task_core.specs.Setups.{setup_in}
+use Rattle.task_core.specs.Starts.{HasRoomFor, is_left, task_at_start}
+use Rattle.task_core.specs.States.{is_polling, state_of}
+use Rattle.task_core.specs.Steady.{IsSteady}
 use Rattle.cpu_core.specs.Taken.{IsCpuOf}
-use Rattle.cpu_core.specs.Tied.{IsTaskOf}
+use Rattle.task_core.specs.Tied.{IsTaskOf}
 use Rattle.cpu_core.specs.Turns.{AreStarted, first_left, with_words}
 use Rattle.cpu_core.proofs.Lookups.{first-is, words-none}
-use Rattle.cpu_core.proofs.SteadyActs.{steady-start}
+use Rattle.task_core.proofs.SteadyActs.{steady-start}
 use Rattle.cpu_core.proofs.Turns.{first-turn}
 
 -- a task of a CPU's is one of the job's

@@ -10,18 +10,18 @@ use Rattle.word_machine.specs.Limits.{IsLimited}
 use Rattle.cpu_core.specs.declared.parts.Parts.{Parts}
 use Rattle.cpu_core.specs.declared.parts.Phase.{Phase}
 use Rattle.cpu_core.specs.declared.parts.Phase.TheVariants.{Going, Polling, Over}
-use Rattle.cpu_core.specs.declared.task.Task.{Task}
+use Rattle.task_core.specs.declared.task.Task.{Task}
 use Rattle.cpu_core.specs.CpuFits.{CpuFits}
 use Rattle.cpu_core.specs.CpuOps.{is_running, present_task}
 use Rattle.cpu_core.specs.CpuSteps.{began_poll, marks_in, stepped, stepped_in, switched, ticked, went, went_by, with_poll, with_step}
 use Rattle.cpu_core.specs.Cpus.{IsFor, cpu_of}
-use Rattle.cpu_core.specs.Leads.{is_fetching}
+use Rattle.task_core.specs.Leads.{is_fetching}
 use Rattle.cpu_core.specs.Marks.{Marks}
 use Rattle.cpu_core.specs.PlainPolls.{looked}
-use Rattle.cpu_core.specs.Starts.{is_unmet}
+use Rattle.task_core.specs.Starts.{is_unmet}
 use Rattle.cpu_core.specs.Taken.{IsTaken}
-use Rattle.cpu_core.specs.TaskOps.{item_in, op_of}
-use Rattle.cpu_core.specs.TaskSteps.{task_after}
+use Rattle.task_core.specs.TaskOps.{item_in, op_of}
+use Rattle.task_core.specs.TaskSteps.{task_after}
 use Rattle.cpu_core.proofs.CpuLaw.{cpu-fits, cpu-for, cpu-is, cpu-items}
 use Rattle.cpu_core.proofs.CpuNext.{cpu-op-is}
 use Rattle.cpu_core.proofs.PollStepsKept.{ended_poll-marked}

@@ -14,22 +14,22 @@ use Rattle.return_stack.specs.Calls.{StackedCall}
 use Rattle.word_machine.specs.Laws.{PresentTakes}
 use Rattle.word_machine.specs.Limits.{IsLimited}
 use Rattle.word_machine.specs.Task.{Closing as ClosingAt, TaskState}
-use Rattle.cpu_core.specs.declared.moment.Moment.{Moment}
-use Rattle.cpu_core.specs.declared.moment.Moment.TheVariants.{Load}
-use Rattle.cpu_core.specs.declared.moment.ToLoad.{ToLoad}
-use Rattle.cpu_core.specs.declared.moment.ToLoad.TheVariants.{Fetch, GotHead, GotBreak, InTramp, OwnSel, Walking, Reading, AtPids, AtDepth, AtExit}
-use Rattle.cpu_core.specs.declared.open_call.OpenCall.{OpenCall as CodeCall}
-use Rattle.cpu_core.specs.declared.task.Task.{Task}
-use Rattle.cpu_core.specs.Fits.{FitsLoad}
-use Rattle.cpu_core.specs.Moments.{reading_at, walking_at}
-use Rattle.cpu_core.specs.Setups.{setup_in}
-use Rattle.cpu_core.specs.States.{load_moment, state_of, users_in}
-use Rattle.cpu_core.specs.Steady.{NamesThere}
-use Rattle.cpu_core.specs.Tied.{IsReading, IsTaskOf, IsWalking}
-use Rattle.cpu_core.proofs.FitsCalls.{owed-some}
-use Rattle.cpu_core.proofs.Held.{holding, of-call}
-use Rattle.cpu_core.proofs.HeldGot.{guards-of, own-is}
-use Rattle.cpu_core.proofs.RowLists.{standing}
+use Rattle.task_core.specs.declared.moment.Moment.{Moment}
+use Rattle.task_core.specs.declared.moment.Moment.TheVariants.{Load}
+use Rattle.task_core.specs.declared.moment.ToLoad.{ToLoad}
+use Rattle.task_core.specs.declared.moment.ToLoad.TheVariants.{Fetch, GotHead, GotBreak, InTramp, OwnSel, Walking, Reading, AtPids, AtDepth, AtExit}
+use Rattle.task_core.specs.declared.open_call.OpenCall.{OpenCall as CodeCall}
+use Rattle.task_core.specs.declared.task.Task.{Task}
+use Rattle.task_core.specs.Fits.{FitsLoad}
+use Rattle.task_core.specs.Moments.{reading_at, walking_at}
+use Rattle.task_core.specs.Setups.{setup_in}
+use Rattle.task_core.specs.States.{load_moment, state_of, users_in}
+use Rattle.task_core.specs.Steady.{NamesThere}
+use Rattle.task_core.specs.Tied.{IsReading, IsTaskOf, IsWalking}
+use Rattle.task_core.proofs.FitsCalls.{owed-some}
+use Rattle.task_core.proofs.Held.{holding, of-call}
+use Rattle.task_core.proofs.HeldGot.{guards-of, own-is}
+use Rattle.task_core.proofs.RowLists.{standing}
 
 -- ## walks and reads
 

@@ -11,25 +11,25 @@ use Rattle.word_map.specs.Shapes.{shape_of}
 use Rattle.word_machine.specs.Calls.{under_call}
 use Rattle.word_machine.specs.Laws.{PresentTakes}
 use Rattle.word_machine.specs.Limits.{IsLimited}
-use Rattle.cpu_core.specs.declared.moment.Moment.TheVariants.{Mark}
-use Rattle.cpu_core.specs.declared.moment.ToMark.{ToMark}
-use Rattle.cpu_core.specs.declared.moment.ToMark.TheVariants.{Refusing, Calling, Missing, Acting, Ending, Closing, Leaving, Exiting, EndingExit, Returning}
-use Rattle.cpu_core.specs.declared.open_call.OpenCall.{OpenCall as CodeCall}
-use Rattle.cpu_core.specs.declared.task.Task.{Task}
-use Rattle.cpu_core.specs.Fits.{CanRaise, CanReturn, FitsMark, HasAct, HasCallRoom, HasFrameRoom}
-use Rattle.cpu_core.specs.Opens.{top_of}
-use Rattle.cpu_core.specs.Setups.{declared_in, setup_in}
-use Rattle.cpu_core.specs.States.{joined, mark_moment, stack_in, state_of, users_in}
-use Rattle.cpu_core.specs.Steady.{IsCalled, act_raised, raised_over}
-use Rattle.cpu_core.specs.Tied.{IsTaskOf}
-use Rattle.cpu_core.proofs.FitsCalls.{call-room, owed-some, users-room}
+use Rattle.task_core.specs.declared.moment.Moment.TheVariants.{Mark}
+use Rattle.task_core.specs.declared.moment.ToMark.{ToMark}
+use Rattle.task_core.specs.declared.moment.ToMark.TheVariants.{Refusing, Calling, Missing, Acting, Ending, Closing, Leaving, Exiting, EndingExit, Returning}
+use Rattle.task_core.specs.declared.open_call.OpenCall.{OpenCall as CodeCall}
+use Rattle.task_core.specs.declared.task.Task.{Task}
+use Rattle.task_core.specs.Fits.{CanRaise, CanReturn, FitsMark, HasAct, HasCallRoom, HasFrameRoom}
+use Rattle.task_core.specs.Opens.{top_of}
+use Rattle.task_core.specs.Setups.{declared_in, setup_in}
+use Rattle.task_core.specs.States.{joined, mark_moment, stack_in, state_of, users_in}
+use Rattle.task_core.specs.Steady.{IsCalled, act_raised, raised_over}
+use Rattle.task_core.specs.Tied.{IsTaskOf}
+use Rattle.task_core.proofs.FitsCalls.{call-room, owed-some, users-room}
 use Rattle.cpu_core.proofs.FitsLoads.{taken-is}
-use Rattle.cpu_core.proofs.HeldGot.{present-is}
-use Rattle.cpu_core.proofs.RowLists.{standing}
-use Rattle.cpu_core.proofs.RowStacks.{frames-are}
-use Rattle.cpu_core.proofs.SteadyContexts.{act-raises}
+use Rattle.task_core.proofs.HeldGot.{present-is}
+use Rattle.task_core.proofs.RowLists.{standing}
+use Rattle.task_core.proofs.RowStacks.{frames-are}
+use Rattle.task_core.proofs.SteadyContexts.{act-raises}
 use Rattle.cpu_core.proofs.SteadyRoom.{act-call_fits}
-use Rattle.cpu_core.proofs.TiedLeft.{act-left}
+use Rattle.task_core.proofs.TiedLeft.{act-left}
 
 -- ## a return
 

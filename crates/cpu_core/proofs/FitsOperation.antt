@@ -16,23 +16,23 @@ use Rattle.word_machine.specs.Laws.{PresentTakes}
 use Rattle.word_machine.specs.Limits.{IsLimited}
 use Rattle.word_machine.specs.Task.{OpenCall, is_quiet}
 use Rattle.word_machine.specs.Tasks.{open_by}
-use Rattle.cpu_core.specs.declared.moment.Moment.{Moment}
-use Rattle.cpu_core.specs.declared.moment.Moment.TheVariants.{Polling, First, Load, Mark}
-use Rattle.cpu_core.specs.declared.open_call.OpenCall.{OpenCall as CodeCall}
-use Rattle.cpu_core.specs.declared.task.Task.{Task}
-use Rattle.cpu_core.specs.Fits.{CanBegin, FitsAt, FitsFirst, HasAct, HasCallRoom, IsInCall, TaskFits}
-use Rattle.cpu_core.specs.Leads.{is_quiet as is_between}
-use Rattle.cpu_core.specs.Setups.{setup_in}
-use Rattle.cpu_core.specs.States.{is_polling, moment_of, stack_in, state_of, users_in}
-use Rattle.cpu_core.specs.TaskOps.{present, top}
-use Rattle.cpu_core.specs.Tied.{IsTaskOf}
-use Rattle.cpu_core.proofs.FitsCalls.{call-room, in-call_of, none-open, present-first}
+use Rattle.task_core.specs.declared.moment.Moment.{Moment}
+use Rattle.task_core.specs.declared.moment.Moment.TheVariants.{Polling, First, Load, Mark}
+use Rattle.task_core.specs.declared.open_call.OpenCall.{OpenCall as CodeCall}
+use Rattle.task_core.specs.declared.task.Task.{Task}
+use Rattle.task_core.specs.Fits.{CanBegin, FitsAt, FitsFirst, HasAct, HasCallRoom, IsInCall, TaskFits}
+use Rattle.task_core.specs.Leads.{is_quiet as is_between}
+use Rattle.task_core.specs.Setups.{setup_in}
+use Rattle.task_core.specs.States.{is_polling, moment_of, stack_in, state_of, users_in}
+use Rattle.task_core.specs.TaskOps.{present, top}
+use Rattle.task_core.specs.Tied.{IsTaskOf}
+use Rattle.task_core.proofs.FitsCalls.{call-room, in-call_of, none-open, present-first}
 use Rattle.cpu_core.proofs.FitsLoads.{load-fits}
 use Rattle.cpu_core.proofs.FitsMarks.{mark-fits}
-use Rattle.cpu_core.proofs.RowLists.{contexts-same, standing}
-use Rattle.cpu_core.proofs.SteadyRaised.{may-lower, may-raise}
+use Rattle.task_core.proofs.RowLists.{contexts-same, standing}
+use Rattle.task_core.proofs.SteadyRaised.{may-lower, may-raise}
 use Rattle.cpu_core.proofs.SteadyRoom.{script-call_fits}
-use Rattle.cpu_core.proofs.TiedLeft.{call-open, has-left, quiet-is}
+use Rattle.task_core.proofs.TiedLeft.{call-open, has-left, quiet-is}
 
 -- ## the first operation of an act
 

@@ -3,17 +3,17 @@ use Rattle.std.proofs.Common.{List, [], ◌∷◌, length, refl}
 use Rattle.ft_base.specs.Job.{Job}
 use Rattle.return_stack.specs.Calls.{StackedCall}
 use Rattle.word_map.specs.Shapes.{shape_of}
-use Rattle.cpu_core.specs.declared.moment.Moment.{Moment}
-use Rattle.cpu_core.specs.declared.moment.Moment.TheVariants.{Polling, First, Load, Mark}
-use Rattle.cpu_core.specs.declared.moment.ToLoad.{ToLoad}
-use Rattle.cpu_core.specs.declared.moment.ToLoad.TheVariants.{Fetch, GotHead, GotBreak, InTramp, OwnSel, Walking, Reading, AtPids, AtDepth, AtExit}
-use Rattle.cpu_core.specs.declared.open_call.OpenCall.{OpenCall as CodeCall}
-use Rattle.cpu_core.specs.declared.task.Task.{Task}
-use Rattle.cpu_core.specs.Fits.{IsLoadThere, IsTaskThere, IsThereAt}
-use Rattle.cpu_core.specs.Tied.{IsTaskOf}
-use Rattle.cpu_core.proofs.FitsCalls.{in-call_of, none-open, owed-named}
-use Rattle.cpu_core.proofs.RowLists.{standing}
-use Rattle.cpu_core.proofs.TiedLeft.{call-open}
+use Rattle.task_core.specs.declared.moment.Moment.{Moment}
+use Rattle.task_core.specs.declared.moment.Moment.TheVariants.{Polling, First, Load, Mark}
+use Rattle.task_core.specs.declared.moment.ToLoad.{ToLoad}
+use Rattle.task_core.specs.declared.moment.ToLoad.TheVariants.{Fetch, GotHead, GotBreak, InTramp, OwnSel, Walking, Reading, AtPids, AtDepth, AtExit}
+use Rattle.task_core.specs.declared.open_call.OpenCall.{OpenCall as CodeCall}
+use Rattle.task_core.specs.declared.task.Task.{Task}
+use Rattle.task_core.specs.Fits.{IsLoadThere, IsTaskThere, IsThereAt}
+use Rattle.task_core.specs.Tied.{IsTaskOf}
+use Rattle.task_core.proofs.FitsCalls.{in-call_of, none-open, owed-named}
+use Rattle.task_core.proofs.RowLists.{standing}
+use Rattle.task_core.proofs.TiedLeft.{call-open}
 
 module _ (job : Job) where
   load-there : (t : Task) (o : CodeCall) (os : List CodeCall) (s : StackedCall) (ss : List StackedCall) (l : ToLoad)

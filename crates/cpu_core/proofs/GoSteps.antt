@@ -17,20 +17,20 @@ use Rattle.word_machine.specs.Limits.{IsLimited}
 use Rattle.cpu_core.specs.declared.parts.Parts.{Parts}
 use Rattle.cpu_core.specs.declared.parts.Phase.{Phase}
 use Rattle.cpu_core.specs.declared.parts.Phase.TheVariants as code
-use Rattle.cpu_core.specs.declared.moment.Moment.{Moment}
-use Rattle.cpu_core.specs.declared.moment.Moment.TheVariants.{Polling}
-use Rattle.cpu_core.specs.declared.task.Task.{Task}
+use Rattle.task_core.specs.declared.moment.Moment.{Moment}
+use Rattle.task_core.specs.declared.moment.Moment.TheVariants.{Polling}
+use Rattle.task_core.specs.declared.task.Task.{Task}
 use Rattle.cpu_core.specs.CpuOps.{is_running, present_task, runs}
 use Rattle.cpu_core.specs.Cpus.{IsBeforePoll, IsFor, IsGoing, IsIn, IsPolling, IsUnderWay, cpu_of, fetch_step, phase_in, poll_steps, tasks_now}
-use Rattle.cpu_core.specs.Leads.{is_fetching}
+use Rattle.task_core.specs.Leads.{is_fetching}
 use Rattle.cpu_core.specs.PlainPolls.{lent_words}
-use Rattle.cpu_core.specs.Starts.{is_left, view_of}
-use Rattle.cpu_core.specs.States.{is_polling}
-use Rattle.cpu_core.specs.Tied.{IsTaskOf}
+use Rattle.task_core.specs.Starts.{is_left, view_of}
+use Rattle.task_core.specs.States.{is_polling}
+use Rattle.task_core.specs.Tied.{IsTaskOf}
 use Rattle.cpu_core.specs.Turns.{any_left}
 use Rattle.cpu_core.proofs.CpuNext.{left-any, task-for}
 use Rattle.cpu_core.proofs.Lookups.{words-length}
-use Rattle.cpu_core.proofs.TiedLeft.{act-left}
+use Rattle.task_core.proofs.TiedLeft.{act-left}
 
 -- ## the present task
 

@@ -16,20 +16,20 @@ use Rattle.word_map.specs.Contents.{returned_at}
 use Rattle.word_machine.specs.Cpu.{is_unmet as is_machine_unmet}
 use Rattle.word_machine.specs.Task.{Moment, next_exit}
 use Rattle.word_machine.specs.Task as machine
-use Rattle.cpu_core.specs.declared.moment.Moment.{Moment as CodeMoment}
-use Rattle.cpu_core.specs.declared.moment.Moment.TheVariants.{Polling, First, Load, Mark}
-use Rattle.cpu_core.specs.declared.moment.ToLoad.{ToLoad}
-use Rattle.cpu_core.specs.declared.moment.ToLoad.TheVariants.{GotHead, GotBreak, Walking, Reading, AtExit}
-use Rattle.cpu_core.specs.declared.moment.ToMark.{ToMark}
-use Rattle.cpu_core.specs.declared.moment.ToMark.TheVariants.{Exiting, EndingExit}
-use Rattle.cpu_core.specs.declared.open_call.OpenCall.{OpenCall as CodeCall}
-use Rattle.cpu_core.specs.declared.task.Task.{Task}
-use Rattle.cpu_core.specs.Leads.{is_fetching}
-use Rattle.cpu_core.specs.Moments.{reading_at, walking_at}
-use Rattle.cpu_core.specs.Starts.{is_unmet, is_unmet_at}
-use Rattle.cpu_core.specs.States.{ending_exit, exiting, load_moment, mark_moment, moment_at, moment_of, state_of, users_in}
-use Rattle.cpu_core.specs.TaskOps.{top}
-use Rattle.cpu_core.proofs.RowMoments.{load-loud, mark-loud}
+use Rattle.task_core.specs.declared.moment.Moment.{Moment as CodeMoment}
+use Rattle.task_core.specs.declared.moment.Moment.TheVariants.{Polling, First, Load, Mark}
+use Rattle.task_core.specs.declared.moment.ToLoad.{ToLoad}
+use Rattle.task_core.specs.declared.moment.ToLoad.TheVariants.{GotHead, GotBreak, Walking, Reading, AtExit}
+use Rattle.task_core.specs.declared.moment.ToMark.{ToMark}
+use Rattle.task_core.specs.declared.moment.ToMark.TheVariants.{Exiting, EndingExit}
+use Rattle.task_core.specs.declared.open_call.OpenCall.{OpenCall as CodeCall}
+use Rattle.task_core.specs.declared.task.Task.{Task}
+use Rattle.task_core.specs.Leads.{is_fetching}
+use Rattle.task_core.specs.Moments.{reading_at, walking_at}
+use Rattle.task_core.specs.Starts.{is_unmet, is_unmet_at}
+use Rattle.task_core.specs.States.{ending_exit, exiting, load_moment, mark_moment, moment_at, moment_of, state_of, users_in}
+use Rattle.task_core.specs.TaskOps.{top}
+use Rattle.task_core.proofs.RowMoments.{load-loud, mark-loud}
 
 -- ## fetches
 

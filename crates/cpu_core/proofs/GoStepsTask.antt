@@ -11,18 +11,18 @@ use Rattle.hash_pages.specs.declared.reader.Verdict.TheVariants.{Open, On}
 use Rattle.hash_pages.specs.Reads.{Read}
 use Rattle.word_map.specs.Contents.{low}
 use Rattle.word_machine.proofs.Small.{if_case}
-use Rattle.cpu_core.specs.declared.moment.Moment.{Moment}
-use Rattle.cpu_core.specs.declared.moment.Moment.TheVariants.{Polling, First, Load, Mark}
-use Rattle.cpu_core.specs.declared.moment.ToLoad.{ToLoad}
-use Rattle.cpu_core.specs.declared.moment.ToLoad.TheVariants.{GotHead, GotBreak, OwnSel, Reading, AtPids, AtDepth, AtExit}
-use Rattle.cpu_core.specs.declared.moment.ToMark.{ToMark}
-use Rattle.cpu_core.specs.declared.moment.ToMark.TheVariants.{Closing, Returning}
-use Rattle.cpu_core.specs.declared.task.Task.{Task}
+use Rattle.task_core.specs.declared.moment.Moment.{Moment}
+use Rattle.task_core.specs.declared.moment.Moment.TheVariants.{Polling, First, Load, Mark}
+use Rattle.task_core.specs.declared.moment.ToLoad.{ToLoad}
+use Rattle.task_core.specs.declared.moment.ToLoad.TheVariants.{GotHead, GotBreak, OwnSel, Reading, AtPids, AtDepth, AtExit}
+use Rattle.task_core.specs.declared.moment.ToMark.{ToMark}
+use Rattle.task_core.specs.declared.moment.ToMark.TheVariants.{Closing, Returning}
+use Rattle.task_core.specs.declared.task.Task.{Task}
 use Rattle.cpu_core.specs.CpuSteps.{marks_in}
-use Rattle.cpu_core.specs.Leads.{fetched_to, is_fetching}
-use Rattle.cpu_core.specs.Setups.{PlainSetup, declared_in}
-use Rattle.cpu_core.specs.TaskOps.{first_op, op_at, op_of, present}
-use Rattle.cpu_core.specs.TaskSteps.{after_at, after_first, after_load, after_mark, guard_tested, judged, task_after, tested}
+use Rattle.task_core.specs.Leads.{fetched_to, is_fetching}
+use Rattle.task_core.specs.Setups.{PlainSetup, declared_in}
+use Rattle.task_core.specs.TaskOps.{first_op, op_at, op_of, present}
+use Rattle.task_core.specs.TaskSteps.{after_at, after_first, after_load, after_mark, guard_tested, judged, task_after, tested}
 
 -- ## the number of the next call
 

@@ -22,22 +22,22 @@ use Rattle.word_machine.proofs.Small.{if_case}
 use Rattle.cpu_core.specs.declared.parts.Parts.{Parts}
 use Rattle.cpu_core.specs.declared.parts.Phase.{Phase}
 use Rattle.cpu_core.specs.declared.parts.Phase.TheVariants as code
-use Rattle.cpu_core.specs.declared.moment.Moment.{Moment as CodeMoment}
-use Rattle.cpu_core.specs.declared.moment.Moment.TheVariants.{Polling}
-use Rattle.cpu_core.specs.declared.task.Task.{Task}
+use Rattle.task_core.specs.declared.moment.Moment.{Moment as CodeMoment}
+use Rattle.task_core.specs.declared.moment.Moment.TheVariants.{Polling}
+use Rattle.task_core.specs.declared.task.Task.{Task}
 use Rattle.cpu_core.specs.CpuFits.{CpuFits, FitsIn, GoFits}
 use Rattle.cpu_core.specs.CpuOps.{is_running, present_task, phase_op as phase_code_op}
 use Rattle.cpu_core.specs.CpuSteps.{marks_in, stamped, stepped, stepped_in, switched, ticked, went, with_step}
 use Rattle.cpu_core.specs.Cpus.{IsFor, cpu_of, most_marked, number_or, numbers, phase_in, tasks_by, tasks_now}
-use Rattle.cpu_core.specs.Fits.{TaskFits}
-use Rattle.cpu_core.specs.Leads.{is_fetching}
+use Rattle.task_core.specs.Fits.{TaskFits}
+use Rattle.task_core.specs.Leads.{is_fetching}
 use Rattle.cpu_core.specs.Marks.{Marks}
-use Rattle.cpu_core.specs.Setups.{setup_in}
-use Rattle.cpu_core.specs.Starts.{is_unmet}
-use Rattle.cpu_core.specs.States.{is_polling, moment_of, state_of}
-use Rattle.cpu_core.specs.TaskOps.{item_in, op_of}
-use Rattle.cpu_core.specs.TaskSteps.{task_after}
-use Rattle.cpu_core.specs.Tied.{IsTaskOf}
+use Rattle.task_core.specs.Setups.{setup_in}
+use Rattle.task_core.specs.Starts.{is_unmet}
+use Rattle.task_core.specs.States.{is_polling, moment_of, state_of}
+use Rattle.task_core.specs.TaskOps.{item_in, op_of}
+use Rattle.task_core.specs.TaskSteps.{task_after}
+use Rattle.task_core.specs.Tied.{IsTaskOf}
 use Rattle.cpu_core.proofs.CpuNext.{cpu-op-is, more-is, polls-is, task-for}
 use Rattle.cpu_core.proofs.FitsOperation.{task-fits}
 use Rattle.cpu_core.proofs.GoSteps.{count-fits, is-going, running, running-any, running-left}
@@ -45,10 +45,10 @@ use Rattle.cpu_core.proofs.GoStepsMoments.{fetching-is, unmet-is}
 use Rattle.cpu_core.proofs.GoStepsTask.{fetches-once, next-within}
 use Rattle.cpu_core.proofs.Lookups.{each-set, get-set, now-is, put-is, state-at}
 use Rattle.cpu_core.proofs.Numbers.{numbers-set}
-use Rattle.cpu_core.proofs.Rows.{step-is}
-use Rattle.cpu_core.proofs.Stays.{stays-of}
+use Rattle.task_core.proofs.Rows.{step-is}
+use Rattle.task_core.proofs.Stays.{stays-of}
 use Rattle.cpu_core.proofs.Switched.{IsReady, ready-for, switch-is, switched-for, switched-marked}
-use Rattle.cpu_core.proofs.TiedKept.{got-same}
+use Rattle.task_core.proofs.TiedKept.{got-same}
 
 -- ## what is marked has room
 

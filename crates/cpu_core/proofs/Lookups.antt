@@ -16,18 +16,18 @@ use Rattle.word_machine.specs.Task.{TaskState, task_start}
 use Rattle.word_machine.specs.Cpu.{first_of, has_more}
 use Rattle.word_machine.proofs.Small.{put_other, put_same}
 use Rattle.cpu_core.specs.declared.parts.Parts.{Parts}
-use Rattle.cpu_core.specs.declared.task.Task.{Task}
+use Rattle.task_core.specs.declared.task.Task.{Task}
 use Rattle.cpu_core.specs.Cpus.{number_or, numbered, numbers, state_or, tasks_by, tasks_now}
 use Rattle.cpu_core.specs.PlainPolls.{lent_words}
 use Rattle.cpu_core.specs.Polled.{viewed}
-use Rattle.cpu_core.specs.Starts.{is_left, view_of}
-use Rattle.cpu_core.specs.States.{state_of, users_in}
-use Rattle.cpu_core.specs.TaskOps.{top}
-use Rattle.cpu_core.specs.Tied.{IsTaskOf}
+use Rattle.task_core.specs.Starts.{is_left, view_of}
+use Rattle.task_core.specs.States.{state_of, users_in}
+use Rattle.task_core.specs.TaskOps.{top}
+use Rattle.task_core.specs.Tied.{IsTaskOf}
 use Rattle.cpu_core.specs.Turns.{any_left, first_left, next_left, with_words}
 use Rattle.cpu_core.proofs.Numbers.{Agrees, Rises, any-numbers, map-numbers, numbered-at, numbered-set, numbers-set, tasks-rise}
 use Rattle.cpu_core.proofs.Telling.{more-below}
-use Rattle.cpu_core.proofs.TiedLeft.{quiet-is}
+use Rattle.task_core.proofs.TiedLeft.{quiet-is}
 use Rattle.cpu_core.proofs.Turns.{after-place, drop-get, first-append, first-below, first-case, first-number, first-turn, next-turn, turn-left, turn-there}
 
 -- ## acts that are left

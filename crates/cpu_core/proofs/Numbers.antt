@@ -6,7 +6,7 @@ use Rattle.std.proofs.lemmas.Option.{none-some, same_Some}
 use Rattle.ft_base.specs.Job.{Task as DeclaredTask}
 use Rattle.ft_base.proofs.Small.{Each-weaker}
 use Rattle.plain_machine.specs.State.{tasks_from}
-use Rattle.cpu_core.specs.declared.task.Task.{Task}
+use Rattle.task_core.specs.declared.task.Task.{Task}
 use Rattle.cpu_core.specs.Cpus.{numbered, numbers}
 
 -- ## numbers that rise

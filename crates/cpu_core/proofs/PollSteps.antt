@@ -19,17 +19,17 @@ use Rattle.word_machine.specs.Task as machine_task
 use Rattle.word_machine.proofs.Small.{if_case}
 use Rattle.cpu_core.specs.declared.parts.Parts.{Parts}
 use Rattle.cpu_core.specs.declared.parts.Phase.TheVariants.{Going, Polling}
-use Rattle.cpu_core.specs.declared.moment.Moment.{Moment}
-use Rattle.cpu_core.specs.declared.moment.Moment.TheVariants as moment
-use Rattle.cpu_core.specs.declared.task.Task.{Task}
+use Rattle.task_core.specs.declared.moment.Moment.{Moment}
+use Rattle.task_core.specs.declared.moment.Moment.TheVariants as moment
+use Rattle.task_core.specs.declared.task.Task.{Task}
 use Rattle.cpu_core.specs.CpuOps.{is_running, present_task, runs}
 use Rattle.cpu_core.specs.CpuSteps.{ended_poll, ticked, with_poll}
 use Rattle.cpu_core.specs.Cpus.{IsFor, IsPolling, IsUnderWay, cpu_of, fetch_step, polling_in, phase_in, poll_steps}
-use Rattle.cpu_core.specs.Leads.{is_fetching}
+use Rattle.task_core.specs.Leads.{is_fetching}
 use Rattle.cpu_core.specs.PlainPolls.{lent_words, looked}
 use Rattle.cpu_core.specs.Polled.{acked, poll_at, polled_task, polling_at, view_of}
-use Rattle.cpu_core.specs.States.{is_polling, moment_at, users_in}
-use Rattle.cpu_core.specs.TaskOps.{top}
+use Rattle.task_core.specs.States.{is_polling, moment_at, users_in}
+use Rattle.task_core.specs.TaskOps.{top}
 use Rattle.cpu_core.specs.Turns.{any_left}
 use Rattle.cpu_core.proofs.CpuNext.{looked-is, more-is, within}
 use Rattle.cpu_core.proofs.GoSteps.{is-going, waiting}

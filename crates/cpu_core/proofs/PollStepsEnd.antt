@@ -14,24 +14,24 @@ use Rattle.word_machine.specs.Cpu.{Cpu, any_has_more, has_more, switched as mach
 use Rattle.word_machine.specs.Cpu as machine
 use Rattle.cpu_core.specs.declared.parts.Parts.{Parts}
 use Rattle.cpu_core.specs.declared.parts.Phase.TheVariants.{Going, Polling, Over}
-use Rattle.cpu_core.specs.declared.moment.Moment.TheVariants as moment
-use Rattle.cpu_core.specs.declared.task.Task.{Task}
+use Rattle.task_core.specs.declared.moment.Moment.TheVariants as moment
+use Rattle.task_core.specs.declared.task.Task.{Task}
 use Rattle.cpu_core.specs.CpuOps.{present_task}
 use Rattle.cpu_core.specs.CpuSteps.{act_begun, after_poll, ended_poll, switched, with_poll, with_poll_over}
 use Rattle.cpu_core.specs.Cpus.{IsBeforePoll, cpu_of, number_or, numbers, tasks_by}
 use Rattle.cpu_core.specs.Polled.{poll_at, polling_at, view_of}
-use Rattle.cpu_core.specs.Starts.{is_left}
-use Rattle.cpu_core.specs.States.{state_of}
-use Rattle.cpu_core.specs.TaskOps.{present}
-use Rattle.cpu_core.specs.TaskSteps.{begun}
-use Rattle.cpu_core.specs.Tied.{IsTaskOf}
+use Rattle.task_core.specs.Starts.{is_left}
+use Rattle.task_core.specs.States.{state_of}
+use Rattle.task_core.specs.TaskOps.{present}
+use Rattle.task_core.specs.TaskSteps.{begun}
+use Rattle.task_core.specs.Tied.{IsTaskOf}
 use Rattle.cpu_core.specs.Turns.{any_left, with_words}
 use Rattle.cpu_core.proofs.Begun.{begun-is}
 use Rattle.cpu_core.proofs.Lookups.{any-more, get-set, put-is, state-at, words-none}
 use Rattle.cpu_core.proofs.Numbers.{numbers-set}
 use Rattle.cpu_core.proofs.PollStepsWords.{with_task_word, words-number, words-there}
 use Rattle.cpu_core.proofs.Switched.{switch-is}
-use Rattle.cpu_core.proofs.TiedKept.{begun-same}
+use Rattle.task_core.proofs.TiedKept.{begun-same}
 
 -- ## a CPU in a poll
 

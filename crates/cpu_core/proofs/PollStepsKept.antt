@@ -15,24 +15,24 @@ use Rattle.word_machine.specs.Cpu.{Cpu}
 use Rattle.word_machine.proofs.Small.{if_case}
 use Rattle.cpu_core.specs.declared.parts.Parts.{Parts}
 use Rattle.cpu_core.specs.declared.parts.Phase.TheVariants.{Going, Over}
-use Rattle.cpu_core.specs.declared.moment.Moment.TheVariants as moment
-use Rattle.cpu_core.specs.declared.task.Task.{Task}
+use Rattle.task_core.specs.declared.moment.Moment.TheVariants as moment
+use Rattle.task_core.specs.declared.task.Task.{Task}
 use Rattle.cpu_core.specs.CpuOps.{present_task}
 use Rattle.cpu_core.specs.CpuSteps.{act_begun, after_poll, ended_poll, switched, ticked, with_poll_over}
 use Rattle.cpu_core.specs.Cpus.{IsFor, IsOver, IsPolling, IsUnderWay, most_marked, poll_steps}
 use Rattle.cpu_core.specs.PlainPolls.{looked, over}
 use Rattle.cpu_core.specs.Polled.{view_of}
-use Rattle.cpu_core.specs.Starts.{is_left}
-use Rattle.cpu_core.specs.TaskOps.{present}
-use Rattle.cpu_core.specs.TaskSteps.{begun}
-use Rattle.cpu_core.specs.Tied.{IsTaskOf}
+use Rattle.task_core.specs.Starts.{is_left}
+use Rattle.task_core.specs.TaskOps.{present}
+use Rattle.task_core.specs.TaskSteps.{begun}
+use Rattle.task_core.specs.Tied.{IsTaskOf}
 use Rattle.cpu_core.specs.Turns.{any_left, with_words}
 use Rattle.cpu_core.proofs.Begun.{begun-of}
 use Rattle.cpu_core.proofs.Lookups.{each-set, get-set, words-any, words-length, words-none, words-numbers}
 use Rattle.cpu_core.proofs.Numbers.{numbers-set}
 use Rattle.cpu_core.proofs.PollStepsEnd.{CanEnd, IsBegun, acting_core, done_core, going_core, polling_core, present-there, told_tasks}
 use Rattle.cpu_core.proofs.Switched.{IsReady, switched-for, switched-marked}
-use Rattle.cpu_core.proofs.TiedKept.{begun-same}
+use Rattle.task_core.proofs.TiedKept.{begun-same}
 
 -- ## what is marked
 

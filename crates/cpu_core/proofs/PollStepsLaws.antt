@@ -14,15 +14,15 @@ use Rattle.word_map.specs.Shapes.{shape_of}
 use Rattle.word_machine.specs.Cpu.{cpu_got}
 use Rattle.cpu_core.specs.declared.parts.Parts.{Parts}
 use Rattle.cpu_core.specs.declared.parts.Phase.TheVariants.{Going, Polling}
-use Rattle.cpu_core.specs.declared.task.Task.{Task}
+use Rattle.task_core.specs.declared.task.Task.{Task}
 use Rattle.cpu_core.specs.CpuFits.{CanBeginAct, PollFits, StartFits}
 use Rattle.cpu_core.specs.CpuOps.{is_running, present_task}
 use Rattle.cpu_core.specs.CpuSteps.{began_poll, polled_on, ticked}
 use Rattle.cpu_core.specs.Cpus.{IsBeforePoll, IsFor, IsIn, IsPolling, IsUnderWay, cpu_of, tasks_now}
 use Rattle.cpu_core.specs.PlainPolls.{lent_words}
-use Rattle.cpu_core.specs.Starts.{is_left, view_of}
-use Rattle.cpu_core.specs.TaskOps.{present}
-use Rattle.cpu_core.specs.Tied.{IsTaskOf}
+use Rattle.task_core.specs.Starts.{is_left, view_of}
+use Rattle.task_core.specs.TaskOps.{present}
+use Rattle.task_core.specs.Tied.{IsTaskOf}
 use Rattle.cpu_core.specs.Turns.{any_left}
 use Rattle.cpu_core.proofs.Begun.{can-begin_act}
 use Rattle.cpu_core.proofs.GoSteps.{is-going, waiting}

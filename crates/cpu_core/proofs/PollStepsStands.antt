@@ -12,15 +12,15 @@ use Rattle.word_map.specs.Words.{at_put}
 use Rattle.word_machine.specs.Task.{TaskState, quiet_word}
 use Rattle.word_machine.specs.Cpu.{Cpu, with_word, ticked as machine_ticked}
 use Rattle.cpu_core.specs.declared.parts.Parts.{Parts}
-use Rattle.cpu_core.specs.declared.task.Task.{Task}
+use Rattle.task_core.specs.declared.task.Task.{Task}
 use Rattle.cpu_core.specs.CpuOps.{present_task}
 use Rattle.cpu_core.specs.CpuSteps.{ticked}
 use Rattle.cpu_core.specs.Cpus.{IsBeforePoll, IsFor, cpu_of, numbers, tasks_by, tasks_now}
 use Rattle.cpu_core.specs.PlainPolls.{lent_words, looked}
 use Rattle.cpu_core.specs.Polled.{acked, poll_at, polled_task, task_told, view_of}
-use Rattle.cpu_core.specs.Starts.{view_of as task_view}
-use Rattle.cpu_core.specs.States.{state_of}
-use Rattle.cpu_core.specs.Tied.{IsTaskOf}
+use Rattle.task_core.specs.Starts.{view_of as task_view}
+use Rattle.task_core.specs.States.{state_of}
+use Rattle.task_core.specs.Tied.{IsTaskOf}
 use Rattle.cpu_core.specs.Turns.{any_left, with_words}
 use Rattle.cpu_core.proofs.Begun.{told-of}
 use Rattle.cpu_core.proofs.CpuNext.{looked-is, now-numbers}

@@ -13,10 +13,10 @@ use Rattle.grace_core.specs.KeptPoll.{HasTold}
 use Rattle.grace_core.specs.Views.{told, told_word}
 use Rattle.grace_core.proofs.PollLaws.{told_low-told}
 use Rattle.grace_core.proofs.Untold.{is_untold, untold-within}
-use Rattle.cpu_core.specs.declared.task.Task.{Task}
+use Rattle.task_core.specs.declared.task.Task.{Task}
 use Rattle.cpu_core.specs.Cpus.{number_or}
 use Rattle.cpu_core.specs.PlainPolls.{looked}
-use Rattle.cpu_core.specs.Starts.{is_left, view_of}
+use Rattle.task_core.specs.Starts.{is_left, view_of}
 use Rattle.cpu_core.specs.Turns.{any_left, with_words}
 use Rattle.cpu_core.proofs.Lookups.{words-again, words-get, words-length, words-set, worded}
 

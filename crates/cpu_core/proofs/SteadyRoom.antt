@@ -9,8 +9,8 @@ use Rattle.word_machine.specs.Calls.{under_by, under_call}
 use Rattle.word_machine.specs.Task.{OpenCall, TaskState, Moment, First, Acting, is_quiet, user_of}
 use Rattle.word_machine.specs.Tasks.{acts_by, is_returning, open_by, scripted_of}
 use Rattle.word_machine.proofs.MarkEnter.{open_first}
-use Rattle.cpu_core.specs.Steady.{AreSteady, HasCallRoom, IsSteady, StaysWithin, act_calls}
-use Rattle.cpu_core.proofs.SteadyContexts.{few-act-calls}
+use Rattle.task_core.specs.Steady.{AreSteady, HasCallRoom, IsSteady, StaysWithin, act_calls}
+use Rattle.task_core.proofs.SteadyContexts.{few-act-calls}
 
 -- no more scripted calls are open now than there may be
 within : (limit n : ℕ) (acts : List TaskAct) → StaysWithin limit n acts → n ≤ limit

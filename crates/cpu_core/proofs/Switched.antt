@@ -14,13 +14,13 @@ use Rattle.word_machine.proofs.Small.{if_case}
 use Rattle.cpu_core.specs.declared.parts.Parts.{Parts}
 use Rattle.cpu_core.specs.declared.parts.Phase.{Phase as CodePhase}
 use Rattle.cpu_core.specs.declared.parts.Phase.TheVariants as code
-use Rattle.cpu_core.specs.declared.task.Task.{Task}
+use Rattle.task_core.specs.declared.task.Task.{Task}
 use Rattle.cpu_core.specs.CpuOps.{present_task}
 use Rattle.cpu_core.specs.CpuSteps.{switched, switched_from}
 use Rattle.cpu_core.specs.Cpus.{IsFor, IsGoing, IsIn, cpu_of, fetch_step, most_marked, number_or, numbers, phase_in, tasks_now}
-use Rattle.cpu_core.specs.Setups.{setup_in}
-use Rattle.cpu_core.specs.Starts.{is_left}
-use Rattle.cpu_core.specs.Tied.{IsTaskOf}
+use Rattle.task_core.specs.Setups.{setup_in}
+use Rattle.task_core.specs.Starts.{is_left}
+use Rattle.task_core.specs.Tied.{IsTaskOf}
 use Rattle.cpu_core.specs.Turns.{any_left, next_left}
 use Rattle.cpu_core.proofs.Lookups.{more-at, next-is, next-left, next-there, now-is}
 

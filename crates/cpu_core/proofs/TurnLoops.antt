@@ -1,7 +1,7 @@
 -- One more task of a CPU has started.
 use Rattle.std.proofs.Common.{ℕ, List, [], ◌∷◌, ◌++◌}
 use Rattle.user_specs.specs.declared.plan.TaskPlan.{TaskPlan}
-use Rattle.cpu_core.specs.declared.task.Task.{Task}
+use Rattle.task_core.specs.declared.task.Task.{Task}
 use Rattle.cpu_core.specs.Turns.{AreStarted, IsStarted}
 
 pub started-push : (frames : ℕ) (ps : List TaskPlan) (ts : List Task) (p : TaskPlan) (t : Task) → AreStarted frames ps ts → IsStarted frames p t

@@ -6,9 +6,9 @@ use Rattle.std.proofs.lemmas.Bool.{le-leb, le-ltb, lt-leb, lt-ltb, ltb-false, lt
 use Rattle.std.proofs.lemmas.Option.{none-some, same_Some, slice_get_past}
 use Rattle.ft_base.proofs.Small.{Each-weaker, false_true}
 use Rattle.word_machine.specs.Cpu.{first_of}
-use Rattle.cpu_core.specs.declared.task.Task.{Task}
+use Rattle.task_core.specs.declared.task.Task.{Task}
 use Rattle.cpu_core.specs.Cpus.{number_or, numbers}
-use Rattle.cpu_core.specs.Starts.{is_left}
+use Rattle.task_core.specs.Starts.{is_left}
 use Rattle.cpu_core.specs.Turns.{any_left, first_left, left_from, next_by, next_left}
 use Rattle.cpu_core.proofs.Numbers.{Agrees, Rises}
 use Rattle.cpu_core.proofs.Telling.{more-below}

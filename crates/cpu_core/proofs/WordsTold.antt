@@ -6,13 +6,13 @@ use Rattle.std.proofs.lemmas.List.{length-set}
 use Rattle.ft_base.specs.declared.task.TaskAct.{TaskAct}
 use Rattle.ft_base.specs.declared.task.TaskAct.TheVariants.{Call, Ret, Raise, Lower, After}
 use Rattle.grace_core.specs.declared.view.TaskView.{TaskView}
-use Rattle.cpu_core.specs.declared.task.Task.{Task}
+use Rattle.task_core.specs.declared.task.Task.{Task}
 use Rattle.cpu_core.specs.declared.parts.Parts.{Parts}
 use Rattle.cpu_core.specs.CpuFits.{CanBeginAct, CanEndPoll}
 use Rattle.cpu_core.specs.CpuSteps.{with_poll_over}
-use Rattle.cpu_core.specs.Fits.{CanBegin, HasAct}
+use Rattle.task_core.specs.Fits.{CanBegin, HasAct}
 use Rattle.cpu_core.specs.PlainPolls.{lent_words}
-use Rattle.cpu_core.specs.TaskOps.{present}
+use Rattle.task_core.specs.TaskOps.{present}
 use Rattle.cpu_core.specs.Turns.{any_left, with_words}
 use Rattle.cpu_core.proofs.Lookups.{words-any, words-length}
 

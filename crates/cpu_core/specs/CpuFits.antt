@@ -7,9 +7,9 @@ use Rattle.cpu_core.specs.declared.parts.Parts.{Parts}
 use Rattle.cpu_core.specs.declared.parts.Phase.{Phase}
 use Rattle.cpu_core.specs.declared.parts.Phase.TheVariants.{Going, Polling, Over}
 use Rattle.cpu_core.specs.CpuOps.{is_running, present_task}
-use Rattle.cpu_core.specs.Fits.{CanBegin, HasAct, IsTaskThere, TaskFits}
+use Rattle.task_core.specs.Fits.{CanBegin, HasAct, IsTaskThere, TaskFits}
 use Rattle.cpu_core.specs.PlainPolls.{looked}
-use Rattle.cpu_core.specs.TaskOps.{item_in, op_of, present}
+use Rattle.task_core.specs.TaskOps.{item_in, op_of, present}
 use Rattle.cpu_core.specs.Turns.{any_left}
 
 -- the word of the next operation is there

@@ -6,9 +6,9 @@ use Rattle.word_map.specs.Ops.{WordOp, Load}
 use Rattle.cpu_core.specs.declared.parts.Parts.{Parts}
 use Rattle.cpu_core.specs.declared.parts.Phase.{Phase}
 use Rattle.cpu_core.specs.declared.parts.Phase.TheVariants.{Going, Polling, Over}
-use Rattle.cpu_core.specs.declared.task.Task.{Task}
-use Rattle.cpu_core.specs.States.{is_polling}
-use Rattle.cpu_core.specs.TaskOps.{op_of}
+use Rattle.task_core.specs.declared.task.Task.{Task}
+use Rattle.task_core.specs.States.{is_polling}
+use Rattle.task_core.specs.TaskOps.{op_of}
 
 -- the present task
 abbrev pub present_task : Parts → Option Task

@@ -9,13 +9,13 @@ use Rattle.word_map.specs.Ops.{WordOp}
 use Rattle.cpu_core.specs.declared.parts.Parts.{Parts}
 use Rattle.cpu_core.specs.declared.parts.Phase.{Phase}
 use Rattle.cpu_core.specs.declared.parts.Phase.TheVariants.{Going, Polling, Over}
-use Rattle.cpu_core.specs.declared.task.Task.{Task}
+use Rattle.task_core.specs.declared.task.Task.{Task}
 use Rattle.cpu_core.specs.CpuOps.{is_running, present_task}
-use Rattle.cpu_core.specs.Leads.{is_fetching}
+use Rattle.task_core.specs.Leads.{is_fetching}
 use Rattle.cpu_core.specs.PlainPolls.{lent_words, looked, over}
-use Rattle.cpu_core.specs.Starts.{is_left, is_unmet}
-use Rattle.cpu_core.specs.TaskOps.{item_in, op_of, present}
-use Rattle.cpu_core.specs.TaskSteps.{begun, task_after}
+use Rattle.task_core.specs.Starts.{is_left, is_unmet}
+use Rattle.task_core.specs.TaskOps.{item_in, op_of, present}
+use Rattle.task_core.specs.TaskSteps.{begun, task_after}
 use Rattle.cpu_core.specs.Turns.{any_left, next_left, with_words}
 
 -- ## which task runs

@@ -14,16 +14,16 @@ use Rattle.word_machine.specs.Task.{TaskState, task_start}
 use Rattle.cpu_core.specs.declared.parts.Parts.{Parts}
 use Rattle.cpu_core.specs.declared.parts.Phase.{Phase as CodePhase}
 use Rattle.cpu_core.specs.declared.parts.Phase.TheVariants as code
-use Rattle.cpu_core.specs.declared.moment.Moment.TheVariants as moment
-use Rattle.cpu_core.specs.declared.task.Task.{Task}
+use Rattle.task_core.specs.declared.moment.Moment.TheVariants as moment
+use Rattle.task_core.specs.declared.task.Task.{Task}
 use Rattle.cpu_core.specs.CpuOps.{present_task}
-use Rattle.cpu_core.specs.Leads.{is_fetching}
+use Rattle.task_core.specs.Leads.{is_fetching}
 use Rattle.cpu_core.specs.Marks.{Marks}
 use Rattle.cpu_core.specs.PlainPolls.{lent_words, looked}
-use Rattle.cpu_core.specs.Setups.{setup_in}
-use Rattle.cpu_core.specs.Starts.{is_left}
-use Rattle.cpu_core.specs.States.{state_of}
-use Rattle.cpu_core.specs.Tied.{IsTaskOf}
+use Rattle.task_core.specs.Setups.{setup_in}
+use Rattle.task_core.specs.Starts.{is_left}
+use Rattle.task_core.specs.States.{state_of}
+use Rattle.task_core.specs.Tied.{IsTaskOf}
 use Rattle.cpu_core.specs.Turns.{any_left, with_words}
 
 -- ## tasks

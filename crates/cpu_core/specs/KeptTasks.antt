@@ -1,7 +1,7 @@
 -- The fields of a CPU's tasks, and what contracts see of them.
 use Rattle.std.specs.Prelude.{◌≤◌, List, length}
 use Rattle.ft_base.specs.declared.limits.TheConstants.{TASKS}
-use Rattle.cpu_core.specs.declared.task.Task.{Task}
+use Rattle.task_core.specs.declared.task.Task.{Task}
 use Rattle.cpu_core.specs.declared.tasks.Tasks.TheInside.{Inside}
 
 -- what contracts see

@@ -5,8 +5,8 @@ use Rattle.grace_core.specs.declared.poller.PollPhase.TheVariants.{Asking, Ackin
 use Rattle.grace_core.specs.declared.view.TaskView.{TaskView}
 use Rattle.grace_core.specs.Polls.{Poll}
 use Rattle.grace_core.specs.Views.{PlainView}
-use Rattle.cpu_core.specs.declared.task.Task.{Task}
-use Rattle.cpu_core.specs.Starts.{view_of}
+use Rattle.task_core.specs.declared.task.Task.{Task}
+use Rattle.task_core.specs.Starts.{view_of}
 use Rattle.cpu_core.specs.Turns.{any_left}
 
 -- the poll that is under way or was the last, and for how many tasks it is

@@ -14,7 +14,7 @@ use Rattle.word_machine.specs.Laws.{CpuTakes}
 use Rattle.word_machine.specs.Limits.{IsLimited}
 use Rattle.cpu_core.specs.declared.parts.Parts.{Parts}
 use Rattle.cpu_core.specs.Cpus.{IsFor, cpu_of}
-use Rattle.cpu_core.specs.TaskOps.{item_in}
+use Rattle.task_core.specs.TaskOps.{item_in}
 
 -- what is declared for a CPU is that of this job's
 pub record IsCpuOf (job : Job) (plan : CpuPlan) (cpu : ℕ) (specs : List Spec) (frames : ℕ) (shape : Shape) : Type 0 where

@@ -4,8 +4,8 @@ use Rattle.std.specs.Option.{option_map}
 use Rattle.std.specs.List.{list_any}
 use Rattle.user_specs.specs.declared.plan.TaskPlan.{TaskPlan}
 use Rattle.grace_core.specs.declared.view.TaskView.{TaskView}
-use Rattle.cpu_core.specs.declared.task.Task.{Task}
-use Rattle.cpu_core.specs.Starts.{HasRoomFor, is_left, task_at_start}
+use Rattle.task_core.specs.declared.task.Task.{Task}
+use Rattle.task_core.specs.Starts.{HasRoomFor, is_left, task_at_start}
 
 -- a task of a plan before its first act, with room for its calls
 pub record IsStarted (frames : ℕ) (plan : TaskPlan) (t : Task) : Type 0 where

@@ -10,17 +10,18 @@ ghost use Rattle.word_map.specs.Shapes.{shape_of};
 use crate::marked::Marked;
 use crate::parts::{Parts, Phase};
 use crate::polls::Polls;
-use crate::setup::Setup;
 use crate::tasks::Tasks;
 use ft_base::{CpuNo, NoMemory, Stamped};
 use std::alloc::Global;
+use std::fmt;
 use std::marker::Model;
+use task_core::Setup;
 use user_specs::{CpuPlan, Spec};
 use word_map::{Op, WordMap};
 
 /// A CPU with its tasks, and the items that it has marked. Contracts see its parts, of which
 /// `cpu_of` makes the word machine's CPU.
-#[derive(Debug, Drop)]
+#[derive(Drop)]
 pub struct Cpu {
     parts: Parts,
 }
@@ -35,6 +36,15 @@ impl Model for Cpu {
     ghost view = { λ d. d.parts };
 
     ghost invariant = { λ d. HasNext d.parts };
+}
+
+/// Shows what it has marked.
+impl fmt::Debug for Cpu {
+    fn fmt<W: fmt::Write>(&self, f: &mut fmt::Formatter<W>) -> fmt::Result {
+        f.debug_struct("Cpu")
+            .field("items", &self.items())
+            .finish_non_exhaustive()
+    }
 }
 
 impl Cpu {

@@ -12,7 +12,7 @@ ghost use Rattle.cpu_core.specs.CpuFits.{CpuFits, HasNext};
 ghost use Rattle.cpu_core.specs.CpuOps.{cpu_op};
 ghost use Rattle.cpu_core.specs.CpuSteps.{marks_in, stepped};
 ghost use Rattle.cpu_core.specs.Cpus.{IsFor, cpu_of};
-ghost use Rattle.cpu_core.specs.TaskOps.{item_in};
+ghost use Rattle.task_core.specs.TaskOps.{item_in};
 
 /// A CPU's next operation is the machine's, and its word is there.
 pub fn a_cpu_has_the_machines_operation()

@@ -1,14 +1,11 @@
-//! The parts of a CPU and the word machine are one: what a poll, a walk of the list, a read of a
-//! user's sets and the stacks of a task do is what the machine's rows do. Each law is a function with
-//! an empty body, whose clauses say it.
+//! The parts of a CPU and the word machine are one: what a poll and the stacks of a task do is what the
+//! machine's rows do. Each law is a function with an empty body, whose clauses say it.
 
 ghost use Rattle.std.specs.Prelude.{◌≡◌, ◌<◌, ◌↔◌, ℕ, Bool, true, false, not, ◌&&◌, List, [], ◌∷◌, drop, get_or, length, map};
 ghost use Rattle.std.specs.List.{AllByRecursion as Each};
 ghost use Rattle.std.specs.Option.{option_map};
 ghost use Rattle.ft_base.specs.declared.context.Ctx.{Ctx};
-ghost use Rattle.ft_base.specs.declared.item.Ran.TheVariants.{List as ByList};
 ghost use Rattle.ft_base.specs.declared.number.CallNo.{CallNo};
-ghost use Rattle.ft_base.specs.declared.number.UserNo.{UserNo};
 ghost use Rattle.ft_base.specs.declared.user.Kind.{Kind};
 ghost use Rattle.ft_base.specs.Desk.{spec_at};
 ghost use Rattle.ft_base.specs.Job.{Job, no_task};
@@ -19,28 +16,22 @@ ghost use Rattle.plain_machine.specs.State.{has_acts, misses_frame, tasks_of};
 ghost use Rattle.grace_core.specs.declared.poller.PollPhase.TheVariants.{Asking, Acking, Telling};
 ghost use Rattle.grace_core.specs.Polls.{poll_got, poll_next, told_at, untold};
 ghost use Rattle.grace_core.specs.Views.{acknowledged, told_word};
-ghost use Rattle.ops_list.specs.declared.walker.WalkPhase.{WalkPhase};
-ghost use Rattle.ops_list.specs.declared.walker.WalkPhase.TheVariants.{Starting, At};
-ghost use Rattle.ops_list.specs.Walks.{walk_after, walk_at, walk_op};
-ghost use Rattle.hash_pages.specs.declared.reader.ReadPhase.TheVariants.{AtSel, AtFilter, AtNotrace};
-ghost use Rattle.hash_pages.specs.Reads.{read_got, read_next};
 ghost use Rattle.return_stack.specs.Calls.{caller_of, frames_in, is_full, top_call, with_call, with_hook, with_user, without_empty};
 ghost use Rattle.graph_users.specs.Depth.{MayEnter};
 ghost use Rattle.fprobe.specs.declared.entry.Probe.{Probe};
 ghost use Rattle.fprobe.specs.declared.entry.Probe.TheVariants.{Plain, Wanted, Cancelled, Missed};
 ghost use Rattle.fprobe.specs.Entry.{calls_after};
-ghost use Rattle.word_machine.specs.Task.{AtFirst, AtLink, Moment, OpenCall, Polling, TaskState, TestFilter, TestNotrace, TestSel};
-ghost use Rattle.word_machine.specs.Task.{after_user, around, at_moment, begin_call, begun_act, call_got, call_op, called_back};
-ghost use Rattle.word_machine.specs.Task.{fetched, task_got, task_start};
+ghost use Rattle.word_machine.specs.Task.{OpenCall, Polling, TaskState};
+ghost use Rattle.word_machine.specs.Task.{around, begun_act, called_back};
+ghost use Rattle.word_machine.specs.Task.{task_got, task_start};
 ghost use Rattle.word_machine.specs.Task.{is_too_deep, level_of, opened, quiet_word, top_of};
 ghost use Rattle.word_machine.specs.Cpu.{Cpu, StoringAck, StoringQuiet, ack_value, any_has_more, going_op, phase_got, phase_op};
 ghost use Rattle.word_machine.specs.Cpu.{polling, quiet_next, with_word};
 ghost use Rattle.word_machine.specs.Laws.{PresentTakes};
 ghost use Rattle.word_machine.specs.Limits.{AreRaised};
 ghost use Rattle.cpu_core.specs.Polled.{acked, poll_at, polled_task, polling_at, task_told, view_of, viewed};
-ghost use Rattle.cpu_core.specs.Moments.{arrived_at, read_at, reading_at, walking_at};
-ghost use Rattle.cpu_core.specs.Framed.{AreFramed, probe_of, stack_of, stacked};
-ghost use Rattle.cpu_core.specs.Steady.{IsSteady};
+ghost use Rattle.task_core.specs.Framed.{AreFramed, probe_of, stack_of, stacked};
+ghost use Rattle.task_core.specs.Steady.{IsSteady};
 
 /// What a poll is to tell is what the machine's CPU is to tell: its acknowledgement, the word of a
 /// task, and the first task whose word is to change.
@@ -88,51 +79,6 @@ pub fn a_poll_stays_the_machines()
     ensures told { (job : Job) (me : Cpu) (r i v : ℕ) → i < length (tasks_of job me.number)
         → let p = poll_got (poll_at job me (Telling r i)) v in
         p ≡ poll_at job (task_told me r (polled_task job me i)) p.phase }
-{}
-
-/// A walk begins where a fetch has found the list, and goes on where a user is passed by; its next
-/// load is the machine's, of the head or of a link. After the value the task asks the user that it
-/// names, or, at the end of the list, the dispatch is over.
-pub fn a_walk_is_the_machines()
-    ensures begins { fetched 1 ≡ walking_at Starting }
-    ensures passes_by { (u : UserNo) → after_user ByList u.0 ≡ walking_at (At u) }
-    ensures at_no_user { (phase : WalkPhase) → walk_at phase ≡ None → arrived_at phase ≡ walking_at phase }
-    ensures head { (x : TaskState) (c : OpenCall) (below : List OpenCall)
-        → walk_op Starting ≡ call_op x c below (walking_at Starting) }
-    ensures link { (x : TaskState) (c : OpenCall) (below : List OpenCall) (u : UserNo)
-        → walk_op (At u) ≡ call_op x c below (walking_at (At u)) }
-    ensures first { (job : Job) (x : TaskState) (c : OpenCall) (below : List OpenCall) (v : ℕ)
-        → call_got job x c below AtFirst v ≡ at_moment x (arrived_at (walk_after Starting v)) }
-    ensures next { (job : Job) (x : TaskState) (c : OpenCall) (below : List OpenCall) (u : UserNo) (v : ℕ)
-        → call_got job x c below (AtLink u.0) v ≡ at_moment x (arrived_at (walk_after (At u) v)) }
-{}
-
-/// A read of a user begins where the walk arrives at that user; its next load is the machine's, of
-/// the user's state or of a word of one of its sets.
-pub fn a_read_is_the_machines()
-    ensures begins { (u : UserNo) (on : ℕ → Moment) → arrived_at (At u) ≡ reading_at u.0 on AtSel }
-    ensures state { (job : Job) (x : TaskState) (c : OpenCall) (below : List OpenCall) (u : ℕ)
-        → read_next (read_at job c u AtSel) ≡ call_op x c below (TestSel u) }
-    ensures filter { (job : Job) (x : TaskState) (c : OpenCall) (below : List OpenCall) (u copy reg : ℕ)
-        → read_next (read_at job c u (AtFilter copy reg)) ≡ call_op x c below (TestFilter u copy reg) }
-    ensures notrace { (job : Job) (x : TaskState) (c : OpenCall) (below : List OpenCall) (u copy reg : ℕ)
-        → read_next (read_at job c u (AtNotrace copy reg)) ≡ call_op x c below (TestNotrace u copy reg) }
-{}
-
-/// After a value the task stands where the read does; once the read has found that the user is on,
-/// the task begins the user's tests.
-pub fn a_read_goes_on_as_the_machines()
-    ensures state { (job : Job) (x : TaskState) (c : OpenCall) (below : List OpenCall) (u v : ℕ)
-        → let r = read_got (read_at job c u AtSel) v in
-        call_got job x c below (TestSel u) v ≡ at_moment x (reading_at u (begin_call job c below u) r.phase) }
-    ensures filter { (job : Job) (x : TaskState) (c : OpenCall) (below : List OpenCall) (u copy reg v : ℕ)
-        → let r = read_got (read_at job c u (AtFilter copy reg)) v in
-        call_got job x c below (TestFilter u copy reg) v
-        ≡ at_moment x (reading_at u (begin_call job c below u) r.phase) }
-    ensures notrace { (job : Job) (x : TaskState) (c : OpenCall) (below : List OpenCall) (u copy reg v : ℕ)
-        → let r = read_got (read_at job c u (AtNotrace copy reg)) v in
-        call_got job x c below (TestNotrace u copy reg) v
-        ≡ at_moment x (reading_at u (begin_call job c below u) r.phase) }
 {}
 
 /// The stacks tell of a task's open calls what the machine knows of them: how many hold a frame, the

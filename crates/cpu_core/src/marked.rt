@@ -9,7 +9,7 @@ use std::marker::Model;
 
 /// The items that a CPU has marked, in the order of their places. Contracts see how many there can be
 /// too.
-#[derive(Debug, Drop)]
+#[derive(Drop)]
 pub(crate) struct Marked {
     items: Vec<Stamped>,
     room: u32,

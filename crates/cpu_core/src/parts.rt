@@ -5,21 +5,20 @@ ghost use Rattle.std.specs.Option.{option_map};
 ghost use Rattle.word_map.specs.Ops.{placed};
 ghost use Rattle.cpu_core.specs.CpuOps.{is_running, cpu_op, present_task};
 ghost use Rattle.cpu_core.specs.CpuSteps.{began_poll, ended_poll, marks_in, polled_on, stepped, switched, went, with_step};
-ghost use Rattle.cpu_core.specs.TaskOps.{op_of};
-ghost use Rattle.cpu_core.specs.TaskSteps.{task_after};
+ghost use Rattle.task_core.specs.TaskOps.{op_of};
+ghost use Rattle.task_core.specs.TaskSteps.{task_after};
 ghost use Rattle.cpu_core.specs.CpuFits.{CanEndPoll, CanSwitch, CpuFits, GoFits, HasNext, PollFits, StartFits};
 
 use crate::marked::Marked;
-use crate::moment::Moment;
 use crate::polls::Polls;
-use crate::setup::Setup;
 use crate::tasks::Tasks;
 use ft_base::Stamped;
+use task_core::Setup;
 use word_map::Op;
 use word_map::halves::low;
 
 /// Where a CPU stands.
-#[derive(Clone, Copy, Debug, PartialEq, Eq)]
+#[derive(Clone, Copy)]
 pub(crate) enum Phase {
     /// At its present task, or before its last poll.
     Going,
@@ -31,7 +30,7 @@ pub(crate) enum Phase {
 }
 
 /// The parts of a CPU.
-#[derive(Debug, Drop)]
+#[derive(Drop)]
 pub(crate) struct Parts {
     pub(crate) setup: Setup,
     pub(crate) polls: Polls,
@@ -55,11 +54,11 @@ impl Parts {
         match self.phase {
             Phase::Going => {
                 if self.is_running() {
-                    self.tasks.task(self.present).op(&self.setup.map)
+                    self.tasks.task(self.present).op(&self.setup.map())
                 } else {
                     // The first operation of a poll. The poll itself begins when it is made.
                     Some(Op::Load {
-                        word: self.setup.map.want(),
+                        word: self.setup.map().want(),
                     })
                 }
             }
@@ -93,8 +92,7 @@ impl Parts {
     fn is_running(&self) -> bool
         ensures { result ≡ is_running self.now }
     {
-        self.present < self.tasks.len()
-            && !matches!(&self.tasks.task(self.present).moment, Moment::Polling)
+        self.present < self.tasks.len() && !self.tasks.task(self.present).is_polling()
     }
 
     /// The operation of the present task gave this value.
@@ -107,7 +105,7 @@ impl Parts {
         // Never between the two loads of a fetch: the next task's poll would acknowledge a request for
         // the CPU, control would change the site, and this task would load the rest of another
         // instruction.
-        if !self.tasks.task(self.present).moment.is_fetching() {
+        if !self.tasks.task(self.present).is_fetching() {
             self.switch(unmet);
         }
     }

@@ -21,7 +21,7 @@ use word_map::{Op, WordMap};
 
 /// The polls of a CPU. Contracts see the poll that is under way or was the last, and how many tasks
 /// it is for.
-#[derive(Debug, Drop)]
+#[derive(Drop)]
 pub(crate) struct Polls {
     poller: Poller,
     /// What the CPU lends to a poll; none while the poll has it.

@@ -3,29 +3,28 @@
 ghost use Rattle.std.specs.Prelude.{◌≡◌, ◌<◌, ◌≤◌, length, map, set, slice_get, Some, All, IfOk, IsSomeAnd};
 ghost use Rattle.ft_base.specs.declared.limits.TheConstants.{ACTS, FRAMES, TASKS};
 ghost use Rattle.user_specs.specs.declared.plan.TaskPlan.{TaskPlan as DeclaredPlan};
-ghost use Rattle.cpu_core.specs.Fits.{CanBegin, HasAct, TaskFits};
-ghost use Rattle.cpu_core.specs.Starts.{view_of};
-ghost use Rattle.cpu_core.specs.TaskOps.{item_in, op_of, present};
-ghost use Rattle.cpu_core.specs.TaskSteps.{begun, task_after};
+ghost use Rattle.task_core.specs.Fits.{CanBegin, HasAct, TaskFits};
+ghost use Rattle.task_core.specs.Starts.{view_of};
+ghost use Rattle.task_core.specs.TaskOps.{item_in, op_of, present};
+ghost use Rattle.task_core.specs.TaskSteps.{begun, task_after};
 ghost use Rattle.cpu_core.specs.Turns.{AreStarted, any_left, first_left, left_from, next_left, with_words};
 
-use crate::setup::Setup;
-use crate::task::Task;
 use ft_base::{Item, NoMemory};
 use grace_core::TaskView;
 use std::alloc::Global;
 use std::marker::Model;
+use task_core::{Setup, Task};
 use user_specs::TaskPlan;
 
 /// The tasks of a CPU, the lowest number first.
-#[derive(Debug, Drop)]
+#[derive(Drop)]
 pub(crate) struct Tasks {
     tasks: Vec<Task>,
 }
 
 impl Model for Tasks {
     ghost use Rattle.std.specs.Prelude.{List};
-    ghost use Rattle.cpu_core.specs.declared.task.Task.{Task};
+    ghost use Rattle.task_core.specs.declared.task.Task.{Task};
 
     ghost Value = { List Task };
 

@@ -25,7 +25,7 @@ use Rattle.word_machine.proofs.Marked.{mark-room, other-mark, own-mark}
 use Rattle.word_machine.proofs.There.{cpu-there}
 use Rattle.word_machine.proofs.WordsFit.{cpu-row-runs}
 use Rattle.cpu_core.specs.CpuSteps.{marks_in}
-use Rattle.cpu_core.specs.TaskOps.{item_in}
+use Rattle.task_core.specs.TaskOps.{item_in}
 use Rattle.machine_core.proofs.Made.{IsOpThere, of-job}
 use Rattle.ft_machine.specs.Fed.{cpu_fed, cpu_items}
 use Rattle.ft_machine.proofs.FedLaws.{cpu_after-append}

@@ -15,7 +15,7 @@ use Rattle.cpu_core.specs.declared.parts.Parts.{Parts as CpuParts}
 use Rattle.cpu_core.specs.CpuSteps.{marks_in}
 use Rattle.cpu_core.specs.Cpus.{IsFor, cpu_of}
 use Rattle.cpu_core.specs.Taken.{IsTaken}
-use Rattle.cpu_core.specs.TaskOps.{item_in}
+use Rattle.task_core.specs.TaskOps.{item_in}
 use Rattle.machine_core.proofs.Chosen.{Chosen, chosen, none-next}
 use Rattle.machine_core.proofs.Made.{IsOpThere, of-job}
 use Rattle.ft_machine.specs.Fed.{cpu_fed, cpu_items}

@@ -12,7 +12,7 @@ use Rattle.word_map.specs.Ops.{WordOp, Mark}
 use Rattle.word_machine.specs.Control.{control_next}
 use Rattle.word_machine.specs.Cpu.{cpu_next}
 use Rattle.word_machine.specs.Laws.{CpuTakes, IsOnWord, room_on}
-use Rattle.cpu_core.specs.TaskOps.{item_in}
+use Rattle.task_core.specs.TaskOps.{item_in}
 use Rattle.ft_machine.specs.Fed.{control_fed, control_items, cpu_fed, cpu_items}
 use Rattle.live_table.specs.declared.view.Part.{Part}
 use Rattle.live_table.specs.declared.view.View.{View}

@@ -32,7 +32,7 @@ use Rattle.cpu_core.specs.declared.parts.Parts.{Parts as CpuParts}
 use Rattle.cpu_core.specs.Cpus.{IsFor as IsCpuFor, cpu_of}
 use Rattle.cpu_core.specs.CpuSteps.{marks_in}
 use Rattle.cpu_core.specs.Taken.{IsTaken}
-use Rattle.cpu_core.specs.TaskOps.{item_in}
+use Rattle.task_core.specs.TaskOps.{item_in}
 use Rattle.cpu_core.proofs.Lookups.{get-set}
 use Rattle.machine_core.specs.Tables.{HasRoomAt, IsOn, gives, made}
 use Rattle.machine_core.specs.Worlds.{IsCpuAt, IsFor, Parts, cpu_or, cpus_of, past_of, world_of}

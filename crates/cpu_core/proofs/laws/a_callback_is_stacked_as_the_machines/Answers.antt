@@ -1,4 +1,4 @@
-use Rattle.cpu_core.proofs.Callbacks.{fprobe-called}
+use Rattle.task_core.proofs.Callbacks.{fprobe-called}
 use Rattle.cpu_core.proofs.laws.a_callback_is_stacked_as_the_machines.Goals as goal
 
 pub returns-clause-fprobe : goal.returns-clause-fprobe

@@ -1,5 +1,5 @@
-use Rattle.cpu_core.proofs.SteadyActs.{steady-start, steady-told}
-use Rattle.cpu_core.proofs.SteadyGot.{steady-begun, steady-got}
+use Rattle.task_core.proofs.SteadyActs.{steady-start, steady-told}
+use Rattle.task_core.proofs.SteadyGot.{steady-begun, steady-got}
 use Rattle.cpu_core.proofs.laws.tasks_stay_steady.Goals as goal
 
 pub returns-clause-start : goal.returns-clause-start

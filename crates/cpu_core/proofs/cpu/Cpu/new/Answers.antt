@@ -3,7 +3,7 @@ use Rattle.grace_core.specs.Polls.{poll_start}
 use Rattle.user_specs.specs.declared.plan.TaskPlan.{TaskPlan}
 use Rattle.cpu_core.specs.declared.parts.Parts.{Parts}
 use Rattle.cpu_core.specs.declared.parts.Phase.TheVariants.{Going}
-use Rattle.cpu_core.specs.declared.task.Task.{Task}
+use Rattle.task_core.specs.declared.task.Task.{Task}
 use Rattle.cpu_core.specs.Turns.{AreStarted, first_left}
 use Rattle.cpu_core.proofs.CpuStart.{start-is, start-next}
 use Rattle.cpu_core.proofs.cpu.Cpu.new.Goals as goal

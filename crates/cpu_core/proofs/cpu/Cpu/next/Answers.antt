@@ -5,7 +5,7 @@ use Rattle.word_map.specs.Shapes.{shape_of}
 use Rattle.word_machine.specs.Cpu.{cpu_next}
 use Rattle.cpu_core.specs.CpuOps.{cpu_op}
 use Rattle.cpu_core.specs.Cpus.{IsFor, cpu_of}
-use Rattle.cpu_core.specs.Setups.{PlainSetup}
+use Rattle.task_core.specs.Setups.{PlainSetup}
 use Rattle.cpu_core.proofs.CpuNext.{cpu-op-is}
 use Rattle.cpu_core.proofs.cpu.Cpu.next.Goals as goal
 

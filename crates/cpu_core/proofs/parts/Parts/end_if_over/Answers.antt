@@ -1,7 +1,7 @@
 -- The present task is as it was but for its word, and so its act can begin as it could before.
 use Rattle.std.proofs.Common.{◌≡◌, length, sym, ap, ◌∙◌, arith}
-use Rattle.cpu_core.specs.TaskOps.{present}
-use Rattle.cpu_core.specs.TaskSteps.{begun}
+use Rattle.task_core.specs.TaskOps.{present}
+use Rattle.task_core.specs.TaskSteps.{begun}
 use Rattle.cpu_core.specs.Turns.{any_left}
 use Rattle.cpu_core.proofs.WordsTold.{can-begin, length-changed}
 use Rattle.cpu_core.proofs.parts.Parts.end_if_over.Goals as goal

@@ -1,6 +1,6 @@
 -- The views so far are those of the tasks.
 use Rattle.std.proofs.Common.{◌≡◌, map, take}
-use Rattle.cpu_core.specs.Starts.{view_of}
+use Rattle.task_core.specs.Starts.{view_of}
 use Rattle.cpu_core.proofs.tasks.Tasks.look.Given as goal
 
 abbrev pub invariant-loop-i : goal.invariant-loop-i

@@ -1,0 +1,16 @@
+pub mod Fits
+pub mod Framed
+pub mod KeptActs
+pub mod KeptOpens
+pub mod KeptSetup
+pub mod Leads
+pub mod Moments
+pub mod Opens
+pub mod Setups
+pub mod Starts
+pub mod States
+pub mod Steady
+pub mod TaskActs
+pub mod TaskOps
+pub mod TaskSteps
+pub mod Tied

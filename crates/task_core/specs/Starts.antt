@@ -1,0 +1,48 @@
+-- A task before its first act, and what its CPU asks of a task.
+use Rattle.std.specs.Prelude.{ℕ, ◌-◌, ◌≤◌, Bool, false, not, nat_lt, List, [], length, Option, Some}
+use Rattle.ft_base.specs.declared.number.TaskNo.{TaskNo}
+use Rattle.ft_base.specs.declared.task.TaskAct.{TaskAct}
+use Rattle.ft_base.specs.declared.task.TaskAct.TheVariants.{After}
+use Rattle.grace_core.specs.declared.view.TaskView.{TaskView}
+use Rattle.recursion_guard.specs.Guards.{at_start}
+use Rattle.word_map.specs.Contents.{returned_at}
+use Rattle.task_core.specs.declared.moment.Moment.{Moment}
+use Rattle.task_core.specs.declared.moment.Moment.TheVariants.{Polling, First}
+use Rattle.task_core.specs.declared.task.Task.{Task}
+use Rattle.task_core.specs.Leads.{is_quiet}
+use Rattle.task_core.specs.Steady.{StaysWithin}
+use Rattle.task_core.specs.TaskOps.{present}
+
+-- a task before its first act, with room for so many calls and frames
+abbrev pub task_at_start : TaskNo → List TaskAct → ℕ → ℕ → Task
+task_at_start number acts calls frames = record {
+  number = number;
+  acts = record { all = acts; gone = 0 };
+  next = 1;
+  guards = at_start;
+  stacks = record { calls = []; call_limit = calls; frame_limit = frames };
+  opens = record { calls = []; limit = calls };
+  word = 0;
+  moment = Polling;
+}
+
+-- there is room for so many calls: those of the acts, and two that acts of users make above them
+pub record HasRoomFor (limit : ℕ) (acts : List TaskAct) : Type 0 where
+  pub two : 2 ≤ limit
+  pub within : StaysWithin (limit - 2) 0 acts
+
+-- an act is left
+abbrev pub is_left : Task → Bool
+is_left t = nat_lt t.acts.gone (length t.acts.all)
+
+-- what a poll looks at
+abbrev pub view_of : Task → TaskView
+view_of t = record { task = t.number; acts = t.acts.gone; quiet = is_quiet t.moment; ended = not (is_left t); word = t.word }
+
+-- a wait that is not met by this clock
+abbrev pub is_unmet_at : Moment → Option TaskAct → ℕ → Bool
+is_unmet_at First (Some (After n)) v = nat_lt (returned_at v) n
+is_unmet_at m act v = false
+
+abbrev pub is_unmet : Task → ℕ → Bool
+is_unmet t v = is_unmet_at t.moment (present t) v
