@@ -22,7 +22,7 @@ import tempfile
 TOP = pathlib.Path(__file__).resolve().parent.parent
 CHANGES = pathlib.Path(__file__).with_suffix(".txt")
 CRATES = {
-    "ft_base": ["ft_base", "ft_hist", "plain_machine", "plain_samples", "word_machine"],
+    "ft_base": ["ft_base", "ft_hist", "plain_machine", "plain_samples", "word_machine", "word_machine_laws"],
     "ft_hist": ["ft_hist", "plain_machine", "plain_samples"],
     "plain_machine": ["plain_machine", "plain_samples"],
 }

@@ -13,7 +13,7 @@ use Rattle.ft_desk.specs.Seen.{Seen, after_command}
 use Rattle.word_machine.specs.Commands.{command, edits_or, effect, effect_by, subject, subject_of}
 use Rattle.word_machine.specs.Control.{copy_after}
 use Rattle.word_machine.specs.Values.{copies_in}
-use Rattle.word_machine.proofs.ValueLaws.{copies-put}
+use Rattle.word_machine_laws.proofs.ValueLaws.{copies-put}
 use Rattle.control_core.proofs.Desks.{if_accepted, if_refused}
 use Rattle.control_core.proofs.Plans.{effect_if_accepted, effect_if_refused, subject-is}
 

@@ -20,8 +20,8 @@ use Rattle.word_map.specs.Ops.{WordOp, Load as LoadOp, Store}
 use Rattle.word_machine.specs.Task.{Moment as MachineMoment, TaskState, is_quiet as machine_quiet, task_op}
 use Rattle.word_machine.specs.Task as machine
 use Rattle.word_machine.specs.Cpu.{Cpu, any_has_more, cpu_next, going_op, phase_op as machine_op, present_op}
-use Rattle.word_machine.proofs.Finished.{present-is}
-use Rattle.word_machine.proofs.TaskSteps.{is_polling as polls}
+use Rattle.word_machine_laws.proofs.Finished.{present-is}
+use Rattle.word_machine_laws.proofs.TaskSteps.{is_polling as polls}
 use Rattle.task_core.specs.declared.moment.Moment.{Moment}
 use Rattle.task_core.specs.declared.moment.Moment.TheVariants.{Polling, First, Load, Mark}
 use Rattle.task_core.specs.declared.open_call.OpenCall.{OpenCall}

@@ -17,7 +17,7 @@ use Rattle.word_machine.specs.Cpu.{is_unmet as is_machine_unmet}
 use Rattle.word_machine.specs.Laws.{CpuTakes, GoingTakes, PhaseTakes, PresentTakes}
 use Rattle.word_machine.specs.Limits.{IsLimited}
 use Rattle.word_machine.specs.Task.{TaskState, task_got}
-use Rattle.word_machine.proofs.Finished.{present-got}
+use Rattle.word_machine_laws.proofs.Finished.{present-got}
 use Rattle.word_machine.proofs.Small.{if_case}
 use Rattle.cpu_core.specs.declared.parts.Parts.{Parts}
 use Rattle.cpu_core.specs.declared.parts.Phase.{Phase}

@@ -8,7 +8,7 @@ use Rattle.ft_hist.specs.Plain.{Owed}
 use Rattle.word_machine.specs.Calls.{under_by, under_call}
 use Rattle.word_machine.specs.Task.{OpenCall, TaskState, Moment, First, Acting, is_quiet, user_of}
 use Rattle.word_machine.specs.Tasks.{acts_by, is_returning, open_by, scripted_of}
-use Rattle.word_machine.proofs.MarkEnter.{open_first}
+use Rattle.word_machine_laws.proofs.MarkEnter.{open_first}
 use Rattle.task_core.specs.Steady.{AreSteady, HasCallRoom, IsSteady, StaysWithin, act_calls}
 use Rattle.task_core.proofs.SteadyContexts.{few-act-calls}
 

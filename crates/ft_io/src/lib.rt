@@ -10,7 +10,7 @@
 //! which gathers them into large writes; no count of faults falls, and a failure comes only if it
 //! rose. The ends in memory are known byte for byte.
 //!
-//! Only tested, in `ft_io_tests`: that the adapters over a reader and a writer ask for many bytes at
+//! Only tested, in `ends_tests`: that the adapters over a reader and a writer ask for many bytes at
 //! a time, flush after each write, and try nothing a second time. What a standard stream gives or
 //! shows is not said.
 #![tactic(auto)]

@@ -16,7 +16,7 @@ use Rattle.ft_desk.specs.Declarations.{Declared, IsOf, bare, job_of}
 use Rattle.ft_desk.specs.Seen.{Seen, after_command, opened}
 use Rattle.ft_desk.specs.Sites.{row_at}
 use Rattle.ft_desk.proofs.JobLaws.{opening-is}
-use Rattle.word_machine.proofs.Limited.{few-commands}
+use Rattle.word_machine_laws.proofs.Limited.{few-commands}
 use Rattle.control_core.specs.Lines.{lines_of}
 use Rattle.control_core.proofs.DeskIn.{commands-after, declared-after}
 use Rattle.control_core.proofs.Desks.{state-same}

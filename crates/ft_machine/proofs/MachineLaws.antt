@@ -9,10 +9,10 @@ use Rattle.ft_hist.specs.Shown.{Shown}
 use Rattle.word_machine.specs.Laws.{Runs}
 use Rattle.word_machine.specs.Limits.{IsLimited}
 use Rattle.word_machine.specs.Machine.{World, all_end, start, step}
-use Rattle.word_machine.proofs.Ends as ends
-use Rattle.word_machine.proofs.Limited.{limited}
-use Rattle.word_machine.proofs.Room.{legal-turned}
-use Rattle.word_machine.proofs.WordsFit.{start-runs, step-runs}
+use Rattle.word_machine_laws.proofs.Ends as ends
+use Rattle.word_machine_laws.proofs.Limited.{limited}
+use Rattle.word_machine_laws.proofs.Room.{legal-turned}
+use Rattle.word_machine_laws.proofs.WordsFit.{start-runs, step-runs}
 use Rattle.machine_core.specs.Worlds.{IsFor}
 use Rattle.ft_machine.specs.declared.machine.Machine.{Machine}
 use Rattle.ft_machine.specs.Machines.{IsOf, state_of}

@@ -12,7 +12,7 @@ use Rattle.word_map.specs.declared.shape.Shape.{Shape}
 use Rattle.word_map.specs.Shapes.{shape_of}
 use Rattle.word_machine.specs.Cpu.{Phase, Over, cpu_next, phase_op}
 use Rattle.word_machine.specs.Machine.{World, all_end, cpu_moved, is_at_end, is_end, play, played, start, step}
-use Rattle.word_machine.proofs.Stops.{control-ends}
+use Rattle.word_machine_laws.proofs.Stops.{control-ends}
 use Rattle.ft_machine.proofs.Replays.{ends-alike}
 
 played-over : (j : Job) (actors : List Actor) (s : World) → all_end j s ≡ true → played j actors s ≡ s

@@ -10,7 +10,7 @@
 //! the items are those of a grammar with one rule for each way to write one
 //! ([`grammar_gives_the_item`]); and the text of the generated script is the one that its rule says,
 //! line by line, for each number, and within the limit of scripts. Only tested, in
-//! `ft_schedule_tests`: that the items of a long text are read, and a script is generated, when there
+//! `scripts_tests`: that the items of a long text are read, and a script is generated, when there
 //! is memory; and some lines of generated scripts, as a test of the constants. That a generated
 //! script is accepted isn't proved: nothing here reads scripts.
 #![tactic(auto)]

@@ -15,9 +15,9 @@ use Rattle.word_machine.specs.Cpu.{cpu_next, cpu_start}
 use Rattle.word_machine.specs.Laws.{IsOnWord, items_on}
 use Rattle.word_machine.specs.Limits.{IsLimited}
 use Rattle.word_machine.specs.Machine.{World, opening_words, start}
-use Rattle.word_machine.proofs.Limited.{limited as word-job}
-use Rattle.word_machine.proofs.There.{control-there, cpu-there}
-use Rattle.word_machine.proofs.WordsFit.{start-runs}
+use Rattle.word_machine_laws.proofs.Limited.{limited as word-job}
+use Rattle.word_machine_laws.proofs.There.{control-there, cpu-there}
+use Rattle.word_machine_laws.proofs.WordsFit.{start-runs}
 use Rattle.control_core.specs.Seated.{Seated, control_of}
 use Rattle.control_core.specs.Seated as control
 use Rattle.cpu_core.specs.declared.parts.Parts.{Parts as CpuParts}

@@ -5,7 +5,7 @@ use Rattle.word_machine.specs.Control.{control_next}
 use Rattle.word_machine.specs.Cpu.{Cpu, cpu_next}
 use Rattle.word_machine.specs.Machine.{World, all_end, cpus_end, is_end}
 use Rattle.word_machine.specs.Rule.{MachineRule}
-use Rattle.word_machine.proofs.Stops.{control-ends, cpu-ends}
+use Rattle.word_machine_laws.proofs.Stops.{control-ends, cpu-ends}
 
 all-over : (cpus : ℕ → Cpu) (c n : ℕ) → ((d : ℕ) → c ≤ d → d < c + n → is_end (cpus d).phase ≡ true) → cpus_end cpus c n ≡ true
 all-over cpus c zero over = refl

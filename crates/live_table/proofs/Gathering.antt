@@ -17,8 +17,8 @@ use Rattle.history_bound.proofs.Bounded.{history-most}
 use Rattle.word_machine.specs.Control.{control_next}
 use Rattle.word_machine.specs.Cpu.{cpu_next}
 use Rattle.word_machine.specs.Machine.{World}
-use Rattle.word_machine.proofs.Ends.{whole}
-use Rattle.word_machine.proofs.Limited.{limited as word-job}
+use Rattle.word_machine_laws.proofs.Ends.{whole}
+use Rattle.word_machine_laws.proofs.Limited.{limited as word-job}
 use Rattle.ft_machine.specs.Fed.{control_fed, control_items, cpu_fed, cpu_items}
 use Rattle.live_table.specs.declared.view.Part.{Part}
 use Rattle.live_table.specs.declared.view.View.{View}

@@ -13,7 +13,7 @@ use Rattle.word_map.specs.Shapes.{shape_of}
 use Rattle.word_machine.specs.Laws.{Runs}
 use Rattle.word_machine.specs.Limits.{IsLimited}
 use Rattle.word_machine.specs.Machine.{opening_words, start}
-use Rattle.word_machine.proofs.WordsFit.{start-runs}
+use Rattle.word_machine_laws.proofs.WordsFit.{start-runs}
 use Rattle.machine_core.specs.Worlds.{words_of}
 use Rattle.machine_core.proofs.Opening.{none-on}
 use Rattle.live_table.specs.declared.view.View.{View}

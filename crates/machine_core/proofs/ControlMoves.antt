@@ -17,10 +17,10 @@ use Rattle.word_machine.specs.Control.{control_got, control_next}
 use Rattle.word_machine.specs.Laws.{IsOnWord, Runs, items_on}
 use Rattle.word_machine.specs.Limits.{IsLimited}
 use Rattle.word_machine.specs.Machine.{World, control_moved, control_row, past_after, step}
-use Rattle.word_machine.proofs.Limited.{limited as word-job}
-use Rattle.word_machine.proofs.Marked.{control-mark}
-use Rattle.word_machine.proofs.There.{control-there}
-use Rattle.word_machine.proofs.WordsFit.{control-row-runs}
+use Rattle.word_machine_laws.proofs.Limited.{limited as word-job}
+use Rattle.word_machine_laws.proofs.Marked.{control-mark}
+use Rattle.word_machine_laws.proofs.There.{control-there}
+use Rattle.word_machine_laws.proofs.WordsFit.{control-row-runs}
 use Rattle.control_core.specs.Seated.{IsFor as IsControlFor, Seated, control_of}
 use Rattle.control_core.specs.Steps.{marks_in}
 use Rattle.machine_core.specs.Tables.{HasRoomAt, IsOn, gives, made}

@@ -22,12 +22,12 @@ use Rattle.word_machine.specs.Cpu.{Cpu, cpu_got, cpu_next, cpu_start}
 use Rattle.word_machine.specs.Laws.{CpuTakes, IsOnWord, Runs, items_on, room_on}
 use Rattle.word_machine.specs.Limits.{IsLimited}
 use Rattle.word_machine.specs.Machine.{World, cpu_moved, cpu_row, past_after, step, taken}
-use Rattle.word_machine.proofs.CpuTakes.{cpu-takes}
-use Rattle.word_machine.proofs.Limited.{limited as word-job}
-use Rattle.word_machine.proofs.Marked.{mark-room, other-mark, own-mark}
+use Rattle.word_machine_laws.proofs.CpuTakes.{cpu-takes}
+use Rattle.word_machine_laws.proofs.Limited.{limited as word-job}
+use Rattle.word_machine_laws.proofs.Marked.{mark-room, other-mark, own-mark}
 use Rattle.word_machine.proofs.Small.{put_other, put_same}
-use Rattle.word_machine.proofs.There.{cpu-there}
-use Rattle.word_machine.proofs.WordsFit.{cpu-row-runs}
+use Rattle.word_machine_laws.proofs.There.{cpu-there}
+use Rattle.word_machine_laws.proofs.WordsFit.{cpu-row-runs}
 use Rattle.cpu_core.specs.declared.parts.Parts.{Parts as CpuParts}
 use Rattle.cpu_core.specs.Cpus.{IsFor as IsCpuFor, cpu_of}
 use Rattle.cpu_core.specs.CpuSteps.{marks_in}

@@ -15,7 +15,7 @@ use Rattle.word_machine.specs.Cpu.{Cpu, cpu_next, cpu_start}
 use Rattle.word_machine.specs.Laws.{Runs}
 use Rattle.word_machine.specs.Limits.{IsLimited}
 use Rattle.word_machine.specs.Machine.{all_end, control_is_done, cpus_end, is_at_end, is_end}
-use Rattle.word_machine.proofs.Stops.{control-ends, cpu-ends}
+use Rattle.word_machine_laws.proofs.Stops.{control-ends, cpu-ends}
 use Rattle.control_core.specs.Seated.{IsFor as IsControlFor, control_of}
 use Rattle.cpu_core.specs.declared.parts.Parts.{Parts as CpuParts}
 use Rattle.cpu_core.specs.Cpus.{IsFor as IsCpuFor, cpu_of}

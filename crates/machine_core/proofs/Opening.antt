@@ -23,7 +23,7 @@ use Rattle.word_machine.specs.Control.{control_start}
 use Rattle.word_machine.specs.Cpu.{Cpu, cpu_start}
 use Rattle.word_machine.specs.Laws.{Runs, items_on, tasks_on}
 use Rattle.word_machine.specs.Machine.{start}
-use Rattle.word_machine.proofs.WordsFit.{start-runs}
+use Rattle.word_machine_laws.proofs.WordsFit.{start-runs}
 use Rattle.control_core.specs.Lines.{lines_of}
 use Rattle.control_core.specs.Seated.{control_of}
 use Rattle.control_core.specs.Seated as control

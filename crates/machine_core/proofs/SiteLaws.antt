@@ -11,7 +11,7 @@ use Rattle.word_machine.specs.Commands.{insn}
 use Rattle.word_machine.specs.Laws.{HasTarget, IsSettled, Runs}
 use Rattle.word_machine.specs.Limits.{IsLimited}
 use Rattle.word_machine.specs.Machine.{World}
-use Rattle.word_machine.proofs.Settled.{settled}
+use Rattle.word_machine_laws.proofs.Settled.{settled}
 use Rattle.machine_core.specs.Sites.{IsWhole, site_of, site_on}
 
 -- an instruction is the one of its number

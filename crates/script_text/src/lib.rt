@@ -6,7 +6,7 @@
 //!
 //! Proved: the first line of a text and what comes after it, which lines are skipped, which are
 //! plain, the words of a text, and what a word says as a name or a number. Only tested, in
-//! `script_text_tests`: that the words of a long line are found when there is memory. What the words
+//! `scripts_tests`: that the words of a long line are found when there is memory. What the words
 //! mean is left to the crates above.
 #![tactic(auto)]
 

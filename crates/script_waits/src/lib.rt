@@ -7,7 +7,7 @@
 //!
 //! `deadlock` gives exactly that line; out of memory is its one error. Two laws say what the definition means:
 //! `deadlock_is_one`, that each script has exactly one answer, whatever the order in which they go, and
-//! `whoever_is_left_waits`, that who isn't at an end is at a wait that isn't met. Only tested, in `script_waits_tests`:
+//! `whoever_is_left_waits`, that who isn't at an end is at a wait that isn't met. Only tested, in `scripts_tests`:
 //! that memory is found when there is some.
 #![tactic(auto)]
 

@@ -13,7 +13,7 @@ use Rattle.plain_machine.specs.State.{has_acts, is_held}
 use Rattle.word_machine.specs.Limits.{AreRaised}
 use Rattle.word_machine.specs.Task.{OpenCall, TaskState, Moment, Polling, First, Leaving, AtExit, Exiting, EndingExit, Returning, guards_under, is_quiet, with_top}
 use Rattle.word_machine.specs.Tasks.{StandsIn, acts_by, is_returning, open_by}
-use Rattle.word_machine.proofs.Told.{first-loud}
+use Rattle.word_machine_laws.proofs.Told.{first-loud}
 use Rattle.task_core.specs.Framed.{AreFramed}
 use Rattle.task_core.specs.Steady.{HasFound, IsSteady, IsSteadyCall, NamesThere, holds_guard, is_dispatching, returns_at_once}
 

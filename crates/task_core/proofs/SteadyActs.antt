@@ -14,8 +14,8 @@ use Rattle.word_machine.specs.Cpu.{with_word}
 use Rattle.word_machine.specs.Limits.{AreRaised}
 use Rattle.word_machine.specs.Task.{OpenCall, TaskState, Moment, Polling, First, at_moment, begun_act, finished, first_got, is_quiet, next_exit, task_start}
 use Rattle.word_machine.specs.Tasks.{FirstAt, StandsIn, is_returning, open_by, scripted_of}
-use Rattle.word_machine.proofs.MarkEnter.{open_first}
-use Rattle.word_machine.proofs.Told.{first-loud}
+use Rattle.word_machine_laws.proofs.MarkEnter.{open_first}
+use Rattle.word_machine_laws.proofs.Told.{first-loud}
 use Rattle.task_core.specs.Framed.{AreFramed}
 use Rattle.task_core.specs.Steady.{AreSteady, IsSteady, is_acted, is_dispatching}
 use Rattle.task_core.proofs.Steady.{Asks, Keeps, Passes, Told, call-goes, in-return, told-stays}

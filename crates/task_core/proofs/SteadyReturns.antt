@@ -9,7 +9,7 @@ use Rattle.word_map.specs.Contents.{stands}
 use Rattle.word_machine.specs.Calls.{under_by}
 use Rattle.word_machine.specs.Task.{OpenCall, TaskState, Moment, Polling, First, Ending, Closing, Leaving, AtExit, Exiting, EndingExit, Returning, call_got, exit_in, finished, level_of, next_exit, rest_acts, user_of, with_top}
 use Rattle.word_machine.specs.Tasks.{is_returning, open_by}
-use Rattle.word_machine.proofs.MarkEnter.{open_first}
+use Rattle.word_machine_laws.proofs.MarkEnter.{open_first}
 use Rattle.task_core.specs.Framed.{AreFramed}
 use Rattle.task_core.specs.Steady.{AreSteady, IsCalled}
 use Rattle.task_core.proofs.Steady.{Keeps, call-goes, in-return, moment-goes, task-goes}

@@ -10,7 +10,7 @@
 //! those of the word machine's task ([`task_laws`]; of its walks and reads, [`laws`]). Asked: that each
 //! value fits its operation; `cpu_core` has the law that it does (`task_laws` there). When a task runs,
 //! and when it is polled, its CPU decides, in `cpu_core`. Only [`Setup::new`] and [`Task::new`] take
-//! memory; that it is found is only tested, in `cpu_core_tests`.
+//! memory; that it is found is only tested, in `actors_tests`.
 #![tactic(auto)]
 
 mod acts;

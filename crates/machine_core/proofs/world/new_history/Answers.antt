@@ -1,7 +1,7 @@
 -- The lines are at most as many as a script may have, and the rooms of the CPUs are those of all items.
 use Rattle.std.proofs.Common.{◌+◌, ◌*◌, ◌≤◌, length, arith}
 use Rattle.std.proofs.lemmas.Result.{IfOk-weaker}
-use Rattle.word_machine.proofs.Limited.{few-commands}
+use Rattle.word_machine_laws.proofs.Limited.{few-commands}
 use Rattle.machine_core.proofs.world.new_history.Goals as goal
 
 pub overflow_add-room : goal.overflow_add-room

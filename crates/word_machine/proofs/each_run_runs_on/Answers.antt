@@ -1,6 +1,0 @@
-use Rattle.word_machine.proofs.each_run_runs_on.Goals as goal
-use Rattle.word_machine.specs.Machine.{start}
-use Rattle.word_machine.proofs.WordsFit.{start-runs, run-runs}
-
-pub returns : goal.returns
-returns c = λ job actors l. run-runs job l actors (start job) (start-runs job l)

@@ -1,0 +1,6 @@
+use Rattle.word_machine_laws.proofs.each_word_fits.Goals as goal
+use Rattle.word_machine.specs.Machine.{start}
+use Rattle.word_machine_laws.proofs.WordsFit.{start-runs, run-runs}
+
+pub returns : goal.returns
+returns c = λ job actors l. (run-runs job l actors (start job) (start-runs job l)).fits
