@@ -36,7 +36,7 @@ const CALL_D_IN_C: CallNo = CallNo {
 };
 
 /// The busy job if all actors step in turn.
-pub const WHOLE: [Item; 28] = [
+pub static WHOLE: [Item; 28] = [
     Item::Enter {
         call: CALL_B,
         ctx: Ctx::Normal,
@@ -140,7 +140,7 @@ pub const WHOLE: [Item; 28] = [
 ];
 
 /// The busy job if the third CPU steps, then control, then the second CPU, and then nobody.
-pub const THIRD_FIRST: [Item; 8] = [
+pub static THIRD_FIRST: [Item; 8] = [
     Item::Enter {
         call: CALL_C,
         ctx: Ctx::Normal,

@@ -55,20 +55,28 @@ ctl unregister t
 ";
 
 /// The job of a text; none if it is refused. The texts here are short enough.
-pub fn read(alloc: Global, text: &str) -> Option<Job> {
+fn read(alloc: Global, text: &str) -> Option<Job> {
     if text.len() > INPUT_BYTES as usize {
         return None;
     }
     read_script(alloc, text.as_bytes()).ok()
 }
 
+/// The job of a text that isn't refused.
+pub fn job_of(alloc: Global, text: &str) -> Result<Job, Fail> {
+    match read(alloc, text) {
+        Some(job) => Ok(job),
+        None => Err("refused")?,
+    }
+}
+
 /// The busy job, with this line at its end.
 pub fn busy_job(alloc: Global, schedule: &str) -> Result<Job, Fail> {
     let text = format!(in alloc; "{BUSY}{schedule}")?;
-    Ok(read(alloc, text.as_str()).ok_or("refused")?)
+    job_of(alloc, text.as_str())
 }
 
 /// Nothing is declared.
 pub fn empty_job(alloc: Global) -> Result<Job, Fail> {
-    Ok(read(alloc, "ftrace 1\n").ok_or("refused")?)
+    job_of(alloc, "ftrace 1\n")
 }

@@ -2,7 +2,7 @@
 
 ghost use Rattle.std.specs.Prelude.{◌≡◌, ◌<◌, ◌^◌, length, IfOk};
 
-use super::jobs::read;
+use super::jobs::job_of;
 use ft_base::{Answer, CallNo, Ctx, FuncNo, Item, NoMemory, Ran, Reason, TaskNo, UserNo};
 use ft_hist::History;
 use ft_machine::backs_legal;
@@ -32,32 +32,70 @@ const RET: Item = Item::Ret {
     to: None,
 };
 
-const fn begin(k: u32) -> Item {
-    Item::Begin { k }
-}
+const BEGIN_ONE: Item = Item::Begin { k: 1 };
 
-const fn returns(k: u32) -> Item {
-    Item::Return {
-        k,
-        answer: Answer::Accepted,
-    }
-}
+const BEGIN_TWO: Item = Item::Begin { k: 2 };
 
-const fn back(user: UserNo) -> Item {
-    Item::Back { call: CALL, user }
-}
+const BEGIN_THREE: Item = Item::Begin { k: 3 };
 
-const fn back_end(user: UserNo) -> Item {
-    Item::BackEnd { call: CALL, user }
-}
+const RETURN_ONE: Item = Item::Return {
+    k: 1,
+    answer: Answer::Accepted,
+};
 
-const fn body(ran: Ran) -> Item {
-    Item::Body {
-        call: CALL,
-        func: FuncNo(0),
-        ran,
-    }
-}
+const RETURN_TWO: Item = Item::Return {
+    k: 2,
+    answer: Answer::Accepted,
+};
+
+const RETURN_THREE: Item = Item::Return {
+    k: 3,
+    answer: Answer::Accepted,
+};
+
+const BACK_FIRST: Item = Item::Back {
+    call: CALL,
+    user: FIRST,
+};
+
+const END_FIRST: Item = Item::BackEnd {
+    call: CALL,
+    user: FIRST,
+};
+
+const BACK_SECOND: Item = Item::Back {
+    call: CALL,
+    user: SECOND,
+};
+
+const END_SECOND: Item = Item::BackEnd {
+    call: CALL,
+    user: SECOND,
+};
+
+const BODY_NOP: Item = Item::Body {
+    call: CALL,
+    func: FuncNo(0),
+    ran: Ran::Nop,
+};
+
+const BODY_FIRST: Item = Item::Body {
+    call: CALL,
+    func: FuncNo(0),
+    ran: Ran::Own(FIRST),
+};
+
+const BODY_SECOND: Item = Item::Body {
+    call: CALL,
+    func: FuncNo(0),
+    ran: Ran::Own(SECOND),
+};
+
+const BODY_LIST: Item = Item::Body {
+    call: CALL,
+    func: FuncNo(0),
+    ran: Ran::List,
+};
 
 /// A task that calls a function which a user traces.
 const TRACED: &str = "ftrace 1
@@ -111,170 +149,256 @@ fn history_of(alloc: Global, items: &[Item]) -> Result<History, NoMemory>
 fn keeps_rules(alloc: Global, text: &str, items: &[Item]) -> Result<bool, Fail>
     requires { length items.now < 2 ^ 32 }
 {
-    let job = read(alloc, text).ok_or("refused")?;
     let history = history_of(alloc, items)?;
+    let job = job_of(alloc, text)?;
     Ok(backs_legal(alloc, &job, &history)?)
 }
+
+static CALLED_BACK: [Item; 8] = [
+    BEGIN_ONE, RETURN_ONE, ENTER, BACK_FIRST, END_FIRST, BODY_FIRST, LEAVE, RET,
+];
+
+static NOT_CALLED_BACK: [Item; 6] = [BEGIN_ONE, RETURN_ONE, ENTER, BODY_FIRST, LEAVE, RET];
+
+static UNTRACED_BACK: [Item; 4] = [ENTER, BACK_FIRST, END_FIRST, BODY_NOP];
+
+static NO_BACK: [Item; 2] = [ENTER, BODY_NOP];
+
+static BACK_WHILE_BEGUN: [Item; 5] = [BEGIN_ONE, ENTER, BACK_FIRST, END_FIRST, BODY_FIRST];
+
+static NO_BACK_WHILE_BEGUN: [Item; 3] = [BEGIN_ONE, ENTER, BODY_NOP];
+
+static BACK_BEFORE_BEGUN: [Item; 4] = [ENTER, BACK_FIRST, END_FIRST, BODY_FIRST];
 
 #[test]
 fn callbacks_are_missing_or_early(rt: HostRuntime) -> Result<(), Fail> {
     let alloc = rt.alloc();
-    let (own, nop) = (body(Ran::Own(FIRST)), body(Ran::Nop));
-    let (back, back_end) = (back(FIRST), back_end(FIRST));
-    let traced = [begin(1), returns(1), ENTER, back, back_end, own, LEAVE, RET];
-    assert!(rt; keeps_rules(alloc, TRACED, &traced)?);
-    let missing = [begin(1), returns(1), ENTER, own, LEAVE, RET];
-    assert!(rt; !keeps_rules(alloc, TRACED, &missing)?);
-    assert!(rt; !keeps_rules(alloc, UNTRACED, &[ENTER, back, back_end, nop])?);
-    assert!(rt; keeps_rules(alloc, UNTRACED, &[ENTER, nop])?);
+    assert!(rt; keeps_rules(alloc, TRACED, &CALLED_BACK)?);
+    assert!(rt; !keeps_rules(alloc, TRACED, &NOT_CALLED_BACK)?);
+    assert!(rt; !keeps_rules(alloc, UNTRACED, &UNTRACED_BACK)?);
+    assert!(rt; keeps_rules(alloc, UNTRACED, &NO_BACK)?);
     // While the registration is under way the user may be called back or not.
-    assert!(rt; keeps_rules(alloc, TRACED, &[begin(1), ENTER, back, back_end, own])?);
-    assert!(rt; keeps_rules(alloc, TRACED, &[begin(1), ENTER, nop])?);
-    assert!(rt; !keeps_rules(alloc, TRACED, &[ENTER, back, back_end, own])?);
+    assert!(rt; keeps_rules(alloc, TRACED, &BACK_WHILE_BEGUN)?);
+    assert!(rt; keeps_rules(alloc, TRACED, &NO_BACK_WHILE_BEGUN)?);
+    assert!(rt; !keeps_rules(alloc, TRACED, &BACK_BEFORE_BEGUN)?);
     Ok(())
 }
+
+static ORDERED: [Item; 10] = [
+    BEGIN_ONE,
+    RETURN_ONE,
+    BEGIN_TWO,
+    RETURN_TWO,
+    ENTER,
+    BACK_SECOND,
+    END_SECOND,
+    BACK_FIRST,
+    END_FIRST,
+    BODY_LIST,
+];
+
+static TURNED: [Item; 10] = [
+    BEGIN_ONE,
+    RETURN_ONE,
+    BEGIN_TWO,
+    RETURN_TWO,
+    ENTER,
+    BACK_FIRST,
+    END_FIRST,
+    BACK_SECOND,
+    END_SECOND,
+    BODY_LIST,
+];
+
+static TWICE: [Item; 10] = [
+    BEGIN_ONE,
+    RETURN_ONE,
+    BEGIN_TWO,
+    RETURN_TWO,
+    ENTER,
+    BACK_SECOND,
+    END_SECOND,
+    BACK_SECOND,
+    END_SECOND,
+    BACK_FIRST,
+];
+
+/// The second user is refused the call.
+const REFUSED: Item = Item::Refuse {
+    call: CALL,
+    user: SECOND,
+    reason: Reason::Recursion,
+};
+
+static REFUSED_TOO: [Item; 8] = [
+    BEGIN_ONE,
+    RETURN_ONE,
+    BEGIN_TWO,
+    RETURN_TWO,
+    ENTER,
+    BACK_SECOND,
+    END_SECOND,
+    REFUSED,
+];
+
+static REFUSED_AT_ONCE: [Item; 7] = [
+    BEGIN_ONE, RETURN_ONE, BEGIN_TWO, RETURN_TWO, ENTER, REFUSED, BACK_FIRST,
+];
 
 #[test]
 fn callbacks_are_twice_or_in_another_order(rt: HostRuntime) -> Result<(), Fail> {
     let alloc = rt.alloc();
-    let [b1, r1, b2, r2] = [begin(1), returns(1), begin(2), returns(2)];
-    let (first, second) = (back(FIRST), back(SECOND));
-    let (end, list) = (back_end(SECOND), body(Ran::List));
-    let ordered = [
-        b1,
-        r1,
-        b2,
-        r2,
-        ENTER,
-        second,
-        end,
-        first,
-        back_end(FIRST),
-        list,
-    ];
-    assert!(rt; keeps_rules(alloc, LISTED, &ordered)?);
-    let turned = [
-        b1,
-        r1,
-        b2,
-        r2,
-        ENTER,
-        first,
-        back_end(FIRST),
-        second,
-        end,
-        list,
-    ];
-    assert!(rt; !keeps_rules(alloc, LISTED, &turned)?);
-    let twice = [b1, r1, b2, r2, ENTER, second, end, second, end, first];
-    assert!(rt; !keeps_rules(alloc, LISTED, &twice)?);
-    let refused = Item::Refuse {
-        call: CALL,
-        user: SECOND,
-        reason: Reason::Recursion,
-    };
-    let refused_too = [b1, r1, b2, r2, ENTER, second, end, refused];
-    assert!(rt; !keeps_rules(alloc, LISTED, &refused_too)?);
-    assert!(rt; keeps_rules(alloc, LISTED, &[b1, r1, b2, r2, ENTER, refused, first])?);
+    assert!(rt; keeps_rules(alloc, LISTED, &ORDERED)?);
+    assert!(rt; !keeps_rules(alloc, LISTED, &TURNED)?);
+    assert!(rt; !keeps_rules(alloc, LISTED, &TWICE)?);
+    assert!(rt; !keeps_rules(alloc, LISTED, &REFUSED_TOO)?);
+    assert!(rt; keeps_rules(alloc, LISTED, &REFUSED_AT_ONCE)?);
     Ok(())
 }
+
+/// Open when the unregistration returns.
+static OPEN: [Item; 10] = [
+    BEGIN_ONE,
+    RETURN_ONE,
+    BEGIN_TWO,
+    RETURN_TWO,
+    ENTER,
+    BACK_SECOND,
+    END_SECOND,
+    BACK_FIRST,
+    BEGIN_THREE,
+    RETURN_THREE,
+];
+
+/// Over when it returns.
+static OVER: [Item; 10] = [
+    BEGIN_ONE,
+    RETURN_ONE,
+    BEGIN_TWO,
+    RETURN_TWO,
+    BEGIN_THREE,
+    ENTER,
+    BACK_SECOND,
+    BACK_FIRST,
+    END_FIRST,
+    RETURN_THREE,
+];
+
+/// A refused command takes nobody off.
+static COMMAND_REFUSED: [Item; 9] = [
+    BEGIN_ONE,
+    RETURN_ONE,
+    BEGIN_TWO,
+    RETURN_TWO,
+    ENTER,
+    BACK_SECOND,
+    BACK_FIRST,
+    BEGIN_THREE,
+    Item::Return {
+        k: 3,
+        answer: Answer::NotThere,
+    },
+];
+
+/// An exit callback counts too.
+static EXIT_OPEN: [Item; 7] = [
+    BEGIN_ONE,
+    RETURN_ONE,
+    BEGIN_TWO,
+    RETURN_TWO,
+    Item::Exit {
+        call: CALL,
+        user: FIRST,
+        entry: 0,
+    },
+    BEGIN_THREE,
+    RETURN_THREE,
+];
+
+/// Begun after the return.
+static LATE: [Item; 10] = [
+    BEGIN_ONE,
+    RETURN_ONE,
+    BEGIN_TWO,
+    RETURN_TWO,
+    BEGIN_THREE,
+    RETURN_THREE,
+    ENTER,
+    BACK_SECOND,
+    END_SECOND,
+    BACK_FIRST,
+];
+
+static SILENT: [Item; 9] = [
+    BEGIN_ONE,
+    RETURN_ONE,
+    BEGIN_TWO,
+    RETURN_TWO,
+    BEGIN_THREE,
+    RETURN_THREE,
+    ENTER,
+    BACK_SECOND,
+    BODY_SECOND,
+];
 
 #[test]
 fn callbacks_are_late(rt: HostRuntime) -> Result<(), Fail> {
     let alloc = rt.alloc();
-    let [b1, r1, b2, r2] = [begin(1), returns(1), begin(2), returns(2)];
-    let (first, second) = (back(FIRST), back(SECOND));
-    let (b3, r3) = (begin(3), returns(3));
-    // Open when the unregistration returns, and over by then.
-    let open = [
-        b1,
-        r1,
-        b2,
-        r2,
-        ENTER,
-        second,
-        back_end(SECOND),
-        first,
-        b3,
-        r3,
-    ];
-    assert!(rt; !keeps_rules(alloc, LISTED, &open)?);
-    let over = [
-        b1,
-        r1,
-        b2,
-        r2,
-        b3,
-        ENTER,
-        second,
-        first,
-        back_end(FIRST),
-        r3,
-    ];
-    assert!(rt; keeps_rules(alloc, LISTED, &over)?);
-    // A refused command takes nobody off.
-    let refused = Item::Return {
-        k: 3,
-        answer: Answer::NotThere,
-    };
-    let refused_one = [b1, r1, b2, r2, ENTER, second, first, b3, refused];
-    assert!(rt; keeps_rules(alloc, LISTED, &refused_one)?);
-    // An exit callback counts too.
-    let exit = Item::Exit {
-        call: CALL,
-        user: FIRST,
-        entry: 0,
-    };
-    assert!(rt; !keeps_rules(alloc, LISTED, &[b1, r1, b2, r2, exit, b3, r3])?);
-    // Begun after the return.
-    let late = [
-        b1,
-        r1,
-        b2,
-        r2,
-        b3,
-        r3,
-        ENTER,
-        second,
-        back_end(SECOND),
-        first,
-    ];
-    assert!(rt; !keeps_rules(alloc, LISTED, &late)?);
-    let silent = [
-        b1,
-        r1,
-        b2,
-        r2,
-        b3,
-        r3,
-        ENTER,
-        second,
-        body(Ran::Own(SECOND)),
-    ];
-    assert!(rt; keeps_rules(alloc, LISTED, &silent)?);
+    assert!(rt; !keeps_rules(alloc, LISTED, &OPEN)?);
+    assert!(rt; keeps_rules(alloc, LISTED, &OVER)?);
+    assert!(rt; keeps_rules(alloc, LISTED, &COMMAND_REFUSED)?);
+    assert!(rt; !keeps_rules(alloc, LISTED, &EXIT_OPEN)?);
+    assert!(rt; !keeps_rules(alloc, LISTED, &LATE)?);
+    assert!(rt; keeps_rules(alloc, LISTED, &SILENT)?);
     Ok(())
 }
 
-#[test]
-fn calls_that_were_not_entered(rt: HostRuntime) -> Result<(), Fail> {
-    let alloc = rt.alloc();
-    // Numbers that the job doesn't have are nobody's: no user is on, and none was visited.
-    let far = UserNo(40);
-    assert!(rt; !keeps_rules(alloc, TRACED, &[begin(1), returns(1), ENTER, back(far)])?);
-    assert!(rt; keeps_rules(alloc, TRACED, &[back_end(far), returns(9), begin(9)])?);
-    let elsewhere = Item::Enter {
+/// A number that the job doesn't have is nobody's: no such user is on, and none was visited.
+const FAR: UserNo = UserNo(40);
+
+static BACK_OF_NOBODY: [Item; 4] = [
+    BEGIN_ONE,
+    RETURN_ONE,
+    ENTER,
+    Item::Back {
+        call: CALL,
+        user: FAR,
+    },
+];
+
+static END_OF_NOBODY: [Item; 3] = [
+    Item::BackEnd {
+        call: CALL,
+        user: FAR,
+    },
+    Item::Return {
+        k: 9,
+        answer: Answer::Accepted,
+    },
+    Item::Begin { k: 9 },
+];
+
+/// A function that the job doesn't have.
+static ENTERED_ELSEWHERE: [Item; 4] = [
+    BEGIN_ONE,
+    RETURN_ONE,
+    Item::Enter {
         call: CALL,
         ctx: Ctx::Normal,
         func: FuncNo(5_000),
         caller: None,
-    };
-    assert!(rt;
-        keeps_rules(
-            alloc,
-            TRACED,
-            &[begin(1), returns(1), elsewhere, back(FIRST)]
-        )?
-    );
-    assert!(rt; keeps_rules(alloc, UNTRACED, &[body(Ran::Nop)])?);
+    },
+    BACK_FIRST,
+];
+
+static NOT_ENTERED: [Item; 1] = [BODY_NOP];
+
+#[test]
+fn calls_that_were_not_entered(rt: HostRuntime) -> Result<(), Fail> {
+    let alloc = rt.alloc();
+    assert!(rt; !keeps_rules(alloc, TRACED, &BACK_OF_NOBODY)?);
+    assert!(rt; keeps_rules(alloc, TRACED, &END_OF_NOBODY)?);
+    assert!(rt; keeps_rules(alloc, TRACED, &ENTERED_ELSEWHERE)?);
+    assert!(rt; keeps_rules(alloc, UNTRACED, &NOT_ENTERED)?);
     Ok(())
 }
