@@ -1,10 +1,12 @@
 //! A text in memory and in a sink, and the log of items that are no history of a job.
 
+ghost use Rattle.ft_hist.specs.Rules.{IsLegal};
+
 use ft_base::limits::INPUT_BYTES;
-use ft_base::{Answer, Item};
+use ft_base::{Answer, Item, NoMemory};
 use ft_hist::History;
 use ft_io::MemSink;
-use ft_machine::{Job, replay};
+use ft_machine::{Job, Outcome, replay};
 use ft_script::read_script;
 use std::alloc::Global;
 use std::test::Fail;
@@ -34,7 +36,7 @@ ctl register p
 ctl register e
 ";
 
-const FORMS: [Form; 5] = [
+static FORMS: [Form; 5] = [
     Form::Log,
     Form::Function,
     Form::Graph,
@@ -55,54 +57,105 @@ fn sink_of(alloc: Global, room: usize) -> Result<MemSink, Fail> {
     Ok(MemSink::new(alloc, 7, room, Vec::new(alloc))?)
 }
 
+/// The job of a user of each kind.
+fn each_kind(alloc: Global) -> Result<Job, Fail> {
+    match read(alloc, EACH_KIND) {
+        Some(job) => Ok(job),
+        None => Err("refused")?,
+    }
+}
+
+/// Writes a form of a replay into a sink.
+fn write(
+    alloc: Global,
+    job: &Job,
+    outcome: &Outcome,
+    form: Form,
+    sink: &mut MemSink,
+) -> Result<(), TextFail>
+    requires { IsLegal job.now outcome.now.history.items }
+{
+    write_text(alloc, job, &outcome.history, outcome.ended, form, sink)
+}
+
+/// Whether a sink with room for it gets this text of a form.
+fn is_written(
+    alloc: Global,
+    job: &Job,
+    outcome: &Outcome,
+    form: Form,
+    text: &[u8],
+) -> Result<bool, Fail>
+    requires { IsLegal job.now outcome.now.history.items }
+{
+    let mut sink = sink_of(alloc, ROOM)?;
+    Ok(write(alloc, job, outcome, form, &mut sink) == Ok(()) && sink.bytes() == text)
+}
+
+/// Whether a text has its last line, and more.
+fn has_end(text: &[u8]) -> bool {
+    text.len() > 4 && text.ends_with(b"\nend\n")
+}
+
+/// Whether a form prints more than its last line, and a sink gets what it prints.
+fn is_printed(alloc: Global, job: &Job, outcome: &Outcome, form: Form) -> Result<bool, Fail>
+    requires { IsLegal job.now outcome.now.history.items }
+{
+    let text = print(alloc, job, &outcome.history, outcome.ended, form)?;
+    if has_end(text.as_slice()) {
+        is_written(alloc, job, outcome, form, text.as_slice())
+    } else {
+        Ok(false)
+    }
+}
+
 #[test]
 fn a_sink_gets_what_is_printed(rt: HostRuntime) -> Result<(), Fail> {
     let alloc = rt.alloc();
-    let job = read(alloc, EACH_KIND).ok_or("refused")?;
+    let job = each_kind(alloc)?;
     let outcome = replay(alloc, &job)?;
-    for form in FORMS {
-        let text = print(alloc, &job, &outcome.history, outcome.ended, form)?;
-        // There is more than the last line.
-        assert!(rt; text.len() > 4 && text.as_slice().ends_with(b"\nend\n"));
-        let mut sink = sink_of(alloc, ROOM)?;
-        let written = write_text(
-            alloc,
-            &job,
-            &outcome.history,
-            outcome.ended,
-            form,
-            &mut sink,
-        );
-        assert_eq!(rt; written, Ok(()));
-        assert_eq!(rt; sink.bytes(), text.as_slice());
+    for form in &FORMS {
+        assert!(rt; is_printed(alloc, &job, &outcome, *form)?);
     }
     Ok(())
+}
+
+/// Whether a sink that is full after three bytes gets these of a text.
+fn is_begun(
+    alloc: Global,
+    job: &Job,
+    outcome: &Outcome,
+    form: Form,
+    text: &[u8],
+) -> Result<bool, Fail>
+    requires { IsLegal job.now outcome.now.history.items }
+{
+    let mut sink = sink_of(alloc, 3)?;
+    let fault = write(alloc, job, outcome, form, &mut sink);
+    Ok(fault == Err(TextFail::Sink) && sink.bytes() == &text[..3.min(text.len())])
+}
+
+/// Whether a sink that is full gets the beginning of what a form prints.
+fn is_cut_off(alloc: Global, job: &Job, outcome: &Outcome, form: Form) -> Result<bool, Fail>
+    requires { IsLegal job.now outcome.now.history.items }
+{
+    let text = print(alloc, job, &outcome.history, outcome.ended, form)?;
+    is_begun(alloc, job, outcome, form, text.as_slice())
 }
 
 #[test]
 fn a_full_sink_has_a_beginning(rt: HostRuntime) -> Result<(), Fail> {
     let alloc = rt.alloc();
-    let job = read(alloc, EACH_KIND).ok_or("refused")?;
+    let job = each_kind(alloc)?;
     let outcome = replay(alloc, &job)?;
-    for form in FORMS {
-        let mut sink = sink_of(alloc, 3)?;
-        let written = write_text(
-            alloc,
-            &job,
-            &outcome.history,
-            outcome.ended,
-            form,
-            &mut sink,
-        );
-        assert_eq!(rt; written, Err(TextFail::Sink));
-        let text = print(alloc, &job, &outcome.history, outcome.ended, form)?;
-        assert_eq!(rt; sink.bytes(), &text[..3.min(text.len())]);
+    for form in &FORMS {
+        assert!(rt; is_cut_off(alloc, &job, &outcome, *form)?);
     }
     Ok(())
 }
 
 /// A return without its begin.
-fn no_history(alloc: Global) -> Result<History, Fail> {
+fn no_history(alloc: Global) -> Result<History, NoMemory> {
     let mut history = History::with_room(alloc, 1)?;
     history.push(Item::Return {
         k: 7,
@@ -111,13 +164,18 @@ fn no_history(alloc: Global) -> Result<History, Fail> {
     Ok(history)
 }
 
+/// Whether the log of these items, of a run that was stopped, is this text.
+fn is_log(alloc: Global, history: &History, text: &[u8]) -> Result<bool, Fail> {
+    let job = each_kind(alloc)?;
+    let mut sink = sink_of(alloc, ROOM)?;
+    let written = write_log(alloc, &job, history, false, &mut sink);
+    Ok(written == Ok(()) && sink.bytes() == text)
+}
+
 #[test]
 fn a_log_is_of_any_items(rt: HostRuntime) -> Result<(), Fail> {
     let alloc = rt.alloc();
-    let job = read(alloc, EACH_KIND).ok_or("refused")?;
-    let mut sink = sink_of(alloc, ROOM)?;
-    let written = write_log(alloc, &job, &no_history(alloc)?, false, &mut sink);
-    assert_eq!(rt; written, Ok(()));
-    assert_eq!(rt; sink.bytes(), b"0 return 7 already\nstopped\n".as_slice());
+    let history = no_history(alloc)?;
+    assert!(rt; is_log(alloc, &history, b"0 return 7 already\nstopped\n")?);
     Ok(())
 }
