@@ -3,8 +3,9 @@
 
 use super::jobs::job_of;
 use ft_base::{CpuNo, NoMemory, Who};
-use ft_machine::{Job, Machine, backs_legal, replay};
+use ft_machine::{Job, Machine, replay};
 use ft_schedule::{Player, Schedule, held};
+use history_check::backs_legal;
 use std::alloc::{AllocError, Global};
 use std::test::Fail;
 

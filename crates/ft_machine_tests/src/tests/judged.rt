@@ -5,7 +5,7 @@ ghost use Rattle.std.specs.Prelude.{◌≡◌, ◌<◌, ◌^◌, length, IfOk};
 use super::jobs::job_of;
 use ft_base::{Answer, CallNo, Ctx, FuncNo, Item, NoMemory, Ran, Reason, TaskNo, UserNo};
 use ft_hist::History;
-use ft_machine::backs_legal;
+use history_check::backs_legal;
 use std::alloc::Global;
 use std::test::Fail;
 
