@@ -63,6 +63,12 @@ def grown(rows, before):
             yield f"cost: {name} isn't in docs/COST.md: {row.whole():.0f} s in all"
 
 
+def joined(old, new):
+    """What is known of a crate: what was measured now, and of the parts that were not what was known before."""
+    parts = {part: now for part, now in new._asdict().items() if now}
+    return old._replace(**{**parts, "memory": max(old.memory, new.memory)})
+
+
 def main():
     """Runs the command, and compares what it cost with the table."""
     parser = argparse.ArgumentParser(description=__doc__, formatter_class=argparse.RawDescriptionHelpFormatter)
@@ -77,8 +83,8 @@ def main():
     told = list(grown(rows, before))
     print("".join(line + "\n" for line in told), end="")
     if words.write and not process.returncode:
-        there = crate_list.read_crates()
-        cost_table.write({name: row for name, row in {**before, **rows}.items() if name in there})
+        known = {**before, **{name: joined(before.get(name, cost_table.Row()), row) for name, row in rows.items()}}
+        cost_table.write({name: row for name, row in known.items() if name in crate_list.read_crates()})
     minutes = sum(row.whole() for row in rows.values()) / 60
     print(f"cost: {len(rows)} crates, {minutes:.1f} processor minutes, {len(told)} grew", flush=True)
     return process.returncode
