@@ -66,17 +66,19 @@ class Progress:
 
     def __init__(self, names):
         self.crates = {name: told for name, told in crate_list.read_crates().items() if name in names}
-        self.seconds = {name: row.proof for name, row in cost_table.read().items() if name in names}
+        known = {name: row.proof for name, row in cost_table.read().items() if name in names and row.proof}
+        usual = sum(known.values()) / len(known) if known else 60.0  # of a crate that isn't in the table yet
+        self.seconds = {name: known.get(name, usual) for name in names}
         self.done, self.proved, self.begun = set(), 0.0, time.monotonic()
 
     def note(self, name, is_kept):
         """This crate is proved, now or by an earlier run."""
         self.done.add(name)
-        self.proved += 0 if is_kept else self.seconds.get(name, 0)
+        self.proved += 0 if is_kept else self.seconds.get(name, 0.0)
 
     def seconds_left(self):
         """About how long the rest will take."""
-        left = {name: self.seconds.get(name, 0) for name in self.crates if name not in self.done}
+        left = {name: self.seconds[name] for name in self.crates if name not in self.done}
         processors = len(os.sched_getaffinity(0))
         taken = time.monotonic() - self.begun
         speed = self.proved / taken if self.proved > 60 else processors  # seconds of the table, in a second
