@@ -3,9 +3,10 @@
 
 `rt ci` tries the edits of each crate's must-fail/. Beside them a crate may have more in further/, of the same form, which
 the whole check leaves out, since an edit costs it 10 to 40 seconds. Whoever changes a crate tries its further edits by this:
-in a copy of the repository they stand in the place of must-fail/, and `rt must-fail` tries them. Each has to be refused; an
-edit that can't be applied or read counts as failed, too. With no NAME all crates that have such edits are tried. What was
-refused once isn't tried again on the same machine until the crate, one below it, or the edit changes.
+in a copy of the repository they stand in the place of must-fail/, and `rt ci` tries them there, over what it has proved and
+kept of the crate and those below it (it proves them first if it hasn't). Each has to be refused; an edit that can't be applied or
+read counts as failed, too. With no NAME all crates that have such edits are tried. What was refused once isn't tried again on the
+same machine until the crate, one below it, or the edit changes.
 
 The last line is `further: N passed, M failed`, and the status is 0 if nothing failed.
 """
@@ -20,6 +21,7 @@ sys.dont_write_bytecode = True
 import crate_list  # noqa: E402
 
 RESULT = re.compile(r"rt: (?:must-fail )?(\w+/[\w.-]+\.edit): (.*)")
+NOT_PROVED = re.compile(r"rt: \w+ NOT PROVED")
 REFUSED = "refused, as it must be"
 
 
@@ -34,13 +36,13 @@ def try_edits(names, room):
     for name in names:
         (room / "crates" / name / "further").rename(room / "crates" / name / "must-fail")
     said = {}
-    command = ["rt", "must-fail", *names]
-    with subprocess.Popen(command, cwd=room, stdout=subprocess.PIPE, stderr=subprocess.STDOUT, text=True) as tried:
+    with subprocess.Popen(["rt", "ci"], cwd=room, stdout=subprocess.PIPE, stderr=subprocess.STDOUT, text=True) as tried:
         for line in tried.stdout:
-            print(line, end="", flush=True)
             found = RESULT.match(line)
             if found:
                 said[found[1]] = found[2]
+            if found or NOT_PROVED.match(line):
+                print(line, end="", flush=True)
     return said
 
 
