@@ -1,0 +1,9 @@
+//! Seats that step in turn, from threads of the tests, and from those that `live_threads` starts.
+
+mod histories;
+mod jobs;
+mod meeting;
+mod table;
+mod tally;
+mod threads;
+mod turns;

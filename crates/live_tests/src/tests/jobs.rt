@@ -1,0 +1,160 @@
+//! The jobs of the tests, which are read from scripts.
+
+use ft_base::limits::INPUT_BYTES;
+use ft_machine::Job;
+use ft_script::read_script;
+use std::alloc::{AllocError, Global};
+use std::test::Fail;
+
+/// A call that waits for the command that traces it.
+const FIRST_PATH: &str = "ftrace 1
+func f
+user tr function
+cpu 0 quantum 50
+task 10 cpu 0
+after 1
+call f
+ret
+ctl register tr
+";
+
+/// Two CPUs whose tasks call nothing. The first command waits for a quiet point of each task; control
+/// waits for the second task, which waits for the first command, before it begins the second command;
+/// and the first task waits for that one.
+const BOUND: &str = "ftrace 1
+cpu 0 quantum 50
+cpu 1 quantum 50
+task 10 cpu 0
+softirq
+iret
+after 2
+task 11 cpu 1
+after 1
+irq
+iret
+ctl pid 10
+ctl until 11 3
+ctl maxdepth 2
+";
+
+/// Two tasks on a CPU each, and control between them: all wait for one another in turn, so the items
+/// have one order. A user is unregistered and registered again within a call.
+const ONE_ORDER: &str = "ftrace 1
+func a
+func b
+user gr graph
+cpu 0 quantum 100
+cpu 1 quantum 100
+task 10 cpu 0
+after 1
+call a
+call b
+ret
+after 3
+ret
+call a
+ret
+task 11 cpu 1
+after 4
+call b
+ret
+ctl register gr
+ctl until 10 4
+ctl unregister gr
+ctl register gr
+ctl until 10 8
+ctl maxdepth 1
+ctl until 11 3
+ctl unregister gr
+";
+
+/// Commands that change call sites, and no CPU.
+const COMMANDS: &str = "ftrace 1
+func a
+func b
+user t function
+user gr graph
+ctl register t
+ctl filter gr > b
+ctl register gr
+ctl unregister t
+";
+
+/// Two CPUs; their tasks and a user follow.
+const TWO_CPUS: &str = "ftrace 1
+func a
+user t function
+cpu 0 quantum 100
+cpu 1 quantum 100
+";
+
+/// Calls of each task.
+const CALLS: u32 = 10;
+
+/// The job of a text; none if it is refused. The texts here are short enough.
+fn read(alloc: Global, text: &str) -> Option<Job> {
+    if text.len() > INPUT_BYTES as usize {
+        return None;
+    }
+    read_script(alloc, text.as_bytes()).ok()
+}
+
+/// The job of a text that isn't refused.
+fn job_of(alloc: Global, text: &str) -> Result<Job, Fail> {
+    match read(alloc, text) {
+        Some(job) => Ok(job),
+        None => Err("refused")?,
+    }
+}
+
+/// The job of one call, which waits for a command.
+pub fn first_path(alloc: Global) -> Result<Job, Fail> {
+    job_of(alloc, FIRST_PATH)
+}
+
+/// The job of two CPUs that wait for commands, and control for them.
+pub fn bound(alloc: Global) -> Result<Job, Fail> {
+    job_of(alloc, BOUND)
+}
+
+/// The job whose items have one order.
+pub fn one_order(alloc: Global) -> Result<Job, Fail> {
+    job_of(alloc, ONE_ORDER)
+}
+
+/// The job of commands alone.
+pub fn commands_alone(alloc: Global) -> Result<Job, Fail> {
+    job_of(alloc, COMMANDS)
+}
+
+/// A task of ten calls, on this CPU.
+fn add_task(text: &mut String, head: &str) -> Result<(), AllocError> {
+    text.push_str(head)?;
+    for _ in 0..CALLS {
+        text.push_str("call a\nret\n")?;
+    }
+    Ok(())
+}
+
+/// The text of two CPUs with a task of ten calls each.
+fn two_tasks(alloc: Global) -> Result<String, AllocError> {
+    let mut text = String::new(alloc);
+    text.push_str(TWO_CPUS)?;
+    add_task(&mut text, "task 10 cpu 0\n")?;
+    add_task(&mut text, "task 11 cpu 1\n")?;
+    Ok(text)
+}
+
+/// Two CPUs with a task of ten calls each, and control registers one user.
+pub fn three_at_once(alloc: Global) -> Result<Job, Fail> {
+    let mut text = two_tasks(alloc)?;
+    text.push_str("ctl register t\n")?;
+    job_of(alloc, text.as_str())
+}
+
+/// Two CPUs, one with a task of ten calls and one with two of them, and no command.
+pub fn calls_alone(alloc: Global) -> Result<Job, Fail> {
+    let mut text = two_tasks(alloc)?;
+    add_task(&mut text, "task 12 cpu 1\n")?;
+    job_of(alloc, text.as_str())
+}

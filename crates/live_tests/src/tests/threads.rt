@@ -1,0 +1,136 @@
+//! A run that has one history, a run that only several threads come through, and the passes of gates.
+
+use super::histories::is_replays;
+use super::jobs::{calls_alone, commands_alone, one_order, three_at_once};
+use super::meeting::Meeting;
+use super::tally::Tally;
+use ft_base::{Actor, CpuNo, NoMemory};
+use ft_hist::History;
+use ft_io::{Gate, OpenGate};
+use ft_machine::{Job, Machine};
+use live_table::{Live, Started};
+use live_threads::{Ended, run_live};
+use std::alloc::Global;
+use std::sync::Wait;
+use std::test::Fail;
+use std::thread::Threads;
+
+/// What the actors of a job make of it by threads.
+fn run<R: Threads + Wait + Sync, G: Gate>(
+    rt: &R,
+    alloc: Global,
+    job: &Job,
+    gate: &G,
+) -> Result<History, NoMemory> {
+    let Started {
+        live,
+        control,
+        cpus,
+    } = Live::start(alloc, job)?;
+    let Ok(ended) = run_live(rt, alloc, &live, control, cpus, gate) else {
+        return Err(NoMemory);
+    };
+    let Ended { control, cpus } = ended;
+    live.gather(alloc, control, cpus).map_err(|_| NoMemory)
+}
+
+#[test]
+fn one_order_is_the_replays(rt: HostRuntime) -> Result<(), Fail> {
+    let alloc = rt.alloc();
+    let job = one_order(alloc)?;
+    let history = run(&rt, alloc, &job, &OpenGate)?;
+    // Two of each of the five commands; eight of each of the four calls, less the two of the exit that
+    // doesn't come.
+    assert!(rt; history.len() == 40);
+    assert!(rt; is_replays(alloc, &job, &history)?);
+    Ok(())
+}
+
+/// How many items a run of three actors at once has, each of which passes this gate.
+fn items_of_three<R: Threads + Wait + Sync>(
+    rt: &R,
+    alloc: Global,
+    meeting: &Meeting,
+) -> Result<u32, Fail> {
+    let job = three_at_once(alloc)?;
+    let history = run(rt, alloc, &job, meeting)?;
+    Ok(history.len())
+}
+
+#[test]
+fn threads_pass_together(rt: HostRuntime) -> Result<(), Fail> {
+    let meeting = Meeting::new();
+    let items = items_of_three(&rt, rt.alloc(), &meeting)?;
+    // Each came, so the gate was passed, and none gave up, so they were there together.
+    assert!(rt; meeting.came() == 3);
+    assert!(rt; !meeting.failed());
+    // Enter, Body, Leave and Ret of each of the 20 calls, and the command's two. Which calls are called
+    // back is the threads' choice.
+    assert!(rt; items >= 82);
+    Ok(())
+}
+
+/// How often control and two CPUs pass the gate in a run of the job, each with the numbers from 0 on.
+fn passes<R: Threads + Wait + Sync>(rt: &R, alloc: Global, job: &Job) -> Result<[u64; 3], Fail> {
+    let tally = Tally::new();
+    run(rt, alloc, job, &tally)?;
+    if tally.is_broken() {
+        Err("broken")?
+    } else {
+        Ok(tally.passes())
+    }
+}
+
+/// The steps of an actor alone to its end, and one more, before the call that finds none left. None if
+/// it doesn't come to its end.
+fn steps_to_end(machine: &mut Machine, actor: Actor) -> Option<u64> {
+    for steps in 1..10_000 {
+        if machine.at_end(actor) {
+            return Some(steps);
+        }
+        machine.step(actor);
+    }
+    None
+}
+
+/// The steps of an actor, and one more, in a replay that steps it alone. The actors of these jobs come
+/// to their ends alone.
+fn steps_and_one(alloc: Global, job: &Job, actor: Actor) -> Result<u64, Fail> {
+    let mut machine = Machine::start(alloc, job)?;
+    match steps_to_end(&mut machine, actor) {
+        Some(steps) => Ok(steps),
+        None => Err("no end")?,
+    }
+}
+
+/// Whether control passes once a step, if no CPU is waited for.
+fn passes_with_commands<R: Threads + Wait + Sync>(rt: &R, alloc: Global) -> Result<bool, Fail> {
+    let job = commands_alone(alloc)?;
+    let control = steps_and_one(alloc, &job, Actor::Control)?;
+    let passes = passes(rt, alloc, &job)?;
+    Ok(passes == [control, 0, 0])
+}
+
+/// Whether each CPU passes once a step, if nothing is asked for and control has no step.
+fn passes_with_calls<R: Threads + Wait + Sync>(rt: &R, alloc: Global) -> Result<bool, Fail> {
+    let job = calls_alone(alloc)?;
+    let first = steps_and_one(alloc, &job, Actor::Cpu(CpuNo(0)))?;
+    let second = steps_and_one(alloc, &job, Actor::Cpu(CpuNo(1)))?;
+    let passes = passes(rt, alloc, &job)?;
+    Ok(passes == [1, first, second])
+}
+
+/// How often each passes if all are under way. How often control asks is the threads' choice.
+fn passes_with_both<R: Threads + Wait + Sync>(rt: &R, alloc: Global) -> Result<[u64; 3], Fail> {
+    let job = three_at_once(alloc)?;
+    passes(rt, alloc, &job)
+}
+
+#[test]
+fn passes_once_a_step(rt: HostRuntime) -> Result<(), Fail> {
+    let alloc = rt.alloc();
+    assert!(rt; passes_with_commands(&rt, alloc)?);
+    assert!(rt; passes_with_calls(&rt, alloc)?);
+    passes_with_both(&rt, alloc)?;
+    Ok(())
+}
