@@ -21,13 +21,17 @@ Other blocks are left alone: pictures, and commands of other programs. But no co
 `$ ftcore` and can't be run counts as failed, wherever on a page it is, and so does a script that nothing runs.
 
 - If its lines begin with `./ftcore`, they are commands that a reader types: each is run and has to end with 0. What stands after
-  two blanks says what it does; the commands of other blocks, with pipes or files of the reader's, aren't run.
+  two blanks says what it does.
+- If it begins with `head` or `printf`, it is for the reader's shell. It is run as a whole: FILE is an example, N the line of
+  its first call, and what stands after four blanks in a line says what that line prints. It has to end with 0, print something, and say nothing
+  on standard error.
 
 page_names.py looks whether what a page names is there. The last line is `docs: N passed, M failed`, and the status is 0 if
 nothing failed.
 """
 import re
 import sys
+import tempfile
 
 sys.dont_write_bytecode = True
 import page_names  # noqa: E402
@@ -38,6 +42,8 @@ ENDS = (b"end\n", b"stopped\n")
 FORMS = {form: ["replay", "--print", form] for form in ("function", "graph", "profile", "enabled")}
 FORMS["log"] = ["replay"]
 COMMAND = re.compile(rb"\$ ftcore((?: [\w=.-]+)*)(?: < (examples/[\w.]+\.ft))?\n")
+RECIPE = (b"head -n N FILE", b"printf ")
+EXAMPLE = "examples/realistic.ft"  # what recipes are tried on
 TYPED = re.compile(rb"\./ftcore((?: [\w=.-]+)*)(?: < (examples/[\w.]+\.ft))?(?:  .*)?\n")
 IS_COMMAND = re.compile(r"[\s>*+-]*\$\s*\S*ftcore\b")
 NOT_EMPTY = ("README.md", "TOUR.md")  # the pages that have a script at least
@@ -148,6 +154,11 @@ def commands(number, block):
     return found
 
 
+def first_call(script):
+    """The number of the first line of a script in which a task calls a function."""
+    return next(number for number, line in enumerate(script.read_text().splitlines(), 1) if line.split()[:1] == ["call"])
+
+
 class Page:
     """A page whose blocks are run one by one: the nearest script, with the number of its line, and the lines that were run."""
 
@@ -199,6 +210,15 @@ class Page:
                 came = runs.answer([self.program, *words], path.read_bytes() if path.is_file() else b"")
                 self.rows.row(self.name(at), runs.faults(came, 0))
 
+    def recipe(self, number, block):
+        """One row: the lines of a block for the shell, tried on an example."""
+        example = self.top / EXAMPLE
+        text = re.sub(r"(?<=\S) {4,}\w.*", "", block.decode()).replace("./ftcore", str(self.program))
+        text = re.sub(r"\bFILE\b", str(example), text).replace("-n N ", f"-n {first_call(example)} ")
+        with tempfile.TemporaryDirectory() as room:
+            came = runs.answer(["bash", "-c", text], cwd=room)
+        self.rows.row(self.name(number), runs.faults(came, 0) + ([] if came.out else ["it prints nothing"]))
+
     def show(self):
         """Each script and each command, and gives how many scripts there are."""
         text, is_below = self.path.read_text(), False
@@ -211,6 +231,8 @@ class Page:
                     self.run(*command)
             elif block.startswith(b"./ftcore"):
                 self.type(number, block)
+            elif block.startswith(RECIPE):
+                self.recipe(number, block)
             elif is_below:
                 self.ran.add(self.scripts[-1])
                 show(self.rows, self.program, self.name(self.scripts[-1]), self.script, block)
