@@ -82,8 +82,7 @@ class Progress:
         processors = len(os.sched_getaffinity(0))
         taken = time.monotonic() - self.begun
         speed = self.proved / taken if self.proved > 60 else processors  # seconds of the table, in a second
-        chain = longest_chain(self.crates, left) * min(4.0, max(1.0, processors / max(speed, 0.1)))
-        return max(sum(left.values()) / max(speed, 0.1), chain)
+        return max(sum(left.values()) / max(speed, 0.1), longest_chain(self.crates, left))
 
     def line(self, now):
         """The line that tells it; `now` are the crates that are being proved."""
