@@ -1,10 +1,12 @@
 -- A job as plain data: what a script declares, as lists, sets and numbers.
-use Rattle.std.specs.Prelude.{ℕ, Bool, List, [], ◌∷◌, length, Option, None}
+use Rattle.std.specs.Prelude.{ℕ, Bool, true, List, [], ◌∷◌, length, Option, Some, None}
 use Rattle.ft_base.specs.Marks.{Marks}
+use Rattle.ft_base.specs.declared.limits.TheConstants.{USUAL_RING}
 use Rattle.ft_base.specs.declared.number.FuncNo.{FuncNo}
 use Rattle.ft_base.specs.declared.user.Kind.{Kind}
 use Rattle.ft_base.specs.declared.user.Act.{Act}
 use Rattle.ft_base.specs.declared.task.TaskAct.{TaskAct}
+use Rattle.ft_base.specs.declared.item.Answer.{Answer}
 use Rattle.ft_base.specs.declared.turn.Turn.{Turn}
 
 -- a traceable function: its name, and its module if it has one
@@ -42,6 +44,35 @@ pub data Command : Type 0 where
   Disable : (user : ℕ) → Command
   MaxDepth : (depth : ℕ) → Command
 
+-- the user that a command names, if it names one
+abbrev pub user_of : Command → Option ℕ
+user_of (Register u) = Some u
+user_of (Unregister u) = Some u
+user_of (Filter u e) = Some u
+user_of (Notrace u e) = Some u
+user_of (Pid pids) = None
+user_of (NoPid nopids) = None
+user_of (Enable u) = Some u
+user_of (Disable u) = Some u
+user_of (MaxDepth depth) = None
+
+-- the set of functions that a command brings, if it is an edit
+abbrev pub set_of : Command → Option Marks
+set_of (Filter u e) = Some e.set
+set_of (Notrace u e) = Some e.set
+set_of _ = None
+
+-- the graph depth that a command sets, if it sets one
+abbrev pub depth_of : Command → Option ℕ
+depth_of (MaxDepth depth) = Some depth
+depth_of _ = None
+
+-- the user that a command takes off if it is accepted: none of its callbacks is open when the command has returned
+abbrev pub takes_off : Command → Option ℕ
+takes_off (Unregister u) = Some u
+takes_off (Disable u) = Some u
+takes_off _ = None
+
 -- one line of control: a command, or a wait until a task has finished this many acts
 pub data Ctl : Type 0 where
   Run : (command : Command) → Ctl
@@ -53,6 +84,43 @@ pub record Task : Type 0 where
   pub cpu : ℕ
   pub acts : List TaskAct
 
+-- a line that loads or unloads a module: whether it loads, the module, its answer, and the numbers of the first and the last
+-- command that carry it out
+pub record ModuleRow : Type 0 where
+  pub load : Bool
+  pub owner : ℕ
+  pub answer : Answer
+  pub first : ℕ
+  pub last : ℕ
+
+-- Where control's lines come from, if a script says more of it: the lane of each command, or nothing if there are no lanes; the
+-- modules that aren't loaded at first; and the lines that load and unload modules
+pub record LinePlan : Type 0 where
+  pub lanes : List ℕ
+  pub absent : List ℕ
+  pub modules : List ModuleRow
+
+-- no lanes and no modules that change
+abbrev pub usual_lines : LinePlan
+usual_lines = record { lanes = []; absent = []; modules = [] }
+
+-- a trigger: whether it switches tracing on, how often it may fire if that is limited, and at the calls of which functions
+-- (ftrace.rst, Filter commands)
+pub record Trigger : Type 0 where
+  pub on : Bool
+  pub limit : Option ℕ
+  pub set : Marks
+
+-- what is kept of a trace: how many entries each CPU's ring holds, whether tracing is on at first, and what switches it
+pub record RingPlan : Type 0 where
+  pub ring : ℕ
+  pub tracing : Bool
+  pub triggers : List Trigger
+
+-- what a script without such lines has
+abbrev pub usual_rings : RingPlan
+usual_rings = record { ring = USUAL_RING; tracing = true; triggers = [] }
+
 -- what stands for the number of a function that a job doesn't have
 abbrev pub no_func : Func
 no_func = record { name = []; owner = None }
@@ -61,9 +129,10 @@ no_func = record { name = []; owner = None }
 abbrev pub no_task : Task
 no_task = record { pid = 0; cpu = 0; acts = [] }
 
--- a job: functions, users, the frames of each task's shadow stack, trampoline slots, the quantum of each CPU, tasks,
--- control's lines and the schedule
+-- a job: the version of the language that it is written in, functions, users, the frames of each task's shadow stack, trampoline
+-- slots, the quantum of each CPU, tasks, control's lines, the schedule, where the lines come from, and what is kept of a trace
 pub record Job : Type 0 where
+  pub version : ℕ
   pub functions : List Func
   pub users : List Spec
   pub frames : ℕ
@@ -72,6 +141,8 @@ pub record Job : Type 0 where
   pub tasks : List Task
   pub ctls : List Ctl
   pub schedule : List Turn
+  pub lines : LinePlan
+  pub rings : RingPlan
 
 -- how many functions there are
 abbrev pub funcs : Job → ℕ

@@ -1,21 +1,15 @@
 -- What a script's rules give of its job: each number names something, and each task's returns have their calls.
-use Rattle.std.specs.Prelude.{ℕ, zero, suc, ◌≡◌, ◌<◌, List, [], ◌∷◌, length, Option, Some, None}
+use Rattle.std.specs.Prelude.{ℕ, zero, suc, ◌≡◌, ◌<◌, List, [], ◌∷◌, length, Option, Some, None, IfSome}
 use Rattle.std.specs.List.{AllByRecursion as Each}
 use Rattle.ft_base.specs.declared.user.Act.{Act}
 use Rattle.ft_base.specs.declared.user.Act.TheVariants.{CallIn, IrqIn}
 use Rattle.ft_base.specs.declared.task.TaskAct.{TaskAct}
 use Rattle.ft_base.specs.declared.task.TaskAct.TheVariants.{Call, Ret as RetAct, Raise, Lower, After}
-use Rattle.ft_base.specs.Job.{Job, Command, Register, Unregister, Filter, Notrace, Enable, Disable, commands, funcs}
+use Rattle.ft_base.specs.Job.{Job, Command, user_of, commands, funcs}
 
 -- the user that a command names is one of the job's
 abbrev pub IsNamed : Job → Command → Type 0
-IsNamed job (Register u) = u < length job.users
-IsNamed job (Unregister u) = u < length job.users
-IsNamed job (Filter u e) = u < length job.users
-IsNamed job (Notrace u e) = u < length job.users
-IsNamed job (Enable u) = u < length job.users
-IsNamed job (Disable u) = u < length job.users
-IsNamed job _ = Unit {0}
+IsNamed job c = IfSome (user_of c) (λ u. u < length job.users)
 
 -- the function that an act calls is one of the job's
 abbrev pub IsActNamed : Job → Option Act → Type 0

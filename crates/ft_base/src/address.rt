@@ -3,7 +3,7 @@
 ghost use Rattle.std.specs.Prelude.{◌≡◌, ◌<◌};
 ghost use Rattle.ft_base.specs.Address.{function_at};
 
-use crate::limits::TABLE_FUNCS;
+use crate::limits::FUNCS;
 use crate::number::FuncNo;
 
 /// The address of function 0.
@@ -14,7 +14,7 @@ pub const FUNCTION_STEP: u32 = 64;
 
 /// The address of a function, at which its call site begins.
 pub fn function_address(f: FuncNo) -> u32
-    requires { f.0 < TABLE_FUNCS }
+    requires { f.0 < FUNCS }
     ensures { result ≡ function_at f.0 }
 {
     FIRST_FUNCTION + FUNCTION_STEP * f.0

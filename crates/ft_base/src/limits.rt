@@ -1,23 +1,44 @@
 //! What a script may have at most, and what holds if it says nothing. Each limit has its one name
-//! here, which code, clauses and definitions cite.
+//! here, which code, clauses and definitions cite. Of functions, users, trampoline slots and levels of
+//! recursion each version of the language has its own limit (`Limits::of`); what is here as a constant
+//! without a version is what the layout of words, bytes and frames has room for, in all versions.
+
+ghost use Rattle.std.specs.Prelude.{◌≡◌};
+ghost use Rattle.ft_base.specs.Versions.{limits_of};
+
+/// The latest version of the language.
+pub const VERSION: u8 = 2;
 
 /// CPUs.
 pub const CPUS: u32 = 8;
 
-/// Tasks, over all CPUs.
+/// Tasks, over all CPUs. A mask of tasks is one word of 64 bits.
 pub const TASKS: u32 = 64;
 
-/// Users.
-pub const USERS: u32 = 16;
+/// Users. A frame of a shadow stack has room for the exits of so many.
+pub const USERS: u32 = 64;
 
-/// Trampoline slots, also if a script doesn't say.
-pub const TRAMPS: u32 = 16;
+/// Users in version 1.
+pub const USERS_IN_VERSION_1: u32 = 16;
 
-/// Functions.
-pub const FUNCS: u32 = 1_024;
+/// Trampoline slots, also if a script doesn't say. Their addresses come after those of all functions
+/// and of the list caller.
+pub const TRAMPS: u32 = 64;
 
-/// Functions that a table can number, and so those that have an address.
-pub const TABLE_FUNCS: u32 = 4_096;
+/// Trampoline slots in version 1, also if a script doesn't say.
+pub const TRAMPS_IN_VERSION_1: u32 = 16;
+
+/// Functions. So many have an address below that of the list caller.
+pub const FUNCS: u32 = 4_096;
+
+/// Functions in version 1.
+pub const FUNCS_IN_VERSION_1: u32 = 1_024;
+
+/// Callbacks of a task that can be open at a time in one context.
+pub const GUARD_LEVELS: u8 = 2;
+
+/// The same in version 1.
+pub const GUARD_LEVELS_IN_VERSION_1: u8 = 1;
 
 /// Commands.
 pub const COMMANDS: u32 = 1_024;
@@ -40,11 +61,23 @@ pub const USUAL_FRAMES: u32 = 50;
 /// The greatest graph depth.
 pub const GRAPH_DEPTH: u32 = 512;
 
-/// Users for whom the most items of a call are reckoned, which is also the most users of a frame.
-pub const BOUND_USERS: u32 = 64;
-
 /// Items that the scripted calls can make, by the bound for one call.
 pub const ITEMS: u32 = 4_000_000;
+
+/// Entries of a CPU's trace ring if a script doesn't say.
+pub const USUAL_RING: u32 = 1_024;
+
+/// The most entries of a CPU's trace ring. The least is 1.
+pub const RING: u32 = 65_536;
+
+/// Triggers.
+pub const TRIGGERS: u32 = 8;
+
+/// The most times that a trigger with a limit may fire. The least is 1.
+pub const TRIGGER_LIMIT: u32 = 1_000_000;
+
+/// Lanes.
+pub const LANES: u32 = 8;
 
 /// Steps of a schedule.
 pub const STEPS: u32 = 4_000_000;
@@ -66,3 +99,39 @@ pub const PATTERN_BYTES: u32 = 255;
 
 /// Bytes of a script.
 pub const INPUT_BYTES: u32 = 16_777_216;
+
+/// What a script of a version may have at most of what differs by version.
+#[derive(Clone, Copy, Debug, PartialEq, Eq)]
+pub struct Limits {
+    /// Functions.
+    pub funcs: u32,
+    /// Users.
+    pub users: u32,
+    /// Trampoline slots, also if a script doesn't say.
+    pub tramps: u8,
+    /// Levels of each guard: how many callbacks of a task can be open at a time in one context.
+    pub levels: u8,
+}
+
+impl Limits {
+    /// The limits of a version of the language: those of version 2, and otherwise those of version 1.
+    pub fn of(version: u8) -> Limits
+        ensures { result ≡ limits_of version }
+    {
+        if version == VERSION {
+            Limits {
+                funcs: FUNCS,
+                users: USERS,
+                tramps: TRAMPS as u8,
+                levels: GUARD_LEVELS,
+            }
+        } else {
+            Limits {
+                funcs: FUNCS_IN_VERSION_1,
+                users: USERS_IN_VERSION_1,
+                tramps: TRAMPS_IN_VERSION_1 as u8,
+                levels: GUARD_LEVELS_IN_VERSION_1,
+            }
+        }
+    }
+}
