@@ -1,11 +1,15 @@
 //! [`recursion_guard::Guards`]: a task's callbacks take and give back their guards.
 
+ghost use Rattle.std.specs.Prelude.{◌≡◌};
+ghost use Rattle.std.specs.Bool.{OnTrue};
+ghost use Rattle.recursion_guard.specs.Guards.{entered};
+
 use ft_base::Ctx;
 use recursion_guard::Guards;
 
 #[test]
 fn recursion(rt: HostRuntime) {
-    let mut guards = Guards::new();
+    let mut guards = Guards::new(1);
     // A callback calls a function that its user traces too.
     assert!(rt; guards.try_enter());
     assert!(rt; !guards.try_enter(), "refused in its own context");
@@ -21,7 +25,7 @@ fn recursion(rt: HostRuntime) {
 
 #[test]
 fn guards_each_context_apart(rt: HostRuntime) {
-    let mut guards = Guards::new();
+    let mut guards = Guards::new(1);
     // The task in its normal context, then interrupted up to the highest one.
     assert!(rt; guards.ctx() == Ctx::Normal && guards.try_enter());
     assert!(rt; !guards.try_enter(), "entered from itself");
@@ -51,7 +55,7 @@ fn guards_each_context_apart(rt: HostRuntime) {
 
 #[test]
 fn interrupts_past_a_context(rt: HostRuntime) {
-    let mut guards = Guards::new();
+    let mut guards = Guards::new(1);
     guards.raise(Ctx::Irq);
     assert!(rt; guards.try_enter());
     guards.lower();
@@ -60,4 +64,28 @@ fn interrupts_past_a_context(rt: HostRuntime) {
         guards.try_enter(),
         "the guard of the interrupt is another one"
     );
+}
+
+/// Whether two callbacks are entered in the present context, and a third one is refused.
+fn takes_both_levels(guards: &mut Guards) -> bool
+    ensures raised { guards.new.raised ≡ guards.old.raised }
+    ensures both { OnTrue result (guards.new ≡ entered (entered guards.old)) }
+{
+    guards.try_enter() && guards.try_enter() && !guards.try_enter()
+}
+
+#[test]
+fn guards_have_two_levels(rt: HostRuntime) {
+    let mut guards = Guards::new(2);
+    assert!(rt; takes_both_levels(&mut guards));
+    guards.raise(Ctx::Irq);
+    assert!(rt; takes_both_levels(&mut guards), "the interrupt has its own");
+    guards.leave();
+    guards.lower();
+    assert!(rt;
+        !guards.try_enter(),
+        "the interrupt gave back its own level"
+    );
+    guards.leave();
+    assert!(rt; guards.try_enter(), "free after one has ended");
 }
