@@ -21,5 +21,7 @@ pub mod FullStack
 pub mod EnteredOnce
 pub mod Carries
 pub mod OpenCallbacks
+pub mod OpenBacks
+pub mod ExitLevels
 pub mod Placing
 pub mod Written

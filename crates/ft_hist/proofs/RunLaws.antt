@@ -72,7 +72,7 @@ Kept s t below s' = (s'.next ≡ s.next) × (calls_on s'.stack ≡ t.call ∷ ca
 kept : (s : PlainTask) (t : Frame) (below : List Frame) (x s' : PlainTask) → Kept s t below x → Some x ≡ Some s' → Kept s t below s'
 kept s t below x s' k e = subst (λ y. Kept s t below y) (some_inj x s' e) k
 
-on_call-inv : (stack : List Frame) (call : CallNo) (next : Frame → List Frame → Option PlainTask) (s' : PlainTask) → on_call stack call next ≡ Some s'
+pub on_call-inv : (stack : List Frame) (call : CallNo) (next : Frame → List Frame → Option PlainTask) (s' : PlainTask) → on_call stack call next ≡ Some s'
     → (t : Frame) × (below : List Frame) × (stack ≡ t ∷ below) × (t.call ≡ call) × (next t below ≡ Some s')
 on_call-inv [] call next s' e = absurd cc
 on_call-inv (t ∷ below) call next s' e =

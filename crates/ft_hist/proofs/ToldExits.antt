@@ -1,5 +1,5 @@
 -- The laws of exits and of what is open at an unregistration, by items.
-use Rattle.std.proofs.Common.{◌≡◌, ℕ, zero, suc, ◌<◌, ◌≤◌, ◌⊎◌, Bool, true, false, ◌==◌, List, [], ◌∷◌, ◌++◌, length, reverse, Option, Some, refl, sym, ap, ◌∙◌, subst, arith, cond, inl, inr, lt-ltb}
+use Rattle.std.proofs.Common.{IfSome, ◌≡◌, ℕ, zero, suc, ◌<◌, ◌≤◌, ◌⊎◌, Bool, true, false, ◌==◌, List, [], ◌∷◌, ◌++◌, length, reverse, Option, Some, refl, sym, ap, ◌∙◌, subst, arith, cond, inl, inr, lt-ltb}
 use Rattle.std.specs.Prelude.{slice_get, get_or, Contains}
 use Rattle.std.specs.List.{list_any, AllByRecursion as Each}
 use Rattle.std.proofs.lemmas.List.{reverse-reverse, length-reverse}
@@ -27,8 +27,7 @@ use Rattle.ft_hist.proofs.Told.{later_at}
 module _ (job : Job) (items a b rest : List Item) (x : Item) (k : ℕ) (call : CallNo) (u : ℕ) (legal : IsLegal job items)
     (e : items ≡ (a ++ x ∷ b) ++ Return (suc k) Accepted ∷ rest) (begins : is_begin_by call u x ≡ true) where
   still : (c : Command) → TakesOff c u → IsStill (reverse (a ++ x ∷ b)) c → is_called u (reverse (a ++ x ∷ b)) ≡ false
-  still c (inl is) h = subst (λ d. IsStill (reverse (a ++ x ∷ b)) d) is h
-  still c (inr is) h = subst (λ d. IsStill (reverse (a ++ x ∷ b)) d) is h
+  still c off h = subst (λ o. IfSome o (λ v. is_called v (reverse (a ++ x ∷ b)) ≡ false)) off h
 
   pub ended-before : (c : Command) → slice_get (commands job) k ≡ Some c → TakesOff c u → list_any (is_end_by call u) b ≡ true
   ended-before c command off = by (list_any (is_end_by call u) b) refl

@@ -12,7 +12,8 @@ use Rattle.ft_base.specs.Job.{Job}
 use Rattle.ft_base.specs.Desk.{desk, is_allowed, spec_at}
 use Rattle.ft_base.specs.Kinds.{has_depth}
 use Rattle.ft_base.proofs.Small.{false_true}
-use Rattle.ft_hist.specs.Past.{is_in_callback, held}
+use Rattle.ft_base.specs.Versions.{levels}
+use Rattle.ft_hist.specs.Past.{open_callbacks, held}
 use Rattle.ft_hist.specs.Rules.{IsLegal, IsLegalPast}
 use Rattle.ft_hist.specs.Telling.{is_ret_of, AtSomeCommand}
 use Rattle.ft_hist.proofs.Splitting.{splits, split-reverse}
@@ -32,23 +33,23 @@ module _ (job : Job) (items before mid rest : List Item) (call : CallNo) (ctx : 
       let m = (at_x job items before mid rest call ctx f caller (Refuse call user ByPid) legal e).rule.1 in
       (m.0, from-now job items before mid rest call ctx f caller (Refuse call user ByPid) legal e (λ k. is_allowed (desk job k) call.task.0 ≡ false) m.1)
 
-  -- in a callback of its task and context
+  -- as all levels of the guard are held
   pub recursion-cause : (e : items ≡ before ++ Enter call ctx f caller ∷ (mid ++ Refuse call user Recursion ∷ rest))
-      → is_in_callback call.task.0 ctx (reverse (before ++ Enter call ctx f caller ∷ mid)) ≡ true
+      → levels job ≤ open_callbacks call.task.0 ctx (reverse (before ++ Enter call ctx f caller ∷ mid))
   recursion-cause e =
       let m = (at_x job items before mid rest call ctx f caller (Refuse call user Recursion) legal e).rule.1 in
-      subst (λ c. is_in_callback call.task.0 c (reverse (before ++ Enter call ctx f caller ∷ mid)) ≡ true) (ctx_is job items before mid rest call ctx f caller (Refuse call user Recursion) legal e) m.1
+      subst (λ c. levels job ≤ open_callbacks call.task.0 c (reverse (before ++ Enter call ctx f caller ∷ mid))) (ctx_is job items before mid rest call ctx f caller (Refuse call user Recursion) legal e) m.1
 
   -- for depth
   pub depth-cause : (e : items ≡ before ++ Enter call ctx f caller ∷ (mid ++ Refuse call user Depth ∷ rest))
-      → (is_in_callback call.task.0 ctx (reverse (before ++ Enter call ctx f caller ∷ mid)) ≡ false)
+      → (open_callbacks call.task.0 ctx (reverse (before ++ Enter call ctx f caller ∷ mid)) < levels job)
       × (has_depth (spec_at job user.0).kind ≡ true)
       × ((held job call (reverse (before ++ Enter call ctx f caller ∷ mid)) ≡ job.frames)
       ⊎ AtSomeCommand before (before ++ Enter call ctx f caller ∷ mid) (λ k. (0 < (desk job k).depth) × ((desk job k).depth ≤ held job call (reverse (before ++ Enter call ctx f caller ∷ mid)))))
   depth-cause e =
       let past = reverse (before ++ Enter call ctx f caller ∷ mid) in
       let m = (at_x job items before mid rest call ctx f caller (Refuse call user Depth) legal e).rule.1 in (
-        subst (λ c. is_in_callback call.task.0 c past ≡ false) (ctx_is job items before mid rest call ctx f caller (Refuse call user Depth) legal e) m.1,
+        subst (λ c. open_callbacks call.task.0 c past < levels job) (ctx_is job items before mid rest call ctx f caller (Refuse call user Depth) legal e) m.1,
         m.2,
         elim m.3 [
           | inl full ↦ inl full
@@ -56,11 +57,11 @@ module _ (job : Job) (items before mid rest : List Item) (call : CallNo) (ctx : 
         ],
       )
 
-  -- at a callback none of the task and context is open
-  pub back-free : (e : items ≡ before ++ Enter call ctx f caller ∷ (mid ++ Back call user ∷ rest)) → is_in_callback call.task.0 ctx (reverse (before ++ Enter call ctx f caller ∷ mid)) ≡ false
+  -- at a callback a level of the guard is free
+  pub back-free : (e : items ≡ before ++ Enter call ctx f caller ∷ (mid ++ Back call user ∷ rest)) → open_callbacks call.task.0 ctx (reverse (before ++ Enter call ctx f caller ∷ mid)) < levels job
   back-free e =
       let m = (at_x job items before mid rest call ctx f caller (Back call user) legal e).rule.0 in
-      subst (λ c. is_in_callback call.task.0 c (reverse (before ++ Enter call ctx f caller ∷ mid)) ≡ false) (ctx_is job items before mid rest call ctx f caller (Back call user) legal e) m.free
+      subst (λ c. open_callbacks call.task.0 c (reverse (before ++ Enter call ctx f caller ∷ mid)) < levels job) (ctx_is job items before mid rest call ctx f caller (Back call user) legal e) m.free
 
   -- and its user passed the pid rule, and the graph depth
   pub back-allowed : (e : items ≡ before ++ Enter call ctx f caller ∷ (mid ++ Back call user ∷ rest)) → (spec_at job user.0).pid ≡ true

@@ -1,5 +1,5 @@
 -- What a history tells at a place. Each definition takes the items before that place, the latest first: its past.
-use Rattle.std.specs.Prelude.{ℕ, suc, Bool, true, false, not, ◌||◌, ◌&&◌, ◌==◌, nat_lt, List, [], ◌∷◌, length, Option, Some, None, if◌then◌else◌}
+use Rattle.std.specs.Prelude.{ℕ, suc, Bool, true, false, not, ◌||◌, ◌&&◌, ◌==◌, nat_lt, List, [], ◌∷◌, length, count_by, Option, Some, None, if◌then◌else◌}
 use Rattle.std.specs.List.{list_any, filter}
 use Rattle.ft_base.specs.declared.number.CallNo.{CallNo}
 use Rattle.ft_base.specs.declared.context.Ctx.{Ctx}
@@ -85,9 +85,13 @@ abbrev pub is_ctx : Option Ctx → Ctx → Bool
 is_ctx None x = false
 is_ctx (Some y) x = same_ctx y x
 
--- whether a callback of this task and context is open
-abbrev pub is_in_callback : ℕ → Ctx → List Item → Bool
-is_in_callback t x past = list_any (λ b. (b.call.task.0 == t) && is_ctx b.ctx x) (callbacks past)
+-- a callback is of this task and context
+abbrev pub is_at : ℕ → Ctx → Callback → Bool
+is_at t x b = (b.call.task.0 == t) && is_ctx b.ctx x
+
+-- how many callbacks of this task and context are open
+abbrev pub open_callbacks : ℕ → Ctx → List Item → ℕ
+open_callbacks t x past = count_by (is_at t x) (callbacks past)
 
 -- whether a callback of this user is open
 abbrev pub is_called : ℕ → List Item → Bool

@@ -19,10 +19,11 @@ use Rattle.ft_base.specs.declared.item.Ran.TheVariants.{Nop, List as ByList, Own
 use Rattle.ft_base.specs.declared.item.Answer.{Answer}
 use Rattle.ft_base.specs.declared.item.Item.{Item}
 use Rattle.ft_base.specs.declared.item.Item.TheVariants.{Begin, Return, Enter, Back, BackEnd, Refuse, Miss, Body, Leave, Exit, ExitEnd, Ret}
-use Rattle.ft_base.specs.Job.{Job, Command, Unregister, Disable, commands, Ctl, Run, Until}
+use Rattle.ft_base.specs.Job.{Job, Command, takes_off, commands, Ctl, Run, Until}
+use Rattle.ft_base.specs.Versions.{levels}
 use Rattle.ft_base.specs.Desk.{spec_at, desk, is_on, is_live, is_allowed, target, answer_at, is_accepted, user_at}
 use Rattle.ft_base.specs.Kinds.{has_depth, cancels}
-use Rattle.ft_hist.specs.Past.{done, begun, entry_of, is_in_callback, is_called, visits, held, Visit, registration_at, miss_due, exits, done_at_leave}
+use Rattle.ft_hist.specs.Past.{done, begun, entry_of, open_callbacks, is_called, visits, held, Visit, registration_at, miss_due, exits, done_at_leave}
 use Rattle.ft_hist.specs.Plain.{plain, ahead, PlainTask, Frame, Phase, Running}
 
 -- a fact after the commands that have returned, or after those that have begun
@@ -47,13 +48,17 @@ pub record MayVisit (job : Job) (past : List Item) (call : CallNo) (u : ℕ) : T
 abbrev pub PassesPid : Job → List Item → CallNo → ℕ → Type 0
 PassesPid job past call u = (spec_at job u).pid ≡ true → AtReturnedOrBegun past (λ k. is_allowed (desk job k) call.task.0 ≡ true)
 
--- an entry callback: the user may be visited and passes the pid rule, no callback of the task and context is open
--- (ftrace-uses.rst, Protect your callback), and a graph or profile user finds a frame and is within the graph depth
+-- a level of the guard of the call's task and context is free (ftrace-uses.rst, Protect your callback)
+abbrev pub IsFree : Job → List Item → CallNo → Type 0
+IsFree job past call = open_callbacks call.task.0 (entry_of call past).ctx past < levels job
+
+-- an entry callback: the user may be visited and passes the pid rule, a level of the guard is free, and a graph or profile user
+-- finds a frame and is within the graph depth
 -- (ftrace.rst, The File System: max_graph_depth)
 pub record MayBack (job : Job) (past : List Item) (call : CallNo) (u : ℕ) : Type 0 where
   pub visit : MayVisit job past call u
   pub pid : PassesPid job past call u
-  pub free : is_in_callback call.task.0 (entry_of call past).ctx past ≡ false
+  pub free : IsFree job past call
   pub room : has_depth (spec_at job u).kind ≡ true → held job call past < job.frames
   pub level : has_depth (spec_at job u).kind ≡ true → AtReturnedOrBegun past (λ k. ((desk job k).depth ≡ 0) ⊎ (held job call past < (desk job k).depth))
 
@@ -62,9 +67,9 @@ abbrev pub MayRefuse : Job → List Item → CallNo → ℕ → Reason → Type 
 MayRefuse job past call u ByPid =
     ((spec_at job u).pid ≡ true) × AtReturnedOrBegun past (λ k. is_allowed (desk job k) call.task.0 ≡ false)
 MayRefuse job past call u Recursion =
-    PassesPid job past call u × (is_in_callback call.task.0 (entry_of call past).ctx past ≡ true)
+    PassesPid job past call u × (levels job ≤ open_callbacks call.task.0 (entry_of call past).ctx past)
 MayRefuse job past call u Depth =
-    PassesPid job past call u × (is_in_callback call.task.0 (entry_of call past).ctx past ≡ false)
+    PassesPid job past call u × IsFree job past call
     × (has_depth (spec_at job u).kind ≡ true)
     × ((held job call past ≡ job.frames) ⊎ AtReturnedOrBegun past (λ k. (0 < (desk job k).depth) × ((desk job k).depth ≤ held job call past)))
 
@@ -102,9 +107,7 @@ pub record MayBody (job : Job) (past : List Item) (call : CallNo) (g : ℕ) (ran
 
 -- no callback of a user is open when its unregistration or disabling returns
 abbrev pub IsStill : List Item → Command → Type 0
-IsStill past (Unregister u) = is_called u past ≡ false
-IsStill past (Disable u) = is_called u past ≡ false
-IsStill past _ = Unit {0}
+IsStill past c = IfSome (takes_off c) (λ u. is_called u past ≡ false)
 
 -- a Return: of the command under way, with its answer, and if that takes a user off no callback of the user is open
 -- (ftrace-uses.rst, The ftrace_ops structure; fprobe.rst)

@@ -6,7 +6,7 @@ use Rattle.ft_base.specs.declared.item.Item.{Item}
 use Rattle.ft_base.specs.declared.item.Item.TheVariants.{Begin, Return, Enter, Back, BackEnd, Refuse, Miss, Body, Leave, Exit, ExitEnd, Ret}
 use Rattle.ft_base.specs.Same.{same_call}
 use Rattle.ft_base.specs.declared.number.UserNo.{UserNo}
-use Rattle.ft_base.specs.Job.{Job, Command, Unregister, Disable}
+use Rattle.ft_base.specs.Job.{Job, Command, takes_off}
 use Rattle.ft_base.specs.Desk.{desk, is_live, spec_at, user_at}
 use Rattle.ft_base.specs.Kinds.{has_depth, has_exit, cancels}
 use Rattle.ft_hist.specs.Past.{done, begun, calls, done_at_leave, held, is_open, registration_at}
@@ -69,7 +69,7 @@ AtEachCommand start end' P = (k : ℕ) → done (reverse start) ≤ k → k ≤ 
 
 -- the command takes the user off: it unregisters or disables it
 abbrev pub TakesOff : Command → ℕ → Type 0
-TakesOff c u = (c ≡ Unregister u) ⊎ (c ≡ Disable u)
+TakesOff c u = takes_off c ≡ Some u
 
 -- why an entry callback after the items of `first` may have no exit by the return that comes after those of `second`: its user has
 -- none; or cancels it; or the shadow stack was full; or its registration was not live after some command since the call's Leave

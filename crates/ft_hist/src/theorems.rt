@@ -11,6 +11,7 @@
 ghost use Rattle.std.specs.Prelude.{◌≡◌, ◌≢◌, ◌↔◌, ◌⊎◌, ℕ, suc, ◌<◌, ◌≤◌, true, false, ◌==◌, List, ◌∷◌, ◌++◌, Option, Some, length, reverse, slice_get};
 ghost use Rattle.std.specs.List.{list_any};
 ghost use Rattle.ft_base.specs.Job.{Job as PlainJob, Command, Register, Unregister, commands};
+ghost use Rattle.ft_base.specs.Versions.{levels};
 ghost use Rattle.ft_base.specs.Desk.{desk, is_on, is_allowed, is_live, spec_at, target, user_at};
 ghost use Rattle.ft_base.specs.Kinds.{has_depth, has_exit};
 ghost use Rattle.ft_base.specs.WellFormed.{IsWellFormed};
@@ -24,7 +25,7 @@ ghost use Rattle.ft_base.specs.declared.item.Reason.{Reason};
 ghost use Rattle.ft_base.specs.declared.item.Reason.TheVariants.{Pid as ByPid, Recursion, Depth};
 ghost use Rattle.ft_base.specs.declared.item.Item.{Item};
 ghost use Rattle.ft_base.specs.declared.item.Item.TheVariants.{Return, Enter, Back, Refuse, Miss, Body, Exit, Ret};
-ghost use Rattle.ft_hist.specs.Past.{begun, held, is_in_callback, is_of, registration_at};
+ghost use Rattle.ft_hist.specs.Past.{begun, held, is_of, open_callbacks, registration_at};
 ghost use Rattle.ft_hist.specs.Rules.{AtReturnedOrBegun, IsLegal, MayFollow};
 ghost use Rattle.ft_hist.specs.Telling.{AtEachCommand, AtSomeCommand, MayLackExit, TakesOff, call_of, is_begin_by, is_end_by, is_exit_for, is_ret_of, is_visit_by, open_calls};
 
@@ -88,24 +89,25 @@ pub fn called_back_within_the_rules()
         × AtSomeCommand before (before ++ Enter call ctx f caller ∷ mid) (λ k. ((desk job k).depth ≡ 0) ⊎ (held job call (reverse (before ++ Enter call ctx f caller ∷ mid)) < (desk job k).depth)) }
 {}
 
-/// "save those refused by a named recursion .. rule": a callback of the task and context is open
-/// there; and none is open at a callback, nor at a refusal for depth.
+/// "save those refused by a named recursion .. rule": all levels of the guard are held there, by as
+/// many open callbacks of the task and context; and at a callback, as at a refusal for depth, one is
+/// free. There is one level in version 1, and two are there in version 2.
 pub fn refused_in_a_callback()
     ensures refuse { (job : PlainJob) (items before mid rest : List Item) (call : CallNo) (ctx : Ctx) (f : FuncNo) (caller : Option CallNo) (user : UserNo)
         → IsLegal job items → items ≡ before ++ Enter call ctx f caller ∷ (mid ++ Refuse call user Recursion ∷ rest)
-        → is_in_callback call.task.0 ctx (reverse (before ++ Enter call ctx f caller ∷ mid)) ≡ true }
+        → levels job ≤ open_callbacks call.task.0 ctx (reverse (before ++ Enter call ctx f caller ∷ mid)) }
     ensures back { (job : PlainJob) (items before mid rest : List Item) (call : CallNo) (ctx : Ctx) (f : FuncNo) (caller : Option CallNo) (user : UserNo)
         → IsLegal job items → items ≡ before ++ Enter call ctx f caller ∷ (mid ++ Back call user ∷ rest)
-        → is_in_callback call.task.0 ctx (reverse (before ++ Enter call ctx f caller ∷ mid)) ≡ false }
+        → open_callbacks call.task.0 ctx (reverse (before ++ Enter call ctx f caller ∷ mid)) < levels job }
 {}
 
-/// "save those refused by a named .. depth rule": a graph or profile user, outside of any callback
-/// of the task and context, and the task's other calls hold all frames, or as many as the graph
+/// "save those refused by a named .. depth rule": a graph or profile user, a level of the guard of the
+/// task and context is free, and the task's other calls hold all frames, or as many as the graph
 /// depth after some command of the window.
 pub fn refused_for_depth()
     ensures { (job : PlainJob) (items before mid rest : List Item) (call : CallNo) (ctx : Ctx) (f : FuncNo) (caller : Option CallNo) (user : UserNo)
         → IsLegal job items → items ≡ before ++ Enter call ctx f caller ∷ (mid ++ Refuse call user Depth ∷ rest)
-        → (is_in_callback call.task.0 ctx (reverse (before ++ Enter call ctx f caller ∷ mid)) ≡ false)
+        → (open_callbacks call.task.0 ctx (reverse (before ++ Enter call ctx f caller ∷ mid)) < levels job)
         × (has_depth (spec_at job user.0).kind ≡ true)
         × ((held job call (reverse (before ++ Enter call ctx f caller ∷ mid)) ≡ job.frames)
         ⊎ AtSomeCommand before (before ++ Enter call ctx f caller ∷ mid) (λ k. (0 < (desk job k).depth) × ((desk job k).depth ≤ held job call (reverse (before ++ Enter call ctx f caller ∷ mid))))) }
@@ -145,6 +147,15 @@ pub fn exits_belong_to_their_registration()
 pub fn exits_come_in_order()
     ensures { (job : PlainJob) (items a b c : List Item) (call : CallNo) (user user' : UserNo) (entry entry' : ℕ)
         → IsLegal job items → items ≡ a ++ Exit call user entry ∷ (b ++ Exit call user' entry' ∷ c) → entry < entry' }
+{}
+
+/// And an exit finds a level of the guard: where it begins, fewer callbacks of its task and context
+/// are open than a guard has levels. A machine whose exits take a level, as its entry callbacks do,
+/// needs this, since no exit may be refused.
+pub fn exits_find_a_level()
+    ensures { (job : PlainJob) (items before mid rest : List Item) (call : CallNo) (ctx : Ctx) (f : FuncNo) (caller : Option CallNo) (user : UserNo) (entry : ℕ)
+        → IsLegal job items → items ≡ before ++ Enter call ctx f caller ∷ (mid ++ Exit call user entry ∷ rest)
+        → open_callbacks call.task.0 ctx (reverse (before ++ Enter call ctx f caller ∷ mid)) < levels job }
 {}
 
 /// An exit is lacking only for a reason: at a call's Ret, each entry callback of it has had its
