@@ -1,5 +1,5 @@
 -- So a task has no more items than the bound of a call for each call of its script, and a history no more than these and two a command.
-use Rattle.std.proofs.Common.{cond, if◌then◌else◌, ◌≡◌, ℕ, zero, suc, ◌+◌, ◌*◌, ◌<◌, ◌≤◌, Bool, true, false, ◌&&◌, ◌==◌, List, [], ◌∷◌, ◌++◌, length, reverse, Option, Some, None, is_some, refl, sym, ap, ◌∙◌, subst, arith, inl, inr, eqb-true, mul-zero}
+use Rattle.std.proofs.Common.{cond, if◌then◌else◌, ◌≡◌, ℕ, zero, suc, ◌+◌, ◌*◌, ◌<◌, ◌≤◌, Bool, true, false, ◌&&◌, ◌==◌, List, [], ◌∷◌, ◌++◌, length, reverse, Option, Some, None, is_some, refl, sym, ap, ap₂, ◌∙◌, subst, arith, inl, inr, eqb-true, mul-zero}
 use Rattle.std.specs.Prelude.{get_or, count_by}
 use Rattle.std.proofs.Math.Nat.{suc-mul, mul-suc}
 use Rattle.std.proofs.lemmas.Bool.{cases_lt}
@@ -9,13 +9,13 @@ use Rattle.std.proofs.lemmas.List.Sums.{sum_by-cons}
 use Rattle.ft_base.specs.declared.number.CallNo.{CallNo}
 use Rattle.ft_base.specs.declared.item.Item.{Item}
 use Rattle.ft_base.specs.declared.item.Item.TheVariants.{Begin, Return, Enter, Back, BackEnd, Refuse, Miss, Body, Leave, Exit, ExitEnd, Ret}
-use Rattle.ft_base.specs.Same.{same_call}
+use Rattle.ft_base.specs.Versions.{levels}
 use Rattle.ft_base.specs.Job.{Job, Task, Spec, no_task, commands}
 use Rattle.ft_base.specs.Desk.{plain_spec}
 use Rattle.ft_base.proofs.Small.{false_true, and_both, ==-refl, Each-weaker}
-use Rattle.user_specs.specs.Bound.{acting_in, call_bound_of}
+use Rattle.user_specs.specs.Bound.{acting_in, call_bound_in, nested_bound}
 use Rattle.ft_hist.specs.Past.{is_of, done, begun}
-use Rattle.ft_hist.specs.Plain.{plain, after_item, after_next, PlainTask, Frame, at_start, top_call, same_top}
+use Rattle.ft_hist.specs.Plain.{plain, after_item, after_next, PlainTask, at_start, top_call, same_top}
 use Rattle.ft_hist.specs.Rules.{IsLegal, IsLegalPast, MayBack, MayVisit, MayExit}
 use Rattle.ft_hist.proofs.RunLaws.{some_inj, if_some, sound}
 use Rattle.ft_hist.proofs.Since.{touches}
@@ -23,36 +23,16 @@ use Rattle.ft_hist.proofs.WindowLaws.{legal-counts}
 use Rattle.ft_hist.proofs.Numbers.{none-before, some-run}
 use Rattle.history_bound.specs.Bound.{items_of, calls_in, calls_of, all_calls}
 use Rattle.history_bound.proofs.Credit.{has_act, sum_of, cost_with, bound}
-use Rattle.history_bound.proofs.Guarded.{spares}
+use Rattle.ft_hist.proofs.Carries.{touches-other}
 use Rattle.history_bound.proofs.Inversions.{on-call, back-inv, back-end-inv, miss-inv, refusal-inv, body-inv, leave-inv, exit-inv, exit-end-inv, ret-inv, enter-inv}
 use Rattle.history_bound.proofs.Paid.{B, Paid, paid-other, own-task, back-paid, refuse-paid, miss-paid, back-end-paid, body-paid, leave-paid, exit-paid, exit-end-paid, ret-paid, script-paid, act-paid}
 
 module _ (job : Job) (t : ℕ) where
   -- ## an item of another actor
 
-  foreign : (call c : CallNo) → (call.task.0 == t) ≡ false → c.task.0 ≡ t → same_call call c ≡ false
-  foreign call c other own = let e : (call.task.0 == c.task.0) ≡ false = rw own other in rw e refl
-
-  untouched : (item : Item) (f : Frame) → is_of t item ≡ false → f.call.task.0 ≡ t → (touches f.call item ≡ false) × spares f.call item
-  untouched (Begin k) f other own = (refl, (refl, refl))
-  untouched (Return k a) f other own = (refl, (refl, refl))
-  untouched (Enter call x g caller) f other own = let e = foreign call f.call other own in (e, (e, refl))
-  untouched (Back call u) f other own = (foreign call f.call other own, (refl, refl))
-  untouched (BackEnd call u) f other own = (refl, (refl, foreign call f.call other own))
-  untouched (Refuse call u reason) f other own = (foreign call f.call other own, (refl, refl))
-  untouched (Miss call u) f other own = (refl, (refl, refl))
-  untouched (Body call g ran) f other own = (foreign call f.call other own, (refl, refl))
-  untouched (Leave call) f other own = (foreign call f.call other own, (refl, refl))
-  untouched (Exit call u entry) f other own = (foreign call f.call other own, (refl, refl))
-  untouched (ExitEnd call u) f other own = (refl, (refl, foreign call f.call other own))
-  untouched (Ret call to) f other own = (foreign call f.call other own, (refl, refl))
-
   other-item : (past : List Item) (item : Item) (s : PlainTask) → is_of t item ≡ false → plain job t past ≡ Some s → Paid job t past s → Paid job t (item ∷ past) s
   other-item past item s other here h =
-      let own = own-task job t past s here in
-      paid-other job t past item s other
-      (Each-weaker (λ f. f.call.task.0 ≡ t) (λ f. touches f.call item ≡ false) s.stack (λ f e. (untouched item f other e).0) own)
-      (Each-weaker (λ f. f.call.task.0 ≡ t) (λ f. spares f.call item) s.stack (λ f e. (untouched item f other e).1) own) h
+      paid-other job t past item s other (Each-weaker (λ f. f.call.task.0 ≡ t) (λ f. touches f.call item ≡ false) s.stack (λ f own. touches-other t item f.call other own) (own-task job t past s here)) h
 
   -- ## an item of the task
 
@@ -174,15 +154,18 @@ acts-places : (job : Job) (n : ℕ) → acts job n ≡ places job.users n
 acts-places job zero = refl
 acts-places job (suc n) = ap (λ k. (if has_act job n then 1 else 0) + k) (acts-places job n)
 
-pub bound-is : (job : Job) → bound job 2 ≡ call_bound_of job.users
-bound-is job =
-    let a : acts job (length job.users) ≡ acting_in job.users = acts-places job (length job.users) ∙ places-count job.users in
-    let one = sum-is job (bound job 0) (length job.users) in
-    let two = sum-is job (bound job 1) (length job.users) in
-    let inner : bound job 1 ≡ 4 + 5 * length job.users + acting_in job.users * (4 + length job.users) = rw (sym a) (omega (arith, one)) in
-    rw (sym inner, sym a) (omega (arith, two))
+bound-nested : (job : Job) (n : ℕ) → bound job n ≡ nested_bound (length job.users) (acting_in job.users) n
+bound-nested job zero = refl
+bound-nested job (suc n) =
+    let acting : acts job (length job.users) ≡ acting_in job.users = acts-places job (length job.users) ∙ places-count job.users in
+    let all = sum-is job (bound job n) (length job.users) in
+    let e : acts job (length job.users) * bound job n ≡ acting_in job.users * nested_bound (length job.users) (acting_in job.users) n = ap₂ (λ a b. a * b) acting (bound-nested job n) in
+    omega (arith, all, e)
 
-pub items-most : (job : Job) (items : List Item) (t : ℕ) → IsLegalPast job items → items_of t items ≤ call_bound_of job.users * calls_of job t
+bound-is : (job : Job) → bound job (2 * levels job) ≡ call_bound_in job
+bound-is job = bound-nested job (2 * levels job)
+
+pub items-most : (job : Job) (items : List Item) (t : ℕ) → IsLegalPast job items → items_of t items ≤ call_bound_in job * calls_of job t
 items-most job items t l = subst (λ b. items_of t items ≤ b * calls_of job t) (bound-is job) (items-paid job t items l)
 
 -- ## the whole history
@@ -224,7 +207,7 @@ module _ (job : Job) where
   none-beyond items t l ge =
       let most = items-most job items t l in
       let none : calls_of job t ≡ 0 = rw (get_or_past job.tasks t no_task ge) refl in
-      let zero-is : call_bound_of job.users * calls_of job t ≡ 0 = rw none (mul-zero (call_bound_of job.users)) in
+      let zero-is : call_bound_in job * calls_of job t ≡ 0 = rw none (mul-zero (call_bound_in job)) in
       omega (arith, most, zero-is)
 
   within : (item : Item) (past : List Item) (t : ℕ) → is_of t item ≡ true → IsLegalPast job (item ∷ past) → t < length job.tasks
@@ -285,21 +268,21 @@ module _ (job : Job) where
   calls-all [] = refl
   calls-all (t ∷ ts) = calls-cons t ts (length ts) ∙ ap (λ n. calls_in t.acts + n) (calls-all ts)
 
-  tasks-most : (past : List Item) → IsLegalPast job past → (n : ℕ) → of_tasks n past ≤ call_bound_of job.users * calls_below job.tasks n
+  tasks-most : (past : List Item) → IsLegalPast job past → (n : ℕ) → of_tasks n past ≤ call_bound_in job * calls_below job.tasks n
   tasks-most past l zero = omega arith
   tasks-most past l (suc n) =
       let one = items-most job past n l in
       let more = tasks-most past l n in
-      let both = mul-plus (call_bound_of job.users) (calls_of job n) (calls_below job.tasks n) in
+      let both = mul-plus (call_bound_in job) (calls_of job n) (calls_below job.tasks n) in
       omega (arith, one, more, both)
 
-  pub history-most : (past : List Item) → IsLegalPast job past → length past ≤ 2 * length (commands job) + call_bound_of job.users * all_calls job.tasks
+  pub history-most : (past : List Item) → IsLegalPast job past → length past ≤ 2 * length (commands job) + call_bound_in job * all_calls job.tasks
   history-most past l =
       let c = counted past l in
       let few = few-commands past l in
       let counts = (legal-counts job past l).0 in
       let most = tasks-most past l (length job.tasks) in
-      let all = ap (λ n. call_bound_of job.users * n) (calls-all job.tasks) in
+      let all = ap (λ n. call_bound_in job * n) (calls-all job.tasks) in
       omega (arith, c, few, counts, most, all)
 
 -- ## the items in their order
@@ -322,10 +305,10 @@ items-reverse t (x ∷ xs) =
     by true e = omega (arith, e)
     by false e = omega (arith, e)
 
-pub task-bounded : (job : Job) (items : List Item) (t : ℕ) → IsLegal job items → items_of t items ≤ call_bound_of job.users * calls_of job t
+pub task-bounded : (job : Job) (items : List Item) (t : ℕ) → IsLegal job items → items_of t items ≤ call_bound_in job * calls_of job t
 unfolding IsLegal
-task-bounded job items t l = subst (λ n. n ≤ call_bound_of job.users * calls_of job t) (items-reverse t items) (items-most job (reverse items) t l)
+task-bounded job items t l = subst (λ n. n ≤ call_bound_in job * calls_of job t) (items-reverse t items) (items-most job (reverse items) t l)
 
-pub history-bounded : (job : Job) (items : List Item) → IsLegal job items → length items ≤ 2 * length (commands job) + call_bound_of job.users * all_calls job.tasks
+pub history-bounded : (job : Job) (items : List Item) → IsLegal job items → length items ≤ 2 * length (commands job) + call_bound_in job * all_calls job.tasks
 unfolding IsLegal
-history-bounded job items l = subst (λ n. n ≤ 2 * length (commands job) + call_bound_of job.users * all_calls job.tasks) (length-reverse items) (history-most job (reverse items) l)
+history-bounded job items l = subst (λ n. n ≤ 2 * length (commands job) + call_bound_in job * all_calls job.tasks) (length-reverse items) (history-most job (reverse items) l)

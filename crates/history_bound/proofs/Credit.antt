@@ -1,9 +1,10 @@
 -- What an open call can still make: a credit, which each item of its task pays down by one.
-use Rattle.std.proofs.Common.{cond, if◌then◌else◌, ◌≡◌, ℕ, zero, suc, ◌+◌, ◌<◌, ◌≤◌, Bool, true, false, not, ◌&&◌, ◌||◌, ◌==◌, List, [], ◌∷◌, length, Option, Some, None, is_some, refl, sym, ap, ◌∙◌, subst, arith, inl, inr}
+use Rattle.std.proofs.Common.{cond, if◌then◌else◌, ◌≡◌, ℕ, zero, suc, ◌+◌, ◌*◌, ◌<◌, ◌≤◌, Bool, true, false, not, ◌&&◌, ◌||◌, ◌==◌, List, [], ◌∷◌, length, Option, Some, None, is_some, refl, sym, ap, ◌∙◌, subst, arith, inl, inr}
 use Rattle.std.specs.List.{list_any}
 use Rattle.std.proofs.lemmas.Bool.Decides.{eqb_tells}
 use Rattle.ft_base.specs.declared.item.Item.{Item}
 use Rattle.ft_base.specs.Job.{Job}
+use Rattle.ft_base.specs.Versions.{levels}
 use Rattle.ft_base.specs.Desk.{spec_at}
 use Rattle.ft_base.proofs.Small.{false_true, and_both}
 use Rattle.ft_hist.specs.Past.{Visit, visits, exits}
@@ -64,10 +65,11 @@ module _ (job : Job) where
   pred zero = 0
   pred (suc n) = n
 
-  -- the levels of acts that a call may have in it: two in a scripted one, and one less in one that an act makes
+  -- the levels of acts that a call may have in it: in a scripted one as many as the guards of two contexts have levels, and one less in
+  -- one that an act makes
   abbrev pub level : List Frame → ℕ
-  level [] = 2
-  level (f ∷ below) = if f.scripted then 2 else pred (level below)
+  level [] = 2 * levels job
+  level (f ∷ below) = if f.scripted then 2 * levels job else pred (level below)
 
   abbrev pub frame_due : List Item → ℕ → Frame → ℕ
   frame_due past n f = call_due n f.phase (visits job f.call past) (exits f.call past)

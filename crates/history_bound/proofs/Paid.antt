@@ -1,6 +1,6 @@
 -- Each item of a task is paid for: the items so far, what the open calls may still make, and the bound of each call to come are
 -- together no more than the bound of each call of the script.
-use Rattle.std.proofs.Common.{cond, if◌then◌else◌, ◌≡◌, ℕ, zero, suc, ◌+◌, ◌*◌, ◌<◌, ◌≤◌, Bool, true, false, not, ◌&&◌, ◌==◌, List, [], ◌∷◌, length, Option, Some, None, is_some, refl, sym, ap, ◌∙◌, subst, arith, inl, inr, eqb-true, nat_lt}
+use Rattle.std.proofs.Common.{cond, if◌then◌else◌, ◌≡◌, ℕ, zero, suc, ◌+◌, ◌*◌, ◌<◌, ◌≤◌, Bool, true, false, not, ◌&&◌, ◌==◌, List, [], ◌∷◌, length, Option, Some, None, is_some, refl, sym, ap, ◌∙◌, subst, arith, inl, inr, nat_lt}
 use Rattle.std.specs.Prelude.{Contains}
 use Rattle.std.specs.List.{list_any, AllByRecursion as Each}
 use Rattle.ft_base.specs.declared.number.CallNo.{CallNo}
@@ -18,32 +18,33 @@ use Rattle.ft_base.specs.declared.item.Item.{Item}
 use Rattle.ft_base.specs.declared.item.Item.TheVariants.{Enter, Back, BackEnd, Refuse, Miss, Body, Leave, Exit, ExitEnd, Ret}
 use Rattle.ft_base.specs.Same.{same_call, rank}
 use Rattle.ft_base.specs.Job.{Job}
+use Rattle.ft_base.specs.Versions.{levels}
 use Rattle.ft_base.specs.Desk.{Desk, desk, is_on, user_at, unseen, spec_at}
-use Rattle.ft_base.proofs.Small.{false_true, and-false, ==-refl, Each-weaker}
+use Rattle.ft_base.proofs.Small.{false_true, ==-refl, Each-weaker}
 use Rattle.ft_base.proofs.DeskLaws.{length-desk}
 use Rattle.std.proofs.lemmas.Bool.{cases_lt}
 use Rattle.std.proofs.Math.Nat.{mul-suc}
 use Rattle.std.proofs.lemmas.List.{get_or_past}
-use Rattle.ft_hist.specs.Past.{Entered, is_of, done, begun, entered, entry_of, ctx_of, Visit, visit, all_visits, visits, exits, is_in_callback}
+use Rattle.ft_hist.specs.Past.{is_of, done, begun, entry_of, Visit, visit, all_visits, visits, exits}
 use Rattle.ft_hist.specs.Plain.{plain, PlainTask, Frame, Phase, Dispatch, InBack, Running, Leaving, InExit, Owed, in_phase, owed_by}
 use Rattle.ft_hist.specs.Rules.{MayVisit, MayBack, MayExit}
 use Rattle.ft_hist.proofs.Laws.{same_call-refl}
 use Rattle.ft_hist.proofs.HeldLaws.{opens}
-use Rattle.ft_hist.proofs.RunLaws.{some_inj, calls_on, sound}
+use Rattle.ft_hist.proofs.RunLaws.{calls_on, sound}
 use Rattle.ft_hist.proofs.Since.{touches, untouched-item}
-use Rattle.ft_hist.proofs.WindowLaws.{is_enter}
 use Rattle.history_bound.specs.Bound.{items_of, calls_in, calls_of}
 use Rattle.history_bound.proofs.Credit.{sum_of, cost, bound, inner, seen_in, owing, phase_due, call_due, pred, level, frame_due, due, sum-visit, exits-one}
-use Rattle.history_bound.proofs.Guarded.{FromAct, owed-from, PhaseHolds, IsTopScripted, Guarded, spares, guarded-more, guard-more, ctx-more, same_ctx-refl, back-in-irq, below-scripted}
+use Rattle.ft_hist.proofs.OpenBacks.{stands, standing, user_in, lower-apart, opens-below}
+use Rattle.history_bound.proofs.Guarded.{FromAct, owed-from, PhaseHolds, Guarded, has-level}
 use Rattle.history_bound.proofs.Inversions.{Went, ByScript, ByAct}
 
 module _ (job : Job) (t : ℕ) where
   abbrev pub B : ℕ
-  B = bound job 2
+  B = bound job (2 * levels job)
 
   pub record Paid (past : List Item) (s : PlainTask) : Type 0 where
     pub paid : items_of t past + (due job past s.stack + B * calls_in s.acts) ≤ B * calls_of job t
-    pub guarded : Guarded past s.stack
+    pub guarded : Guarded job s.stack
 
   -- ## what an item leaves alone
 
@@ -54,11 +55,8 @@ module _ (job : Job) (t : ℕ) where
       rw (u.visits, u.exits, due-spared past item below h.1) refl
 
   -- over an item of another actor
-  pub paid-other : (past : List Item) (item : Item) (s : PlainTask) → is_of t item ≡ false → Each (λ f. touches f.call item ≡ false) s.stack → Each (λ f. spares f.call item) s.stack → Paid past s → Paid (item ∷ past) s
-  paid-other past item s other untouched spared h = record {
-    paid = rw (other, due-spared past item s.stack untouched) h.paid;
-    guarded = guarded-more past item s.stack spared h.guarded;
-  }
+  pub paid-other : (past : List Item) (item : Item) (s : PlainTask) → is_of t item ≡ false → Each (λ f. touches f.call item ≡ false) s.stack → Paid past s → Paid (item ∷ past) s
+  paid-other past item s other untouched h = record { paid = rw (other, due-spared past item s.stack untouched) h.paid; guarded = h.guarded }
 
   -- ## an item of the top call
 
@@ -66,18 +64,15 @@ module _ (job : Job) (t : ℕ) where
   in-phase f ph e = subst (λ q. in_phase f q ≡ f) e refl
 
   pub top-step : (past : List Item) (item : Item) (p s : PlainTask) (f : Frame) (below : List Frame) (ph : Phase) → Paid past p → p.stack ≡ f ∷ below → Went p s f below ph → is_of t item ≡ true
-      → Each (λ g. touches g.call item ≡ false) below → Each (λ g. spares g.call item) below
+      → Each (λ g. touches g.call item ≡ false) below
       → suc (call_due job (level job (f ∷ below)) ph (visits job f.call (item ∷ past)) (exits f.call (item ∷ past))) ≤ call_due job (level job (f ∷ below)) f.phase (visits job f.call past) (exits f.call past)
-      → PhaseHolds (item ∷ past) f.call f.ctx f.scripted below ph → is_enter f.call item ≡ false → Paid (item ∷ past) s
-  top-step past item p s f below ph h at went own untouched spared less holds no_enter =
+      → PhaseHolds job f.ctx below ph → Paid (item ∷ past) s
+  top-step past item p s f below ph h at went own untouched less holds =
       let was = rw at at h.paid in
       let guards = rw at at h.guarded in
       record {
         paid = rw (own, went.0, went.1, due-spared past item below untouched) (omega (arith, was, less));
-        guarded = rw went.0 (
-          record { ctx = ctx-more f.call item past f.ctx no_enter guards.0.ctx; phase = holds; over = guards.0.over },
-          guarded-more past item below spared guards.1,
-        );
+        guarded = rw went.0 (record { phase = holds; over = guards.0.over }, guards.1);
       }
 
   -- ## the calls below the top one
@@ -86,32 +81,16 @@ module _ (job : Job) (t : ℕ) where
   each-frames P [] h = tt
   each-frames P (f ∷ fs) h = (h.0, each-frames P fs h.1)
 
-  lower-apart : (a b : CallNo) → b.n < a.n → same_call a b ≡ false
-  lower-apart a b lt = by (a.n == b.n) refl
-    where
-      by : (x : Bool) → (a.n == b.n) ≡ x → ((a.task.0 == b.task.0) && (a.n == b.n)) ≡ false
-      by true e = let is = eqb-true a.n b.n e in absurd (omega (arith, lt, is))
-      by false e = rw (e, and-false (a.task.0 == b.task.0)) refl
-
   abbrev pub Apart : CallNo → List Frame → Type 0
   Apart call fs = Each (λ g. same_call call g.call ≡ false) fs
 
   pub apart-below : (past : List Item) (p : PlainTask) (f : Frame) (below : List Frame) → plain job t past ≡ Some p → p.stack ≡ f ∷ below → Apart f.call below
   apart-below past p f below here at =
       let falls = rw at at (opens job t past p here).falls in
-      each-frames (λ c. same_call f.call c ≡ false) below (Each-weaker (λ d. d.n < f.call.n) (λ d. same_call f.call d ≡ false) (calls_on below) (λ d lt. lower-apart f.call d lt) falls.0)
+      each-frames (λ c. same_call f.call c ≡ false) below (lower-apart f.call (calls_on below) falls.0)
 
   pub own-task : (past : List Item) (p : PlainTask) → plain job t past ≡ Some p → Each (λ g. g.call.task.0 ≡ t) p.stack
   own-task past p here = each-frames (λ c. c.task.0 ≡ t) p.stack (sound job t past p here).task
-
-  -- ## the context that a call was entered in
-
-  pub ctx-entry : (call : CallNo) (past : List Item) (x : Ctx) → ctx_of call past ≡ Some x → (entry_of call past).ctx ≡ x
-  ctx-entry call past x h = by (entered call past) refl
-    where
-      by : (o : Option Entered) → entered call past ≡ o → (entry_of call past).ctx ≡ x
-      by None e = let none = rw e at h in absurd cc
-      by (Some n) e = let is = rw e at h in rw e (some_inj n.ctx x is)
 
   -- ## a callback
 
@@ -123,17 +102,6 @@ module _ (job : Job) (t : ℕ) where
       by : (c : Bool) → owing job b (cond c (Some (record { ctx = Irq; func = f.0 })) None) ≤ b
       by true = omega arith
       by false = omega arith
-
-  -- a call in which a user is called back has a level of acts below it
-  pub has-level : (past : List Item) (f : Frame) (below : List Frame) → Guarded past (f ∷ below) → Each (λ g. g.call.task.0 ≡ t) (f ∷ below) → is_in_callback f.call.task.0 f.ctx past ≡ false → (m : ℕ) × (level job (f ∷ below) ≡ suc m)
-  has-level past f below h own free = by f.scripted refl below h own
-    where
-      by : (b : Bool) → f.scripted ≡ b → (rest : List Frame) → Guarded past (f ∷ rest) → Each (λ g. g.call.task.0 ≡ t) (f ∷ rest) → (m : ℕ) × (level job (f ∷ rest) ≡ suc m)
-      by true e rest h own = (1, rw e refl)
-      by false e [] h own = absurd (h.0.over e)
-      by false e (g ∷ rest) h own =
-          let script = below-scripted past f g rest (own.0 ∙ sym own.1.0) e h free in
-          (0, rw (e, script) refl)
 
   user-within : (d : Desk) (u f : ℕ) → length d.users ≡ length job.users → is_on d u f ≡ true → u < length job.users
   user-within d u f size on = elim (cases_lt u (length job.users)) [
@@ -174,24 +142,20 @@ module _ (job : Job) (t : ℕ) where
       costs-one zero = omega arith
       costs-one (suc k) = omega arith
 
-  irq-of : (past : List Item) (f : Frame) (below : List Frame) → Guarded past (f ∷ below) → Each (λ g. g.call.task.0 ≡ t) (f ∷ below) → is_in_callback f.call.task.0 f.ctx past ≡ false → f.scripted ≡ false → (f.ctx ≡ Irq) × IsTopScripted below
-  irq-of past f [] h own free made = absurd (h.0.over made)
-  irq-of past f (g ∷ rest) h own free made = ((back-in-irq past f g rest (own.0 ∙ sym own.1.0) made h free).0, below-scripted past f g rest (own.0 ∙ sym own.1.0) made h free)
-
   pub back-paid : (past : List Item) (p s : PlainTask) (f : Frame) (below : List Frame) (u : UserNo) → Paid past p → plain job t past ≡ Some p → p.stack ≡ f ∷ below → f.call.task.0 ≡ t
       → MayBack job past f.call u.0 → f.phase ≡ Dispatch → Went p s f below (InBack u.0 (owed_by f.ctx (spec_at job u.0).act) true) → Paid (Back f.call u ∷ past) s
   unfolding all_visits
   back-paid past p s f below u h here at own may ph went =
       let apart = apart-below past p f below here at in
-      let guards : Guarded past (f ∷ below) = subst (λ fs. Guarded past fs) at h.guarded in
-      let tasks : Each (λ g. g.call.task.0 ≡ t) (f ∷ below) = subst (λ fs. Each (λ g. g.call.task.0 ≡ t) fs) at (own-task past p here) in
-      let free : is_in_callback f.call.task.0 f.ctx past ≡ false = subst (λ x. is_in_callback f.call.task.0 x past ≡ false) (ctx-entry f.call past f.ctx guards.0.ctx) may.free in
-      let lev = has-level past f below guards tasks free in
+      let guards : Guarded job (f ∷ below) = subst (λ fs. Guarded job fs) at h.guarded in
+      let run : plain job f.call.task.0 past ≡ Some p = subst (λ n. plain job n past ≡ Some p) (sym own) here in
+      let top : standing p.stack ≡ stands f.call f.ctx None ∷ standing below = ap standing at ∙ ap (λ q. stands f.call f.ctx (user_in q) ∷ standing below) ph in
+      let free = rw (opens-below job f.call f.ctx (standing below) past p run top) at may.free in
+      let lev = has-level job f below guards.0.over guards.1 free in
       top-step past (Back f.call u) p s f below (InBack u.0 (owed_by f.ctx (spec_at job u.0).act) true) h at went (rw own (==-refl t))
       (Each-weaker (λ g. same_call f.call g.call ≡ false) (λ g. touches g.call (Back f.call u) ≡ false) below (λ g e. e) apart)
-      (Each-weaker (λ g. same_call f.call g.call ≡ false) (λ g. spares g.call (Back f.call u)) below (λ g e. (refl, refl)) apart)
       (back-less u.0 f.ctx (visits job f.call past) (exits f.call past) (visit job f.call u.0 past (all_visits job past) true) (level job (f ∷ below)) lev.0 f.phase (same_call f.call f.call) refl (visit-within past f.call u.0 may.visit) may.visit.once lev.1 ph (same_call-refl f.call))
-      (rw (same_call-refl f.call, guards.0.ctx, same_ctx-refl f.ctx) refl, owed-from f.ctx (spec_at job u.0).act, irq-of past f below guards tasks free) refl
+      (free, owed-from f.ctx (spec_at job u.0).act)
 
   pub refuse-paid : (past : List Item) (p s : PlainTask) (f : Frame) (below : List Frame) (u : UserNo) (reason : Reason) → Paid past p → plain job t past ≡ Some p → p.stack ≡ f ∷ below → f.call.task.0 ≡ t
       → MayVisit job past f.call u.0 → f.phase ≡ Dispatch → p ≡ s → Paid (Refuse f.call u reason ∷ past) s
@@ -202,35 +166,29 @@ module _ (job : Job) (t : ℕ) where
       let stays : Went p s f below Dispatch = subst (λ (x : PlainTask). Went p x f below Dispatch) is (at ∙ ap (λ (g : Frame). g ∷ below) (sym same), refl) in
       top-step past (Refuse f.call u reason) p s f below Dispatch h at stays (rw own (==-refl t))
       (Each-weaker (λ g. same_call f.call g.call ≡ false) (λ g. touches g.call (Refuse f.call u reason) ≡ false) below (λ g e. e) apart)
-      (Each-weaker (λ g. same_call f.call g.call ≡ false) (λ g. spares g.call (Refuse f.call u reason)) below (λ g e. (refl, refl)) apart)
       (refuse-less u.0 (visits job f.call past) (exits f.call past) (visit job f.call u.0 past (all_visits job past) false) (level job (f ∷ below)) f.phase (same_call f.call f.call) refl refl (visit-within past f.call u.0 may) may.once ph (same_call-refl f.call))
-      tt refl
+      tt
 
   -- ## the other items of the top call
 
   -- with the same visits and exits only the phase goes on
   phase-step : (past : List Item) (item : Item) (p s : PlainTask) (f : Frame) (below : List Frame) (from to : Phase) → Paid past p → p.stack ≡ f ∷ below → f.phase ≡ from → Went p s f below to → is_of t item ≡ true
-      → Each (λ g. touches g.call item ≡ false) below → Each (λ g. spares g.call item) below
+      → Each (λ g. touches g.call item ≡ false) below
       → visits job f.call (item ∷ past) ≡ visits job f.call past → exits f.call (item ∷ past) ≡ exits f.call past
       → ((b : ℕ) → suc (phase_due job b to) ≤ phase_due job b from)
-      → PhaseHolds (item ∷ past) f.call f.ctx f.scripted below to → is_enter f.call item ≡ false → Paid (item ∷ past) s
-  phase-step past item p s f below from to h at ph went own untouched spared vs es less holds no_enter =
-      top-step past item p s f below to h at went own untouched spared
-      (let l = less (inner job (level job (f ∷ below))) in rw (vs, es, ph) (omega (arith, l))) holds no_enter
-
-  guard-of : (past : List Item) (f : Frame) (below : List Frame) (v : ℕ) (owed : Option Owed) (fresh : Bool) → Guarded past (f ∷ below) → f.phase ≡ InBack v owed fresh → PhaseHolds past f.call f.ctx f.scripted below (InBack v owed fresh)
-  guard-of past f below v owed fresh h ph = subst (λ q. PhaseHolds past f.call f.ctx f.scripted below q) ph h.0.phase
+      → PhaseHolds job f.ctx below to → Paid (item ∷ past) s
+  phase-step past item p s f below from to h at ph went own untouched vs es less holds =
+      top-step past item p s f below to h at went own untouched (let l = less (inner job (level job (f ∷ below))) in rw (vs, es, ph) (omega (arith, l))) holds
 
   pub miss-paid : (past : List Item) (p s : PlainTask) (f : Frame) (below : List Frame) (u : UserNo) (v : ℕ) (owed : Option Owed) → Paid past p → plain job t past ≡ Some p → p.stack ≡ f ∷ below → f.call.task.0 ≡ t
       → f.phase ≡ InBack v owed true → Went p s f below (InBack v owed false) → Paid (Miss f.call u ∷ past) s
   unfolding all_visits
   miss-paid past p s f below u v owed h here at own ph went =
       let apart = apart-below past p f below here at in
-      let holds = guard-of past f below v owed true (subst (λ fs. Guarded past fs) at h.guarded) ph in
+      let guards : Guarded job (f ∷ below) = subst (λ fs. Guarded job fs) at h.guarded in
       phase-step past (Miss f.call u) p s f below (InBack v owed true) (InBack v owed false) h at ph went (rw own (==-refl t))
       (Each-weaker (λ g. same_call f.call g.call ≡ false) (λ g. touches g.call (Miss f.call u) ≡ false) below (λ g e. refl) apart)
-      (Each-weaker (λ g. same_call f.call g.call ≡ false) (λ g. spares g.call (Miss f.call u)) below (λ g e. (refl, refl)) apart)
-      refl refl (λ b. omega arith) (holds.0, holds.1, holds.2) refl
+      refl refl (λ b. omega arith) (subst (λ q. PhaseHolds job f.ctx below q) ph guards.0.phase)
 
   pub back-end-paid : (past : List Item) (p s : PlainTask) (f : Frame) (below : List Frame) (u : UserNo) (v : ℕ) (fresh : Bool) → Paid past p → plain job t past ≡ Some p → p.stack ≡ f ∷ below → f.call.task.0 ≡ t
       → f.phase ≡ InBack v None fresh → Went p s f below Dispatch → Paid (BackEnd f.call u ∷ past) s
@@ -239,8 +197,7 @@ module _ (job : Job) (t : ℕ) where
       let apart = apart-below past p f below here at in
       phase-step past (BackEnd f.call u) p s f below (InBack v None fresh) Dispatch h at ph went (rw own (==-refl t))
       (Each-weaker (λ g. same_call f.call g.call ≡ false) (λ g. touches g.call (BackEnd f.call u) ≡ false) below (λ g e. refl) apart)
-      (Each-weaker (λ g. same_call f.call g.call ≡ false) (λ g. spares g.call (BackEnd f.call u)) below (λ g e. (refl, e)) apart)
-      refl refl (λ b. omega arith) tt refl
+      refl refl (λ b. omega arith) tt
 
   pub body-paid : (past : List Item) (p s : PlainTask) (f : Frame) (below : List Frame) (g : FuncNo) (ran : Ran) → Paid past p → plain job t past ≡ Some p → p.stack ≡ f ∷ below → f.call.task.0 ≡ t
       → f.phase ≡ Dispatch → Went p s f below Running → Paid (Body f.call g ran ∷ past) s
@@ -249,8 +206,7 @@ module _ (job : Job) (t : ℕ) where
       let apart = apart-below past p f below here at in
       phase-step past (Body f.call g ran) p s f below Dispatch Running h at ph went (rw own (==-refl t))
       (Each-weaker (λ k. same_call f.call k.call ≡ false) (λ k. touches k.call (Body f.call g ran) ≡ false) below (λ k e. e) apart)
-      (Each-weaker (λ k. same_call f.call k.call ≡ false) (λ k. spares k.call (Body f.call g ran)) below (λ k e. (refl, refl)) apart)
-      refl refl (λ b. omega arith) tt refl
+      refl refl (λ b. omega arith) tt
 
   pub leave-paid : (past : List Item) (p s : PlainTask) (f : Frame) (below : List Frame) → Paid past p → plain job t past ≡ Some p → p.stack ≡ f ∷ below → f.call.task.0 ≡ t
       → f.phase ≡ Running → Went p s f below Leaving → Paid (Leave f.call ∷ past) s
@@ -259,8 +215,7 @@ module _ (job : Job) (t : ℕ) where
       let apart = apart-below past p f below here at in
       phase-step past (Leave f.call) p s f below Running Leaving h at ph went (rw own (==-refl t))
       (Each-weaker (λ k. same_call f.call k.call ≡ false) (λ k. touches k.call (Leave f.call) ≡ false) below (λ k e. e) apart)
-      (Each-weaker (λ k. same_call f.call k.call ≡ false) (λ k. spares k.call (Leave f.call)) below (λ k e. (refl, refl)) apart)
-      refl refl (λ b. omega arith) tt refl
+      refl refl (λ b. omega arith) tt
 
   pub exit-end-paid : (past : List Item) (p s : PlainTask) (f : Frame) (below : List Frame) (u : UserNo) (v : ℕ) → Paid past p → plain job t past ≡ Some p → p.stack ≡ f ∷ below → f.call.task.0 ≡ t
       → f.phase ≡ InExit v → Went p s f below Leaving → Paid (ExitEnd f.call u ∷ past) s
@@ -269,8 +224,7 @@ module _ (job : Job) (t : ℕ) where
       let apart = apart-below past p f below here at in
       phase-step past (ExitEnd f.call u) p s f below (InExit v) Leaving h at ph went (rw own (==-refl t))
       (Each-weaker (λ k. same_call f.call k.call ≡ false) (λ k. touches k.call (ExitEnd f.call u) ≡ false) below (λ k e. refl) apart)
-      (Each-weaker (λ k. same_call f.call k.call ≡ false) (λ k. spares k.call (ExitEnd f.call u)) below (λ k e. (refl, e)) apart)
-      refl refl (λ b. omega arith) tt refl
+      refl refl (λ b. omega arith) tt
 
   -- an exit of a visit that had none
   exit-less : (n : ℕ) (u entry : ℕ) (ms : List Visit) (es : List ℕ) (ph : Phase) (same : Bool) → list_any (λ m. m.back && (entry == m.place)) ms ≡ true → list_any (λ x. x == entry) es ≡ false → ph ≡ Leaving → same ≡ true
@@ -284,10 +238,9 @@ module _ (job : Job) (t : ℕ) where
       let apart = apart-below past p f below here at in
       top-step past (Exit f.call u entry) p s f below (InExit u.0) h at went (rw own (==-refl t))
       (Each-weaker (λ k. same_call f.call k.call ≡ false) (λ k. touches k.call (Exit f.call u entry) ≡ false) below (λ k e. e) apart)
-      (Each-weaker (λ k. same_call f.call k.call ≡ false) (λ k. spares k.call (Exit f.call u entry)) below (λ k e. (refl, refl)) apart)
       (exit-less (level job (f ∷ below)) u.0 entry (visits job f.call past) (exits f.call past) f.phase (same_call f.call f.call)
       (visit-at (visits job f.call past) may.of.0 entry may.of.1 may.of.4.0 may.of.3) (none-before-it (exits f.call past) entry may.order) ph (same_call-refl f.call))
-      tt refl
+      tt
     where
       visit-at : (ms : List Visit) (m : Visit) (entry : ℕ) → Contains ms m → m.back ≡ true → m.place ≡ entry → list_any (λ x. x.back && (entry == x.place)) ms ≡ true
       visit-at ms m entry c back place = list_any_at (λ (x : Visit). x.back && (entry == x.place)) ms c.0 m c.1 (subst (λ (x : Visit). (x.back && (entry == x.place)) ≡ true) (sym c.2) (rw (back, place) (==-refl entry)))
@@ -308,18 +261,14 @@ module _ (job : Job) (t : ℕ) where
       let was : items_of t past + ((frame_due job past (level job (f ∷ below)) f + due job past below) + B * calls_in p.acts) ≤ B * calls_of job t = rw at at h.paid in
       let one : 1 ≤ frame_due job past (level job (f ∷ below)) f = rw ph (omega arith) in
       let spared = due-spared past (Ret f.call to) below (Each-weaker (λ k. same_call f.call k.call ≡ false) (λ k. touches k.call (Ret f.call to) ≡ false) below (λ k e. e) apart) in
-      let guards : Guarded past (f ∷ below) = subst (λ fs. Guarded past fs) at h.guarded in
-      record {
-        paid = rw (own, ==-refl t, stack, acts, spared) (omega (arith, was, one));
-        guarded = rw stack (guarded-more past (Ret f.call to) below (Each-weaker (λ k. same_call f.call k.call ≡ false) (λ k. spares k.call (Ret f.call to)) below (λ k e. (refl, refl)) apart) guards.1);
-      }
+      let guards : Guarded job (f ∷ below) = subst (λ fs. Guarded job fs) at h.guarded in
+      record { paid = rw (own, ==-refl t, stack, acts, spared) (omega (arith, was, one)); guarded = rw stack guards.1 }
 
   -- ## an Enter
 
   untouched-enter : (past : List Item) (p : PlainTask) (call : CallNo) → plain job t past ≡ Some p → call.n ≡ p.next → Each (λ g. same_call call g.call ≡ false) p.stack
   untouched-enter past p call here n =
-      each-frames (λ c. same_call call c ≡ false) p.stack
-      (Each-weaker (λ c. c.n < p.next) (λ c. same_call call c ≡ false) (calls_on p.stack) (λ c lt. lower-apart call c (omega (arith, lt, n))) (sound job t past p here).number)
+      each-frames (λ c. same_call call c ≡ false) p.stack (lower-apart call (calls_on p.stack) (rw n (sound job t past p here).number))
 
   -- a new call costs its bound, of which the Enter is the first item
   new-due : (n : ℕ) (ms : List Visit) (es : List ℕ) → ms ≡ [] → es ≡ [] → suc (call_due job n Dispatch ms es) ≡ bound job n
@@ -339,25 +288,13 @@ module _ (job : Job) (t : ℕ) where
   script-paid past p s call x f caller h here own n vs es by =
       let apart = untouched-enter past p call here n in
       let spared = due-spared past (Enter call x f caller) p.stack apart in
-      let cost = new-due 2 (visits job call past) (exits call past) vs es in
+      let cost = new-due (2 * levels job) (visits job call past) (exits call past) vs es in
       let was = h.paid in
       let acts = by.1 in
       record {
-        paid = rw (own, ==-refl t, by.0, spared) (enough-script (items_of t past) (due job past p.stack) (calls_in s.acts) (calls_in p.acts) (call_due job 2 Dispatch (visits job call past) (exits call past)) B (B * calls_of job t) acts cost was);
-        guarded = rw by.0 (
-          record { ctx = rw (same_call-refl call) refl; phase = tt; over = λ e. false_true (sym e) },
-          guarded-more past (Enter call x f caller) p.stack (Each-weaker (λ g. same_call call g.call ≡ false) (λ g. spares g.call (Enter call x f caller)) p.stack (λ g e. (e, refl)) apart) h.guarded,
-        );
+        paid = rw (own, ==-refl t, by.0, spared) (enough-script (items_of t past) (due job past p.stack) (calls_in s.acts) (calls_in p.acts) (call_due job (2 * levels job) Dispatch (visits job call past) (exits call past)) B (B * calls_of job t) acts cost was);
+        guarded = rw by.0 (record { phase = tt; over = λ e. false_true (sym e) }, h.guarded);
       }
-
-  -- a call in an entry callback has a level of acts below it
-  back-level : (g : Frame) (below : List Frame) → (g.scripted ≡ false → (g.ctx ≡ Irq) × IsTopScripted below) → (m : ℕ) × (level job (g ∷ below) ≡ suc m)
-  back-level g below h = by g.scripted refl below h
-    where
-      by : (b : Bool) → g.scripted ≡ b → (rest : List Frame) → (g.scripted ≡ false → (g.ctx ≡ Irq) × IsTopScripted rest) → (m : ℕ) × (level job (g ∷ rest) ≡ suc m)
-      by true e rest h = (1, rw e refl)
-      by false e [] h = absurd (h e).1
-      by false e (k ∷ rest) h = let top = (h e).1 in (0, rw (e, top) refl)
 
   enough-act : (n d bc most lev m u : ℕ) (o : Owed) (fresh : Bool) (ph : Phase) (ms : List Visit) (es : List ℕ) (new : List Visit) (none : List ℕ) → lev ≡ suc m → ph ≡ InBack u (Some o) fresh → new ≡ [] → none ≡ []
       → n + ((call_due job lev ph ms es + d) + bc) ≤ most → suc n + ((call_due job (pred job lev) Dispatch new none + (call_due job lev (InBack u None false) ms es + d)) + bc) ≤ most
@@ -374,18 +311,15 @@ module _ (job : Job) (t : ℕ) where
       let item : Item = Enter call x f caller in
       let spared = due-spared past item below apart.1 in
       let mine = untouched-item job g.call past item apart.0 in
-      let guards : Guarded past (g ∷ below) = subst (λ fs. Guarded past fs) at h.guarded in
-      let holds : PhaseHolds past g.call g.ctx g.scripted below (InBack u (Some o) fresh) = subst (λ q. PhaseHolds past g.call g.ctx g.scripted below q) ph guards.0.phase in
+      let guards : Guarded job (g ∷ below) = subst (λ fs. Guarded job fs) at h.guarded in
+      let holds : PhaseHolds job g.ctx below (InBack u (Some o) fresh) = subst (λ q. PhaseHolds job g.ctx below q) ph guards.0.phase in
       let was : items_of t past + ((frame_due job past (level job (g ∷ below)) g + due job past below) + B * calls_in p.acts) ≤ B * calls_of job t = subst (λ fs. items_of t past + (due job past fs + B * calls_in p.acts) ≤ B * calls_of job t) at h.paid in
-      let lev = back-level g below holds.2 in
+      let lev = has-level job g below guards.0.over guards.1 holds.0 in
       record {
         paid = rw (own, ==-refl t, stack, acts, spared, mine.visits, mine.exits)
             (enough-act (items_of t past) (due job past below) (B * calls_in p.acts) (B * calls_of job t) (level job (g ∷ below)) lev.0 u o fresh g.phase (visits job g.call past) (exits g.call past) (visits job call past) (exits call past) lev.1 ph vs es was);
         guarded = rw stack (
-          record { ctx = rw (same_call-refl call) refl; phase = tt; over = λ e. (tt, subst (λ y. FromAct g.ctx y) ctx holds.1) },
-          (
-            record { ctx = ctx-more g.call item past g.ctx apart.0 guards.0.ctx; phase = (guard-more g.call g.ctx item past refl holds.0, tt, holds.2); over = guards.0.over },
-            guarded-more past item below (Each-weaker (λ k. same_call call k.call ≡ false) (λ k. spares k.call item) below (λ k e. (e, refl)) apart.1) guards.1,
-          ),
+          record { phase = tt; over = λ e. (tt, subst (λ y. FromAct g.ctx y) ctx holds.1) },
+          (record { phase = (holds.0, tt); over = guards.0.over }, guards.1),
         );
       }

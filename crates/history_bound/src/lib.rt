@@ -4,8 +4,9 @@
 //! room for all items at its start.
 //!
 //! The proof is a *credit*: an open call counts what its phase and the users that were not visited
-//! yet leave of its bound, and each item pays one. Acts nest two deep, since a callback holds the
-//! guard of its context. Nothing here has code; the laws speak of histories alone.
+//! yet leave of its bound, and each item pays one. A callback holds a level of its context's guard.
+//! So acts nest as deep as the guard of the call's context has levels, and then as deep as that of an
+//! interrupt. Nothing here has code; the laws speak of histories alone.
 #![tactic(auto)]
 
 ghost use Rattle.std.specs.Prelude.{◌≤◌, ◌+◌, ◌*◌, ℕ, List, length};
@@ -13,17 +14,17 @@ ghost use Rattle.ft_base.specs.Job.{Job as PlainJob, commands};
 ghost use Rattle.ft_base.specs.declared.item.Item.{Item};
 ghost use Rattle.ft_hist.specs.Rules.{IsLegal};
 ghost use Rattle.history_bound.specs.Bound.{all_calls, calls_of, items_of};
-ghost use Rattle.user_specs.specs.Bound.{call_bound_of};
+ghost use Rattle.user_specs.specs.Bound.{call_bound_in};
 
 /// In a legal history a task has at most `call_bound` items for each call of its script.
 pub fn each_call_is_bounded()
     ensures { (job : PlainJob) (items : List Item) (t : ℕ) → IsLegal job items
-        → items_of t items ≤ call_bound_of job.users * calls_of job t }
+        → items_of t items ≤ call_bound_in job * calls_of job t }
 {}
 
 /// And a legal history has at most `call_bound` items for each call of all scripts, and two for
 /// each command. A script's limits make this at most 4,000,000 and two a command.
 pub fn each_history_is_bounded()
     ensures { (job : PlainJob) (items : List Item) → IsLegal job items
-        → length items ≤ 2 * length (commands job) + call_bound_of job.users * all_calls job.tasks }
+        → length items ≤ 2 * length (commands job) + call_bound_in job * all_calls job.tasks }
 {}
