@@ -1,6 +1,7 @@
 -- A call's dispatch on the plain machine, item by item, and a call that an act makes, whole.
-use Rattle.std.proofs.Common.{cond, ◌≡◌, ℕ, zero, suc, ◌<◌, ◌≤◌, ◌⊎◌, Bool, true, false, not, ◌&&◌, ◌||◌, ◌==◌, nat_lt, nat_le, List, [], ◌∷◌, length, get_or, Option, Some, None, IsSome, refl, sym, ap, ◌∙◌, subst, arith, inl, inr, ltb-true, ltb-false, leb-false, leb-true}
+use Rattle.std.proofs.Common.{cond, ◌≡◌, ℕ, zero, suc, ◌<◌, ◌≤◌, ◌⊎◌, Bool, true, false, not, ◌&&◌, ◌||◌, ◌==◌, ◌+◌, ◌*◌, nat_lt, nat_le, List, [], ◌∷◌, length, count_by, get_or, Option, Some, None, IsSome, refl, sym, ap, ◌∙◌, subst, arith, inl, inr, ltb-true, ltb-false, leb-false, leb-true}
 use Rattle.std.proofs.lemmas.Bool.Decides.{eqb_tells}
+use Rattle.std.proofs.lemmas.List.Sums.{sum_by-cons}
 use Rattle.std.specs.List.{filter, list_any, AllByRecursion as Each}
 use Rattle.ft_base.specs.declared.number.CallNo.{CallNo}
 use Rattle.ft_base.specs.declared.context.Ctx.{Ctx}
@@ -13,15 +14,16 @@ use Rattle.ft_base.specs.declared.item.Item.{Item}
 use Rattle.ft_base.specs.declared.item.Item.TheVariants.{Enter, Back, BackEnd, Refuse, Miss, Body}
 use Rattle.ft_base.specs.declared.user.Act.{Act}
 use Rattle.ft_base.specs.declared.user.Act.TheVariants.{CallIn, IrqIn}
-use Rattle.ft_base.specs.Same.{same_call, rank}
+use Rattle.ft_base.specs.Same.{same_call, same_ctx, rank}
 use Rattle.ft_base.specs.Job.{Job, funcs}
+use Rattle.ft_base.specs.Versions.{levels}
 use Rattle.ft_base.specs.Desk.{desk, is_on, is_allowed, user_at, spec_at, plain_spec, sited, is_sited, target}
 use Rattle.ft_base.proofs.DeskLaws.{has_sited}
 use Rattle.ft_base.specs.Order.{IsFalling, OneModifies, has, IsOrder}
 use Rattle.ft_base.specs.WellFormed.{IsWellFormed, IsActNamed}
 use Rattle.ft_base.proofs.Small.{false_true, or-false_both, ==-refl, and_both}
 use Rattle.ft_base.specs.Kinds.{has_depth, has_exit}
-use Rattle.ft_hist.specs.Past.{Entered, Callback, is_of, done, begun, entered, entry_of, callbacks, is_ctx, is_in_callback, is_open, is_dispatched, exits, all_visits, visits, held, miss_due}
+use Rattle.ft_hist.specs.Past.{Entered, Callback, is_of, done, begun, entered, entry_of, callbacks, is_at, is_open, open_callbacks, is_dispatched, exits, all_visits, visits, held, miss_due}
 use Rattle.ft_hist.specs.Plain.{plain, after_item, PlainTask, Frame, Phase, Owed, Dispatch, InBack, Running, in_phase, owed_by}
 use Rattle.ft_hist.specs.Rules.{IsLegalPast, MayStand, MayBack, MayVisit, MayRefuse, PassesPid, MayBody, InWindow}
 use Rattle.ft_hist.proofs.DispatchLaws.{WasOff, watches-at_end}
@@ -34,7 +36,7 @@ use Rattle.ft_hist.proofs.HeldLaws.{held-is, opens as opens-law}
 use Rattle.ft_hist.proofs.Visiting.{only_those, at_most_one}
 use Rattle.ft_base.proofs.Order.{falling-filter}
 use Rattle.ft_hist.proofs.Lists.{Each-passes, has-passes, none_visited}
-use Rattle.plain_machine.specs.State.{Walk, Around, Nested, Made, takes_frame, misses_frame, is_deep, refusal, refusal_by, is_held, called, refused, tried, walked, backed, by_act, inside, call_of, on_users}
+use Rattle.plain_machine.specs.State.{Walk, Around, Nested, Made, takes_frame, misses_frame, is_deep, refusal, refusal_by, held_levels, is_full, called, refused, tried, walked, backed, by_act, inside, call_of, on_users}
 use Rattle.plain_machine.proofs.CallSo.{CallSo, VisitedSo, so-untouched, so-refused, so-called, may_visit, entry-is, order-now, visits-more', reg-now, visits-back, visits-refuse}
 
 each-get : {A : Type 0} (P : A → Type 0) (xs : List A) (i : ℕ) (d : A) → P d → Each P xs → P (get_or xs i d)
@@ -62,33 +64,39 @@ push job k past opens opens' t item s s' h d b c own here next may =
       w.1,
     )
 
--- whether these callbacks guard the task in a context
-abbrev pub guarded_by : ℕ → List Callback → Ctx → Bool
-guarded_by t opens y = list_any (λ b. (b.call.task.0 == t) && is_ctx b.ctx y) opens
+-- how many of these callbacks are of the task and a context
+abbrev pub levels_by : ℕ → List Callback → Ctx → ℕ
+levels_by t opens y = count_by (is_at t y) opens
+
+pub held-cons : (x : Ctx) (guards : List Ctx) (y : Ctx) → held_levels (x ∷ guards) y ≡ cond (same_ctx x y) 1 0 + held_levels guards y
+held-cons x guards y = sum_by-cons (λ z. cond (same_ctx z y) 1 0) x guards
 
 -- this many levels of acts are enough for a call in this context
-abbrev pub Suffices : ℕ → Ctx → List Ctx → Type 0
-Suffices n x guards = (is_held guards x ≡ true) ⊎ ((2 ≤ n) ⊎ ((1 ≤ n) × (2 ≤ rank x)))
+abbrev pub Suffices : Job → ℕ → Ctx → List Ctx → Type 0
+Suffices job n x guards = (2 * levels job ≤ n + held_levels guards x) ⊎ ((2 ≤ rank x) × (levels job ≤ n + held_levels guards x))
 
 -- the act's call can go so deep
-pub suffices : (guards : List Ctx) (m : ℕ) (x : Ctx) (act : Option Act) (o : Owed) → owed_by x act ≡ Some o → is_held guards x ≡ false → Suffices m x guards
-    → (l : ℕ) × (m ≡ suc l) × Suffices l o.ctx (x ∷ guards)
-suffices guards m x None o y free s = absurd cc
-suffices guards m x (Some act) o y free (inl held) = false_true (sym free ∙ held)
-suffices guards zero x (Some act) o y free (inr (inl two)) = absurd (omega arith)
-suffices guards zero x (Some act) o y free (inr (inr both)) = (let l = both.0 in absurd (omega (arith, l)))
-suffices guards (suc m) x (Some (CallIn f)) o y free s =
+pub suffices : (job : Job) (guards : List Ctx) (m : ℕ) (x : Ctx) (act : Option Act) (o : Owed) → owed_by x act ≡ Some o → held_levels guards x < levels job → Suffices job m x guards
+    → (l : ℕ) × (m ≡ suc l) × Suffices job l o.ctx (x ∷ guards)
+suffices job guards m x None o y free s = absurd cc
+suffices job guards zero x (Some act) o y free (inl two) = absurd (omega (arith, two, free))
+suffices job guards zero x (Some act) o y free (inr both) = (let l = both.1 in absurd (omega (arith, l, free)))
+suffices job guards (suc m) x (Some (CallIn f)) o y free s =
     let same : x ≡ o.ctx = ap ctx_or y in
-    (m, refl, subst (λ z. Suffices m z (x ∷ guards)) same (inl (rw (==-refl (rank x)) refl)))
+    (m, refl, subst (λ z. Suffices job m z (x ∷ guards)) same (rw (held-cons x guards x, ==-refl (rank x)) (deeper s)))
   where
     ctx_or : Option Owed → Ctx
     ctx_or None = x
     ctx_or (Some z) = z.ctx
-suffices guards (suc m) x (Some (IrqIn f)) o y free s =
-    elim (nat_lt (rank x) 2) as (λ b. nat_lt (rank x) 2 ≡ b → cond b (Some (record { ctx = Irq; func = f.0 })) None ≡ Some o → (l : ℕ) × (suc m ≡ suc l) × Suffices l o.ctx (x ∷ guards)) [
+
+    deeper : Suffices job (suc m) x guards → (2 * levels job ≤ m + (1 + held_levels guards x)) ⊎ ((2 ≤ rank x) × (levels job ≤ m + (1 + held_levels guards x)))
+    deeper (inl two) = inl (omega (arith, two))
+    deeper (inr both) = (let l = both.1 in inr (both.0, omega (arith, l)))
+suffices job guards (suc m) x (Some (IrqIn f)) o y free s =
+    elim (nat_lt (rank x) 2) as (λ b. nat_lt (rank x) 2 ≡ b → cond b (Some (record { ctx = Irq; func = f.0 })) None ≡ Some o → (l : ℕ) × (suc m ≡ suc l) × Suffices job l o.ctx (x ∷ guards)) [
       | true ↦ λ lt z. let low : rank x < 2 = ltb-true (rank x) 2 lt in
           let same : Irq ≡ o.ctx = ap ctx_or z in
-          (m, refl, subst (λ q. Suffices m q (x ∷ guards)) same (inr (inr (deep s low, omega arith))))
+          (m, refl, subst (λ q. Suffices job m q (x ∷ guards)) same (inr (omega arith, deep s low)))
       | false ↦ λ lt z. absurd cc
     ] refl y
   where
@@ -96,17 +104,16 @@ suffices guards (suc m) x (Some (IrqIn f)) o y free s =
     ctx_or None = Irq
     ctx_or (Some z) = z.ctx
 
-    deep : Suffices (suc m) x guards → rank x < 2 → 1 ≤ m
-    deep (inl held) low = false_true (sym free ∙ held)
-    deep (inr (inl two)) low = omega arith
-    deep (inr (inr both)) low = (let l = both.1 in absurd (omega (arith, l, low)))
+    deep : Suffices job (suc m) x guards → rank x < 2 → levels job ≤ m + held_levels (x ∷ guards) Irq
+    deep (inl two) low = omega (arith, two, free)
+    deep (inr both) low = (let l = both.0 in absurd (omega (arith, l, low)))
 
 -- a call that an act owes may be made
 pub record Ready (job : Job) (k : ℕ) (a : Around) (o : Owed) (p : PlainTask) (f : Frame) (below : List Frame) (u : ℕ) (fr : Bool) (past : List Item) (opens : List Callback) : Type 0 where
   pub now : Now job k past opens
   pub run : plain job a.task.0 past ≡ Some (record p { stack = in_phase f (InBack u (Some o) fr) ∷ below })
   pub misses : miss_due job a.task.0 past ≡ None
-  pub guards : (y : Ctx) → guarded_by a.task.0 opens y ≡ is_held a.guards y
+  pub guards : (y : Ctx) → levels_by a.task.0 opens y ≡ held_levels a.guards y
   pub level : holding job past (f.call ∷ calls_on below) ≡ a.level
   pub few : a.level ≤ job.frames
   pub within : o.func < funcs job
@@ -120,19 +127,19 @@ pub record Whole (job : Job) (k : ℕ) (a : Around) (p : PlainTask) (f : Frame) 
 
 abbrev pub Makes : Job → ℕ → ℕ → Nested → Type 0
 Makes job k n nested = (a : Around) (o : Owed) (p : PlainTask) (f : Frame) (below : List Frame) (u : ℕ) (fr : Bool) (past : List Item) (opens : List Callback)
-    → (m : ℕ) → n ≡ suc m → Suffices m o.ctx a.guards
+    → (m : ℕ) → n ≡ suc m → Suffices job m o.ctx a.guards
     → Ready job k a o p f below u fr past opens → Whole job k a p f below u past opens (nested a o f.call past p.next)
 
 -- ## the tests of a user
 
 abbrev pub Verdict : Bool → Bool → Bool → Option Reason → Type 0
-Verdict pid held deep None = (pid ≡ false) × (held ≡ false) × (deep ≡ false)
-Verdict pid held deep (Some ByPid) = pid ≡ true
-Verdict pid held deep (Some Recursion) = (pid ≡ false) × (held ≡ true)
-Verdict pid held deep (Some Depth) = (pid ≡ false) × (held ≡ false) × (deep ≡ true)
+Verdict pid full deep None = (pid ≡ false) × (full ≡ false) × (deep ≡ false)
+Verdict pid full deep (Some ByPid) = pid ≡ true
+Verdict pid full deep (Some Recursion) = (pid ≡ false) × (full ≡ true)
+Verdict pid full deep (Some Depth) = (pid ≡ false) × (full ≡ false) × (deep ≡ true)
 
-verdict : (pid held deep : Bool) → Verdict pid held deep (refusal_by pid held deep)
-verdict true held deep = refl
+verdict : (pid full deep : Bool) → Verdict pid full deep (refusal_by pid full deep)
+verdict true full deep = refl
 verdict false true deep = (refl, refl)
 verdict false false true = (refl, refl, refl)
 verdict false false false = (refl, refl, refl)
@@ -157,13 +164,13 @@ full level frames le =
 
 -- what surrounds a dispatch and stays the same over it
 pub record Ground (job : Job) (k : ℕ) (n : ℕ) (a : Around) (n0 : ℕ) (e : Entered) (below : List Frame) (opens : List Callback) (past0 : List Item) : Type 0 where
-  pub guards : (y : Ctx) → guarded_by a.task.0 opens y ≡ is_held a.guards y
+  pub guards : (y : Ctx) → levels_by a.task.0 opens y ≡ held_levels a.guards y
   pub level : holding job past0 (calls_on below) ≡ a.level
   pub few : a.level ≤ job.frames
   pub elders : Each (IsOlder a.task.0 n0) (calls_on below)
   pub from : e.from ≡ k
   pub within : e.func < funcs job
-  pub enough : Suffices n e.ctx a.guards
+  pub enough : Suffices job n e.ctx a.guards
 
 module _ (job : Job) (k : ℕ) (is : IsWellFormed job) (one : OneModifies job (desk job k)) (nested : Nested) (n : ℕ) (makes : Makes job k n nested)
     (a : Around) (n0 : ℕ) (e : Entered) (p : PlainTask) (scripted : Bool) (below : List Frame) (opens : List Callback) (past0 : List Item)
@@ -209,7 +216,7 @@ module _ (job : Job) (k : ℕ) (is : IsWellFormed job) (one : OneModifies job (d
   So w todo past = CallSo job a call e w (λ v. has v todo) past
 
   guard-is : (past : List Item) (next : ℕ) (phase : Phase) (due : Option Callback) (w : Walk) (todo : List ℕ) → Busy past next phase opens due → So w todo past
-      → is_in_callback a.task.0 (entry_of call past).ctx past ≡ is_held a.guards e.ctx
+      → open_callbacks a.task.0 (entry_of call past).ctx past ≡ held_levels a.guards e.ctx
   guard-is past next phase due w todo h so = rw (entry-is job a call e past so.known, h.now.still) (g.guards e.ctx)
 
   module _ (u : ℕ) where
@@ -218,6 +225,9 @@ module _ (job : Job) (k : ℕ) (is : IsWellFormed job) (one : OneModifies job (d
 
     abbrev too_deep : Bool
     too_deep = has_depth (spec_at job u).kind && is_deep job (desk job k) a.level
+
+    not_full : is_full job a.guards e.ctx ≡ false → held_levels a.guards e.ctx < levels job
+    not_full = leb-false (levels job) (held_levels a.guards e.ctx)
 
     passes : (past : List Item) → done past ≡ k → pid_bars ≡ false → PassesPid job past call u
     passes past d e' has_pid = inl (rw d (not_false (is_allowed (desk job k) a.task.0) (rw has_pid at e')))
@@ -237,20 +247,20 @@ module _ (job : Job) (k : ℕ) (is : IsWellFormed job) (one : OneModifies job (d
         positive (suc m) y = omega arith
 
     -- why a user is refused
-    may_refuse : (r : Reason) (past : List Item) → Now job k past opens → is_in_callback a.task.0 (entry_of call past).ctx past ≡ is_held a.guards e.ctx → held job call past ≡ a.level
-        → Verdict pid_bars (is_held a.guards e.ctx) too_deep (Some r) → MayRefuse job past call u r
+    may_refuse : (r : Reason) (past : List Item) → Now job k past opens → open_callbacks a.task.0 (entry_of call past).ctx past ≡ held_levels a.guards e.ctx → held job call past ≡ a.level
+        → Verdict pid_bars (is_full job a.guards e.ctx) too_deep (Some r) → MayRefuse job past call u r
     may_refuse ByPid past now guard l v = let both = and_both (spec_at job u).pid (not (is_allowed (desk job k) a.task.0)) v in
         (both.0, inl (rw now.returned (not_true (is_allowed (desk job k) a.task.0) both.1)))
-    may_refuse Recursion past now guard l v = (passes past now.returned v.0, guard ∙ v.1)
+    may_refuse Recursion past now guard l v = (passes past now.returned v.0, rw guard (leb-true (levels job) (held_levels a.guards e.ctx) v.1))
     may_refuse Depth past now guard l v = let both = and_both (has_depth (spec_at job u).kind) (is_deep job (desk job k) a.level) v.2 in
-        (passes past now.returned v.0, guard ∙ v.1, both.0, deep-why past now.returned l both.1)
+        (passes past now.returned v.0, rw guard (not_full v.1), both.0, deep-why past now.returned l both.1)
 
-    may_back : (past : List Item) → Now job k past opens → MayVisit job past call u → is_in_callback a.task.0 (entry_of call past).ctx past ≡ is_held a.guards e.ctx → held job call past ≡ a.level
-        → Verdict pid_bars (is_held a.guards e.ctx) too_deep None → MayBack job past call u
+    may_back : (past : List Item) → Now job k past opens → MayVisit job past call u → open_callbacks a.task.0 (entry_of call past).ctx past ≡ held_levels a.guards e.ctx → held job call past ≡ a.level
+        → Verdict pid_bars (is_full job a.guards e.ctx) too_deep None → MayBack job past call u
     may_back past now meets guard l v = record {
       visit = meets;
       pid = passes past now.returned v.0;
-      free = guard ∙ v.1;
+      free = rw guard (not_full v.1);
       room = λ yes. let both = or-false_both (nat_le job.frames a.level) _ (rw yes at v.2) in rw l (leb-false job.frames a.level both.0);
       level = λ yes. let both = or-false_both (nat_le job.frames a.level) _ (rw yes at v.2) in inl (rw (now.returned, l) (shallow (desk job k).depth both.1));
     }
@@ -322,7 +332,7 @@ module _ (job : Job) (k : ℕ) (is : IsWellFormed job) (one : OneModifies job (d
         | false ↦ λ y z. ltb-true a.level job.frames (and_both (has_exit (spec_at job u).kind) _ z).1
       ] s t
 
-  is_refused : (w : Walk) (u : ℕ) (us : List ℕ) (r : Reason) → Verdict (pid_bars u) (is_held a.guards e.ctx) (too_deep u) (Some r) → Dispatching w (u ∷ us) → Dispatching (refused call u r w) us
+  is_refused : (w : Walk) (u : ℕ) (us : List ℕ) (r : Reason) → Verdict (pid_bars u) (is_full job a.guards e.ctx) (too_deep u) (Some r) → Dispatching w (u ∷ us) → Dispatching (refused call u r w) us
   is_refused w u us r v h =
       let l = level-is w.past w.next Dispatch opens None h.busy in
       let guard = guard-is w.past w.next Dispatch None w (u ∷ us) h.busy h.so in
@@ -337,7 +347,7 @@ module _ (job : Job) (k : ℕ) (is : IsWellFormed job) (one : OneModifies job (d
         falls = h.falls.1;
       }
 
-  module _ (w : Walk) (u : ℕ) (us : List ℕ) (v : Verdict (pid_bars u) (is_held a.guards e.ctx) (too_deep u) None) (h : Dispatching w (u ∷ us)) where
+  module _ (w : Walk) (u : ℕ) (us : List ℕ) (v : Verdict (pid_bars u) (is_full job a.guards e.ctx) (too_deep u) None) (h : Dispatching w (u ∷ us)) where
     abbrev after : Walk
     after = done_with u us w
 
@@ -426,14 +436,14 @@ module _ (job : Job) (k : ℕ) (is : IsWellFormed job) (one : OneModifies job (d
         × So after us (by_act nested within_act o call past w.next).past × VisitedSo job k call e.func us (by_act nested within_act o call past w.next).past
     acted None y past fr b so th = (fr, b, so, th)
     acted (Some o) y past fr b so th =
-        let s = suffices a.guards n e.ctx (spec_at job u).act o y v.1 g.enough in
+        let s = suffices job a.guards n e.ctx (spec_at job u).act o y (not_full u v.1) g.enough in
         let made = nested within_act o call past w.next in
         let r = makes within_act o (in_call w.next Dispatch) (frame_in Dispatch) below u fr past (callback u ∷ opens) s.0 s.1 s.2
         (record {
           now = b.now;
           run = b.run;
           misses = b.misses;
-          guards = λ z. rw (mine, g.guards z) refl;
+          guards = λ z. sum_by-cons (λ b. cond (is_at a.task.0 z b) 1 0) (callback u) opens ∙ rw (mine, g.guards z) (sym (held-cons e.ctx a.guards z));
           level = level_inside past (InBack u (Some o) fr) b so;
           few = few_inside past so;
           within = named e.ctx (spec_at job u).act o y (each-get (λ s. IsActNamed job s.act) job.users u plain_spec tt is.acts);
@@ -474,9 +484,9 @@ module _ (job : Job) (k : ℕ) (is : IsWellFormed job) (one : OneModifies job (d
   -- ## all users, and the Body
 
   one_more : (w : Walk) (u : ℕ) (us : List ℕ) → Dispatching w (u ∷ us) → Dispatching (tried nested job (desk job k) a call e.ctx u (refusal job (desk job k) a e.ctx u) w) us
-  one_more w u us h = by (refusal job (desk job k) a e.ctx u) (verdict (pid_bars u) (is_held a.guards e.ctx) (too_deep u))
+  one_more w u us h = by (refusal job (desk job k) a e.ctx u) (verdict (pid_bars u) (is_full job a.guards e.ctx) (too_deep u))
     where
-      by : (r : Option Reason) → Verdict (pid_bars u) (is_held a.guards e.ctx) (too_deep u) r → Dispatching (tried nested job (desk job k) a call e.ctx u r w) us
+      by : (r : Option Reason) → Verdict (pid_bars u) (is_full job a.guards e.ctx) (too_deep u) r → Dispatching (tried nested job (desk job k) a call e.ctx u r w) us
       by None v = is_called w u us v h
       by (Some r) v = is_refused w u us r v h
 

@@ -9,6 +9,7 @@ pub mod Ends
 pub mod Plays
 pub mod RowSamples
 pub mod MoreSamples
+pub mod LevelSamples
 pub mod AtEnds
 pub mod RowsLegal
 pub mod NotLegal

@@ -22,7 +22,7 @@ pub between : (P : ℕ → Type 0) (n k : ℕ) → n ≤ k → k ≤ n → P k �
 between P n k low high p = let same : k ≡ n = omega arith in subst P same p
 
 -- the one element of a list
-only : {A : Type 0} (y x : A) → Contains (y ∷ []) x → y ≡ x
+pub only : {A : Type 0} (y x : A) → Contains (y ∷ []) x → y ≡ x
 only y x c = let zero_is : c.0 ≡ 0 = (let below = c.1 in omega arith) in subst (λ k. slice_index_or (y ∷ []) k x ≡ x) zero_is c.2
 
 -- what stands last in a legal history
@@ -77,7 +77,7 @@ pub wrong_reason : IsLegal recursion (before_refusal ++ Refuse (call_in 0 2) (re
 unfolding desk all_visits
 wrong_reason legal =
     let free = (last recursion before_refusal (Refuse (call_in 0 2) (record { 0 = 0 }) Depth) legal).rule.1.1 in
-    false_true (sym free)
+    absurd (omega (arith, free))
 
 -- exits: one is called for a registration that is gone
 abbrev pub before_exit : List Item

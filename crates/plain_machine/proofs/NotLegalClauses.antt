@@ -1,6 +1,6 @@
 -- One history for each clause of legality that no history of NotLegal speaks of: it is that of an example, or of a small job, up to an item that breaks
 -- this clause.
-use Rattle.std.proofs.Common.{◌≡◌, ℕ, ◌<◌, ◌≤◌, ◌⊎◌, false, List, [], ◌∷◌, ◌++◌, Some, None, reverse, codes, refl, sym, subst, arith, inl, inr}
+use Rattle.std.proofs.Common.{◌≡◌, ℕ, ◌<◌, ◌≤◌, ◌⊎◌, true, false, List, [], ◌∷◌, ◌++◌, Some, None, reverse, codes, refl, sym, ap, ◌∙◌, subst, arith, inl, inr}
 use Rattle.ft_base.specs.declared.context.Ctx.TheVariants.{Normal}
 use Rattle.ft_base.specs.declared.item.Ran.TheVariants.{Nop, List as ByList, Own}
 use Rattle.ft_base.specs.declared.item.Reason.TheVariants.{Pid as ByPid, Recursion, Depth}
@@ -9,16 +9,19 @@ use Rattle.ft_base.specs.declared.item.Item.{Item}
 use Rattle.ft_base.specs.declared.item.Item.TheVariants.{Begin, Return, Enter, Back, BackEnd, Refuse, Miss, Body, Leave, Exit, ExitEnd, Ret}
 use Rattle.ft_base.specs.declared.user.Kind.{Kind}
 use Rattle.ft_base.specs.declared.user.Kind.TheVariants.{Function, Graph}
+use Rattle.ft_base.specs.declared.user.Act.TheVariants.{CallIn}
 use Rattle.ft_base.specs.declared.task.TaskAct.TheVariants.{Call, Ret as RetAct}
-use Rattle.ft_base.specs.Job.{Job, Spec, Ctl, Command, Register, Unregister, Disable, MaxDepth, Run}
-use Rattle.ft_base.specs.Desk.{desk, is_live, answer_at}
+use Rattle.ft_base.specs.Job.{usual_lines, usual_rings, Job, Spec, Ctl, Command, Register, Unregister, Disable, MaxDepth, Pid, Run, Until}
+use Rattle.ft_base.specs.Desk.{desk, is_live, answer_at, spec_at}
+use Rattle.ft_base.specs.Kinds.{cancels}
 use Rattle.ft_base.proofs.Small.{false_true}
-use Rattle.ft_hist.specs.Past.{all_visits}
+use Rattle.ft_hist.specs.Past.{all_visits, Visit}
 use Rattle.ft_hist.specs.Plain.{plain, after_item}
 use Rattle.ft_hist.specs.Rules.{IsLegal, IsWhole, IsStill}
 use Rattle.plain_machine.proofs.Plays.{call_in, named}
-use Rattle.plain_machine.proofs.NotLegal.{last, between, before_body, before_refusal}
+use Rattle.plain_machine.proofs.NotLegal.{last, between, only, before_body, before_refusal}
 use Rattle.plain_machine.proofs.RowSamples.{first_path, list_then_own, repeated_commands, two_ipmodify_users, recursion, full_shadow_stack, fprobe_misses, fprobe_cancels, registered_again, pids, disabled_fprobe, profile_user}
+use Rattle.plain_machine.proofs.LevelSamples.{two_levels}
 
 abbrev plain_user : Kind → Spec
 plain_user kind = record { name = codes "u"; kind = kind; regs = false; ipmodify = None; pid = false; act = None }
@@ -26,6 +29,7 @@ plain_user kind = record { name = codes "u"; kind = kind; regs = false; ipmodify
 -- one task that calls `a` and returns, while control goes through these lines
 abbrev one_call : List Spec → List Ctl → Job
 one_call users ctls = record {
+  version = 1;
   functions = named (codes "a") None ∷ named (codes "b") None ∷ [];
   users = users;
   frames = 50;
@@ -34,6 +38,8 @@ one_call users ctls = record {
   tasks = record { pid = 10; cpu = 0; acts = Call (record { 0 = 0 }) ∷ Call (record { 0 = 1 }) ∷ RetAct ∷ RetAct ∷ [] } ∷ [];
   ctls = ctls;
   schedule = [];
+  lines = usual_lines;
+  rings = usual_rings;
 }
 
 -- ## callbacks
@@ -108,12 +114,50 @@ callback_of_barred_task legal = elim ((last pids before_barred (Back (call_in 1 
 -- for recursion, outside of any callback
 pub recursion_outside : IsLegal first_path (before_body ++ Refuse (call_in 0 1) (record { 0 = 0 }) Recursion ∷ []) → ⊥
 unfolding desk all_visits
-recursion_outside legal = false_true ((last first_path before_body (Refuse (call_in 0 1) (record { 0 = 0 }) Recursion) legal).rule.1.1)
+recursion_outside legal = (let full = (last first_path before_body (Refuse (call_in 0 1) (record { 0 = 0 }) Recursion) legal).rule.1.1 in absurd (omega (arith, full)))
+
+-- and at two levels, while one of them is free
+pub recursion_at_a_free_level : IsLegal two_levels (before_refusal ++ Refuse (call_in 0 2) (record { 0 = 0 }) Recursion ∷ []) → ⊥
+unfolding desk all_visits
+recursion_at_a_free_level legal = (let full = (last two_levels before_refusal (Refuse (call_in 0 2) (record { 0 = 0 }) Recursion) legal).rule.1.1 in absurd (omega (arith, full)))
 
 -- a callback within one of the same task and context
 pub callback_in_callback : IsLegal recursion (before_refusal ++ Back (call_in 0 2) (record { 0 = 0 }) ∷ []) → ⊥
 unfolding desk all_visits
-callback_in_callback legal = false_true (sym (last recursion before_refusal (Back (call_in 0 2) (record { 0 = 0 })) legal).rule.0.free)
+callback_in_callback legal = (let free = (last recursion before_refusal (Back (call_in 0 2) (record { 0 = 0 })) legal).rule.0.free in absurd (omega (arith, free)))
+
+-- and at two levels, within two
+abbrev before_third_level : List Item
+before_third_level = before_refusal ++ Back (call_in 0 2) (record { 0 = 0 }) ∷ Enter (call_in 0 3) Normal (record { 0 = 1 }) (Some (call_in 0 2)) ∷ []
+
+pub callback_in_two_callbacks : IsLegal two_levels (before_third_level ++ Back (call_in 0 3) (record { 0 = 0 }) ∷ []) → ⊥
+unfolding desk all_visits
+callback_in_two_callbacks legal = (let free = (last two_levels before_third_level (Back (call_in 0 3) (record { 0 = 0 })) legal).rule.0.free in absurd (omega (arith, free)))
+
+-- for recursion, or for depth, of a task that the pid rule bars. It is in a callback of another user, which holds the only level of version 1,
+-- or one of the two of version 2, and the only frame
+abbrev barred : ℕ → Job
+barred version = record pids {
+  version = version;
+  users = record (plain_user Graph) { pid = true } ∷ record (plain_user Graph) { act = Some (CallIn (record { 0 = 0 })) } ∷ [];
+  frames = 1;
+  ctls = Run (Register 0) ∷ Run (Register 1) ∷ Run (Pid (true ∷ false ∷ [])) ∷ [];
+}
+
+abbrev before_barred_act : List Item
+before_barred_act =
+    Begin 1 ∷ Return 1 Accepted ∷ Begin 2 ∷ Return 2 Accepted ∷ Begin 3 ∷ Return 3 Accepted ∷ Enter (call_in 1 1) Normal (record { 0 = 0 }) None ∷ Back (call_in 1 1) (record { 0 = 1 })
+    ∷ Enter (call_in 1 2) Normal (record { 0 = 0 }) (Some (call_in 1 1)) ∷ []
+
+pub recursion_of_barred_task : IsLegal (barred 1) (before_barred_act ++ Refuse (call_in 1 2) (record { 0 = 0 }) Recursion ∷ []) → ⊥
+unfolding desk all_visits
+recursion_of_barred_task legal =
+    elim ((last (barred 1) before_barred_act (Refuse (call_in 1 2) (record { 0 = 0 }) Recursion) legal).rule.1.0 refl) [ inl x ↦ false_true x | inr x ↦ false_true x ]
+
+pub depth_of_barred_task : IsLegal (barred 2) (before_barred_act ++ Refuse (call_in 1 2) (record { 0 = 0 }) Depth ∷ []) → ⊥
+unfolding desk all_visits
+depth_of_barred_task legal =
+    elim ((last (barred 2) before_barred_act (Refuse (call_in 1 2) (record { 0 = 0 }) Depth) legal).rule.1.0 refl) [ inl x ↦ false_true x | inr x ↦ false_true x ]
 
 -- for depth, of a user that the depth rule doesn't bind
 pub depth_of_function_user : IsLegal first_path (before_body ++ Refuse (call_in 0 1) (record { 0 = 0 }) Depth ∷ []) → ⊥
@@ -230,6 +274,22 @@ pub begins_before_its_wait : IsLegal registered_again ((Begin 1 ∷ Return 1 Acc
 unfolding plain after_item
 begins_before_its_wait legal = let le : 2 ≤ 1 = (last registered_again (Begin 1 ∷ Return 1 Accepted ∷ []) (Begin 2) legal).rule.1.0 in absurd (omega (arith, le))
 
+-- and while the call that it waits for is in its dispatch
+abbrev waiting : Job → Job
+waiting job = record job { ctls = Run (Register 0) ∷ Until 0 2 ∷ Run (Unregister 0) ∷ [] }
+
+pub begins_in_the_dispatch : IsLegal (waiting first_path) (before_body ++ Begin 2 ∷ []) → ⊥
+unfolding plain after_item
+begins_in_the_dispatch legal = let le : 2 ≤ 1 = (last (waiting first_path) before_body (Begin 2) legal).rule.1.0 in absurd (omega (arith, le))
+
+-- also if a call that a user's act makes there runs its body
+abbrev before_wait : List Item
+before_wait = before_refusal ++ Refuse (call_in 0 2) (record { 0 = 0 }) Recursion ∷ Body (call_in 0 2) (record { 0 = 1 }) (Own (record { 0 = 0 })) ∷ []
+
+pub begins_in_a_users_call : IsLegal (waiting recursion) (before_wait ++ Begin 2 ∷ []) → ⊥
+unfolding plain after_item
+begins_in_a_users_call legal = let le : 2 ≤ 1 = (last (waiting recursion) before_wait (Begin 2) legal).rule.1.0 in absurd (omega (arith, le))
+
 -- a command returns that hasn't begun
 pub returns_unbegun : IsLegal first_path ([] ++ Return 1 Accepted ∷ []) → ⊥
 returns_unbegun legal = let same : 0 ≡ 1 = (last first_path [] (Return 1 Accepted) legal).rule.follows in absurd (omega (arith, same))
@@ -284,6 +344,25 @@ exit_left_out legal =
     let dead = (last profile_user before_lack (Ret (call_in 0 1) None) legal).rule.0.0 (refl, refl, refl) refl in
     let off : is_live (desk profile_user 1) 0 1 ≡ false = between (λ k. is_live (desk profile_user k) 0 1 ≡ false) 1 dead.0 dead.1 dead.2 dead.3 in
     false_true (sym off)
+
+-- an exit of a user that has none
+pub exit_of_function_user : IsLegal first_path (before_lack ++ Exit (call_in 0 1) (record { 0 = 0 }) 3 ∷ []) → ⊥
+unfolding desk all_visits
+exit_of_function_user legal =
+    let of = (last first_path before_lack (Exit (call_in 0 1) (record { 0 = 0 }) 3) legal).rule.0.of in
+    let m : Visit = record { call = call_in 0 1; user = 0; reg = 1; since = 1; place = 3; back = true; wants = false } in
+    let wants : false ≡ of.0.wants = ap (λ (x : Visit). x.wants) (only m of.0 of.1) in
+    false_true (wants ∙ of.4.1)
+
+-- and of an fprobe whose entry callback cancels it
+abbrev before_cancelled : List Item
+before_cancelled = before_inner ++ Back (call_in 0 2) (record { 0 = 0 }) ∷ BackEnd (call_in 0 2) (record { 0 = 0 }) ∷ Body (call_in 0 2) (record { 0 = 1 }) (Own (record { 0 = 0 })) ∷ Leave (call_in 0 2) ∷ []
+
+pub exit_that_was_cancelled : IsLegal fprobe_cancels (before_cancelled ++ Exit (call_in 0 2) (record { 0 = 0 }) 7 ∷ []) → ⊥
+unfolding desk all_visits
+exit_that_was_cancelled legal =
+    let of = (last fprobe_cancels before_cancelled (Exit (call_in 0 2) (record { 0 = 0 }) 7) legal).rule.0.of in
+    false_true (sym (subst (λ u. cancels (spec_at fprobe_cancels u).kind ≡ false) of.2 of.4.2))
 
 -- ## whole histories
 

@@ -1,11 +1,14 @@
 -- Where all users are plain, a dispatch is a Back and a BackEnd for each user that is on: what a machine that knows no other users has to do.
-use Rattle.std.proofs.Common.{◌≡◌, ℕ, Bool, true, false, not, ◌||◌, ◌&&◌, nat_lt, List, [], ◌∷◌, ◌++◌, length, None, refl, if◌then◌else◌}
+use Rattle.std.proofs.Common.{◌≡◌, ℕ, Bool, true, false, not, ◌||◌, ◌&&◌, nat_lt, List, [], ◌∷◌, ◌++◌, length, None, refl, arith, if◌then◌else◌}
+use Rattle.std.proofs.lemmas.Bool.{lt-leb}
 use Rattle.ft_base.specs.declared.number.CallNo.{CallNo}
 use Rattle.ft_base.specs.declared.context.Ctx.{Ctx}
 use Rattle.ft_base.specs.declared.item.Item.{Item}
 use Rattle.ft_base.specs.declared.item.Item.TheVariants.{Back, BackEnd, Miss}
 use Rattle.ft_base.specs.Job.{Job, Spec}
 use Rattle.ft_base.specs.Desk.{Desk, spec_at, plain_spec, user_at}
+use Rattle.ft_base.specs.Versions.{levels}
+use Rattle.ft_base.proofs.Versions.{levels-some}
 use Rattle.ft_base.specs.Kinds.{has_depth, has_exit, cancels}
 use Rattle.ft_hist.specs.Plain.{owed_by}
 use Rattle.ft_hist.specs.Frames.{runs_after}
@@ -40,7 +43,7 @@ IsPlainUser s = s ≡ record plain_spec { name = s.name }
 
 module _ (job : Job) (plain_users : (u : ℕ) → IsPlainUser (spec_at job u)) (nested : Nested) (d : Desk) (a : Around) (call : CallNo) (x : Ctx) (top : a.guards ≡ []) where
   refused-none : (u : ℕ) → refusal job d a x u ≡ None
-  refused-none u = rw (plain_users u, top) refl
+  refused-none u = rw (plain_users u, top, lt-leb (levels job) 0 (let some = levels-some job in omega (arith, some))) refl
 
   called-plain : (u : ℕ) (w : Walk) → called nested job d a call x u w ≡ record w { past = BackEnd call (record { 0 = u }) ∷ Back call (record { 0 = u }) ∷ w.past }
   called-plain u w = by (spec_at job u) (plain_users u)

@@ -171,9 +171,10 @@ module _ (job : Job) (is : IsWellFormed job) where
       let x : TaskState = task_at s t in
       let ok = r.tasks t in
       let k = s.commands_done in
+      let n = fuel job in
       let one = one_modifies job is k in
-      let nested : Nested = whole fuel job (desk job k) s.order in
-      let mk = makes job k is one s.order r.order fuel in
+      let nested : Nested = whole n job (desk job k) s.order in
+      let mk = makes job k is one s.order r.order n in
       let call : CallNo = call_of (record { 0 = t }) x.run.next in
       let ctx : Ctx = context x.run.contexts in
       let ent : Entered = record { ctx = ctx; func = g.0; caller = top_call x.run.stack; from = done s.past } in
@@ -181,20 +182,20 @@ module _ (job : Job) (is : IsWellFormed job) where
       let p : PlainTask = passed_act x.run rest x.run.contexts in
       let so = rw (ok.run.next, ok.run.stack) at (sound job t s.past ok.run.at ok.run.is) in
       let script = rw acts at ok.script in
-      let g0 : Ground job k fuel (around t x) x.run.next ent x.run.stack [] s.past = record {
+      let g0 : Ground job k n (around t x) x.run.next ent x.run.stack [] s.past = record {
         guards = λ y. refl;
         level = stacked-holding job s.past t x.run.stack x.frames ok.stack;
         few = ok.few;
         elders = Each-weaker (λ c. c.n < x.run.next) (IsOlder t x.run.next) (calls_on x.run.stack) (λ c lt e. lt) so.number;
         from = r.returned;
         within = script.0;
-        enough = inr (inl (omega arith));
+        enough = inl (omega arith);
       } in
       let a : ahead (done s.past) ok.run.at.acts ok.run.at.contexts ok.run.at.gone ≡ record { acts = Call g ∷ rest; contexts = x.run.contexts; gone = x.run.gone } =
       ok.run.ahead ∙ ap (λ (xs : List TaskAct). ahead (done s.past) xs x.run.contexts x.run.gone) acts in
-      let w = push job k s.past [] [] t enter ok.run.at (in_call job k is one nested fuel mk (around t x) x.run.next ent p true x.run.stack [] s.past g0 (suc x.run.next) Dispatch)
+      let w = push job k s.past [] [] t enter ok.run.at (in_call job k is one nested n mk (around t x) x.run.next ent p true x.run.stack [] s.past g0 (suc x.run.next) Dispatch)
       (now-of job s r) refl refl r.still (λ v. refl) ok.run.is (after_item-enter job s.past t (done s.past) ok.run.at x g rest ok.run.next ok.run.stack a ok.stack) (r.misses t) in
-      let busy : Busy job k is one nested fuel mk (around t x) x.run.next ent p true x.run.stack [] s.past g0 (enter ∷ s.past) (suc x.run.next) Dispatch [] None = record {
+      let busy : Busy job k is one nested n mk (around t x) x.run.next ent p true x.run.stack [] s.past g0 (enter ∷ s.past) (suc x.run.next) Dispatch [] None = record {
         now = w.0;
         run = w.1;
         since = since-item job t x.run.next call enter s.past refl (omega arith) (λ v. refl) (λ c y. y) refl refl;
@@ -203,11 +204,11 @@ module _ (job : Job) (is : IsWellFormed job) where
       } in
       let known : entered call (enter ∷ s.past) ≡ Some ent = rw (same_call-refl call) refl in
       let us = on_users (desk job k) g.0 s.order in
-      let d0 = entering job k is one nested fuel mk (around t x) x.run.next ent p true x.run.stack [] s.past g0 s.order (top_call x.run.stack) s.past (suc x.run.next) r.order so busy known in
-      let w0 : Walk = at_enter job k is one nested fuel mk (around t x) x.run.next ent p true x.run.stack [] s.past g0 (top_call x.run.stack) s.past (suc x.run.next) in
-      let d1 = all_walked job k is one nested fuel mk (around t x) x.run.next ent p true x.run.stack [] s.past g0 us w0 d0 in
+      let d0 = entering job k is one nested n mk (around t x) x.run.next ent p true x.run.stack [] s.past g0 s.order (top_call x.run.stack) s.past (suc x.run.next) r.order so busy known in
+      let w0 : Walk = at_enter job k is one nested n mk (around t x) x.run.next ent p true x.run.stack [] s.past g0 (top_call x.run.stack) s.past (suc x.run.next) in
+      let d1 = all_walked job k is one nested n mk (around t x) x.run.next ent p true x.run.stack [] s.past g0 us w0 d0 in
       let w1 : Walk = walked nested job (desk job k) (around t x) call ctx us w0 in
-      let b = in_body job k is one nested fuel mk (around t x) x.run.next ent p true x.run.stack [] s.past g0 w1 d1 in
+      let b = in_body job k is one nested n mk (around t x) x.run.next ent p true x.run.stack [] s.past g0 w1 d1 in
       let past1 : List Item = Body call w1.runs (target (desk job k) g.0) ∷ w1.past in
       let top : Frame = record { call = call; ctx = ctx; func = g.0; scripted = true; phase = Running } in
       let y : TaskState = record {

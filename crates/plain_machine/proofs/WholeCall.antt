@@ -59,7 +59,7 @@ module _ (job : Job) (k : ℕ) (is : IsWellFormed job) (one : OneModifies job (d
       let enter : Item = Enter call o'.ctx (record { 0 = o'.func }) (Some f.call) in
       let before : PlainTask = record p { stack = in_phase f (InBack u (Some o') fr) ∷ below } in
       let so = sound job a.task.0 past before r.run in
-      let suff : Suffices n o'.ctx a.guards = subst (λ x. Suffices x o'.ctx a.guards) (let y : m ≡ n = omega (arith, e) in y) s in
+      let suff : Suffices job n o'.ctx a.guards = subst (λ x. Suffices job x o'.ctx a.guards) (let y : m ≡ n = omega (arith, e) in y) s in
       let g : Ground job k n a p.next ent under opens past = record {
         guards = r.guards;
         level = r.level;

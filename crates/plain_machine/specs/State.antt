@@ -1,5 +1,5 @@
 -- The plain machine: a state, and one step of an actor.
-use Rattle.std.specs.Prelude.{ℕ, zero, suc, Bool, true, false, not, ◌||◌, ◌&&◌, ◌==◌, nat_le, nat_lt, List, [], ◌∷◌, ◌++◌, length, get_or, set, Option, Some, None, if◌then◌else◌}
+use Rattle.std.specs.Prelude.{ℕ, zero, suc, Bool, true, false, not, ◌||◌, ◌&&◌, ◌*◌, ◌==◌, nat_le, nat_lt, List, [], ◌∷◌, ◌++◌, length, count_by, get_or, set, Option, Some, None, if◌then◌else◌}
 use Rattle.std.specs.List.{filter, list_any}
 use Rattle.ft_base.specs.declared.number.CallNo.{CallNo}
 use Rattle.ft_base.specs.declared.number.TaskNo.{TaskNo}
@@ -15,6 +15,7 @@ use Rattle.ft_base.specs.declared.turn.Actor.{Actor}
 use Rattle.ft_base.specs.declared.turn.Actor.TheVariants.{Control, Cpu}
 use Rattle.ft_base.specs.Same.{same_ctx}
 use Rattle.ft_base.specs.Job.{Job, Task, Ctl, Run, Until}
+use Rattle.ft_base.specs.Versions.{levels}
 use Rattle.ft_base.specs.Desk.{Desk, desk, is_on, is_live, is_allowed, target, answer_on, is_accepted, spec_at, user_at}
 use Rattle.ft_base.specs.Kinds.{has_depth, has_exit, cancels}
 use Rattle.ft_base.specs.Order.{order_after}
@@ -43,7 +44,7 @@ pub record State : Type 0 where
 
 -- ## a call
 
--- what surrounds a call: its task, the contexts whose guards are held, and how many frames the task's other calls hold
+-- what surrounds a call: its task, the context of each guard level that is held, and how many frames the task's other calls hold
 pub record Around : Type 0 where
   pub task : TaskNo
   pub guards : List Ctx
@@ -72,16 +73,20 @@ is_deep job d level = nat_le job.frames level || (not (d.depth == 0) && nat_le d
 
 -- why a user that is on is refused, if it is. The three tests apart, for the proofs
 abbrev pub refusal_by : Bool → Bool → Bool → Option Reason
-refusal_by pid held deep = if pid then Some ByPid else (if held then Some Recursion else (if deep then Some Depth else None))
+refusal_by pid full deep = if pid then Some ByPid else (if full then Some Recursion else (if deep then Some Depth else None))
 
--- the guard of a context is held
-abbrev pub is_held : List Ctx → Ctx → Bool
-is_held guards x = list_any (λ y. same_ctx y x) guards
+-- how many levels of a context's guard are held
+abbrev pub held_levels : List Ctx → Ctx → ℕ
+held_levels guards x = count_by (λ y. same_ctx y x) guards
+
+-- all levels of it are held
+abbrev pub is_full : Job → List Ctx → Ctx → Bool
+is_full job guards x = nat_le (levels job) (held_levels guards x)
 
 -- why a user that is on is refused, if it is: the pid rule comes first, then recursion, then depth
 abbrev pub refusal : Job → Desk → Around → Ctx → ℕ → Option Reason
 refusal job d a x u =
-    refusal_by ((spec_at job u).pid && not (is_allowed d a.task.0)) (is_held a.guards x) (has_depth (spec_at job u).kind && is_deep job d a.level)
+    refusal_by ((spec_at job u).pid && not (is_allowed d a.task.0)) (is_full job a.guards x) (has_depth (spec_at job u).kind && is_deep job d a.level)
 
 -- the user wants a frame, and there is room for one
 abbrev pub takes_frame : Job → Around → ℕ → Bool
@@ -217,9 +222,10 @@ calls_by s t x rest ctx f w =
 abbrev pub around : ℕ → TaskState → Around
 around t x = record { task = record { 0 = t }; guards = []; level = frames_of x.frames }
 
--- three levels: a call, one by an interrupt in it, and one in that, whose users are all refused
-abbrev pub fuel : ℕ
-fuel = 2
+-- how deep acts nest in a scripted call: as deep as the guard of its context has levels, and then as deep as that of an interrupt. In
+-- the deepest call all users are refused
+abbrev pub fuel : Job → ℕ
+fuel job = 2 * levels job
 
 -- a scripted call up to its Body
 abbrev pub called_by : Job → State → ℕ → TaskState → List TaskAct → ℕ → State
@@ -227,7 +233,7 @@ called_by job s t x rest f =
     let d = desk job s.commands_done in
     let ctx = context x.run.contexts in
     calls_by s t x rest ctx f
-    (dispatched (whole fuel job d s.order) job d s.order (around t x) (call_of (record { 0 = t }) x.run.next) ctx f (top_call x.run.stack) s.past (suc x.run.next))
+    (dispatched (whole (fuel job) job d s.order) job d s.order (around t x) (call_of (record { 0 = t }) x.run.next) ctx f (top_call x.run.stack) s.past (suc x.run.next))
 
 -- the users of the top call's frame
 abbrev pub first_or : List (List FrameUser) → List FrameUser
