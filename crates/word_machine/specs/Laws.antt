@@ -5,7 +5,7 @@ use Rattle.ft_base.specs.declared.item.Item.{Item}
 use Rattle.ft_base.specs.Job.{Job, no_task}
 use Rattle.ft_hist.specs.Past.{done, begun}
 use Rattle.ft_hist.specs.Rules.{IsUnvisited}
-use Rattle.user_specs.specs.Bound.{call_bound_of}
+use Rattle.user_specs.specs.Bound.{call_bound_in}
 use Rattle.history_bound.specs.Bound.{items_of, calls_of}
 use Rattle.site_bytes.specs.Bytes.{breakpoint}
 use Rattle.word_map.specs.Words.{Word, Words, read}
@@ -155,7 +155,7 @@ items_on job c items = sum_by (λ t. items_of t items) (tasks_on job c)
 
 -- the room that code takes for them at its start: `call_bound` for each call of their scripts
 abbrev pub room_on : Job → ℕ → ℕ
-room_on job c = call_bound_of job.users * sum_by (λ t. calls_of job t) (tasks_on job c)
+room_on job c = call_bound_in job * sum_by (λ t. calls_of job t) (tasks_on job c)
 
 -- ## words
 

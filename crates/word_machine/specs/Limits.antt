@@ -1,15 +1,16 @@
 -- Jobs within the limits of scripts.
-use Rattle.std.specs.Prelude.{◌+◌, ◌*◌, ◌<◌, ◌≤◌, ℕ, List, [], ◌∷◌, length, sum_by}
+use Rattle.std.specs.Prelude.{◌+◌, ◌*◌, ◌<◌, ◌≤◌, ◌≡◌, ◌⊎◌, ℕ, List, [], ◌∷◌, length, sum_by, IfSome}
 use Rattle.std.specs.List.{AllByRecursion as Each}
-use Rattle.ft_base.specs.declared.limits.TheConstants.{COMMANDS, UNTILS, USERS, TASKS, FUNCS, FRAMES, TRAMPS, GRAPH_DEPTH, ACTS, ITEMS}
+use Rattle.ft_base.specs.declared.limits.TheConstants.{VERSION, COMMANDS, UNTILS, TASKS, FRAMES, GRAPH_DEPTH, ACTS, ITEMS}
 use Rattle.ft_base.specs.declared.context.Ctx.{Ctx}
 use Rattle.ft_base.specs.declared.task.TaskAct.{TaskAct}
 use Rattle.ft_base.specs.declared.task.TaskAct.TheVariants.{Call, Ret, Raise, Lower, After}
 use Rattle.ft_base.specs.Same.{rank}
-use Rattle.ft_base.specs.Job.{Job, Command, MaxDepth, Ctl, Run, Until, commands, funcs}
+use Rattle.ft_base.specs.Job.{Job, Command, depth_of, Ctl, Run, Until, commands, funcs}
+use Rattle.ft_base.specs.Versions.{limits_of}
 use Rattle.ft_base.specs.WellFormed.{IsWellFormed}
 use Rattle.ft_hist.specs.Plain.{context}
-use Rattle.user_specs.specs.Bound.{call_bound_of}
+use Rattle.user_specs.specs.Bound.{call_bound_in}
 use Rattle.history_bound.specs.Bound.{all_calls}
 
 -- the task that control waits for is one of this many
@@ -19,8 +20,7 @@ WaitsFor tasks (Run c) = Unit {0}
 
 -- a graph depth that a command may set
 abbrev pub IsLevel : Command → Type 0
-IsLevel (MaxDepth n) = n ≤ GRAPH_DEPTH
-IsLevel _ = Unit {0}
+IsLevel c = IfSome (depth_of c) (λ n. n ≤ GRAPH_DEPTH)
 
 -- Acts in these contexts, the latest first: an interrupt that comes is above the present context, and one that goes has come
 abbrev pub AreRaised : List Ctx → List TaskAct → Type 0
@@ -32,20 +32,26 @@ AreRaised [] (Lower ∷ rest) = ⊥
 AreRaised (c ∷ cs) (Lower ∷ rest) = AreRaised cs rest
 AreRaised cs (After n ∷ rest) = AreRaised cs rest
 
--- What the limits of scripts give of a job: it is well formed, its tasks are on its CPUs, its waits name its tasks, each interrupt of a
--- task comes above its present context and goes after it came, and it has no more lines of control, users, tasks, functions, frames,
--- trampolines and acts, and no greater depths, than a script may have; nor more items that its calls can make
+-- the version of the language is one that there is
+abbrev pub IsVersion : ℕ → Type 0
+IsVersion version = (version ≡ 1) ⊎ (version ≡ VERSION)
+
+-- What the limits of scripts give of a job: it is of a version that there is, and well formed, its tasks are on its CPUs, its waits
+-- name its tasks, each interrupt of a task comes above its present context and goes after it came, and it has no more lines of
+-- control, users, tasks, functions, frames, trampolines and acts, and no greater depths, than a script may have; nor more items that
+-- its calls can make
 pub record IsLimited (job : Job) : Type 0 where
+  pub version : IsVersion job.version
   pub job' : IsWellFormed job
   pub placed : Each (λ t. t.cpu < length job.quanta) job.tasks
   pub waits : Each (WaitsFor (length job.tasks)) job.ctls
   pub raised : Each (λ t. AreRaised [] t.acts) job.tasks
   pub ctls : length job.ctls ≤ COMMANDS + UNTILS
-  pub users : length job.users ≤ USERS
+  pub users : length job.users ≤ (limits_of job.version).users
   pub tasks : length job.tasks ≤ TASKS
-  pub functions : funcs job ≤ FUNCS
+  pub functions : funcs job ≤ (limits_of job.version).funcs
   pub frames : job.frames ≤ FRAMES
-  pub tramps : job.tramps ≤ TRAMPS
+  pub tramps : job.tramps ≤ (limits_of job.version).tramps
   pub levels : Each IsLevel (commands job)
   pub acts : sum_by (λ t. length t.acts) job.tasks ≤ ACTS
-  pub items : call_bound_of job.users * all_calls job.tasks ≤ ITEMS
+  pub items : call_bound_in job * all_calls job.tasks ≤ ITEMS

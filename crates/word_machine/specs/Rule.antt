@@ -2,14 +2,14 @@
 -- whole; the files above have call sites, the list of users, the copies of sets, the trampolines, calls and tasks.
 use Rattle.std.specs.Prelude.{ℕ, ◌≡◌, ◌+◌, ◌*◌, ◌<◌, ◌≤◌, true, false, List, ◌∷◌, ◌++◌, length, get_or, IsSome, slice_get}
 use Rattle.std.specs.List.{AllByRecursion as Each}
-use Rattle.ft_base.specs.declared.limits.TheConstants.{TASKS, TABLE_FUNCS}
+use Rattle.ft_base.specs.declared.limits.TheConstants.{TASKS, FUNCS}
 use Rattle.ft_base.specs.declared.item.Item.{Item}
 use Rattle.ft_base.specs.Job.{Job, Command, Ctl, Run, Until, no_task, commands, commands_in, funcs}
 use Rattle.ft_base.specs.WellFormed.{IsWellFormed}
 use Rattle.ft_hist.specs.Past.{done, begun}
 use Rattle.ft_hist.specs.Plain.{plain}
 use Rattle.ft_hist.specs.Rules.{IsLegalPast, waits_before}
-use Rattle.user_specs.specs.Bound.{call_bound_of}
+use Rattle.user_specs.specs.Bound.{call_bound_in}
 use Rattle.history_bound.specs.Bound.{all_calls}
 use Rattle.word_map.specs.Contents.{low, half_size, halves, greatest_half, all_ones}
 use Rattle.word_machine.specs.Control.{Position, Line}
@@ -154,6 +154,6 @@ pub record IsWordJob (job : Job) : Type 0 where
   pub waits : (t n : ℕ) (rest before : List Ctl) → job.ctls ≡ before ++ Until t n ∷ rest → t < length job.tasks
   pub few : 4 * length (commands job) + 4 < greatest_half
   pub users : length job.users < greatest_half
-  pub room : 2 * length (commands job) + call_bound_of job.users * all_calls job.tasks < half_size
+  pub room : 2 * length (commands job) + call_bound_in job * all_calls job.tasks < half_size
   pub tasks : length job.tasks ≤ TASKS
-  pub sites : funcs job ≤ TABLE_FUNCS
+  pub sites : funcs job ≤ FUNCS

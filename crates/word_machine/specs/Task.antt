@@ -15,7 +15,7 @@ use Rattle.ft_base.specs.Desk.{spec_at}
 use Rattle.ft_base.specs.Kinds.{has_depth}
 use Rattle.ft_hist.specs.Plain.{Owed, owed_by, context, below_top}
 use Rattle.ft_hist.specs.Frames.{FrameUser, is_nil, runs_after}
-use Rattle.plain_machine.specs.State.{Around, is_held, takes_frame, misses_frame, joined, call_of, has_acts}
+use Rattle.plain_machine.specs.State.{Around, is_full, takes_frame, misses_frame, joined, call_of, has_acts}
 use Rattle.site_bytes.specs.Bytes.{breakpoint}
 use Rattle.word_map.specs.Words.{Clock, First as ListHead, Pids, Depth, Head, Tail, Next, Tramp, Link, Sel, Bits}
 use Rattle.word_map.specs.Contents.{low, high, greatest_half, halves, returned_at, sel_on, sel_copy, sel_empty, stands, tramp_user, is_marked}
@@ -85,7 +85,7 @@ pub record TaskState : Type 0 where
 
 -- ## what a call finds around it
 
--- the contexts whose guards are held below a call: each call that an act made is above a callback that is open
+-- the context of each guard level that is held below a call: each call that an act made is above a callback that is open
 abbrev pub guards_under : Bool → List OpenCall → List Ctx
 guards_under scripted [] = []
 guards_under scripted (c ∷ cs) = if scripted then guards_under c.scripted cs else c.ctx ∷ guards_under c.scripted cs
@@ -112,11 +112,11 @@ top_of (c ∷ cs) = Some c.call
 
 -- after the pid rule: the guard, and then the depth of a graph or profile user
 abbrev pub guard_in : Bool → Bool → ℕ → ℕ → Moment
-guard_in held deep u reg = if held then Refusing u reg Recursion else (if deep then AtDepth u reg else Calling u reg)
+guard_in full deep u reg = if full then Refusing u reg Recursion else (if deep then AtDepth u reg else Calling u reg)
 
 -- the same of a user in a call
 abbrev pub guard_test : Job → OpenCall → List OpenCall → ℕ → ℕ → Moment
-guard_test job c below u reg = guard_in (is_held (around c below).guards c.ctx) (has_depth (spec_at job u).kind) u reg
+guard_test job c below u reg = guard_in (is_full job (around c below).guards c.ctx) (has_depth (spec_at job u).kind) u reg
 
 -- a user with the pid flag looks at the traced tasks first
 abbrev pub pid_in : Bool → ℕ → ℕ → Moment → Moment

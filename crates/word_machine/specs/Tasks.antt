@@ -157,7 +157,7 @@ FirstAt _ acts = Unit {0}
 --   reached    what control has seen of it is so. Otherwise control would go on while the task still uses what it loaded
 --   stands, grounded   a task within a call has one, and a call that an act made has a caller: somewhere to return to
 --   run        it is on its plain run
---   opens      the callbacks that are open are those of its stack, so a guard is held exactly if such a callback is open
+--   opens      the callbacks that are open are those of its stack, so as many levels of a guard are held as such callbacks are open
 --   miss       a Miss follows its Back
 --   few        no more calls hold a frame than there are frames
 --   script     each return in its script has its call

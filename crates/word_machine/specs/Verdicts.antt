@@ -14,7 +14,7 @@ use Rattle.ft_base.specs.Kinds.{has_depth}
 use Rattle.ft_hist.specs.Past.{Visit, visits}
 use Rattle.ft_hist.specs.Rules.{InWindow, OnlyThose}
 use Rattle.ft_hist.specs.Plain.{owed_by}
-use Rattle.plain_machine.specs.State.{Walk, is_held, misses_frame}
+use Rattle.plain_machine.specs.State.{Walk, is_full, misses_frame}
 use Rattle.plain_machine.proofs.CallSo.{CallSo}
 use Rattle.word_machine.specs.Commands.{insn, effect, state_of}
 use Rattle.word_machine.specs.Control.{Position}
@@ -140,16 +140,16 @@ LevelSeen job h q u level = has_depth (spec_at job u).kind ≡ true
 abbrev pub DeepSeen : Job → Here → ℕ → ℕ → Type 0
 DeepSeen job h q level = (level ≡ job.frames) ⊎ Seen job h q (depth_stored h.p) (λ k. (0 < (desk job k).depth) × ((desk job k).depth ≤ level))
 
--- the guard of the call's context is held, or is free
-abbrev pub GuardIs : OpenCall → List OpenCall → Bool → Type 0
-GuardIs c below b = is_held (around c below).guards c.ctx ≡ b
+-- all levels of the guard of the call's context are held, or one is free
+abbrev pub GuardIs : Job → OpenCall → List OpenCall → Bool → Type 0
+GuardIs job c below b = is_full job (around c below).guards c.ctx ≡ b
 
 -- why a user is refused. Otherwise somebody would be refused with no reason, or for the wrong one
 abbrev pub ReasonAt : Job → Here → ℕ → OpenCall → List OpenCall → ℕ → Reason → Type 0
 ReasonAt job h q c below u ByPid = ((spec_at job u).pid ≡ true) × Seen job h q (pids_stored h.p) (λ k. is_allowed (desk job k) c.call.task.0 ≡ false)
-ReasonAt job h q c below u Recursion = PidSeen job h q u c.call.task.0 × GuardIs c below true
+ReasonAt job h q c below u Recursion = PidSeen job h q u c.call.task.0 × GuardIs job c below true
 ReasonAt job h q c below u ByDepth =
-    PidSeen job h q u c.call.task.0 × GuardIs c below false × (has_depth (spec_at job u).kind ≡ true) × DeepSeen job h q (level_of below)
+    PidSeen job h q u c.call.task.0 × GuardIs job c below false × (has_depth (spec_at job u).kind ≡ true) × DeepSeen job h q (level_of below)
 
 -- what a dispatch has loaded, by the moment at which it is
 abbrev pub DispatchAt : Job → Here → List Item → ℕ → ℕ → OpenCall → List OpenCall → List Visit → Moment → Type 0
@@ -171,12 +171,12 @@ DispatchAt job h past ack q c below ms (TestNotrace u copy reg) =
 DispatchAt job h past ack q c below ms (AtPids u reg) =
     RanIs job past c × BeforeVisit job h q c.ran u ms × Found job h q u reg c.func × ((spec_at job u).pid ≡ true)
 DispatchAt job h past ack q c below ms (AtDepth u reg) =
-    RanIs job past c × BeforeVisit job h q c.ran u ms × Found job h q u reg c.func × PidSeen job h q u c.call.task.0 × GuardIs c below false
+    RanIs job past c × BeforeVisit job h q c.ran u ms × Found job h q u reg c.func × PidSeen job h q u c.call.task.0 × GuardIs job c below false
     × (has_depth (spec_at job u).kind ≡ true)
 DispatchAt job h past ack q c below ms (Refusing u reg reason) =
     RanIs job past c × BeforeVisit job h q c.ran u ms × Found job h q u reg c.func × ReasonAt job h q c below u reason
 DispatchAt job h past ack q c below ms (Calling u reg) =
-    RanIs job past c × BeforeVisit job h q c.ran u ms × Found job h q u reg c.func × PidSeen job h q u c.call.task.0 × GuardIs c below false
+    RanIs job past c × BeforeVisit job h q c.ran u ms × Found job h q u reg c.func × PidSeen job h q u c.call.task.0 × GuardIs job c below false
     × LevelSeen job h q u (level_of below)
 DispatchAt job h past ack q c below ms (Missing u) = RanIs job past c × AfterVisit job h q c.ran u ms × (misses_frame job (around c below) u ≡ true)
 DispatchAt job h past ack q c below ms (Acting u o) = RanIs job past c × AfterVisit job h q c.ran u ms × (owed_by c.ctx (spec_at job u).act ≡ Some o)

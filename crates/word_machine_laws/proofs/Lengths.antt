@@ -6,7 +6,7 @@ use Rattle.std.proofs.lemmas.List.Sums.{sum_by-cons}
 use Rattle.ft_base.specs.Job.{Job}
 use Rattle.ft_hist.specs.Rules.{IsLegal, IsLegalPast}
 use Rattle.ft_base.specs.declared.item.Item.{Item}
-use Rattle.user_specs.specs.Bound.{call_bound_of}
+use Rattle.user_specs.specs.Bound.{call_bound_in}
 use Rattle.history_bound.specs.Bound.{items_of, calls_of}
 use Rattle.history_bound.proofs.Bounded.{items-most, task-bounded}
 use Rattle.word_machine.specs.Laws.{tasks_on, items_on, room_on}
@@ -24,8 +24,8 @@ sums b f g le (t ∷ ts) =
 
 -- the items of a CPU's tasks, the latest first
 pub past-on-cpu : (job : Job) (c : ℕ) (past : List Item) → IsLegalPast job past → items_on job c past ≤ room_on job c
-past-on-cpu job c past l = sums (call_bound_of job.users) (λ t. items_of t past) (λ t. calls_of job t) (λ t. items-most job past t l) (tasks_on job c)
+past-on-cpu job c past l = sums (call_bound_in job) (λ t. items_of t past) (λ t. calls_of job t) (λ t. items-most job past t l) (tasks_on job c)
 
 -- and in the order of their places
 pub on-cpu : (job : Job) (c : ℕ) (items : List Item) → IsLegal job items → items_on job c items ≤ room_on job c
-on-cpu job c items l = sums (call_bound_of job.users) (λ t. items_of t items) (λ t. calls_of job t) (λ t. task-bounded job items t l) (tasks_on job c)
+on-cpu job c items l = sums (call_bound_in job) (λ t. items_of t items) (λ t. calls_of job t) (λ t. task-bounded job items t l) (tasks_on job c)

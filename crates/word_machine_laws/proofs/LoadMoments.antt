@@ -11,7 +11,7 @@ use Rattle.ft_base.proofs.Small.{false_true}
 use Rattle.ft_hist.specs.Past.{Entered, Callback, done, visits, entry_of}
 use Rattle.ft_hist.specs.Plain.{Phase, Dispatch, Leaving as InReturn, ahead}
 use Rattle.ft_hist.proofs.DispatchLaws.{Watches}
-use Rattle.plain_machine.specs.State.{Walk, Around, has_acts, is_held}
+use Rattle.plain_machine.specs.State.{Walk, Around, has_acts, is_full}
 use Rattle.plain_machine.proofs.CallSo.{CallSo, entry-is}
 use Rattle.word_map.specs.Contents.{low}
 use Rattle.word_machine.specs.Task.{OpenCall, Moment, Polling, First, Missing, Acting, Ending, Leaving, AtExit, Exiting, EndingExit, Returning, around, is_quiet, allowed_in, begin_call, depth_in, fetched, guard_in, head_in, own_in, passes_in, tests_in, walks_to, pid_in, exit_in, guard_test}
@@ -221,7 +221,7 @@ begin-walks job c below u reg = by (spec_at job u).pid
   where
     by : (b : Bool) → is_walking (pid_in b u reg (guard_test job c below u reg)) ≡ true
     by true = refl
-    by false = guard-walks (is_held (around c below).guards c.ctx) (has_depth (spec_at job u).kind) u reg
+    by false = guard-walks (is_full job (around c below).guards c.ctx) (has_depth (spec_at job u).kind) u reg
 
 pub head-walks : (b : Bool) (byte : ℕ) → is_walking (head_in b byte) ≡ true
 head-walks true byte = refl

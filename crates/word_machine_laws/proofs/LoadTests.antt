@@ -13,7 +13,7 @@ use Rattle.ft_base.specs.Kinds.{has_depth}
 use Rattle.ft_base.proofs.Small.{false_true, Each-weaker}
 use Rattle.ft_hist.specs.Past.{begun, visits, entry_of, Visit}
 use Rattle.ft_hist.proofs.DispatchLaws.{Watches, WasOff}
-use Rattle.plain_machine.specs.State.{is_held}
+use Rattle.plain_machine.specs.State.{is_full}
 use Rattle.word_map.specs.Contents.{high, sel_on, sel_copy, sel_empty, is_marked}
 use Rattle.word_machine.specs.Commands.{effect, state_of, set_words}
 use Rattle.word_machine.specs.Task.{OpenCall, Moment, TestFilter, TestNotrace, AtPids, AtDepth, Refusing, Calling, AtLink, around, level_of, is_too_deep, tests_in, passes_in, allowed_in, depth_in, begin_call, guard_test, guard_in, pid_in}
@@ -66,9 +66,9 @@ module _ (job : Job) (ok : IsWordJob job) (h : Here) (past : List Item) (clock :
       -- ## a user that was found on
 
       guard_kept : Found job h q u reg c.func → PidSeen job h q u c.call.task.0 → At (guard_test job c below u reg)
-      guard_kept found pid = by (is_held (around c below).guards c.ctx) (has_depth (spec_at job u).kind) refl refl
+      guard_kept found pid = by (is_full job (around c below).guards c.ctx) (has_depth (spec_at job u).kind) refl refl
         where
-          by : (b e : Bool) → is_held (around c below).guards c.ctx ≡ b → has_depth (spec_at job u).kind ≡ e → At (guard_in b e u reg)
+          by : (b e : Bool) → is_full job (around c below).guards c.ctx ≡ b → has_depth (spec_at job u).kind ≡ e → At (guard_in b e u reg)
           by true e y z = dispatch_goes job h past ack q c below m (Refusing u reg Recursion) c.ran x watch (ran, before, found, (pid, y))
           by false true y z = dispatch_goes job h past ack q c below m (AtDepth u reg) c.ran x watch (ran, before, found, pid, y, z)
           by false false y z = dispatch_goes job h past ack q c below m (Calling u reg) c.ran x watch (
@@ -105,7 +105,7 @@ module _ (job : Job) (ok : IsWordJob job) (h : Here) (past : List Item) (clock :
           )
 
       pub depth_kept : (pids depth : ℕ) → PidsAndDepth job h.d h.p pids depth → level_of below ≤ job.frames → Found job h q u reg c.func
-          → PidSeen job h q u c.call.task.0 → GuardIs c below false → has_depth (spec_at job u).kind ≡ true
+          → PidSeen job h q u c.call.task.0 → GuardIs job c below false → has_depth (spec_at job u).kind ≡ true
           → At (depth_in (is_too_deep job.frames depth (level_of below)) u reg)
       depth_kept pids depth limits few found pid guard wants = by (nat_le job.frames (level_of below)) (depth == 0)
           (nat_le depth (level_of below)) refl refl refl

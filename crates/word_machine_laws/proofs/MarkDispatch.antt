@@ -1,5 +1,5 @@
 -- The marks of a dispatch: a refusal, a callback, a miss, and the end of a callback.
-use Rattle.std.proofs.Common.{cond, ◌≡◌, ℕ, suc, ◌<◌, ◌≤◌, Bool, true, false, not, ◌&&◌, ◌||◌, ◌==◌, nat_lt, nat_le, List, [], ◌∷◌, length, Option, Some, None, IsSome, refl, sym, ap, ◌∙◌, subst, arith, inl, inr, ltb-true, ltb-false, leb-true}
+use Rattle.std.proofs.Common.{cond, ◌≡◌, ℕ, suc, ◌<◌, ◌≤◌, Bool, true, false, not, ◌&&◌, ◌||◌, ◌==◌, nat_lt, nat_le, List, [], ◌∷◌, length, Option, Some, None, IsSome, refl, sym, ap, ◌∙◌, subst, arith, inl, inr, ltb-true, ltb-false, leb-true, leb-false}
 use Rattle.std.specs.Prelude.{◌⊎◌}
 use Rattle.std.proofs.lemmas.Bool.{lt-ltb}
 use Rattle.std.proofs.lemmas.Bool.Decides.{eqb_tells}
@@ -15,17 +15,18 @@ use Rattle.ft_base.specs.declared.item.Ran.TheVariants.{Nop, List as ByList, Own
 use Rattle.ft_base.specs.declared.task.TaskAct.{TaskAct}
 use Rattle.ft_base.specs.Same.{same_call}
 use Rattle.ft_base.specs.Job.{Job}
+use Rattle.ft_base.specs.Versions.{levels}
 use Rattle.ft_base.specs.Desk.{desk, spec_at, is_allowed, is_on}
 use Rattle.ft_base.specs.Kinds.{has_depth, has_exit}
 use Rattle.ft_base.specs.Order.{IsOrder}
 use Rattle.ft_base.proofs.Small.{false_true, ==-refl, and_both, Each-weaker}
-use Rattle.ft_hist.specs.Past.{done, begun, Entered, entered, entry_of, Callback, callbacks, ended, is_in_callback, all_visits, visit, Visit, visits, held}
+use Rattle.ft_hist.specs.Past.{done, begun, Entered, entered, entry_of, Callback, callbacks, ended, open_callbacks, all_visits, visit, Visit, visits, held}
 use Rattle.ft_hist.specs.Plain.{plain, after_item, PlainTask, Frame, Phase, Dispatch, InBack, Owed, owed_by}
-use Rattle.ft_hist.specs.Rules.{IsLegalPast, MayFollow, MayVisit, MayRefuse, MayBack, PassesPid}
+use Rattle.ft_hist.specs.Rules.{IsLegalPast, MayFollow, MayVisit, MayRefuse, MayBack, IsFree, PassesPid}
 use Rattle.ft_hist.proofs.Laws.{same_call-refl}
 use Rattle.ft_hist.proofs.WindowLaws.{begun-more, InWindow-more, visits-more}
 use Rattle.ft_hist.proofs.Since.{untouched-item, touches, holds, holds-by}
-use Rattle.plain_machine.specs.State.{Walk, Around, takes_frame, misses_frame, is_held, joined}
+use Rattle.plain_machine.specs.State.{Walk, Around, takes_frame, misses_frame, held_levels, joined}
 use Rattle.plain_machine.proofs.CallSo.{CallSo, so-untouched, so-refused, so-called, visits-refuse, visits-back, entry-is}
 use Rattle.word_map.specs.Contents.{low}
 use Rattle.word_machine.specs.Task.{OpenCall, TaskState, Moment, Refusing, Calling, Missing, Acting, Ending, AtLink, Closing, is_quiet, around, level_of, after_user, called_back, act_in, miss_in}
@@ -37,7 +38,7 @@ use Rattle.word_machine.specs.Calls.{CallAt, Calls, under_call}
 use Rattle.word_machine.specs.Tasks.{TaskRule, plain_stack, plain_phase, frame_of, callbacks_at, callback_at, miss_at, is_returning, with_callback, open_by}
 use Rattle.word_machine.specs.Rule.{Counts, IsWordJob}
 use Rattle.word_machine_laws.proofs.Carried.{calls_carried, opened_carried}
-use Rattle.word_machine_laws.proofs.Stacks.{calls_of, opens-of, older_untouched, held-level, guard-is}
+use Rattle.word_machine_laws.proofs.Stacks.{calls_of, opens-of, older_untouched, held-level, levels-are}
 use Rattle.word_machine_laws.proofs.Seen.{either_of, selected-underway, pids-underway, depth-underway}
 use Rattle.word_machine_laws.proofs.DeskChanges.{since-unique, numbers-kept}
 use Rattle.word_machine_laws.proofs.Visiting.{may_meet, walk-since, read-numbers, read-reg}
@@ -174,21 +175,28 @@ module _ (job : Job) (ok : IsWordJob job) (h : Here) (ack word clock : ℕ) (pas
 
       the_guard : of_task c.call.task.0 (callbacks past) ≡ callbacks_at (under_call c below) below → (e : Entered) → entered c.call past ≡ Some e
           → e.ctx ≡ c.ctx
-          → is_in_callback c.call.task.0 (entry_of c.call past).ctx past ≡ is_held (around c below).guards c.ctx
-      the_guard none e known same = rw (entry-is job (around c below) c.call e past known, same) (guard-is past c.call.task.0 c below c.ctx none)
+          → open_callbacks c.call.task.0 (entry_of c.call past).ctx past ≡ held_levels (around c below).guards c.ctx
+      the_guard none e known same = rw (entry-is job (around c below) c.call e past known, same) (levels-are past c.call.task.0 c below c.ctx none)
+
+    -- a level of the guard is free
+    is_free : GuardIs job c below false → open_callbacks t (entry_of c.call past).ctx past ≡ held_levels (around c below).guards c.ctx → IsFree job past c.call
+    is_free free guard = subst (λ n. n < levels job) (sym guard) (leb-false (levels job) (held_levels (around c below).guards c.ctx) free)
 
     -- why a user is refused
-    may_refuse : (u : ℕ) (reason : Reason) → ReasonAt job h q c below u reason → is_in_callback t (entry_of c.call past).ctx past
-        ≡ is_held (around c below).guards c.ctx → held job c.call past ≡ level_of below
+    may_refuse : (u : ℕ) (reason : Reason) → ReasonAt job h q c below u reason → open_callbacks t (entry_of c.call past).ctx past
+        ≡ held_levels (around c below).guards c.ctx → held job c.call past ≡ level_of below
         → MayRefuse job past c.call u reason
     may_refuse u ByPid x guard level = (
       x.0,
       either_of job h q clock past (pids_stored h.p) (λ k. is_allowed (desk job k) t ≡ false) counts (pids-underway h.p) x.1,
     )
-    may_refuse u Recursion x guard level = (passes_pid c.call u x.0, guard ∙ x.1)
+    may_refuse u Recursion x guard level = (
+      passes_pid c.call u x.0,
+      subst (λ n. levels job ≤ n) (sym guard) (leb-true (levels job) (held_levels (around c below).guards c.ctx) x.1),
+    )
     may_refuse u ByDepth x guard level = (
       passes_pid c.call u x.0,
-      guard ∙ x.1,
+      is_free x.1 guard,
       x.2,
       elim x.3 [
         | inl y ↦ inl (level ∙ y)
@@ -197,13 +205,13 @@ module _ (job : Job) (ok : IsWordJob job) (h : Here) (ack word clock : ℕ) (pas
       ],
     )
 
-    may_back : (u : ℕ) → MayVisit job past c.call u → PidSeen job h q u t → GuardIs c below false → LevelSeen job h q u (level_of below)
-        → is_in_callback t (entry_of c.call past).ctx past ≡ is_held (around c below).guards c.ctx → held job c.call past ≡ level_of below
+    may_back : (u : ℕ) → MayVisit job past c.call u → PidSeen job h q u t → GuardIs job c below false → LevelSeen job h q u (level_of below)
+        → open_callbacks t (entry_of c.call past).ctx past ≡ held_levels (around c below).guards c.ctx → held job c.call past ≡ level_of below
         → MayBack job past c.call u
     may_back u visit pid free room guard level = record {
       visit = visit;
       pid = passes_pid c.call u pid;
-      free = guard ∙ free;
+      free = is_free free guard;
       room = λ e. rw level (room e).0;
       level = λ e. rw level (either_of job h q clock past (depth_stored h.p) (λ k. ((desk job k).depth ≡ 0) ⊎ (level_of below < (desk job k).depth)) counts
           (depth-underway h.p) (room e).1);

@@ -1,23 +1,26 @@
 -- A task's open calls and its plain stack: numbers, frames and guards.
-use Rattle.std.proofs.Common.{cond, ◌≡◌, ℕ, suc, ◌<◌, Bool, true, false, ◌&&◌, ◌||◌, ◌==◌, List, [], ◌∷◌, length, refl, ap, ◌∙◌, subst, arith, inl, inr}
+use Rattle.std.proofs.Common.{cond, ◌≡◌, ℕ, suc, ◌+◌, ◌<◌, Bool, true, false, ◌&&◌, ◌==◌, List, [], ◌∷◌, length, Some, refl, sym, ap, ◌∙◌, subst, arith, inl, inr}
+use Rattle.std.specs.Prelude.{count_by}
+use Rattle.std.proofs.lemmas.List.Sums.{sum_by-cons}
 use Rattle.std.proofs.lemmas.Bool.Decides.{eqb_tells}
-use Rattle.std.specs.List.{filter, list_any, AllByRecursion as Each}
+use Rattle.std.specs.List.{filter, AllByRecursion as Each}
 use Rattle.ft_base.specs.declared.number.CallNo.{CallNo}
 use Rattle.ft_base.specs.declared.context.Ctx.{Ctx}
 use Rattle.ft_base.specs.declared.item.Item.{Item}
 use Rattle.ft_base.specs.Same.{same_call, same_ctx}
 use Rattle.ft_base.specs.Job.{Job}
 use Rattle.ft_base.proofs.Small.{and-false}
-use Rattle.ft_hist.specs.Past.{Callback, callbacks, is_ctx, is_in_callback, held}
+use Rattle.ft_hist.specs.Past.{Callback, callbacks, is_at, is_ctx, open_callbacks, held}
 use Rattle.ft_hist.proofs.RunLaws.{calls_on}
 use Rattle.ft_hist.proofs.Since.{Untouched, untouched-item, touches, holding, holds}
 use Rattle.ft_hist.proofs.HeldLaws.{opens as opens-law, Opens, held-is}
-use Rattle.plain_machine.specs.State.{is_held}
+use Rattle.plain_machine.specs.State.{held_levels}
 use Rattle.word_machine.specs.Task.{OpenCall, TaskState, Moment, guards_under, level_of, around, user_of}
 use Rattle.word_machine.specs.Verdicts.{Here}
 use Rattle.word_machine.specs.Calls.{Calls, under_by, under_call}
 use Rattle.word_machine.specs.Tasks.{RunsAt, plain_stack, callbacks_at}
 use Rattle.ft_hist.proofs.Carries.{of_task}
+use Rattle.word_machine.proofs.Small.{zero-plus}
 
 abbrev pub calls_of : List OpenCall → List CallNo
 calls_of [] = []
@@ -71,22 +74,29 @@ held-level job h past ack q x c below m r st k =
 
 -- ## guards
 
-any-of_task : (t : ℕ) (y : Ctx) (bs : List Callback) → list_any (λ b. (b.call.task.0 == t) && is_ctx b.ctx y) bs ≡ list_any (λ b. is_ctx b.ctx y) (of_task t bs)
-any-of_task t y [] = refl
-any-of_task t y (b ∷ bs) = elim (b.call.task.0 == t) as (λ e. ((e && is_ctx b.ctx y) || list_any (λ b. (b.call.task.0 == t) && is_ctx b.ctx y) bs)
-    ≡ list_any (λ b. is_ctx b.ctx y) (cond e (b ∷ of_task t bs) (of_task t bs))) [
-      | true ↦ ap (λ e. is_ctx b.ctx y || e) (any-of_task t y bs)
-      | false ↦ any-of_task t y bs
+-- one more in a list that is counted
+count-cons : {A : Type 0} (p : A → Bool) (x : A) (xs : List A) → count_by p (x ∷ xs) ≡ cond (p x) 1 0 + count_by p xs
+count-cons p x xs = sum_by-cons (λ y. cond (p y) 1 0) x xs
+
+count-of_task : (t : ℕ) (y : Ctx) (bs : List Callback) → count_by (is_at t y) bs ≡ count_by (λ b. is_ctx b.ctx y) (of_task t bs)
+count-of_task t y [] = refl
+count-of_task t y (b ∷ bs) = count-cons (is_at t y) b bs ∙ elim (b.call.task.0 == t) as (λ e. cond (e && is_ctx b.ctx y) 1 0 + count_by (is_at t y) bs
+    ≡ count_by (λ b. is_ctx b.ctx y) (cond e (b ∷ of_task t bs) (of_task t bs))) [
+      | true ↦ ap (λ n. cond (is_ctx b.ctx y) 1 0 + n) (count-of_task t y bs) ∙ sym (count-cons (λ (b : Callback). is_ctx b.ctx y) b (of_task t bs))
+      | false ↦ zero-plus (count_by (is_at t y) bs) ∙ count-of_task t y bs
     ]
 
-guards-below : (scripted : Bool) (u : ℕ) (y : Ctx) (stack : List OpenCall) → list_any (λ b. is_ctx b.ctx y) (callbacks_at (under_by scripted u) stack)
-    ≡ is_held (guards_under scripted stack) y
-guards-below true u y [] = refl
-guards-below true u y (c ∷ below) = guards-below c.scripted (user_of below) y below
-guards-below false u y [] = refl
-guards-below false u y (c ∷ below) = ap (λ e. same_ctx c.ctx y || e) (guards-below c.scripted (user_of below) y below)
+levels-below : (scripted : Bool) (u : ℕ) (y : Ctx) (stack : List OpenCall) → count_by (λ b. is_ctx b.ctx y) (callbacks_at (under_by scripted u) stack)
+    ≡ held_levels (guards_under scripted stack) y
+levels-below true u y [] = refl
+levels-below true u y (c ∷ below) = levels-below c.scripted (user_of below) y below
+levels-below false u y [] = refl
+levels-below false u y (c ∷ below) =
+    count-cons (λ (b : Callback). is_ctx b.ctx y) (record { call = c.call; user = u; ctx = Some c.ctx }) (callbacks_at (under_call c below) below)
+    ∙ ap (λ n. cond (same_ctx c.ctx y) 1 0 + n) (levels-below c.scripted (user_of below) y below)
+    ∙ sym (count-cons (λ x. same_ctx x y) c.ctx (guards_under c.scripted below))
 
--- a guard is held exactly if a callback of the task and context is open
-pub guard-is : (past : List Item) (t : ℕ) (c : OpenCall) (below : List OpenCall) (y : Ctx)
-    → of_task t (callbacks past) ≡ callbacks_at (under_call c below) below → is_in_callback t y past ≡ is_held (around c below).guards y
-guard-is past t c below y e = any-of_task t y (callbacks past) ∙ rw e (guards-below c.scripted (user_of below) y below)
+-- as many levels of a guard are held as callbacks of the task and context are open
+pub levels-are : (past : List Item) (t : ℕ) (c : OpenCall) (below : List OpenCall) (y : Ctx)
+    → of_task t (callbacks past) ≡ callbacks_at (under_call c below) below → open_callbacks t y past ≡ held_levels (around c below).guards y
+levels-are past t c below y e = count-of_task t y (callbacks past) ∙ rw e (levels-below c.scripted (user_of below) y below)

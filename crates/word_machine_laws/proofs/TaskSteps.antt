@@ -33,7 +33,7 @@ use Rattle.word_machine_laws.proofs.MarkBody.{body_row}
 use Rattle.word_machine_laws.proofs.MarkReturn.{leave_row, leave_act_row, exit_row, exit_end_row, ret_row, polling_stack, polling_callbacks, polling_calls}
 use Rattle.ft_base.specs.declared.item.Ran.{Ran}
 use Rattle.word_machine.proofs.Small.{if_case}
-use Rattle.plain_machine.specs.State.{is_held, has_acts}
+use Rattle.plain_machine.specs.State.{is_full, has_acts}
 use Rattle.ft_base.specs.Kinds.{has_depth}
 use Rattle.ft_base.specs.Desk.{spec_at}
 use Rattle.word_machine_laws.proofs.Told.{told-fewer}
@@ -200,7 +200,7 @@ module _ (job : Job) (ok : IsWordJob job) (s : World) (k : MachineRule job s) (a
       (TestNotrace u copy reg) y u reg y.at.0 y.at.1 y.so.watch copy x.calls.0.inside y.at.2 y.at.3))
   call_step (AtPids u reg) x op is = is-op (AtPids u reg) _ op is
       (goes (AtPids u reg) _ c.ran refl (allowed-walks (is_marked ws'.pids c.call.task.0) u reg (guard_test job c below u reg)
-      (guard-walks (is_held (around c below).guards c.ctx) (has_depth (spec_at job u).kind) u reg)) x
+      (guard-walks (is_full job (around c below).guards c.ctx) (has_depth (spec_at job u).kind) u reg)) x
       (let y = x.calls.1 in pids_kept job ok h' past' ws'.clock k.counts ack (low word) c below
       (AtPids u reg) y u reg y.at.0 y.at.1 y.so.watch ws'.pids ws'.depth k.limits ok.tasks
       within y.at.2 y.at.3))

@@ -8,6 +8,7 @@ use Rattle.std.proofs.lemmas.Bool.Decides.{nat_tests}
 use Rattle.std.proofs.lemmas.List.{length-take, length-map}
 use Rattle.std.proofs.lemmas.List.FromFn.{length-range_with_len}
 use Rattle.std.proofs.lemmas.List.Sums.{sum_by-cons}
+use Rattle.ft_base.specs.declared.limits.TheConstants.{TRAMPS, USERS}
 use Rattle.ft_base.specs.declared.item.Item.{Item}
 use Rattle.ft_base.specs.declared.item.Item.TheVariants.{Begin, Return}
 use Rattle.ft_base.specs.declared.turn.Actor.{Actor}
@@ -17,6 +18,7 @@ use Rattle.ft_base.specs.Desk.{UserState, Desk, desk, is_accepted, answer_on, ch
 use Rattle.ft_base.specs.Order.{has}
 use Rattle.ft_base.specs.WellFormed.{IsNamed}
 use Rattle.ft_base.proofs.Modifiers.{named-at}
+use Rattle.ft_base.proofs.Versions.{tramps-most, users-most}
 use Rattle.ft_base.specs.Marks.{Marks}
 use Rattle.site_set.specs.Marks.{number_with_bits, word_of}
 use Rattle.plain_machine.specs.State.{has_acts}
@@ -134,7 +136,7 @@ head-small zero = omega arith
 head-small (suc zero) = omega arith
 head-small (suc (suc s)) = omega arith
 
-tail-small : (f i : ℕ) → i < 18 → tail_of f i < 18446744073709551616
+tail-small : (f i : ℕ) → i < 2 + TRAMPS → tail_of f i < 18446744073709551616
 tail-small f zero lt = omega arith
 tail-small f (suc zero) lt = omega arith
 tail-small f (suc (suc s)) lt = omega (arith, lt)
@@ -160,19 +162,19 @@ module _ (job : Job) (l : IsLimited job) where
       by_effect Levels s old = (let e = ap (λ (x : UserState). x.reg) s in omega (arith, e, old))
       by_effect Nothing s old = (let e = s.0.reg in omega (arith, e, old))
 
-  subject-small : (k : ℕ) → subject job k ≤ 16
+  subject-small : (k : ℕ) → subject job k ≤ USERS
   subject-small k = by (command job k) refl
     where
-      of : (c : Command) → IsNamed job c → subject_in (Some c) ≤ 16
-      of (Register u) n = (let a = l.users in omega (arith, n, a))
-      of (Unregister u) n = (let a = l.users in omega (arith, n, a))
-      of (Filter u e) n = (let a = l.users in omega (arith, n, a))
-      of (Notrace u e) n = (let a = l.users in omega (arith, n, a))
-      of (Enable u) n = (let a = l.users in omega (arith, n, a))
-      of (Disable u) n = (let a = l.users in omega (arith, n, a))
+      of : (c : Command) → IsNamed job c → subject_in (Some c) ≤ USERS
+      of (Register u) n = (let a = l.users in let m = users-most job.version in omega (arith, n, a, m))
+      of (Unregister u) n = (let a = l.users in let m = users-most job.version in omega (arith, n, a, m))
+      of (Filter u e) n = (let a = l.users in let m = users-most job.version in omega (arith, n, a, m))
+      of (Notrace u e) n = (let a = l.users in let m = users-most job.version in omega (arith, n, a, m))
+      of (Enable u) n = (let a = l.users in let m = users-most job.version in omega (arith, n, a, m))
+      of (Disable u) n = (let a = l.users in let m = users-most job.version in omega (arith, n, a, m))
       of _ n = omega arith
 
-      by : (o : Option Command) → slice_get (commands job) k ≡ o → subject_in o ≤ 16
+      by : (o : Option Command) → slice_get (commands job) k ≡ o → subject_in o ≤ USERS
       by None e = omega arith
       by (Some c) e = of c (named-at (IsNamed job) (commands job) k c e l.job'.commands)
 
@@ -192,14 +194,14 @@ module _ (job : Job) (l : IsLimited job) where
 
 -- ## the list
 
-name-small : (us : List ℕ) (users : ℕ) → users ≤ 16 → ((v : ℕ) → has v us ≡ true → v < users) → name_of us ≤ 16
+name-small : (us : List ℕ) (users : ℕ) → users ≤ USERS → ((v : ℕ) → has v us ≡ true → v < users) → name_of us ≤ USERS
 name-small [] users le in' = omega arith
 name-small (v ∷ vs) users le in' = (let lt = in' v (let e : (v == v) ≡ true = grind (arith, nat_tests) in rw e refl) in omega (arith, lt, le))
 
-follower-small : (u : ℕ) (us : List ℕ) (users : ℕ) → users ≤ 16 → ((v : ℕ) → has v us ≡ true → v < users) → follower u us ≤ 16
+follower-small : (u : ℕ) (us : List ℕ) (users : ℕ) → users ≤ USERS → ((v : ℕ) → has v us ≡ true → v < users) → follower u us ≤ USERS
 follower-small u [] users le in' = omega arith
 follower-small u (v ∷ vs) users le in' =
-    if_case (λ n. n ≤ 16) (v == u) (name_of vs) (follower u vs) (λ e. name-small vs users le (λ x h. in' x (has-more x v vs h)))
+    if_case (λ n. n ≤ USERS) (v == u) (name_of vs) (follower u vs) (λ e. name-small vs users le (λ x h. in' x (has-more x v vs h)))
     (λ e. follower-small u vs users le (λ x h. in' x (has-more x v vs h)))
 
 -- ## what is stored
@@ -248,11 +250,14 @@ module _ (job : Job) (l : IsLimited job) (s : World) (k : MachineRule job s) whe
   few : suc s.control.commands_done ≤ 2049
   few = (let a = k.lines.within in let b = few-commands job.ctls in let c = l.ctls in omega (arith, a, b, c))
 
+  few-users : length job.users ≤ USERS
+  few-users = (let u = l.users in let m = users-most job.version in omega (arith, u, m))
+
   in-order : (v : ℕ) → has v s.control.order ≡ true → v < length job.users
   in-order v h = registered-inside job (list_desk s.control.position s.control.commands_done) v (sym (k.list.order'.members v) ∙ h)
 
   relinks-fit : (z : Effect) → FitsIn (relink_op z (subject job s.control.commands_done) s.control.order)
-  relinks-fit Removes = (let h = follower-small (subject job s.control.commands_done) s.control.order (length job.users) l.users in-order in omega (arith, h))
+  relinks-fit Removes = (let h = follower-small (subject job s.control.commands_done) s.control.order (length job.users) few-users in-order in omega (arith, h))
   relinks-fit _ = (let h = subject-small job l s.control.commands_done in omega (arith, h))
 
   lines-fit : (n : ℕ) (ls : List Ctl) (op : WordOp) → line_op n ls ≡ Some op → FitsIn op
@@ -263,8 +268,9 @@ module _ (job : Job) (l : IsLimited job) (s : World) (k : MachineRule job s) whe
   asks-fit : suc s.control.request < 18446744073709551616
   asks-fit = (let r = request-small job (limited job l) s k in omega (arith, r))
 
-  insn-few : (f : ℕ) → insn job (suc s.control.commands_done) f < 18
-  insn-few f = (let i = insn-small job l.job' (suc s.control.commands_done) f in let t = l.tramps in omega (arith, i, t))
+  insn-few : (f : ℕ) → insn job (suc s.control.commands_done) f < 2 + TRAMPS
+  insn-few f = (let i = insn-small job l.job' (suc s.control.commands_done) f in let t = l.tramps in let m = tramps-most job.version in
+      omega (arith, i, t, m))
 
   control-fit : (p : Position) (op : WordOp) → next_in job s.control p ≡ Some op → FitsIn op
   control-fit Line op is = lines-fit s.control.commands_done s.control.remaining op is
@@ -279,7 +285,7 @@ module _ (job : Job) (l : IsLimited job) (s : World) (k : MachineRule job s) whe
       (let r = reg-small job l (suc s.control.commands_done) (subject job s.control.commands_done) in let n = few in omega (arith, r, n))
       (after_small (effect job s.control.commands_done) (s.control.copies (subject job s.control.commands_done))
       (k.sets.small (subject job s.control.commands_done))))
-  control-fit Push op is = subst (λ o. FitsIn o) (same_Some _ op is) (let h = name-small s.control.order (length job.users) l.users in-order in
+  control-fit Push op is = subst (λ o. FitsIn o) (same_Some _ op is) (let h = name-small s.control.order (length job.users) few-users in-order in
       omega (arith, h))
   control-fit Relink op is = subst (λ o. FitsIn o) (same_Some _ op is) (relinks-fit (effect job s.control.commands_done))
   control-fit StorePids op is = subst (λ o. FitsIn o) (same_Some _ op is) (mask-small (desk job (suc s.control.commands_done)) (length job.tasks) l.tasks)

@@ -12,7 +12,7 @@ ghost use Rattle.ft_base.specs.declared.turn.Actor.{Actor};
 ghost use Rattle.ft_base.specs.declared.turn.Actor.TheVariants.{Control as ByControl, Cpu as ByCpu};
 ghost use Rattle.ft_base.specs.Job.{Job as PlainJob, commands, funcs};
 ghost use Rattle.ft_hist.specs.Rules.{IsLegal, IsWhole};
-ghost use Rattle.user_specs.specs.Bound.{call_bound_of};
+ghost use Rattle.user_specs.specs.Bound.{call_bound_in};
 ghost use Rattle.history_bound.specs.Bound.{items_of, calls_of, all_calls};
 ghost use Rattle.word_map.specs.Words.{at_put};
 ghost use Rattle.word_map.specs.Ops.{WordOp, Mark};
@@ -122,9 +122,9 @@ pub fn every_history_is_legal()
 /// and of the tasks of each CPU. So code can take the room for them all at its start.
 pub fn every_history_is_bounded()
     ensures whole { (job : PlainJob) (actors : List Actor) → IsLimited job
-        → length (reverse (run job actors (start job)).past) ≤ 2 * length (commands job) + call_bound_of job.users * all_calls job.tasks }
+        → length (reverse (run job actors (start job)).past) ≤ 2 * length (commands job) + call_bound_in job * all_calls job.tasks }
     ensures tasks { (job : PlainJob) (actors : List Actor) (t : ℕ) → IsLimited job
-        → items_of t (reverse (run job actors (start job)).past) ≤ call_bound_of job.users * calls_of job t }
+        → items_of t (reverse (run job actors (start job)).past) ≤ call_bound_in job * calls_of job t }
     ensures cpus { (job : PlainJob) (actors : List Actor) (c : ℕ) → IsLimited job
         → items_on job c (reverse (run job actors (start job)).past) ≤ room_on job c }
 {}

@@ -12,7 +12,7 @@ use Rattle.ft_base.specs.declared.user.Kind.TheVariants.{Graph, Function, Fprobe
 use Rattle.ft_base.specs.declared.user.Act.TheVariants.{CallIn, IrqIn}
 use Rattle.ft_base.specs.declared.task.TaskAct.TheVariants.{Call, Ret as RetAct, After, Raise, Lower}
 use Rattle.ft_base.specs.declared.turn.Who.TheVariants.{Control as OfControl, Cpu as OfCpu, All}
-use Rattle.ft_base.specs.Job.{Job, Register, Unregister, Filter, Notrace, Enable, Disable, Pid, NoPid, MaxDepth, Run, Until}
+use Rattle.ft_base.specs.Job.{usual_lines, usual_rings, Job, Register, Unregister, Filter, Notrace, Enable, Disable, Pid, NoPid, MaxDepth, Run, Until}
 use Rattle.ft_base.specs.Desk.{desk}
 use Rattle.ft_base.specs.Schedule.{actors_of, repeated}
 use Rattle.plain_machine.proofs.Plays.{named, call_in}
@@ -23,7 +23,7 @@ use Rattle.word_machine.specs.Machine.{start, step, run, played, play, all_end}
 use Rattle.word_machine.proofs.Plays.{Plays}
 
 abbrev pub job_1 : Job
-job_1 = record { functions = named (codes "a") None ∷ named (codes "b") (Some (codes "m")) ∷ []; users = record { name = codes "u0"; kind = Profile; regs = false; ipmodify = None; pid = true; act = Some (CallIn (record { 0 = 1 })) } ∷ record { name = codes "u1"; kind = Fprobe true true; regs = false; ipmodify = None; pid = true; act = None } ∷ record { name = codes "u2"; kind = Function; regs = true; ipmodify = Some (record { 0 = 0 }); pid = false; act = None } ∷ record { name = codes "u3"; kind = Fprobe true false; regs = true; ipmodify = None; pid = false; act = Some (IrqIn (record { 0 = 0 })) } ∷ []; frames = 1; tramps = 1; quanta = 15 ∷ []; tasks = record { pid = 10; cpu = 0; acts = Call (record { 0 = 1 }) ∷ Call (record { 0 = 1 }) ∷ After 4 ∷ RetAct ∷ RetAct ∷ [] } ∷ []; ctls = Run (Disable 3) ∷ Run (Unregister 3) ∷ Run (Register 2) ∷ Run (Register 3) ∷ []; schedule = record { who = OfCpu (record { 0 = 0 }); count = 18 } ∷ record { who = OfControl; count = 13 } ∷ record { who = OfControl; count = 17 } ∷ record { who = OfControl; count = 14 } ∷ record { who = OfControl; count = 16 } ∷ record { who = OfCpu (record { 0 = 0 }); count = 19 } ∷ record { who = OfControl; count = 17 } ∷ record { who = OfCpu (record { 0 = 0 }); count = 16 } ∷ record { who = OfCpu (record { 0 = 0 }); count = 14 } ∷ record { who = OfCpu (record { 0 = 0 }); count = 1 } ∷ record { who = OfCpu (record { 0 = 0 }); count = 15 } ∷ record { who = OfControl; count = 8 } ∷ record { who = OfControl; count = 18 } ∷ record { who = OfControl; count = 3 } ∷ record { who = OfCpu (record { 0 = 0 }); count = 2 } ∷ record { who = OfControl; count = 3 } ∷ record { who = OfControl; count = 15 } ∷ record { who = OfControl; count = 9 } ∷ record { who = All; count = 300 } ∷ [] }
+job_1 = record { version = 1; functions = named (codes "a") None ∷ named (codes "b") (Some (codes "m")) ∷ []; users = record { name = codes "u0"; kind = Profile; regs = false; ipmodify = None; pid = true; act = Some (CallIn (record { 0 = 1 })) } ∷ record { name = codes "u1"; kind = Fprobe true true; regs = false; ipmodify = None; pid = true; act = None } ∷ record { name = codes "u2"; kind = Function; regs = true; ipmodify = Some (record { 0 = 0 }); pid = false; act = None } ∷ record { name = codes "u3"; kind = Fprobe true false; regs = true; ipmodify = None; pid = false; act = Some (IrqIn (record { 0 = 0 })) } ∷ []; frames = 1; tramps = 1; quanta = 15 ∷ []; tasks = record { pid = 10; cpu = 0; acts = Call (record { 0 = 1 }) ∷ Call (record { 0 = 1 }) ∷ After 4 ∷ RetAct ∷ RetAct ∷ [] } ∷ []; ctls = Run (Disable 3) ∷ Run (Unregister 3) ∷ Run (Register 2) ∷ Run (Register 3) ∷ []; lines = usual_lines; rings = usual_rings; schedule = record { who = OfCpu (record { 0 = 0 }); count = 18 } ∷ record { who = OfControl; count = 13 } ∷ record { who = OfControl; count = 17 } ∷ record { who = OfControl; count = 14 } ∷ record { who = OfControl; count = 16 } ∷ record { who = OfCpu (record { 0 = 0 }); count = 19 } ∷ record { who = OfControl; count = 17 } ∷ record { who = OfCpu (record { 0 = 0 }); count = 16 } ∷ record { who = OfCpu (record { 0 = 0 }); count = 14 } ∷ record { who = OfCpu (record { 0 = 0 }); count = 1 } ∷ record { who = OfCpu (record { 0 = 0 }); count = 15 } ∷ record { who = OfControl; count = 8 } ∷ record { who = OfControl; count = 18 } ∷ record { who = OfControl; count = 3 } ∷ record { who = OfCpu (record { 0 = 0 }); count = 2 } ∷ record { who = OfControl; count = 3 } ∷ record { who = OfControl; count = 15 } ∷ record { who = OfControl; count = 9 } ∷ record { who = All; count = 300 } ∷ [] }
 
 abbrev pub job_1-items : List Item
 job_1-items = Enter (call_in 0 1) Normal (record { 0 = 1 }) None ∷ Body (call_in 0 1) (record { 0 = 1 }) Nop ∷ Enter (call_in 0 2) Normal (record { 0 = 1 }) (Some (call_in 0 1)) ∷ Body (call_in 0 2) (record { 0 = 1 }) Nop ∷ Begin 1 ∷ Return 1 NotThere ∷ Begin 2 ∷ Return 2 NotThere ∷ Begin 3 ∷ Return 3 Invalid ∷ Begin 4 ∷ Return 4 Accepted ∷ Leave (call_in 0 2) ∷ Ret (call_in 0 2) (Some (call_in 0 1)) ∷ Leave (call_in 0 1) ∷ Ret (call_in 0 1) None ∷ []
@@ -33,7 +33,7 @@ unfolding actors_of repeated start step run played play all_end control_next con
 job_1-plays = (refl, refl)
 
 abbrev pub job_2 : Job
-job_2 = record { functions = named (codes "a") None ∷ []; users = record { name = codes "u0"; kind = Fprobe true false; regs = false; ipmodify = None; pid = true; act = None } ∷ record { name = codes "u1"; kind = Function; regs = false; ipmodify = None; pid = true; act = None } ∷ []; frames = 1; tramps = 1; quanta = 1 ∷ []; tasks = record { pid = 10; cpu = 0; acts = After 5 ∷ Raise Softirq ∷ Call (record { 0 = 0 }) ∷ Call (record { 0 = 0 }) ∷ RetAct ∷ RetAct ∷ Lower ∷ [] } ∷ record { pid = 11; cpu = 0; acts = Call (record { 0 = 0 }) ∷ Raise Irq ∷ Raise Nmi ∷ Lower ∷ Lower ∷ RetAct ∷ [] } ∷ []; ctls = Run (Register 1) ∷ Run (Notrace 1 (record { append = false; remove = false; clear = false; set = true ∷ [] })) ∷ Run (Disable 1) ∷ Run (Unregister 1) ∷ Run (Disable 0) ∷ []; schedule = record { who = OfControl; count = 3 } ∷ record { who = OfCpu (record { 0 = 0 }); count = 4 } ∷ record { who = OfControl; count = 1 } ∷ record { who = OfCpu (record { 0 = 0 }); count = 1 } ∷ record { who = OfControl; count = 6 } ∷ record { who = OfCpu (record { 0 = 0 }); count = 3 } ∷ record { who = OfControl; count = 1 } ∷ record { who = OfControl; count = 2 } ∷ record { who = OfControl; count = 1 } ∷ record { who = OfControl; count = 1 } ∷ record { who = OfCpu (record { 0 = 0 }); count = 5 } ∷ record { who = OfControl; count = 3 } ∷ record { who = OfControl; count = 1 } ∷ record { who = OfCpu (record { 0 = 0 }); count = 1 } ∷ record { who = OfControl; count = 3 } ∷ record { who = OfControl; count = 1 } ∷ record { who = OfCpu (record { 0 = 0 }); count = 2 } ∷ record { who = OfCpu (record { 0 = 0 }); count = 6 } ∷ record { who = OfCpu (record { 0 = 0 }); count = 1 } ∷ record { who = OfCpu (record { 0 = 0 }); count = 8 } ∷ record { who = OfControl; count = 5 } ∷ record { who = OfCpu (record { 0 = 0 }); count = 3 } ∷ record { who = OfCpu (record { 0 = 0 }); count = 4 } ∷ record { who = OfControl; count = 6 } ∷ record { who = OfControl; count = 1 } ∷ record { who = All; count = 300 } ∷ [] }
+job_2 = record { version = 1; functions = named (codes "a") None ∷ []; users = record { name = codes "u0"; kind = Fprobe true false; regs = false; ipmodify = None; pid = true; act = None } ∷ record { name = codes "u1"; kind = Function; regs = false; ipmodify = None; pid = true; act = None } ∷ []; frames = 1; tramps = 1; quanta = 1 ∷ []; tasks = record { pid = 10; cpu = 0; acts = After 5 ∷ Raise Softirq ∷ Call (record { 0 = 0 }) ∷ Call (record { 0 = 0 }) ∷ RetAct ∷ RetAct ∷ Lower ∷ [] } ∷ record { pid = 11; cpu = 0; acts = Call (record { 0 = 0 }) ∷ Raise Irq ∷ Raise Nmi ∷ Lower ∷ Lower ∷ RetAct ∷ [] } ∷ []; ctls = Run (Register 1) ∷ Run (Notrace 1 (record { append = false; remove = false; clear = false; set = true ∷ [] })) ∷ Run (Disable 1) ∷ Run (Unregister 1) ∷ Run (Disable 0) ∷ []; lines = usual_lines; rings = usual_rings; schedule = record { who = OfControl; count = 3 } ∷ record { who = OfCpu (record { 0 = 0 }); count = 4 } ∷ record { who = OfControl; count = 1 } ∷ record { who = OfCpu (record { 0 = 0 }); count = 1 } ∷ record { who = OfControl; count = 6 } ∷ record { who = OfCpu (record { 0 = 0 }); count = 3 } ∷ record { who = OfControl; count = 1 } ∷ record { who = OfControl; count = 2 } ∷ record { who = OfControl; count = 1 } ∷ record { who = OfControl; count = 1 } ∷ record { who = OfCpu (record { 0 = 0 }); count = 5 } ∷ record { who = OfControl; count = 3 } ∷ record { who = OfControl; count = 1 } ∷ record { who = OfCpu (record { 0 = 0 }); count = 1 } ∷ record { who = OfControl; count = 3 } ∷ record { who = OfControl; count = 1 } ∷ record { who = OfCpu (record { 0 = 0 }); count = 2 } ∷ record { who = OfCpu (record { 0 = 0 }); count = 6 } ∷ record { who = OfCpu (record { 0 = 0 }); count = 1 } ∷ record { who = OfCpu (record { 0 = 0 }); count = 8 } ∷ record { who = OfControl; count = 5 } ∷ record { who = OfCpu (record { 0 = 0 }); count = 3 } ∷ record { who = OfCpu (record { 0 = 0 }); count = 4 } ∷ record { who = OfControl; count = 6 } ∷ record { who = OfControl; count = 1 } ∷ record { who = All; count = 300 } ∷ [] }
 
 abbrev pub job_2-items : List Item
 job_2-items = Begin 1 ∷ Enter (call_in 1 1) Normal (record { 0 = 0 }) None ∷ Back (call_in 1 1) (record { 0 = 1 }) ∷ BackEnd (call_in 1 1) (record { 0 = 1 }) ∷ Body (call_in 1 1) (record { 0 = 0 }) (Own (record { 0 = 1 })) ∷ Return 1 Accepted ∷ Begin 2 ∷ Leave (call_in 1 1) ∷ Ret (call_in 1 1) None ∷ Return 2 Accepted ∷ Begin 3 ∷ Return 3 Invalid ∷ Begin 4 ∷ Return 4 Accepted ∷ Begin 5 ∷ Return 5 NotThere ∷ Enter (call_in 0 1) Softirq (record { 0 = 0 }) None ∷ Body (call_in 0 1) (record { 0 = 0 }) Nop ∷ Enter (call_in 0 2) Softirq (record { 0 = 0 }) (Some (call_in 0 1)) ∷ Body (call_in 0 2) (record { 0 = 0 }) Nop ∷ Leave (call_in 0 2) ∷ Ret (call_in 0 2) (Some (call_in 0 1)) ∷ Leave (call_in 0 1) ∷ Ret (call_in 0 1) None ∷ []
@@ -43,7 +43,7 @@ unfolding actors_of repeated start step run played play all_end control_next con
 job_2-plays = (refl, refl)
 
 abbrev pub job_3 : Job
-job_3 = record { functions = named (codes "a") None ∷ named (codes "b") (Some (codes "m")) ∷ []; users = record { name = codes "u0"; kind = Fprobe false false; regs = true; ipmodify = None; pid = true; act = None } ∷ []; frames = 50; tramps = 16; quanta = 15 ∷ 40 ∷ []; tasks = record { pid = 10; cpu = 0; acts = Raise Nmi ∷ Call (record { 0 = 0 }) ∷ Call (record { 0 = 0 }) ∷ RetAct ∷ RetAct ∷ Lower ∷ Call (record { 0 = 1 }) ∷ Raise Irq ∷ Call (record { 0 = 1 }) ∷ RetAct ∷ Lower ∷ RetAct ∷ [] } ∷ []; ctls = Run (Register 0) ∷ Run (Disable 0) ∷ Run (Filter 0 (record { append = true; remove = true; clear = false; set = false ∷ true ∷ [] })) ∷ Run (Pid (true ∷ [])) ∷ Run (Register 0) ∷ Run (Register 0) ∷ Run (Register 0) ∷ []; schedule = record { who = OfCpu (record { 0 = 1 }); count = 3 } ∷ record { who = OfControl; count = 1 } ∷ record { who = OfCpu (record { 0 = 0 }); count = 2 } ∷ record { who = OfCpu (record { 0 = 1 }); count = 2 } ∷ record { who = OfControl; count = 3 } ∷ record { who = OfControl; count = 2 } ∷ record { who = OfCpu (record { 0 = 0 }); count = 2 } ∷ record { who = All; count = 300 } ∷ [] }
+job_3 = record { version = 1; functions = named (codes "a") None ∷ named (codes "b") (Some (codes "m")) ∷ []; users = record { name = codes "u0"; kind = Fprobe false false; regs = true; ipmodify = None; pid = true; act = None } ∷ []; frames = 50; tramps = 16; quanta = 15 ∷ 40 ∷ []; tasks = record { pid = 10; cpu = 0; acts = Raise Nmi ∷ Call (record { 0 = 0 }) ∷ Call (record { 0 = 0 }) ∷ RetAct ∷ RetAct ∷ Lower ∷ Call (record { 0 = 1 }) ∷ Raise Irq ∷ Call (record { 0 = 1 }) ∷ RetAct ∷ Lower ∷ RetAct ∷ [] } ∷ []; ctls = Run (Register 0) ∷ Run (Disable 0) ∷ Run (Filter 0 (record { append = true; remove = true; clear = false; set = false ∷ true ∷ [] })) ∷ Run (Pid (true ∷ [])) ∷ Run (Register 0) ∷ Run (Register 0) ∷ Run (Register 0) ∷ []; lines = usual_lines; rings = usual_rings; schedule = record { who = OfCpu (record { 0 = 1 }); count = 3 } ∷ record { who = OfControl; count = 1 } ∷ record { who = OfCpu (record { 0 = 0 }); count = 2 } ∷ record { who = OfCpu (record { 0 = 1 }); count = 2 } ∷ record { who = OfControl; count = 3 } ∷ record { who = OfControl; count = 2 } ∷ record { who = OfCpu (record { 0 = 0 }); count = 2 } ∷ record { who = All; count = 300 } ∷ [] }
 
 abbrev pub job_3-items : List Item
 job_3-items = Begin 1 ∷ Enter (call_in 0 1) Nmi (record { 0 = 0 }) None ∷ Body (call_in 0 1) (record { 0 = 0 }) Nop ∷ Enter (call_in 0 2) Nmi (record { 0 = 0 }) (Some (call_in 0 1)) ∷ Back (call_in 0 2) (record { 0 = 0 }) ∷ BackEnd (call_in 0 2) (record { 0 = 0 }) ∷ Body (call_in 0 2) (record { 0 = 0 }) (Own (record { 0 = 0 })) ∷ Leave (call_in 0 2) ∷ Ret (call_in 0 2) (Some (call_in 0 1)) ∷ Leave (call_in 0 1) ∷ Ret (call_in 0 1) None ∷ Enter (call_in 0 3) Normal (record { 0 = 1 }) None ∷ Back (call_in 0 3) (record { 0 = 0 }) ∷ BackEnd (call_in 0 3) (record { 0 = 0 }) ∷ Body (call_in 0 3) (record { 0 = 1 }) (Own (record { 0 = 0 })) ∷ Return 1 Accepted ∷ Begin 2 ∷ Enter (call_in 0 4) Irq (record { 0 = 1 }) (Some (call_in 0 3)) ∷ Body (call_in 0 4) (record { 0 = 1 }) (Own (record { 0 = 0 })) ∷ Leave (call_in 0 4) ∷ Return 2 Accepted ∷ Ret (call_in 0 4) (Some (call_in 0 3)) ∷ Begin 3 ∷ Leave (call_in 0 3) ∷ Ret (call_in 0 3) None ∷ Return 3 Accepted ∷ Begin 4 ∷ Return 4 Accepted ∷ Begin 5 ∷ Return 5 Already ∷ Begin 6 ∷ Return 6 Already ∷ Begin 7 ∷ Return 7 Already ∷ []
@@ -53,7 +53,7 @@ unfolding actors_of repeated start step run played play all_end control_next con
 job_3-plays = (refl, refl)
 
 abbrev pub job_4 : Job
-job_4 = record { functions = named (codes "a") (Some (codes "m")) ∷ named (codes "b") None ∷ []; users = record { name = codes "u0"; kind = Function; regs = true; ipmodify = Some (record { 0 = 1 }); pid = false; act = Some (IrqIn (record { 0 = 0 })) } ∷ record { name = codes "u1"; kind = Fprobe false false; regs = true; ipmodify = None; pid = false; act = None } ∷ []; frames = 50; tramps = 1; quanta = 15 ∷ []; tasks = record { pid = 10; cpu = 0; acts = After 3 ∷ After 3 ∷ Raise Nmi ∷ Call (record { 0 = 0 }) ∷ RetAct ∷ Lower ∷ [] } ∷ []; ctls = Run (Register 1) ∷ Run (Enable 1) ∷ Run (Unregister 1) ∷ Run (Enable 1) ∷ []; schedule = record { who = OfCpu (record { 0 = 0 }); count = 10 } ∷ record { who = OfControl; count = 5 } ∷ record { who = OfCpu (record { 0 = 0 }); count = 13 } ∷ record { who = OfCpu (record { 0 = 0 }); count = 18 } ∷ record { who = OfControl; count = 23 } ∷ record { who = OfCpu (record { 0 = 0 }); count = 38 } ∷ record { who = OfCpu (record { 0 = 0 }); count = 41 } ∷ record { who = OfControl; count = 21 } ∷ record { who = OfControl; count = 4 } ∷ record { who = OfControl; count = 18 } ∷ record { who = OfControl; count = 8 } ∷ record { who = OfCpu (record { 0 = 0 }); count = 12 } ∷ record { who = OfCpu (record { 0 = 0 }); count = 30 } ∷ record { who = OfControl; count = 3 } ∷ record { who = OfCpu (record { 0 = 0 }); count = 45 } ∷ record { who = OfControl; count = 19 } ∷ record { who = OfCpu (record { 0 = 0 }); count = 2 } ∷ record { who = OfCpu (record { 0 = 0 }); count = 19 } ∷ record { who = OfCpu (record { 0 = 0 }); count = 10 } ∷ record { who = OfCpu (record { 0 = 0 }); count = 40 } ∷ record { who = OfControl; count = 19 } ∷ record { who = OfControl; count = 29 } ∷ record { who = OfCpu (record { 0 = 0 }); count = 9 } ∷ record { who = OfCpu (record { 0 = 0 }); count = 25 } ∷ record { who = OfControl; count = 22 } ∷ record { who = OfControl; count = 24 } ∷ record { who = All; count = 300 } ∷ [] }
+job_4 = record { version = 1; functions = named (codes "a") (Some (codes "m")) ∷ named (codes "b") None ∷ []; users = record { name = codes "u0"; kind = Function; regs = true; ipmodify = Some (record { 0 = 1 }); pid = false; act = Some (IrqIn (record { 0 = 0 })) } ∷ record { name = codes "u1"; kind = Fprobe false false; regs = true; ipmodify = None; pid = false; act = None } ∷ []; frames = 50; tramps = 1; quanta = 15 ∷ []; tasks = record { pid = 10; cpu = 0; acts = After 3 ∷ After 3 ∷ Raise Nmi ∷ Call (record { 0 = 0 }) ∷ RetAct ∷ Lower ∷ [] } ∷ []; ctls = Run (Register 1) ∷ Run (Enable 1) ∷ Run (Unregister 1) ∷ Run (Enable 1) ∷ []; lines = usual_lines; rings = usual_rings; schedule = record { who = OfCpu (record { 0 = 0 }); count = 10 } ∷ record { who = OfControl; count = 5 } ∷ record { who = OfCpu (record { 0 = 0 }); count = 13 } ∷ record { who = OfCpu (record { 0 = 0 }); count = 18 } ∷ record { who = OfControl; count = 23 } ∷ record { who = OfCpu (record { 0 = 0 }); count = 38 } ∷ record { who = OfCpu (record { 0 = 0 }); count = 41 } ∷ record { who = OfControl; count = 21 } ∷ record { who = OfControl; count = 4 } ∷ record { who = OfControl; count = 18 } ∷ record { who = OfControl; count = 8 } ∷ record { who = OfCpu (record { 0 = 0 }); count = 12 } ∷ record { who = OfCpu (record { 0 = 0 }); count = 30 } ∷ record { who = OfControl; count = 3 } ∷ record { who = OfCpu (record { 0 = 0 }); count = 45 } ∷ record { who = OfControl; count = 19 } ∷ record { who = OfCpu (record { 0 = 0 }); count = 2 } ∷ record { who = OfCpu (record { 0 = 0 }); count = 19 } ∷ record { who = OfCpu (record { 0 = 0 }); count = 10 } ∷ record { who = OfCpu (record { 0 = 0 }); count = 40 } ∷ record { who = OfControl; count = 19 } ∷ record { who = OfControl; count = 29 } ∷ record { who = OfCpu (record { 0 = 0 }); count = 9 } ∷ record { who = OfCpu (record { 0 = 0 }); count = 25 } ∷ record { who = OfControl; count = 22 } ∷ record { who = OfControl; count = 24 } ∷ record { who = All; count = 300 } ∷ [] }
 
 abbrev pub job_4-items : List Item
 job_4-items = Begin 1 ∷ Return 1 Accepted ∷ Begin 2 ∷ Return 2 Accepted ∷ Begin 3 ∷ Return 3 Accepted ∷ Begin 4 ∷ Return 4 NotThere ∷ Enter (call_in 0 1) Nmi (record { 0 = 0 }) None ∷ Body (call_in 0 1) (record { 0 = 0 }) Nop ∷ Leave (call_in 0 1) ∷ Ret (call_in 0 1) None ∷ []
@@ -63,7 +63,7 @@ unfolding actors_of repeated start step run played play all_end control_next con
 job_4-plays = (refl, refl)
 
 abbrev pub job_6 : Job
-job_6 = record { functions = named (codes "a") (Some (codes "m")) ∷ []; users = record { name = codes "u0"; kind = Function; regs = false; ipmodify = None; pid = false; act = Some (CallIn (record { 0 = 0 })) } ∷ []; frames = 3; tramps = 0; quanta = 40 ∷ []; tasks = record { pid = 10; cpu = 0; acts = After 5 ∷ Raise Nmi ∷ Lower ∷ Call (record { 0 = 0 }) ∷ Call (record { 0 = 0 }) ∷ After 4 ∷ RetAct ∷ RetAct ∷ [] } ∷ record { pid = 11; cpu = 0; acts = Call (record { 0 = 0 }) ∷ RetAct ∷ Call (record { 0 = 0 }) ∷ RetAct ∷ After 2 ∷ Raise Nmi ∷ Lower ∷ [] } ∷ record { pid = 12; cpu = 0; acts = Raise Irq ∷ Call (record { 0 = 0 }) ∷ Call (record { 0 = 0 }) ∷ Call (record { 0 = 0 }) ∷ Call (record { 0 = 0 }) ∷ RetAct ∷ RetAct ∷ RetAct ∷ RetAct ∷ Lower ∷ [] } ∷ []; ctls = Run (Filter 0 (record { append = false; remove = false; clear = false; set = true ∷ [] })) ∷ Run (Register 0) ∷ Run (NoPid (true ∷ true ∷ false ∷ [])) ∷ Run (Enable 0) ∷ Run (Unregister 0) ∷ Run (Unregister 0) ∷ []; schedule = record { who = OfCpu (record { 0 = 0 }); count = 27 } ∷ record { who = OfCpu (record { 0 = 0 }); count = 40 } ∷ record { who = OfCpu (record { 0 = 0 }); count = 18 } ∷ record { who = OfCpu (record { 0 = 0 }); count = 43 } ∷ record { who = OfCpu (record { 0 = 0 }); count = 32 } ∷ record { who = OfControl; count = 25 } ∷ record { who = OfCpu (record { 0 = 0 }); count = 20 } ∷ record { who = OfCpu (record { 0 = 0 }); count = 21 } ∷ record { who = OfCpu (record { 0 = 0 }); count = 43 } ∷ record { who = OfControl; count = 40 } ∷ record { who = OfCpu (record { 0 = 0 }); count = 45 } ∷ record { who = OfCpu (record { 0 = 0 }); count = 21 } ∷ record { who = OfCpu (record { 0 = 0 }); count = 32 } ∷ record { who = OfControl; count = 19 } ∷ record { who = All; count = 300 } ∷ [] }
+job_6 = record { version = 1; functions = named (codes "a") (Some (codes "m")) ∷ []; users = record { name = codes "u0"; kind = Function; regs = false; ipmodify = None; pid = false; act = Some (CallIn (record { 0 = 0 })) } ∷ []; frames = 3; tramps = 0; quanta = 40 ∷ []; tasks = record { pid = 10; cpu = 0; acts = After 5 ∷ Raise Nmi ∷ Lower ∷ Call (record { 0 = 0 }) ∷ Call (record { 0 = 0 }) ∷ After 4 ∷ RetAct ∷ RetAct ∷ [] } ∷ record { pid = 11; cpu = 0; acts = Call (record { 0 = 0 }) ∷ RetAct ∷ Call (record { 0 = 0 }) ∷ RetAct ∷ After 2 ∷ Raise Nmi ∷ Lower ∷ [] } ∷ record { pid = 12; cpu = 0; acts = Raise Irq ∷ Call (record { 0 = 0 }) ∷ Call (record { 0 = 0 }) ∷ Call (record { 0 = 0 }) ∷ Call (record { 0 = 0 }) ∷ RetAct ∷ RetAct ∷ RetAct ∷ RetAct ∷ Lower ∷ [] } ∷ []; ctls = Run (Filter 0 (record { append = false; remove = false; clear = false; set = true ∷ [] })) ∷ Run (Register 0) ∷ Run (NoPid (true ∷ true ∷ false ∷ [])) ∷ Run (Enable 0) ∷ Run (Unregister 0) ∷ Run (Unregister 0) ∷ []; lines = usual_lines; rings = usual_rings; schedule = record { who = OfCpu (record { 0 = 0 }); count = 27 } ∷ record { who = OfCpu (record { 0 = 0 }); count = 40 } ∷ record { who = OfCpu (record { 0 = 0 }); count = 18 } ∷ record { who = OfCpu (record { 0 = 0 }); count = 43 } ∷ record { who = OfCpu (record { 0 = 0 }); count = 32 } ∷ record { who = OfControl; count = 25 } ∷ record { who = OfCpu (record { 0 = 0 }); count = 20 } ∷ record { who = OfCpu (record { 0 = 0 }); count = 21 } ∷ record { who = OfCpu (record { 0 = 0 }); count = 43 } ∷ record { who = OfControl; count = 40 } ∷ record { who = OfCpu (record { 0 = 0 }); count = 45 } ∷ record { who = OfCpu (record { 0 = 0 }); count = 21 } ∷ record { who = OfCpu (record { 0 = 0 }); count = 32 } ∷ record { who = OfControl; count = 19 } ∷ record { who = All; count = 300 } ∷ [] }
 
 abbrev pub job_6-items : List Item
 job_6-items = Enter (call_in 1 1) Normal (record { 0 = 0 }) None ∷ Body (call_in 1 1) (record { 0 = 0 }) Nop ∷ Leave (call_in 1 1) ∷ Ret (call_in 1 1) None ∷ Enter (call_in 1 2) Normal (record { 0 = 0 }) None ∷ Body (call_in 1 2) (record { 0 = 0 }) Nop ∷ Leave (call_in 1 2) ∷ Ret (call_in 1 2) None ∷ Enter (call_in 2 1) Irq (record { 0 = 0 }) None ∷ Body (call_in 2 1) (record { 0 = 0 }) Nop ∷ Enter (call_in 2 2) Irq (record { 0 = 0 }) (Some (call_in 2 1)) ∷ Body (call_in 2 2) (record { 0 = 0 }) Nop ∷ Enter (call_in 2 3) Irq (record { 0 = 0 }) (Some (call_in 2 2)) ∷ Body (call_in 2 3) (record { 0 = 0 }) Nop ∷ Enter (call_in 2 4) Irq (record { 0 = 0 }) (Some (call_in 2 3)) ∷ Body (call_in 2 4) (record { 0 = 0 }) Nop ∷ Leave (call_in 2 4) ∷ Ret (call_in 2 4) (Some (call_in 2 3)) ∷ Leave (call_in 2 3) ∷ Ret (call_in 2 3) (Some (call_in 2 2)) ∷ Leave (call_in 2 2) ∷ Ret (call_in 2 2) (Some (call_in 2 1)) ∷ Leave (call_in 2 1) ∷ Ret (call_in 2 1) None ∷ Begin 1 ∷ Return 1 Accepted ∷ Begin 2 ∷ Return 2 Accepted ∷ Begin 3 ∷ Return 3 Accepted ∷ Begin 4 ∷ Return 4 Invalid ∷ Begin 5 ∷ Return 5 Accepted ∷ Begin 6 ∷ Return 6 NotThere ∷ Enter (call_in 0 1) Normal (record { 0 = 0 }) None ∷ Body (call_in 0 1) (record { 0 = 0 }) Nop ∷ Enter (call_in 0 2) Normal (record { 0 = 0 }) (Some (call_in 0 1)) ∷ Body (call_in 0 2) (record { 0 = 0 }) Nop ∷ Leave (call_in 0 2) ∷ Ret (call_in 0 2) (Some (call_in 0 1)) ∷ Leave (call_in 0 1) ∷ Ret (call_in 0 1) None ∷ []
@@ -73,7 +73,7 @@ unfolding actors_of repeated start step run played play all_end control_next con
 job_6-plays = (refl, refl)
 
 abbrev pub job_7 : Job
-job_7 = record { functions = named (codes "a") None ∷ named (codes "b") (Some (codes "m")) ∷ named (codes "c") None ∷ []; users = record { name = codes "u0"; kind = Graph; regs = false; ipmodify = None; pid = true; act = Some (CallIn (record { 0 = 1 })) } ∷ []; frames = 1; tramps = 16; quanta = 1 ∷ []; tasks = record { pid = 10; cpu = 0; acts = After 6 ∷ Raise Softirq ∷ Raise Nmi ∷ Lower ∷ Lower ∷ [] } ∷ record { pid = 11; cpu = 0; acts = Raise Softirq ∷ Call (record { 0 = 0 }) ∷ RetAct ∷ Lower ∷ [] } ∷ []; ctls = Run (Register 0) ∷ Run (Notrace 0 (record { append = false; remove = false; clear = false; set = false ∷ true ∷ false ∷ [] })) ∷ Run (Register 0) ∷ Run (Register 0) ∷ Run (Pid (true ∷ false ∷ [])) ∷ Until 1 3 ∷ Run (MaxDepth 1) ∷ []; schedule = record { who = OfCpu (record { 0 = 0 }); count = 20 } ∷ record { who = OfCpu (record { 0 = 0 }); count = 19 } ∷ record { who = OfCpu (record { 0 = 0 }); count = 3 } ∷ record { who = OfControl; count = 9 } ∷ record { who = OfCpu (record { 0 = 0 }); count = 3 } ∷ record { who = OfControl; count = 10 } ∷ record { who = OfCpu (record { 0 = 0 }); count = 10 } ∷ record { who = OfCpu (record { 0 = 0 }); count = 12 } ∷ record { who = OfControl; count = 15 } ∷ record { who = OfCpu (record { 0 = 0 }); count = 6 } ∷ record { who = OfControl; count = 16 } ∷ record { who = OfControl; count = 7 } ∷ record { who = OfCpu (record { 0 = 0 }); count = 5 } ∷ record { who = OfControl; count = 13 } ∷ record { who = All; count = 300 } ∷ [] }
+job_7 = record { version = 1; functions = named (codes "a") None ∷ named (codes "b") (Some (codes "m")) ∷ named (codes "c") None ∷ []; users = record { name = codes "u0"; kind = Graph; regs = false; ipmodify = None; pid = true; act = Some (CallIn (record { 0 = 1 })) } ∷ []; frames = 1; tramps = 16; quanta = 1 ∷ []; tasks = record { pid = 10; cpu = 0; acts = After 6 ∷ Raise Softirq ∷ Raise Nmi ∷ Lower ∷ Lower ∷ [] } ∷ record { pid = 11; cpu = 0; acts = Raise Softirq ∷ Call (record { 0 = 0 }) ∷ RetAct ∷ Lower ∷ [] } ∷ []; ctls = Run (Register 0) ∷ Run (Notrace 0 (record { append = false; remove = false; clear = false; set = false ∷ true ∷ false ∷ [] })) ∷ Run (Register 0) ∷ Run (Register 0) ∷ Run (Pid (true ∷ false ∷ [])) ∷ Until 1 3 ∷ Run (MaxDepth 1) ∷ []; lines = usual_lines; rings = usual_rings; schedule = record { who = OfCpu (record { 0 = 0 }); count = 20 } ∷ record { who = OfCpu (record { 0 = 0 }); count = 19 } ∷ record { who = OfCpu (record { 0 = 0 }); count = 3 } ∷ record { who = OfControl; count = 9 } ∷ record { who = OfCpu (record { 0 = 0 }); count = 3 } ∷ record { who = OfControl; count = 10 } ∷ record { who = OfCpu (record { 0 = 0 }); count = 10 } ∷ record { who = OfCpu (record { 0 = 0 }); count = 12 } ∷ record { who = OfControl; count = 15 } ∷ record { who = OfCpu (record { 0 = 0 }); count = 6 } ∷ record { who = OfControl; count = 16 } ∷ record { who = OfControl; count = 7 } ∷ record { who = OfCpu (record { 0 = 0 }); count = 5 } ∷ record { who = OfControl; count = 13 } ∷ record { who = All; count = 300 } ∷ [] }
 
 abbrev pub job_7-items : List Item
 job_7-items = Enter (call_in 1 1) Softirq (record { 0 = 0 }) None ∷ Body (call_in 1 1) (record { 0 = 0 }) Nop ∷ Leave (call_in 1 1) ∷ Ret (call_in 1 1) None ∷ Begin 1 ∷ Return 1 Accepted ∷ Begin 2 ∷ Return 2 Accepted ∷ Begin 3 ∷ Return 3 Already ∷ Begin 4 ∷ Return 4 Already ∷ Begin 5 ∷ Return 5 Accepted ∷ Begin 6 ∷ Return 6 Accepted ∷ []
@@ -83,7 +83,7 @@ unfolding actors_of repeated start step run played play all_end control_next con
 job_7-plays = (refl, refl)
 
 abbrev pub job_8 : Job
-job_8 = record { functions = named (codes "a") (Some (codes "m")) ∷ named (codes "b") (Some (codes "m")) ∷ []; users = record { name = codes "u0"; kind = Function; regs = true; ipmodify = Some (record { 0 = 0 }); pid = false; act = Some (CallIn (record { 0 = 1 })) } ∷ []; frames = 2; tramps = 0; quanta = 1 ∷ 40 ∷ []; tasks = record { pid = 10; cpu = 1; acts = After 1 ∷ Raise Irq ∷ After 4 ∷ Raise Nmi ∷ Call (record { 0 = 0 }) ∷ Call (record { 0 = 1 }) ∷ Call (record { 0 = 0 }) ∷ RetAct ∷ RetAct ∷ RetAct ∷ Lower ∷ Lower ∷ [] } ∷ []; ctls = Run (Unregister 0) ∷ Run (Filter 0 (record { append = false; remove = false; clear = false; set = true ∷ false ∷ [] })) ∷ Run (Register 0) ∷ Run (Register 0) ∷ Run (NoPid (false ∷ [])) ∷ []; schedule = record { who = OfControl; count = 10 } ∷ record { who = OfCpu (record { 0 = 0 }); count = 8 } ∷ record { who = OfCpu (record { 0 = 0 }); count = 2 } ∷ record { who = OfCpu (record { 0 = 0 }); count = 9 } ∷ record { who = OfCpu (record { 0 = 0 }); count = 10 } ∷ record { who = OfCpu (record { 0 = 1 }); count = 14 } ∷ record { who = OfControl; count = 13 } ∷ record { who = OfControl; count = 6 } ∷ record { who = OfCpu (record { 0 = 1 }); count = 1 } ∷ record { who = OfControl; count = 6 } ∷ record { who = OfCpu (record { 0 = 0 }); count = 4 } ∷ record { who = All; count = 300 } ∷ [] }
+job_8 = record { version = 1; functions = named (codes "a") (Some (codes "m")) ∷ named (codes "b") (Some (codes "m")) ∷ []; users = record { name = codes "u0"; kind = Function; regs = true; ipmodify = Some (record { 0 = 0 }); pid = false; act = Some (CallIn (record { 0 = 1 })) } ∷ []; frames = 2; tramps = 0; quanta = 1 ∷ 40 ∷ []; tasks = record { pid = 10; cpu = 1; acts = After 1 ∷ Raise Irq ∷ After 4 ∷ Raise Nmi ∷ Call (record { 0 = 0 }) ∷ Call (record { 0 = 1 }) ∷ Call (record { 0 = 0 }) ∷ RetAct ∷ RetAct ∷ RetAct ∷ Lower ∷ Lower ∷ [] } ∷ []; ctls = Run (Unregister 0) ∷ Run (Filter 0 (record { append = false; remove = false; clear = false; set = true ∷ false ∷ [] })) ∷ Run (Register 0) ∷ Run (Register 0) ∷ Run (NoPid (false ∷ [])) ∷ []; lines = usual_lines; rings = usual_rings; schedule = record { who = OfControl; count = 10 } ∷ record { who = OfCpu (record { 0 = 0 }); count = 8 } ∷ record { who = OfCpu (record { 0 = 0 }); count = 2 } ∷ record { who = OfCpu (record { 0 = 0 }); count = 9 } ∷ record { who = OfCpu (record { 0 = 0 }); count = 10 } ∷ record { who = OfCpu (record { 0 = 1 }); count = 14 } ∷ record { who = OfControl; count = 13 } ∷ record { who = OfControl; count = 6 } ∷ record { who = OfCpu (record { 0 = 1 }); count = 1 } ∷ record { who = OfControl; count = 6 } ∷ record { who = OfCpu (record { 0 = 0 }); count = 4 } ∷ record { who = All; count = 300 } ∷ [] }
 
 abbrev pub job_8-items : List Item
 job_8-items = Begin 1 ∷ Return 1 NotThere ∷ Begin 2 ∷ Return 2 Accepted ∷ Begin 3 ∷ Return 3 Accepted ∷ Begin 4 ∷ Return 4 Already ∷ Begin 5 ∷ Enter (call_in 0 1) Nmi (record { 0 = 0 }) None ∷ Return 5 Accepted ∷ Back (call_in 0 1) (record { 0 = 0 }) ∷ Enter (call_in 0 2) Nmi (record { 0 = 1 }) (Some (call_in 0 1)) ∷ Body (call_in 0 2) (record { 0 = 1 }) Nop ∷ Leave (call_in 0 2) ∷ Ret (call_in 0 2) (Some (call_in 0 1)) ∷ BackEnd (call_in 0 1) (record { 0 = 0 }) ∷ Body (call_in 0 1) (record { 0 = 0 }) ByList ∷ Enter (call_in 0 3) Nmi (record { 0 = 1 }) (Some (call_in 0 1)) ∷ Body (call_in 0 3) (record { 0 = 1 }) Nop ∷ Enter (call_in 0 4) Nmi (record { 0 = 0 }) (Some (call_in 0 3)) ∷ Back (call_in 0 4) (record { 0 = 0 }) ∷ Enter (call_in 0 5) Nmi (record { 0 = 1 }) (Some (call_in 0 4)) ∷ Body (call_in 0 5) (record { 0 = 1 }) Nop ∷ Leave (call_in 0 5) ∷ Ret (call_in 0 5) (Some (call_in 0 4)) ∷ BackEnd (call_in 0 4) (record { 0 = 0 }) ∷ Body (call_in 0 4) (record { 0 = 0 }) ByList ∷ Leave (call_in 0 4) ∷ Ret (call_in 0 4) (Some (call_in 0 3)) ∷ Leave (call_in 0 3) ∷ Ret (call_in 0 3) (Some (call_in 0 1)) ∷ Leave (call_in 0 1) ∷ Ret (call_in 0 1) None ∷ []
@@ -93,7 +93,7 @@ unfolding actors_of repeated start step run played play all_end control_next con
 job_8-plays = (refl, refl)
 
 abbrev pub job_10 : Job
-job_10 = record { functions = named (codes "a") (Some (codes "m")) ∷ []; users = record { name = codes "u0"; kind = Function; regs = false; ipmodify = None; pid = true; act = None } ∷ []; frames = 50; tramps = 16; quanta = 3 ∷ 3 ∷ []; tasks = record { pid = 10; cpu = 0; acts = After 2 ∷ Call (record { 0 = 0 }) ∷ After 3 ∷ RetAct ∷ Raise Nmi ∷ Call (record { 0 = 0 }) ∷ RetAct ∷ Lower ∷ [] } ∷ record { pid = 11; cpu = 1; acts = Raise Softirq ∷ Call (record { 0 = 0 }) ∷ RetAct ∷ Lower ∷ [] } ∷ []; ctls = Run (Register 0) ∷ Run (Filter 0 (record { append = true; remove = true; clear = false; set = true ∷ [] })) ∷ Run (Unregister 0) ∷ Run (Register 0) ∷ Run (Pid (true ∷ true ∷ [])) ∷ Run (MaxDepth 1) ∷ Run (NoPid (true ∷ true ∷ [])) ∷ []; schedule = record { who = OfControl; count = 34 } ∷ record { who = OfCpu (record { 0 = 0 }); count = 34 } ∷ record { who = OfCpu (record { 0 = 0 }); count = 39 } ∷ record { who = OfCpu (record { 0 = 0 }); count = 5 } ∷ record { who = OfControl; count = 32 } ∷ record { who = OfCpu (record { 0 = 1 }); count = 30 } ∷ record { who = OfCpu (record { 0 = 0 }); count = 9 } ∷ record { who = OfCpu (record { 0 = 0 }); count = 35 } ∷ record { who = OfCpu (record { 0 = 1 }); count = 23 } ∷ record { who = OfCpu (record { 0 = 1 }); count = 25 } ∷ record { who = OfCpu (record { 0 = 0 }); count = 45 } ∷ record { who = OfControl; count = 36 } ∷ record { who = OfCpu (record { 0 = 0 }); count = 7 } ∷ record { who = OfCpu (record { 0 = 0 }); count = 3 } ∷ record { who = OfControl; count = 29 } ∷ record { who = OfCpu (record { 0 = 1 }); count = 5 } ∷ record { who = OfControl; count = 23 } ∷ record { who = OfControl; count = 10 } ∷ record { who = OfControl; count = 39 } ∷ record { who = OfCpu (record { 0 = 0 }); count = 32 } ∷ record { who = OfControl; count = 30 } ∷ record { who = OfCpu (record { 0 = 0 }); count = 33 } ∷ record { who = OfCpu (record { 0 = 0 }); count = 22 } ∷ record { who = OfCpu (record { 0 = 1 }); count = 17 } ∷ record { who = OfCpu (record { 0 = 1 }); count = 30 } ∷ record { who = All; count = 300 } ∷ [] }
+job_10 = record { version = 1; functions = named (codes "a") (Some (codes "m")) ∷ []; users = record { name = codes "u0"; kind = Function; regs = false; ipmodify = None; pid = true; act = None } ∷ []; frames = 50; tramps = 16; quanta = 3 ∷ 3 ∷ []; tasks = record { pid = 10; cpu = 0; acts = After 2 ∷ Call (record { 0 = 0 }) ∷ After 3 ∷ RetAct ∷ Raise Nmi ∷ Call (record { 0 = 0 }) ∷ RetAct ∷ Lower ∷ [] } ∷ record { pid = 11; cpu = 1; acts = Raise Softirq ∷ Call (record { 0 = 0 }) ∷ RetAct ∷ Lower ∷ [] } ∷ []; ctls = Run (Register 0) ∷ Run (Filter 0 (record { append = true; remove = true; clear = false; set = true ∷ [] })) ∷ Run (Unregister 0) ∷ Run (Register 0) ∷ Run (Pid (true ∷ true ∷ [])) ∷ Run (MaxDepth 1) ∷ Run (NoPid (true ∷ true ∷ [])) ∷ []; lines = usual_lines; rings = usual_rings; schedule = record { who = OfControl; count = 34 } ∷ record { who = OfCpu (record { 0 = 0 }); count = 34 } ∷ record { who = OfCpu (record { 0 = 0 }); count = 39 } ∷ record { who = OfCpu (record { 0 = 0 }); count = 5 } ∷ record { who = OfControl; count = 32 } ∷ record { who = OfCpu (record { 0 = 1 }); count = 30 } ∷ record { who = OfCpu (record { 0 = 0 }); count = 9 } ∷ record { who = OfCpu (record { 0 = 0 }); count = 35 } ∷ record { who = OfCpu (record { 0 = 1 }); count = 23 } ∷ record { who = OfCpu (record { 0 = 1 }); count = 25 } ∷ record { who = OfCpu (record { 0 = 0 }); count = 45 } ∷ record { who = OfControl; count = 36 } ∷ record { who = OfCpu (record { 0 = 0 }); count = 7 } ∷ record { who = OfCpu (record { 0 = 0 }); count = 3 } ∷ record { who = OfControl; count = 29 } ∷ record { who = OfCpu (record { 0 = 1 }); count = 5 } ∷ record { who = OfControl; count = 23 } ∷ record { who = OfControl; count = 10 } ∷ record { who = OfControl; count = 39 } ∷ record { who = OfCpu (record { 0 = 0 }); count = 32 } ∷ record { who = OfControl; count = 30 } ∷ record { who = OfCpu (record { 0 = 0 }); count = 33 } ∷ record { who = OfCpu (record { 0 = 0 }); count = 22 } ∷ record { who = OfCpu (record { 0 = 1 }); count = 17 } ∷ record { who = OfCpu (record { 0 = 1 }); count = 30 } ∷ record { who = All; count = 300 } ∷ [] }
 
 abbrev pub job_10-items : List Item
 job_10-items = Begin 1 ∷ Enter (call_in 1 1) Softirq (record { 0 = 0 }) None ∷ Back (call_in 1 1) (record { 0 = 0 }) ∷ BackEnd (call_in 1 1) (record { 0 = 0 }) ∷ Body (call_in 1 1) (record { 0 = 0 }) (Own (record { 0 = 0 })) ∷ Leave (call_in 1 1) ∷ Ret (call_in 1 1) None ∷ Return 1 Accepted ∷ Begin 2 ∷ Return 2 Accepted ∷ Begin 3 ∷ Enter (call_in 0 1) Normal (record { 0 = 0 }) None ∷ Body (call_in 0 1) (record { 0 = 0 }) Nop ∷ Return 3 Accepted ∷ Begin 4 ∷ Leave (call_in 0 1) ∷ Ret (call_in 0 1) None ∷ Enter (call_in 0 2) Nmi (record { 0 = 0 }) None ∷ Back (call_in 0 2) (record { 0 = 0 }) ∷ BackEnd (call_in 0 2) (record { 0 = 0 }) ∷ Body (call_in 0 2) (record { 0 = 0 }) (Own (record { 0 = 0 })) ∷ Leave (call_in 0 2) ∷ Ret (call_in 0 2) None ∷ Return 4 Accepted ∷ Begin 5 ∷ Return 5 Accepted ∷ Begin 6 ∷ Return 6 Accepted ∷ Begin 7 ∷ Return 7 Accepted ∷ []
@@ -103,7 +103,7 @@ unfolding actors_of repeated start step run played play all_end control_next con
 job_10-plays = (refl, refl)
 
 abbrev pub job_11 : Job
-job_11 = record { functions = named (codes "a") (Some (codes "m")) ∷ named (codes "b") (Some (codes "m")) ∷ named (codes "c") None ∷ named (codes "d") None ∷ []; users = record { name = codes "u0"; kind = Function; regs = true; ipmodify = None; pid = false; act = None } ∷ record { name = codes "u1"; kind = Fprobe false false; regs = false; ipmodify = None; pid = false; act = Some (CallIn (record { 0 = 0 })) } ∷ []; frames = 50; tramps = 16; quanta = 7 ∷ []; tasks = record { pid = 10; cpu = 0; acts = After 2 ∷ Raise Irq ∷ Call (record { 0 = 0 }) ∷ RetAct ∷ Call (record { 0 = 0 }) ∷ Raise Nmi ∷ Lower ∷ RetAct ∷ Lower ∷ [] } ∷ record { pid = 11; cpu = 0; acts = After 1 ∷ Raise Softirq ∷ Call (record { 0 = 2 }) ∷ Call (record { 0 = 0 }) ∷ RetAct ∷ RetAct ∷ Lower ∷ [] } ∷ []; ctls = Run (Unregister 0) ∷ Run (Disable 0) ∷ Until 1 3 ∷ Run (MaxDepth 0) ∷ Run (Register 0) ∷ Run (Pid (true ∷ false ∷ [])) ∷ []; schedule = record { who = OfControl; count = 6 } ∷ record { who = OfCpu (record { 0 = 0 }); count = 20 } ∷ record { who = OfControl; count = 2 } ∷ record { who = OfControl; count = 7 } ∷ record { who = All; count = 300 } ∷ [] }
+job_11 = record { version = 1; functions = named (codes "a") (Some (codes "m")) ∷ named (codes "b") (Some (codes "m")) ∷ named (codes "c") None ∷ named (codes "d") None ∷ []; users = record { name = codes "u0"; kind = Function; regs = true; ipmodify = None; pid = false; act = None } ∷ record { name = codes "u1"; kind = Fprobe false false; regs = false; ipmodify = None; pid = false; act = Some (CallIn (record { 0 = 0 })) } ∷ []; frames = 50; tramps = 16; quanta = 7 ∷ []; tasks = record { pid = 10; cpu = 0; acts = After 2 ∷ Raise Irq ∷ Call (record { 0 = 0 }) ∷ RetAct ∷ Call (record { 0 = 0 }) ∷ Raise Nmi ∷ Lower ∷ RetAct ∷ Lower ∷ [] } ∷ record { pid = 11; cpu = 0; acts = After 1 ∷ Raise Softirq ∷ Call (record { 0 = 2 }) ∷ Call (record { 0 = 0 }) ∷ RetAct ∷ RetAct ∷ Lower ∷ [] } ∷ []; ctls = Run (Unregister 0) ∷ Run (Disable 0) ∷ Until 1 3 ∷ Run (MaxDepth 0) ∷ Run (Register 0) ∷ Run (Pid (true ∷ false ∷ [])) ∷ []; lines = usual_lines; rings = usual_rings; schedule = record { who = OfControl; count = 6 } ∷ record { who = OfCpu (record { 0 = 0 }); count = 20 } ∷ record { who = OfControl; count = 2 } ∷ record { who = OfControl; count = 7 } ∷ record { who = All; count = 300 } ∷ [] }
 
 abbrev pub job_11-items : List Item
 job_11-items = Begin 1 ∷ Return 1 NotThere ∷ Begin 2 ∷ Return 2 NotThere ∷ Enter (call_in 0 1) Irq (record { 0 = 0 }) None ∷ Enter (call_in 1 1) Softirq (record { 0 = 2 }) None ∷ Body (call_in 0 1) (record { 0 = 0 }) Nop ∷ Leave (call_in 0 1) ∷ Ret (call_in 0 1) None ∷ Body (call_in 1 1) (record { 0 = 2 }) Nop ∷ Enter (call_in 1 2) Softirq (record { 0 = 0 }) (Some (call_in 1 1)) ∷ Begin 3 ∷ Enter (call_in 0 2) Irq (record { 0 = 0 }) None ∷ Body (call_in 0 2) (record { 0 = 0 }) Nop ∷ Body (call_in 1 2) (record { 0 = 0 }) Nop ∷ Leave (call_in 1 2) ∷ Return 3 Accepted ∷ Begin 4 ∷ Leave (call_in 0 2) ∷ Ret (call_in 0 2) None ∷ Ret (call_in 1 2) (Some (call_in 1 1)) ∷ Leave (call_in 1 1) ∷ Ret (call_in 1 1) None ∷ Return 4 Accepted ∷ Begin 5 ∷ Return 5 Accepted ∷ []
@@ -113,7 +113,7 @@ unfolding actors_of repeated start step run played play all_end control_next con
 job_11-plays = (refl, refl)
 
 abbrev pub job_14 : Job
-job_14 = record { functions = named (codes "a") None ∷ []; users = record { name = codes "u0"; kind = Graph; regs = false; ipmodify = None; pid = true; act = None } ∷ record { name = codes "u1"; kind = Function; regs = true; ipmodify = Some (record { 0 = 0 }); pid = true; act = None } ∷ record { name = codes "u2"; kind = Fprobe true false; regs = false; ipmodify = None; pid = true; act = Some (IrqIn (record { 0 = 0 })) } ∷ []; frames = 3; tramps = 16; quanta = 1 ∷ []; tasks = record { pid = 10; cpu = 0; acts = After 2 ∷ Call (record { 0 = 0 }) ∷ After 1 ∷ After 6 ∷ After 5 ∷ RetAct ∷ Raise Softirq ∷ Lower ∷ Raise Irq ∷ Lower ∷ [] } ∷ record { pid = 11; cpu = 0; acts = After 5 ∷ Raise Irq ∷ Raise Nmi ∷ Call (record { 0 = 0 }) ∷ Call (record { 0 = 0 }) ∷ Call (record { 0 = 0 }) ∷ RetAct ∷ RetAct ∷ RetAct ∷ Lower ∷ Lower ∷ [] } ∷ []; ctls = Run (NoPid (true ∷ true ∷ [])) ∷ Run (Notrace 0 (record { append = true; remove = false; clear = false; set = true ∷ [] })) ∷ Run (Register 0) ∷ Run (MaxDepth 0) ∷ Run (Notrace 1 (record { append = false; remove = true; clear = false; set = true ∷ [] })) ∷ Run (Register 2) ∷ []; schedule = record { who = OfControl; count = 5 } ∷ record { who = OfControl; count = 1 } ∷ record { who = OfControl; count = 9 } ∷ record { who = OfCpu (record { 0 = 0 }); count = 6 } ∷ record { who = OfControl; count = 7 } ∷ record { who = OfCpu (record { 0 = 0 }); count = 10 } ∷ record { who = OfCpu (record { 0 = 0 }); count = 2 } ∷ record { who = All; count = 300 } ∷ [] }
+job_14 = record { version = 1; functions = named (codes "a") None ∷ []; users = record { name = codes "u0"; kind = Graph; regs = false; ipmodify = None; pid = true; act = None } ∷ record { name = codes "u1"; kind = Function; regs = true; ipmodify = Some (record { 0 = 0 }); pid = true; act = None } ∷ record { name = codes "u2"; kind = Fprobe true false; regs = false; ipmodify = None; pid = true; act = Some (IrqIn (record { 0 = 0 })) } ∷ []; frames = 3; tramps = 16; quanta = 1 ∷ []; tasks = record { pid = 10; cpu = 0; acts = After 2 ∷ Call (record { 0 = 0 }) ∷ After 1 ∷ After 6 ∷ After 5 ∷ RetAct ∷ Raise Softirq ∷ Lower ∷ Raise Irq ∷ Lower ∷ [] } ∷ record { pid = 11; cpu = 0; acts = After 5 ∷ Raise Irq ∷ Raise Nmi ∷ Call (record { 0 = 0 }) ∷ Call (record { 0 = 0 }) ∷ Call (record { 0 = 0 }) ∷ RetAct ∷ RetAct ∷ RetAct ∷ Lower ∷ Lower ∷ [] } ∷ []; ctls = Run (NoPid (true ∷ true ∷ [])) ∷ Run (Notrace 0 (record { append = true; remove = false; clear = false; set = true ∷ [] })) ∷ Run (Register 0) ∷ Run (MaxDepth 0) ∷ Run (Notrace 1 (record { append = false; remove = true; clear = false; set = true ∷ [] })) ∷ Run (Register 2) ∷ []; lines = usual_lines; rings = usual_rings; schedule = record { who = OfControl; count = 5 } ∷ record { who = OfControl; count = 1 } ∷ record { who = OfControl; count = 9 } ∷ record { who = OfCpu (record { 0 = 0 }); count = 6 } ∷ record { who = OfControl; count = 7 } ∷ record { who = OfCpu (record { 0 = 0 }); count = 10 } ∷ record { who = OfCpu (record { 0 = 0 }); count = 2 } ∷ record { who = All; count = 300 } ∷ [] }
 
 abbrev pub job_14-items : List Item
 job_14-items = Begin 1 ∷ Return 1 Accepted ∷ Begin 2 ∷ Return 2 Accepted ∷ Begin 3 ∷ Enter (call_in 0 1) Normal (record { 0 = 0 }) None ∷ Body (call_in 0 1) (record { 0 = 0 }) Nop ∷ Return 3 Accepted ∷ Begin 4 ∷ Return 4 Accepted ∷ Begin 5 ∷ Return 5 Accepted ∷ Begin 6 ∷ Enter (call_in 1 1) Nmi (record { 0 = 0 }) None ∷ Return 6 Accepted ∷ Refuse (call_in 1 1) (record { 0 = 2 }) ByPid ∷ Leave (call_in 0 1) ∷ Body (call_in 1 1) (record { 0 = 0 }) (Own (record { 0 = 2 })) ∷ Ret (call_in 0 1) None ∷ Enter (call_in 1 2) Nmi (record { 0 = 0 }) (Some (call_in 1 1)) ∷ Refuse (call_in 1 2) (record { 0 = 2 }) ByPid ∷ Body (call_in 1 2) (record { 0 = 0 }) (Own (record { 0 = 2 })) ∷ Enter (call_in 1 3) Nmi (record { 0 = 0 }) (Some (call_in 1 2)) ∷ Refuse (call_in 1 3) (record { 0 = 2 }) ByPid ∷ Body (call_in 1 3) (record { 0 = 0 }) (Own (record { 0 = 2 })) ∷ Leave (call_in 1 3) ∷ Ret (call_in 1 3) (Some (call_in 1 2)) ∷ Leave (call_in 1 2) ∷ Ret (call_in 1 2) (Some (call_in 1 1)) ∷ Leave (call_in 1 1) ∷ Ret (call_in 1 1) None ∷ []
@@ -123,7 +123,7 @@ unfolding actors_of repeated start step run played play all_end control_next con
 job_14-plays = (refl, refl)
 
 abbrev pub job_15 : Job
-job_15 = record { functions = named (codes "a") None ∷ named (codes "b") None ∷ []; users = record { name = codes "u0"; kind = Function; regs = false; ipmodify = None; pid = true; act = None } ∷ []; frames = 2; tramps = 0; quanta = 7 ∷ 3 ∷ []; tasks = record { pid = 10; cpu = 0; acts = Call (record { 0 = 1 }) ∷ Call (record { 0 = 1 }) ∷ After 4 ∷ Call (record { 0 = 1 }) ∷ Call (record { 0 = 1 }) ∷ After 4 ∷ Call (record { 0 = 0 }) ∷ RetAct ∷ RetAct ∷ RetAct ∷ RetAct ∷ RetAct ∷ [] } ∷ []; ctls = Run (Register 0) ∷ Run (Register 0) ∷ Until 0 2 ∷ Run (Register 0) ∷ Run (Unregister 0) ∷ []; schedule = record { who = OfCpu (record { 0 = 0 }); count = 5 } ∷ record { who = OfCpu (record { 0 = 0 }); count = 31 } ∷ record { who = OfControl; count = 8 } ∷ record { who = OfCpu (record { 0 = 1 }); count = 32 } ∷ record { who = OfCpu (record { 0 = 0 }); count = 25 } ∷ record { who = OfControl; count = 17 } ∷ record { who = OfCpu (record { 0 = 1 }); count = 6 } ∷ record { who = OfCpu (record { 0 = 0 }); count = 5 } ∷ record { who = OfControl; count = 29 } ∷ record { who = OfControl; count = 17 } ∷ record { who = OfControl; count = 32 } ∷ record { who = OfCpu (record { 0 = 1 }); count = 31 } ∷ record { who = OfCpu (record { 0 = 0 }); count = 3 } ∷ record { who = OfCpu (record { 0 = 1 }); count = 4 } ∷ record { who = All; count = 300 } ∷ [] }
+job_15 = record { version = 1; functions = named (codes "a") None ∷ named (codes "b") None ∷ []; users = record { name = codes "u0"; kind = Function; regs = false; ipmodify = None; pid = true; act = None } ∷ []; frames = 2; tramps = 0; quanta = 7 ∷ 3 ∷ []; tasks = record { pid = 10; cpu = 0; acts = Call (record { 0 = 1 }) ∷ Call (record { 0 = 1 }) ∷ After 4 ∷ Call (record { 0 = 1 }) ∷ Call (record { 0 = 1 }) ∷ After 4 ∷ Call (record { 0 = 0 }) ∷ RetAct ∷ RetAct ∷ RetAct ∷ RetAct ∷ RetAct ∷ [] } ∷ []; ctls = Run (Register 0) ∷ Run (Register 0) ∷ Until 0 2 ∷ Run (Register 0) ∷ Run (Unregister 0) ∷ []; lines = usual_lines; rings = usual_rings; schedule = record { who = OfCpu (record { 0 = 0 }); count = 5 } ∷ record { who = OfCpu (record { 0 = 0 }); count = 31 } ∷ record { who = OfControl; count = 8 } ∷ record { who = OfCpu (record { 0 = 1 }); count = 32 } ∷ record { who = OfCpu (record { 0 = 0 }); count = 25 } ∷ record { who = OfControl; count = 17 } ∷ record { who = OfCpu (record { 0 = 1 }); count = 6 } ∷ record { who = OfCpu (record { 0 = 0 }); count = 5 } ∷ record { who = OfControl; count = 29 } ∷ record { who = OfControl; count = 17 } ∷ record { who = OfControl; count = 32 } ∷ record { who = OfCpu (record { 0 = 1 }); count = 31 } ∷ record { who = OfCpu (record { 0 = 0 }); count = 3 } ∷ record { who = OfCpu (record { 0 = 1 }); count = 4 } ∷ record { who = All; count = 300 } ∷ [] }
 
 abbrev pub job_15-items : List Item
 job_15-items = Enter (call_in 0 1) Normal (record { 0 = 1 }) None ∷ Body (call_in 0 1) (record { 0 = 1 }) Nop ∷ Enter (call_in 0 2) Normal (record { 0 = 1 }) (Some (call_in 0 1)) ∷ Body (call_in 0 2) (record { 0 = 1 }) Nop ∷ Begin 1 ∷ Return 1 Accepted ∷ Begin 2 ∷ Return 2 Already ∷ Begin 3 ∷ Return 3 Already ∷ Begin 4 ∷ Return 4 Accepted ∷ Enter (call_in 0 3) Normal (record { 0 = 1 }) (Some (call_in 0 2)) ∷ Body (call_in 0 3) (record { 0 = 1 }) Nop ∷ Enter (call_in 0 4) Normal (record { 0 = 1 }) (Some (call_in 0 3)) ∷ Body (call_in 0 4) (record { 0 = 1 }) Nop ∷ Enter (call_in 0 5) Normal (record { 0 = 0 }) (Some (call_in 0 4)) ∷ Body (call_in 0 5) (record { 0 = 0 }) Nop ∷ Leave (call_in 0 5) ∷ Ret (call_in 0 5) (Some (call_in 0 4)) ∷ Leave (call_in 0 4) ∷ Ret (call_in 0 4) (Some (call_in 0 3)) ∷ Leave (call_in 0 3) ∷ Ret (call_in 0 3) (Some (call_in 0 2)) ∷ Leave (call_in 0 2) ∷ Ret (call_in 0 2) (Some (call_in 0 1)) ∷ Leave (call_in 0 1) ∷ Ret (call_in 0 1) None ∷ []
@@ -133,7 +133,7 @@ unfolding actors_of repeated start step run played play all_end control_next con
 job_15-plays = (refl, refl)
 
 abbrev pub job_16 : Job
-job_16 = record { functions = named (codes "a") (Some (codes "m")) ∷ named (codes "b") (Some (codes "m")) ∷ named (codes "c") (Some (codes "m")) ∷ []; users = record { name = codes "u0"; kind = Function; regs = false; ipmodify = None; pid = true; act = Some (CallIn (record { 0 = 0 })) } ∷ record { name = codes "u1"; kind = Fprobe true true; regs = true; ipmodify = None; pid = false; act = None } ∷ record { name = codes "u2"; kind = Fprobe false false; regs = true; ipmodify = None; pid = false; act = Some (CallIn (record { 0 = 1 })) } ∷ record { name = codes "u3"; kind = Fprobe true false; regs = false; ipmodify = None; pid = false; act = Some (IrqIn (record { 0 = 1 })) } ∷ []; frames = 50; tramps = 0; quanta = 3 ∷ []; tasks = record { pid = 10; cpu = 0; acts = Raise Irq ∷ Lower ∷ Raise Nmi ∷ Call (record { 0 = 1 }) ∷ Call (record { 0 = 1 }) ∷ RetAct ∷ RetAct ∷ Lower ∷ [] } ∷ record { pid = 11; cpu = 0; acts = After 1 ∷ Raise Nmi ∷ Lower ∷ Call (record { 0 = 1 }) ∷ Call (record { 0 = 1 }) ∷ RetAct ∷ RetAct ∷ [] } ∷ []; ctls = Run (Unregister 0) ∷ Run (MaxDepth 1) ∷ Run (Filter 3 (record { append = true; remove = true; clear = false; set = true ∷ false ∷ false ∷ [] })) ∷ Until 1 1 ∷ Run (Register 0) ∷ Run (NoPid (true ∷ false ∷ [])) ∷ []; schedule = record { who = OfControl; count = 3 } ∷ record { who = OfCpu (record { 0 = 0 }); count = 7 } ∷ record { who = OfCpu (record { 0 = 0 }); count = 1 } ∷ record { who = OfCpu (record { 0 = 0 }); count = 8 } ∷ record { who = OfCpu (record { 0 = 0 }); count = 8 } ∷ record { who = OfCpu (record { 0 = 0 }); count = 1 } ∷ record { who = OfControl; count = 1 } ∷ record { who = All; count = 300 } ∷ [] }
+job_16 = record { version = 1; functions = named (codes "a") (Some (codes "m")) ∷ named (codes "b") (Some (codes "m")) ∷ named (codes "c") (Some (codes "m")) ∷ []; users = record { name = codes "u0"; kind = Function; regs = false; ipmodify = None; pid = true; act = Some (CallIn (record { 0 = 0 })) } ∷ record { name = codes "u1"; kind = Fprobe true true; regs = true; ipmodify = None; pid = false; act = None } ∷ record { name = codes "u2"; kind = Fprobe false false; regs = true; ipmodify = None; pid = false; act = Some (CallIn (record { 0 = 1 })) } ∷ record { name = codes "u3"; kind = Fprobe true false; regs = false; ipmodify = None; pid = false; act = Some (IrqIn (record { 0 = 1 })) } ∷ []; frames = 50; tramps = 0; quanta = 3 ∷ []; tasks = record { pid = 10; cpu = 0; acts = Raise Irq ∷ Lower ∷ Raise Nmi ∷ Call (record { 0 = 1 }) ∷ Call (record { 0 = 1 }) ∷ RetAct ∷ RetAct ∷ Lower ∷ [] } ∷ record { pid = 11; cpu = 0; acts = After 1 ∷ Raise Nmi ∷ Lower ∷ Call (record { 0 = 1 }) ∷ Call (record { 0 = 1 }) ∷ RetAct ∷ RetAct ∷ [] } ∷ []; ctls = Run (Unregister 0) ∷ Run (MaxDepth 1) ∷ Run (Filter 3 (record { append = true; remove = true; clear = false; set = true ∷ false ∷ false ∷ [] })) ∷ Until 1 1 ∷ Run (Register 0) ∷ Run (NoPid (true ∷ false ∷ [])) ∷ []; lines = usual_lines; rings = usual_rings; schedule = record { who = OfControl; count = 3 } ∷ record { who = OfCpu (record { 0 = 0 }); count = 7 } ∷ record { who = OfCpu (record { 0 = 0 }); count = 1 } ∷ record { who = OfCpu (record { 0 = 0 }); count = 8 } ∷ record { who = OfCpu (record { 0 = 0 }); count = 8 } ∷ record { who = OfCpu (record { 0 = 0 }); count = 1 } ∷ record { who = OfControl; count = 1 } ∷ record { who = All; count = 300 } ∷ [] }
 
 abbrev pub job_16-items : List Item
 job_16-items = Begin 1 ∷ Return 1 NotThere ∷ Begin 2 ∷ Enter (call_in 0 1) Nmi (record { 0 = 1 }) None ∷ Enter (call_in 1 1) Normal (record { 0 = 1 }) None ∷ Body (call_in 0 1) (record { 0 = 1 }) Nop ∷ Body (call_in 1 1) (record { 0 = 1 }) Nop ∷ Enter (call_in 0 2) Nmi (record { 0 = 1 }) (Some (call_in 0 1)) ∷ Body (call_in 0 2) (record { 0 = 1 }) Nop ∷ Enter (call_in 1 2) Normal (record { 0 = 1 }) (Some (call_in 1 1)) ∷ Return 2 Accepted ∷ Begin 3 ∷ Leave (call_in 0 2) ∷ Return 3 Accepted ∷ Ret (call_in 0 2) (Some (call_in 0 1)) ∷ Begin 4 ∷ Body (call_in 1 2) (record { 0 = 1 }) Nop ∷ Leave (call_in 0 1) ∷ Ret (call_in 0 1) None ∷ Leave (call_in 1 2) ∷ Ret (call_in 1 2) (Some (call_in 1 1)) ∷ Leave (call_in 1 1) ∷ Ret (call_in 1 1) None ∷ Return 4 Accepted ∷ Begin 5 ∷ Return 5 Accepted ∷ []
@@ -143,7 +143,7 @@ unfolding actors_of repeated start step run played play all_end control_next con
 job_16-plays = (refl, refl)
 
 abbrev pub job_21 : Job
-job_21 = record { functions = named (codes "a") (Some (codes "m")) ∷ named (codes "b") (Some (codes "m")) ∷ []; users = record { name = codes "u0"; kind = Fprobe true true; regs = false; ipmodify = None; pid = false; act = Some (CallIn (record { 0 = 0 })) } ∷ record { name = codes "u1"; kind = Fprobe false false; regs = false; ipmodify = None; pid = false; act = None } ∷ []; frames = 3; tramps = 1; quanta = 1 ∷ 3 ∷ []; tasks = record { pid = 10; cpu = 1; acts = Call (record { 0 = 0 }) ∷ Call (record { 0 = 0 }) ∷ RetAct ∷ RetAct ∷ Call (record { 0 = 1 }) ∷ Call (record { 0 = 0 }) ∷ RetAct ∷ RetAct ∷ [] } ∷ record { pid = 11; cpu = 0; acts = After 1 ∷ Raise Nmi ∷ Lower ∷ [] } ∷ []; ctls = Run (Register 1) ∷ Run (Register 1) ∷ []; schedule = record { who = OfCpu (record { 0 = 0 }); count = 5 } ∷ record { who = OfCpu (record { 0 = 1 }); count = 39 } ∷ record { who = OfCpu (record { 0 = 1 }); count = 34 } ∷ record { who = OfControl; count = 37 } ∷ record { who = All; count = 300 } ∷ [] }
+job_21 = record { version = 1; functions = named (codes "a") (Some (codes "m")) ∷ named (codes "b") (Some (codes "m")) ∷ []; users = record { name = codes "u0"; kind = Fprobe true true; regs = false; ipmodify = None; pid = false; act = Some (CallIn (record { 0 = 0 })) } ∷ record { name = codes "u1"; kind = Fprobe false false; regs = false; ipmodify = None; pid = false; act = None } ∷ []; frames = 3; tramps = 1; quanta = 1 ∷ 3 ∷ []; tasks = record { pid = 10; cpu = 1; acts = Call (record { 0 = 0 }) ∷ Call (record { 0 = 0 }) ∷ RetAct ∷ RetAct ∷ Call (record { 0 = 1 }) ∷ Call (record { 0 = 0 }) ∷ RetAct ∷ RetAct ∷ [] } ∷ record { pid = 11; cpu = 0; acts = After 1 ∷ Raise Nmi ∷ Lower ∷ [] } ∷ []; ctls = Run (Register 1) ∷ Run (Register 1) ∷ []; lines = usual_lines; rings = usual_rings; schedule = record { who = OfCpu (record { 0 = 0 }); count = 5 } ∷ record { who = OfCpu (record { 0 = 1 }); count = 39 } ∷ record { who = OfCpu (record { 0 = 1 }); count = 34 } ∷ record { who = OfControl; count = 37 } ∷ record { who = All; count = 300 } ∷ [] }
 
 abbrev pub job_21-items : List Item
 job_21-items = Enter (call_in 0 1) Normal (record { 0 = 0 }) None ∷ Body (call_in 0 1) (record { 0 = 0 }) Nop ∷ Enter (call_in 0 2) Normal (record { 0 = 0 }) (Some (call_in 0 1)) ∷ Body (call_in 0 2) (record { 0 = 0 }) Nop ∷ Leave (call_in 0 2) ∷ Ret (call_in 0 2) (Some (call_in 0 1)) ∷ Leave (call_in 0 1) ∷ Ret (call_in 0 1) None ∷ Enter (call_in 0 3) Normal (record { 0 = 1 }) None ∷ Body (call_in 0 3) (record { 0 = 1 }) Nop ∷ Enter (call_in 0 4) Normal (record { 0 = 0 }) (Some (call_in 0 3)) ∷ Body (call_in 0 4) (record { 0 = 0 }) Nop ∷ Leave (call_in 0 4) ∷ Ret (call_in 0 4) (Some (call_in 0 3)) ∷ Leave (call_in 0 3) ∷ Ret (call_in 0 3) None ∷ Begin 1 ∷ Return 1 Accepted ∷ Begin 2 ∷ Return 2 Already ∷ []
@@ -153,7 +153,7 @@ unfolding actors_of repeated start step run played play all_end control_next con
 job_21-plays = (refl, refl)
 
 abbrev pub job_22 : Job
-job_22 = record { functions = named (codes "a") None ∷ named (codes "b") None ∷ []; users = record { name = codes "u0"; kind = Fprobe true false; regs = false; ipmodify = None; pid = false; act = Some (CallIn (record { 0 = 0 })) } ∷ []; frames = 50; tramps = 0; quanta = 7 ∷ []; tasks = record { pid = 10; cpu = 0; acts = Raise Softirq ∷ Raise Nmi ∷ Lower ∷ Lower ∷ [] } ∷ []; ctls = Until 0 1 ∷ Run (NoPid (false ∷ [])) ∷ Run (MaxDepth 2) ∷ Run (Pid (true ∷ [])) ∷ Run (Unregister 0) ∷ Run (Register 0) ∷ Run (Register 0) ∷ []; schedule = record { who = OfCpu (record { 0 = 0 }); count = 6 } ∷ record { who = OfControl; count = 29 } ∷ record { who = OfCpu (record { 0 = 0 }); count = 7 } ∷ record { who = OfCpu (record { 0 = 0 }); count = 26 } ∷ record { who = OfControl; count = 13 } ∷ record { who = OfControl; count = 26 } ∷ record { who = OfControl; count = 7 } ∷ record { who = OfCpu (record { 0 = 0 }); count = 13 } ∷ record { who = OfControl; count = 2 } ∷ record { who = OfCpu (record { 0 = 0 }); count = 23 } ∷ record { who = OfControl; count = 22 } ∷ record { who = OfCpu (record { 0 = 0 }); count = 41 } ∷ record { who = OfControl; count = 29 } ∷ record { who = OfControl; count = 5 } ∷ record { who = OfControl; count = 42 } ∷ record { who = OfControl; count = 42 } ∷ record { who = OfControl; count = 4 } ∷ record { who = OfControl; count = 27 } ∷ record { who = OfControl; count = 10 } ∷ record { who = OfCpu (record { 0 = 0 }); count = 3 } ∷ record { who = OfControl; count = 32 } ∷ record { who = OfControl; count = 38 } ∷ record { who = OfCpu (record { 0 = 0 }); count = 44 } ∷ record { who = OfCpu (record { 0 = 0 }); count = 31 } ∷ record { who = OfControl; count = 42 } ∷ record { who = OfCpu (record { 0 = 0 }); count = 8 } ∷ record { who = OfCpu (record { 0 = 0 }); count = 8 } ∷ record { who = OfControl; count = 12 } ∷ record { who = All; count = 300 } ∷ [] }
+job_22 = record { version = 1; functions = named (codes "a") None ∷ named (codes "b") None ∷ []; users = record { name = codes "u0"; kind = Fprobe true false; regs = false; ipmodify = None; pid = false; act = Some (CallIn (record { 0 = 0 })) } ∷ []; frames = 50; tramps = 0; quanta = 7 ∷ []; tasks = record { pid = 10; cpu = 0; acts = Raise Softirq ∷ Raise Nmi ∷ Lower ∷ Lower ∷ [] } ∷ []; ctls = Until 0 1 ∷ Run (NoPid (false ∷ [])) ∷ Run (MaxDepth 2) ∷ Run (Pid (true ∷ [])) ∷ Run (Unregister 0) ∷ Run (Register 0) ∷ Run (Register 0) ∷ []; lines = usual_lines; rings = usual_rings; schedule = record { who = OfCpu (record { 0 = 0 }); count = 6 } ∷ record { who = OfControl; count = 29 } ∷ record { who = OfCpu (record { 0 = 0 }); count = 7 } ∷ record { who = OfCpu (record { 0 = 0 }); count = 26 } ∷ record { who = OfControl; count = 13 } ∷ record { who = OfControl; count = 26 } ∷ record { who = OfControl; count = 7 } ∷ record { who = OfCpu (record { 0 = 0 }); count = 13 } ∷ record { who = OfControl; count = 2 } ∷ record { who = OfCpu (record { 0 = 0 }); count = 23 } ∷ record { who = OfControl; count = 22 } ∷ record { who = OfCpu (record { 0 = 0 }); count = 41 } ∷ record { who = OfControl; count = 29 } ∷ record { who = OfControl; count = 5 } ∷ record { who = OfControl; count = 42 } ∷ record { who = OfControl; count = 42 } ∷ record { who = OfControl; count = 4 } ∷ record { who = OfControl; count = 27 } ∷ record { who = OfControl; count = 10 } ∷ record { who = OfCpu (record { 0 = 0 }); count = 3 } ∷ record { who = OfControl; count = 32 } ∷ record { who = OfControl; count = 38 } ∷ record { who = OfCpu (record { 0 = 0 }); count = 44 } ∷ record { who = OfCpu (record { 0 = 0 }); count = 31 } ∷ record { who = OfControl; count = 42 } ∷ record { who = OfCpu (record { 0 = 0 }); count = 8 } ∷ record { who = OfCpu (record { 0 = 0 }); count = 8 } ∷ record { who = OfControl; count = 12 } ∷ record { who = All; count = 300 } ∷ [] }
 
 abbrev pub job_22-items : List Item
 job_22-items = Begin 1 ∷ Return 1 Accepted ∷ Begin 2 ∷ Return 2 Accepted ∷ Begin 3 ∷ Return 3 Accepted ∷ Begin 4 ∷ Return 4 NotThere ∷ Begin 5 ∷ Return 5 Accepted ∷ Begin 6 ∷ Return 6 Already ∷ []
@@ -163,7 +163,7 @@ unfolding actors_of repeated start step run played play all_end control_next con
 job_22-plays = (refl, refl)
 
 abbrev pub job_24 : Job
-job_24 = record { functions = named (codes "a") None ∷ named (codes "b") None ∷ named (codes "c") None ∷ named (codes "d") None ∷ []; users = record { name = codes "u0"; kind = Fprobe true false; regs = false; ipmodify = None; pid = true; act = Some (IrqIn (record { 0 = 0 })) } ∷ []; frames = 2; tramps = 16; quanta = 1 ∷ []; tasks = record { pid = 10; cpu = 0; acts = Raise Irq ∷ Call (record { 0 = 2 }) ∷ RetAct ∷ Lower ∷ Call (record { 0 = 2 }) ∷ Call (record { 0 = 2 }) ∷ RetAct ∷ Call (record { 0 = 1 }) ∷ RetAct ∷ RetAct ∷ [] } ∷ []; ctls = Run (Register 0) ∷ Run (Disable 0) ∷ Run (MaxDepth 0) ∷ Run (Pid (false ∷ [])) ∷ Run (Unregister 0) ∷ Run (Filter 0 (record { append = false; remove = false; clear = false; set = false ∷ false ∷ true ∷ false ∷ [] })) ∷ []; schedule = record { who = OfCpu (record { 0 = 0 }); count = 2 } ∷ record { who = OfControl; count = 15 } ∷ record { who = OfCpu (record { 0 = 0 }); count = 15 } ∷ record { who = OfCpu (record { 0 = 0 }); count = 3 } ∷ record { who = OfControl; count = 3 } ∷ record { who = OfCpu (record { 0 = 0 }); count = 14 } ∷ record { who = OfCpu (record { 0 = 0 }); count = 18 } ∷ record { who = OfCpu (record { 0 = 0 }); count = 19 } ∷ record { who = OfCpu (record { 0 = 0 }); count = 13 } ∷ record { who = OfControl; count = 10 } ∷ record { who = OfCpu (record { 0 = 0 }); count = 12 } ∷ record { who = All; count = 300 } ∷ [] }
+job_24 = record { version = 1; functions = named (codes "a") None ∷ named (codes "b") None ∷ named (codes "c") None ∷ named (codes "d") None ∷ []; users = record { name = codes "u0"; kind = Fprobe true false; regs = false; ipmodify = None; pid = true; act = Some (IrqIn (record { 0 = 0 })) } ∷ []; frames = 2; tramps = 16; quanta = 1 ∷ []; tasks = record { pid = 10; cpu = 0; acts = Raise Irq ∷ Call (record { 0 = 2 }) ∷ RetAct ∷ Lower ∷ Call (record { 0 = 2 }) ∷ Call (record { 0 = 2 }) ∷ RetAct ∷ Call (record { 0 = 1 }) ∷ RetAct ∷ RetAct ∷ [] } ∷ []; ctls = Run (Register 0) ∷ Run (Disable 0) ∷ Run (MaxDepth 0) ∷ Run (Pid (false ∷ [])) ∷ Run (Unregister 0) ∷ Run (Filter 0 (record { append = false; remove = false; clear = false; set = false ∷ false ∷ true ∷ false ∷ [] })) ∷ []; lines = usual_lines; rings = usual_rings; schedule = record { who = OfCpu (record { 0 = 0 }); count = 2 } ∷ record { who = OfControl; count = 15 } ∷ record { who = OfCpu (record { 0 = 0 }); count = 15 } ∷ record { who = OfCpu (record { 0 = 0 }); count = 3 } ∷ record { who = OfControl; count = 3 } ∷ record { who = OfCpu (record { 0 = 0 }); count = 14 } ∷ record { who = OfCpu (record { 0 = 0 }); count = 18 } ∷ record { who = OfCpu (record { 0 = 0 }); count = 19 } ∷ record { who = OfCpu (record { 0 = 0 }); count = 13 } ∷ record { who = OfControl; count = 10 } ∷ record { who = OfCpu (record { 0 = 0 }); count = 12 } ∷ record { who = All; count = 300 } ∷ [] }
 
 abbrev pub job_24-items : List Item
 job_24-items = Begin 1 ∷ Enter (call_in 0 1) Irq (record { 0 = 2 }) None ∷ Back (call_in 0 1) (record { 0 = 0 }) ∷ BackEnd (call_in 0 1) (record { 0 = 0 }) ∷ Body (call_in 0 1) (record { 0 = 2 }) (Own (record { 0 = 0 })) ∷ Leave (call_in 0 1) ∷ Exit (call_in 0 1) (record { 0 = 0 }) 2 ∷ ExitEnd (call_in 0 1) (record { 0 = 0 }) ∷ Ret (call_in 0 1) None ∷ Enter (call_in 0 2) Normal (record { 0 = 2 }) None ∷ Back (call_in 0 2) (record { 0 = 0 }) ∷ Enter (call_in 0 3) Irq (record { 0 = 0 }) (Some (call_in 0 2)) ∷ Back (call_in 0 3) (record { 0 = 0 }) ∷ BackEnd (call_in 0 3) (record { 0 = 0 }) ∷ Body (call_in 0 3) (record { 0 = 0 }) (Own (record { 0 = 0 })) ∷ Leave (call_in 0 3) ∷ Exit (call_in 0 3) (record { 0 = 0 }) 12 ∷ ExitEnd (call_in 0 3) (record { 0 = 0 }) ∷ Ret (call_in 0 3) (Some (call_in 0 2)) ∷ BackEnd (call_in 0 2) (record { 0 = 0 }) ∷ Body (call_in 0 2) (record { 0 = 2 }) (Own (record { 0 = 0 })) ∷ Enter (call_in 0 4) Normal (record { 0 = 2 }) (Some (call_in 0 2)) ∷ Back (call_in 0 4) (record { 0 = 0 }) ∷ Enter (call_in 0 5) Irq (record { 0 = 0 }) (Some (call_in 0 4)) ∷ Back (call_in 0 5) (record { 0 = 0 }) ∷ Miss (call_in 0 5) (record { 0 = 0 }) ∷ BackEnd (call_in 0 5) (record { 0 = 0 }) ∷ Body (call_in 0 5) (record { 0 = 0 }) (Own (record { 0 = 0 })) ∷ Leave (call_in 0 5) ∷ Ret (call_in 0 5) (Some (call_in 0 4)) ∷ BackEnd (call_in 0 4) (record { 0 = 0 }) ∷ Body (call_in 0 4) (record { 0 = 2 }) (Own (record { 0 = 0 })) ∷ Leave (call_in 0 4) ∷ Exit (call_in 0 4) (record { 0 = 0 }) 22 ∷ ExitEnd (call_in 0 4) (record { 0 = 0 }) ∷ Ret (call_in 0 4) (Some (call_in 0 2)) ∷ Enter (call_in 0 6) Normal (record { 0 = 1 }) (Some (call_in 0 2)) ∷ Back (call_in 0 6) (record { 0 = 0 }) ∷ Enter (call_in 0 7) Irq (record { 0 = 0 }) (Some (call_in 0 6)) ∷ Back (call_in 0 7) (record { 0 = 0 }) ∷ Miss (call_in 0 7) (record { 0 = 0 }) ∷ BackEnd (call_in 0 7) (record { 0 = 0 }) ∷ Body (call_in 0 7) (record { 0 = 0 }) (Own (record { 0 = 0 })) ∷ Leave (call_in 0 7) ∷ Ret (call_in 0 7) (Some (call_in 0 6)) ∷ BackEnd (call_in 0 6) (record { 0 = 0 }) ∷ Body (call_in 0 6) (record { 0 = 1 }) (Own (record { 0 = 0 })) ∷ Leave (call_in 0 6) ∷ Exit (call_in 0 6) (record { 0 = 0 }) 37 ∷ ExitEnd (call_in 0 6) (record { 0 = 0 }) ∷ Ret (call_in 0 6) (Some (call_in 0 2)) ∷ Return 1 Accepted ∷ Leave (call_in 0 2) ∷ Begin 2 ∷ Exit (call_in 0 2) (record { 0 = 0 }) 10 ∷ ExitEnd (call_in 0 2) (record { 0 = 0 }) ∷ Ret (call_in 0 2) None ∷ Return 2 Accepted ∷ Begin 3 ∷ Return 3 Accepted ∷ Begin 4 ∷ Return 4 Accepted ∷ Begin 5 ∷ Return 5 Accepted ∷ Begin 6 ∷ Return 6 Accepted ∷ []
@@ -173,7 +173,7 @@ unfolding actors_of repeated start step run played play all_end control_next con
 job_24-plays = (refl, refl)
 
 abbrev pub job_26 : Job
-job_26 = record { functions = named (codes "a") None ∷ named (codes "b") (Some (codes "m")) ∷ []; users = record { name = codes "u0"; kind = Function; regs = false; ipmodify = None; pid = false; act = None } ∷ record { name = codes "u1"; kind = Function; regs = false; ipmodify = None; pid = false; act = Some (CallIn (record { 0 = 0 })) } ∷ record { name = codes "u2"; kind = Fprobe false false; regs = false; ipmodify = None; pid = false; act = None } ∷ record { name = codes "u3"; kind = Graph; regs = false; ipmodify = None; pid = false; act = None } ∷ []; frames = 1; tramps = 0; quanta = 15 ∷ 15 ∷ []; tasks = record { pid = 10; cpu = 0; acts = After 3 ∷ After 4 ∷ After 5 ∷ Raise Softirq ∷ Call (record { 0 = 0 }) ∷ RetAct ∷ Lower ∷ [] } ∷ record { pid = 11; cpu = 0; acts = After 2 ∷ Raise Softirq ∷ Lower ∷ Call (record { 0 = 1 }) ∷ Raise Irq ∷ Raise Nmi ∷ Call (record { 0 = 0 }) ∷ RetAct ∷ Lower ∷ Lower ∷ RetAct ∷ [] } ∷ record { pid = 12; cpu = 0; acts = Call (record { 0 = 1 }) ∷ Call (record { 0 = 1 }) ∷ RetAct ∷ Raise Softirq ∷ Call (record { 0 = 0 }) ∷ RetAct ∷ Lower ∷ RetAct ∷ [] } ∷ []; ctls = Run (Register 3) ∷ Run (Pid (false ∷ true ∷ false ∷ [])) ∷ Run (Register 0) ∷ Run (Notrace 3 (record { append = true; remove = false; clear = false; set = false ∷ true ∷ [] })) ∷ Until 0 2 ∷ Run (Register 3) ∷ []; schedule = record { who = OfCpu (record { 0 = 1 }); count = 1 } ∷ record { who = OfCpu (record { 0 = 1 }); count = 1 } ∷ record { who = OfCpu (record { 0 = 1 }); count = 1 } ∷ record { who = OfControl; count = 1 } ∷ record { who = OfCpu (record { 0 = 0 }); count = 1 } ∷ record { who = OfCpu (record { 0 = 0 }); count = 1 } ∷ record { who = OfControl; count = 2 } ∷ record { who = OfCpu (record { 0 = 0 }); count = 2 } ∷ record { who = OfCpu (record { 0 = 0 }); count = 1 } ∷ record { who = OfCpu (record { 0 = 1 }); count = 2 } ∷ record { who = OfControl; count = 1 } ∷ record { who = OfCpu (record { 0 = 1 }); count = 3 } ∷ record { who = OfControl; count = 1 } ∷ record { who = OfControl; count = 1 } ∷ record { who = OfControl; count = 1 } ∷ record { who = OfControl; count = 3 } ∷ record { who = OfCpu (record { 0 = 1 }); count = 1 } ∷ record { who = OfControl; count = 3 } ∷ record { who = OfCpu (record { 0 = 1 }); count = 3 } ∷ record { who = OfCpu (record { 0 = 1 }); count = 1 } ∷ record { who = All; count = 300 } ∷ [] }
+job_26 = record { version = 1; functions = named (codes "a") None ∷ named (codes "b") (Some (codes "m")) ∷ []; users = record { name = codes "u0"; kind = Function; regs = false; ipmodify = None; pid = false; act = None } ∷ record { name = codes "u1"; kind = Function; regs = false; ipmodify = None; pid = false; act = Some (CallIn (record { 0 = 0 })) } ∷ record { name = codes "u2"; kind = Fprobe false false; regs = false; ipmodify = None; pid = false; act = None } ∷ record { name = codes "u3"; kind = Graph; regs = false; ipmodify = None; pid = false; act = None } ∷ []; frames = 1; tramps = 0; quanta = 15 ∷ 15 ∷ []; tasks = record { pid = 10; cpu = 0; acts = After 3 ∷ After 4 ∷ After 5 ∷ Raise Softirq ∷ Call (record { 0 = 0 }) ∷ RetAct ∷ Lower ∷ [] } ∷ record { pid = 11; cpu = 0; acts = After 2 ∷ Raise Softirq ∷ Lower ∷ Call (record { 0 = 1 }) ∷ Raise Irq ∷ Raise Nmi ∷ Call (record { 0 = 0 }) ∷ RetAct ∷ Lower ∷ Lower ∷ RetAct ∷ [] } ∷ record { pid = 12; cpu = 0; acts = Call (record { 0 = 1 }) ∷ Call (record { 0 = 1 }) ∷ RetAct ∷ Raise Softirq ∷ Call (record { 0 = 0 }) ∷ RetAct ∷ Lower ∷ RetAct ∷ [] } ∷ []; ctls = Run (Register 3) ∷ Run (Pid (false ∷ true ∷ false ∷ [])) ∷ Run (Register 0) ∷ Run (Notrace 3 (record { append = true; remove = false; clear = false; set = false ∷ true ∷ [] })) ∷ Until 0 2 ∷ Run (Register 3) ∷ []; lines = usual_lines; rings = usual_rings; schedule = record { who = OfCpu (record { 0 = 1 }); count = 1 } ∷ record { who = OfCpu (record { 0 = 1 }); count = 1 } ∷ record { who = OfCpu (record { 0 = 1 }); count = 1 } ∷ record { who = OfControl; count = 1 } ∷ record { who = OfCpu (record { 0 = 0 }); count = 1 } ∷ record { who = OfCpu (record { 0 = 0 }); count = 1 } ∷ record { who = OfControl; count = 2 } ∷ record { who = OfCpu (record { 0 = 0 }); count = 2 } ∷ record { who = OfCpu (record { 0 = 0 }); count = 1 } ∷ record { who = OfCpu (record { 0 = 1 }); count = 2 } ∷ record { who = OfControl; count = 1 } ∷ record { who = OfCpu (record { 0 = 1 }); count = 3 } ∷ record { who = OfControl; count = 1 } ∷ record { who = OfControl; count = 1 } ∷ record { who = OfControl; count = 1 } ∷ record { who = OfControl; count = 3 } ∷ record { who = OfCpu (record { 0 = 1 }); count = 1 } ∷ record { who = OfControl; count = 3 } ∷ record { who = OfCpu (record { 0 = 1 }); count = 3 } ∷ record { who = OfCpu (record { 0 = 1 }); count = 1 } ∷ record { who = All; count = 300 } ∷ [] }
 
 abbrev pub job_26-items : List Item
 job_26-items = Begin 1 ∷ Enter (call_in 2 1) Normal (record { 0 = 1 }) None ∷ Back (call_in 2 1) (record { 0 = 3 }) ∷ BackEnd (call_in 2 1) (record { 0 = 3 }) ∷ Body (call_in 2 1) (record { 0 = 1 }) ByList ∷ Enter (call_in 2 2) Normal (record { 0 = 1 }) (Some (call_in 2 1)) ∷ Refuse (call_in 2 2) (record { 0 = 3 }) Depth ∷ Body (call_in 2 2) (record { 0 = 1 }) ByList ∷ Return 1 Accepted ∷ Begin 2 ∷ Return 2 Accepted ∷ Leave (call_in 2 2) ∷ Begin 3 ∷ Ret (call_in 2 2) (Some (call_in 2 1)) ∷ Enter (call_in 2 3) Softirq (record { 0 = 0 }) (Some (call_in 2 1)) ∷ Return 3 Accepted ∷ Begin 4 ∷ Back (call_in 2 3) (record { 0 = 0 }) ∷ BackEnd (call_in 2 3) (record { 0 = 0 }) ∷ Enter (call_in 1 1) Normal (record { 0 = 1 }) None ∷ Back (call_in 1 1) (record { 0 = 0 }) ∷ Refuse (call_in 2 3) (record { 0 = 3 }) Depth ∷ Body (call_in 2 3) (record { 0 = 0 }) ByList ∷ Leave (call_in 2 3) ∷ Return 4 Accepted ∷ Ret (call_in 2 3) (Some (call_in 2 1)) ∷ Leave (call_in 2 1) ∷ Begin 5 ∷ BackEnd (call_in 1 1) (record { 0 = 0 }) ∷ Return 5 Already ∷ Body (call_in 1 1) (record { 0 = 1 }) ByList ∷ Enter (call_in 1 2) Nmi (record { 0 = 0 }) (Some (call_in 1 1)) ∷ Exit (call_in 2 1) (record { 0 = 3 }) 2 ∷ ExitEnd (call_in 2 1) (record { 0 = 3 }) ∷ Ret (call_in 2 1) None ∷ Enter (call_in 0 1) Softirq (record { 0 = 0 }) None ∷ Back (call_in 0 1) (record { 0 = 0 }) ∷ BackEnd (call_in 0 1) (record { 0 = 0 }) ∷ Back (call_in 1 2) (record { 0 = 0 }) ∷ BackEnd (call_in 1 2) (record { 0 = 0 }) ∷ Back (call_in 1 2) (record { 0 = 3 }) ∷ BackEnd (call_in 1 2) (record { 0 = 3 }) ∷ Body (call_in 1 2) (record { 0 = 0 }) ByList ∷ Back (call_in 0 1) (record { 0 = 3 }) ∷ BackEnd (call_in 0 1) (record { 0 = 3 }) ∷ Body (call_in 0 1) (record { 0 = 0 }) ByList ∷ Leave (call_in 0 1) ∷ Exit (call_in 0 1) (record { 0 = 3 }) 43 ∷ ExitEnd (call_in 0 1) (record { 0 = 3 }) ∷ Ret (call_in 0 1) None ∷ Leave (call_in 1 2) ∷ Exit (call_in 1 2) (record { 0 = 3 }) 40 ∷ ExitEnd (call_in 1 2) (record { 0 = 3 }) ∷ Ret (call_in 1 2) (Some (call_in 1 1)) ∷ Leave (call_in 1 1) ∷ Ret (call_in 1 1) None ∷ []
@@ -183,7 +183,7 @@ unfolding actors_of repeated start step run played play all_end control_next con
 job_26-plays = (refl, refl)
 
 abbrev pub job_30 : Job
-job_30 = record { functions = named (codes "a") None ∷ named (codes "b") None ∷ named (codes "c") (Some (codes "m")) ∷ []; users = record { name = codes "u0"; kind = Fprobe true false; regs = true; ipmodify = None; pid = false; act = Some (CallIn (record { 0 = 0 })) } ∷ record { name = codes "u1"; kind = Function; regs = false; ipmodify = None; pid = false; act = None } ∷ record { name = codes "u2"; kind = Profile; regs = true; ipmodify = None; pid = false; act = Some (IrqIn (record { 0 = 2 })) } ∷ record { name = codes "u3"; kind = Graph; regs = false; ipmodify = None; pid = false; act = None } ∷ []; frames = 1; tramps = 1; quanta = 15 ∷ 7 ∷ []; tasks = record { pid = 10; cpu = 1; acts = After 1 ∷ After 3 ∷ Call (record { 0 = 2 }) ∷ RetAct ∷ Raise Irq ∷ Raise Nmi ∷ Call (record { 0 = 2 }) ∷ After 2 ∷ RetAct ∷ Lower ∷ Lower ∷ [] } ∷ []; ctls = Run (Register 3) ∷ Run (NoPid (false ∷ [])) ∷ Run (Unregister 1) ∷ []; schedule = record { who = OfCpu (record { 0 = 0 }); count = 34 } ∷ record { who = OfControl; count = 11 } ∷ record { who = OfCpu (record { 0 = 0 }); count = 34 } ∷ record { who = OfCpu (record { 0 = 0 }); count = 2 } ∷ record { who = OfCpu (record { 0 = 1 }); count = 13 } ∷ record { who = OfControl; count = 22 } ∷ record { who = OfCpu (record { 0 = 1 }); count = 3 } ∷ record { who = OfCpu (record { 0 = 1 }); count = 36 } ∷ record { who = OfCpu (record { 0 = 0 }); count = 26 } ∷ record { who = OfCpu (record { 0 = 1 }); count = 41 } ∷ record { who = OfCpu (record { 0 = 1 }); count = 3 } ∷ record { who = OfCpu (record { 0 = 1 }); count = 29 } ∷ record { who = OfCpu (record { 0 = 1 }); count = 1 } ∷ record { who = OfControl; count = 39 } ∷ record { who = OfCpu (record { 0 = 0 }); count = 40 } ∷ record { who = All; count = 300 } ∷ [] }
+job_30 = record { version = 1; functions = named (codes "a") None ∷ named (codes "b") None ∷ named (codes "c") (Some (codes "m")) ∷ []; users = record { name = codes "u0"; kind = Fprobe true false; regs = true; ipmodify = None; pid = false; act = Some (CallIn (record { 0 = 0 })) } ∷ record { name = codes "u1"; kind = Function; regs = false; ipmodify = None; pid = false; act = None } ∷ record { name = codes "u2"; kind = Profile; regs = true; ipmodify = None; pid = false; act = Some (IrqIn (record { 0 = 2 })) } ∷ record { name = codes "u3"; kind = Graph; regs = false; ipmodify = None; pid = false; act = None } ∷ []; frames = 1; tramps = 1; quanta = 15 ∷ 7 ∷ []; tasks = record { pid = 10; cpu = 1; acts = After 1 ∷ After 3 ∷ Call (record { 0 = 2 }) ∷ RetAct ∷ Raise Irq ∷ Raise Nmi ∷ Call (record { 0 = 2 }) ∷ After 2 ∷ RetAct ∷ Lower ∷ Lower ∷ [] } ∷ []; ctls = Run (Register 3) ∷ Run (NoPid (false ∷ [])) ∷ Run (Unregister 1) ∷ []; lines = usual_lines; rings = usual_rings; schedule = record { who = OfCpu (record { 0 = 0 }); count = 34 } ∷ record { who = OfControl; count = 11 } ∷ record { who = OfCpu (record { 0 = 0 }); count = 34 } ∷ record { who = OfCpu (record { 0 = 0 }); count = 2 } ∷ record { who = OfCpu (record { 0 = 1 }); count = 13 } ∷ record { who = OfControl; count = 22 } ∷ record { who = OfCpu (record { 0 = 1 }); count = 3 } ∷ record { who = OfCpu (record { 0 = 1 }); count = 36 } ∷ record { who = OfCpu (record { 0 = 0 }); count = 26 } ∷ record { who = OfCpu (record { 0 = 1 }); count = 41 } ∷ record { who = OfCpu (record { 0 = 1 }); count = 3 } ∷ record { who = OfCpu (record { 0 = 1 }); count = 29 } ∷ record { who = OfCpu (record { 0 = 1 }); count = 1 } ∷ record { who = OfControl; count = 39 } ∷ record { who = OfCpu (record { 0 = 0 }); count = 40 } ∷ record { who = All; count = 300 } ∷ [] }
 
 abbrev pub job_30-items : List Item
 job_30-items = Begin 1 ∷ Return 1 Accepted ∷ Begin 2 ∷ Return 2 Accepted ∷ Begin 3 ∷ Return 3 NotThere ∷ Enter (call_in 0 1) Normal (record { 0 = 2 }) None ∷ Back (call_in 0 1) (record { 0 = 3 }) ∷ BackEnd (call_in 0 1) (record { 0 = 3 }) ∷ Body (call_in 0 1) (record { 0 = 2 }) (Own (record { 0 = 3 })) ∷ Leave (call_in 0 1) ∷ Exit (call_in 0 1) (record { 0 = 3 }) 7 ∷ ExitEnd (call_in 0 1) (record { 0 = 3 }) ∷ Ret (call_in 0 1) None ∷ Enter (call_in 0 2) Nmi (record { 0 = 2 }) None ∷ Back (call_in 0 2) (record { 0 = 3 }) ∷ BackEnd (call_in 0 2) (record { 0 = 3 }) ∷ Body (call_in 0 2) (record { 0 = 2 }) (Own (record { 0 = 3 })) ∷ Leave (call_in 0 2) ∷ Exit (call_in 0 2) (record { 0 = 3 }) 15 ∷ ExitEnd (call_in 0 2) (record { 0 = 3 }) ∷ Ret (call_in 0 2) None ∷ []
@@ -193,7 +193,7 @@ unfolding actors_of repeated start step run played play all_end control_next con
 job_30-plays = (refl, refl)
 
 abbrev pub job_31 : Job
-job_31 = record { functions = named (codes "a") (Some (codes "m")) ∷ []; users = record { name = codes "u0"; kind = Fprobe true false; regs = true; ipmodify = None; pid = true; act = None } ∷ record { name = codes "u1"; kind = Function; regs = true; ipmodify = None; pid = true; act = Some (CallIn (record { 0 = 0 })) } ∷ []; frames = 1; tramps = 1; quanta = 1 ∷ 7 ∷ []; tasks = record { pid = 10; cpu = 1; acts = After 1 ∷ Raise Irq ∷ Raise Nmi ∷ Lower ∷ Call (record { 0 = 0 }) ∷ RetAct ∷ Lower ∷ [] } ∷ record { pid = 11; cpu = 0; acts = Call (record { 0 = 0 }) ∷ RetAct ∷ Call (record { 0 = 0 }) ∷ Raise Softirq ∷ Call (record { 0 = 0 }) ∷ RetAct ∷ Call (record { 0 = 0 }) ∷ Call (record { 0 = 0 }) ∷ RetAct ∷ RetAct ∷ Lower ∷ RetAct ∷ [] } ∷ []; ctls = Run (MaxDepth 2) ∷ Run (Disable 1) ∷ Until 0 1 ∷ Run (NoPid (true ∷ true ∷ [])) ∷ []; schedule = record { who = OfControl; count = 2 } ∷ record { who = OfControl; count = 3 } ∷ record { who = OfControl; count = 2 } ∷ record { who = OfControl; count = 2 } ∷ record { who = OfCpu (record { 0 = 1 }); count = 3 } ∷ record { who = OfCpu (record { 0 = 0 }); count = 2 } ∷ record { who = OfCpu (record { 0 = 1 }); count = 2 } ∷ record { who = OfCpu (record { 0 = 1 }); count = 3 } ∷ record { who = OfControl; count = 1 } ∷ record { who = OfCpu (record { 0 = 0 }); count = 1 } ∷ record { who = All; count = 300 } ∷ [] }
+job_31 = record { version = 1; functions = named (codes "a") (Some (codes "m")) ∷ []; users = record { name = codes "u0"; kind = Fprobe true false; regs = true; ipmodify = None; pid = true; act = None } ∷ record { name = codes "u1"; kind = Function; regs = true; ipmodify = None; pid = true; act = Some (CallIn (record { 0 = 0 })) } ∷ []; frames = 1; tramps = 1; quanta = 1 ∷ 7 ∷ []; tasks = record { pid = 10; cpu = 1; acts = After 1 ∷ Raise Irq ∷ Raise Nmi ∷ Lower ∷ Call (record { 0 = 0 }) ∷ RetAct ∷ Lower ∷ [] } ∷ record { pid = 11; cpu = 0; acts = Call (record { 0 = 0 }) ∷ RetAct ∷ Call (record { 0 = 0 }) ∷ Raise Softirq ∷ Call (record { 0 = 0 }) ∷ RetAct ∷ Call (record { 0 = 0 }) ∷ Call (record { 0 = 0 }) ∷ RetAct ∷ RetAct ∷ Lower ∷ RetAct ∷ [] } ∷ []; ctls = Run (MaxDepth 2) ∷ Run (Disable 1) ∷ Until 0 1 ∷ Run (NoPid (true ∷ true ∷ [])) ∷ []; lines = usual_lines; rings = usual_rings; schedule = record { who = OfControl; count = 2 } ∷ record { who = OfControl; count = 3 } ∷ record { who = OfControl; count = 2 } ∷ record { who = OfControl; count = 2 } ∷ record { who = OfCpu (record { 0 = 1 }); count = 3 } ∷ record { who = OfCpu (record { 0 = 0 }); count = 2 } ∷ record { who = OfCpu (record { 0 = 1 }); count = 2 } ∷ record { who = OfCpu (record { 0 = 1 }); count = 3 } ∷ record { who = OfControl; count = 1 } ∷ record { who = OfCpu (record { 0 = 0 }); count = 1 } ∷ record { who = All; count = 300 } ∷ [] }
 
 abbrev pub job_31-items : List Item
 job_31-items = Begin 1 ∷ Enter (call_in 1 1) Normal (record { 0 = 0 }) None ∷ Return 1 Accepted ∷ Begin 2 ∷ Return 2 NotThere ∷ Body (call_in 1 1) (record { 0 = 0 }) Nop ∷ Begin 3 ∷ Leave (call_in 1 1) ∷ Ret (call_in 1 1) None ∷ Enter (call_in 1 2) Normal (record { 0 = 0 }) None ∷ Enter (call_in 0 1) Irq (record { 0 = 0 }) None ∷ Return 3 Accepted ∷ Body (call_in 1 2) (record { 0 = 0 }) Nop ∷ Body (call_in 0 1) (record { 0 = 0 }) Nop ∷ Leave (call_in 0 1) ∷ Ret (call_in 0 1) None ∷ Enter (call_in 1 3) Softirq (record { 0 = 0 }) (Some (call_in 1 2)) ∷ Body (call_in 1 3) (record { 0 = 0 }) Nop ∷ Leave (call_in 1 3) ∷ Ret (call_in 1 3) (Some (call_in 1 2)) ∷ Enter (call_in 1 4) Softirq (record { 0 = 0 }) (Some (call_in 1 2)) ∷ Body (call_in 1 4) (record { 0 = 0 }) Nop ∷ Enter (call_in 1 5) Softirq (record { 0 = 0 }) (Some (call_in 1 4)) ∷ Body (call_in 1 5) (record { 0 = 0 }) Nop ∷ Leave (call_in 1 5) ∷ Ret (call_in 1 5) (Some (call_in 1 4)) ∷ Leave (call_in 1 4) ∷ Ret (call_in 1 4) (Some (call_in 1 2)) ∷ Leave (call_in 1 2) ∷ Ret (call_in 1 2) None ∷ []
@@ -203,7 +203,7 @@ unfolding actors_of repeated start step run played play all_end control_next con
 job_31-plays = (refl, refl)
 
 abbrev pub job_32 : Job
-job_32 = record { functions = named (codes "a") None ∷ []; users = record { name = codes "u0"; kind = Profile; regs = true; ipmodify = None; pid = true; act = None } ∷ record { name = codes "u1"; kind = Profile; regs = true; ipmodify = None; pid = false; act = Some (CallIn (record { 0 = 0 })) } ∷ []; frames = 2; tramps = 1; quanta = 40 ∷ []; tasks = record { pid = 10; cpu = 0; acts = After 1 ∷ Raise Irq ∷ Call (record { 0 = 0 }) ∷ After 3 ∷ RetAct ∷ Lower ∷ [] } ∷ record { pid = 11; cpu = 0; acts = After 2 ∷ Raise Irq ∷ Call (record { 0 = 0 }) ∷ RetAct ∷ Raise Nmi ∷ Call (record { 0 = 0 }) ∷ RetAct ∷ Lower ∷ Lower ∷ [] } ∷ []; ctls = Run (Disable 1) ∷ Run (Register 1) ∷ Run (Enable 0) ∷ []; schedule = record { who = OfCpu (record { 0 = 0 }); count = 8 } ∷ record { who = OfCpu (record { 0 = 0 }); count = 17 } ∷ record { who = OfControl; count = 8 } ∷ record { who = OfCpu (record { 0 = 0 }); count = 13 } ∷ record { who = OfCpu (record { 0 = 0 }); count = 7 } ∷ record { who = OfControl; count = 20 } ∷ record { who = OfCpu (record { 0 = 0 }); count = 12 } ∷ record { who = OfControl; count = 20 } ∷ record { who = OfControl; count = 1 } ∷ record { who = OfCpu (record { 0 = 0 }); count = 1 } ∷ record { who = OfControl; count = 1 } ∷ record { who = OfControl; count = 11 } ∷ record { who = OfCpu (record { 0 = 0 }); count = 8 } ∷ record { who = OfCpu (record { 0 = 0 }); count = 13 } ∷ record { who = OfControl; count = 11 } ∷ record { who = OfCpu (record { 0 = 0 }); count = 6 } ∷ record { who = OfCpu (record { 0 = 0 }); count = 10 } ∷ record { who = OfControl; count = 17 } ∷ record { who = OfControl; count = 5 } ∷ record { who = All; count = 300 } ∷ [] }
+job_32 = record { version = 1; functions = named (codes "a") None ∷ []; users = record { name = codes "u0"; kind = Profile; regs = true; ipmodify = None; pid = true; act = None } ∷ record { name = codes "u1"; kind = Profile; regs = true; ipmodify = None; pid = false; act = Some (CallIn (record { 0 = 0 })) } ∷ []; frames = 2; tramps = 1; quanta = 40 ∷ []; tasks = record { pid = 10; cpu = 0; acts = After 1 ∷ Raise Irq ∷ Call (record { 0 = 0 }) ∷ After 3 ∷ RetAct ∷ Lower ∷ [] } ∷ record { pid = 11; cpu = 0; acts = After 2 ∷ Raise Irq ∷ Call (record { 0 = 0 }) ∷ RetAct ∷ Raise Nmi ∷ Call (record { 0 = 0 }) ∷ RetAct ∷ Lower ∷ Lower ∷ [] } ∷ []; ctls = Run (Disable 1) ∷ Run (Register 1) ∷ Run (Enable 0) ∷ []; lines = usual_lines; rings = usual_rings; schedule = record { who = OfCpu (record { 0 = 0 }); count = 8 } ∷ record { who = OfCpu (record { 0 = 0 }); count = 17 } ∷ record { who = OfControl; count = 8 } ∷ record { who = OfCpu (record { 0 = 0 }); count = 13 } ∷ record { who = OfCpu (record { 0 = 0 }); count = 7 } ∷ record { who = OfControl; count = 20 } ∷ record { who = OfCpu (record { 0 = 0 }); count = 12 } ∷ record { who = OfControl; count = 20 } ∷ record { who = OfControl; count = 1 } ∷ record { who = OfCpu (record { 0 = 0 }); count = 1 } ∷ record { who = OfControl; count = 1 } ∷ record { who = OfControl; count = 11 } ∷ record { who = OfCpu (record { 0 = 0 }); count = 8 } ∷ record { who = OfCpu (record { 0 = 0 }); count = 13 } ∷ record { who = OfControl; count = 11 } ∷ record { who = OfCpu (record { 0 = 0 }); count = 6 } ∷ record { who = OfCpu (record { 0 = 0 }); count = 10 } ∷ record { who = OfControl; count = 17 } ∷ record { who = OfControl; count = 5 } ∷ record { who = All; count = 300 } ∷ [] }
 
 abbrev pub job_32-items : List Item
 job_32-items = Begin 1 ∷ Return 1 NotThere ∷ Begin 2 ∷ Enter (call_in 0 1) Irq (record { 0 = 0 }) None ∷ Body (call_in 0 1) (record { 0 = 0 }) Nop ∷ Return 2 Accepted ∷ Begin 3 ∷ Return 3 NotThere ∷ Enter (call_in 1 1) Irq (record { 0 = 0 }) None ∷ Back (call_in 1 1) (record { 0 = 1 }) ∷ Enter (call_in 1 2) Irq (record { 0 = 0 }) (Some (call_in 1 1)) ∷ Refuse (call_in 1 2) (record { 0 = 1 }) Recursion ∷ Body (call_in 1 2) (record { 0 = 0 }) (Own (record { 0 = 1 })) ∷ Leave (call_in 1 2) ∷ Ret (call_in 1 2) (Some (call_in 1 1)) ∷ BackEnd (call_in 1 1) (record { 0 = 1 }) ∷ Body (call_in 1 1) (record { 0 = 0 }) (Own (record { 0 = 1 })) ∷ Leave (call_in 1 1) ∷ Exit (call_in 1 1) (record { 0 = 1 }) 9 ∷ ExitEnd (call_in 1 1) (record { 0 = 1 }) ∷ Ret (call_in 1 1) None ∷ Enter (call_in 1 3) Nmi (record { 0 = 0 }) None ∷ Leave (call_in 0 1) ∷ Ret (call_in 0 1) None ∷ Back (call_in 1 3) (record { 0 = 1 }) ∷ Enter (call_in 1 4) Nmi (record { 0 = 0 }) (Some (call_in 1 3)) ∷ Refuse (call_in 1 4) (record { 0 = 1 }) Recursion ∷ Body (call_in 1 4) (record { 0 = 0 }) (Own (record { 0 = 1 })) ∷ Leave (call_in 1 4) ∷ Ret (call_in 1 4) (Some (call_in 1 3)) ∷ BackEnd (call_in 1 3) (record { 0 = 1 }) ∷ Body (call_in 1 3) (record { 0 = 0 }) (Own (record { 0 = 1 })) ∷ Leave (call_in 1 3) ∷ Exit (call_in 1 3) (record { 0 = 1 }) 24 ∷ ExitEnd (call_in 1 3) (record { 0 = 1 }) ∷ Ret (call_in 1 3) None ∷ []
@@ -213,7 +213,7 @@ unfolding actors_of repeated start step run played play all_end control_next con
 job_32-plays = (refl, refl)
 
 abbrev pub job_33 : Job
-job_33 = record { functions = named (codes "a") None ∷ named (codes "b") (Some (codes "m")) ∷ []; users = record { name = codes "u0"; kind = Fprobe true false; regs = false; ipmodify = None; pid = false; act = Some (IrqIn (record { 0 = 1 })) } ∷ record { name = codes "u1"; kind = Fprobe true false; regs = false; ipmodify = None; pid = false; act = None } ∷ []; frames = 50; tramps = 16; quanta = 40 ∷ 1 ∷ []; tasks = record { pid = 10; cpu = 0; acts = After 1 ∷ Call (record { 0 = 0 }) ∷ Call (record { 0 = 1 }) ∷ Call (record { 0 = 1 }) ∷ Raise Nmi ∷ Call (record { 0 = 0 }) ∷ RetAct ∷ Lower ∷ RetAct ∷ RetAct ∷ RetAct ∷ [] } ∷ record { pid = 11; cpu = 1; acts = After 3 ∷ Call (record { 0 = 0 }) ∷ After 3 ∷ After 6 ∷ RetAct ∷ After 1 ∷ Call (record { 0 = 0 }) ∷ After 1 ∷ Call (record { 0 = 1 }) ∷ RetAct ∷ RetAct ∷ [] } ∷ record { pid = 12; cpu = 1; acts = After 2 ∷ Raise Irq ∷ Raise Nmi ∷ Call (record { 0 = 0 }) ∷ Call (record { 0 = 1 }) ∷ Call (record { 0 = 1 }) ∷ Call (record { 0 = 0 }) ∷ Call (record { 0 = 1 }) ∷ RetAct ∷ RetAct ∷ RetAct ∷ RetAct ∷ RetAct ∷ Lower ∷ Lower ∷ [] } ∷ []; ctls = Run (MaxDepth 2) ∷ Run (Disable 0) ∷ Run (Register 1) ∷ Run (Register 1) ∷ Run (Register 1) ∷ Run (Filter 1 (record { append = true; remove = true; clear = false; set = false ∷ true ∷ [] })) ∷ []; schedule = record { who = OfCpu (record { 0 = 0 }); count = 1 } ∷ record { who = OfCpu (record { 0 = 0 }); count = 3 } ∷ record { who = OfControl; count = 3 } ∷ record { who = OfControl; count = 1 } ∷ record { who = OfControl; count = 1 } ∷ record { who = OfCpu (record { 0 = 1 }); count = 1 } ∷ record { who = OfControl; count = 3 } ∷ record { who = OfControl; count = 3 } ∷ record { who = OfCpu (record { 0 = 0 }); count = 3 } ∷ record { who = OfCpu (record { 0 = 1 }); count = 2 } ∷ record { who = OfControl; count = 1 } ∷ record { who = All; count = 300 } ∷ [] }
+job_33 = record { version = 1; functions = named (codes "a") None ∷ named (codes "b") (Some (codes "m")) ∷ []; users = record { name = codes "u0"; kind = Fprobe true false; regs = false; ipmodify = None; pid = false; act = Some (IrqIn (record { 0 = 1 })) } ∷ record { name = codes "u1"; kind = Fprobe true false; regs = false; ipmodify = None; pid = false; act = None } ∷ []; frames = 50; tramps = 16; quanta = 40 ∷ 1 ∷ []; tasks = record { pid = 10; cpu = 0; acts = After 1 ∷ Call (record { 0 = 0 }) ∷ Call (record { 0 = 1 }) ∷ Call (record { 0 = 1 }) ∷ Raise Nmi ∷ Call (record { 0 = 0 }) ∷ RetAct ∷ Lower ∷ RetAct ∷ RetAct ∷ RetAct ∷ [] } ∷ record { pid = 11; cpu = 1; acts = After 3 ∷ Call (record { 0 = 0 }) ∷ After 3 ∷ After 6 ∷ RetAct ∷ After 1 ∷ Call (record { 0 = 0 }) ∷ After 1 ∷ Call (record { 0 = 1 }) ∷ RetAct ∷ RetAct ∷ [] } ∷ record { pid = 12; cpu = 1; acts = After 2 ∷ Raise Irq ∷ Raise Nmi ∷ Call (record { 0 = 0 }) ∷ Call (record { 0 = 1 }) ∷ Call (record { 0 = 1 }) ∷ Call (record { 0 = 0 }) ∷ Call (record { 0 = 1 }) ∷ RetAct ∷ RetAct ∷ RetAct ∷ RetAct ∷ RetAct ∷ Lower ∷ Lower ∷ [] } ∷ []; ctls = Run (MaxDepth 2) ∷ Run (Disable 0) ∷ Run (Register 1) ∷ Run (Register 1) ∷ Run (Register 1) ∷ Run (Filter 1 (record { append = true; remove = true; clear = false; set = false ∷ true ∷ [] })) ∷ []; lines = usual_lines; rings = usual_rings; schedule = record { who = OfCpu (record { 0 = 0 }); count = 1 } ∷ record { who = OfCpu (record { 0 = 0 }); count = 3 } ∷ record { who = OfControl; count = 3 } ∷ record { who = OfControl; count = 1 } ∷ record { who = OfControl; count = 1 } ∷ record { who = OfCpu (record { 0 = 1 }); count = 1 } ∷ record { who = OfControl; count = 3 } ∷ record { who = OfControl; count = 3 } ∷ record { who = OfCpu (record { 0 = 0 }); count = 3 } ∷ record { who = OfCpu (record { 0 = 1 }); count = 2 } ∷ record { who = OfControl; count = 1 } ∷ record { who = All; count = 300 } ∷ [] }
 
 abbrev pub job_33-items : List Item
 job_33-items = Begin 1 ∷ Return 1 Accepted ∷ Begin 2 ∷ Return 2 NotThere ∷ Begin 3 ∷ Enter (call_in 0 1) Normal (record { 0 = 0 }) None ∷ Body (call_in 0 1) (record { 0 = 0 }) Nop ∷ Enter (call_in 0 2) Normal (record { 0 = 1 }) (Some (call_in 0 1)) ∷ Body (call_in 0 2) (record { 0 = 1 }) Nop ∷ Enter (call_in 0 3) Normal (record { 0 = 1 }) (Some (call_in 0 2)) ∷ Enter (call_in 2 1) Nmi (record { 0 = 0 }) None ∷ Back (call_in 0 3) (record { 0 = 1 }) ∷ BackEnd (call_in 0 3) (record { 0 = 1 }) ∷ Body (call_in 0 3) (record { 0 = 1 }) (Own (record { 0 = 1 })) ∷ Enter (call_in 0 4) Nmi (record { 0 = 0 }) (Some (call_in 0 3)) ∷ Back (call_in 2 1) (record { 0 = 1 }) ∷ BackEnd (call_in 2 1) (record { 0 = 1 }) ∷ Back (call_in 0 4) (record { 0 = 1 }) ∷ BackEnd (call_in 0 4) (record { 0 = 1 }) ∷ Body (call_in 2 1) (record { 0 = 0 }) (Own (record { 0 = 1 })) ∷ Body (call_in 0 4) (record { 0 = 0 }) (Own (record { 0 = 1 })) ∷ Leave (call_in 0 4) ∷ Enter (call_in 2 2) Nmi (record { 0 = 1 }) (Some (call_in 2 1)) ∷ Exit (call_in 0 4) (record { 0 = 1 }) 17 ∷ ExitEnd (call_in 0 4) (record { 0 = 1 }) ∷ Ret (call_in 0 4) (Some (call_in 0 3)) ∷ Return 3 Accepted ∷ Begin 4 ∷ Leave (call_in 0 3) ∷ Return 4 Already ∷ Back (call_in 2 2) (record { 0 = 1 }) ∷ Begin 5 ∷ Exit (call_in 0 3) (record { 0 = 1 }) 11 ∷ Return 5 Already ∷ ExitEnd (call_in 0 3) (record { 0 = 1 }) ∷ Begin 6 ∷ Ret (call_in 0 3) (Some (call_in 0 2)) ∷ BackEnd (call_in 2 2) (record { 0 = 1 }) ∷ Enter (call_in 1 1) Normal (record { 0 = 0 }) None ∷ Body (call_in 2 2) (record { 0 = 1 }) (Own (record { 0 = 1 })) ∷ Leave (call_in 0 2) ∷ Ret (call_in 0 2) (Some (call_in 0 1)) ∷ Leave (call_in 0 1) ∷ Ret (call_in 0 1) None ∷ Enter (call_in 2 3) Nmi (record { 0 = 1 }) (Some (call_in 2 2)) ∷ Back (call_in 1 1) (record { 0 = 1 }) ∷ BackEnd (call_in 1 1) (record { 0 = 1 }) ∷ Body (call_in 1 1) (record { 0 = 0 }) (Own (record { 0 = 1 })) ∷ Back (call_in 2 3) (record { 0 = 1 }) ∷ BackEnd (call_in 2 3) (record { 0 = 1 }) ∷ Return 6 Accepted ∷ Body (call_in 2 3) (record { 0 = 1 }) (Own (record { 0 = 1 })) ∷ Enter (call_in 2 4) Nmi (record { 0 = 0 }) (Some (call_in 2 3)) ∷ Leave (call_in 1 1) ∷ Exit (call_in 1 1) (record { 0 = 1 }) 45 ∷ Back (call_in 2 4) (record { 0 = 1 }) ∷ ExitEnd (call_in 1 1) (record { 0 = 1 }) ∷ BackEnd (call_in 2 4) (record { 0 = 1 }) ∷ Ret (call_in 1 1) None ∷ Body (call_in 2 4) (record { 0 = 0 }) (Own (record { 0 = 1 })) ∷ Enter (call_in 2 5) Nmi (record { 0 = 1 }) (Some (call_in 2 4)) ∷ Enter (call_in 1 2) Normal (record { 0 = 0 }) None ∷ Back (call_in 2 5) (record { 0 = 1 }) ∷ BackEnd (call_in 2 5) (record { 0 = 1 }) ∷ Back (call_in 1 2) (record { 0 = 1 }) ∷ Body (call_in 2 5) (record { 0 = 1 }) (Own (record { 0 = 1 })) ∷ BackEnd (call_in 1 2) (record { 0 = 1 }) ∷ Body (call_in 1 2) (record { 0 = 0 }) (Own (record { 0 = 1 })) ∷ Leave (call_in 2 5) ∷ Exit (call_in 2 5) (record { 0 = 1 }) 62 ∷ ExitEnd (call_in 2 5) (record { 0 = 1 }) ∷ Enter (call_in 1 3) Normal (record { 0 = 1 }) (Some (call_in 1 2)) ∷ Ret (call_in 2 5) (Some (call_in 2 4)) ∷ Leave (call_in 2 4) ∷ Back (call_in 1 3) (record { 0 = 1 }) ∷ Exit (call_in 2 4) (record { 0 = 1 }) 55 ∷ BackEnd (call_in 1 3) (record { 0 = 1 }) ∷ ExitEnd (call_in 2 4) (record { 0 = 1 }) ∷ Body (call_in 1 3) (record { 0 = 1 }) (Own (record { 0 = 1 })) ∷ Ret (call_in 2 4) (Some (call_in 2 3)) ∷ Leave (call_in 1 3) ∷ Leave (call_in 2 3) ∷ Exit (call_in 1 3) (record { 0 = 1 }) 74 ∷ Exit (call_in 2 3) (record { 0 = 1 }) 48 ∷ ExitEnd (call_in 1 3) (record { 0 = 1 }) ∷ ExitEnd (call_in 2 3) (record { 0 = 1 }) ∷ Ret (call_in 1 3) (Some (call_in 1 2)) ∷ Ret (call_in 2 3) (Some (call_in 2 2)) ∷ Leave (call_in 1 2) ∷ Leave (call_in 2 2) ∷ Exit (call_in 1 2) (record { 0 = 1 }) 64 ∷ Exit (call_in 2 2) (record { 0 = 1 }) 30 ∷ ExitEnd (call_in 1 2) (record { 0 = 1 }) ∷ ExitEnd (call_in 2 2) (record { 0 = 1 }) ∷ Ret (call_in 1 2) None ∷ Ret (call_in 2 2) (Some (call_in 2 1)) ∷ Leave (call_in 2 1) ∷ Exit (call_in 2 1) (record { 0 = 1 }) 15 ∷ ExitEnd (call_in 2 1) (record { 0 = 1 }) ∷ Ret (call_in 2 1) None ∷ []
@@ -223,7 +223,7 @@ unfolding actors_of repeated start step run played play all_end control_next con
 job_33-plays = (refl, refl)
 
 abbrev pub job_34 : Job
-job_34 = record { functions = named (codes "a") None ∷ named (codes "b") None ∷ named (codes "c") None ∷ []; users = record { name = codes "u0"; kind = Profile; regs = false; ipmodify = None; pid = true; act = Some (CallIn (record { 0 = 0 })) } ∷ []; frames = 50; tramps = 1; quanta = 40 ∷ []; tasks = record { pid = 10; cpu = 0; acts = After 6 ∷ After 2 ∷ Raise Nmi ∷ Lower ∷ [] } ∷ []; ctls = Run (Register 0) ∷ Run (Notrace 0 (record { append = true; remove = true; clear = false; set = true ∷ false ∷ false ∷ [] })) ∷ Run (Notrace 0 (record { append = false; remove = false; clear = false; set = false ∷ true ∷ false ∷ [] })) ∷ Run (Disable 0) ∷ Run (Notrace 0 (record { append = true; remove = false; clear = false; set = false ∷ true ∷ false ∷ [] })) ∷ Run (Register 0) ∷ []; schedule = record { who = OfCpu (record { 0 = 0 }); count = 6 } ∷ record { who = OfCpu (record { 0 = 0 }); count = 2 } ∷ record { who = OfControl; count = 1 } ∷ record { who = OfCpu (record { 0 = 0 }); count = 7 } ∷ record { who = OfCpu (record { 0 = 0 }); count = 3 } ∷ record { who = OfControl; count = 7 } ∷ record { who = OfCpu (record { 0 = 0 }); count = 8 } ∷ record { who = OfCpu (record { 0 = 0 }); count = 5 } ∷ record { who = OfControl; count = 5 } ∷ record { who = OfControl; count = 3 } ∷ record { who = OfCpu (record { 0 = 0 }); count = 2 } ∷ record { who = OfCpu (record { 0 = 0 }); count = 2 } ∷ record { who = OfCpu (record { 0 = 0 }); count = 3 } ∷ record { who = OfCpu (record { 0 = 0 }); count = 3 } ∷ record { who = OfCpu (record { 0 = 0 }); count = 3 } ∷ record { who = OfCpu (record { 0 = 0 }); count = 7 } ∷ record { who = OfControl; count = 2 } ∷ record { who = All; count = 300 } ∷ [] }
+job_34 = record { version = 1; functions = named (codes "a") None ∷ named (codes "b") None ∷ named (codes "c") None ∷ []; users = record { name = codes "u0"; kind = Profile; regs = false; ipmodify = None; pid = true; act = Some (CallIn (record { 0 = 0 })) } ∷ []; frames = 50; tramps = 1; quanta = 40 ∷ []; tasks = record { pid = 10; cpu = 0; acts = After 6 ∷ After 2 ∷ Raise Nmi ∷ Lower ∷ [] } ∷ []; ctls = Run (Register 0) ∷ Run (Notrace 0 (record { append = true; remove = true; clear = false; set = true ∷ false ∷ false ∷ [] })) ∷ Run (Notrace 0 (record { append = false; remove = false; clear = false; set = false ∷ true ∷ false ∷ [] })) ∷ Run (Disable 0) ∷ Run (Notrace 0 (record { append = true; remove = false; clear = false; set = false ∷ true ∷ false ∷ [] })) ∷ Run (Register 0) ∷ []; lines = usual_lines; rings = usual_rings; schedule = record { who = OfCpu (record { 0 = 0 }); count = 6 } ∷ record { who = OfCpu (record { 0 = 0 }); count = 2 } ∷ record { who = OfControl; count = 1 } ∷ record { who = OfCpu (record { 0 = 0 }); count = 7 } ∷ record { who = OfCpu (record { 0 = 0 }); count = 3 } ∷ record { who = OfControl; count = 7 } ∷ record { who = OfCpu (record { 0 = 0 }); count = 8 } ∷ record { who = OfCpu (record { 0 = 0 }); count = 5 } ∷ record { who = OfControl; count = 5 } ∷ record { who = OfControl; count = 3 } ∷ record { who = OfCpu (record { 0 = 0 }); count = 2 } ∷ record { who = OfCpu (record { 0 = 0 }); count = 2 } ∷ record { who = OfCpu (record { 0 = 0 }); count = 3 } ∷ record { who = OfCpu (record { 0 = 0 }); count = 3 } ∷ record { who = OfCpu (record { 0 = 0 }); count = 3 } ∷ record { who = OfCpu (record { 0 = 0 }); count = 7 } ∷ record { who = OfControl; count = 2 } ∷ record { who = All; count = 300 } ∷ [] }
 
 abbrev pub job_34-items : List Item
 job_34-items = Begin 1 ∷ Return 1 Accepted ∷ Begin 2 ∷ Return 2 Accepted ∷ Begin 3 ∷ Return 3 Accepted ∷ Begin 4 ∷ Return 4 Invalid ∷ Begin 5 ∷ Return 5 Accepted ∷ Begin 6 ∷ Return 6 Already ∷ []
@@ -233,7 +233,7 @@ unfolding actors_of repeated start step run played play all_end control_next con
 job_34-plays = (refl, refl)
 
 abbrev pub job_37 : Job
-job_37 = record { functions = named (codes "a") None ∷ []; users = record { name = codes "u0"; kind = Fprobe true false; regs = false; ipmodify = None; pid = true; act = Some (IrqIn (record { 0 = 0 })) } ∷ []; frames = 3; tramps = 1; quanta = 40 ∷ []; tasks = record { pid = 10; cpu = 0; acts = After 5 ∷ Call (record { 0 = 0 }) ∷ After 5 ∷ Call (record { 0 = 0 }) ∷ Call (record { 0 = 0 }) ∷ RetAct ∷ After 1 ∷ Raise Softirq ∷ Lower ∷ RetAct ∷ RetAct ∷ [] } ∷ []; ctls = Run (Enable 0) ∷ Run (Pid (true ∷ [])) ∷ Run (Register 0) ∷ Run (NoPid (true ∷ [])) ∷ Run (Filter 0 (record { append = false; remove = false; clear = false; set = true ∷ [] })) ∷ []; schedule = record { who = OfControl; count = 4 } ∷ record { who = OfControl; count = 14 } ∷ record { who = OfControl; count = 12 } ∷ record { who = OfCpu (record { 0 = 0 }); count = 3 } ∷ record { who = OfControl; count = 8 } ∷ record { who = OfControl; count = 13 } ∷ record { who = OfCpu (record { 0 = 0 }); count = 11 } ∷ record { who = OfControl; count = 7 } ∷ record { who = All; count = 300 } ∷ [] }
+job_37 = record { version = 1; functions = named (codes "a") None ∷ []; users = record { name = codes "u0"; kind = Fprobe true false; regs = false; ipmodify = None; pid = true; act = Some (IrqIn (record { 0 = 0 })) } ∷ []; frames = 3; tramps = 1; quanta = 40 ∷ []; tasks = record { pid = 10; cpu = 0; acts = After 5 ∷ Call (record { 0 = 0 }) ∷ After 5 ∷ Call (record { 0 = 0 }) ∷ Call (record { 0 = 0 }) ∷ RetAct ∷ After 1 ∷ Raise Softirq ∷ Lower ∷ RetAct ∷ RetAct ∷ [] } ∷ []; ctls = Run (Enable 0) ∷ Run (Pid (true ∷ [])) ∷ Run (Register 0) ∷ Run (NoPid (true ∷ [])) ∷ Run (Filter 0 (record { append = false; remove = false; clear = false; set = true ∷ [] })) ∷ []; lines = usual_lines; rings = usual_rings; schedule = record { who = OfControl; count = 4 } ∷ record { who = OfControl; count = 14 } ∷ record { who = OfControl; count = 12 } ∷ record { who = OfCpu (record { 0 = 0 }); count = 3 } ∷ record { who = OfControl; count = 8 } ∷ record { who = OfControl; count = 13 } ∷ record { who = OfCpu (record { 0 = 0 }); count = 11 } ∷ record { who = OfControl; count = 7 } ∷ record { who = All; count = 300 } ∷ [] }
 
 abbrev pub job_37-items : List Item
 job_37-items = Begin 1 ∷ Return 1 NotThere ∷ Begin 2 ∷ Return 2 Accepted ∷ Begin 3 ∷ Return 3 Accepted ∷ Begin 4 ∷ Return 4 Accepted ∷ Begin 5 ∷ Return 5 Accepted ∷ Enter (call_in 0 1) Normal (record { 0 = 0 }) None ∷ Refuse (call_in 0 1) (record { 0 = 0 }) ByPid ∷ Body (call_in 0 1) (record { 0 = 0 }) (Own (record { 0 = 0 })) ∷ Enter (call_in 0 2) Normal (record { 0 = 0 }) (Some (call_in 0 1)) ∷ Refuse (call_in 0 2) (record { 0 = 0 }) ByPid ∷ Body (call_in 0 2) (record { 0 = 0 }) (Own (record { 0 = 0 })) ∷ Enter (call_in 0 3) Normal (record { 0 = 0 }) (Some (call_in 0 2)) ∷ Refuse (call_in 0 3) (record { 0 = 0 }) ByPid ∷ Body (call_in 0 3) (record { 0 = 0 }) (Own (record { 0 = 0 })) ∷ Leave (call_in 0 3) ∷ Ret (call_in 0 3) (Some (call_in 0 2)) ∷ Leave (call_in 0 2) ∷ Ret (call_in 0 2) (Some (call_in 0 1)) ∷ Leave (call_in 0 1) ∷ Ret (call_in 0 1) None ∷ []
@@ -243,7 +243,7 @@ unfolding actors_of repeated start step run played play all_end control_next con
 job_37-plays = (refl, refl)
 
 abbrev pub job_38 : Job
-job_38 = record { functions = named (codes "a") (Some (codes "m")) ∷ named (codes "b") None ∷ named (codes "c") None ∷ named (codes "d") (Some (codes "m")) ∷ []; users = record { name = codes "u0"; kind = Fprobe false false; regs = false; ipmodify = None; pid = true; act = Some (IrqIn (record { 0 = 2 })) } ∷ []; frames = 50; tramps = 1; quanta = 1 ∷ 40 ∷ []; tasks = record { pid = 10; cpu = 0; acts = After 2 ∷ Call (record { 0 = 0 }) ∷ Call (record { 0 = 0 }) ∷ RetAct ∷ RetAct ∷ [] } ∷ record { pid = 11; cpu = 1; acts = After 2 ∷ Call (record { 0 = 3 }) ∷ Call (record { 0 = 1 }) ∷ Call (record { 0 = 3 }) ∷ RetAct ∷ RetAct ∷ Call (record { 0 = 2 }) ∷ RetAct ∷ Call (record { 0 = 2 }) ∷ Call (record { 0 = 1 }) ∷ RetAct ∷ RetAct ∷ RetAct ∷ [] } ∷ []; ctls = Run (Pid (true ∷ false ∷ [])) ∷ Run (Enable 0) ∷ Run (Enable 0) ∷ Run (MaxDepth 0) ∷ Run (Notrace 0 (record { append = false; remove = false; clear = false; set = false ∷ true ∷ false ∷ false ∷ [] })) ∷ Until 1 6 ∷ Run (Notrace 0 (record { append = false; remove = false; clear = false; set = false ∷ true ∷ false ∷ false ∷ [] })) ∷ []; schedule = record { who = OfCpu (record { 0 = 0 }); count = 19 } ∷ record { who = OfCpu (record { 0 = 1 }); count = 42 } ∷ record { who = OfControl; count = 27 } ∷ record { who = OfCpu (record { 0 = 0 }); count = 27 } ∷ record { who = OfCpu (record { 0 = 1 }); count = 31 } ∷ record { who = OfCpu (record { 0 = 0 }); count = 21 } ∷ record { who = OfControl; count = 14 } ∷ record { who = OfCpu (record { 0 = 0 }); count = 37 } ∷ record { who = OfCpu (record { 0 = 1 }); count = 7 } ∷ record { who = OfCpu (record { 0 = 1 }); count = 21 } ∷ record { who = OfCpu (record { 0 = 1 }); count = 18 } ∷ record { who = OfControl; count = 2 } ∷ record { who = OfCpu (record { 0 = 1 }); count = 37 } ∷ record { who = OfControl; count = 14 } ∷ record { who = OfCpu (record { 0 = 1 }); count = 20 } ∷ record { who = OfControl; count = 12 } ∷ record { who = OfCpu (record { 0 = 1 }); count = 8 } ∷ record { who = OfCpu (record { 0 = 0 }); count = 4 } ∷ record { who = OfCpu (record { 0 = 0 }); count = 30 } ∷ record { who = OfControl; count = 33 } ∷ record { who = OfCpu (record { 0 = 0 }); count = 31 } ∷ record { who = OfCpu (record { 0 = 1 }); count = 15 } ∷ record { who = OfCpu (record { 0 = 1 }); count = 13 } ∷ record { who = All; count = 300 } ∷ [] }
+job_38 = record { version = 1; functions = named (codes "a") (Some (codes "m")) ∷ named (codes "b") None ∷ named (codes "c") None ∷ named (codes "d") (Some (codes "m")) ∷ []; users = record { name = codes "u0"; kind = Fprobe false false; regs = false; ipmodify = None; pid = true; act = Some (IrqIn (record { 0 = 2 })) } ∷ []; frames = 50; tramps = 1; quanta = 1 ∷ 40 ∷ []; tasks = record { pid = 10; cpu = 0; acts = After 2 ∷ Call (record { 0 = 0 }) ∷ Call (record { 0 = 0 }) ∷ RetAct ∷ RetAct ∷ [] } ∷ record { pid = 11; cpu = 1; acts = After 2 ∷ Call (record { 0 = 3 }) ∷ Call (record { 0 = 1 }) ∷ Call (record { 0 = 3 }) ∷ RetAct ∷ RetAct ∷ Call (record { 0 = 2 }) ∷ RetAct ∷ Call (record { 0 = 2 }) ∷ Call (record { 0 = 1 }) ∷ RetAct ∷ RetAct ∷ RetAct ∷ [] } ∷ []; ctls = Run (Pid (true ∷ false ∷ [])) ∷ Run (Enable 0) ∷ Run (Enable 0) ∷ Run (MaxDepth 0) ∷ Run (Notrace 0 (record { append = false; remove = false; clear = false; set = false ∷ true ∷ false ∷ false ∷ [] })) ∷ Until 1 6 ∷ Run (Notrace 0 (record { append = false; remove = false; clear = false; set = false ∷ true ∷ false ∷ false ∷ [] })) ∷ []; lines = usual_lines; rings = usual_rings; schedule = record { who = OfCpu (record { 0 = 0 }); count = 19 } ∷ record { who = OfCpu (record { 0 = 1 }); count = 42 } ∷ record { who = OfControl; count = 27 } ∷ record { who = OfCpu (record { 0 = 0 }); count = 27 } ∷ record { who = OfCpu (record { 0 = 1 }); count = 31 } ∷ record { who = OfCpu (record { 0 = 0 }); count = 21 } ∷ record { who = OfControl; count = 14 } ∷ record { who = OfCpu (record { 0 = 0 }); count = 37 } ∷ record { who = OfCpu (record { 0 = 1 }); count = 7 } ∷ record { who = OfCpu (record { 0 = 1 }); count = 21 } ∷ record { who = OfCpu (record { 0 = 1 }); count = 18 } ∷ record { who = OfControl; count = 2 } ∷ record { who = OfCpu (record { 0 = 1 }); count = 37 } ∷ record { who = OfControl; count = 14 } ∷ record { who = OfCpu (record { 0 = 1 }); count = 20 } ∷ record { who = OfControl; count = 12 } ∷ record { who = OfCpu (record { 0 = 1 }); count = 8 } ∷ record { who = OfCpu (record { 0 = 0 }); count = 4 } ∷ record { who = OfCpu (record { 0 = 0 }); count = 30 } ∷ record { who = OfControl; count = 33 } ∷ record { who = OfCpu (record { 0 = 0 }); count = 31 } ∷ record { who = OfCpu (record { 0 = 1 }); count = 15 } ∷ record { who = OfCpu (record { 0 = 1 }); count = 13 } ∷ record { who = All; count = 300 } ∷ [] }
 
 abbrev pub job_38-items : List Item
 job_38-items = Begin 1 ∷ Return 1 Accepted ∷ Begin 2 ∷ Return 2 NotThere ∷ Begin 3 ∷ Return 3 NotThere ∷ Begin 4 ∷ Enter (call_in 0 1) Normal (record { 0 = 0 }) None ∷ Body (call_in 0 1) (record { 0 = 0 }) Nop ∷ Enter (call_in 0 2) Normal (record { 0 = 0 }) (Some (call_in 0 1)) ∷ Body (call_in 0 2) (record { 0 = 0 }) Nop ∷ Leave (call_in 0 2) ∷ Ret (call_in 0 2) (Some (call_in 0 1)) ∷ Leave (call_in 0 1) ∷ Ret (call_in 0 1) None ∷ Enter (call_in 1 1) Normal (record { 0 = 3 }) None ∷ Body (call_in 1 1) (record { 0 = 3 }) Nop ∷ Enter (call_in 1 2) Normal (record { 0 = 1 }) (Some (call_in 1 1)) ∷ Body (call_in 1 2) (record { 0 = 1 }) Nop ∷ Enter (call_in 1 3) Normal (record { 0 = 3 }) (Some (call_in 1 2)) ∷ Body (call_in 1 3) (record { 0 = 3 }) Nop ∷ Leave (call_in 1 3) ∷ Ret (call_in 1 3) (Some (call_in 1 2)) ∷ Leave (call_in 1 2) ∷ Ret (call_in 1 2) (Some (call_in 1 1)) ∷ Enter (call_in 1 4) Normal (record { 0 = 2 }) (Some (call_in 1 1)) ∷ Body (call_in 1 4) (record { 0 = 2 }) Nop ∷ Leave (call_in 1 4) ∷ Ret (call_in 1 4) (Some (call_in 1 1)) ∷ Enter (call_in 1 5) Normal (record { 0 = 2 }) (Some (call_in 1 1)) ∷ Body (call_in 1 5) (record { 0 = 2 }) Nop ∷ Enter (call_in 1 6) Normal (record { 0 = 1 }) (Some (call_in 1 5)) ∷ Body (call_in 1 6) (record { 0 = 1 }) Nop ∷ Leave (call_in 1 6) ∷ Ret (call_in 1 6) (Some (call_in 1 5)) ∷ Leave (call_in 1 5) ∷ Ret (call_in 1 5) (Some (call_in 1 1)) ∷ Leave (call_in 1 1) ∷ Ret (call_in 1 1) None ∷ Return 4 Accepted ∷ Begin 5 ∷ Return 5 Accepted ∷ Begin 6 ∷ Return 6 Accepted ∷ []
@@ -253,7 +253,7 @@ unfolding actors_of repeated start step run played play all_end control_next con
 job_38-plays = (refl, refl)
 
 abbrev pub job_39 : Job
-job_39 = record { functions = named (codes "a") (Some (codes "m")) ∷ named (codes "b") (Some (codes "m")) ∷ []; users = record { name = codes "u0"; kind = Profile; regs = false; ipmodify = None; pid = true; act = None } ∷ record { name = codes "u1"; kind = Fprobe true true; regs = true; ipmodify = None; pid = true; act = Some (CallIn (record { 0 = 1 })) } ∷ []; frames = 1; tramps = 0; quanta = 40 ∷ []; tasks = record { pid = 10; cpu = 0; acts = After 1 ∷ Call (record { 0 = 1 }) ∷ RetAct ∷ Raise Softirq ∷ Raise Nmi ∷ Lower ∷ After 3 ∷ Call (record { 0 = 1 }) ∷ RetAct ∷ Lower ∷ [] } ∷ record { pid = 11; cpu = 0; acts = After 4 ∷ Call (record { 0 = 1 }) ∷ Call (record { 0 = 0 }) ∷ Call (record { 0 = 1 }) ∷ RetAct ∷ RetAct ∷ RetAct ∷ [] } ∷ record { pid = 12; cpu = 0; acts = After 1 ∷ Call (record { 0 = 1 }) ∷ RetAct ∷ Raise Nmi ∷ Call (record { 0 = 1 }) ∷ RetAct ∷ Lower ∷ [] } ∷ []; ctls = Run (Pid (true ∷ false ∷ false ∷ [])) ∷ Run (Pid (false ∷ true ∷ false ∷ [])) ∷ Run (Enable 0) ∷ Until 2 2 ∷ Run (Register 1) ∷ Until 0 4 ∷ Run (Enable 0) ∷ Run (MaxDepth 1) ∷ []; schedule = record { who = OfCpu (record { 0 = 0 }); count = 8 } ∷ record { who = OfCpu (record { 0 = 0 }); count = 1 } ∷ record { who = OfCpu (record { 0 = 0 }); count = 4 } ∷ record { who = OfCpu (record { 0 = 0 }); count = 6 } ∷ record { who = OfControl; count = 7 } ∷ record { who = OfControl; count = 5 } ∷ record { who = OfControl; count = 1 } ∷ record { who = OfCpu (record { 0 = 0 }); count = 1 } ∷ record { who = OfCpu (record { 0 = 0 }); count = 7 } ∷ record { who = OfControl; count = 2 } ∷ record { who = OfCpu (record { 0 = 0 }); count = 1 } ∷ record { who = OfControl; count = 1 } ∷ record { who = OfCpu (record { 0 = 0 }); count = 5 } ∷ record { who = OfControl; count = 8 } ∷ record { who = All; count = 300 } ∷ [] }
+job_39 = record { version = 1; functions = named (codes "a") (Some (codes "m")) ∷ named (codes "b") (Some (codes "m")) ∷ []; users = record { name = codes "u0"; kind = Profile; regs = false; ipmodify = None; pid = true; act = None } ∷ record { name = codes "u1"; kind = Fprobe true true; regs = true; ipmodify = None; pid = true; act = Some (CallIn (record { 0 = 1 })) } ∷ []; frames = 1; tramps = 0; quanta = 40 ∷ []; tasks = record { pid = 10; cpu = 0; acts = After 1 ∷ Call (record { 0 = 1 }) ∷ RetAct ∷ Raise Softirq ∷ Raise Nmi ∷ Lower ∷ After 3 ∷ Call (record { 0 = 1 }) ∷ RetAct ∷ Lower ∷ [] } ∷ record { pid = 11; cpu = 0; acts = After 4 ∷ Call (record { 0 = 1 }) ∷ Call (record { 0 = 0 }) ∷ Call (record { 0 = 1 }) ∷ RetAct ∷ RetAct ∷ RetAct ∷ [] } ∷ record { pid = 12; cpu = 0; acts = After 1 ∷ Call (record { 0 = 1 }) ∷ RetAct ∷ Raise Nmi ∷ Call (record { 0 = 1 }) ∷ RetAct ∷ Lower ∷ [] } ∷ []; ctls = Run (Pid (true ∷ false ∷ false ∷ [])) ∷ Run (Pid (false ∷ true ∷ false ∷ [])) ∷ Run (Enable 0) ∷ Until 2 2 ∷ Run (Register 1) ∷ Until 0 4 ∷ Run (Enable 0) ∷ Run (MaxDepth 1) ∷ []; lines = usual_lines; rings = usual_rings; schedule = record { who = OfCpu (record { 0 = 0 }); count = 8 } ∷ record { who = OfCpu (record { 0 = 0 }); count = 1 } ∷ record { who = OfCpu (record { 0 = 0 }); count = 4 } ∷ record { who = OfCpu (record { 0 = 0 }); count = 6 } ∷ record { who = OfControl; count = 7 } ∷ record { who = OfControl; count = 5 } ∷ record { who = OfControl; count = 1 } ∷ record { who = OfCpu (record { 0 = 0 }); count = 1 } ∷ record { who = OfCpu (record { 0 = 0 }); count = 7 } ∷ record { who = OfControl; count = 2 } ∷ record { who = OfCpu (record { 0 = 0 }); count = 1 } ∷ record { who = OfControl; count = 1 } ∷ record { who = OfCpu (record { 0 = 0 }); count = 5 } ∷ record { who = OfControl; count = 8 } ∷ record { who = All; count = 300 } ∷ [] }
 
 abbrev pub job_39-items : List Item
 job_39-items = Begin 1 ∷ Return 1 Accepted ∷ Begin 2 ∷ Enter (call_in 2 1) Normal (record { 0 = 1 }) None ∷ Return 2 Accepted ∷ Begin 3 ∷ Return 3 NotThere ∷ Body (call_in 2 1) (record { 0 = 1 }) Nop ∷ Leave (call_in 2 1) ∷ Begin 4 ∷ Ret (call_in 2 1) None ∷ Enter (call_in 2 2) Nmi (record { 0 = 1 }) None ∷ Body (call_in 2 2) (record { 0 = 1 }) Nop ∷ Leave (call_in 2 2) ∷ Ret (call_in 2 2) None ∷ Return 4 Accepted ∷ Enter (call_in 0 1) Normal (record { 0 = 1 }) None ∷ Refuse (call_in 0 1) (record { 0 = 1 }) ByPid ∷ Body (call_in 0 1) (record { 0 = 1 }) ByList ∷ Leave (call_in 0 1) ∷ Ret (call_in 0 1) None ∷ Begin 5 ∷ Return 5 NotThere ∷ Begin 6 ∷ Enter (call_in 0 2) Softirq (record { 0 = 1 }) None ∷ Return 6 Accepted ∷ Enter (call_in 1 1) Normal (record { 0 = 1 }) None ∷ Back (call_in 1 1) (record { 0 = 1 }) ∷ Enter (call_in 1 2) Normal (record { 0 = 1 }) (Some (call_in 1 1)) ∷ Refuse (call_in 1 2) (record { 0 = 1 }) Recursion ∷ Body (call_in 1 2) (record { 0 = 1 }) ByList ∷ Leave (call_in 1 2) ∷ Ret (call_in 1 2) (Some (call_in 1 1)) ∷ BackEnd (call_in 1 1) (record { 0 = 1 }) ∷ Body (call_in 1 1) (record { 0 = 1 }) ByList ∷ Enter (call_in 1 3) Normal (record { 0 = 0 }) (Some (call_in 1 1)) ∷ Back (call_in 1 3) (record { 0 = 1 }) ∷ Enter (call_in 1 4) Normal (record { 0 = 1 }) (Some (call_in 1 3)) ∷ Refuse (call_in 0 2) (record { 0 = 1 }) ByPid ∷ Body (call_in 0 2) (record { 0 = 1 }) ByList ∷ Leave (call_in 0 2) ∷ Ret (call_in 0 2) None ∷ Refuse (call_in 1 4) (record { 0 = 1 }) Recursion ∷ Body (call_in 1 4) (record { 0 = 1 }) ByList ∷ Leave (call_in 1 4) ∷ Ret (call_in 1 4) (Some (call_in 1 3)) ∷ BackEnd (call_in 1 3) (record { 0 = 1 }) ∷ Body (call_in 1 3) (record { 0 = 0 }) ByList ∷ Enter (call_in 1 5) Normal (record { 0 = 1 }) (Some (call_in 1 3)) ∷ Back (call_in 1 5) (record { 0 = 1 }) ∷ Enter (call_in 1 6) Normal (record { 0 = 1 }) (Some (call_in 1 5)) ∷ Refuse (call_in 1 6) (record { 0 = 1 }) Recursion ∷ Body (call_in 1 6) (record { 0 = 1 }) ByList ∷ Leave (call_in 1 6) ∷ Ret (call_in 1 6) (Some (call_in 1 5)) ∷ BackEnd (call_in 1 5) (record { 0 = 1 }) ∷ Body (call_in 1 5) (record { 0 = 1 }) ByList ∷ Leave (call_in 1 5) ∷ Ret (call_in 1 5) (Some (call_in 1 3)) ∷ Leave (call_in 1 3) ∷ Ret (call_in 1 3) (Some (call_in 1 1)) ∷ Leave (call_in 1 1) ∷ Ret (call_in 1 1) None ∷ []
@@ -263,7 +263,7 @@ unfolding actors_of repeated start step run played play all_end control_next con
 job_39-plays = (refl, refl)
 
 abbrev pub job_40 : Job
-job_40 = record { functions = named (codes "a") None ∷ named (codes "b") None ∷ named (codes "c") (Some (codes "m")) ∷ named (codes "d") None ∷ []; users = record { name = codes "u0"; kind = Fprobe true false; regs = false; ipmodify = None; pid = true; act = None } ∷ record { name = codes "u1"; kind = Fprobe false false; regs = false; ipmodify = None; pid = true; act = Some (IrqIn (record { 0 = 0 })) } ∷ record { name = codes "u2"; kind = Graph; regs = true; ipmodify = None; pid = true; act = None } ∷ []; frames = 2; tramps = 1; quanta = 3 ∷ 3 ∷ []; tasks = record { pid = 10; cpu = 1; acts = Raise Softirq ∷ Lower ∷ Call (record { 0 = 3 }) ∷ RetAct ∷ Call (record { 0 = 1 }) ∷ RetAct ∷ [] } ∷ []; ctls = Until 0 5 ∷ Run (Register 1) ∷ Run (Unregister 0) ∷ Run (Register 1) ∷ Until 0 1 ∷ Run (Notrace 0 (record { append = false; remove = true; clear = false; set = true ∷ false ∷ false ∷ false ∷ [] })) ∷ []; schedule = record { who = OfControl; count = 2 } ∷ record { who = OfControl; count = 6 } ∷ record { who = OfControl; count = 17 } ∷ record { who = OfControl; count = 7 } ∷ record { who = OfCpu (record { 0 = 0 }); count = 14 } ∷ record { who = OfCpu (record { 0 = 0 }); count = 10 } ∷ record { who = OfCpu (record { 0 = 0 }); count = 17 } ∷ record { who = OfControl; count = 2 } ∷ record { who = OfCpu (record { 0 = 1 }); count = 13 } ∷ record { who = All; count = 300 } ∷ [] }
+job_40 = record { version = 1; functions = named (codes "a") None ∷ named (codes "b") None ∷ named (codes "c") (Some (codes "m")) ∷ named (codes "d") None ∷ []; users = record { name = codes "u0"; kind = Fprobe true false; regs = false; ipmodify = None; pid = true; act = None } ∷ record { name = codes "u1"; kind = Fprobe false false; regs = false; ipmodify = None; pid = true; act = Some (IrqIn (record { 0 = 0 })) } ∷ record { name = codes "u2"; kind = Graph; regs = true; ipmodify = None; pid = true; act = None } ∷ []; frames = 2; tramps = 1; quanta = 3 ∷ 3 ∷ []; tasks = record { pid = 10; cpu = 1; acts = Raise Softirq ∷ Lower ∷ Call (record { 0 = 3 }) ∷ RetAct ∷ Call (record { 0 = 1 }) ∷ RetAct ∷ [] } ∷ []; ctls = Until 0 5 ∷ Run (Register 1) ∷ Run (Unregister 0) ∷ Run (Register 1) ∷ Until 0 1 ∷ Run (Notrace 0 (record { append = false; remove = true; clear = false; set = true ∷ false ∷ false ∷ false ∷ [] })) ∷ []; lines = usual_lines; rings = usual_rings; schedule = record { who = OfControl; count = 2 } ∷ record { who = OfControl; count = 6 } ∷ record { who = OfControl; count = 17 } ∷ record { who = OfControl; count = 7 } ∷ record { who = OfCpu (record { 0 = 0 }); count = 14 } ∷ record { who = OfCpu (record { 0 = 0 }); count = 10 } ∷ record { who = OfCpu (record { 0 = 0 }); count = 17 } ∷ record { who = OfControl; count = 2 } ∷ record { who = OfCpu (record { 0 = 1 }); count = 13 } ∷ record { who = All; count = 300 } ∷ [] }
 
 abbrev pub job_40-items : List Item
 job_40-items = Enter (call_in 0 1) Normal (record { 0 = 3 }) None ∷ Body (call_in 0 1) (record { 0 = 3 }) Nop ∷ Leave (call_in 0 1) ∷ Ret (call_in 0 1) None ∷ Enter (call_in 0 2) Normal (record { 0 = 1 }) None ∷ Body (call_in 0 2) (record { 0 = 1 }) Nop ∷ Leave (call_in 0 2) ∷ Begin 1 ∷ Ret (call_in 0 2) None ∷ Return 1 Accepted ∷ Begin 2 ∷ Return 2 NotThere ∷ Begin 3 ∷ Return 3 Already ∷ Begin 4 ∷ Return 4 Accepted ∷ []
@@ -273,7 +273,7 @@ unfolding actors_of repeated start step run played play all_end control_next con
 job_40-plays = (refl, refl)
 
 abbrev pub job_42 : Job
-job_42 = record { functions = named (codes "a") None ∷ []; users = record { name = codes "u0"; kind = Function; regs = false; ipmodify = None; pid = false; act = Some (CallIn (record { 0 = 0 })) } ∷ record { name = codes "u1"; kind = Function; regs = true; ipmodify = None; pid = false; act = Some (IrqIn (record { 0 = 0 })) } ∷ []; frames = 3; tramps = 0; quanta = 3 ∷ 3 ∷ []; tasks = record { pid = 10; cpu = 1; acts = After 2 ∷ Call (record { 0 = 0 }) ∷ Call (record { 0 = 0 }) ∷ RetAct ∷ After 6 ∷ RetAct ∷ Call (record { 0 = 0 }) ∷ Call (record { 0 = 0 }) ∷ RetAct ∷ RetAct ∷ [] } ∷ record { pid = 11; cpu = 1; acts = After 6 ∷ Call (record { 0 = 0 }) ∷ Raise Softirq ∷ Lower ∷ RetAct ∷ [] } ∷ []; ctls = Run (Notrace 1 (record { append = true; remove = false; clear = false; set = true ∷ [] })) ∷ Run (Filter 0 (record { append = false; remove = true; clear = false; set = true ∷ [] })) ∷ Run (Pid (false ∷ false ∷ [])) ∷ Run (Register 1) ∷ Run (Register 1) ∷ Run (Register 1) ∷ Run (Disable 1) ∷ []; schedule = record { who = OfCpu (record { 0 = 0 }); count = 3 } ∷ record { who = OfCpu (record { 0 = 0 }); count = 3 } ∷ record { who = OfCpu (record { 0 = 0 }); count = 3 } ∷ record { who = OfControl; count = 3 } ∷ record { who = OfCpu (record { 0 = 1 }); count = 1 } ∷ record { who = OfCpu (record { 0 = 1 }); count = 3 } ∷ record { who = OfCpu (record { 0 = 0 }); count = 3 } ∷ record { who = OfCpu (record { 0 = 0 }); count = 1 } ∷ record { who = OfCpu (record { 0 = 0 }); count = 2 } ∷ record { who = OfControl; count = 2 } ∷ record { who = OfControl; count = 3 } ∷ record { who = OfCpu (record { 0 = 1 }); count = 2 } ∷ record { who = OfCpu (record { 0 = 1 }); count = 1 } ∷ record { who = OfCpu (record { 0 = 1 }); count = 1 } ∷ record { who = OfCpu (record { 0 = 1 }); count = 2 } ∷ record { who = OfCpu (record { 0 = 1 }); count = 3 } ∷ record { who = All; count = 300 } ∷ [] }
+job_42 = record { version = 1; functions = named (codes "a") None ∷ []; users = record { name = codes "u0"; kind = Function; regs = false; ipmodify = None; pid = false; act = Some (CallIn (record { 0 = 0 })) } ∷ record { name = codes "u1"; kind = Function; regs = true; ipmodify = None; pid = false; act = Some (IrqIn (record { 0 = 0 })) } ∷ []; frames = 3; tramps = 0; quanta = 3 ∷ 3 ∷ []; tasks = record { pid = 10; cpu = 1; acts = After 2 ∷ Call (record { 0 = 0 }) ∷ Call (record { 0 = 0 }) ∷ RetAct ∷ After 6 ∷ RetAct ∷ Call (record { 0 = 0 }) ∷ Call (record { 0 = 0 }) ∷ RetAct ∷ RetAct ∷ [] } ∷ record { pid = 11; cpu = 1; acts = After 6 ∷ Call (record { 0 = 0 }) ∷ Raise Softirq ∷ Lower ∷ RetAct ∷ [] } ∷ []; ctls = Run (Notrace 1 (record { append = true; remove = false; clear = false; set = true ∷ [] })) ∷ Run (Filter 0 (record { append = false; remove = true; clear = false; set = true ∷ [] })) ∷ Run (Pid (false ∷ false ∷ [])) ∷ Run (Register 1) ∷ Run (Register 1) ∷ Run (Register 1) ∷ Run (Disable 1) ∷ []; lines = usual_lines; rings = usual_rings; schedule = record { who = OfCpu (record { 0 = 0 }); count = 3 } ∷ record { who = OfCpu (record { 0 = 0 }); count = 3 } ∷ record { who = OfCpu (record { 0 = 0 }); count = 3 } ∷ record { who = OfControl; count = 3 } ∷ record { who = OfCpu (record { 0 = 1 }); count = 1 } ∷ record { who = OfCpu (record { 0 = 1 }); count = 3 } ∷ record { who = OfCpu (record { 0 = 0 }); count = 3 } ∷ record { who = OfCpu (record { 0 = 0 }); count = 1 } ∷ record { who = OfCpu (record { 0 = 0 }); count = 2 } ∷ record { who = OfControl; count = 2 } ∷ record { who = OfControl; count = 3 } ∷ record { who = OfCpu (record { 0 = 1 }); count = 2 } ∷ record { who = OfCpu (record { 0 = 1 }); count = 1 } ∷ record { who = OfCpu (record { 0 = 1 }); count = 1 } ∷ record { who = OfCpu (record { 0 = 1 }); count = 2 } ∷ record { who = OfCpu (record { 0 = 1 }); count = 3 } ∷ record { who = All; count = 300 } ∷ [] }
 
 abbrev pub job_42-items : List Item
 job_42-items = Begin 1 ∷ Return 1 Accepted ∷ Begin 2 ∷ Return 2 Accepted ∷ Begin 3 ∷ Return 3 Accepted ∷ Enter (call_in 0 1) Normal (record { 0 = 0 }) None ∷ Begin 4 ∷ Body (call_in 0 1) (record { 0 = 0 }) Nop ∷ Return 4 Accepted ∷ Begin 5 ∷ Return 5 Already ∷ Begin 6 ∷ Enter (call_in 0 2) Normal (record { 0 = 0 }) (Some (call_in 0 1)) ∷ Return 6 Already ∷ Begin 7 ∷ Return 7 Invalid ∷ Body (call_in 0 2) (record { 0 = 0 }) Nop ∷ Enter (call_in 1 1) Normal (record { 0 = 0 }) None ∷ Leave (call_in 0 2) ∷ Ret (call_in 0 2) (Some (call_in 0 1)) ∷ Body (call_in 1 1) (record { 0 = 0 }) Nop ∷ Leave (call_in 0 1) ∷ Ret (call_in 0 1) None ∷ Leave (call_in 1 1) ∷ Ret (call_in 1 1) None ∷ Enter (call_in 0 3) Normal (record { 0 = 0 }) None ∷ Body (call_in 0 3) (record { 0 = 0 }) Nop ∷ Enter (call_in 0 4) Normal (record { 0 = 0 }) (Some (call_in 0 3)) ∷ Body (call_in 0 4) (record { 0 = 0 }) Nop ∷ Leave (call_in 0 4) ∷ Ret (call_in 0 4) (Some (call_in 0 3)) ∷ Leave (call_in 0 3) ∷ Ret (call_in 0 3) None ∷ []
@@ -283,7 +283,7 @@ unfolding actors_of repeated start step run played play all_end control_next con
 job_42-plays = (refl, refl)
 
 abbrev pub job_43 : Job
-job_43 = record { functions = named (codes "a") (Some (codes "m")) ∷ []; users = record { name = codes "u0"; kind = Fprobe true false; regs = false; ipmodify = None; pid = false; act = None } ∷ record { name = codes "u1"; kind = Fprobe false false; regs = true; ipmodify = None; pid = false; act = None } ∷ record { name = codes "u2"; kind = Profile; regs = true; ipmodify = None; pid = false; act = None } ∷ []; frames = 2; tramps = 1; quanta = 1 ∷ 40 ∷ []; tasks = record { pid = 10; cpu = 0; acts = After 1 ∷ Call (record { 0 = 0 }) ∷ RetAct ∷ Call (record { 0 = 0 }) ∷ Call (record { 0 = 0 }) ∷ RetAct ∷ RetAct ∷ [] } ∷ []; ctls = Run (Pid (true ∷ [])) ∷ Until 0 5 ∷ Run (Register 1) ∷ []; schedule = record { who = OfCpu (record { 0 = 0 }); count = 2 } ∷ record { who = OfCpu (record { 0 = 0 }); count = 14 } ∷ record { who = OfCpu (record { 0 = 1 }); count = 3 } ∷ record { who = OfCpu (record { 0 = 0 }); count = 5 } ∷ record { who = OfCpu (record { 0 = 1 }); count = 3 } ∷ record { who = OfCpu (record { 0 = 1 }); count = 5 } ∷ record { who = OfCpu (record { 0 = 1 }); count = 10 } ∷ record { who = OfControl; count = 18 } ∷ record { who = OfCpu (record { 0 = 0 }); count = 15 } ∷ record { who = OfCpu (record { 0 = 1 }); count = 2 } ∷ record { who = OfControl; count = 1 } ∷ record { who = OfControl; count = 4 } ∷ record { who = OfControl; count = 1 } ∷ record { who = OfCpu (record { 0 = 0 }); count = 4 } ∷ record { who = OfCpu (record { 0 = 1 }); count = 18 } ∷ record { who = OfCpu (record { 0 = 0 }); count = 9 } ∷ record { who = OfCpu (record { 0 = 1 }); count = 15 } ∷ record { who = OfCpu (record { 0 = 0 }); count = 13 } ∷ record { who = OfControl; count = 2 } ∷ record { who = OfControl; count = 7 } ∷ record { who = OfCpu (record { 0 = 1 }); count = 13 } ∷ record { who = OfControl; count = 19 } ∷ record { who = OfCpu (record { 0 = 0 }); count = 9 } ∷ record { who = OfCpu (record { 0 = 1 }); count = 19 } ∷ record { who = OfCpu (record { 0 = 0 }); count = 11 } ∷ record { who = OfCpu (record { 0 = 0 }); count = 12 } ∷ record { who = All; count = 300 } ∷ [] }
+job_43 = record { version = 1; functions = named (codes "a") (Some (codes "m")) ∷ []; users = record { name = codes "u0"; kind = Fprobe true false; regs = false; ipmodify = None; pid = false; act = None } ∷ record { name = codes "u1"; kind = Fprobe false false; regs = true; ipmodify = None; pid = false; act = None } ∷ record { name = codes "u2"; kind = Profile; regs = true; ipmodify = None; pid = false; act = None } ∷ []; frames = 2; tramps = 1; quanta = 1 ∷ 40 ∷ []; tasks = record { pid = 10; cpu = 0; acts = After 1 ∷ Call (record { 0 = 0 }) ∷ RetAct ∷ Call (record { 0 = 0 }) ∷ Call (record { 0 = 0 }) ∷ RetAct ∷ RetAct ∷ [] } ∷ []; ctls = Run (Pid (true ∷ [])) ∷ Until 0 5 ∷ Run (Register 1) ∷ []; lines = usual_lines; rings = usual_rings; schedule = record { who = OfCpu (record { 0 = 0 }); count = 2 } ∷ record { who = OfCpu (record { 0 = 0 }); count = 14 } ∷ record { who = OfCpu (record { 0 = 1 }); count = 3 } ∷ record { who = OfCpu (record { 0 = 0 }); count = 5 } ∷ record { who = OfCpu (record { 0 = 1 }); count = 3 } ∷ record { who = OfCpu (record { 0 = 1 }); count = 5 } ∷ record { who = OfCpu (record { 0 = 1 }); count = 10 } ∷ record { who = OfControl; count = 18 } ∷ record { who = OfCpu (record { 0 = 0 }); count = 15 } ∷ record { who = OfCpu (record { 0 = 1 }); count = 2 } ∷ record { who = OfControl; count = 1 } ∷ record { who = OfControl; count = 4 } ∷ record { who = OfControl; count = 1 } ∷ record { who = OfCpu (record { 0 = 0 }); count = 4 } ∷ record { who = OfCpu (record { 0 = 1 }); count = 18 } ∷ record { who = OfCpu (record { 0 = 0 }); count = 9 } ∷ record { who = OfCpu (record { 0 = 1 }); count = 15 } ∷ record { who = OfCpu (record { 0 = 0 }); count = 13 } ∷ record { who = OfControl; count = 2 } ∷ record { who = OfControl; count = 7 } ∷ record { who = OfCpu (record { 0 = 1 }); count = 13 } ∷ record { who = OfControl; count = 19 } ∷ record { who = OfCpu (record { 0 = 0 }); count = 9 } ∷ record { who = OfCpu (record { 0 = 1 }); count = 19 } ∷ record { who = OfCpu (record { 0 = 0 }); count = 11 } ∷ record { who = OfCpu (record { 0 = 0 }); count = 12 } ∷ record { who = All; count = 300 } ∷ [] }
 
 abbrev pub job_43-items : List Item
 job_43-items = Begin 1 ∷ Return 1 Accepted ∷ Enter (call_in 0 1) Normal (record { 0 = 0 }) None ∷ Body (call_in 0 1) (record { 0 = 0 }) Nop ∷ Leave (call_in 0 1) ∷ Ret (call_in 0 1) None ∷ Enter (call_in 0 2) Normal (record { 0 = 0 }) None ∷ Body (call_in 0 2) (record { 0 = 0 }) Nop ∷ Enter (call_in 0 3) Normal (record { 0 = 0 }) (Some (call_in 0 2)) ∷ Body (call_in 0 3) (record { 0 = 0 }) Nop ∷ Begin 2 ∷ Leave (call_in 0 3) ∷ Ret (call_in 0 3) (Some (call_in 0 2)) ∷ Leave (call_in 0 2) ∷ Ret (call_in 0 2) None ∷ Return 2 Accepted ∷ []
@@ -293,7 +293,7 @@ unfolding actors_of repeated start step run played play all_end control_next con
 job_43-plays = (refl, refl)
 
 abbrev pub job_44 : Job
-job_44 = record { functions = named (codes "a") None ∷ named (codes "b") None ∷ named (codes "c") (Some (codes "m")) ∷ named (codes "d") None ∷ []; users = record { name = codes "u0"; kind = Function; regs = true; ipmodify = None; pid = true; act = None } ∷ record { name = codes "u1"; kind = Fprobe true false; regs = true; ipmodify = None; pid = true; act = Some (IrqIn (record { 0 = 1 })) } ∷ []; frames = 3; tramps = 0; quanta = 1 ∷ []; tasks = record { pid = 10; cpu = 0; acts = Call (record { 0 = 3 }) ∷ Call (record { 0 = 3 }) ∷ After 2 ∷ Call (record { 0 = 1 }) ∷ Raise Softirq ∷ Raise Nmi ∷ Lower ∷ Lower ∷ RetAct ∷ RetAct ∷ RetAct ∷ [] } ∷ record { pid = 11; cpu = 0; acts = Call (record { 0 = 3 }) ∷ RetAct ∷ Raise Nmi ∷ Call (record { 0 = 3 }) ∷ RetAct ∷ Lower ∷ [] } ∷ []; ctls = Run (NoPid (true ∷ false ∷ [])) ∷ Run (Filter 0 (record { append = true; remove = false; clear = false; set = false ∷ false ∷ false ∷ true ∷ [] })) ∷ Run (Enable 0) ∷ Run (Register 1) ∷ []; schedule = record { who = OfCpu (record { 0 = 0 }); count = 2 } ∷ record { who = OfControl; count = 3 } ∷ record { who = OfCpu (record { 0 = 0 }); count = 3 } ∷ record { who = OfCpu (record { 0 = 0 }); count = 1 } ∷ record { who = OfCpu (record { 0 = 0 }); count = 2 } ∷ record { who = OfCpu (record { 0 = 0 }); count = 2 } ∷ record { who = OfCpu (record { 0 = 0 }); count = 2 } ∷ record { who = OfCpu (record { 0 = 0 }); count = 1 } ∷ record { who = OfCpu (record { 0 = 0 }); count = 2 } ∷ record { who = OfControl; count = 1 } ∷ record { who = OfControl; count = 1 } ∷ record { who = OfCpu (record { 0 = 0 }); count = 2 } ∷ record { who = All; count = 300 } ∷ [] }
+job_44 = record { version = 1; functions = named (codes "a") None ∷ named (codes "b") None ∷ named (codes "c") (Some (codes "m")) ∷ named (codes "d") None ∷ []; users = record { name = codes "u0"; kind = Function; regs = true; ipmodify = None; pid = true; act = None } ∷ record { name = codes "u1"; kind = Fprobe true false; regs = true; ipmodify = None; pid = true; act = Some (IrqIn (record { 0 = 1 })) } ∷ []; frames = 3; tramps = 0; quanta = 1 ∷ []; tasks = record { pid = 10; cpu = 0; acts = Call (record { 0 = 3 }) ∷ Call (record { 0 = 3 }) ∷ After 2 ∷ Call (record { 0 = 1 }) ∷ Raise Softirq ∷ Raise Nmi ∷ Lower ∷ Lower ∷ RetAct ∷ RetAct ∷ RetAct ∷ [] } ∷ record { pid = 11; cpu = 0; acts = Call (record { 0 = 3 }) ∷ RetAct ∷ Raise Nmi ∷ Call (record { 0 = 3 }) ∷ RetAct ∷ Lower ∷ [] } ∷ []; ctls = Run (NoPid (true ∷ false ∷ [])) ∷ Run (Filter 0 (record { append = true; remove = false; clear = false; set = false ∷ false ∷ false ∷ true ∷ [] })) ∷ Run (Enable 0) ∷ Run (Register 1) ∷ []; lines = usual_lines; rings = usual_rings; schedule = record { who = OfCpu (record { 0 = 0 }); count = 2 } ∷ record { who = OfControl; count = 3 } ∷ record { who = OfCpu (record { 0 = 0 }); count = 3 } ∷ record { who = OfCpu (record { 0 = 0 }); count = 1 } ∷ record { who = OfCpu (record { 0 = 0 }); count = 2 } ∷ record { who = OfCpu (record { 0 = 0 }); count = 2 } ∷ record { who = OfCpu (record { 0 = 0 }); count = 2 } ∷ record { who = OfCpu (record { 0 = 0 }); count = 1 } ∷ record { who = OfCpu (record { 0 = 0 }); count = 2 } ∷ record { who = OfControl; count = 1 } ∷ record { who = OfControl; count = 1 } ∷ record { who = OfCpu (record { 0 = 0 }); count = 2 } ∷ record { who = All; count = 300 } ∷ [] }
 
 abbrev pub job_44-items : List Item
 job_44-items = Begin 1 ∷ Enter (call_in 0 1) Normal (record { 0 = 3 }) None ∷ Enter (call_in 1 1) Normal (record { 0 = 3 }) None ∷ Body (call_in 0 1) (record { 0 = 3 }) Nop ∷ Body (call_in 1 1) (record { 0 = 3 }) Nop ∷ Enter (call_in 0 2) Normal (record { 0 = 3 }) (Some (call_in 0 1)) ∷ Leave (call_in 1 1) ∷ Return 1 Accepted ∷ Begin 2 ∷ Return 2 Accepted ∷ Ret (call_in 1 1) None ∷ Begin 3 ∷ Body (call_in 0 2) (record { 0 = 3 }) Nop ∷ Return 3 NotThere ∷ Begin 4 ∷ Enter (call_in 1 2) Nmi (record { 0 = 3 }) None ∷ Enter (call_in 0 3) Normal (record { 0 = 1 }) (Some (call_in 0 2)) ∷ Body (call_in 1 2) (record { 0 = 3 }) Nop ∷ Leave (call_in 1 2) ∷ Ret (call_in 1 2) None ∷ Refuse (call_in 0 3) (record { 0 = 1 }) ByPid ∷ Body (call_in 0 3) (record { 0 = 1 }) ByList ∷ Return 4 Accepted ∷ Leave (call_in 0 3) ∷ Ret (call_in 0 3) (Some (call_in 0 2)) ∷ Leave (call_in 0 2) ∷ Ret (call_in 0 2) (Some (call_in 0 1)) ∷ Leave (call_in 0 1) ∷ Ret (call_in 0 1) None ∷ []
@@ -303,7 +303,7 @@ unfolding actors_of repeated start step run played play all_end control_next con
 job_44-plays = (refl, refl)
 
 abbrev pub job_47 : Job
-job_47 = record { functions = named (codes "a") None ∷ named (codes "b") (Some (codes "m")) ∷ named (codes "c") (Some (codes "m")) ∷ []; users = record { name = codes "u0"; kind = Profile; regs = false; ipmodify = None; pid = true; act = Some (CallIn (record { 0 = 0 })) } ∷ record { name = codes "u1"; kind = Fprobe true true; regs = false; ipmodify = None; pid = true; act = Some (IrqIn (record { 0 = 2 })) } ∷ record { name = codes "u2"; kind = Function; regs = true; ipmodify = None; pid = true; act = None } ∷ record { name = codes "u3"; kind = Fprobe false false; regs = true; ipmodify = None; pid = true; act = None } ∷ []; frames = 3; tramps = 1; quanta = 3 ∷ []; tasks = record { pid = 10; cpu = 0; acts = After 3 ∷ Raise Softirq ∷ After 3 ∷ Call (record { 0 = 2 }) ∷ RetAct ∷ Lower ∷ [] } ∷ []; ctls = Run (Pid (true ∷ [])) ∷ Run (Unregister 0) ∷ Run (Notrace 1 (record { append = false; remove = false; clear = false; set = false ∷ true ∷ false ∷ [] })) ∷ Run (Notrace 1 (record { append = false; remove = false; clear = false; set = false ∷ false ∷ true ∷ [] })) ∷ []; schedule = record { who = OfCpu (record { 0 = 0 }); count = 4 } ∷ record { who = OfControl; count = 2 } ∷ record { who = OfControl; count = 6 } ∷ record { who = OfCpu (record { 0 = 0 }); count = 2 } ∷ record { who = OfCpu (record { 0 = 0 }); count = 8 } ∷ record { who = OfControl; count = 2 } ∷ record { who = OfCpu (record { 0 = 0 }); count = 2 } ∷ record { who = OfCpu (record { 0 = 0 }); count = 1 } ∷ record { who = OfCpu (record { 0 = 0 }); count = 1 } ∷ record { who = All; count = 300 } ∷ [] }
+job_47 = record { version = 1; functions = named (codes "a") None ∷ named (codes "b") (Some (codes "m")) ∷ named (codes "c") (Some (codes "m")) ∷ []; users = record { name = codes "u0"; kind = Profile; regs = false; ipmodify = None; pid = true; act = Some (CallIn (record { 0 = 0 })) } ∷ record { name = codes "u1"; kind = Fprobe true true; regs = false; ipmodify = None; pid = true; act = Some (IrqIn (record { 0 = 2 })) } ∷ record { name = codes "u2"; kind = Function; regs = true; ipmodify = None; pid = true; act = None } ∷ record { name = codes "u3"; kind = Fprobe false false; regs = true; ipmodify = None; pid = true; act = None } ∷ []; frames = 3; tramps = 1; quanta = 3 ∷ []; tasks = record { pid = 10; cpu = 0; acts = After 3 ∷ Raise Softirq ∷ After 3 ∷ Call (record { 0 = 2 }) ∷ RetAct ∷ Lower ∷ [] } ∷ []; ctls = Run (Pid (true ∷ [])) ∷ Run (Unregister 0) ∷ Run (Notrace 1 (record { append = false; remove = false; clear = false; set = false ∷ true ∷ false ∷ [] })) ∷ Run (Notrace 1 (record { append = false; remove = false; clear = false; set = false ∷ false ∷ true ∷ [] })) ∷ []; lines = usual_lines; rings = usual_rings; schedule = record { who = OfCpu (record { 0 = 0 }); count = 4 } ∷ record { who = OfControl; count = 2 } ∷ record { who = OfControl; count = 6 } ∷ record { who = OfCpu (record { 0 = 0 }); count = 2 } ∷ record { who = OfCpu (record { 0 = 0 }); count = 8 } ∷ record { who = OfControl; count = 2 } ∷ record { who = OfCpu (record { 0 = 0 }); count = 2 } ∷ record { who = OfCpu (record { 0 = 0 }); count = 1 } ∷ record { who = OfCpu (record { 0 = 0 }); count = 1 } ∷ record { who = All; count = 300 } ∷ [] }
 
 abbrev pub job_47-items : List Item
 job_47-items = Begin 1 ∷ Return 1 Accepted ∷ Begin 2 ∷ Return 2 NotThere ∷ Begin 3 ∷ Return 3 Accepted ∷ Begin 4 ∷ Return 4 Accepted ∷ Enter (call_in 0 1) Softirq (record { 0 = 2 }) None ∷ Body (call_in 0 1) (record { 0 = 2 }) Nop ∷ Leave (call_in 0 1) ∷ Ret (call_in 0 1) None ∷ []
@@ -313,7 +313,7 @@ unfolding actors_of repeated start step run played play all_end control_next con
 job_47-plays = (refl, refl)
 
 abbrev pub job_49 : Job
-job_49 = record { functions = named (codes "a") (Some (codes "m")) ∷ []; users = record { name = codes "u0"; kind = Fprobe true true; regs = false; ipmodify = None; pid = false; act = Some (IrqIn (record { 0 = 0 })) } ∷ record { name = codes "u1"; kind = Function; regs = false; ipmodify = None; pid = false; act = Some (IrqIn (record { 0 = 0 })) } ∷ record { name = codes "u2"; kind = Function; regs = true; ipmodify = Some (record { 0 = 0 }); pid = false; act = None } ∷ []; frames = 50; tramps = 0; quanta = 7 ∷ []; tasks = record { pid = 10; cpu = 0; acts = Raise Nmi ∷ Call (record { 0 = 0 }) ∷ RetAct ∷ Lower ∷ [] } ∷ record { pid = 11; cpu = 0; acts = After 5 ∷ Raise Nmi ∷ Call (record { 0 = 0 }) ∷ RetAct ∷ Call (record { 0 = 0 }) ∷ After 7 ∷ After 7 ∷ RetAct ∷ Lower ∷ [] } ∷ record { pid = 12; cpu = 0; acts = After 6 ∷ Raise Softirq ∷ Call (record { 0 = 0 }) ∷ RetAct ∷ Lower ∷ Raise Irq ∷ Call (record { 0 = 0 }) ∷ Call (record { 0 = 0 }) ∷ Call (record { 0 = 0 }) ∷ RetAct ∷ RetAct ∷ RetAct ∷ Lower ∷ [] } ∷ []; ctls = Run (Enable 1) ∷ Run (MaxDepth 0) ∷ Run (Enable 2) ∷ Run (Notrace 0 (record { append = false; remove = false; clear = false; set = true ∷ [] })) ∷ Run (MaxDepth 2) ∷ Run (Register 2) ∷ Until 2 10 ∷ Run (MaxDepth 2) ∷ []; schedule = record { who = OfControl; count = 1 } ∷ record { who = OfControl; count = 2 } ∷ record { who = OfCpu (record { 0 = 0 }); count = 3 } ∷ record { who = OfCpu (record { 0 = 0 }); count = 15 } ∷ record { who = OfCpu (record { 0 = 0 }); count = 18 } ∷ record { who = OfControl; count = 14 } ∷ record { who = OfCpu (record { 0 = 0 }); count = 4 } ∷ record { who = OfCpu (record { 0 = 0 }); count = 8 } ∷ record { who = OfControl; count = 16 } ∷ record { who = OfControl; count = 9 } ∷ record { who = OfCpu (record { 0 = 0 }); count = 6 } ∷ record { who = OfCpu (record { 0 = 0 }); count = 19 } ∷ record { who = OfControl; count = 6 } ∷ record { who = OfControl; count = 20 } ∷ record { who = OfCpu (record { 0 = 0 }); count = 12 } ∷ record { who = OfControl; count = 2 } ∷ record { who = OfControl; count = 14 } ∷ record { who = All; count = 300 } ∷ [] }
+job_49 = record { version = 1; functions = named (codes "a") (Some (codes "m")) ∷ []; users = record { name = codes "u0"; kind = Fprobe true true; regs = false; ipmodify = None; pid = false; act = Some (IrqIn (record { 0 = 0 })) } ∷ record { name = codes "u1"; kind = Function; regs = false; ipmodify = None; pid = false; act = Some (IrqIn (record { 0 = 0 })) } ∷ record { name = codes "u2"; kind = Function; regs = true; ipmodify = Some (record { 0 = 0 }); pid = false; act = None } ∷ []; frames = 50; tramps = 0; quanta = 7 ∷ []; tasks = record { pid = 10; cpu = 0; acts = Raise Nmi ∷ Call (record { 0 = 0 }) ∷ RetAct ∷ Lower ∷ [] } ∷ record { pid = 11; cpu = 0; acts = After 5 ∷ Raise Nmi ∷ Call (record { 0 = 0 }) ∷ RetAct ∷ Call (record { 0 = 0 }) ∷ After 7 ∷ After 7 ∷ RetAct ∷ Lower ∷ [] } ∷ record { pid = 12; cpu = 0; acts = After 6 ∷ Raise Softirq ∷ Call (record { 0 = 0 }) ∷ RetAct ∷ Lower ∷ Raise Irq ∷ Call (record { 0 = 0 }) ∷ Call (record { 0 = 0 }) ∷ Call (record { 0 = 0 }) ∷ RetAct ∷ RetAct ∷ RetAct ∷ Lower ∷ [] } ∷ []; ctls = Run (Enable 1) ∷ Run (MaxDepth 0) ∷ Run (Enable 2) ∷ Run (Notrace 0 (record { append = false; remove = false; clear = false; set = true ∷ [] })) ∷ Run (MaxDepth 2) ∷ Run (Register 2) ∷ Until 2 10 ∷ Run (MaxDepth 2) ∷ []; lines = usual_lines; rings = usual_rings; schedule = record { who = OfControl; count = 1 } ∷ record { who = OfControl; count = 2 } ∷ record { who = OfCpu (record { 0 = 0 }); count = 3 } ∷ record { who = OfCpu (record { 0 = 0 }); count = 15 } ∷ record { who = OfCpu (record { 0 = 0 }); count = 18 } ∷ record { who = OfControl; count = 14 } ∷ record { who = OfCpu (record { 0 = 0 }); count = 4 } ∷ record { who = OfCpu (record { 0 = 0 }); count = 8 } ∷ record { who = OfControl; count = 16 } ∷ record { who = OfControl; count = 9 } ∷ record { who = OfCpu (record { 0 = 0 }); count = 6 } ∷ record { who = OfCpu (record { 0 = 0 }); count = 19 } ∷ record { who = OfControl; count = 6 } ∷ record { who = OfControl; count = 20 } ∷ record { who = OfCpu (record { 0 = 0 }); count = 12 } ∷ record { who = OfControl; count = 2 } ∷ record { who = OfControl; count = 14 } ∷ record { who = All; count = 300 } ∷ [] }
 
 abbrev pub job_49-items : List Item
 job_49-items = Begin 1 ∷ Return 1 NotThere ∷ Begin 2 ∷ Enter (call_in 0 1) Nmi (record { 0 = 0 }) None ∷ Body (call_in 0 1) (record { 0 = 0 }) Nop ∷ Leave (call_in 0 1) ∷ Ret (call_in 0 1) None ∷ Return 2 Accepted ∷ Begin 3 ∷ Return 3 NotThere ∷ Begin 4 ∷ Return 4 Accepted ∷ Begin 5 ∷ Return 5 Accepted ∷ Begin 6 ∷ Return 6 Invalid ∷ Enter (call_in 1 1) Nmi (record { 0 = 0 }) None ∷ Enter (call_in 2 1) Softirq (record { 0 = 0 }) None ∷ Body (call_in 1 1) (record { 0 = 0 }) Nop ∷ Leave (call_in 1 1) ∷ Ret (call_in 1 1) None ∷ Body (call_in 2 1) (record { 0 = 0 }) Nop ∷ Leave (call_in 2 1) ∷ Enter (call_in 1 2) Nmi (record { 0 = 0 }) None ∷ Body (call_in 1 2) (record { 0 = 0 }) Nop ∷ Ret (call_in 2 1) None ∷ Enter (call_in 2 2) Irq (record { 0 = 0 }) None ∷ Body (call_in 2 2) (record { 0 = 0 }) Nop ∷ Enter (call_in 2 3) Irq (record { 0 = 0 }) (Some (call_in 2 2)) ∷ Body (call_in 2 3) (record { 0 = 0 }) Nop ∷ Enter (call_in 2 4) Irq (record { 0 = 0 }) (Some (call_in 2 3)) ∷ Body (call_in 2 4) (record { 0 = 0 }) Nop ∷ Leave (call_in 2 4) ∷ Ret (call_in 2 4) (Some (call_in 2 3)) ∷ Begin 7 ∷ Leave (call_in 2 3) ∷ Ret (call_in 2 3) (Some (call_in 2 2)) ∷ Leave (call_in 2 2) ∷ Return 7 Accepted ∷ Ret (call_in 2 2) None ∷ Leave (call_in 1 2) ∷ Ret (call_in 1 2) None ∷ []
@@ -323,7 +323,7 @@ unfolding actors_of repeated start step run played play all_end control_next con
 job_49-plays = (refl, refl)
 
 abbrev pub job_51 : Job
-job_51 = record { functions = named (codes "a") None ∷ named (codes "b") None ∷ []; users = record { name = codes "u0"; kind = Fprobe true true; regs = true; ipmodify = None; pid = false; act = Some (IrqIn (record { 0 = 1 })) } ∷ record { name = codes "u1"; kind = Graph; regs = false; ipmodify = None; pid = false; act = Some (CallIn (record { 0 = 1 })) } ∷ record { name = codes "u2"; kind = Fprobe true false; regs = false; ipmodify = None; pid = false; act = Some (IrqIn (record { 0 = 1 })) } ∷ []; frames = 2; tramps = 16; quanta = 15 ∷ []; tasks = record { pid = 10; cpu = 0; acts = After 1 ∷ After 5 ∷ Call (record { 0 = 1 }) ∷ After 4 ∷ RetAct ∷ [] } ∷ []; ctls = Run (Register 1) ∷ Run (Unregister 1) ∷ Run (Enable 1) ∷ Run (Enable 2) ∷ Run (Enable 1) ∷ []; schedule = record { who = OfCpu (record { 0 = 0 }); count = 2 } ∷ record { who = OfCpu (record { 0 = 0 }); count = 1 } ∷ record { who = OfCpu (record { 0 = 0 }); count = 3 } ∷ record { who = OfCpu (record { 0 = 0 }); count = 2 } ∷ record { who = OfCpu (record { 0 = 0 }); count = 1 } ∷ record { who = OfCpu (record { 0 = 0 }); count = 1 } ∷ record { who = OfControl; count = 2 } ∷ record { who = OfCpu (record { 0 = 0 }); count = 3 } ∷ record { who = OfControl; count = 3 } ∷ record { who = OfControl; count = 3 } ∷ record { who = OfCpu (record { 0 = 0 }); count = 3 } ∷ record { who = OfControl; count = 3 } ∷ record { who = OfCpu (record { 0 = 0 }); count = 3 } ∷ record { who = OfCpu (record { 0 = 0 }); count = 3 } ∷ record { who = All; count = 300 } ∷ [] }
+job_51 = record { version = 1; functions = named (codes "a") None ∷ named (codes "b") None ∷ []; users = record { name = codes "u0"; kind = Fprobe true true; regs = true; ipmodify = None; pid = false; act = Some (IrqIn (record { 0 = 1 })) } ∷ record { name = codes "u1"; kind = Graph; regs = false; ipmodify = None; pid = false; act = Some (CallIn (record { 0 = 1 })) } ∷ record { name = codes "u2"; kind = Fprobe true false; regs = false; ipmodify = None; pid = false; act = Some (IrqIn (record { 0 = 1 })) } ∷ []; frames = 2; tramps = 16; quanta = 15 ∷ []; tasks = record { pid = 10; cpu = 0; acts = After 1 ∷ After 5 ∷ Call (record { 0 = 1 }) ∷ After 4 ∷ RetAct ∷ [] } ∷ []; ctls = Run (Register 1) ∷ Run (Unregister 1) ∷ Run (Enable 1) ∷ Run (Enable 2) ∷ Run (Enable 1) ∷ []; lines = usual_lines; rings = usual_rings; schedule = record { who = OfCpu (record { 0 = 0 }); count = 2 } ∷ record { who = OfCpu (record { 0 = 0 }); count = 1 } ∷ record { who = OfCpu (record { 0 = 0 }); count = 3 } ∷ record { who = OfCpu (record { 0 = 0 }); count = 2 } ∷ record { who = OfCpu (record { 0 = 0 }); count = 1 } ∷ record { who = OfCpu (record { 0 = 0 }); count = 1 } ∷ record { who = OfControl; count = 2 } ∷ record { who = OfCpu (record { 0 = 0 }); count = 3 } ∷ record { who = OfControl; count = 3 } ∷ record { who = OfControl; count = 3 } ∷ record { who = OfCpu (record { 0 = 0 }); count = 3 } ∷ record { who = OfControl; count = 3 } ∷ record { who = OfCpu (record { 0 = 0 }); count = 3 } ∷ record { who = OfCpu (record { 0 = 0 }); count = 3 } ∷ record { who = All; count = 300 } ∷ [] }
 
 abbrev pub job_51-items : List Item
 job_51-items = Begin 1 ∷ Return 1 Accepted ∷ Begin 2 ∷ Return 2 Accepted ∷ Begin 3 ∷ Return 3 NotThere ∷ Begin 4 ∷ Return 4 NotThere ∷ Begin 5 ∷ Return 5 NotThere ∷ Enter (call_in 0 1) Normal (record { 0 = 1 }) None ∷ Body (call_in 0 1) (record { 0 = 1 }) Nop ∷ Leave (call_in 0 1) ∷ Ret (call_in 0 1) None ∷ []
@@ -333,7 +333,7 @@ unfolding actors_of repeated start step run played play all_end control_next con
 job_51-plays = (refl, refl)
 
 abbrev pub job_59 : Job
-job_59 = record { functions = named (codes "a") None ∷ named (codes "b") (Some (codes "m")) ∷ []; users = record { name = codes "u0"; kind = Fprobe true false; regs = true; ipmodify = None; pid = false; act = Some (IrqIn (record { 0 = 1 })) } ∷ record { name = codes "u1"; kind = Fprobe false false; regs = true; ipmodify = None; pid = false; act = None } ∷ record { name = codes "u2"; kind = Fprobe false false; regs = false; ipmodify = None; pid = false; act = Some (CallIn (record { 0 = 1 })) } ∷ []; frames = 1; tramps = 0; quanta = 7 ∷ []; tasks = record { pid = 10; cpu = 0; acts = After 1 ∷ After 5 ∷ Call (record { 0 = 1 }) ∷ Call (record { 0 = 0 }) ∷ RetAct ∷ RetAct ∷ [] } ∷ []; ctls = Run (Register 2) ∷ Run (Pid (false ∷ [])) ∷ Run (Register 2) ∷ Run (Register 2) ∷ Run (Register 1) ∷ Run (Filter 2 (record { append = false; remove = false; clear = false; set = false ∷ true ∷ [] })) ∷ Run (Register 2) ∷ []; schedule = record { who = OfControl; count = 10 } ∷ record { who = OfControl; count = 10 } ∷ record { who = OfCpu (record { 0 = 0 }); count = 3 } ∷ record { who = OfCpu (record { 0 = 0 }); count = 6 } ∷ record { who = OfControl; count = 8 } ∷ record { who = OfCpu (record { 0 = 0 }); count = 20 } ∷ record { who = OfControl; count = 4 } ∷ record { who = OfCpu (record { 0 = 0 }); count = 14 } ∷ record { who = OfCpu (record { 0 = 0 }); count = 1 } ∷ record { who = OfControl; count = 4 } ∷ record { who = OfCpu (record { 0 = 0 }); count = 2 } ∷ record { who = OfControl; count = 20 } ∷ record { who = OfControl; count = 11 } ∷ record { who = OfCpu (record { 0 = 0 }); count = 14 } ∷ record { who = OfCpu (record { 0 = 0 }); count = 14 } ∷ record { who = OfControl; count = 19 } ∷ record { who = OfControl; count = 1 } ∷ record { who = OfControl; count = 1 } ∷ record { who = OfControl; count = 10 } ∷ record { who = OfControl; count = 9 } ∷ record { who = OfControl; count = 8 } ∷ record { who = OfControl; count = 4 } ∷ record { who = OfControl; count = 6 } ∷ record { who = OfCpu (record { 0 = 0 }); count = 2 } ∷ record { who = All; count = 300 } ∷ [] }
+job_59 = record { version = 1; functions = named (codes "a") None ∷ named (codes "b") (Some (codes "m")) ∷ []; users = record { name = codes "u0"; kind = Fprobe true false; regs = true; ipmodify = None; pid = false; act = Some (IrqIn (record { 0 = 1 })) } ∷ record { name = codes "u1"; kind = Fprobe false false; regs = true; ipmodify = None; pid = false; act = None } ∷ record { name = codes "u2"; kind = Fprobe false false; regs = false; ipmodify = None; pid = false; act = Some (CallIn (record { 0 = 1 })) } ∷ []; frames = 1; tramps = 0; quanta = 7 ∷ []; tasks = record { pid = 10; cpu = 0; acts = After 1 ∷ After 5 ∷ Call (record { 0 = 1 }) ∷ Call (record { 0 = 0 }) ∷ RetAct ∷ RetAct ∷ [] } ∷ []; ctls = Run (Register 2) ∷ Run (Pid (false ∷ [])) ∷ Run (Register 2) ∷ Run (Register 2) ∷ Run (Register 1) ∷ Run (Filter 2 (record { append = false; remove = false; clear = false; set = false ∷ true ∷ [] })) ∷ Run (Register 2) ∷ []; lines = usual_lines; rings = usual_rings; schedule = record { who = OfControl; count = 10 } ∷ record { who = OfControl; count = 10 } ∷ record { who = OfCpu (record { 0 = 0 }); count = 3 } ∷ record { who = OfCpu (record { 0 = 0 }); count = 6 } ∷ record { who = OfControl; count = 8 } ∷ record { who = OfCpu (record { 0 = 0 }); count = 20 } ∷ record { who = OfControl; count = 4 } ∷ record { who = OfCpu (record { 0 = 0 }); count = 14 } ∷ record { who = OfCpu (record { 0 = 0 }); count = 1 } ∷ record { who = OfControl; count = 4 } ∷ record { who = OfCpu (record { 0 = 0 }); count = 2 } ∷ record { who = OfControl; count = 20 } ∷ record { who = OfControl; count = 11 } ∷ record { who = OfCpu (record { 0 = 0 }); count = 14 } ∷ record { who = OfCpu (record { 0 = 0 }); count = 14 } ∷ record { who = OfControl; count = 19 } ∷ record { who = OfControl; count = 1 } ∷ record { who = OfControl; count = 1 } ∷ record { who = OfControl; count = 10 } ∷ record { who = OfControl; count = 9 } ∷ record { who = OfControl; count = 8 } ∷ record { who = OfControl; count = 4 } ∷ record { who = OfControl; count = 6 } ∷ record { who = OfCpu (record { 0 = 0 }); count = 2 } ∷ record { who = All; count = 300 } ∷ [] }
 
 abbrev pub job_59-items : List Item
 job_59-items = Begin 1 ∷ Return 1 Accepted ∷ Begin 2 ∷ Return 2 Accepted ∷ Begin 3 ∷ Return 3 Already ∷ Begin 4 ∷ Return 4 Already ∷ Begin 5 ∷ Return 5 Accepted ∷ Begin 6 ∷ Return 6 Accepted ∷ Begin 7 ∷ Return 7 Already ∷ Enter (call_in 0 1) Normal (record { 0 = 1 }) None ∷ Back (call_in 0 1) (record { 0 = 1 }) ∷ BackEnd (call_in 0 1) (record { 0 = 1 }) ∷ Back (call_in 0 1) (record { 0 = 2 }) ∷ Enter (call_in 0 2) Normal (record { 0 = 1 }) (Some (call_in 0 1)) ∷ Refuse (call_in 0 2) (record { 0 = 1 }) Recursion ∷ Refuse (call_in 0 2) (record { 0 = 2 }) Recursion ∷ Body (call_in 0 2) (record { 0 = 1 }) ByList ∷ Leave (call_in 0 2) ∷ Ret (call_in 0 2) (Some (call_in 0 1)) ∷ BackEnd (call_in 0 1) (record { 0 = 2 }) ∷ Body (call_in 0 1) (record { 0 = 1 }) ByList ∷ Enter (call_in 0 3) Normal (record { 0 = 0 }) (Some (call_in 0 1)) ∷ Back (call_in 0 3) (record { 0 = 1 }) ∷ BackEnd (call_in 0 3) (record { 0 = 1 }) ∷ Body (call_in 0 3) (record { 0 = 0 }) ByList ∷ Leave (call_in 0 3) ∷ Ret (call_in 0 3) (Some (call_in 0 1)) ∷ Leave (call_in 0 1) ∷ Ret (call_in 0 1) None ∷ []
@@ -343,7 +343,7 @@ unfolding actors_of repeated start step run played play all_end control_next con
 job_59-plays = (refl, refl)
 
 abbrev pub job_61 : Job
-job_61 = record { functions = named (codes "a") None ∷ named (codes "b") None ∷ named (codes "c") (Some (codes "m")) ∷ named (codes "d") (Some (codes "m")) ∷ []; users = record { name = codes "u0"; kind = Profile; regs = true; ipmodify = None; pid = true; act = Some (IrqIn (record { 0 = 1 })) } ∷ []; frames = 3; tramps = 16; quanta = 15 ∷ []; tasks = record { pid = 10; cpu = 0; acts = After 7 ∷ Call (record { 0 = 3 }) ∷ Call (record { 0 = 2 }) ∷ Raise Irq ∷ Call (record { 0 = 2 }) ∷ RetAct ∷ Lower ∷ RetAct ∷ RetAct ∷ [] } ∷ []; ctls = Run (Disable 0) ∷ Run (Register 0) ∷ Run (Register 0) ∷ Run (Register 0) ∷ Run (Register 0) ∷ Run (Register 0) ∷ Run (Register 0) ∷ []; schedule = record { who = OfControl; count = 17 } ∷ record { who = OfCpu (record { 0 = 0 }); count = 15 } ∷ record { who = OfControl; count = 4 } ∷ record { who = OfControl; count = 6 } ∷ record { who = OfControl; count = 20 } ∷ record { who = OfControl; count = 13 } ∷ record { who = OfControl; count = 7 } ∷ record { who = OfCpu (record { 0 = 0 }); count = 19 } ∷ record { who = OfCpu (record { 0 = 0 }); count = 14 } ∷ record { who = OfCpu (record { 0 = 0 }); count = 16 } ∷ record { who = OfControl; count = 9 } ∷ record { who = OfControl; count = 6 } ∷ record { who = OfControl; count = 6 } ∷ record { who = OfCpu (record { 0 = 0 }); count = 15 } ∷ record { who = OfControl; count = 11 } ∷ record { who = OfControl; count = 19 } ∷ record { who = OfCpu (record { 0 = 0 }); count = 3 } ∷ record { who = OfControl; count = 5 } ∷ record { who = OfCpu (record { 0 = 0 }); count = 4 } ∷ record { who = OfControl; count = 6 } ∷ record { who = OfCpu (record { 0 = 0 }); count = 3 } ∷ record { who = OfCpu (record { 0 = 0 }); count = 9 } ∷ record { who = OfCpu (record { 0 = 0 }); count = 8 } ∷ record { who = OfCpu (record { 0 = 0 }); count = 15 } ∷ record { who = OfCpu (record { 0 = 0 }); count = 17 } ∷ record { who = OfControl; count = 2 } ∷ record { who = OfControl; count = 17 } ∷ record { who = OfCpu (record { 0 = 0 }); count = 16 } ∷ record { who = OfControl; count = 17 } ∷ record { who = OfControl; count = 19 } ∷ record { who = All; count = 300 } ∷ [] }
+job_61 = record { version = 1; functions = named (codes "a") None ∷ named (codes "b") None ∷ named (codes "c") (Some (codes "m")) ∷ named (codes "d") (Some (codes "m")) ∷ []; users = record { name = codes "u0"; kind = Profile; regs = true; ipmodify = None; pid = true; act = Some (IrqIn (record { 0 = 1 })) } ∷ []; frames = 3; tramps = 16; quanta = 15 ∷ []; tasks = record { pid = 10; cpu = 0; acts = After 7 ∷ Call (record { 0 = 3 }) ∷ Call (record { 0 = 2 }) ∷ Raise Irq ∷ Call (record { 0 = 2 }) ∷ RetAct ∷ Lower ∷ RetAct ∷ RetAct ∷ [] } ∷ []; ctls = Run (Disable 0) ∷ Run (Register 0) ∷ Run (Register 0) ∷ Run (Register 0) ∷ Run (Register 0) ∷ Run (Register 0) ∷ Run (Register 0) ∷ []; lines = usual_lines; rings = usual_rings; schedule = record { who = OfControl; count = 17 } ∷ record { who = OfCpu (record { 0 = 0 }); count = 15 } ∷ record { who = OfControl; count = 4 } ∷ record { who = OfControl; count = 6 } ∷ record { who = OfControl; count = 20 } ∷ record { who = OfControl; count = 13 } ∷ record { who = OfControl; count = 7 } ∷ record { who = OfCpu (record { 0 = 0 }); count = 19 } ∷ record { who = OfCpu (record { 0 = 0 }); count = 14 } ∷ record { who = OfCpu (record { 0 = 0 }); count = 16 } ∷ record { who = OfControl; count = 9 } ∷ record { who = OfControl; count = 6 } ∷ record { who = OfControl; count = 6 } ∷ record { who = OfCpu (record { 0 = 0 }); count = 15 } ∷ record { who = OfControl; count = 11 } ∷ record { who = OfControl; count = 19 } ∷ record { who = OfCpu (record { 0 = 0 }); count = 3 } ∷ record { who = OfControl; count = 5 } ∷ record { who = OfCpu (record { 0 = 0 }); count = 4 } ∷ record { who = OfControl; count = 6 } ∷ record { who = OfCpu (record { 0 = 0 }); count = 3 } ∷ record { who = OfCpu (record { 0 = 0 }); count = 9 } ∷ record { who = OfCpu (record { 0 = 0 }); count = 8 } ∷ record { who = OfCpu (record { 0 = 0 }); count = 15 } ∷ record { who = OfCpu (record { 0 = 0 }); count = 17 } ∷ record { who = OfControl; count = 2 } ∷ record { who = OfControl; count = 17 } ∷ record { who = OfCpu (record { 0 = 0 }); count = 16 } ∷ record { who = OfControl; count = 17 } ∷ record { who = OfControl; count = 19 } ∷ record { who = All; count = 300 } ∷ [] }
 
 abbrev pub job_61-items : List Item
 job_61-items = Begin 1 ∷ Return 1 NotThere ∷ Begin 2 ∷ Return 2 Accepted ∷ Begin 3 ∷ Return 3 Already ∷ Begin 4 ∷ Return 4 Already ∷ Begin 5 ∷ Return 5 Already ∷ Begin 6 ∷ Return 6 Already ∷ Begin 7 ∷ Return 7 Already ∷ Enter (call_in 0 1) Normal (record { 0 = 3 }) None ∷ Back (call_in 0 1) (record { 0 = 0 }) ∷ Enter (call_in 0 2) Irq (record { 0 = 1 }) (Some (call_in 0 1)) ∷ Back (call_in 0 2) (record { 0 = 0 }) ∷ BackEnd (call_in 0 2) (record { 0 = 0 }) ∷ Body (call_in 0 2) (record { 0 = 1 }) (Own (record { 0 = 0 })) ∷ Leave (call_in 0 2) ∷ Exit (call_in 0 2) (record { 0 = 0 }) 17 ∷ ExitEnd (call_in 0 2) (record { 0 = 0 }) ∷ Ret (call_in 0 2) (Some (call_in 0 1)) ∷ BackEnd (call_in 0 1) (record { 0 = 0 }) ∷ Body (call_in 0 1) (record { 0 = 3 }) (Own (record { 0 = 0 })) ∷ Enter (call_in 0 3) Normal (record { 0 = 2 }) (Some (call_in 0 1)) ∷ Back (call_in 0 3) (record { 0 = 0 }) ∷ Enter (call_in 0 4) Irq (record { 0 = 1 }) (Some (call_in 0 3)) ∷ Back (call_in 0 4) (record { 0 = 0 }) ∷ BackEnd (call_in 0 4) (record { 0 = 0 }) ∷ Body (call_in 0 4) (record { 0 = 1 }) (Own (record { 0 = 0 })) ∷ Leave (call_in 0 4) ∷ Exit (call_in 0 4) (record { 0 = 0 }) 29 ∷ ExitEnd (call_in 0 4) (record { 0 = 0 }) ∷ Ret (call_in 0 4) (Some (call_in 0 3)) ∷ BackEnd (call_in 0 3) (record { 0 = 0 }) ∷ Body (call_in 0 3) (record { 0 = 2 }) (Own (record { 0 = 0 })) ∷ Enter (call_in 0 5) Irq (record { 0 = 2 }) (Some (call_in 0 3)) ∷ Back (call_in 0 5) (record { 0 = 0 }) ∷ BackEnd (call_in 0 5) (record { 0 = 0 }) ∷ Body (call_in 0 5) (record { 0 = 2 }) (Own (record { 0 = 0 })) ∷ Leave (call_in 0 5) ∷ Exit (call_in 0 5) (record { 0 = 0 }) 39 ∷ ExitEnd (call_in 0 5) (record { 0 = 0 }) ∷ Ret (call_in 0 5) (Some (call_in 0 3)) ∷ Leave (call_in 0 3) ∷ Exit (call_in 0 3) (record { 0 = 0 }) 27 ∷ ExitEnd (call_in 0 3) (record { 0 = 0 }) ∷ Ret (call_in 0 3) (Some (call_in 0 1)) ∷ Leave (call_in 0 1) ∷ Exit (call_in 0 1) (record { 0 = 0 }) 15 ∷ ExitEnd (call_in 0 1) (record { 0 = 0 }) ∷ Ret (call_in 0 1) None ∷ []
@@ -353,7 +353,7 @@ unfolding actors_of repeated start step run played play all_end control_next con
 job_61-plays = (refl, refl)
 
 abbrev pub job_65 : Job
-job_65 = record { functions = named (codes "a") (Some (codes "m")) ∷ named (codes "b") (Some (codes "m")) ∷ named (codes "c") None ∷ named (codes "d") (Some (codes "m")) ∷ []; users = record { name = codes "u0"; kind = Fprobe false false; regs = false; ipmodify = None; pid = false; act = Some (CallIn (record { 0 = 3 })) } ∷ record { name = codes "u1"; kind = Fprobe true false; regs = false; ipmodify = None; pid = true; act = None } ∷ record { name = codes "u2"; kind = Fprobe true true; regs = true; ipmodify = None; pid = false; act = None } ∷ record { name = codes "u3"; kind = Fprobe true true; regs = false; ipmodify = None; pid = false; act = None } ∷ []; frames = 50; tramps = 16; quanta = 15 ∷ 40 ∷ []; tasks = record { pid = 10; cpu = 0; acts = Call (record { 0 = 0 }) ∷ Call (record { 0 = 1 }) ∷ RetAct ∷ RetAct ∷ [] } ∷ []; ctls = Run (Disable 3) ∷ Run (Register 2) ∷ Run (Register 0) ∷ Run (Enable 1) ∷ []; schedule = record { who = OfCpu (record { 0 = 1 }); count = 3 } ∷ record { who = OfCpu (record { 0 = 1 }); count = 2 } ∷ record { who = OfControl; count = 1 } ∷ record { who = OfCpu (record { 0 = 0 }); count = 2 } ∷ record { who = OfCpu (record { 0 = 1 }); count = 2 } ∷ record { who = OfCpu (record { 0 = 0 }); count = 2 } ∷ record { who = OfCpu (record { 0 = 1 }); count = 3 } ∷ record { who = OfCpu (record { 0 = 0 }); count = 1 } ∷ record { who = OfCpu (record { 0 = 1 }); count = 2 } ∷ record { who = OfCpu (record { 0 = 1 }); count = 3 } ∷ record { who = OfControl; count = 1 } ∷ record { who = OfControl; count = 3 } ∷ record { who = OfCpu (record { 0 = 0 }); count = 3 } ∷ record { who = OfCpu (record { 0 = 1 }); count = 1 } ∷ record { who = OfControl; count = 2 } ∷ record { who = OfCpu (record { 0 = 1 }); count = 3 } ∷ record { who = OfControl; count = 1 } ∷ record { who = OfCpu (record { 0 = 0 }); count = 3 } ∷ record { who = OfCpu (record { 0 = 0 }); count = 1 } ∷ record { who = OfCpu (record { 0 = 0 }); count = 2 } ∷ record { who = OfControl; count = 2 } ∷ record { who = OfControl; count = 3 } ∷ record { who = OfCpu (record { 0 = 1 }); count = 3 } ∷ record { who = OfCpu (record { 0 = 1 }); count = 2 } ∷ record { who = OfCpu (record { 0 = 1 }); count = 1 } ∷ record { who = OfCpu (record { 0 = 1 }); count = 3 } ∷ record { who = OfCpu (record { 0 = 1 }); count = 3 } ∷ record { who = OfCpu (record { 0 = 0 }); count = 2 } ∷ record { who = OfControl; count = 1 } ∷ record { who = All; count = 300 } ∷ [] }
+job_65 = record { version = 1; functions = named (codes "a") (Some (codes "m")) ∷ named (codes "b") (Some (codes "m")) ∷ named (codes "c") None ∷ named (codes "d") (Some (codes "m")) ∷ []; users = record { name = codes "u0"; kind = Fprobe false false; regs = false; ipmodify = None; pid = false; act = Some (CallIn (record { 0 = 3 })) } ∷ record { name = codes "u1"; kind = Fprobe true false; regs = false; ipmodify = None; pid = true; act = None } ∷ record { name = codes "u2"; kind = Fprobe true true; regs = true; ipmodify = None; pid = false; act = None } ∷ record { name = codes "u3"; kind = Fprobe true true; regs = false; ipmodify = None; pid = false; act = None } ∷ []; frames = 50; tramps = 16; quanta = 15 ∷ 40 ∷ []; tasks = record { pid = 10; cpu = 0; acts = Call (record { 0 = 0 }) ∷ Call (record { 0 = 1 }) ∷ RetAct ∷ RetAct ∷ [] } ∷ []; ctls = Run (Disable 3) ∷ Run (Register 2) ∷ Run (Register 0) ∷ Run (Enable 1) ∷ []; lines = usual_lines; rings = usual_rings; schedule = record { who = OfCpu (record { 0 = 1 }); count = 3 } ∷ record { who = OfCpu (record { 0 = 1 }); count = 2 } ∷ record { who = OfControl; count = 1 } ∷ record { who = OfCpu (record { 0 = 0 }); count = 2 } ∷ record { who = OfCpu (record { 0 = 1 }); count = 2 } ∷ record { who = OfCpu (record { 0 = 0 }); count = 2 } ∷ record { who = OfCpu (record { 0 = 1 }); count = 3 } ∷ record { who = OfCpu (record { 0 = 0 }); count = 1 } ∷ record { who = OfCpu (record { 0 = 1 }); count = 2 } ∷ record { who = OfCpu (record { 0 = 1 }); count = 3 } ∷ record { who = OfControl; count = 1 } ∷ record { who = OfControl; count = 3 } ∷ record { who = OfCpu (record { 0 = 0 }); count = 3 } ∷ record { who = OfCpu (record { 0 = 1 }); count = 1 } ∷ record { who = OfControl; count = 2 } ∷ record { who = OfCpu (record { 0 = 1 }); count = 3 } ∷ record { who = OfControl; count = 1 } ∷ record { who = OfCpu (record { 0 = 0 }); count = 3 } ∷ record { who = OfCpu (record { 0 = 0 }); count = 1 } ∷ record { who = OfCpu (record { 0 = 0 }); count = 2 } ∷ record { who = OfControl; count = 2 } ∷ record { who = OfControl; count = 3 } ∷ record { who = OfCpu (record { 0 = 1 }); count = 3 } ∷ record { who = OfCpu (record { 0 = 1 }); count = 2 } ∷ record { who = OfCpu (record { 0 = 1 }); count = 1 } ∷ record { who = OfCpu (record { 0 = 1 }); count = 3 } ∷ record { who = OfCpu (record { 0 = 1 }); count = 3 } ∷ record { who = OfCpu (record { 0 = 0 }); count = 2 } ∷ record { who = OfControl; count = 1 } ∷ record { who = All; count = 300 } ∷ [] }
 
 abbrev pub job_65-items : List Item
 job_65-items = Begin 1 ∷ Enter (call_in 0 1) Normal (record { 0 = 0 }) None ∷ Body (call_in 0 1) (record { 0 = 0 }) Nop ∷ Return 1 NotThere ∷ Begin 2 ∷ Enter (call_in 0 2) Normal (record { 0 = 1 }) (Some (call_in 0 1)) ∷ Body (call_in 0 2) (record { 0 = 1 }) Nop ∷ Leave (call_in 0 2) ∷ Ret (call_in 0 2) (Some (call_in 0 1)) ∷ Leave (call_in 0 1) ∷ Ret (call_in 0 1) None ∷ Return 2 Accepted ∷ Begin 3 ∷ Return 3 Accepted ∷ Begin 4 ∷ Return 4 NotThere ∷ []
@@ -363,7 +363,7 @@ unfolding actors_of repeated start step run played play all_end control_next con
 job_65-plays = (refl, refl)
 
 abbrev pub job_67 : Job
-job_67 = record { functions = named (codes "a") None ∷ []; users = record { name = codes "u0"; kind = Graph; regs = false; ipmodify = None; pid = true; act = None } ∷ record { name = codes "u1"; kind = Fprobe true false; regs = true; ipmodify = None; pid = true; act = None } ∷ record { name = codes "u2"; kind = Profile; regs = true; ipmodify = None; pid = true; act = None } ∷ record { name = codes "u3"; kind = Fprobe true false; regs = false; ipmodify = None; pid = true; act = None } ∷ []; frames = 50; tramps = 1; quanta = 40 ∷ []; tasks = record { pid = 10; cpu = 0; acts = After 1 ∷ Call (record { 0 = 0 }) ∷ Call (record { 0 = 0 }) ∷ After 1 ∷ Raise Irq ∷ Call (record { 0 = 0 }) ∷ Call (record { 0 = 0 }) ∷ Call (record { 0 = 0 }) ∷ RetAct ∷ Call (record { 0 = 0 }) ∷ RetAct ∷ RetAct ∷ RetAct ∷ Lower ∷ RetAct ∷ RetAct ∷ [] } ∷ record { pid = 11; cpu = 0; acts = After 2 ∷ Call (record { 0 = 0 }) ∷ Call (record { 0 = 0 }) ∷ After 1 ∷ RetAct ∷ RetAct ∷ [] } ∷ []; ctls = Run (Register 1) ∷ Run (Notrace 2 (record { append = true; remove = true; clear = false; set = true ∷ [] })) ∷ []; schedule = record { who = OfCpu (record { 0 = 0 }); count = 2 } ∷ record { who = OfControl; count = 6 } ∷ record { who = OfControl; count = 15 } ∷ record { who = OfControl; count = 15 } ∷ record { who = OfCpu (record { 0 = 0 }); count = 5 } ∷ record { who = OfControl; count = 12 } ∷ record { who = OfControl; count = 20 } ∷ record { who = OfCpu (record { 0 = 0 }); count = 20 } ∷ record { who = OfControl; count = 12 } ∷ record { who = OfControl; count = 4 } ∷ record { who = OfControl; count = 16 } ∷ record { who = OfControl; count = 4 } ∷ record { who = OfControl; count = 16 } ∷ record { who = OfCpu (record { 0 = 0 }); count = 12 } ∷ record { who = OfCpu (record { 0 = 0 }); count = 1 } ∷ record { who = OfControl; count = 15 } ∷ record { who = OfCpu (record { 0 = 0 }); count = 11 } ∷ record { who = OfCpu (record { 0 = 0 }); count = 16 } ∷ record { who = OfCpu (record { 0 = 0 }); count = 18 } ∷ record { who = OfControl; count = 13 } ∷ record { who = All; count = 300 } ∷ [] }
+job_67 = record { version = 1; functions = named (codes "a") None ∷ []; users = record { name = codes "u0"; kind = Graph; regs = false; ipmodify = None; pid = true; act = None } ∷ record { name = codes "u1"; kind = Fprobe true false; regs = true; ipmodify = None; pid = true; act = None } ∷ record { name = codes "u2"; kind = Profile; regs = true; ipmodify = None; pid = true; act = None } ∷ record { name = codes "u3"; kind = Fprobe true false; regs = false; ipmodify = None; pid = true; act = None } ∷ []; frames = 50; tramps = 1; quanta = 40 ∷ []; tasks = record { pid = 10; cpu = 0; acts = After 1 ∷ Call (record { 0 = 0 }) ∷ Call (record { 0 = 0 }) ∷ After 1 ∷ Raise Irq ∷ Call (record { 0 = 0 }) ∷ Call (record { 0 = 0 }) ∷ Call (record { 0 = 0 }) ∷ RetAct ∷ Call (record { 0 = 0 }) ∷ RetAct ∷ RetAct ∷ RetAct ∷ Lower ∷ RetAct ∷ RetAct ∷ [] } ∷ record { pid = 11; cpu = 0; acts = After 2 ∷ Call (record { 0 = 0 }) ∷ Call (record { 0 = 0 }) ∷ After 1 ∷ RetAct ∷ RetAct ∷ [] } ∷ []; ctls = Run (Register 1) ∷ Run (Notrace 2 (record { append = true; remove = true; clear = false; set = true ∷ [] })) ∷ []; lines = usual_lines; rings = usual_rings; schedule = record { who = OfCpu (record { 0 = 0 }); count = 2 } ∷ record { who = OfControl; count = 6 } ∷ record { who = OfControl; count = 15 } ∷ record { who = OfControl; count = 15 } ∷ record { who = OfCpu (record { 0 = 0 }); count = 5 } ∷ record { who = OfControl; count = 12 } ∷ record { who = OfControl; count = 20 } ∷ record { who = OfCpu (record { 0 = 0 }); count = 20 } ∷ record { who = OfControl; count = 12 } ∷ record { who = OfControl; count = 4 } ∷ record { who = OfControl; count = 16 } ∷ record { who = OfControl; count = 4 } ∷ record { who = OfControl; count = 16 } ∷ record { who = OfCpu (record { 0 = 0 }); count = 12 } ∷ record { who = OfCpu (record { 0 = 0 }); count = 1 } ∷ record { who = OfControl; count = 15 } ∷ record { who = OfCpu (record { 0 = 0 }); count = 11 } ∷ record { who = OfCpu (record { 0 = 0 }); count = 16 } ∷ record { who = OfCpu (record { 0 = 0 }); count = 18 } ∷ record { who = OfControl; count = 13 } ∷ record { who = All; count = 300 } ∷ [] }
 
 abbrev pub job_67-items : List Item
 job_67-items = Begin 1 ∷ Return 1 Accepted ∷ Begin 2 ∷ Return 2 Accepted ∷ Enter (call_in 1 1) Normal (record { 0 = 0 }) None ∷ Back (call_in 1 1) (record { 0 = 1 }) ∷ BackEnd (call_in 1 1) (record { 0 = 1 }) ∷ Body (call_in 1 1) (record { 0 = 0 }) (Own (record { 0 = 1 })) ∷ Enter (call_in 1 2) Normal (record { 0 = 0 }) (Some (call_in 1 1)) ∷ Back (call_in 1 2) (record { 0 = 1 }) ∷ BackEnd (call_in 1 2) (record { 0 = 1 }) ∷ Body (call_in 1 2) (record { 0 = 0 }) (Own (record { 0 = 1 })) ∷ Leave (call_in 1 2) ∷ Exit (call_in 1 2) (record { 0 = 1 }) 9 ∷ ExitEnd (call_in 1 2) (record { 0 = 1 }) ∷ Ret (call_in 1 2) (Some (call_in 1 1)) ∷ Leave (call_in 1 1) ∷ Exit (call_in 1 1) (record { 0 = 1 }) 5 ∷ ExitEnd (call_in 1 1) (record { 0 = 1 }) ∷ Enter (call_in 0 1) Normal (record { 0 = 0 }) None ∷ Back (call_in 0 1) (record { 0 = 1 }) ∷ BackEnd (call_in 0 1) (record { 0 = 1 }) ∷ Body (call_in 0 1) (record { 0 = 0 }) (Own (record { 0 = 1 })) ∷ Enter (call_in 0 2) Normal (record { 0 = 0 }) (Some (call_in 0 1)) ∷ Back (call_in 0 2) (record { 0 = 1 }) ∷ BackEnd (call_in 0 2) (record { 0 = 1 }) ∷ Body (call_in 0 2) (record { 0 = 0 }) (Own (record { 0 = 1 })) ∷ Enter (call_in 0 3) Irq (record { 0 = 0 }) (Some (call_in 0 2)) ∷ Back (call_in 0 3) (record { 0 = 1 }) ∷ BackEnd (call_in 0 3) (record { 0 = 1 }) ∷ Body (call_in 0 3) (record { 0 = 0 }) (Own (record { 0 = 1 })) ∷ Ret (call_in 1 1) None ∷ Enter (call_in 0 4) Irq (record { 0 = 0 }) (Some (call_in 0 3)) ∷ Back (call_in 0 4) (record { 0 = 1 }) ∷ BackEnd (call_in 0 4) (record { 0 = 1 }) ∷ Body (call_in 0 4) (record { 0 = 0 }) (Own (record { 0 = 1 })) ∷ Enter (call_in 0 5) Irq (record { 0 = 0 }) (Some (call_in 0 4)) ∷ Back (call_in 0 5) (record { 0 = 1 }) ∷ BackEnd (call_in 0 5) (record { 0 = 1 }) ∷ Body (call_in 0 5) (record { 0 = 0 }) (Own (record { 0 = 1 })) ∷ Leave (call_in 0 5) ∷ Exit (call_in 0 5) (record { 0 = 1 }) 37 ∷ ExitEnd (call_in 0 5) (record { 0 = 1 }) ∷ Ret (call_in 0 5) (Some (call_in 0 4)) ∷ Enter (call_in 0 6) Irq (record { 0 = 0 }) (Some (call_in 0 4)) ∷ Back (call_in 0 6) (record { 0 = 1 }) ∷ BackEnd (call_in 0 6) (record { 0 = 1 }) ∷ Body (call_in 0 6) (record { 0 = 0 }) (Own (record { 0 = 1 })) ∷ Leave (call_in 0 6) ∷ Exit (call_in 0 6) (record { 0 = 1 }) 45 ∷ ExitEnd (call_in 0 6) (record { 0 = 1 }) ∷ Ret (call_in 0 6) (Some (call_in 0 4)) ∷ Leave (call_in 0 4) ∷ Exit (call_in 0 4) (record { 0 = 1 }) 33 ∷ ExitEnd (call_in 0 4) (record { 0 = 1 }) ∷ Ret (call_in 0 4) (Some (call_in 0 3)) ∷ Leave (call_in 0 3) ∷ Exit (call_in 0 3) (record { 0 = 1 }) 28 ∷ ExitEnd (call_in 0 3) (record { 0 = 1 }) ∷ Ret (call_in 0 3) (Some (call_in 0 2)) ∷ Leave (call_in 0 2) ∷ Exit (call_in 0 2) (record { 0 = 1 }) 24 ∷ ExitEnd (call_in 0 2) (record { 0 = 1 }) ∷ Ret (call_in 0 2) (Some (call_in 0 1)) ∷ Leave (call_in 0 1) ∷ Exit (call_in 0 1) (record { 0 = 1 }) 20 ∷ ExitEnd (call_in 0 1) (record { 0 = 1 }) ∷ Ret (call_in 0 1) None ∷ []
@@ -373,7 +373,7 @@ unfolding actors_of repeated start step run played play all_end control_next con
 job_67-plays = (refl, refl)
 
 abbrev pub job_68 : Job
-job_68 = record { functions = named (codes "a") None ∷ named (codes "b") None ∷ named (codes "c") (Some (codes "m")) ∷ named (codes "d") (Some (codes "m")) ∷ []; users = record { name = codes "u0"; kind = Profile; regs = false; ipmodify = None; pid = true; act = None } ∷ record { name = codes "u1"; kind = Profile; regs = true; ipmodify = None; pid = true; act = None } ∷ record { name = codes "u2"; kind = Function; regs = false; ipmodify = None; pid = true; act = None } ∷ []; frames = 3; tramps = 16; quanta = 7 ∷ 7 ∷ []; tasks = record { pid = 10; cpu = 1; acts = Call (record { 0 = 3 }) ∷ Call (record { 0 = 3 }) ∷ Call (record { 0 = 2 }) ∷ Call (record { 0 = 0 }) ∷ Call (record { 0 = 3 }) ∷ Call (record { 0 = 1 }) ∷ RetAct ∷ RetAct ∷ RetAct ∷ RetAct ∷ RetAct ∷ RetAct ∷ [] } ∷ record { pid = 11; cpu = 0; acts = After 2 ∷ After 2 ∷ After 1 ∷ Raise Irq ∷ Raise Nmi ∷ Call (record { 0 = 2 }) ∷ RetAct ∷ Lower ∷ Call (record { 0 = 0 }) ∷ RetAct ∷ Lower ∷ [] } ∷ []; ctls = Run (Enable 2) ∷ Run (NoPid (false ∷ true ∷ [])) ∷ []; schedule = record { who = OfControl; count = 11 } ∷ record { who = OfControl; count = 45 } ∷ record { who = OfCpu (record { 0 = 0 }); count = 22 } ∷ record { who = OfCpu (record { 0 = 1 }); count = 16 } ∷ record { who = OfCpu (record { 0 = 1 }); count = 27 } ∷ record { who = OfCpu (record { 0 = 0 }); count = 37 } ∷ record { who = OfCpu (record { 0 = 0 }); count = 28 } ∷ record { who = OfCpu (record { 0 = 1 }); count = 8 } ∷ record { who = OfCpu (record { 0 = 0 }); count = 17 } ∷ record { who = OfCpu (record { 0 = 0 }); count = 2 } ∷ record { who = OfControl; count = 8 } ∷ record { who = OfCpu (record { 0 = 0 }); count = 40 } ∷ record { who = OfCpu (record { 0 = 0 }); count = 18 } ∷ record { who = OfCpu (record { 0 = 1 }); count = 7 } ∷ record { who = All; count = 300 } ∷ [] }
+job_68 = record { version = 1; functions = named (codes "a") None ∷ named (codes "b") None ∷ named (codes "c") (Some (codes "m")) ∷ named (codes "d") (Some (codes "m")) ∷ []; users = record { name = codes "u0"; kind = Profile; regs = false; ipmodify = None; pid = true; act = None } ∷ record { name = codes "u1"; kind = Profile; regs = true; ipmodify = None; pid = true; act = None } ∷ record { name = codes "u2"; kind = Function; regs = false; ipmodify = None; pid = true; act = None } ∷ []; frames = 3; tramps = 16; quanta = 7 ∷ 7 ∷ []; tasks = record { pid = 10; cpu = 1; acts = Call (record { 0 = 3 }) ∷ Call (record { 0 = 3 }) ∷ Call (record { 0 = 2 }) ∷ Call (record { 0 = 0 }) ∷ Call (record { 0 = 3 }) ∷ Call (record { 0 = 1 }) ∷ RetAct ∷ RetAct ∷ RetAct ∷ RetAct ∷ RetAct ∷ RetAct ∷ [] } ∷ record { pid = 11; cpu = 0; acts = After 2 ∷ After 2 ∷ After 1 ∷ Raise Irq ∷ Raise Nmi ∷ Call (record { 0 = 2 }) ∷ RetAct ∷ Lower ∷ Call (record { 0 = 0 }) ∷ RetAct ∷ Lower ∷ [] } ∷ []; ctls = Run (Enable 2) ∷ Run (NoPid (false ∷ true ∷ [])) ∷ []; lines = usual_lines; rings = usual_rings; schedule = record { who = OfControl; count = 11 } ∷ record { who = OfControl; count = 45 } ∷ record { who = OfCpu (record { 0 = 0 }); count = 22 } ∷ record { who = OfCpu (record { 0 = 1 }); count = 16 } ∷ record { who = OfCpu (record { 0 = 1 }); count = 27 } ∷ record { who = OfCpu (record { 0 = 0 }); count = 37 } ∷ record { who = OfCpu (record { 0 = 0 }); count = 28 } ∷ record { who = OfCpu (record { 0 = 1 }); count = 8 } ∷ record { who = OfCpu (record { 0 = 0 }); count = 17 } ∷ record { who = OfCpu (record { 0 = 0 }); count = 2 } ∷ record { who = OfControl; count = 8 } ∷ record { who = OfCpu (record { 0 = 0 }); count = 40 } ∷ record { who = OfCpu (record { 0 = 0 }); count = 18 } ∷ record { who = OfCpu (record { 0 = 1 }); count = 7 } ∷ record { who = All; count = 300 } ∷ [] }
 
 abbrev pub job_68-items : List Item
 job_68-items = Begin 1 ∷ Return 1 NotThere ∷ Begin 2 ∷ Enter (call_in 0 1) Normal (record { 0 = 3 }) None ∷ Body (call_in 0 1) (record { 0 = 3 }) Nop ∷ Enter (call_in 0 2) Normal (record { 0 = 3 }) (Some (call_in 0 1)) ∷ Body (call_in 0 2) (record { 0 = 3 }) Nop ∷ Enter (call_in 0 3) Normal (record { 0 = 2 }) (Some (call_in 0 2)) ∷ Body (call_in 0 3) (record { 0 = 2 }) Nop ∷ Enter (call_in 0 4) Normal (record { 0 = 0 }) (Some (call_in 0 3)) ∷ Body (call_in 0 4) (record { 0 = 0 }) Nop ∷ Enter (call_in 0 5) Normal (record { 0 = 3 }) (Some (call_in 0 4)) ∷ Body (call_in 0 5) (record { 0 = 3 }) Nop ∷ Enter (call_in 0 6) Normal (record { 0 = 1 }) (Some (call_in 0 5)) ∷ Body (call_in 0 6) (record { 0 = 1 }) Nop ∷ Leave (call_in 0 6) ∷ Ret (call_in 0 6) (Some (call_in 0 5)) ∷ Leave (call_in 0 5) ∷ Ret (call_in 0 5) (Some (call_in 0 4)) ∷ Leave (call_in 0 4) ∷ Ret (call_in 0 4) (Some (call_in 0 3)) ∷ Return 2 Accepted ∷ Enter (call_in 1 1) Nmi (record { 0 = 2 }) None ∷ Body (call_in 1 1) (record { 0 = 2 }) Nop ∷ Leave (call_in 1 1) ∷ Ret (call_in 1 1) None ∷ Enter (call_in 1 2) Irq (record { 0 = 0 }) None ∷ Body (call_in 1 2) (record { 0 = 0 }) Nop ∷ Leave (call_in 1 2) ∷ Ret (call_in 1 2) None ∷ Leave (call_in 0 3) ∷ Ret (call_in 0 3) (Some (call_in 0 2)) ∷ Leave (call_in 0 2) ∷ Ret (call_in 0 2) (Some (call_in 0 1)) ∷ Leave (call_in 0 1) ∷ Ret (call_in 0 1) None ∷ []
@@ -383,7 +383,7 @@ unfolding actors_of repeated start step run played play all_end control_next con
 job_68-plays = (refl, refl)
 
 abbrev pub job_69 : Job
-job_69 = record { functions = named (codes "x0") None ∷ named (codes "x1") None ∷ named (codes "x2") None ∷ named (codes "x3") None ∷ named (codes "x4") None ∷ named (codes "x5") None ∷ named (codes "x6") None ∷ named (codes "x7") None ∷ named (codes "x8") None ∷ named (codes "x9") None ∷ named (codes "x10") None ∷ named (codes "x11") None ∷ named (codes "x12") None ∷ named (codes "x13") None ∷ named (codes "x14") None ∷ named (codes "x15") None ∷ named (codes "x16") None ∷ named (codes "x17") None ∷ named (codes "x18") None ∷ named (codes "x19") None ∷ named (codes "x20") None ∷ named (codes "x21") None ∷ named (codes "x22") None ∷ named (codes "x23") None ∷ named (codes "x24") None ∷ named (codes "x25") None ∷ named (codes "x26") None ∷ named (codes "x27") None ∷ named (codes "x28") None ∷ named (codes "x29") None ∷ named (codes "x30") None ∷ named (codes "x31") None ∷ named (codes "x32") None ∷ named (codes "x33") None ∷ named (codes "x34") None ∷ named (codes "x35") None ∷ named (codes "x36") None ∷ named (codes "x37") None ∷ named (codes "x38") None ∷ named (codes "x39") None ∷ named (codes "x40") None ∷ named (codes "x41") None ∷ named (codes "x42") None ∷ named (codes "x43") None ∷ named (codes "x44") None ∷ named (codes "x45") None ∷ named (codes "x46") None ∷ named (codes "x47") None ∷ named (codes "x48") None ∷ named (codes "x49") None ∷ named (codes "x50") None ∷ named (codes "x51") None ∷ named (codes "x52") None ∷ named (codes "x53") None ∷ named (codes "x54") None ∷ named (codes "x55") None ∷ named (codes "x56") None ∷ named (codes "x57") None ∷ named (codes "x58") None ∷ named (codes "x59") None ∷ named (codes "x60") None ∷ named (codes "x61") None ∷ named (codes "a") None ∷ []; users = record { name = codes "u0"; kind = Graph; regs = false; ipmodify = None; pid = false; act = None } ∷ record { name = codes "u1"; kind = Graph; regs = false; ipmodify = None; pid = true; act = Some (IrqIn (record { 0 = 62 })) } ∷ record { name = codes "u2"; kind = Function; regs = true; ipmodify = Some (record { 0 = 62 }); pid = true; act = Some (CallIn (record { 0 = 62 })) } ∷ []; frames = 2; tramps = 0; quanta = 3 ∷ []; tasks = record { pid = 10; cpu = 0; acts = Call (record { 0 = 62 }) ∷ Call (record { 0 = 62 }) ∷ Call (record { 0 = 62 }) ∷ RetAct ∷ RetAct ∷ RetAct ∷ [] } ∷ record { pid = 11; cpu = 0; acts = After 5 ∷ Call (record { 0 = 62 }) ∷ Call (record { 0 = 62 }) ∷ Call (record { 0 = 62 }) ∷ Call (record { 0 = 62 }) ∷ RetAct ∷ RetAct ∷ RetAct ∷ RetAct ∷ [] } ∷ record { pid = 12; cpu = 0; acts = After 5 ∷ After 6 ∷ After 2 ∷ Raise Irq ∷ Raise Nmi ∷ Lower ∷ Lower ∷ [] } ∷ []; ctls = Run (Filter 0 (record { append = true; remove = false; clear = false; set = false ∷ false ∷ false ∷ false ∷ false ∷ false ∷ false ∷ false ∷ false ∷ false ∷ false ∷ false ∷ false ∷ false ∷ false ∷ false ∷ false ∷ false ∷ false ∷ false ∷ false ∷ false ∷ false ∷ false ∷ false ∷ false ∷ false ∷ false ∷ false ∷ false ∷ false ∷ false ∷ false ∷ false ∷ false ∷ false ∷ false ∷ false ∷ false ∷ false ∷ false ∷ false ∷ false ∷ false ∷ false ∷ false ∷ false ∷ false ∷ false ∷ false ∷ false ∷ false ∷ false ∷ false ∷ false ∷ false ∷ false ∷ false ∷ false ∷ false ∷ false ∷ false ∷ true ∷ [] })) ∷ Run (NoPid (true ∷ true ∷ false ∷ [])) ∷ Run (Filter 0 (record { append = true; remove = false; clear = false; set = false ∷ false ∷ false ∷ false ∷ false ∷ false ∷ false ∷ false ∷ false ∷ false ∷ false ∷ false ∷ false ∷ false ∷ false ∷ false ∷ false ∷ false ∷ false ∷ false ∷ false ∷ false ∷ false ∷ false ∷ false ∷ false ∷ false ∷ false ∷ false ∷ false ∷ false ∷ false ∷ false ∷ false ∷ false ∷ false ∷ false ∷ false ∷ false ∷ false ∷ false ∷ false ∷ false ∷ false ∷ false ∷ false ∷ false ∷ false ∷ false ∷ false ∷ false ∷ false ∷ false ∷ false ∷ false ∷ false ∷ false ∷ false ∷ false ∷ false ∷ false ∷ false ∷ true ∷ [] })) ∷ Run (Unregister 0) ∷ Run (MaxDepth 2) ∷ Run (Register 0) ∷ Run (Register 2) ∷ []; schedule = record { who = OfCpu (record { 0 = 0 }); count = 1 } ∷ record { who = OfControl; count = 3 } ∷ record { who = OfCpu (record { 0 = 0 }); count = 4 } ∷ record { who = OfControl; count = 5 } ∷ record { who = OfControl; count = 6 } ∷ record { who = OfControl; count = 8 } ∷ record { who = All; count = 300 } ∷ [] }
+job_69 = record { version = 1; functions = named (codes "x0") None ∷ named (codes "x1") None ∷ named (codes "x2") None ∷ named (codes "x3") None ∷ named (codes "x4") None ∷ named (codes "x5") None ∷ named (codes "x6") None ∷ named (codes "x7") None ∷ named (codes "x8") None ∷ named (codes "x9") None ∷ named (codes "x10") None ∷ named (codes "x11") None ∷ named (codes "x12") None ∷ named (codes "x13") None ∷ named (codes "x14") None ∷ named (codes "x15") None ∷ named (codes "x16") None ∷ named (codes "x17") None ∷ named (codes "x18") None ∷ named (codes "x19") None ∷ named (codes "x20") None ∷ named (codes "x21") None ∷ named (codes "x22") None ∷ named (codes "x23") None ∷ named (codes "x24") None ∷ named (codes "x25") None ∷ named (codes "x26") None ∷ named (codes "x27") None ∷ named (codes "x28") None ∷ named (codes "x29") None ∷ named (codes "x30") None ∷ named (codes "x31") None ∷ named (codes "x32") None ∷ named (codes "x33") None ∷ named (codes "x34") None ∷ named (codes "x35") None ∷ named (codes "x36") None ∷ named (codes "x37") None ∷ named (codes "x38") None ∷ named (codes "x39") None ∷ named (codes "x40") None ∷ named (codes "x41") None ∷ named (codes "x42") None ∷ named (codes "x43") None ∷ named (codes "x44") None ∷ named (codes "x45") None ∷ named (codes "x46") None ∷ named (codes "x47") None ∷ named (codes "x48") None ∷ named (codes "x49") None ∷ named (codes "x50") None ∷ named (codes "x51") None ∷ named (codes "x52") None ∷ named (codes "x53") None ∷ named (codes "x54") None ∷ named (codes "x55") None ∷ named (codes "x56") None ∷ named (codes "x57") None ∷ named (codes "x58") None ∷ named (codes "x59") None ∷ named (codes "x60") None ∷ named (codes "x61") None ∷ named (codes "a") None ∷ []; users = record { name = codes "u0"; kind = Graph; regs = false; ipmodify = None; pid = false; act = None } ∷ record { name = codes "u1"; kind = Graph; regs = false; ipmodify = None; pid = true; act = Some (IrqIn (record { 0 = 62 })) } ∷ record { name = codes "u2"; kind = Function; regs = true; ipmodify = Some (record { 0 = 62 }); pid = true; act = Some (CallIn (record { 0 = 62 })) } ∷ []; frames = 2; tramps = 0; quanta = 3 ∷ []; tasks = record { pid = 10; cpu = 0; acts = Call (record { 0 = 62 }) ∷ Call (record { 0 = 62 }) ∷ Call (record { 0 = 62 }) ∷ RetAct ∷ RetAct ∷ RetAct ∷ [] } ∷ record { pid = 11; cpu = 0; acts = After 5 ∷ Call (record { 0 = 62 }) ∷ Call (record { 0 = 62 }) ∷ Call (record { 0 = 62 }) ∷ Call (record { 0 = 62 }) ∷ RetAct ∷ RetAct ∷ RetAct ∷ RetAct ∷ [] } ∷ record { pid = 12; cpu = 0; acts = After 5 ∷ After 6 ∷ After 2 ∷ Raise Irq ∷ Raise Nmi ∷ Lower ∷ Lower ∷ [] } ∷ []; ctls = Run (Filter 0 (record { append = true; remove = false; clear = false; set = false ∷ false ∷ false ∷ false ∷ false ∷ false ∷ false ∷ false ∷ false ∷ false ∷ false ∷ false ∷ false ∷ false ∷ false ∷ false ∷ false ∷ false ∷ false ∷ false ∷ false ∷ false ∷ false ∷ false ∷ false ∷ false ∷ false ∷ false ∷ false ∷ false ∷ false ∷ false ∷ false ∷ false ∷ false ∷ false ∷ false ∷ false ∷ false ∷ false ∷ false ∷ false ∷ false ∷ false ∷ false ∷ false ∷ false ∷ false ∷ false ∷ false ∷ false ∷ false ∷ false ∷ false ∷ false ∷ false ∷ false ∷ false ∷ false ∷ false ∷ false ∷ false ∷ true ∷ [] })) ∷ Run (NoPid (true ∷ true ∷ false ∷ [])) ∷ Run (Filter 0 (record { append = true; remove = false; clear = false; set = false ∷ false ∷ false ∷ false ∷ false ∷ false ∷ false ∷ false ∷ false ∷ false ∷ false ∷ false ∷ false ∷ false ∷ false ∷ false ∷ false ∷ false ∷ false ∷ false ∷ false ∷ false ∷ false ∷ false ∷ false ∷ false ∷ false ∷ false ∷ false ∷ false ∷ false ∷ false ∷ false ∷ false ∷ false ∷ false ∷ false ∷ false ∷ false ∷ false ∷ false ∷ false ∷ false ∷ false ∷ false ∷ false ∷ false ∷ false ∷ false ∷ false ∷ false ∷ false ∷ false ∷ false ∷ false ∷ false ∷ false ∷ false ∷ false ∷ false ∷ false ∷ false ∷ true ∷ [] })) ∷ Run (Unregister 0) ∷ Run (MaxDepth 2) ∷ Run (Register 0) ∷ Run (Register 2) ∷ []; lines = usual_lines; rings = usual_rings; schedule = record { who = OfCpu (record { 0 = 0 }); count = 1 } ∷ record { who = OfControl; count = 3 } ∷ record { who = OfCpu (record { 0 = 0 }); count = 4 } ∷ record { who = OfControl; count = 5 } ∷ record { who = OfControl; count = 6 } ∷ record { who = OfControl; count = 8 } ∷ record { who = All; count = 300 } ∷ [] }
 
 abbrev pub job_69-items : List Item
 job_69-items = Begin 1 ∷ Return 1 Accepted ∷ Begin 2 ∷ Enter (call_in 0 1) Normal (record { 0 = 62 }) None ∷ Body (call_in 0 1) (record { 0 = 62 }) Nop ∷ Return 2 Accepted ∷ Enter (call_in 0 2) Normal (record { 0 = 62 }) (Some (call_in 0 1)) ∷ Begin 3 ∷ Return 3 Accepted ∷ Begin 4 ∷ Return 4 NotThere ∷ Begin 5 ∷ Body (call_in 0 2) (record { 0 = 62 }) Nop ∷ Return 5 Accepted ∷ Begin 6 ∷ Enter (call_in 0 3) Normal (record { 0 = 62 }) (Some (call_in 0 2)) ∷ Enter (call_in 1 1) Normal (record { 0 = 62 }) None ∷ Back (call_in 0 3) (record { 0 = 0 }) ∷ Back (call_in 1 1) (record { 0 = 0 }) ∷ BackEnd (call_in 0 3) (record { 0 = 0 }) ∷ Body (call_in 0 3) (record { 0 = 62 }) ByList ∷ BackEnd (call_in 1 1) (record { 0 = 0 }) ∷ Body (call_in 1 1) (record { 0 = 62 }) ByList ∷ Return 6 Accepted ∷ Begin 7 ∷ Return 7 Invalid ∷ Enter (call_in 1 2) Normal (record { 0 = 62 }) (Some (call_in 1 1)) ∷ Leave (call_in 0 3) ∷ Exit (call_in 0 3) (record { 0 = 0 }) 17 ∷ ExitEnd (call_in 0 3) (record { 0 = 0 }) ∷ Ret (call_in 0 3) (Some (call_in 0 2)) ∷ Back (call_in 1 2) (record { 0 = 0 }) ∷ Leave (call_in 0 2) ∷ Ret (call_in 0 2) (Some (call_in 0 1)) ∷ BackEnd (call_in 1 2) (record { 0 = 0 }) ∷ Body (call_in 1 2) (record { 0 = 62 }) ByList ∷ Leave (call_in 0 1) ∷ Ret (call_in 0 1) None ∷ Enter (call_in 1 3) Normal (record { 0 = 62 }) (Some (call_in 1 2)) ∷ Refuse (call_in 1 3) (record { 0 = 0 }) Depth ∷ Body (call_in 1 3) (record { 0 = 62 }) ByList ∷ Enter (call_in 1 4) Normal (record { 0 = 62 }) (Some (call_in 1 3)) ∷ Refuse (call_in 1 4) (record { 0 = 0 }) Depth ∷ Body (call_in 1 4) (record { 0 = 62 }) ByList ∷ Leave (call_in 1 4) ∷ Ret (call_in 1 4) (Some (call_in 1 3)) ∷ Leave (call_in 1 3) ∷ Ret (call_in 1 3) (Some (call_in 1 2)) ∷ Leave (call_in 1 2) ∷ Exit (call_in 1 2) (record { 0 = 0 }) 31 ∷ ExitEnd (call_in 1 2) (record { 0 = 0 }) ∷ Ret (call_in 1 2) (Some (call_in 1 1)) ∷ Leave (call_in 1 1) ∷ Exit (call_in 1 1) (record { 0 = 0 }) 18 ∷ ExitEnd (call_in 1 1) (record { 0 = 0 }) ∷ Ret (call_in 1 1) None ∷ []
@@ -393,7 +393,7 @@ unfolding actors_of repeated start step run played play all_end control_next con
 job_69-plays = (refl, refl)
 
 abbrev pub job_71 : Job
-job_71 = record { functions = named (codes "a") None ∷ named (codes "b") (Some (codes "m")) ∷ named (codes "c") None ∷ []; users = record { name = codes "u0"; kind = Function; regs = false; ipmodify = None; pid = true; act = None } ∷ []; frames = 2; tramps = 1; quanta = 40 ∷ 15 ∷ []; tasks = record { pid = 10; cpu = 0; acts = After 2 ∷ Call (record { 0 = 1 }) ∷ Call (record { 0 = 0 }) ∷ RetAct ∷ RetAct ∷ [] } ∷ record { pid = 11; cpu = 0; acts = Call (record { 0 = 2 }) ∷ After 3 ∷ Call (record { 0 = 0 }) ∷ Call (record { 0 = 0 }) ∷ RetAct ∷ RetAct ∷ RetAct ∷ [] } ∷ record { pid = 12; cpu = 1; acts = After 1 ∷ Call (record { 0 = 0 }) ∷ Call (record { 0 = 1 }) ∷ Raise Nmi ∷ Lower ∷ Call (record { 0 = 0 }) ∷ RetAct ∷ RetAct ∷ RetAct ∷ [] } ∷ []; ctls = Run (Register 0) ∷ Run (NoPid (true ∷ true ∷ false ∷ [])) ∷ Run (NoPid (false ∷ true ∷ true ∷ [])) ∷ Run (MaxDepth 1) ∷ []; schedule = record { who = OfCpu (record { 0 = 0 }); count = 18 } ∷ record { who = OfCpu (record { 0 = 0 }); count = 1 } ∷ record { who = OfCpu (record { 0 = 0 }); count = 7 } ∷ record { who = OfCpu (record { 0 = 0 }); count = 10 } ∷ record { who = OfCpu (record { 0 = 1 }); count = 19 } ∷ record { who = OfCpu (record { 0 = 1 }); count = 10 } ∷ record { who = OfCpu (record { 0 = 1 }); count = 1 } ∷ record { who = OfControl; count = 14 } ∷ record { who = OfCpu (record { 0 = 0 }); count = 3 } ∷ record { who = OfCpu (record { 0 = 0 }); count = 8 } ∷ record { who = OfCpu (record { 0 = 0 }); count = 20 } ∷ record { who = OfCpu (record { 0 = 1 }); count = 5 } ∷ record { who = OfCpu (record { 0 = 0 }); count = 19 } ∷ record { who = OfCpu (record { 0 = 1 }); count = 12 } ∷ record { who = OfCpu (record { 0 = 1 }); count = 16 } ∷ record { who = OfControl; count = 10 } ∷ record { who = OfCpu (record { 0 = 0 }); count = 4 } ∷ record { who = OfCpu (record { 0 = 1 }); count = 18 } ∷ record { who = OfCpu (record { 0 = 1 }); count = 10 } ∷ record { who = OfCpu (record { 0 = 0 }); count = 18 } ∷ record { who = OfCpu (record { 0 = 1 }); count = 10 } ∷ record { who = OfCpu (record { 0 = 1 }); count = 1 } ∷ record { who = OfCpu (record { 0 = 0 }); count = 13 } ∷ record { who = All; count = 300 } ∷ [] }
+job_71 = record { version = 1; functions = named (codes "a") None ∷ named (codes "b") (Some (codes "m")) ∷ named (codes "c") None ∷ []; users = record { name = codes "u0"; kind = Function; regs = false; ipmodify = None; pid = true; act = None } ∷ []; frames = 2; tramps = 1; quanta = 40 ∷ 15 ∷ []; tasks = record { pid = 10; cpu = 0; acts = After 2 ∷ Call (record { 0 = 1 }) ∷ Call (record { 0 = 0 }) ∷ RetAct ∷ RetAct ∷ [] } ∷ record { pid = 11; cpu = 0; acts = Call (record { 0 = 2 }) ∷ After 3 ∷ Call (record { 0 = 0 }) ∷ Call (record { 0 = 0 }) ∷ RetAct ∷ RetAct ∷ RetAct ∷ [] } ∷ record { pid = 12; cpu = 1; acts = After 1 ∷ Call (record { 0 = 0 }) ∷ Call (record { 0 = 1 }) ∷ Raise Nmi ∷ Lower ∷ Call (record { 0 = 0 }) ∷ RetAct ∷ RetAct ∷ RetAct ∷ [] } ∷ []; ctls = Run (Register 0) ∷ Run (NoPid (true ∷ true ∷ false ∷ [])) ∷ Run (NoPid (false ∷ true ∷ true ∷ [])) ∷ Run (MaxDepth 1) ∷ []; lines = usual_lines; rings = usual_rings; schedule = record { who = OfCpu (record { 0 = 0 }); count = 18 } ∷ record { who = OfCpu (record { 0 = 0 }); count = 1 } ∷ record { who = OfCpu (record { 0 = 0 }); count = 7 } ∷ record { who = OfCpu (record { 0 = 0 }); count = 10 } ∷ record { who = OfCpu (record { 0 = 1 }); count = 19 } ∷ record { who = OfCpu (record { 0 = 1 }); count = 10 } ∷ record { who = OfCpu (record { 0 = 1 }); count = 1 } ∷ record { who = OfControl; count = 14 } ∷ record { who = OfCpu (record { 0 = 0 }); count = 3 } ∷ record { who = OfCpu (record { 0 = 0 }); count = 8 } ∷ record { who = OfCpu (record { 0 = 0 }); count = 20 } ∷ record { who = OfCpu (record { 0 = 1 }); count = 5 } ∷ record { who = OfCpu (record { 0 = 0 }); count = 19 } ∷ record { who = OfCpu (record { 0 = 1 }); count = 12 } ∷ record { who = OfCpu (record { 0 = 1 }); count = 16 } ∷ record { who = OfControl; count = 10 } ∷ record { who = OfCpu (record { 0 = 0 }); count = 4 } ∷ record { who = OfCpu (record { 0 = 1 }); count = 18 } ∷ record { who = OfCpu (record { 0 = 1 }); count = 10 } ∷ record { who = OfCpu (record { 0 = 0 }); count = 18 } ∷ record { who = OfCpu (record { 0 = 1 }); count = 10 } ∷ record { who = OfCpu (record { 0 = 1 }); count = 1 } ∷ record { who = OfCpu (record { 0 = 0 }); count = 13 } ∷ record { who = All; count = 300 } ∷ [] }
 
 abbrev pub job_71-items : List Item
 job_71-items = Enter (call_in 1 1) Normal (record { 0 = 2 }) None ∷ Body (call_in 1 1) (record { 0 = 2 }) Nop ∷ Begin 1 ∷ Return 1 Accepted ∷ Begin 2 ∷ Enter (call_in 2 1) Normal (record { 0 = 0 }) None ∷ Back (call_in 2 1) (record { 0 = 0 }) ∷ BackEnd (call_in 2 1) (record { 0 = 0 }) ∷ Body (call_in 2 1) (record { 0 = 0 }) (Own (record { 0 = 0 })) ∷ Enter (call_in 2 2) Normal (record { 0 = 1 }) (Some (call_in 2 1)) ∷ Return 2 Accepted ∷ Begin 3 ∷ Enter (call_in 0 1) Normal (record { 0 = 1 }) None ∷ Refuse (call_in 2 2) (record { 0 = 0 }) ByPid ∷ Body (call_in 2 2) (record { 0 = 1 }) (Own (record { 0 = 0 })) ∷ Back (call_in 0 1) (record { 0 = 0 }) ∷ BackEnd (call_in 0 1) (record { 0 = 0 }) ∷ Body (call_in 0 1) (record { 0 = 1 }) (Own (record { 0 = 0 })) ∷ Enter (call_in 2 3) Normal (record { 0 = 0 }) (Some (call_in 2 2)) ∷ Enter (call_in 0 2) Normal (record { 0 = 0 }) (Some (call_in 0 1)) ∷ Return 3 Accepted ∷ Begin 4 ∷ Refuse (call_in 2 3) (record { 0 = 0 }) ByPid ∷ Body (call_in 2 3) (record { 0 = 0 }) (Own (record { 0 = 0 })) ∷ Back (call_in 0 2) (record { 0 = 0 }) ∷ BackEnd (call_in 0 2) (record { 0 = 0 }) ∷ Body (call_in 0 2) (record { 0 = 0 }) (Own (record { 0 = 0 })) ∷ Leave (call_in 2 3) ∷ Ret (call_in 2 3) (Some (call_in 2 2)) ∷ Leave (call_in 2 2) ∷ Leave (call_in 0 2) ∷ Ret (call_in 2 2) (Some (call_in 2 1)) ∷ Ret (call_in 0 2) (Some (call_in 0 1)) ∷ Return 4 Accepted ∷ Leave (call_in 2 1) ∷ Leave (call_in 0 1) ∷ Ret (call_in 2 1) None ∷ Ret (call_in 0 1) None ∷ Enter (call_in 1 2) Normal (record { 0 = 0 }) (Some (call_in 1 1)) ∷ Refuse (call_in 1 2) (record { 0 = 0 }) ByPid ∷ Body (call_in 1 2) (record { 0 = 0 }) (Own (record { 0 = 0 })) ∷ Enter (call_in 1 3) Normal (record { 0 = 0 }) (Some (call_in 1 2)) ∷ Refuse (call_in 1 3) (record { 0 = 0 }) ByPid ∷ Body (call_in 1 3) (record { 0 = 0 }) (Own (record { 0 = 0 })) ∷ Leave (call_in 1 3) ∷ Ret (call_in 1 3) (Some (call_in 1 2)) ∷ Leave (call_in 1 2) ∷ Ret (call_in 1 2) (Some (call_in 1 1)) ∷ Leave (call_in 1 1) ∷ Ret (call_in 1 1) None ∷ []
@@ -403,7 +403,7 @@ unfolding actors_of repeated start step run played play all_end control_next con
 job_71-plays = (refl, refl)
 
 abbrev pub job_73 : Job
-job_73 = record { functions = named (codes "a") None ∷ named (codes "b") (Some (codes "m")) ∷ named (codes "c") None ∷ []; users = record { name = codes "u0"; kind = Profile; regs = false; ipmodify = None; pid = true; act = Some (CallIn (record { 0 = 0 })) } ∷ []; frames = 50; tramps = 1; quanta = 1 ∷ []; tasks = record { pid = 10; cpu = 0; acts = After 4 ∷ After 3 ∷ Raise Softirq ∷ Raise Irq ∷ Raise Nmi ∷ Lower ∷ Lower ∷ Lower ∷ [] } ∷ record { pid = 11; cpu = 0; acts = Call (record { 0 = 1 }) ∷ After 1 ∷ After 2 ∷ RetAct ∷ After 4 ∷ [] } ∷ record { pid = 12; cpu = 0; acts = After 1 ∷ Call (record { 0 = 0 }) ∷ Call (record { 0 = 1 }) ∷ After 2 ∷ Call (record { 0 = 1 }) ∷ Call (record { 0 = 1 }) ∷ RetAct ∷ RetAct ∷ RetAct ∷ RetAct ∷ [] } ∷ []; ctls = Run (Enable 0) ∷ Run (Enable 0) ∷ Run (Disable 0) ∷ Run (Register 0) ∷ []; schedule = record { who = OfControl; count = 42 } ∷ record { who = OfControl; count = 21 } ∷ record { who = OfControl; count = 15 } ∷ record { who = OfControl; count = 4 } ∷ record { who = OfCpu (record { 0 = 0 }); count = 13 } ∷ record { who = OfControl; count = 27 } ∷ record { who = OfControl; count = 44 } ∷ record { who = OfCpu (record { 0 = 0 }); count = 38 } ∷ record { who = OfControl; count = 2 } ∷ record { who = OfControl; count = 9 } ∷ record { who = OfControl; count = 43 } ∷ record { who = OfCpu (record { 0 = 0 }); count = 9 } ∷ record { who = OfCpu (record { 0 = 0 }); count = 5 } ∷ record { who = OfControl; count = 40 } ∷ record { who = OfCpu (record { 0 = 0 }); count = 17 } ∷ record { who = OfCpu (record { 0 = 0 }); count = 18 } ∷ record { who = OfControl; count = 20 } ∷ record { who = OfCpu (record { 0 = 0 }); count = 23 } ∷ record { who = OfControl; count = 29 } ∷ record { who = OfCpu (record { 0 = 0 }); count = 31 } ∷ record { who = OfCpu (record { 0 = 0 }); count = 11 } ∷ record { who = All; count = 300 } ∷ [] }
+job_73 = record { version = 1; functions = named (codes "a") None ∷ named (codes "b") (Some (codes "m")) ∷ named (codes "c") None ∷ []; users = record { name = codes "u0"; kind = Profile; regs = false; ipmodify = None; pid = true; act = Some (CallIn (record { 0 = 0 })) } ∷ []; frames = 50; tramps = 1; quanta = 1 ∷ []; tasks = record { pid = 10; cpu = 0; acts = After 4 ∷ After 3 ∷ Raise Softirq ∷ Raise Irq ∷ Raise Nmi ∷ Lower ∷ Lower ∷ Lower ∷ [] } ∷ record { pid = 11; cpu = 0; acts = Call (record { 0 = 1 }) ∷ After 1 ∷ After 2 ∷ RetAct ∷ After 4 ∷ [] } ∷ record { pid = 12; cpu = 0; acts = After 1 ∷ Call (record { 0 = 0 }) ∷ Call (record { 0 = 1 }) ∷ After 2 ∷ Call (record { 0 = 1 }) ∷ Call (record { 0 = 1 }) ∷ RetAct ∷ RetAct ∷ RetAct ∷ RetAct ∷ [] } ∷ []; ctls = Run (Enable 0) ∷ Run (Enable 0) ∷ Run (Disable 0) ∷ Run (Register 0) ∷ []; lines = usual_lines; rings = usual_rings; schedule = record { who = OfControl; count = 42 } ∷ record { who = OfControl; count = 21 } ∷ record { who = OfControl; count = 15 } ∷ record { who = OfControl; count = 4 } ∷ record { who = OfCpu (record { 0 = 0 }); count = 13 } ∷ record { who = OfControl; count = 27 } ∷ record { who = OfControl; count = 44 } ∷ record { who = OfCpu (record { 0 = 0 }); count = 38 } ∷ record { who = OfControl; count = 2 } ∷ record { who = OfControl; count = 9 } ∷ record { who = OfControl; count = 43 } ∷ record { who = OfCpu (record { 0 = 0 }); count = 9 } ∷ record { who = OfCpu (record { 0 = 0 }); count = 5 } ∷ record { who = OfControl; count = 40 } ∷ record { who = OfCpu (record { 0 = 0 }); count = 17 } ∷ record { who = OfCpu (record { 0 = 0 }); count = 18 } ∷ record { who = OfControl; count = 20 } ∷ record { who = OfCpu (record { 0 = 0 }); count = 23 } ∷ record { who = OfControl; count = 29 } ∷ record { who = OfCpu (record { 0 = 0 }); count = 31 } ∷ record { who = OfCpu (record { 0 = 0 }); count = 11 } ∷ record { who = All; count = 300 } ∷ [] }
 
 abbrev pub job_73-items : List Item
 job_73-items = Begin 1 ∷ Return 1 NotThere ∷ Begin 2 ∷ Return 2 NotThere ∷ Begin 3 ∷ Return 3 NotThere ∷ Begin 4 ∷ Enter (call_in 1 1) Normal (record { 0 = 1 }) None ∷ Enter (call_in 2 1) Normal (record { 0 = 0 }) None ∷ Back (call_in 1 1) (record { 0 = 0 }) ∷ Enter (call_in 1 2) Normal (record { 0 = 0 }) (Some (call_in 1 1)) ∷ Back (call_in 2 1) (record { 0 = 0 }) ∷ Enter (call_in 2 2) Normal (record { 0 = 0 }) (Some (call_in 2 1)) ∷ Refuse (call_in 1 2) (record { 0 = 0 }) Recursion ∷ Body (call_in 1 2) (record { 0 = 0 }) (Own (record { 0 = 0 })) ∷ Leave (call_in 1 2) ∷ Refuse (call_in 2 2) (record { 0 = 0 }) Recursion ∷ Ret (call_in 1 2) (Some (call_in 1 1)) ∷ Body (call_in 2 2) (record { 0 = 0 }) (Own (record { 0 = 0 })) ∷ Return 4 Accepted ∷ BackEnd (call_in 1 1) (record { 0 = 0 }) ∷ Leave (call_in 2 2) ∷ Body (call_in 1 1) (record { 0 = 1 }) (Own (record { 0 = 0 })) ∷ Ret (call_in 2 2) (Some (call_in 2 1)) ∷ BackEnd (call_in 2 1) (record { 0 = 0 }) ∷ Body (call_in 2 1) (record { 0 = 0 }) (Own (record { 0 = 0 })) ∷ Enter (call_in 2 3) Normal (record { 0 = 1 }) (Some (call_in 2 1)) ∷ Leave (call_in 1 1) ∷ Exit (call_in 1 1) (record { 0 = 0 }) 9 ∷ ExitEnd (call_in 1 1) (record { 0 = 0 }) ∷ Ret (call_in 1 1) None ∷ Back (call_in 2 3) (record { 0 = 0 }) ∷ Enter (call_in 2 4) Normal (record { 0 = 0 }) (Some (call_in 2 3)) ∷ Refuse (call_in 2 4) (record { 0 = 0 }) Recursion ∷ Body (call_in 2 4) (record { 0 = 0 }) (Own (record { 0 = 0 })) ∷ Leave (call_in 2 4) ∷ Ret (call_in 2 4) (Some (call_in 2 3)) ∷ BackEnd (call_in 2 3) (record { 0 = 0 }) ∷ Body (call_in 2 3) (record { 0 = 1 }) (Own (record { 0 = 0 })) ∷ Enter (call_in 2 5) Normal (record { 0 = 1 }) (Some (call_in 2 3)) ∷ Back (call_in 2 5) (record { 0 = 0 }) ∷ Enter (call_in 2 6) Normal (record { 0 = 0 }) (Some (call_in 2 5)) ∷ Refuse (call_in 2 6) (record { 0 = 0 }) Recursion ∷ Body (call_in 2 6) (record { 0 = 0 }) (Own (record { 0 = 0 })) ∷ Leave (call_in 2 6) ∷ Ret (call_in 2 6) (Some (call_in 2 5)) ∷ BackEnd (call_in 2 5) (record { 0 = 0 }) ∷ Body (call_in 2 5) (record { 0 = 1 }) (Own (record { 0 = 0 })) ∷ Enter (call_in 2 7) Normal (record { 0 = 1 }) (Some (call_in 2 5)) ∷ Back (call_in 2 7) (record { 0 = 0 }) ∷ Enter (call_in 2 8) Normal (record { 0 = 0 }) (Some (call_in 2 7)) ∷ Refuse (call_in 2 8) (record { 0 = 0 }) Recursion ∷ Body (call_in 2 8) (record { 0 = 0 }) (Own (record { 0 = 0 })) ∷ Leave (call_in 2 8) ∷ Ret (call_in 2 8) (Some (call_in 2 7)) ∷ BackEnd (call_in 2 7) (record { 0 = 0 }) ∷ Body (call_in 2 7) (record { 0 = 1 }) (Own (record { 0 = 0 })) ∷ Leave (call_in 2 7) ∷ Exit (call_in 2 7) (record { 0 = 0 }) 49 ∷ ExitEnd (call_in 2 7) (record { 0 = 0 }) ∷ Ret (call_in 2 7) (Some (call_in 2 5)) ∷ Leave (call_in 2 5) ∷ Exit (call_in 2 5) (record { 0 = 0 }) 40 ∷ ExitEnd (call_in 2 5) (record { 0 = 0 }) ∷ Ret (call_in 2 5) (Some (call_in 2 3)) ∷ Leave (call_in 2 3) ∷ Exit (call_in 2 3) (record { 0 = 0 }) 31 ∷ ExitEnd (call_in 2 3) (record { 0 = 0 }) ∷ Ret (call_in 2 3) (Some (call_in 2 1)) ∷ Leave (call_in 2 1) ∷ Exit (call_in 2 1) (record { 0 = 0 }) 11 ∷ ExitEnd (call_in 2 1) (record { 0 = 0 }) ∷ Ret (call_in 2 1) None ∷ []
@@ -413,7 +413,7 @@ unfolding actors_of repeated start step run played play all_end control_next con
 job_73-plays = (refl, refl)
 
 abbrev pub job_74 : Job
-job_74 = record { functions = named (codes "a") (Some (codes "m")) ∷ []; users = record { name = codes "u0"; kind = Fprobe true true; regs = false; ipmodify = None; pid = true; act = Some (IrqIn (record { 0 = 0 })) } ∷ record { name = codes "u1"; kind = Graph; regs = true; ipmodify = None; pid = true; act = None } ∷ []; frames = 1; tramps = 1; quanta = 15 ∷ []; tasks = record { pid = 10; cpu = 0; acts = After 2 ∷ Call (record { 0 = 0 }) ∷ After 1 ∷ RetAct ∷ Raise Nmi ∷ After 1 ∷ Call (record { 0 = 0 }) ∷ Call (record { 0 = 0 }) ∷ RetAct ∷ RetAct ∷ Lower ∷ [] } ∷ record { pid = 11; cpu = 0; acts = Raise Irq ∷ Raise Nmi ∷ Call (record { 0 = 0 }) ∷ RetAct ∷ Lower ∷ Lower ∷ [] } ∷ record { pid = 12; cpu = 0; acts = Raise Softirq ∷ Raise Nmi ∷ Lower ∷ Lower ∷ [] } ∷ []; ctls = Run (Register 1) ∷ Run (Notrace 0 (record { append = false; remove = true; clear = false; set = true ∷ [] })) ∷ Run (Register 1) ∷ []; schedule = record { who = OfCpu (record { 0 = 0 }); count = 8 } ∷ record { who = OfControl; count = 8 } ∷ record { who = OfControl; count = 5 } ∷ record { who = OfCpu (record { 0 = 0 }); count = 8 } ∷ record { who = OfCpu (record { 0 = 0 }); count = 4 } ∷ record { who = OfControl; count = 4 } ∷ record { who = OfCpu (record { 0 = 0 }); count = 3 } ∷ record { who = OfControl; count = 7 } ∷ record { who = OfCpu (record { 0 = 0 }); count = 2 } ∷ record { who = All; count = 300 } ∷ [] }
+job_74 = record { version = 1; functions = named (codes "a") (Some (codes "m")) ∷ []; users = record { name = codes "u0"; kind = Fprobe true true; regs = false; ipmodify = None; pid = true; act = Some (IrqIn (record { 0 = 0 })) } ∷ record { name = codes "u1"; kind = Graph; regs = true; ipmodify = None; pid = true; act = None } ∷ []; frames = 1; tramps = 1; quanta = 15 ∷ []; tasks = record { pid = 10; cpu = 0; acts = After 2 ∷ Call (record { 0 = 0 }) ∷ After 1 ∷ RetAct ∷ Raise Nmi ∷ After 1 ∷ Call (record { 0 = 0 }) ∷ Call (record { 0 = 0 }) ∷ RetAct ∷ RetAct ∷ Lower ∷ [] } ∷ record { pid = 11; cpu = 0; acts = Raise Irq ∷ Raise Nmi ∷ Call (record { 0 = 0 }) ∷ RetAct ∷ Lower ∷ Lower ∷ [] } ∷ record { pid = 12; cpu = 0; acts = Raise Softirq ∷ Raise Nmi ∷ Lower ∷ Lower ∷ [] } ∷ []; ctls = Run (Register 1) ∷ Run (Notrace 0 (record { append = false; remove = true; clear = false; set = true ∷ [] })) ∷ Run (Register 1) ∷ []; lines = usual_lines; rings = usual_rings; schedule = record { who = OfCpu (record { 0 = 0 }); count = 8 } ∷ record { who = OfControl; count = 8 } ∷ record { who = OfControl; count = 5 } ∷ record { who = OfCpu (record { 0 = 0 }); count = 8 } ∷ record { who = OfCpu (record { 0 = 0 }); count = 4 } ∷ record { who = OfControl; count = 4 } ∷ record { who = OfCpu (record { 0 = 0 }); count = 3 } ∷ record { who = OfControl; count = 7 } ∷ record { who = OfCpu (record { 0 = 0 }); count = 2 } ∷ record { who = All; count = 300 } ∷ [] }
 
 abbrev pub job_74-items : List Item
 job_74-items = Enter (call_in 1 1) Nmi (record { 0 = 0 }) None ∷ Begin 1 ∷ Back (call_in 1 1) (record { 0 = 1 }) ∷ BackEnd (call_in 1 1) (record { 0 = 1 }) ∷ Body (call_in 1 1) (record { 0 = 0 }) (Own (record { 0 = 1 })) ∷ Return 1 Accepted ∷ Begin 2 ∷ Return 2 Accepted ∷ Begin 3 ∷ Return 3 Already ∷ Enter (call_in 0 1) Normal (record { 0 = 0 }) None ∷ Back (call_in 0 1) (record { 0 = 1 }) ∷ BackEnd (call_in 0 1) (record { 0 = 1 }) ∷ Body (call_in 0 1) (record { 0 = 0 }) (Own (record { 0 = 1 })) ∷ Leave (call_in 1 1) ∷ Exit (call_in 1 1) (record { 0 = 1 }) 2 ∷ ExitEnd (call_in 1 1) (record { 0 = 1 }) ∷ Ret (call_in 1 1) None ∷ Leave (call_in 0 1) ∷ Exit (call_in 0 1) (record { 0 = 1 }) 11 ∷ ExitEnd (call_in 0 1) (record { 0 = 1 }) ∷ Ret (call_in 0 1) None ∷ Enter (call_in 0 2) Nmi (record { 0 = 0 }) None ∷ Back (call_in 0 2) (record { 0 = 1 }) ∷ BackEnd (call_in 0 2) (record { 0 = 1 }) ∷ Body (call_in 0 2) (record { 0 = 0 }) (Own (record { 0 = 1 })) ∷ Enter (call_in 0 3) Nmi (record { 0 = 0 }) (Some (call_in 0 2)) ∷ Refuse (call_in 0 3) (record { 0 = 1 }) Depth ∷ Body (call_in 0 3) (record { 0 = 0 }) (Own (record { 0 = 1 })) ∷ Leave (call_in 0 3) ∷ Ret (call_in 0 3) (Some (call_in 0 2)) ∷ Leave (call_in 0 2) ∷ Exit (call_in 0 2) (record { 0 = 1 }) 23 ∷ ExitEnd (call_in 0 2) (record { 0 = 1 }) ∷ Ret (call_in 0 2) None ∷ []
@@ -423,7 +423,7 @@ unfolding actors_of repeated start step run played play all_end control_next con
 job_74-plays = (refl, refl)
 
 abbrev pub job_75 : Job
-job_75 = record { functions = named (codes "a") (Some (codes "m")) ∷ named (codes "b") (Some (codes "m")) ∷ named (codes "c") None ∷ named (codes "d") (Some (codes "m")) ∷ []; users = record { name = codes "u0"; kind = Function; regs = true; ipmodify = None; pid = false; act = Some (IrqIn (record { 0 = 2 })) } ∷ record { name = codes "u1"; kind = Profile; regs = false; ipmodify = None; pid = false; act = Some (CallIn (record { 0 = 1 })) } ∷ record { name = codes "u2"; kind = Function; regs = true; ipmodify = Some (record { 0 = 1 }); pid = false; act = None } ∷ []; frames = 3; tramps = 0; quanta = 15 ∷ []; tasks = record { pid = 10; cpu = 0; acts = After 1 ∷ Call (record { 0 = 2 }) ∷ Call (record { 0 = 0 }) ∷ RetAct ∷ RetAct ∷ Call (record { 0 = 1 }) ∷ After 2 ∷ RetAct ∷ Raise Softirq ∷ Lower ∷ [] } ∷ record { pid = 11; cpu = 0; acts = Call (record { 0 = 1 }) ∷ Raise Nmi ∷ Call (record { 0 = 2 }) ∷ RetAct ∷ Call (record { 0 = 2 }) ∷ Call (record { 0 = 3 }) ∷ RetAct ∷ RetAct ∷ Lower ∷ RetAct ∷ [] } ∷ []; ctls = Run (MaxDepth 2) ∷ Run (Register 1) ∷ []; schedule = record { who = OfControl; count = 7 } ∷ record { who = OfCpu (record { 0 = 0 }); count = 4 } ∷ record { who = OfCpu (record { 0 = 0 }); count = 8 } ∷ record { who = OfControl; count = 3 } ∷ record { who = OfControl; count = 1 } ∷ record { who = OfCpu (record { 0 = 0 }); count = 8 } ∷ record { who = OfCpu (record { 0 = 0 }); count = 8 } ∷ record { who = OfControl; count = 1 } ∷ record { who = OfCpu (record { 0 = 0 }); count = 6 } ∷ record { who = OfControl; count = 6 } ∷ record { who = OfControl; count = 3 } ∷ record { who = OfCpu (record { 0 = 0 }); count = 4 } ∷ record { who = OfCpu (record { 0 = 0 }); count = 8 } ∷ record { who = OfCpu (record { 0 = 0 }); count = 8 } ∷ record { who = OfControl; count = 7 } ∷ record { who = OfControl; count = 7 } ∷ record { who = OfControl; count = 6 } ∷ record { who = OfControl; count = 4 } ∷ record { who = OfControl; count = 6 } ∷ record { who = OfCpu (record { 0 = 0 }); count = 5 } ∷ record { who = OfCpu (record { 0 = 0 }); count = 4 } ∷ record { who = OfCpu (record { 0 = 0 }); count = 3 } ∷ record { who = All; count = 300 } ∷ [] }
+job_75 = record { version = 1; functions = named (codes "a") (Some (codes "m")) ∷ named (codes "b") (Some (codes "m")) ∷ named (codes "c") None ∷ named (codes "d") (Some (codes "m")) ∷ []; users = record { name = codes "u0"; kind = Function; regs = true; ipmodify = None; pid = false; act = Some (IrqIn (record { 0 = 2 })) } ∷ record { name = codes "u1"; kind = Profile; regs = false; ipmodify = None; pid = false; act = Some (CallIn (record { 0 = 1 })) } ∷ record { name = codes "u2"; kind = Function; regs = true; ipmodify = Some (record { 0 = 1 }); pid = false; act = None } ∷ []; frames = 3; tramps = 0; quanta = 15 ∷ []; tasks = record { pid = 10; cpu = 0; acts = After 1 ∷ Call (record { 0 = 2 }) ∷ Call (record { 0 = 0 }) ∷ RetAct ∷ RetAct ∷ Call (record { 0 = 1 }) ∷ After 2 ∷ RetAct ∷ Raise Softirq ∷ Lower ∷ [] } ∷ record { pid = 11; cpu = 0; acts = Call (record { 0 = 1 }) ∷ Raise Nmi ∷ Call (record { 0 = 2 }) ∷ RetAct ∷ Call (record { 0 = 2 }) ∷ Call (record { 0 = 3 }) ∷ RetAct ∷ RetAct ∷ Lower ∷ RetAct ∷ [] } ∷ []; ctls = Run (MaxDepth 2) ∷ Run (Register 1) ∷ []; lines = usual_lines; rings = usual_rings; schedule = record { who = OfControl; count = 7 } ∷ record { who = OfCpu (record { 0 = 0 }); count = 4 } ∷ record { who = OfCpu (record { 0 = 0 }); count = 8 } ∷ record { who = OfControl; count = 3 } ∷ record { who = OfControl; count = 1 } ∷ record { who = OfCpu (record { 0 = 0 }); count = 8 } ∷ record { who = OfCpu (record { 0 = 0 }); count = 8 } ∷ record { who = OfControl; count = 1 } ∷ record { who = OfCpu (record { 0 = 0 }); count = 6 } ∷ record { who = OfControl; count = 6 } ∷ record { who = OfControl; count = 3 } ∷ record { who = OfCpu (record { 0 = 0 }); count = 4 } ∷ record { who = OfCpu (record { 0 = 0 }); count = 8 } ∷ record { who = OfCpu (record { 0 = 0 }); count = 8 } ∷ record { who = OfControl; count = 7 } ∷ record { who = OfControl; count = 7 } ∷ record { who = OfControl; count = 6 } ∷ record { who = OfControl; count = 4 } ∷ record { who = OfControl; count = 6 } ∷ record { who = OfCpu (record { 0 = 0 }); count = 5 } ∷ record { who = OfCpu (record { 0 = 0 }); count = 4 } ∷ record { who = OfCpu (record { 0 = 0 }); count = 3 } ∷ record { who = All; count = 300 } ∷ [] }
 
 abbrev pub job_75-items : List Item
 job_75-items = Begin 1 ∷ Enter (call_in 1 1) Normal (record { 0 = 1 }) None ∷ Body (call_in 1 1) (record { 0 = 1 }) Nop ∷ Return 1 Accepted ∷ Begin 2 ∷ Enter (call_in 1 2) Nmi (record { 0 = 2 }) (Some (call_in 1 1)) ∷ Body (call_in 1 2) (record { 0 = 2 }) Nop ∷ Enter (call_in 0 1) Normal (record { 0 = 2 }) None ∷ Body (call_in 0 1) (record { 0 = 2 }) Nop ∷ Enter (call_in 0 2) Normal (record { 0 = 0 }) (Some (call_in 0 1)) ∷ Body (call_in 0 2) (record { 0 = 0 }) Nop ∷ Leave (call_in 1 2) ∷ Ret (call_in 1 2) (Some (call_in 1 1)) ∷ Enter (call_in 1 3) Nmi (record { 0 = 2 }) (Some (call_in 1 1)) ∷ Body (call_in 1 3) (record { 0 = 2 }) Nop ∷ Enter (call_in 1 4) Nmi (record { 0 = 3 }) (Some (call_in 1 3)) ∷ Body (call_in 1 4) (record { 0 = 3 }) Nop ∷ Leave (call_in 0 2) ∷ Ret (call_in 0 2) (Some (call_in 0 1)) ∷ Leave (call_in 0 1) ∷ Ret (call_in 0 1) None ∷ Enter (call_in 0 3) Normal (record { 0 = 1 }) None ∷ Leave (call_in 1 4) ∷ Ret (call_in 1 4) (Some (call_in 1 3)) ∷ Leave (call_in 1 3) ∷ Ret (call_in 1 3) (Some (call_in 1 1)) ∷ Leave (call_in 1 1) ∷ Ret (call_in 1 1) None ∷ Back (call_in 0 3) (record { 0 = 1 }) ∷ Enter (call_in 0 4) Normal (record { 0 = 1 }) (Some (call_in 0 3)) ∷ Refuse (call_in 0 4) (record { 0 = 1 }) Recursion ∷ Body (call_in 0 4) (record { 0 = 1 }) ByList ∷ Leave (call_in 0 4) ∷ Ret (call_in 0 4) (Some (call_in 0 3)) ∷ BackEnd (call_in 0 3) (record { 0 = 1 }) ∷ Body (call_in 0 3) (record { 0 = 1 }) ByList ∷ Return 2 Accepted ∷ Leave (call_in 0 3) ∷ Exit (call_in 0 3) (record { 0 = 1 }) 28 ∷ ExitEnd (call_in 0 3) (record { 0 = 1 }) ∷ Ret (call_in 0 3) None ∷ []
@@ -433,7 +433,7 @@ unfolding actors_of repeated start step run played play all_end control_next con
 job_75-plays = (refl, refl)
 
 abbrev pub job_76 : Job
-job_76 = record { functions = named (codes "a") (Some (codes "m")) ∷ named (codes "b") (Some (codes "m")) ∷ named (codes "c") None ∷ []; users = record { name = codes "u0"; kind = Fprobe true true; regs = true; ipmodify = None; pid = true; act = Some (IrqIn (record { 0 = 1 })) } ∷ record { name = codes "u1"; kind = Graph; regs = false; ipmodify = None; pid = true; act = None } ∷ record { name = codes "u2"; kind = Fprobe false false; regs = false; ipmodify = None; pid = true; act = Some (IrqIn (record { 0 = 2 })) } ∷ record { name = codes "u3"; kind = Function; regs = false; ipmodify = None; pid = true; act = None } ∷ []; frames = 3; tramps = 0; quanta = 15 ∷ []; tasks = record { pid = 10; cpu = 0; acts = Raise Nmi ∷ Lower ∷ Call (record { 0 = 1 }) ∷ Call (record { 0 = 0 }) ∷ RetAct ∷ RetAct ∷ After 2 ∷ Raise Irq ∷ Lower ∷ [] } ∷ []; ctls = Run (Filter 1 (record { append = false; remove = false; clear = false; set = false ∷ false ∷ true ∷ [] })) ∷ Run (Unregister 0) ∷ []; schedule = record { who = OfControl; count = 17 } ∷ record { who = OfControl; count = 2 } ∷ record { who = OfCpu (record { 0 = 0 }); count = 11 } ∷ record { who = OfControl; count = 4 } ∷ record { who = OfCpu (record { 0 = 0 }); count = 4 } ∷ record { who = OfControl; count = 12 } ∷ record { who = OfCpu (record { 0 = 0 }); count = 13 } ∷ record { who = OfCpu (record { 0 = 0 }); count = 15 } ∷ record { who = OfCpu (record { 0 = 0 }); count = 20 } ∷ record { who = OfCpu (record { 0 = 0 }); count = 2 } ∷ record { who = OfCpu (record { 0 = 0 }); count = 13 } ∷ record { who = OfControl; count = 8 } ∷ record { who = OfCpu (record { 0 = 0 }); count = 4 } ∷ record { who = OfControl; count = 16 } ∷ record { who = OfControl; count = 14 } ∷ record { who = OfCpu (record { 0 = 0 }); count = 17 } ∷ record { who = OfCpu (record { 0 = 0 }); count = 6 } ∷ record { who = OfCpu (record { 0 = 0 }); count = 15 } ∷ record { who = All; count = 300 } ∷ [] }
+job_76 = record { version = 1; functions = named (codes "a") (Some (codes "m")) ∷ named (codes "b") (Some (codes "m")) ∷ named (codes "c") None ∷ []; users = record { name = codes "u0"; kind = Fprobe true true; regs = true; ipmodify = None; pid = true; act = Some (IrqIn (record { 0 = 1 })) } ∷ record { name = codes "u1"; kind = Graph; regs = false; ipmodify = None; pid = true; act = None } ∷ record { name = codes "u2"; kind = Fprobe false false; regs = false; ipmodify = None; pid = true; act = Some (IrqIn (record { 0 = 2 })) } ∷ record { name = codes "u3"; kind = Function; regs = false; ipmodify = None; pid = true; act = None } ∷ []; frames = 3; tramps = 0; quanta = 15 ∷ []; tasks = record { pid = 10; cpu = 0; acts = Raise Nmi ∷ Lower ∷ Call (record { 0 = 1 }) ∷ Call (record { 0 = 0 }) ∷ RetAct ∷ RetAct ∷ After 2 ∷ Raise Irq ∷ Lower ∷ [] } ∷ []; ctls = Run (Filter 1 (record { append = false; remove = false; clear = false; set = false ∷ false ∷ true ∷ [] })) ∷ Run (Unregister 0) ∷ []; lines = usual_lines; rings = usual_rings; schedule = record { who = OfControl; count = 17 } ∷ record { who = OfControl; count = 2 } ∷ record { who = OfCpu (record { 0 = 0 }); count = 11 } ∷ record { who = OfControl; count = 4 } ∷ record { who = OfCpu (record { 0 = 0 }); count = 4 } ∷ record { who = OfControl; count = 12 } ∷ record { who = OfCpu (record { 0 = 0 }); count = 13 } ∷ record { who = OfCpu (record { 0 = 0 }); count = 15 } ∷ record { who = OfCpu (record { 0 = 0 }); count = 20 } ∷ record { who = OfCpu (record { 0 = 0 }); count = 2 } ∷ record { who = OfCpu (record { 0 = 0 }); count = 13 } ∷ record { who = OfControl; count = 8 } ∷ record { who = OfCpu (record { 0 = 0 }); count = 4 } ∷ record { who = OfControl; count = 16 } ∷ record { who = OfControl; count = 14 } ∷ record { who = OfCpu (record { 0 = 0 }); count = 17 } ∷ record { who = OfCpu (record { 0 = 0 }); count = 6 } ∷ record { who = OfCpu (record { 0 = 0 }); count = 15 } ∷ record { who = All; count = 300 } ∷ [] }
 
 abbrev pub job_76-items : List Item
 job_76-items = Begin 1 ∷ Return 1 Accepted ∷ Begin 2 ∷ Return 2 NotThere ∷ Enter (call_in 0 1) Normal (record { 0 = 1 }) None ∷ Body (call_in 0 1) (record { 0 = 1 }) Nop ∷ Enter (call_in 0 2) Normal (record { 0 = 0 }) (Some (call_in 0 1)) ∷ Body (call_in 0 2) (record { 0 = 0 }) Nop ∷ Leave (call_in 0 2) ∷ Ret (call_in 0 2) (Some (call_in 0 1)) ∷ Leave (call_in 0 1) ∷ Ret (call_in 0 1) None ∷ []
@@ -443,7 +443,7 @@ unfolding actors_of repeated start step run played play all_end control_next con
 job_76-plays = (refl, refl)
 
 abbrev pub job_80 : Job
-job_80 = record { functions = named (codes "a") (Some (codes "m")) ∷ named (codes "b") (Some (codes "m")) ∷ named (codes "c") (Some (codes "m")) ∷ []; users = record { name = codes "u0"; kind = Graph; regs = true; ipmodify = None; pid = false; act = Some (CallIn (record { 0 = 1 })) } ∷ record { name = codes "u1"; kind = Fprobe false false; regs = false; ipmodify = None; pid = false; act = Some (CallIn (record { 0 = 0 })) } ∷ record { name = codes "u2"; kind = Graph; regs = false; ipmodify = None; pid = false; act = Some (CallIn (record { 0 = 1 })) } ∷ record { name = codes "u3"; kind = Function; regs = true; ipmodify = Some (record { 0 = 2 }); pid = true; act = None } ∷ []; frames = 3; tramps = 16; quanta = 1 ∷ 3 ∷ []; tasks = record { pid = 10; cpu = 0; acts = After 4 ∷ Raise Softirq ∷ Raise Nmi ∷ Call (record { 0 = 1 }) ∷ Call (record { 0 = 2 }) ∷ Call (record { 0 = 0 }) ∷ Call (record { 0 = 0 }) ∷ RetAct ∷ RetAct ∷ RetAct ∷ RetAct ∷ Lower ∷ Lower ∷ [] } ∷ record { pid = 11; cpu = 0; acts = After 1 ∷ Call (record { 0 = 2 }) ∷ Call (record { 0 = 0 }) ∷ Raise Softirq ∷ Lower ∷ Call (record { 0 = 0 }) ∷ RetAct ∷ RetAct ∷ RetAct ∷ [] } ∷ []; ctls = Run (Enable 1) ∷ Run (Disable 3) ∷ Run (Register 3) ∷ Run (Disable 2) ∷ []; schedule = record { who = OfControl; count = 3 } ∷ record { who = OfCpu (record { 0 = 0 }); count = 2 } ∷ record { who = OfCpu (record { 0 = 0 }); count = 3 } ∷ record { who = OfCpu (record { 0 = 0 }); count = 2 } ∷ record { who = OfCpu (record { 0 = 1 }); count = 1 } ∷ record { who = OfControl; count = 1 } ∷ record { who = OfCpu (record { 0 = 1 }); count = 1 } ∷ record { who = OfControl; count = 1 } ∷ record { who = OfCpu (record { 0 = 1 }); count = 1 } ∷ record { who = OfCpu (record { 0 = 0 }); count = 2 } ∷ record { who = OfControl; count = 3 } ∷ record { who = OfCpu (record { 0 = 1 }); count = 2 } ∷ record { who = OfControl; count = 1 } ∷ record { who = OfControl; count = 1 } ∷ record { who = OfCpu (record { 0 = 1 }); count = 3 } ∷ record { who = All; count = 300 } ∷ [] }
+job_80 = record { version = 1; functions = named (codes "a") (Some (codes "m")) ∷ named (codes "b") (Some (codes "m")) ∷ named (codes "c") (Some (codes "m")) ∷ []; users = record { name = codes "u0"; kind = Graph; regs = true; ipmodify = None; pid = false; act = Some (CallIn (record { 0 = 1 })) } ∷ record { name = codes "u1"; kind = Fprobe false false; regs = false; ipmodify = None; pid = false; act = Some (CallIn (record { 0 = 0 })) } ∷ record { name = codes "u2"; kind = Graph; regs = false; ipmodify = None; pid = false; act = Some (CallIn (record { 0 = 1 })) } ∷ record { name = codes "u3"; kind = Function; regs = true; ipmodify = Some (record { 0 = 2 }); pid = true; act = None } ∷ []; frames = 3; tramps = 16; quanta = 1 ∷ 3 ∷ []; tasks = record { pid = 10; cpu = 0; acts = After 4 ∷ Raise Softirq ∷ Raise Nmi ∷ Call (record { 0 = 1 }) ∷ Call (record { 0 = 2 }) ∷ Call (record { 0 = 0 }) ∷ Call (record { 0 = 0 }) ∷ RetAct ∷ RetAct ∷ RetAct ∷ RetAct ∷ Lower ∷ Lower ∷ [] } ∷ record { pid = 11; cpu = 0; acts = After 1 ∷ Call (record { 0 = 2 }) ∷ Call (record { 0 = 0 }) ∷ Raise Softirq ∷ Lower ∷ Call (record { 0 = 0 }) ∷ RetAct ∷ RetAct ∷ RetAct ∷ [] } ∷ []; ctls = Run (Enable 1) ∷ Run (Disable 3) ∷ Run (Register 3) ∷ Run (Disable 2) ∷ []; lines = usual_lines; rings = usual_rings; schedule = record { who = OfControl; count = 3 } ∷ record { who = OfCpu (record { 0 = 0 }); count = 2 } ∷ record { who = OfCpu (record { 0 = 0 }); count = 3 } ∷ record { who = OfCpu (record { 0 = 0 }); count = 2 } ∷ record { who = OfCpu (record { 0 = 1 }); count = 1 } ∷ record { who = OfControl; count = 1 } ∷ record { who = OfCpu (record { 0 = 1 }); count = 1 } ∷ record { who = OfControl; count = 1 } ∷ record { who = OfCpu (record { 0 = 1 }); count = 1 } ∷ record { who = OfCpu (record { 0 = 0 }); count = 2 } ∷ record { who = OfControl; count = 3 } ∷ record { who = OfCpu (record { 0 = 1 }); count = 2 } ∷ record { who = OfControl; count = 1 } ∷ record { who = OfControl; count = 1 } ∷ record { who = OfCpu (record { 0 = 1 }); count = 3 } ∷ record { who = All; count = 300 } ∷ [] }
 
 abbrev pub job_80-items : List Item
 job_80-items = Begin 1 ∷ Return 1 NotThere ∷ Begin 2 ∷ Return 2 NotThere ∷ Begin 3 ∷ Enter (call_in 1 1) Normal (record { 0 = 2 }) None ∷ Return 3 Invalid ∷ Begin 4 ∷ Return 4 NotThere ∷ Body (call_in 1 1) (record { 0 = 2 }) Nop ∷ Enter (call_in 1 2) Normal (record { 0 = 0 }) (Some (call_in 1 1)) ∷ Enter (call_in 0 1) Nmi (record { 0 = 1 }) None ∷ Body (call_in 1 2) (record { 0 = 0 }) Nop ∷ Body (call_in 0 1) (record { 0 = 1 }) Nop ∷ Enter (call_in 0 2) Nmi (record { 0 = 2 }) (Some (call_in 0 1)) ∷ Enter (call_in 1 3) Normal (record { 0 = 0 }) (Some (call_in 1 2)) ∷ Body (call_in 0 2) (record { 0 = 2 }) Nop ∷ Body (call_in 1 3) (record { 0 = 0 }) Nop ∷ Enter (call_in 0 3) Nmi (record { 0 = 0 }) (Some (call_in 0 2)) ∷ Leave (call_in 1 3) ∷ Ret (call_in 1 3) (Some (call_in 1 2)) ∷ Body (call_in 0 3) (record { 0 = 0 }) Nop ∷ Leave (call_in 1 2) ∷ Enter (call_in 0 4) Nmi (record { 0 = 0 }) (Some (call_in 0 3)) ∷ Ret (call_in 1 2) (Some (call_in 1 1)) ∷ Body (call_in 0 4) (record { 0 = 0 }) Nop ∷ Leave (call_in 1 1) ∷ Ret (call_in 1 1) None ∷ Leave (call_in 0 4) ∷ Ret (call_in 0 4) (Some (call_in 0 3)) ∷ Leave (call_in 0 3) ∷ Ret (call_in 0 3) (Some (call_in 0 2)) ∷ Leave (call_in 0 2) ∷ Ret (call_in 0 2) (Some (call_in 0 1)) ∷ Leave (call_in 0 1) ∷ Ret (call_in 0 1) None ∷ []
@@ -453,7 +453,7 @@ unfolding actors_of repeated start step run played play all_end control_next con
 job_80-plays = (refl, refl)
 
 abbrev pub job_81 : Job
-job_81 = record { functions = named (codes "a") (Some (codes "m")) ∷ named (codes "b") (Some (codes "m")) ∷ named (codes "c") (Some (codes "m")) ∷ named (codes "d") None ∷ []; users = record { name = codes "u0"; kind = Fprobe true false; regs = false; ipmodify = None; pid = true; act = Some (IrqIn (record { 0 = 2 })) } ∷ record { name = codes "u1"; kind = Fprobe true false; regs = true; ipmodify = None; pid = true; act = None } ∷ record { name = codes "u2"; kind = Fprobe true true; regs = false; ipmodify = None; pid = true; act = Some (CallIn (record { 0 = 3 })) } ∷ record { name = codes "u3"; kind = Profile; regs = true; ipmodify = None; pid = true; act = None } ∷ []; frames = 2; tramps = 0; quanta = 1 ∷ []; tasks = record { pid = 10; cpu = 0; acts = After 1 ∷ Raise Softirq ∷ Call (record { 0 = 1 }) ∷ RetAct ∷ Lower ∷ [] } ∷ record { pid = 11; cpu = 0; acts = After 1 ∷ Call (record { 0 = 1 }) ∷ Call (record { 0 = 3 }) ∷ RetAct ∷ RetAct ∷ [] } ∷ []; ctls = Run (Enable 2) ∷ Run (Unregister 3) ∷ []; schedule = record { who = OfCpu (record { 0 = 0 }); count = 3 } ∷ record { who = OfControl; count = 2 } ∷ record { who = OfCpu (record { 0 = 0 }); count = 3 } ∷ record { who = OfControl; count = 2 } ∷ record { who = OfCpu (record { 0 = 0 }); count = 3 } ∷ record { who = OfCpu (record { 0 = 0 }); count = 1 } ∷ record { who = OfCpu (record { 0 = 0 }); count = 2 } ∷ record { who = OfCpu (record { 0 = 0 }); count = 2 } ∷ record { who = OfControl; count = 3 } ∷ record { who = OfControl; count = 3 } ∷ record { who = OfControl; count = 1 } ∷ record { who = OfControl; count = 1 } ∷ record { who = OfCpu (record { 0 = 0 }); count = 1 } ∷ record { who = OfCpu (record { 0 = 0 }); count = 3 } ∷ record { who = OfControl; count = 1 } ∷ record { who = OfCpu (record { 0 = 0 }); count = 1 } ∷ record { who = OfControl; count = 1 } ∷ record { who = OfCpu (record { 0 = 0 }); count = 2 } ∷ record { who = OfCpu (record { 0 = 0 }); count = 3 } ∷ record { who = OfControl; count = 1 } ∷ record { who = All; count = 300 } ∷ [] }
+job_81 = record { version = 1; functions = named (codes "a") (Some (codes "m")) ∷ named (codes "b") (Some (codes "m")) ∷ named (codes "c") (Some (codes "m")) ∷ named (codes "d") None ∷ []; users = record { name = codes "u0"; kind = Fprobe true false; regs = false; ipmodify = None; pid = true; act = Some (IrqIn (record { 0 = 2 })) } ∷ record { name = codes "u1"; kind = Fprobe true false; regs = true; ipmodify = None; pid = true; act = None } ∷ record { name = codes "u2"; kind = Fprobe true true; regs = false; ipmodify = None; pid = true; act = Some (CallIn (record { 0 = 3 })) } ∷ record { name = codes "u3"; kind = Profile; regs = true; ipmodify = None; pid = true; act = None } ∷ []; frames = 2; tramps = 0; quanta = 1 ∷ []; tasks = record { pid = 10; cpu = 0; acts = After 1 ∷ Raise Softirq ∷ Call (record { 0 = 1 }) ∷ RetAct ∷ Lower ∷ [] } ∷ record { pid = 11; cpu = 0; acts = After 1 ∷ Call (record { 0 = 1 }) ∷ Call (record { 0 = 3 }) ∷ RetAct ∷ RetAct ∷ [] } ∷ []; ctls = Run (Enable 2) ∷ Run (Unregister 3) ∷ []; lines = usual_lines; rings = usual_rings; schedule = record { who = OfCpu (record { 0 = 0 }); count = 3 } ∷ record { who = OfControl; count = 2 } ∷ record { who = OfCpu (record { 0 = 0 }); count = 3 } ∷ record { who = OfControl; count = 2 } ∷ record { who = OfCpu (record { 0 = 0 }); count = 3 } ∷ record { who = OfCpu (record { 0 = 0 }); count = 1 } ∷ record { who = OfCpu (record { 0 = 0 }); count = 2 } ∷ record { who = OfCpu (record { 0 = 0 }); count = 2 } ∷ record { who = OfControl; count = 3 } ∷ record { who = OfControl; count = 3 } ∷ record { who = OfControl; count = 1 } ∷ record { who = OfControl; count = 1 } ∷ record { who = OfCpu (record { 0 = 0 }); count = 1 } ∷ record { who = OfCpu (record { 0 = 0 }); count = 3 } ∷ record { who = OfControl; count = 1 } ∷ record { who = OfCpu (record { 0 = 0 }); count = 1 } ∷ record { who = OfControl; count = 1 } ∷ record { who = OfCpu (record { 0 = 0 }); count = 2 } ∷ record { who = OfCpu (record { 0 = 0 }); count = 3 } ∷ record { who = OfControl; count = 1 } ∷ record { who = All; count = 300 } ∷ [] }
 
 abbrev pub job_81-items : List Item
 job_81-items = Begin 1 ∷ Return 1 NotThere ∷ Begin 2 ∷ Return 2 NotThere ∷ Enter (call_in 1 1) Normal (record { 0 = 1 }) None ∷ Body (call_in 1 1) (record { 0 = 1 }) Nop ∷ Enter (call_in 0 1) Softirq (record { 0 = 1 }) None ∷ Enter (call_in 1 2) Normal (record { 0 = 3 }) (Some (call_in 1 1)) ∷ Body (call_in 0 1) (record { 0 = 1 }) Nop ∷ Body (call_in 1 2) (record { 0 = 3 }) Nop ∷ Leave (call_in 0 1) ∷ Ret (call_in 0 1) None ∷ Leave (call_in 1 2) ∷ Ret (call_in 1 2) (Some (call_in 1 1)) ∷ Leave (call_in 1 1) ∷ Ret (call_in 1 1) None ∷ []
@@ -463,7 +463,7 @@ unfolding actors_of repeated start step run played play all_end control_next con
 job_81-plays = (refl, refl)
 
 abbrev pub job_82 : Job
-job_82 = record { functions = named (codes "a") (Some (codes "m")) ∷ named (codes "b") (Some (codes "m")) ∷ []; users = record { name = codes "u0"; kind = Function; regs = true; ipmodify = None; pid = true; act = Some (CallIn (record { 0 = 0 })) } ∷ record { name = codes "u1"; kind = Fprobe true true; regs = true; ipmodify = None; pid = true; act = None } ∷ record { name = codes "u2"; kind = Function; regs = true; ipmodify = None; pid = true; act = None } ∷ []; frames = 2; tramps = 0; quanta = 1 ∷ 40 ∷ []; tasks = record { pid = 10; cpu = 1; acts = Call (record { 0 = 1 }) ∷ Call (record { 0 = 0 }) ∷ Call (record { 0 = 0 }) ∷ After 3 ∷ Call (record { 0 = 0 }) ∷ RetAct ∷ RetAct ∷ RetAct ∷ RetAct ∷ [] } ∷ record { pid = 11; cpu = 1; acts = After 4 ∷ After 3 ∷ Call (record { 0 = 0 }) ∷ RetAct ∷ Raise Nmi ∷ Lower ∷ Call (record { 0 = 0 }) ∷ Call (record { 0 = 1 }) ∷ RetAct ∷ RetAct ∷ [] } ∷ record { pid = 12; cpu = 1; acts = After 1 ∷ Call (record { 0 = 1 }) ∷ After 4 ∷ Call (record { 0 = 0 }) ∷ RetAct ∷ RetAct ∷ Raise Irq ∷ Lower ∷ [] } ∷ []; ctls = Run (Register 0) ∷ Run (Register 0) ∷ Run (Filter 0 (record { append = true; remove = false; clear = false; set = true ∷ false ∷ [] })) ∷ Run (Disable 0) ∷ []; schedule = record { who = OfCpu (record { 0 = 0 }); count = 13 } ∷ record { who = OfCpu (record { 0 = 1 }); count = 16 } ∷ record { who = OfCpu (record { 0 = 0 }); count = 8 } ∷ record { who = OfControl; count = 3 } ∷ record { who = OfCpu (record { 0 = 1 }); count = 7 } ∷ record { who = OfCpu (record { 0 = 1 }); count = 9 } ∷ record { who = OfCpu (record { 0 = 0 }); count = 17 } ∷ record { who = OfCpu (record { 0 = 1 }); count = 2 } ∷ record { who = OfCpu (record { 0 = 1 }); count = 6 } ∷ record { who = All; count = 300 } ∷ [] }
+job_82 = record { version = 1; functions = named (codes "a") (Some (codes "m")) ∷ named (codes "b") (Some (codes "m")) ∷ []; users = record { name = codes "u0"; kind = Function; regs = true; ipmodify = None; pid = true; act = Some (CallIn (record { 0 = 0 })) } ∷ record { name = codes "u1"; kind = Fprobe true true; regs = true; ipmodify = None; pid = true; act = None } ∷ record { name = codes "u2"; kind = Function; regs = true; ipmodify = None; pid = true; act = None } ∷ []; frames = 2; tramps = 0; quanta = 1 ∷ 40 ∷ []; tasks = record { pid = 10; cpu = 1; acts = Call (record { 0 = 1 }) ∷ Call (record { 0 = 0 }) ∷ Call (record { 0 = 0 }) ∷ After 3 ∷ Call (record { 0 = 0 }) ∷ RetAct ∷ RetAct ∷ RetAct ∷ RetAct ∷ [] } ∷ record { pid = 11; cpu = 1; acts = After 4 ∷ After 3 ∷ Call (record { 0 = 0 }) ∷ RetAct ∷ Raise Nmi ∷ Lower ∷ Call (record { 0 = 0 }) ∷ Call (record { 0 = 1 }) ∷ RetAct ∷ RetAct ∷ [] } ∷ record { pid = 12; cpu = 1; acts = After 1 ∷ Call (record { 0 = 1 }) ∷ After 4 ∷ Call (record { 0 = 0 }) ∷ RetAct ∷ RetAct ∷ Raise Irq ∷ Lower ∷ [] } ∷ []; ctls = Run (Register 0) ∷ Run (Register 0) ∷ Run (Filter 0 (record { append = true; remove = false; clear = false; set = true ∷ false ∷ [] })) ∷ Run (Disable 0) ∷ []; lines = usual_lines; rings = usual_rings; schedule = record { who = OfCpu (record { 0 = 0 }); count = 13 } ∷ record { who = OfCpu (record { 0 = 1 }); count = 16 } ∷ record { who = OfCpu (record { 0 = 0 }); count = 8 } ∷ record { who = OfControl; count = 3 } ∷ record { who = OfCpu (record { 0 = 1 }); count = 7 } ∷ record { who = OfCpu (record { 0 = 1 }); count = 9 } ∷ record { who = OfCpu (record { 0 = 0 }); count = 17 } ∷ record { who = OfCpu (record { 0 = 1 }); count = 2 } ∷ record { who = OfCpu (record { 0 = 1 }); count = 6 } ∷ record { who = All; count = 300 } ∷ [] }
 
 abbrev pub job_82-items : List Item
 job_82-items = Enter (call_in 0 1) Normal (record { 0 = 1 }) None ∷ Body (call_in 0 1) (record { 0 = 1 }) Nop ∷ Enter (call_in 0 2) Normal (record { 0 = 0 }) (Some (call_in 0 1)) ∷ Body (call_in 0 2) (record { 0 = 0 }) Nop ∷ Enter (call_in 0 3) Normal (record { 0 = 0 }) (Some (call_in 0 2)) ∷ Begin 1 ∷ Body (call_in 0 3) (record { 0 = 0 }) Nop ∷ Return 1 Accepted ∷ Begin 2 ∷ Return 2 Already ∷ Begin 3 ∷ Enter (call_in 2 1) Normal (record { 0 = 1 }) None ∷ Body (call_in 2 1) (record { 0 = 1 }) ByList ∷ Return 3 Accepted ∷ Begin 4 ∷ Return 4 Invalid ∷ Enter (call_in 0 4) Normal (record { 0 = 0 }) (Some (call_in 0 3)) ∷ Back (call_in 0 4) (record { 0 = 0 }) ∷ Enter (call_in 0 5) Normal (record { 0 = 0 }) (Some (call_in 0 4)) ∷ Refuse (call_in 0 5) (record { 0 = 0 }) Recursion ∷ Body (call_in 0 5) (record { 0 = 0 }) ByList ∷ Leave (call_in 0 5) ∷ Ret (call_in 0 5) (Some (call_in 0 4)) ∷ BackEnd (call_in 0 4) (record { 0 = 0 }) ∷ Body (call_in 0 4) (record { 0 = 0 }) ByList ∷ Leave (call_in 0 4) ∷ Ret (call_in 0 4) (Some (call_in 0 3)) ∷ Leave (call_in 0 3) ∷ Ret (call_in 0 3) (Some (call_in 0 2)) ∷ Leave (call_in 0 2) ∷ Enter (call_in 1 1) Normal (record { 0 = 0 }) None ∷ Back (call_in 1 1) (record { 0 = 0 }) ∷ Enter (call_in 1 2) Normal (record { 0 = 0 }) (Some (call_in 1 1)) ∷ Refuse (call_in 1 2) (record { 0 = 0 }) Recursion ∷ Body (call_in 1 2) (record { 0 = 0 }) ByList ∷ Leave (call_in 1 2) ∷ Ret (call_in 1 2) (Some (call_in 1 1)) ∷ BackEnd (call_in 1 1) (record { 0 = 0 }) ∷ Body (call_in 1 1) (record { 0 = 0 }) ByList ∷ Leave (call_in 1 1) ∷ Ret (call_in 1 1) None ∷ Enter (call_in 2 2) Normal (record { 0 = 0 }) (Some (call_in 2 1)) ∷ Back (call_in 2 2) (record { 0 = 0 }) ∷ Enter (call_in 2 3) Normal (record { 0 = 0 }) (Some (call_in 2 2)) ∷ Refuse (call_in 2 3) (record { 0 = 0 }) Recursion ∷ Body (call_in 2 3) (record { 0 = 0 }) ByList ∷ Leave (call_in 2 3) ∷ Ret (call_in 2 3) (Some (call_in 2 2)) ∷ BackEnd (call_in 2 2) (record { 0 = 0 }) ∷ Body (call_in 2 2) (record { 0 = 0 }) ByList ∷ Leave (call_in 2 2) ∷ Ret (call_in 2 2) (Some (call_in 2 1)) ∷ Leave (call_in 2 1) ∷ Ret (call_in 2 1) None ∷ Ret (call_in 0 2) (Some (call_in 0 1)) ∷ Leave (call_in 0 1) ∷ Ret (call_in 0 1) None ∷ Enter (call_in 1 3) Normal (record { 0 = 0 }) None ∷ Back (call_in 1 3) (record { 0 = 0 }) ∷ Enter (call_in 1 4) Normal (record { 0 = 0 }) (Some (call_in 1 3)) ∷ Refuse (call_in 1 4) (record { 0 = 0 }) Recursion ∷ Body (call_in 1 4) (record { 0 = 0 }) ByList ∷ Leave (call_in 1 4) ∷ Ret (call_in 1 4) (Some (call_in 1 3)) ∷ BackEnd (call_in 1 3) (record { 0 = 0 }) ∷ Body (call_in 1 3) (record { 0 = 0 }) ByList ∷ Enter (call_in 1 5) Normal (record { 0 = 1 }) (Some (call_in 1 3)) ∷ Body (call_in 1 5) (record { 0 = 1 }) Nop ∷ Leave (call_in 1 5) ∷ Ret (call_in 1 5) (Some (call_in 1 3)) ∷ Leave (call_in 1 3) ∷ Ret (call_in 1 3) None ∷ []
@@ -473,7 +473,7 @@ unfolding actors_of repeated start step run played play all_end control_next con
 job_82-plays = (refl, refl)
 
 abbrev pub job_83 : Job
-job_83 = record { functions = named (codes "a") (Some (codes "m")) ∷ named (codes "b") None ∷ named (codes "c") None ∷ named (codes "d") (Some (codes "m")) ∷ []; users = record { name = codes "u0"; kind = Function; regs = true; ipmodify = Some (record { 0 = 0 }); pid = true; act = Some (CallIn (record { 0 = 3 })) } ∷ record { name = codes "u1"; kind = Graph; regs = false; ipmodify = None; pid = true; act = None } ∷ []; frames = 1; tramps = 0; quanta = 1 ∷ []; tasks = record { pid = 10; cpu = 0; acts = After 1 ∷ Raise Nmi ∷ Lower ∷ Call (record { 0 = 1 }) ∷ After 2 ∷ RetAct ∷ Raise Nmi ∷ Call (record { 0 = 2 }) ∷ RetAct ∷ Lower ∷ [] } ∷ record { pid = 11; cpu = 0; acts = Raise Nmi ∷ Call (record { 0 = 3 }) ∷ Call (record { 0 = 1 }) ∷ Call (record { 0 = 2 }) ∷ Call (record { 0 = 0 }) ∷ Call (record { 0 = 3 }) ∷ RetAct ∷ Call (record { 0 = 2 }) ∷ RetAct ∷ RetAct ∷ RetAct ∷ RetAct ∷ RetAct ∷ Lower ∷ [] } ∷ []; ctls = Run (Unregister 1) ∷ Run (Filter 0 (record { append = true; remove = true; clear = false; set = false ∷ false ∷ false ∷ true ∷ [] })) ∷ []; schedule = record { who = OfCpu (record { 0 = 0 }); count = 3 } ∷ record { who = OfControl; count = 2 } ∷ record { who = OfControl; count = 3 } ∷ record { who = OfCpu (record { 0 = 0 }); count = 2 } ∷ record { who = OfControl; count = 2 } ∷ record { who = OfCpu (record { 0 = 0 }); count = 2 } ∷ record { who = OfCpu (record { 0 = 0 }); count = 1 } ∷ record { who = OfControl; count = 1 } ∷ record { who = OfControl; count = 3 } ∷ record { who = OfControl; count = 3 } ∷ record { who = OfControl; count = 2 } ∷ record { who = OfControl; count = 2 } ∷ record { who = OfCpu (record { 0 = 0 }); count = 1 } ∷ record { who = OfControl; count = 3 } ∷ record { who = OfControl; count = 3 } ∷ record { who = OfCpu (record { 0 = 0 }); count = 2 } ∷ record { who = OfControl; count = 1 } ∷ record { who = OfCpu (record { 0 = 0 }); count = 3 } ∷ record { who = OfCpu (record { 0 = 0 }); count = 2 } ∷ record { who = OfControl; count = 3 } ∷ record { who = All; count = 300 } ∷ [] }
+job_83 = record { version = 1; functions = named (codes "a") (Some (codes "m")) ∷ named (codes "b") None ∷ named (codes "c") None ∷ named (codes "d") (Some (codes "m")) ∷ []; users = record { name = codes "u0"; kind = Function; regs = true; ipmodify = Some (record { 0 = 0 }); pid = true; act = Some (CallIn (record { 0 = 3 })) } ∷ record { name = codes "u1"; kind = Graph; regs = false; ipmodify = None; pid = true; act = None } ∷ []; frames = 1; tramps = 0; quanta = 1 ∷ []; tasks = record { pid = 10; cpu = 0; acts = After 1 ∷ Raise Nmi ∷ Lower ∷ Call (record { 0 = 1 }) ∷ After 2 ∷ RetAct ∷ Raise Nmi ∷ Call (record { 0 = 2 }) ∷ RetAct ∷ Lower ∷ [] } ∷ record { pid = 11; cpu = 0; acts = Raise Nmi ∷ Call (record { 0 = 3 }) ∷ Call (record { 0 = 1 }) ∷ Call (record { 0 = 2 }) ∷ Call (record { 0 = 0 }) ∷ Call (record { 0 = 3 }) ∷ RetAct ∷ Call (record { 0 = 2 }) ∷ RetAct ∷ RetAct ∷ RetAct ∷ RetAct ∷ RetAct ∷ Lower ∷ [] } ∷ []; ctls = Run (Unregister 1) ∷ Run (Filter 0 (record { append = true; remove = true; clear = false; set = false ∷ false ∷ false ∷ true ∷ [] })) ∷ []; lines = usual_lines; rings = usual_rings; schedule = record { who = OfCpu (record { 0 = 0 }); count = 3 } ∷ record { who = OfControl; count = 2 } ∷ record { who = OfControl; count = 3 } ∷ record { who = OfCpu (record { 0 = 0 }); count = 2 } ∷ record { who = OfControl; count = 2 } ∷ record { who = OfCpu (record { 0 = 0 }); count = 2 } ∷ record { who = OfCpu (record { 0 = 0 }); count = 1 } ∷ record { who = OfControl; count = 1 } ∷ record { who = OfControl; count = 3 } ∷ record { who = OfControl; count = 3 } ∷ record { who = OfControl; count = 2 } ∷ record { who = OfControl; count = 2 } ∷ record { who = OfCpu (record { 0 = 0 }); count = 1 } ∷ record { who = OfControl; count = 3 } ∷ record { who = OfControl; count = 3 } ∷ record { who = OfCpu (record { 0 = 0 }); count = 2 } ∷ record { who = OfControl; count = 1 } ∷ record { who = OfCpu (record { 0 = 0 }); count = 3 } ∷ record { who = OfCpu (record { 0 = 0 }); count = 2 } ∷ record { who = OfControl; count = 3 } ∷ record { who = All; count = 300 } ∷ [] }
 
 abbrev pub job_83-items : List Item
 job_83-items = Begin 1 ∷ Return 1 NotThere ∷ Begin 2 ∷ Return 2 Accepted ∷ Enter (call_in 1 1) Nmi (record { 0 = 3 }) None ∷ Body (call_in 1 1) (record { 0 = 3 }) Nop ∷ Enter (call_in 1 2) Nmi (record { 0 = 1 }) (Some (call_in 1 1)) ∷ Enter (call_in 0 1) Normal (record { 0 = 1 }) None ∷ Body (call_in 1 2) (record { 0 = 1 }) Nop ∷ Body (call_in 0 1) (record { 0 = 1 }) Nop ∷ Enter (call_in 1 3) Nmi (record { 0 = 2 }) (Some (call_in 1 2)) ∷ Body (call_in 1 3) (record { 0 = 2 }) Nop ∷ Leave (call_in 0 1) ∷ Ret (call_in 0 1) None ∷ Enter (call_in 1 4) Nmi (record { 0 = 0 }) (Some (call_in 1 3)) ∷ Body (call_in 1 4) (record { 0 = 0 }) Nop ∷ Enter (call_in 0 2) Nmi (record { 0 = 2 }) None ∷ Enter (call_in 1 5) Nmi (record { 0 = 3 }) (Some (call_in 1 4)) ∷ Body (call_in 0 2) (record { 0 = 2 }) Nop ∷ Body (call_in 1 5) (record { 0 = 3 }) Nop ∷ Leave (call_in 0 2) ∷ Ret (call_in 0 2) None ∷ Leave (call_in 1 5) ∷ Ret (call_in 1 5) (Some (call_in 1 4)) ∷ Enter (call_in 1 6) Nmi (record { 0 = 2 }) (Some (call_in 1 4)) ∷ Body (call_in 1 6) (record { 0 = 2 }) Nop ∷ Leave (call_in 1 6) ∷ Ret (call_in 1 6) (Some (call_in 1 4)) ∷ Leave (call_in 1 4) ∷ Ret (call_in 1 4) (Some (call_in 1 3)) ∷ Leave (call_in 1 3) ∷ Ret (call_in 1 3) (Some (call_in 1 2)) ∷ Leave (call_in 1 2) ∷ Ret (call_in 1 2) (Some (call_in 1 1)) ∷ Leave (call_in 1 1) ∷ Ret (call_in 1 1) None ∷ []
@@ -483,7 +483,7 @@ unfolding actors_of repeated start step run played play all_end control_next con
 job_83-plays = (refl, refl)
 
 abbrev pub job_85 : Job
-job_85 = record { functions = named (codes "a") None ∷ named (codes "b") (Some (codes "m")) ∷ []; users = record { name = codes "u0"; kind = Fprobe true true; regs = false; ipmodify = None; pid = false; act = None } ∷ record { name = codes "u1"; kind = Fprobe false false; regs = false; ipmodify = None; pid = false; act = None } ∷ record { name = codes "u2"; kind = Function; regs = false; ipmodify = None; pid = false; act = None } ∷ record { name = codes "u3"; kind = Function; regs = true; ipmodify = Some (record { 0 = 0 }); pid = false; act = Some (CallIn (record { 0 = 0 })) } ∷ []; frames = 2; tramps = 0; quanta = 15 ∷ []; tasks = record { pid = 10; cpu = 0; acts = Call (record { 0 = 0 }) ∷ Call (record { 0 = 0 }) ∷ Call (record { 0 = 0 }) ∷ RetAct ∷ RetAct ∷ RetAct ∷ [] } ∷ record { pid = 11; cpu = 0; acts = After 1 ∷ Call (record { 0 = 1 }) ∷ Call (record { 0 = 0 }) ∷ Raise Irq ∷ Call (record { 0 = 0 }) ∷ RetAct ∷ Lower ∷ After 2 ∷ RetAct ∷ RetAct ∷ [] } ∷ []; ctls = Run (Register 1) ∷ Until 0 5 ∷ Run (Register 2) ∷ []; schedule = record { who = OfControl; count = 3 } ∷ record { who = OfCpu (record { 0 = 0 }); count = 1 } ∷ record { who = OfCpu (record { 0 = 0 }); count = 3 } ∷ record { who = OfCpu (record { 0 = 0 }); count = 2 } ∷ record { who = OfControl; count = 1 } ∷ record { who = OfCpu (record { 0 = 0 }); count = 3 } ∷ record { who = OfCpu (record { 0 = 0 }); count = 2 } ∷ record { who = OfControl; count = 2 } ∷ record { who = OfCpu (record { 0 = 0 }); count = 3 } ∷ record { who = OfCpu (record { 0 = 0 }); count = 3 } ∷ record { who = OfCpu (record { 0 = 0 }); count = 1 } ∷ record { who = OfCpu (record { 0 = 0 }); count = 3 } ∷ record { who = OfCpu (record { 0 = 0 }); count = 2 } ∷ record { who = OfControl; count = 1 } ∷ record { who = OfControl; count = 2 } ∷ record { who = OfCpu (record { 0 = 0 }); count = 1 } ∷ record { who = OfCpu (record { 0 = 0 }); count = 1 } ∷ record { who = OfControl; count = 3 } ∷ record { who = OfControl; count = 3 } ∷ record { who = OfCpu (record { 0 = 0 }); count = 1 } ∷ record { who = OfControl; count = 3 } ∷ record { who = OfControl; count = 3 } ∷ record { who = OfControl; count = 3 } ∷ record { who = OfCpu (record { 0 = 0 }); count = 1 } ∷ record { who = OfControl; count = 1 } ∷ record { who = OfControl; count = 2 } ∷ record { who = OfCpu (record { 0 = 0 }); count = 3 } ∷ record { who = OfCpu (record { 0 = 0 }); count = 1 } ∷ record { who = All; count = 300 } ∷ [] }
+job_85 = record { version = 1; functions = named (codes "a") None ∷ named (codes "b") (Some (codes "m")) ∷ []; users = record { name = codes "u0"; kind = Fprobe true true; regs = false; ipmodify = None; pid = false; act = None } ∷ record { name = codes "u1"; kind = Fprobe false false; regs = false; ipmodify = None; pid = false; act = None } ∷ record { name = codes "u2"; kind = Function; regs = false; ipmodify = None; pid = false; act = None } ∷ record { name = codes "u3"; kind = Function; regs = true; ipmodify = Some (record { 0 = 0 }); pid = false; act = Some (CallIn (record { 0 = 0 })) } ∷ []; frames = 2; tramps = 0; quanta = 15 ∷ []; tasks = record { pid = 10; cpu = 0; acts = Call (record { 0 = 0 }) ∷ Call (record { 0 = 0 }) ∷ Call (record { 0 = 0 }) ∷ RetAct ∷ RetAct ∷ RetAct ∷ [] } ∷ record { pid = 11; cpu = 0; acts = After 1 ∷ Call (record { 0 = 1 }) ∷ Call (record { 0 = 0 }) ∷ Raise Irq ∷ Call (record { 0 = 0 }) ∷ RetAct ∷ Lower ∷ After 2 ∷ RetAct ∷ RetAct ∷ [] } ∷ []; ctls = Run (Register 1) ∷ Until 0 5 ∷ Run (Register 2) ∷ []; lines = usual_lines; rings = usual_rings; schedule = record { who = OfControl; count = 3 } ∷ record { who = OfCpu (record { 0 = 0 }); count = 1 } ∷ record { who = OfCpu (record { 0 = 0 }); count = 3 } ∷ record { who = OfCpu (record { 0 = 0 }); count = 2 } ∷ record { who = OfControl; count = 1 } ∷ record { who = OfCpu (record { 0 = 0 }); count = 3 } ∷ record { who = OfCpu (record { 0 = 0 }); count = 2 } ∷ record { who = OfControl; count = 2 } ∷ record { who = OfCpu (record { 0 = 0 }); count = 3 } ∷ record { who = OfCpu (record { 0 = 0 }); count = 3 } ∷ record { who = OfCpu (record { 0 = 0 }); count = 1 } ∷ record { who = OfCpu (record { 0 = 0 }); count = 3 } ∷ record { who = OfCpu (record { 0 = 0 }); count = 2 } ∷ record { who = OfControl; count = 1 } ∷ record { who = OfControl; count = 2 } ∷ record { who = OfCpu (record { 0 = 0 }); count = 1 } ∷ record { who = OfCpu (record { 0 = 0 }); count = 1 } ∷ record { who = OfControl; count = 3 } ∷ record { who = OfControl; count = 3 } ∷ record { who = OfCpu (record { 0 = 0 }); count = 1 } ∷ record { who = OfControl; count = 3 } ∷ record { who = OfControl; count = 3 } ∷ record { who = OfControl; count = 3 } ∷ record { who = OfCpu (record { 0 = 0 }); count = 1 } ∷ record { who = OfControl; count = 1 } ∷ record { who = OfControl; count = 2 } ∷ record { who = OfCpu (record { 0 = 0 }); count = 3 } ∷ record { who = OfCpu (record { 0 = 0 }); count = 1 } ∷ record { who = All; count = 300 } ∷ [] }
 
 abbrev pub job_85-items : List Item
 job_85-items = Begin 1 ∷ Enter (call_in 0 1) Normal (record { 0 = 0 }) None ∷ Body (call_in 0 1) (record { 0 = 0 }) Nop ∷ Enter (call_in 0 2) Normal (record { 0 = 0 }) (Some (call_in 0 1)) ∷ Body (call_in 0 2) (record { 0 = 0 }) Nop ∷ Enter (call_in 0 3) Normal (record { 0 = 0 }) (Some (call_in 0 2)) ∷ Body (call_in 0 3) (record { 0 = 0 }) Nop ∷ Leave (call_in 0 3) ∷ Ret (call_in 0 3) (Some (call_in 0 2)) ∷ Leave (call_in 0 2) ∷ Ret (call_in 0 2) (Some (call_in 0 1)) ∷ Leave (call_in 0 1) ∷ Ret (call_in 0 1) None ∷ Return 1 Accepted ∷ Begin 2 ∷ Enter (call_in 1 1) Normal (record { 0 = 1 }) None ∷ Return 2 Accepted ∷ Back (call_in 1 1) (record { 0 = 1 }) ∷ BackEnd (call_in 1 1) (record { 0 = 1 }) ∷ Body (call_in 1 1) (record { 0 = 1 }) ByList ∷ Enter (call_in 1 2) Normal (record { 0 = 0 }) (Some (call_in 1 1)) ∷ Back (call_in 1 2) (record { 0 = 2 }) ∷ BackEnd (call_in 1 2) (record { 0 = 2 }) ∷ Back (call_in 1 2) (record { 0 = 1 }) ∷ BackEnd (call_in 1 2) (record { 0 = 1 }) ∷ Body (call_in 1 2) (record { 0 = 0 }) ByList ∷ Enter (call_in 1 3) Irq (record { 0 = 0 }) (Some (call_in 1 2)) ∷ Back (call_in 1 3) (record { 0 = 2 }) ∷ BackEnd (call_in 1 3) (record { 0 = 2 }) ∷ Back (call_in 1 3) (record { 0 = 1 }) ∷ BackEnd (call_in 1 3) (record { 0 = 1 }) ∷ Body (call_in 1 3) (record { 0 = 0 }) ByList ∷ Leave (call_in 1 3) ∷ Ret (call_in 1 3) (Some (call_in 1 2)) ∷ Leave (call_in 1 2) ∷ Ret (call_in 1 2) (Some (call_in 1 1)) ∷ Leave (call_in 1 1) ∷ Ret (call_in 1 1) None ∷ []
@@ -493,7 +493,7 @@ unfolding actors_of repeated start step run played play all_end control_next con
 job_85-plays = (refl, refl)
 
 abbrev pub job_87 : Job
-job_87 = record { functions = named (codes "x0") None ∷ named (codes "x1") None ∷ named (codes "x2") None ∷ named (codes "x3") None ∷ named (codes "x4") None ∷ named (codes "x5") None ∷ named (codes "x6") None ∷ named (codes "x7") None ∷ named (codes "x8") None ∷ named (codes "x9") None ∷ named (codes "x10") None ∷ named (codes "x11") None ∷ named (codes "x12") None ∷ named (codes "x13") None ∷ named (codes "x14") None ∷ named (codes "x15") None ∷ named (codes "x16") None ∷ named (codes "x17") None ∷ named (codes "x18") None ∷ named (codes "x19") None ∷ named (codes "x20") None ∷ named (codes "x21") None ∷ named (codes "x22") None ∷ named (codes "x23") None ∷ named (codes "x24") None ∷ named (codes "x25") None ∷ named (codes "x26") None ∷ named (codes "x27") None ∷ named (codes "x28") None ∷ named (codes "x29") None ∷ named (codes "x30") None ∷ named (codes "x31") None ∷ named (codes "x32") None ∷ named (codes "x33") None ∷ named (codes "x34") None ∷ named (codes "x35") None ∷ named (codes "x36") None ∷ named (codes "x37") None ∷ named (codes "x38") None ∷ named (codes "x39") None ∷ named (codes "x40") None ∷ named (codes "x41") None ∷ named (codes "x42") None ∷ named (codes "x43") None ∷ named (codes "x44") None ∷ named (codes "x45") None ∷ named (codes "x46") None ∷ named (codes "x47") None ∷ named (codes "x48") None ∷ named (codes "x49") None ∷ named (codes "x50") None ∷ named (codes "x51") None ∷ named (codes "x52") None ∷ named (codes "x53") None ∷ named (codes "x54") None ∷ named (codes "x55") None ∷ named (codes "x56") None ∷ named (codes "x57") None ∷ named (codes "x58") None ∷ named (codes "x59") None ∷ named (codes "x60") None ∷ named (codes "x61") None ∷ named (codes "a") None ∷ named (codes "b") None ∷ []; users = record { name = codes "u0"; kind = Fprobe true false; regs = false; ipmodify = None; pid = true; act = None } ∷ record { name = codes "u1"; kind = Fprobe false false; regs = false; ipmodify = None; pid = true; act = None } ∷ record { name = codes "u2"; kind = Fprobe true false; regs = false; ipmodify = None; pid = true; act = None } ∷ []; frames = 3; tramps = 1; quanta = 7 ∷ 40 ∷ []; tasks = record { pid = 10; cpu = 1; acts = After 3 ∷ Call (record { 0 = 63 }) ∷ Call (record { 0 = 63 }) ∷ Raise Nmi ∷ Call (record { 0 = 62 }) ∷ Call (record { 0 = 62 }) ∷ RetAct ∷ RetAct ∷ Lower ∷ RetAct ∷ RetAct ∷ [] } ∷ record { pid = 11; cpu = 1; acts = Raise Irq ∷ Call (record { 0 = 63 }) ∷ Raise Nmi ∷ Call (record { 0 = 63 }) ∷ Call (record { 0 = 62 }) ∷ RetAct ∷ RetAct ∷ Lower ∷ RetAct ∷ Lower ∷ [] } ∷ record { pid = 12; cpu = 0; acts = Raise Softirq ∷ Call (record { 0 = 63 }) ∷ Call (record { 0 = 63 }) ∷ Call (record { 0 = 63 }) ∷ RetAct ∷ RetAct ∷ RetAct ∷ Lower ∷ [] } ∷ []; ctls = Until 1 9 ∷ Run (MaxDepth 2) ∷ Run (Enable 2) ∷ Until 1 10 ∷ Run (Register 2) ∷ []; schedule = record { who = OfControl; count = 14 } ∷ record { who = OfControl; count = 14 } ∷ record { who = OfCpu (record { 0 = 1 }); count = 10 } ∷ record { who = OfCpu (record { 0 = 0 }); count = 16 } ∷ record { who = OfControl; count = 5 } ∷ record { who = OfCpu (record { 0 = 0 }); count = 13 } ∷ record { who = OfCpu (record { 0 = 0 }); count = 7 } ∷ record { who = OfCpu (record { 0 = 1 }); count = 16 } ∷ record { who = OfCpu (record { 0 = 0 }); count = 6 } ∷ record { who = OfControl; count = 9 } ∷ record { who = OfControl; count = 18 } ∷ record { who = OfCpu (record { 0 = 0 }); count = 3 } ∷ record { who = OfCpu (record { 0 = 1 }); count = 12 } ∷ record { who = OfCpu (record { 0 = 0 }); count = 4 } ∷ record { who = OfCpu (record { 0 = 1 }); count = 9 } ∷ record { who = OfControl; count = 3 } ∷ record { who = OfCpu (record { 0 = 0 }); count = 15 } ∷ record { who = OfCpu (record { 0 = 0 }); count = 1 } ∷ record { who = OfControl; count = 6 } ∷ record { who = OfControl; count = 5 } ∷ record { who = OfControl; count = 4 } ∷ record { who = OfCpu (record { 0 = 1 }); count = 12 } ∷ record { who = OfCpu (record { 0 = 1 }); count = 1 } ∷ record { who = OfCpu (record { 0 = 0 }); count = 10 } ∷ record { who = All; count = 300 } ∷ [] }
+job_87 = record { version = 1; functions = named (codes "x0") None ∷ named (codes "x1") None ∷ named (codes "x2") None ∷ named (codes "x3") None ∷ named (codes "x4") None ∷ named (codes "x5") None ∷ named (codes "x6") None ∷ named (codes "x7") None ∷ named (codes "x8") None ∷ named (codes "x9") None ∷ named (codes "x10") None ∷ named (codes "x11") None ∷ named (codes "x12") None ∷ named (codes "x13") None ∷ named (codes "x14") None ∷ named (codes "x15") None ∷ named (codes "x16") None ∷ named (codes "x17") None ∷ named (codes "x18") None ∷ named (codes "x19") None ∷ named (codes "x20") None ∷ named (codes "x21") None ∷ named (codes "x22") None ∷ named (codes "x23") None ∷ named (codes "x24") None ∷ named (codes "x25") None ∷ named (codes "x26") None ∷ named (codes "x27") None ∷ named (codes "x28") None ∷ named (codes "x29") None ∷ named (codes "x30") None ∷ named (codes "x31") None ∷ named (codes "x32") None ∷ named (codes "x33") None ∷ named (codes "x34") None ∷ named (codes "x35") None ∷ named (codes "x36") None ∷ named (codes "x37") None ∷ named (codes "x38") None ∷ named (codes "x39") None ∷ named (codes "x40") None ∷ named (codes "x41") None ∷ named (codes "x42") None ∷ named (codes "x43") None ∷ named (codes "x44") None ∷ named (codes "x45") None ∷ named (codes "x46") None ∷ named (codes "x47") None ∷ named (codes "x48") None ∷ named (codes "x49") None ∷ named (codes "x50") None ∷ named (codes "x51") None ∷ named (codes "x52") None ∷ named (codes "x53") None ∷ named (codes "x54") None ∷ named (codes "x55") None ∷ named (codes "x56") None ∷ named (codes "x57") None ∷ named (codes "x58") None ∷ named (codes "x59") None ∷ named (codes "x60") None ∷ named (codes "x61") None ∷ named (codes "a") None ∷ named (codes "b") None ∷ []; users = record { name = codes "u0"; kind = Fprobe true false; regs = false; ipmodify = None; pid = true; act = None } ∷ record { name = codes "u1"; kind = Fprobe false false; regs = false; ipmodify = None; pid = true; act = None } ∷ record { name = codes "u2"; kind = Fprobe true false; regs = false; ipmodify = None; pid = true; act = None } ∷ []; frames = 3; tramps = 1; quanta = 7 ∷ 40 ∷ []; tasks = record { pid = 10; cpu = 1; acts = After 3 ∷ Call (record { 0 = 63 }) ∷ Call (record { 0 = 63 }) ∷ Raise Nmi ∷ Call (record { 0 = 62 }) ∷ Call (record { 0 = 62 }) ∷ RetAct ∷ RetAct ∷ Lower ∷ RetAct ∷ RetAct ∷ [] } ∷ record { pid = 11; cpu = 1; acts = Raise Irq ∷ Call (record { 0 = 63 }) ∷ Raise Nmi ∷ Call (record { 0 = 63 }) ∷ Call (record { 0 = 62 }) ∷ RetAct ∷ RetAct ∷ Lower ∷ RetAct ∷ Lower ∷ [] } ∷ record { pid = 12; cpu = 0; acts = Raise Softirq ∷ Call (record { 0 = 63 }) ∷ Call (record { 0 = 63 }) ∷ Call (record { 0 = 63 }) ∷ RetAct ∷ RetAct ∷ RetAct ∷ Lower ∷ [] } ∷ []; ctls = Until 1 9 ∷ Run (MaxDepth 2) ∷ Run (Enable 2) ∷ Until 1 10 ∷ Run (Register 2) ∷ []; lines = usual_lines; rings = usual_rings; schedule = record { who = OfControl; count = 14 } ∷ record { who = OfControl; count = 14 } ∷ record { who = OfCpu (record { 0 = 1 }); count = 10 } ∷ record { who = OfCpu (record { 0 = 0 }); count = 16 } ∷ record { who = OfControl; count = 5 } ∷ record { who = OfCpu (record { 0 = 0 }); count = 13 } ∷ record { who = OfCpu (record { 0 = 0 }); count = 7 } ∷ record { who = OfCpu (record { 0 = 1 }); count = 16 } ∷ record { who = OfCpu (record { 0 = 0 }); count = 6 } ∷ record { who = OfControl; count = 9 } ∷ record { who = OfControl; count = 18 } ∷ record { who = OfCpu (record { 0 = 0 }); count = 3 } ∷ record { who = OfCpu (record { 0 = 1 }); count = 12 } ∷ record { who = OfCpu (record { 0 = 0 }); count = 4 } ∷ record { who = OfCpu (record { 0 = 1 }); count = 9 } ∷ record { who = OfControl; count = 3 } ∷ record { who = OfCpu (record { 0 = 0 }); count = 15 } ∷ record { who = OfCpu (record { 0 = 0 }); count = 1 } ∷ record { who = OfControl; count = 6 } ∷ record { who = OfControl; count = 5 } ∷ record { who = OfControl; count = 4 } ∷ record { who = OfCpu (record { 0 = 1 }); count = 12 } ∷ record { who = OfCpu (record { 0 = 1 }); count = 1 } ∷ record { who = OfCpu (record { 0 = 0 }); count = 10 } ∷ record { who = All; count = 300 } ∷ [] }
 
 abbrev pub job_87-items : List Item
 job_87-items = Enter (call_in 1 1) Irq (record { 0 = 63 }) None ∷ Body (call_in 1 1) (record { 0 = 63 }) Nop ∷ Enter (call_in 2 1) Softirq (record { 0 = 63 }) None ∷ Body (call_in 2 1) (record { 0 = 63 }) Nop ∷ Enter (call_in 2 2) Softirq (record { 0 = 63 }) (Some (call_in 2 1)) ∷ Body (call_in 2 2) (record { 0 = 63 }) Nop ∷ Enter (call_in 2 3) Softirq (record { 0 = 63 }) (Some (call_in 2 2)) ∷ Body (call_in 2 3) (record { 0 = 63 }) Nop ∷ Leave (call_in 2 3) ∷ Ret (call_in 2 3) (Some (call_in 2 2)) ∷ Leave (call_in 2 2) ∷ Ret (call_in 2 2) (Some (call_in 2 1)) ∷ Leave (call_in 2 1) ∷ Ret (call_in 2 1) None ∷ Enter (call_in 1 2) Nmi (record { 0 = 63 }) (Some (call_in 1 1)) ∷ Body (call_in 1 2) (record { 0 = 63 }) Nop ∷ Enter (call_in 1 3) Nmi (record { 0 = 62 }) (Some (call_in 1 2)) ∷ Body (call_in 1 3) (record { 0 = 62 }) Nop ∷ Leave (call_in 1 3) ∷ Ret (call_in 1 3) (Some (call_in 1 2)) ∷ Leave (call_in 1 2) ∷ Ret (call_in 1 2) (Some (call_in 1 1)) ∷ Leave (call_in 1 1) ∷ Ret (call_in 1 1) None ∷ Begin 1 ∷ Return 1 Accepted ∷ Begin 2 ∷ Return 2 NotThere ∷ Begin 3 ∷ Return 3 Accepted ∷ Enter (call_in 0 1) Normal (record { 0 = 63 }) None ∷ Back (call_in 0 1) (record { 0 = 2 }) ∷ BackEnd (call_in 0 1) (record { 0 = 2 }) ∷ Body (call_in 0 1) (record { 0 = 63 }) (Own (record { 0 = 2 })) ∷ Enter (call_in 0 2) Normal (record { 0 = 63 }) (Some (call_in 0 1)) ∷ []
@@ -503,7 +503,7 @@ unfolding actors_of repeated start step run played play all_end control_next con
 job_87-plays = (refl, refl)
 
 abbrev pub job_91 : Job
-job_91 = record { functions = named (codes "a") None ∷ []; users = record { name = codes "u0"; kind = Fprobe true true; regs = false; ipmodify = None; pid = false; act = Some (IrqIn (record { 0 = 0 })) } ∷ record { name = codes "u1"; kind = Fprobe true true; regs = true; ipmodify = None; pid = true; act = None } ∷ record { name = codes "u2"; kind = Fprobe true true; regs = false; ipmodify = None; pid = false; act = None } ∷ record { name = codes "u3"; kind = Fprobe true true; regs = true; ipmodify = None; pid = true; act = None } ∷ []; frames = 2; tramps = 1; quanta = 3 ∷ []; tasks = record { pid = 10; cpu = 0; acts = Call (record { 0 = 0 }) ∷ Call (record { 0 = 0 }) ∷ Call (record { 0 = 0 }) ∷ RetAct ∷ After 1 ∷ RetAct ∷ RetAct ∷ After 2 ∷ [] } ∷ record { pid = 11; cpu = 0; acts = Raise Irq ∷ Raise Nmi ∷ Call (record { 0 = 0 }) ∷ Call (record { 0 = 0 }) ∷ RetAct ∷ RetAct ∷ Lower ∷ Lower ∷ [] } ∷ record { pid = 12; cpu = 0; acts = After 1 ∷ After 1 ∷ Call (record { 0 = 0 }) ∷ Call (record { 0 = 0 }) ∷ Call (record { 0 = 0 }) ∷ Call (record { 0 = 0 }) ∷ Call (record { 0 = 0 }) ∷ RetAct ∷ RetAct ∷ RetAct ∷ RetAct ∷ RetAct ∷ [] } ∷ []; ctls = Run (Disable 2) ∷ Run (Register 1) ∷ []; schedule = record { who = OfCpu (record { 0 = 0 }); count = 16 } ∷ record { who = OfCpu (record { 0 = 0 }); count = 7 } ∷ record { who = OfControl; count = 9 } ∷ record { who = OfControl; count = 2 } ∷ record { who = OfCpu (record { 0 = 0 }); count = 3 } ∷ record { who = OfControl; count = 7 } ∷ record { who = OfCpu (record { 0 = 0 }); count = 12 } ∷ record { who = OfCpu (record { 0 = 0 }); count = 16 } ∷ record { who = OfControl; count = 9 } ∷ record { who = OfCpu (record { 0 = 0 }); count = 10 } ∷ record { who = OfControl; count = 8 } ∷ record { who = OfControl; count = 4 } ∷ record { who = OfCpu (record { 0 = 0 }); count = 7 } ∷ record { who = OfControl; count = 11 } ∷ record { who = OfControl; count = 5 } ∷ record { who = OfControl; count = 18 } ∷ record { who = OfCpu (record { 0 = 0 }); count = 17 } ∷ record { who = OfCpu (record { 0 = 0 }); count = 4 } ∷ record { who = All; count = 300 } ∷ [] }
+job_91 = record { version = 1; functions = named (codes "a") None ∷ []; users = record { name = codes "u0"; kind = Fprobe true true; regs = false; ipmodify = None; pid = false; act = Some (IrqIn (record { 0 = 0 })) } ∷ record { name = codes "u1"; kind = Fprobe true true; regs = true; ipmodify = None; pid = true; act = None } ∷ record { name = codes "u2"; kind = Fprobe true true; regs = false; ipmodify = None; pid = false; act = None } ∷ record { name = codes "u3"; kind = Fprobe true true; regs = true; ipmodify = None; pid = true; act = None } ∷ []; frames = 2; tramps = 1; quanta = 3 ∷ []; tasks = record { pid = 10; cpu = 0; acts = Call (record { 0 = 0 }) ∷ Call (record { 0 = 0 }) ∷ Call (record { 0 = 0 }) ∷ RetAct ∷ After 1 ∷ RetAct ∷ RetAct ∷ After 2 ∷ [] } ∷ record { pid = 11; cpu = 0; acts = Raise Irq ∷ Raise Nmi ∷ Call (record { 0 = 0 }) ∷ Call (record { 0 = 0 }) ∷ RetAct ∷ RetAct ∷ Lower ∷ Lower ∷ [] } ∷ record { pid = 12; cpu = 0; acts = After 1 ∷ After 1 ∷ Call (record { 0 = 0 }) ∷ Call (record { 0 = 0 }) ∷ Call (record { 0 = 0 }) ∷ Call (record { 0 = 0 }) ∷ Call (record { 0 = 0 }) ∷ RetAct ∷ RetAct ∷ RetAct ∷ RetAct ∷ RetAct ∷ [] } ∷ []; ctls = Run (Disable 2) ∷ Run (Register 1) ∷ []; lines = usual_lines; rings = usual_rings; schedule = record { who = OfCpu (record { 0 = 0 }); count = 16 } ∷ record { who = OfCpu (record { 0 = 0 }); count = 7 } ∷ record { who = OfControl; count = 9 } ∷ record { who = OfControl; count = 2 } ∷ record { who = OfCpu (record { 0 = 0 }); count = 3 } ∷ record { who = OfControl; count = 7 } ∷ record { who = OfCpu (record { 0 = 0 }); count = 12 } ∷ record { who = OfCpu (record { 0 = 0 }); count = 16 } ∷ record { who = OfControl; count = 9 } ∷ record { who = OfCpu (record { 0 = 0 }); count = 10 } ∷ record { who = OfControl; count = 8 } ∷ record { who = OfControl; count = 4 } ∷ record { who = OfCpu (record { 0 = 0 }); count = 7 } ∷ record { who = OfControl; count = 11 } ∷ record { who = OfControl; count = 5 } ∷ record { who = OfControl; count = 18 } ∷ record { who = OfCpu (record { 0 = 0 }); count = 17 } ∷ record { who = OfCpu (record { 0 = 0 }); count = 4 } ∷ record { who = All; count = 300 } ∷ [] }
 
 abbrev pub job_91-items : List Item
 job_91-items = Enter (call_in 0 1) Normal (record { 0 = 0 }) None ∷ Body (call_in 0 1) (record { 0 = 0 }) Nop ∷ Enter (call_in 1 1) Nmi (record { 0 = 0 }) None ∷ Enter (call_in 0 2) Normal (record { 0 = 0 }) (Some (call_in 0 1)) ∷ Body (call_in 1 1) (record { 0 = 0 }) Nop ∷ Begin 1 ∷ Return 1 NotThere ∷ Begin 2 ∷ Body (call_in 0 2) (record { 0 = 0 }) Nop ∷ Enter (call_in 1 2) Nmi (record { 0 = 0 }) (Some (call_in 1 1)) ∷ Enter (call_in 0 3) Normal (record { 0 = 0 }) (Some (call_in 0 2)) ∷ Enter (call_in 2 1) Normal (record { 0 = 0 }) None ∷ Back (call_in 1 2) (record { 0 = 1 }) ∷ BackEnd (call_in 1 2) (record { 0 = 1 }) ∷ Body (call_in 1 2) (record { 0 = 0 }) (Own (record { 0 = 1 })) ∷ Back (call_in 0 3) (record { 0 = 1 }) ∷ BackEnd (call_in 0 3) (record { 0 = 1 }) ∷ Body (call_in 0 3) (record { 0 = 0 }) (Own (record { 0 = 1 })) ∷ Back (call_in 2 1) (record { 0 = 1 }) ∷ BackEnd (call_in 2 1) (record { 0 = 1 }) ∷ Body (call_in 2 1) (record { 0 = 0 }) (Own (record { 0 = 1 })) ∷ Return 2 Accepted ∷ Leave (call_in 1 2) ∷ Ret (call_in 1 2) (Some (call_in 1 1)) ∷ Enter (call_in 2 2) Normal (record { 0 = 0 }) (Some (call_in 2 1)) ∷ Leave (call_in 0 3) ∷ Ret (call_in 0 3) (Some (call_in 0 2)) ∷ Leave (call_in 1 1) ∷ Ret (call_in 1 1) None ∷ Back (call_in 2 2) (record { 0 = 1 }) ∷ BackEnd (call_in 2 2) (record { 0 = 1 }) ∷ Body (call_in 2 2) (record { 0 = 0 }) (Own (record { 0 = 1 })) ∷ Leave (call_in 0 2) ∷ Ret (call_in 0 2) (Some (call_in 0 1)) ∷ Enter (call_in 2 3) Normal (record { 0 = 0 }) (Some (call_in 2 2)) ∷ Leave (call_in 0 1) ∷ Ret (call_in 0 1) None ∷ Back (call_in 2 3) (record { 0 = 1 }) ∷ BackEnd (call_in 2 3) (record { 0 = 1 }) ∷ Body (call_in 2 3) (record { 0 = 0 }) (Own (record { 0 = 1 })) ∷ Enter (call_in 2 4) Normal (record { 0 = 0 }) (Some (call_in 2 3)) ∷ Back (call_in 2 4) (record { 0 = 1 }) ∷ BackEnd (call_in 2 4) (record { 0 = 1 }) ∷ Body (call_in 2 4) (record { 0 = 0 }) (Own (record { 0 = 1 })) ∷ Enter (call_in 2 5) Normal (record { 0 = 0 }) (Some (call_in 2 4)) ∷ Back (call_in 2 5) (record { 0 = 1 }) ∷ BackEnd (call_in 2 5) (record { 0 = 1 }) ∷ Body (call_in 2 5) (record { 0 = 0 }) (Own (record { 0 = 1 })) ∷ Leave (call_in 2 5) ∷ Ret (call_in 2 5) (Some (call_in 2 4)) ∷ Leave (call_in 2 4) ∷ Ret (call_in 2 4) (Some (call_in 2 3)) ∷ Leave (call_in 2 3) ∷ Ret (call_in 2 3) (Some (call_in 2 2)) ∷ Leave (call_in 2 2) ∷ Ret (call_in 2 2) (Some (call_in 2 1)) ∷ Leave (call_in 2 1) ∷ Ret (call_in 2 1) None ∷ []
@@ -513,7 +513,7 @@ unfolding actors_of repeated start step run played play all_end control_next con
 job_91-plays = (refl, refl)
 
 abbrev pub job_93 : Job
-job_93 = record { functions = named (codes "a") (Some (codes "m")) ∷ named (codes "b") None ∷ named (codes "c") None ∷ named (codes "d") (Some (codes "m")) ∷ []; users = record { name = codes "u0"; kind = Function; regs = false; ipmodify = None; pid = false; act = None } ∷ record { name = codes "u1"; kind = Fprobe true false; regs = true; ipmodify = None; pid = false; act = None } ∷ record { name = codes "u2"; kind = Fprobe false false; regs = true; ipmodify = None; pid = false; act = Some (IrqIn (record { 0 = 0 })) } ∷ record { name = codes "u3"; kind = Function; regs = false; ipmodify = None; pid = true; act = Some (IrqIn (record { 0 = 0 })) } ∷ []; frames = 2; tramps = 0; quanta = 1 ∷ []; tasks = record { pid = 10; cpu = 0; acts = Raise Softirq ∷ Raise Irq ∷ Raise Nmi ∷ Lower ∷ Lower ∷ Lower ∷ [] } ∷ record { pid = 11; cpu = 0; acts = Raise Nmi ∷ Call (record { 0 = 0 }) ∷ Call (record { 0 = 0 }) ∷ Call (record { 0 = 3 }) ∷ Call (record { 0 = 3 }) ∷ After 1 ∷ RetAct ∷ RetAct ∷ RetAct ∷ RetAct ∷ Lower ∷ [] } ∷ []; ctls = Run (Register 1) ∷ Until 0 6 ∷ Run (NoPid (true ∷ true ∷ [])) ∷ Run (Unregister 1) ∷ []; schedule = record { who = OfCpu (record { 0 = 0 }); count = 2 } ∷ record { who = OfControl; count = 2 } ∷ record { who = OfCpu (record { 0 = 0 }); count = 1 } ∷ record { who = OfControl; count = 3 } ∷ record { who = OfControl; count = 2 } ∷ record { who = OfControl; count = 3 } ∷ record { who = OfControl; count = 2 } ∷ record { who = OfControl; count = 1 } ∷ record { who = OfCpu (record { 0 = 0 }); count = 3 } ∷ record { who = All; count = 300 } ∷ [] }
+job_93 = record { version = 1; functions = named (codes "a") (Some (codes "m")) ∷ named (codes "b") None ∷ named (codes "c") None ∷ named (codes "d") (Some (codes "m")) ∷ []; users = record { name = codes "u0"; kind = Function; regs = false; ipmodify = None; pid = false; act = None } ∷ record { name = codes "u1"; kind = Fprobe true false; regs = true; ipmodify = None; pid = false; act = None } ∷ record { name = codes "u2"; kind = Fprobe false false; regs = true; ipmodify = None; pid = false; act = Some (IrqIn (record { 0 = 0 })) } ∷ record { name = codes "u3"; kind = Function; regs = false; ipmodify = None; pid = true; act = Some (IrqIn (record { 0 = 0 })) } ∷ []; frames = 2; tramps = 0; quanta = 1 ∷ []; tasks = record { pid = 10; cpu = 0; acts = Raise Softirq ∷ Raise Irq ∷ Raise Nmi ∷ Lower ∷ Lower ∷ Lower ∷ [] } ∷ record { pid = 11; cpu = 0; acts = Raise Nmi ∷ Call (record { 0 = 0 }) ∷ Call (record { 0 = 0 }) ∷ Call (record { 0 = 3 }) ∷ Call (record { 0 = 3 }) ∷ After 1 ∷ RetAct ∷ RetAct ∷ RetAct ∷ RetAct ∷ Lower ∷ [] } ∷ []; ctls = Run (Register 1) ∷ Until 0 6 ∷ Run (NoPid (true ∷ true ∷ [])) ∷ Run (Unregister 1) ∷ []; lines = usual_lines; rings = usual_rings; schedule = record { who = OfCpu (record { 0 = 0 }); count = 2 } ∷ record { who = OfControl; count = 2 } ∷ record { who = OfCpu (record { 0 = 0 }); count = 1 } ∷ record { who = OfControl; count = 3 } ∷ record { who = OfControl; count = 2 } ∷ record { who = OfControl; count = 3 } ∷ record { who = OfControl; count = 2 } ∷ record { who = OfControl; count = 1 } ∷ record { who = OfCpu (record { 0 = 0 }); count = 3 } ∷ record { who = All; count = 300 } ∷ [] }
 
 abbrev pub job_93-items : List Item
 job_93-items = Begin 1 ∷ Enter (call_in 1 1) Nmi (record { 0 = 0 }) None ∷ Back (call_in 1 1) (record { 0 = 1 }) ∷ BackEnd (call_in 1 1) (record { 0 = 1 }) ∷ Body (call_in 1 1) (record { 0 = 0 }) ByList ∷ Return 1 Accepted ∷ Enter (call_in 1 2) Nmi (record { 0 = 0 }) (Some (call_in 1 1)) ∷ Begin 2 ∷ Back (call_in 1 2) (record { 0 = 1 }) ∷ BackEnd (call_in 1 2) (record { 0 = 1 }) ∷ Body (call_in 1 2) (record { 0 = 0 }) ByList ∷ Enter (call_in 1 3) Nmi (record { 0 = 3 }) (Some (call_in 1 2)) ∷ Return 2 Accepted ∷ Begin 3 ∷ Body (call_in 1 3) (record { 0 = 3 }) ByList ∷ Enter (call_in 1 4) Nmi (record { 0 = 3 }) (Some (call_in 1 3)) ∷ Body (call_in 1 4) (record { 0 = 3 }) ByList ∷ Leave (call_in 1 4) ∷ Ret (call_in 1 4) (Some (call_in 1 3)) ∷ Leave (call_in 1 3) ∷ Ret (call_in 1 3) (Some (call_in 1 2)) ∷ Leave (call_in 1 2) ∷ Ret (call_in 1 2) (Some (call_in 1 1)) ∷ Leave (call_in 1 1) ∷ Ret (call_in 1 1) None ∷ Return 3 Accepted ∷ []
