@@ -11,7 +11,7 @@ ghost use Rattle.hash_pages.specs.Pages.{page_next};
 use filter_hash::HashPair;
 use ft_base::{Half, UserNo};
 use std::marker::Model;
-use word_map::{Op, WordMap};
+use word_map::{Op, SET_WORDS, WordMap};
 
 /// The writing of a user's sets into one of its two copies, and of the state that names this copy.
 /// The caller sees to it that the state doesn't name this copy yet, and that no CPU reads it any more. A
@@ -92,7 +92,7 @@ impl PageWriter {
     /// How many words a set has.
     fn words(&self) -> u32
         ensures words { result ≡ words_for self.now.shape.funcs }
-        ensures few { result ≤ 16 }
+        ensures few { result ≤ SET_WORDS }
     {
         self.map.shape().funcs.div_ceil(64)
     }

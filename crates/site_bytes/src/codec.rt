@@ -1,11 +1,11 @@
 //! From instructions to bytes and back.
 
-ghost use Rattle.std.specs.Prelude.{◌≡◌, ◌≢◌, ◌<◌, ◌∷◌, IfSome, IfNone};
+ghost use Rattle.std.specs.Prelude.{◌≡◌, ◌≢◌, ◌<◌, ◌∷◌, ℕ, IfSome, IfNone};
 ghost use Rattle.site_bytes.specs.declared.insn.Insn.{Insn};
-ghost use Rattle.site_bytes.specs.Bytes.{bytes_of, four_bytes, head_byte, tail_number, IsInsn};
+ghost use Rattle.site_bytes.specs.Bytes.{bytes_of, four_bytes, head_byte, tail_number, trampoline_at, IsInsn};
 
 use crate::insn::Insn;
-use ft_base::limits::{TABLE_FUNCS, TRAMPS};
+use ft_base::limits::{FUNCS, TRAMPS};
 use ft_base::{FuncNo, function_address};
 
 /// The head of a call site that is being patched: the breakpoint instruction, `INT3`.
@@ -27,7 +27,7 @@ const LIST_CALLER: u32 = 0x0F_0000;
 const FIRST_TRAMPOLINE: u32 = 0x10_0000;
 
 /// The bytes from the address of a trampoline to that of the next.
-const TRAMPOLINE_STEP: u32 = 256;
+pub const TRAMPOLINE_STEP: u32 = 256;
 
 /// The bytes of a call site.
 const SITE_BYTES: u32 = 5;
@@ -45,7 +45,7 @@ pub fn head_of(insn: Insn) -> u8
 /// The tail of an instruction of function `f`: its other four bytes as one number, the lowest byte
 /// first.
 pub fn tail_of(f: FuncNo, insn: Insn) -> u32
-    requires func { f.0 < TABLE_FUNCS }
+    requires func { f.0 < FUNCS }
     requires slot { IsInsn insn }
     ensures { result ≡ tail_number f.0 insn }
 {
@@ -68,7 +68,7 @@ pub fn join(head: u8, tail: u32) -> [u8; 5]
 
 /// The bytes of an instruction of function `f`.
 pub fn encode(f: FuncNo, insn: Insn) -> [u8; 5]
-    requires func { f.0 < TABLE_FUNCS }
+    requires func { f.0 < FUNCS }
     requires slot { IsInsn insn }
     ensures { result ≡ bytes_of f.0 insn }
 {
@@ -79,20 +79,42 @@ pub fn encode(f: FuncNo, insn: Insn) -> [u8; 5]
 /// breakpoint, with any other head, and at a call of what is neither the list caller nor the
 /// trampoline of a slot.
 pub fn decode(f: FuncNo, bytes: [u8; 5]) -> Option<Insn>
-    requires { f.0 < TABLE_FUNCS }
+    requires { f.0 < FUNCS }
     ensures some { IfSome result (λ insn. IsInsn insn × (bytes_of f.0 insn ≡ bytes)) }
     ensures none { IfNone result ((insn : Insn) → IsInsn insn → bytes_of f.0 insn ≢ bytes) }
 {
-    if bytes == encode(f, Insn::Nop) {
-        return Some(Insn::Nop);
+    let [head, b0, b1, b2, b3] = bytes;
+    let tail = u32::from_le_bytes([b0, b1, b2, b3]);
+    match head {
+        NOP_HEAD if tail == NOP_TAIL => Some(Insn::Nop),
+        CALL_HEAD => called(f, tail),
+        _ => None,
     }
-    if bytes == encode(f, Insn::List) {
-        return Some(Insn::List);
+}
+
+/// The instruction of function `f` that is a call with this tail.
+fn called(f: FuncNo, tail: u32) -> Option<Insn>
+    requires { f.0 < FUNCS }
+    ensures some { IfSome result (λ insn. IsInsn insn × (head_byte insn ≡ CALL_HEAD) × (tail_number f.0 insn ≡ tail)) }
+    ensures none { IfNone result ((insn : Insn) → IsInsn insn → head_byte insn ≡ CALL_HEAD → tail_number f.0 insn ≢ tail) }
+{
+    let target = (function_address(f) + SITE_BYTES).checked_add(tail)?;
+    match target {
+        LIST_CALLER => Some(Insn::List),
+        _ => Some(Insn::Own(slot_at(target)?)),
     }
-    for slot in 0..TRAMPS as u8 {
-        if bytes == encode(f, Insn::Own(slot)) {
-            return Some(Insn::Own(slot));
-        }
+}
+
+/// The slot whose trampoline is at this address.
+fn slot_at(address: u32) -> Option<u8>
+    ensures some { IfSome result (λ slot. (slot < TRAMPS) × (trampoline_at slot ≡ address)) }
+    ensures none { IfNone result ((slot : ℕ) → slot < TRAMPS → trampoline_at slot ≢ address) }
+{
+    let offset = address.checked_sub(FIRST_TRAMPOLINE)?;
+    let slot = offset / TRAMPOLINE_STEP;
+    if offset % TRAMPOLINE_STEP == 0 && slot < TRAMPS {
+        Some(slot as u8)
+    } else {
+        None
     }
-    None
 }

@@ -7,11 +7,11 @@ ghost use Rattle.site_bytes.specs.Bytes.{breakpoint, bytes_of, four_bytes, head_
 use crate::codec::{BREAKPOINT, decode, encode};
 use crate::insn::Insn;
 use ft_base::FuncNo;
-use ft_base::limits::TABLE_FUNCS;
+use ft_base::limits::FUNCS;
 
 /// Decoding an instruction's bytes gives the instruction back.
 pub fn decodes_what_it_encodes(f: FuncNo, insn: Insn) -> Option<Insn>
-    requires func { f.0 < TABLE_FUNCS }
+    requires func { f.0 < FUNCS }
     requires slot { IsInsn insn }
     ensures { result ≡ Some insn }
 {
@@ -20,7 +20,7 @@ pub fn decodes_what_it_encodes(f: FuncNo, insn: Insn) -> Option<Insn>
 
 /// Two instructions of a function have different bytes.
 pub fn differs_by_instruction()
-    ensures { (f : ℕ) (one other : Insn) → f < TABLE_FUNCS → IsInsn one → IsInsn other
+    ensures { (f : ℕ) (one other : Insn) → f < FUNCS → IsInsn one → IsInsn other
         → bytes_of f one ≡ bytes_of f other → one ≡ other }
 {}
 

@@ -15,7 +15,7 @@ mod codec;
 mod insn;
 mod laws;
 
-pub use codec::{BREAKPOINT, decode, encode, head_of, join, tail_of};
+pub use codec::{BREAKPOINT, TRAMPOLINE_STEP, decode, encode, head_of, join, tail_of};
 pub use insn::{Insn, SiteChange};
 pub use laws::{
     breakpoint_is_no_head, decodes_what_it_encodes, differs_by_instruction,

@@ -4,6 +4,7 @@ use Rattle.ft_base.specs.declared.item.Ran.{Ran}
 use Rattle.ft_base.specs.declared.item.Ran.TheVariants.{Nop as RanNop, List as RanList, Own as RanOwn}
 use Rattle.ft_base.specs.Desk.{Desk, user_at, target}
 use Rattle.site_bytes.specs.Bytes.{head_byte, tail_number}
+use Rattle.site_bytes.specs.declared.codec.TheConstants.{TRAMPOLINE_STEP}
 use Rattle.site_bytes.specs.declared.insn.Insn.{Insn}
 use Rattle.site_bytes.specs.declared.insn.Insn.TheVariants.{Nop, List as CallList, Own}
 
@@ -52,4 +53,4 @@ tail_of f i = tail_number f (insn_numbered i)
 
 -- the instruction at function f that has these bytes, if one has. That it is the one, `each_value_fits` says
 abbrev pub decode : ℕ → ℕ → ℕ → ℕ
-decode f byte tail = if byte == 15 then 0 else (if tail == tail_of f 1 then 1 else 2 + (tail - tail_of f 2) / 256)
+decode f byte tail = if byte == head_of 0 then 0 else (if tail == tail_of f 1 then 1 else 2 + (tail - tail_of f 2) / TRAMPOLINE_STEP)

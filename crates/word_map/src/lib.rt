@@ -17,6 +17,6 @@ mod map;
 mod op;
 mod shape;
 
-pub use map::WordMap;
+pub use map::{SET_WORDS, WordMap};
 pub use op::Op;
 pub use shape::Shape;

@@ -6,6 +6,7 @@ ghost use Rattle.word_map.specs.Shapes.{IsShape};
 ghost use Rattle.word_map.specs.Places.{half_number, len, place, words_for, IsOpening};
 
 use crate::shape::Shape;
+use ft_base::limits::FUNCS;
 use ft_base::{CpuNo, FuncNo, Half, NoMemory, TaskNo, UserNo};
 use site_bytes::{Insn, head_of, tail_of};
 use std::alloc::Global;
@@ -35,6 +36,9 @@ impl Model for WordMap {
 /// The words that there is one of: the clock, the request, the first user, the traced tasks, the
 /// graph depth.
 const SINGLE_WORDS: u32 = 5;
+
+/// The most words that a set has.
+pub const SET_WORDS: u32 = FUNCS / 64;
 
 impl WordMap {
     /// The map of a shape, which is within the limits.
@@ -249,7 +253,7 @@ impl WordMap {
     // How many words a set has.
     fn set_words(&self) -> u32
         ensures words { result ≡ words_for self.now.funcs }
-        ensures few { result ≤ 16 }
+        ensures few { result ≤ SET_WORDS }
     {
         self.shape.funcs.div_ceil(64)
     }
