@@ -21,27 +21,12 @@ use Rattle.word_map.specs.Instructions.{insn_at, insn_of, insn_of_slot}
 use Rattle.ops_list.specs.Names.{IsUserIn}
 use Rattle.patch_core.specs.Moves.{IsChange, IsInsnIn}
 use Rattle.word_machine.proofs.Small.{lowest_case}
-use Rattle.ft_desk.specs.declared.command.Command.{Command as Code}
-use Rattle.ft_desk.specs.declared.command.Command.TheVariants as code
-use Rattle.ft_desk.specs.Commands.{IsInShape, command_of}
-use Rattle.ft_desk.specs.Declarations.{Declared, job_of}
+use Rattle.ft_desk.specs.Declarations.{job_of}
 use Rattle.ft_desk.specs.Plans.{copies_after, edit_plan, first_of, given_by, no_plan, plan_by, sites_between, taken_by, user_after, user_before, user_no}
 use Rattle.ft_desk.specs.Seen.{Seen, after_command, answer, carried_out, turned_down}
 use Rattle.ft_desk.specs.Sites.{changed_sites, same_insn}
 use Rattle.ft_desk.proofs.ClaimLaws.{funcs-is}
 use Rattle.control_core.specs.Plans.{IsDeskIn, IsPlanIn, IsTrampIn}
-
--- the user of a command in the shape is declared
-pub named-in : (d : Declared) (x : Code) → IsInShape d x → IsNamed (job_of d) (command_of d.tasks x)
-named-in d (code.Register u) h = h
-named-in d (code.Unregister u) h = h
-named-in d (code.Filter u e) h = h.0
-named-in d (code.Notrace u e) h = h.0
-named-in d (code.Pid mask) h = tt
-named-in d (code.NoPid mask) h = tt
-named-in d (code.Enable u) h = h
-named-in d (code.Disable u) h = h
-named-in d (code.MaxDepth depth) h = tt
 
 -- ## states
 

@@ -11,7 +11,7 @@ use Rattle.control_core.specs.declared.phase.Phase.TheVariants as phase
 use Rattle.control_core.specs.declared.control.Control.TheInside.{Inside}
 use Rattle.control_core.specs.Phases.{batch_to, list_to}
 use Rattle.control_core.specs.Seated.{Seated}
-use Rattle.control_core.specs.Kept.{HasLeft, IsKept, asked, asked_by, busy, moves, seated_of}
+use Rattle.control_core.specs.Kept.{HasLeft, IsKept, asked, asked_by, busy, moves, seated_of, requests_of_line}
 use Rattle.std.specs.Prelude.{is_some}
 use Rattle.control_core.specs.Steps.{page_after, write_next}
 use Rattle.control_core.proofs.Pages.{has-left}
@@ -19,7 +19,7 @@ use Rattle.control_core.proofs.Safe.{Goes, in-phase, batch-goes, list-goes, with
 
 -- in another phase, and so many moves of the batch made
 pub go : (d : Inside) (b : Batched) (p : Phase) → IsKept d → busy d.phase ≡ 1 → b.shape ≡ d.map → b.made ≤ moves
-    → Goes (with_made (seated_of d) b.made) p → d.request ≤ 8192 * d.line + b.made + asked p → IsKept (record d { batch = b; phase = p })
+    → Goes (with_made (seated_of d) b.made) p → d.request ≤ requests_of_line * d.line + b.made + asked p → IsKept (record d { batch = b; phase = p })
 go d b p k busy-is shape made g r = record {
   safe = in-phase (seated_of d) b.made p k.safe busy-is made g r;
   lines = k.lines;
@@ -57,7 +57,7 @@ batch-go d b p plan k busy-is lt eb ep e =
     let goes : Goes (with_made (seated_of d) b.made) p = subst (Goes (with_made (seated_of d) b.made))
     (sym (e ∙ ap (λ (q : PlainPlan). batch_to d.map q b.made d.request) ep))
     (batch-goes (with_made (seated_of d) b.made) d.request k.safe.plan.few) in
-    let few : d.request ≤ 8192 * d.line + d.batch.made + asked d.phase = k.safe.requests in
+    let few : d.request ≤ requests_of_line * d.line + d.batch.made + asked d.phase = k.safe.requests in
     let one : asked d.phase ≤ 1 = asked-one d.phase in
     go d b p k busy-is (shape-is ∙ k.batch) (omega arith) goes (omega arith)
 
@@ -68,7 +68,7 @@ list-go d p plan k busy-is asked-is ep e =
     let goes : Goes (seated_of d) p = subst (Goes (seated_of d))
     (sym (e ∙ ap (λ (q : PlainPlan). list_to d.map q d.batch.made d.request) ep))
     (list-goes (seated_of d) d.request k.safe.plan.few) in
-    let few : d.request ≤ 8192 * d.line + d.batch.made + asked d.phase = k.safe.requests in
+    let few : d.request ≤ requests_of_line * d.line + d.batch.made + asked d.phase = k.safe.requests in
     go d d.batch p k busy-is k.batch k.safe.moved goes (omega arith)
 
 pub patch-go : (d : Inside) (p : Phase) (plan : PlainPlan) → IsKept d → busy d.phase ≡ 1 → asked d.phase ≡ 0
@@ -77,7 +77,7 @@ patch-go d p plan k busy-is asked-is ep e =
     let goes : Goes (seated_of d) p = subst (Goes (seated_of d))
     (sym (e ∙ ap (λ (q : PlainPlan). batch_to d.map q d.batch.made d.request) ep))
     (batch-goes (seated_of d) d.request k.safe.plan.few) in
-    let few : d.request ≤ 8192 * d.line + d.batch.made + asked d.phase = k.safe.requests in
+    let few : d.request ≤ requests_of_line * d.line + d.batch.made + asked d.phase = k.safe.requests in
     go d d.batch p k busy-is k.batch k.safe.moved goes (omega arith)
 
 -- the fields of control that is seen so
@@ -104,7 +104,7 @@ pub page-go : (d : Inside) (page next : Page) → IsKept d → d.phase ≡ phase
     → is_some (write_next d.desk.state next d.desk.plan.user) ≡ true → IsKept (record d { phase = phase.Writing next })
 page-go d page next k at' e test =
     let left : (page.shape ≡ d.map) × (page.stored ≤ 2 * words_for page.shape.funcs) = subst (HasLeft (seated_of d)) at' k.safe.left in
-    let few : d.request ≤ 8192 * d.line + d.batch.made + asked d.phase = k.safe.requests in
+    let few : d.request ≤ requests_of_line * d.line + d.batch.made + asked d.phase = k.safe.requests in
     let none : asked d.phase ≡ 0 = ap asked at' in
     go d d.batch (phase.Writing next) k (ap busy at') k.batch k.safe.moved
     (record { begun = refl; left = (ap (λ (p : Page). p.shape) e ∙ left.0, has-left d.desk.state next d.desk.plan.user test) })

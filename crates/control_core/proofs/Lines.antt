@@ -28,9 +28,9 @@ use Rattle.control_core.specs.Lines.{IsLineIn}
 use Rattle.control_core.specs.Plans.{IsDeskIn, IsPlanIn}
 use Rattle.control_core.specs.Phases.{begin_to}
 use Rattle.control_core.specs.Seated.{Seated}
-use Rattle.control_core.specs.Kept.{IsKept, asked, busy, seated_of}
+use Rattle.control_core.specs.Kept.{IsKept, asked, busy, seated_of, requests_of_line}
 use Rattle.control_core.specs.Steps.{line_after, marked}
-use Rattle.control_core.proofs.DeskIn.{commands-after, declared-after, desk-after, named-in, plan-after}
+use Rattle.control_core.proofs.DeskIn.{commands-after, declared-after, desk-after, plan-after}
 use Rattle.control_core.proofs.Safe.{Goes, begin-goes}
 
 -- ## the present line
@@ -70,7 +70,7 @@ module _ (d : Inside) (k : IsKept d) where
     tasks-same = k.safe.desk.declared.tasks
 
     named : IsNamed (job_of d.desk.declared) (command_of d.desk.declared.tasks x)
-    named = named-in d.desk.declared x (run-in x e)
+    named = (run-in x e).0
 
     pub run-plan : (next : Seen) (plan : PlainPlan) → next ≡ after_command d.desk (command_of d.desk.declared.tasks x) → plan ≡ next.plan
         → IsPlanIn d.map plan
@@ -92,7 +92,7 @@ module _ (d : Inside) (k : IsKept d) where
         let count : length c.lines ≡ length d.lines.items = length-map d.lines.items (ctl_of d.map.tasks) in
         let numbered : next.commands ≡ suc d.desk.commands = ap (λ (t : Seen). t.commands) n ∙ commands-after d.map d.desk (command_of d.desk.declared.tasks x) in
         let old-numbered : d.desk.commands ≡ d.commands_done + busy d.phase = k.safe.numbered in
-        let few : d.request ≤ 8192 * d.line + d.batch.made + asked d.phase = k.safe.requests in
+        let few : d.request ≤ requests_of_line * d.line + d.batch.made + asked d.phase = k.safe.requests in
         let room : vec_len d.items + 2 * vec_len d.lines ≤ vec_capacity d.items + 2 * d.line + busy d.phase = k.room in
         let begun : busy p ≡ 1 = g.begun in
         record {

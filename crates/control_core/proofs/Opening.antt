@@ -10,17 +10,15 @@ use Rattle.site_set.proofs.MarksLemmas.{length-empty}
 use Rattle.word_map.specs.declared.shape.Shape.{Shape}
 use Rattle.word_map.specs.Shapes.{IsShape}
 use Rattle.patch_core.specs.Moves.{Batched}
-use Rattle.ft_desk.specs.declared.command.Command.{Command as Code}
-use Rattle.ft_desk.specs.declared.command.Command.TheVariants as code
 use Rattle.ft_desk.specs.declared.command.Ctl.{Ctl}
 use Rattle.ft_desk.specs.declared.command.Ctl.TheVariants.{Run, Until}
-use Rattle.ft_desk.specs.Commands.{IsInShape, command_of, ctl_of}
+use Rattle.ft_desk.specs.Commands.{ctl_of}
 use Rattle.ft_desk.specs.Declarations.{Declared, job_of}
 use Rattle.ft_desk.specs.Seen.{Seen, opened}
 use Rattle.ft_desk.proofs.ClaimLaws.{funcs-is}
 use Rattle.control_core.specs.declared.phase.Phase.TheVariants as phase
 use Rattle.control_core.specs.declared.control.Control.TheInside.{Inside}
-use Rattle.control_core.specs.Lines.{IsLineIn, IsNamedIn, IsNamedLine, lines_of}
+use Rattle.control_core.specs.Lines.{IsLineIn, IsNamedLine, lines_of}
 use Rattle.control_core.specs.Plans.{IsDeclaredIn, IsDeskIn, IsPlanIn}
 use Rattle.control_core.specs.Kept.{HasLeft, IsKept, asked, busy, seated_of}
 use Rattle.control_core.proofs.DeskIn.{none-in}
@@ -45,24 +43,13 @@ opened-in shape d is = record {
 }
 
 -- the users of lines in the shape
-named-code : (d : Declared) (users tasks : ℕ) → length d.specs ≡ users → (x : Code) → IsInShape d x → IsNamedIn users (command_of tasks x)
-named-code d users tasks e (code.Register u) h = omega (arith, h, e)
-named-code d users tasks e (code.Unregister u) h = omega (arith, h, e)
-named-code d users tasks e (code.Filter u s) h = (let a = h.0 in omega (arith, a, e))
-named-code d users tasks e (code.Notrace u s) h = (let a = h.0 in omega (arith, a, e))
-named-code d users tasks e (code.Pid mask) h = tt
-named-code d users tasks e (code.NoPid mask) h = tt
-named-code d users tasks e (code.Enable u) h = omega (arith, h, e)
-named-code d users tasks e (code.Disable u) h = omega (arith, h, e)
-named-code d users tasks e (code.MaxDepth depth) h = tt
+named-line : (d : Declared) (l : Ctl) → IsLineIn d l → IsNamedLine (length d.specs) (ctl_of d.tasks l)
+named-line d (Run x) h = h.0
+named-line d (Until t n) h = tt
 
-named-line : (d : Declared) (users tasks : ℕ) → length d.specs ≡ users → (l : Ctl) → IsLineIn d l → IsNamedLine users (ctl_of tasks l)
-named-line d users tasks e (Run x) h = named-code d users tasks e x h
-named-line d users tasks e (Until t n) h = tt
-
-named-lines : (d : Declared) (users tasks : ℕ) → length d.specs ≡ users → (xs : List Ctl) → All (IsLineIn d) xs → All (IsNamedLine users) (lines_of tasks xs)
-named-lines d users tasks e xs all =
-    All-map (IsNamedLine users) (ctl_of tasks) xs (λ k y lt. named-line d users tasks e (get_or xs k y) (all k y lt))
+named-lines : (d : Declared) (xs : List Ctl) → All (IsLineIn d) xs → All (IsNamedLine (length d.specs)) (lines_of d.tasks xs)
+named-lines d xs all =
+    All-map (IsNamedLine (length d.specs)) (ctl_of d.tasks) xs (λ k y lt. named-line d (get_or xs k y) (all k y lt))
 
 -- before the first line
 pub opening-kept : (d : Inside) (xs : List Ctl) → IsShape d.map → d.desk ≡ opened d.desk.declared → IsDeclaredIn d.map d.desk.declared
@@ -87,7 +74,9 @@ opening-kept d xs shape dk dc bf ls len all few line done req batch ph none room
         counted = omega arith;
         within = omega arith;
         few = omega arith;
-        named = named-lines d.desk.declared d.map.users d.map.tasks dc.users d.lines.items all';
+        named = subst (λ n. All (IsNamedLine n) (lines_of d.map.tasks d.lines.items)) dc.users
+            (subst (λ n. All (IsNamedLine (length d.desk.declared.specs)) (lines_of n d.lines.items)) dc.tasks
+            (named-lines d.desk.declared d.lines.items all'));
         moved = omega arith;
         requests = omega arith;
         left = subst (HasLeft (seated_of d)) (sym ph) tt;

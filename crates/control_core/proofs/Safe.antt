@@ -14,7 +14,7 @@ use Rattle.ft_desk.specs.Plans.{PlainPlan}
 use Rattle.control_core.specs.declared.phase.Phase.{Phase}
 use Rattle.control_core.specs.Phases.{batch_to, begin_in, begin_to, list_in, list_to, move_to, number_to, quiet_to, release_in, store_in, store_to, write_to}
 use Rattle.control_core.specs.Seated.{Seated}
-use Rattle.control_core.specs.Kept.{HasLeft, IsSafe, asked, busy, moves}
+use Rattle.control_core.specs.Kept.{HasLeft, IsSafe, asked, busy, moves, requests_of_line}
 use Rattle.control_core.specs.Steps.{at_phase}
 
 -- a batch that is not done has a move left
@@ -38,7 +38,7 @@ with_made c made = record c { made = made }
 
 -- in another phase, after so many moves
 pub in-phase : (c : Seated) (made : ℕ) (p : Phase) → IsSafe c → busy c.phase ≡ 1 → made ≤ moves → Goes (with_made c made) p
-    → c.request ≤ 8192 * c.line + made + asked p → IsSafe (at_phase (with_made c made) p)
+    → c.request ≤ requests_of_line * c.line + made + asked p → IsSafe (at_phase (with_made c made) p)
 in-phase c made p s b m g r = record {
   shape = s.shape;
   desk = s.desk;

@@ -1,8 +1,8 @@
 -- In a command of the job: the plan, the desk, the list and the copies are the word machine's.
-use Rattle.std.proofs.Common.{◌≡◌, ℕ, zero, suc, List, [], ◌∷◌, length, drop, take, Some, None, refl, ap, ◌∙◌, subst, arith}
+use Rattle.std.proofs.Common.{◌≡◌, ℕ, zero, suc, List, [], ◌∷◌, length, drop, take, Some, None, refl, ap, ◌∙◌, subst}
 use Rattle.std.specs.Prelude.{All, slice_get}
 use Rattle.std.proofs.lemmas.Option.{get_or_from_slice_get, slice_get_within}
-use Rattle.ft_base.specs.Job.{Job, Command, Register, Unregister, Filter, Notrace, Pid, NoPid, Enable, Disable, MaxDepth, Ctl, Run, Until, commands_in}
+use Rattle.ft_base.specs.Job.{Job, Command, Ctl, Run, Until, commands_in}
 use Rattle.ft_base.specs.Desk.{desk}
 use Rattle.ft_base.specs.WellFormed.{IsNamed}
 use Rattle.word_map.specs.declared.shape.Shape.{Shape}
@@ -73,15 +73,7 @@ count-until (Until u m ∷ xs) (suc i) t n e = count-until xs i t n e
 
 -- the user of a command is one of the job's
 named-by : (job : Job) (users : ℕ) → users ≡ length job.users → (x : Command) → IsNamedIn users x → IsNamed job x
-named-by job users e (Register u) h = omega (arith, e, h)
-named-by job users e (Unregister u) h = omega (arith, e, h)
-named-by job users e (Filter u s) h = omega (arith, e, h)
-named-by job users e (Notrace u s) h = omega (arith, e, h)
-named-by job users e (Pid pids) h = tt
-named-by job users e (NoPid nopids) h = tt
-named-by job users e (Enable u) h = omega (arith, e, h)
-named-by job users e (Disable u) h = omega (arith, e, h)
-named-by job users e (MaxDepth depth) h = tt
+named-by job users e x h = subst (λ n. IsNamedIn n x) e h
 
 at-line : (users : ℕ) (xs : List Ctl) (i : ℕ) (y : Ctl) → All (IsNamedLine users) xs → slice_get xs i ≡ Some y → IsNamedLine users y
 at-line users xs i y all e = subst (IsNamedLine users) (get_or_from_slice_get xs i y y e) (all i y (slice_get_within xs i y e))

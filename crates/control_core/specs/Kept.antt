@@ -37,6 +37,10 @@ asked _ = 0
 abbrev pub moves : ℕ
 moves = 4 * FUNCS + 3
 
+-- at most so many requests are stored for a line: those of the moves, and that of the last wait
+abbrev pub requests_of_line : ℕ
+requests_of_line = moves + 1
+
 -- what a phase has is of the shape; a page has a store left, and a batch has a move left
 abbrev pub HasLeft : Seated → Phase → Type 0
 HasLeft c (phase.Writing page) = (page.shape ≡ c.shape) × (page.stored ≤ 2 * words_for page.shape.funcs)
@@ -58,7 +62,7 @@ pub record IsSafe (c : Seated) : Type 0 where
   pub few : length c.lines ≤ COMMANDS + UNTILS
   pub named : All (IsNamedLine c.shape.users) c.lines
   pub moved : c.made ≤ moves
-  pub requests : c.request ≤ 8192 * c.line + c.made + asked c.phase
+  pub requests : c.request ≤ requests_of_line * c.line + c.made + asked c.phase
   pub left : HasLeft c c.phase
 
 -- ## the fields

@@ -1,6 +1,6 @@
 -- Lines of control whose numbers are among those that a desk declares.
-use Rattle.std.specs.Prelude.{ℕ, ◌<◌, List, map}
-use Rattle.ft_base.specs.Job.{Command, Register, Unregister, Filter, Notrace, Pid, NoPid, Enable, Disable, MaxDepth, Ctl as PlainCtl, Run as PlainRun, Until as PlainUntil}
+use Rattle.std.specs.Prelude.{ℕ, ◌<◌, List, map, IfSome}
+use Rattle.ft_base.specs.Job.{Command, user_of, Ctl as PlainCtl, Run as PlainRun, Until as PlainUntil}
 use Rattle.ft_desk.specs.declared.command.Ctl.{Ctl}
 use Rattle.ft_desk.specs.declared.command.Ctl.TheVariants.{Run, Until}
 use Rattle.ft_desk.specs.Commands.{IsInShape, ctl_of}
@@ -22,15 +22,7 @@ lines_of tasks ctls = map (ctl_of tasks) ctls
 
 -- the user of a command is one of so many
 abbrev pub IsNamedIn : ℕ → Command → Type 0
-IsNamedIn users (Register u) = u < users
-IsNamedIn users (Unregister u) = u < users
-IsNamedIn users (Filter u e) = u < users
-IsNamedIn users (Notrace u e) = u < users
-IsNamedIn users (Enable u) = u < users
-IsNamedIn users (Disable u) = u < users
-IsNamedIn users (Pid pids) = Unit {0}
-IsNamedIn users (NoPid nopids) = Unit {0}
-IsNamedIn users (MaxDepth depth) = Unit {0}
+IsNamedIn users c = IfSome (user_of c) (λ u. u < users)
 
 abbrev pub IsNamedLine : ℕ → PlainCtl → Type 0
 IsNamedLine users (PlainRun x) = IsNamedIn users x

@@ -7,7 +7,7 @@ ghost use Rattle.return_stack.specs.Calls.{top_users, is_full};
 ghost use Rattle.fprobe.specs.Entry.{calls_after};
 
 use ft_base::UserNo;
-use ft_base::limits::BOUND_USERS;
+use ft_base::limits::USERS;
 use return_stack::Stacks;
 use user_specs::{Kind, Spec};
 
@@ -30,7 +30,7 @@ pub enum Probe {
 pub fn probe_entry(stacks: &mut Stacks, spec: &Spec, user: UserNo, reg: u32, entry: u32) -> Probe
     requires kind { is_fprobe spec.now.kind ≡ true }
     requires top { 0 < length stacks.old.calls }
-    requires room { ForSome (top_users stacks.old.calls) (λ users. length users < BOUND_USERS) }
+    requires room { ForSome (top_users stacks.old.calls) (λ users. length users < USERS) }
 
     ensures plain { (result ≡ Probe.Plain) ↔ (has_exit spec.now.kind ≡ false) }
     ensures missed { (result ≡ Probe.Missed) ↔ ((has_exit spec.now.kind ≡ true) × (is_full stacks.old ≡ true)) }

@@ -2,6 +2,7 @@
 use Rattle.std.proofs.Common.{cond, ◌≡◌, ℕ, suc, ◌<◌, ◌≤◌, Bool, List, length, set, get_or, is_some, refl, sym, ap, ap₂, ◌∙◌, subst, arith, inl, inr, length-set, get_or-set_same, get_or-set_other}
 use Rattle.std.proofs.lemmas.Bool.{cases_eq}
 use Rattle.std.proofs.lemmas.List.{get_or_read}
+use Rattle.ft_base.specs.declared.limits.TheConstants.{USERS}
 use Rattle.ft_base.specs.Marks.{Marks, holds, union, difference}
 use Rattle.ft_base.specs.Desk.{target}
 use Rattle.ipmodify.specs.declared.conflicts.Holder.{Holder}
@@ -49,7 +50,7 @@ module _ (r : Inside) (k : IsKept r) (users : List User) (f total : ℕ) (row : 
 
 module _ (r : Inside) (k : IsKept r) (u : ℕ) (y : User) (came left : Marks) (within : u < length r.users.items)
     (same : SameKind (user_of r.users.items u) y) (move : IsMove (length r.counts) (user_of r.users.items u) y came left) where
-  few : length r.users.items ≤ 16
+  few : length r.users.items ≤ USERS
   few = k.few
 
   -- the user may move

@@ -1,6 +1,7 @@
 -- A roster on which nobody was ever registered.
 use Rattle.std.proofs.Common.{◌≡◌, ℕ, zero, suc, ◌<◌, ◌≤◌, Bool, false, ◌&&◌, nat_lt, List, [], ◌∷◌, length, map, get_or, is_some, refl, sym, ap, ◌∙◌, subst, arith}
 use Rattle.std.proofs.lemmas.List.{length-map}
+use Rattle.ft_base.specs.declared.limits.TheConstants.{USERS}
 use Rattle.ft_base.specs.Marks.{holds, empty}
 use Rattle.ft_base.specs.Desk.{matches_by}
 use Rattle.ft_base.proofs.Small.{and-false}
@@ -32,7 +33,7 @@ module _ (n : ℕ) where
   new-at (s ∷ specs) zero h = (refl, refl)
   new-at (s ∷ specs) (suc u) h = new-at specs u (omega arith)
 
-  pub new-kept : (r : Inside) (specs : List Spec) → length specs ≤ 16 → r.users.items ≡ map (declared_as n) specs → length r.counts ≡ n
+  pub new-kept : (r : Inside) (specs : List Spec) → length specs ≤ USERS → r.users.items ≡ map (declared_as n) specs → length r.counts ≡ n
       → ((f : ℕ) → row_of r.counts f ≡ no_users) → length r.totals.items ≡ n → ((f : ℕ) → f < n → get_or r.totals.items f 0 ≡ 0)
       → length r.holders.items ≡ length specs → ((u : ℕ) → u < length specs → get_or r.holders.items u no_holder ≡ record { user = record { 0 = u }; on = empty n })
       → IsRoom n r.room → IsKept r

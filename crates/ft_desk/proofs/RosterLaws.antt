@@ -2,6 +2,7 @@
 use Rattle.std.proofs.Common.{cond, ◌≡◌, ℕ, zero, suc, ◌+◌, ◌-◌, ◌<◌, ◌≤◌, Bool, true, false, not, ◌&&◌, ◌||◌, nat_lt, List, length, set, is_some, refl, sym, ap, ap₂, ◌∙◌, subst, arith, inl, inr, length-set}
 use Rattle.std.proofs.lemmas.Bool.{cases_lt, lt-ltb, le-ltb}
 use Rattle.std.proofs.lemmas.List.{get_or_past}
+use Rattle.ft_base.specs.declared.limits.TheConstants.{USERS}
 use Rattle.ft_base.specs.Marks.{Marks, holds, union, difference}
 use Rattle.ft_base.proofs.Small.{false_true, and-false}
 use Rattle.ft_base.specs.declared.number.UserNo.{UserNo}
@@ -14,7 +15,7 @@ use Rattle.ft_desk.specs.declared.user.User.{User}
 use Rattle.word_map.specs.Instructions.{insn_at, insn_of_slot}
 use Rattle.ft_desk.specs.Users.{desk_by, insn_by, is_at, modifier_at, number_at, one_at, regs_at, row_by, sum_over, total_by, user_of}
 use Rattle.ft_desk.specs.Moves.{moved, moved_row, MayMove, TellsOne}
-use Rattle.ft_desk.proofs.SumLaws.{sum_over-set, sum_over-small, total-small, part-small, one-tells, insn-is, IsThere}
+use Rattle.ft_desk.proofs.SumLaws.{sum_over-set, sum_over-spare, total-small, part-small, one-tells, insn-is, IsThere}
 
 -- the user comes to a function, if it is there after the change and not before it
 abbrev pub comes_by : Bool → Bool → Bool
@@ -64,6 +65,11 @@ comes-apart true true h = refl
 comes-apart true false h = false_true h
 comes-apart false b h = refl
 
+comes-before : (a b : Bool) → comes_by a b ≡ true → a ≡ false
+comes-before true true h = false_true h
+comes-before true false h = false_true h
+comes-before false b h = refl
+
 leaves-before : (a b : Bool) → leaves_by a b ≡ true → a ≡ true
 leaves-before true b h = refl
 leaves-before false b h = false_true h
@@ -74,7 +80,7 @@ tells-one users f e =
     let t = one-tells f 0 users e in
     ((let y = t.1 in omega (arith, y)), (let y = t.1 in let z = t.2.0 in omega (arith, y, z)))
 
-module _ (users : List User) (u : ℕ) (y : User) (f : ℕ) (within : u < length users) (few : length users ≤ 16) (same : SameKind (user_of users u) y) where
+module _ (users : List User) (u : ℕ) (y : User) (f : ℕ) (within : u < length users) (few : length users ≤ USERS) (same : SameKind (user_of users u) y) where
   abbrev x : User
   x = user_of users u
 
@@ -116,11 +122,16 @@ module _ (users : List User) (u : ℕ) (y : User) (f : ℕ) (within : u < length
   pub row-moved : moved_row comes leaves y.regs (is_some y.ipmodify) (row_by users f) ≡ row_by (set users u y) f
   row-moved = row3-same _ _ _ _ _ _ count-moved regs-moved modifiers-moved
 
-  has_room : HasRoom (row_by users f)
-  has_room = record {
-    count = omega (arith, sum_over-small (one_at f) 0 users (one_at-small f));
-    regs = omega (arith, sum_over-small (regs_at f) 0 users (regs_at-small f));
-    ipmodify = omega (arith, sum_over-small (modifier_at f) 0 users (modifier_at-small f));
+  -- while the user is elsewhere, what is counted at the function is less than all users
+  spare : (g : ℕ → User → ℕ) → ((v : ℕ) (x : User) → g v x ≤ 1) → g u (user_of users u) ≡ 0 → sum_over g 0 users < length users
+  spare g small none = let e : u ≡ 0 + u = omega arith in
+      sum_over-spare g 0 u users small within (subst (λ k. g k (user_of users u) ≡ 0) e none)
+
+  has_room : is_at f (user_of users u) ≡ false → HasRoom (row_by users f)
+  has_room away = record {
+    count = omega (arith, spare (one_at f) (one_at-small f) (ap one_if away));
+    regs = omega (arith, spare (regs_at f) (regs_at-small f) (ap (λ b. one_if (b && (user_of users u).regs)) away));
+    ipmodify = omega (arith, spare (modifier_at f) (modifier_at-small f) (ap (λ b. one_if (b && is_some (user_of users u).ipmodify)) away));
   }
 
   has_user : is_at f (user_of users u) ≡ true → HasUser y.regs (is_some y.ipmodify) (row_by users f)
@@ -143,7 +154,7 @@ module _ (users : List User) (u : ℕ) (y : User) (f : ℕ) (within : u < length
   may-move : MayMove (length users) u comes leaves y.regs (is_some y.ipmodify) (row_by users f) (total_by users f)
   may-move = record {
     apart = comes-apart (is_at f (user_of users u)) (is_at f y);
-    room = λ h. has_room;
+    room = λ h. has_room (comes-before (is_at f (user_of users u)) (is_at f y) h);
     there = λ h. has_user (leaves-before (is_at f (user_of users u)) (is_at f y) h);
     numbered = λ h. has_number (leaves-before (is_at f (user_of users u)) (is_at f y) h);
     small = omega (arith, total-small f 0 users (omega arith));

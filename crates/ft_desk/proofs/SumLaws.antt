@@ -1,5 +1,6 @@
 -- Sums over users, and what they tell of the users at a function.
 use Rattle.std.proofs.Common.{cond, ◌≡◌, ℕ, zero, suc, ◌+◌, ◌-◌, ◌*◌, ◌<◌, ◌≤◌, Bool, true, false, List, [], ◌∷◌, length, map, set, get_or, Option, Some, None, is_some, refl, sym, ap, ap₂, ◌∙◌, subst, arith}
+use Rattle.ft_base.specs.declared.limits.TheConstants.{USERS}
 use Rattle.ft_base.specs.declared.item.Ran.TheVariants.{List as ByList, Own}
 use Rattle.ft_base.specs.Desk.{Desk, UserState, user_at, unseen, sited, sited_from, target, target_by}
 use Rattle.ft_desk.specs.declared.user.User.{User}
@@ -26,11 +27,23 @@ pub sum_over-small : (g : ℕ → User → ℕ) (from : ℕ) (users : List User)
 sum_over-small g from [] h = omega arith
 sum_over-small g from (x ∷ users) h = omega (arith, h from x, sum_over-small g (suc from) users h)
 
+-- and less in all, if one of them counts 0
+pub sum_over-spare : (g : ℕ → User → ℕ) (from u : ℕ) (users : List User) → ((v : ℕ) (x : User) → g v x ≤ 1) → u < length users
+    → g (from + u) (user_of users u) ≡ 0 → sum_over g from users < length users
+sum_over-spare g from u [] h within none = absurd (omega arith)
+sum_over-spare g from zero (x ∷ users) h within none =
+    let e : from + 0 ≡ from = omega arith in
+    let z : g from x ≡ 0 = subst (λ k. g k x ≡ 0) e none in
+    omega (arith, z, sum_over-small g (suc from) users h)
+sum_over-spare g from (suc u) (x ∷ users) h within none =
+    let e : from + suc u ≡ suc from + u = omega arith in
+    omega (arith, h from x, sum_over-spare g (suc from) u users h (omega arith) (subst (λ k. g k (user_of users u) ≡ 0) e none))
+
 number-small : (f u : ℕ) (x : User) → number_at f u x ≤ suc u
 number-small f u x = elim (is_at f x) as (λ b. cond b (suc u) 0 ≤ suc u) [ true ↦ omega arith | false ↦ omega arith ]
 
--- each number is at most 16
-pub total-small : (f from : ℕ) (users : List User) → from + length users ≤ 16 → sum_over (number_at f) from users ≤ 16 * length users
+-- each number is at most USERS
+pub total-small : (f from : ℕ) (users : List User) → from + length users ≤ USERS → sum_over (number_at f) from users ≤ USERS * length users
 total-small f from [] h = omega arith
 total-small f from (x ∷ users) h = omega (arith, number-small f from x, total-small f (suc from) users (omega arith))
 

@@ -1,6 +1,6 @@
 -- What a desk keeps of what a job declares: its users, and how many functions, tasks and trampoline slots there are.
 use Rattle.std.specs.Prelude.{◌≡◌, ℕ, false, List, [], None, length, map, replicate}
-use Rattle.ft_base.specs.Job.{Spec, Job, funcs, no_func, no_task}
+use Rattle.ft_base.specs.Job.{usual_lines, usual_rings, Spec, Job, funcs, no_func, no_task}
 use Rattle.user_specs.specs.declared.spec.Spec.{Spec as UserSpec}
 use Rattle.user_specs.specs.Plain.{spec_of}
 use Rattle.word_map.specs.declared.shape.Shape.{Shape}
@@ -26,6 +26,7 @@ pub record IsOf (job : Job) (d : Declared) : Type 0 where
 -- a job that declares these, with functions and tasks that have no names. For the desk each job that declares the same is like it
 abbrev pub job_of : Declared → Job
 job_of d = record {
+  version = 1;
   functions = replicate d.funcs no_func;
   users = d.specs;
   frames = 0;
@@ -34,6 +35,8 @@ job_of d = record {
   tasks = replicate d.tasks no_task;
   ctls = [];
   schedule = [];
+  lines = usual_lines;
+  rings = usual_rings;
 }
 
 -- what these users and this shape declare

@@ -1,6 +1,8 @@
 //! What control can be told to do.
 
-ghost use Rattle.std.specs.Prelude.{◌≡◌, IfOk};
+ghost use Rattle.std.specs.Prelude.{◌≡◌, ℕ, IfOk, option_map};
+ghost use Rattle.ft_base.specs.Job.{takes_off, user_of};
+ghost use Rattle.ft_desk.specs.Commands.{command_of};
 
 use ft_base::{NoMemory, TaskNo, UserNo};
 use site_set::Edit;
@@ -27,6 +29,40 @@ pub enum Command {
     Disable(UserNo),
     /// Sets the graph depth; 0 means no limit (`ftrace.rst`, `max_graph_depth`).
     MaxDepth(u32),
+}
+
+impl Command {
+    /// The user that the command names, if it names one.
+    pub fn user(&self) -> Option<UserNo>
+        ensures { (tasks : ℕ) → option_map (λ u. u.0) result ≡ user_of (command_of tasks self.now) }
+    {
+        match self {
+            Command::Register(user)
+            | Command::Unregister(user)
+            | Command::Filter(user, _)
+            | Command::Notrace(user, _)
+            | Command::Enable(user)
+            | Command::Disable(user) => Some(*user),
+            Command::Pid(_) | Command::NoPid(_) | Command::MaxDepth(_) => None,
+        }
+    }
+
+    /// The user that the command takes off if it is accepted: none of its callbacks is open when the
+    /// command has returned.
+    pub fn takes_off(&self) -> Option<UserNo>
+        ensures { (tasks : ℕ) → option_map (λ u. u.0) result ≡ takes_off (command_of tasks self.now) }
+    {
+        match self {
+            Command::Unregister(user) | Command::Disable(user) => Some(*user),
+            Command::Register(_)
+            | Command::Filter(_, _)
+            | Command::Notrace(_, _)
+            | Command::Pid(_)
+            | Command::NoPid(_)
+            | Command::Enable(_)
+            | Command::MaxDepth(_) => None,
+        }
+    }
 }
 
 /// A line of control.

@@ -5,6 +5,7 @@ mod copies;
 mod plans;
 
 use bench::{APPEND, Bench, CLEAR, Line, REMOVE, REMOVE_ANEW, REPLACE, User};
+use ft_base::limits::{TRAMPS, USERS};
 use ft_base::{Answer, FuncNo, Kind, UserNo};
 use ft_desk::{ListChange, Plan, TrampChange};
 use site_bytes::Insn;
@@ -300,5 +301,27 @@ fn slots_and_lists(rt: HostRuntime) -> Result<(), Fail> {
     let alloc = rt.alloc();
     let mut bench = Bench::new(&rt, alloc, &[PLAIN, PLAIN, PLAIN], 3, 2)?;
     sites(&rt, alloc, &mut bench, &SLOTS)?;
+    Ok(())
+}
+
+#[test]
+fn all_users_at_one_function(rt: HostRuntime) -> Result<(), Fail> {
+    let alloc = rt.alloc();
+    let users = [PLAIN; USERS as usize];
+    let mut bench = Bench::new(&rt, alloc, &users, 1, TRAMPS as u8)?;
+    for u in 0..USERS {
+        assert!(rt;
+            bench.ask(&rt, alloc, Line::Register(u))? == ACCEPTED,
+            "{u}"
+        );
+    }
+    assert!(rt; bench.row(&rt, 0).count == 64 && bench.target(&rt, 0) == LIST);
+    for u in 0..63 {
+        assert!(rt;
+            bench.ask(&rt, alloc, Line::Unregister(u))? == ACCEPTED,
+            "{u}"
+        );
+    }
+    assert!(rt; bench.row(&rt, 0).count == 1 && bench.target(&rt, 0) == Insn::Own(63));
     Ok(())
 }

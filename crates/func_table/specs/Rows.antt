@@ -1,7 +1,7 @@
 -- A table of functions as the list of its functions: the function at place n is function n.
 use Rattle.std.specs.Prelude.{◌≡◌, ◌≢◌, ℕ, ◌≤◌, Bool, true, List, [], ◌∷◌, ◌++◌, map, length, Option, Some, None, position, All, AllPairs}
 use Rattle.std.specs.Str.{bytes_eq}
-use Rattle.ft_base.specs.declared.limits.TheConstants.{TABLE_FUNCS}
+use Rattle.ft_base.specs.declared.limits.TheConstants.{FUNCS}
 use Rattle.ft_base.specs.Job.{Func}
 use Rattle.ft_base.specs.Name.{is_name_text}
 
@@ -32,12 +32,12 @@ pub record IsNamed (f : Func) : Type 0 where
   pub name : is_name_text f.name ≡ true
   pub owner : is_name_or_none f.owner ≡ true
 
--- the names are names and differ, and there are no more functions than the limit, which is at most TABLE_FUNCS
+-- the names are names and differ, and there are no more functions than the limit, which is at most FUNCS
 pub record IsTable (t : Table) : Type 0 where
   pub named : All IsNamed t.functions
   pub distinct : AllPairs (λ a b. a ≢ b) (names_of t)
   pub within : length t.functions ≤ t.limit
-  pub small : t.limit ≤ TABLE_FUNCS
+  pub small : t.limit ≤ FUNCS
 
 -- the new table has the function as its last, and n is its number
 pub record IsAdded (old new : Table) (f : Func) (n : ℕ) : Type 0 where

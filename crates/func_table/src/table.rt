@@ -7,7 +7,7 @@ ghost use Rattle.ft_base.specs.Name.{is_name_text};
 ghost use Rattle.func_table.specs.Rows.{names_of, modules_of, number_of, is_name_or_none, IsTable, IsAdded};
 
 use crate::faults::TableFault;
-use ft_base::limits::TABLE_FUNCS;
+use ft_base::limits::FUNCS;
 use ft_base::{FuncNo, function_address};
 use indexmap::IndexMap;
 use std::alloc::{AllocError, Global};
@@ -35,7 +35,7 @@ impl Model for FuncTable {
 impl FuncTable {
     /// The empty table, which takes at most `limit` functions. It takes no memory.
     pub fn new(alloc: Global, limit: u32) -> FuncTable
-        requires { limit ≤ TABLE_FUNCS }
+        requires { limit ≤ FUNCS }
         ensures { result ≡ record { functions = []; limit = limit } }
     {
         FuncTable {
@@ -129,7 +129,7 @@ impl FuncTable {
 
     /// The address of a function, at which its call site begins.
     pub fn ip(f: FuncNo) -> u32
-        requires { f.0 < TABLE_FUNCS }
+        requires { f.0 < FUNCS }
         ensures { result ≡ function_at f.0 }
     {
         function_address(f)

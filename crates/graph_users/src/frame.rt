@@ -5,7 +5,7 @@ ghost use Rattle.std.specs.Option.{ForSome, option_and_then};
 ghost use Rattle.return_stack.specs.Calls.{top_users, frames_in, with_hook, with_user};
 
 use ft_base::UserNo;
-use ft_base::limits::BOUND_USERS;
+use ft_base::limits::USERS;
 use return_stack::{FrameUser, Stacks};
 
 /// A user was called back at the entry of the top call, under the registration `reg` and at the
@@ -15,7 +15,7 @@ use return_stack::{FrameUser, Stacks};
 pub fn enter(stacks: &mut Stacks, user: UserNo, reg: u32, entry: u32)
     requires top { 0 < length stacks.old.calls }
     requires frame { frames_in (drop 1 stacks.old.calls) < stacks.old.frame_limit }
-    requires room { ForSome (top_users stacks.old.calls) (λ users. length users < BOUND_USERS) }
+    requires room { ForSome (top_users stacks.old.calls) (λ users. length users < USERS) }
     ensures { stacks.new ≡ record stacks.old { calls = with_user (with_hook stacks.old.calls) (record { user = user; reg = reg; entry = entry }) } }
 {
     // It can't be refused: if the call has no frame, those in use are the other calls' alone.

@@ -4,7 +4,7 @@ use Rattle.std.specs.Bool.{OnFalse}
 use Rattle.std.specs.Global.{Vec}
 use Rattle.std.proofs.lemmas.Bool.{false≢true, eq-eqb}
 use Rattle.std.proofs.lemmas.List.{length-reverse, reverse-append}
-use Rattle.ft_base.specs.declared.limits.TheConstants.{BOUND_USERS}
+use Rattle.ft_base.specs.declared.limits.TheConstants.{USERS}
 use Rattle.return_stack.specs.declared.shadow.Frame.{Frame}
 use Rattle.return_stack.specs.declared.shadow.FrameUser.{FrameUser}
 use Rattle.return_stack.specs.declared.shadow.ShadowStack.TheInside.{Inside}
@@ -48,15 +48,15 @@ filled_by_push fs gs us f e h a =
 pub record OnLatest (fs : List Frame) (us : List FrameUser) : Type 0 where
   pub filled : AreInFrames fs us
   pub frame : 0 < length fs
-  pub room : length (users_on (frames_of fs us)) < BOUND_USERS
+  pub room : length (users_on (frames_of fs us)) < USERS
 
 -- the latest frame has room for one more user
 pub on_latest : (s : Inside) (v : Shadow) → shadow_of s ≡ v → AreInFrames (reverse s.frames.items) s.users.items → 0 < length v.frames
-    → length (users_on v.frames) < BOUND_USERS → OnLatest (reverse s.frames.items) s.users.items
+    → length (users_on v.frames) < USERS → OnLatest (reverse s.frames.items) s.users.items
 on_latest s v e a frame room = record {
   filled = a;
   frame = omega (arith, length-frames s v e, length-reverse s.frames.items);
-  room = subst (λ (w : Shadow). length (users_on w.frames) < BOUND_USERS) (sym e) room;
+  room = subst (λ (w : Shadow). length (users_on w.frames) < USERS) (sym e) room;
 }
 
 -- one more user is added to the list of users

@@ -5,7 +5,7 @@ use Rattle.std.specs.Prelude.{◌==◌, IsSomeAnd, if◌then◌else◌}
 use Rattle.std.specs.Vec.{with_item}
 use Rattle.std.proofs.lemmas.List.{reverse-append}
 use Rattle.ft_base.specs.declared.number.CallNo.{CallNo}
-use Rattle.ft_base.specs.declared.limits.TheConstants.{BOUND_USERS}
+use Rattle.ft_base.specs.declared.limits.TheConstants.{USERS}
 use Rattle.return_stack.specs.declared.shadow.FrameUser.{FrameUser}
 use Rattle.return_stack.specs.declared.stacks.Address.{Address}
 use Rattle.return_stack.specs.declared.stacks.Address.TheVariants.{Hook, To}
@@ -46,10 +46,10 @@ said_of users us P e h = let Q : Option (List FrameUser) → Type 0 = λ o. IsSo
 
 -- the latest call has a frame with room
 pub on_frame_with_room : (s : Inside) (v : CallStack) → stack_of s ≡ v → IsTied s
-    → IsSomeAnd (top_users v.calls) (λ users. length users < BOUND_USERS) → OnFrame s v × (length (users_on s.shadow.frames) < BOUND_USERS)
+    → IsSomeAnd (top_users v.calls) (λ users. length users < USERS) → OnFrame s v × (length (users_on s.shadow.frames) < USERS)
 on_frame_with_room s v e t h =
     let on = on_frame s v e t (has_frame_with (top_users v.calls) _ h) in
-    (on, said_of (top_users v.calls) (users_on s.shadow.frames) (λ users. length users < BOUND_USERS) on.users h)
+    (on, said_of (top_users v.calls) (users_on s.shadow.frames) (λ users. length users < USERS) on.users h)
 
 -- the stacks with one more user of the latest frame
 pub stack_with_user : (s : Inside) (v : CallStack) (shadow : Shadow) (u : FrameUser) → stack_of s ≡ v → IsTied s → OnFrame s v

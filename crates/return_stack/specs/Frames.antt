@@ -1,6 +1,6 @@
 -- How one list keeps the users of all frames.
 use Rattle.std.specs.Prelude.{ℕ, ◌+◌, ◌≤◌, ◌≡◌, List, [], ◌∷◌, length, take, drop}
-use Rattle.ft_base.specs.declared.limits.TheConstants.{BOUND_USERS}
+use Rattle.ft_base.specs.declared.limits.TheConstants.{USERS}
 use Rattle.return_stack.specs.declared.shadow.FrameUser.{FrameUser}
 use Rattle.return_stack.specs.declared.shadow.Frame.{Frame}
 use Rattle.return_stack.specs.Shadow.{ShadowFrame}
@@ -14,7 +14,7 @@ frames_of (f ∷ below) users =
 -- each user is in a frame, and no frame has too many
 abbrev pub AreInFrames : List Frame → List FrameUser → Type 0
 AreInFrames [] users = users ≡ []
-AreInFrames (f ∷ below) users = (f.first_user ≤ length users) × (length users ≤ f.first_user + BOUND_USERS)
+AreInFrames (f ∷ below) users = (f.first_user ≤ length users) × (length users ≤ f.first_user + USERS)
     × AreInFrames below (take f.first_user users)
 
 -- the place of the latest frame's first user

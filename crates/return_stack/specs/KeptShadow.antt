@@ -1,6 +1,6 @@
 -- How two lists keep the shadow stack.
 use Rattle.std.specs.Prelude.{◌*◌, ◌≤◌, reverse, vec_len, vec_capacity}
-use Rattle.ft_base.specs.declared.limits.TheConstants.{BOUND_USERS, FRAMES}
+use Rattle.ft_base.specs.declared.limits.TheConstants.{USERS, FRAMES}
 use Rattle.return_stack.specs.declared.shadow.ShadowStack.TheInside.{Inside}
 use Rattle.return_stack.specs.Shadow.{Shadow}
 use Rattle.return_stack.specs.Frames.{frames_of, AreInFrames}
@@ -15,4 +15,4 @@ pub record IsKeptShadow (s : Inside) : Type 0 where
   pub within : vec_len s.frames ≤ s.limit
   pub small : s.limit ≤ FRAMES
   pub frame_room : s.limit ≤ vec_capacity s.frames
-  pub user_room : s.limit * BOUND_USERS ≤ vec_capacity s.users
+  pub user_room : s.limit * USERS ≤ vec_capacity s.users

@@ -6,7 +6,7 @@ ghost use Rattle.std.specs.Bool.{OnFalse};
 ghost use Rattle.return_stack.specs.Shadow.{users_on, to_on, with_frame, with_user_on};
 ghost use Rattle.return_stack.specs.Frames.{first_user_on};
 
-use ft_base::limits::{BOUND_USERS, FRAMES};
+use ft_base::limits::{FRAMES, USERS};
 use ft_base::{CallNo, NoMemory, UserNo};
 use std::alloc::Global;
 use std::marker::Model;
@@ -62,7 +62,7 @@ impl ShadowStack {
     {
         let room = limit as usize;
         let frames = Vec::with_capacity(alloc, room).map_err(|_| NoMemory)?;
-        let users = Vec::with_capacity(alloc, room * BOUND_USERS as usize).map_err(|_| NoMemory)?;
+        let users = Vec::with_capacity(alloc, room * USERS as usize).map_err(|_| NoMemory)?;
         Ok(ShadowStack {
             frames,
             users,
@@ -110,7 +110,7 @@ impl ShadowStack {
     /// Adds a user to the latest frame.
     pub(crate) fn add_user(&mut self, user: FrameUser)
         requires frame { 0 < length self.old.frames }
-        requires room { length (users_on self.old.frames) < BOUND_USERS }
+        requires room { length (users_on self.old.frames) < USERS }
         ensures { self.new ≡ with_user_on self.old user }
     {
         self.users.push_reserved(user);

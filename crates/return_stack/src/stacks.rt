@@ -5,7 +5,7 @@ ghost use Rattle.std.specs.Option.{option_and_then};
 ghost use Rattle.return_stack.specs.Calls.{top_users, has_frame, caller_of, address_of, up_to, frames_in, is_full, with_call, with_hook, with_user, without_empty};
 
 use crate::shadow::{FrameUser, ShadowStack};
-use ft_base::limits::{BOUND_USERS, FRAMES};
+use ft_base::limits::{FRAMES, USERS};
 use ft_base::{CallNo, NoMemory, UserNo};
 use std::alloc::Global;
 use std::marker::Model;
@@ -102,7 +102,7 @@ impl Stacks {
 
     /// Adds a user to the top call's frame: its registration, and the place of its entry callback.
     pub fn add_user(&mut self, user: UserNo, reg: u32, entry: u32)
-        requires { IsSomeAnd (top_users self.old.calls) (λ users. length users < BOUND_USERS) }
+        requires { IsSomeAnd (top_users self.old.calls) (λ users. length users < USERS) }
         ensures { self.new ≡ record self.old { calls = with_user self.old.calls (record { user = user; reg = reg; entry = entry }) } }
     {
         self.shadow.add_user(FrameUser { user, reg, entry });

@@ -1,6 +1,6 @@
 -- Rows through calls that add users: how great their counts are at most, and who is there to be dropped.
 use Rattle.std.proofs.Common.{◌≡◌, ℕ, ◌+◌, ◌<◌, ◌≤◌, Bool, true, false, sym, subst, arith, if◌then◌else◌}
-use Rattle.ft_base.specs.declared.limits.TheConstants.{BOUND_USERS}
+use Rattle.ft_base.specs.declared.limits.TheConstants.{USERS}
 use Rattle.site_counts.specs.declared.rows.Row.{Row}
 use Rattle.site_counts.specs.Rows.{no_users, one_if, with_user, HasRoom, HasUser}
 
@@ -28,7 +28,7 @@ at_most-more n b regs ipmodify row new is most = subst (IsAtMost (n + 1)) (sym i
     by false = record { count = omega arith; regs = omega arith; ipmodify = omega arith }
 
 -- there is room up to the limit
-pub room-at_most : (n : ℕ) (row : Row) → IsAtMost n row → n < BOUND_USERS → HasRoom row
+pub room-at_most : (n : ℕ) (row : Row) → IsAtMost n row → n < USERS → HasRoom row
 room-at_most n row most few = record { count = omega arith; regs = omega arith; ipmodify = omega arith }
 
 -- who was added is there

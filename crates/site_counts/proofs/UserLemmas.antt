@@ -2,7 +2,7 @@
 use Rattle.std.proofs.Common.{◌≡◌, ℕ, ◌+◌, ◌<◌, Bool, true, false, ◌&&◌, List, [], ◌∷◌, ◌++◌, length, cond, count_by, refl, sym, ap, subst, ◌∙◌, arith, if◌then◌else◌}
 use Rattle.std.proofs.lemmas.List.{get_or-replicate, length-replicate}
 use Rattle.std.proofs.lemmas.List.Sums.{sum_by-append, count_by-le-length}
-use Rattle.ft_base.specs.declared.limits.TheConstants.{BOUND_USERS}
+use Rattle.ft_base.specs.declared.limits.TheConstants.{USERS}
 use Rattle.ft_base.specs.Marks.{holds}
 use Rattle.site_counts.specs.declared.rows.Row.{Row}
 use Rattle.site_counts.specs.Rows.{no_users, row_of, one_if, with_user, without_user, at_members, HasRoom, HasUser}
@@ -47,7 +47,7 @@ row_by-dropped before after user f =
     undone false row = refl
 
 -- no count of a sum is greater than the number of users
-pub HasRoom-row_by : (users : List SitedUser) (f : ℕ) → length users < BOUND_USERS → HasRoom (row_by users f)
+pub HasRoom-row_by : (users : List SitedUser) (f : ℕ) → length users < USERS → HasRoom (row_by users f)
 HasRoom-row_by users f few = record {
   count = let le = count_by-le-length (λ (u : SitedUser). holds u.on f) users in omega arith;
   regs = let le = count_by-le-length (λ (u : SitedUser). holds u.on f && u.regs) users in omega arith;
@@ -90,7 +90,7 @@ rows-sums size f moves users there within = by there
     by (dropped {user} {earlier} before after there) =
         change_of user (without_user user.regs user.ipmodify) earlier _ (by there) ∙ row_by-dropped before after user f
 
-pub HasRoom-rows_after : (size f : ℕ) (moves : List Move) (users : List SitedUser) → AreThere moves users → f < size → length users < BOUND_USERS
+pub HasRoom-rows_after : (size f : ℕ) (moves : List Move) (users : List SitedUser) → AreThere moves users → f < size → length users < USERS
     → HasRoom (row_of (rows_after size moves) f)
 HasRoom-rows_after size f moves users there within few =
     subst HasRoom (sym (rows-sums size f moves users there within)) (HasRoom-row_by users f few)

@@ -1,7 +1,7 @@
 -- The users that are sited at each function, counted (ftrace.rst, The File System: enabled_functions).
 use Rattle.std.specs.Prelude.{ℕ, ◌+◌, ◌-◌, ◌≤◌, ◌<◌, Bool, List, length, map, slice_index_or, if◌then◌else◌}
 use Rattle.std.specs.List.{range_with_len}
-use Rattle.ft_base.specs.declared.limits.TheConstants.{BOUND_USERS}
+use Rattle.ft_base.specs.declared.limits.TheConstants.{USERS}
 use Rattle.ft_base.specs.Marks.{Marks, holds}
 use Rattle.site_counts.specs.declared.rows.Row.{Row}
 use Rattle.site_counts.specs.declared.rows.Change.{Change}
@@ -42,9 +42,9 @@ at_members on change rows =
 
 -- each count can take one more user
 pub record HasRoom (row : Row) : Type 0 where
-  pub count : row.count < BOUND_USERS
-  pub regs : row.regs < BOUND_USERS
-  pub ipmodify : row.ipmodify < BOUND_USERS
+  pub count : row.count < USERS
+  pub regs : row.regs < USERS
+  pub ipmodify : row.ipmodify < USERS
 
 -- each count has a user to lose, the flagged ones if the user has their flags
 pub record HasUser (asks changes : Bool) (row : Row) : Type 0 where

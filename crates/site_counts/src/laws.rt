@@ -2,7 +2,7 @@
 //! the layers above.
 
 ghost use Rattle.std.specs.Prelude.{◌≡◌, ℕ, ◌<◌, true, List, ◌∷◌, ◌++◌, length};
-ghost use Rattle.ft_base.specs.declared.limits.TheConstants.{BOUND_USERS};
+ghost use Rattle.ft_base.specs.declared.limits.TheConstants.{USERS};
 ghost use Rattle.ft_base.specs.Marks.{holds};
 ghost use Rattle.site_counts.specs.Rows.{row_of, HasRoom, HasUser};
 ghost use Rattle.site_counts.specs.Users.{SitedUser, Move, AreThere, rows_after, row_by};
@@ -16,7 +16,7 @@ pub fn rows_are_sums()
 /// While fewer users are there than can be counted, there is room for one more at each function.
 pub fn there_is_room_for_a_user()
     ensures { (size f : ℕ) (moves : List Move) (users : List SitedUser) → AreThere moves users
-        → f < size → length users < BOUND_USERS → HasRoom (row_of (rows_after size moves) f) }
+        → f < size → length users < USERS → HasRoom (row_of (rows_after size moves) f) }
 {}
 
 /// A user that has been added and not dropped can be dropped.

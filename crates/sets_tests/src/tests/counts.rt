@@ -34,7 +34,7 @@ fn users_come_and_go(rt: HostRuntime) -> Result<(), Fail> {
 #[test]
 fn reaches_the_last_function(rt: HostRuntime) -> Result<(), Fail> {
     let alloc = rt.alloc();
-    for size in [1u32, 63, 64, 65, 1024] {
+    for size in [1u32, 63, 64, 65, 4_096] {
         let last = size - 1;
         let mut counts = Counts::new(alloc, size)?;
         let mut all = SiteSet::empty(alloc, size)?;

@@ -31,13 +31,14 @@ fn changes_one_set(rt: HostRuntime) -> Result<(), Fail> {
 }
 
 /// The size, the last word's number, and that word of the set of all numbers.
-static WORDS: [(u32, u32, u64); 6] = [
+static WORDS: [(u32, u32, u64); 7] = [
     (0, 0, 0),
     (1, 0, 1),
     (63, 0, 0x7fff_ffff_ffff_ffff),
     (64, 0, 0xffff_ffff_ffff_ffff),
     (65, 1, 1),
-    (1024, 15, 0xffff_ffff_ffff_ffff),
+    (1_024, 15, 0xffff_ffff_ffff_ffff),
+    (4_096, 63, 0xffff_ffff_ffff_ffff),
 ];
 
 /// The set of all numbers below a size, put in one by one.
@@ -101,7 +102,7 @@ fn has_last(alloc: Global, size: u32) -> Result<bool, AllocError> {
 
 #[test]
 fn meets_at_the_last_number(rt: HostRuntime) -> Result<(), Fail> {
-    for size in [1u32, 63, 64, 65, 1024] {
+    for size in [1u32, 63, 64, 65, 4_096] {
         assert!(rt; has_last(rt.alloc(), size)?, "at {size}");
     }
     Ok(())

@@ -2,7 +2,7 @@
 
 use super::add_three;
 use ft_base::FuncNo;
-use ft_base::limits::TABLE_FUNCS;
+use ft_base::limits::FUNCS;
 use func_table::{FuncTable, TableFault};
 use std::test::Fail;
 
@@ -57,7 +57,7 @@ static PLACES: [(u32, u32); 3] = [(0, 0x1000), (1, 0x1040), (4_095, 0x40fc0)];
 #[test]
 fn places_functions_in_memory(rt: HostRuntime) {
     for (f, ip) in PLACES {
-        assert!(rt; f < TABLE_FUNCS);
+        assert!(rt; f < FUNCS);
         assert!(rt; FuncTable::ip(FuncNo(f)) == ip, "at {f}");
     }
 }

@@ -1,7 +1,7 @@
 //! `user_specs`: kinds of users, and the bound for some numbers of users.
 
 use ft_base::FuncNo;
-use ft_base::limits::BOUND_USERS;
+use ft_base::limits::{GUARD_LEVELS, USERS};
 use std::alloc::{AllocError, Global};
 use std::test::Fail;
 use user_specs::{Act, Kind, Spec, call_bound, has_depth, wants_frame};
@@ -64,15 +64,17 @@ fn tells_kinds_apart(rt: HostRuntime) -> Result<(), Fail> {
     Ok(())
 }
 
-/// Users without and with an act, and the bound.
-static BOUNDS: [(u32, u32, u32); 7] = [
-    (0, 0, 4),
-    (1, 0, 9),
-    (4, 0, 24),
-    (6, 0, 34),
-    (0, 1, 23),
-    (0, 16, 6_548),
-    (0, 64, 299_588),
+/// Users without and with an act, the levels of a guard, and the bound.
+static BOUNDS: [(u32, u32, u32, u32); 9] = [
+    (0, 0, 1, 4),
+    (1, 0, 1, 9),
+    (4, 0, 1, 24),
+    (6, 0, 1, 34),
+    (0, 1, 1, 23),
+    (0, 16, 1, 6_548),
+    (0, 64, 1, 299_588),
+    (0, 16, 2, 1_677_716),
+    (0, 64, 2, 1_227_133_508),
 ];
 
 /// So many users without an act, and so many with one.
@@ -94,16 +96,21 @@ fn users(alloc: Global, plain: u32, acting: u32) -> Result<Vec<Spec>, AllocError
     Ok(specs)
 }
 
-/// Whether so few users have this bound.
-fn is_bound(specs: &[Spec], bound: u32) -> bool {
-    specs.len() <= BOUND_USERS as usize && call_bound(specs) == bound
+/// Whether so few users, with guards of so few levels, have this bound.
+fn is_bound(specs: &[Spec], levels: u32, bound: u32) -> bool {
+    specs.len() <= USERS as usize
+        && levels <= u32::from(GUARD_LEVELS)
+        && call_bound(specs, levels) == bound
 }
 
 #[test]
 fn bounds_the_items_of_a_call(rt: HostRuntime) -> Result<(), Fail> {
-    for (plain, acting, bound) in BOUNDS {
+    for (plain, acting, levels, bound) in BOUNDS {
         let specs = users(rt.alloc(), plain, acting)?;
-        assert!(rt; is_bound(specs.as_slice(), bound), "{plain} and {acting}");
+        assert!(rt;
+            is_bound(specs.as_slice(), levels, bound),
+            "{plain} and {acting}, {levels}"
+        );
     }
     Ok(())
 }

@@ -80,18 +80,18 @@ fn opens_with_nops_and_traced_tasks(rt: HostRuntime) -> Result<(), Fail> {
 fn reaches_full_size(rt: HostRuntime) -> Result<(), Fail> {
     let map = WordMap::new(GREATEST);
     // 5 single words, 3 words a function, 1 a CPU, a task and a trampoline, 2 a user, and 4 sets
-    // of 16 words a user
-    assert!(rt; map.len() == 5 + 3 * 1_024 + 8 + 64 + 16 + 2 * 16 + 16 * 4 * 16);
-    let last = map.bits(UserNo(15), 1, Half::Notrace, 15);
-    assert!(rt; last == 4_220, "the last word");
+    // of 64 words a user
+    assert!(rt; map.len() == 5 + 3 * 4_096 + 8 + 64 + 64 + 2 * 64 + 64 * 4 * 64);
+    let last = map.bits(UserNo(63), 1, Half::Notrace, 63);
+    assert!(rt; last == 28_940, "the last word");
     let list = map.opening(rt.alloc(), u64::MAX)?;
-    assert!(rt; list.len() == 4_221);
+    assert!(rt; list.len() == 28_941);
     assert!(rt; list.get(3).copied() == Some(u64::MAX));
     assert!(rt;
-        list.get(2_052).copied() == Some(0x441F),
+        list.get(8_196).copied() == Some(0x441F),
         "the tail of the last function"
     );
-    assert!(rt; list.get(2_053).copied() == Some(0));
+    assert!(rt; list.get(8_197).copied() == Some(0));
     Ok(())
 }
 
