@@ -1,11 +1,12 @@
 -- A task whose act begins after a poll is the machine's, and stays a task of its job; so it does when its word is told.
-use Rattle.std.proofs.Common.{◌≡◌, ℕ, suc, ◌-◌, true, List, [], ◌∷◌, drop, length, Some, None, refl, sym, ap, ◌∙◌, subst, ltb-true}
+use Rattle.std.proofs.Common.{◌≡◌, ℕ, suc, ◌-◌, ◌*◌, true, List, [], ◌∷◌, drop, length, Some, None, refl, sym, ap, ◌∙◌, subst, ltb-true}
 use Rattle.std.specs.Prelude.{Option, slice_get}
 use Rattle.std.proofs.lemmas.Option.{none-some, slice_get-get_or}
 use Rattle.ft_base.specs.declared.context.Ctx.{Ctx}
 use Rattle.ft_base.specs.declared.task.TaskAct.{TaskAct}
 use Rattle.ft_base.specs.declared.task.TaskAct.TheVariants.{Raise, Lower}
 use Rattle.ft_base.specs.Job.{Job}
+use Rattle.ft_base.specs.Versions.{levels}
 use Rattle.ft_hist.specs.Plain.{below_top}
 use Rattle.return_stack.specs.Calls.{top_users}
 use Rattle.plain_machine.specs.State.{has_acts}
@@ -27,7 +28,7 @@ use Rattle.task_core.proofs.HeldGot.{guards-begun, polling-raised}
 use Rattle.cpu_core.proofs.Lookups.{left-is}
 use Rattle.task_core.proofs.SteadyGot.{room-begun, steady-begun}
 use Rattle.task_core.proofs.TiedKept.{IsSameTask, begun-same}
-use Rattle.task_core.proofs.TiedLaw.{acts-same, frames-same, gone-begun, limits-same, moment-begun, number-same, tied-begun, two-same}
+use Rattle.task_core.proofs.TiedLaw.{acts-same, frames-same, gone-begun, levels-same, limits-same, moment-begun, nested-same, number-same, tied-begun}
 
 module _ (job : Job) (t : Task) (k : IsTaskOf job t) (e : t.moment ≡ Polling) where
   -- it is before its poll
@@ -93,7 +94,8 @@ told-of job t w k = record {
   gone = k.gone;
   frames = k.frames;
   limits = k.limits;
-  two = k.two;
+  nested = k.nested;
+  levels' = k.levels';
   room = k.room;
   tied = k.tied;
   few = k.few;
@@ -120,11 +122,11 @@ module _ (job : Job) (t : Task) (k : IsTaskOf job t) (e : t.moment ≡ Polling) 
   same = begun-same t
 
   -- it has room for its calls
-  begun-room : HasCallRoom ((begun t (present t)).opens.limit - 2) (state_of (begun t (present t)))
+  begun-room : HasCallRoom ((begun t (present t)).opens.limit - 2 * levels job) (state_of (begun t (present t)))
   begun-room =
-      subst (λ n. HasCallRoom (n - 2) (state_of (begun t (present t)))) (sym same.opens)
-      (subst (λ x. HasCallRoom (t.opens.limit - 2) x) (sym (begun-is job t k e left))
-      (room-begun job (t.opens.limit - 2) (state_of t) k.steady k.room (before job t k e) has))
+      subst (λ n. HasCallRoom (n - 2 * levels job) (state_of (begun t (present t)))) (sym same.opens)
+      (subst (λ x. HasCallRoom (t.opens.limit - 2 * levels job) x) (sym (begun-is job t k e left))
+      (room-begun job (t.opens.limit - 2 * levels job) (state_of t) k.steady k.room (before job t k e) has))
 
   -- when its act begins
   pub begun-of : IsTaskOf job (begun t (present t))
@@ -134,7 +136,8 @@ module _ (job : Job) (t : Task) (k : IsTaskOf job t) (e : t.moment ≡ Polling) 
     gone = gone-begun job t k has;
     frames = frames-same job t (begun t (present t)) k same;
     limits = limits-same job t (begun t (present t)) k same;
-    two = two-same job t (begun t (present t)) k same;
+    nested = nested-same job t (begun t (present t)) k same;
+    levels' = levels-same job t (begun t (present t)) k same;
     room = begun-room;
     tied = tied-begun job t k;
     few = few-begun t k.few;

@@ -6,10 +6,11 @@ use Rattle.ft_base.specs.declared.context.Ctx.{Ctx}
 use Rattle.ft_base.specs.declared.context.Ctx.TheVariants.{Normal, Softirq, Irq, Nmi}
 use Rattle.ft_base.specs.declared.limits.TheConstants.{ITEMS, QUANTUM}
 use Rattle.ft_base.specs.Job.{Job, Task as DeclaredTask, no_task}
+use Rattle.ft_base.specs.Versions.{levels}
 use Rattle.ft_base.specs.WellFormed.{IsScript}
 use Rattle.grace_core.specs.Polls.{poll_start}
 use Rattle.plain_machine.specs.State.{tasks_from, tasks_of}
-use Rattle.recursion_guard.specs.Guards.{mark_of, unmarked}
+use Rattle.recursion_guard.specs.Guards.{held_in, unheld}
 use Rattle.user_specs.specs.declared.plan.CpuPlan.{CpuPlan}
 use Rattle.user_specs.specs.declared.plan.TaskPlan.{TaskPlan}
 use Rattle.user_specs.specs.declared.spec.Spec.{Spec as CodeSpec}
@@ -74,7 +75,7 @@ found p (x ∷ xs) any = by (p x) refl (found p xs) any
     by false e more any' = more any'
 
 -- no guard is held
-none-held : (k : Ctx) → mark_of unmarked k ≡ false
+none-held : (k : Ctx) → held_in unheld k ≡ 0
 none-held Normal = refl
 none-held Softirq = refl
 none-held Irq = refl
@@ -89,9 +90,9 @@ pub record HasBegun (job : Job) (t : Task) : Type 0 where
 
 module _ (job : Job) (limited : IsLimited job) where
   module _ (p : TaskPlan) (inside : p.task.0 < length job.tasks) (acts : p.acts.items ≡ (get_or job.tasks p.task.0 no_task).acts)
-      (limit : ℕ) (room : HasRoomFor limit p.acts.items) where
+      (limit : ℕ) (room : HasRoomFor limit (levels job) p.acts.items) where
     abbrev first : Task
-    first = task_at_start p.task p.acts.items limit job.frames
+    first = task_at_start p.task p.acts.items limit job.frames (levels job)
 
     same : state_of first ≡ task_start job p.task.0
     same = λ i. record { next = 1; acts = acts i; gone = 0; contexts = []; stack = []; word = 0; moment = task.Polling }
@@ -109,10 +110,11 @@ module _ (job : Job) (limited : IsLimited job) where
         gone = omega arith;
         frames = refl;
         limits = refl;
-        two = room.two;
+        nested = room.nested;
         room = room.within;
         tied = tt;
         moment = tt;
+        levels' = refl;
         held = none-held;
         raised = refl;
         few = tt;
@@ -123,7 +125,7 @@ module _ (job : Job) (limited : IsLimited job) where
       next = refl;
     }
 
-  pub begun : (ps : List TaskPlan) (ts : List Task) → AreStarted job.frames ps ts
+  pub begun : (ps : List TaskPlan) (ts : List Task) → AreStarted job.frames (levels job) ps ts
       → Each (λ (p : TaskPlan). p.acts.items ≡ (get_or job.tasks p.task.0 no_task).acts) ps
       → Each (λ n. n < length job.tasks) (map (λ (p : TaskPlan). p.task.0) ps)
       → Each (HasBegun job) ts × (numbers ts ≡ map (λ (p : TaskPlan). p.task.0) ps)
@@ -209,25 +211,25 @@ module _ (job : Job) (limited : IsLimited job) where
 -- ## what `Cpu::new` has made
 
 -- no task runs
-none-runs : (frames : ℕ) (ps : List TaskPlan) (ts : List Task) (i : ℕ) → AreStarted frames ps ts → runs (slice_get ts i) ≡ false
-none-runs frames [] [] i started = refl
-none-runs frames [] (t ∷ ts) i started = absurd started
-none-runs frames (p ∷ ps) [] i started = absurd started
-none-runs frames (p ∷ ps) (t ∷ ts) zero started = ap (λ (x : Task). not (is_polling x.moment)) started.0.start
-none-runs frames (p ∷ ps) (t ∷ ts) (suc i) started = none-runs frames ps ts i started.1
+none-runs : (frames levels : ℕ) (ps : List TaskPlan) (ts : List Task) (i : ℕ) → AreStarted frames levels ps ts → runs (slice_get ts i) ≡ false
+none-runs frames levels [] [] i started = refl
+none-runs frames levels [] (t ∷ ts) i started = absurd started
+none-runs frames levels (p ∷ ps) [] i started = absurd started
+none-runs frames levels (p ∷ ps) (t ∷ ts) zero started = ap (λ (x : Task). not (is_polling x.moment)) started.0.start
+none-runs frames levels (p ∷ ps) (t ∷ ts) (suc i) started = none-runs frames levels ps ts i started.1
 
-module _ (plan : CpuPlan) (cpu : ℕ) (specs : List CodeSpec) (frames : ℕ) (shape : Shape) (room : ℕ) (c : Parts)
+module _ (plan : CpuPlan) (cpu : ℕ) (specs : List CodeSpec) (frames guard_levels : ℕ) (shape : Shape) (room : ℕ) (c : Parts)
     (setup : c.setup ≡ record { shape = shape; users = map spec_of specs; frames = frames })
     (polls : c.polls ≡ record { poll = poll_start shape cpu; size = length c.tasks })
-    (quantum : c.quantum ≡ plan.quantum) (started : AreStarted frames plan.tasks.items c.tasks) (present : c.present ≡ first_left c.tasks)
+    (quantum : c.quantum ≡ plan.quantum) (started : AreStarted frames guard_levels plan.tasks.items c.tasks) (present : c.present ≡ first_left c.tasks)
     (count : c.count ≡ 0) (phase : c.phase ≡ Going) (marked : c.marked ≡ record { items = []; room = room }) where
   pub start-next : HasNext c
   start-next = subst (λ p. NextAt c p) (sym phase)
-      (λ running. absurd (false≢true (sym (none-runs frames plan.tasks.items c.tasks c.present started) ∙ running)))
+      (λ running. absurd (false≢true (sym (none-runs frames guard_levels plan.tasks.items c.tasks c.present started) ∙ running)))
 
-  module _ (job : Job) (limited : IsLimited job) (is : IsCpuOf job plan cpu specs frames shape) where
+  module _ (job : Job) (limited : IsLimited job) (is : IsCpuOf job plan cpu specs frames guard_levels shape) where
     begun-all : Each (HasBegun job) c.tasks × (numbers c.tasks ≡ map (λ (p : TaskPlan). p.task.0) plan.tasks.items)
-    begun-all = begun job limited plan.tasks.items c.tasks (subst (λ n. AreStarted n plan.tasks.items c.tasks) is.frames' started) is.acts
+    begun-all = begun job limited plan.tasks.items c.tasks (subst (λ (n : ℕ × ℕ). AreStarted n.0 n.1 plan.tasks.items c.tasks) (λ i. (is.frames' i, is.levels' i)) started) is.acts
         (subst (λ ns. Each (λ n. n < length job.tasks) ns) (sym is.numbers) (own-inside job cpu))
 
     same-setup : setup_in job ≡ c.setup

@@ -1,15 +1,17 @@
 -- The value of a task's load fits it.
-use Rattle.std.proofs.Common.{◌≡◌, ℕ, ◌<◌, ◌≤◌, true, List, [], ◌∷◌, length, refl, sym, ap, ◌∙◌, subst, arith}
+use Rattle.std.proofs.Common.{◌≡◌, ℕ, suc, ◌<◌, ◌≤◌, true, List, [], ◌∷◌, length, refl, sym, ap, ◌∙◌, subst, arith}
 use Rattle.std.specs.Prelude.{IfSome}
 use Rattle.ft_base.specs.Job.{Job}
 use Rattle.ft_base.specs.Same.{rank}
 use Rattle.ft_base.proofs.Small.{==-refl}
+use Rattle.ft_base.proofs.Versions.{funcs-most, tramps-most}
+use Rattle.plain_machine.specs.State.{held_levels}
 use Rattle.ops_list.specs.declared.walker.WalkPhase.{WalkPhase}
 use Rattle.ops_list.specs.declared.walker.WalkPhase.TheVariants.{Starting, At, Ended as WalkEnded}
 use Rattle.ops_list.specs.Walks.{walk_at}
 use Rattle.hash_pages.specs.declared.reader.ReadPhase.{ReadPhase}
 use Rattle.hash_pages.specs.declared.reader.ReadPhase.TheVariants.{AtSel, AtFilter, AtNotrace, Ended as ReadEnded}
-use Rattle.recursion_guard.specs.Guards.{is_held as is_taken, mark_of}
+use Rattle.recursion_guard.specs.Guards.{IsHeld, context, held_in}
 use Rattle.return_stack.specs.Calls.{StackedCall}
 use Rattle.word_machine.specs.Laws.{PresentTakes}
 use Rattle.word_machine.specs.Limits.{IsLimited}
@@ -29,7 +31,9 @@ use Rattle.task_core.specs.Tied.{IsReading, IsTaskOf, IsWalking}
 use Rattle.task_core.proofs.FitsCalls.{owed-some}
 use Rattle.task_core.proofs.Held.{holding, of-call}
 use Rattle.task_core.proofs.HeldGot.{guards-of, own-is}
+use Rattle.task_core.proofs.HeldLoads.{under}
 use Rattle.task_core.proofs.RowLists.{standing}
+use Rattle.task_core.proofs.SteadyGuards.{taken-levels}
 
 -- ## walks and reads
 
@@ -57,12 +61,15 @@ module _ (job : Job) where
 
 module _ (job : Job) (t : Task) (o : CodeCall) (os : List CodeCall) (s : StackedCall) (ss : List StackedCall) (m : Moment)
     (k : IsTaskOf job (standing t (o ∷ os) (s ∷ ss) m)) where
-  -- a user that holds the guard of its call holds that of the present context
-  pub taken-is : holding m ≡ true → is_taken t.guards ≡ true
+  -- a user that holds a level of the guard of its call holds one of the present context's
+  pub taken-is : holding m ≡ true → IsHeld t.guards
   taken-is e =
-      ap (λ x. mark_of t.guards.held x) (own-is job t o os s ss m k e).0
-      ∙ (of-call t.guards o os s ss m (guards-of job (standing t (o ∷ os) (s ∷ ss) m) k)).held o.ctx
-      ∙ rw (e, ==-refl (rank o.ctx)) refl
+      let here : held_in t.guards.held (context t.guards.raised) ≡ held_in t.guards.held o.ctx = ap (λ x. held_in t.guards.held x) (own-is job t o os s ss m k e) in
+      let held : held_in t.guards.held o.ctx ≡ held_levels (o.ctx ∷ under t o os s ss) o.ctx =
+      rw e at (of-call t.guards o os s ss m (guards-of job (standing t (o ∷ os) (s ∷ ss) m) k)).held o.ctx in
+      let one : held_levels (o.ctx ∷ under t o os s ss) o.ctx ≡ suc (held_levels (under t o os s ss) o.ctx) =
+      taken-levels o.ctx (under t o os s ss) o.ctx ∙ rw (==-refl (rank o.ctx)) refl in
+      omega (arith, here, held, one)
 
 -- ## a load
 
@@ -73,11 +80,13 @@ module _ (job : Job) (limited : IsLimited job) (v : ℕ) (t : Task) (o : CodeCal
   load-fits Fetch k takes = takes
   load-fits (GotHead byte) k takes =
       let few = limited.functions in
+      let few-most = funcs-most job.version in
       let tramps = limited.tramps in
+      let most = tramps-most job.version in
       let lt = k.steady.calls.0.func in
       let i = takes.1 in
-      (omega (arith, few, lt), (takes.0, omega (arith, tramps, i), takes.2, takes.3))
-  load-fits GotBreak k takes = (let tramps = limited.tramps in omega (arith, tramps, takes))
+      (omega (arith, few, few-most, lt), (takes.0, omega (arith, tramps, most, i), takes.2, takes.3))
+  load-fits GotBreak k takes = (let tramps = limited.tramps in let most = tramps-most job.version in omega (arith, tramps, most, takes))
   load-fits (InTramp slot) k takes = tt
   load-fits (OwnSel u reg) k takes = k.steady.calls.0.names
   load-fits Walking k takes = record {

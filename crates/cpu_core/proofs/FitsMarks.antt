@@ -1,11 +1,13 @@
 -- A task's mark fits it: a callback finds room in its call's frame, the call of an act room for a call, and a return its caller.
-use Rattle.std.proofs.Common.{cond, ◌≡◌, ℕ, suc, ◌-◌, ◌<◌, ◌≤◌, false, List, [], ◌∷◌, ◌++◌, length, refl, sym, subst, arith}
+use Rattle.std.proofs.Common.{cond, ◌≡◌, ℕ, suc, ◌-◌, ◌*◌, ◌<◌, ◌≤◌, false, List, [], ◌∷◌, ◌++◌, length, refl, sym, subst, arith}
 use Rattle.ft_base.specs.declared.context.Ctx.{Ctx}
-use Rattle.ft_base.specs.declared.limits.TheConstants.{BOUND_USERS}
+use Rattle.ft_base.specs.declared.limits.TheConstants.{USERS}
 use Rattle.ft_base.specs.declared.number.FuncNo.{FuncNo}
 use Rattle.ft_base.specs.declared.number.UserNo.{UserNo}
 use Rattle.ft_base.specs.Job.{Job}
 use Rattle.ft_base.specs.Same.{rank, same_ctx}
+use Rattle.ft_base.specs.Versions.{levels}
+use Rattle.ft_base.proofs.Versions.{users-most}
 use Rattle.return_stack.specs.Calls.{StackedCall}
 use Rattle.word_map.specs.Shapes.{shape_of}
 use Rattle.word_machine.specs.Calls.{under_call}
@@ -71,13 +73,13 @@ module _ (job : Job) (limited : IsLimited job) (t : Task) (o : CodeCall) (os : L
   act-is : (l : ToMark) → IsTaskOf job (here l) → HasAct (here l)
   act-is l k = act-left job (here l) k refl
 
-  exit-is : (i : ℕ) → i < length (users_in s.users) → length (users_in s.users) ≤ BOUND_USERS → i < BOUND_USERS
+  exit-is : (i : ℕ) → i < length (users_in s.users) → length (users_in s.users) ≤ USERS → i < USERS
   exit-is i lt few = omega (arith, lt, few)
 
   called-fits : (u : UserNo) (reg : ℕ) → IsTaskOf job (here (Calling u reg)) → length (users_in s.users) < length job.users
       → HasFrameRoom (declared_in (setup_in job) u.0).kind (here (Calling u reg)).stacks
   called-fits u reg k lt = record {
-    users = users-room s.users BOUND_USERS (let few = limited.users in omega (arith, lt, few));
+    users = users-room s.users USERS (let few = limited.users in let most = users-most job.version in omega (arith, lt, few, most));
     frame = λ deep. (
         let room = k.steady.calls.0.found deep in
         let e = frames-are (shape_of job) t.number (under_call (joined o s) (stack_in os ss)) os ss k.tied.1 in
@@ -88,10 +90,10 @@ module _ (job : Job) (limited : IsLimited job) (t : Task) (o : CodeCall) (os : L
 
   acting-room : (u : UserNo) (f : FuncNo) (x : Ctx) → IsTaskOf job (here (Acting u f x)) → suc t.next < 4_294_967_296 → HasCallRoom (here (Acting u f x))
   acting-room u f x k next =
-      let lt = act-call_fits job (t.opens.limit - 2) (state_of (here (Acting u f x))) k.steady k.room (joined o s) (stack_in os ss) refl u.0
+      let lt = act-call_fits job (t.opens.limit - 2 * levels job) (state_of (here (Acting u f x))) k.steady k.room (joined o s) (stack_in os ss) refl u.0
       (record { ctx = x; func = f.0 }) refl in
-      let two = k.two in
-      call-room job (here (Acting u f x)) k (omega (arith, lt, two)) next
+      let nested = k.nested in
+      call-room job (here (Acting u f x)) k (omega (arith, lt, nested)) next
 
   acting-raise : (u : UserNo) (f : FuncNo) (x : Ctx) → IsTaskOf job (here (Acting u f x)) → CanRaise (here (Acting u f x)) x
   acting-raise u f x k ne =

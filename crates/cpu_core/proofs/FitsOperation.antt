@@ -1,5 +1,5 @@
 -- What a task's next operation asks is so, and an act that begins can begin.
-use Rattle.std.proofs.Common.{◌≡◌, ℕ, suc, ◌-◌, ◌<◌, true, false, List, [], ◌∷◌, drop, length, slice_get, Some, None, refl, sym, ap, ◌∙◌, subst, arith}
+use Rattle.std.proofs.Common.{◌≡◌, ℕ, suc, ◌-◌, ◌*◌, ◌<◌, true, false, List, [], ◌∷◌, drop, length, slice_get, Some, None, refl, sym, ap, ◌∙◌, subst, arith}
 use Rattle.std.specs.Prelude.{Option}
 use Rattle.ft_base.specs.declared.context.Ctx.{Ctx}
 use Rattle.ft_base.specs.declared.number.FuncNo.{FuncNo}
@@ -7,6 +7,7 @@ use Rattle.ft_base.specs.declared.task.TaskAct.{TaskAct}
 use Rattle.ft_base.specs.declared.task.TaskAct.TheVariants.{Call, Ret as RetAct, Raise, Lower, After}
 use Rattle.ft_base.specs.Job.{Job}
 use Rattle.ft_base.specs.Same.{rank}
+use Rattle.ft_base.specs.Versions.{levels}
 use Rattle.ft_base.specs.WellFormed.{IsScript}
 use Rattle.ft_hist.specs.Plain.{context}
 use Rattle.plain_machine.specs.State.{has_acts}
@@ -49,7 +50,7 @@ module _ (job : Job) where
 
     called-fits : (f : FuncNo) → slice_get t.acts.all t.acts.gone ≡ Some (Call f) → HasCallRoom before
     called-fits f e =
-        let lt = script-call_fits job (t.opens.limit - 2) (state_of before) k.steady k.room refl f (drop (suc t.acts.gone) t.acts.all)
+        let lt = script-call_fits job (t.opens.limit - 2 * levels job) (state_of before) k.steady k.room refl f (drop (suc t.acts.gone) t.acts.all)
         (present-first t.acts.all t.acts.gone (Call f) e) in
         call-room job before k (omega (arith, lt)) next
 

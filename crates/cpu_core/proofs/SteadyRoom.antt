@@ -1,9 +1,10 @@
 -- The open calls of a steady task are those of its script and those that acts made over them, and there is room for the next one.
-use Rattle.std.proofs.Common.{cond, ◌≡◌, ℕ, suc, ◌+◌, ◌<◌, ◌≤◌, Bool, true, false, List, [], ◌∷◌, length, refl, ap, subst, arith}
+use Rattle.std.proofs.Common.{cond, ◌≡◌, ℕ, suc, ◌+◌, ◌*◌, ◌<◌, ◌≤◌, Bool, true, false, List, [], ◌∷◌, length, refl, ap, subst, arith}
 use Rattle.ft_base.specs.declared.number.FuncNo.{FuncNo}
 use Rattle.ft_base.specs.declared.task.TaskAct.{TaskAct}
 use Rattle.ft_base.specs.declared.task.TaskAct.TheVariants.{Call, Ret as RetAct, Raise, Lower, After}
 use Rattle.ft_base.specs.Job.{Job}
+use Rattle.ft_base.specs.Versions.{levels}
 use Rattle.ft_hist.specs.Plain.{Owed}
 use Rattle.word_machine.specs.Calls.{under_by, under_call}
 use Rattle.word_machine.specs.Task.{OpenCall, TaskState, Moment, First, Acting, is_quiet, user_of}
@@ -59,9 +60,9 @@ module _ (job : Job) where
         let e = script-calls x k at' in
         omega (arith, le, o, e)
 
-    -- there is room for a call of an act: two of them may be open at a time
+    -- there is room for a call of an act: as many of them may be open at a time as the guards of two contexts have levels
     pub act-call_fits : (x : TaskState) → IsSteady job x → HasCallRoom limit x → (c : OpenCall) (below : List OpenCall) → x.stack ≡ c ∷ below → (u : ℕ)
-        (o : Owed) → x.moment ≡ Acting u o → length x.stack < limit + 2
+        (o : Owed) → x.moment ≡ Acting u o → length x.stack < limit + 2 * levels job
     act-call_fits x k room c below st u o at' =
         let now : StaysWithin limit (open_by false x.stack) (acts_by false x.acts) =
         subst (λ m. StaysWithin limit (open_by (is_returning m) x.stack) (acts_by (is_quiet m) x.acts)) at' room in

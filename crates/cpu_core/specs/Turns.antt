@@ -8,15 +8,15 @@ use Rattle.task_core.specs.declared.task.Task.{Task}
 use Rattle.task_core.specs.Starts.{HasRoomFor, is_left, task_at_start}
 
 -- a task of a plan before its first act, with room for its calls
-pub record IsStarted (frames : ℕ) (plan : TaskPlan) (t : Task) : Type 0 where
-  pub start : t ≡ task_at_start plan.task plan.acts.items t.opens.limit frames
-  pub room : HasRoomFor t.opens.limit plan.acts.items
+pub record IsStarted (frames levels : ℕ) (plan : TaskPlan) (t : Task) : Type 0 where
+  pub start : t ≡ task_at_start plan.task plan.acts.items t.opens.limit frames levels
+  pub room : HasRoomFor t.opens.limit levels plan.acts.items
 
 -- the same of all tasks
-abbrev pub AreStarted : ℕ → List TaskPlan → List Task → Type 0
-AreStarted frames [] [] = Unit {0}
-AreStarted frames (p ∷ ps) (t ∷ ts) = IsStarted frames p t × AreStarted frames ps ts
-AreStarted frames _ _ = ⊥
+abbrev pub AreStarted : (frames levels : ℕ) → List TaskPlan → List Task → Type 0
+AreStarted frames levels [] [] = Unit {0}
+AreStarted frames levels (p ∷ ps) (t ∷ ts) = IsStarted frames levels p t × AreStarted frames levels ps ts
+AreStarted frames levels _ _ = ⊥
 
 -- a task has an act left
 abbrev pub any_left : List Task → Bool

@@ -2,7 +2,7 @@
 
 ghost use Rattle.std.specs.Prelude.{◌≡◌, ◌<◌, ◌≤◌, ◌++◌, [], length, All, IfOk, Option};
 ghost use Rattle.std.specs.Option.{option_map};
-ghost use Rattle.ft_base.specs.declared.limits.TheConstants.{ACTS, FRAMES, ITEMS, QUANTUM, TASKS};
+ghost use Rattle.ft_base.specs.declared.limits.TheConstants.{ACTS, FRAMES, GUARD_LEVELS, ITEMS, QUANTUM, TASKS};
 ghost use Rattle.user_specs.specs.declared.plan.TaskPlan.{TaskPlan};
 ghost use Rattle.word_map.specs.Ops.{placed};
 ghost use Rattle.word_map.specs.Shapes.{shape_of};
@@ -58,7 +58,8 @@ impl Cpu {
     ghost use Rattle.cpu_core.specs.Taken.{IsCpuOf, IsTaken};
 
     /// CPU `cpu` of a script before its first step, with these tasks and users. `frames` is how many
-    /// frames each task's shadow stack has. It has room for `room` items, and for all else that its
+    /// frames each task's shadow stack has, and `levels` how many levels each guard has, 1 or 2. It has
+    /// room for `room` items, and for all else that its
     /// steps need. The error says that memory ran out.
     pub fn new(
         alloc: Global,
@@ -66,6 +67,7 @@ impl Cpu {
         cpu: CpuNo,
         specs: &[Spec],
         frames: u32,
+        levels: u8,
         room: u32,
         map: WordMap,
     ) -> Result<Cpu, NoMemory>
@@ -73,11 +75,12 @@ impl Cpu {
         requires tasks { length plan.now.tasks.items ≤ TASKS }
         requires acts { All (λ (p : TaskPlan). length p.acts.items ≤ ACTS) plan.now.tasks.items }
         requires frames { frames ≤ FRAMES }
-        ensures of { IfOk result (λ c. (job : Job) → IsLimited job → IsCpuOf job plan.now cpu.0 specs.now frames map → plan.now.quantum ≤ QUANTUM → room ≤ ITEMS
+        requires levels { levels ≤ GUARD_LEVELS }
+        ensures of { IfOk result (λ c. (job : Job) → IsLimited job → IsCpuOf job plan.now cpu.0 specs.now frames levels map → plan.now.quantum ≤ QUANTUM → room ≤ ITEMS
             → IsFor job c × (cpu_of job c ≡ cpu_start job cpu.0)) }
         ensures room { IfOk result (λ c. c.marked ≡ record { items = []; room = room }) }
     {
-        let tasks = Tasks::new(alloc, plan.tasks.as_slice(), frames)?;
+        let tasks = Tasks::new(alloc, plan.tasks.as_slice(), frames, levels)?;
         Ok(Cpu {
             parts: Parts {
                 setup: Setup::new(alloc, specs, frames, map)?,

@@ -1,7 +1,7 @@
 //! The tasks of a CPU, and which of them runs.
 
 ghost use Rattle.std.specs.Prelude.{◌≡◌, ◌<◌, ◌≤◌, length, map, set, slice_get, Some, All, IfOk, IsSomeAnd};
-ghost use Rattle.ft_base.specs.declared.limits.TheConstants.{ACTS, FRAMES, TASKS};
+ghost use Rattle.ft_base.specs.declared.limits.TheConstants.{ACTS, FRAMES, GUARD_LEVELS, TASKS};
 ghost use Rattle.user_specs.specs.declared.plan.TaskPlan.{TaskPlan as DeclaredPlan};
 ghost use Rattle.task_core.specs.Fits.{CanBegin, HasAct, TaskFits};
 ghost use Rattle.task_core.specs.Starts.{view_of};
@@ -36,17 +36,23 @@ impl Model for Tasks {
 }
 
 impl Tasks {
-    /// These tasks before their first acts, each with a shadow stack of so many frames. The error
-    /// says that memory ran out.
-    pub(crate) fn new(alloc: Global, plans: &[TaskPlan], frames: u32) -> Result<Tasks, NoMemory>
+    /// These tasks before their first acts, each with a shadow stack of so many frames and guards of so
+    /// many levels. The error says that memory ran out.
+    pub(crate) fn new(
+        alloc: Global,
+        plans: &[TaskPlan],
+        frames: u32,
+        levels: u8,
+    ) -> Result<Tasks, NoMemory>
         requires few { length plans.now ≤ TASKS }
         requires acts { All (λ (p : DeclaredPlan). length p.acts.items ≤ ACTS) plans.now }
         requires frames { frames ≤ FRAMES }
-        ensures { IfOk result (λ ts. AreStarted frames plans.now ts) }
+        requires levels { levels ≤ GUARD_LEVELS }
+        ensures { IfOk result (λ ts. AreStarted frames levels plans.now ts) }
     {
         let mut tasks = Vec::with_capacity(alloc, plans.len()).map_err(|_| NoMemory)?;
         for plan in plans {
-            tasks.push_reserved(Task::new(alloc, plan, frames)?);
+            tasks.push_reserved(Task::new(alloc, plan, frames, levels)?);
         }
         Ok(Tasks { tasks })
     }

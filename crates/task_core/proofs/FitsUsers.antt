@@ -4,18 +4,19 @@ use Rattle.std.specs.Prelude.{Option, IfSome, unwrap_or}
 use Rattle.std.specs.Int.{bit_at}
 use Rattle.std.proofs.lemmas.List.{length-map}
 use Rattle.std.proofs.Common.{length-append}
-use Rattle.ft_base.specs.declared.limits.TheConstants.{BOUND_USERS}
+use Rattle.ft_base.specs.declared.limits.TheConstants.{USERS}
 use Rattle.ft_base.specs.declared.number.UserNo.{UserNo}
 use Rattle.ft_base.specs.declared.task.TaskAct.{TaskAct}
 use Rattle.ft_base.specs.declared.task.TaskAct.TheVariants.{Call, Ret as RetAct, Raise, Lower, After}
 use Rattle.ft_base.specs.declared.user.Kind.{Kind}
 use Rattle.ft_base.specs.Job.{Job, Spec}
 use Rattle.ft_base.specs.Kinds.{has_depth, is_fprobe}
+use Rattle.ft_base.proofs.Versions.{users-most}
 use Rattle.hash_pages.specs.declared.reader.Verdict.{Verdict}
 use Rattle.hash_pages.specs.declared.reader.Verdict.TheVariants.{Open, On}
 use Rattle.hash_pages.specs.Reads.{Read, read_got, verdict_of}
 use Rattle.ops_list.specs.Walks.{walk_at}
-use Rattle.recursion_guard.specs.Guards.{is_held}
+use Rattle.recursion_guard.specs.Guards.{is_full as is_guard_full}
 use Rattle.return_stack.specs.declared.shadow.FrameUser.{FrameUser as OwedUser}
 use Rattle.return_stack.specs.Calls.{CallStack, StackedCall, frames_in, if_used, is_full, top_users, with_hook, with_user, without_empty}
 use Rattle.fprobe.specs.declared.entry.Probe.{Probe}
@@ -48,24 +49,24 @@ use Rattle.task_core.proofs.TiedLeft.{call-open}
 
 -- the top call's frame has room for one more user
 abbrev HasRoom : List StackedCall → Type 0
-HasRoom ss = IfSome (top_users ss) (λ us. length us < BOUND_USERS)
+HasRoom ss = IfSome (top_users ss) (λ us. length us < USERS)
 
-hooked-few : (users : Option (List OwedUser)) → length (users_in users) ≤ BOUND_USERS → length (map plain_user (unwrap_or users [])) ≤ BOUND_USERS
+hooked-few : (users : Option (List OwedUser)) → length (users_in users) ≤ USERS → length (map plain_user (unwrap_or users [])) ≤ USERS
 hooked-few None le = omega arith
 hooked-few (Some us) le = le
 
-one-more : (us : List OwedUser) (user : OwedUser) → length us < BOUND_USERS → length (map plain_user (us ++ user ∷ [])) ≤ BOUND_USERS
+one-more : (us : List OwedUser) (user : OwedUser) → length us < USERS → length (map plain_user (us ++ user ∷ [])) ≤ USERS
 one-more us user lt =
     let e = length-map (us ++ user ∷ []) plain_user in
     let l = length-append us (user ∷ []) in
     omega (arith, lt, e, l)
 
-added-few : (users : Option (List OwedUser)) (user : OwedUser) → IfSome users (λ us. length us < BOUND_USERS)
-    → length (map plain_user (unwrap_or users [] ++ user ∷ [])) ≤ BOUND_USERS
+added-few : (users : Option (List OwedUser)) (user : OwedUser) → IfSome users (λ us. length us < USERS)
+    → length (map plain_user (unwrap_or users [] ++ user ∷ [])) ≤ USERS
 added-few None user room = one-more [] user (omega arith)
 added-few (Some us) user room = one-more us user room
 
-used-few : (users : Option (List OwedUser)) → length (users_in users) ≤ BOUND_USERS → length (users_in (if_used users)) ≤ BOUND_USERS
+used-few : (users : Option (List OwedUser)) → length (users_in users) ≤ USERS → length (users_in (if_used users)) ≤ USERS
 used-few None le = le
 used-few (Some []) le = le
 used-few (Some (m ∷ us)) le = le
@@ -112,7 +113,7 @@ module _ (t : Task) (setup : PlainSetup) (f : AreFew t.stacks.calls) where
   Few u = AreFew u.stacks.calls
 
   guard-few : (spec : Spec) (u : UserNo) (reg : ℕ) → Few (guard_tested t spec u reg)
-  guard-few spec u reg = if_case Few (is_held t.guards) _ _ (λ e. f) (λ e. f)
+  guard-few spec u reg = if_case Few (is_guard_full t.guards) _ _ (λ e. f) (λ e. f)
 
   tested-few : (spec : Spec) (u : UserNo) (reg : ℕ) → Few (tested t spec u reg)
   tested-few spec u reg = if_case Few spec.pid _ _ (λ e. f) (λ e. guard-few spec u reg)
@@ -165,7 +166,7 @@ module _ (job : Job) (limited : IsLimited job) (setup : PlainSetup) (v : ℕ) wh
   asks-is : (t : Task) (o : CodeCall) (os : List CodeCall) (s : StackedCall) (ss : List StackedCall) (l : ToMark)
       → PresentTakes job (state_of (standing t (o ∷ os) (s ∷ ss) (Mark l))) (mark_moment (users_in s.users) l) v
       → Asks (s ∷ ss) l
-  asks-is t o os s ss (Calling u reg) takes = users-room s.users BOUND_USERS (let few = limited.users in omega (arith, takes, few))
+  asks-is t o os s ss (Calling u reg) takes = users-room s.users USERS (let few = limited.users in let most = users-most job.version in omega (arith, takes, few, most))
   asks-is t o os s ss _ takes = tt
 
   few-row : (t : Task) (calls : List CodeCall) (ss : List StackedCall) (m : Moment) → IsTaskOf job (standing t calls ss m)

@@ -1,18 +1,18 @@
 -- The guards that a task of code holds, and the contexts that it is in: what its top call and those below say of them.
-use Rattle.std.proofs.Common.{cond, ◌≡◌, ℕ, Bool, true, false, List, [], ◌∷◌, ◌++◌, length, drop, refl, sym, ap, ◌∙◌, subst}
+use Rattle.std.proofs.Common.{cond, ◌≡◌, ℕ, suc, ◌-◌, Bool, true, false, List, [], ◌∷◌, ◌++◌, length, drop, refl, sym, ap, ◌∙◌, subst}
 use Rattle.ft_base.specs.declared.context.Ctx.{Ctx}
 use Rattle.ft_base.specs.declared.context.Ctx.TheVariants.{Normal, Softirq, Irq, Nmi}
 use Rattle.ft_base.specs.Same.{same_ctx}
 use Rattle.ft_hist.specs.Frames.{FrameUser}
-use Rattle.plain_machine.specs.State.{is_held}
+use Rattle.plain_machine.specs.State.{held_levels}
 use Rattle.ops_list.specs.declared.walker.WalkPhase.{WalkPhase}
 use Rattle.ops_list.specs.declared.walker.WalkPhase.TheVariants.{Starting, At, Ended as WalkEnded}
 use Rattle.hash_pages.specs.declared.reader.ReadPhase.{ReadPhase}
 use Rattle.hash_pages.specs.declared.reader.ReadPhase.TheVariants.{AtSel, AtFilter, AtNotrace, Ended as ReadEnded}
 use Rattle.hash_pages.specs.declared.reader.Verdict.{Verdict}
 use Rattle.hash_pages.specs.declared.reader.Verdict.TheVariants.{On}
-use Rattle.recursion_guard.specs.declared.by_context.ByContext.{ByContext}
-use Rattle.recursion_guard.specs.Guards.{GuardState, context as present, mark_of, with_guard, with_mark}
+use Rattle.recursion_guard.specs.declared.held.HeldLevels.{HeldLevels}
+use Rattle.recursion_guard.specs.Guards.{GuardState, context as present, entered, held_in, left, with_held}
 use Rattle.return_stack.specs.Calls.{StackedCall, top_users}
 use Rattle.word_machine.specs.Task.{OpenCall, Closing as ClosingAt, guards_under}
 use Rattle.task_core.specs.declared.moment.Moment.{Moment as CodeMoment}
@@ -29,27 +29,37 @@ use Rattle.task_core.specs.States.{ending_exit, exiting, moment_at, stack_in, us
 use Rattle.task_core.specs.Steady.{act_raised, guards_at, holds_guard, raised_over}
 use Rattle.task_core.proofs.SteadyGuards.{next-held}
 
--- ## contexts and marks
+-- ## contexts and levels
 
-module _ (marks : ByContext) (b : Bool) where
-  marked : (x k : Ctx) → mark_of (with_mark marks x b) k ≡ cond (same_ctx x k) b (mark_of marks k)
-  marked Normal Normal = refl
-  marked Normal _ = refl
-  marked Softirq Softirq = refl
-  marked Softirq _ = refl
-  marked Irq Irq = refl
-  marked Irq _ = refl
-  marked Nmi Nmi = refl
-  marked Nmi _ = refl
+module _ (held : HeldLevels) (f : ℕ → ℕ) where
+  counted : (x k : Ctx) → held_in (with_held held x (f (held_in held x))) k ≡ cond (same_ctx x k) (f (held_in held k)) (held_in held k)
+  counted Normal Normal = refl
+  counted Normal _ = refl
+  counted Softirq Softirq = refl
+  counted Softirq _ = refl
+  counted Irq Irq = refl
+  counted Irq _ = refl
+  counted Nmi Nmi = refl
+  counted Nmi _ = refl
 
--- a mark of the present context leaves those of the others
-pub marks-apart : (g : GuardState) (b : Bool) (x : Ctx) → present g.raised ≡ x → (k : Ctx)
-    → mark_of (with_guard g b).held k ≡ cond (same_ctx x k) b (mark_of g.held k)
-marks-apart g b x e k = subst (λ y. mark_of (with_guard g b).held k ≡ cond (same_ctx y k) b (mark_of g.held k)) e (marked g.held b (present g.raised) k)
+module _ (g : GuardState) (x : Ctx) (e : present g.raised ≡ x) (k : Ctx) where
+  -- a change of the present context's number leaves those of the others
+  levels-apart : (f : ℕ → ℕ) → held_in (with_held g.held (present g.raised) (f (held_in g.held (present g.raised)))) k
+      ≡ cond (same_ctx x k) (f (held_in g.held k)) (held_in g.held k)
+  levels-apart f =
+      subst (λ y. held_in (with_held g.held (present g.raised) (f (held_in g.held (present g.raised)))) k
+      ≡ cond (same_ctx y k) (f (held_in g.held k)) (held_in g.held k)) e (counted g.held f (present g.raised) k)
+
+  -- a level that is taken, and one that is given back
+  pub taken-apart : held_in (entered g).held k ≡ cond (same_ctx x k) (suc (held_in g.held k)) (held_in g.held k)
+  taken-apart = levels-apart suc
+
+  pub given-apart : held_in (left g).held k ≡ cond (same_ctx x k) (held_in g.held k - 1) (held_in g.held k)
+  given-apart = levels-apart (λ n. n - 1)
 
 -- ## moments
 
--- the guard of the top call's context is held
+-- a level of the guard of the top call's context is held for it
 abbrev pub holding : CodeMoment → Bool
 holding (Load (AtDepth u reg)) = true
 holding (Mark (Calling u reg)) = true
@@ -113,16 +123,16 @@ IsOver cs raised = raised ≡ cs ++ drop (length cs) raised
 
 -- guards and contexts are those of these calls at this moment
 pub record GuardsAt (g : GuardState) (calls : List CodeCall) (ss : List StackedCall) (m : CodeMoment) : Type 0 where
-  pub held : (k : Ctx) → mark_of g.held k ≡ is_held (guards_at (moment_at (top_of calls) (users_in (top_users ss)) m) (stack_in calls ss)) k
+  pub held : (k : Ctx) → held_in g.held k ≡ held_levels (guards_at (moment_at (top_of calls) (users_in (top_users ss)) m) (stack_in calls ss)) k
   pub raised : IsOver (act_raised (stack_in calls ss)) g.raised
 
 -- those of a task
 abbrev pub Guards : Task → Type 0
 Guards t = GuardsAt t.guards t.opens.calls t.stacks.calls t.moment
 
--- the same by a call in context x, made by the script or by an act, over others, whose guard is held or not
+-- the same by a call in context x, made by the script or by an act, over others, that holds a level of its guard or not
 pub record GuardsIn (g : GuardState) (b : Bool) (x : Ctx) (scripted : Bool) (below : List OpenCall) : Type 0 where
-  pub held : (k : Ctx) → mark_of g.held k ≡ is_held (cond b (x ∷ guards_under scripted below) (guards_under scripted below)) k
+  pub held : (k : Ctx) → held_in g.held k ≡ held_levels (cond b (x ∷ guards_under scripted below) (guards_under scripted below)) k
   pub raised : IsOver (cond scripted [] (raised_over x below (act_raised below))) g.raised
 
 module _ (g : GuardState) (o : CodeCall) (os : List CodeCall) (s : StackedCall) (ss : List StackedCall) (m : CodeMoment) where
@@ -135,17 +145,17 @@ module _ (g : GuardState) (o : CodeCall) (os : List CodeCall) (s : StackedCall) 
 
   pub in-call : (b : Bool) → holding m ≡ b → GuardsIn g b o.ctx o.scripted (stack_in os ss) → GuardsAt g (o ∷ os) (s ∷ ss) m
   in-call b e h = record {
-    held = λ k. h.held k ∙ ap (λ gs. is_held gs k) (sym (guards-by b e));
+    held = λ k. h.held k ∙ ap (λ gs. held_levels gs k) (sym (guards-by b e));
     raised = h.raised;
   }
 
   pub of-call : GuardsAt g (o ∷ os) (s ∷ ss) m → GuardsIn g (holding m) o.ctx o.scripted (stack_in os ss)
   of-call h = record {
-    held = λ k. h.held k ∙ ap (λ gs. is_held gs k) (guards-by (holding m) refl);
+    held = λ k. h.held k ∙ ap (λ gs. held_levels gs k) (guards-by (holding m) refl);
     raised = h.raised;
   }
 
--- they stay from moment to moment, as long as the guard is held or isn't
+-- they stay from moment to moment, as long as the level is held or isn't
 pub guards-stay : (g : GuardState) (calls : List CodeCall) (ss : List StackedCall) (m m' : CodeMoment) → holding m ≡ holding m'
     → GuardsAt g calls ss m → GuardsAt g calls ss m'
 guards-stay g [] ss m m' e h = record { held = h.held; raised = h.raised }

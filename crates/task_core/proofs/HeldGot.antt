@@ -9,8 +9,8 @@ use Rattle.ft_base.specs.declared.task.TaskAct.TheVariants.{Call, Ret as RetAct,
 use Rattle.ft_base.specs.Job.{Job}
 use Rattle.ft_base.proofs.Small.{false_true}
 use Rattle.ft_hist.specs.Plain.{context}
-use Rattle.plain_machine.specs.State.{is_held}
-use Rattle.recursion_guard.specs.Guards.{context as present_context, mark_of}
+use Rattle.plain_machine.specs.State.{held_levels}
+use Rattle.recursion_guard.specs.Guards.{context as present_context, held_in}
 use Rattle.return_stack.specs.declared.shadow.FrameUser.{FrameUser}
 use Rattle.return_stack.specs.Calls.{StackedCall, top_users}
 use Rattle.word_map.specs.Contents.{low, returned_at}
@@ -31,15 +31,14 @@ use Rattle.task_core.specs.TaskSteps.{after_first, begun, entered, exit_to, fini
 use Rattle.task_core.specs.Tied.{IsTaskOf}
 use Rattle.task_core.proofs.FitsCalls.{none-open}
 use Rattle.task_core.proofs.Held.{Guards, GuardsAt, guards-stay, holding, holding-is, in-call, of-call, over-none}
-use Rattle.task_core.proofs.HeldLoads.{exit-free, load-guards, under}
+use Rattle.task_core.proofs.HeldLoads.{exit-free, load-guards}
 use Rattle.task_core.proofs.HeldMarks.{mark-guards, under-script}
 use Rattle.task_core.proofs.RowLists.{contexts-same, standing}
 use Rattle.task_core.proofs.SteadyContexts.{context-is}
-use Rattle.task_core.proofs.SteadyGuards.{guard-free}
 use Rattle.task_core.proofs.SteadyRaised.{none-raised, quiet-raised}
 use Rattle.task_core.proofs.TiedLeft.{call-open, quiet-is}
 
--- a guard is held in a dispatch alone
+-- a level of a guard is held for a call in its dispatch alone
 pub holds-dispatched : (m : Moment) → holds_guard m ≡ true → is_dispatching m ≡ true
 holds-dispatched (AtDepth u reg) e = refl
 holds-dispatched (Calling u reg) e = refl
@@ -59,7 +58,7 @@ module _ (t : Task) (calls : List CodeCall) (ss : List StackedCall) (setup : Pla
   called-guards f h =
       in-call t.guards (new_call (next_call t) (present_context t.guards.raised) f true setup.shape) calls (record { call = next_call t; users = None }) ss
       (Load Fetch) false refl
-      (record { held = λ k. (h.held k ∙ ap (λ gs. is_held gs k) (sym (under-script (stack_in calls ss)))); raised = refl })
+      (record { held = λ k. (h.held k ∙ ap (λ gs. held_levels gs k) (sym (under-script (stack_in calls ss)))); raised = refl })
 
   first-guards : (act : Option TaskAct) → Guards before → Guards (after_first before setup act v)
   first-guards None h = h
@@ -87,14 +86,9 @@ module _ (job : Job) where
         contexts-same t.guards.raised ∙ ap context k.raised
         ∙ context-is job (state_of (standing t (o ∷ os) (s ∷ ss) m)) k.steady (joined o s) (stack_in os ss) refl d
 
-    -- a guard that it holds is no other's
-    pub free-is : holding m ≡ true → is_held (under t o os s ss) o.ctx ≡ false
-    free-is e =
-        guard-free job (state_of (standing t (o ∷ os) (s ∷ ss) m)) k.steady (joined o s) (stack_in os ss) refl (holding-is o (users_in s.users) m ∙ e)
-
-    -- while it holds it
-    pub own-is : holding m ≡ true → (present_context t.guards.raised ≡ o.ctx) × (is_held (under t o os s ss) o.ctx ≡ false)
-    own-is e = (present-is (holds-dispatched (moment_at o (users_in s.users) m) (holding-is o (users_in s.users) m ∙ e)), free-is e)
+    -- and so while a level of its guard is held for it
+    pub own-is : holding m ≡ true → present_context t.guards.raised ≡ o.ctx
+    own-is e = present-is (holds-dispatched (moment_at o (users_in s.users) m) (holding-is o (users_in s.users) m ∙ e))
 
     -- below a scripted call all are
     scripted-below : o.scripted ≡ true → act_raised (stack_in os ss) ≡ []
@@ -110,7 +104,7 @@ module _ (job : Job) where
     got-row t [] ss (Load l) k e = none-open (call-open job (standing t [] ss (Load l)) k refl)
     got-row t (o ∷ os) [] (Load l) k e = none-open (call-open job (standing t (o ∷ os) [] (Load l)) k refl)
     got-row t (o ∷ os) (s ∷ ss) (Load l) k e =
-        load-guards t o os s ss setup v l (present-is t o os s ss (Load l) k) (free-is t o os s ss (Load l) k)
+        load-guards t o os s ss setup v l (present-is t o os s ss (Load l) k)
         (of-call t.guards o os s ss (Load l) (guards-of (standing t (o ∷ os) (s ∷ ss) (Load l)) k))
     got-row t [] ss (Mark l) k e = none-open (call-open job (standing t [] ss (Mark l)) k refl)
     got-row t (o ∷ os) [] (Mark l) k e = none-open (call-open job (standing t (o ∷ os) [] (Mark l)) k refl)
@@ -122,7 +116,7 @@ module _ (job : Job) where
     guards-got t k e = got-row t t.opens.calls t.stacks.calls t.moment k e
 
     pub held-got : (t : Task) → IsTaskOf job t → is_polling t.moment ≡ false → (k : Ctx)
-        → mark_of (task_after t setup v).guards.held k ≡ is_held (guards_at (moment_of (task_after t setup v)) (stack_of (task_after t setup v))) k
+        → held_in (task_after t setup v).guards.held k ≡ held_levels (guards_at (moment_of (task_after t setup v)) (stack_of (task_after t setup v))) k
     held-got t k e = (guards-got t k e).held
 
     pub raised-got : (t : Task) → IsTaskOf job t → is_polling t.moment ≡ false

@@ -1,5 +1,5 @@
--- The guards of a task of code after a load: the test of a guard takes it, and the depth rule gives it back.
-use Rattle.std.proofs.Common.{cond, ◌≡◌, ℕ, zero, suc, Bool, true, false, ◌==◌, List, ◌∷◌, Some, None, refl, sym, ap, ◌∙◌}
+-- The guards of a task of code after a load: the test of a guard takes a level of it, and the depth rule gives it back.
+use Rattle.std.proofs.Common.{cond, ◌≡◌, ℕ, zero, suc, Bool, true, false, ◌==◌, List, ◌∷◌, ◌-◌, Some, None, refl, sym, ap, ◌∙◌}
 use Rattle.std.specs.Prelude.{Option}
 use Rattle.std.specs.Int.{bit_at}
 use Rattle.ft_base.specs.declared.context.Ctx.{Ctx}
@@ -11,14 +11,13 @@ use Rattle.ft_base.specs.declared.number.UserNo.{UserNo}
 use Rattle.ft_base.specs.Job.{Spec}
 use Rattle.ft_base.specs.Kinds.{has_depth}
 use Rattle.ft_base.specs.Same.{same_ctx}
-use Rattle.plain_machine.specs.State.{is_held}
 use Rattle.ops_list.specs.Walks.{walk_after, walk_at}
 use Rattle.hash_pages.specs.declared.reader.ReadPhase.{ReadPhase}
 use Rattle.hash_pages.specs.declared.reader.ReadPhase.TheVariants.{AtSel, AtFilter, AtNotrace, Ended as ReadEnded}
 use Rattle.hash_pages.specs.declared.reader.Verdict.{Verdict}
 use Rattle.hash_pages.specs.declared.reader.Verdict.TheVariants.{Open, On}
 use Rattle.hash_pages.specs.Reads.{Read, read_got, verdict_of}
-use Rattle.recursion_guard.specs.Guards.{GuardState, context as present, is_held as is_taken, with_guard}
+use Rattle.recursion_guard.specs.Guards.{GuardState, context as present, entered, is_full, left}
 use Rattle.return_stack.specs.declared.shadow.FrameUser.{FrameUser}
 use Rattle.return_stack.specs.Calls.{StackedCall, frames_in}
 use Rattle.site_bytes.specs.Bytes.{breakpoint}
@@ -41,8 +40,8 @@ use Rattle.task_core.specs.Steady.{is_dispatching}
 use Rattle.task_core.specs.TaskOps.{frame_user, owed}
 use Rattle.task_core.specs.TaskSteps.{after_load, arrived_at, depth_tested, exit_from, exit_stated, exit_to, guard_tested, judged, own_stated, passed, pid_tested, tested}
 use Rattle.task_core.proofs.RowLists.{standing}
-use Rattle.task_core.proofs.Held.{Guards, GuardsIn, holding, in-call, marks-apart}
-use Rattle.task_core.proofs.SteadyGuards.{others-held, taken-held}
+use Rattle.task_core.proofs.Held.{Guards, GuardsIn, given-apart, holding, in-call, taken-apart}
+use Rattle.task_core.proofs.SteadyGuards.{given-levels, taken-levels}
 
 -- ## moments without a guard
 
@@ -99,17 +98,17 @@ module _ (t : Task) (o : CodeCall) (os : List CodeCall) (s : StackedCall) (ss : 
   pub goes : (m : CodeMoment) (b : Bool) → holding m ≡ b → In t.guards b → Guards (here m)
   goes m b e h = in-call t.guards o os s ss m b e h
 
-  -- ## guards that are taken and given back
+  -- ## levels that are taken and given back
 
-  taken : present t.guards.raised ≡ o.ctx → In t.guards false → In (with_guard t.guards true) true
+  taken : present t.guards.raised ≡ o.ctx → In t.guards false → In (entered t.guards) true
   taken own h = record {
-    held = λ k. (marks-apart t.guards true o.ctx own k ∙ ap (λ b. cond (same_ctx o.ctx k) true b) (h.held k) ∙ sym (taken-held o.ctx under k));
+    held = λ k. (taken-apart t.guards o.ctx own k ∙ ap (λ n. cond (same_ctx o.ctx k) (suc n) n) (h.held k) ∙ sym (taken-levels o.ctx under k));
     raised = h.raised;
   }
 
-  pub freed : present t.guards.raised ≡ o.ctx → is_held under o.ctx ≡ false → In t.guards true → In (with_guard t.guards false) false
-  freed own free h = record {
-    held = λ k. (marks-apart t.guards false o.ctx own k ∙ ap (λ b. cond (same_ctx o.ctx k) false b) (h.held k) ∙ sym (others-held o.ctx under free k));
+  pub given : present t.guards.raised ≡ o.ctx → In t.guards true → In (left t.guards) false
+  given own h = record {
+    held = λ k. (given-apart t.guards o.ctx own k ∙ ap (λ n. cond (same_ctx o.ctx k) (n - 1) n) (h.held k) ∙ given-levels o.ctx under k);
     raised = h.raised;
   }
 
@@ -117,13 +116,13 @@ module _ (t : Task) (o : CodeCall) (os : List CodeCall) (s : StackedCall) (ss : 
 
   module _ (m : CodeMoment) (u : UserNo) (reg : ℕ) where
     guard-guards : (spec : Spec) → present t.guards.raised ≡ o.ctx → In t.guards false → Guards (guard_tested (here m) spec u reg)
-    guard-guards spec own h = by (is_taken t.guards) (has_depth spec.kind)
+    guard-guards spec own h = by (is_full t.guards) (has_depth spec.kind)
       where
-        by : (held deep : Bool) → Guards (cond held (here (Mark (Refusing u reg Recursion)))
-            (record (here m) { guards = with_guard t.guards true; moment = cond deep (Load (AtDepth u reg)) (Mark (Calling u reg)) }))
+        by : (full deep : Bool) → Guards (cond full (here (Mark (Refusing u reg Recursion)))
+            (record (here m) { guards = entered t.guards; moment = cond deep (Load (AtDepth u reg)) (Mark (Calling u reg)) }))
         by true deep = goes (Mark (Refusing u reg Recursion)) false refl h
-        by false true = in-call (with_guard t.guards true) o os s ss (Load (AtDepth u reg)) true refl (taken own h)
-        by false false = in-call (with_guard t.guards true) o os s ss (Mark (Calling u reg)) true refl (taken own h)
+        by false true = in-call (entered t.guards) o os s ss (Load (AtDepth u reg)) true refl (taken own h)
+        by false false = in-call (entered t.guards) o os s ss (Mark (Calling u reg)) true refl (taken own h)
 
     tested-guards : (spec : Spec) → present t.guards.raised ≡ o.ctx → In t.guards false → Guards (tested (here m) spec u reg)
     tested-guards spec own h = by spec.pid
@@ -146,13 +145,12 @@ module _ (t : Task) (o : CodeCall) (os : List CodeCall) (s : StackedCall) (ss : 
         by true = guard-guards spec own h
         by false = goes (Mark (Refusing u reg ByPid)) false refl h
 
-    depth-guards : (frames v : ℕ) → present t.guards.raised ≡ o.ctx → is_held under o.ctx ≡ false → In t.guards true
-        → Guards (depth_tested (here m) frames u reg v)
-    depth-guards frames v own free h = by (is_too_deep frames v (frames_in ss))
+    depth-guards : (frames v : ℕ) → present t.guards.raised ≡ o.ctx → In t.guards true → Guards (depth_tested (here m) frames u reg v)
+    depth-guards frames v own h = by (is_too_deep frames v (frames_in ss))
       where
-        by : (b : Bool) → Guards (cond b (record (here m) { guards = with_guard t.guards false; moment = Mark (Refusing u reg ByDepth) })
+        by : (b : Bool) → Guards (cond b (record (here m) { guards = left t.guards; moment = Mark (Refusing u reg ByDepth) })
             (here (Mark (Calling u reg))))
-        by true = in-call (with_guard t.guards false) o os s ss (Mark (Refusing u reg ByDepth)) false refl (freed own free h)
+        by true = in-call (left t.guards) o os s ss (Mark (Refusing u reg ByDepth)) false refl (given own h)
         by false = goes (Mark (Calling u reg)) true refl h
 
   -- ## the walk, and exits
@@ -179,22 +177,22 @@ module _ (t : Task) (o : CodeCall) (os : List CodeCall) (s : StackedCall) (ss : 
   -- ## a load
 
   module _ (setup : PlainSetup) (v : ℕ) where
-    -- the present context is that of the call while it is dispatched, and a guard that it holds is no other's
+    -- the present context is that of the call while it is dispatched
     pub load-guards : (l : ToLoad) → (is_dispatching (load_moment o (users_in s.users) l) ≡ true → present t.guards.raised ≡ o.ctx)
-        → (holding (Load l) ≡ true → is_held under o.ctx ≡ false) → In t.guards (holding (Load l)) → Guards (after_load (here (Load l)) setup l v)
-    load-guards Fetch own free h = goes (head_to v) false (head-free v) h
-    load-guards (GotHead byte) own free h =
+        → In t.guards (holding (Load l)) → Guards (after_load (here (Load l)) setup l v)
+    load-guards Fetch own h = goes (head_to v) false (head-free v) h
+    load-guards (GotHead byte) own h =
         let i : ℕ = decode o.func.0 byte v in in-call t.guards (record o { ran = fetched_ran i }) os s ss (fetched_to i) false (fetched-free i) h
-    load-guards GotBreak own free h = in-call t.guards (record o { ran = fetched_ran v }) os s ss (fetched_to v) false (fetched-free v) h
-    load-guards (InTramp slot) own free h =
+    load-guards GotBreak own h = in-call t.guards (record o { ran = fetched_ran v }) os s ss (fetched_to v) false (fetched-free v) h
+    load-guards (InTramp slot) own h =
         in-call t.guards (record o { ran = Own (record { 0 = tramp_user v }) }) os s ss _ false refl h
-    load-guards (OwnSel u reg) own free h = own-guards (Load (OwnSel u reg)) u reg (declared_in setup u.0) v (own refl) h
-    load-guards Walking own free h =
+    load-guards (OwnSel u reg) own h = own-guards (Load (OwnSel u reg)) u reg (declared_in setup u.0) v (own refl) h
+    load-guards Walking own h =
         let user : Option UserNo = walk_at (walk_after o.walk.phase v) in
         in-call t.guards (record o { walk = record o.walk { phase = walk_after o.walk.phase v } }) os s ss (arrived_at setup.shape o.func user) false
         (arrived-free setup.shape o.func user) h
-    load-guards (Reading r) own free h =
+    load-guards (Reading r) own h =
         read-guards (Load (Reading r)) setup (read_got r v) (verdict_of (read_got r v).phase) (walk_at o.walk.phase) (own (reading-dispatched r.user r.phase)) h
-    load-guards (AtPids u reg) own free h = pid-guards (Load (AtPids u reg)) u reg (declared_in setup u.0) v (own refl) h
-    load-guards (AtDepth u reg) own free h = depth-guards (Load (AtDepth u reg)) u reg setup.frames v (own refl) (free refl) h
-    load-guards (AtExit i) own free h = stated-guards (Load (AtExit i)) i v h
+    load-guards (AtPids u reg) own h = pid-guards (Load (AtPids u reg)) u reg (declared_in setup u.0) v (own refl) h
+    load-guards (AtDepth u reg) own h = depth-guards (Load (AtDepth u reg)) u reg setup.frames v (own refl) h
+    load-guards (AtExit i) own h = stated-guards (Load (AtExit i)) i v h

@@ -1,4 +1,4 @@
--- The guards of a task of code after a mark: calls of acts come over those of their callbacks, and a callback that ends gives its guard back.
+-- The guards of a task of code after a mark: calls of acts come over those of their callbacks, and a callback that ends gives its level back.
 use Rattle.std.proofs.Common.{cond, ◌≡◌, ℕ, suc, Bool, true, false, List, [], ◌∷◌, drop, Some, None, refl, sym, ap, ◌∙◌, subst}
 use Rattle.std.specs.Prelude.{Option}
 use Rattle.ft_base.specs.declared.context.Ctx.{Ctx}
@@ -10,8 +10,8 @@ use Rattle.ft_base.specs.Kinds.{has_depth, is_fprobe}
 use Rattle.ft_base.specs.Same.{same_ctx}
 use Rattle.ft_hist.specs.Frames.{runs_after}
 use Rattle.ft_hist.specs.Plain.{Owed, owed_by}
-use Rattle.plain_machine.specs.State.{is_held}
-use Rattle.recursion_guard.specs.Guards.{GuardState, context as present, mark_of, with_guard}
+use Rattle.plain_machine.specs.State.{held_levels}
+use Rattle.recursion_guard.specs.Guards.{GuardState, context as present, held_in, left}
 use Rattle.return_stack.specs.declared.shadow.FrameUser.{FrameUser}
 use Rattle.return_stack.specs.Calls.{CallStack, StackedCall, if_used, is_full, with_hook, with_user}
 use Rattle.fprobe.specs.declared.entry.Probe.{Probe}
@@ -36,7 +36,7 @@ use Rattle.task_core.specs.Steady.{IsCalled, act_raised, guards_at, raised_over}
 use Rattle.task_core.specs.TaskOps.{next_call}
 use Rattle.task_core.specs.TaskSteps.{acted, after_mark, body_begun, called_back, callback_ended, finished, lacks_frame, new_call, returned, stacks_after, with_raised, without_raised}
 use Rattle.task_core.proofs.Held.{Guards, GuardsAt, GuardsIn, IsOver, holding, in-call, over-none}
-use Rattle.task_core.proofs.HeldLoads.{In, after-free, exit-guards, freed, goes, passed-guards, under}
+use Rattle.task_core.proofs.HeldLoads.{In, after-free, exit-guards, given, goes, passed-guards, under}
 use Rattle.task_core.proofs.RowLists.{standing}
 
 -- ## raised contexts
@@ -119,14 +119,12 @@ module _ (t : Task) (o : CodeCall) (os : List CodeCall) (s : StackedCall) (ss : 
       (record { call = next_call t; users = None }) (s ∷ ss) (Load Fetch) false refl
       (record { held = held (same_ctx x o.ctx); raised = over-raised x _ t.guards (same_ctx x o.ctx) h.raised })
     where
-      held : (b : Bool) (k : Ctx) → mark_of (cond b t.guards (with_raised t.guards x)).held k ≡ is_held (o.ctx ∷ under t o os s ss) k
+      held : (b : Bool) (k : Ctx) → held_in (cond b t.guards (with_raised t.guards x)).held k ≡ held_levels (o.ctx ∷ under t o os s ss) k
       held true k = h.held k
       held false k = h.held k
 
-  ended-guards : (u : UserNo) → present t.guards.raised ≡ o.ctx → is_held (under t o os s ss) o.ctx ≡ false → Now true
-      → Guards (callback_ended (stands (Mark (Ending u))))
-  ended-guards u here free h =
-      in-call (with_guard t.guards false) o os s ss (after_user_to o.ran) false (after-free o.ran) (freed t o os s ss here free h)
+  ended-guards : (u : UserNo) → present t.guards.raised ≡ o.ctx → Now true → Guards (callback_ended (stands (Mark (Ending u))))
+  ended-guards u here h = in-call (left t.guards) o os s ss (after_user_to o.ran) false (after-free o.ran) (given t o os s ss here h)
 
   body-guards : Now false → Guards (body_begun (stands (Mark Closing)))
   body-guards h = by o.scripted
@@ -158,7 +156,7 @@ module _ (t : Task) (o : CodeCall) where
   script-guards : (os : List CodeCall) (s : StackedCall) (ss : List StackedCall) → act_raised (stack_in os ss) ≡ [] → o.scripted ≡ true
       → In t o os s ss t.guards false → Guards (finished (popped os ss))
   script-guards os s ss none e h = record {
-    held = λ k. (h.held k ∙ ap (λ b. is_held (guards_under b (stack_in os ss)) k) e ∙ ap (λ gs. is_held gs k) (under-script (stack_in os ss)));
+    held = λ k. (h.held k ∙ ap (λ b. held_levels (guards_under b (stack_in os ss)) k) e ∙ ap (λ gs. held_levels gs k) (under-script (stack_in os ss)));
     raised = over-none (act_raised (stack_in os ss)) t.guards.raised none;
   }
 
@@ -180,7 +178,7 @@ module _ (t : Task) (o : CodeCall) where
       raised : IsOver (raised_over o.ctx (stack_in (b ∷ bb) (s' ∷ ss)) (act_raised (stack_in (b ∷ bb) (s' ∷ ss)))) t.guards.raised
       raised = now.raised
 
-      held : (y : Bool) (k : Ctx) → mark_of (cond y t.guards (without_raised t.guards)).held k ≡ is_held (b.ctx ∷ under t b bb s' ss) k
+      held : (y : Bool) (k : Ctx) → held_in (cond y t.guards (without_raised t.guards)).held k ≡ held_levels (b.ctx ∷ under t b bb s' ss) k
       held true k = now.held k
       held false k = now.held k
 
@@ -200,8 +198,8 @@ module _ (t : Task) (o : CodeCall) where
 -- ## all marks
 
 module _ (t : Task) (o : CodeCall) (os : List CodeCall) (s : StackedCall) (ss : List StackedCall) (setup : PlainSetup) (place : ℕ) where
-  -- In a callback the present context is that of the call, and the guard is no other's. A scripted call is over others of the script
-  pub mark-guards : (l : ToMark) → (holding (Mark l) ≡ true → (present t.guards.raised ≡ o.ctx) × (is_held (under t o os s ss) o.ctx ≡ false))
+  -- In a callback the present context is that of the call. A scripted call is over others of the script
+  pub mark-guards : (l : ToMark) → (holding (Mark l) ≡ true → present t.guards.raised ≡ o.ctx)
       → IsCalled o.scripted o.ctx (stack_in os ss) → (o.scripted ≡ true → act_raised (stack_in os ss) ≡ [])
       → In t o os s ss t.guards (holding (Mark l)) → Guards (after_mark (standing t (o ∷ os) (s ∷ ss) (Mark l)) setup l place)
   mark-guards (Refusing u reg reason) own called none h = passed-guards t o os s ss (Mark (Refusing u reg reason)) h
@@ -209,7 +207,7 @@ module _ (t : Task) (o : CodeCall) (os : List CodeCall) (s : StackedCall) (ss : 
   mark-guards (Missing u) own called none h =
       let owed : Option Owed = owed_by o.ctx (declared_in setup u.0).act in goes t o os s ss (act_to u owed) true (act-holds u owed) h
   mark-guards (Acting u f x) own called none h = acted-guards t o os s ss setup.shape u f x h
-  mark-guards (Ending u) own called none h = ended-guards t o os s ss u (own refl).0 (own refl).1 h
+  mark-guards (Ending u) own called none h = ended-guards t o os s ss u (own refl) h
   mark-guards Closing own called none h = body-guards t o os s ss h
   mark-guards Leaving own called none h = exit-guards t o os s ss (Mark Leaving) 0 h
   mark-guards (Exiting i) own called none h = goes t o os s ss (Mark (EndingExit i)) false refl h

@@ -1,5 +1,5 @@
 -- The guard that a user's test finds, and what the tests of a user that is on make of a task.
-use Rattle.std.proofs.Common.{cond, ◌≡◌, ℕ, Bool, true, false, List, ◌∷◌, refl, ap, ◌∙◌}
+use Rattle.std.proofs.Common.{cond, ◌≡◌, ℕ, Bool, true, false, List, ◌∷◌, nat_le, refl, ap, ◌∙◌}
 use Rattle.ft_base.specs.declared.context.Ctx.{Ctx}
 use Rattle.ft_base.specs.declared.item.Reason.TheVariants.{Recursion}
 use Rattle.ft_base.specs.declared.number.UserNo.{UserNo}
@@ -7,8 +7,8 @@ use Rattle.ft_base.specs.Desk.{spec_at}
 use Rattle.ft_base.specs.Job.{Job}
 use Rattle.ft_base.specs.Kinds.{has_depth}
 use Rattle.ft_hist.specs.Plain.{context}
-use Rattle.plain_machine.specs.State.{is_held}
-use Rattle.recursion_guard.specs.Guards.{mark_of, with_guard}
+use Rattle.plain_machine.specs.State.{is_full}
+use Rattle.recursion_guard.specs.Guards.{entered, held_in}
 use Rattle.recursion_guard.specs.Guards as guards
 use Rattle.return_stack.specs.Calls.{StackedCall}
 use Rattle.word_machine.specs.Task.{OpenCall, at_moment, begin_call, guard_in, guard_test, guards_under, pid_in}
@@ -43,22 +43,22 @@ module _ (job : Job) (t : Task) (o : CodeCall) (os : List CodeCall) (s : Stacked
   present-context k h =
       contexts-same t.guards.raised ∙ ap context k.raised ∙ context-is job (state_of now) k.steady c below refl h
 
-  -- so its guard is held exactly if a call below holds it
+  -- so all levels of its guard are held exactly if the calls below hold them
   pub guard-is : IsTaskOf job now → is_dispatching (moment_of now) ≡ true → holds_guard (moment_of now) ≡ false
-      → guards.is_held t.guards ≡ is_held (guards_under o.scripted below) o.ctx
+      → guards.is_full t.guards ≡ is_full job (guards_under o.scripted below) o.ctx
   guard-is k h free =
-      ap (λ (x : Ctx). mark_of t.guards.held x) (present-context k h)
-      ∙ k.held o.ctx
-      ∙ ap (λ (held : List Ctx). is_held held o.ctx) (guards-free (moment_of now) c below free)
+      ap (λ (x : Ctx). nat_le t.guards.levels (held_in t.guards.held x)) (present-context k h)
+      ∙ (λ i. nat_le (k.levels' i) (k.held o.ctx i))
+      ∙ ap (λ (held : List Ctx). is_full job held o.ctx) (guards-free (moment_of now) c below free)
 
-  module _ (held : guards.is_held t.guards ≡ is_held (guards_under o.scripted below) o.ctx) (u : UserNo) (reg : ℕ) where
+  module _ (full : guards.is_full t.guards ≡ is_full job (guards_under o.scripted below) o.ctx) (u : UserNo) (reg : ℕ) where
     -- the guard
     pub guard-row : state_of (guard_tested now (spec_at job u.0) u reg) ≡ at_moment (state_of now) (guard_test job c below u.0 reg)
-    guard-row = by (guards.is_held t.guards) (is_held (guards_under o.scripted below) o.ctx) (has_depth (spec_at job u.0).kind) held
+    guard-row = by (guards.is_full t.guards) (is_full job (guards_under o.scripted below) o.ctx) (has_depth (spec_at job u.0).kind) full
       where
         by : (b b' deep : Bool) → b ≡ b'
             → state_of (cond b (code.at now (Mark (Refusing u reg Recursion)))
-            (record now { guards = with_guard t.guards true; moment = cond deep (Load (AtDepth u reg)) (Mark (Calling u reg)) }))
+            (record now { guards = entered t.guards; moment = cond deep (Load (AtDepth u reg)) (Mark (Calling u reg)) }))
             ≡ at_moment (state_of now) (guard_in b' deep u.0 reg)
         by true true deep e = refl
         by false false true e = refl

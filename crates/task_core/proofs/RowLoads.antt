@@ -8,8 +8,8 @@ use Rattle.ft_base.specs.declared.number.TaskNo.{TaskNo}
 use Rattle.ft_base.specs.declared.number.UserNo.{UserNo}
 use Rattle.ft_base.specs.Desk.{spec_at}
 use Rattle.ft_base.specs.Job.{Job}
-use Rattle.plain_machine.specs.State.{is_held}
-use Rattle.recursion_guard.specs.Guards.{with_guard}
+use Rattle.plain_machine.specs.State.{is_full}
+use Rattle.recursion_guard.specs.Guards.{left}
 use Rattle.recursion_guard.specs.Guards as guards
 use Rattle.hash_pages.specs.declared.reader.ReadPhase.{ReadPhase}
 use Rattle.hash_pages.specs.declared.reader.ReadPhase.TheVariants.{AtSel, AtFilter, AtNotrace, Ended as ReadEnded}
@@ -122,7 +122,7 @@ module _ (job : Job) (t : Task) (o : CodeCall) (os : List CodeCall) (s : Stacked
   abbrev reading : Shape → ℕ → ℕ → ReadPhase → Read
   reading shape u func phase = record { shape = shape; user = u; func = func; phase = phase }
 
-  module _ (held : guards.is_held t.guards ≡ is_held (guards_under o.scripted (stack_in os ss)) o.ctx) (shape : Shape) (u v : ℕ) where
+  module _ (full : guards.is_full t.guards ≡ is_full job (guards_under o.scripted (stack_in os ss)) o.ctx) (shape : Shape) (u v : ℕ) where
     read-row : (phase : ReadPhase) → IsReading phase → (let y = at (Reading (reading shape u o.func.0 phase)) ByList (at_user u) in
         state_of (code.read y (setup_in job) (reading shape u o.func.0 phase) v)
         ≡ task_got job t.number.0 (state_of y) (reading_at u (λ reg. machine.Closing) phase) v)
@@ -148,7 +148,7 @@ module _ (job : Job) (t : Task) (o : CodeCall) (os : List CodeCall) (s : Stacked
         by true = refl
         by false = refl
     read-row (AtNotrace copy reg) k =
-        by (is_marked v o.func.0) (begin-row job t (walking o ByList (at_user u)) os s ss (Load (Reading r)) held (record { 0 = u }) reg)
+        by (is_marked v o.func.0) (begin-row job t (walking o ByList (at_user u)) os s ss (Load (Reading r)) full (record { 0 = u }) reg)
       where
         r : Read
         r = reading shape u o.func.0 (AtNotrace copy reg)
@@ -174,11 +174,11 @@ module _ (job : Job) (t : Task) (o : CodeCall) (os : List CodeCall) (s : Stacked
     abbrev here : Task
     here = standing t (o ∷ os) (s ∷ ss) (Load y)
 
-    pids-row : (u : UserNo) (reg v : ℕ) → IsLimited job → guards.is_held t.guards ≡ is_held (guards_under o.scripted (stack_in os ss)) o.ctx
+    pids-row : (u : UserNo) (reg v : ℕ) → IsLimited job → guards.is_full t.guards ≡ is_full job (guards_under o.scripted (stack_in os ss)) o.ctx
         → state_of (pid_tested here (spec_at job u.0) u reg v)
         ≡ at_moment (state_of here) (allowed_in (is_marked v o.call.task.0) u.0 reg (guard_test job (joined o s) (stack_in os ss) u.0 reg))
-    pids-row u reg v limited held =
-        by (bit_at v t.number.0 == 1) (is_marked v o.call.task.0) (ap (λ n. bit_at v n == 1) (sym here-is)) (guard-row job t o os s ss (Load y) held u reg)
+    pids-row u reg v limited full =
+        by (bit_at v t.number.0 == 1) (is_marked v o.call.task.0) (ap (λ n. bit_at v n == 1) (sym here-is)) (guard-row job t o os s ss (Load y) full u reg)
       where
         here-is : o.call.task.0 % 64 ≡ t.number.0
         here-is =
@@ -204,17 +204,17 @@ module _ (job : Job) (t : Task) (o : CodeCall) (os : List CodeCall) (s : Stacked
         (ap (λ level. is_too_deep job.frames v level) (frames-are (shape_of job) t.number _ os ss k.tied.1))
       where
         by : (b b' : Bool) → b ≡ b'
-            → state_of (cond b (record here { guards = with_guard t.guards false; moment = Mark (Refusing u reg ByDepth) }) (code.at here (Mark (Calling u reg))))
+            → state_of (cond b (record here { guards = left t.guards; moment = Mark (Refusing u reg ByDepth) }) (code.at here (Mark (Calling u reg))))
             ≡ at_moment (state_of here) (depth_in b' u.0 reg)
         by true true e = refl
         by false false e = refl
         by true false e = absurd cc
         by false true e = absurd cc
 
-    own-row : (u : UserNo) (reg v : ℕ) → guards.is_held t.guards ≡ is_held (guards_under o.scripted (stack_in os ss)) o.ctx
+    own-row : (u : UserNo) (reg v : ℕ) → guards.is_full t.guards ≡ is_full job (guards_under o.scripted (stack_in os ss)) o.ctx
         → state_of (own_stated here (spec_at job u.0) u reg v)
         ≡ at_moment (state_of here) (own_in (stands v reg) (begin_call job (joined o s) (stack_in os ss) u.0 reg))
-    own-row u reg v held = by (stands v reg) (begin-row job t o os s ss (Load y) held u reg)
+    own-row u reg v full = by (stands v reg) (begin-row job t o os s ss (Load y) full u reg)
       where
         by : (b : Bool)
             → state_of (tested here (spec_at job u.0) u reg) ≡ at_moment (state_of here) (begin_call job (joined o s) (stack_in os ss) u.0 reg)

@@ -15,7 +15,7 @@ use Rattle.task_core.specs.declared.moment.ToMark.{ToMark}
 use Rattle.task_core.specs.declared.moment.ToMark.TheVariants.{Refusing, Calling, Missing, Acting, Ending, Closing, Leaving, Exiting, EndingExit, Returning}
 use Rattle.task_core.specs.declared.open_call.OpenCall.{OpenCall as CodeCall}
 use Rattle.task_core.specs.declared.task.Task.{Task}
-use Rattle.recursion_guard.specs.Guards.{with_guard}
+use Rattle.recursion_guard.specs.Guards.{left}
 use Rattle.task_core.specs.Opens.{no_call}
 use Rattle.task_core.specs.Setups.{setup_in}
 use Rattle.task_core.specs.States.{is_polling, mark_moment, moment_of, state_of, users_in}
@@ -39,7 +39,7 @@ mark-row job t o os s ss (Calling u reg) v k = back-row job t o os s ss u reg (l
 mark-row job t o os s ss (Missing u) v k = acts-row job t o os s ss (Mark (Missing u)) u (owed_by o.ctx (spec_at job u.0).act)
 mark-row job t o os s ss (Acting u f x) v k = acted-row job t o os s ss (shape_of job) u f x k.tied.0.task
 mark-row job t o os s ss (Ending u) v k =
-    passed-row job (record t { guards = with_guard t.guards false }) o os s ss (Mark (Ending u)) u.0 k.tied.0.walk
+    passed-row job (record t { guards = left t.guards }) o os s ss (Mark (Ending u)) u.0 k.tied.0.walk
 mark-row job t o os s ss Closing v k = body-row job t o os s ss
 mark-row job t o os s ss Leaving v k = from-row job t o os s ss (Mark Leaving) 0
 mark-row job t o os s ss (Exiting i) v k = exit-row job t o os s ss i v k.moment

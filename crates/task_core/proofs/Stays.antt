@@ -1,6 +1,7 @@
 -- A task of a job stays one when its operation gives a value.
-use Rattle.std.proofs.Common.{◌≡◌, ℕ, ◌-◌, false, sym, subst}
+use Rattle.std.proofs.Common.{◌≡◌, ℕ, ◌-◌, ◌*◌, false, sym, subst}
 use Rattle.ft_base.specs.Job.{Job}
+use Rattle.ft_base.specs.Versions.{levels}
 use Rattle.word_machine.specs.Laws.{PresentTakes}
 use Rattle.word_machine.specs.Limits.{IsLimited}
 use Rattle.task_core.specs.declared.task.Task.{Task}
@@ -14,7 +15,7 @@ use Rattle.task_core.proofs.HeldGot.{held-got, raised-got}
 use Rattle.task_core.proofs.Rows.{step-is}
 use Rattle.task_core.proofs.SteadyGot.{room-got, steady-got}
 use Rattle.task_core.proofs.TiedKept.{IsSameTask, got-same}
-use Rattle.task_core.proofs.TiedLaw.{acts-same, frames-same, gone-got, limits-same, moment-got, number-same, tied-got, two-same}
+use Rattle.task_core.proofs.TiedLaw.{acts-same, frames-same, gone-got, levels-same, limits-same, moment-got, nested-same, number-same, tied-got}
 
 module _ (job : Job) (t : Task) (v : ℕ) (limited : IsLimited job) (k : IsTaskOf job t) (e : is_polling t.moment ≡ false)
     (takes : PresentTakes job (state_of t) (state_of t).moment v) where
@@ -24,11 +25,11 @@ module _ (job : Job) (t : Task) (v : ℕ) (limited : IsLimited job) (k : IsTaskO
   same : IsSameTask t after
   same = got-same t (setup_in job) v
 
-  room : HasCallRoom (after.opens.limit - 2) (state_of after)
+  room : HasCallRoom (after.opens.limit - 2 * levels job) (state_of after)
   room =
-      subst (λ n. HasCallRoom (n - 2) (state_of after)) (sym same.opens)
-      (subst (HasCallRoom (t.opens.limit - 2)) (sym (step-is job t v limited k e))
-      (room-got job (t.opens.limit - 2) limited.job'.acts t.number.0 v (state_of t) k.steady k.room takes))
+      subst (λ n. HasCallRoom (n - 2 * levels job) (state_of after)) (sym same.opens)
+      (subst (HasCallRoom (t.opens.limit - 2 * levels job)) (sym (step-is job t v limited k e))
+      (room-got job (t.opens.limit - 2 * levels job) limited.job'.acts t.number.0 v (state_of t) k.steady k.room takes))
 
   steady : IsSteady job (state_of after)
   steady = subst (IsSteady job) (sym (step-is job t v limited k e)) (steady-got job limited.job'.acts t.number.0 v (state_of t) k.steady takes)
@@ -40,10 +41,11 @@ module _ (job : Job) (t : Task) (v : ℕ) (limited : IsLimited job) (k : IsTaskO
     gone = gone-got job t k v e;
     frames = frames-same job t after k same;
     limits = limits-same job t after k same;
-    two = two-same job t after k same;
+    nested = nested-same job t after k same;
     room = room;
     tied = tied-got job t k v;
     moment = moment-got job t k v;
+    levels' = levels-same job t after k same;
     held = held-got job (setup_in job) v t k e;
     raised = raised-got job (setup_in job) v t k e;
     few = few-got job limited (setup_in job) v t k takes;

@@ -9,7 +9,7 @@ use Rattle.ft_base.specs.Job.{Job}
 use Rattle.ft_base.specs.WellFormed.{IsScript}
 use Rattle.ft_base.proofs.Small.{false_true}
 use Rattle.ft_hist.specs.Frames.{FrameUser}
-use Rattle.plain_machine.specs.State.{has_acts, is_held}
+use Rattle.plain_machine.specs.State.{has_acts, is_full}
 use Rattle.word_machine.specs.Limits.{AreRaised}
 use Rattle.word_machine.specs.Task.{OpenCall, TaskState, Moment, Polling, First, Leaving, AtExit, Exiting, EndingExit, Returning, guards_under, is_quiet, with_top}
 use Rattle.word_machine.specs.Tasks.{StandsIn, acts_by, is_returning, open_by}
@@ -34,7 +34,7 @@ in-dispatch _ e = (refl, refl, refl)
 pub record Asks (job : Job) (c : OpenCall) (below : List OpenCall) (m : Moment) : Type 0 where
   pub names : NamesThere job m
   pub acted : returns_at_once m ≡ true → c.scripted ≡ false
-  pub free : holds_guard m ≡ true → is_held (guards_under c.scripted below) c.ctx ≡ false
+  pub free : holds_guard m ≡ true → is_full job (guards_under c.scripted below) c.ctx ≡ false
   pub found : HasFound job c below m
 
 -- a moment of a return is within an act, after the dispatch, and asks for nothing

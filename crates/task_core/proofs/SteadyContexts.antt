@@ -1,17 +1,19 @@
 -- The contexts of a steady task's open calls.
-use Rattle.std.proofs.Common.{cond, ◌≡◌, ℕ, suc, ◌<◌, ◌≤◌, Bool, true, false, ◌||◌, List, [], ◌∷◌, ◌++◌, refl, sym, ap, ◌∙◌, subst, arith, eqb-true, inl, inr}
+use Rattle.std.proofs.Common.{cond, ◌≡◌, ℕ, suc, ◌+◌, ◌*◌, ◌<◌, ◌≤◌, ◌⊎◌, Bool, true, false, ◌||◌, List, [], ◌∷◌, ◌++◌, refl, sym, ap, ◌∙◌, subst, arith, eqb-true, leb-false, inl, inr}
 use Rattle.std.proofs.lemmas.Bool.{eq-eqb}
 use Rattle.ft_base.specs.declared.context.Ctx.{Ctx}
 use Rattle.ft_base.specs.declared.context.Ctx.TheVariants.{Irq}
 use Rattle.ft_base.specs.Desk.{spec_at}
 use Rattle.ft_base.specs.Job.{Job}
 use Rattle.ft_base.specs.Same.{rank, same_ctx}
-use Rattle.ft_base.proofs.Small.{false_true, or-false_both}
+use Rattle.ft_base.specs.Versions.{levels}
+use Rattle.ft_base.proofs.Small.{==-refl, false_true}
 use Rattle.ft_hist.specs.Plain.{Owed, context}
-use Rattle.plain_machine.specs.State.{is_held}
+use Rattle.plain_machine.specs.State.{held_levels}
 use Rattle.word_machine.specs.Calls.{under_by, under_call}
 use Rattle.word_machine.specs.Task.{OpenCall, TaskState, Moment, Acting, Ending, guards_under}
 use Rattle.task_core.specs.Steady.{AreSteady, IsActContext, IsCalled, IsSteady, IsSteadyCall, act_calls, act_raised, ground_context, holds_guard, is_acted, is_dispatching, raised_over}
+use Rattle.task_core.proofs.SteadyGuards.{taken-levels}
 use Rattle.task_core.proofs.SteadyMarks.{owed-context}
 
 -- ## the present context
@@ -28,6 +30,17 @@ stays b c (inr e) same =
     let y : rank c ≡ rank b = eqb-true (rank c) (rank b) same in
     let z : rank c ≡ rank Irq = ap rank e.1 in
     absurd (omega (arith, lt, y, z))
+
+-- ## levels
+
+-- the levels that are held below a call, and the one of its own callback
+abbrev guards_with : OpenCall → List OpenCall → List Ctx
+guards_with c below = c.ctx ∷ guards_under c.scripted below
+
+-- that is one more of its own context's
+one-more : (c : OpenCall) (below : List OpenCall)
+    → held_levels (guards_with c below) c.ctx ≡ suc (held_levels (guards_under c.scripted below) c.ctx)
+one-more c below = taken-levels c.ctx (guards_under c.scripted below) c.ctx ∙ rw (==-refl (rank c.ctx)) refl
 
 module _ (job : Job) where
   module _ (x : Ctx) (cs : List Ctx) where
@@ -75,42 +88,74 @@ module _ (job : Job) where
 
   -- ## how many calls acts have made
 
-  -- the callback of a call that an act made is of a user in an interrupt, and the call below is not in one
-  above : (m : Moment) (c b : OpenCall) (bb : List OpenCall) → IsSteadyCall job c (b ∷ bb) m → holds_guard m ≡ true → c.scripted ≡ false
-      → (rank b.ctx < rank Irq) × (c.ctx ≡ Irq)
-  above m c b bb k h s =
-      let free : is_held (guards_under false (b ∷ bb)) c.ctx ≡ false = subst (λ s. is_held (guards_under s (b ∷ bb)) c.ctx ≡ false) s (k.free h) in
-      let called : IsActContext b.ctx c.ctx = subst (λ s. IsCalled s c.ctx (b ∷ bb)) s k.called in
-      by called (or-false_both (same_ctx b.ctx c.ctx) _ free).0
-    where
-      by : IsActContext b.ctx c.ctx → same_ctx b.ctx c.ctx ≡ false → (rank b.ctx < rank Irq) × (c.ctx ≡ Irq)
-      by (inl e) ne = let y : same_ctx b.ctx c.ctx ≡ true = eq-eqb (rank b.ctx) (rank c.ctx) (ap rank (sym e)) in false_true (sym ne ∙ y)
-      by (inr e) ne = e
-
   -- the call that made the top one is in its callback
   calls-under : (m : Moment) (c b : OpenCall) (bb : List OpenCall) → AreSteady job m (c ∷ b ∷ bb) → c.scripted ≡ false
       → AreSteady job (Ending b.user) (b ∷ bb)
   calls-under m c b bb k s = subst (λ s. AreSteady job (under_by s b.user) (b ∷ bb)) s k.1
 
-  second : (b : OpenCall) (bb : List OpenCall) → AreSteady job (Ending b.user) (b ∷ bb) → rank b.ctx < rank Irq → act_calls (b ∷ bb) ≡ 0
-  second b bb k lt = by b.scripted refl bb k
-    where
-      by : (s : Bool) → b.scripted ≡ s → (bb : List OpenCall) → AreSteady job (Ending b.user) (b ∷ bb) → cond s 0 (suc (act_calls bb)) ≡ 0
-      by true s bb k = refl
-      by false s [] k = absurd (subst (λ s. IsCalled s b.ctx []) s k.0.called)
-      by false s (a ∷ aa) k = (let e : rank b.ctx ≡ rank Irq = ap rank (above (Ending b.user) b a aa k.0 refl s).1 in absurd (omega (arith, lt, e)))
+  -- with its callback the top call holds no more levels than there are
+  few-levels : (m : Moment) (c : OpenCall) (below : List OpenCall) → IsSteadyCall job c below m → holds_guard m ≡ true
+      → held_levels (guards_with c below) c.ctx ≤ levels job
+  few-levels m c below k h =
+      let lt = leb-false (levels job) (held_levels (guards_under c.scripted below) c.ctx) (k.free h) in
+      let e = one-more c below in
+      omega (arith, lt, e)
 
-  few-calls : (m : Moment) (c : OpenCall) (below : List OpenCall) → AreSteady job m (c ∷ below) → holds_guard m ≡ true → act_calls (c ∷ below) ≤ 1
-  few-calls m c below k h = by c.scripted refl below k
-    where
-      by : (s : Bool) → c.scripted ≡ s → (below : List OpenCall) → AreSteady job m (c ∷ below) → cond s 0 (suc (act_calls below)) ≤ 1
-      by true s below k = omega arith
-      by false s [] k = absurd (subst (λ s. IsCalled s c.ctx []) s k.0.called)
-      by false s (b ∷ bb) k =
-          (let e : act_calls (b ∷ bb) ≡ 0 = second b bb (calls-under m c b bb k s) (above m c b bb k.0 h s).0 in omega (arith, e))
+  -- Of the top call and those below it, down to the scripted one, each is in a callback. All these callbacks are in the context of the top
+  -- call, or that is an interrupt's, and no more of them are in another context than a guard has levels
+  abbrev AreCounted : OpenCall → List OpenCall → Type 0
+  AreCounted c below =
+      (suc (act_calls (c ∷ below)) ≤ held_levels (guards_with c below) c.ctx)
+      ⊎ ((c.ctx ≡ Irq) × (suc (act_calls (c ∷ below)) ≤ held_levels (guards_with c below) c.ctx + levels job))
 
-  -- a user that is called back is so in the scripted call, or in one that an act made over it
+  -- one call more, made by an act of the one below
+  counted-over : (c b : OpenCall) (bb : List OpenCall) → c.scripted ≡ false → IsActContext b.ctx c.ctx
+      → held_levels (guards_with b bb) b.ctx ≤ levels job → AreCounted b bb → AreCounted c (b ∷ bb)
+  counted-over c b bb s called few k = by called k
+    where
+      calls : act_calls (c ∷ b ∷ bb) ≡ suc (act_calls (b ∷ bb))
+      calls = rw s refl
+
+      more : held_levels (guards_with c (b ∷ bb)) c.ctx ≡ suc (held_levels (guards_with b bb) c.ctx)
+      more = one-more c (b ∷ bb) ∙ ap (λ (s : Bool). suc (held_levels (guards_under s (b ∷ bb)) c.ctx)) s
+
+      by : IsActContext b.ctx c.ctx → AreCounted b bb → AreCounted c (b ∷ bb)
+      by (inl e) (inl le) = (let same = ap (held_levels (guards_with b bb)) e in inl (omega (arith, le, calls, more, same)))
+      by (inl e) (inr (irq, le)) = (let same = ap (held_levels (guards_with b bb)) e in inr (e ∙ irq, omega (arith, le, calls, more, same)))
+      by (inr e) (inl le) = inr (e.1, omega (arith, le, few, calls, more))
+      by (inr e) (inr (irq, le)) = (let lt = e.0 in let z : rank b.ctx ≡ rank Irq = ap rank irq in absurd (omega (arith, lt, z)))
+
+  -- a call of the script
+  counted-first : (c : OpenCall) (below : List OpenCall) → c.scripted ≡ true → AreCounted c below
+  counted-first c below s =
+      let none : act_calls (c ∷ below) ≡ 0 = rw s refl in
+      let one = one-more c below in
+      inl (omega (arith, none, one))
+
+  counted : (m : Moment) (c : OpenCall) (below : List OpenCall) → AreSteady job m (c ∷ below) → AreCounted c below
+  counted m c [] k = by c.scripted refl
+    where
+      by : (s : Bool) → c.scripted ≡ s → AreCounted c []
+      by true s = counted-first c [] s
+      by false s = absurd (subst (λ s. IsCalled s c.ctx []) s k.0.called)
+  counted m c (b ∷ bb) k = by c.scripted refl (counted (under_call c (b ∷ bb)) b bb k.1)
+    where
+      by : (s : Bool) → c.scripted ≡ s → AreCounted b bb → AreCounted c (b ∷ bb)
+      by true s more = counted-first c (b ∷ bb) s
+      by false s more =
+          counted-over c b bb s (subst (λ s. IsCalled s c.ctx (b ∷ bb)) s k.0.called)
+          (few-levels (Ending b.user) b bb (calls-under m c b bb k s).0 refl) more
+
+  few-calls : (m : Moment) (c : OpenCall) (below : List OpenCall) → AreSteady job m (c ∷ below) → holds_guard m ≡ true
+      → act_calls (c ∷ below) < 2 * levels job
+  few-calls m c below k h = by (counted m c below k) (few-levels m c below k.0 h)
+    where
+      by : AreCounted c below → held_levels (guards_with c below) c.ctx ≤ levels job → act_calls (c ∷ below) < 2 * levels job
+      by (inl le) few = omega (arith, le, few)
+      by (inr (irq, le)) few = omega (arith, le, few)
+
+  -- while a user is called back, the acts have made fewer calls than the guards of two contexts have levels
   pub few-act-calls : (x : TaskState) → IsSteady job x → (c : OpenCall) (below : List OpenCall) → x.stack ≡ c ∷ below → holds_guard x.moment ≡ true
-      → act_calls x.stack ≤ 1
+      → act_calls x.stack < 2 * levels job
   few-act-calls x k c below e h =
-      subst (λ s. AreSteady job x.moment s → act_calls s ≤ 1) (sym e) (λ calls. few-calls x.moment c below calls h) k.calls
+      subst (λ s. AreSteady job x.moment s → act_calls s < 2 * levels job) (sym e) (λ calls. few-calls x.moment c below calls h) k.calls

@@ -1,6 +1,6 @@
 -- The guards that a task holds, from row to row.
-use Rattle.std.proofs.Common.{cond, ◌≡◌, ℕ, zero, suc, Bool, true, false, not, ◌||◌, ◌==◌, nat_le, List, [], ◌∷◌, Option, Some, None, refl, ap, subst, eqb-true}
-use Rattle.std.specs.List.{list_any}
+use Rattle.std.proofs.Common.{cond, ◌≡◌, ℕ, zero, suc, Bool, true, false, not, ◌+◌, ◌-◌, nat_le, List, [], ◌∷◌, Option, Some, None, refl, ap, ◌∙◌, arith}
+use Rattle.std.proofs.lemmas.List.Sums.{sum_by-cons}
 use Rattle.ft_base.specs.declared.context.Ctx.{Ctx}
 use Rattle.ft_base.specs.declared.number.CallNo.{CallNo}
 use Rattle.ft_base.specs.declared.item.Ran.{Ran}
@@ -10,15 +10,15 @@ use Rattle.ft_base.specs.declared.task.TaskAct.TheVariants.{Call, Ret as RetAct,
 use Rattle.ft_base.specs.Desk.{spec_at}
 use Rattle.ft_base.specs.Job.{Job}
 use Rattle.ft_base.specs.Kinds.{has_depth}
-use Rattle.ft_base.specs.Same.{rank, same_ctx}
+use Rattle.ft_base.specs.Same.{same_ctx}
 use Rattle.ft_base.proofs.Small.{false_true}
 use Rattle.ft_hist.specs.Frames.{FrameUser, is_nil}
 use Rattle.ft_hist.specs.Plain.{Owed, context, owed_by}
-use Rattle.plain_machine.specs.State.{call_of, is_held, misses_frame}
+use Rattle.plain_machine.specs.State.{call_of, held_levels, is_full, misses_frame}
 use Rattle.word_map.specs.Contents.{is_marked, returned_at, sel_empty, sel_on, stands}
 use Rattle.word_map.specs.Instructions.{decode}
 use Rattle.word_machine.specs.Task.{OpenCall, TaskState, Moment, Polling, First, Fetch, GotHead, GotBreak, InTramp, OwnSel, AtFirst, TestSel, TestFilter, TestNotrace, AtPids, AtDepth, Refusing, Calling, Missing, Acting, Ending, AtLink, Closing, Leaving, AtExit, Exiting, EndingExit, Returning, act_in, after_user, around, at_moment, closed, depth_in, exit_in, fetched, finished, first_got, guard_in, guard_test, guards_under, head_in, miss_in, next_exit, opened, passes_in, returned, task_got, tests_in, user_of, walks_to, with_top}
-use Rattle.task_core.specs.Steady.{AreSteady, IsSteady, guards_at, holds_guard}
+use Rattle.task_core.specs.Steady.{guards_at, holds_guard}
 use Rattle.task_core.proofs.Steady.{standing}
 
 -- ## at which moments the guard is held
@@ -58,12 +58,12 @@ pub exit-held : (live : Bool) (m : FrameUser) (rest : List FrameUser) → holds_
 exit-held true m rest = refl
 exit-held false m rest = next-held rest
 
--- the test of the guard takes it exactly if it is free
+-- the test of the guard takes a level of it exactly if one is free
 pub guard-held : (job : Job) (c : OpenCall) (below : List OpenCall) (u reg : ℕ)
-    → holds_guard (guard_test job c below u reg) ≡ not (is_held (guards_under c.scripted below) c.ctx)
-guard-held job c below u reg = by (is_held (guards_under c.scripted below) c.ctx) (has_depth (spec_at job u).kind)
+    → holds_guard (guard_test job c below u reg) ≡ not (is_full job (guards_under c.scripted below) c.ctx)
+guard-held job c below u reg = by (is_full job (guards_under c.scripted below) c.ctx) (has_depth (spec_at job u).kind)
   where
-    by : (held deep : Bool) → holds_guard (guard_in held deep u reg) ≡ not held
+    by : (full deep : Bool) → holds_guard (guard_in full deep u reg) ≡ not full
     by true deep = refl
     by false true = refl
     by false false = refl
@@ -210,14 +210,14 @@ pub guards-stayed : (job : Job) (t v : ℕ) (x : TaskState) → guards_stay x.mo
     → guards_of (task_got job t x x.moment v) ≡ guards_of x
 guards-stayed job t v x e = stay-row job t v x x.moment x.stack e
 
--- the test of the guard takes the call's own, if it is free
+-- the test of the guard takes a level of the call's own, if one is free
 pub guards-tested : (job : Job) (c : OpenCall) (below : List OpenCall) (u reg : ℕ)
     → guards_at (guard_test job c below u reg) (c ∷ below)
-    ≡ cond (is_held (guards_under c.scripted below) c.ctx) (guards_under c.scripted below) (c.ctx ∷ guards_under c.scripted below)
-guards-tested job c below u reg = by (is_held (guards_under c.scripted below) c.ctx) (holds_guard (guard_test job c below u reg)) (guard-held job c below u reg)
+    ≡ cond (is_full job (guards_under c.scripted below) c.ctx) (guards_under c.scripted below) (c.ctx ∷ guards_under c.scripted below)
+guards-tested job c below u reg = by (is_full job (guards_under c.scripted below) c.ctx) (holds_guard (guard_test job c below u reg)) (guard-held job c below u reg)
   where
-    by : (held b : Bool) → b ≡ not held → cond b (c.ctx ∷ guards_under c.scripted below) (guards_under c.scripted below)
-        ≡ cond held (guards_under c.scripted below) (c.ctx ∷ guards_under c.scripted below)
+    by : (full b : Bool) → b ≡ not full → cond b (c.ctx ∷ guards_under c.scripted below) (guards_under c.scripted below)
+        ≡ cond full (guards_under c.scripted below) (c.ctx ∷ guards_under c.scripted below)
     by true b e = rw e refl
     by false b e = rw e refl
 
@@ -231,27 +231,23 @@ guards-deep false c below u reg = refl
 pub guards-ended : (c : OpenCall) (below : List OpenCall) (u : ℕ) → guards_at (after_user c.ran u) (c ∷ below) ≡ guards_under c.scripted below
 guards-ended c below u = guards-free (after_user c.ran u) c below (after-held c.ran u)
 
--- ## one guard taken or given back
+-- ## one level taken or given back
 
--- a context whose guard is free: giving it back leaves the others
-pub others-held : (x : Ctx) (guards : List Ctx) → is_held guards x ≡ false → (k : Ctx)
-    → is_held guards k ≡ cond (same_ctx x k) false (is_held (x ∷ guards) k)
-others-held x guards free k = by (same_ctx x k) refl
+-- a level of a context's guard is one more that is held of it, and none of another's
+pub taken-levels : (x : Ctx) (guards : List Ctx) (k : Ctx)
+    → held_levels (x ∷ guards) k ≡ cond (same_ctx x k) (suc (held_levels guards k)) (held_levels guards k)
+taken-levels x guards k = sum_by-cons (λ y. cond (same_ctx y k) 1 0) x guards ∙ by (same_ctx x k)
   where
-    by : (s : Bool) → same_ctx x k ≡ s → is_held guards k ≡ cond s false (s || is_held guards k)
-    by true e = subst (λ n. list_any (λ y. rank y == n) guards ≡ false) (eqb-true (rank x) (rank k) e) free
-    by false e = refl
+    by : (s : Bool) → cond s 1 0 + held_levels guards k ≡ cond s (suc (held_levels guards k)) (held_levels guards k)
+    by true = omega arith
+    by false = omega arith
 
--- and taking it leaves them
-pub taken-held : (x : Ctx) (guards : List Ctx) (k : Ctx) → is_held (x ∷ guards) k ≡ cond (same_ctx x k) true (is_held guards k)
-taken-held x guards k = by (same_ctx x k)
+-- and given back it is not
+pub given-levels : (x : Ctx) (guards : List Ctx) (k : Ctx)
+    → cond (same_ctx x k) (held_levels (x ∷ guards) k - 1) (held_levels (x ∷ guards) k) ≡ held_levels guards k
+given-levels x guards k =
+    ap (λ n. cond (same_ctx x k) (n - 1) n) (taken-levels x guards k) ∙ by (same_ctx x k) (held_levels guards k)
   where
-    by : (s : Bool) → (s || is_held guards k) ≡ cond s true (is_held guards k)
-    by true = refl
-    by false = refl
-
-module _ (job : Job) where
-  -- while a user holds the guard of its call's context, nobody below does
-  pub guard-free : (x : TaskState) → IsSteady job x → (c : OpenCall) (below : List OpenCall) → x.stack ≡ c ∷ below → holds_guard x.moment ≡ true
-      → is_held (guards_under c.scripted below) c.ctx ≡ false
-  guard-free x k c below e h = (subst (λ s. AreSteady job x.moment s) e k.calls).0.free h
+    by : (s : Bool) (n : ℕ) → cond s (cond s (suc n) n - 1) (cond s (suc n) n) ≡ n
+    by true n = omega arith
+    by false n = refl

@@ -9,7 +9,7 @@ use Rattle.ft_base.specs.Desk.{spec_at}
 use Rattle.ft_base.specs.Job.{Job}
 use Rattle.ft_base.specs.Kinds.{has_depth}
 use Rattle.ft_base.proofs.Small.{==-refl, false_true, or-false_both}
-use Rattle.plain_machine.specs.State.{is_held}
+use Rattle.plain_machine.specs.State.{is_full}
 use Rattle.word_map.specs.Contents.{is_marked, sel_copy, sel_empty, sel_on, stands, tramp_user, tramp_word, high}
 use Rattle.word_map.specs.Instructions.{decode, head_of, tail_of}
 use Rattle.word_machine.specs.Laws.{CallTakes}
@@ -45,7 +45,7 @@ module _ (job : Job) (c : OpenCall) (below : List OpenCall) where
   abbrev pub Follows : Moment → Type 0
   Follows m = (is_dispatching m ≡ true) × Asks job c below m
 
-  -- a moment at which no guard is held
+  -- a moment at which no level is held for the call
   pub follows : (m : Moment) → is_dispatching m ≡ true → holds_guard m ≡ false → NamesThere job m → HasFound job c below m → Follows m
   follows m d g names found = (d, record { names = names; acted = λ e. false_true (sym (in-dispatch m d).2 ∙ e); free = λ e. false_true (sym g ∙ e); found = found })
 
@@ -75,12 +75,12 @@ module _ (job : Job) (c : OpenCall) (below : List OpenCall) where
   passes-follow true u m lt h = h
   passes-follow false u m lt h = follows (AtLink u) refl refl lt tt
 
-  -- a user that finds the guard free holds it
+  -- a user that finds a level of the guard free holds it
   guard-follows : (u reg : ℕ) → u < length job.users → Follows (guard_test job c below u reg)
-  guard-follows u reg lt = by (is_held (guards_under c.scripted below) c.ctx) (has_depth (spec_at job u).kind) refl refl
+  guard-follows u reg lt = by (is_full job (guards_under c.scripted below) c.ctx) (has_depth (spec_at job u).kind) refl refl
     where
-      by : (held deep : Bool) → is_held (guards_under c.scripted below) c.ctx ≡ held → has_depth (spec_at job u).kind ≡ deep
-          → Follows (guard_in held deep u reg)
+      by : (full deep : Bool) → is_full job (guards_under c.scripted below) c.ctx ≡ full → has_depth (spec_at job u).kind ≡ deep
+          → Follows (guard_in full deep u reg)
       by true deep e d = follows (Refusing u reg Recursion) refl refl lt tt
       by false true e d = (refl, record { names = lt; acted = λ h. false_true h; free = λ h. e; found = tt })
       by false false e d = (refl, record { names = lt; acted = λ h. false_true h; free = λ h. e; found = λ h. false_true (sym d ∙ h) })
@@ -97,7 +97,7 @@ module _ (job : Job) (c : OpenCall) (below : List OpenCall) where
   allowed-follows false u reg m lt h = follows (Refusing u reg ByPid) refl refl lt tt
 
   -- a graph or profile user that is not too deep has a frame
-  depth-follows : (u reg depth : ℕ) → u < length job.users → is_held (guards_under c.scripted below) c.ctx ≡ false
+  depth-follows : (u reg depth : ℕ) → u < length job.users → is_full job (guards_under c.scripted below) c.ctx ≡ false
       → Follows (depth_in (is_too_deep job.frames depth (level_of below)) u reg)
   depth-follows u reg depth lt free = by (is_too_deep job.frames depth (level_of below)) refl
     where

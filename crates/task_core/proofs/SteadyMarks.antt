@@ -15,7 +15,7 @@ use Rattle.ft_base.specs.WellFormed.{IsActNamed}
 use Rattle.ft_base.proofs.Small.{Each-snoc, false_true, or-true_either, and_both}
 use Rattle.ft_hist.specs.Frames.{FrameUser}
 use Rattle.ft_hist.specs.Plain.{Owed, owed_by}
-use Rattle.plain_machine.specs.State.{is_held, misses_frame, takes_frame}
+use Rattle.plain_machine.specs.State.{is_full, misses_frame, takes_frame}
 use Rattle.word_map.specs.Contents.{low}
 use Rattle.word_machine.specs.Task.{OpenCall, TaskState, Moment, Refusing, Calling, Missing, Acting, Ending, act_in, after_user, around, call_got, called_back, guards_under, level_of, miss_in, with_top}
 use Rattle.word_machine.proofs.Small.{each-get}
@@ -104,9 +104,9 @@ module _ (job : Job) (c : OpenCall) (below : List OpenCall) (u reg place : ℕ) 
 -- ## a callback
 
 module _ (job : Job) (named : Each (λ s. IsActNamed job s.act) job.users) (P : ℕ → List TaskAct → Type 0) (x : TaskState) (c : OpenCall) (below : List OpenCall) where
-  -- the guard of its context is free below
+  -- the calls below have left a level of the guard of its context
   abbrev Free : Type 0
-  Free = is_held (guards_under c.scripted below) c.ctx ≡ false
+  Free = is_full job (guards_under c.scripted below) c.ctx ≡ false
 
   act-follows : (u : ℕ) → u < length job.users → Free → Follows job c below (act_in (owed_by c.ctx (spec_at job u).act) u)
   act-follows u lt free = by (owed_by c.ctx (spec_at job u).act) refl

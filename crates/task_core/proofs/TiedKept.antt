@@ -1,18 +1,22 @@
 -- A step of a task changes none of its numbers and limits, and finishes one act at most.
-use Rattle.std.proofs.Common.{◌≡◌, ℕ, suc, ◌≤◌, List, drop, Some, None, refl, ap, arith}
+use Rattle.std.proofs.Common.{cond, ◌≡◌, ℕ, suc, ◌≤◌, false, List, drop, Some, None, refl, ap, arith}
 use Rattle.std.specs.Prelude.{◌==◌, nat_le, Option}
 use Rattle.std.specs.Int.{bit_at}
+use Rattle.ft_base.specs.declared.context.Ctx.{Ctx}
+use Rattle.ft_base.specs.declared.number.FuncNo.{FuncNo}
 use Rattle.ft_base.specs.declared.number.TaskNo.{TaskNo}
 use Rattle.ft_base.specs.declared.number.UserNo.{UserNo}
 use Rattle.ft_base.specs.declared.task.TaskAct.{TaskAct}
 use Rattle.ft_base.specs.declared.task.TaskAct.TheVariants.{Call, Ret as RetAct, Raise, Lower, After}
 use Rattle.ft_base.specs.Job.{Spec}
+use Rattle.ft_base.specs.Same.{same_ctx}
 use Rattle.hash_pages.specs.declared.reader.Verdict.{Verdict}
 use Rattle.hash_pages.specs.declared.reader.Verdict.TheVariants.{Open, Off, Apart, On}
 use Rattle.hash_pages.specs.Reads.{Read, read_got, verdict_of}
 use Rattle.ops_list.specs.Walks.{walk_at}
-use Rattle.recursion_guard.specs.Guards.{is_held}
+use Rattle.recursion_guard.specs.Guards.{GuardState, is_full}
 use Rattle.return_stack.specs.Calls.{frames_in}
+use Rattle.word_map.specs.declared.shape.Shape.{Shape}
 use Rattle.word_map.specs.Contents.{returned_at, stands}
 use Rattle.word_machine.specs.Task.{is_too_deep}
 use Rattle.word_machine.proofs.Small.{if_case}
@@ -21,16 +25,17 @@ use Rattle.task_core.specs.declared.moment.Moment.TheVariants.{Polling, First, L
 use Rattle.task_core.specs.declared.moment.ToLoad.{ToLoad}
 use Rattle.task_core.specs.declared.moment.ToLoad.TheVariants.{OwnSel, Reading, AtPids, AtDepth, AtExit}
 use Rattle.task_core.specs.declared.moment.ToMark.{ToMark}
-use Rattle.task_core.specs.declared.moment.ToMark.TheVariants.{Closing, Returning}
+use Rattle.task_core.specs.declared.moment.ToMark.TheVariants.{Acting, Ending, Closing, Returning}
 use Rattle.task_core.specs.declared.task.Task.{Task}
 use Rattle.task_core.specs.Setups.{PlainSetup, declared_in}
 use Rattle.task_core.specs.TaskOps.{frame_user, present, top}
-use Rattle.task_core.specs.TaskSteps.{after_at, after_first, after_load, after_mark, begun, guard_tested, judged, task_after, tested}
+use Rattle.task_core.specs.TaskSteps.{acted, after_at, after_first, after_load, after_mark, begun, entered, guard_tested, judged, task_after, tested, with_latest, without_raised}
 
 -- What a step and a poll keep of a task.
 --   number, acts           it is the same task, with the same acts
 --   gone                   at most one act more is finished
 --   frames, calls, opens   it has the same room for frames and calls
+--   levels                 its guards have as many levels
 pub record IsSameTask (t u : Task) : Type 0 where
   pub number : u.number ≡ t.number
   pub acts : u.acts.all ≡ t.acts.all
@@ -38,6 +43,7 @@ pub record IsSameTask (t u : Task) : Type 0 where
   pub frames : u.stacks.frame_limit ≡ t.stacks.frame_limit
   pub calls : u.stacks.call_limit ≡ t.stacks.call_limit
   pub opens : u.opens.limit ≡ t.opens.limit
+  pub levels : u.guards.levels ≡ t.guards.levels
 
 -- what stays, as one value: an equation of two such values has one proof
 record Staying : Type 0 where
@@ -46,6 +52,7 @@ record Staying : Type 0 where
   frames : ℕ
   calls : ℕ
   opens : ℕ
+  levels : ℕ
 
 abbrev staying : Task → Staying
 staying t = record {
@@ -54,6 +61,7 @@ staying t = record {
   frames = t.stacks.frame_limit;
   calls = t.stacks.call_limit;
   opens = t.opens.limit;
+  levels = t.guards.levels;
 }
 
 module _ (t : Task) where
@@ -69,6 +77,7 @@ module _ (t : Task) where
     frames = ap (λ (x : Staying). x.frames) k.0;
     calls = ap (λ (x : Staying). x.calls) k.0;
     opens = ap (λ (x : Staying). x.opens) k.0;
+    levels = ap (λ (x : Staying). x.levels) k.0;
   }
 
   none-done : t.acts.gone ≤ suc t.acts.gone
@@ -78,7 +87,7 @@ module _ (t : Task) where
   one-done = omega arith
 
   guard-keeps : (spec : Spec) (u : UserNo) (reg : ℕ) → Keeps (guard_tested t spec u reg)
-  guard-keeps spec u reg = if_case Keeps (is_held t.guards) _ _ (λ e. (refl, none-done)) (λ e. (refl, none-done))
+  guard-keeps spec u reg = if_case Keeps (is_full t.guards) _ _ (λ e. (refl, none-done)) (λ e. (refl, none-done))
 
   tested-keeps : (spec : Spec) (u : UserNo) (reg : ℕ) → Keeps (tested t spec u reg)
   tested-keeps spec u reg = if_case Keeps spec.pid _ _ (λ e. (refl, none-done)) (λ e. guard-keeps spec u reg)
@@ -105,9 +114,28 @@ module _ (t : Task) where
   load-keeps s (AtExit i) v = if_case Keeps (stands v (frame_user t i).reg) _ _ (λ e. (refl, none-done)) (λ e. (refl, none-done))
   load-keeps s _ v = (refl, none-done)
 
+  -- a call that an act makes may raise the context, and its return lower it
+  acted-keeps : (shape : Shape) (u : UserNo) (f : FuncNo) (x : Ctx) → Keeps (acted t shape u f x)
+  acted-keeps shape u f x =
+      if_case (λ (g : GuardState). Keeps (entered (record t { guards = g; opens = with_latest t.opens (record (top t) { user = u }) }) shape f x false))
+      (same_ctx x (top t).ctx) _ _ (λ e. (refl, none-done)) (λ e. (refl, none-done))
+
+  -- the task after a call that an act made
+  abbrev popped : Task
+  popped = record t { stacks = record t.stacks { calls = drop 1 t.stacks.calls }; opens = record t.opens { calls = drop 1 t.opens.calls } }
+
+  back-keeps : Keeps (record popped {
+    guards = cond (same_ctx (top t).ctx (top popped).ctx) t.guards (without_raised t.guards);
+    moment = Mark (Ending (top popped).user);
+  })
+  back-keeps =
+      if_case (λ (g : GuardState). Keeps (record popped { guards = g; moment = Mark (Ending (top popped).user) }))
+      (same_ctx (top t).ctx (top popped).ctx) _ _ (λ e. (refl, none-done)) (λ e. (refl, none-done))
+
   mark-keeps : (s : PlainSetup) (mark : ToMark) (v : ℕ) → Keeps (after_mark t s mark v)
+  mark-keeps s (Acting u f x) v = acted-keeps s.shape u f x
   mark-keeps s Closing v = if_case Keeps (top t).scripted _ _ (λ e. (refl, one-done)) (λ e. (refl, none-done))
-  mark-keeps s Returning v = if_case Keeps (top t).scripted _ _ (λ e. (refl, one-done)) (λ e. (refl, none-done))
+  mark-keeps s Returning v = if_case Keeps (top t).scripted _ _ (λ e. (refl, one-done)) (λ e. back-keeps)
   mark-keeps s _ v = (refl, none-done)
 
   at-keeps : (s : PlainSetup) (m : Moment) (v : ℕ) → Keeps (after_at t s m v)

@@ -1,11 +1,12 @@
 -- A task stays tied to its stacks, where something is to come: after a step, after a poll, and after its quiet word is told.
-use Rattle.std.proofs.Common.{◌≡◌, ℕ, ◌<◌, ◌≤◌, true, false, List, [], ◌∷◌, length, get_or, Some, None, refl, sym, ap, subst, ◌∙◌, arith}
+use Rattle.std.proofs.Common.{◌≡◌, ℕ, ◌*◌, ◌<◌, ◌≤◌, true, false, List, [], ◌∷◌, length, get_or, Some, None, refl, sym, ap, subst, ◌∙◌, arith}
 use Rattle.std.specs.Prelude.{nat_le, Option}
 use Rattle.ft_base.specs.declared.task.TaskAct.{TaskAct}
 use Rattle.ft_base.specs.declared.task.TaskAct.TheVariants.{Call, Ret as RetAct, Raise, Lower, After}
 use Rattle.ft_base.specs.declared.item.Ran.{Ran}
 use Rattle.ft_base.specs.declared.number.TaskNo.{TaskNo}
 use Rattle.ft_base.specs.Job.{Job, no_task}
+use Rattle.ft_base.specs.Versions.{levels}
 use Rattle.plain_machine.specs.State.{has_acts}
 use Rattle.ops_list.specs.declared.walker.WalkPhase.{WalkPhase}
 use Rattle.return_stack.specs.Calls.{StackedCall, top_users}
@@ -114,8 +115,11 @@ module _ (job : Job) (t u : Task) (k : IsTaskOf job t) (same : IsSameTask t u) w
   pub limits-same : u.stacks.call_limit ≡ u.opens.limit
   limits-same = same.calls ∙ k.limits ∙ sym same.opens
 
-  pub two-same : 2 ≤ u.opens.limit
-  two-same = subst (λ n. 2 ≤ n) (sym same.opens) k.two
+  pub nested-same : 2 * levels job ≤ u.opens.limit
+  nested-same = subst (λ n. 2 * levels job ≤ n) (sym same.opens) k.nested
+
+  pub levels-same : u.guards.levels ≡ levels job
+  levels-same = same.levels ∙ k.levels'
 
   -- an act that was left may be finished
   pub gone-same : t.acts.gone < length t.acts.all → u.acts.gone ≤ length u.acts.all

@@ -11,7 +11,7 @@ use Rattle.ft_base.specs.Job.{Job, Spec}
 use Rattle.ft_base.specs.Kinds.{has_depth, is_fprobe}
 use Rattle.ft_hist.specs.Frames.{FrameUser, runs_after}
 use Rattle.ft_hist.specs.Plain.{owed_by}
-use Rattle.recursion_guard.specs.Guards.{with_guard}
+use Rattle.recursion_guard.specs.Guards.{left}
 use Rattle.return_stack.specs.declared.shadow.FrameUser.{FrameUser as OwedUser}
 use Rattle.return_stack.specs.Calls.{CallStack, StackedCall}
 use Rattle.fprobe.specs.declared.entry.Probe.{Probe}
@@ -147,7 +147,7 @@ module _ (job : Job) (t : Task) (o : CodeCall) (os : List CodeCall) (s : Stacked
   mark-tied (Calling u reg) place w h = called-tied (Mark (Calling u reg)) (declared_in setup u.0) u reg place w
   mark-tied (Missing u) place w h = act-tied shape t o os s ss k below u (owed_by o.ctx (declared_in setup u.0).act) w
   mark-tied (Acting u f x) place w h = acted-tied (Mark (Acting u f x)) u f x w
-  mark-tied (Ending u) place w h = passed-tied shape t o os s ss k below (with_guard t.guards false) (Mark (Ending u)) u.0 w
+  mark-tied (Ending u) place w h = passed-tied shape t o os s ss k below (left t.guards) (Mark (Ending u)) u.0 w
   mark-tied Closing place w h = body-tied (Mark Closing)
   mark-tied Leaving place w h = exit-tied shape t o os s ss k below (Mark Leaving) 0
   mark-tied (Exiting i) place w h =

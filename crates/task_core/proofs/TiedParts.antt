@@ -1,5 +1,5 @@
 -- What it takes for a task to be tied to its stacks where it stands, and the moments to which several rows lead.
-use Rattle.std.proofs.Common.{◌≡◌, ℕ, ◌<◌, true, false, List, [], ◌∷◌, drop, length, Some, None, refl, sym, subst, arith}
+use Rattle.std.proofs.Common.{◌≡◌, ℕ, ◌<◌, List, [], ◌∷◌, drop, length, Some, None, refl, sym, subst, arith}
 use Rattle.std.specs.Prelude.{◌==◌, Option, slice_get}
 use Rattle.std.specs.Int.{bit_at}
 use Rattle.std.specs.Option.{option_and_then}
@@ -15,7 +15,7 @@ use Rattle.ft_base.specs.Kinds.{has_depth}
 use Rattle.ft_hist.specs.Frames.{FrameUser}
 use Rattle.ft_hist.specs.Plain.{Owed}
 use Rattle.ops_list.specs.declared.walker.WalkPhase.{WalkPhase}
-use Rattle.recursion_guard.specs.Guards.{GuardState, is_held, with_guard}
+use Rattle.recursion_guard.specs.Guards.{GuardState, entered, is_full, left}
 use Rattle.return_stack.specs.declared.shadow.FrameUser.{FrameUser as OwedUser}
 use Rattle.return_stack.specs.Calls.{StackedCall, frames_in, top_users}
 use Rattle.word_map.specs.declared.shape.Shape.{Shape}
@@ -118,11 +118,11 @@ module _ (shape : Shape) (t : Task) (o : CodeCall) (os : List CodeCall) (s : Sta
 
   guard-tied : (from : Moment) (spec : Spec) (u : UserNo) (reg : ℕ) → IsAtUser u.0 → P (guard_tested (here from) spec u reg)
   guard-tied from spec u reg w =
-      if_case P (is_held t.guards) _ _
+      if_case P (is_full t.guards) _ _
       (λ e. goes t.guards (Mark (Refusing u reg Recursion)) w tt)
-      (λ e. if_case (λ m. P (record (here m) { guards = with_guard t.guards true })) (has_depth spec.kind) _ _
-      (λ d. goes (with_guard t.guards true) (Load (AtDepth u reg)) w tt)
-      (λ d. goes (with_guard t.guards true) (Mark (Calling u reg)) w tt))
+      (λ e. if_case (λ m. P (record (here m) { guards = entered t.guards })) (has_depth spec.kind) _ _
+      (λ d. goes (entered t.guards) (Load (AtDepth u reg)) w tt)
+      (λ d. goes (entered t.guards) (Mark (Calling u reg)) w tt))
 
   pub tested-tied : (from : Moment) (spec : Spec) (u : UserNo) (reg : ℕ) → IsAtUser u.0 → P (tested (here from) spec u reg)
   tested-tied from spec u reg w =
@@ -139,7 +139,7 @@ module _ (shape : Shape) (t : Task) (o : CodeCall) (os : List CodeCall) (s : Sta
   pub depth-tied : (from : Moment) (frames : ℕ) (u : UserNo) (reg v : ℕ) → IsAtUser u.0 → P (depth_tested (here from) frames u reg v)
   depth-tied from frames u reg v w =
       if_case P (is_too_deep frames v (frames_in ss)) _ _
-      (λ e. goes (with_guard t.guards false) (Mark (Refusing u reg ByDepth)) w tt)
+      (λ e. goes (left t.guards) (Mark (Refusing u reg ByDepth)) w tt)
       (λ e. goes t.guards (Mark (Calling u reg)) w tt)
 
   -- ## after a user, and in its callback

@@ -1,14 +1,14 @@
 -- What a task's operation asks: that what it is on is there, and that the value fits it.
 use Rattle.std.specs.Prelude.{ℕ, suc, ◌+◌, ◌≡◌, ◌<◌, ◌≤◌, ◌^◌, true, false, drop, length, Option, Some, IsSome, IfSome, IsSomeAnd}
 use Rattle.ft_base.specs.declared.context.Ctx.{Ctx}
-use Rattle.ft_base.specs.declared.limits.TheConstants.{BOUND_USERS, TABLE_FUNCS, TASKS, TRAMPS}
+use Rattle.ft_base.specs.declared.limits.TheConstants.{USERS, FUNCS, TASKS, TRAMPS}
 use Rattle.ft_base.specs.declared.task.TaskAct.{TaskAct}
 use Rattle.ft_base.specs.declared.task.TaskAct.TheVariants.{Call, Ret as RetAct, Raise, Lower}
 use Rattle.ft_base.specs.declared.user.Kind.{Kind}
 use Rattle.ft_base.specs.Kinds.{has_depth}
 use Rattle.ft_base.specs.Same.{rank, same_ctx}
 use Rattle.ops_list.specs.Walks.{walk_at}
-use Rattle.recursion_guard.specs.Guards.{context, is_held}
+use Rattle.recursion_guard.specs.Guards.{context, IsHeld}
 use Rattle.return_stack.specs.Calls.{CallStack, frames_in, top_users}
 use Rattle.word_map.specs.declared.shape.Shape.{Shape}
 use Rattle.task_core.specs.declared.moment.Moment.{Moment}
@@ -67,7 +67,7 @@ HasAct t = t.acts.gone < length t.acts.all
 
 -- a callback of a user of this kind finds room in the frame of its call, and a frame if it is a graph or profile user
 pub record HasFrameRoom (kind : Kind) (s : CallStack) : Type 0 where
-  pub users : IfSome (top_users s.calls) (λ users. length users < BOUND_USERS)
+  pub users : IfSome (top_users s.calls) (λ users. length users < USERS)
   pub frame : has_depth kind ≡ true → frames_in (drop 1 s.calls) < s.frame_limit
 
 -- ## acts
@@ -99,15 +99,15 @@ pub record FitsWalk (s : PlainSetup) (t : Task) (v : ℕ) : Type 0 where
 -- a load gave a value
 abbrev pub FitsLoad : PlainSetup → Task → ToLoad → ℕ → Type 0
 FitsLoad s t Fetch v = v < 256
-FitsLoad s t (GotHead byte) v = ((top t).func.0 < TABLE_FUNCS) × IsFetched (top t).func.0 byte v
+FitsLoad s t (GotHead byte) v = ((top t).func.0 < FUNCS) × IsFetched (top t).func.0 byte v
 FitsLoad s t GotBreak v = v < 2 + TRAMPS
 FitsLoad s t (InTramp slot) v = Unit {0}
 FitsLoad s t (OwnSel u reg) v = IsUser s u.0
 FitsLoad s t Walking v = FitsWalk s t v
 FitsLoad s t (Reading r) v = IfSome (walk_at (top t).walk.phase) (λ u. IsUser s u.0)
 FitsLoad s t (AtPids u reg) v = IsUser s u.0 × (t.number.0 < TASKS)
-FitsLoad s t (AtDepth u reg) v = is_held t.guards ≡ true
-FitsLoad s t (AtExit i) v = IsSome (owed t i) × (i < BOUND_USERS)
+FitsLoad s t (AtDepth u reg) v = IsHeld t.guards
+FitsLoad s t (AtExit i) v = IsSome (owed t i) × (i < USERS)
 
 -- the act's call comes above the present context, if it is in another one than the callback
 abbrev pub CanRaise : Task → Ctx → Type 0
@@ -124,10 +124,10 @@ abbrev pub FitsMark : PlainSetup → Task → ToMark → Type 0
 FitsMark s t (Calling u reg) = IsUser s u.0 × HasFrameRoom (declared_in s u.0).kind t.stacks
 FitsMark s t (Missing u) = IsUser s u.0
 FitsMark s t (Acting u f x) = HasCallRoom t × CanRaise t x
-FitsMark s t (Ending u) = is_held t.guards ≡ true
+FitsMark s t (Ending u) = IsHeld t.guards
 FitsMark s t Closing = (top t).scripted ≡ true → HasAct t
 FitsMark s t (Exiting i) = IsSome (owed t i)
-FitsMark s t (EndingExit i) = IsSome (owed t i) × (i < BOUND_USERS)
+FitsMark s t (EndingExit i) = IsSome (owed t i) × (i < USERS)
 FitsMark s t Returning = CanReturn t
 FitsMark s t _ = Unit {0}
 

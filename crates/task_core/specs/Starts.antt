@@ -1,5 +1,5 @@
 -- A task before its first act, and what its CPU asks of a task.
-use Rattle.std.specs.Prelude.{ℕ, ◌-◌, ◌≤◌, Bool, false, not, nat_lt, List, [], length, Option, Some}
+use Rattle.std.specs.Prelude.{ℕ, ◌-◌, ◌*◌, ◌≤◌, Bool, false, not, nat_lt, List, [], length, Option, Some}
 use Rattle.ft_base.specs.declared.number.TaskNo.{TaskNo}
 use Rattle.ft_base.specs.declared.task.TaskAct.{TaskAct}
 use Rattle.ft_base.specs.declared.task.TaskAct.TheVariants.{After}
@@ -13,23 +13,24 @@ use Rattle.task_core.specs.Leads.{is_quiet}
 use Rattle.task_core.specs.Steady.{StaysWithin}
 use Rattle.task_core.specs.TaskOps.{present}
 
--- a task before its first act, with room for so many calls and frames
-abbrev pub task_at_start : TaskNo → List TaskAct → ℕ → ℕ → Task
-task_at_start number acts calls frames = record {
+-- a task before its first act, with room for so many calls and frames, and so many levels of each guard
+abbrev pub task_at_start : TaskNo → List TaskAct → (calls frames levels : ℕ) → Task
+task_at_start number acts calls frames levels = record {
   number = number;
   acts = record { all = acts; gone = 0 };
   next = 1;
-  guards = at_start;
+  guards = at_start levels;
   stacks = record { calls = []; call_limit = calls; frame_limit = frames };
   opens = record { calls = []; limit = calls };
   word = 0;
   moment = Polling;
 }
 
--- there is room for so many calls: those of the acts, and two that acts of users make above them
-pub record HasRoomFor (limit : ℕ) (acts : List TaskAct) : Type 0 where
-  pub two : 2 ≤ limit
-  pub within : StaysWithin (limit - 2) 0 acts
+-- there is room for so many calls: those of the acts, and those that acts of users make above them, as many as the guard of the call's
+-- context has levels, and as many in an interrupt
+pub record HasRoomFor (limit levels : ℕ) (acts : List TaskAct) : Type 0 where
+  pub nested : 2 * levels ≤ limit
+  pub within : StaysWithin (limit - 2 * levels) 0 acts
 
 -- an act is left
 abbrev pub is_left : Task → Bool

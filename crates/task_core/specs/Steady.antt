@@ -11,7 +11,7 @@ use Rattle.ft_base.specs.Desk.{spec_at}
 use Rattle.ft_base.specs.Kinds.{has_depth}
 use Rattle.ft_base.specs.WellFormed.{IsScript}
 use Rattle.ft_hist.specs.Plain.{context, owed_by}
-use Rattle.plain_machine.specs.State.{is_held}
+use Rattle.plain_machine.specs.State.{is_full}
 use Rattle.word_machine.specs.Limits.{AreRaised}
 use Rattle.word_machine.specs.Task.{OpenCall, TaskState, Moment, Polling, First, InTramp, OwnSel, TestSel, TestFilter, TestNotrace, AtPids, AtDepth, Refusing, Calling, Missing, Acting, Ending, AtLink, Leaving, AtExit, Exiting, EndingExit, Returning, guards_under, level_of, is_quiet}
 use Rattle.word_machine.specs.Tasks.{FirstAt, StandsIn, acts_by, is_returning, open_by}
@@ -49,7 +49,7 @@ abbrev pub is_acted : List OpenCall → Bool
 is_acted [] = false
 is_acted (c ∷ below) = not c.scripted
 
--- a user has passed the test of the guard, and holds it until its callback ends
+-- a user has passed the test of the guard, and holds a level of it until its callback ends
 abbrev pub holds_guard : Moment → Bool
 holds_guard (AtDepth u reg) = true
 holds_guard (Calling u reg) = true
@@ -58,7 +58,7 @@ holds_guard (Acting u o) = true
 holds_guard (Ending u) = true
 holds_guard _ = false
 
--- the contexts whose guards a task at a moment of its top call holds
+-- the context of each guard level that a task at a moment of its top call holds
 abbrev pub guards_at : Moment → List OpenCall → List Ctx
 guards_at m [] = []
 guards_at m (c ∷ below) = if holds_guard m then c.ctx ∷ guards_under c.scripted below else guards_under c.scripted below
@@ -114,7 +114,7 @@ IsCalled false x (b ∷ bb) = IsActContext b.ctx x
 --   func, users, names   each number names something
 --   scripted, acted      between two acts only calls of the script are open, and only a call that an act made returns at once
 --   called               a call that an act made has a caller
---   free                 the guard that its callback holds is no other's
+--   free                 the callbacks below it have left it a level of its guard
 --   found                what the tests have found
 pub record IsSteadyCall (job : Job) (c : OpenCall) (below : List OpenCall) (m : Moment) : Type 0 where
   pub func : c.func < funcs job
@@ -123,7 +123,7 @@ pub record IsSteadyCall (job : Job) (c : OpenCall) (below : List OpenCall) (m : 
   pub scripted : is_quiet m ≡ true → c.scripted ≡ true
   pub acted : returns_at_once m ≡ true → c.scripted ≡ false
   pub called : IsCalled c.scripted c.ctx below
-  pub free : holds_guard m ≡ true → is_held (guards_under c.scripted below) c.ctx ≡ false
+  pub free : holds_guard m ≡ true → is_full job (guards_under c.scripted below) c.ctx ≡ false
   pub found : HasFound job c below m
 
 -- all open calls

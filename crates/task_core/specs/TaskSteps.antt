@@ -21,7 +21,7 @@ use Rattle.hash_pages.specs.declared.reader.ReadPhase.TheVariants.{AtSel}
 use Rattle.hash_pages.specs.declared.reader.Verdict.{Verdict}
 use Rattle.hash_pages.specs.declared.reader.Verdict.TheVariants.{Open, On}
 use Rattle.hash_pages.specs.Reads.{Read, read_got, verdict_of}
-use Rattle.recursion_guard.specs.Guards.{GuardState, context, is_held, with_guard}
+use Rattle.recursion_guard.specs.Guards.{GuardState, context, is_full as is_guard_full, entered as guard_entered, left as guard_left}
 use Rattle.return_stack.specs.declared.shadow.FrameUser.{FrameUser}
 use Rattle.return_stack.specs.Calls.{CallStack, frames_in, is_full, with_call, with_hook, with_user, without_empty}
 use Rattle.fprobe.specs.Entry.{calls_after}
@@ -105,12 +105,12 @@ in_trampoline t v =
 
 -- ## the tests of a user that is on
 
--- the guard is taken if it is free
+-- a level of the guard is taken if one is free
 abbrev pub guard_tested : Task → Spec → UserNo → ℕ → Task
 guard_tested t spec u reg =
-    if is_held t.guards
+    if is_guard_full t.guards
     then at t (Mark (Refusing u reg Recursion))
-    else record t { guards = with_guard t.guards true; moment = (if has_depth spec.kind then Load (AtDepth u reg) else Mark (Calling u reg)) }
+    else record t { guards = guard_entered t.guards; moment = (if has_depth spec.kind then Load (AtDepth u reg) else Mark (Calling u reg)) }
 
 -- the pid rule comes first
 abbrev pub tested : Task → Spec → UserNo → ℕ → Task
@@ -124,7 +124,7 @@ pid_tested t spec u reg v = if bit_at v t.number.0 == 1 then guard_tested t spec
 abbrev pub depth_tested : Task → ℕ → UserNo → ℕ → ℕ → Task
 depth_tested t frames u reg v =
     if is_too_deep frames v (frames_in (drop 1 t.stacks.calls))
-    then record t { guards = with_guard t.guards false; moment = Mark (Refusing u reg ByDepth) }
+    then record t { guards = guard_left t.guards; moment = Mark (Refusing u reg ByDepth) }
     else at t (Mark (Calling u reg))
 
 -- the state of a trampoline's user is loaded
@@ -195,7 +195,7 @@ acted t shape u f x = entered (record t {
 
 -- the callback has ended
 abbrev pub callback_ended : Task → Task
-callback_ended t = passed (record t { guards = with_guard t.guards false })
+callback_ended t = passed (record t { guards = guard_left t.guards })
 
 -- ## the body and the return
 

@@ -1,20 +1,21 @@
 -- A task of code that is a task of a job: its stacks, its walks, its guards and its room fit together.
-use Rattle.std.specs.Prelude.{ℕ, ◌-◌, ◌≡◌, ◌<◌, ◌≤◌, ◌++◌, List, [], ◌∷◌, get_or, length}
+use Rattle.std.specs.Prelude.{ℕ, ◌-◌, ◌*◌, ◌≡◌, ◌<◌, ◌≤◌, ◌++◌, List, [], ◌∷◌, get_or, length}
 use Rattle.std.specs.List.{AllByRecursion as Each}
 use Rattle.ft_base.specs.declared.context.Ctx.{Ctx}
 use Rattle.ft_base.specs.declared.item.Ran.{Ran}
 use Rattle.ft_base.specs.declared.item.Ran.TheVariants.{List as ByList}
-use Rattle.ft_base.specs.declared.limits.TheConstants.{BOUND_USERS}
+use Rattle.ft_base.specs.declared.limits.TheConstants.{USERS}
 use Rattle.ft_base.specs.declared.number.TaskNo.{TaskNo}
 use Rattle.ft_base.specs.Job.{Job, no_task}
+use Rattle.ft_base.specs.Versions.{levels}
 use Rattle.ft_hist.specs.Frames.{FrameUser}
-use Rattle.plain_machine.specs.State.{is_held}
+use Rattle.plain_machine.specs.State.{held_levels}
 use Rattle.hash_pages.specs.declared.reader.ReadPhase.{ReadPhase}
 use Rattle.hash_pages.specs.declared.reader.ReadPhase.TheVariants.{Ended as ReadEnded}
 use Rattle.hash_pages.specs.Reads.{Read}
 use Rattle.ops_list.specs.declared.walker.WalkPhase.{WalkPhase}
 use Rattle.ops_list.specs.declared.walker.WalkPhase.TheVariants.{Starting, At, Ended as WalkEnded}
-use Rattle.recursion_guard.specs.Guards.{mark_of}
+use Rattle.recursion_guard.specs.Guards.{held_in}
 use Rattle.return_stack.specs.Calls.{StackedCall, top_users}
 use Rattle.word_map.specs.declared.shape.Shape.{Shape}
 use Rattle.word_map.specs.Shapes.{shape_of}
@@ -96,7 +97,7 @@ AreTied shape number m (o ∷ os) (s ∷ ss) = IsTied shape number m o s × AreT
 
 -- no call owes more exits than a frame has room for
 abbrev pub AreFew : List StackedCall → Type 0
-AreFew ss = Each (λ s. length (users_in s.users) ≤ BOUND_USERS) ss
+AreFew ss = Each (λ s. length (users_in s.users) ≤ USERS) ss
 
 -- ## moments
 
@@ -122,10 +123,11 @@ HasMoment shape o users _ = Unit {0}
 -- A task of a job.
 --   number, acts    it is one of the job's tasks, with that task's acts
 --   frames, limits  its stacks have room for as many frames as the job says, and for the same calls
---   two, room       that is room for the scripted calls of its acts, and for two calls of users' acts above them
+--   nested, room    that is room for the scripted calls of its acts, and for the calls of users' acts above them: as many as the guards
+--                   of two contexts have levels
 --   tied, few       its open calls are those of its stacks, and none owes more exits than a frame has room for
 --   moment          it stands where something is to come
---   held            the guards that are held are those of its callbacks
+--   levels, held    each guard has as many levels as the job says, and those that are held are those of its callbacks
 --   raised          the calls of acts are in contexts above those of its script
 --   steady          it keeps what the machine's task keeps
 pub record IsTaskOf (job : Job) (t : Task) : Type 0 where
@@ -134,11 +136,12 @@ pub record IsTaskOf (job : Job) (t : Task) : Type 0 where
   pub gone : t.acts.gone ≤ length t.acts.all
   pub frames : t.stacks.frame_limit ≡ job.frames
   pub limits : t.stacks.call_limit ≡ t.opens.limit
-  pub two : 2 ≤ t.opens.limit
-  pub room : HasCallRoom (t.opens.limit - 2) (state_of t)
+  pub nested : 2 * levels job ≤ t.opens.limit
+  pub room : HasCallRoom (t.opens.limit - 2 * levels job) (state_of t)
   pub tied : AreTied (shape_of job) t.number (moment_of t) t.opens.calls t.stacks.calls
   pub few : AreFew t.stacks.calls
   pub moment : HasMoment (shape_of job) (top t) (users_in (top_users t.stacks.calls)) t.moment
-  pub held : (k : Ctx) → mark_of t.guards.held k ≡ is_held (guards_at (moment_of t) (stack_of t)) k
+  pub levels' : t.guards.levels ≡ levels job
+  pub held : (k : Ctx) → held_in t.guards.held k ≡ held_levels (guards_at (moment_of t) (stack_of t)) k
   pub raised : t.guards.raised ≡ act_raised (stack_of t) ++ (state_of t).contexts
   pub steady : IsSteady job (state_of t)

@@ -4,11 +4,11 @@
 ghost use Rattle.std.specs.Prelude.{◌≡◌, ◌+◌, ◌<◌, ◌≤◌, true, length, drop, IfSome};
 ghost use Rattle.std.specs.Option.{option_map};
 ghost use Rattle.ft_base.specs.declared.item.Item.TheVariants.{Refuse, Miss, Back, BackEnd, Enter};
-ghost use Rattle.ft_base.specs.declared.limits.TheConstants.{TASKS, TABLE_FUNCS};
+ghost use Rattle.ft_base.specs.declared.limits.TheConstants.{TASKS, FUNCS};
 ghost use Rattle.user_specs.specs.Plain.{spec_of};
 ghost use Rattle.ops_list.specs.Walks.{walk_at};
 ghost use Rattle.hash_pages.specs.Reads.{read_got, verdict_of};
-ghost use Rattle.recursion_guard.specs.Guards.{is_held, with_guard};
+ghost use Rattle.recursion_guard.specs.Guards.{IsHeld};
 ghost use Rattle.word_map.specs.Ops.{placed};
 ghost use Rattle.word_map.specs.Instructions.{number_of};
 ghost use Rattle.task_core.specs.Fits.{CanRaise, FitsLoad, FitsMark, FitsWalk, HasCallRoom, HasFrameRoom, IsInCall, IsLoadThere, IsUser};
@@ -204,7 +204,7 @@ impl Task {
         }
     }
 
-    /// The guard of the context is taken if it is free, and held until the callback ends. That is
+    /// A level of the context's guard is taken if one is free, and held until the callback ends. That is
     /// before the depth rule: a call within a callback would otherwise be refused for its depth, where
     /// the rules say for recursion.
     fn test_guard(&mut self, setup: &Setup, user: UserNo, reg: u32)
@@ -223,13 +223,13 @@ impl Task {
     /// The graph depth is loaded.
     fn tested_depth(&mut self, setup: &Setup, user: UserNo, reg: u32, value: u64)
         requires call { IsInCall self.old }
-        requires held { is_held self.old.guards ≡ true }
+        requires held { IsHeld self.old.guards }
         ensures { self.new ≡ depth_tested self.old setup.now.frames user reg value }
     {
         if may_enter(&self.stacks, setup.frames, depth_in(value)) {
             self.moment = Moment::Mark(ToMark::Calling { user, reg });
         } else {
-            // There is no callback. With its guard held, each later user would be refused.
+            // There is no callback. With its level held, later users would be refused.
             self.guards.leave();
             self.refuse(user, reg, Reason::Depth);
         }
@@ -328,11 +328,11 @@ impl Task {
         self.enter(func, ctx, false, &setup.map)
     }
 
-    /// The callback has ended. Its guard is given back no earlier: the call of its act would call the
-    /// user back again, and so on without an end.
+    /// The callback has ended. Its level of the guard is given back no earlier: the call of its act
+    /// would call the user back again, and so on without an end.
     fn callback_ended(&mut self, user: UserNo) -> Item
         requires call { IsInCall self.old }
-        requires held { is_held self.old.guards ≡ true }
+        requires held { IsHeld self.old.guards }
         ensures task { self.new ≡ callback_ended self.old }
         ensures item { result ≡ BackEnd (top self.old).call user }
     {

@@ -3,7 +3,7 @@
 
 ghost use Rattle.std.specs.Prelude.{◌≡◌, ◌<◌, true, suc, IsSome};
 ghost use Rattle.ft_base.specs.declared.item.Item.TheVariants.{Body, Leave, Exit, ExitEnd, Ret};
-ghost use Rattle.ft_base.specs.declared.limits.TheConstants.{BOUND_USERS};
+ghost use Rattle.ft_base.specs.declared.limits.TheConstants.{USERS};
 ghost use Rattle.return_stack.specs.Calls.{caller_of};
 ghost use Rattle.task_core.specs.Fits.{CanReturn, HasAct, IsInCall};
 ghost use Rattle.task_core.specs.TaskOps.{frame_user, owed, top};
@@ -57,7 +57,7 @@ impl Task {
     pub(crate) fn exit_state(&mut self, i: u32, value: u64)
         requires call { IsInCall self.old }
         requires user { IsSome (owed self.old i) }
-        requires place { i < BOUND_USERS }
+        requires place { i < USERS }
         ensures { self.new ≡ exit_stated self.old i value }
     {
         if stands(value, self.frame_user(i).reg) {
@@ -89,7 +89,7 @@ impl Task {
     pub(crate) fn exit_ended(&mut self, i: u32) -> Item
         requires call { IsInCall self.old }
         requires user { IsSome (owed self.old i) }
-        requires place { i < BOUND_USERS }
+        requires place { i < USERS }
         ensures task { self.new ≡ exit_from self.old (suc i) }
         ensures item { result ≡ ExitEnd (top self.old).call (frame_user self.old i).user }
     {
@@ -120,7 +120,7 @@ impl Task {
             let user = self.opens.top().user;
             if !same_context(ctx, self.opens.top().ctx) {
                 // The interrupt is over before its callback ends. Otherwise the callback would give
-                // back the guard of the interrupt, and its own would be held for ever.
+                // back a level of the interrupt's guard, and its own would be held for ever.
                 self.guards.lower();
             }
             self.moment = Moment::Mark(ToMark::Ending { user });

@@ -1,7 +1,7 @@
 //! Where a task stands, and what loaded words lead to.
 
 ghost use Rattle.std.specs.Prelude.{◌≡◌, ◌+◌, ◌<◌, nat_le, if◌then◌else◌};
-ghost use Rattle.ft_base.specs.declared.limits.TheConstants.{TABLE_FUNCS, TRAMPS};
+ghost use Rattle.ft_base.specs.declared.limits.TheConstants.{FUNCS, TRAMPS};
 ghost use Rattle.ft_hist.specs.Plain.{owed_by};
 ghost use Rattle.word_map.specs.Contents.{greatest_half, returned_at, stands};
 ghost use Rattle.word_map.specs.Instructions.{decode, insn_numbered, number_of};
@@ -48,7 +48,7 @@ pub(crate) enum ToLoad {
     Reading(PageReader),
     /// The traced tasks, for a user that is on under this registration number.
     AtPids { user: UserNo, reg: u32 },
-    /// The graph depth, for such a user. The guard of the context is taken.
+    /// The graph depth, for such a user. A level of the context's guard is taken.
     AtDepth { user: UserNo, reg: u32 },
     /// The state of the user at this place of the call's frame, whose exit is next.
     AtExit(u32),
@@ -129,7 +129,7 @@ pub(crate) fn after_head(value: u64) -> Moment
 /// The instruction at a call site of this function, of which these two words were loaded. They are of
 /// one instruction: no CPU loads one of them before a patch and the other after it.
 pub(crate) fn insn_read(func: FuncNo, head: u8, tail: u64) -> Insn
-    requires func { func.0 < TABLE_FUNCS }
+    requires func { func.0 < FUNCS }
     requires fetched { IsFetched func.0 head tail }
     ensures { number_of result ≡ decode func.0 head tail }
 {

@@ -2,7 +2,7 @@
 
 ghost use Rattle.std.specs.Prelude.{◌≡◌, ◌+◌, ◌*◌, ◌<◌, ◌≤◌, ◌^◌, suc, true, length, nat_lt, IfOk, Option, IsSome};
 ghost use Rattle.std.specs.Option.{option_map};
-ghost use Rattle.ft_base.specs.declared.limits.TheConstants.{ACTS, FRAMES};
+ghost use Rattle.ft_base.specs.declared.limits.TheConstants.{ACTS, FRAMES, GUARD_LEVELS};
 ghost use Rattle.ft_base.specs.Same.{same_ctx};
 ghost use Rattle.word_map.specs.Ops.{placed};
 ghost use Rattle.task_core.specs.Fits.{CanBegin, HasAct, HasCallRoom, IsInCall, IsTaskThere, FitsFirst, TaskFits};
@@ -30,11 +30,6 @@ use user_specs::TaskPlan;
 use word_map::halves::low;
 use word_map::{Op, WordMap};
 
-/// How many calls that acts make can be open above a scripted one: that of an interrupt, and one in
-/// the interrupt's context above it. Acts are done in callbacks, and the guard of a callback lets no
-/// other one begin in its context.
-const ACT_CALLS: u32 = 2;
-
 /// A task of a CPU.
 #[derive(Drop)]
 pub struct Task {
@@ -42,7 +37,7 @@ pub struct Task {
     pub(crate) acts: Acts,
     /// The number of its next call.
     next: u32,
-    /// The contexts that it is in, each with its guard. In an open callback the guard of the
+    /// The contexts that it is in, each with its guard. In an open callback a level of the guard of the
     /// callback's context is held.
     pub(crate) guards: Guards,
     /// Its stack of return addresses and its shadow stack.
@@ -55,20 +50,23 @@ pub struct Task {
 }
 
 impl Task {
-    /// A task before its first act, with room for as many calls as can be open. The error says that
-    /// memory ran out.
-    pub fn new(alloc: Global, plan: &TaskPlan, frames: u32) -> Result<Task, NoMemory>
+    /// A task before its first act, with room for as many calls as can be open. `levels` is how many
+    /// levels each guard has, 1 or 2. The error says that memory ran out.
+    pub fn new(alloc: Global, plan: &TaskPlan, frames: u32, levels: u8) -> Result<Task, NoMemory>
         requires acts { length plan.now.acts.items ≤ ACTS }
         requires frames { frames ≤ FRAMES }
-        ensures start { IfOk result (λ t. t ≡ task_at_start plan.now.task plan.now.acts.items t.opens.limit frames) }
-        ensures room { IfOk result (λ t. HasRoomFor t.opens.limit plan.now.acts.items) }
+        requires levels { levels ≤ GUARD_LEVELS }
+        ensures start { IfOk result (λ t. t ≡ task_at_start plan.now.task plan.now.acts.items t.opens.limit frames levels) }
+        ensures room { IfOk result (λ t. HasRoomFor t.opens.limit levels plan.now.acts.items) }
     {
-        let calls = deepest(plan.acts.as_slice()) + ACT_CALLS;
+        // Above a scripted call can be open as many calls of acts as the guard of its context has levels,
+        // and then as many in an interrupt. Acts are done in callbacks, and each holds a level.
+        let calls = deepest(plan.acts.as_slice()) + 2 * u32::from(levels);
         Ok(Task {
             number: plan.task,
             acts: Acts::new(alloc, plan.acts.as_slice())?,
             next: 1,
-            guards: Guards::new(),
+            guards: Guards::new(levels),
             stacks: Stacks::new(alloc, calls, frames)?,
             opens: OpenCalls::new(alloc, calls)?,
             word: 0,

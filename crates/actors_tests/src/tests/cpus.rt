@@ -36,7 +36,7 @@ fn begins_with_a_poll(rt: HostRuntime) -> Result<(), Fail> {
     let tasks = vec![in alloc; task]?;
     let plan = CpuPlan { quantum: 3, tasks };
     let specs = specs.as_slice();
-    let cpu = Cpu::new(alloc, &plan, CpuNo(0), specs, USUAL_FRAMES, 6, map)?;
+    let cpu = Cpu::new(alloc, &plan, CpuNo(0), specs, USUAL_FRAMES, 1, 6, map)?;
     assert!(rt; begins_with(&cpu, map.want()));
     Ok(())
 }
@@ -49,7 +49,7 @@ fn begins_without_tasks(rt: HostRuntime) -> Result<(), Fail> {
         quantum: 1,
         tasks: Vec::new(alloc),
     };
-    let cpu = Cpu::new(alloc, &plan, CpuNo(0), &[], 1, 0, map)?;
+    let cpu = Cpu::new(alloc, &plan, CpuNo(0), &[], 1, 2, 0, map)?;
     assert!(rt; begins_with(&cpu, map.want()));
     Ok(())
 }

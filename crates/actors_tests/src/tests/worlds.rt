@@ -4,7 +4,7 @@
 use ft_base::{Actor, Answer, CpuNo, FuncNo, Item};
 use ft_desk::{Command, Ctl, Desk};
 use ft_hist::History;
-use machine_core::World;
+use machine_core::{TaskLimits, World};
 use std::test::Fail;
 use user_specs::CpuPlan;
 use word_map::{Shape, WordMap};
@@ -66,7 +66,11 @@ fn steps_to_its_end(rt: HostRuntime) -> Result<(), Fail> {
     let plans = vec![in alloc; plan]?;
     let map = WordMap::new(SHAPE);
     let lines = [Ctl::Run(Command::MaxDepth(1))];
-    let mut world = World::new(alloc, desk, &lines, plans.as_slice(), &[], 1, map)?;
+    let limits = TaskLimits {
+        frames: 1,
+        levels: 1,
+    };
+    let mut world = World::new(alloc, desk, &lines, plans.as_slice(), &[], limits, map)?;
     assert!(rt; world.site(FuncNo(0)) == NOP);
     assert!(rt; is_at_its_start(&world));
     for _ in 0..20 {

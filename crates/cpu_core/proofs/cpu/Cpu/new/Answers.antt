@@ -24,19 +24,19 @@ module _ (c : goal.In_ok-new-3) where
   polls : c.in_ok-new-2.field-0 ≡ record { poll = poll_start c.args.map c.args.cpu.0; size = length c.tasks.inside.tasks.items }
   polls = c.in_ok-new-2.ensures {u = tt} ∙ λ i. record { poll = poll_start c.args.map c.args.cpu.0; size = length (sym c.tasks.view_is i) }
 
-  started : AreStarted c.args.frames c.args.plan.now.tasks.items c.tasks.inside.tasks.items
-  started = subst (λ (ts : List Task). AreStarted c.args.frames c.args.plan.now.tasks.items ts) (sym c.tasks.view_is)
-      (subst (λ (ps : List TaskPlan). AreStarted c.args.frames ps c.in_ok-tasks.tasks) c.as_slice.ensures.value (c.in_ok-tasks.ensures {u = tt}))
+  started : AreStarted c.args.frames c.args.levels c.args.plan.now.tasks.items c.tasks.inside.tasks.items
+  started = subst (λ (ts : List Task). AreStarted c.args.frames c.args.levels c.args.plan.now.tasks.items ts) (sym c.tasks.view_is)
+      (subst (λ (ps : List TaskPlan). AreStarted c.args.frames c.args.levels ps c.in_ok-tasks.tasks) c.as_slice.ensures.value (c.in_ok-tasks.ensures {u = tt}))
 
   present : c.first.result ≡ first_left c.tasks.inside.tasks.items
   present = c.first.ensures ∙ ap first_left (sym c.tasks.view_is)
 
 pub returns-clause-of : goal.returns-clause-of
 returns-clause-of c = λ job limited is quick small.
-    start-is c.args.plan.now c.args.cpu.0 c.args.specs.now c.args.frames c.args.map c.args.room (made c) (c.in_ok-new.ensures {u = tt}) (polls c) refl
+    start-is c.args.plan.now c.args.cpu.0 c.args.specs.now c.args.frames c.args.levels c.args.map c.args.room (made c) (c.in_ok-new.ensures {u = tt}) (polls c) refl
     (started c) (present c) refl refl (c.in_ok-new-3.ensures {u = tt}) job limited is c.requires.cpu quick small
 
 pub invariant_of-result-2 : goal.invariant_of-result-2
 invariant_of-result-2 c =
-    start-next c.args.plan.now c.args.cpu.0 c.args.specs.now c.args.frames c.args.map c.args.room (made c) (c.in_ok-new.ensures {u = tt}) (polls c) refl
+    start-next c.args.plan.now c.args.cpu.0 c.args.specs.now c.args.frames c.args.levels c.args.map c.args.room (made c) (c.in_ok-new.ensures {u = tt}) (polls c) refl
     (started c) (present c) refl refl (c.in_ok-new-3.ensures {u = tt})

@@ -5,7 +5,7 @@ use Rattle.cpu_core.proofs.tasks.Tasks.new.Given as goal
 
 abbrev pub invariant-loop-plan : goal.invariant-loop-plan
 invariant-loop-plan l = record {
-  started : AreStarted l.frames (take l.plan-index l.plans) l.tasks.items;
+  started : AreStarted l.frames l.levels (take l.plan-index l.plans) l.tasks.items;
   count : length l.tasks.items ≡ l.plan-index;
   room : length l.plans ≤ vec_capacity l.tasks;
 }
