@@ -1,9 +1,11 @@
 -- What a job declares for its desk, its control and its CPUs.
-use Rattle.std.proofs.Common.{◌≡◌, List, length, map, All, refl, sym, ap, ◌∙◌, arith}
+use Rattle.std.proofs.Common.{◌≡◌, ℕ, List, length, map, All, refl, sym, ap, ◌∙◌, arith}
 use Rattle.std.proofs.lemmas.List.{length-map}
 use Rattle.std.proofs.lemmas.List.Elements.{All-from_recursion}
 use Rattle.std.proofs.lemmas.Simd.{map-map}
 use Rattle.ft_base.specs.Job.{Job, Spec as PlainSpec}
+use Rattle.ft_base.specs.Versions.{limits_of}
+use Rattle.ft_base.proofs.Versions.{funcs-most, tramps-most}
 use Rattle.user_specs.specs.declared.spec.Spec.{Spec}
 use Rattle.user_specs.specs.Plain.{spec_of, cpu_of}
 use Rattle.word_map.specs.Shapes.{IsShape, shape_of}
@@ -14,7 +16,7 @@ use Rattle.control_core.specs.Plans.{IsDeclaredIn}
 use Rattle.machine_core.specs.Worlds.{Declares}
 use Rattle.ft_machine.specs.declared.job.JobParts.{JobParts}
 use Rattle.ft_machine.specs.Parts.{parts_of, declared_of, IsWithin, job_of}
-use Rattle.ft_machine.proofs.JobLaws.{seen-functions, seen-users, seen-frames, seen-tramps, seen-count, seen-lines, users-count, cpus-count, seen-limited}
+use Rattle.ft_machine.proofs.JobLaws.{seen-functions, seen-users, seen-version, seen-frames, seen-tramps, seen-count, seen-lines, users-count, cpus-count, few-users, seen-limited}
 use Rattle.ft_machine.proofs.OnCpu.{own-quantum, own-numbers, own-acts, quick}
 
 -- what a desk keeps of a job
@@ -52,17 +54,17 @@ module _ (p : JobParts) (j : Job) (e : job_of (parts_of p) ≡ j) where
     shape-within =
         let l = seen-limited p j e w in
         record {
-          funcs = l.functions;
-          users = l.users;
+          funcs = let few = l.functions in let most = funcs-most j.version in omega (arith, few, most);
+          users = few-users p j e w;
           cpus = let few = w.cpus in let same = cpus-count p j e in let n = length-map p.cpus.items cpu_of in omega (arith, few, same, n);
           tasks = l.tasks;
-          tramps = l.tramps;
+          tramps = let few = l.tramps in let most = tramps-most j.version in omega (arith, few, most);
         }
 
     pub lines-in : All (IsLineIn (kept p j)) p.ctls.items
     lines-in = All-from_recursion (IsLineIn (kept p j)) p.ctls.items (rw (← kept-is) w.lines)
 
-    pub declares : Declares j (opened (kept p j)) p.ctls.items p.cpus.items p.specs.items p.frames (shape_of j)
+    pub declares : Declares j (opened (kept p j)) p.ctls.items p.cpus.items p.specs.items (record { frames = p.frames; levels = (limits_of p.version).levels }) (shape_of j)
     declares = record {
       limited = seen-limited p j e w;
       desk' = refl;
@@ -75,6 +77,7 @@ module _ (p : JobParts) (j : Job) (e : job_of (parts_of p) ≡ j) where
           shape' = refl;
           users = seen-users p j e;
           frames' = seen-frames p j e;
+          levels' = ap (λ (v : ℕ). (limits_of v).levels) (seen-version p j e);
           quantum = own-quantum p j e w c x at;
           numbers = own-numbers p j e w c x at;
           acts = own-acts p j e w c x at;

@@ -2,8 +2,9 @@
 use Rattle.std.proofs.Common.{◌≡◌, ℕ, ◌≤◌, List, length, map, Option, sym, ap, ◌∙◌, subst, arith}
 use Rattle.std.specs.Prelude.{slice_get, option_map}
 use Rattle.std.proofs.lemmas.List.{length-map}
-use Rattle.ft_base.specs.declared.limits.TheConstants.{TASKS}
+use Rattle.ft_base.specs.declared.limits.TheConstants.{TASKS, USERS}
 use Rattle.ft_base.specs.Job.{Job, Task}
+use Rattle.ft_base.proofs.Versions.{users-most}
 use Rattle.user_specs.specs.Plain.{DeclaredCpu, spec_of, cpu_of}
 use Rattle.user_specs.specs.declared.plan.CpuPlan.{CpuPlan}
 use Rattle.control_core.specs.Lines.{lines_of}
@@ -22,6 +23,10 @@ module _ (p : JobParts) (j : Job) (e : job_of (parts_of p) ≡ j) where
   pub seen-users : map spec_of p.specs.items ≡ j.users
   unfolding job_of
   seen-users = ap (λ (i : Job). i.users) e
+
+  pub seen-version : p.version ≡ j.version
+  unfolding job_of
+  seen-version = ap (λ (i : Job). i.version) e
 
   pub seen-frames : p.frames ≡ j.frames
   unfolding job_of
@@ -57,6 +62,9 @@ module _ (p : JobParts) (j : Job) (e : job_of (parts_of p) ≡ j) where
   module _ (w : IsWithin (parts_of p)) where
     pub seen-limited : IsLimited j
     seen-limited = subst (λ (i : Job). IsLimited i) e w.limited
+
+    pub few-users : length j.users ≤ USERS
+    few-users = let few = seen-limited.users in let most = users-most j.version in omega (arith, few, most)
 
     pub few-tasks : task_count (map cpu_of p.cpus.items) ≤ TASKS
     few-tasks = let few = seen-limited.tasks in let same = seen-count in omega (arith, few, same)

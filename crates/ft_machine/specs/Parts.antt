@@ -3,7 +3,7 @@ use Rattle.std.specs.Prelude.{ℕ, zero, suc, ◌≡◌, ◌≤◌, ◌==◌, Li
 use Rattle.std.specs.List.{AllByRecursion as Each}
 use Rattle.ft_base.specs.declared.limits.TheConstants.{CPUS, QUANTUM}
 use Rattle.ft_base.specs.declared.turn.Turn.{Turn}
-use Rattle.ft_base.specs.Job.{Func, Spec, Task, no_task, Job}
+use Rattle.ft_base.specs.Job.{Func, Spec, Task, no_task, usual_lines, usual_rings, Job}
 use Rattle.user_specs.specs.Plain.{DeclaredTask, DeclaredCpu, spec_of, cpu_of}
 use Rattle.ft_desk.specs.declared.command.Ctl.{Ctl}
 use Rattle.ft_desk.specs.Declarations.{Declared, bare}
@@ -11,8 +11,9 @@ use Rattle.control_core.specs.Lines.{IsLineIn, lines_of}
 use Rattle.word_machine.specs.Limits.{IsLimited}
 use Rattle.ft_machine.specs.declared.job.JobParts.{JobParts}
 
--- functions, users, frames of a task's shadow stack, trampoline slots, CPUs with their tasks, control's lines and the schedule
+-- the version of the language, functions, users, frames of a task's shadow stack, trampoline slots, CPUs with their tasks, control's lines and the schedule
 pub record Parts : Type 0 where
+  pub version : ℕ
   pub functions : List Func
   pub users : List Spec
   pub frames : ℕ
@@ -24,6 +25,7 @@ pub record Parts : Type 0 where
 -- the parts that the program holds
 abbrev pub parts_of : JobParts → Parts
 parts_of p = record {
+  version = p.version;
   functions = p.table.functions;
   users = map spec_of p.specs.items;
   frames = p.frames;
@@ -91,6 +93,7 @@ tasks_of cpus = tasks_up cpus 0 (task_count cpus)
 -- the job of a script
 unfoldable pub job_of : Parts → Job
 job_of p = record {
+  version = p.version;
   functions = p.functions;
   users = p.users;
   frames = p.frames;
@@ -99,6 +102,8 @@ job_of p = record {
   tasks = tasks_of p.cpus;
   ctls = lines_of (task_count p.cpus) p.ctls;
   schedule = p.schedule;
+  lines = usual_lines;
+  rings = usual_rings;
 }
 
 -- what the lines of control may name

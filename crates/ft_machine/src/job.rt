@@ -16,11 +16,12 @@ ghost use Rattle.machine_core.specs.Worlds.{IsFor, world_of};
 ghost use Rattle.ft_machine.specs.Parts.{parts_of, quanta_of, cpus_from, IsWithin, job_of};
 
 use crate::find::{count, find, find_cpu};
+use ft_base::limits::Limits;
 use ft_base::{CpuNo, NoMemory, TaskNo};
 use ft_desk::{Ctl, Desk};
 use ft_schedule::Schedule;
 use func_table::FuncTable;
-use machine_core::World;
+use machine_core::{TaskLimits, World};
 use std::alloc::Global;
 use std::marker::Model;
 use user_specs::{CpuPlan, Spec};
@@ -29,6 +30,8 @@ use word_map::{Shape, WordMap};
 /// What a script declares. The limits are those of `ft_base::limits`.
 #[derive(Drop)]
 pub struct JobParts {
+    /// The version of the language that the script is in, 1 or 2.
+    pub version: u8,
     /// The traceable functions.
     pub table: FuncTable,
     /// The users.
@@ -70,6 +73,14 @@ impl Job {
         ensures { result ≡ job_of (parts_of parts) }
     {
         Job { parts }
+    }
+
+    /// The version of the language that the script is in, 1 or 2.
+    #[tactic(auto, unfolding(crate::specs::Parts::job_of))]
+    pub fn version(&self) -> u8
+        ensures { result ≡ self.now.version }
+    {
+        self.parts.version
     }
 
     /// The traceable functions.
@@ -208,13 +219,17 @@ impl Job {
         let parts = &self.parts;
         let shape = self.shape();
         let desk = Desk::new(alloc, parts.specs.as_slice(), shape)?;
+        let limits = TaskLimits {
+            frames: parts.frames,
+            levels: Limits::of(parts.version).levels,
+        };
         World::new(
             alloc,
             desk,
             parts.ctls.as_slice(),
             parts.cpus.as_slice(),
             parts.specs.as_slice(),
-            parts.frames,
+            limits,
             WordMap::new(shape),
         )
     }

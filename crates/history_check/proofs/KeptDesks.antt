@@ -5,14 +5,14 @@ use Rattle.std.specs.Prelude.{IfSome, option_map, slice_get}
 use Rattle.std.specs.Option.{option_copied}
 use Rattle.std.proofs.lemmas.List.{get_or_past, length-map}
 use Rattle.ft_base.specs.declared.number.UserNo.{UserNo}
-use Rattle.ft_base.specs.Job.{Command, Job, Spec, commands}
+use Rattle.ft_base.specs.Job.{Command, Job, Spec, commands, takes_off}
 use Rattle.ft_base.specs.Desk.{Desk, desk, unseen, user_at}
 use Rattle.ft_base.proofs.DeskLaws.{length-desk}
 use Rattle.ft_desk.specs.Declarations.{IsOf, bare}
 use Rattle.ft_desk.specs.Seen.{Seen, opened}
 use Rattle.history_check.specs.declared.desks.Sight.{Sight}
 use Rattle.history_check.specs.declared.desks.Row.{Row}
-use Rattle.history_check.specs.TakenOff.{taken_off, takes_off, taken_by}
+use Rattle.history_check.specs.TakenOff.{taken_off, taken_by}
 use Rattle.history_check.specs.KeptDesks.{AreRowsOf, AreUsersOf, IsRowOf, IsSightOf}
 use Rattle.ft_machine.proofs.DeskLaws.{desk-past, new-commands, new-state}
 

@@ -3,12 +3,12 @@
 
 ghost use Rattle.std.specs.Prelude.{◌≡◌, ◌^◌, ◌<◌, ◌≤◌, ℕ, length, option_map, slice_get, All, IfOk, IfSome, IfNone};
 ghost use Rattle.ft_base.specs.Desk.{desk, is_on, matches_by, user_at};
-ghost use Rattle.ft_base.specs.Job.{Job as PlainJob};
+ghost use Rattle.ft_base.specs.Job.{Job as PlainJob, takes_off};
 ghost use Rattle.ft_desk.specs.Commands.{command_of};
 ghost use Rattle.ft_desk.specs.Declarations.{IsOf};
 ghost use Rattle.ft_desk.specs.Seen.{opened};
 ghost use Rattle.control_core.specs.Lines.{IsLineIn, lines_of};
-ghost use Rattle.history_check.specs.TakenOff.{taken_off, takes_off};
+ghost use Rattle.history_check.specs.TakenOff.{taken_off};
 ghost use Rattle.history_check.specs.KeptDesks.{AreOf, AreRowsOf, AreUsersOf, IsSightOf};
 
 use filter_hash::HashPair;

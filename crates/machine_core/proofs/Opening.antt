@@ -8,7 +8,7 @@ use Rattle.ft_base.specs.Desk.{desk}
 use Rattle.ft_base.specs.Job.{Job, commands}
 use Rattle.user_specs.specs.declared.plan.CpuPlan.{CpuPlan}
 use Rattle.user_specs.specs.declared.spec.Spec.{Spec}
-use Rattle.user_specs.specs.Bound.{call_bound_of}
+use Rattle.user_specs.specs.Bound.{call_bound_in}
 use Rattle.history_bound.specs.Bound.{all_calls}
 use Rattle.word_map.specs.declared.shape.Shape.{Shape}
 use Rattle.word_map.specs.Shapes.{shape_of}
@@ -30,13 +30,14 @@ use Rattle.control_core.specs.Seated as control
 use Rattle.control_core.proofs.StartLaw.{starts}
 use Rattle.cpu_core.specs.declared.parts.Parts.{Parts as CpuParts}
 use Rattle.machine_core.specs.Worlds.{Declares, IsCpuAt, IsFor, IsRunning, Parts, cpu_or, past_of, world_of}
+use Rattle.machine_core.specs.declared.cpus.TaskLimits.{TaskLimits}
 use Rattle.machine_core.specs.Starts.{AreFirst, AreListsOf, ArePlansOf}
 
 -- ## what is declared
 
-module _ (job : Job) (d : Seen) (ctls : List Ctl) (plans : List CpuPlan) (specs : List Spec) (frames : ℕ) (shape : Shape)
-    (h : Declares job d ctls plans specs frames shape) where
-  pub declared-plans : ArePlansOf job plans specs frames shape
+module _ (job : Job) (d : Seen) (ctls : List Ctl) (plans : List CpuPlan) (specs : List Spec) (limits : TaskLimits) (shape : Shape)
+    (h : Declares job d ctls plans specs limits shape) where
+  pub declared-plans : ArePlansOf job plans specs limits shape
   declared-plans = record {
     shape' = h.shape';
     count = h.cpus;
@@ -47,8 +48,8 @@ module _ (job : Job) (d : Seen) (ctls : List Ctl) (plans : List CpuPlan) (specs 
   as-many : length ctls ≡ length job.ctls
   as-many = sym (length-map ctls (ctl_of shape.tasks)) ∙ ap length h.lines
 
-  pub declared-lists : AreListsOf job ctls plans specs
-  declared-lists = record { limited = h.limited; lines = as-many; frames = frames; shape = shape; declared = declared-plans }
+  pub declared-lists : AreListsOf job ctls plans specs limits
+  declared-lists = record { limited = h.limited; lines = as-many; shape = shape; declared = declared-plans }
 
   pub few-lines : length ctls ≤ COMMANDS + UNTILS
   few-lines = let e = as-many in omega (arith, e, h.limited.ctls)
@@ -66,20 +67,20 @@ none-on job c = none-summed (tasks_on job c)
 -- ## the machine
 
 -- what each part is before its first step
-module _ (w : Parts) (pids : ℕ) (d : Seen) (ctls : List Ctl) (plans : List CpuPlan) (specs : List Spec) (frames : ℕ)
+module _ (w : Parts) (pids : ℕ) (d : Seen) (ctls : List Ctl) (plans : List CpuPlan) (specs : List Spec) (limits : TaskLimits)
     (traced : (job : Job) → length job.tasks ≡ w.shape.tasks → pids ≡ mask_of (desk job 0) (length job.tasks))
     (words : IsOpening w.shape pids w.words)
     (seated-shape : w.control.shape ≡ w.shape) (seated-desk : w.control.desk ≡ d) (seated-lines : w.control.lines ≡ lines_of w.shape.tasks ctls)
     (seated : control.IsOpening w.control)
-    (first : (job : Job) → ArePlansOf job plans specs frames w.shape → AreFirst job w.cpus)
+    (first : (job : Job) → ArePlansOf job plans specs limits w.shape → AreFirst job w.cpus)
     (blank : w.history.items ≡ [])
-    (room : (job : Job) → AreListsOf job ctls plans specs → 2 * length (commands job) + call_bound_of job.users * all_calls job.tasks ≤ w.history.spare) where
+    (room : (job : Job) → AreListsOf job ctls plans specs limits → 2 * length (commands job) + call_bound_in job * all_calls job.tasks ≤ w.history.spare) where
   no-past : past_of w ≡ []
   no-past = ap (λ (items : List Item). reverse items) blank
 
-  module _ (job : Job) (h : Declares job d ctls plans specs frames w.shape) where
+  module _ (job : Job) (h : Declares job d ctls plans specs limits w.shape) where
     own : AreFirst job w.cpus
-    own = first job (declared-plans job d ctls plans specs frames w.shape h)
+    own = first job (declared-plans job d ctls plans specs limits w.shape h)
 
     pids-is : pids ≡ mask_of (desk job 0) (length job.tasks)
     pids-is = traced job (sym (ap (λ (s : Shape). s.tasks) h.shape'))
@@ -119,7 +120,7 @@ module _ (w : Parts) (pids : ℕ) (d : Seen) (ctls : List Ctl) (plans : List Cpu
       none = seated.items;
       cpus' = own.count;
       each = at;
-      room = let e = room job (declared-lists job d ctls plans specs frames w.shape h) in omega (arith, e);
+      room = let e = room job (declared-lists job d ctls plans specs limits w.shape h) in omega (arith, e);
     }
 
     pub opens : IsFor job w × (world_of job w ≡ start job)

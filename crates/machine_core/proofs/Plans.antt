@@ -5,14 +5,16 @@ use Rattle.std.proofs.lemmas.List.Sums.{sum_by-cons}
 use Rattle.std.proofs.lemmas.Nat.{mul-le}
 use Rattle.std.proofs.lemmas.List.{length-map}
 use Rattle.std.proofs.lemmas.Option.{none-some, same_Some}
-use Rattle.ft_base.specs.declared.limits.TheConstants.{ACTS, BOUND_USERS, FRAMES, ITEMS, QUANTUM, TASKS}
+use Rattle.ft_base.specs.declared.limits.TheConstants.{GUARD_LEVELS, ACTS, USERS, FRAMES, ITEMS, QUANTUM, TASKS}
+use Rattle.ft_base.proofs.Versions.{levels-most, users-most}
+use Rattle.machine_core.specs.declared.cpus.TaskLimits.{TaskLimits}
 use Rattle.ft_base.specs.Job.{Job, Task, no_task}
 use Rattle.plain_machine.specs.State.{tasks_from, tasks_of}
 use Rattle.user_specs.specs.declared.plan.CpuPlan.{CpuPlan}
 use Rattle.user_specs.specs.declared.plan.TaskPlan.{TaskPlan}
 use Rattle.user_specs.specs.declared.spec.Spec.{Spec}
 use Rattle.user_specs.specs.Plain.{spec_of}
-use Rattle.user_specs.specs.Bound.{call_bound_of}
+use Rattle.user_specs.specs.Bound.{call_bound_in, call_bound_of}
 use Rattle.history_bound.specs.Bound.{all_calls, calls_in, calls_of}
 use Rattle.word_map.specs.declared.shape.Shape.{Shape}
 use Rattle.word_machine.specs.Cpu.{cpu_start}
@@ -110,7 +112,7 @@ plan-acts job n le (p ∷ ps) h = at (plan-acts job n le ps h.1)
 
 -- ## a plan
 
-module _ (job : Job) (p : CpuPlan) (c : ℕ) (specs : List Spec) (frames : ℕ) (shape : Shape) (is : IsPlanOf job p c specs frames shape) where
+module _ (job : Job) (p : CpuPlan) (c : ℕ) (specs : List Spec) (limits : TaskLimits) (shape : Shape) (is : IsPlanOf job p c specs limits shape) where
   pub plan-cpu : c < shape.cpus
   plan-cpu = let e : shape.cpus ≡ length job.quanta = ap (λ (s : Shape). s.cpus) is.of'.shape' in omega (arith, e, is.inside)
 
@@ -123,30 +125,34 @@ module _ (job : Job) (p : CpuPlan) (c : ℕ) (specs : List Spec) (frames : ℕ) 
   pub plan-all-acts : All (λ (t : TaskPlan). length t.acts.items ≤ ACTS) p.tasks.items
   plan-all-acts = plan-acts job ACTS is.limited.acts p.tasks.items is.of'.acts
 
-  pub plan-users : length specs ≤ BOUND_USERS
+  pub plan-users : length specs ≤ USERS
   plan-users =
       let e : length specs ≡ length job.users = sym (length-map specs spec_of) ∙ ap length is.of'.users in
-      omega (arith, e, is.limited.users)
+      let most = users-most job.version in
+      omega (arith, e, is.limited.users, most)
 
-  pub plan-frames : frames ≤ FRAMES
+  pub plan-frames : limits.frames ≤ FRAMES
   plan-frames = omega (arith, is.of'.frames', is.limited.frames)
+
+  pub plan-levels : limits.levels ≤ GUARD_LEVELS
+  plan-levels = let most = levels-most job in omega (arith, is.of'.levels', most)
 
   own : sum_by (λ (t : TaskPlan). calls_in t.acts.items) p.tasks.items ≡ sum_by (λ t. calls_of job t) (tasks_of job c)
   own = plan-calls job p.tasks.items is.of'.acts ∙ ap (sum_by (λ t. calls_of job t)) is.of'.numbers
 
-  pub plan-room : call_bound_of (map spec_of specs) * sum_by (λ (t : TaskPlan). calls_in t.acts.items) p.tasks.items ≡ room_on job c
-  plan-room = ap₂ (λ us n. call_bound_of us * n) is.of'.users (own ∙ ap (sum_by (λ t. calls_of job t)) (own-on job c))
+  pub plan-room : call_bound_of (map spec_of specs) limits.levels * sum_by (λ (t : TaskPlan). calls_in t.acts.items) p.tasks.items ≡ room_on job c
+  plan-room = ap₂ (λ us n. us * n) (ap₂ call_bound_of is.of'.users is.of'.levels') (own ∙ ap (sum_by (λ t. calls_of job t)) (own-on job c))
 
   pub plan-items : room_on job c ≤ ITEMS
   plan-items =
       let all = own-calls job c in
       let e : sum_by (λ t. calls_of job t) (tasks_of job c) ≡ sum_by (λ t. calls_of job t) (tasks_on job c) = ap (sum_by (λ t. calls_of job t)) (own-on job c) in
-      let le = mul-le (call_bound_of job.users) _ (call_bound_of job.users) _ (omega arith) (subst (λ n. n ≤ all_calls job.tasks) e all) in
+      let le = mul-le (call_bound_in job) _ (call_bound_in job) _ (omega arith) (subst (λ n. n ≤ all_calls job.tasks) e all) in
       omega (arith, le, is.limited.items)
 
   -- a CPU that is made by the plan, with this room, is the first
   pub plan-first : (room : ℕ) (x : Parts) → room ≡ room_on job c
-      → (IsLimited job → IsCpuOf job p c specs frames shape → p.quantum ≤ QUANTUM → room ≤ ITEMS → IsFor job x × (cpu_of job x ≡ cpu_start job c))
+      → (IsLimited job → IsCpuOf job p c specs limits.frames limits.levels shape → p.quantum ≤ QUANTUM → room ≤ ITEMS → IsFor job x × (cpu_of job x ≡ cpu_start job c))
       → x.marked ≡ record { items = []; room = room } → IsFirst job c x
   plan-first room x e of' marked =
       let made = of' is.limited is.of' is.quick (omega (arith, e, plan-items)) in
@@ -158,14 +164,14 @@ module _ (job : Job) (p : CpuPlan) (c : ℕ) (specs : List Spec) (frames : ℕ) 
       }
 
 -- what is made by a plan is the first for each job of which it is the plan
-pub plan-made : {E : Type 0} (p : CpuPlan) (c : ℕ) (specs : List Spec) (frames : ℕ) (shape : Shape) (room : ℕ) (r : Result Parts E)
-    → ((job : Job) → IsPlanOf job p c specs frames shape → room ≡ room_on job c)
-    → IfOk r (λ x. (job : Job) → IsLimited job → IsCpuOf job p c specs frames shape → p.quantum ≤ QUANTUM → room ≤ ITEMS
+pub plan-made : {E : Type 0} (p : CpuPlan) (c : ℕ) (specs : List Spec) (limits : TaskLimits) (shape : Shape) (room : ℕ) (r : Result Parts E)
+    → ((job : Job) → IsPlanOf job p c specs limits shape → room ≡ room_on job c)
+    → IfOk r (λ x. (job : Job) → IsLimited job → IsCpuOf job p c specs limits.frames limits.levels shape → p.quantum ≤ QUANTUM → room ≤ ITEMS
     → IsFor job x × (cpu_of job x ≡ cpu_start job c))
     → IfOk r (λ x. x.marked ≡ record { items = []; room = room })
-    → IfOk r (λ x. (job : Job) → IsPlanOf job p c specs frames shape → IsFirst job c x)
-plan-made p c specs frames shape room (Ok x) e of' marked = λ job is. plan-first job p c specs frames shape is room x (e job is) (of' job) marked
-plan-made p c specs frames shape room (Err y) e of' marked = tt
+    → IfOk r (λ x. (job : Job) → IsPlanOf job p c specs limits shape → IsFirst job c x)
+plan-made p c specs limits shape room (Ok x) e of' marked = λ job is. plan-first job p c specs limits shape is room x (e job is) (of' job) marked
+plan-made p c specs limits shape room (Err y) e of' marked = tt
 
 -- ## one CPU after the other
 

@@ -6,7 +6,7 @@ use Rattle.ft_base.specs.declared.item.Stamped.{Stamped}
 use Rattle.ft_base.specs.Job.{Job, commands}
 use Rattle.ft_hist.specs.Rules.{IsLegalPast}
 use Rattle.ft_hist.specs.Shown.{Shown}
-use Rattle.user_specs.specs.Bound.{call_bound_of}
+use Rattle.user_specs.specs.Bound.{call_bound_in}
 use Rattle.history_bound.specs.Bound.{all_calls}
 use Rattle.history_bound.proofs.Bounded.{history-most}
 use Rattle.word_map.specs.declared.op.Op.{Op}
@@ -97,7 +97,7 @@ noted-room (Mark item) h h' more n room =
     omega (arith, e, left, room)
 
 -- a legal history has at most the items for which there was room, and a mark adds one
-pub has-room : (job : Job) (h : Shown) → 2 * length (commands job) + call_bound_of job.users * all_calls job.tasks ≤ length h.items + h.spare
+pub has-room : (job : Job) (h : Shown) → 2 * length (commands job) + call_bound_in job * all_calls job.tasks ≤ length h.items + h.spare
     → (item : Item) → IsLegalPast job (item ∷ reverse h.items) → 0 < h.spare
 has-room job h room item legal =
     let most = history-most job (item ∷ reverse h.items) legal in

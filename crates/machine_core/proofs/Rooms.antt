@@ -8,7 +8,7 @@ use Rattle.std.proofs.lemmas.List.Sums.{sum_by-cons}
 use Rattle.ft_base.specs.declared.limits.TheConstants.{ITEMS}
 use Rattle.ft_base.specs.Job.{Job, Task, no_task}
 use Rattle.plain_machine.specs.State.{tasks_from}
-use Rattle.user_specs.specs.Bound.{call_bound_of}
+use Rattle.user_specs.specs.Bound.{call_bound_in}
 use Rattle.history_bound.specs.Bound.{all_calls, calls_in, calls_of}
 use Rattle.word_machine.specs.Laws.{room_on}
 use Rattle.word_machine.specs.Limits.{IsLimited}
@@ -83,13 +83,13 @@ rooms_below job zero = 0
 rooms_below job (suc n) = room_on job n + rooms_below job n
 
 module _ (job : Job) where
-  rooms-are : (n : ℕ) → rooms_below job n ≡ call_bound_of job.users * calls_below job.tasks n 0 job.tasks
+  rooms-are : (n : ℕ) → rooms_below job n ≡ call_bound_in job * calls_below job.tasks n 0 job.tasks
   rooms-are zero = omega arith
   rooms-are (suc n) =
-      let one : room_on job n ≡ call_bound_of job.users * calls_on job.tasks n 0 job.tasks =
-      ap (λ ts. call_bound_of job.users * sum_by (λ t. calls_of job t) ts) (sym (own-on job n)) in
+      let one : room_on job n ≡ call_bound_in job * calls_on job.tasks n 0 job.tasks =
+      ap (λ ts. call_bound_in job * sum_by (λ t. calls_of job t) ts) (sym (own-on job n)) in
       let more = rooms-are n in
-      let both = mul-add (call_bound_of job.users) (calls_on job.tasks n 0 job.tasks) (calls_below job.tasks n 0 job.tasks) in
+      let both = mul-add (call_bound_in job) (calls_on job.tasks n 0 job.tasks) (calls_below job.tasks n 0 job.tasks) in
       omega (arith, one, more, both)
 
   rooms-grow : (n m : ℕ) → rooms_below job n ≤ rooms_below job (n + m)
@@ -101,11 +101,11 @@ module _ (job : Job) where
 
   module _ (limited : IsLimited job) where
     -- of all CPUs
-    pub rooms-all : rooms_below job (length job.quanta) ≡ call_bound_of job.users * all_calls job.tasks
+    pub rooms-all : rooms_below job (length job.quanta) ≡ call_bound_in job * all_calls job.tasks
     rooms-all =
         let e : (i : ℕ) → 0 + i ≡ i = λ i. omega arith in
         rooms-are (length job.quanta)
-        ∙ ap (λ n. call_bound_of job.users * n)
+        ∙ ap (λ n. call_bound_in job * n)
         (all-below job.tasks (length job.quanta) 0 job.tasks (λ i. ap (λ k. get_or job.tasks k no_task) (e i)) limited.placed)
 
     -- never too much

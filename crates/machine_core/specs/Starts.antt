@@ -13,27 +13,27 @@ use Rattle.word_machine.specs.Limits.{IsLimited}
 use Rattle.cpu_core.specs.declared.parts.Parts.{Parts}
 use Rattle.cpu_core.specs.Cpus.{IsFor, cpu_of}
 use Rattle.cpu_core.specs.Taken.{IsCpuOf}
+use Rattle.machine_core.specs.declared.cpus.TaskLimits.{TaskLimits}
 
 -- what is declared for CPU c of a job
-pub record IsPlanOf (job : Job) (p : CpuPlan) (c : ℕ) (specs : List Spec) (frames : ℕ) (shape : Shape) : Type 0 where
+pub record IsPlanOf (job : Job) (p : CpuPlan) (c : ℕ) (specs : List Spec) (limits : TaskLimits) (shape : Shape) : Type 0 where
   pub limited : IsLimited job
   pub inside : c < length job.quanta
-  pub of' : IsCpuOf job p c specs frames shape
+  pub of' : IsCpuOf job p c specs limits.frames limits.levels shape
   pub quick : p.quantum ≤ QUANTUM
 
 -- what is declared for all its CPUs
-pub record ArePlansOf (job : Job) (plans : List CpuPlan) (specs : List Spec) (frames : ℕ) (shape : Shape) : Type 0 where
+pub record ArePlansOf (job : Job) (plans : List CpuPlan) (specs : List Spec) (limits : TaskLimits) (shape : Shape) : Type 0 where
   pub shape' : shape ≡ shape_of job
   pub count : length plans ≡ length job.quanta
-  pub each : (c : ℕ) (p : CpuPlan) → slice_get plans c ≡ Some p → IsPlanOf job p c specs frames shape
+  pub each : (c : ℕ) (p : CpuPlan) → slice_get plans c ≡ Some p → IsPlanOf job p c specs limits shape
 
 -- the lists that are declared for a job: control's lines, the plans and the users
-pub record AreListsOf (job : Job) (ctls : List Ctl) (plans : List CpuPlan) (specs : List Spec) : Type 0 where
+pub record AreListsOf (job : Job) (ctls : List Ctl) (plans : List CpuPlan) (specs : List Spec) (limits : TaskLimits) : Type 0 where
   pub limited : IsLimited job
   pub lines : length ctls ≡ length job.ctls
-  pub frames : ℕ
   pub shape : Shape
-  pub declared : ArePlansOf job plans specs frames shape
+  pub declared : ArePlansOf job plans specs limits shape
 
 -- CPU c of a job before its first step: the machine's, with no items, and with room for all that its tasks mark
 pub record IsFirst (job : Job) (c : ℕ) (x : Parts) : Type 0 where

@@ -8,7 +8,7 @@ use Rattle.ft_hist.specs.Shown.{Shown}
 use Rattle.history_bound.specs.Bound.{all_calls}
 use Rattle.user_specs.specs.declared.plan.CpuPlan.{CpuPlan}
 use Rattle.user_specs.specs.declared.spec.Spec.{Spec}
-use Rattle.user_specs.specs.Bound.{call_bound_of}
+use Rattle.user_specs.specs.Bound.{call_bound_in}
 use Rattle.word_map.specs.declared.shape.Shape.{Shape}
 use Rattle.word_map.specs.Shapes.{shape_of}
 use Rattle.word_map.specs.Words.{Words}
@@ -28,6 +28,7 @@ use Rattle.cpu_core.specs.declared.parts.Parts.{Parts as CpuParts}
 use Rattle.cpu_core.specs.Cpus.{cpu_of}
 use Rattle.cpu_core.specs.Cpus as cpu
 use Rattle.cpu_core.specs.Taken.{IsCpuOf}
+use Rattle.machine_core.specs.declared.cpus.TaskLimits.{TaskLimits}
 
 -- the shape of the words, the words, control, the CPUs, and the history
 pub record Parts : Type 0 where
@@ -86,7 +87,7 @@ pub record IsFor (job : Job) (w : Parts) : Type 0 where
   pub none : w.control.items ≡ []
   pub cpus' : length w.cpus ≡ length job.quanta
   pub each : (c : ℕ) (x : CpuParts) → slice_get w.cpus c ≡ Some x → IsCpuAt job w c x
-  pub room : 2 * length (commands job) + call_bound_of job.users * all_calls job.tasks ≤ length w.history.items + w.history.spare
+  pub room : 2 * length (commands job) + call_bound_in job * all_calls job.tasks ≤ length w.history.items + w.history.spare
 
 -- ## what it keeps
 
@@ -100,11 +101,11 @@ pub record IsRunning (w : Parts) : Type 0 where
 -- ## at the start
 
 -- what is declared for the machine of a job
-pub record Declares (job : Job) (d : Seen) (ctls : List Ctl) (plans : List CpuPlan) (specs : List Spec) (frames : ℕ) (shape : Shape) : Type 0 where
+pub record Declares (job : Job) (d : Seen) (ctls : List Ctl) (plans : List CpuPlan) (specs : List Spec) (limits : TaskLimits) (shape : Shape) : Type 0 where
   pub limited : IsLimited job
   pub desk' : d ≡ opened d.declared
   pub of' : IsOf job d.declared
   pub shape' : shape ≡ shape_of job
   pub lines : lines_of shape.tasks ctls ≡ job.ctls
   pub cpus : length plans ≡ length job.quanta
-  pub each : (c : ℕ) (p : CpuPlan) → slice_get plans c ≡ Some p → IsCpuOf job p c specs frames shape × (p.quantum ≤ QUANTUM)
+  pub each : (c : ℕ) (p : CpuPlan) → slice_get plans c ≡ Some p → IsCpuOf job p c specs limits.frames limits.levels shape × (p.quantum ≤ QUANTUM)

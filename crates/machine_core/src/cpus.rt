@@ -5,7 +5,7 @@ ghost use Rattle.std.specs.Option.{is_none};
 ghost use Rattle.ft_base.specs.declared.limits.TheConstants.{ACTS, TASKS};
 ghost use Rattle.ft_base.specs.Job.{Job};
 ghost use Rattle.user_specs.specs.declared.plan.TaskPlan.{TaskPlan as DeclaredPlan};
-ghost use Rattle.user_specs.specs.Bound.{call_bound_of};
+ghost use Rattle.user_specs.specs.Bound.{call_bound_in};
 ghost use Rattle.history_bound.specs.Bound.{all_calls, calls_in};
 ghost use Rattle.word_map.specs.declared.shape.Shape.{Shape};
 ghost use Rattle.word_machine.specs.Cpu.{cpu_next};
@@ -20,21 +20,31 @@ use std::alloc::Global;
 use user_specs::{CpuPlan, Spec, call_bound};
 use word_map::WordMap;
 
+/// What each task has room for.
+#[derive(Clone, Copy, Debug, PartialEq, Eq)]
+pub struct TaskLimits {
+    /// Frames of its shadow stack.
+    pub frames: u32,
+    /// Levels of each of its guards, 1 or 2: how many of its callbacks can be open at a time in one
+    /// context.
+    pub levels: u8,
+}
+
 /// A CPU for each of these plans. The error says that memory ran out.
 pub(crate) fn new_cpus(
     alloc: Global,
     plans: &[CpuPlan],
     specs: &[Spec],
-    frames: u32,
+    limits: TaskLimits,
     map: WordMap,
 ) -> Result<Vec<Cpu>, NoMemory>
-    requires { (job : Job) × ArePlansOf job plans.now specs.now frames map }
-    ensures { IfOk result (λ cpus. (job : Job) → ArePlansOf job plans.now specs.now frames map → AreFirst job cpus.items) }
+    requires { (job : Job) × ArePlansOf job plans.now specs.now limits map }
+    ensures { IfOk result (λ cpus. (job : Job) → ArePlansOf job plans.now specs.now limits map → AreFirst job cpus.items) }
 {
     let mut cpus = Vec::with_capacity(alloc, plans.len()).map_err(|_| NoMemory)?;
     for c in 0..map.shape().cpus {
         let plan = &plans[c as usize];
-        cpus.push_reserved(new_cpu(alloc, plan, CpuNo(c), specs, frames, map)?);
+        cpus.push_reserved(new_cpu(alloc, plan, CpuNo(c), specs, limits, map)?);
     }
     Ok(cpus)
 }
@@ -46,14 +56,23 @@ fn new_cpu(
     plan: &CpuPlan,
     cpu: CpuNo,
     specs: &[Spec],
-    frames: u32,
+    limits: TaskLimits,
     map: WordMap,
 ) -> Result<Cpu, NoMemory>
-    requires { (job : Job) × IsPlanOf job plan.now cpu.0 specs.now frames map }
-    ensures { IfOk result (λ made. (job : Job) → IsPlanOf job plan.now cpu.0 specs.now frames map → IsFirst job cpu.0 made) }
+    requires { (job : Job) × IsPlanOf job plan.now cpu.0 specs.now limits map }
+    ensures { IfOk result (λ made. (job : Job) → IsPlanOf job plan.now cpu.0 specs.now limits map → IsFirst job cpu.0 made) }
 {
-    let room = room_of(plan, specs);
-    Cpu::new(alloc, plan, cpu, specs, frames, room, map)
+    let room = room_of(plan, specs, limits);
+    Cpu::new(
+        alloc,
+        plan,
+        cpu,
+        specs,
+        limits.frames,
+        limits.levels,
+        room,
+        map,
+    )
 }
 
 /// Whether a CPU has no operation left.
@@ -64,24 +83,24 @@ pub(crate) fn has_ended(cpu: &Cpu) -> bool
 }
 
 /// Room for all items that the calls of the tasks of all CPUs can make.
-pub(crate) fn all_rooms(plans: &[CpuPlan], specs: &[Spec]) -> u32
-    requires { (job : Job) × (frames : ℕ) × (shape : Shape) × ArePlansOf job plans.now specs.now frames shape }
-    ensures { (job : Job) (frames : ℕ) (shape : Shape) → IsLimited job → ArePlansOf job plans.now specs.now frames shape
-        → result ≡ call_bound_of job.users * all_calls job.tasks }
+pub(crate) fn all_rooms(plans: &[CpuPlan], specs: &[Spec], limits: TaskLimits) -> u32
+    requires { (job : Job) × (shape : Shape) × ArePlansOf job plans.now specs.now limits shape }
+    ensures { (job : Job) (shape : Shape) → IsLimited job → ArePlansOf job plans.now specs.now limits shape
+        → result ≡ call_bound_in job * all_calls job.tasks }
 {
     let mut room: u32 = 0;
     for plan in plans {
-        room += room_of(plan, specs);
+        room += room_of(plan, specs, limits);
     }
     room
 }
 
 /// Room for all items that the calls of a CPU's tasks can make.
-fn room_of(plan: &CpuPlan, specs: &[Spec]) -> u32
-    requires { (job : Job) × (c : ℕ) × (frames : ℕ) × (shape : Shape) × IsPlanOf job plan.now c specs.now frames shape }
-    ensures { (job : Job) (c frames : ℕ) (shape : Shape) → IsPlanOf job plan.now c specs.now frames shape → result ≡ room_on job c }
+fn room_of(plan: &CpuPlan, specs: &[Spec], limits: TaskLimits) -> u32
+    requires { (job : Job) × (c : ℕ) × (shape : Shape) × IsPlanOf job plan.now c specs.now limits shape }
+    ensures { (job : Job) (c : ℕ) (shape : Shape) → IsPlanOf job plan.now c specs.now limits shape → result ≡ room_on job c }
 {
-    call_bound(specs) * calls_of(plan)
+    call_bound(specs, u32::from(limits.levels)) * calls_of(plan)
 }
 
 /// How many calls the scripts of a CPU's tasks make.

@@ -17,4 +17,5 @@ mod cpus;
 mod table;
 mod world;
 
+pub use cpus::TaskLimits;
 pub use world::{World, WorldParts};

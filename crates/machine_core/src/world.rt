@@ -5,7 +5,7 @@ ghost use Rattle.ft_base.specs.declared.turn.Actor.TheVariants as Actor;
 ghost use Rattle.ft_base.specs.Desk.{desk};
 ghost use Rattle.ft_base.specs.Job.{Job, commands};
 ghost use Rattle.history_bound.specs.Bound.{all_calls};
-ghost use Rattle.user_specs.specs.Bound.{call_bound_of};
+ghost use Rattle.user_specs.specs.Bound.{call_bound_in};
 ghost use Rattle.word_map.specs.Contents.{mask_of};
 ghost use Rattle.control_core.specs.Lines.{IsLineIn};
 ghost use Rattle.control_core.specs.Plans.{IsDeclaredIn};
@@ -16,7 +16,7 @@ ghost use Rattle.machine_core.specs.Sites.{site_of};
 ghost use Rattle.machine_core.specs.Starts.{AreListsOf};
 ghost use Rattle.machine_core.specs.Worlds.{Declares, IsFor, world_of};
 
-use crate::cpus::{all_rooms, has_ended, new_cpus};
+use crate::cpus::{TaskLimits, all_rooms, has_ended, new_cpus};
 use crate::table::Table;
 use control_core::Control;
 use cpu_core::Cpu;
@@ -76,18 +76,18 @@ impl World {
         ctls: &[Ctl],
         plans: &[CpuPlan],
         specs: &[Spec],
-        frames: u32,
+        limits: TaskLimits,
         map: WordMap,
     ) -> Result<World, NoMemory>
         requires declared { IsDeclaredIn map desk.declared }
         requires lines { All (IsLineIn desk.declared) ctls.now }
-        requires job { (job : Job) × Declares job desk ctls.now plans.now specs.now frames map }
-        ensures { IfOk result (λ w. (job : Job) → Declares job desk ctls.now plans.now specs.now frames map → IsFor job w × (world_of job w ≡ start job)) }
+        requires job { (job : Job) × Declares job desk ctls.now plans.now specs.now limits map }
+        ensures { IfOk result (λ w. (job : Job) → Declares job desk ctls.now plans.now specs.now limits map → IsFor job w × (world_of job w ≡ start job)) }
     {
-        let history = new_history(alloc, ctls, plans, specs)?;
+        let history = new_history(alloc, ctls, plans, specs, limits)?;
         let table = Table::new(alloc, &map, all_tasks(&map))?;
         let control = Control::new(alloc, desk, ctls, map)?;
-        let cpus = new_cpus(alloc, plans, specs, frames, map)?;
+        let cpus = new_cpus(alloc, plans, specs, limits, map)?;
         Ok(World {
             map,
             table,
@@ -240,13 +240,14 @@ fn new_history(
     ctls: &[Ctl],
     plans: &[CpuPlan],
     specs: &[Spec],
+    limits: TaskLimits,
 ) -> Result<History, NoMemory>
-    requires { (job : Job) × AreListsOf job ctls.now plans.now specs.now }
+    requires { (job : Job) × AreListsOf job ctls.now plans.now specs.now limits }
     ensures empty { IfOk result (λ h. h.items ≡ []) }
-    ensures room { IfOk result (λ h. (job : Job) → AreListsOf job ctls.now plans.now specs.now
-        → 2 * length (commands job) + call_bound_of job.users * all_calls job.tasks ≤ h.spare) }
+    ensures room { IfOk result (λ h. (job : Job) → AreListsOf job ctls.now plans.now specs.now limits
+        → 2 * length (commands job) + call_bound_in job * all_calls job.tasks ≤ h.spare) }
 {
-    let room = 2 * ctls.len() as u32 + all_rooms(plans, specs);
+    let room = 2 * ctls.len() as u32 + all_rooms(plans, specs, limits);
     History::with_room(alloc, room)
 }
 

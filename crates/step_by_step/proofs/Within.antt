@@ -1,5 +1,5 @@
 -- The job that the program makes is within what the machine asks.
-use Rattle.std.proofs.Common.{◌≡◌, [], ◌∷◌, refl, sym, subst, arith}
+use Rattle.std.proofs.Common.{◌≡◌, inl, [], ◌∷◌, refl, sym, subst, arith}
 use Rattle.ft_base.specs.WellFormed.{IsWellFormed}
 use Rattle.ft_desk.specs.declared.command.Ctl.TheVariants.{Run, Until}
 use Rattle.ft_desk.specs.declared.command.Command.TheVariants.{Register, Unregister}
@@ -10,6 +10,7 @@ use Rattle.step_by_step.specs.TheJob.{the_functions, the_user, the_task, the_job
 -- the parts that the program gives
 abbrev pub the_parts : Parts
 the_parts = record {
+  version = 1;
   functions = the_functions;
   users = the_user ∷ [];
   frames = 0;
@@ -32,6 +33,7 @@ named = record {
 
 limited : IsLimited the_job
 limited = record {
+  version = inl refl;
   job' = named;
   placed = (omega arith, tt);
   waits = (tt, (omega arith, (tt, tt)));

@@ -2,7 +2,7 @@
 use Rattle.std.specs.Prelude.{false, List, [], ◌∷◌, None, codes}
 use Rattle.ft_base.specs.declared.user.Kind.TheVariants.{Function}
 use Rattle.ft_base.specs.declared.task.TaskAct.TheVariants.{Call, Ret, After}
-use Rattle.ft_base.specs.Job.{Func, Spec, Task, Ctl, Run, Until, Register, Unregister, Job}
+use Rattle.ft_base.specs.Job.{usual_lines, usual_rings, Func, Spec, Task, Ctl, Run, Until, Register, Unregister, Job}
 
 -- two functions: 0 and 1
 abbrev pub the_functions : List Func
@@ -23,6 +23,7 @@ the_lines = Run (Register 0) ∷ Until 0 5 ∷ Run (Unregister 0) ∷ []
 -- the job, which has no schedule
 abbrev pub the_job : Job
 the_job = record {
+  version = 1;
   functions = the_functions;
   users = the_user ∷ [];
   frames = 0;
@@ -31,4 +32,6 @@ the_job = record {
   tasks = the_task ∷ [];
   ctls = the_lines;
   schedule = [];
+  lines = usual_lines;
+  rings = usual_rings;
 }

@@ -85,6 +85,7 @@ fn make_job(alloc: Global) -> Result<Job, AllocError>
     };
     let unregister = Ctl::Run(Command::Unregister(TRACER));
     Ok(Job::new(JobParts {
+        version: 1,
         table: functions(alloc)?,
         specs: vec![in alloc; tracer]?,
         frames: 0,

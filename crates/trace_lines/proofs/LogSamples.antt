@@ -11,12 +11,13 @@ use Rattle.ft_base.specs.declared.item.Answer.TheVariants.{Accepted, Already, No
 use Rattle.ft_base.specs.declared.number.FuncNo.{FuncNo}
 use Rattle.ft_base.specs.declared.number.UserNo.{UserNo}
 use Rattle.ft_base.specs.declared.user.Kind.TheVariants.{Function}
-use Rattle.ft_base.specs.Job.{Job}
+use Rattle.ft_base.specs.Job.{usual_lines, usual_rings, Job}
 use Rattle.trace_views.specs.LogText.{joined, item_words, log_line, log_text}
 
 -- one function, one user and one task
 abbrev job : Job
 job = record {
+  version = 1;
   functions = record { name = codes "do_fork"; owner = None } ∷ [];
   users = record { name = codes "tr"; kind = Function; regs = false; ipmodify = None; pid = false; act = None } ∷ [];
   frames = 50;
@@ -25,6 +26,8 @@ job = record {
   tasks = record { pid = 10; cpu = 0; acts = [] } ∷ [];
   ctls = [];
   schedule = [];
+  lines = usual_lines;
+  rings = usual_rings;
 }
 
 -- the calls of the only task, by number, and a call of a task that the job doesn't have

@@ -7,4 +7,4 @@ use Rattle.machine_core.proofs.Rooms.{rooms_below}
 use Rattle.machine_core.proofs.cpus.all_rooms.Given as goal
 
 abbrev pub invariant-loop-plan : goal.invariant-loop-plan
-invariant-loop-plan l = (job : Job) (frames : ℕ) (shape : Shape) → ArePlansOf job l.plans l.specs frames shape → l.room ≡ rooms_below job l.plan-index
+invariant-loop-plan l = (job : Job) (shape : Shape) → ArePlansOf job l.plans l.specs l.limits shape → l.room ≡ rooms_below job l.plan-index

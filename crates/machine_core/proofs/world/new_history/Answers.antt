@@ -7,13 +7,13 @@ use Rattle.machine_core.proofs.world.new_history.Goals as goal
 pub overflow_add-room : goal.overflow_add-room
 overflow_add-room c =
     let r = c.requires in
-    let rooms = c.all_rooms.ensures r.0 r.1.frames r.1.shape r.1.limited r.1.declared in
+    let rooms = c.all_rooms.ensures r.0 r.1.shape r.1.limited r.1.declared in
     omega (arith, rooms, r.1.lines, r.1.limited.ctls, r.1.limited.items)
 
 pub returns-clause-room : goal.returns-clause-room
 returns-clause-room c =
     IfOk-weaker c.with_room.result (λ h. 2 * length c.args.ctls.now + c.all_rooms.result ≤ h.spare) _
-    (λ h le job is. (let rooms = c.all_rooms.ensures job is.frames is.shape is.limited is.declared in
+    (λ h le job is. (let rooms = c.all_rooms.ensures job is.shape is.limited is.declared in
     let few = few-commands job.ctls in
     let same = is.lines in
     omega (arith, le, rooms, few, same)))

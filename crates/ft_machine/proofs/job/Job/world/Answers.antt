@@ -37,9 +37,9 @@ new-requires-3-clause-lines c =
     rw (c.as_slice-2.ensures.value, desk-is p) (lines-in c.self.inside.parts _ c.self.view_is c.self.invariant)
 
 declared : (c : After-new-2)
-    → Declares c.args.self.now c.in_ok-desk.desk c.as_slice-2.result.now c.as_slice-3.result.now c.as_slice-4.result.now c.self.inside.parts.frames c.new-2.result
+    → Declares c.args.self.now c.in_ok-desk.desk c.as_slice-2.result.now c.as_slice-3.result.now c.as_slice-4.result.now (record { frames = c.self.inside.parts.frames; levels = c.of.result.levels }) c.new-2.result
 declared c =
-    rw (c.as_slice-2.ensures.value, c.as_slice-3.ensures.value, c.as_slice-4.ensures.value, desk-is c, map-is c)
+    rw (c.as_slice-2.ensures.value, c.as_slice-3.ensures.value, c.as_slice-4.ensures.value, desk-is c, map-is c, c.of.ensures)
     (declares c.self.inside.parts _ c.self.view_is c.self.invariant)
 
 pub new-requires-3-clause-job : goal.new-requires-3-clause-job

@@ -6,7 +6,7 @@ use Rattle.machine_core.proofs.world.World.new.Goals as goal
 pub new_history-requires : goal.new_history-requires
 new_history-requires c = (
   c.requires.job.0,
-  declared-lists c.requires.job.0 c.args.desk c.args.ctls.now c.args.plans.now c.args.specs.now c.args.frames c.args.map c.requires.job.1,
+  declared-lists c.requires.job.0 c.args.desk c.args.ctls.now c.args.plans.now c.args.specs.now c.args.limits c.args.map c.requires.job.1,
 )
 
 pub new-requires-2 : goal.new-requires-2
@@ -14,13 +14,13 @@ new-requires-2 c = record {
   desk = c.requires.job.1.desk';
   declared = c.requires.declared;
   lines = c.requires.lines;
-  few = few-lines c.requires.job.0 c.args.desk c.args.ctls.now c.args.plans.now c.args.specs.now c.args.frames c.args.map c.requires.job.1;
+  few = few-lines c.requires.job.0 c.args.desk c.args.ctls.now c.args.plans.now c.args.specs.now c.args.limits c.args.map c.requires.job.1;
 }
 
 pub new_cpus-requires : goal.new_cpus-requires
 new_cpus-requires c = (
   c.requires.job.0,
-  declared-plans c.requires.job.0 c.args.desk c.args.ctls.now c.args.plans.now c.args.specs.now c.args.frames c.args.map c.requires.job.1,
+  declared-plans c.requires.job.0 c.args.desk c.args.ctls.now c.args.plans.now c.args.specs.now c.args.limits c.args.map c.requires.job.1,
 )
 
 module _ (c : goal.In_ok-cpus) where
@@ -35,13 +35,13 @@ module _ (c : goal.In_ok-cpus) where
 
 pub returns : goal.returns
 returns c =
-    opens (made c) c.all_tasks.result c.args.desk c.args.ctls.now c.args.plans.now c.args.specs.now c.args.frames c.all_tasks.ensures
+    opens (made c) c.all_tasks.result c.args.desk c.args.ctls.now c.args.plans.now c.args.specs.now c.args.limits c.all_tasks.ensures
     (c.in_ok-table.ensures {u = tt}) c.in_ok-control.ensures.shape c.in_ok-control.ensures.desk c.in_ok-control.ensures.lines
     c.in_ok-control.ensures.opening (c.in_ok-cpus.ensures {u = tt}) c.in_ok-history.ensures.empty c.in_ok-history.ensures.room
 
 pub invariant_of-result : goal.invariant_of-result
 invariant_of-result c = record {
-  running = opens-running (made c) c.all_tasks.result c.args.desk c.args.ctls.now c.args.plans.now c.args.specs.now c.args.frames c.all_tasks.ensures
+  running = opens-running (made c) c.all_tasks.result c.args.desk c.args.ctls.now c.args.plans.now c.args.specs.now c.args.limits c.all_tasks.ensures
       (c.in_ok-table.ensures {u = tt}) c.in_ok-control.ensures.shape c.in_ok-control.ensures.desk c.in_ok-control.ensures.lines
       c.in_ok-control.ensures.opening (c.in_ok-cpus.ensures {u = tt}) c.in_ok-history.ensures.empty c.in_ok-history.ensures.room c.requires.job.0 c.requires.job.1;
 }
