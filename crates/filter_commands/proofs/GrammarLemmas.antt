@@ -10,7 +10,7 @@ use Rattle.glob_filter.specs.Items.{is_negated}
 use Rattle.filter_commands.specs.Forms.{Text, TextForm, line, named, in_module, colon, has_colon, is_number, unmarked, module_with, module_form, form_of}
 use Rattle.filter_commands.specs.Grammar.{IsOwner, HasForm, a_line, a_glob, inside, outside}
 
-abbrev is_colon : ℕ → Bool
+abbrev pub is_colon : ℕ → Bool
 is_colon b = b == colon
 
 or-true : (b : Bool) → (b || true) ≡ true
@@ -19,7 +19,7 @@ or-true false = refl
 
 -- ---- the first `:`
 
-has_colon-after : (glob tail : Text) → has_colon (glob ++ colon ∷ tail) ≡ true
+pub has_colon-after : (glob tail : Text) → has_colon (glob ++ colon ∷ tail) ≡ true
 has_colon-after [] tail = refl
 has_colon-after (b ∷ glob) tail = ap (λ t. is_colon b || t) (has_colon-after glob tail) ∙ or-true (is_colon b)
 
@@ -42,17 +42,18 @@ drop-length (x ∷ xs) ys y = ap (λ n. drop n (x ∷ (xs ++ y ∷ ys))) same �
     same : length (x ∷ xs) + 1 ≡ suc (length xs + 1)
     same = omega arith
 
+-- what stands before the first `:`, and what comes after it
+pub before_first-colon : (glob tail : Text) → has_colon glob ≡ false → before_first is_colon (glob ++ colon ∷ tail) ≡ glob
+before_first-colon glob tail none = ap (λ n. take n (glob ++ colon ∷ tail)) (first-after glob tail none) ∙ take-length glob (colon ∷ tail)
+
+pub after_first-colon : (glob tail : Text) → has_colon glob ≡ false → after_first is_colon (glob ++ colon ∷ tail) ≡ tail
+after_first-colon glob tail none = ap (λ n. drop (n + 1) (glob ++ colon ∷ tail)) (first-after glob tail none) ∙ drop-length glob tail colon
+
 form_of-colon : (glob tail : Text) → has_colon glob ≡ false → form_of (glob ++ colon ∷ tail) ≡ module_form glob tail
 form_of-colon glob tail none =
     let text : Text = glob ++ colon ∷ tail in
-    let at : position_or_len is_colon text ≡ length glob = first-after glob tail none in
-    let before : before_first is_colon text ≡ glob = ap (λ n. take n text) at ∙ take-length glob tail' in
-    let after : after_first is_colon text ≡ tail = ap (λ n. drop (n + 1) text) at ∙ drop-length glob tail colon in
     ap (λ t. cond t (module_form (before_first is_colon text) (after_first is_colon text)) (cond (is_number text) (Some (line (digits_value 10 text))) (Some (named text)))) (has_colon-after glob tail)
-    ∙ ap₂ module_form before after
-  where
-    tail' : Text
-    tail' = colon ∷ tail
+    ∙ ap₂ module_form (before_first-colon glob tail none) (after_first-colon glob tail none)
 
 -- a text with a `:` is cut at the first
 pub record Cut (text : Text) : Type 0 where
@@ -61,7 +62,7 @@ pub record Cut (text : Text) : Type 0 where
   pub is : text ≡ glob ++ colon ∷ tail
   pub none : has_colon glob ≡ false
 
-cut : (text : Text) → has_colon text ≡ true → Cut text
+pub cut : (text : Text) → has_colon text ≡ true → Cut text
 cut [] h = absurd cc
 cut (b ∷ text) h = elim (eqb_tells b colon) [
   | inl t ↦ record { glob = []; tail = text; is = ap (λ x. x ∷ text) t.1; none = refl }

@@ -1,3 +1,4 @@
 pub mod TextLemmas
 pub mod SetLemmas
 pub mod GrammarLemmas
+pub mod TriggerLemmas

@@ -7,8 +7,7 @@ use Rattle.std.proofs.lemmas.Bool.{and_parts, cases_lt, ltb-true, lt-ltb}
 use Rattle.std.proofs.lemmas.Bool.Decides.{eqb_tells}
 use Rattle.std.proofs.lemmas.Result.{OkIff-at_err}
 use Rattle.std.proofs.lemmas.Str.Parse.{IsNumeralModel, numerals_by_value, parse_digits}
-use Rattle.filter_commands.specs.Forms.{Text, is_number, unmarked}
-use Rattle.filter_commands.specs.Causes.{has_no_line}
+use Rattle.filter_commands.specs.Forms.{Text, is_number, is_outside, unmarked}
 
 -- a text that doesn't begin with `!` has no mark
 pub unmarked-other : (text : Text) → ((rest : Text) → text ≢ 33 ∷ rest) → unmarked text ≡ (false, text)
@@ -33,14 +32,14 @@ IsDigits text = list_all is_ascii_digit text ≡ true
 decimal_digits : IsNumeralModel IsDigits (digits_value 10)
 decimal_digits = numerals_by_value _ (search rules)
 
--- a number that `parse` refuses is past every table
-pub has_no_line-large : {E : Type 0} (size : ℕ) (text : Text) (r : Result ℕ E) (e : E) → size < 2 ^ 32 → is_number text ≡ true → ParsesUnsigned 32 10 text r → r ≡ Err e → has_no_line size (digits_value 10 text) ≡ true
-has_no_line-large size text r e small h parsed is =
+-- a number that `parse` refuses is past every bound of 32 bits
+pub is_outside-large : {E : Type 0} (most : ℕ) (text : Text) (r : Result ℕ E) (e : E) → most < 2 ^ 32 → is_number text ≡ true → ParsesUnsigned 32 10 text r → r ≡ Err e → is_outside most (digits_value 10 text) ≡ true
+is_outside-large most text r e small h parsed is =
     let parts = and_parts _ _ h in
     let some : 0 < length text = ltb-true 0 (length text) parts.0 in
     let no = OkIff-at_err r _ _ e (parse_digits decimal_digits 32 text r parsed parts.1) is in
-    let large : size < digits_value 10 text = elim (cases_lt (digits_value 10 text) (2 ^ 32)) [ inl below ↦ absurd (no (some, below)) | inr above ↦ omega arith ] in
-    rw (lt-ltb size (digits_value 10 text) large) (or-true (digits_value 10 text == 0))
+    let large : most < digits_value 10 text = elim (cases_lt (digits_value 10 text) (2 ^ 32)) [ inl below ↦ absurd (no (some, below)) | inr above ↦ omega arith ] in
+    rw (lt-ltb most (digits_value 10 text) large) (or-true (digits_value 10 text == 0))
   where
     or-true : (b : Bool) → (b || true) ≡ true
     or-true true = refl

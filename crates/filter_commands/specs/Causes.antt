@@ -1,7 +1,7 @@
 -- Which filter texts are refused, and why: the first cause that holds.
-use Rattle.std.specs.Prelude.{◌≡◌, ◌⊎◌, ◌==◌, ◌||◌, ℕ, Bool, true, false, [], ◌∷◌, nat_lt, Option, Some, None, is_some, if◌then◌else◌}
+use Rattle.std.specs.Prelude.{◌≡◌, ◌⊎◌, ◌||◌, ℕ, Bool, true, false, [], ◌∷◌, Option, Some, None, is_some, if◌then◌else◌}
 use Rattle.glob_filter.specs.Causes.{first_cause as pattern_cause}
-use Rattle.filter_commands.specs.Forms.{Text, TextForm, line, named, in_module, unmarked, form_of, glob_or_all}
+use Rattle.filter_commands.specs.Forms.{Text, TextForm, line, named, in_module, is_outside, unmarked, form_of, glob_or_all}
 use Rattle.filter_commands.specs.declared.faults.EditFault.{EditFault}
 use Rattle.filter_commands.specs.declared.faults.EditFault.TheVariants.{Pattern, Index, Command, NoMemory}
 
@@ -12,7 +12,7 @@ is_misformed (Some form) = false
 
 -- a table of this size doesn't have the line of this number; lines count from 1
 abbrev pub has_no_line : ℕ → ℕ → Bool
-has_no_line size number = (number == 0) || nat_lt size number
+has_no_line size number = is_outside size number
 
 -- the text is the number of a line that the table of this size doesn't have
 abbrev pub is_off : ℕ → Option TextForm → Bool

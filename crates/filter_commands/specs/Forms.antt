@@ -1,5 +1,5 @@
 -- The forms of filter texts, by their bytes alone.
-use Rattle.std.specs.Prelude.{ℕ, ◌==◌, ◌&&◌, Bool, true, false, not, List, [], ◌∷◌, length, drop, codes, nat_lt, nat_eq, Option, Some, None, if◌then◌else◌}
+use Rattle.std.specs.Prelude.{ℕ, ◌==◌, ◌&&◌, ◌||◌, Bool, true, false, not, List, [], ◌∷◌, length, drop, codes, nat_lt, nat_eq, Option, Some, None, if◌then◌else◌}
 use Rattle.std.specs.List.{list_any, list_all, before_first, after_first, starts_with}
 use Rattle.std.specs.Char.{is_ascii_digit}
 use Rattle.std.specs.Str.Parse.{digits_value}
@@ -32,6 +32,10 @@ unmarked (b ∷ text) = if b == exclamation_mark then (true, text) else (false, 
 -- whether the text is digits alone
 abbrev pub is_number : Text → Bool
 is_number text = nat_lt 0 (length text) && list_all is_ascii_digit text
+
+-- the number isn't one of 1 to the greatest
+abbrev pub is_outside : ℕ → ℕ → Bool
+is_outside most number = (number == 0) || nat_lt most number
 
 -- a glob and what comes after `:mod:`, an optional `!` and a glob; None if that glob is empty
 abbrev pub module_with : Text → Bool × Text → Option TextForm

@@ -3,3 +3,4 @@ pub mod Causes
 pub mod Edits
 pub mod Kept
 pub mod Grammar
+pub mod Triggers

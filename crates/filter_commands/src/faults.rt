@@ -1,4 +1,4 @@
-//! Why a filter text is refused.
+//! Why a filter text or a trigger's text is refused.
 
 use thiserror::Error;
 
@@ -15,6 +15,20 @@ pub enum EditFault {
     /// The text has a `:` and isn't GLOB, `:mod:` and MODULE.
     #[error("the text isn't a known filter command")]
     Command,
+    /// Memory ran out.
+    #[error("out of memory")]
+    NoMemory,
+}
+
+/// Why a trigger's text is refused.
+#[derive(Clone, Copy, Debug, PartialEq, Eq, Drop, Error)]
+pub enum TriggerFault {
+    /// The text isn't GLOB, `:traceon` or `:traceoff`, and an optional `:` and limit.
+    #[error("the text isn't a known trigger")]
+    Command,
+    /// The text is of that form, but its glob is no pattern.
+    #[error("the glob isn't a pattern")]
+    Pattern,
     /// Memory ran out.
     #[error("out of memory")]
     NoMemory,

@@ -39,7 +39,7 @@ fn are_digits(text: &str) -> bool
 }
 
 /// Whether the text is digits alone.
-fn is_number(text: &str) -> bool
+pub fn is_number(text: &str) -> bool
     ensures { result ≡ is_number text.now }
 {
     !text.is_empty() && are_digits(text)

@@ -5,9 +5,12 @@
 //! number, a glob over names, or `GLOB:mod:MODULE`, a glob over names and one over modules. The form
 //! *selects* functions of the table. The empty text clears the set.
 //!
+//! And *triggers*, which switch tracing on or off when functions are called: a text `GLOB:traceon`
+//! or `GLOB:traceoff`, with an optional `:N` for how often the trigger may fire.
+//!
 //! Promised: `read_edit` gives the edit that the definition gives the text, or the first cause to
-//! refuse it, exactly; the forms are those of a grammar. Only tested, in `sets_tests`:
-//! that memory is found.
+//! refuse it, exactly, and so does `read_trigger` for a trigger; the forms are those of grammars.
+//! Only tested, in `sets_tests`: that memory is found.
 #![tactic(auto)]
 
 mod edits;
@@ -15,8 +18,12 @@ mod faults;
 mod forms;
 mod laws;
 mod lines;
+mod numbers;
 mod selector;
+mod trigger_text;
+mod triggers;
 
 pub use edits::read_edit;
-pub use faults::EditFault;
-pub use laws::grammar_gives_the_form;
+pub use faults::{EditFault, TriggerFault};
+pub use laws::{grammar_gives_the_form, grammar_gives_the_trigger};
+pub use triggers::{Trigger, read_trigger};
