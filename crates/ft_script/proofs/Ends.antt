@@ -1,15 +1,28 @@
 -- A text and its first line, and a text that is at its end.
-use Rattle.std.proofs.Common.{◌≡◌, ℕ, true, false, ◌==◌, List, [], ◌∷◌, length, suc, None, refl, true≢false, sym, ap, ◌∙◌}
+use Rattle.std.proofs.Common.{◌≡◌, ℕ, true, false, ◌==◌, List, [], ◌∷◌, length, suc, Option, Some, None, refl, true≢false, sym, ap, ◌∙◌}
 use Rattle.std.proofs.Math.Dec.{eqb-suc-zero}
 use Rattle.script_text.specs.Lines.{Line, lines_of}
+use Rattle.ft_script.specs.declared.faults.Cause.{Cause}
+use Rattle.ft_script.specs.declared.faults.ScriptFault.{ScriptFault}
 use Rattle.ft_script.specs.Above.{Above, none_above}
 use Rattle.ft_script.specs.Causes.{cause_of}
 use Rattle.ft_script.specs.Script.{with_line, refusal_at, refusal_below, refusal_of, declared_after}
+use Rattle.ft_script.proofs.NoCause.{some-none}
 use Rattle.script_text.proofs.LineLemmas.{lines_of-nil}
 
 pub no_lines : (text : List ℕ) → true ≡ (length text == 0) → lines_of text ≡ []
 no_lines [] e = lines_of-nil
 no_lines (b ∷ rest) e = absurd (true≢false (e ∙ eqb-suc-zero (length rest)))
+
+-- no line has a cause: so neither the first one nor those below
+pub neither : (above : Above) (cause : Option Cause) (below : Option ScriptFault) → refusal_at above cause below ≡ None → (cause ≡ None) × (below ≡ None)
+neither above None below e = (refl, e)
+neither above (Some cause) below e = absurd (some-none e)
+
+-- an accepted text has lines, and none of them has a cause
+pub none-refused : (text : List ℕ) → refusal_of text ≡ None → refusal_below none_above (lines_of text) ≡ None
+none-refused [] e = absurd (some-none e)
+none-refused (b ∷ rest) e = e
 
 -- a text that has a byte has a line 1
 pub refusal-some : (text : List ℕ) → (length text == 0) ≡ false → refusal_of text ≡ refusal_below none_above (lines_of text)

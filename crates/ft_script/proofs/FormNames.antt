@@ -1,5 +1,5 @@
--- What a line declares as a function's name and module are names, if they aren't too long.
-use Rattle.std.proofs.Common.{◌≡◌, ℕ, ◌&&◌, Bool, true, false, List, [], ◌∷◌, length, Option, Some, None, refl, subst, codes, if◌then◌else◌}
+-- What a line declares as a function's name and module are names, if they aren't too long, and what it says as a version is one.
+use Rattle.std.proofs.Common.{◌≡◌, ℕ, ◌&&◌, Bool, true, false, List, [], ◌∷◌, length, Option, Some, None, inl, inr, refl, subst, codes, if◌then◌else◌}
 use Rattle.std.specs.Prelude.{option_map}
 use Rattle.std.specs.Option.{IfSome}
 use Rattle.std.specs.Str.{bytes_eq}
@@ -9,6 +9,7 @@ use Rattle.ft_base.specs.declared.limits.TheConstants.{NAME_BYTES}
 use Rattle.ft_base.specs.declared.user.Half.{Half}
 use Rattle.ft_base.specs.declared.user.Kind.{Kind}
 use Rattle.ft_base.specs.Name.{is_name_text}
+use Rattle.word_machine.specs.Limits.{IsVersion}
 use Rattle.script_text.specs.Lines.{Word, words_of, is_skipped, is_plain}
 use Rattle.script_text.specs.Words.{both}
 use Rattle.script_text.specs.Names.{is_name, name_of}
@@ -25,8 +26,9 @@ abbrev OwnerNamed : Option Word → Type 0
 OwnerNamed None = Unit {0}
 OwnerNamed (Some owner) = is_name owner ≡ true
 
--- a function's name has a name's bytes, and its module's too
+-- a function's name has a name's bytes, and its module's too; a version is one that there is
 abbrev pub Named : LineForm → Type 0
+Named (version number) = IsVersion number
 Named (func name owner) = (is_name name ≡ true) × OwnerNamed owner
 Named _ = Unit {0}
 
@@ -72,7 +74,7 @@ in-func (_ ∷ _ ∷ _ ∷ _) = tt
 
 in-version : (args : List Word) → IfSome (form.version_form args) Named
 in-version [] = tt
-in-version (n ∷ []) = either (bytes_eq n (codes "1")) (Some version) None tt tt
+in-version (n ∷ []) = either (bytes_eq n (codes "1")) (Some (version 1)) _ (inl refl) (either (bytes_eq n (codes "2")) (Some (version 2)) None (inr refl) tt)
 in-version (_ ∷ _ ∷ _) = tt
 
 in-cpu : (args : List Word) → IfSome (form.cpu_form args) Named
@@ -165,12 +167,15 @@ in-words : (words : List Word) → IfSome (form_of words) Named
 in-words [] = tt
 in-words (key ∷ args) = in-keyed key args
 
--- ## names
+-- ## names, and the version
 
 form-named : (line : List ℕ) (f : LineForm) → line_form line ≡ Some f → Named f
 unfolding line_form
 form-named line f e = subst (λ (o : Option LineForm). IfSome o Named) e
     (either (is_skipped (words_of line)) (Some skip) _ tt (either (is_plain line) _ None (in-words (words_of line)) tt))
+
+pub version-is : (line : List ℕ) (number : ℕ) → line_form line ≡ Some (version number) → IsVersion number
+version-is line number e = form-named line (version number) e
 
 name-short : (w : Word) → is_name w ≡ true → is_long w ≡ false → is_name_text w ≡ true
 name-short w e short = is_name_text-short w e (ltb-false NAME_BYTES (length w) short)

@@ -5,14 +5,14 @@ use Rattle.std.specs.List.{AllByRecursion as Each}
 use Rattle.std.proofs.lemmas.List.{length-map}
 use Rattle.std.proofs.lemmas.List.Sums.{sum_by-cons}
 use Rattle.ft_base.proofs.Small.{Each-weaker}
-use Rattle.ft_base.specs.declared.limits.TheConstants.{FRAMES, TRAMPS, USUAL_FRAMES, ITEMS}
+use Rattle.ft_base.specs.declared.limits.TheConstants.{FRAMES, USUAL_FRAMES, ITEMS}
 use Rattle.ft_base.specs.declared.task.TaskAct.{TaskAct}
 use Rattle.ft_base.specs.declared.task.TaskAct.TheVariants.{Call, Ret, Raise, Lower, After}
 use Rattle.ft_base.specs.declared.user.Act.{Act}
 use Rattle.ft_base.specs.declared.user.Act.TheVariants.{CallIn, IrqIn}
-use Rattle.ft_base.specs.Job.{Job, Spec, Task, Ctl as PlainCtl, Run as PlainRun, Until as PlainUntil, Command, Register, Unregister, Filter, Notrace, Pid, NoPid, Enable, Disable, MaxDepth, commands_in, funcs}
+use Rattle.ft_base.specs.Job.{Job, Spec, Task, Ctl as PlainCtl, Run as PlainRun, Until as PlainUntil, Command, commands_in, funcs}
+use Rattle.ft_base.specs.Versions.{limits_of}
 use Rattle.ft_base.specs.WellFormed.{IsNamed, IsActNamed, IsScript, IsWellFormed}
-use Rattle.ft_desk.specs.declared.command.Command.TheVariants.{Register as Registers, Unregister as Unregisters, Filter as Filters, Notrace as Notraces, Pid as Pids, NoPid as NoPids, Enable as Enables, Disable as Disables, MaxDepth as MaxDepths}
 use Rattle.ft_desk.specs.declared.command.Ctl.{Ctl}
 use Rattle.ft_desk.specs.declared.command.Ctl.TheVariants.{Run, Until}
 use Rattle.ft_desk.specs.Commands.{ctl_of}
@@ -84,37 +84,14 @@ module _ (users size tasks : ℕ) where
   each-command P f (PlainRun c ∷ rest) h = (f c h.0, each-command P f rest h.1)
   each-command P f (PlainUntil t n ∷ rest) h = each-command P f rest h.1
 
-  command-named : (j : Job) → length j.users ≡ users → (c : Command) → IsLine users size tasks (PlainRun c) → IsNamed j c
-  command-named j e (Register u) h = omega (arith, e, h)
-  command-named j e (Unregister u) h = omega (arith, e, h)
-  command-named j e (Filter u edit) h = (let lt = h.0 in omega (arith, e, lt))
-  command-named j e (Notrace u edit) h = (let lt = h.0 in omega (arith, e, lt))
-  command-named j e (Pid m) h = tt
-  command-named j e (NoPid m) h = tt
-  command-named j e (Enable u) h = omega (arith, e, h)
-  command-named j e (Disable u) h = omega (arith, e, h)
-  command-named j e (MaxDepth d) h = tt
-
-  command-level : (c : Command) → IsLine users size tasks (PlainRun c) → IsLevel c
-  command-level (MaxDepth d) h = h
-  command-level _ h = tt
-
   line-waits : (k : ℕ) → k ≡ tasks → (c : PlainCtl) → IsLine users size tasks c → WaitsFor k c
   line-waits k e (PlainRun c) h = tt
   line-waits k e (PlainUntil t n) h = omega (arith, e, h)
 
   -- a line of a desk that declares so many
-  line-in : (d : Declared) (n : ℕ) → length d.specs ≡ users → d.funcs ≡ size → d.tasks ≡ tasks → (c : Ctl) → IsLine users size tasks (ctl_of n c) → IsLineIn d c
-  line-in d n u s t (Run (Registers v)) h = omega (arith, u, h)
-  line-in d n u s t (Run (Unregisters v)) h = omega (arith, u, h)
-  line-in d n u s t (Run (Filters v e)) h = (let lt = h.0 in omega (arith, u, lt), h.1 ∙ sym s)
-  line-in d n u s t (Run (Notraces v e)) h = (let lt = h.0 in omega (arith, u, lt), h.1 ∙ sym s)
-  line-in d n u s t (Run (Pids m)) h = tt
-  line-in d n u s t (Run (NoPids m)) h = tt
-  line-in d n u s t (Run (Enables v)) h = omega (arith, u, h)
-  line-in d n u s t (Run (Disables v)) h = omega (arith, u, h)
-  line-in d n u s t (Run (MaxDepths k)) h = tt
-  line-in d n u s t (Until v k) h = omega (arith, t, h)
+  line-in : (d : Declared) → length d.specs ≡ users → d.funcs ≡ size → d.tasks ≡ tasks → (c : Ctl) → IsLine users size tasks (ctl_of tasks c) → IsLineIn d c
+  line-in d u s t (Run command) h = rw (u, s, t) (h.0, h.1)
+  line-in d u s t (Until v k) h = omega (arith, t, h)
 
 -- ## numbers
 
@@ -152,7 +129,7 @@ module _ (above : Above) (run : CanRun above) where
   is_job : IsWellFormed (job_of above)
   unfolding job_of
   is_job = record {
-    commands = each-command users size tasks (IsNamed (job_of above)) (command-named users size tasks (job_of above) refl) _ lines;
+    commands = each-command users size tasks (IsNamed (job_of above)) (λ command h. h.0) _ lines;
     acts = Each-weaker _ _ above.users (λ (s : Spec) a. act-named (job_of above) s.act a) h.users;
     tasks = each-map task_of (λ (t : Task). IsScript (job_of above) 0 t.acts) above.tasks
         (Each-weaker _ _ above.tasks (λ (p : LinedTask) l. leads-script (job_of above) 0 (acts_of p) l) (closed-tasks above run));
@@ -161,6 +138,7 @@ module _ (above : Above) (run : CanRun above) where
   pub limited : IsLimited (job_of above)
   unfolding job_of
   limited = record {
+    version = h.version;
     job' = is_job;
     placed = each-map task_of (λ (t : Task). t.cpu < length above.quanta) above.tasks h.tasks.placed;
     waits = Each-weaker _ _ _ (line-waits users size tasks (length (map task_of above.tasks)) count-tasks) lines;
@@ -170,10 +148,10 @@ module _ (above : Above) (run : CanRun above) where
     tasks = (let n = count-tasks in let few = h.within.tasks.few in omega (arith, n, few));
     functions = h.within.few_functions;
     frames = at-most FRAMES USUAL_FRAMES (omega arith) above.depth h.depth;
-    tramps = at-most TRAMPS TRAMPS (omega arith) above.tramps h.tramps;
-    levels = each-command users size tasks IsLevel (command-level users size tasks) _ lines;
+    tramps = at-most (limits_of above.version).tramps (limits_of above.version).tramps (omega arith) above.tramps h.tramps;
+    levels = each-command users size tasks IsLevel (λ command h. h.2) _ lines;
     acts = (let n = acts-all above.tasks in let all = h.tasks.all_acts in let few = h.within.tasks.few_acts in omega (arith, n, all, few));
-    items = subst (λ n. call_bound_of above.users * n ≤ ITEMS) (sym (calls-all above.tasks ∙ h.tasks.all_calls)) h.items;
+    items = subst (λ n. call_bound_of above.users (limits_of above.version).levels * n ≤ ITEMS) (sym (calls-all above.tasks ∙ h.tasks.all_calls)) h.items;
   }
 
   module _ (p : Parts) (are : AreParts p above) where
@@ -191,14 +169,14 @@ module _ (above : Above) (run : CanRun above) where
 
     pub job-is : parts_job p ≡ job_of above
     unfolding parts_job job_of
-    job-is = rw (are.functions, are.users, are.frames, are.tramps, quanta-are, tasks-are, lines-are, are.schedule) refl
+    job-is = rw (are.version, are.functions, are.users, are.frames, are.tramps, quanta-are, tasks-are, lines-are, are.schedule) refl
 
     pub is_within : IsWithin p
     is_within = record {
       numbered = rw (quanta-are, tasks-are) (sym are.cpus);
       limited = subst IsLimited (sym job-is) limited;
       lines = Each-weaker _ _ p.ctls
-          (line-in users size tasks (declared_of p) tasks (length-map p.users bare ∙ ap (λ (us : List Spec). length us) are.users) (ap (λ fs. length fs) are.functions) count-is)
+          (line-in users size tasks (declared_of p) (length-map p.users bare ∙ ap (λ (us : List Spec). length us) are.users) (ap (λ fs. length fs) are.functions) count-is)
           (map-each (ctl_of tasks) _ p.ctls (subst (Each (IsLine users size tasks)) (sym are.ctls) lines));
       cpus = (let n = length-map p.cpus (λ (c : DeclaredCpu). c.quantum) in let q = ap (λ (qs : List ℕ). length qs) quanta-are in let few = h.within.few_cpus in omega (arith, n, q, few));
       quanta = rw quanta-are h.quanta;

@@ -12,4 +12,5 @@ pub mod TasksKept
 pub mod Limits
 pub mod LinesKept
 pub mod Lines
+pub mod OtherVersions
 pub mod JobLaws

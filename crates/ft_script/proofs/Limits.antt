@@ -1,14 +1,15 @@
 -- A line without a cause keeps what is declared within the limits and in order.
-use Rattle.std.proofs.Common.{◌≡◌, ℕ, suc, ◌+◌, ◌-◌, ◌*◌, ◌<◌, ◌≤◌, ◌||◌, nat_le, false, List, [], ◌∷◌, ◌++◌, length, sum_by, refl, subst, ◌∙◌, arith, add-one}
+use Rattle.std.proofs.Common.{◌≡◌, ℕ, suc, ◌+◌, ◌-◌, ◌*◌, ◌<◌, ◌≤◌, ◌||◌, nat_le, false, List, [], ◌∷◌, ◌++◌, length, sum_by, refl, sym, subst, ◌∙◌, arith, add-one}
 use Rattle.std.specs.List.{list_any}
 use Rattle.std.proofs.lemmas.Bool.{leb-false, ltb-false}
 use Rattle.std.proofs.lemmas.List.{length_push}
-use Rattle.ft_base.proofs.Small.{or-false_both}
+use Rattle.ft_base.proofs.Small.{false_true, or-false_both}
 use Rattle.ft_base.specs.declared.context.Ctx.{Ctx}
 use Rattle.ft_base.specs.declared.context.Ctx.TheVariants.{Normal, Softirq, Irq, Nmi}
-use Rattle.ft_base.specs.declared.limits.TheConstants.{CPUS, TASKS, USERS, FUNCS, COMMANDS, UNTILS, ACTS, LEVELS, ITEMS, STEPS}
+use Rattle.ft_base.specs.declared.limits.TheConstants.{CPUS, TASKS, COMMANDS, UNTILS, ACTS, LEVELS, ITEMS, STEPS}
 use Rattle.ft_base.specs.declared.task.TaskAct.{TaskAct}
 use Rattle.ft_base.specs.declared.task.TaskAct.TheVariants.{Call, Ret, Raise, Lower, After}
+use Rattle.ft_base.specs.Versions.{limits_of}
 use Rattle.ft_schedule.specs.Causes.{has_bad_count, steps_of}
 use Rattle.user_specs.specs.Bound.{call_bound_of}
 use Rattle.script_text.specs.Lines.{Line}
@@ -21,6 +22,13 @@ use Rattle.ft_script.specs.Within.{FewTasks, IsWithinLimits, IsInOrder}
 use Rattle.ft_script.specs.Holds.{Holds}
 use Rattle.ft_script.proofs.NoCause.{NoCause}
 use Rattle.ft_script.proofs.TaskLaws.{length-push_act}
+
+-- ## the version
+
+-- only line 1 says it
+pub same-version : (above : Above) (form : LineForm) → is_misplaced above form ≡ false → above.version ≡ (declared above form).version
+same-version above (version number) placed = false_true (sym (or-false_both _ _ placed).1)
+same-version above form placed = refl
 
 -- ## the order of ranks
 
@@ -55,19 +63,9 @@ kept-ctls above form low = refl
 
 pub order-declared : (above : Above) → IsInOrder above → (form : LineForm) (below : List Line) → NoCause above form below → IsInOrder (with_form above form)
 order-declared above order form below n = record {
-  first_calls = λ none. absurd (omega (arith, none));
-  first_ctls = λ none. absurd (omega (arith, none));
+  first = λ none. absurd (omega (arith, none));
   calls = λ low. kept-calls above form low ∙ no-calls above order form n.placed low;
   ctls = λ low. kept-ctls above form low ∙ no-ctls above order form n.placed low;
-}
-
--- line 1 says the version
-pub order-version : (above : Above) → IsInOrder above → above.lines ≡ 0 → IsInOrder (with_form above version)
-order-version above order first = record {
-  first_calls = λ none. absurd (omega (arith, none));
-  first_ctls = λ none. absurd (omega (arith, none));
-  calls = λ low. order.first_calls first;
-  ctls = λ low. order.first_ctls first;
 }
 
 -- ## open calls
@@ -99,12 +97,12 @@ room-for limit xs x e =
     omega (arith, n, l)
 
 module _ (above : Above) (h : Holds above) where
-  within-functions : (form : LineForm) → is_past_limit above form ≡ false → length (declared above form).functions ≤ FUNCS
-  within-functions (func name owner) e = room-for FUNCS above.functions _ (or-false_both _ _ (or-false_both _ _ e).1).1
+  within-functions : (form : LineForm) → is_past_limit above form ≡ false → length (declared above form).functions ≤ (limits_of above.version).funcs
+  within-functions (func name owner) e = room-for (limits_of above.version).funcs above.functions _ (or-false_both _ _ (or-false_both _ _ e).1).1
   within-functions form e = h.within.few_functions
 
-  within-users : (form : LineForm) → is_past_limit above form ≡ false → length (declared above form).users ≤ USERS
-  within-users (user u) e = room-for USERS above.users _ (or-false_both _ _ e).1
+  within-users : (form : LineForm) → is_past_limit above form ≡ false → length (declared above form).users ≤ (limits_of above.version).users
+  within-users (user u) e = room-for (limits_of above.version).users above.users _ (or-false_both _ _ e).1
   within-users form e = h.within.few_users
 
   within-cpus : (form : LineForm) → is_past_limit above form ≡ false → length (declared above form).quanta ≤ CPUS
@@ -168,8 +166,8 @@ module _ (above : Above) (h : Holds above) where
 
 pub within-declared : (above : Above) → Holds above → (form : LineForm) (below : List Line) → NoCause above form below → IsWithinLimits (declared above form)
 within-declared above h form below n = record {
-  few_functions = within-functions above h form n.limit;
-  few_users = within-users above h form n.limit;
+  few_functions = subst (λ v. length (declared above form).functions ≤ (limits_of v).funcs) (same-version above form n.placed) (within-functions above h form n.limit);
+  few_users = subst (λ v. length (declared above form).users ≤ (limits_of v).users) (same-version above form n.placed) (within-users above h form n.limit);
   few_cpus = within-cpus above h form n.limit;
   tasks = within-tasks above h form n.limit;
   few_commands = within-commands above h form n.limit;
@@ -180,13 +178,20 @@ within-declared above h form below n = record {
 -- ## items
 
 -- a call is refused if the items could be too many, and a user comes above all calls
-pub items-declared : (above : Above) → Holds above → (form : LineForm) (below : List Line) → NoCause above form below
-    → let d = declared above form in call_bound_of d.users * d.calls ≤ ITEMS
-items-declared above h (user u) below n =
+few-items : (above : Above) → Holds above → (form : LineForm) (below : List Line) → NoCause above form below
+    → let d = declared above form in call_bound_of d.users (limits_of above.version).levels * d.calls ≤ ITEMS
+few-items above h (user u) below n =
     let none = no-calls above h.order (user u) n.placed (omega arith) in
     rw none (omega arith)
-items-declared above h (call name) below n =
+few-items above h (call name) below n =
+    let levels = (limits_of above.version).levels in
     let full : is_full_of_calls above ≡ false = (or-false_both _ _ n.limit).1 in
-    let fits = ltb-false ITEMS (call_bound_of above.users * (above.calls + 1)) (or-false_both _ _ (or-false_both _ _ full).1).1 in
-    subst (λ k. call_bound_of above.users * k ≤ ITEMS) (add-one above.calls) fits
-items-declared above h form below n = h.items
+    let fits = ltb-false ITEMS (call_bound_of above.users levels * (above.calls + 1)) (or-false_both _ _ (or-false_both _ _ full).1).1 in
+    subst (λ k. call_bound_of above.users levels * k ≤ ITEMS) (add-one above.calls) fits
+few-items above h form below n = h.items
+
+pub items-declared : (above : Above) → Holds above → (form : LineForm) (below : List Line) → NoCause above form below
+    → let d = declared above form in call_bound_of d.users (limits_of d.version).levels * d.calls ≤ ITEMS
+items-declared above h form below n =
+    let d = declared above form in
+    subst (λ v. call_bound_of d.users (limits_of v).levels * d.calls ≤ ITEMS) (same-version above form n.placed) (few-items above h form below n)

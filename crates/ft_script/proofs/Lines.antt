@@ -1,8 +1,9 @@
 -- What a line without a cause leaves: what holds of what is declared goes on holding, and what is open goes on below.
-use Rattle.std.proofs.Common.{◌≡◌, ◌==◌, ◌&&◌, Bool, true, false, ℕ, List, [], ◌∷◌, Option, Some, None, refl, sym, ap, ◌∙◌, subst, arith, if◌then◌else◌}
+use Rattle.std.proofs.Common.{◌≡◌, ◌==◌, ◌&&◌, Bool, true, false, ℕ, List, [], ◌∷◌, Option, Some, None, inl, refl, sym, ap, ◌∙◌, subst, arith, if◌then◌else◌}
 use Rattle.std.specs.Prelude.{unwrap_or}
 use Rattle.std.proofs.lemmas.Bool.{eqb-true}
 use Rattle.ft_base.proofs.Small.{false_true, or-false_both}
+use Rattle.word_machine.specs.Limits.{IsVersion}
 use Rattle.script_text.specs.Lines.{Line}
 use Rattle.script_form.specs.Forms.{LineForm, skip, version, new_task, call, ret, raise, lower, after}
 use Rattle.script_form.specs.Lines.{line_form}
@@ -13,9 +14,9 @@ use Rattle.ft_script.specs.Causes.{is_act, is_misplaced, is_unbalanced, is_last,
 use Rattle.ft_script.specs.Script.{with_line}
 use Rattle.ft_script.specs.Within.{IsWithinLimits, IsInOrder, IsBeforeControl, IsSmall, CanAdd}
 use Rattle.ft_script.specs.Holds.{Holds}
-use Rattle.ft_script.proofs.FormNames.{names-hold}
+use Rattle.ft_script.proofs.FormNames.{version-is, names-hold}
 use Rattle.ft_script.proofs.NoCause.{NoCause, no-cause, some-none, version-alone}
-use Rattle.ft_script.proofs.Limits.{within-declared, order-declared, order-version, items-declared, no-ctls}
+use Rattle.ft_script.proofs.Limits.{same-version, within-declared, order-declared, items-declared, no-ctls}
 use Rattle.ft_script.proofs.TasksKept.{tasks-declared}
 use Rattle.ft_script.proofs.LinesKept.{lines-declared, users-declared, depth-declared, tramps-declared, quanta-declared}
 
@@ -36,6 +37,7 @@ within-renumbered above lines rank w = record {
 pub form-holds : (above : Above) → Holds above → (form : LineForm) (below : List Line) → NoCause above form below
     → (is_last_by (Some form) (is_last below) ≡ true → is_unfinished above.levels ≡ false) → Holds (with_form above form)
 form-holds above h form below n closed = record {
+  version = subst IsVersion (same-version above form n.placed) h.version;
   within = within-renumbered (declared above form) _ _ (within-declared above h form below n);
   order = order-declared above h.order form below n;
   depth = depth-declared above h form below n;
@@ -47,19 +49,33 @@ form-holds above h form below n closed = record {
   items = items-declared above h form below n;
 }
 
--- line 1 says the version, and declares nothing
-first-holds : (above : Above) → Holds above → above.lines ≡ 0 → Holds (with_form above version)
-first-holds above h first = record {
-  within = within-renumbered above _ _ h.within;
-  order = order-version above h.order first;
-  depth = h.depth;
-  tramps = h.tramps;
-  users = h.users;
-  quanta = h.quanta;
-  tasks = h.tasks;
-  lines = h.lines;
-  items = h.items;
+-- if nothing is declared but the version, after so many lines
+empty-holds : (number lines : ℕ) → IsVersion number → let above = record none_above { version = number; lines = lines } in (above.lines ≡ 0 → above ≡ none_above) → Holds above
+empty-holds number lines is first = record {
+  version = is;
+  within = record {
+    few_functions = omega arith;
+    few_users = omega arith;
+    few_cpus = omega arith;
+    tasks = record { few = omega arith; few_acts = omega arith; few_calls = omega arith; few_open = omega arith };
+    few_commands = omega arith;
+    few_waits = omega arith;
+    few_steps = omega arith;
+  };
+  order = record { first = first; calls = λ low. refl; ctls = λ low. refl };
+  depth = tt;
+  tramps = tt;
+  users = tt;
+  quanta = tt;
+  tasks = record { placed = tt; balanced = refl; raised = tt; all_acts = refl; all_calls = refl };
+  lines = record { named = tt; all = refl };
+  items = omega arith;
 }
+
+-- line 1 says the version, and declares nothing else
+first-holds : (above : Above) → Holds above → above.lines ≡ 0 → (number : ℕ) → IsVersion number → Holds (with_form above (version number))
+first-holds above h first number is =
+    subst (λ a. Holds (with_form a (version number))) (sym (h.order.first first)) (empty-holds number 1 is (λ none. absurd (omega (arith, none))))
 
 -- ## what is open goes on below
 
@@ -106,9 +122,9 @@ module _ (above : Above) (below : List Line) (form : LineForm) (s : Holds above)
       let n = no-cause above form below e in
       record { holds = form-holds above s form below n closed; goes_on = goes_on above form below n.balanced goes }
 
-  version-holds : above.lines ≡ 0 → form ≡ version → HoldsAbove (with_form above form) below
-  version-holds first e = subst (λ f. (is_unfinished above.levels ≡ true → is_last_by (Some f) (is_last below) ≡ false) → HoldsAbove (with_form above f) below) (sym e)
-      (λ g. record { holds = first-holds above s first; goes_on = other-goes_on above version below refl refl g }) goes
+  version-holds : above.lines ≡ 0 → (number : ℕ) → IsVersion number → form ≡ version number → HoldsAbove (with_form above form) below
+  version-holds first number is e = subst (λ f. (is_unfinished above.levels ≡ true → is_last_by (Some f) (is_last below) ≡ false) → HoldsAbove (with_form above f) below) (sym e)
+      (λ g. record { holds = first-holds above s first number is; goes_on = other-goes_on above (version number) below refl refl g }) goes
 
 -- ## a line without a cause can be added
 
@@ -116,8 +132,8 @@ before-control : (above : Above) → IsInOrder above → (form : LineForm) → i
 before-control above order (new_task pid cpu) placed = no-ctls above order (new_task pid cpu) placed (omega arith)
 before-control above order form placed = tt
 
-version-added : (above : Above) → IsSmall above → CanAdd above version
-version-added above small = record { small = small; names = refl; before = tt; limit = refl; new = refl; known = refl; text = refl }
+version-added : (above : Above) (number : ℕ) → IsSmall above → CanAdd above (version number)
+version-added above number small = record { small = small; names = refl; before = tt; limit = refl; new = refl; known = refl; text = refl }
 
 judged-added : (above : Above) (line : List ℕ) (form : LineForm) (below : List Line) → IsSmall above → line_form line ≡ Some form → NoCause above form below → CanAdd above form
 judged-added above line form below small is n = record {
@@ -134,7 +150,7 @@ pub can_add : (above : Above) (ended : Bool) (line : List ℕ) (form : LineForm)
     → line_cause above ended (Some form) below ≡ None → CanAdd above form
 can_add above false line form below small is e = absurd (some-none e)
 can_add above true line form below small is e = elim (above.lines == 0) as (λ b. (if b then first_line_cause (Some form) else next_line_cause above below (Some form)) ≡ None → CanAdd above form) [
-  | true ↦ λ none. subst (CanAdd above) (sym (version-alone form none)) (version-added above small)
+  | true ↦ λ none. let v = version-alone form none in subst (CanAdd above) (sym v.1) (version-added above v.0 small)
   | false ↦ λ none. judged-added above line form below small is (no-cause above form below none)
 ] e
 
@@ -153,7 +169,9 @@ line-holds above line below s e = by line.ended (line_form line.bytes) refl e
     by true (Some form) is e =
         let goes : is_unfinished above.levels ≡ true → is_last_by (Some form) (is_last below) ≡ false = λ running. sym (ap (λ f. is_last_by f (is_last below)) is) ∙ s.goes_on running in
         elim (above.lines == 0) as (λ b. (above.lines == 0) ≡ b → (if b then first_line_cause (Some form) else next_line_cause above below (Some form)) ≡ None → HoldsAbove (with_form above form) below) [
-          | true ↦ λ first none. version-holds above below form s.holds goes (eqb-true above.lines 0 first) (version-alone form none)
+          | true ↦ λ first none.
+              let v = version-alone form none in
+              version-holds above below form s.holds goes (eqb-true above.lines 0 first) v.0 (version-is line.bytes v.0 (is ∙ ap (λ f. Some f) v.1)) v.1
           | false ↦ λ first none. judged-holds above below form s.holds goes none
         ] refl e
 
@@ -169,24 +187,6 @@ closed-at_end above s = elim (is_unfinished above.levels) as (λ b. is_unfinishe
 -- nothing is declared above the first line
 pub none-holds : (lines : List Line) → HoldsAbove none_above lines
 none-holds lines = record {
-  holds = record {
-    within = record {
-      few_functions = omega arith;
-      few_users = omega arith;
-      few_cpus = omega arith;
-      tasks = record { few = omega arith; few_acts = omega arith; few_calls = omega arith; few_open = omega arith };
-      few_commands = omega arith;
-      few_waits = omega arith;
-      few_steps = omega arith;
-    };
-    order = record { first_calls = λ first. refl; first_ctls = λ first. refl; calls = λ low. refl; ctls = λ low. refl };
-    depth = tt;
-    tramps = tt;
-    users = tt;
-    quanta = tt;
-    tasks = record { placed = tt; balanced = refl; raised = tt; all_acts = refl; all_calls = refl };
-    lines = record { named = tt; all = refl };
-    items = omega arith;
-  };
+  holds = empty-holds 1 0 (inl refl) (λ first. refl);
   goes_on = λ running. false_true running;
 }

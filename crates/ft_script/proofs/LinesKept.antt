@@ -1,18 +1,19 @@
 -- A line without a cause declares users and lines of control that name what is there, and numbers within their limits.
-use Rattle.std.proofs.Common.{◌≡◌, ℕ, zero, suc, ◌+◌, ◌<◌, ◌≤◌, ◌==◌, Bool, true, false, List, [], ◌∷◌, ◌++◌, length, position, Option, Some, None, refl, ◌∙◌, arith}
+use Rattle.std.proofs.Common.{◌≡◌, ℕ, zero, suc, ◌+◌, ◌<◌, ◌≤◌, ◌==◌, Bool, true, false, List, [], ◌∷◌, ◌++◌, length, position, Option, Some, None, refl, ◌∙◌, subst, arith}
 use Rattle.std.specs.Prelude.{is_some, unwrap_or, option_map}
 use Rattle.std.specs.List.{AllByRecursion as Each}
 use Rattle.std.proofs.lemmas.Bool.{ltb-false, not-false}
 use Rattle.std.proofs.lemmas.List.{length_push, length-map, length-set}
 use Rattle.std.proofs.lemmas.List.Quantifiers.{position-Some}
 use Rattle.ft_base.proofs.Small.{false_true, or-false_both, Each-snoc, Each-weaker}
-use Rattle.ft_base.specs.declared.limits.TheConstants.{FRAMES, TRAMPS, GRAPH_DEPTH, QUANTUM}
+use Rattle.ft_base.specs.declared.limits.TheConstants.{FRAMES, GRAPH_DEPTH, QUANTUM}
 use Rattle.ft_base.specs.declared.user.Act.{Act}
 use Rattle.ft_base.specs.declared.user.Act.TheVariants.{CallIn, IrqIn}
 use Rattle.ft_base.specs.declared.user.Half.{Half}
 use Rattle.ft_base.specs.declared.user.Half.TheVariants.{Filter as OfFilter, Notrace as OfNotrace}
 use Rattle.ft_base.specs.Marks.{Marks, empty}
 use Rattle.ft_base.specs.Job.{Func, Spec, Edit, Run, Until, Command}
+use Rattle.ft_base.specs.Versions.{limits_of}
 use Rattle.site_set.proofs.MarksLemmas.{length-empty}
 use Rattle.filter_commands.specs.Forms.{Text, TextForm, line, named, in_module, form_of, unmarked}
 use Rattle.filter_commands.specs.Edits.{selected_by, edit_of}
@@ -24,7 +25,7 @@ use Rattle.ft_script.specs.Above.{Above, LinedCtl, declared, declared_act, user_
 use Rattle.ft_script.specs.Causes.{is_misplaced, has_no_pid, has_no_user, lacks_function, act_name}
 use Rattle.ft_script.specs.Holds.{IsActIn, IsLine, LinesHold, IsAtMost, Holds}
 use Rattle.ft_script.proofs.NoCause.{NoCause}
-use Rattle.ft_script.proofs.Limits.{no-ctls}
+use Rattle.ft_script.proofs.Limits.{same-version, no-ctls}
 use Rattle.ft_script.proofs.TasksKept.{number-below, function-below}
 
 -- ## the number of what is named is below how many there are
@@ -90,12 +91,12 @@ lines-more users size tasks ctls commands waits commands' waits' c one there h =
 }
 
 write-line : (users size tasks u : ℕ) (half : Half) (edit : Edit) → u < users → length edit.set ≡ size → IsLine users size tasks (Run (write_to half u edit))
-write-line users size tasks u OfFilter edit lt e = (lt, e)
-write-line users size tasks u OfNotrace edit lt e = (lt, e)
+write-line users size tasks u OfFilter edit lt e = (lt, e, tt)
+write-line users size tasks u OfNotrace edit lt e = (lt, e, tt)
 
 pid-line : (users size tasks : ℕ) (excluded : Bool) (marks : Marks) → IsLine users size tasks (Run (pid_command excluded marks))
-pid-line users size tasks true marks = tt
-pid-line users size tasks false marks = tt
+pid-line users size tasks true marks = (tt, tt, tt)
+pid-line users size tasks false marks = (tt, tt, tt)
 
 -- ## what a line declares
 
@@ -124,7 +125,7 @@ module _ (above : Above) (h : Holds above) where
       → LinesHold (length (declared above form).users) (length (declared above form).functions) (length (declared above form).tasks)
       (declared above form).ctls (declared above form).commands (declared above form).waits
   lines-declared skip below n = h.lines
-  lines-declared version below n = h.lines
+  lines-declared (version number) below n = h.lines
   lines-declared (func name owner) below n = none-yet (func name owner) _ _ _ n.placed (omega arith)
   lines-declared (depth frames) below n = h.lines
   lines-declared (tramps slots) below n = h.lines
@@ -136,14 +137,14 @@ module _ (above : Above) (h : Holds above) where
   lines-declared (raise to) below n = none-yet (raise to) _ _ _ n.placed (omega arith)
   lines-declared lower below n = none-yet lower _ _ _ n.placed (omega arith)
   lines-declared (after k) below n = none-yet (after k) _ _ _ n.placed (omega arith)
-  lines-declared (register name) below n = with-command _ _ (user-below above name n.known)
-  lines-declared (unregister name) below n = with-command _ _ (user-below above name n.known)
+  lines-declared (register name) below n = with-command _ _ (user-below above name n.known, tt, tt)
+  lines-declared (unregister name) below n = with-command _ _ (user-below above name n.known, tt, tt)
   lines-declared (write half append name text) below n =
       with-command _ _ (write-line users size tasks _ half (edit_of above.functions append text) (user-below above name n.known) (length-edit above.functions append text))
   lines-declared (pids excluded list) below n = with-command _ _ (pid-line users size tasks excluded (marks_of above list))
-  lines-declared (enable name) below n = with-command _ _ (user-below above name n.known)
-  lines-declared (disable name) below n = with-command _ _ (user-below above name n.known)
-  lines-declared (max_depth k) below n = with-command _ _ (ltb-false GRAPH_DEPTH k (or-false_both _ _ n.limit).0)
+  lines-declared (enable name) below n = with-command _ _ (user-below above name n.known, tt, tt)
+  lines-declared (disable name) below n = with-command _ _ (user-below above name n.known, tt, tt)
+  lines-declared (max_depth k) below n = with-command _ _ (tt, tt, ltb-false GRAPH_DEPTH k (or-false_both _ _ n.limit).0)
   lines-declared (until pid k) below n =
       lines-more _ _ _ above.ctls above.commands above.waits above.commands (suc above.waits) (record { ctl = Until (task_number above pid) k; line = suc above.lines }) (omega arith)
       (task-below above pid n.known) h.lines
@@ -161,9 +162,12 @@ module _ (above : Above) (h : Holds above) where
   depth-declared (depth frames) below n = ltb-false FRAMES frames (or-false_both _ _ n.limit).1
   depth-declared _ below n = h.depth
 
-  pub tramps-declared : (form : LineForm) (below : List Line) → NoCause above form below → IsAtMost TRAMPS (declared above form).tramps
-  tramps-declared (tramps slots) below n = ltb-false TRAMPS slots n.limit
-  tramps-declared _ below n = h.tramps
+  few-tramps : (form : LineForm) (below : List Line) → NoCause above form below → IsAtMost (limits_of above.version).tramps (declared above form).tramps
+  few-tramps (tramps slots) below n = ltb-false (limits_of above.version).tramps slots n.limit
+  few-tramps _ below n = h.tramps
+
+  pub tramps-declared : (form : LineForm) (below : List Line) → NoCause above form below → let d = declared above form in IsAtMost (limits_of d.version).tramps d.tramps
+  tramps-declared form below n = subst (λ v. IsAtMost (limits_of v).tramps (declared above form).tramps) (same-version above form n.placed) (few-tramps form below n)
 
   pub quanta-declared : (form : LineForm) (below : List Line) → NoCause above form below → Each (λ q. q ≤ QUANTUM) (declared above form).quanta
   quanta-declared (new_cpu cpu quantum) below n =

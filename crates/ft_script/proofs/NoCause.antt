@@ -1,5 +1,5 @@
 -- The causes that a line doesn't have, if it is not refused.
-use Rattle.std.proofs.Common.{◌≡◌, Bool, true, false, List, Option, Some, None, refl, sym, if◌then◌else◌}
+use Rattle.std.proofs.Common.{◌≡◌, ℕ, Bool, true, false, List, Option, Some, None, refl, sym, if◌then◌else◌}
 use Rattle.std.proofs.lemmas.Option.{none-some}
 use Rattle.script_text.specs.Lines.{Line}
 use Rattle.script_form.specs.Forms.{LineForm, version}
@@ -35,6 +35,6 @@ no-cause above form below e =
     record { placed = a.0; limit = b.0; new = c.0; known = d.0; text = p.0; balanced = u.0 }
 
 -- line 1 says the version
-pub version-alone : (form : LineForm) → first_line_cause (Some form) ≡ None → form ≡ version
-version-alone version e = refl
+pub version-alone : (form : LineForm) → first_line_cause (Some form) ≡ None → (number : ℕ) × (form ≡ version number)
+version-alone (version number) e = (number, refl)
 version-alone _ e = absurd (some-none e)

@@ -30,6 +30,7 @@ pub record LinedCtl : Type 0 where
 
 -- what the lines above have declared, each list in the order of the lines
 pub record Above : Type 0 where
+  pub version : ℕ  -- the version of the language
   pub lines : ℕ  -- how many lines there are
   pub rank : ℕ  -- the rank of the last of them that has one
   pub depth : Option ℕ  -- frames of a shadow stack, if the script says
@@ -47,9 +48,10 @@ pub record Above : Type 0 where
   pub turns : List Turn  -- the schedule
   pub steps : ℕ  -- how many steps it has
 
--- nothing is declared above the first line
+-- nothing is declared above the first line, which says the version
 abbrev pub none_above : Above
 none_above = record {
+  version = 1;
   lines = 0;
   rank = 0;
   depth = None;
@@ -166,7 +168,7 @@ pid_command excluded marks = if excluded then NoPid marks else Pid marks
 -- what is declared once a line of this form is, but for its number and its rank
 abbrev pub declared : Above → LineForm → Above
 declared above skip = above
-declared above version = above
+declared above (version number) = record above { version = number }
 declared above (func name owner) = record above { functions = above.functions ++ record { name = name; owner = owner } ∷ [] }
 declared above (depth frames) = record above { depth = Some frames }
 declared above (tramps slots) = record above { tramps = Some slots }
@@ -191,7 +193,7 @@ declared above (sched items) = record above { turns = above.turns ++ map turn_fr
 -- the rank of a line, or the one before if it says nothing; lines come in the order of their ranks
 abbrev pub rank_of : LineForm → ℕ → ℕ
 rank_of skip before = before
-rank_of version before = 0
+rank_of (version number) before = 0
 rank_of (func name owner) before = 1
 rank_of (depth frames) before = 2
 rank_of (tramps slots) before = 2

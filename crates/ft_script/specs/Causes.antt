@@ -3,8 +3,9 @@
 use Rattle.std.specs.Prelude.{ℕ, ◌+◌, ◌*◌, ◌^◌, ◌==◌, ◌&&◌, ◌||◌, not, nat_le, nat_lt, Bool, true, false, List, [], ◌∷◌, length, is_some, position, Option, Some, None, option_map, if◌then◌else◌}
 use Rattle.std.specs.List.{list_any}
 use Rattle.std.specs.Str.{bytes_eq}
-use Rattle.ft_base.specs.declared.limits.TheConstants.{CPUS, TASKS, USERS, TRAMPS, FUNCS, COMMANDS, UNTILS, ACTS, LEVELS, FRAMES, GRAPH_DEPTH, ITEMS, QUANTUM, PID, NAME_BYTES}
+use Rattle.ft_base.specs.declared.limits.TheConstants.{CPUS, TASKS, COMMANDS, UNTILS, ACTS, LEVELS, FRAMES, GRAPH_DEPTH, ITEMS, QUANTUM, PID, NAME_BYTES}
 use Rattle.ft_base.specs.Same.{rank}
+use Rattle.ft_base.specs.Versions.{limits_of}
 use Rattle.filter_commands.specs.Causes.{first_cause}
 use Rattle.ft_schedule.specs.Causes.{is_past_limit as is_past_sched_limit, has_unknown}
 use Rattle.user_specs.specs.Bound.{call_bound_of}
@@ -29,9 +30,9 @@ is_act lower = true
 is_act (after n) = true
 is_act _ = false
 
--- `ftrace 1` once more, `depth` or `tramps` once more, a CPU that isn't the next one, an act before any task
+-- the version once more, `depth` or `tramps` once more, a CPU that isn't the next one, an act before any task
 abbrev pub is_out_of_place : Above → LineForm → Bool
-is_out_of_place above version = true
+is_out_of_place above (version number) = true
 is_out_of_place above (depth frames) = is_some above.depth
 is_out_of_place above (tramps slots) = is_some above.tramps
 is_out_of_place above (new_cpu cpu quantum) = not (cpu == length above.quanta)
@@ -87,7 +88,7 @@ is_full_of_acts above = nat_le ACTS above.acts
 
 -- with one more call, the calls could make more items than a history may have
 abbrev pub has_no_room : Above → Bool
-has_no_room above = nat_lt ITEMS (call_bound_of above.users * (above.calls + 1))
+has_no_room above = nat_lt ITEMS (call_bound_of above.users (limits_of above.version).levels * (above.calls + 1))
 
 -- one more call is too many: of the acts, of the open calls of the task, or for the items that the calls could make
 abbrev pub is_full_of_calls : Above → Bool
@@ -99,10 +100,10 @@ is_full_of_commands above = nat_le COMMANDS above.commands
 
 -- a name or a number of the line is outside its limits, or there is one too many of what it declares
 abbrev pub is_past_limit : Above → LineForm → Bool
-is_past_limit above (func name owner) = is_long name || (is_long_or_none owner || nat_le FUNCS (length above.functions))
+is_past_limit above (func name owner) = is_long name || (is_long_or_none owner || nat_le (limits_of above.version).funcs (length above.functions))
 is_past_limit above (depth frames) = is_bad_depth frames
-is_past_limit above (tramps slots) = nat_lt TRAMPS slots
-is_past_limit above (user u) = has_long_name u || nat_le USERS (length above.users)
+is_past_limit above (tramps slots) = nat_lt (limits_of above.version).tramps slots
+is_past_limit above (user u) = has_long_name u || nat_le (limits_of above.version).users (length above.users)
 is_past_limit above (new_cpu cpu quantum) = is_bad_quantum quantum || nat_le CPUS (length above.quanta)
 is_past_limit above (new_task pid cpu) = is_bad_pid pid || (is_big cpu || nat_le TASKS (length above.tasks))
 is_past_limit above (call name) = is_long name || is_full_of_calls above
@@ -215,9 +216,9 @@ form_cause above form below =
     else (if is_unbalanced above form below then Some Unbalanced
     else None)))))
 
--- line 1 is `ftrace 1`
+-- line 1 says the version
 abbrev pub first_line_cause : Option LineForm → Option Cause
-first_line_cause (Some version) = None
+first_line_cause (Some (version number)) = None
 first_line_cause _ = Some Version
 
 -- each other line has a form

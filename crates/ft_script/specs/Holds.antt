@@ -1,21 +1,22 @@
 -- What holds of what is declared, if no line has a cause.
-use Rattle.std.specs.Prelude.{ℕ, zero, suc, ◌≡◌, ◌+◌, ◌*◌, ◌<◌, ◌≤◌, false, List, [], ◌∷◌, length, map, sum_by, Option, Some, None}
+use Rattle.std.specs.Prelude.{ℕ, zero, suc, ◌≡◌, ◌+◌, ◌*◌, ◌<◌, ◌≤◌, false, List, [], ◌∷◌, length, map, sum_by, Option, Some, None, IfSome}
 use Rattle.std.specs.List.{AllByRecursion as Each}
 use Rattle.ft_base.specs.declared.context.Ctx.{Ctx}
 use Rattle.ft_base.specs.declared.context.Ctx.TheVariants.{Softirq, Irq, Nmi}
-use Rattle.ft_base.specs.declared.limits.TheConstants.{FRAMES, TRAMPS, GRAPH_DEPTH, ITEMS, QUANTUM}
+use Rattle.ft_base.specs.declared.limits.TheConstants.{FRAMES, GRAPH_DEPTH, ITEMS, QUANTUM}
 use Rattle.ft_base.specs.declared.task.TaskAct.{TaskAct}
 use Rattle.ft_base.specs.declared.task.TaskAct.TheVariants.{Call, Ret, Raise, Lower, After}
 use Rattle.ft_base.specs.declared.user.Act.{Act}
 use Rattle.ft_base.specs.declared.user.Act.TheVariants.{CallIn, IrqIn}
 use Rattle.ft_base.specs.Same.{rank}
-use Rattle.ft_base.specs.Job.{Spec, Ctl, Run, Until, Register, Unregister, Filter, Notrace, Pid, NoPid, Enable, Disable, MaxDepth}
+use Rattle.ft_base.specs.Job.{Spec, Ctl, Run, Until, user_of, set_of, depth_of}
+use Rattle.ft_base.specs.Versions.{limits_of}
 use Rattle.ft_hist.specs.Plain.{context}
 use Rattle.history_bound.specs.Bound.{calls_in}
 use Rattle.user_specs.specs.Bound.{call_bound_of}
 use Rattle.script_waits.specs.declared.script.LinedAct.{LinedAct}
 use Rattle.script_waits.specs.Tasks.{LinedTask}
-use Rattle.word_machine.specs.Limits.{AreRaised}
+use Rattle.word_machine.specs.Limits.{AreRaised, IsVersion}
 use Rattle.ft_script.specs.declared.levels.Levels.{Levels}
 use Rattle.ft_script.specs.Levels.{open_calls, is_unfinished}
 use Rattle.ft_script.specs.Above.{Above, LinedCtl}
@@ -85,18 +86,10 @@ IsActIn size None = Unit {0}
 IsActIn size (Some (CallIn g)) = g.0 < size
 IsActIn size (Some (IrqIn g)) = g.0 < size
 
--- a line of control: its user is one of so many, its set has so many functions, its task is one of so many, and its depth is within the
--- limit
+-- a line of control: its user is one of so many, its set has so many functions, its depth is within the limit, and its task is one of so
+-- many
 abbrev pub IsLine : (users size tasks : ℕ) → Ctl → Type 0
-IsLine users size tasks (Run (Register u)) = u < users
-IsLine users size tasks (Run (Unregister u)) = u < users
-IsLine users size tasks (Run (Filter u e)) = (u < users) × (length e.set ≡ size)
-IsLine users size tasks (Run (Notrace u e)) = (u < users) × (length e.set ≡ size)
-IsLine users size tasks (Run (Pid pids)) = Unit {0}
-IsLine users size tasks (Run (NoPid pids)) = Unit {0}
-IsLine users size tasks (Run (Enable u)) = u < users
-IsLine users size tasks (Run (Disable u)) = u < users
-IsLine users size tasks (Run (MaxDepth n)) = n ≤ GRAPH_DEPTH
+IsLine users size tasks (Run c) = IfSome (user_of c) (λ u. u < users) × IfSome (set_of c) (λ set. length set ≡ size) × IfSome (depth_of c) (λ n. n ≤ GRAPH_DEPTH)
 IsLine users size tasks (Until t n) = t < tasks
 
 -- lines of control, of which so many are commands and waits
@@ -111,17 +104,18 @@ IsAtMost limit (Some n) = n ≤ limit
 
 -- ## all
 
--- what is declared is within the limits and in order, and names what is there; its calls make no more items than a history may have
+-- what is declared is of a version that there is, within its limits and in order, and names what is there; its calls make no more items than a history may have
 pub record Holds (above : Above) : Type 0 where
+  pub version : IsVersion above.version
   pub within : IsWithinLimits above
   pub order : IsInOrder above
   pub depth : IsAtMost FRAMES above.depth
-  pub tramps : IsAtMost TRAMPS above.tramps
+  pub tramps : IsAtMost (limits_of above.version).tramps above.tramps
   pub users : Each (λ (s : Spec). IsActIn (length above.functions) s.act) above.users
   pub quanta : Each (λ q. q ≤ QUANTUM) above.quanta
   pub tasks : TasksHold (length above.functions) (length above.quanta) above.tasks above.levels above.acts above.calls
   pub lines : LinesHold (length above.users) (length above.functions) (length above.tasks) above.ctls above.commands above.waits
-  pub items : call_bound_of above.users * above.calls ≤ ITEMS
+  pub items : call_bound_of above.users (limits_of above.version).levels * above.calls ≤ ITEMS
 
 -- the same, and nothing is left open
 pub record CanRun (above : Above) : Type 0 where

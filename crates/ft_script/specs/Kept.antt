@@ -1,6 +1,7 @@
 -- What a reader keeps of the lines above.
 use Rattle.std.specs.Prelude.{◌≡◌, ℕ, length, map, unwrap_or}
-use Rattle.ft_base.specs.declared.limits.TheConstants.{TRAMPS, USUAL_FRAMES}
+use Rattle.ft_base.specs.declared.limits.TheConstants.{USUAL_FRAMES}
+use Rattle.ft_base.specs.Versions.{limits_of}
 use Rattle.ft_desk.specs.Commands.{ctl_of}
 use Rattle.control_core.specs.Lines.{lines_of}
 use Rattle.ft_machine.specs.Parts.{Parts, cpus_from}
@@ -23,6 +24,7 @@ control_line c = record { wait = wait_of (ctl_of 0 c.ctl); line = c.line }
 -- what the lines that a reader has read declare
 abbrev pub above_of : Reader → Above
 above_of r = record {
+  version = r.version;
   lines = r.lines;
   rank = r.rank;
   depth = r.depth;
@@ -43,10 +45,11 @@ above_of r = record {
 
 -- the parts of the job of what is declared
 pub record AreParts (p : Parts) (above : Above) : Type 0 where
+  pub version : p.version ≡ above.version
   pub functions : p.functions ≡ above.functions
   pub users : p.users ≡ above.users
   pub frames : p.frames ≡ unwrap_or above.depth USUAL_FRAMES
-  pub tramps : p.tramps ≡ unwrap_or above.tramps TRAMPS
+  pub tramps : p.tramps ≡ unwrap_or above.tramps (limits_of above.version).tramps
   pub cpus : p.cpus ≡ cpus_from 0 above.quanta (map task_of above.tasks)
   pub ctls : lines_of (length above.tasks) p.ctls ≡ map (λ c. c.ctl) above.ctls
   pub schedule : p.schedule ≡ schedule_of above.turns

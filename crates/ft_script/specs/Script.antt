@@ -1,9 +1,10 @@
 -- The job of a script, or the line for which it is refused, and why.
 use Rattle.std.specs.Prelude.{◌≡◌, ◌≢◌, ℕ, suc, ◌+◌, ◌==◌, List, [], ◌∷◌, ◌++◌, length, map, unwrap_or, Option, Some, None, ◌⊎◌, if◌then◌else◌}
-use Rattle.ft_base.specs.declared.limits.TheConstants.{TRAMPS, USUAL_FRAMES, USUAL_TURNS}
+use Rattle.ft_base.specs.declared.limits.TheConstants.{USUAL_FRAMES, USUAL_TURNS}
 use Rattle.ft_base.specs.declared.turn.Turn.{Turn}
 use Rattle.ft_base.specs.declared.turn.Who.TheVariants.{All}
-use Rattle.ft_base.specs.Job.{Job, Task, Ctl, Run, Until}
+use Rattle.ft_base.specs.Job.{Job, Task, Ctl, Run, Until, usual_lines, usual_rings}
+use Rattle.ft_base.specs.Versions.{limits_of}
 use Rattle.script_waits.specs.declared.script.ControlLine.{ControlLine}
 use Rattle.script_waits.specs.declared.script.Wait.{Wait}
 use Rattle.script_waits.specs.declared.script.Wait.TheVariants.{Command as ACommand, Until as AnUntil}
@@ -93,14 +94,17 @@ schedule_of turns = if length turns == 0 then record { who = All; count = USUAL_
 -- the job of what is declared
 unfoldable pub job_of : Above → Job
 job_of above = record {
+  version = above.version;
   functions = above.functions;
   users = above.users;
   frames = unwrap_or above.depth USUAL_FRAMES;
-  tramps = unwrap_or above.tramps TRAMPS;
+  tramps = unwrap_or above.tramps (limits_of above.version).tramps;
   quanta = above.quanta;
   tasks = map task_of above.tasks;
   ctls = map (λ c. c.ctl) above.ctls;
   schedule = schedule_of above.turns;
+  lines = usual_lines;
+  rings = usual_rings;
 }
 
 -- ## what the reader answers

@@ -12,7 +12,7 @@ use std::fmt;
 /// feed is reported as `Syntax` before any other.
 #[derive(Clone, Copy, Debug, PartialEq, Eq)]
 pub enum Cause {
-    /// There is no line 1, or it isn't `ftrace 1`.
+    /// There is no line 1, or it is neither `ftrace 1` nor `ftrace 2`.
     Version,
     /// The line has none of the forms or is in the wrong place, or no line feed ends it.
     Syntax,

@@ -32,7 +32,7 @@ pub fn rank_of(form: &LineForm, before: u8) -> u8
 {
     match form {
         LineForm::Skip => before,
-        LineForm::Version => 0,
+        LineForm::Version { .. } => 0,
         LineForm::Func { .. } => 1,
         LineForm::Depth { .. } | LineForm::Tramps { .. } => 2,
         LineForm::User(_) => 3,

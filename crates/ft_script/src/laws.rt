@@ -1,8 +1,8 @@
 //! What the definitions of a job and of a refusal mean, in other words.
 
-ghost use Rattle.std.specs.Prelude.{◌≡◌, ◌↔◌, ◌⊎◌, List, ℕ, Some, None};
+ghost use Rattle.std.specs.Prelude.{◌≡◌, ◌↔◌, ◌⊎◌, ◌∷◌, List, ℕ, true, is_some, Some, None};
 ghost use Rattle.ft_base.specs.Job.{Job};
-ghost use Rattle.script_text.specs.Lines.{lines_of};
+ghost use Rattle.script_text.specs.Lines.{Line, lines_of};
 ghost use Rattle.ft_script.specs.declared.faults.ScriptFault.{ScriptFault};
 ghost use Rattle.ft_script.specs.Above.{none_above};
 ghost use Rattle.ft_script.specs.Script.{refusal_below, declared_in, job_of, IsFirstRefusal, IsClean, LeavesWaiting, IsJobOf, IsRefusalOf};
@@ -24,4 +24,11 @@ pub fn refusal_is_first()
 /// A text none of whose lines has a cause is a script if the greedy run leaves nobody waiting.
 pub fn a_clean_text_is_a_script()
     ensures { (text : List ℕ) → IsClean text → LeavesWaiting text None → IsJobOf text (job_of (declared_in text)) }
+{}
+
+/// Two scripts that differ in line 1 alone, which says the version, and that say how many trampoline
+/// slots there are, have the same job but for its version.
+pub fn a_version_changes_no_more_than_limits()
+    ensures { (text other : List ℕ) (one two : Line) (below : List Line) (a b : Job) → lines_of text ≡ one ∷ below → lines_of other ≡ two ∷ below
+        → IsJobOf text a → IsJobOf other b → is_some (declared_in text).tramps ≡ true → b ≡ record a { version = b.version } }
 {}

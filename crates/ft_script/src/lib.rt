@@ -10,7 +10,9 @@
 //! Proved: [`read_script`] gives exactly the job of each script, and of each other text the lowest
 //! line that has a cause and the first of its causes; out of memory is the one other answer. A text
 //! has exactly one of these answers ([`a_text_has_one_answer`]); [`refusal_is_first`] and
-//! [`a_clean_text_is_a_script`] say the definitions in other words. Only tested, in
+//! [`a_clean_text_is_a_script`] say the definitions in other words. A script that says how many
+//! trampoline slots there are has the same job in each version that accepts it
+//! ([`a_version_changes_no_more_than_limits`]). Only tested, in
 //! `ft_script_tests`: that the largest scripts are read when there is memory, and that reading takes
 //! time in proportion to the bytes.
 #![tactic(auto)]
@@ -24,5 +26,8 @@ mod reader;
 mod script;
 
 pub use faults::{Cause, ScriptFault};
-pub use laws::{a_clean_text_is_a_script, a_text_has_one_answer, refusal_is_first};
+pub use laws::{
+    a_clean_text_is_a_script, a_text_has_one_answer, a_version_changes_no_more_than_limits,
+    refusal_is_first,
+};
 pub use script::read_script;

@@ -35,6 +35,8 @@ pub struct LinedCtl {
 /// What the lines above have declared.
 #[derive(Drop)]
 pub struct Reader {
+    /// The version of the language.
+    version: u8,
     /// How many lines there are above.
     lines: u32,
     /// The rank of the last of them that has one.
@@ -72,11 +74,12 @@ impl Reader {
     ghost use Rattle.ft_script.specs.Within.{IsSmall};
     ghost use Rattle.ft_script.specs.Kept.{above_of};
 
-    /// Nothing is declared above the first line.
+    /// Nothing is declared above the first line, which says the version.
     pub fn new(alloc: Global) -> Reader
         ensures { above_of result ≡ none_above }
     {
         Reader {
+            version: 1,
             lines: 0,
             rank: 0,
             depth: None,

@@ -56,10 +56,16 @@ fn other_first_lines(rt: HostRuntime) -> Result<(), Fail> {
         Cause::Version,
         &[
             ("ftrace 3", 1),
+            ("ftrace 0", 1),
+            ("ftrace", 1),
             ("", 1),
             ("# x; ftrace 1", 1),
+            ("# x; ftrace 2", 1),
             ("ftrace 01", 1),
+            ("ftrace 02", 1),
             ("ftrace 1 1", 1),
+            ("ftrace 2 2", 1),
+            ("ftrace 3; ftrace 2", 1),
         ],
     )
 }
@@ -72,6 +78,12 @@ fn no_form_or_place(rt: HostRuntime) -> Result<(), Fail> {
         Cause::Syntax,
         &[
             ("ftrace 1; ftrace 1", 2),
+            ("ftrace 1; ftrace 2", 2),
+            ("ftrace 2; ftrace 1", 2),
+            ("ftrace 2; ftrace 2", 2),
+            ("ftrace 2; ftrace 3", 2),
+            ("ftrace 2; func a; ftrace 2; func a", 3),
+            ("ftrace 2; tramps 3; tramps 99", 3),
             ("ftrace 1; func a; ftrace 1; func a", 3),
             ("ftrace 1; user f fprobe cancel", 2),
             ("ftrace 1; func 1a", 2),
@@ -141,6 +153,9 @@ fn outside_limits(rt: HostRuntime) -> Result<(), Fail> {
             ("ftrace 1; depth 65", 2),
             ("ftrace 1; depth 0", 2),
             ("ftrace 1; tramps 17", 2),
+            ("ftrace 1; tramps 64", 2),
+            ("ftrace 2; tramps 65", 2),
+            ("ftrace 2; depth 65", 2),
             ("ftrace 1; sched k*0", 2),
             ("ftrace 1; cpu 0 quantum 5; task 10 cpu 0; after 0", 4),
             ("ftrace 1; cpu 0 quantum 5; task 0 cpu 0", 3),
@@ -342,14 +357,16 @@ fn never_ending(rt: HostRuntime) -> Result<(), Fail> {
 }
 
 // Texts whose last line isn't ended, or isn't the one line feed that it has to be.
-static UNENDED: [(&str, u32, Cause); 10] = [
+static UNENDED: [(&str, u32, Cause); 12] = [
     ("", 1, Cause::Version),
     ("ftrace 1", 1, Cause::Syntax),
+    ("ftrace 2", 1, Cause::Syntax),
     ("ftrace 3", 1, Cause::Syntax),
     ("ftrace 1\nfunc a", 2, Cause::Syntax),
     ("ftrace 1\n# x", 2, Cause::Syntax),
     ("ftrace 1\n ", 2, Cause::Syntax),
     ("ftrace 1\nfunc a\nfunc a", 3, Cause::Syntax),
+    ("ftrace 2\ntramps 65", 2, Cause::Syntax),
     (
         "ftrace 1\nfunc a\ncpu 0 quantum 5\ntask 10 cpu 0\ncall a\nret",
         6,
@@ -371,9 +388,11 @@ fn without_line_feeds(rt: HostRuntime) {
     }
 }
 
-static ACCEPTED: [&str; 33] = [
+static ACCEPTED: [&str; 38] = [
     "ftrace 1",
     " \tftrace\t1  ",
+    "ftrace 2",
+    "  ftrace \t2\t",
     "ftrace 1; func aaaaaaaaaaaaaaaaaaaaaaaaaaaaaaaaaaaaaaaaaaaaaaaaaaaaaaaaaaaaaaa",
     "ftrace 1; cpu 0 quantum 5; sched 0*2",
     "ftrace 1; cpu 0 quantum 5; sched all*2000000",
@@ -389,6 +408,9 @@ static ACCEPTED: [&str; 33] = [
     "ftrace 1; depth 3",
     "ftrace 1; tramps 16; depth 64",
     "ftrace 1; tramps 0",
+    "ftrace 2; tramps 17",
+    "ftrace 2; tramps 64; depth 64",
+    "ftrace 2; func a; func b; user t function call b; cpu 0 quantum 5; task 10 cpu 0; after 2; call a; ret; ctl filter t > a; ctl register t",
     "ftrace 1; user t function; user v function",
     "ftrace 1; user t graph; user u profile; user v fprobe; user w fprobe exit; user x fprobe exit cancel",
     "ftrace 1; user t function regs; user u function pid",

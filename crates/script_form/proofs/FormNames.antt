@@ -9,7 +9,7 @@ use Rattle.script_form.specs.Forms.{LineForm}
 use Rattle.script_form.specs.Lines.{form_of}
 use Rattle.script_form.specs.Read.{form_read}
 use Rattle.script_form.specs.Names.{is_name_or_none, IsWellNamed}
-use Rattle.script_form.specs.Grammar.{is_ipmodify, HasForm, nothing, a_version, a_function, a_module_function, a_depth, some_tramps, a_user, a_cpu, a_task, a_call, a_ret, a_softirq, an_irq, an_nmi, an_iret, an_after, a_register, an_unregister, a_write, an_append, a_clear, only_pids, other_pids, an_enable, a_disable, a_max_depth, an_until, a_schedule}
+use Rattle.script_form.specs.Grammar.{is_ipmodify, HasForm, nothing, first_version, second_version, a_function, a_module_function, a_depth, some_tramps, a_user, a_cpu, a_task, a_call, a_ret, a_softirq, an_irq, an_nmi, an_iret, an_after, a_register, an_unregister, a_write, an_append, a_clear, only_pids, other_pids, an_enable, a_disable, a_max_depth, an_until, a_schedule}
 use Rattle.script_form.proofs.GrammarRules.{form_of-rule}
 
 replaces : (kind : Kind) (ipmodify : Option Word) → is_ipmodify kind ipmodify ≡ true → is_name_or_none ipmodify ≡ true
@@ -22,7 +22,8 @@ replaces (Fprobe exit cancel) (Some function) is = absurd (cc)
 -- so by each rule of the grammar
 well-named : {words : List Word} {form : LineForm} → HasForm words form → IsWellNamed form
 well-named nothing = tt
-well-named a_version = tt
+well-named first_version = tt
+well-named second_version = tt
 well-named (a_function name is) = (is, refl)
 well-named (a_module_function name owner is are) = (is, are)
 well-named (a_depth word n is) = tt

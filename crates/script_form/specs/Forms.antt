@@ -28,7 +28,7 @@ pub record UserLine : Type 0 where
 -- what a line says: names and numbers are as they are written
 pub data LineForm : Type 0 where
   skip : LineForm  -- blank, or a comment
-  version : LineForm  -- ftrace 1
+  version : (number : ℕ) → LineForm
   func : (name : Word) → (owner : Option Word) → LineForm
   depth : (frames : ℕ) → LineForm
   tramps : (slots : ℕ) → LineForm
@@ -69,9 +69,9 @@ alone form _ = None
 
 -- ---- declarations
 
--- `ftrace 1`
+-- `ftrace 1`, `ftrace 2`
 abbrev pub version_form : List Word → Option LineForm
-version_form (n ∷ []) = if bytes_eq n (codes "1") then Some version else None
+version_form (n ∷ []) = if bytes_eq n (codes "1") then Some (version 1) else (if bytes_eq n (codes "2") then Some (version 2) else None)
 version_form _ = None
 
 -- `func NAME`, `func NAME MODULE`

@@ -73,7 +73,8 @@ half_word Notrace = codes "notrace"
 -- the words say this
 pub data HasForm : List Word → LineForm → Type 0 where
   nothing : HasForm [] skip
-  a_version : HasForm (codes "ftrace" ∷ codes "1" ∷ []) version
+  first_version : HasForm (codes "ftrace" ∷ codes "1" ∷ []) (version 1)
+  second_version : HasForm (codes "ftrace" ∷ codes "2" ∷ []) (version 2)
   a_function : (name : Word) → is_name name ≡ true → HasForm (codes "func" ∷ name ∷ []) (func name None)
   a_module_function : (name owner : Word) → is_name name ≡ true → is_name owner ≡ true → HasForm (codes "func" ∷ name ∷ owner ∷ []) (func name (Some owner))
   a_depth : (word : Word) (n : ℕ) → number_of word ≡ Some n → HasForm (codes "depth" ∷ word ∷ []) (depth n)

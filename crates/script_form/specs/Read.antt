@@ -27,7 +27,7 @@ user_read line = record {
 -- what a line says
 abbrev pub form_read : FormRead → LineForm
 form_read Skip = skip
-form_read Version = version
+form_read (Version number) = version number
 form_read (Func name owner) = func name.now (option_copied owner)
 form_read (Depth frames) = depth frames
 form_read (Tramps slots) = tramps slots

@@ -32,8 +32,10 @@ pub struct UserLine<'a> {
 pub enum LineForm<'a> {
     /// Nothing: a blank line, or a comment.
     Skip,
-    /// `ftrace 1`.
-    Version,
+    /// `ftrace 1` or `ftrace 2`: the script is in this version of the language.
+    Version {
+        number: u8,
+    },
     /// There is a function, and the module that it belongs to, if any.
     Func {
         name: &'a str,

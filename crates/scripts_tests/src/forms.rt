@@ -14,6 +14,7 @@ const GOOD_LINES: &str = "\
  \t# \u{e4}\x01 call
 ftrace 1
 \tftrace \t 1\t
+ftrace 2
 func f
 func func func
 func _.9 ext3
@@ -85,9 +86,13 @@ const BAD_LINES: &str = "\
 a # b
 \x01 #
 ftrace
+ftrace 0
 ftrace 01
-ftrace 2
+ftrace 02
+ftrace 3
+ftrace 12
 ftrace 1 1
+ftrace 2 1
 Ftrace 1
 func
 func 9
@@ -247,7 +252,8 @@ fn reads_declarations_and_acts(rt: HostRuntime) -> Result<(), Fail> {
         &rt,
         &[
             ("# a comment", LineForm::Skip),
-            ("ftrace 1", LineForm::Version),
+            ("ftrace 1", LineForm::Version { number: 1 }),
+            (" ftrace\t2 ", LineForm::Version { number: 2 }),
             (
                 "func read",
                 LineForm::Func {

@@ -30,7 +30,7 @@ impl Reader {
         ensures { result ≡ is_out_of_place (above_of self.now) (form_read form.now) }
     {
         match form {
-            LineForm::Version => true,
+            LineForm::Version { .. } => true,
             LineForm::Depth { .. } => self.depth.is_some(),
             LineForm::Tramps { .. } => self.tramps.is_some(),
             LineForm::NewCpu { cpu, .. } => *cpu != self.quanta.len() as u64,
@@ -237,7 +237,7 @@ impl Reader {
         }
         if self.lines == 0 {
             return Ok(match form {
-                Some(LineForm::Version) => None,
+                Some(LineForm::Version { .. }) => None,
                 _ => Some(Cause::Version),
             });
         }

@@ -191,7 +191,11 @@ impl Reader {
         ensures { OnOk result (above_of self.new ≡ declared (above_of self.old) (form_read form.now)) }
     {
         match form {
-            LineForm::Skip | LineForm::Version => Ok(()),
+            LineForm::Skip => Ok(()),
+            LineForm::Version { number } => {
+                self.version = *number;
+                Ok(())
+            }
             LineForm::Func { name, owner } => self.add_func(alloc, name, *owner),
             LineForm::Depth { frames } => {
                 self.add_depth(*frames);

@@ -1,14 +1,16 @@
 //! What a reader that has read all lines gives: whether the script can end, and the parts of its job.
 
-ghost use Rattle.std.specs.Prelude.{◌≡◌, ◌≤◌, map, length, IfOk};
+ghost use Rattle.std.specs.Prelude.{◌≡◌, ◌≤◌, map, length, unwrap_or, IfOk};
+ghost use Rattle.ft_base.specs.Versions.{limits_of};
 ghost use Rattle.user_specs.specs.Plain.{cpu_of, task_of as plan_seen};
 ghost use Rattle.ft_machine.specs.Parts.{tasks_on, cpus_from};
 ghost use Rattle.script_waits.specs.Tasks.{lined_task};
 ghost use Rattle.ft_script.specs.Kept.{control_line};
+ghost use Rattle.ft_script.specs.Holds.{IsAtMost};
 ghost use Rattle.ft_script.specs.Script.{task_of, schedule_of};
 
 use crate::reader::{LinedCtl, Reader};
-use ft_base::limits::{CPUS, TASKS, TRAMPS, USUAL_FRAMES, USUAL_TURNS};
+use ft_base::limits::{CPUS, Limits, TASKS, USUAL_FRAMES, USUAL_TURNS};
 use ft_base::{TaskAct, TaskNo, Turn, Who};
 use ft_machine::{Ctl, JobParts};
 use ft_schedule::Schedule;
@@ -87,6 +89,17 @@ fn cpu_plans(alloc: Global, quanta: &[u32], tasks: &[LinedTask]) -> Result<Vec<C
     Ok(cpus)
 }
 
+/// How many trampoline slots there are in a script of this version, which may say it.
+fn slots(version: u8, said: Option<u32>) -> u8
+    requires { IsAtMost (limits_of version).tramps said }
+    ensures { result ≡ unwrap_or said (limits_of version).tramps }
+{
+    match said {
+        Some(slots) => slots as u8,
+        None => Limits::of(version).tramps,
+    }
+}
+
 /// The lines of control without their numbers.
 fn plain_ctls(alloc: Global, lines: Vec<LinedCtl>) -> Result<Vec<Ctl>, AllocError>
     ensures { IfOk result (λ v. v.items ≡ map (λ c. c.ctl) lines.items) }
@@ -114,7 +127,6 @@ impl Reader {
     ghost use Rattle.ft_machine.specs.Parts.{parts_of};
     ghost use Rattle.script_waits.specs.Tasks.{tracks_of};
     ghost use Rattle.script_waits.specs.Greedy.{IsDeadlock};
-    ghost use Rattle.ft_script.specs.Holds.{IsAtMost};
     ghost use Rattle.ft_script.specs.Kept.{above_of, AreParts};
     ghost use Rattle.ft_script.specs.Script.{control_of};
 
@@ -130,11 +142,12 @@ impl Reader {
     pub fn into_parts(self, alloc: Global) -> Result<JobParts, AllocError>
         requires cpus { length self.quanta.items ≤ CPUS }
         requires tasks { length self.tasks.items ≤ TASKS }
-        requires tramps { IsAtMost TRAMPS self.tramps }
+        requires tramps { IsAtMost (limits_of self.version).tramps self.tramps }
         ensures { IfOk result (λ p. AreParts (parts_of p) (above_of self)) }
     {
         let cpus = cpu_plans(alloc, self.quanta.as_slice(), self.tasks.as_slice())?;
         let Reader {
+            version,
             lines: _,
             rank: _,
             depth,
@@ -155,10 +168,11 @@ impl Reader {
         let ctls = plain_ctls(alloc, ctls)?;
         let schedule = schedule(turns)?;
         Ok(JobParts {
+            version,
             table: functions,
             specs: users,
             frames: depth.unwrap_or(USUAL_FRAMES),
-            tramps: tramps.unwrap_or(TRAMPS) as u8,
+            tramps: slots(version, tramps),
             cpus,
             ctls,
             schedule,

@@ -5,9 +5,7 @@ use crate::form::{
     is_big, is_full, is_long, is_long_or_none,
 };
 use crate::reader::Reader;
-use ft_base::limits::{
-    ACTS, COMMANDS, CPUS, FUNCS, GRAPH_DEPTH, ITEMS, LEVELS, TASKS, TRAMPS, UNTILS, USERS,
-};
+use ft_base::limits::{ACTS, COMMANDS, CPUS, GRAPH_DEPTH, ITEMS, LEVELS, Limits, TASKS, UNTILS};
 use ft_schedule::is_past_limit as is_past_sched_limit;
 use script_form::{LineForm, SchedItem};
 use user_specs::call_bound;
@@ -15,12 +13,20 @@ use user_specs::call_bound;
 impl Reader {
     ghost use Rattle.std.specs.Prelude.{◌≡◌, length};
     ghost use Rattle.std.specs.Option.{option_copied};
+    ghost use Rattle.ft_base.specs.Versions.{limits_of};
     ghost use Rattle.ft_schedule.specs.Causes.{is_past_limit as is_past_sched_limit};
     ghost use Rattle.script_form.specs.Read.{form_read};
     ghost use Rattle.script_form.specs.Forms.{func, new_task, until};
     ghost use Rattle.ft_script.specs.Causes.{is_past_limit, is_full_of_acts, is_full_of_calls, is_full_of_commands, has_no_room};
     ghost use Rattle.ft_script.specs.Within.{IsWithinLimits};
     ghost use Rattle.ft_script.specs.Kept.{above_of};
+
+    /// What differs by version, of what there may be.
+    fn limits(&self) -> Limits
+        ensures { result ≡ limits_of self.now.version }
+    {
+        Limits::of(self.version)
+    }
 
     /// Whether one more act is too many.
     fn is_full_of_acts(&self) -> bool
@@ -41,7 +47,8 @@ impl Reader {
         requires { IsWithinLimits (above_of self.now) }
         ensures { result ≡ has_no_room (above_of self.now) }
     {
-        let bound = u64::from(call_bound(self.users.as_slice()));
+        let levels = u32::from(self.limits().levels);
+        let bound = u64::from(call_bound(self.users.as_slice(), levels));
         is_above(bound * (u64::from(self.calls) + 1), ITEMS)
     }
 
@@ -59,7 +66,7 @@ impl Reader {
     fn is_func_past_limit(&self, name: &str, owner: Option<&str>) -> bool
         ensures { result ≡ is_past_limit (above_of self.now) (func name.now (option_copied owner.entry)) }
     {
-        is_long(name) || is_long_or_none(owner) || self.functions.len() >= FUNCS
+        is_long(name) || is_long_or_none(owner) || self.functions.len() >= self.limits().funcs
     }
 
     /// Whether the line of a task is past a limit.
@@ -91,11 +98,13 @@ impl Reader {
         ensures { result ≡ is_past_limit (above_of self.now) (form_read form.now) }
     {
         match form {
-            LineForm::Skip | LineForm::Version => false,
+            LineForm::Skip | LineForm::Version { .. } => false,
             LineForm::Func { name, owner } => self.is_func_past_limit(name, *owner),
             LineForm::Depth { frames } => is_bad_depth(*frames),
-            LineForm::Tramps { slots } => is_above(*slots, TRAMPS),
-            LineForm::User(user) => has_long_name(user) || is_full(self.users.len(), USERS),
+            LineForm::Tramps { slots } => is_above(*slots, u32::from(self.limits().tramps)),
+            LineForm::User(user) => {
+                has_long_name(user) || is_full(self.users.len(), self.limits().users)
+            }
             LineForm::NewCpu { quantum, .. } => {
                 is_bad_quantum(*quantum) || is_full(self.quanta.len(), CPUS)
             }

@@ -160,12 +160,14 @@ fn numbered_at_most(
 
 #[test]
 fn functions(rt: HostRuntime) -> Result<(), Fail> {
-    numbered_at_most(&rt, rt.alloc(), "ftrace 1\n", "func f", "", 1024, 1026)
+    numbered_at_most(&rt, rt.alloc(), "ftrace 1\n", "func f", "", 1024, 1026)?;
+    numbered_at_most(&rt, rt.alloc(), "ftrace 2\n", "func f", "", 4096, 4098)
 }
 
 #[test]
 fn users(rt: HostRuntime) -> Result<(), Fail> {
-    numbered_at_most(&rt, rt.alloc(), "ftrace 1\n", "user u", " graph", 16, 18)
+    numbered_at_most(&rt, rt.alloc(), "ftrace 1\n", "user u", " graph", 16, 18)?;
+    numbered_at_most(&rt, rt.alloc(), "ftrace 2\n", "user u", " graph", 64, 66)
 }
 
 #[test]
@@ -174,29 +176,55 @@ fn tasks(rt: HostRuntime) -> Result<(), Fail> {
     numbered_at_most(&rt, rt.alloc(), first, "task ", " cpu 0", 64, 67)
 }
 
-/// With 16 users that call a function, the bound for one call is 6548 items, and 611 calls could make
-/// more than 4000000.
+/// With 16 users that call a function, the bound for one call is 6548 items in version 1, and 611 calls
+/// could make more than 4000000. In version 2 it is 1677716 items, and 3 calls could.
 #[test]
 fn items_of_calls(rt: HostRuntime) -> Result<(), Fail> {
-    let first = with_16_users(rt.alloc())?;
-    at_most(
-        &rt,
-        rt.alloc(),
-        first.as_str(),
-        "call a\nret\n",
-        "",
-        610,
-        1241,
-    )?;
+    let first = with_16_users(rt.alloc(), "ftrace 1\nfunc a\n")?;
+    let line = "call a\nret\n";
+    at_most(&rt, rt.alloc(), first.as_str(), line, "", 610, 1241)?;
+    let first = with_16_users(rt.alloc(), "ftrace 2\nfunc a\n")?;
+    at_most(&rt, rt.alloc(), first.as_str(), line, "", 2, 25)?;
     Ok(())
 }
 
 /// A script of a task and 16 users that call a function.
-fn with_16_users(alloc: Global) -> Result<String, AllocError> {
-    let mut text = String::from_str(alloc, "ftrace 1\nfunc a\n")?;
+fn with_16_users(alloc: Global, first: &str) -> Result<String, AllocError> {
+    let mut text = String::from_str(alloc, first)?;
     put_all_numbered(&mut text, "user u", " function call a", 16)?;
     text.push_str("cpu 0 quantum 5\ntask 10 cpu 0\n")?;
     Ok(text)
+}
+
+/// A script of 17 users, each with a function of its own.
+fn with_17_users(alloc: Global, first: &str) -> Result<String, AllocError> {
+    let mut text = String::from_str(alloc, first)?;
+    for number in 0..17 {
+        writeln!(&mut text, "func f{number}")?;
+    }
+    for number in 0..17 {
+        writeln!(&mut text, "user u{number} function")?;
+    }
+    for number in 0..17 {
+        writeln!(&mut text, "ctl filter u{number} > f{number}")?;
+        writeln!(&mut text, "ctl register u{number}")?;
+    }
+    Ok(text)
+}
+
+/// Why such a script is refused.
+fn fault_of_17_users(alloc: Global, first: &str) -> Result<Option<ScriptFault>, AllocError> {
+    let text = with_17_users(alloc, first)?;
+    Ok(fault_of(alloc, text.as_str()))
+}
+
+#[test]
+fn more_users_in_version_2(rt: HostRuntime) -> Result<(), Fail> {
+    let fault = fault_of_17_users(rt.alloc(), "ftrace 2\n")?;
+    assert!(rt; fault.is_none());
+    let fault = fault_of_17_users(rt.alloc(), "ftrace 1\n")?;
+    assert!(rt; fault == too_many(35));
+    Ok(())
 }
 
 /// Only an act looks for the next act of its task. If each line below the open call did, it would take

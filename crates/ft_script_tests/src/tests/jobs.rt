@@ -74,6 +74,32 @@ fn reads_a_job(rt: HostRuntime) -> Result<(), Fail> {
     Ok(())
 }
 
+// A script, its version, and how many trampoline slots there are.
+static VERSIONS: [(&str, u8, u8); 5] = [
+    ("ftrace 1\n", 1, 16),
+    ("ftrace 2\n", 2, 64),
+    ("ftrace 1\ntramps 3\n", 1, 3),
+    ("ftrace 2\ntramps 3\n", 2, 3),
+    ("ftrace 2\ntramps 64\n", 2, 64),
+];
+
+/// Whether the script's version and its slots are these.
+fn has_slots(alloc: Global, script: &str, version: u8, slots: u8) -> Result<bool, Fail> {
+    let job = job_of(alloc, script)?;
+    Ok(job.version() == version && job.tramps() == slots)
+}
+
+#[test]
+fn reads_versions(rt: HostRuntime) -> Result<(), Fail> {
+    for (script, version, slots) in VERSIONS.iter() {
+        assert!(rt;
+            has_slots(rt.alloc(), script, *version, *slots)?,
+            "{script}"
+        );
+    }
+    Ok(())
+}
+
 const DECLARED: &str =
     "ftrace 1\nfunc a\nfunc b\nfunc c\ntramps 2\ndepth 3\nuser t function regs ipmodify b\nuser g graph pid call c\nuser p fprobe exit irq a\ncpu 0 quantum 5\ntask 10 cpu 0\nsoftirq\ncall c\nret\niret\ntask 11 cpu 0\nirq\niret\n";
 

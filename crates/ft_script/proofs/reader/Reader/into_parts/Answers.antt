@@ -9,10 +9,11 @@ pub returns : goal.returns
 returns c =
     let tasks = c.args.self.tasks.items in
     record {
+      version = refl;
       functions = refl;
       users = refl;
       frames = c.unwrap_or.ensures;
-      tramps = c.unwrap_or-2.ensures;
+      tramps = c.slots.ensures;
       cpus = rw (c.as_slice.ensures.value, c.as_slice-2.ensures.value) at c.in_ok-cpus.ensures;
       ctls = ap (lines_of (length (map lined_task tasks))) c.in_ok-ctls.ensures
           ∙ ap (λ n. lines_of n (map (λ x. x.ctl) c.args.self.ctls.items)) (mapped_length lined_task tasks)
