@@ -6,7 +6,7 @@ use Rattle.atomic_table.specs.Table.{Me}
 use Rattle.ft_base.specs.declared.item.Item.{Item}
 use Rattle.ft_base.specs.Job.{Job, commands}
 use Rattle.ft_hist.specs.Shown.{Shown}
-use Rattle.user_specs.specs.Bound.{call_bound_of}
+use Rattle.user_specs.specs.Bound.{call_bound_in}
 use Rattle.history_bound.specs.Bound.{all_calls}
 use Rattle.word_map.specs.Places.{len}
 use Rattle.word_map.specs.Shapes.{shape_of}
@@ -106,7 +106,7 @@ module _ (job : Job) (w : Parts) (k : IsFor job w) (e : world_of job w ≡ start
   blank : w.history.items ≡ []
   blank = sym (reverse-reverse w.history.items) ∙ ap (λ (past : List Item). reverse past) none-yet
 
-  space : 2 * length (commands job) + call_bound_of job.users * all_calls job.tasks ≤ w.history.spare
+  space : 2 * length (commands job) + call_bound_in job * all_calls job.tasks ≤ w.history.spare
   space = let room = k.room in let none = ap length blank in omega (arith, room, none)
 
   -- ## the table and its seats

@@ -1,6 +1,6 @@
 -- All seats together: what their actors have marked is the history of which the rule speaks.
 use Rattle.std.proofs.Common.{◌≡◌, ℕ, zero, suc, ◌+◌, ◌*◌, ◌<◌, ◌≤◌, List, [], ◌∷◌, ◌++◌, length, map, reverse, slice_get, Some, None, refl, sym, ap, ◌∙◌, subst, arith}
-use Rattle.std.proofs.lemmas.List.{reverse-reverse}
+use Rattle.std.proofs.lemmas.List.{length-reverse, reverse-reverse}
 use Rattle.std.proofs.lemmas.Option.{same_Some}
 use mathlib.Core.Option.{some}
 use lib.ListN.{get_elem?}
@@ -11,7 +11,7 @@ use Rattle.ft_base.specs.declared.turn.Actor.TheVariants.{Control as ByControl}
 use Rattle.ft_base.specs.Job.{Job, commands}
 use Rattle.ft_hist.specs.Placing.{ArePlaced, past_below, total}
 use Rattle.ft_hist.specs.Rules.{IsLegal, IsLegalPast, IsWhole}
-use Rattle.user_specs.specs.Bound.{call_bound_of}
+use Rattle.user_specs.specs.Bound.{call_bound_in}
 use Rattle.history_bound.specs.Bound.{all_calls}
 use Rattle.history_bound.proofs.Bounded.{history-most}
 use Rattle.word_machine.specs.Control.{control_next}
@@ -68,13 +68,14 @@ pub always-legal : IsAlwaysLegal
 always-legal job t r = (r.runs.kept, legal-turned job r.past r.runs.kept.legal)
 
 -- What the seats of a table have marked, once all are joined.
---   placed   each place has one item
+--   placed   each place of the history has one item
 --   few      there are no more items than the job can make
 --   legal    the history is legal
 --   whole'   it is whole, if each seat is at its end
 pub record Gathered (job : Job) (control : ControlPlace) (cpus : List CpuPlace) : Type 0 where
   pub placed : ArePlaced (total (lists_at control cpus)) (lists_at control cpus)
-  pub few : total (lists_at control cpus) ≤ 2 * length (commands job) + call_bound_of job.users * all_calls job.tasks
+  pub as_many : length (history_of control cpus) ≡ total (lists_at control cpus)
+  pub few : total (lists_at control cpus) ≤ 2 * length (commands job) + call_bound_in job * all_calls job.tasks
   pub legal : IsLegal job (history_of control cpus)
   pub whole' : AreAtEnd control cpus → IsWhole job (history_of control cpus)
 
@@ -127,6 +128,7 @@ module _ {S : Type 0} (b : Board) (control : ControlPlace) (cpus : List CpuPlace
   all-gathered : Gathered b.job control cpus
   all-gathered = record {
     placed = subst (λ n. ArePlaced n (lists_at control cpus)) (sym many) placed-past;
+    as_many = ap (λ (items : List Item). length items) history-is ∙ length-reverse r.past ∙ sym many;
     few = (let most = history-most b.job r.past r.runs.kept.legal in let e = many in omega (arith, most, e));
     legal = subst (IsLegal b.job) (sym history-is) (legal-turned b.job r.past r.runs.kept.legal);
     whole' = λ over. subst (IsWhole b.job) (sym history-is)

@@ -7,7 +7,7 @@ use Rattle.ft_base.specs.declared.item.Stamped.{Stamped}
 use Rattle.ft_base.specs.Job.{Job, commands}
 use Rattle.ft_hist.specs.Placing.{by_place}
 use Rattle.ft_hist.specs.Shown.{Shown}
-use Rattle.user_specs.specs.Bound.{call_bound_of}
+use Rattle.user_specs.specs.Bound.{call_bound_in}
 use Rattle.history_bound.specs.Bound.{all_calls}
 use Rattle.word_map.specs.Places.{len}
 use Rattle.word_map.specs.Shapes.{shape_of}
@@ -39,7 +39,7 @@ pub record IsTable (b : Board) (room : Shown) : Type 0 where
   pub words : b.table_id.words ≡ len (shape_of b.job)
   pub slots : b.table_id.slots ≡ 0
   pub empty : room.items ≡ []
-  pub space : 2 * length (commands b.job) + call_bound_of b.job.users * all_calls b.job.tasks ≤ room.spare
+  pub space : 2 * length (commands b.job) + call_bound_in b.job * all_calls b.job.tasks ≤ room.spare
 
 -- ## seats
 

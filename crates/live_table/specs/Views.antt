@@ -5,7 +5,7 @@ use Rattle.ft_base.specs.declared.item.Item.{Item}
 use Rattle.ft_base.specs.declared.item.Stamped.{Stamped}
 use Rattle.ft_base.specs.declared.turn.Actor.{Actor}
 use Rattle.ft_base.specs.declared.turn.Actor.TheVariants.{Control as ByControl, Cpu as ByCpu}
-use Rattle.ft_base.specs.Job.{Job}
+use Rattle.ft_base.specs.Job.{usual_lines, usual_rings, Job}
 use Rattle.ft_hist.specs.Placing.{AreCounted}
 use Rattle.word_map.specs.Contents.{low}
 use Rattle.word_map.specs.Ops.{WordOp, Mark}
@@ -38,7 +38,7 @@ cpu_view job c values = view job 0 (part (cpu c) values ∷ [])
 
 -- a job of nobody
 abbrev pub no_job : Job
-no_job = record { functions = []; users = []; frames = 0; tramps = 0; quanta = []; tasks = []; ctls = []; schedule = [] }
+no_job = record { version = 1; functions = []; users = []; frames = 0; tramps = 0; quanta = []; tasks = []; ctls = []; lines = usual_lines; rings = usual_rings; schedule = [] }
 
 -- the view of a seat that has joined another
 abbrev pub spent : View

@@ -2,7 +2,7 @@
 
 ghost use Rattle.std.specs.Prelude.{◌≡◌, ◌+◌, ◌<◌, ◌≤◌, [], ◌∷◌, length, vec_capacity, IfErr, IfOk};
 ghost use Rattle.ft_base.specs.declared.turn.Actor.TheVariants as Actor;
-ghost use Rattle.ft_hist.specs.Placing.{items_of};
+ghost use Rattle.ft_hist.specs.Placing.{ArePlaced, items_of};
 ghost use Rattle.ft_hist.specs.Rules.{IsLegal, IsWhole};
 ghost use Rattle.machine_core.specs.Starts.{AreFirst, IsFirst};
 ghost use Rattle.live_table.specs.Seats.{AreAtEnd, AreNew, AreSeats, ControlSitsAt, IsDealt, IsNewCpu, IsOpen, SitsAt, history_of, lists_at, parts_of};
@@ -170,8 +170,9 @@ impl Live {
         Going::More
     }
 
-    /// What the seats' actors have marked, by place; the table and the seats are used up. All memory is
-    /// taken before any seat is joined, and the fault says that it ran out.
+    /// What the seats' actors have marked, each item at its place, and one at each place; the table and
+    /// the seats are used up. All memory is taken before any seat is joined, and the fault says that it
+    /// ran out.
     pub fn gather(
         self,
         alloc: Global,
@@ -181,6 +182,7 @@ impl Live {
         requires control { ControlSitsAt self control }
         requires cpus { AreSeats self cpus.items }
         ensures items { IfOk result (λ h. h.items ≡ history_of control cpus.items) }
+        ensures placed { IfOk result (λ h. ArePlaced (length h.items) (lists_at control cpus.items)) }
         ensures legal { IfOk result (λ h. IsLegal self.job h.items) }
         ensures whole { IfOk result (λ h. AreAtEnd control cpus.items → IsWhole self.job h.items) }
         ensures fault { IfErr result (λ e. (e.live ≡ self) × (e.control ≡ control) × (e.cpus.items ≡ cpus.items)) }

@@ -1,10 +1,12 @@
 -- The rule held to the end, so what the seats have marked is the history of which it spoke.
-use Rattle.std.proofs.Common.{sym, ap, ◌∙◌, ◌+◌, ◌*◌, length, subst, arith}
+use Rattle.std.proofs.Common.{sym, ap, ◌∙◌, ◌+◌, ◌*◌, List, length, subst, arith}
+use Rattle.ft_base.specs.declared.item.Item.{Item}
 use Rattle.ft_base.specs.Job.{Job, commands}
 use Rattle.ft_hist.specs.Placing.{ArePlaced, by_place, total}
 use Rattle.ft_hist.specs.Rules.{IsLegal, IsWhole}
-use Rattle.user_specs.specs.Bound.{call_bound_of}
+use Rattle.user_specs.specs.Bound.{call_bound_in}
 use Rattle.history_bound.specs.Bound.{all_calls}
+use Rattle.live_table.specs.Seats.{lists_at}
 use Rattle.live_table.proofs.Gathering.{Gathered, gathered}
 use Rattle.live_table.proofs.live.Live.gather.Goals as goal
 use Rattle.live_table.proofs.live.Live.gather.Goals.{After-settle}
@@ -22,13 +24,19 @@ pub merge-requires-clause-space : goal.merge-requires-clause-space
 merge-requires-clause-space c =
     let few = (all (goal.at.merge-requires-clause-space c).After-settle).few in
     let space = c.self.invariant.space in
-    let same = ap (λ (j : Job). 2 * length (commands j) + call_bound_of j.users * all_calls j.tasks) (ap (λ b. b.job) c.self.view_is) in
+    let same = ap (λ (j : Job). 2 * length (commands j) + call_bound_in j * all_calls j.tasks) (ap (λ b. b.job) c.self.view_is) in
     let many = ap total c.join_all-seat.ensures.lists in
     omega (arith, few, space, same, many)
 
 pub merge-requires-clause-places : goal.merge-requires-clause-places
 merge-requires-clause-places c =
     subst (λ ls. ArePlaced (total ls) ls) (sym c.join_all-seat.ensures.lists) (all (goal.at.merge-requires-clause-places c).After-settle).placed
+
+pub returns-clause-placed : goal.returns-clause-placed
+returns-clause-placed c =
+    let same = c.merge.ensures ∙ ap by_place c.join_all-seat.ensures.lists in
+    let has = all (goal.at.returns-clause-placed c).After-settle in
+    subst (λ n. ArePlaced n (lists_at c.args.control c.args.cpus.items)) (sym (ap (λ (items : List Item). length items) same ∙ has.as_many)) has.placed
 
 pub returns-clause-legal : goal.returns-clause-legal
 returns-clause-legal c =
