@@ -172,6 +172,11 @@ def script(*parts):
     return "".join(line + "\n" for line in lines).encode()
 
 
+def in_version_2(make):
+    """The same, in version 2."""
+    return lambda *words: make(*words).replace(b"ftrace 1", b"ftrace 2", 1)
+
+
 def functions(count):
     """With the longest names; the first and the last one are called."""
     names = [f"f{number:0{forms.NAME_BYTES - 1}}" for number in range(count)]
@@ -213,12 +218,17 @@ def levels_in_contexts(count):
     return script(FUNCTION, TASK, up, down)
 
 
-def calls(count):
-    """Each is told to the most users, which all make a call in an interrupt. The longest history of these scripts."""
-    names = [f"u{number}" for number in range(forms.USERS)]
-    lines = [f"user {name} graph irq a" for name in names]
+def calls(count, acts=("irq", "irq")):
+    """Each is told to as many users as version 1 allows, which all make a call in an interrupt. The longest history of these scripts."""
+    names = [f"u{number}" for number in range(forms.VERSION_1.users)]
+    lines = [f"user {name} graph {acts[number % 2]} a" for number, name in enumerate(names)]
     registered = [f"ctl register {name}" for name in names]
-    return script(FUNCTION, lines, TASK, f"after {forms.USERS}", CALL * count, registered, f"sched all*{forms.STEPS // 2}")
+    return script(FUNCTION, lines, TASK, f"after {len(names)}", CALL * count, registered, f"sched all*{forms.STEPS // 2}")
+
+
+def nested_calls(count):
+    """In version 2, and every other user makes its call in the context that it is called in: acts nest as deep as two guards have levels."""
+    return in_version_2(calls)(count, ("call", "irq"))
 
 
 def commands(count):
@@ -353,13 +363,13 @@ def turn_by_turn(count):
 
 
 def large(count):
-    """The script of docs/BENCH.md: the most functions, CPUs and commands, too many for a schedule, and this many calls on each CPU."""
-    lines = ["ftrace 1"] + [f"func f{number}" for number in range(forms.FUNCS)] + ["user tr function"]
+    """The script of docs/BENCH.md: the most functions of version 1, CPUs and commands, too many for a schedule, and this many calls on each CPU."""
+    lines = ["ftrace 1"] + [f"func f{number}" for number in range(forms.VERSION_1.funcs)] + ["user tr function"]
     lines += [f"cpu {cpu} quantum {5 + cpu}" for cpu in range(forms.CPUS)]
     for cpu in range(forms.CPUS):
         lines.append(f"task {100 + cpu} cpu {cpu}")
         for number in range(count // 2):
-            lines += [f"call f{(7 * number + cpu) % forms.FUNCS}", f"call f{(3 * number + cpu) % forms.FUNCS}", "ret", "ret"]
+            lines += [f"call f{(7 * number + cpu) % forms.VERSION_1.funcs}", f"call f{(3 * number + cpu) % forms.VERSION_1.funcs}", "ret", "ret"]
     return script(lines, ["ctl register tr", "ctl unregister tr"] * (forms.COMMANDS // 2))
 
 
@@ -376,18 +386,26 @@ class Limit(NamedTuple):
     seconds: float = 0.02  # that the longer run takes; it may take a hundred times as long
 
 
-# the calls that a script may have with the users of `calls`
-CALLS = forms.ITEMS // forms.call_bound([["user", "u", "graph", "irq", "a"]] * forms.USERS)
+def most_calls(version):
+    """The calls that a script may have with the users of `calls`."""
+    return forms.ITEMS // forms.call_bound([["user", "u", "graph", "irq", "a"]] * forms.VERSION_1.users, version)
+
+
+ONE, TWO = forms.VERSION_1, forms.VERSION_2
+CALLS, CALLS_IN_2 = most_calls(ONE), most_calls(TWO)
 
 LIMITS = [
-    Limit("functions", functions, forms.FUNCS, "end", 9, forms.FUNCS + 1, "line 1026: limit"),
-    Limit("users", users, forms.USERS, "end", 69, forms.USERS + 1, "line 19: limit"),
+    Limit("functions", functions, ONE.funcs, "end", 9, ONE.funcs + 1, "line 1026: limit"),
+    Limit("functions, version 2", in_version_2(functions), TWO.funcs, "end", 9, TWO.funcs + 1, "line 4098: limit"),
+    Limit("users", users, ONE.users, "end", 69, ONE.users + 1, "line 19: limit"),
+    Limit("users, version 2", in_version_2(users), TWO.users, "end", 261, TWO.users + 1, "line 67: limit"),
     Limit("CPUs", cpus, forms.CPUS, "end", 33, forms.CPUS + 1, "line 11: limit"),
     Limit("tasks", tasks, forms.TASKS, "end", 257, forms.TASKS + 1, "line 203: limit"),
     Limit("acts", acts, forms.ACTS, "end", 59_991, forms.ACTS + 1, "line 20008: limit"),
     Limit("open calls", levels, forms.LEVELS, "end", 3_073, forms.LEVELS + 1, "line 518: limit"),
     Limit("open calls in all contexts", levels_in_contexts, forms.LEVELS, "end", 2_049, forms.LEVELS + 1, "line 520: limit"),
     Limit("calls beside users that make calls", calls, CALLS, "end", 705_193, CALLS + 1, "line 1242: limit", 0.2),
+    Limit("calls beside users that make calls, version 2", nested_calls, CALLS_IN_2, "end", 276_265, CALLS_IN_2 + 1, "line 26: limit", 0.2),
     Limit("commands", commands, forms.COMMANDS, "end", 2_049, forms.COMMANDS + 1, "line 1028: limit"),
     Limit("until lines", waits, forms.UNTILS, "end", 5, forms.UNTILS + 1, "line 1031: limit"),
     Limit("steps", steps, forms.STEPS, "stopped", 1, forms.STEPS + 1, "line 8: limit"),
@@ -412,7 +430,8 @@ LIMITS = [
     Limit("N of until", until, 1, "end", 5, 0, "line 7: limit"),
     Limit("depth", depth, forms.FRAMES, "end", 5, forms.FRAMES + 1, "line 3: limit"),
     Limit("least depth", depth, 1, "end", 5, 0, "line 3: limit"),
-    Limit("tramps", tramps, forms.TRAMPS, "end", 5, forms.TRAMPS + 1, "line 3: limit"),
+    Limit("tramps", tramps, ONE.tramps, "end", 5, ONE.tramps + 1, "line 3: limit"),
+    Limit("tramps, version 2", in_version_2(tramps), TWO.tramps, "end", 5, TWO.tramps + 1, "line 3: limit"),
     Limit("maxdepth", graph_depth, forms.GRAPH_DEPTH, "end", 7, forms.GRAPH_DEPTH + 1, "line 7: limit"),
     Limit("glob", glob, forms.PATTERN_BYTES, "end", 3, forms.PATTERN_BYTES + 1, "line 4: pattern"),
     # the most bytes, and scripts whose time could grow faster than their size
@@ -460,7 +479,7 @@ FORM_SECONDS = 10  # that a text may take; a body that looks through the history
 
 def nests():
     """Four users of each kind that a form is about, called back in nested calls of the most tasks, which take turns step by step."""
-    users = [f"user u{number} {kind}" for number, kind in enumerate(["function", "graph", "profile", "fprobe exit"] * (forms.USERS // 4))]
+    users = [f"user u{number} {kind}" for number, kind in enumerate(["function", "graph", "profile", "fprobe exit"] * (forms.VERSION_1.users // 4))]
     todo = [f"after {len(users)}"] + (["call a"] * NEST + ["ret"] * NEST) * NESTS
     tasks = [line for number in range(forms.TASKS) for line in [f"task {10 + number} cpu {number % forms.CPUS}", *todo]]
     control = [f"ctl register u{number}" for number in range(len(users))]
@@ -471,7 +490,7 @@ def nests_lines():
     """How many lines that script prints in each form. In a call 16 users are called back, of which 12 have an exit."""
     calls = NEST * NESTS * forms.TASKS
     graph = 1 + (2 * NEST - 1) * NESTS * forms.TASKS  # a heading; the innermost call of a nest has one line
-    return {"log": 2 * forms.USERS + calls * (4 + 2 * 16 + 2 * 12) + 1, "function": 4 * calls + 1, "graph": 4 * graph + 1, "profile": 4 * 2 + 4 + 1, "enabled": 2}
+    return {"log": 2 * forms.VERSION_1.users + calls * (4 + 2 * 16 + 2 * 12) + 1, "function": 4 * calls + 1, "graph": 4 * graph + 1, "profile": 4 * 2 + 4 + 1, "enabled": 2}
 
 
 def text_faults(came, form):
@@ -492,7 +511,7 @@ def check_forms(rows, program):
 # Examples whose waits leave one order of what happens, whoever steps when.
 ORDERED = ["answers", "contexts", "filters", "first_path", "fprobe_cancel", "fprobe_exit", "full_shadow_stack", "graph", "graph_depth"]
 ORDERED += ["interrupted_callback", "ipmodify", "list_then_own", "missed_exit", "nested_calls", "no_trampoline", "profile", "refused_depth"]
-ORDERED += ["refused_recursion", "registered_again", "unregistered_in_call", "until"]
+ORDERED += ["recursion_in_interrupt", "recursion_once", "refused_recursion", "registered_again", "seventeen_users", "unregistered_in_call", "until"]
 RUN_SECONDS = 60  # that a run may take
 
 

@@ -47,7 +47,7 @@ class Ran(NamedTuple):
 def crowded(seed):
     """A script whose CPUs and tasks are as many as there may be, each task with calls of a script of this seed."""
     lines = script_forms.script(seed).decode().splitlines()
-    head = ["ftrace 1"] + [line for line in lines if line.split(" ", 1)[0] in ("func", "depth", "tramps", "user")]
+    head = [" ".join(lines[0].split())] + [line for line in lines if line.split(" ", 1)[0] in ("func", "depth", "tramps", "user")]
     control = [line for line in lines if line.startswith("ctl ") and line.split()[1] not in ("until", "pid", "nopid")]
     names = [line.split()[1] for line in head if line.startswith("func ")] or ["f"]
     if not any(line.startswith("func ") for line in head):
@@ -66,7 +66,7 @@ def text_of(source, seed, reference):
     """The script of this source and seed."""
     if source == "generated":
         size = "medium" if seed % 8 == 7 else "small"
-        return runs.answer([reference, "gen", "--seed", str(seed), "--size", size, "--features", "none"], b"", SECONDS).out
+        return runs.answer([reference, "gen", "--seed", str(seed), "--size", size, "--features", runs.version_features(seed)], b"", SECONDS).out
     return {"plain": script_forms.script, "viewed": viewed_scripts.script, "crowded": crowded}[source](seed)
 
 

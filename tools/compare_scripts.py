@@ -7,11 +7,11 @@ repository. The N scripts of each source have the seeds from S on:
     plain      script_forms.py, scripts that are accepted
     mutated    script_forms.py, slightly broken ones
     viewed     viewed_scripts.py, scripts that most forms have lines of
-    generated  `REFERENCE gen`, each second one through `REFERENCE mutate`
+    generated  `REFERENCE gen`, half of them of version 2, each second one through `REFERENCE mutate`
     stepped    `REFERENCE gen`, with a schedule of single steps in place of its own, which chooses the
                turn of every load and store
 
-Each script goes through `PROGRAM replay --print FORM` and `REFERENCE --machine e2 --features none
+Each script goes through `PROGRAM replay --print FORM` and `REFERENCE --machine e2 --features v2
 replay --print FORM`, for each form of --forms: all five, if it isn't given. They agree exactly if status
 and bytes are the same and PROGRAM writes nothing to standard error.
 
@@ -28,7 +28,7 @@ At the end there is a line for each source: what became of its scripts, and how 
 tells something in each form. `# user U`, an fprobe without hits, and the last line tell nothing.
 
 To try the comparison itself, let PROGRAM be a script that runs
-`REFERENCE --machine e2 --features none "$@"`: then nothing differs.
+`REFERENCE --machine e2 --features v2 "$@"`: then nothing differs.
 """
 import argparse
 import collections
@@ -81,7 +81,7 @@ def commands_of(source, seed, reference):
     if source in SCRIPTS:
         return [written + ["--mutate"] * (source == "mutated")]
     size = "medium" if seed % 8 == 7 else "small"
-    gen = [reference, "gen", "--seed", str(seed), "--size", size, "--features", "none"]
+    gen = [reference, "gen", "--seed", str(seed), "--size", size, "--features", runs.version_features(seed)]
     return [gen, written + ["--step"]] if source == "stepped" else [gen] + [[reference, "mutate", "--seed", str(seed)]] * (seed % 2)
 
 
@@ -121,7 +121,7 @@ def cause_of(ours):
 
 def replaying(reference):
     """The other program, with the machine and the language that are ftcore's."""
-    return [reference, "--machine", "e2", "--features", "none"]
+    return [reference, "--machine", "e2", "--features", "v2"]
 
 
 def words_of(options, source, seed):

@@ -5,10 +5,13 @@ the log has to fit is the script (its commands, tasks, users and functions) and 
 """
 import dataclasses
 import re
+import sys
 from typing import Dict, List, NamedTuple, Optional
 
+sys.dont_write_bytecode = True
+import limits  # noqa: E402
+
 REFUSAL = re.compile(r"line [0-9]+: [a-z]+")
-SLOTS = 16  # of trampolines, if the script doesn't say how many
 
 # How many words each item has after its place and its name.
 WORDS = {"begin": (1,), "return": (2, 4), "enter": (4,), "back": (2,), "back-end": (2,), "refuse": (3,), "miss": (2,)}
@@ -75,8 +78,10 @@ class History(NamedTuple):
 
 def read_script(text):
     """What the script with these bytes declares."""
-    script, slots = Script([], SLOTS, [], {}, []), SLOTS
-    for number, line in enumerate(text.decode("latin-1").split("\n"), 1):
+    lines = text.decode("latin-1").split("\n")
+    slots = limits.version_of(lines[0].split()).tramps  # if the script doesn't say how many
+    script = Script([], slots, [], {}, [])
+    for number, line in enumerate(lines, 1):
         words = line.split()
         try:
             if words[:1] == ["func"]:

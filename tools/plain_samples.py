@@ -298,8 +298,8 @@ class Script:
         fields = 'record { name = codes "%s"; kind = %s; regs = %s; ipmodify = %s; pid = %s; act = %s }'
         users = listed(fields % u for u in self.users)
         tasks = listed(f"record {{ pid = {p}; cpu = {c}; acts = {listed(a)} }}" for p, c, a in self.tasks)
-        head = f"functions = {funcs}; users = {users}; frames = {self.depth}; tramps = {self.tramps}; quanta = {listed(self.quanta)}"
-        return f"record {{ {head}; tasks = {tasks}; ctls = {listed(self.ctls)}; schedule = {listed(self.turns)} }}"
+        head = f"version = 1; functions = {funcs}; users = {users}; frames = {self.depth}; tramps = {self.tramps}; quanta = {listed(self.quanta)}"
+        return f"record {{ {head}; tasks = {tasks}; ctls = {listed(self.ctls)}; lines = usual_lines; rings = usual_rings; schedule = {listed(self.turns)} }}"
 
     def call(self, word):
         if word == "-":
@@ -362,7 +362,7 @@ use Rattle.ft_base.specs.declared.user.Kind.TheVariants.{Graph, Function, Fprobe
 use Rattle.ft_base.specs.declared.user.Act.TheVariants.{CallIn, IrqIn}
 use Rattle.ft_base.specs.declared.task.TaskAct.TheVariants.{Call, Ret as RetAct, After, Raise, Lower}
 use Rattle.ft_base.specs.declared.turn.Who.TheVariants.{Control as OfControl, Cpu as OfCpu, All}
-use Rattle.ft_base.specs.Job.{Job, Register, Unregister, Filter, Notrace, Enable, Disable, Pid, NoPid, MaxDepth, Run, Until}
+use Rattle.ft_base.specs.Job.{Job, usual_lines, usual_rings, Register, Unregister, Filter, Notrace, Enable, Disable, Pid, NoPid, MaxDepth, Run, Until}
 use Rattle.ft_base.specs.Desk.{desk}
 use Rattle.ft_base.specs.Schedule.{actors_of, repeated}
 use Rattle.plain_machine.specs.State.{start, played, play, all_end, step, whole}

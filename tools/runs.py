@@ -34,6 +34,11 @@ def answer(command, text=b"", seconds=SECONDS, **how):
         return Answer(None, b"", str(error).encode(), time.monotonic() - begun)
 
 
+def version_features(seed):
+    """The features with which the other program generates a script of this seed: every third and fourth one is of version 2."""
+    return "v2" if seed // 2 % 2 else "none"
+
+
 def brief(text):
     """The first bytes of a text, on one line."""
     return repr(text[:60])[1:] + (f" and so on, {len(text)} bytes" if len(text) > 60 else "")

@@ -1,47 +1,52 @@
 #!/usr/bin/env python3
-"""Writes a random script of any form, to standard output.
+"""Writes a random script of any form, of either version of the language, to standard output.
 
     script_forms.py --seed N                   a script that is accepted
     script_forms.py --seed N --mutate          a slightly broken variant, of which some are still accepted
     script_forms.py --seed N --step < SCRIPT   that script, with a schedule of single steps in place of its own
 
-One seed gives one script. compare_scripts.py and check_program.py take `script` and `mutated` from here.
+One seed gives one script. The limits are those of crates/ft_base/src/limits.rt. compare_scripts.py and
+check_program.py take `script` and `mutated` from here.
 """
 import argparse
 import random
 import sys
 
-# The ranks of the lines and the limits, as docs/LANGUAGE.md has them.
+sys.dont_write_bytecode = True
+import limits  # noqa: E402
+from limits import LIMITS, VERSION_1, VERSION_2, VERSIONS  # noqa: E402
+
+# The ranks of the lines, as docs/LANGUAGE.md has them.
 RANKS = {"ftrace": 0, "func": 1, "depth": 2, "tramps": 2, "user": 3, "cpu": 4, "ctl": 6, "sched": 7}
 CONTEXTS = ["normal", "softirq", "irq", "nmi"]  # each of the last three interrupts those before it
 ACT_WORDS = ["call", "ret", "after", *CONTEXTS[1:], "iret"]
 RANKS.update(dict.fromkeys(["task", *ACT_WORDS], 5))
-FUNCS = 1_024
-USERS = 16
-CPUS = 8
-TASKS = 64
-COMMANDS = 1_024
-UNTILS = 1_024
-ACTS = 20_000
-LEVELS = 512
-ITEMS = 4_000_000  # that the calls may make, by `call_bound`
-STEPS = 4_000_000
-QUANTUM = 1_000_000
-PID = 4_194_304
+
+# The limits that the program has, but for those that differ by version.
+CPUS = LIMITS["CPUS"]
+TASKS = LIMITS["TASKS"]
+COMMANDS = LIMITS["COMMANDS"]
+UNTILS = LIMITS["UNTILS"]
+ACTS = LIMITS["ACTS"]
+LEVELS = LIMITS["LEVELS"]
+ITEMS = LIMITS["ITEMS"]  # that the calls may make, by `call_bound`
+STEPS = LIMITS["STEPS"]
+QUANTUM = LIMITS["QUANTUM"]
+PID = LIMITS["PID"]
+NAME_BYTES = LIMITS["NAME_BYTES"]
+PATTERN_BYTES = LIMITS["PATTERN_BYTES"]
+FRAMES = LIMITS["FRAMES"]
+GRAPH_DEPTH = LIMITS["GRAPH_DEPTH"]
+INPUT_BYTES = LIMITS["INPUT_BYTES"]
 NUMBER = 4_294_967_295
 DIGITS = 10
-NAME_BYTES = 63
-PATTERN_BYTES = 255
-FRAMES = 64
-TRAMPS = 16
-GRAPH_DEPTH = 512
-INPUT_BYTES = 16_777_216
 
 # What the scripts are made of.
 FUNCTIONS = ["a", "b", "vfs_read", "ext3_read", "ext3_write", "snd_play", "_", "_x.1", "k", "all", "ret", "regs", "pid", "call", "irq"]
 FUNCTIONS += ["function", "Z9", "after", "mod.x", "x" * NAME_BYTES, "ftrace"]
 USER_NAMES = ["t", "tr", "a", "function", "user_2", "u" * NAME_BYTES, "g", "p.1", "regs", "fprobe", "pid", "ipmodify", "call", "_", "Z", "all"]
 USER_NAMES += ["exit", "k", "t2"]
+MORE_USER_NAMES = [f"user{number}" for number in range(VERSION_2.users - len(USER_NAMES))]  # for as many users as there may be
 KINDS = ["function", "function", "graph", "profile", "fprobe", "fprobe exit", "fprobe exit cancel"]
 PIDS = [1, 2, 10, 11, 99, PID - 1, PID, *range(100, 170)]
 GLOBS = ["*", "?", "*_*", "ext3_*", "*read", "[a-c]*", "[!a-c]*", "[_xk]*", "*e*t*", "a*b?c", "zz*", "[]a]", "[a", "[c-a]", "?*_w*"]
@@ -59,15 +64,15 @@ def numeral(rng, number):
     return text.rjust(rng.randint(len(text), DIGITS), "0") if rng.random() < 0.04 else text
 
 
-def user(rng, name, functions, kinds=KINDS):
-    """The line of a user of one of these kinds, with options."""
+def user(rng, name, functions, kinds=KINDS, acting=0.25):
+    """The line of a user of one of these kinds, with options; so many users have an act."""
     kind = rng.choice(kinds)
     is_replacing = functions and kind == "function" and rng.random() < 0.4
     words = ["user", name, *kind.split()]
     words += ["regs"] * (rng.random() < (0.9 if is_replacing else 0.2))
     words += ["ipmodify", rng.choice(functions)] if is_replacing else []
     words += ["pid"] * (rng.random() < 0.25)
-    return words + ([rng.choice(["call", "irq"]), rng.choice(functions)] if functions and rng.random() < 0.25 else [])
+    return words + ([rng.choice(["call", "irq"]), rng.choice(functions)] if functions and rng.random() < acting else [])
 
 
 def has_act(words):
@@ -78,10 +83,18 @@ def has_act(words):
     return bool(rest)
 
 
-def call_bound(users):
-    """The most items that a call of a script with these lines of users can make."""
+def call_bound(users, version):
+    """The most items that a call of a script of this version with these lines of users can make."""
     count, acting = len(users), sum(has_act(words) for words in users)
-    return 4 + 5 * count + acting * (4 + 5 * count + acting * (4 + count))
+    bound = 4 + count
+    for _ in range(2 * version.levels):
+        bound = 4 + 5 * count + acting * bound
+    return bound
+
+
+def version_of(lines):
+    """The version of these lines of a script."""
+    return limits.version_of(lines[0] if lines else [])
 
 
 def acts(rng, functions, count, deepest, room):
@@ -214,24 +227,25 @@ def schedule(rng, cpus):
 
 
 def plain(rng):
-    """The lines of a script that is accepted."""
-    scale = rng.choice([1, 1, 2, 4, 12])
+    """The lines of a script that is accepted. In version 2 acts nest deeper, so fewer of many users have one."""
+    version, scale = rng.choice(VERSIONS), rng.choice([1, 1, 2, 4, 12])
     functions = rng.sample(FUNCTIONS, rng.randint(0, min(len(FUNCTIONS), 2 * scale)))
-    names = rng.sample(USER_NAMES, rng.choice([0, 1, 1, 2, 2, 3, 5, USERS]))
-    users = [user(rng, name, functions) for name in names]
+    names = rng.sample(USER_NAMES + MORE_USER_NAMES, rng.choice([0, 1, 1, 2, 2, 3, 5, version.users]))
+    acting = 0.25 if version == VERSION_1 else min(0.25, 2 / max(1, len(names)))
+    users = [user(rng, name, functions, acting=acting) for name in names]
     sizes = [["depth", numeral(rng, rng.choice([1, 2, 3, FRAMES]))]] if rng.random() < 0.4 else []
-    sizes += [["tramps", numeral(rng, rng.choice([0, 1, 2, TRAMPS]))]] if rng.random() < 0.4 else []
+    sizes += [["tramps", numeral(rng, rng.choice([0, 1, 2, version.tramps]))]] if rng.random() < 0.4 else []
     cpus = rng.choice([0, 1, 1, 2, 2, 3, 5, CPUS])
     pids = rng.sample(PIDS, rng.choice([0, 1, 2, 3, cpus, cpus, 2 * cpus, 3 * cpus, TASKS if scale > 1 else 4])) if cpus else []
     deepest, most = rng.choice([1, 2, 3, 8, 40]), max(4, 12 * scale * cpus // max(1, len(pids)))
-    tasks, room = [], ITEMS // call_bound(users)
+    tasks, room = [], ITEMS // call_bound(users, version)
     for pid in pids:
         todo = acts(rng, functions, rng.randint(0, most), deepest, room)
         room -= sum(line[0] == "call" for line in todo)
         tasks.append((pid, rng.randrange(cpus), todo))
     control = commands(rng, users, functions, tasks, rng.randint(0, 8 * scale))
     without_deadlock(rng, tasks, control)
-    lines = [["ftrace", "1"]]
+    lines = [["ftrace", str(version.number)]]
     lines += [["func", name] + ([rng.choice(MODULES)] if rng.random() < 0.4 else []) for name in functions]
     lines += rng.sample(sizes, len(sizes)) + users
     lines += [["cpu", numeral(rng, cpu), "quantum", numeral(rng, rng.choice([1, 2, 3, 7, 15, 40, 100, QUANTUM]))] for cpu in range(cpus)]
@@ -257,7 +271,8 @@ def dressed(rng, lines):
 
 # good lines and bad ones, by rank, for a user, a pid and a function of the script; `;` ends a line
 FURTHER_LINES = {
-    2: ["depth 1", f"depth {FRAMES}", f"depth {FRAMES + 1}", "depth 0", "tramps 0", f"tramps {TRAMPS}", f"tramps {TRAMPS + 1}"],
+    2: ["depth 1", f"depth {FRAMES}", f"depth {FRAMES + 1}", "depth 0", "tramps 0"]
+    + [f"tramps {version.tramps + more}" for version in VERSIONS for more in (0, 1)],
     3: ["user u2 function", "user u2 graph", "user u2 profile", "user u2 fprobe", "user u2 fprobe exit"]
     + ["user u2 fprobe exit cancel", "user u2 function regs", "user u2 function pid", "user u2 function regs ipmodify {function}"]
     + ["user u2 function ipmodify {function}", "user u2 function call {function}", "user u2 graph irq {function}"]
@@ -282,7 +297,7 @@ ODD_WORDS += ["x" * (NAME_BYTES + 1), "function", "graph"]
 EDGES = {
     "quantum": [0, 1, QUANTUM, QUANTUM + 1], "pid": [0, 1, PID, PID + 1], "cpu": [0, CPUS - 1, CPUS, CPUS + 1, 63],
     "wait": [0, 1, 2, COMMANDS, COMMANDS + 1], "count": [0, 1, 2, STEPS, STEPS + 1], "frames": [0, 1, FRAMES, FRAMES + 1],
-    "slots": [0, 1, TRAMPS, TRAMPS + 1], "depth": [0, 1, GRAPH_DEPTH, GRAPH_DEPTH + 1],
+    "slots": [0, 1, *(version.tramps + more for version in VERSIONS for more in (0, 1))], "depth": [0, 1, GRAPH_DEPTH, GRAPH_DEPTH + 1],
 }
 TOO_BIG = [NUMBER, NUMBER + 1, 9_999_999_999, 10_000_000_000, "00000000001", "0000000001", "00"]
 # where the numbers of a line are, by its first word, or by the second one of control
@@ -431,7 +446,8 @@ def add_wait(rng, lines):
 
 
 def change_version(rng, lines):
-    new = rng.choice(["ftrace 2", "ftrace", "ftrace 1 1", "ftrace 01", "Ftrace 1", "# ftrace 1", "", "func a", "ftrace 1 # x"]).split()
+    others = ["ftrace 3", "ftrace", "ftrace 1 1", "ftrace 2 1", "ftrace 01", "Ftrace 1", "# ftrace 1", "", "func a", "ftrace 1 # x"]
+    new = rng.choice([*others, "ftrace 1", "ftrace 1", "ftrace 2", "ftrace 2"]).split()
     lines[:1] = [new] if rng.random() < 0.7 else [new] + lines[:1]
 
 
@@ -446,11 +462,11 @@ def long_module(rng, lines, more):
 
 
 def many_functions(rng, lines, more):
-    return [["func", f"f{n}"] for n in range(FUNCS + more - len(places(lines, "func")))]
+    return [["func", f"f{n}"] for n in range(version_of(lines).funcs + more - len(places(lines, "func")))]
 
 
 def many_users(rng, lines, more):
-    return [["user", f"v{n}", rng.choice(KINDS[:4])] for n in range(USERS + more - len(places(lines, "user")))]
+    return [["user", f"v{n}", rng.choice(KINDS[:4])] for n in range(version_of(lines).users + more - len(places(lines, "user")))]
 
 
 def many_cpus(rng, lines, more):
@@ -482,12 +498,12 @@ def many_levels(rng, lines, more):
 
 
 def many_items(rng, lines, more):
-    """As many calls as the most users may have, all of which make calls too."""
+    """As many calls as the most users of version 1 may have, all of which make calls too."""
     functions, have = declared(lines, "func"), [lines[number] for number in places(lines, "user")]
     if not functions or not declared(lines, "task"):
         return []
-    new = [["user", f"w{n}", "profile", "irq", functions[0]] for n in range(USERS - len(have))]
-    count = ITEMS // call_bound(have + new) + more - len(places(lines, "call"))
+    new = [["user", f"w{n}", "profile", "irq", functions[0]] for n in range(VERSION_1.users - len(have))]
+    count = ITEMS // call_bound(have + new, version_of(lines)) + more - len(places(lines, "call"))
     return new + [["call", functions[0]], ["ret"]] * count
 
 

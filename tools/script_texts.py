@@ -192,7 +192,7 @@ def refused_rows():
     late = b"ftrace 1\n" + b"".join(b"# function %d:\nfunc f%d\n" % (number, number) for number in range(1_025))
     yield "refused late", ["replay"], late, text("line 2051: limit")
     for what, count, printed in [("refused in the most bytes", forms.INPUT_BYTES, text("line 1: version")), ("refused, but too long", forms.INPUT_BYTES + 1, b"")]:
-        yield what, ["replay"], b"ftrace 2\n" + b"#" * (count - 10) + b"\n", printed
+        yield what, ["replay"], b"ftrace 3\n" + b"#" * (count - 10) + b"\n", printed
 
 
 def check(rows, program):

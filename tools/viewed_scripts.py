@@ -69,12 +69,12 @@ def schedule(rng, cpus):
 
 
 def lines_of(rng):
-    """The lines of a script."""
-    functions = rng.sample(forms.FUNCTIONS, rng.randint(2, 6))
+    """The lines of a script, of either version."""
+    version, functions = rng.choice(forms.VERSIONS), rng.sample(forms.FUNCTIONS, rng.randint(2, 6))
     told = users(rng, functions)
     names, cpus = [words[1] for words in told], rng.choice([1, 1, 2, 3])
     first = opening(rng, told, functions)
-    tasks, room = [], forms.ITEMS // forms.call_bound(told)
+    tasks, room = [], forms.ITEMS // forms.call_bound(told, version)
     for pid in rng.sample(forms.PIDS, rng.randint(1, 3 * cpus)):
         todo = forms.acts(rng, functions, rng.randint(6, 50), rng.choice([2, 3, 5, 8, 40]), room)
         room -= sum(line[0] == "call" for line in todo)
@@ -82,7 +82,7 @@ def lines_of(rng):
         tasks.append((pid, rng.randrange(cpus), wait + todo))
     control = first + amid(rng, names, functions, tasks, rng.randint(0, 10))
     forms.without_deadlock(rng, tasks, control)
-    lines = [["ftrace", "1"]] + [["func", name] + [rng.choice(forms.MODULES)] * (rng.random() < 0.3) for name in functions]
+    lines = [["ftrace", str(version.number)]] + [["func", name] + [rng.choice(forms.MODULES)] * (rng.random() < 0.3) for name in functions]
     lines += sizes(rng) + told + [["cpu", str(cpu), "quantum", str(rng.choice([1, 3, 7, 15, 40, 100, 1_000]))] for cpu in range(cpus)]
     for pid, cpu, todo in tasks:
         lines += [["task", str(pid), "cpu", str(cpu)]] + todo
