@@ -4,7 +4,7 @@
 - the words of the command, in the language and not: those of command_words.py;
 - scripts with what is printed for them, and refusals: those of script_texts.py;
 - each status with its cause: streams that fail, too long an input, and memory from too little to begin up to ample;
-- each limit of the language reached and passed, in at most a hundred times the time that it takes now;
+- each limit of the language reached and passed, in at most a hundred times the time that it takes now, and all at once;
 - a long history in each printed form;
 - runs by threads: scripts with one order only print what a replay of them prints, and others come to their ends;
 - random scripts of script_forms.py and viewed_scripts.py, whose forms have to follow from the log.
@@ -27,6 +27,7 @@ from typing import Callable, NamedTuple, Optional
 sys.dont_write_bytecode = True
 import check_docs  # noqa: E402
 import command_words  # noqa: E402
+import full_scripts  # noqa: E402
 import long_check  # noqa: E402
 import memory_limits  # noqa: E402
 import runs  # noqa: E402
@@ -552,7 +553,6 @@ def check_runs(rows, program, top):
 
 
 # Random scripts.
-
 def check_accepted(rows, program, name, script):
     """The log of an accepted script, and its other forms as views_of_log works them out of the log."""
     log = runs.answer([program, "replay"], script)
@@ -588,6 +588,7 @@ def main():
     check_streams(rows, options.program)
     check_memory(rows, options.program)
     check_limits(rows, options.program)
+    full_scripts.check(rows, options.program)
     check_forms(rows, options.program)
     check_runs(rows, options.program, options.top)
     check_random(rows, options.program)
