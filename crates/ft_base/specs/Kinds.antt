@@ -1,5 +1,5 @@
 -- Kinds of users.
-use Rattle.std.specs.Prelude.{Bool, true, false}
+use Rattle.std.specs.Prelude.{Bool, true, false, ◌||◌}
 use Rattle.ft_base.specs.declared.user.Kind.{Kind}
 use Rattle.ft_base.specs.declared.user.Kind.TheVariants.{Graph, Fprobe, Profile}
 
@@ -23,3 +23,8 @@ has_exit _ = false
 abbrev pub cancels : Kind → Bool
 cancels (Fprobe exit cancel) = cancel
 cancels _ = false
+
+-- a user whose entry callback wants a frame of the shadow stack, for its callback at the return
+-- (ftrace.rst, function graph tracer; fprobe.rst, The fprobe entry/exit handler)
+abbrev pub wants_frame : Kind → Bool
+wants_frame kind = has_depth kind || has_exit kind

@@ -5,6 +5,7 @@ pub mod Address
 pub mod Job
 pub mod Versions
 pub mod Kinds
+pub mod Items
 pub mod Desk
 pub mod Order
 pub mod WellFormed

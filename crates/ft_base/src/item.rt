@@ -1,5 +1,8 @@
 //! Items of a history, and what they carry: answers, reasons, and what was fetched.
 
+ghost use Rattle.std.specs.Prelude.{◌≡◌};
+ghost use Rattle.ft_base.specs.Items.{call_of, kind_of, user_in};
+
 use crate::context::Ctx;
 use crate::number::{CallNo, FuncNo, UserNo};
 
@@ -109,6 +112,84 @@ pub enum Item {
         call: CallNo,
         to: Option<CallNo>,
     },
+}
+
+/// What kind of item it is.
+#[derive(Clone, Copy)]
+pub enum ItemKind {
+    Begin,
+    Return,
+    Enter,
+    Back,
+    BackEnd,
+    Refuse,
+    Miss,
+    Body,
+    Leave,
+    Exit,
+    ExitEnd,
+    Ret,
+}
+
+impl Item {
+    /// Its kind.
+    pub fn kind(&self) -> ItemKind
+        ensures { result ≡ kind_of self.now }
+    {
+        match self {
+            Item::Begin { .. } => ItemKind::Begin,
+            Item::Return { .. } => ItemKind::Return,
+            Item::Enter { .. } => ItemKind::Enter,
+            Item::Back { .. } => ItemKind::Back,
+            Item::BackEnd { .. } => ItemKind::BackEnd,
+            Item::Refuse { .. } => ItemKind::Refuse,
+            Item::Miss { .. } => ItemKind::Miss,
+            Item::Body { .. } => ItemKind::Body,
+            Item::Leave { .. } => ItemKind::Leave,
+            Item::Exit { .. } => ItemKind::Exit,
+            Item::ExitEnd { .. } => ItemKind::ExitEnd,
+            Item::Ret { .. } => ItemKind::Ret,
+        }
+    }
+
+    /// The call that it is of. `None` for the items of control.
+    pub fn call(&self) -> Option<CallNo>
+        ensures { result ≡ call_of self.now }
+    {
+        match *self {
+            Item::Begin { .. } | Item::Return { .. } => None,
+            Item::Enter { call, .. }
+            | Item::Back { call, .. }
+            | Item::BackEnd { call, .. }
+            | Item::Refuse { call, .. }
+            | Item::Miss { call, .. }
+            | Item::Body { call, .. }
+            | Item::Leave { call }
+            | Item::Exit { call, .. }
+            | Item::ExitEnd { call, .. }
+            | Item::Ret { call, .. } => Some(call),
+        }
+    }
+
+    /// The user whose callback, refusal or miss it tells. `None` for the other items.
+    pub fn user(&self) -> Option<UserNo>
+        ensures { result ≡ user_in self.now }
+    {
+        match *self {
+            Item::Back { user, .. }
+            | Item::BackEnd { user, .. }
+            | Item::Refuse { user, .. }
+            | Item::Miss { user, .. }
+            | Item::Exit { user, .. }
+            | Item::ExitEnd { user, .. } => Some(user),
+            Item::Begin { .. }
+            | Item::Return { .. }
+            | Item::Enter { .. }
+            | Item::Body { .. }
+            | Item::Leave { .. }
+            | Item::Ret { .. } => None,
+        }
+    }
 }
 
 /// An item and its place in the history.

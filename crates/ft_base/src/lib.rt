@@ -22,7 +22,7 @@ mod user;
 
 pub use address::{FIRST_FUNCTION, FUNCTION_STEP, function_address};
 pub use context::{Ctx, raise};
-pub use item::{Answer, Item, Ran, Reason, Stamped};
+pub use item::{Answer, Item, ItemKind, Ran, Reason, Stamped};
 pub use memory::NoMemory;
 pub use name::{begins_name, goes_in_name, is_name};
 pub use number::{CallNo, CpuNo, FuncNo, TaskNo, UserNo};

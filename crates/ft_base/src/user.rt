@@ -1,5 +1,8 @@
 //! How a user of the tracer is declared: its kind, and what it does when it is called back.
 
+ghost use Rattle.std.specs.Prelude.{◌≡◌};
+ghost use Rattle.ft_base.specs.Kinds.{is_fprobe, has_depth, has_exit, cancels, wants_frame};
+
 use crate::number::FuncNo;
 
 /// The kind of a user.
@@ -14,6 +17,45 @@ pub enum Kind {
     Fprobe { exit: bool, cancel: bool },
     /// The function profile (`ftrace.rst`, `function_profile_enabled`).
     Profile,
+}
+
+impl Kind {
+    /// Whether it is an fprobe, which alone can be disabled and enabled (`fprobe.rst`, "The usage of
+    /// fprobe").
+    pub fn is_fprobe(self) -> bool
+        ensures { result ≡ is_fprobe self }
+    {
+        matches!(self, Kind::Fprobe { .. })
+    }
+
+    /// Whether the graph depth holds for it (`ftrace.rst`, `max_graph_depth`): a graph or profile user.
+    pub fn has_depth(self) -> bool
+        ensures { result ≡ has_depth self }
+    {
+        matches!(self, Kind::Graph | Kind::Profile)
+    }
+
+    /// Whether it is an fprobe with an exit handler.
+    pub fn has_exit(self) -> bool
+        ensures { result ≡ has_exit self }
+    {
+        matches!(self, Kind::Fprobe { exit: true, .. })
+    }
+
+    /// Whether it is an fprobe whose entry handler cancels the exit (`fprobe.rst`, "The fprobe
+    /// entry/exit handler").
+    pub fn cancels(self) -> bool
+        ensures { result ≡ cancels self }
+    {
+        matches!(self, Kind::Fprobe { cancel: true, .. })
+    }
+
+    /// Whether its entry callback wants a frame of the shadow stack, which its exit callback needs.
+    pub fn wants_frame(self) -> bool
+        ensures { result ≡ wants_frame self }
+    {
+        self.has_depth() || self.has_exit()
+    }
 }
 
 /// What a user does at each of its entry callbacks.

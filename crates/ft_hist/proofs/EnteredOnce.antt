@@ -8,13 +8,14 @@ use Rattle.ft_base.specs.declared.number.FuncNo.{FuncNo}
 use Rattle.ft_base.specs.declared.context.Ctx.{Ctx}
 use Rattle.ft_base.specs.declared.item.Item.{Item}
 use Rattle.ft_base.specs.declared.item.Item.TheVariants.{Begin, Return, Enter, Back, BackEnd, Refuse, Miss, Body, Leave, Exit, ExitEnd, Ret}
+use Rattle.ft_base.specs.Items.{call_of}
 use Rattle.ft_base.specs.Same.{same_call}
 use Rattle.ft_base.specs.Job.{Job}
 use Rattle.ft_base.proofs.Small.{false_true, ==-refl, and_both}
 use Rattle.ft_hist.specs.Past.{is_of, is_open, calls}
 use Rattle.ft_hist.specs.Plain.{plain, PlainTask}
 use Rattle.ft_hist.specs.Rules.{IsLegal, IsLegalPast, MayFollow}
-use Rattle.ft_hist.specs.Telling.{call_of, is_ret_of, open_calls}
+use Rattle.ft_hist.specs.Telling.{is_ret_of, open_calls}
 use Rattle.ft_hist.proofs.Laws.{same_call-refl}
 use Rattle.ft_hist.proofs.RunLaws.{same_call-eq, calls_on, Keeps, Moves}
 use Rattle.ft_hist.proofs.HeldLaws.{opens}

@@ -5,26 +5,16 @@ use Rattle.ft_base.specs.declared.number.CallNo.{CallNo}
 use Rattle.ft_base.specs.declared.context.Ctx.{Ctx}
 use Rattle.ft_base.specs.declared.context.Ctx.TheVariants.{Normal}
 use Rattle.ft_base.specs.declared.item.Item.{Item}
-use Rattle.ft_base.specs.declared.item.Item.TheVariants.{Begin, Return, Enter, Back, BackEnd, Refuse, Miss, Body, Leave, Exit, ExitEnd, Ret}
+use Rattle.ft_base.specs.declared.item.Item.TheVariants.{Begin, Return, Enter, Back, BackEnd, Refuse, Body, Leave, Exit, ExitEnd, Ret}
 use Rattle.ft_base.specs.Same.{same_call, same_ctx}
+use Rattle.ft_base.specs.Items.{call_of, is_task}
 use Rattle.ft_base.specs.Job.{Job}
 use Rattle.ft_base.specs.Desk.{spec_at, desk, is_on, user_at}
 use Rattle.ft_base.specs.Kinds.{has_depth, has_exit, cancels}
 
--- whose item it is
+-- an item of the task: one of its calls
 abbrev pub is_of : ℕ → Item → Bool
-is_of t (Begin k) = false
-is_of t (Return k a) = false
-is_of t (Enter call ctx f caller) = call.task.0 == t
-is_of t (Back call u) = call.task.0 == t
-is_of t (BackEnd call u) = call.task.0 == t
-is_of t (Refuse call u reason) = call.task.0 == t
-is_of t (Miss call u) = call.task.0 == t
-is_of t (Body call g ran) = call.task.0 == t
-is_of t (Leave call) = call.task.0 == t
-is_of t (Exit call u entry) = call.task.0 == t
-is_of t (ExitEnd call u) = call.task.0 == t
-is_of t (Ret call to) = call.task.0 == t
+is_of t item = is_task t (call_of item)
 
 -- how many commands have returned
 abbrev pub done : List Item → ℕ

@@ -1,30 +1,15 @@
--- The words in which the laws of histories are told: what an item is, and facts at the commands of a window.
-use Rattle.std.specs.Prelude.{ℕ, ◌≡◌, ◌≤◌, ◌⊎◌, Bool, true, false, ◌&&◌, ◌==◌, List, ◌∷◌, ◌++◌, Option, Some, None, reverse}
+-- The words in which the laws of histories are told: whose item it is, and facts at the commands of a window.
+use Rattle.std.specs.Prelude.{ℕ, ◌≡◌, ◌≤◌, ◌⊎◌, Bool, true, false, ◌&&◌, ◌==◌, List, ◌∷◌, ◌++◌, Some, reverse}
 use Rattle.std.specs.List.{filter}
 use Rattle.ft_base.specs.declared.number.CallNo.{CallNo}
 use Rattle.ft_base.specs.declared.item.Item.{Item}
-use Rattle.ft_base.specs.declared.item.Item.TheVariants.{Begin, Return, Enter, Back, BackEnd, Refuse, Miss, Body, Leave, Exit, ExitEnd, Ret}
+use Rattle.ft_base.specs.declared.item.Item.TheVariants.{Back, BackEnd, Refuse, Exit, ExitEnd, Ret}
 use Rattle.ft_base.specs.Same.{same_call}
 use Rattle.ft_base.specs.declared.number.UserNo.{UserNo}
 use Rattle.ft_base.specs.Job.{Job, Command, takes_off}
 use Rattle.ft_base.specs.Desk.{desk, is_live, spec_at, user_at}
 use Rattle.ft_base.specs.Kinds.{has_depth, has_exit, cancels}
 use Rattle.ft_hist.specs.Past.{done, begun, calls, done_at_leave, held, is_open, registration_at}
-
--- the call whose item it is
-abbrev pub call_of : Item → Option CallNo
-call_of (Begin k) = None
-call_of (Return k a) = None
-call_of (Enter call ctx f caller) = Some call
-call_of (Back call u) = Some call
-call_of (BackEnd call u) = Some call
-call_of (Refuse call u reason) = Some call
-call_of (Miss call u) = Some call
-call_of (Body call g ran) = Some call
-call_of (Leave call) = Some call
-call_of (Exit call u entry) = Some call
-call_of (ExitEnd call u) = Some call
-call_of (Ret call to) = Some call
 
 -- a task's open calls, the latest first
 abbrev pub open_calls : ℕ → List Item → List CallNo

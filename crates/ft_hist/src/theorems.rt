@@ -14,6 +14,7 @@ ghost use Rattle.ft_base.specs.Job.{Job as PlainJob, Command, Register, Unregist
 ghost use Rattle.ft_base.specs.Versions.{levels};
 ghost use Rattle.ft_base.specs.Desk.{desk, is_on, is_allowed, is_live, spec_at, target, user_at};
 ghost use Rattle.ft_base.specs.Kinds.{has_depth, has_exit};
+ghost use Rattle.ft_base.specs.Items.{call_of};
 ghost use Rattle.ft_base.specs.WellFormed.{IsWellFormed};
 ghost use Rattle.ft_base.specs.declared.context.Ctx.{Ctx};
 ghost use Rattle.ft_base.specs.declared.number.CallNo.{CallNo};
@@ -27,7 +28,7 @@ ghost use Rattle.ft_base.specs.declared.item.Item.{Item};
 ghost use Rattle.ft_base.specs.declared.item.Item.TheVariants.{Return, Enter, Back, Refuse, Miss, Body, Exit, Ret};
 ghost use Rattle.ft_hist.specs.Past.{begun, held, is_of, open_callbacks, registration_at};
 ghost use Rattle.ft_hist.specs.Rules.{AtReturnedOrBegun, IsLegal, MayFollow};
-ghost use Rattle.ft_hist.specs.Telling.{AtEachCommand, AtSomeCommand, MayLackExit, TakesOff, call_of, is_begin_by, is_end_by, is_exit_for, is_ret_of, is_visit_by, open_calls};
+ghost use Rattle.ft_hist.specs.Telling.{AtEachCommand, AtSomeCommand, MayLackExit, TakesOff, is_begin_by, is_end_by, is_exit_for, is_ret_of, is_visit_by, open_calls};
 
 /// A history is legal exactly if each of its items, wherever the list is split at it, may come
 /// after the items before it. What comes later plays no part.
