@@ -11,7 +11,7 @@ use Rattle.ft_base.specs.declared.number.UserNo.{UserNo}
 use Rattle.ft_base.specs.Job.{Job}
 use Rattle.ft_base.specs.Desk.{desk, user_at}
 use Rattle.ft_base.proofs.Small.{false_true, and_both, or-true, or-true_either, or-false_both, Each-weaker}
-use Rattle.ft_hist.specs.Past.{Callback, callbacks, ended, Visit, visit, all_visits, visits, registration_at, wants_frame, exits}
+use Rattle.ft_hist.specs.Past.{Callback, callbacks, ended, Visit, visit, all_visits, visits, registration_at, gets_frame, exits}
 use Rattle.ft_hist.specs.Telling.{is_visit_by, is_begin_by, is_exit_for, is_end_by}
 use Rattle.ft_hist.proofs.Laws.{same_call-refl}
 use Rattle.ft_hist.proofs.RunLaws.{same_call-eq}
@@ -174,7 +174,7 @@ module _ (job : Job) (call : CallNo) where
   -- an entry callback of the call is told by its item
   abbrev pub HasBack : Visit → List Item → Type 0
   HasBack m past = (newer : List Item) × (older : List Item) × (past ≡ newer ++ Back call (record { 0 = m.user }) ∷ older) × (m.place ≡ length older)
-      × (m.reg ≡ (user_at (desk job (registration_at job call m.user older)) m.user).reg) × (m.wants ≡ wants_frame job call m.user older (all_visits job older))
+      × (m.reg ≡ (user_at (desk job (registration_at job call m.user older)) m.user).reg) × (m.framed ≡ gets_frame job call m.user older (all_visits job older))
 
   abbrev Told : List Item → List Visit → Type 0
   Told past ms = Each (λ m. m.back ≡ true → HasBack m past) ms
@@ -194,7 +194,7 @@ module _ (job : Job) (call : CallNo) where
   unfolding all_visits
   told [] = tt
   told (Back c v ∷ past) = told-visit (Back c v) c (visit job c v.0 past (all_visits job past) true) past (visits job call past)
-      (λ e b. let is : c ≡ call = same_call-eq c call e in ([], past, ap (λ (d : CallNo). Back d v ∷ past) is, refl, ap (λ (d : CallNo). (user_at (desk job (registration_at job d v.0 past)) v.0).reg) is, ap (λ (d : CallNo). wants_frame job d v.0 past (all_visits job past)) is)) (told past)
+      (λ e b. let is : c ≡ call = same_call-eq c call e in ([], past, ap (λ (d : CallNo). Back d v ∷ past) is, refl, ap (λ (d : CallNo). (user_at (desk job (registration_at job d v.0 past)) v.0).reg) is, ap (λ (d : CallNo). gets_frame job d v.0 past (all_visits job past)) is)) (told past)
   told (Refuse c v reason ∷ past) = told-visit (Refuse c v reason) c (visit job c v.0 past (all_visits job past) false) past (visits job call past) (λ e b. false_true b) (told past)
   told (Begin k ∷ past) = told-more (Begin k) past (visits job call past) (told past)
   told (Return k a ∷ past) = told-more (Return k a) past (visits job call past) (told past)

@@ -1,21 +1,14 @@
 -- A call in its dispatch, on desks that may change under it: who is still to be called.
-use Rattle.std.proofs.Common.{◌≡◌, ℕ, ◌⊎◌, Bool, true, false, not, ◌&&◌, ◌==◌, List, ◌∷◌, sym, ◌∙◌, subst, inl, inr, ne_eqb}
+use Rattle.std.proofs.Common.{◌≡◌, ℕ, Bool, false, not, ◌&&◌, ◌==◌, List, ◌∷◌, sym, ◌∙◌, subst, inl, inr, ne_eqb}
 use Rattle.std.proofs.lemmas.Bool.{cases_eq}
 use Rattle.ft_base.specs.declared.number.CallNo.{CallNo}
 use Rattle.ft_base.specs.declared.item.Item.{Item}
 use Rattle.ft_base.specs.Job.{Job}
 use Rattle.ft_base.specs.Desk.{desk, is_on}
 use Rattle.ft_base.proofs.Small.{false_true}
-use Rattle.ft_hist.specs.Rules.{InWindow, IsUnvisited}
+use Rattle.ft_hist.specs.Rules.{IsUnvisited}
+use Rattle.ft_hist.specs.Known.{WasOff, Watches}
 use Rattle.ft_hist.proofs.WindowLaws.{InWindow-more, visits-more, is_enter, is_visit}
-
--- a user was off at some command of the window so far
-abbrev pub WasOff : Job → CallNo → ℕ → ℕ → List Item → Type 0
-WasOff job call f u past = InWindow call past (λ k. is_on (desk job k) u f ≡ false)
-
--- whoever has not been visited is still to come, or was off at some command of the window so far
-abbrev pub Watches : Job → CallNo → ℕ → List Item → (ℕ → Bool) → Type 0
-Watches job call f past todo = (u : ℕ) → IsUnvisited job call u past → (todo u ≡ true) ⊎ WasOff job call f u past
 
 module _ (job : Job) (call : CallNo) (f : ℕ) (past : List Item) (todo : ℕ → Bool) (w : Watches job call f past todo) where
   -- any other item, of whichever actor

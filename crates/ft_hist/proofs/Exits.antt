@@ -1,5 +1,5 @@
--- What is known of a call that leaves, by the words on its past alone: which exits are still owed, and of each that is lacking a command since the Leave at which its registration was not live.
-use Rattle.std.proofs.Common.{◌≡◌, ℕ, ◌<◌, ◌≤◌, ◌⊎◌, true, false, ◌&&◌, ◌||◌, ◌==◌, List, [], ◌∷◌, refl, sym, ◌∙◌, subst, arith, eqb-true, inl, inr}
+-- How what is known of a call that leaves goes on over one more item, and what it is good for at the start and at the end of its return.
+use Rattle.std.proofs.Common.{◌≡◌, ◌<◌, ◌≤◌, ◌⊎◌, true, false, ◌&&◌, ◌||◌, ◌==◌, List, [], ◌∷◌, refl, sym, ◌∙◌, subst, arith, eqb-true, inl, inr}
 use Rattle.std.specs.List.{list_any, AllByRecursion as Each}
 use Rattle.ft_base.specs.declared.number.CallNo.{CallNo}
 use Rattle.ft_base.specs.declared.item.Item.{Item}
@@ -7,31 +7,17 @@ use Rattle.ft_base.specs.declared.item.Item.TheVariants.{Leave, Exit}
 use Rattle.ft_base.specs.Job.{Job}
 use Rattle.ft_base.specs.Desk.{desk, is_live}
 use Rattle.ft_base.proofs.Small.{false_true, and_both, Each-weaker, or-true}
-use Rattle.ft_hist.specs.Past.{begun, exits, done_at_leave, visits, Visit}
+use Rattle.ft_hist.specs.Past.{begun, exits, visits, Visit}
 use Rattle.ft_hist.specs.Rules.{AtReturnedOrBegun, MayExit, LacksOnlyDead, HasExit}
 use Rattle.ft_hist.proofs.Laws.{same_call-refl}
 use Rattle.ft_hist.proofs.WindowLaws.{visits-more}
-use Rattle.ft_hist.specs.Frames.{FrameUser, IsOwed, is_user_of, is_among, Rises, FrameOf}
+use Rattle.ft_hist.specs.Frames.{FrameUser, is_user_of, is_among, FrameOf}
+use Rattle.ft_hist.specs.Known.{IsDead, Fate, ExitsSo}
 use Rattle.ft_hist.proofs.Since.{Untouched}
 
 module _ (job : Job) (call : CallNo) (ms : List Visit) where
-  -- a registration was not live at some command since the Leave
-  abbrev pub IsDead : ℕ → ℕ → List Item → Type 0
-  IsDead u r past = (j : ℕ) × (done_at_leave call past ≤ j) × (j ≤ begun past) × (is_live (desk job j) u r ≡ false)
-
-  -- an exit is still to come, or stands, or is lacking for a reason
-  abbrev pub Fate : Visit → List FrameUser → List Item → Type 0
-  Fate m rest past = (is_among m rest ≡ true) ⊎ ((list_any (λ e. e == m.place) (exits call past) ≡ true) ⊎ IsDead m.user m.reg past)
-
-  pub record ExitsSo (past : List Item) (rest : List FrameUser) : Type 0 where
-    pub those : visits job call past ≡ ms
-    pub owed : Each (IsOwed job ms) rest
-    pub rises : Rises rest
-    pub before : Each (λ e. Each (λ y. e < y.entry) rest) (exits call past)
-    pub all : Each (λ m. HasExit job m → Fate m rest past) ms
-
   -- the next exit may stand where its registration is live at either command
-  pub exits-may : (x : FrameUser) (rest : List FrameUser) (past : List Item) → AtReturnedOrBegun past (λ k. is_live (desk job k) x.user x.reg ≡ true) → ExitsSo past (x ∷ rest) → MayExit job past call x.user x.entry
+  pub exits-may : (x : FrameUser) (rest : List FrameUser) (past : List Item) → AtReturnedOrBegun past (λ k. is_live (desk job k) x.user x.reg ≡ true) → ExitsSo job call ms past (x ∷ rest) → MayExit job past call x.user x.entry
   exits-may x rest past live h =
       let o = h.owed.0 in
       record {
@@ -47,12 +33,12 @@ module _ (job : Job) (call : CallNo) (ms : List Visit) where
 
   -- one user less to come
   taken : (m : Visit) (x : FrameUser) (rest : List FrameUser) (past past' : List Item)
-      → (is_user_of m x ≡ true → (list_any (λ e. e == m.place) (exits call past') ≡ true) ⊎ IsDead m.user m.reg past')
+      → (is_user_of m x ≡ true → (list_any (λ e. e == m.place) (exits call past') ≡ true) ⊎ IsDead job call m.user m.reg past')
       → (list_any (λ e. e == m.place) (exits call past) ≡ true → list_any (λ e. e == m.place) (exits call past') ≡ true)
-      → (IsDead m.user m.reg past → IsDead m.user m.reg past')
-      → Fate m (x ∷ rest) past → Fate m rest past'
+      → (IsDead job call m.user m.reg past → IsDead job call m.user m.reg past')
+      → Fate job call m (x ∷ rest) past → Fate job call m rest past'
   taken m x rest past past' here more dead (inl a) =
-      elim (is_user_of m x) as (λ b. is_user_of m x ≡ b → (b || is_among m rest) ≡ true → Fate m rest past') [
+      elim (is_user_of m x) as (λ b. is_user_of m x ≡ b → (b || is_among m rest) ≡ true → Fate job call m rest past') [
         | true ↦ λ e y. inr (here e)
         | false ↦ λ e y. inl y
       ] refl a
@@ -63,7 +49,7 @@ module _ (job : Job) (call : CallNo) (ms : List Visit) where
   exit_of x = Exit call (record { 0 = x.user }) x.entry
 
   -- over the Exit of the next user
-  pub exits-after : (x : FrameUser) (rest : List FrameUser) (past : List Item) → ExitsSo past (x ∷ rest) → ExitsSo (exit_of x ∷ past) rest
+  pub exits-after : (x : FrameUser) (rest : List FrameUser) (past : List Item) → ExitsSo job call ms past (x ∷ rest) → ExitsSo job call ms (exit_of x ∷ past) rest
   exits-after x rest past h =
       let now_exits : exits call (exit_of x ∷ past) ≡ x.entry ∷ exits call past = rw (same_call-refl call) refl in
       record {
@@ -71,42 +57,42 @@ module _ (job : Job) (call : CallNo) (ms : List Visit) where
         owed = h.owed.1;
         rises = h.rises.1;
         before = rw now_exits (h.rises.0, Each-weaker (λ e. Each (λ y. e < y.entry) (x ∷ rest)) (λ e. Each (λ y. e < y.entry) rest) (exits call past) (λ e b. b.1) h.before);
-        all = Each-weaker (λ m. HasExit job m → Fate m (x ∷ rest) past) (λ m. HasExit job m → Fate m rest (exit_of x ∷ past)) ms
+        all = Each-weaker (λ m. HasExit job m → Fate job call m (x ∷ rest) past) (λ m. HasExit job m → Fate job call m rest (exit_of x ∷ past)) ms
             (λ m g i. taken m x rest past (exit_of x ∷ past) (λ e. inl (rw (now_exits, (parts m x e).2) refl)) (λ e. rw (now_exits, e, or-true (x.entry == m.place)) refl) (λ d. d) (g i)) h.all;
       }
 
   -- past a user whose registration was not live at some command since the Leave
-  pub exits-dead : (x : FrameUser) (rest : List FrameUser) (past : List Item) → IsDead x.user x.reg past → ExitsSo past (x ∷ rest) → ExitsSo past rest
+  pub exits-dead : (x : FrameUser) (rest : List FrameUser) (past : List Item) → IsDead job call x.user x.reg past → ExitsSo job call ms past (x ∷ rest) → ExitsSo job call ms past rest
   exits-dead x rest past dead h = record {
     those = h.those;
     owed = h.owed.1;
     rises = h.rises.1;
     before = Each-weaker (λ e. Each (λ y. e < y.entry) (x ∷ rest)) (λ e. Each (λ y. e < y.entry) rest) (exits call past) (λ e b. b.1) h.before;
-    all = Each-weaker (λ m. HasExit job m → Fate m (x ∷ rest) past) (λ m. HasExit job m → Fate m rest past) ms
+    all = Each-weaker (λ m. HasExit job m → Fate job call m (x ∷ rest) past) (λ m. HasExit job m → Fate job call m rest past) ms
         (λ m g i. taken m x rest past past
-        (λ e. inr (subst (λ u. IsDead u m.reg past) (parts m x e).0 (subst (λ r. IsDead x.user r past) (parts m x e).1 dead))) (λ e. e) (λ d. d) (g i)) h.all;
+        (λ e. inr (subst (λ u. IsDead job call u m.reg past) (parts m x e).0 (subst (λ r. IsDead job call x.user r past) (parts m x e).1 dead))) (λ e. e) (λ d. d) (g i)) h.all;
   }
 
   -- over items that don't touch the call, of whichever actor
-  pub exits-untouched : (rest : List FrameUser) (past past' : List Item) → Untouched job call past past' → begun past ≤ begun past' → ExitsSo past rest → ExitsSo past' rest
+  pub exits-untouched : (rest : List FrameUser) (past past' : List Item) → Untouched job call past past' → begun past ≤ begun past' → ExitsSo job call ms past rest → ExitsSo job call ms past' rest
   exits-untouched rest past past' u le h = record {
     those = u.visits ∙ h.those;
     owed = h.owed;
     rises = h.rises;
     before = rw u.exits h.before;
-    all = Each-weaker (λ m. HasExit job m → Fate m rest past) (λ m. HasExit job m → Fate m rest past') ms (λ m g i. later m (g i)) h.all;
+    all = Each-weaker (λ m. HasExit job m → Fate job call m rest past) (λ m. HasExit job m → Fate job call m rest past') ms (λ m g i. later m (g i)) h.all;
   }
     where
-      later : (m : Visit) → Fate m rest past → Fate m rest past'
+      later : (m : Visit) → Fate job call m rest past → Fate job call m rest past'
       later m (inl a) = inl a
       later m (inr (inl a)) = inr (inl (rw u.exits a))
       later m (inr (inr d)) = inr (inr (d.0, rw u.left d.1, (let b = d.2 in omega (arith, b, le)), d.3))
 
   -- with nobody to come, only exits of dead registrations are lacking
-  pub exits-lacks : (past : List Item) → ExitsSo past [] → LacksOnlyDead job past call
-  exits-lacks past h = rw h.those (Each-weaker (λ m. HasExit job m → Fate m [] past) _ ms (λ m g i lack. dead m lack (g i)) h.all)
+  pub exits-lacks : (past : List Item) → ExitsSo job call ms past [] → LacksOnlyDead job past call
+  exits-lacks past h = rw h.those (Each-weaker (λ m. HasExit job m → Fate job call m [] past) _ ms (λ m g i lack. dead m lack (g i)) h.all)
     where
-      dead : (m : Visit) → list_any (λ e. e == m.place) (exits call past) ≡ false → Fate m [] past → IsDead m.user m.reg past
+      dead : (m : Visit) → list_any (λ e. e == m.place) (exits call past) ≡ false → Fate job call m [] past → IsDead job call m.user m.reg past
       dead m lack (inl a) = false_true a
       dead m lack (inr (inl a)) = false_true (sym lack ∙ a)
       dead m lack (inr (inr d)) = d

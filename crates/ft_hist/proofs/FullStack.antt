@@ -14,7 +14,7 @@ use Rattle.ft_base.specs.Desk.{spec_at}
 use Rattle.ft_base.specs.Kinds.{has_depth, has_exit}
 use Rattle.ft_base.specs.Same.{same_call}
 use Rattle.ft_base.proofs.Small.{false_true, ==-refl, and_both, or-false_both}
-use Rattle.ft_hist.specs.Past.{Callback, is_of, held, visits, all_visits, wants_frame, miss_due}
+use Rattle.ft_hist.specs.Past.{Callback, is_of, held, visits, all_visits, gets_frame, miss_due}
 use Rattle.ft_hist.specs.Rules.{IsLegal, MayFollow, NoMissDue, MayMiss}
 use Rattle.ft_hist.specs.Telling.{is_exit_for}
 use Rattle.ft_hist.proofs.RunLaws.{same_call-eq}
@@ -72,7 +72,7 @@ module _ (job : Job) (items first rest : List Item) (call : CallNo) (user : User
       by true q = let lt = (splits job items first (Back call user) rest legal e).rule.0.room q in absurd (omega (arith, lt, full))
 
   -- so this callback wants no frame
-  no-frame : wants_frame job call user.0 (reverse first) (all_visits job (reverse first)) ≡ false
+  no-frame : gets_frame job call user.0 (reverse first) (all_visits job (reverse first)) ≡ false
   no-frame = rw no-depth (by (has_exit (spec_at job user.0).kind))
     where
       not-less : nat_lt (held job call (reverse first)) job.frames ≡ false
@@ -100,8 +100,8 @@ module _ (job : Job) (items first rest : List Item) (call : CallNo) (user : User
           same-tail has.0 (reverse xs) (Back call (record { 0 = m.user }) ∷ older) (Back call user ∷ reverse first) (sym has.2 ∙ split) (ap (λ (n : ℕ). suc n) place) in
           let same : older ≡ reverse first = cc in
           let who : m.user ≡ user.0 = ap (λ (zs : List Item). user_of zs) tails in
-          let wants : m.wants ≡ wants_frame job call user.0 (reverse first) (all_visits job (reverse first)) =
-          has.5 ∙ ap (λ (u : ℕ). wants_frame job call u older (all_visits job older)) who ∙ ap (λ (zs : List Item). wants_frame job call user.0 zs (all_visits job zs)) same in
+          let wants : m.framed ≡ gets_frame job call user.0 (reverse first) (all_visits job (reverse first)) =
+          has.5 ∙ ap (λ (u : ℕ). gets_frame job call u older (all_visits job older)) who ∙ ap (λ (zs : List Item). gets_frame job call user.0 zs (all_visits job zs)) same in
           false_true (sym (wants ∙ no-frame) ∙ of.4.1)
         where
           user_of : List Item → ℕ

@@ -15,7 +15,8 @@ use Rattle.ft_hist.specs.Plain.{plain, after_next, PlainTask, at_start}
 use Rattle.ft_hist.specs.Telling.{open_calls}
 use Rattle.ft_hist.proofs.Laws.{same_call-refl}
 use Rattle.ft_hist.proofs.RunLaws.{some_inj, calls_on, Keeps, Moves, moves}
-use Rattle.ft_hist.proofs.Since.{IsOlder, apart, holding, holds}
+use Rattle.ft_hist.specs.Known.{holds}
+use Rattle.ft_hist.proofs.Since.{IsOlder, apart, holding}
 
 filter-ext : {X : Type 0} (p q : X → Bool) (xs : List X) → Each (λ x. p x ≡ q x) xs → filter p xs ≡ filter q xs
 filter-ext p q [] h = refl

@@ -9,9 +9,9 @@ use Rattle.ft_base.specs.Same.{same_call}
 use Rattle.ft_base.specs.Job.{Job}
 use Rattle.ft_base.specs.Desk.{spec_at}
 use Rattle.ft_base.specs.Kinds.{cancels}
-use Rattle.ft_hist.specs.Past.{is_of, done, begun, entered, entry_of, is_open, is_dispatched, all_visits, visits, exits, done_at_leave, miss_due, Visit, holds_frame}
+use Rattle.ft_hist.specs.Past.{is_of, done, begun, entered, entry_of, is_open, is_dispatched, all_visits, visits, exits, done_at_leave, miss_due, Visit}
 use Rattle.ft_hist.specs.Plain.{plain}
-use Rattle.ft_hist.proofs.DispatchLaws.{Watches}
+use Rattle.ft_hist.specs.Known.{Watches, holds}
 
 -- whether an item says something of a call that a word on the call sees
 abbrev pub touches : CallNo → Item → Bool
@@ -133,9 +133,6 @@ since-item job t n call item past own le is touch d b = record {
 
 -- ## frames
 
-abbrev pub holds : Job → List Item → CallNo → Bool
-holds job past c = holds_frame job c past (all_visits job past)
-
 -- how many of these calls hold a frame
 abbrev pub holding : Job → List Item → List CallNo → ℕ
 holding job past cs = length (filter (λ c. holds job past c) cs)
@@ -149,11 +146,11 @@ any-filter p q r (x ∷ xs) = elim (p x) as (λ b. ((b && q x && r x) || list_an
 
 -- by the visits of the call alone
 abbrev pub holds_by : Job → Bool → Bool → List Visit → Bool
-holds_by job open' dispatched ms = open' && (cond dispatched (list_any (λ m. m.wants && not (cancels (spec_at job m.user).kind)) ms) (list_any (λ m. m.wants && true) ms))
+holds_by job open' dispatched ms = open' && (cond dispatched (list_any (λ m. m.framed && not (cancels (spec_at job m.user).kind)) ms) (list_any (λ m. m.framed && true) ms))
 
 pub holds-by : (job : Job) (past : List Item) (c : CallNo) → holds job past c ≡ holds_by job (is_open c past) (is_dispatched c past) (visits job c past)
 holds-by job past c =
-    rw (any-filter (λ m. same_call m.call c) (λ m. m.wants) (λ m. not (cancels (spec_at job m.user).kind)) (all_visits job past), any-filter (λ m. same_call m.call c) (λ m. m.wants) (λ m. true) (all_visits job past)) refl
+    rw (any-filter (λ m. same_call m.call c) (λ m. m.framed) (λ m. not (cancels (spec_at job m.user).kind)) (all_visits job past), any-filter (λ m. same_call m.call c) (λ m. m.framed) (λ m. true) (all_visits job past)) refl
 
 pub holds-untouched : (job : Job) (c : CallNo) (past past' : List Item) → Untouched job c past past' → holds job past' c ≡ holds job past c
 holds-untouched job c past past' u = holds-by job past' c ∙ rw (u.open', u.dispatched, u.visits) refl ∙ sym (holds-by job past c)

@@ -13,17 +13,13 @@ use Rattle.ft_base.specs.Kinds.{cancels}
 use Rattle.ft_hist.specs.Past.{done, begun, entry_of, Visit, registration_at}
 use Rattle.ft_hist.specs.Rules.{OnlyThose, backs_with_replacement, replacement, HasExit}
 use Rattle.ft_hist.specs.Frames.{FrameUser, runs_after, is_nil, IsOwed, is_user_of, is_among, Rises, keeps_frame, FrameOf}
+use Rattle.ft_hist.specs.Known.{Sinks}
 
 -- a visit on this desk, of a user that is on, registered after each of those to come
 pub record MetOf (d : Desk) (f : ℕ) (todo : List ℕ) (m : Visit) : Type 0 where
   pub since : m.since ≡ (user_at d m.user).since
   pub on : is_on d m.user f ≡ true
   pub below : Each (λ u. IsBelow d m.user u) todo
-
--- each was registered before those that were visited earlier
-abbrev pub Sinks : List Visit → Type 0
-Sinks [] = Unit {0}
-Sinks (m ∷ ms) = Each (λ x. m.since < x.since) ms × Sinks ms
 
 pub registration_at-same : (job : Job) (call : CallNo) (u k : ℕ) (past : List Item) → done past ≡ k → begun past ≡ k → registration_at job call u past ≡ k
 registration_at-same job call u k past d b =
@@ -164,4 +160,4 @@ frame-joined job m ms xs back e below h = record {
     split false b x = false_true x
 
     has_exit' : HasExit job m
-    has_exit' = let s = split m.wants (cancels (spec_at job m.user).kind) e in (back, s.0, s.1)
+    has_exit' = let s = split m.framed (cancels (spec_at job m.user).kind) e in (back, s.0, s.1)

@@ -43,7 +43,7 @@ Rises (x ∷ xs) = Each (λ y. x.entry < y.entry) xs × Rises xs
 
 -- whether a visit keeps the call's frame past the Body
 abbrev pub keeps_frame : Job → Visit → Bool
-keeps_frame job m = m.wants && not (cancels (spec_at job m.user).kind)
+keeps_frame job m = m.framed && not (cancels (spec_at job m.user).kind)
 
 -- a frame's users are those whose exits the call owes
 pub record FrameOf (job : Job) (ms : List Visit) (users : List FrameUser) : Type 0 where

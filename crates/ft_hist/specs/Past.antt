@@ -118,7 +118,7 @@ calls [] = []
 calls (Enter c ctx f caller ∷ past) = c ∷ calls past
 calls (_ ∷ past) = calls past
 
--- an entry callback or a refusal: of which registration, at which place, and whether it wants a frame
+-- an entry callback or a refusal: of which registration, at which place, and whether it is a callback that gets a frame
 pub record Visit : Type 0 where
   pub call : CallNo
   pub user : ℕ
@@ -126,11 +126,11 @@ pub record Visit : Type 0 where
   pub since : ℕ
   pub place : ℕ
   pub back : Bool
-  pub wants : Bool
+  pub framed : Bool
 
--- among these visits, one of the call that wants a frame and passes
+-- among these visits, one of the call that got a frame and passes
 abbrev pub has_frame_user : CallNo → (Visit → Bool) → List Visit → Bool
-has_frame_user call passes ms = list_any (λ m. same_call m.call call && m.wants && passes m) ms
+has_frame_user call passes ms = list_any (λ m. same_call m.call call && m.framed && passes m) ms
 
 -- whether a call holds a frame, after these visits
 abbrev pub holds_frame : Job → CallNo → List Item → List Visit → Bool
@@ -143,10 +143,10 @@ abbrev pub held_after : Job → CallNo → List Item → List Visit → ℕ
 held_after job call past ms =
     length (filter (λ c. (c.task.0 == call.task.0) && not (same_call c call) && holds_frame job c past ms) (calls past))
 
--- a Back of the user wants a frame on the shadow stack: always for a graph or profile user, and for an fprobe with an exit
--- if the other calls leave room for one (ftrace.rst, function graph tracer; fprobe.rst, The missed counter)
-abbrev pub wants_frame : Job → CallNo → ℕ → List Item → List Visit → Bool
-wants_frame job call u past ms =
+-- whether a Back of the user gets a frame on the shadow stack: always for a graph or profile user, which is refused where there is none,
+-- and for an fprobe with an exit if the other calls leave room for one (ftrace.rst, function graph tracer; fprobe.rst, The missed counter)
+abbrev pub gets_frame : Job → CallNo → ℕ → List Item → List Visit → Bool
+gets_frame job call u past ms =
     has_depth (spec_at job u).kind || (has_exit (spec_at job u).kind && nat_lt (held_after job call past ms) job.frames)
 
 -- the number of commands after which a user's registration is read: those that have returned if it is on then, else those that have begun
@@ -157,7 +157,7 @@ registration_at job call u past = if is_on (desk job (done past)) u (entry_of ca
 abbrev pub visit : Job → CallNo → ℕ → List Item → List Visit → Bool → Visit
 visit job call u past ms back =
     let s = user_at (desk job (registration_at job call u past)) u in
-    record { call = call; user = u; reg = s.reg; since = s.since; place = length past; back = back; wants = back && wants_frame job call u past ms }
+    record { call = call; user = u; reg = s.reg; since = s.since; place = length past; back = back; framed = back && gets_frame job call u past ms }
 
 -- the entry callbacks and refusals, the latest first
 unfoldable pub all_visits : Job → List Item → List Visit

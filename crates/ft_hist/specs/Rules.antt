@@ -133,7 +133,7 @@ MayMiss job past call u =
 
 -- the Back that set up an exit
 abbrev pub HasExit : Job → Visit → Type 0
-HasExit job m = (m.back ≡ true) × (m.wants ≡ true) × (cancels (spec_at job m.user).kind ≡ false)
+HasExit job m = (m.back ≡ true) × (m.framed ≡ true) × (cancels (spec_at job m.user).kind ≡ false)
 
 -- an exit: of a Back of that user in the call, after the exits of earlier Backs, while its registration is live
 pub record MayExit (job : Job) (past : List Item) (call : CallNo) (u entry : ℕ) : Type 0 where

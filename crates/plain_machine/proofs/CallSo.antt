@@ -1,4 +1,4 @@
--- What is known of a call in its dispatch by the words on its past, and how it goes on over one more visit and over items that don't touch the call.
+-- How what is known of a call in its dispatch goes on over one more visit and over items that don't touch the call.
 use Rattle.std.proofs.Common.{cond, ◌≡◌, ℕ, suc, ◌<◌, ◌≤◌, Bool, true, false, not, ◌&&◌, ◌||◌, ◌==◌, List, [], ◌∷◌, ◌++◌, length, Some, refl, ap, ◌∙◌, subst, arith, inl, inr}
 use Rattle.std.specs.List.{list_any, AllByRecursion as Each}
 use Rattle.ft_base.specs.declared.number.CallNo.{CallNo}
@@ -13,29 +13,17 @@ use Rattle.ft_base.specs.Kinds.{cancels}
 use Rattle.ft_hist.specs.Past.{Entered, done, begun, entered, entry_of, is_open, is_dispatched, exits, all_visits, visit, Visit, visits, held}
 use Rattle.ft_hist.specs.Rules.{replacement, backs_with_replacement, MayVisit}
 use Rattle.ft_hist.proofs.Laws.{same_call-refl}
-use Rattle.ft_hist.proofs.DispatchLaws.{Watches}
+use Rattle.ft_hist.specs.Known.{Watches, Sinks}
 use Rattle.ft_hist.specs.Frames.{FrameUser, runs_after, keeps_frame, FrameOf}
 use Rattle.ft_hist.proofs.Since.{Untouched, watches-untouched}
-use Rattle.ft_hist.proofs.Visiting.{MetOf, Sinks, registration_at-same, unmet, runs-back, runs-refuse, frame-none, frame-joined}
+use Rattle.ft_hist.proofs.Visiting.{MetOf, registration_at-same, unmet, runs-back, runs-refuse, frame-none, frame-joined}
 use Rattle.plain_machine.specs.State.{Walk, Around, takes_frame, joined, refused}
+use Rattle.plain_machine.specs.Dispatching.{CallSo}
 
--- who is still to come for a walker, at any command of the window: nothing here speaks of one desk
+-- how it goes on: nothing here speaks of one desk
 module _ (job : Job) (a : Around) (call : CallNo) (e : Entered) where
-  pub record CallSo (w : Walk) (todo : ℕ → Bool) (past : List Item) : Type 0 where
-    pub known : entered call past ≡ Some e
-    pub opened : is_open call past ≡ true
-    pub undone : is_dispatched call past ≡ false
-    pub unexited : exits call past ≡ []
-    pub sinks : Sinks (visits job call past)
-    pub watch : Watches job call e.func past todo
-    pub runs : w.runs.0 ≡ replacement job e.func (backs_with_replacement job (visits job call past))
-    pub framed : list_any (λ m. m.wants && true) (visits job call past) ≡ w.framed
-    pub frame : FrameOf job (visits job call past) w.users
-    pub places : Each (λ x. x.entry < length past) w.users
-    pub room : w.framed ≡ true → a.level < job.frames
-
   pub so-untouched : (w : Walk) (todo : ℕ → Bool) (past past' : List Item) → Untouched job call past past' → begun past ≤ begun past' → length past ≤ length past'
-      → CallSo w todo past → CallSo w todo past'
+      → CallSo job a call e w todo past → CallSo job a call e w todo past'
   so-untouched w todo past past' u le longer h = record {
     known = u.entered ∙ h.known;
     opened = u.open' ∙ h.opened;
@@ -73,7 +61,7 @@ module _ (job : Job) (a : Around) (call : CallNo) (e : Entered) where
   -- one more visit: the user was registered before those visited, and is taken off those to come
   module _ (w : Walk) (u : ℕ) (todo todo' : ℕ → Bool) (past : List Item)
       (order : Each (λ m. (met_now u past true).since < m.since) (visits job call past))
-      (takes_off : (v : ℕ) → (u == v) ≡ false → todo v ≡ true → todo' v ≡ true) (h : CallSo w todo past) where
+      (takes_off : (v : ℕ) → (u == v) ≡ false → todo v ≡ true → todo' v ≡ true) (h : CallSo job a call e w todo past) where
     watch : (item : Item) (back : Bool) → visits job call (item ∷ past) ≡ met_now u past back ∷ visits job call past
         → entry_of call (item ∷ past) ≡ entry_of call past → begun past ≤ begun (item ∷ past)
         → Watches job call e.func (item ∷ past) todo'
@@ -87,7 +75,7 @@ module _ (job : Job) (a : Around) (call : CallNo) (e : Entered) where
     places-more : Each (λ x. x.entry < suc (length past)) w.users
     places-more = Each-weaker (λ x. x.entry < length past) (λ x. x.entry < suc (length past)) w.users (λ x lt. omega arith) h.places
 
-    pub so-refused : (r : Reason) → CallSo (refused call u r w) todo' (Refuse call (record { 0 = u }) r ∷ past)
+    pub so-refused : (r : Reason) → CallSo job a call e (refused call u r w) todo' (Refuse call (record { 0 = u }) r ∷ past)
     so-refused r = record {
       known = h.known;
       opened = h.opened;
@@ -103,7 +91,7 @@ module _ (job : Job) (a : Around) (call : CallNo) (e : Entered) where
     }
 
     module _ (level : held job call past ≡ a.level) (has_room : takes_frame job a u ≡ true → a.level < job.frames) (reg : ℕ) (of_reg : (met_now u past true).reg ≡ reg) where
-      wants : (met_now u past true).wants ≡ takes_frame job a u
+      wants : (met_now u past true).framed ≡ takes_frame job a u
       wants = rw level refl
 
       room : (w.framed || takes_frame job a u) ≡ true → a.level < job.frames
@@ -139,7 +127,7 @@ module _ (job : Job) (a : Around) (call : CallNo) (e : Entered) where
 
       pub so-called : (made : Walk) → made.runs ≡ runs_after w.runs (spec_at job u).ipmodify → made.framed ≡ (w.framed || takes_frame job a u)
           → made.users ≡ joined job a u reg (length past) w.users
-          → CallSo made todo' (Back call (record { 0 = u }) ∷ past)
+          → CallSo job a call e made todo' (Back call (record { 0 = u }) ∷ past)
       so-called made r f us' = record {
         known = h.known;
         opened = h.opened;

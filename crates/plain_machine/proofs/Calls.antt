@@ -26,18 +26,20 @@ use Rattle.ft_base.specs.Kinds.{has_depth, has_exit}
 use Rattle.ft_hist.specs.Past.{Entered, Callback, is_of, done, begun, entered, entry_of, callbacks, is_at, is_open, open_callbacks, is_dispatched, exits, all_visits, visits, held, miss_due}
 use Rattle.ft_hist.specs.Plain.{plain, after_item, PlainTask, Frame, Phase, Owed, Dispatch, InBack, Running, in_phase, owed_by}
 use Rattle.ft_hist.specs.Rules.{IsLegalPast, MayStand, MayBack, MayVisit, MayRefuse, PassesPid, MayBody, InWindow}
-use Rattle.ft_hist.proofs.DispatchLaws.{WasOff, watches-at_end}
+use Rattle.ft_hist.proofs.DispatchLaws.{watches-at_end}
 use Rattle.ft_hist.proofs.WindowLaws.{visits-more}
 use Rattle.ft_hist.proofs.Laws.{same_call-refl, run_more}
 use Rattle.ft_hist.specs.Frames.{FrameOf}
 use Rattle.ft_hist.proofs.RunLaws.{calls_on, Sound}
-use Rattle.ft_hist.proofs.Since.{Since, since-trans, since-item, since-later, touches, untouched-item, IsOlder, holding, holding-since, holds, holds-by}
+use Rattle.ft_hist.specs.Known.{holds, WasOff}
+use Rattle.ft_hist.proofs.Since.{Since, since-trans, since-item, since-later, touches, untouched-item, IsOlder, holding, holding-since, holds-by}
 use Rattle.ft_hist.proofs.HeldLaws.{held-is, opens as opens-law}
 use Rattle.ft_hist.proofs.Visiting.{only_those, at_most_one}
 use Rattle.ft_base.proofs.Order.{falling-filter}
 use Rattle.ft_hist.proofs.Lists.{Each-passes, has-passes, none_visited}
 use Rattle.plain_machine.specs.State.{Walk, Around, Nested, Made, takes_frame, misses_frame, is_deep, refusal, refusal_by, held_levels, is_full, called, refused, tried, walked, backed, by_act, inside, call_of, on_users}
-use Rattle.plain_machine.proofs.CallSo.{CallSo, VisitedSo, so-untouched, so-refused, so-called, may_visit, entry-is, order-now, visits-more', reg-now, visits-back, visits-refuse}
+use Rattle.plain_machine.specs.Dispatching.{CallSo}
+use Rattle.plain_machine.proofs.CallSo.{VisitedSo, so-untouched, so-refused, so-called, may_visit, entry-is, order-now, visits-more', reg-now, visits-back, visits-refuse}
 
 each-get : {A : Type 0} (P : A → Type 0) (xs : List A) (i : ℕ) (d : A) → P d → Each P xs → P (get_or xs i d)
 each-get P [] i d h e = h
@@ -521,7 +523,7 @@ module _ (job : Job) (k : ℕ) (is : IsWellFormed job) (one : OneModifies job (d
     pub unexited : exits call (body_of w ∷ w.past) ≡ []
     pub frame : FrameOf job (visits job call (body_of w ∷ w.past)) w.users
     pub room : (w.framed ≡ true) → a.level < job.frames
-    pub framed : list_any (λ m. m.wants && true) (visits job call w.past) ≡ w.framed
+    pub framed : list_any (λ m. m.framed && true) (visits job call w.past) ≡ w.framed
     pub frame0 : FrameOf job (visits job call w.past) w.users
 
   pub in_body : (w : Walk) → Dispatching w [] → InBody w

@@ -89,7 +89,7 @@ pub exit_for_old_frame : IsLegal registered_again (before_exit ++ Exit (call_in 
 unfolding desk all_visits
 exit_for_old_frame legal =
     let of = (last registered_again before_exit (Exit (call_in 0 1) (record { 0 = 0 }) 3) legal).rule.0.of in
-    let m : Visit = record { call = call_in 0 1; user = 0; reg = 1; since = 1; place = 3; back = true; wants = true } in
+    let m : Visit = record { call = call_in 0 1; user = 0; reg = 1; since = 1; place = 3; back = true; framed = true } in
     let reg : 1 ≡ of.0.reg = ap (λ (x : Visit). x.reg) (only m of.0 of.1) in
     elim of.5 [
       | inl live ↦ false_true (subst (λ r. is_live (desk registered_again 3) 0 r ≡ true) (sym reg) live)

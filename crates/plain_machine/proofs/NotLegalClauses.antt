@@ -350,8 +350,8 @@ pub exit_of_function_user : IsLegal first_path (before_lack ++ Exit (call_in 0 1
 unfolding desk all_visits
 exit_of_function_user legal =
     let of = (last first_path before_lack (Exit (call_in 0 1) (record { 0 = 0 }) 3) legal).rule.0.of in
-    let m : Visit = record { call = call_in 0 1; user = 0; reg = 1; since = 1; place = 3; back = true; wants = false } in
-    let wants : false ≡ of.0.wants = ap (λ (x : Visit). x.wants) (only m of.0 of.1) in
+    let m : Visit = record { call = call_in 0 1; user = 0; reg = 1; since = 1; place = 3; back = true; framed = false } in
+    let wants : false ≡ of.0.framed = ap (λ (x : Visit). x.framed) (only m of.0 of.1) in
     false_true (wants ∙ of.4.1)
 
 -- and of an fprobe whose entry callback cancels it

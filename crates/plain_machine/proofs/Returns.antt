@@ -10,7 +10,8 @@ use Rattle.ft_hist.specs.Plain.{plain, after_item, PlainTask, Frame, Phase, Leav
 use Rattle.ft_hist.proofs.Laws.{same_call-refl, same_top-refl}
 use Rattle.ft_hist.specs.Frames.{FrameUser}
 use Rattle.ft_hist.proofs.Since.{Since, since-trans, since-item, untouched-item}
-use Rattle.ft_hist.proofs.Exits.{ExitsSo, exits-may, exits-after, exits-dead, exits-untouched, exits-lacks}
+use Rattle.ft_hist.specs.Known.{ExitsSo}
+use Rattle.ft_hist.proofs.Exits.{exits-may, exits-after, exits-dead, exits-untouched, exits-lacks}
 use Rattle.plain_machine.specs.State.{exited}
 use Rattle.plain_machine.proofs.Calls.{Now, push}
 

@@ -159,11 +159,11 @@ any-weaker p q [] h = false_true h
 any-weaker p q (m ∷ ms) h =
     elim (p m) as (λ b. ((b && q m) || list_any (λ x. p x && q x) ms) ≡ true → ((b && true) || list_any (λ x. p x && true) ms) ≡ true) [ true ↦ λ e. refl | false ↦ λ e. any-weaker p q ms e ] h
 
-few-after : (job : Job) (ms : List Visit) (users : List FrameUser) (us : List (List FrameUser)) (framed : Bool) → FrameOf job ms users → list_any (λ m. m.wants && true) ms ≡ framed
+few-after : (job : Job) (ms : List Visit) (users : List FrameUser) (us : List (List FrameUser)) (framed : Bool) → FrameOf job ms users → list_any (λ m. m.framed && true) ms ≡ framed
     → (framed ≡ true → frames_of us < job.frames) → frames_of us ≤ job.frames → frames_of (users ∷ us) ≤ job.frames
 few-after job ms [] us framed f fr room few = few
 few-after job ms (x ∷ xs) us framed f fr room few =
-    let lt = room (sym fr ∙ any-weaker (λ m. m.wants) (λ m. not (cancels (spec_at job m.user).kind)) ms f.kept) in omega arith
+    let lt = room (sym fr ∙ any-weaker (λ m. m.framed) (λ m. not (cancels (spec_at job m.user).kind)) ms f.kept) in omega arith
 
 module _ (job : Job) (is : IsWellFormed job) where
   pub row_call : (s : State) (t : ℕ) (g : FuncNo) (rest : List TaskAct) → (task_at s t).run.acts ≡ Call g ∷ rest → Rule job s → Rule job (called_by job s t (task_at s t) rest g.0)

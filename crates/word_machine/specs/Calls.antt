@@ -4,8 +4,7 @@ use Rattle.ft_base.specs.declared.item.Item.{Item}
 use Rattle.ft_base.specs.Job.{Job, funcs}
 use Rattle.ft_hist.specs.Past.{Visit, ctx_of, visits, is_open, is_dispatched, exits, done_at_leave}
 use Rattle.ft_hist.specs.Frames.{FrameUser, FrameOf}
-use Rattle.ft_hist.proofs.Since.{holds}
-use Rattle.ft_hist.proofs.Exits.{ExitsSo}
+use Rattle.ft_hist.specs.Known.{holds, ExitsSo}
 use Rattle.word_machine.specs.Task.{OpenCall, Moment, Polling, First, Ending, Leaving, AtExit, Exiting, EndingExit, Returning, user_of}
 use Rattle.word_machine.specs.Verdicts.{Here, Dispatches, SeenLive}
 

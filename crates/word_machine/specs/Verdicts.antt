@@ -15,7 +15,7 @@ use Rattle.ft_hist.specs.Past.{Visit, visits}
 use Rattle.ft_hist.specs.Rules.{InWindow, OnlyThose}
 use Rattle.ft_hist.specs.Plain.{owed_by}
 use Rattle.plain_machine.specs.State.{Walk, is_full, misses_frame}
-use Rattle.plain_machine.proofs.CallSo.{CallSo}
+use Rattle.plain_machine.specs.Dispatching.{CallSo}
 use Rattle.word_machine.specs.Commands.{insn, effect, state_of}
 use Rattle.word_machine.specs.Control.{Position}
 use Rattle.word_machine.specs.Task.{OpenCall, Moment, Fetch, GotHead, GotBreak, InTramp, OwnSel, AtFirst, TestSel, TestFilter, TestNotrace, AtPids, AtDepth, Refusing, Calling, Missing, Acting, Ending, AtLink, Closing, around, level_of}

@@ -12,7 +12,7 @@ use Rattle.ft_base.specs.Desk.{UserState, desk, is_allowed, is_matching}
 use Rattle.ft_base.proofs.Small.{and_both, Each-weaker}
 use Rattle.ft_hist.specs.Past.{begun, visits, Visit, entry_of}
 use Rattle.ft_hist.specs.Frames.{FrameUser}
-use Rattle.ft_hist.proofs.DispatchLaws.{Watches}
+use Rattle.ft_hist.specs.Known.{Watches}
 use Rattle.plain_machine.specs.State.{has_acts}
 use Rattle.word_map.specs.Contents.{low, greatest_half, all_ones}
 use Rattle.word_machine.specs.Commands.{effect, state_of}

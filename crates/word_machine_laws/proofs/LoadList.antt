@@ -10,7 +10,7 @@ use Rattle.ft_base.specs.Order.{has}
 use Rattle.ft_base.proofs.Small.{false_true, Each-weaker}
 use Rattle.ft_hist.specs.Past.{begun, visits, entry_of, Visit}
 use Rattle.ft_hist.specs.Rules.{OnlyThose}
-use Rattle.ft_hist.proofs.DispatchLaws.{WasOff}
+use Rattle.ft_hist.specs.Known.{WasOff}
 use Rattle.word_machine.specs.Commands.{state_of}
 use Rattle.word_machine.specs.Task.{OpenCall, Moment, AtFirst, AtLink, TestSel, Closing, walks_to}
 use Rattle.word_machine.specs.Progress.{listed}

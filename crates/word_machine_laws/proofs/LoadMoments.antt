@@ -10,9 +10,10 @@ use Rattle.ft_base.specs.WellFormed.{IsScript}
 use Rattle.ft_base.proofs.Small.{false_true}
 use Rattle.ft_hist.specs.Past.{Entered, Callback, done, visits, entry_of}
 use Rattle.ft_hist.specs.Plain.{Phase, Dispatch, Leaving as InReturn, ahead}
-use Rattle.ft_hist.proofs.DispatchLaws.{Watches}
+use Rattle.ft_hist.specs.Known.{Watches}
 use Rattle.plain_machine.specs.State.{Walk, Around, has_acts, is_full}
-use Rattle.plain_machine.proofs.CallSo.{CallSo, entry-is}
+use Rattle.plain_machine.specs.Dispatching.{CallSo}
+use Rattle.plain_machine.proofs.CallSo.{entry-is}
 use Rattle.word_map.specs.Contents.{low}
 use Rattle.word_machine.specs.Task.{OpenCall, Moment, Polling, First, Missing, Acting, Ending, Leaving, AtExit, Exiting, EndingExit, Returning, around, is_quiet, allowed_in, begin_call, depth_in, fetched, guard_in, head_in, own_in, passes_in, tests_in, walks_to, pid_in, exit_in, guard_test}
 use Rattle.word_machine.specs.UserList.{since_of, list_desk}

@@ -9,7 +9,7 @@ use Rattle.ft_base.specs.Desk.{UserState, desk, is_sited, is_on, is_matching}
 use Rattle.ft_base.proofs.Small.{false_true}
 use Rattle.ft_hist.specs.Past.{visits, Visit}
 use Rattle.ft_hist.specs.Rules.{OnlyThose}
-use Rattle.ft_hist.proofs.DispatchLaws.{WasOff}
+use Rattle.ft_hist.specs.Known.{WasOff}
 use Rattle.word_map.specs.Contents.{high, half_size, sel_on, stands, tramp_user}
 use Rattle.word_machine.specs.Commands.{Effect, Adds, Removes, Edits, Enables, Disables, Lists, Levels, Nothing, effect, subject, state_of}
 use Rattle.word_machine.specs.Task.{OpenCall, InTramp, OwnSel, Closing, own_in, begin_call}

@@ -12,7 +12,7 @@ use Rattle.ft_base.specs.Desk.{UserState, desk, spec_at, is_on, is_allowed}
 use Rattle.ft_base.specs.Kinds.{has_depth}
 use Rattle.ft_base.proofs.Small.{false_true, Each-weaker}
 use Rattle.ft_hist.specs.Past.{begun, visits, entry_of, Visit}
-use Rattle.ft_hist.proofs.DispatchLaws.{Watches, WasOff}
+use Rattle.ft_hist.specs.Known.{Watches, WasOff}
 use Rattle.plain_machine.specs.State.{is_full}
 use Rattle.word_map.specs.Contents.{high, sel_on, sel_copy, sel_empty, is_marked}
 use Rattle.word_machine.specs.Commands.{effect, state_of, set_words}

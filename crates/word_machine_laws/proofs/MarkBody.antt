@@ -21,7 +21,8 @@ use Rattle.ft_hist.specs.Frames.{is_nil, keeps_frame}
 use Rattle.ft_hist.proofs.Laws.{same_call-refl}
 use Rattle.ft_hist.proofs.WindowLaws.{begun-more}
 use Rattle.ft_hist.proofs.Visiting.{MetOf, at_most_one}
-use Rattle.ft_hist.proofs.Since.{holds, holds-by}
+use Rattle.ft_hist.specs.Known.{holds}
+use Rattle.ft_hist.proofs.Since.{holds-by}
 use Rattle.plain_machine.proofs.CallSo.{entry-is}
 use Rattle.word_map.specs.Contents.{low, greatest_half}
 use Rattle.word_machine.specs.Commands.{effect, subject, state_of, Effect}
@@ -97,13 +98,13 @@ module _ (job : Job) (ok : IsWordJob job) (h : Here) (q f : ℕ) where
         | false ↦ λ e. (h.d, Each-weaker (λ m. SeenVisit job h q m f) (On h.d) ms (λ m x. all_old e m (either (selected h.p) (effect job h.d) m x)) each)
       ] refl
 
-wants-any : (job : Job) (ms : List Visit) → list_any (λ m. keeps_frame job m) ms ≡ true → list_any (λ m. m.wants && true) ms ≡ true
-wants-any job [] e = e
-wants-any job (m ∷ ms) e =
-    elim m.wants as (λ b. ((b && not (cancels (spec_at job m.user).kind)) || list_any (λ m. keeps_frame job m) ms) ≡ true
-    → ((b && true) || list_any (λ m. m.wants && true) ms) ≡ true) [
+framed-any : (job : Job) (ms : List Visit) → list_any (λ m. keeps_frame job m) ms ≡ true → list_any (λ m. m.framed && true) ms ≡ true
+framed-any job [] e = e
+framed-any job (m ∷ ms) e =
+    elim m.framed as (λ b. ((b && not (cancels (spec_at job m.user).kind)) || list_any (λ m. keeps_frame job m) ms) ≡ true
+    → ((b && true) || list_any (λ m. m.framed && true) ms) ≡ true) [
       | true ↦ λ x. refl
-      | false ↦ λ x. wants-any job ms x
+      | false ↦ λ x. framed-any job ms x
     ] e
 
 module _ (job : Job) (ok : IsWordJob job) (h : Here) (ack word clock : ℕ) (past : List Item) (counts : Counts h.d h.p clock past) (runs : (t : ℕ)
@@ -185,7 +186,7 @@ module _ (job : Job) (ok : IsWordJob job) (h : Here) (ack word clock : ℕ) (pas
     few_body : level_of (c' ∷ below) ≤ job.frames
     few_body =
         elim (not (is_nil c.users)) as (λ b. not (is_nil c.users) ≡ b → cond b (suc (level_of below)) (level_of below) ≤ job.frames) [
-          | true ↦ λ x. (let framed : c.framed ≡ true = sym d.so.framed ∙ wants-any job (visits job c.call past) (d.so.frame.kept ∙ x) in
+          | true ↦ λ x. (let framed : c.framed ≡ true = sym d.so.framed ∙ framed-any job (visits job c.call past) (d.so.frame.kept ∙ x) in
               let lt = d.so.room framed in omega arith)
           | false ↦ λ x. few-below job c below k.few
         ] refl

@@ -25,9 +25,11 @@ use Rattle.ft_hist.specs.Plain.{plain, after_item, PlainTask, Frame, Phase, Disp
 use Rattle.ft_hist.specs.Rules.{IsLegalPast, MayFollow, MayVisit, MayRefuse, MayBack, IsFree, PassesPid}
 use Rattle.ft_hist.proofs.Laws.{same_call-refl}
 use Rattle.ft_hist.proofs.WindowLaws.{begun-more, InWindow-more, visits-more}
-use Rattle.ft_hist.proofs.Since.{untouched-item, touches, holds, holds-by}
+use Rattle.ft_hist.specs.Known.{holds}
+use Rattle.ft_hist.proofs.Since.{untouched-item, touches, holds-by}
 use Rattle.plain_machine.specs.State.{Walk, Around, takes_frame, misses_frame, held_levels, joined}
-use Rattle.plain_machine.proofs.CallSo.{CallSo, so-untouched, so-refused, so-called, visits-refuse, visits-back, entry-is}
+use Rattle.plain_machine.specs.Dispatching.{CallSo}
+use Rattle.plain_machine.proofs.CallSo.{so-untouched, so-refused, so-called, visits-refuse, visits-back, entry-is}
 use Rattle.word_map.specs.Contents.{low}
 use Rattle.word_machine.specs.Task.{OpenCall, TaskState, Moment, Refusing, Calling, Missing, Acting, Ending, AtLink, Closing, is_quiet, around, level_of, after_user, called_back, act_in, miss_in}
 use Rattle.word_machine.specs.Progress.{SeenAt, underway, selected, pids_stored, depth_stored}

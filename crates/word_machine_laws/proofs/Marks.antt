@@ -10,7 +10,7 @@ use Rattle.ft_hist.specs.Plain.{plain, after_item, PlainTask}
 use Rattle.ft_hist.specs.Rules.{MayFollow, MayStand}
 use Rattle.ft_hist.proofs.Laws.{run_more}
 use Rattle.plain_machine.specs.State.{Walk}
-use Rattle.plain_machine.proofs.CallSo.{CallSo}
+use Rattle.plain_machine.specs.Dispatching.{CallSo}
 use Rattle.word_map.specs.Contents.{low}
 use Rattle.word_machine.specs.Task.{OpenCall, Moment, is_quiet, level_of}
 use Rattle.word_machine.specs.Verdicts.{Here}

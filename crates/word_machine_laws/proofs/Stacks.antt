@@ -12,7 +12,8 @@ use Rattle.ft_base.specs.Job.{Job}
 use Rattle.ft_base.proofs.Small.{and-false}
 use Rattle.ft_hist.specs.Past.{Callback, callbacks, is_at, is_ctx, open_callbacks, held}
 use Rattle.ft_hist.proofs.RunLaws.{calls_on}
-use Rattle.ft_hist.proofs.Since.{Untouched, untouched-item, touches, holding, holds}
+use Rattle.ft_hist.specs.Known.{holds}
+use Rattle.ft_hist.proofs.Since.{Untouched, untouched-item, touches, holding}
 use Rattle.ft_hist.proofs.HeldLaws.{opens as opens-law, Opens, held-is}
 use Rattle.plain_machine.specs.State.{held_levels}
 use Rattle.word_machine.specs.Task.{OpenCall, TaskState, Moment, guards_under, level_of, around, user_of}
