@@ -9,7 +9,7 @@ ghost use Rattle.fprobe.specs.Entry.{calls_after};
 use ft_base::UserNo;
 use ft_base::limits::USERS;
 use return_stack::Stacks;
-use user_specs::{Kind, Spec};
+use user_specs::Spec;
 
 /// What comes of an fprobe's callback at the entry of a call.
 #[derive(Clone, Copy, Debug, PartialEq, Eq)]
@@ -39,16 +39,13 @@ pub fn probe_entry(stacks: &mut Stacks, spec: &Spec, user: UserNo, reg: u32, ent
 
     ensures stacks { stacks.new ≡ record stacks.old { calls = calls_after result stacks.old.calls (record { user = user; reg = reg; entry = entry }) } }
 {
-    let Kind::Fprobe { exit, cancel } = spec.kind else {
-        unreachable!()
-    };
-    if !exit {
+    if !spec.kind.has_exit() {
         return Probe::Plain;
     }
     if stacks.hook().is_err() {
         return Probe::Missed;
     }
-    if cancel {
+    if spec.kind.cancels() {
         return Probe::Cancelled;
     }
     stacks.add_user(user, reg, entry);

@@ -1,8 +1,7 @@
 //! A user of the tracer as a script declares it.
 
 ghost use Rattle.std.specs.Prelude.{◌≡◌};
-ghost use Rattle.ft_base.specs.Kinds.{has_depth};
-ghost use Rattle.user_specs.specs.Kinds.{wants_frame};
+ghost use Rattle.ft_base.specs.Kinds.{has_depth, wants_frame};
 
 use ft_base::{Act, FuncNo, Kind};
 
@@ -28,11 +27,7 @@ pub struct Spec {
 pub fn wants_frame(spec: &Spec) -> bool
     ensures { result ≡ wants_frame spec.now.kind }
 {
-    match spec.kind {
-        Kind::Function => false,
-        Kind::Graph | Kind::Profile => true,
-        Kind::Fprobe { exit, .. } => exit,
-    }
+    spec.kind.wants_frame()
 }
 
 /// Whether the graph depth holds for the user (`ftrace.rst`, `max_graph_depth`): a graph or profile
@@ -40,5 +35,5 @@ pub fn wants_frame(spec: &Spec) -> bool
 pub fn has_depth(spec: &Spec) -> bool
     ensures { result ≡ has_depth spec.now.kind }
 {
-    matches!(&spec.kind, Kind::Graph | Kind::Profile)
+    spec.kind.has_depth()
 }
