@@ -1,5 +1,6 @@
 -- Small facts on tests and lists that many proofs use.
-use Rattle.std.proofs.Common.{cond, ◌≡◌, ℕ, suc, ◌⊎◌, Bool, true, false, ◌&&◌, ◌||◌, ◌==◌, List, [], ◌∷◌, ◌++◌, refl, sym, arith, rules, inl, inr}
+use Rattle.std.proofs.Common.{cond, ◌≡◌, ◌<◌, ◌≤◌, ℕ, zero, suc, ◌⊎◌, Bool, true, false, not, ◌&&◌, ◌||◌, ◌==◌, nat_lt, List, [], ◌∷◌, ◌++◌, get_or, refl, sym, arith, rules, inl, inr, ltb-true, ltb-false}
+use Rattle.std.proofs.lemmas.Bool.Decides.{eqb_tells}
 use Rattle.std.specs.Prelude.{Contains}
 use Rattle.std.specs.List.{filter, AllByRecursion as Each}
 
@@ -26,6 +27,12 @@ pub Each-filter : {X : Type 0} (P : X → Type 0) (p : X → Bool) (xs : List X)
 Each-filter P p [] h = tt
 Each-filter P p (x ∷ xs) h = elim (p x) as (λ b. Each P (cond b (x ∷ filter p xs) (filter p xs))) [ true ↦ (h.0, Each-filter P p xs h.1) | false ↦ Each-filter P p xs h.1 ]
 
+-- what holds of each, and of what stands for a number that isn't there, holds at each number
+pub each-get : {A : Type 0} (P : A → Type 0) (xs : List A) (i : ℕ) (d : A) → P d → Each P xs → P (get_or xs i d)
+each-get P [] i d h e = h
+each-get P (x ∷ xs) zero d h e = e.0
+each-get P (x ∷ xs) (suc i) d h e = each-get P xs i d h e.1
+
 pub Contains-head : {X : Type 0} (x : X) (xs : List X) → Contains (x ∷ xs) x
 Contains-head x xs = (0, omega arith, refl)
 
@@ -47,3 +54,13 @@ or-true false = refl
 pub or-true_either : (a b : Bool) → (a || b) ≡ true → (a ≡ true) ⊎ (b ≡ true)
 or-true_either true b e = inl refl
 or-true_either false b e = inr e
+
+-- what is at most its limit has reached it if it is not below
+pub full : (level frames : ℕ) → level ≤ frames → (level == frames) ≡ not (nat_lt level frames)
+full level frames le =
+    elim (nat_lt level frames) as (λ b. nat_lt level frames ≡ b → (level == frames) ≡ not b) [
+      | true ↦ λ e. let lt : level < frames = ltb-true level frames e in
+          elim (eqb_tells level frames) [ inl x ↦ (let y : level ≡ frames = x.1 in absurd (omega arith)) | inr x ↦ x.0 ]
+      | false ↦ λ e. let ge : frames ≤ level = ltb-false level frames e in
+          elim (eqb_tells level frames) [ inl x ↦ x.0 | inr x ↦ absurd (x.1 (omega arith)) ]
+    ] refl

@@ -1,29 +1,34 @@
 -- No version allows more than the layout of words, bytes and frames has room for.
-use Rattle.std.proofs.Common.{◌≡◌, ◌<◌, ◌≤◌, ◌==◌, ℕ, Bool, true, false, refl, arith}
-use Rattle.ft_base.specs.declared.limits.TheConstants.{VERSION, FUNCS, USERS, TRAMPS, GUARD_LEVELS}
-use Rattle.ft_base.specs.Versions.{limits_of, levels}
+use Rattle.std.proofs.Common.{◌≡◌, ◌≤◌, ◌==◌, ℕ, Bool, true, false, refl, arith}
+use Rattle.ft_base.specs.declared.limits.TheConstants.{VERSION, GUARD_LEVELS}
+use Rattle.ft_base.specs.declared.limits.Limits.{Limits}
+use Rattle.ft_base.specs.Versions.{largest, limits_of, levels, IsFew}
 use Rattle.ft_base.specs.Job.{Job}
 
-pub funcs-most : (version : ℕ) → (limits_of version).funcs ≤ FUNCS
-funcs-most version = by (version == VERSION) refl
-  where
-    by : (b : Bool) → (version == VERSION) ≡ b → (limits_of version).funcs ≤ FUNCS
-    by true e = rw e (omega arith)
-    by false e = rw e (omega arith)
+-- each limit is at most another one
+record AreAtMost (limits most : Limits) : Type 0 where
+  funcs : limits.funcs ≤ most.funcs
+  users : limits.users ≤ most.users
+  tramps : limits.tramps ≤ most.tramps
+  levels : limits.levels ≤ most.levels
 
-pub users-most : (version : ℕ) → (limits_of version).users ≤ USERS
-users-most version = by (version == VERSION) refl
+at-most-largest : (version : ℕ) → AreAtMost (limits_of version) largest
+at-most-largest version = by (version == VERSION) refl
   where
-    by : (b : Bool) → (version == VERSION) ≡ b → (limits_of version).users ≤ USERS
-    by true e = rw e (omega arith)
-    by false e = rw e (omega arith)
+    by : (b : Bool) → (version == VERSION) ≡ b → AreAtMost (limits_of version) largest
+    by true e = rw e (record { funcs = omega arith; users = omega arith; tramps = omega arith; levels = omega arith })
+    by false e = rw e (record { funcs = omega arith; users = omega arith; tramps = omega arith; levels = omega arith })
 
-pub tramps-most : (version : ℕ) → (limits_of version).tramps ≤ TRAMPS
-tramps-most version = by (version == VERSION) refl
-  where
-    by : (b : Bool) → (version == VERSION) ≡ b → (limits_of version).tramps ≤ TRAMPS
-    by true e = rw e (omega arith)
-    by false e = rw e (omega arith)
+-- what is within the limits of a version is within the largest
+pub few-largest : {funcs users tasks tramps : ℕ} (version : ℕ) → IsFew (limits_of version) funcs users tasks tramps → IsFew largest funcs users tasks tramps
+few-largest version few =
+    let most = at-most-largest version in
+    record {
+      few_functions = (let a = few.few_functions in let b = most.funcs in omega (arith, a, b));
+      few_users = (let a = few.few_users in let b = most.users in omega (arith, a, b));
+      few_tasks = few.few_tasks;
+      few_tramps = (let a = few.few_tramps in let b = most.tramps in omega (arith, a, b));
+    }
 
 -- each guard has a level, and at most two
 pub levels-some : (job : Job) → 1 ≤ levels job
@@ -34,8 +39,4 @@ levels-some job = by (job.version == VERSION) refl
     by false e = rw (levels, e) (omega arith)
 
 pub levels-most : (job : Job) → levels job ≤ GUARD_LEVELS
-levels-most job = by (job.version == VERSION) refl
-  where
-    by : (b : Bool) → (job.version == VERSION) ≡ b → levels job ≤ GUARD_LEVELS
-    by true e = rw (levels, e) (omega arith)
-    by false e = rw (levels, e) (omega arith)
+levels-most job = (at-most-largest job.version).levels

@@ -8,5 +8,6 @@ pub mod Kinds
 pub mod Items
 pub mod Desk
 pub mod Order
+pub mod Acts
 pub mod WellFormed
 pub mod Schedule

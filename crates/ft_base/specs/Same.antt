@@ -1,5 +1,5 @@
 -- Tests of equality on the numbers that name things, and the order of contexts.
-use Rattle.std.specs.Prelude.{ℕ, Bool, ◌&&◌, ◌==◌, nat_lt, Option, Some, None, if◌then◌else◌}
+use Rattle.std.specs.Prelude.{ℕ, Bool, ◌&&◌, ◌==◌, nat_lt, List, [], ◌∷◌, Option, Some, None, if◌then◌else◌}
 use Rattle.ft_base.specs.declared.number.CallNo.{CallNo}
 use Rattle.ft_base.specs.declared.context.Ctx.{Ctx}
 use Rattle.ft_base.specs.declared.context.Ctx.TheVariants.{Normal, Softirq, Irq, Nmi}
@@ -22,3 +22,8 @@ same_ctx a b = rank a == rank b
 -- the context that an interrupt comes in, if it is above the present one
 abbrev pub raised : Ctx → Ctx → Option Ctx
 raised now to = if nat_lt (rank now) (rank to) then Some to else None
+
+-- the present context, where these have come, the latest first
+abbrev pub context : List Ctx → Ctx
+context [] = Normal
+context (c ∷ rest) = c
