@@ -1,10 +1,12 @@
--- What the words hold: halves, a user's state, a trampoline's user, a word of a set, the tasks that are traced.
-use Rattle.std.specs.Prelude.{ℕ, zero, suc, ◌+◌, ◌*◌, ◌-◌, ◌/◌, ◌%◌, Bool, ◌==◌, ◌&&◌, map, if◌then◌else◌}
+-- What the words hold: halves, the clock, a user's state, a trampoline's user, the name of a user, a word of a set, the tasks that are traced.
+use Rattle.std.specs.Prelude.{ℕ, zero, suc, ◌+◌, ◌*◌, ◌-◌, ◌/◌, ◌%◌, Bool, ◌==◌, ◌&&◌, map, Option, Some, None, if◌then◌else◌}
 use Rattle.std.specs.List.{range_with_len}
 use Rattle.std.specs.Int.{bit_at}
+use Rattle.ft_base.specs.declared.number.UserNo.{UserNo}
 use Rattle.ft_base.specs.Marks.{is_empty}
 use Rattle.ft_base.specs.Desk.{Desk, UserState, is_allowed}
 use Rattle.site_set.specs.Marks.{number_with_bits, word_of}
+use Rattle.word_map.specs.declared.sel.Sel.{Sel}
 
 -- ## halves of a word
 
@@ -33,6 +35,10 @@ abbrev pub all_ones : ℕ
 all_ones = 18446744073709551615
 
 -- ## what the halves and bits say
+
+-- what a mark adds to the clock: 1, and for an item of a command 1 more in the high half
+abbrev pub mark_weight : Bool → ℕ
+mark_weight command = if command then half_size + 1 else 1
 
 -- how many commands had returned when the clock held this: its high half counts the Begin and the Return of each
 abbrev pub returned_at : ℕ → ℕ
@@ -63,6 +69,16 @@ sel_copy v = v / 4 % 2
 abbrev pub sel_empty : ℕ → Bool
 sel_empty v = v / 8 % 2 == 1
 
+-- a state by its parts
+abbrev pub sel_parts : ℕ → Sel
+sel_parts v = record {
+  reg = high v;
+  registered = v % 2 == 1;
+  enabled = v / 2 % 2 == 1;
+  copy = sel_copy v;
+  empty = sel_empty v;
+}
+
 -- the user is registered under this number, and enabled
 abbrev pub stands : ℕ → ℕ → Bool
 stands v reg = sel_on v && (high v == reg)
@@ -74,6 +90,16 @@ tramp_word reg u = halves reg (u + 1)
 -- the user of a trampoline's word
 abbrev pub tramp_user : ℕ → ℕ
 tramp_user v = low v - 1
+
+-- what a word holds that names this user: 0 if it names none
+abbrev pub name_of : Option UserNo → ℕ
+name_of None = 0
+name_of (Some u) = suc u.0
+
+-- the user that a word names
+abbrev pub named : ℕ → Option UserNo
+named zero = None
+named (suc u) = Some (record { 0 = u })
 
 -- a number is in the set of which this is the word
 abbrev pub is_marked : ℕ → ℕ → Bool

@@ -1,4 +1,4 @@
-//! Words of two halves, each a number below 2 ^ 32.
+//! Words of two halves, each a number below 2 ^ 32. What the halves mean, the module of each word says.
 
 ghost use Rattle.std.specs.Prelude.{◌≡◌, ◌<◌};
 ghost use Rattle.word_map.specs.Contents.{greatest_half, halves, high, low, tramp_word};
@@ -26,11 +26,10 @@ pub fn low(word: u64) -> u32
     (word & 0xFFFF_FFFF) as u32
 }
 
-/// What a trampoline's word holds while the trampoline has a user: in the high half the user's
-/// registration number, and in the low half the user's number plus 1. A free one holds 0.
+/// A trampoline's word, as `tramp::word` makes it.
 pub fn tramp_word(reg: u32, user: UserNo) -> u64
     requires { user.0 < greatest_half }
     ensures { result ≡ tramp_word reg user.0 }
 {
-    halves(reg, user.0 + 1)
+    crate::tramp::word(reg, user)
 }

@@ -147,7 +147,7 @@ impl WordMap {
         self.acks() + self.shape.cpus + t.0
     }
 
-    /// The user of trampoline `s` and its registration number, as `halves::tramp_word` has them, or 0
+    /// The user of trampoline `s` and its registration number, as `tramp::word` has them, or 0
     /// if the trampoline is free.
     pub fn tramp(&self, s: u8) -> u32
         requires { s < self.now.tramps }
