@@ -21,7 +21,7 @@ use crate::command::Command;
 use crate::plan::Plan;
 use crate::roster::Roster;
 use filter_hash::HashPair;
-use ft_base::{Answer, FuncNo, Half, Kind, NoMemory, Ran, UserNo};
+use ft_base::{Answer, FuncNo, Half, NoMemory, Ran, UserNo};
 use pid_filter::Pids;
 use site_bytes::Insn;
 use site_counts::Row;
@@ -287,9 +287,10 @@ impl Desk {
         if !this.registered {
             return Answer::NotThere;
         }
-        match this.kind {
-            Kind::Fprobe { .. } => Answer::Accepted,
-            Kind::Function | Kind::Graph | Kind::Profile => Answer::Invalid,
+        if this.kind.is_fprobe() {
+            Answer::Accepted
+        } else {
+            Answer::Invalid
         }
     }
 
