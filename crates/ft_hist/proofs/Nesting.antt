@@ -27,7 +27,7 @@ top-of-frames : (fs : List Frame) → top_call fs ≡ top_of (calls_on fs)
 top-of-frames [] = refl
 top-of-frames (f ∷ fs) = refl
 
-same_top-eq : (a b : Option CallNo) → same_top a b ≡ true → a ≡ b
+pub same_top-eq : (a b : Option CallNo) → same_top a b ≡ true → a ≡ b
 same_top-eq None None e = refl
 same_top-eq (Some a) (Some b) e = ap (λ (c : CallNo). Some c) (same_call-eq a b e)
 same_top-eq None (Some b) e = false_true e

@@ -2,14 +2,14 @@
 use Rattle.std.specs.Prelude.{ℕ, suc, Bool, true, false, ◌&&◌, ◌==◌, nat_lt, nat_le, List, [], ◌∷◌, get_or, Option, Some, None, if◌then◌else◌}
 use Rattle.ft_base.specs.declared.number.CallNo.{CallNo}
 use Rattle.ft_base.specs.declared.context.Ctx.{Ctx}
-use Rattle.ft_base.specs.declared.context.Ctx.TheVariants.{Normal, Irq}
+use Rattle.ft_base.specs.declared.context.Ctx.TheVariants.{Irq}
 use Rattle.ft_base.specs.declared.item.Item.{Item}
 use Rattle.ft_base.specs.declared.item.Item.TheVariants.{Enter, Back, BackEnd, Refuse, Miss, Body, Leave, Exit, ExitEnd, Ret}
 use Rattle.ft_base.specs.declared.task.TaskAct.{TaskAct}
 use Rattle.ft_base.specs.declared.task.TaskAct.TheVariants.{Call, Ret as RetAct, Raise, Lower, After}
 use Rattle.ft_base.specs.declared.user.Act.{Act}
 use Rattle.ft_base.specs.declared.user.Act.TheVariants.{CallIn, IrqIn}
-use Rattle.ft_base.specs.Same.{same_call, same_ctx, rank}
+use Rattle.ft_base.specs.Same.{same_call, same_ctx, rank, context}
 use Rattle.ft_base.specs.Job.{Job, no_task}
 use Rattle.ft_base.specs.Desk.{spec_at}
 use Rattle.ft_hist.specs.Past.{done, is_of}
@@ -44,11 +44,6 @@ pub record PlainTask : Type 0 where
   pub gone : ℕ
   pub contexts : List Ctx
   pub stack : List Frame
-
--- the present context
-abbrev pub context : List Ctx → Ctx
-context [] = Normal
-context (c ∷ rest) = c
 
 -- the contexts after the latest is left
 abbrev pub below_top : List Ctx → List Ctx

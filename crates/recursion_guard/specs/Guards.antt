@@ -1,7 +1,8 @@
 -- The contexts that a task is in, and how many levels of their guards are held (ftrace-uses.rst, Protect your callback).
-use Rattle.std.specs.Prelude.{ℕ, suc, ◌<◌, ◌-◌, Bool, false, nat_le, List, [], ◌∷◌}
+use Rattle.std.specs.Prelude.{ℕ, suc, ◌<◌, ◌-◌, Bool, false, nat_le, List, []}
 use Rattle.ft_base.specs.declared.context.Ctx.{Ctx}
 use Rattle.ft_base.specs.declared.context.Ctx.TheVariants.{Normal, Softirq, Irq, Nmi}
+use Rattle.ft_base.specs.Same.{context}
 use Rattle.recursion_guard.specs.declared.by_context.ByContext.{ByContext}
 use Rattle.recursion_guard.specs.declared.held.HeldLevels.{HeldLevels}
 
@@ -54,11 +55,6 @@ pub record GuardState : Type 0 where
 -- a task in its normal context, with no guard held
 abbrev pub at_start : ℕ → GuardState
 at_start levels = record { raised = []; held = unheld; levels = levels }
-
--- the present context
-abbrev pub context : List Ctx → Ctx
-context [] = Normal
-context (c ∷ rest) = c
 
 -- how many levels of the guard of the present context are held
 abbrev pub held_now : GuardState → ℕ

@@ -1,7 +1,8 @@
 //! One mark for each context.
 
 ghost use Rattle.std.specs.Prelude.{◌≡◌};
-ghost use Rattle.recursion_guard.specs.Guards.{unmarked, mark_of, with_mark, context};
+ghost use Rattle.ft_base.specs.Same.{context};
+ghost use Rattle.recursion_guard.specs.Guards.{unmarked, mark_of, with_mark};
 ghost use Rattle.recursion_guard.specs.Kept.{marked};
 
 use ft_base::Ctx;

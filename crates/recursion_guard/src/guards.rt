@@ -2,8 +2,8 @@
 
 ghost use Rattle.std.specs.Prelude.{◌≡◌, ◌<◌, ◌∷◌, ◌↔◌, false, length, IsTrue};
 ghost use Rattle.std.specs.Bool.{OnTrue, OnFalse};
-ghost use Rattle.ft_base.specs.Same.{rank};
-ghost use Rattle.recursion_guard.specs.Guards.{at_start, context, entered, is_full, left, IsHeld};
+ghost use Rattle.ft_base.specs.Same.{rank, context};
+ghost use Rattle.recursion_guard.specs.Guards.{at_start, entered, is_full, left, IsHeld};
 
 use crate::by_context::ByContext;
 use crate::held::HeldLevels;

@@ -1,9 +1,9 @@
 //! A law of guards, for readers of the definitions and for the layers above.
 
 ghost use Rattle.std.specs.Prelude.{◌≡◌, suc, ◌-◌, if◌then◌else◌};
-ghost use Rattle.ft_base.specs.Same.{same_ctx};
+ghost use Rattle.ft_base.specs.Same.{same_ctx, context};
 ghost use Rattle.ft_base.specs.declared.context.Ctx.{Ctx};
-ghost use Rattle.recursion_guard.specs.Guards.{GuardState, context, entered, held_in, left};
+ghost use Rattle.recursion_guard.specs.Guards.{GuardState, entered, held_in, left};
 
 /// Taking a level of a guard, or giving it back, changes the guard of the present context by one, and
 /// no other.
