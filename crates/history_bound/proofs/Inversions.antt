@@ -2,15 +2,15 @@
 use Rattle.std.proofs.Common.{cond, ◌≡◌, ℕ, suc, ◌⊎◌, Bool, true, false, ◌&&◌, ◌==◌, List, [], ◌∷◌, Option, Some, None, refl, subst, inl, inr}
 use Rattle.ft_base.specs.declared.number.CallNo.{CallNo}
 use Rattle.ft_base.specs.declared.context.Ctx.{Ctx}
-use Rattle.ft_base.specs.declared.context.Ctx.TheVariants.{Normal, Softirq, Irq, Nmi}
 use Rattle.ft_base.specs.declared.task.TaskAct.{TaskAct}
 use Rattle.ft_base.specs.declared.task.TaskAct.TheVariants.{Call, Ret as RetAct, Raise, Lower, After}
-use Rattle.ft_base.specs.Same.{same_call, same_ctx, rank}
+use Rattle.ft_base.specs.Same.{same_call, same_ctx, context}
 use Rattle.ft_base.specs.Job.{Job}
 use Rattle.ft_base.specs.Desk.{spec_at}
+use Rattle.ft_base.proofs.Same.{same_ctx-eq}
 use Rattle.ft_base.proofs.Small.{and_both}
-use Rattle.std.proofs.Common.{nat_le, eqb-true}
-use Rattle.ft_hist.specs.Plain.{PlainTask, Frame, Phase, Owed, Dispatch, InBack, Running, Leaving, InExit, Ahead, on_call, on_top, in_phase, after_back, after_back_end, after_miss, after_refusal, after_body, after_leave, after_leave_ahead, after_scripted_leave, after_exit, after_exit_end, after_ret, after_enter, after_enter_ahead, after_owed_enter, after_scripted_enter, ahead, owed_by, context, below_top, top_call, same_top}
+use Rattle.std.proofs.Common.{nat_le}
+use Rattle.ft_hist.specs.Plain.{PlainTask, Frame, Phase, Owed, Dispatch, InBack, Running, Leaving, InExit, Ahead, on_call, on_top, in_phase, after_back, after_back_end, after_miss, after_refusal, after_body, after_leave, after_leave_ahead, after_scripted_leave, after_exit, after_exit_end, after_ret, after_enter, after_enter_ahead, after_owed_enter, after_scripted_enter, ahead, owed_by, below_top, top_call, same_top}
 use Rattle.ft_hist.proofs.RunLaws.{if_some, some_inj, same_call-eq}
 use Rattle.history_bound.specs.Bound.{calls_in}
 
@@ -136,27 +136,6 @@ abbrev pub ByAct : PlainTask → PlainTask → CallNo → Ctx → ℕ → Type 0
 ByAct p s call x f =
     (g : Frame) × (below : List Frame) × (u : ℕ) × (o : Owed) × (fresh : Bool) × (p.stack ≡ g ∷ below) × (g.phase ≡ InBack u (Some o) fresh) × (o.ctx ≡ x)
     × (s.stack ≡ new_frame call x f false ∷ in_phase g (InBack u None false) ∷ below) × (calls_in s.acts ≡ calls_in p.acts)
-
-same_ctx-eq : (a b : Ctx) → same_ctx a b ≡ true → a ≡ b
-same_ctx-eq a b e = by a b (eqb-true (rank a) (rank b) e)
-  where
-    by : (a b : Ctx) → rank a ≡ rank b → a ≡ b
-    by Normal Normal q = refl
-    by Softirq Softirq q = refl
-    by Irq Irq q = refl
-    by Nmi Nmi q = refl
-    by Normal Softirq q = absurd cc
-    by Normal Irq q = absurd cc
-    by Normal Nmi q = absurd cc
-    by Softirq Normal q = absurd cc
-    by Softirq Irq q = absurd cc
-    by Softirq Nmi q = absurd cc
-    by Irq Normal q = absurd cc
-    by Irq Softirq q = absurd cc
-    by Irq Nmi q = absurd cc
-    by Nmi Normal q = absurd cc
-    by Nmi Softirq q = absurd cc
-    by Nmi Irq q = absurd cc
 
 module _ (d : ℕ) (p s : PlainTask) (call : CallNo) (x : Ctx) (f : ℕ) where
   script-inv : (acts : List TaskAct) (cs : List Ctx) (gone : ℕ) → calls_in acts ≡ calls_in p.acts → after_scripted_enter p acts cs gone call x f ≡ Some s → ByScript p s call x f
