@@ -1,8 +1,9 @@
 -- A command and a line of control as a job has them.
-use Rattle.std.specs.Prelude.{◌≡◌, ℕ, ◌<◌, Bool, true, false, length, IfSome}
+use Rattle.std.specs.Prelude.{ℕ, Bool, true, false, length}
 use Rattle.ft_base.specs.declared.user.Half.{Half}
 use Rattle.ft_base.specs.declared.user.Half.TheVariants.{Filter as FilterHalf, Notrace as NotraceHalf}
-use Rattle.ft_base.specs.Job.{user_of, set_of, Edit, Command as PlainCommand, Register as PlainRegister, Unregister as PlainUnregister, Filter as PlainFilter, Notrace as PlainNotrace, Pid as PlainPid, NoPid as PlainNoPid, Enable as PlainEnable, Disable as PlainDisable, MaxDepth as PlainMaxDepth, Ctl as PlainCtl, Run as PlainRun, Until as PlainUntil}
+use Rattle.ft_base.specs.Job.{Edit, Command as PlainCommand, Register as PlainRegister, Unregister as PlainUnregister, Filter as PlainFilter, Notrace as PlainNotrace, Pid as PlainPid, NoPid as PlainNoPid, Enable as PlainEnable, Disable as PlainDisable, MaxDepth as PlainMaxDepth, Ctl as PlainCtl, Run as PlainRun, Until as PlainUntil}
+use Rattle.ft_base.specs.WellFormed.{IsNamedIn, IsSetIn}
 use Rattle.site_set.specs.Edits.{plain_edit}
 use Rattle.pid_filter.specs.Lists.{tasks_in}
 use Rattle.ft_desk.specs.Declarations.{Declared}
@@ -30,9 +31,7 @@ ctl_of tasks (Until t n) = PlainUntil t.0 n
 
 -- the user of a command is one of the declared ones, and an edit has a set of the declared functions
 abbrev pub IsInShape : Declared → Command → Type 0
-IsInShape d c =
-    IfSome (user_of (command_of d.tasks c)) (λ u. u < length d.specs)
-    × IfSome (set_of (command_of d.tasks c)) (λ set. length set ≡ d.funcs)
+IsInShape d c = IsNamedIn (length d.specs) (command_of d.tasks c) × IsSetIn d.funcs (command_of d.tasks c)
 
 -- an edit of one half of a user's sets
 abbrev pub edit_command : ℕ → Half → Edit → PlainCommand

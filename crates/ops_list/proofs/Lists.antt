@@ -3,10 +3,11 @@
 use Rattle.std.proofs.Common.{◌≡◌, ℕ, suc, ◌<◌, Bool, true, false, ◌==◌, List, [], ◌∷◌, ◌++◌, length, inl, inr, refl, sym, ap, ◌∙◌, subst, arith, eqb-true}
 use Rattle.std.proofs.lemmas.Bool.Decides.{nat_tests}
 use Rattle.ft_base.specs.Order.{has}
+use Rattle.word_map.specs.Chains.{Leads}
 use Rattle.ft_base.proofs.Small.{false_true, ==-refl, or-false_both, or-true, or-true_either}
 use Rattle.word_map.specs.Words.{at_put}
 use Rattle.ops_list.specs.Names.{name_of}
-use Rattle.ops_list.specs.Lists.{Leads, nth_user, last_from}
+use Rattle.ops_list.specs.Lists.{nth_user, last_from}
 
 -- ## what words say
 

@@ -7,7 +7,8 @@ use Rattle.ops_list.specs.declared.walker.WalkPhase.{WalkPhase}
 use Rattle.ops_list.specs.declared.walker.WalkPhase.TheVariants.{Starting, At, Ended}
 use Rattle.ops_list.specs.Names.{named}
 use Rattle.ops_list.specs.Walks.{walk_to, WalkFits}
-use Rattle.ops_list.specs.Lists.{Leads, nth_user, next_load, after_loads}
+use Rattle.word_map.specs.Chains.{Leads}
+use Rattle.ops_list.specs.Lists.{nth_user, next_load, after_loads}
 
 after-end : (ws : Words) (n : ℕ) → after_loads n Ended ws ≡ Ended
 after-end ws zero = refl

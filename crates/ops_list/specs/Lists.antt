@@ -1,8 +1,9 @@
 -- The list of users that words have, and what the stores of a change and the loads of a walk make of it.
-use Rattle.std.specs.Prelude.{◌≡◌, ℕ, zero, suc, List, [], ◌∷◌, Option, Some, None, slice_get}
+use Rattle.std.specs.Prelude.{ℕ, zero, suc, List, [], ◌∷◌, Option, Some, None, slice_get}
 use Rattle.std.specs.Option.{option_map}
 use Rattle.ft_base.specs.declared.number.UserNo.{UserNo}
 use Rattle.word_map.specs.Words.{Words, put, read}
+use Rattle.word_map.specs.Chains.{Leads}
 use Rattle.word_map.specs.Ops.{WordOp, Load, Store}
 use Rattle.ops_list.specs.declared.linker.LinkPhase.{LinkPhase}
 use Rattle.ops_list.specs.declared.walker.WalkPhase.{WalkPhase}
@@ -10,11 +11,6 @@ use Rattle.ops_list.specs.Links.{link_op, link_after}
 use Rattle.ops_list.specs.Walks.{walk_op, walk_after}
 
 -- ## what words say
-
--- a word holds the name of the first of these users, the link of each names the next, and that of the last names nobody
-abbrev pub Leads : (ℕ → ℕ) → ℕ → List ℕ → Type 0
-Leads link w [] = w ≡ 0
-Leads link w (u ∷ us) = (w ≡ suc u) × Leads link (link u) us
 
 -- the words have this list of users, the one at the head first
 abbrev pub IsList : Words → List ℕ → Type 0

@@ -1,4 +1,5 @@
 pub mod Words
+pub mod Chains
 pub mod Contents
 pub mod Instructions
 pub mod Ops

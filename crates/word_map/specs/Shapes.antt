@@ -1,16 +1,14 @@
 -- How many there are of each thing that has words.
 use Rattle.std.specs.Prelude.{◌≤◌, length}
-use Rattle.ft_base.specs.declared.limits.TheConstants.{CPUS, FUNCS, TASKS, TRAMPS, USERS}
+use Rattle.ft_base.specs.declared.limits.TheConstants.{CPUS}
 use Rattle.ft_base.specs.Job.{Job, funcs}
+use Rattle.ft_base.specs.Versions.{largest, IsFew}
 use Rattle.word_map.specs.declared.shape.Shape.{Shape}
 
--- the shape is within the limits
+-- the layout of the words has room for the shape
 pub record IsShape (shape : Shape) : Type 0 where
-  pub funcs : shape.funcs ≤ FUNCS
-  pub users : shape.users ≤ USERS
-  pub cpus : shape.cpus ≤ CPUS
-  pub tasks : shape.tasks ≤ TASKS
-  pub tramps : shape.tramps ≤ TRAMPS
+  pub counts : IsFew largest shape.funcs shape.users shape.tasks shape.tramps
+  pub few_cpus : shape.cpus ≤ CPUS
 
 -- the shape of a job
 abbrev pub shape_of : Job → Shape

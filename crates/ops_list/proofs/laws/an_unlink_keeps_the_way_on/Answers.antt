@@ -2,7 +2,8 @@ use Rattle.std.proofs.Common.{◌≡◌, ℕ, List, [], ◌∷◌, ◌++◌, ref
 use Rattle.word_map.specs.Words.{Words}
 use Rattle.ops_list.specs.declared.linker.LinkPhase.TheVariants.{Unlinking}
 use Rattle.ops_list.specs.Names.{name_of}
-use Rattle.ops_list.specs.Lists.{Leads, IsList, nth_user, last_user, after_stores}
+use Rattle.word_map.specs.Chains.{Leads}
+use Rattle.ops_list.specs.Lists.{IsList, nth_user, last_user, after_stores}
 use Rattle.ops_list.proofs.Lists.{leads-name, leads-unlink, unlinked-link, unlinked-leads}
 use Rattle.ops_list.proofs.Walks.{visits}
 use Rattle.ops_list.proofs.laws.an_unlink_keeps_the_way_on.Goals as goal
