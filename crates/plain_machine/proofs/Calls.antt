@@ -1,5 +1,5 @@
 -- A call's dispatch on the plain machine, item by item, and a call that an act makes, whole.
-use Rattle.std.proofs.Common.{cond, ◌≡◌, ℕ, zero, suc, ◌<◌, ◌≤◌, ◌⊎◌, Bool, true, false, not, ◌&&◌, ◌||◌, ◌==◌, ◌+◌, ◌*◌, nat_lt, nat_le, List, [], ◌∷◌, length, count_by, get_or, Option, Some, None, IsSome, refl, sym, ap, ◌∙◌, subst, arith, inl, inr, ltb-true, ltb-false, leb-false, leb-true}
+use Rattle.std.proofs.Common.{cond, ◌≡◌, ℕ, zero, suc, ◌<◌, ◌≤◌, ◌⊎◌, Bool, true, false, not, ◌&&◌, ◌||◌, ◌==◌, ◌+◌, ◌*◌, nat_lt, nat_le, List, [], ◌∷◌, length, count_by, Option, Some, None, IsSome, refl, sym, ap, ◌∙◌, subst, arith, inl, inr, ltb-true, leb-false, leb-true}
 use Rattle.std.proofs.lemmas.Bool.Decides.{eqb_tells}
 use Rattle.std.proofs.lemmas.List.Sums.{sum_by-cons}
 use Rattle.std.specs.List.{filter, list_any, AllByRecursion as Each}
@@ -21,7 +21,7 @@ use Rattle.ft_base.specs.Desk.{desk, is_on, is_allowed, user_at, spec_at, plain_
 use Rattle.ft_base.proofs.DeskLaws.{has_sited}
 use Rattle.ft_base.specs.Order.{IsFalling, OneModifies, has, IsOrder}
 use Rattle.ft_base.specs.WellFormed.{IsWellFormed, IsActNamed}
-use Rattle.ft_base.proofs.Small.{false_true, or-false_both, ==-refl, and_both}
+use Rattle.ft_base.proofs.Small.{false_true, or-false_both, ==-refl, and_both, each-get, full}
 use Rattle.ft_base.specs.Kinds.{has_depth, has_exit}
 use Rattle.ft_hist.specs.Past.{Entered, Callback, is_of, done, begun, entered, entry_of, callbacks, is_at, is_open, open_callbacks, is_dispatched, exits, all_visits, visits, held, miss_due}
 use Rattle.ft_hist.specs.Plain.{plain, after_item, PlainTask, Frame, Phase, Owed, Dispatch, InBack, Running, in_phase, owed_by}
@@ -40,11 +40,6 @@ use Rattle.ft_hist.proofs.Lists.{Each-passes, has-passes, none_visited}
 use Rattle.plain_machine.specs.State.{Walk, Around, Nested, Made, takes_frame, misses_frame, is_deep, refusal, refusal_by, held_levels, is_full, called, refused, tried, walked, backed, by_act, inside, call_of, on_users}
 use Rattle.plain_machine.specs.Dispatching.{CallSo}
 use Rattle.plain_machine.proofs.CallSo.{VisitedSo, so-untouched, so-refused, so-called, may_visit, entry-is, order-now, visits-more', reg-now, visits-back, visits-refuse}
-
-each-get : {A : Type 0} (P : A → Type 0) (xs : List A) (i : ℕ) (d : A) → P d → Each P xs → P (get_or xs i d)
-each-get P [] i d h e = h
-each-get P (x ∷ xs) zero d h e = e.0
-each-get P (x ∷ xs) (suc i) d h e = each-get P xs i d h e.1
 
 -- a legal past with no command under way
 pub record Now (job : Job) (k : ℕ) (past : List Item) (opens : List Callback) : Type 0 where
@@ -153,16 +148,6 @@ not_true false x = refl
 not_false : (b : Bool) → not b ≡ false → b ≡ true
 not_false true x = refl
 not_false false x = false_true (sym x)
-
--- a full shadow stack, said in two ways
-full : (level frames : ℕ) → level ≤ frames → (level == frames) ≡ not (nat_lt level frames)
-full level frames le =
-    elim (nat_lt level frames) as (λ b. nat_lt level frames ≡ b → (level == frames) ≡ not b) [
-      | true ↦ λ e. let lt : level < frames = ltb-true level frames e in
-          elim (eqb_tells level frames) [ inl x ↦ (let y : level ≡ frames = x.1 in absurd (omega arith)) | inr x ↦ x.0 ]
-      | false ↦ λ e. let ge : frames ≤ level = ltb-false level frames e in
-          elim (eqb_tells level frames) [ inl x ↦ x.0 | inr x ↦ absurd (x.1 (omega arith)) ]
-    ] refl
 
 -- what surrounds a dispatch and stays the same over it
 pub record Ground (job : Job) (k : ℕ) (n : ℕ) (a : Around) (n0 : ℕ) (e : Entered) (below : List Frame) (opens : List Callback) (past0 : List Item) : Type 0 where

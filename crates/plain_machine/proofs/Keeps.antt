@@ -17,7 +17,7 @@ use Rattle.ft_base.proofs.DeskLaws.{length-desk, desk-suc}
 use Rattle.ft_base.specs.declared.turn.Actor.{Actor}
 use Rattle.ft_base.specs.declared.turn.Actor.TheVariants.{Control, Cpu}
 use Rattle.ft_base.specs.WellFormed.{IsWellFormed, IsNamed, IsScript}
-use Rattle.ft_base.proofs.Small.{false_true, Each-weaker, Each-snoc, or-false_both, and_both}
+use Rattle.ft_base.proofs.Small.{false_true, Each-weaker, Each-snoc, or-false_both, and_both, each-get}
 use Rattle.ft_base.proofs.Order.{after_command}
 use Rattle.ft_base.proofs.Modifiers.{named-at}
 use Rattle.ft_hist.specs.Past.{done, begun, visits}
@@ -342,11 +342,6 @@ module _ (job : Job) (is : IsWellFormed job) where
   tasks-start (t ∷ ts) n zero e = rw (plus-zero n) refl
   tasks-start (t ∷ ts) n (suc i) e = let s : suc n + i ≡ n + suc i = omega arith in
       tasks-start ts (suc n) i (e ∙ ap (λ m. (get_or job.tasks m no_task).acts) (sym s)) ∙ ap (λ m. (let x : TaskState = record { run = at_start job m; frames = [] } in x)) s
-
-  each-get : {A : Type 0} (P : A → Type 0) (xs : List A) (i : ℕ) (d : A) → P d → Each P xs → P (get_or xs i d)
-  each-get P [] i d h e = h
-  each-get P (x ∷ xs) zero d h e = e.0
-  each-get P (x ∷ xs) (suc i) d h e = each-get P xs i d h e.1
 
   start-registered : (us : List Spec) (u : ℕ) → (get_or (map (λ s. unseen (funcs job)) us) u (unseen 0)).registered ≡ false
   start-registered [] u = refl

@@ -10,7 +10,7 @@ use Rattle.ft_base.specs.declared.item.Item.{Item}
 use Rattle.ft_base.specs.declared.item.Item.TheVariants.{Enter, Body}
 use Rattle.ft_base.specs.declared.task.TaskAct.{TaskAct}
 use Rattle.ft_base.specs.declared.task.TaskAct.TheVariants.{Call}
-use Rattle.ft_base.specs.Same.{rank}
+use Rattle.ft_base.specs.Same.{rank, context}
 use Rattle.ft_base.specs.Job.{Job}
 use Rattle.ft_base.specs.Desk.{desk, target, spec_at}
 use Rattle.ft_base.specs.WellFormed.{IsWellFormed}
@@ -18,7 +18,7 @@ use Rattle.ft_base.proofs.Small.{false_true, Each-weaker, ==-refl}
 use Rattle.ft_base.proofs.Modifiers.{one_modifies}
 use Rattle.ft_base.specs.Kinds.{cancels}
 use Rattle.ft_hist.specs.Past.{entered, done, Entered, visits, Visit, miss_due}
-use Rattle.ft_hist.specs.Plain.{after_item, PlainTask, Frame, Dispatch, Running, ahead, context, top_call, after_enter}
+use Rattle.ft_hist.specs.Plain.{after_item, PlainTask, Frame, Dispatch, Running, ahead, top_call, after_enter}
 use Rattle.ft_hist.proofs.Laws.{same_call-refl, same_top-refl}
 use Rattle.ft_hist.specs.Frames.{FrameUser, FrameOf}
 use Rattle.ft_hist.proofs.RunLaws.{calls_on, sound}

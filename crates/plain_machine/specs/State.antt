@@ -13,14 +13,14 @@ use Rattle.ft_base.specs.declared.task.TaskAct.{TaskAct}
 use Rattle.ft_base.specs.declared.task.TaskAct.TheVariants.{Call, Ret as RetAct, Raise, Lower, After}
 use Rattle.ft_base.specs.declared.turn.Actor.{Actor}
 use Rattle.ft_base.specs.declared.turn.Actor.TheVariants.{Control, Cpu}
-use Rattle.ft_base.specs.Same.{same_ctx}
+use Rattle.ft_base.specs.Same.{same_ctx, context}
 use Rattle.ft_base.specs.Job.{Job, Task, Ctl, Run, Until}
 use Rattle.ft_base.specs.Versions.{levels}
 use Rattle.ft_base.specs.Desk.{Desk, desk, is_on, is_live, is_allowed, target, answer_on, is_accepted, spec_at, user_at}
 use Rattle.ft_base.specs.Kinds.{has_depth, has_exit, cancels}
 use Rattle.ft_base.specs.Order.{order_after}
 use Rattle.ft_base.specs.Schedule.{actors_of}
-use Rattle.ft_hist.specs.Plain.{PlainTask, Frame, Running, Owed, owed_by, context, below_top, top_call, at_start}
+use Rattle.ft_hist.specs.Plain.{PlainTask, Frame, Running, Owed, owed_by, below_top, top_call, at_start}
 use Rattle.ft_hist.specs.Frames.{FrameUser, is_nil, runs_after}
 
 -- where a task is: its plain run, and beside each call of the stack the users of its frame, in the order of their Backs
