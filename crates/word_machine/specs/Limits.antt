@@ -1,15 +1,11 @@
 -- Jobs within the limits of scripts.
-use Rattle.std.specs.Prelude.{◌+◌, ◌*◌, ◌<◌, ◌≤◌, ◌≡◌, ◌⊎◌, ℕ, List, [], ◌∷◌, length, sum_by, IfSome}
+use Rattle.std.specs.Prelude.{◌+◌, ◌*◌, ◌<◌, ◌≤◌, ℕ, [], length, sum_by, IfSome}
 use Rattle.std.specs.List.{AllByRecursion as Each}
-use Rattle.ft_base.specs.declared.limits.TheConstants.{VERSION, COMMANDS, UNTILS, TASKS, FRAMES, GRAPH_DEPTH, ACTS, ITEMS}
-use Rattle.ft_base.specs.declared.context.Ctx.{Ctx}
-use Rattle.ft_base.specs.declared.task.TaskAct.{TaskAct}
-use Rattle.ft_base.specs.declared.task.TaskAct.TheVariants.{Call, Ret, Raise, Lower, After}
-use Rattle.ft_base.specs.Same.{rank}
+use Rattle.ft_base.specs.declared.limits.TheConstants.{COMMANDS, UNTILS, FRAMES, GRAPH_DEPTH, ACTS, ITEMS}
 use Rattle.ft_base.specs.Job.{Job, Command, depth_of, Ctl, Run, Until, commands, funcs}
-use Rattle.ft_base.specs.Versions.{limits_of}
+use Rattle.ft_base.specs.Versions.{IsVersion, limits_of, IsFew}
+use Rattle.ft_base.specs.Acts.{AreRaised}
 use Rattle.ft_base.specs.WellFormed.{IsWellFormed}
-use Rattle.ft_hist.specs.Plain.{context}
 use Rattle.user_specs.specs.Bound.{call_bound_in}
 use Rattle.history_bound.specs.Bound.{all_calls}
 
@@ -22,20 +18,6 @@ WaitsFor tasks (Run c) = Unit {0}
 abbrev pub IsLevel : Command → Type 0
 IsLevel c = IfSome (depth_of c) (λ n. n ≤ GRAPH_DEPTH)
 
--- Acts in these contexts, the latest first: an interrupt that comes is above the present context, and one that goes has come
-abbrev pub AreRaised : List Ctx → List TaskAct → Type 0
-AreRaised cs [] = Unit {0}
-AreRaised cs (Call f ∷ rest) = AreRaised cs rest
-AreRaised cs (Ret ∷ rest) = AreRaised cs rest
-AreRaised cs (Raise c ∷ rest) = (rank (context cs) < rank c) × AreRaised (c ∷ cs) rest
-AreRaised [] (Lower ∷ rest) = ⊥
-AreRaised (c ∷ cs) (Lower ∷ rest) = AreRaised cs rest
-AreRaised cs (After n ∷ rest) = AreRaised cs rest
-
--- the version of the language is one that there is
-abbrev pub IsVersion : ℕ → Type 0
-IsVersion version = (version ≡ 1) ⊎ (version ≡ VERSION)
-
 -- What the limits of scripts give of a job: it is of a version that there is, and well formed, its tasks are on its CPUs, its waits
 -- name its tasks, each interrupt of a task comes above its present context and goes after it came, and it has no more lines of
 -- control, users, tasks, functions, frames, trampolines and acts, and no greater depths, than a script may have; nor more items that
@@ -47,11 +29,8 @@ pub record IsLimited (job : Job) : Type 0 where
   pub waits : Each (WaitsFor (length job.tasks)) job.ctls
   pub raised : Each (λ t. AreRaised [] t.acts) job.tasks
   pub ctls : length job.ctls ≤ COMMANDS + UNTILS
-  pub users : length job.users ≤ (limits_of job.version).users
-  pub tasks : length job.tasks ≤ TASKS
-  pub functions : funcs job ≤ (limits_of job.version).funcs
+  pub counts : IsFew (limits_of job.version) (funcs job) (length job.users) (length job.tasks) job.tramps
   pub frames : job.frames ≤ FRAMES
-  pub tramps : job.tramps ≤ (limits_of job.version).tramps
   pub levels : Each IsLevel (commands job)
   pub acts : sum_by (λ t. length t.acts) job.tasks ≤ ACTS
   pub items : call_bound_in job * all_calls job.tasks ≤ ITEMS

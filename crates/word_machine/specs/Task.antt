@@ -13,7 +13,8 @@ use Rattle.ft_base.specs.declared.task.TaskAct.TheVariants.{Call, Ret as RetAct,
 use Rattle.ft_base.specs.Job.{Job, no_task}
 use Rattle.ft_base.specs.Desk.{spec_at}
 use Rattle.ft_base.specs.Kinds.{has_depth}
-use Rattle.ft_hist.specs.Plain.{Owed, owed_by, context, below_top}
+use Rattle.ft_base.specs.Same.{context}
+use Rattle.ft_hist.specs.Plain.{Owed, owed_by, below_top}
 use Rattle.ft_hist.specs.Frames.{FrameUser, is_nil, runs_after}
 use Rattle.plain_machine.specs.State.{Around, is_full, takes_frame, misses_frame, joined, call_of, has_acts}
 use Rattle.site_bytes.specs.Bytes.{breakpoint}

@@ -1,16 +1,12 @@
 -- The rule of the list of registered users: what the links give, and where a walker is.
-use Rattle.std.specs.Prelude.{ℕ, suc, ◌≡◌, ◌⊎◌, true, nat_lt, List, [], ◌∷◌, if◌then◌else◌}
+use Rattle.std.specs.Prelude.{ℕ, ◌≡◌, ◌⊎◌, true, nat_lt, List, [], ◌∷◌, if◌then◌else◌}
 use Rattle.ft_base.specs.Job.{Job}
 use Rattle.ft_base.specs.Desk.{desk, user_at}
 use Rattle.ft_base.specs.Order.{IsOrder, has}
+use Rattle.word_map.specs.Chains.{Leads}
 use Rattle.word_machine.specs.Commands.{Removes, effect, subject}
 use Rattle.word_machine.specs.Control.{Position, Relink, name_of}
 use Rattle.word_machine.specs.Progress.{listed, desk_by, HoldsAt, is_adds}
-
--- from a loaded name on, the links lead to these users
-abbrev pub Leads : (ℕ → ℕ) → ℕ → List ℕ → Type 0
-Leads link w [] = w ≡ 0
-Leads link w (u ∷ us) = (w ≡ suc u) × Leads link (link u) us
 
 -- the command that registered a user last
 abbrev pub since_of : Job → ℕ → ℕ → ℕ
