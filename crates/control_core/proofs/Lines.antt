@@ -76,7 +76,7 @@ module _ (d : Inside) (k : IsKept d) where
         → IsPlanIn d.map plan
     run-plan next plan n p =
         subst (IsPlanIn d.map) (sym (p ∙ ap (λ (t : Seen). t.plan) n))
-        (plan-after d.map d.desk k.safe.desk k.safe.shape.funcs (command_of d.desk.declared.tasks x) named)
+        (plan-after d.map d.desk k.safe.desk k.safe.shape.counts.few_functions (command_of d.desk.declared.tasks x) named)
 
     pub run-kept : (next : Seen) (a : Answer) (p : Phase) (plan : PlainPlan) (items : Vec Stamped) → d.phase ≡ phase.Line
         → next ≡ after_command d.desk (command_of d.desk.declared.tasks x) → plan ≡ next.plan → p ≡ begin_to d.map plan
@@ -98,7 +98,7 @@ module _ (d : Inside) (k : IsKept d) where
         record {
           safe = record {
             shape = k.safe.shape;
-            desk = subst (IsDeskIn d.map) (sym n) (desk-after d.map d.desk k.safe.desk k.safe.shape.funcs (command_of d.desk.declared.tasks x) named);
+            desk = subst (IsDeskIn d.map) (sym n) (desk-after d.map d.desk k.safe.desk k.safe.shape.counts.few_functions (command_of d.desk.declared.tasks x) named);
             plan = subst (IsPlanIn d.map) pl (run-plan next plan n pl);
             copied = k.safe.copied;
             numbered = omega arith;

@@ -4,7 +4,7 @@ use Rattle.std.specs.Prelude.{All, slice_get}
 use Rattle.std.proofs.lemmas.Option.{get_or_from_slice_get, slice_get_within}
 use Rattle.ft_base.specs.Job.{Job, Command, Ctl, Run, Until, commands_in}
 use Rattle.ft_base.specs.Desk.{desk}
-use Rattle.ft_base.specs.WellFormed.{IsNamed}
+use Rattle.ft_base.specs.WellFormed.{IsNamed, IsNamedIn}
 use Rattle.word_map.specs.declared.shape.Shape.{Shape}
 use Rattle.word_map.specs.Words.{at_put}
 use Rattle.word_map.specs.Shapes.{shape_of}
@@ -15,7 +15,7 @@ use Rattle.word_machine.specs.Control.{answer_in, copy_after, line_op}
 use Rattle.word_machine.specs.Values.{copies_in}
 use Rattle.control_core.specs.Followed.{order_followed}
 use Rattle.control_core.specs.Positions.{plan_at}
-use Rattle.control_core.specs.Lines.{IsNamedIn, IsNamedLine}
+use Rattle.control_core.specs.Lines.{IsNamedLine}
 use Rattle.control_core.specs.Seated.{Seated, IsFor, IsUnder}
 use Rattle.control_core.specs.Kept.{IsSafe}
 use Rattle.control_core.specs.Steps.{line_next}
