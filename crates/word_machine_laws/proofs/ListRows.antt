@@ -6,6 +6,7 @@ use Rattle.ft_base.specs.Job.{Job, Ctl, Register, Unregister}
 use Rattle.ft_base.specs.Desk.{desk, is_allowed}
 use Rattle.ft_base.specs.Order.{IsOrder, has, order_after}
 use Rattle.ft_base.specs.WellFormed.{IsWellFormed}
+use Rattle.word_map.specs.Chains.{Leads}
 use Rattle.ft_base.proofs.Small.{false_true, or-true}
 use Rattle.word_map.specs.Words.{Words, put, at_put, First, Link}
 use Rattle.word_map.specs.Contents.{low}
@@ -15,7 +16,7 @@ use Rattle.word_machine.specs.Control.{Position, Push, Relink, batch, name_of, f
 use Rattle.word_machine.specs.Cpu.{Cpu}
 use Rattle.word_machine.specs.Machine.{control_row, words_after, past_after}
 use Rattle.word_machine.specs.Progress.{selected, pids_stored, depth_stored, desk_by, is_adds, relinks, patches}
-use Rattle.word_machine.specs.UserList.{since_of, older, Leads, ListWalk, Unlinked}
+use Rattle.word_machine.specs.UserList.{since_of, older, ListWalk, Unlinked}
 use Rattle.word_machine.specs.Rule.{MachineRule}
 use Rattle.word_machine_laws.proofs.DeskChanges.{SubjectBy, between, since-step, numbers-kept}
 use Rattle.word_machine.proofs.Small.{put_same, each_of}

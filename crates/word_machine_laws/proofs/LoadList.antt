@@ -7,6 +7,7 @@ use Rattle.ft_base.specs.declared.item.Item.{Item}
 use Rattle.ft_base.specs.Job.{Job}
 use Rattle.ft_base.specs.Desk.{desk}
 use Rattle.ft_base.specs.Order.{has}
+use Rattle.word_map.specs.Chains.{Leads}
 use Rattle.ft_base.proofs.Small.{false_true, Each-weaker}
 use Rattle.ft_hist.specs.Past.{begun, visits, entry_of, Visit}
 use Rattle.ft_hist.specs.Rules.{OnlyThose}
@@ -14,7 +15,7 @@ use Rattle.ft_hist.specs.Known.{WasOff}
 use Rattle.word_machine.specs.Commands.{state_of}
 use Rattle.word_machine.specs.Task.{OpenCall, Moment, AtFirst, AtLink, TestSel, Closing, walks_to}
 use Rattle.word_machine.specs.Progress.{listed}
-use Rattle.word_machine.specs.UserList.{Leads, since_of, older, list_desk, UserList}
+use Rattle.word_machine.specs.UserList.{since_of, older, list_desk, UserList}
 use Rattle.word_machine.specs.Verdicts.{Here, Dispatches, RanIs, Walks, BeforeVisit, AfterVisit, may_come_before, may_come_after, may_come_closing}
 use Rattle.word_machine.specs.Rule.{Counts, IsWordJob}
 use Rattle.word_machine_laws.proofs.Seen.{listed-underway}

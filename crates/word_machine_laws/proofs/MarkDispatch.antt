@@ -1,5 +1,5 @@
 -- The marks of a dispatch: a refusal, a callback, a miss, and the end of a callback.
-use Rattle.std.proofs.Common.{cond, ◌≡◌, ℕ, suc, ◌<◌, ◌≤◌, Bool, true, false, not, ◌&&◌, ◌||◌, ◌==◌, nat_lt, nat_le, List, [], ◌∷◌, length, Option, Some, None, IsSome, refl, sym, ap, ◌∙◌, subst, arith, inl, inr, ltb-true, ltb-false, leb-true, leb-false}
+use Rattle.std.proofs.Common.{cond, ◌≡◌, ℕ, suc, ◌<◌, ◌≤◌, Bool, true, false, not, ◌&&◌, ◌||◌, ◌==◌, nat_lt, nat_le, List, [], ◌∷◌, length, Option, Some, None, IsSome, refl, sym, ap, ◌∙◌, subst, arith, inl, inr, ltb-true, leb-true, leb-false}
 use Rattle.std.specs.Prelude.{◌⊎◌}
 use Rattle.std.proofs.lemmas.Bool.{lt-ltb}
 use Rattle.std.proofs.lemmas.Bool.Decides.{eqb_tells}
@@ -19,7 +19,7 @@ use Rattle.ft_base.specs.Versions.{levels}
 use Rattle.ft_base.specs.Desk.{desk, spec_at, is_allowed, is_on}
 use Rattle.ft_base.specs.Kinds.{has_depth, has_exit}
 use Rattle.ft_base.specs.Order.{IsOrder}
-use Rattle.ft_base.proofs.Small.{false_true, ==-refl, and_both, Each-weaker}
+use Rattle.ft_base.proofs.Small.{false_true, ==-refl, and_both, Each-weaker, full}
 use Rattle.ft_hist.specs.Past.{done, begun, Entered, entered, entry_of, Callback, callbacks, ended, open_callbacks, all_visits, visit, Visit, visits, held}
 use Rattle.ft_hist.specs.Plain.{plain, after_item, PlainTask, Frame, Phase, Dispatch, InBack, Owed, owed_by}
 use Rattle.ft_hist.specs.Rules.{IsLegalPast, MayFollow, MayVisit, MayRefuse, MayBack, IsFree, PassesPid}
@@ -63,16 +63,6 @@ pub few-below : (job : Job) (c : OpenCall) (below : List OpenCall) → level_of 
 few-below job c below few =
     elim c.framed as (λ b. cond b (suc (level_of below)) (level_of below) ≤ job.frames → level_of below ≤ job.frames)
     [ true ↦ λ x. omega arith | false ↦ λ x. x ] few
-
--- a full shadow stack, said in two ways
-full : (level frames : ℕ) → level ≤ frames → (level == frames) ≡ not (nat_lt level frames)
-full level frames le =
-    elim (nat_lt level frames) as (λ b. nat_lt level frames ≡ b → (level == frames) ≡ not b) [
-      | true ↦ λ e. let lt : level < frames = ltb-true level frames e in
-          elim (eqb_tells level frames) [ inl x ↦ (let y : level ≡ frames = x.1 in absurd (omega arith)) | inr x ↦ x.0 ]
-      | false ↦ λ e. let ge : frames ≤ level = ltb-false level frames e in
-          elim (eqb_tells level frames) [ inl x ↦ x.0 | inr x ↦ absurd (x.1 (omega arith)) ]
-    ] refl
 
 -- the task's latest callback ends
 pub ended-own : (call : CallNo) (u : ℕ) (bs : List Callback) → of_task call.task.0 (ended call u bs) ≡ ended call u (of_task call.task.0 bs)

@@ -9,13 +9,13 @@ use Rattle.ft_base.specs.declared.user.Act.{Act}
 use Rattle.ft_base.specs.declared.user.Act.TheVariants.{CallIn, IrqIn}
 use Rattle.ft_base.specs.declared.task.TaskAct.{TaskAct}
 use Rattle.ft_base.specs.declared.task.TaskAct.TheVariants.{Call}
-use Rattle.ft_base.specs.Same.{rank}
+use Rattle.ft_base.specs.Same.{rank, context}
 use Rattle.ft_base.specs.Job.{Job, funcs}
 use Rattle.ft_base.specs.Desk.{spec_at, plain_spec}
 use Rattle.ft_base.specs.WellFormed.{IsActNamed}
-use Rattle.ft_base.proofs.Small.{false_true, ==-refl}
+use Rattle.ft_base.proofs.Small.{false_true, ==-refl, each-get}
 use Rattle.ft_hist.specs.Past.{done, visits, all_visits}
-use Rattle.ft_hist.specs.Plain.{plain, after_item, PlainTask, Frame, Dispatch, InBack, Owed, owed_by, context, ahead, Ahead}
+use Rattle.ft_hist.specs.Plain.{plain, after_item, PlainTask, Frame, Dispatch, InBack, Owed, owed_by, ahead, Ahead}
 use Rattle.ft_hist.specs.Rules.{MayFollow}
 use Rattle.ft_hist.proofs.Laws.{same_call-refl}
 use Rattle.ft_hist.proofs.WindowLaws.{begun-more}
@@ -34,7 +34,6 @@ use Rattle.word_machine_laws.proofs.Carried.{calls_carried, call_carried, opened
 use Rattle.word_machine_laws.proofs.Stacks.{opens-of, older_untouched}
 use Rattle.word_machine_laws.proofs.Marks.{follows, mid_kept}
 use Rattle.word_machine_laws.proofs.MarkDispatch.{task, so-holds}
-use Rattle.word_machine.proofs.Small.{each-get}
 
 -- an act's function is one of the job's
 named : (job : Job) (x : Ctx) (act : Option Act) (o : Owed) → owed_by x act ≡ Some o → IsActNamed job act → o.func < funcs job

@@ -10,9 +10,10 @@ use Rattle.word_machine.specs.Control.{control_next, control_got}
 use Rattle.word_machine.specs.Cpu.{cpu_next, cpu_got}
 use Rattle.word_machine.specs.Machine.{start, step, run, played, play, all_end}
 use Rattle.ft_base.specs.Schedule.{actors_of, repeated}
+use Rattle.ft_base.specs.Acts.{AreRaised}
 use Rattle.word_machine.proofs.RowSamples.{breakpoint_is_read, breakpoint_is_read-plays}
 use Rattle.word_machine_laws.proofs.Limited.{limited}
-use Rattle.word_machine.specs.Limits.{AreRaised, IsLimited}
+use Rattle.word_machine.specs.Limits.{IsLimited}
 use Rattle.word_machine_laws.proofs.Ends.{every_play_is_legal, every_ended_play_is_whole}
 
 is_limited : IsLimited breakpoint_is_read
@@ -23,11 +24,8 @@ is_limited = record {
   waits = (tt, tt);
   raised = (tt, tt);
   ctls = omega arith;
-  users = omega arith;
-  tasks = omega arith;
-  functions = omega arith;
+  counts = record { few_functions = omega arith; few_users = omega arith; few_tasks = omega arith; few_tramps = omega arith };
   frames = omega arith;
-  tramps = omega arith;
   levels = (tt, tt);
   acts = omega arith;
   items = omega arith;

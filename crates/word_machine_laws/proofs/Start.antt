@@ -5,7 +5,7 @@ use Rattle.std.specs.List.{AllByRecursion as Each}
 use Rattle.ft_base.specs.Job.{Job, Task, no_task, commands}
 use Rattle.ft_base.specs.Desk.{desk}
 use Rattle.ft_base.specs.WellFormed.{IsScript}
-use Rattle.ft_base.proofs.Small.{false_true}
+use Rattle.ft_base.proofs.Small.{false_true, each-get}
 use Rattle.ft_hist.specs.Plain.{plain, at_start}
 use Rattle.ft_hist.specs.Rules.{IsLegalPast, waits_before}
 use Rattle.plain_machine.specs.State.{tasks_of, tasks_from}
@@ -17,7 +17,7 @@ use Rattle.word_machine.specs.Machine.{start}
 use Rattle.word_machine.specs.Sites.{SiteAt, stage, stage_by}
 use Rattle.word_machine.specs.Tasks.{TaskRule}
 use Rattle.word_machine.specs.Rule.{MachineRule, here, CpuRule, IsOn, IsWordJob}
-use Rattle.word_machine.proofs.Small.{each-get, zero-plus}
+use Rattle.word_machine.proofs.Small.{zero-plus}
 use Rattle.word_machine_laws.proofs.TasksOf.{first-there}
 use Rattle.word_machine_laws.proofs.DeskStart.{none_at_start, reg_at_start, since_at_start, nop_at_start, nobody_is}
 

@@ -18,7 +18,7 @@ use Rattle.ft_base.specs.Desk.{UserState, Desk, desk, is_accepted, answer_on, ch
 use Rattle.ft_base.specs.Order.{has}
 use Rattle.ft_base.specs.WellFormed.{IsNamed}
 use Rattle.ft_base.proofs.Modifiers.{named-at}
-use Rattle.ft_base.proofs.Versions.{tramps-most, users-most}
+use Rattle.ft_base.proofs.Versions.{few-largest}
 use Rattle.ft_base.specs.Marks.{Marks}
 use Rattle.site_set.specs.Marks.{number_with_bits, word_of}
 use Rattle.plain_machine.specs.State.{has_acts}
@@ -144,6 +144,9 @@ tail-small f (suc (suc s)) lt = omega (arith, lt)
 -- ## desks
 
 module _ (job : Job) (l : IsLimited job) where
+  few-users : length job.users ≤ USERS
+  few-users = (few-largest job.version l.counts).few_users
+
   reg-small : (k u : ℕ) → (state_of job k u).reg ≤ k
   reg-small zero u = (let e = reg_at_start job u in omega (arith, e))
   reg-small (suc k) u = elim (cases_eq u (subject job k)) [
@@ -166,12 +169,12 @@ module _ (job : Job) (l : IsLimited job) where
   subject-small k = by (command job k) refl
     where
       of : (c : Command) → IsNamed job c → subject_in (Some c) ≤ USERS
-      of (Register u) n = (let a = l.users in let m = users-most job.version in omega (arith, n, a, m))
-      of (Unregister u) n = (let a = l.users in let m = users-most job.version in omega (arith, n, a, m))
-      of (Filter u e) n = (let a = l.users in let m = users-most job.version in omega (arith, n, a, m))
-      of (Notrace u e) n = (let a = l.users in let m = users-most job.version in omega (arith, n, a, m))
-      of (Enable u) n = (let a = l.users in let m = users-most job.version in omega (arith, n, a, m))
-      of (Disable u) n = (let a = l.users in let m = users-most job.version in omega (arith, n, a, m))
+      of (Register u) n = (let a = few-users in omega (arith, n, a))
+      of (Unregister u) n = (let a = few-users in omega (arith, n, a))
+      of (Filter u e) n = (let a = few-users in omega (arith, n, a))
+      of (Notrace u e) n = (let a = few-users in omega (arith, n, a))
+      of (Enable u) n = (let a = few-users in omega (arith, n, a))
+      of (Disable u) n = (let a = few-users in omega (arith, n, a))
       of _ n = omega arith
 
       by : (o : Option Command) → slice_get (commands job) k ≡ o → subject_in o ≤ USERS
@@ -250,14 +253,11 @@ module _ (job : Job) (l : IsLimited job) (s : World) (k : MachineRule job s) whe
   few : suc s.control.commands_done ≤ 2049
   few = (let a = k.lines.within in let b = few-commands job.ctls in let c = l.ctls in omega (arith, a, b, c))
 
-  few-users : length job.users ≤ USERS
-  few-users = (let u = l.users in let m = users-most job.version in omega (arith, u, m))
-
   in-order : (v : ℕ) → has v s.control.order ≡ true → v < length job.users
   in-order v h = registered-inside job (list_desk s.control.position s.control.commands_done) v (sym (k.list.order'.members v) ∙ h)
 
   relinks-fit : (z : Effect) → FitsIn (relink_op z (subject job s.control.commands_done) s.control.order)
-  relinks-fit Removes = (let h = follower-small (subject job s.control.commands_done) s.control.order (length job.users) few-users in-order in omega (arith, h))
+  relinks-fit Removes = (let h = follower-small (subject job s.control.commands_done) s.control.order (length job.users) (few-users job l) in-order in omega (arith, h))
   relinks-fit _ = (let h = subject-small job l s.control.commands_done in omega (arith, h))
 
   lines-fit : (n : ℕ) (ls : List Ctl) (op : WordOp) → line_op n ls ≡ Some op → FitsIn op
@@ -269,8 +269,8 @@ module _ (job : Job) (l : IsLimited job) (s : World) (k : MachineRule job s) whe
   asks-fit = (let r = request-small job (limited job l) s k in omega (arith, r))
 
   insn-few : (f : ℕ) → insn job (suc s.control.commands_done) f < 2 + TRAMPS
-  insn-few f = (let i = insn-small job l.job' (suc s.control.commands_done) f in let t = l.tramps in let m = tramps-most job.version in
-      omega (arith, i, t, m))
+  insn-few f = (let i = insn-small job l.job' (suc s.control.commands_done) f in let t = (few-largest job.version l.counts).few_tramps in
+      omega (arith, i, t))
 
   control-fit : (p : Position) (op : WordOp) → next_in job s.control p ≡ Some op → FitsIn op
   control-fit Line op is = lines-fit s.control.commands_done s.control.remaining op is
@@ -285,10 +285,10 @@ module _ (job : Job) (l : IsLimited job) (s : World) (k : MachineRule job s) whe
       (let r = reg-small job l (suc s.control.commands_done) (subject job s.control.commands_done) in let n = few in omega (arith, r, n))
       (after_small (effect job s.control.commands_done) (s.control.copies (subject job s.control.commands_done))
       (k.sets.small (subject job s.control.commands_done))))
-  control-fit Push op is = subst (λ o. FitsIn o) (same_Some _ op is) (let h = name-small s.control.order (length job.users) few-users in-order in
+  control-fit Push op is = subst (λ o. FitsIn o) (same_Some _ op is) (let h = name-small s.control.order (length job.users) (few-users job l) in-order in
       omega (arith, h))
   control-fit Relink op is = subst (λ o. FitsIn o) (same_Some _ op is) (relinks-fit (effect job s.control.commands_done))
-  control-fit StorePids op is = subst (λ o. FitsIn o) (same_Some _ op is) (mask-small (desk job (suc s.control.commands_done)) (length job.tasks) l.tasks)
+  control-fit StorePids op is = subst (λ o. FitsIn o) (same_Some _ op is) (mask-small (desk job (suc s.control.commands_done)) (length job.tasks) l.counts.few_tasks)
   control-fit StoreDepth op is = subst (λ o. FitsIn o) (same_Some _ op is) (let h = depth-small job l (suc s.control.commands_done) in omega (arith, h))
   control-fit (NextAt i) op is = subst (λ o. FitsIn o) (same_Some _ op is) (let h = insn-few i in omega (arith, h))
   control-fit (BreakAt i) op is = subst (λ o. FitsIn o) (same_Some _ op is) (omega arith)
@@ -372,7 +372,7 @@ step-fits job l (ByCpu c) s k all = by_there (nat_lt c.0 (length job.quanta)) re
 
 start-fits : (job : Job) → IsLimited job → AllFit (start job).words
 unfolding start
-start-fits job l Pids = mask-small (desk job 0) (length job.tasks) l.tasks
+start-fits job l Pids = mask-small (desk job 0) (length job.tasks) l.counts.few_tasks
 start-fits job l (Head i) = head-small 0
 start-fits job l (Tail i) = tail-small i 0 (omega arith)
 start-fits job l _ = omega arith
