@@ -11,7 +11,7 @@ use Rattle.ft_base.specs.declared.task.TaskAct.TheVariants.{Call, Ret as RetAct,
 use Rattle.ft_base.specs.declared.user.Kind.{Kind}
 use Rattle.ft_base.specs.Job.{Job, Spec}
 use Rattle.ft_base.specs.Kinds.{has_depth, is_fprobe}
-use Rattle.ft_base.proofs.Versions.{users-most}
+use Rattle.ft_base.proofs.Versions.{few-largest}
 use Rattle.hash_pages.specs.declared.reader.Verdict.{Verdict}
 use Rattle.hash_pages.specs.declared.reader.Verdict.TheVariants.{Open, On}
 use Rattle.hash_pages.specs.Reads.{Read, read_got, verdict_of}
@@ -166,7 +166,7 @@ module _ (job : Job) (limited : IsLimited job) (setup : PlainSetup) (v : ℕ) wh
   asks-is : (t : Task) (o : CodeCall) (os : List CodeCall) (s : StackedCall) (ss : List StackedCall) (l : ToMark)
       → PresentTakes job (state_of (standing t (o ∷ os) (s ∷ ss) (Mark l))) (mark_moment (users_in s.users) l) v
       → Asks (s ∷ ss) l
-  asks-is t o os s ss (Calling u reg) takes = users-room s.users USERS (let few = limited.users in let most = users-most job.version in omega (arith, takes, few, most))
+  asks-is t o os s ss (Calling u reg) takes = users-room s.users USERS (let few = (few-largest job.version limited.counts).few_users in omega (arith, takes, few))
   asks-is t o os s ss _ takes = tt
 
   few-row : (t : Task) (calls : List CodeCall) (ss : List StackedCall) (m : Moment) → IsTaskOf job (standing t calls ss m)

@@ -2,7 +2,7 @@
 use Rattle.std.proofs.Common.{cond, ◌≡◌, ℕ, suc, ◌-◌, Bool, true, false, List, [], ◌∷◌, ◌++◌, length, drop, refl, sym, ap, ◌∙◌, subst}
 use Rattle.ft_base.specs.declared.context.Ctx.{Ctx}
 use Rattle.ft_base.specs.declared.context.Ctx.TheVariants.{Normal, Softirq, Irq, Nmi}
-use Rattle.ft_base.specs.Same.{same_ctx}
+use Rattle.ft_base.specs.Same.{same_ctx, context}
 use Rattle.ft_hist.specs.Frames.{FrameUser}
 use Rattle.plain_machine.specs.State.{held_levels}
 use Rattle.ops_list.specs.declared.walker.WalkPhase.{WalkPhase}
@@ -12,7 +12,7 @@ use Rattle.hash_pages.specs.declared.reader.ReadPhase.TheVariants.{AtSel, AtFilt
 use Rattle.hash_pages.specs.declared.reader.Verdict.{Verdict}
 use Rattle.hash_pages.specs.declared.reader.Verdict.TheVariants.{On}
 use Rattle.recursion_guard.specs.declared.held.HeldLevels.{HeldLevels}
-use Rattle.recursion_guard.specs.Guards.{GuardState, context as present, entered, held_in, left, with_held}
+use Rattle.recursion_guard.specs.Guards.{GuardState, entered, held_in, left, with_held}
 use Rattle.return_stack.specs.Calls.{StackedCall, top_users}
 use Rattle.word_machine.specs.Task.{OpenCall, Closing as ClosingAt, guards_under}
 use Rattle.task_core.specs.declared.moment.Moment.{Moment as CodeMoment}
@@ -42,13 +42,13 @@ module _ (held : HeldLevels) (f : ℕ → ℕ) where
   counted Nmi Nmi = refl
   counted Nmi _ = refl
 
-module _ (g : GuardState) (x : Ctx) (e : present g.raised ≡ x) (k : Ctx) where
+module _ (g : GuardState) (x : Ctx) (e : context g.raised ≡ x) (k : Ctx) where
   -- a change of the present context's number leaves those of the others
-  levels-apart : (f : ℕ → ℕ) → held_in (with_held g.held (present g.raised) (f (held_in g.held (present g.raised)))) k
+  levels-apart : (f : ℕ → ℕ) → held_in (with_held g.held (context g.raised) (f (held_in g.held (context g.raised)))) k
       ≡ cond (same_ctx x k) (f (held_in g.held k)) (held_in g.held k)
   levels-apart f =
-      subst (λ y. held_in (with_held g.held (present g.raised) (f (held_in g.held (present g.raised)))) k
-      ≡ cond (same_ctx y k) (f (held_in g.held k)) (held_in g.held k)) e (counted g.held f (present g.raised) k)
+      subst (λ y. held_in (with_held g.held (context g.raised) (f (held_in g.held (context g.raised)))) k
+      ≡ cond (same_ctx y k) (f (held_in g.held k)) (held_in g.held k)) e (counted g.held f (context g.raised) k)
 
   -- a level that is taken, and one that is given back
   pub taken-apart : held_in (entered g).held k ≡ cond (same_ctx x k) (suc (held_in g.held k)) (held_in g.held k)

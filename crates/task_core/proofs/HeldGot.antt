@@ -7,10 +7,10 @@ use Rattle.ft_base.specs.declared.number.FuncNo.{FuncNo}
 use Rattle.ft_base.specs.declared.task.TaskAct.{TaskAct}
 use Rattle.ft_base.specs.declared.task.TaskAct.TheVariants.{Call, Ret as RetAct, Raise, Lower, After}
 use Rattle.ft_base.specs.Job.{Job}
+use Rattle.ft_base.specs.Same.{context}
 use Rattle.ft_base.proofs.Small.{false_true}
-use Rattle.ft_hist.specs.Plain.{context}
 use Rattle.plain_machine.specs.State.{held_levels}
-use Rattle.recursion_guard.specs.Guards.{context as present_context, held_in}
+use Rattle.recursion_guard.specs.Guards.{held_in}
 use Rattle.return_stack.specs.declared.shadow.FrameUser.{FrameUser}
 use Rattle.return_stack.specs.Calls.{StackedCall, top_users}
 use Rattle.word_map.specs.Contents.{low, returned_at}
@@ -33,7 +33,7 @@ use Rattle.task_core.proofs.FitsCalls.{none-open}
 use Rattle.task_core.proofs.Held.{Guards, GuardsAt, guards-stay, holding, holding-is, in-call, of-call, over-none}
 use Rattle.task_core.proofs.HeldLoads.{exit-free, load-guards}
 use Rattle.task_core.proofs.HeldMarks.{mark-guards, under-script}
-use Rattle.task_core.proofs.RowLists.{contexts-same, standing}
+use Rattle.task_core.proofs.RowLists.{standing}
 use Rattle.task_core.proofs.SteadyContexts.{context-is}
 use Rattle.task_core.proofs.SteadyRaised.{none-raised, quiet-raised}
 use Rattle.task_core.proofs.TiedLeft.{call-open, quiet-is}
@@ -54,9 +54,9 @@ module _ (t : Task) (calls : List CodeCall) (ss : List StackedCall) (setup : Pla
   abbrev before : Task
   before = standing t calls ss First
 
-  called-guards : (f : FuncNo) → Guards before → Guards (entered before setup.shape f (present_context t.guards.raised) true)
+  called-guards : (f : FuncNo) → Guards before → Guards (entered before setup.shape f (context t.guards.raised) true)
   called-guards f h =
-      in-call t.guards (new_call (next_call t) (present_context t.guards.raised) f true setup.shape) calls (record { call = next_call t; users = None }) ss
+      in-call t.guards (new_call (next_call t) (context t.guards.raised) f true setup.shape) calls (record { call = next_call t; users = None }) ss
       (Load Fetch) false refl
       (record { held = λ k. (h.held k ∙ ap (λ gs. held_levels gs k) (sym (under-script (stack_in calls ss)))); raised = refl })
 
@@ -81,13 +81,13 @@ module _ (job : Job) where
 
   module _ (t : Task) (o : CodeCall) (os : List CodeCall) (s : StackedCall) (ss : List StackedCall) (m : CodeMoment) (k : IsTaskOf job (standing t (o ∷ os) (s ∷ ss) m)) where
     -- the present context of a call in its dispatch is its own
-    pub present-is : is_dispatching (moment_at o (users_in s.users) m) ≡ true → present_context t.guards.raised ≡ o.ctx
+    pub present-is : is_dispatching (moment_at o (users_in s.users) m) ≡ true → context t.guards.raised ≡ o.ctx
     present-is d =
-        contexts-same t.guards.raised ∙ ap context k.raised
+        ap context k.raised
         ∙ context-is job (state_of (standing t (o ∷ os) (s ∷ ss) m)) k.steady (joined o s) (stack_in os ss) refl d
 
     -- and so while a level of its guard is held for it
-    pub own-is : holding m ≡ true → present_context t.guards.raised ≡ o.ctx
+    pub own-is : holding m ≡ true → context t.guards.raised ≡ o.ctx
     own-is e = present-is (holds-dispatched (moment_at o (users_in s.users) m) (holding-is o (users_in s.users) m ∙ e))
 
     -- below a scripted call all are

@@ -10,14 +10,14 @@ use Rattle.ft_base.specs.declared.number.FuncNo.{FuncNo}
 use Rattle.ft_base.specs.declared.number.UserNo.{UserNo}
 use Rattle.ft_base.specs.Job.{Spec}
 use Rattle.ft_base.specs.Kinds.{has_depth}
-use Rattle.ft_base.specs.Same.{same_ctx}
+use Rattle.ft_base.specs.Same.{same_ctx, context}
 use Rattle.ops_list.specs.Walks.{walk_after, walk_at}
 use Rattle.hash_pages.specs.declared.reader.ReadPhase.{ReadPhase}
 use Rattle.hash_pages.specs.declared.reader.ReadPhase.TheVariants.{AtSel, AtFilter, AtNotrace, Ended as ReadEnded}
 use Rattle.hash_pages.specs.declared.reader.Verdict.{Verdict}
 use Rattle.hash_pages.specs.declared.reader.Verdict.TheVariants.{Open, On}
 use Rattle.hash_pages.specs.Reads.{Read, read_got, verdict_of}
-use Rattle.recursion_guard.specs.Guards.{GuardState, context as present, entered, is_full, left}
+use Rattle.recursion_guard.specs.Guards.{GuardState, entered, is_full, left}
 use Rattle.return_stack.specs.declared.shadow.FrameUser.{FrameUser}
 use Rattle.return_stack.specs.Calls.{StackedCall, frames_in}
 use Rattle.site_bytes.specs.Bytes.{breakpoint}
@@ -100,13 +100,13 @@ module _ (t : Task) (o : CodeCall) (os : List CodeCall) (s : StackedCall) (ss : 
 
   -- ## levels that are taken and given back
 
-  taken : present t.guards.raised ≡ o.ctx → In t.guards false → In (entered t.guards) true
+  taken : context t.guards.raised ≡ o.ctx → In t.guards false → In (entered t.guards) true
   taken own h = record {
     held = λ k. (taken-apart t.guards o.ctx own k ∙ ap (λ n. cond (same_ctx o.ctx k) (suc n) n) (h.held k) ∙ sym (taken-levels o.ctx under k));
     raised = h.raised;
   }
 
-  pub given : present t.guards.raised ≡ o.ctx → In t.guards true → In (left t.guards) false
+  pub given : context t.guards.raised ≡ o.ctx → In t.guards true → In (left t.guards) false
   given own h = record {
     held = λ k. (given-apart t.guards o.ctx own k ∙ ap (λ n. cond (same_ctx o.ctx k) (n - 1) n) (h.held k) ∙ given-levels o.ctx under k);
     raised = h.raised;
@@ -115,7 +115,7 @@ module _ (t : Task) (o : CodeCall) (os : List CodeCall) (s : StackedCall) (ss : 
   -- ## tests
 
   module _ (m : CodeMoment) (u : UserNo) (reg : ℕ) where
-    guard-guards : (spec : Spec) → present t.guards.raised ≡ o.ctx → In t.guards false → Guards (guard_tested (here m) spec u reg)
+    guard-guards : (spec : Spec) → context t.guards.raised ≡ o.ctx → In t.guards false → Guards (guard_tested (here m) spec u reg)
     guard-guards spec own h = by (is_full t.guards) (has_depth spec.kind)
       where
         by : (full deep : Bool) → Guards (cond full (here (Mark (Refusing u reg Recursion)))
@@ -124,28 +124,28 @@ module _ (t : Task) (o : CodeCall) (os : List CodeCall) (s : StackedCall) (ss : 
         by false true = in-call (entered t.guards) o os s ss (Load (AtDepth u reg)) true refl (taken own h)
         by false false = in-call (entered t.guards) o os s ss (Mark (Calling u reg)) true refl (taken own h)
 
-    tested-guards : (spec : Spec) → present t.guards.raised ≡ o.ctx → In t.guards false → Guards (tested (here m) spec u reg)
+    tested-guards : (spec : Spec) → context t.guards.raised ≡ o.ctx → In t.guards false → Guards (tested (here m) spec u reg)
     tested-guards spec own h = by spec.pid
       where
         by : (b : Bool) → Guards (cond b (here (Load (AtPids u reg))) (guard_tested (here m) spec u reg))
         by true = goes (Load (AtPids u reg)) false refl h
         by false = guard-guards spec own h
 
-    own-guards : (spec : Spec) (v : ℕ) → present t.guards.raised ≡ o.ctx → In t.guards false → Guards (own_stated (here m) spec u reg v)
+    own-guards : (spec : Spec) (v : ℕ) → context t.guards.raised ≡ o.ctx → In t.guards false → Guards (own_stated (here m) spec u reg v)
     own-guards spec v own h = by (stands v reg)
       where
         by : (b : Bool) → Guards (cond b (tested (here m) spec u reg) (here (Mark Closing)))
         by true = tested-guards spec own h
         by false = goes (Mark Closing) false refl h
 
-    pid-guards : (spec : Spec) (v : ℕ) → present t.guards.raised ≡ o.ctx → In t.guards false → Guards (pid_tested (here m) spec u reg v)
+    pid-guards : (spec : Spec) (v : ℕ) → context t.guards.raised ≡ o.ctx → In t.guards false → Guards (pid_tested (here m) spec u reg v)
     pid-guards spec v own h = by (bit_at v t.number.0 == 1)
       where
         by : (b : Bool) → Guards (cond b (guard_tested (here m) spec u reg) (here (Mark (Refusing u reg ByPid))))
         by true = guard-guards spec own h
         by false = goes (Mark (Refusing u reg ByPid)) false refl h
 
-    depth-guards : (frames v : ℕ) → present t.guards.raised ≡ o.ctx → In t.guards true → Guards (depth_tested (here m) frames u reg v)
+    depth-guards : (frames v : ℕ) → context t.guards.raised ≡ o.ctx → In t.guards true → Guards (depth_tested (here m) frames u reg v)
     depth-guards frames v own h = by (is_too_deep frames v (frames_in ss))
       where
         by : (b : Bool) → Guards (cond b (record (here m) { guards = left t.guards; moment = Mark (Refusing u reg ByDepth) })
@@ -158,7 +158,7 @@ module _ (t : Task) (o : CodeCall) (os : List CodeCall) (s : StackedCall) (ss : 
   pub passed-guards : (m : CodeMoment) → In t.guards false → Guards (passed (here m))
   passed-guards m h = goes (after_user_to o.ran) false (after-free o.ran) h
 
-  read-guards : (m : CodeMoment) (setup : PlainSetup) (r : Read) (verdict : Verdict) (user : Option UserNo) → present t.guards.raised ≡ o.ctx
+  read-guards : (m : CodeMoment) (setup : PlainSetup) (r : Read) (verdict : Verdict) (user : Option UserNo) → context t.guards.raised ≡ o.ctx
       → In t.guards false → Guards (judged (here m) setup r verdict user)
   read-guards m setup r Open user own h = goes (Load (Reading r)) false refl h
   read-guards m setup r (On reg) (Some u) own h = tested-guards m u reg (declared_in setup u.0) own h
@@ -178,7 +178,7 @@ module _ (t : Task) (o : CodeCall) (os : List CodeCall) (s : StackedCall) (ss : 
 
   module _ (setup : PlainSetup) (v : ℕ) where
     -- the present context is that of the call while it is dispatched
-    pub load-guards : (l : ToLoad) → (is_dispatching (load_moment o (users_in s.users) l) ≡ true → present t.guards.raised ≡ o.ctx)
+    pub load-guards : (l : ToLoad) → (is_dispatching (load_moment o (users_in s.users) l) ≡ true → context t.guards.raised ≡ o.ctx)
         → In t.guards (holding (Load l)) → Guards (after_load (here (Load l)) setup l v)
     load-guards Fetch own h = goes (head_to v) false (head-free v) h
     load-guards (GotHead byte) own h =

@@ -7,11 +7,11 @@ use Rattle.ft_base.specs.declared.number.UserNo.{UserNo}
 use Rattle.ft_base.specs.declared.user.Kind.{Kind}
 use Rattle.ft_base.specs.Job.{Spec}
 use Rattle.ft_base.specs.Kinds.{has_depth, is_fprobe}
-use Rattle.ft_base.specs.Same.{same_ctx}
+use Rattle.ft_base.specs.Same.{same_ctx, context}
 use Rattle.ft_hist.specs.Frames.{runs_after}
 use Rattle.ft_hist.specs.Plain.{Owed, owed_by}
 use Rattle.plain_machine.specs.State.{held_levels}
-use Rattle.recursion_guard.specs.Guards.{GuardState, context as present, held_in, left}
+use Rattle.recursion_guard.specs.Guards.{GuardState, held_in, left}
 use Rattle.return_stack.specs.declared.shadow.FrameUser.{FrameUser}
 use Rattle.return_stack.specs.Calls.{CallStack, StackedCall, if_used, is_full, with_hook, with_user}
 use Rattle.fprobe.specs.declared.entry.Probe.{Probe}
@@ -123,7 +123,7 @@ module _ (t : Task) (o : CodeCall) (os : List CodeCall) (s : StackedCall) (ss : 
       held true k = h.held k
       held false k = h.held k
 
-  ended-guards : (u : UserNo) → present t.guards.raised ≡ o.ctx → Now true → Guards (callback_ended (stands (Mark (Ending u))))
+  ended-guards : (u : UserNo) → context t.guards.raised ≡ o.ctx → Now true → Guards (callback_ended (stands (Mark (Ending u))))
   ended-guards u here h = in-call (left t.guards) o os s ss (after_user_to o.ran) false (after-free o.ran) (given t o os s ss here h)
 
   body-guards : Now false → Guards (body_begun (stands (Mark Closing)))
@@ -199,7 +199,7 @@ module _ (t : Task) (o : CodeCall) where
 
 module _ (t : Task) (o : CodeCall) (os : List CodeCall) (s : StackedCall) (ss : List StackedCall) (setup : PlainSetup) (place : ℕ) where
   -- In a callback the present context is that of the call. A scripted call is over others of the script
-  pub mark-guards : (l : ToMark) → (holding (Mark l) ≡ true → present t.guards.raised ≡ o.ctx)
+  pub mark-guards : (l : ToMark) → (holding (Mark l) ≡ true → context t.guards.raised ≡ o.ctx)
       → IsCalled o.scripted o.ctx (stack_in os ss) → (o.scripted ≡ true → act_raised (stack_in os ss) ≡ [])
       → In t o os s ss t.guards (holding (Mark l)) → Guards (after_mark (standing t (o ∷ os) (s ∷ ss) (Mark l)) setup l place)
   mark-guards (Refusing u reg reason) own called none h = passed-guards t o os s ss (Mark (Refusing u reg reason)) h

@@ -25,7 +25,7 @@ use Rattle.task_core.specs.Steady.{IsCalled, act_raised}
 use Rattle.task_core.specs.TaskSteps.{after_first, at, body_begun, finished, returned, without_raised}
 use Rattle.task_core.specs.Tied.{IsTaskOf}
 use Rattle.task_core.proofs.RowExits.{from-row}
-use Rattle.task_core.proofs.RowLists.{contexts-same, rest-drop, standing}
+use Rattle.task_core.proofs.RowLists.{rest-drop, standing}
 use Rattle.task_core.proofs.SteadyRaised.{back-raised, quiet-raised, script-back_raised}
 
 -- ## the first operation of an act
@@ -37,7 +37,7 @@ module _ (job : Job) (t : Task) (v : ℕ) where
       → state_of (after_first (standing t os ss First) (setup_in job) (slice_get acts 0) v)
       ≡ first_got t.number.0 (state_of (standing t os ss First)) acts (stack_in os ss) v
   first-got os ss [] k script = refl
-  first-got os ss (Call f ∷ rest) k script = rw (contexts-same t.guards.raised, quiet-raised job (state_of (standing t os ss First)) k.steady refl) refl
+  first-got os ss (Call f ∷ rest) k script = rw (quiet-raised job (state_of (standing t os ss First)) k.steady refl) refl
   first-got [] [] (RetAct ∷ rest) k script = absurd script
   first-got [] (s ∷ ss) (RetAct ∷ rest) k script = absurd k.tied
   first-got (o ∷ os) [] (RetAct ∷ rest) k script = absurd k.tied

@@ -6,7 +6,7 @@ use Rattle.ft_base.specs.declared.number.UserNo.{UserNo}
 use Rattle.ft_base.specs.Desk.{spec_at}
 use Rattle.ft_base.specs.Job.{Job}
 use Rattle.ft_base.specs.Kinds.{has_depth}
-use Rattle.ft_hist.specs.Plain.{context}
+use Rattle.ft_base.specs.Same.{context}
 use Rattle.plain_machine.specs.State.{is_full}
 use Rattle.recursion_guard.specs.Guards.{entered, held_in}
 use Rattle.recursion_guard.specs.Guards as guards
@@ -23,7 +23,7 @@ use Rattle.task_core.specs.Steady.{holds_guard, is_dispatching}
 use Rattle.task_core.specs.TaskSteps.{guard_tested, tested}
 use Rattle.task_core.specs.TaskSteps as code
 use Rattle.task_core.specs.Tied.{IsTaskOf}
-use Rattle.task_core.proofs.RowLists.{contexts-same, standing}
+use Rattle.task_core.proofs.RowLists.{standing}
 use Rattle.task_core.proofs.SteadyContexts.{context-is}
 use Rattle.task_core.proofs.SteadyGuards.{guards-free}
 
@@ -39,9 +39,9 @@ module _ (job : Job) (t : Task) (o : CodeCall) (os : List CodeCall) (s : Stacked
   below = stack_in os ss
 
   -- in a dispatch the present context is that of the call
-  pub present-context : IsTaskOf job now → is_dispatching (moment_of now) ≡ true → guards.context t.guards.raised ≡ o.ctx
+  pub present-context : IsTaskOf job now → is_dispatching (moment_of now) ≡ true → context t.guards.raised ≡ o.ctx
   present-context k h =
-      contexts-same t.guards.raised ∙ ap context k.raised ∙ context-is job (state_of now) k.steady c below refl h
+      ap context k.raised ∙ context-is job (state_of now) k.steady c below refl h
 
   -- so all levels of its guard are held exactly if the calls below hold them
   pub guard-is : IsTaskOf job now → is_dispatching (moment_of now) ≡ true → holds_guard (moment_of now) ≡ false

@@ -1,10 +1,7 @@
--- A task's lists: its acts to come, the users of a frame, and its contexts.
+-- A task's lists: its acts to come, and the users of a frame.
 use Rattle.std.proofs.Common.{◌≡◌, ℕ, zero, suc, ◌<◌, List, [], ◌∷◌, drop, length, map, slice_get, Option, Some, None, option_map, option_and_then, unwrap_or, refl, sym, ◌∙◌, arith}
 use Rattle.std.proofs.lemmas.Option.{slice_get-map}
-use Rattle.ft_base.specs.declared.context.Ctx.{Ctx}
 use Rattle.ft_base.specs.declared.task.TaskAct.{TaskAct}
-use Rattle.ft_hist.specs.Plain.{context}
-use Rattle.recursion_guard.specs.Guards as guards
 use Rattle.return_stack.specs.declared.shadow.FrameUser.{FrameUser as OwedUser}
 use Rattle.return_stack.specs.Calls.{StackedCall}
 use Rattle.word_machine.specs.Task.{rest_acts}
@@ -51,10 +48,3 @@ owed-split None i lt = absurd (omega (arith, lt))
 owed-split (Some []) i lt = absurd (omega (arith, lt))
 owed-split (Some (m ∷ rest)) zero lt = refl
 owed-split (Some (m ∷ rest)) (suc i) lt = owed-split (Some rest) i (omega (arith, lt))
-
--- ## contexts
-
--- the present context, as the guards and the machine have it
-pub contexts-same : (cs : List Ctx) → guards.context cs ≡ context cs
-contexts-same [] = refl
-contexts-same (c ∷ rest) = refl

@@ -183,7 +183,7 @@ module _ (job : Job) (t : Task) (o : CodeCall) (os : List CodeCall) (s : Stacked
         here-is : o.call.task.0 % 64 ≡ t.number.0
         here-is =
             let n : o.call.task.0 ≡ t.number.0 = ap (λ (n : TaskNo). n.0) k.tied.0.task in
-            let few : length job.tasks ≤ 64 = limited.tasks in
+            let few : length job.tasks ≤ 64 = limited.counts.few_tasks in
             let inside : t.number.0 < length job.tasks = k.number in
             omega (arith, n, few, inside)
 

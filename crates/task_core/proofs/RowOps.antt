@@ -34,7 +34,7 @@ use Rattle.task_core.specs.Moments.{reading_at, walking_at}
 use Rattle.task_core.specs.States.{ending_exit, exiting, is_polling, joined, load_moment, mark_moment, moment_of, stack_in, state_of, users_in}
 use Rattle.task_core.specs.TaskOps.{first_op, item_of, load_op, op_of}
 use Rattle.task_core.specs.Tied.{IsReading, IsTaskOf, IsWalking}
-use Rattle.task_core.proofs.RowLists.{contexts-same, get-first, owed-split, standing}
+use Rattle.task_core.proofs.RowLists.{get-first, owed-split, standing}
 use Rattle.task_core.proofs.RowStacks.{caller-top, latest-top}
 use Rattle.task_core.proofs.SteadyRaised.{quiet-raised}
 use Rattle.task_core.proofs.RowMoments.{load-loud, mark-loud, no-call}
@@ -112,7 +112,7 @@ module _ (job : Job) (t : Task) where
   first-row os ss (Call f ∷ rest) k script =
       let none = quiet-raised job (state_of (standing t os ss First)) k.steady refl in
       let latest-is = latest-top (shape_of job) t.number machine.First os ss k.tied in
-      rw (contexts-same t.guards.raised, none, latest-is) refl
+      rw (none, latest-is) refl
   first-row [] [] (RetAct ∷ rest) k script = absurd script
   first-row [] (s ∷ ss) (RetAct ∷ rest) k script = absurd k.tied
   first-row (o ∷ os) [] (RetAct ∷ rest) k script = absurd k.tied

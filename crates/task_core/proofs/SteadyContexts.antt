@@ -5,10 +5,10 @@ use Rattle.ft_base.specs.declared.context.Ctx.{Ctx}
 use Rattle.ft_base.specs.declared.context.Ctx.TheVariants.{Irq}
 use Rattle.ft_base.specs.Desk.{spec_at}
 use Rattle.ft_base.specs.Job.{Job}
-use Rattle.ft_base.specs.Same.{rank, same_ctx}
+use Rattle.ft_base.specs.Same.{rank, same_ctx, context}
 use Rattle.ft_base.specs.Versions.{levels}
 use Rattle.ft_base.proofs.Small.{==-refl, false_true}
-use Rattle.ft_hist.specs.Plain.{Owed, context}
+use Rattle.ft_hist.specs.Plain.{Owed}
 use Rattle.plain_machine.specs.State.{held_levels}
 use Rattle.word_machine.specs.Calls.{under_by, under_call}
 use Rattle.word_machine.specs.Task.{OpenCall, TaskState, Moment, Acting, Ending, guards_under}

@@ -10,10 +10,10 @@ use Rattle.ft_base.specs.declared.task.TaskAct.TheVariants.{Call, Ret as RetAct,
 use Rattle.ft_base.specs.Desk.{spec_at}
 use Rattle.ft_base.specs.Job.{Job}
 use Rattle.ft_base.specs.Kinds.{has_depth}
-use Rattle.ft_base.specs.Same.{same_ctx}
+use Rattle.ft_base.specs.Same.{same_ctx, context}
 use Rattle.ft_base.proofs.Small.{false_true}
 use Rattle.ft_hist.specs.Frames.{FrameUser, is_nil}
-use Rattle.ft_hist.specs.Plain.{Owed, context, owed_by}
+use Rattle.ft_hist.specs.Plain.{Owed, owed_by}
 use Rattle.plain_machine.specs.State.{call_of, held_levels, is_full, misses_frame}
 use Rattle.word_map.specs.Contents.{is_marked, returned_at, sel_empty, sel_on, stands}
 use Rattle.word_map.specs.Instructions.{decode}

@@ -5,13 +5,13 @@ use Rattle.ft_base.specs.declared.number.CallNo.{CallNo}
 use Rattle.ft_base.specs.declared.task.TaskAct.{TaskAct}
 use Rattle.ft_base.specs.declared.task.TaskAct.TheVariants.{Call, Ret as RetAct, Raise, Lower, After}
 use Rattle.ft_base.specs.Job.{Job}
-use Rattle.ft_base.specs.Same.{rank, same_ctx}
+use Rattle.ft_base.specs.Same.{rank, same_ctx, context}
+use Rattle.ft_base.specs.Acts.{AreRaised}
 use Rattle.ft_base.proofs.Small.{false_true}
 use Rattle.ft_hist.specs.Frames.{is_nil}
-use Rattle.ft_hist.specs.Plain.{Owed, below_top, context}
+use Rattle.ft_hist.specs.Plain.{Owed, below_top}
 use Rattle.word_map.specs.Contents.{returned_at}
 use Rattle.word_machine.specs.Calls.{under_by}
-use Rattle.word_machine.specs.Limits.{AreRaised}
 use Rattle.word_machine.specs.Task.{OpenCall, TaskState, Moment, Polling, First, Acting, Closing, Leaving, Returning, at_moment, closed, finished, first_got, is_quiet, opened, task_got, user_of, with_top}
 use Rattle.word_machine.specs.Tasks.{acts_by}
 use Rattle.task_core.specs.Steady.{AreSteady, IsSteady, act_raised}

@@ -6,9 +6,9 @@ use Rattle.ft_base.specs.declared.task.TaskAct.{TaskAct}
 use Rattle.ft_base.specs.declared.task.TaskAct.TheVariants.{Call, Ret as RetAct, Raise, Lower}
 use Rattle.ft_base.specs.declared.user.Kind.{Kind}
 use Rattle.ft_base.specs.Kinds.{has_depth}
-use Rattle.ft_base.specs.Same.{rank, same_ctx}
+use Rattle.ft_base.specs.Same.{rank, same_ctx, context}
 use Rattle.ops_list.specs.Walks.{walk_at}
-use Rattle.recursion_guard.specs.Guards.{context, IsHeld}
+use Rattle.recursion_guard.specs.Guards.{IsHeld}
 use Rattle.return_stack.specs.Calls.{CallStack, frames_in, top_users}
 use Rattle.word_map.specs.declared.shape.Shape.{Shape}
 use Rattle.task_core.specs.declared.moment.Moment.{Moment}

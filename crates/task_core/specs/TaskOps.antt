@@ -6,9 +6,9 @@ use Rattle.ft_base.specs.declared.item.Item.{Item}
 use Rattle.ft_base.specs.declared.item.Item.TheVariants.{Enter, Back, BackEnd, Refuse, Miss, Body, Leave, Exit, ExitEnd, Ret}
 use Rattle.ft_base.specs.declared.task.TaskAct.{TaskAct}
 use Rattle.ft_base.specs.declared.task.TaskAct.TheVariants.{Call, Ret as RetAct, After}
+use Rattle.ft_base.specs.Same.{context}
 use Rattle.ops_list.specs.Walks.{walk_op}
 use Rattle.hash_pages.specs.Reads.{read_next}
-use Rattle.recursion_guard.specs.Guards.{context}
 use Rattle.return_stack.specs.declared.shadow.FrameUser.{FrameUser}
 use Rattle.return_stack.specs.Calls.{StackedCall, caller_of, top_users}
 use Rattle.word_map.specs.Words.{Clock, Depth, Head, Next, Pids, Sel, Tail, Tramp}

@@ -12,7 +12,7 @@ use Rattle.ft_base.specs.declared.task.TaskAct.TheVariants.{Call, Ret as RetAct,
 use Rattle.ft_base.specs.declared.user.Kind.{Kind}
 use Rattle.ft_base.specs.Job.{Spec}
 use Rattle.ft_base.specs.Kinds.{has_depth, has_exit, is_fprobe}
-use Rattle.ft_base.specs.Same.{same_ctx}
+use Rattle.ft_base.specs.Same.{same_ctx, context}
 use Rattle.ft_hist.specs.Frames.{runs_after}
 use Rattle.ft_hist.specs.Plain.{owed_by}
 use Rattle.ops_list.specs.declared.walker.WalkPhase.TheVariants.{Starting}
@@ -21,7 +21,7 @@ use Rattle.hash_pages.specs.declared.reader.ReadPhase.TheVariants.{AtSel}
 use Rattle.hash_pages.specs.declared.reader.Verdict.{Verdict}
 use Rattle.hash_pages.specs.declared.reader.Verdict.TheVariants.{Open, On}
 use Rattle.hash_pages.specs.Reads.{Read, read_got, verdict_of}
-use Rattle.recursion_guard.specs.Guards.{GuardState, context, is_full as is_guard_full, entered as guard_entered, left as guard_left}
+use Rattle.recursion_guard.specs.Guards.{GuardState, is_full as is_guard_full, entered as guard_entered, left as guard_left}
 use Rattle.return_stack.specs.declared.shadow.FrameUser.{FrameUser}
 use Rattle.return_stack.specs.Calls.{CallStack, frames_in, is_full, with_call, with_hook, with_user, without_empty}
 use Rattle.fprobe.specs.Entry.{calls_after}
