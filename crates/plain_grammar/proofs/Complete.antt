@@ -14,14 +14,16 @@ use Rattle.ft_base.specs.declared.task.TaskAct.{TaskAct}
 use Rattle.ft_base.specs.declared.task.TaskAct.TheVariants.{Call, Ret as RetAct, Raise, Lower, After}
 use Rattle.ft_base.specs.declared.user.Act.{Act}
 use Rattle.ft_base.specs.declared.user.Act.TheVariants.{CallIn, IrqIn}
-use Rattle.ft_base.specs.Same.{same_call, same_ctx, rank}
+use Rattle.ft_base.specs.Same.{same_call, same_ctx, context}
 use Rattle.ft_base.specs.Job.{Job}
 use Rattle.ft_base.specs.Desk.{spec_at}
+use Rattle.ft_base.proofs.Same.{same_ctx-eq}
 use Rattle.ft_base.proofs.Small.{false_true, and_both}
 use Rattle.ft_hist.specs.Past.{done, is_of}
-use Rattle.ft_hist.specs.Plain.{plain, after_item, after_next, PlainTask, Frame, Phase, Owed, Dispatch as InDispatch, InBack, Running, Leaving, InExit, Ahead, on_call, on_top, in_phase, after_back, after_back_end, after_miss, after_refusal, after_body, after_leave, after_leave_ahead, after_scripted_leave, after_exit, after_exit_end, after_ret, after_enter, after_enter_ahead, after_owed_enter, after_scripted_enter, ahead, owed_by, context, below_top, top_call, same_top}
+use Rattle.ft_hist.specs.Plain.{plain, after_item, after_next, PlainTask, Frame, Phase, Owed, Dispatch as InDispatch, InBack, Running, Leaving, InExit, Ahead, on_call, on_top, in_phase, after_back, after_back_end, after_miss, after_refusal, after_body, after_leave, after_leave_ahead, after_scripted_leave, after_exit, after_exit_end, after_ret, after_enter, after_enter_ahead, after_owed_enter, after_scripted_enter, ahead, owed_by, below_top, top_call, same_top}
 use Rattle.ft_hist.specs.Rules.{IsLegal}
 use Rattle.ft_hist.proofs.Numbers.{some-run}
+use Rattle.ft_hist.proofs.Nesting.{same_top-eq}
 use Rattle.ft_hist.proofs.RunLaws.{calls_on, if_some, some_inj, same_call-eq}
 use Rattle.plain_grammar.specs.Grammar.{Stamped, at, items_of, top_of, call_in, Exits, no_exit, one_exit, Return, returns, no_try, one_try, refused, called, missed, ActOf, no_act, no_interrupt, by_call, by_interrupt, Dispatch, dispatch, Run, call, ret, raise, lower, after, IsRunOf}
 use Rattle.plain_grammar.proofs.Rest.{ToBody, ToRet, ToExitEnd, Owing, ToBackEnd, InCallback, InBody, InPhase, RestOf, ends}
@@ -39,33 +41,6 @@ IsSettled (f ∷ below) = (f.scripted ≡ true → IsQuiet below) × IsSettled b
 top-frames : (fs : List Frame) → top_call fs ≡ top_of (calls_on fs)
 top-frames [] = refl
 top-frames (f ∷ fs) = refl
-
-same_top-eq : (a b : Option CallNo) → same_top a b ≡ true → a ≡ b
-same_top-eq None None e = refl
-same_top-eq (Some a) (Some b) e = ap (λ (c : CallNo). Some c) (same_call-eq a b e)
-same_top-eq None (Some b) e = false_true e
-same_top-eq (Some a) None e = false_true e
-
-same_ctx-eq : (a b : Ctx) → same_ctx a b ≡ true → a ≡ b
-same_ctx-eq a b e = by a b (eqb-true (rank a) (rank b) e)
-  where
-    by : (a b : Ctx) → rank a ≡ rank b → a ≡ b
-    by Normal Normal q = refl
-    by Softirq Softirq q = refl
-    by Irq Irq q = refl
-    by Nmi Nmi q = refl
-    by Normal Softirq q = absurd cc
-    by Normal Irq q = absurd cc
-    by Normal Nmi q = absurd cc
-    by Softirq Normal q = absurd cc
-    by Softirq Irq q = absurd cc
-    by Softirq Nmi q = absurd cc
-    by Irq Normal q = absurd cc
-    by Irq Softirq q = absurd cc
-    by Irq Nmi q = absurd cc
-    by Nmi Normal q = absurd cc
-    by Nmi Softirq q = absurd cc
-    by Nmi Irq q = absurd cc
 
 module _ (job : Job) (t : ℕ) where
   -- what is to come for a task

@@ -10,11 +10,11 @@ use Rattle.ft_base.specs.declared.item.Item.TheVariants.{Enter, Leave}
 use Rattle.ft_base.specs.declared.task.TaskAct.{TaskAct}
 use Rattle.ft_base.specs.declared.task.TaskAct.TheVariants.{Call, Ret as RetAct, After}
 use Rattle.ft_base.specs.declared.user.Act.{Act}
-use Rattle.ft_base.specs.Same.{same_ctx, rank}
+use Rattle.ft_base.specs.Same.{same_ctx, rank, context}
 use Rattle.ft_base.specs.Job.{Job}
 use Rattle.ft_base.proofs.Small.{==-refl}
 use Rattle.ft_hist.specs.Past.{done, is_of}
-use Rattle.ft_hist.specs.Plain.{plain, after_item, after_next, PlainTask, Frame, Phase, Dispatch as InDispatch, InBack, Running, Leaving, owed_by, context, ahead, Ahead, top_call, same_top, at_start, after_enter, after_enter_ahead, after_leave_ahead}
+use Rattle.ft_hist.specs.Plain.{plain, after_item, after_next, PlainTask, Frame, Phase, Dispatch as InDispatch, InBack, Running, Leaving, owed_by, ahead, Ahead, top_call, same_top, at_start, after_enter, after_enter_ahead, after_leave_ahead}
 use Rattle.ft_hist.proofs.Laws.{same_call-refl}
 use Rattle.plain_grammar.specs.Grammar.{Stamped, at, items_of, HasReturned, top_of, call_in, Exits, no_exit, one_exit, Return, returns, Tries, no_try, one_try, Try, refused, called, missed, ActOf, no_act, no_interrupt, by_call, by_interrupt, Dispatch, dispatch, Run, stop, call, ret, raise, lower, after, IsRunOf}
 
