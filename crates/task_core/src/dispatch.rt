@@ -29,7 +29,7 @@ use graph_users::may_enter;
 use hash_pages::{PageReader, Verdict};
 use pid_filter::allowed;
 use site_bytes::Insn;
-use user_specs::{Kind, Spec, has_depth};
+use user_specs::{Spec, has_depth};
 use word_map::halves::{high, low};
 use word_map::{Op, WordMap};
 
@@ -287,16 +287,12 @@ impl Task {
         ensures stacks { self.new ≡ record self.old { stacks = stacks_after spec.now.kind self.old.stacks (record { user = user; reg = reg; entry = place }) } }
         ensures lacks { result ≡ lacks_frame spec.now.kind self.old.stacks }
     {
-        match spec.kind {
-            Kind::Function => false,
-            Kind::Graph | Kind::Profile => {
-                graph_users::enter(&mut self.stacks, user, reg, place);
-                false
-            }
-            Kind::Fprobe { .. } => {
-                probe_entry(&mut self.stacks, spec, user, reg, place) == Probe::Missed
-            }
+        if spec.kind.has_depth() {
+            graph_users::enter(&mut self.stacks, user, reg, place);
+            return false;
         }
+        spec.kind.is_fprobe()
+            && probe_entry(&mut self.stacks, spec, user, reg, place) == Probe::Missed
     }
 
     fn missed(&mut self, setup: &Setup, user: UserNo) -> Item
