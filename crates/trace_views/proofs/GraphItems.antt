@@ -11,9 +11,9 @@ use Rattle.ft_base.specs.declared.item.Item.TheVariants.{Enter, Back, Ret}
 use Rattle.ft_base.specs.Same.{same_call}
 use Rattle.ft_base.proofs.Small.{and_both, Each-weaker, Each-filter}
 use Rattle.ft_hist.specs.Past.{is_open, calls}
+use Rattle.ft_hist.specs.Telling.{open_calls}
 use Rattle.ft_hist.proofs.Laws.{same_call-refl}
 use Rattle.trace_views.specs.GraphText.{called, level}
-use Rattle.trace_views.specs.OpenCalls.{open_calls}
 use Rattle.trace_views.specs.GraphWalks.{is_open_in, backs_in, backs_open, IsFresh, IsTop, Nests}
 use Rattle.trace_views.proofs.GraphLevels.{AreApart, apart-filter, filter-everything, filter-nothing, same_call-turned, pick-enter, pick-ret, pick-ret-other, level-shape, level-is}
 

@@ -8,8 +8,8 @@ use Rattle.ft_base.specs.declared.item.Item.TheVariants.{Enter, Back, Exit, Ret}
 use Rattle.ft_base.specs.Job.{Job}
 use Rattle.ft_base.proofs.Small.{==-refl}
 use Rattle.ft_hist.specs.Rules.{IsLegal, IsLegalPast}
+use Rattle.ft_hist.specs.Telling.{open_calls}
 use Rattle.ft_hist.proofs.ToldExits.{exit-of}
-use Rattle.trace_views.specs.OpenCalls.{open_calls}
 use Rattle.trace_views.specs.GraphWalks.{Goes, Nests}
 use Rattle.trace_views.proofs.TopCalls.{named, fresh, taken, top-back, top-exit}
 

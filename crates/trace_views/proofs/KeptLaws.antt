@@ -15,6 +15,7 @@ use Rattle.ft_base.specs.Job.{Job}
 use Rattle.ft_base.proofs.Small.{==-refl, and_both, or-false_both, Each-weaker}
 use Rattle.ft_hist.specs.Past.{is_open, is_dispatched, entry_of, done, Entered}
 use Rattle.ft_hist.specs.Rules.{IsLegalPast}
+use Rattle.ft_hist.specs.Telling.{open_calls}
 use Rattle.ft_hist.proofs.Laws.{same_call-refl, entry_of-enter}
 use Rattle.ft_hist.proofs.Nesting.{top_of}
 use Rattle.ft_hist.proofs.Numbers.{moved, some-run}
@@ -23,7 +24,6 @@ use Rattle.ft_hist.proofs.WindowLaws.{entry_of-more}
 use Rattle.trace_views.specs.declared.function.OpenCall.{OpenCall}
 use Rattle.trace_views.specs.FunctionText.{body_of, running, parent_word}
 use Rattle.trace_views.specs.KeptCalls.{func_no, kept_call, HasOpenCalls, runs, parent_name}
-use Rattle.trace_views.specs.OpenCalls.{open_calls}
 use Rattle.trace_views.specs.Words.{function_word}
 use Rattle.trace_views.specs.TaskStacks.{stack_at, with_top}
 use Rattle.trace_views.proofs.TopCalls.{put, fresh-open, taken, top-body, IsTop, others, of-task, below-other, named, top-back, Linked, linked}

@@ -20,6 +20,7 @@ use Rattle.ft_base.proofs.Small.{false_true, ==-refl, and_both, and-false, Each-
 use Rattle.ft_hist.specs.Past.{is_of, done, is_open, calls, entry_of, Entered}
 use Rattle.ft_hist.specs.Plain.{plain, after_item, after_next, PlainTask, at_start, same_top, after_enter}
 use Rattle.ft_hist.specs.Rules.{IsLegalPast}
+use Rattle.ft_hist.specs.Telling.{open_calls}
 use Rattle.ft_hist.proofs.HeldLaws.{Falls, opens}
 use Rattle.ft_hist.proofs.Laws.{entry_of-enter}
 use Rattle.ft_hist.proofs.WindowLaws.{is_enter, entry_of-more}
@@ -28,7 +29,6 @@ use Rattle.ft_hist.proofs.Nesting.{top_of, entering}
 use Rattle.ft_hist.proofs.Numbers.{moved, unmoved, some-run}
 use Rattle.ft_hist.proofs.RunLaws.{same_call-eq, calls_on, Moves, Keeps}
 use Rattle.ft_hist.proofs.Since.{IsOlder, apart}
-use Rattle.trace_views.specs.OpenCalls.{open_calls}
 
 pub lower-other : (call c : CallNo) → c.n < call.n → same_call call c ≡ false
 lower-other call c lt =

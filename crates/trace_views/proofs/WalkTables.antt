@@ -11,8 +11,8 @@ use Rattle.ft_base.specs.declared.item.Item.TheVariants.{Enter, Back, Ret}
 use Rattle.ft_base.specs.Same.{same_call}
 use Rattle.ft_base.proofs.Small.{and_both, Each-weaker, Each-filter}
 use Rattle.ft_hist.specs.Past.{is_open, calls}
+use Rattle.ft_hist.specs.Telling.{open_calls}
 use Rattle.ft_hist.proofs.Laws.{same_call-refl}
-use Rattle.trace_views.specs.OpenCalls.{open_calls}
 use Rattle.trace_views.specs.TaskStacks.{with_top}
 use Rattle.trace_views.specs.GraphWalks.{is_open_in, IsFresh, IsTop, Nests}
 use Rattle.trace_views.specs.GraphLines.{graph_call, graph_calls, with_back}

@@ -1,7 +1,7 @@
 -- The counts that the program keeps, against the items so far.
-use Rattle.std.specs.Prelude.{◌≡◌, ◌+◌, ◌<◌, ◌^◌, List}
+use Rattle.std.specs.Prelude.{ℕ, ◌≡◌, ◌+◌, ◌<◌, ◌^◌, Bool, List, if◌then◌else◌}
 use Rattle.ft_base.specs.declared.item.Item.{Item}
-use Rattle.ft_base.specs.declared.item.Item.TheVariants.{Enter, Back, Refuse, Miss, Exit}
+use Rattle.ft_base.specs.declared.item.ItemKind.{ItemKind}
 use Rattle.trace_views.specs.declared.counts.Counts.{Counts}
 use Rattle.trace_views.specs.ItemCounts.{count_of, is_enter, is_back, is_refuse, is_exit, is_miss}
 
@@ -21,11 +21,16 @@ pub record HasRoom (c : Counts) : Type 0 where
   pub exits : c.exits + 1 < 2 ^ 32
   pub missed : c.missed + 1 < 2 ^ 32
 
--- the counts with one more item
-abbrev pub with_item : Item → Counts → Counts
-with_item (Enter call ctx f caller) c = record c { calls = c.calls + 1 }
-with_item (Back call u) c = record c { backs = c.backs + 1 }
-with_item (Refuse call u reason) c = record c { refused = c.refused + 1 }
-with_item (Exit call u entry) c = record c { exits = c.exits + 1 }
-with_item (Miss call u) c = record c { missed = c.missed + 1 }
-with_item _ c = c
+-- one more if it passes
+abbrev pub more : Bool → ℕ → ℕ
+more passes n = n + (if passes then 1 else 0)
+
+-- the counts with one more item of a kind
+abbrev pub with_kind : ItemKind → Counts → Counts
+with_kind kind c = record {
+  calls = more (is_enter kind) c.calls;
+  backs = more (is_back kind) c.backs;
+  refused = more (is_refuse kind) c.refused;
+  exits = more (is_exit kind) c.exits;
+  missed = more (is_miss kind) c.missed;
+}

@@ -5,6 +5,7 @@ use Rattle.ft_base.specs.declared.number.CallNo.{CallNo}
 use Rattle.ft_base.specs.declared.item.Item.{Item}
 use Rattle.ft_base.specs.Job.{Job}
 use Rattle.ft_hist.specs.Past.{entry_of}
+use Rattle.ft_hist.specs.Telling.{open_calls}
 use Rattle.trace_views.specs.Places.{past_at}
 use Rattle.trace_views.specs.declared.graph.GraphCall.{GraphCall}
 use Rattle.trace_views.specs.declared.graph.Walk.{Walk}
@@ -15,7 +16,6 @@ use Rattle.trace_views.specs.TaskStacks.{stack_at}
 use Rattle.trace_views.specs.ByTask.{IsByTask}
 use Rattle.trace_views.specs.Leaves.{leaf_exits}
 use Rattle.trace_views.specs.GraphText.{latest, time_column, graph_line}
-use Rattle.trace_views.specs.OpenCalls.{open_calls}
 use Rattle.trace_views.specs.GraphWalks.{backs_in, backs_open, Nests}
 
 -- ## a user's walk

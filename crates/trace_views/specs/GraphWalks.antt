@@ -7,8 +7,8 @@ use Rattle.ft_base.specs.declared.item.Item.{Item}
 use Rattle.ft_base.specs.declared.item.Item.TheVariants.{Enter, Back, Exit, Ret}
 use Rattle.ft_base.specs.Same.{same_call}
 use Rattle.ft_hist.specs.Past.{is_open, calls}
+use Rattle.ft_hist.specs.Telling.{open_calls}
 use Rattle.trace_views.specs.GraphText.{called}
-use Rattle.trace_views.specs.OpenCalls.{open_calls}
 
 -- whether a call is an open one of the task
 abbrev pub is_open_in : ℕ → List Item → CallNo → Bool

@@ -1,28 +1,30 @@
 -- How many items of a kind there are.
 use Rattle.std.specs.Prelude.{ℕ, Bool, true, false, List, length, filter}
 use Rattle.ft_base.specs.declared.item.Item.{Item}
-use Rattle.ft_base.specs.declared.item.Item.TheVariants.{Enter, Back, Refuse, Miss, Exit}
+use Rattle.ft_base.specs.declared.item.ItemKind.{ItemKind}
+use Rattle.ft_base.specs.declared.item.ItemKind.TheVariants.{Enter, Back, Refuse, Miss, Exit}
+use Rattle.ft_base.specs.Items.{kind_of}
 
-abbrev pub is_enter : Item → Bool
-is_enter (Enter call ctx f caller) = true
+abbrev pub is_enter : ItemKind → Bool
+is_enter Enter = true
 is_enter _ = false
 
-abbrev pub is_back : Item → Bool
-is_back (Back call u) = true
+abbrev pub is_back : ItemKind → Bool
+is_back Back = true
 is_back _ = false
 
-abbrev pub is_refuse : Item → Bool
-is_refuse (Refuse call u reason) = true
+abbrev pub is_refuse : ItemKind → Bool
+is_refuse Refuse = true
 is_refuse _ = false
 
-abbrev pub is_exit : Item → Bool
-is_exit (Exit call u entry) = true
+abbrev pub is_exit : ItemKind → Bool
+is_exit Exit = true
 is_exit _ = false
 
-abbrev pub is_miss : Item → Bool
-is_miss (Miss call u) = true
+abbrev pub is_miss : ItemKind → Bool
+is_miss Miss = true
 is_miss _ = false
 
--- how many items pass
-abbrev pub count_of : (Item → Bool) → List Item → ℕ
-count_of passes items = length (filter passes items)
+-- how many items are of a kind that passes
+abbrev pub count_of : (ItemKind → Bool) → List Item → ℕ
+count_of passes items = length (filter (λ item. passes (kind_of item)) items)

@@ -1,15 +1,15 @@
 -- The open calls as the form function keeps them: what each runs, by task. And the lines of that form.
-use Rattle.std.specs.Prelude.{ℕ, ◌≡◌, List, ◌++◌, map, length, slice_get, codes, Option, Some, None, option_map}
+use Rattle.std.specs.Prelude.{ℕ, ◌≡◌, ◌<◌, true, List, ◌++◌, map, length, slice_get, codes, Option, Some, None, option_map}
 use Rattle.std.specs.Fmt.{decimal}
 use Rattle.ft_base.specs.declared.number.CallNo.{CallNo}
 use Rattle.ft_base.specs.declared.number.FuncNo.{FuncNo}
 use Rattle.ft_base.specs.declared.item.Item.{Item}
 use Rattle.ft_base.specs.Job.{Job}
-use Rattle.ft_hist.specs.Past.{entry_of}
+use Rattle.ft_hist.specs.Past.{entry_of, is_of}
+use Rattle.ft_hist.specs.Telling.{open_calls}
 use Rattle.trace_views.specs.declared.function.FunctionLine.{FunctionLine}
 use Rattle.trace_views.specs.declared.function.OpenCall.{OpenCall}
 use Rattle.trace_views.specs.FunctionText.{body_of, context_letter}
-use Rattle.trace_views.specs.OpenCalls.{open_calls}
 use Rattle.trace_views.specs.TaskStacks.{stack_at}
 use Rattle.trace_views.specs.Words.{function_word, user_word, pid_at, cpu_at, right_in, zeros_in}
 
@@ -24,6 +24,10 @@ kept_call past call = record {
   func = func_no (entry_of call past).func;
   body = option_map func_no (body_of call past);
 }
+
+-- an item of control, or of one of this many tasks
+abbrev pub IsOfTasks : ℕ → Item → Type 0
+IsOfTasks n item = (t : ℕ) → is_of t item ≡ true → t < n
 
 -- the stacks have the open calls of each task of the job
 pub record HasOpenCalls (job : Job) (past : List Item) (stacks : List (List OpenCall)) : Type 0 where

@@ -1,6 +1,5 @@
 pub mod Words
 pub mod LogText
-pub mod OpenCalls
 pub mod Places
 pub mod TaskStacks
 pub mod ByTask

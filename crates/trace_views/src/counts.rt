@@ -1,9 +1,9 @@
 //! How many items of each kind a history has.
 
 ghost use Rattle.std.specs.Prelude.{◌≡◌, []};
-ghost use Rattle.trace_views.specs.Counted.{IsCounted, HasRoom, with_item};
+ghost use Rattle.trace_views.specs.Counted.{IsCounted, HasRoom, with_kind};
 
-use ft_base::Item;
+use ft_base::ItemKind;
 use ft_hist::History;
 
 /// How many items of some kinds there are.
@@ -34,18 +34,18 @@ fn no_items() -> Counts
     }
 }
 
-/// The counts with one more item.
-fn with_item(counts: Counts, item: &Item) -> Counts
+/// The counts with one more item of a kind.
+fn with_kind(counts: Counts, kind: ItemKind) -> Counts
     requires { HasRoom counts }
-    ensures { result ≡ with_item item.now counts }
+    ensures { result ≡ with_kind kind counts }
 {
     let mut more = counts;
-    match item {
-        Item::Enter { .. } => more.calls += 1,
-        Item::Back { .. } => more.backs += 1,
-        Item::Refuse { .. } => more.refused += 1,
-        Item::Exit { .. } => more.exits += 1,
-        Item::Miss { .. } => more.missed += 1,
+    match kind {
+        ItemKind::Enter => more.calls += 1,
+        ItemKind::Back => more.backs += 1,
+        ItemKind::Refuse => more.refused += 1,
+        ItemKind::Exit => more.exits += 1,
+        ItemKind::Miss => more.missed += 1,
         _ => {}
     }
     more
@@ -57,7 +57,7 @@ pub fn counted(history: &History) -> Counts
 {
     let mut counts = no_items();
     for place in 0..history.len() {
-        counts = with_item(counts, history.item(place));
+        counts = with_kind(counts, history.item(place).kind());
     }
     counts
 }

@@ -87,15 +87,13 @@ fn push_fprobe<N: Named>(
         ≡ lines_text (profile_line_text (N.job names.now)) lines.old.items
         ++ fprobe_line history.now.items user.0 (spec_at (N.job names.now) user.0)) }
 {
-    match names.kind(user) {
-        Kind::Fprobe { .. } => {
-            let hits = history.backs(user);
-            let missed = history.missed(user);
-            lines.push(ProfileLine::Fprobe { user, hits, missed })?;
-            Ok(())
-        }
-        _ => Ok(()),
+    if !names.kind(user).is_fprobe() {
+        return Ok(());
     }
+    let hits = history.backs(user);
+    let missed = history.missed(user);
+    lines.push(ProfileLine::Fprobe { user, hits, missed })?;
+    Ok(())
 }
 
 /// Adds the lines of the profile users, in order.
