@@ -8,6 +8,7 @@ use Rattle.ft_base.specs.declared.limits.TheConstants.{ITEMS, QUANTUM}
 use Rattle.ft_base.specs.Job.{Job, Task as DeclaredTask, no_task}
 use Rattle.ft_base.specs.Versions.{levels}
 use Rattle.ft_base.specs.WellFormed.{IsScript}
+use Rattle.ft_base.specs.Acts.{AreRaised}
 use Rattle.grace_core.specs.Polls.{poll_start}
 use Rattle.plain_machine.specs.State.{tasks_from, tasks_of}
 use Rattle.recursion_guard.specs.Guards.{held_in, unheld}
@@ -19,7 +20,7 @@ use Rattle.word_map.specs.declared.shape.Shape.{Shape}
 use Rattle.word_map.specs.Shapes.{shape_of}
 use Rattle.word_machine.specs.Cpu.{cpu_start, first_of, has_more}
 use Rattle.word_machine.specs.Cpu as machine
-use Rattle.word_machine.specs.Limits.{AreRaised, IsLimited}
+use Rattle.word_machine.specs.Limits.{IsLimited}
 use Rattle.word_machine.specs.Task.{TaskState, task_start}
 use Rattle.word_machine.specs.Task as task
 use Rattle.cpu_core.specs.declared.parts.Parts.{Parts}

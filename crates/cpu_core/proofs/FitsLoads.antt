@@ -2,16 +2,16 @@
 use Rattle.std.proofs.Common.{◌≡◌, ℕ, suc, ◌<◌, ◌≤◌, true, List, [], ◌∷◌, length, refl, sym, ap, ◌∙◌, subst, arith}
 use Rattle.std.specs.Prelude.{IfSome}
 use Rattle.ft_base.specs.Job.{Job}
-use Rattle.ft_base.specs.Same.{rank}
+use Rattle.ft_base.specs.Same.{rank, context}
 use Rattle.ft_base.proofs.Small.{==-refl}
-use Rattle.ft_base.proofs.Versions.{funcs-most, tramps-most}
+use Rattle.ft_base.proofs.Versions.{few-largest}
 use Rattle.plain_machine.specs.State.{held_levels}
 use Rattle.ops_list.specs.declared.walker.WalkPhase.{WalkPhase}
 use Rattle.ops_list.specs.declared.walker.WalkPhase.TheVariants.{Starting, At, Ended as WalkEnded}
 use Rattle.ops_list.specs.Walks.{walk_at}
 use Rattle.hash_pages.specs.declared.reader.ReadPhase.{ReadPhase}
 use Rattle.hash_pages.specs.declared.reader.ReadPhase.TheVariants.{AtSel, AtFilter, AtNotrace, Ended as ReadEnded}
-use Rattle.recursion_guard.specs.Guards.{IsHeld, context, held_in}
+use Rattle.recursion_guard.specs.Guards.{IsHeld, held_in}
 use Rattle.return_stack.specs.Calls.{StackedCall}
 use Rattle.word_machine.specs.Laws.{PresentTakes}
 use Rattle.word_machine.specs.Limits.{IsLimited}
@@ -79,14 +79,13 @@ module _ (job : Job) (limited : IsLimited job) (v : ℕ) (t : Task) (o : CodeCal
       → FitsLoad (setup_in job) (standing t (o ∷ os) (s ∷ ss) (Load l)) l v
   load-fits Fetch k takes = takes
   load-fits (GotHead byte) k takes =
-      let few = limited.functions in
-      let few-most = funcs-most job.version in
-      let tramps = limited.tramps in
-      let most = tramps-most job.version in
+      let few = few-largest job.version limited.counts in
+      let funcs = few.few_functions in
+      let tramps = few.few_tramps in
       let lt = k.steady.calls.0.func in
       let i = takes.1 in
-      (omega (arith, few, few-most, lt), (takes.0, omega (arith, tramps, most, i), takes.2, takes.3))
-  load-fits GotBreak k takes = (let tramps = limited.tramps in let most = tramps-most job.version in omega (arith, tramps, most, takes))
+      (omega (arith, funcs, lt), (takes.0, omega (arith, tramps, i), takes.2, takes.3))
+  load-fits GotBreak k takes = (let tramps = (few-largest job.version limited.counts).few_tramps in omega (arith, tramps, takes))
   load-fits (InTramp slot) k takes = tt
   load-fits (OwnSel u reg) k takes = k.steady.calls.0.names
   load-fits Walking k takes = record {
@@ -97,6 +96,6 @@ module _ (job : Job) (limited : IsLimited job) (v : ℕ) (t : Task) (o : CodeCal
   load-fits (Reading r) k takes =
       subst (λ phase. IfSome (walk_at phase) (λ u. u.0 < length job.users)) (sym k.moment.user)
       (read-named job r.user r.phase k.moment.open' k.steady.calls.0.names)
-  load-fits (AtPids u reg) k takes = (let lt = k.number in let few = limited.tasks in (k.steady.calls.0.names, omega (arith, lt, few)))
+  load-fits (AtPids u reg) k takes = (let lt = k.number in let few = limited.counts.few_tasks in (k.steady.calls.0.names, omega (arith, lt, few)))
   load-fits (AtDepth u reg) k takes = taken-is job t o os s ss (Load (AtDepth u reg)) k refl
   load-fits (AtExit i) k takes = (let lt = k.moment in let few = k.few.0 in (owed-some s.users i lt, omega (arith, lt, few)))

@@ -7,7 +7,7 @@ use Rattle.ft_base.specs.declared.number.UserNo.{UserNo}
 use Rattle.ft_base.specs.Job.{Job}
 use Rattle.ft_base.specs.Same.{rank, same_ctx}
 use Rattle.ft_base.specs.Versions.{levels}
-use Rattle.ft_base.proofs.Versions.{users-most}
+use Rattle.ft_base.proofs.Versions.{few-largest}
 use Rattle.return_stack.specs.Calls.{StackedCall}
 use Rattle.word_map.specs.Shapes.{shape_of}
 use Rattle.word_machine.specs.Calls.{under_call}
@@ -79,7 +79,7 @@ module _ (job : Job) (limited : IsLimited job) (t : Task) (o : CodeCall) (os : L
   called-fits : (u : UserNo) (reg : ℕ) → IsTaskOf job (here (Calling u reg)) → length (users_in s.users) < length job.users
       → HasFrameRoom (declared_in (setup_in job) u.0).kind (here (Calling u reg)).stacks
   called-fits u reg k lt = record {
-    users = users-room s.users USERS (let few = limited.users in let most = users-most job.version in omega (arith, lt, few, most));
+    users = users-room s.users USERS (let few = (few-largest job.version limited.counts).few_users in omega (arith, lt, few));
     frame = λ deep. (
         let room = k.steady.calls.0.found deep in
         let e = frames-are (shape_of job) t.number (under_call (joined o s) (stack_in os ss)) os ss k.tied.1 in

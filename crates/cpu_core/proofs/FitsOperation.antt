@@ -6,12 +6,10 @@ use Rattle.ft_base.specs.declared.number.FuncNo.{FuncNo}
 use Rattle.ft_base.specs.declared.task.TaskAct.{TaskAct}
 use Rattle.ft_base.specs.declared.task.TaskAct.TheVariants.{Call, Ret as RetAct, Raise, Lower, After}
 use Rattle.ft_base.specs.Job.{Job}
-use Rattle.ft_base.specs.Same.{rank}
+use Rattle.ft_base.specs.Same.{rank, context}
 use Rattle.ft_base.specs.Versions.{levels}
 use Rattle.ft_base.specs.WellFormed.{IsScript}
-use Rattle.ft_hist.specs.Plain.{context}
 use Rattle.plain_machine.specs.State.{has_acts}
-use Rattle.recursion_guard.specs.Guards.{context as present_context}
 use Rattle.return_stack.specs.Calls.{StackedCall, top_users}
 use Rattle.word_machine.specs.Laws.{PresentTakes}
 use Rattle.word_machine.specs.Limits.{IsLimited}
@@ -30,7 +28,7 @@ use Rattle.task_core.specs.Tied.{IsTaskOf}
 use Rattle.task_core.proofs.FitsCalls.{call-room, in-call_of, none-open, present-first}
 use Rattle.cpu_core.proofs.FitsLoads.{load-fits}
 use Rattle.cpu_core.proofs.FitsMarks.{mark-fits}
-use Rattle.task_core.proofs.RowLists.{contexts-same, standing}
+use Rattle.task_core.proofs.RowLists.{standing}
 use Rattle.task_core.proofs.SteadyRaised.{may-lower, may-raise}
 use Rattle.cpu_core.proofs.SteadyRoom.{script-call_fits}
 use Rattle.task_core.proofs.TiedLeft.{call-open, has-left, quiet-is}
@@ -104,10 +102,10 @@ module _ (job : Job) (t : Task) (k : IsTaskOf job t) (e : t.moment ≡ Polling) 
   quiet = quiet-is (top t) (users_in (top_users t.stacks.calls)) t.moment ∙ ap is_between e
 
   -- an interrupt that comes is above the present context
-  raise-begins : (x : Ctx) → slice_get t.acts.all t.acts.gone ≡ Some (Raise x) → rank (present_context t.guards.raised) < rank x
+  raise-begins : (x : Ctx) → slice_get t.acts.all t.acts.gone ≡ Some (Raise x) → rank (context t.guards.raised) < rank x
   raise-begins x is =
       let up = may-raise job (state_of t) k.steady quiet x (drop (suc t.acts.gone) t.acts.all) (present-first t.acts.all t.acts.gone (Raise x) is) in
-      subst (λ c. rank c < rank x) (sym (contexts-same t.guards.raised ∙ ap context k.raised)) up
+      subst (λ c. rank c < rank x) (sym (ap context k.raised)) up
 
   -- and one that goes has come
   lower-begins : slice_get t.acts.all t.acts.gone ≡ Some Lower → 0 < length t.guards.raised

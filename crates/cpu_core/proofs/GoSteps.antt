@@ -113,7 +113,7 @@ unfolding cpu_next
 count-fits job c limited k next = by c.phase k.phase' next
   where
     few : length c.tasks ≤ TASKS
-    few = omega (arith, length-map c.tasks (λ t. t.number.0), ap length k.numbers', few-tasks c.polls.poll.cpu 0 job.tasks, limited.tasks)
+    few = omega (arith, length-map c.tasks (λ t. t.number.0), ap length k.numbers', few-tasks c.polls.poll.cpu 0 job.tasks, limited.counts.few_tasks)
 
     viewed : IsPolling c → length (lent_words c.polls.poll.view) ≡ length c.tasks
     viewed is =

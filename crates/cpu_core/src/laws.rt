@@ -11,6 +11,7 @@ ghost use Rattle.ft_base.specs.Desk.{spec_at};
 ghost use Rattle.ft_base.specs.Job.{Job, no_task};
 ghost use Rattle.ft_base.specs.Kinds.{cancels, has_depth, has_exit, is_fprobe};
 ghost use Rattle.ft_base.specs.WellFormed.{IsActNamed, IsScript};
+ghost use Rattle.ft_base.specs.Acts.{AreRaised};
 ghost use Rattle.ft_hist.specs.Frames.{is_nil};
 ghost use Rattle.plain_machine.specs.State.{has_acts, misses_frame, tasks_of};
 ghost use Rattle.grace_core.specs.declared.poller.PollPhase.TheVariants.{Asking, Acking, Telling};
@@ -28,7 +29,6 @@ ghost use Rattle.word_machine.specs.Task.{is_too_deep, level_of, opened, quiet_w
 ghost use Rattle.word_machine.specs.Cpu.{Cpu, StoringAck, StoringQuiet, ack_value, any_has_more, going_op, phase_got, phase_op};
 ghost use Rattle.word_machine.specs.Cpu.{polling, quiet_next, with_word};
 ghost use Rattle.word_machine.specs.Laws.{PresentTakes};
-ghost use Rattle.word_machine.specs.Limits.{AreRaised};
 ghost use Rattle.cpu_core.specs.Polled.{acked, poll_at, polled_task, polling_at, task_told, view_of, viewed};
 ghost use Rattle.task_core.specs.Framed.{AreFramed, probe_of, stack_of, stacked};
 ghost use Rattle.task_core.specs.Steady.{IsSteady};
