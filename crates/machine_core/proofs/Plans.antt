@@ -6,7 +6,7 @@ use Rattle.std.proofs.lemmas.Nat.{mul-le}
 use Rattle.std.proofs.lemmas.List.{length-map}
 use Rattle.std.proofs.lemmas.Option.{none-some, same_Some}
 use Rattle.ft_base.specs.declared.limits.TheConstants.{GUARD_LEVELS, ACTS, USERS, FRAMES, ITEMS, QUANTUM, TASKS}
-use Rattle.ft_base.proofs.Versions.{levels-most, users-most}
+use Rattle.ft_base.proofs.Versions.{few-largest, levels-most}
 use Rattle.machine_core.specs.declared.cpus.TaskLimits.{TaskLimits}
 use Rattle.ft_base.specs.Job.{Job, Task, no_task}
 use Rattle.plain_machine.specs.State.{tasks_from, tasks_of}
@@ -120,7 +120,7 @@ module _ (job : Job) (p : CpuPlan) (c : ℕ) (specs : List Spec) (limits : TaskL
   plan-tasks =
       let few = fewer job.tasks c 0 job.tasks in
       let e : length p.tasks.items ≡ length (tasks_of job c) = sym (length-map p.tasks.items (λ (t : TaskPlan). t.task.0)) ∙ ap length is.of'.numbers in
-      omega (arith, few, e, is.limited.tasks)
+      omega (arith, few, e, is.limited.counts.few_tasks)
 
   pub plan-all-acts : All (λ (t : TaskPlan). length t.acts.items ≤ ACTS) p.tasks.items
   plan-all-acts = plan-acts job ACTS is.limited.acts p.tasks.items is.of'.acts
@@ -128,8 +128,7 @@ module _ (job : Job) (p : CpuPlan) (c : ℕ) (specs : List Spec) (limits : TaskL
   pub plan-users : length specs ≤ USERS
   plan-users =
       let e : length specs ≡ length job.users = sym (length-map specs spec_of) ∙ ap length is.of'.users in
-      let most = users-most job.version in
-      omega (arith, e, is.limited.users, most)
+      omega (arith, e, (few-largest job.version is.limited.counts).few_users)
 
   pub plan-frames : limits.frames ≤ FRAMES
   plan-frames = omega (arith, is.of'.frames', is.limited.frames)
