@@ -7,9 +7,7 @@ ghost use Rattle.grace_core.specs.KeptPoll.{HasTold};
 
 use ft_base::TaskNo;
 use ft_base::limits::TASKS;
-
-/// How many numbers a half of a word can hold.
-pub(crate) const HALF_SIZE: u64 = 0x1_0000_0000;
+use word_map::quiet;
 
 /// A CPU, as its poll sees it. The CPU keeps one view, lends it to each poll and takes it back, so that
 /// no poll takes memory.
@@ -31,8 +29,7 @@ pub struct TaskView {
     pub quiet: bool,
     /// Whether it has ended. It is then quiet for every request.
     pub ended: bool,
-    /// What its word holds: `acts` in the high half, and in the low half the last request at which it
-    /// was quiet, or the greatest number of a half once it has ended.
+    /// What its word holds (`word_map::quiet`): `acts`, and the last request at which it was quiet.
     pub word: u64,
 }
 
@@ -79,16 +76,16 @@ impl TaskView {
     pub(crate) fn told_word(&self, request: u32) -> u64
         ensures { result ≡ told_word request self.now }
     {
-        let low = if self.ended {
-            u64::from(u32::MAX)
+        let reached = if self.ended {
+            quiet::ENDED
         } else if self.quiet {
-            u64::from(request)
+            request
         } else {
             // The task goes on with what it has loaded, also if its CPU polls for another task. Told
             // now, it may be within a callback while the unregistration of its user returns.
-            self.word % HALF_SIZE
+            quiet::request(self.word)
         };
-        u64::from(self.acts) * HALF_SIZE + low
+        quiet::word(self.acts, reached)
     }
 
     /// Whether its word is what it is to hold.

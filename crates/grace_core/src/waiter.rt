@@ -6,10 +6,9 @@ ghost use Rattle.word_map.specs.Contents.{low};
 ghost use Rattle.word_map.specs.Ops.{placed};
 ghost use Rattle.grace_core.specs.Waits.{wait_start, wait_next, wait_got, waiting_for as phase_for, reached as last_reached};
 
-use crate::view::HALF_SIZE;
 use ft_base::{CpuNo, TaskNo};
 use std::marker::Model;
-use word_map::{Op, WordMap};
+use word_map::{Op, WordMap, quiet};
 
 /// Where a wait stands.
 #[derive(Clone, Copy, Debug, PartialEq, Eq)]
@@ -127,7 +126,11 @@ fn awaited(map: &WordMap, quiet: bool) -> u32
 fn reached(quiet: bool, word: u64) -> u64
     ensures { result ≡ last_reached quiet word }
 {
-    if quiet { word % HALF_SIZE } else { word }
+    if quiet {
+        u64::from(quiet::request(word))
+    } else {
+        word
+    }
 }
 
 /// The wait for this one of so many, or the end.
