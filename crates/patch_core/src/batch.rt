@@ -2,12 +2,11 @@
 
 ghost use Rattle.std.specs.Prelude.{◌≡◌, ◌<◌, ◌≤◌, ◌^◌, ◌+◌, ◌*◌, suc, length, All};
 ghost use Rattle.ft_base.specs.declared.limits.TheConstants.{FUNCS};
-ghost use Rattle.word_map.specs.Instructions.{number_of};
 ghost use Rattle.patch_core.specs.Moves.{batch_next, coded, IsChange};
 
 use site_bytes::{BREAKPOINT, Insn, SiteChange, head_of, tail_of};
 use std::marker::Model;
-use word_map::{Op, WordMap};
+use word_map::{Op, WordMap, next};
 
 /// What a batch does next.
 #[derive(Clone, Copy, Debug, PartialEq, Eq)]
@@ -107,7 +106,7 @@ impl Batch {
         let change = sites[moved];
         store(
             self.map.next_word(change.func),
-            instruction_number(change.insn),
+            next::number_of(change.insn),
         )
     }
 
@@ -173,15 +172,4 @@ fn store(word: u32, value: u64) -> BatchNext
     ensures { result ≡ BatchNext.Do (Op.Store word value) }
 {
     BatchNext::Do(Op::Store { word, value })
-}
-
-// The number by which a `next` word names an instruction.
-fn instruction_number(insn: Insn) -> u64
-    ensures { result ≡ number_of insn }
-{
-    match insn {
-        Insn::Nop => 0,
-        Insn::List => 1,
-        Insn::Own(slot) => 2 + u64::from(slot),
-    }
 }
