@@ -5,7 +5,8 @@ use Rattle.word_map.specs.Words.{Word, Link}
 use Rattle.word_map.specs.Ops.{Store}
 use Rattle.ft_desk.specs.Plans.{first_of, user_after, user_before, user_no}
 use Rattle.ops_list.specs.declared.linker.LinkPhase.TheVariants.{Linking, Heading, Unlinking}
-use Rattle.ops_list.specs.Names.{name_of as option_name, namer}
+use Rattle.word_map.specs.Contents.{name_of as option_name}
+use Rattle.ops_list.specs.Names.{namer}
 use Rattle.ops_list.specs.Links.{link_op}
 use Rattle.word_machine.specs.Commands.{Adds, Removes}
 use Rattle.word_machine.specs.Control.{follower, name_of, namer_from, relink_op}

@@ -6,7 +6,7 @@ use Rattle.ft_base.specs.Order.{has}
 use Rattle.word_map.specs.Chains.{Leads}
 use Rattle.ft_base.proofs.Small.{false_true, ==-refl, or-false_both, or-true, or-true_either}
 use Rattle.word_map.specs.Words.{at_put}
-use Rattle.ops_list.specs.Names.{name_of}
+use Rattle.word_map.specs.Contents.{name_of}
 use Rattle.ops_list.specs.Lists.{nth_user, last_from}
 
 -- ## what words say

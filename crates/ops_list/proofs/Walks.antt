@@ -5,7 +5,7 @@ use Rattle.word_map.specs.declared.shape.Shape.{Shape}
 use Rattle.word_map.specs.Words.{Words}
 use Rattle.ops_list.specs.declared.walker.WalkPhase.{WalkPhase}
 use Rattle.ops_list.specs.declared.walker.WalkPhase.TheVariants.{Starting, At, Ended}
-use Rattle.ops_list.specs.Names.{named}
+use Rattle.word_map.specs.Contents.{named}
 use Rattle.ops_list.specs.Walks.{walk_to, WalkFits}
 use Rattle.word_map.specs.Chains.{Leads}
 use Rattle.ops_list.specs.Lists.{nth_user, next_load, after_loads}

@@ -5,7 +5,8 @@ use Rattle.word_map.specs.Words.{First, Link}
 use Rattle.word_map.specs.Ops.{WordOp, Store}
 use Rattle.ops_list.specs.declared.linker.LinkPhase.{LinkPhase}
 use Rattle.ops_list.specs.declared.linker.LinkPhase.TheVariants.{Linking, Heading, Unlinking, Ended}
-use Rattle.ops_list.specs.Names.{name_of, namer}
+use Rattle.word_map.specs.Contents.{name_of}
+use Rattle.ops_list.specs.Names.{namer}
 
 -- a change of the list: the shape, and where it stands
 pub record Linked : Type 0 where

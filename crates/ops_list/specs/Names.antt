@@ -1,18 +1,8 @@
 -- How words name users: the list of registered users is linked through their own words, the latest first (the kernel's ftrace_ops_list).
-use Rattle.std.specs.Prelude.{ℕ, zero, suc, ◌<◌, Option, Some, None}
+use Rattle.std.specs.Prelude.{◌<◌, Option, Some, None}
 use Rattle.ft_base.specs.declared.number.UserNo.{UserNo}
 use Rattle.word_map.specs.declared.shape.Shape.{Shape}
 use Rattle.word_map.specs.Words.{Word, First, Link}
-
--- what a word holds that names this user: 0 if it names none
-abbrev pub name_of : Option UserNo → ℕ
-name_of None = 0
-name_of (Some u) = suc u.0
-
--- the user that a word names
-abbrev pub named : ℕ → Option UserNo
-named zero = None
-named (suc u) = Some (record { 0 = u })
 
 -- the word that names the user after this one: its link, or the head of the list if there is none before
 abbrev pub namer : Option UserNo → Word

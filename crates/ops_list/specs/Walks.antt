@@ -6,7 +6,7 @@ use Rattle.word_map.specs.Words.{First, Link}
 use Rattle.word_map.specs.Ops.{WordOp, Load}
 use Rattle.ops_list.specs.declared.walker.WalkPhase.{WalkPhase}
 use Rattle.ops_list.specs.declared.walker.WalkPhase.TheVariants.{Starting, At, Ended}
-use Rattle.ops_list.specs.Names.{named}
+use Rattle.word_map.specs.Contents.{named}
 
 -- a walk: the shape, and where it stands
 pub record Walk : Type 0 where

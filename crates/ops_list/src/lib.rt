@@ -18,7 +18,6 @@
 
 pub mod laws;
 mod linker;
-mod name;
 mod walker;
 
 pub use linker::{LinkPhase, Linker};

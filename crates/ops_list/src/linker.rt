@@ -7,9 +7,9 @@ ghost use Rattle.word_map.specs.Places.{place};
 ghost use Rattle.ops_list.specs.Names.{IsUserIn, namer};
 ghost use Rattle.ops_list.specs.Links.{link_op, link_after};
 
-use crate::name::name_of;
 use ft_base::UserNo;
 use std::marker::Model;
+use word_map::name::name_of;
 use word_map::{Op, WordMap};
 
 /// Where a change of the list stands: what its next store is.

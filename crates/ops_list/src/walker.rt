@@ -5,9 +5,9 @@ ghost use Rattle.std.specs.Option.{option_map};
 ghost use Rattle.word_map.specs.Ops.{placed};
 ghost use Rattle.ops_list.specs.Walks.{WalkFits, walk_op, walk_after, walk_at, walk_to};
 
-use crate::name::named;
 use ft_base::UserNo;
 use std::marker::Model;
+use word_map::name::named;
 use word_map::{Op, WordMap};
 
 /// Where a walk stands.

@@ -13,7 +13,7 @@ use Rattle.hash_pages.specs.declared.reader.Verdict.TheVariants.{Open, Off, Apar
 use Rattle.hash_pages.specs.Reads.{Read, read_after, verdict_of}
 use Rattle.ops_list.specs.declared.walker.WalkPhase.{WalkPhase}
 use Rattle.ops_list.specs.declared.walker.WalkPhase.TheVariants.{Starting, At, Ended as WalkEnded}
-use Rattle.ops_list.specs.Names.{named}
+use Rattle.word_map.specs.Contents.{named}
 use Rattle.ops_list.specs.Walks.{walk_after, walk_at, walk_to}
 use Rattle.return_stack.specs.Calls.{StackedCall}
 use Rattle.word_map.specs.declared.shape.Shape.{Shape}

@@ -1,5 +1,5 @@
 use Rattle.std.proofs.Common.{refl}
-use Rattle.ops_list.specs.Names.{name_of}
+use Rattle.word_map.specs.Contents.{name_of}
 use Rattle.ops_list.specs.Lists.{nth_user}
 use Rattle.ops_list.proofs.Lists.{leads-other, leads-linked}
 use Rattle.ops_list.proofs.laws.a_push_keeps_the_others.Goals as goal

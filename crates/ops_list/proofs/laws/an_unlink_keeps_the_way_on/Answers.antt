@@ -1,7 +1,7 @@
 use Rattle.std.proofs.Common.{◌≡◌, ℕ, List, [], ◌∷◌, ◌++◌, refl, sym, subst}
 use Rattle.word_map.specs.Words.{Words}
 use Rattle.ops_list.specs.declared.linker.LinkPhase.TheVariants.{Unlinking}
-use Rattle.ops_list.specs.Names.{name_of}
+use Rattle.word_map.specs.Contents.{name_of}
 use Rattle.word_map.specs.Chains.{Leads}
 use Rattle.ops_list.specs.Lists.{IsList, nth_user, last_user, after_stores}
 use Rattle.ops_list.proofs.Lists.{leads-name, leads-unlink, unlinked-link, unlinked-leads}
