@@ -1,15 +1,13 @@
 -- What a read finds.
-use Rattle.std.proofs.Common.{◌≡◌, ℕ, ◌+◌, ◌*◌, ◌/◌, ◌%◌, ◌<◌, ◌≤◌, ◌||◌, ◌&&◌, not, Bool, true, false, [], ◌∷◌, refl, ap, ◌∙◌, arith}
+use Rattle.std.proofs.Common.{◌≡◌, ℕ, ◌*◌, ◌/◌, ◌<◌, ◌≤◌, ◌||◌, ◌&&◌, not, Bool, true, false, [], ◌∷◌, refl, ap, ◌∙◌, arith}
 use Rattle.std.specs.Prelude.{if◌then◌else◌}
-use Rattle.std.proofs.lemmas.Bool.Decides.{nat_tests}
-use Rattle.ft_base.specs.Marks.{Marks, holds, is_empty}
-use Rattle.site_set.specs.Marks.{word_of}
-use Rattle.site_set.proofs.MarksLemmas.{bit_at-word_of}
+use Rattle.ft_base.specs.Marks.{holds, is_empty}
 use Rattle.filter_hash.specs.Pair.{Pair, size_of}
 use Rattle.word_map.specs.declared.shape.Shape.{Shape}
 use Rattle.word_map.specs.Words.{Words}
 use Rattle.word_map.specs.Places.{words_for}
-use Rattle.word_map.specs.Contents.{high, sel_word, sel_on, sel_copy, sel_empty, is_marked, other_copy}
+use Rattle.word_map.specs.Contents.{sel_word, is_marked, other_copy}
+use Rattle.word_map.proofs.ContentLaws.{marked-is, told}
 use Rattle.hash_pages.specs.declared.reader.ReadPhase.{ReadPhase}
 use Rattle.hash_pages.specs.declared.reader.ReadPhase.TheVariants.{AtFilter, AtNotrace, Ended}
 use Rattle.hash_pages.specs.declared.reader.Verdict.{Verdict}
@@ -22,26 +20,10 @@ use Rattle.hash_pages.proofs.WrittenLaws.{copy_kept, state_kept, has_pair, has_s
 
 -- ## words
 
--- what a state's word says, by its bits
-told : (reg copy : ℕ) (r e b : Bool) → copy < 2 → (sel_on (sel_word reg r e copy b) ≡ (r && e))
-    × (sel_copy (sel_word reg r e copy b) ≡ copy) × (sel_empty (sel_word reg r e copy b) ≡ b) × (high (sel_word reg r e copy b) ≡ reg)
-told reg copy true true true h = (grind (arith, nat_tests), omega arith, grind (arith, nat_tests), omega arith)
-told reg copy true true false h = (grind (arith, nat_tests), omega arith, grind (arith, nat_tests), omega arith)
-told reg copy true false true h = (grind (arith, nat_tests), omega arith, grind (arith, nat_tests), omega arith)
-told reg copy true false false h = (grind (arith, nat_tests), omega arith, grind (arith, nat_tests), omega arith)
-told reg copy false true true h = (grind (arith, nat_tests), omega arith, grind (arith, nat_tests), omega arith)
-told reg copy false true false h = (grind (arith, nat_tests), omega arith, grind (arith, nat_tests), omega arith)
-told reg copy false false true h = (grind (arith, nat_tests), omega arith, grind (arith, nat_tests), omega arith)
-told reg copy false false false h = (grind (arith, nat_tests), omega arith, grind (arith, nat_tests), omega arith)
-
--- so a read goes on by these four
+-- a read goes on by what a state's word says
 state_read-sel_word : (reg copy : ℕ) (r e b : Bool) → copy < 2
     → state_read (sel_word reg r e copy b) ≡ (if r && e then (if b then AtNotrace copy reg else AtFilter copy reg) else Ended Off)
 state_read-sel_word reg copy r e b h = let t = told reg copy r e b h in rw (t.0, t.2, t.1, t.3) refl
-
--- a bit of a set's word is a mark of the set
-marked : (s : Marks) (f : ℕ) → is_marked (word_of s (f / 64)) f ≡ holds s f
-marked s f = bit_at-word_of s (f / 64) (f % 64) (omega arith) ∙ (let e : 64 * (f / 64) + f % 64 ≡ f = omega arith in ap (holds s) e)
 
 -- ## a read
 
@@ -51,13 +33,13 @@ module _ (shape : Shape) (u f reg copy : ℕ) (pair : Pair) (first second third 
   within = omega arith
 
   in_filter : is_marked (second.bits u copy 0 (f / 64)) f ≡ holds pair.filter f
-  in_filter = ap (λ v. is_marked v f) (there.filter (f / 64) within) ∙ marked pair.filter f
+  in_filter = ap (λ v. is_marked v f) (there.filter (f / 64) within) ∙ marked-is pair.filter f
 
   in_notrace : is_marked (second.bits u copy 1 (f / 64)) f ≡ holds pair.notrace f
-  in_notrace = ap (λ v. is_marked v f) (there.notrace (f / 64) within) ∙ marked pair.notrace f
+  in_notrace = ap (λ v. is_marked v f) (there.notrace (f / 64) within) ∙ marked-is pair.notrace f
 
   still_in_notrace : is_marked (third.bits u copy 1 (f / 64)) f ≡ holds pair.notrace f
-  still_in_notrace = ap (λ v. is_marked v f) (still.notrace (f / 64) within) ∙ marked pair.notrace f
+  still_in_notrace = ap (λ v. is_marked v f) (still.notrace (f / 64) within) ∙ marked-is pair.notrace f
 
   -- the read in a phase
   abbrev in_phase : ReadPhase → Read

@@ -17,7 +17,6 @@
 
 pub mod laws;
 mod reader;
-mod state;
 mod writer;
 
 pub use reader::{PageReader, ReadPhase, Verdict};

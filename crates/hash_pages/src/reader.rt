@@ -7,10 +7,10 @@ ghost use Rattle.word_map.specs.Ops.{Load, placed};
 ghost use Rattle.hash_pages.specs.Reads.{read_got, read_next, state_read, verdict_of};
 ghost use Rattle.hash_pages.specs.KeptRead.{IsPhase};
 
-use crate::state::{copy_in_use, has_empty_filter, has_function, is_on, registration};
 use ft_base::{FuncNo, Half, UserNo};
 use std::marker::Model;
-use word_map::{Op, WordMap};
+use word_map::bits::has_function;
+use word_map::{Op, Sel, WordMap};
 
 /// What a read finds.
 #[derive(Clone, Copy, Debug, PartialEq, Eq)]
@@ -137,21 +137,20 @@ impl PageReader {
 }
 
 /// Where a read stands after the load of a user's state.
-fn after_state(state: u64) -> ReadPhase
-    ensures phase { result ≡ state_read state }
+fn after_state(value: u64) -> ReadPhase
+    ensures phase { result ≡ state_read value }
     ensures kept { IsPhase result }
 {
-    if !is_on(state) {
+    let state = Sel::of(value);
+    if !state.is_on() {
         return ReadPhase::Ended(Verdict::Off);
     }
     // The copy and the number come from this one load. With a load of the state before each of the two
     // sets, the filter could be that of one command and the notrace set that of the next: the user
     // could be called back at a function that it never wanted, and under a number of another time.
-    let copy = copy_in_use(state);
-    let reg = registration(state);
-    if has_empty_filter(state) {
-        ReadPhase::AtNotrace(copy, reg)
+    if state.empty {
+        ReadPhase::AtNotrace(state.copy, state.reg)
     } else {
-        ReadPhase::AtFilter(copy, reg)
+        ReadPhase::AtFilter(state.copy, state.reg)
     }
 }
