@@ -17,9 +17,7 @@ ghost use Rattle.task_core.specs.Setups.{declared_in};
 ghost use Rattle.task_core.specs.TaskOps.{item_of, load_op, next_call, top};
 ghost use Rattle.task_core.specs.TaskSteps.{acted, after_load, after_mark, at, called_back, callback_ended, depth_tested, fetched, guard_tested, in_trampoline, lacks_frame, missed, own_stated, passed, pid_tested, read, stacks_after, tested, walked, with_latest};
 
-use crate::moment::{
-    Moment, ToLoad, ToMark, act_in, after_head, depth_in, insn_numbered, insn_read, stands,
-};
+use crate::moment::{Moment, ToLoad, ToMark, act_in, after_head, depth_in, insn_read};
 use crate::open_call::OpenCall;
 use crate::setup::Setup;
 use crate::task::{Task, same_context};
@@ -30,8 +28,7 @@ use hash_pages::{PageReader, Verdict};
 use pid_filter::allowed;
 use site_bytes::Insn;
 use user_specs::{Spec, has_depth};
-use word_map::halves::{high, low};
-use word_map::{Op, WordMap};
+use word_map::{Op, Sel, WordMap, next, tramp};
 
 impl Task {
     /// The load that comes next.
@@ -68,7 +65,7 @@ impl Task {
                 let func = self.opens.top().func;
                 self.fetched(insn_read(func, head, value));
             }
-            ToLoad::GotBreak => self.fetched(insn_numbered(value)),
+            ToLoad::GotBreak => self.fetched(next::insn_numbered(value)),
             ToLoad::InTramp(_) => self.in_trampoline(value),
             ToLoad::OwnSel { user, reg } => self.own_state(setup, user, reg, value),
             ToLoad::Walking => self.walked(setup, value),
@@ -121,8 +118,8 @@ impl Task {
         requires { IsInCall self.old }
         ensures { self.new ≡ in_trampoline self.old value }
     {
-        let user = UserNo(low(value).saturating_sub(1));
-        let reg = high(value);
+        let user = tramp::user(value);
+        let reg = tramp::reg(value);
         self.set_ran(Ran::Own(user));
         self.moment = Moment::Load(ToLoad::OwnSel { user, reg });
     }
@@ -134,7 +131,7 @@ impl Task {
         requires { IsUser setup.now user.0 }
         ensures { self.new ≡ own_stated self.old (declared_in setup.now user.0) user reg value }
     {
-        if stands(value, reg) {
+        if Sel::of(value).stands(reg) {
             self.begin_tests(setup, user, reg);
         } else {
             self.moment = Moment::Mark(ToMark::Closing);

@@ -9,9 +9,10 @@ ghost use Rattle.task_core.specs.Fits.{CanReturn, HasAct, IsInCall};
 ghost use Rattle.task_core.specs.TaskOps.{frame_user, owed, top};
 ghost use Rattle.task_core.specs.TaskSteps.{at, body_begun, exit_from, exit_stated, returned};
 
-use crate::moment::{Moment, ToMark, stands};
+use crate::moment::{Moment, ToMark};
 use crate::task::{Task, same_context};
 use ft_base::Item;
+use word_map::Sel;
 
 impl Task {
     /// The dispatch is over, and the body runs.
@@ -60,7 +61,7 @@ impl Task {
         requires place { i < USERS }
         ensures { self.new ≡ exit_stated self.old i value }
     {
-        if stands(value, self.frame_user(i).reg) {
+        if Sel::of(value).stands(self.frame_user(i).reg) {
             self.moment = Moment::Mark(ToMark::Exiting(i));
         } else {
             self.exit_from(i + 1);

@@ -1,17 +1,16 @@
 //! Where a task stands, and what loaded words lead to.
 
-ghost use Rattle.std.specs.Prelude.{◌≡◌, ◌+◌, ◌<◌, nat_le, if◌then◌else◌};
-ghost use Rattle.ft_base.specs.declared.limits.TheConstants.{FUNCS, TRAMPS};
+ghost use Rattle.std.specs.Prelude.{◌≡◌, ◌<◌, nat_le, if◌then◌else◌};
+ghost use Rattle.ft_base.specs.declared.limits.TheConstants.{FUNCS};
 ghost use Rattle.ft_hist.specs.Plain.{owed_by};
-ghost use Rattle.word_map.specs.Contents.{greatest_half, returned_at, stands};
-ghost use Rattle.word_map.specs.Instructions.{decode, insn_numbered, number_of};
+ghost use Rattle.word_map.specs.Contents.{greatest_half};
+ghost use Rattle.word_map.specs.Instructions.{decode, number_of};
 ghost use Rattle.task_core.specs.Leads.{IsFetched, act_to, head_to, is_fetching, is_quiet};
 
 use ft_base::{Ctx, FuncNo, Reason, UserNo};
 use hash_pages::PageReader;
 use site_bytes::{BREAKPOINT, Insn, decode, join};
 use user_specs::{Act, Spec};
-use word_map::halves::high;
 
 /// Where a task stands between two operations. The word machine's moments have the same names, but
 /// for those that are told below.
@@ -137,32 +136,6 @@ pub(crate) fn insn_read(func: FuncNo, head: u8, tail: u64) -> Insn
         Some(insn) => insn,
         None => unreachable!(),
     }
-}
-
-/// The instruction of this number, as the third word of a call site has it.
-pub(crate) fn insn_numbered(number: u64) -> Insn
-    requires { number < 2 + TRAMPS }
-    ensures { result ≡ insn_numbered number }
-{
-    match number {
-        0 => Insn::Nop,
-        1 => Insn::List,
-        _ => Insn::Own((number - 2) as u8),
-    }
-}
-
-/// Whether a user's state says that the user is registered under this number, and enabled.
-pub(crate) fn stands(state: u64, reg: u32) -> bool
-    ensures { result ≡ stands state reg }
-{
-    state & 1 == 1 && (state >> 1) & 1 == 1 && high(state) == reg
-}
-
-/// How many commands had returned when the clock held this. Its high half counts two items of each.
-pub(crate) fn returned_at(clock: u64) -> u32
-    ensures { result ≡ returned_at clock }
-{
-    high(clock) / 2
 }
 
 /// The graph depth that a word holds, or the greatest number of 32 bits if it is above: no task holds

@@ -16,7 +16,7 @@ ghost use Rattle.ft_base.specs.declared.item.Item.TheVariants.{Enter};
 ghost use Rattle.task_core.specs.Opens.{latest};
 
 use crate::acts::Acts;
-use crate::moment::{Moment, ToLoad, ToMark, returned_at};
+use crate::moment::{Moment, ToLoad, ToMark};
 use crate::open_call::{OpenCall, OpenCalls};
 use crate::setup::Setup;
 use ft_base::{CallNo, Ctx, FuncNo, Item, NoMemory, Ran, TaskAct, TaskNo, UserNo};
@@ -27,8 +27,7 @@ use recursion_guard::Guards;
 use return_stack::{FrameUser, Stacks};
 use std::alloc::Global;
 use user_specs::TaskPlan;
-use word_map::halves::low;
-use word_map::{Op, WordMap};
+use word_map::{Op, WordMap, clock};
 
 /// A task of a CPU.
 #[derive(Drop)]
@@ -120,7 +119,7 @@ impl Task {
         ensures { result ≡ is_unmet self.now clock }
     {
         match (&self.moment, self.acts.present()) {
-            (Moment::First, Some(TaskAct::After(commands))) => returned_at(clock) < commands,
+            (Moment::First, Some(TaskAct::After(commands))) => clock::returned_at(clock) < commands,
             _ => false,
         }
     }
@@ -159,7 +158,7 @@ impl Task {
     }
 
     /// Takes the value that its next operation gave. If that was a mark, its item is the answer, and
-    /// stands at the place that the low half of the value tells.
+    /// stands at the place that the clock told.
     pub fn got(&mut self, setup: &Setup, value: u64) -> Option<Item>
         requires { TaskFits setup.now self.old value }
         ensures task { self.new ≡ task_after self.old setup.now value }
@@ -175,7 +174,7 @@ impl Task {
             }
             Moment::Mark(mark) => {
                 let mark = *mark;
-                Some(self.marked(mark, setup, low(value)))
+                Some(self.marked(mark, setup, clock::items_at(value)))
             }
         }
     }
@@ -269,7 +268,7 @@ impl Task {
             }
             TaskAct::Ret => Some(self.leave()),
             TaskAct::After(commands) => {
-                if commands <= returned_at(value) {
+                if commands <= clock::returned_at(value) {
                     self.finish();
                 } else {
                     // The wait is tested again after a poll, and so the task goes on telling that it
