@@ -14,8 +14,7 @@ use crate::polls::Polls;
 use crate::tasks::Tasks;
 use ft_base::Stamped;
 use task_core::Setup;
-use word_map::Op;
-use word_map::halves::low;
+use word_map::{Op, clock};
 
 /// Where a CPU stands.
 #[derive(Clone, Copy)]
@@ -117,7 +116,7 @@ impl Parts {
     {
         if let Some(item) = self.tasks.got(self.present, &self.setup, value) {
             self.marked.push(Stamped {
-                place: low(value),
+                place: clock::items_at(value),
                 item,
             });
         }
