@@ -3,8 +3,7 @@
 
 ghost use Rattle.std.specs.Prelude.{◌≡◌, ◌^◌, ◌<◌, ◌≤◌, ℕ, length, option_map, slice_get, All, IfOk, IfSome, IfNone};
 ghost use Rattle.ft_base.specs.Desk.{desk, is_on, matches_by, user_at};
-ghost use Rattle.ft_base.specs.Job.{Job as PlainJob, takes_off};
-ghost use Rattle.ft_desk.specs.Commands.{command_of};
+ghost use Rattle.ft_base.specs.Job.{Job as PlainJob};
 ghost use Rattle.ft_desk.specs.Declarations.{IsOf};
 ghost use Rattle.ft_desk.specs.Seen.{opened};
 ghost use Rattle.control_core.specs.Lines.{IsLineIn, lines_of};
@@ -13,7 +12,7 @@ ghost use Rattle.history_check.specs.KeptDesks.{AreOf, AreRowsOf, AreUsersOf, Is
 
 use filter_hash::HashPair;
 use ft_base::{FuncNo, NoMemory, UserNo};
-use ft_desk::{Command, Ctl, Desk};
+use ft_desk::{Ctl, Desk};
 use ft_machine::Job;
 use std::alloc::Global;
 
@@ -125,7 +124,7 @@ fn rows_of(alloc: Global, mut present: Desk, lines: &[Ctl]) -> Result<Vec<Row>, 
     for line in lines {
         if let Ctl::Run(command) = line {
             present.plan(command);
-            let next = Row::new(alloc, &present, taken_by(command))?;
+            let next = Row::new(alloc, &present, command.takes_off())?;
             rows.push(next).map_err(|_| NoMemory)?;
         }
     }
@@ -172,21 +171,5 @@ fn matches(pair: &HashPair, f: FuncNo) -> bool
         pair.matches(f.0)
     } else {
         pair.is_open()
-    }
-}
-
-/// The user that a command takes off if it is accepted.
-fn taken_by(command: &Command) -> Option<UserNo>
-    ensures { (tasks : ℕ) → option_map (λ u. u.0) result ≡ takes_off (command_of tasks command.now) }
-{
-    match command {
-        Command::Unregister(user) | Command::Disable(user) => Some(*user),
-        Command::Register(_)
-        | Command::Filter(_, _)
-        | Command::Notrace(_, _)
-        | Command::Pid(_)
-        | Command::NoPid(_)
-        | Command::Enable(_)
-        | Command::MaxDepth(_) => None,
     }
 }

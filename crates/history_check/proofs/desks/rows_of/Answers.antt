@@ -68,7 +68,7 @@ loop-line-preserved c =
                 (next-made job next (subst (IsOf job) (sym kept) is) was.commands more (command_of was.declared.tasks x)
                 (command-next old xs i was h.declared h.counted x at next then job lines)
                 row (state-next old xs i was h.declared h.counted x at next then job is lines (h.state job is lines)) made.users made.each
-                (ap (option_map (λ (u : UserNo). u.0)) made.off ∙ w.taken_by.ensures was.declared.tasks)));
+                (ap (option_map (λ (u : UserNo). u.0)) made.off ∙ w.takes_off.ensures was.declared.tasks)));
           })
       | in_default w ↦
           let at = line-at xs xs i c.line-item.result (Until w.in_default.field-0 w.in_default.field-1) refl c.loop-line-test.true c.line-item.is w.in_default.is in
