@@ -5,7 +5,7 @@ use Rattle.std.proofs.lemmas.List.Elements.{All-from_recursion}
 use Rattle.std.proofs.lemmas.Simd.{map-map}
 use Rattle.ft_base.specs.Job.{Job, Spec as PlainSpec}
 use Rattle.ft_base.specs.Versions.{limits_of}
-use Rattle.ft_base.proofs.Versions.{funcs-most, tramps-most}
+use Rattle.ft_base.proofs.Versions.{few-largest}
 use Rattle.user_specs.specs.declared.spec.Spec.{Spec}
 use Rattle.user_specs.specs.Plain.{spec_of, cpu_of}
 use Rattle.word_map.specs.Shapes.{IsShape, shape_of}
@@ -16,7 +16,7 @@ use Rattle.control_core.specs.Plans.{IsDeclaredIn}
 use Rattle.machine_core.specs.Worlds.{Declares}
 use Rattle.ft_machine.specs.declared.job.JobParts.{JobParts}
 use Rattle.ft_machine.specs.Parts.{parts_of, declared_of, IsWithin, job_of}
-use Rattle.ft_machine.proofs.JobLaws.{seen-functions, seen-users, seen-version, seen-frames, seen-tramps, seen-count, seen-lines, users-count, cpus-count, few-users, seen-limited}
+use Rattle.ft_machine.proofs.JobLaws.{seen-functions, seen-users, seen-version, seen-frames, seen-tramps, seen-count, seen-lines, users-count, cpus-count, seen-limited}
 use Rattle.ft_machine.proofs.OnCpu.{own-quantum, own-numbers, own-acts, quick}
 
 -- what a desk keeps of a job
@@ -52,13 +52,9 @@ module _ (p : JobParts) (j : Job) (e : job_of (parts_of p) ≡ j) where
   module _ (w : IsWithin (parts_of p)) where
     pub shape-within : IsShape (shape_of j)
     shape-within =
-        let l = seen-limited p j e w in
         record {
-          funcs = let few = l.functions in let most = funcs-most j.version in omega (arith, few, most);
-          users = few-users p j e w;
-          cpus = let few = w.cpus in let same = cpus-count p j e in let n = length-map p.cpus.items cpu_of in omega (arith, few, same, n);
-          tasks = l.tasks;
-          tramps = let few = l.tramps in let most = tramps-most j.version in omega (arith, few, most);
+          counts = few-largest j.version (seen-limited p j e w).counts;
+          few_cpus = let few = w.cpus in let same = cpus-count p j e in let n = length-map p.cpus.items cpu_of in omega (arith, few, same, n);
         }
 
     pub lines-in : All (IsLineIn (kept p j)) p.ctls.items

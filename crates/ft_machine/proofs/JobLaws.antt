@@ -4,7 +4,7 @@ use Rattle.std.specs.Prelude.{slice_get, option_map}
 use Rattle.std.proofs.lemmas.List.{length-map}
 use Rattle.ft_base.specs.declared.limits.TheConstants.{TASKS, USERS}
 use Rattle.ft_base.specs.Job.{Job, Task}
-use Rattle.ft_base.proofs.Versions.{users-most}
+use Rattle.ft_base.proofs.Versions.{few-largest}
 use Rattle.user_specs.specs.Plain.{DeclaredCpu, spec_of, cpu_of}
 use Rattle.user_specs.specs.declared.plan.CpuPlan.{CpuPlan}
 use Rattle.control_core.specs.Lines.{lines_of}
@@ -64,10 +64,10 @@ module _ (p : JobParts) (j : Job) (e : job_of (parts_of p) ≡ j) where
     seen-limited = subst (λ (i : Job). IsLimited i) e w.limited
 
     pub few-users : length j.users ≤ USERS
-    few-users = let few = seen-limited.users in let most = users-most j.version in omega (arith, few, most)
+    few-users = (few-largest j.version seen-limited.counts).few_users
 
     pub few-tasks : task_count (map cpu_of p.cpus.items) ≤ TASKS
-    few-tasks = let few = seen-limited.tasks in let same = seen-count in omega (arith, few, same)
+    few-tasks = let few = seen-limited.counts.few_tasks in let same = seen-count in omega (arith, few, same)
 
     -- the CPUs with their tasks
     pub seen-cpus : map cpu_of p.cpus.items ≡ cpus_from 0 j.quanta j.tasks
