@@ -10,13 +10,13 @@ use Rattle.ft_base.specs.declared.task.TaskAct.{TaskAct}
 use Rattle.ft_base.specs.declared.task.TaskAct.TheVariants.{Call, Ret as RetAct, Raise, Lower, After}
 use Rattle.ft_base.specs.declared.user.Act.{Act}
 use Rattle.ft_base.specs.declared.user.Act.TheVariants.{CallIn, IrqIn}
-use Rattle.ft_base.specs.Same.{rank, same_call, same_ctx}
+use Rattle.ft_base.specs.Same.{rank, same_call, same_ctx, context}
 use Rattle.ft_base.specs.Job.{Job, funcs, no_task}
 use Rattle.ft_base.specs.Desk.{spec_at, plain_spec}
 use Rattle.ft_base.specs.WellFormed.{IsActNamed, IsScript, IsWellFormed}
-use Rattle.ft_base.proofs.Small.{and_both}
+use Rattle.ft_base.proofs.Small.{and_both, each-get}
 use Rattle.ft_hist.specs.Past.{done, is_of}
-use Rattle.ft_hist.specs.Plain.{plain, after_item, after_next, at_start, PlainTask, Frame, Phase, Owed, Dispatch, InBack, Running, Leaving, InExit, on_call, on_top, in_phase, owed_by, after_back, after_back_end, after_miss, after_refusal, after_body, after_leave, after_leave_ahead, after_scripted_leave, after_exit, after_exit_end, after_ret, after_enter, after_owed_enter, after_scripted_enter, ahead, below_top, context, top_call, same_top}
+use Rattle.ft_hist.specs.Plain.{plain, after_item, after_next, at_start, PlainTask, Frame, Phase, Owed, Dispatch, InBack, Running, Leaving, InExit, on_call, on_top, in_phase, owed_by, after_back, after_back_end, after_miss, after_refusal, after_body, after_leave, after_leave_ahead, after_scripted_leave, after_exit, after_exit_end, after_ret, after_enter, after_owed_enter, after_scripted_enter, ahead, below_top, top_call, same_top}
 use Rattle.ft_hist.proofs.RunLaws.{some_inj, if_some}
 
 -- each act that calls calls a function below n
@@ -43,11 +43,6 @@ pub record RunNamed (n : ℕ) (s : PlainTask) : Type 0 where
 abbrev pub EnterNamed : ℕ → Item → Type 0
 EnterNamed n (Enter call ctx f caller) = f.0 < n
 EnterNamed n _ = Unit {0}
-
-each-get : {A : Type 0} (P : A → Type 0) (xs : List A) (i : ℕ) (d : A) → P d → Each P xs → P (get_or xs i d)
-each-get P [] i d h e = h
-each-get P (x ∷ xs) zero d h e = e.0
-each-get P (x ∷ xs) (suc i) d h e = each-get P xs i d h e.1
 
 script-acts : (job : Job) (n : ℕ) (acts : List TaskAct) → IsScript job n acts → ActsNamed (funcs job) acts
 script-acts job n [] h = tt
