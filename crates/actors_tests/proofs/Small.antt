@@ -39,11 +39,8 @@ limited = record {
   waits = (record {}, tt);
   raised = tt;
   ctls = omega arith;
-  users = omega arith;
-  tasks = omega arith;
-  functions = omega arith;
+  counts = record { few_functions = omega arith; few_users = omega arith; few_tasks = omega arith; few_tramps = omega arith };
   frames = omega arith;
-  tramps = omega arith;
   levels = (omega arith, tt);
   acts = omega arith;
   items = omega arith;

@@ -8,14 +8,13 @@ use Rattle.ft_base.specs.declared.context.Ctx.{Ctx}
 use Rattle.ft_base.specs.declared.context.Ctx.TheVariants.{Normal, Softirq, Irq, Nmi}
 use Rattle.ft_base.specs.declared.task.TaskAct.{TaskAct}
 use Rattle.ft_base.specs.declared.task.TaskAct.TheVariants.{Call, Ret, Raise, Lower, After}
-use Rattle.ft_base.specs.Same.{rank}
+use Rattle.ft_base.specs.Same.{rank, context}
 use Rattle.ft_base.specs.Job.{Task}
+use Rattle.ft_base.specs.Acts.{AreRaised}
 use Rattle.ft_base.proofs.Small.{false_true, or-false_both}
-use Rattle.ft_hist.specs.Plain.{context}
 use Rattle.script_form.specs.Forms.{LineForm, new_task, call, ret, raise, lower, after}
 use Rattle.script_waits.specs.declared.script.LinedAct.{LinedAct}
 use Rattle.script_waits.specs.Tasks.{LinedTask}
-use Rattle.word_machine.specs.Limits.{AreRaised}
 use Rattle.ft_script.specs.declared.levels.Levels.{Levels}
 use Rattle.ft_script.specs.Levels.{levels_at, level_ground, present, present_by, with_open, without, levels_after, is_raised}
 use Rattle.ft_script.specs.Above.{Above, declared, push_act}

@@ -9,7 +9,7 @@ use Rattle.ft_base.specs.declared.limits.TheConstants.{NAME_BYTES}
 use Rattle.ft_base.specs.declared.user.Half.{Half}
 use Rattle.ft_base.specs.declared.user.Kind.{Kind}
 use Rattle.ft_base.specs.Name.{is_name_text}
-use Rattle.word_machine.specs.Limits.{IsVersion}
+use Rattle.ft_base.specs.Versions.{IsVersion}
 use Rattle.script_text.specs.Lines.{Word, words_of, is_skipped, is_plain}
 use Rattle.script_text.specs.Words.{both}
 use Rattle.script_text.specs.Names.{is_name, name_of}

@@ -1,18 +1,14 @@
 -- The job of what is declared is within the limits of scripts, and the parts that a reader makes of it are within what the machine asks.
-use Rattle.std.proofs.Common.{◌≡◌, ℕ, zero, suc, ◌*◌, ◌<◌, ◌≤◌, List, [], ◌∷◌, length, map, sum_by, Option, Some, None, refl, sym, ap, ◌∙◌, subst, arith}
+use Rattle.std.proofs.Common.{◌≡◌, ℕ, suc, ◌*◌, ◌<◌, ◌≤◌, List, [], ◌∷◌, length, map, sum_by, Option, Some, None, refl, sym, ap, ◌∙◌, subst, arith}
 use Rattle.std.specs.Prelude.{unwrap_or}
 use Rattle.std.specs.List.{AllByRecursion as Each}
 use Rattle.std.proofs.lemmas.List.{length-map}
 use Rattle.std.proofs.lemmas.List.Sums.{sum_by-cons}
 use Rattle.ft_base.proofs.Small.{Each-weaker}
 use Rattle.ft_base.specs.declared.limits.TheConstants.{FRAMES, USUAL_FRAMES, ITEMS}
-use Rattle.ft_base.specs.declared.task.TaskAct.{TaskAct}
-use Rattle.ft_base.specs.declared.task.TaskAct.TheVariants.{Call, Ret, Raise, Lower, After}
-use Rattle.ft_base.specs.declared.user.Act.{Act}
-use Rattle.ft_base.specs.declared.user.Act.TheVariants.{CallIn, IrqIn}
-use Rattle.ft_base.specs.Job.{Job, Spec, Task, Ctl as PlainCtl, Run as PlainRun, Until as PlainUntil, Command, commands_in, funcs}
+use Rattle.ft_base.specs.Job.{Spec, Task, Ctl as PlainCtl, Run as PlainRun, Until as PlainUntil, Command, commands_in, funcs}
 use Rattle.ft_base.specs.Versions.{limits_of}
-use Rattle.ft_base.specs.WellFormed.{IsNamed, IsActNamed, IsScript, IsWellFormed}
+use Rattle.ft_base.specs.WellFormed.{IsNamed, IsScript, IsWellFormed}
 use Rattle.ft_desk.specs.declared.command.Ctl.{Ctl}
 use Rattle.ft_desk.specs.declared.command.Ctl.TheVariants.{Run, Until}
 use Rattle.ft_desk.specs.Commands.{ctl_of}
@@ -28,21 +24,11 @@ use Rattle.script_waits.specs.declared.script.LinedAct.{LinedAct}
 use Rattle.script_waits.specs.Tasks.{LinedTask}
 use Rattle.ft_script.specs.Above.{Above, LinedCtl}
 use Rattle.ft_script.specs.Script.{task_of, job_of}
-use Rattle.ft_script.specs.Holds.{Leads, acts_of, IsActIn, IsLine, IsAtMost, Holds, CanRun}
+use Rattle.ft_script.specs.Holds.{acts_of, IsLine, IsAtMost, Holds, CanRun}
 use Rattle.ft_script.specs.Kept.{AreParts}
 use Rattle.ft_script.proofs.TasksKept.{closed-tasks, raised-tasks}
 
 -- ## tasks
-
--- calls that have all returned at the end
-leads-script : (j : Job) (n : ℕ) (acts : List TaskAct) → Leads (funcs j) n acts 0 → IsScript j n acts
-leads-script j n [] h = h
-leads-script j n (Call f ∷ rest) h = (h.0, leads-script j (suc n) rest h.1)
-leads-script j zero (Ret ∷ rest) h = h
-leads-script j (suc n) (Ret ∷ rest) h = leads-script j n rest h
-leads-script j n (Raise c ∷ rest) h = leads-script j n rest h
-leads-script j n (Lower ∷ rest) h = leads-script j n rest h
-leads-script j n (After k ∷ rest) h = leads-script j n rest h
 
 -- what holds of each element once it is mapped
 each-map : {X Y : Type 0} (f : X → Y) (P : Y → Type 0) (xs : List X) → Each (λ x. P (f x)) xs → Each P (map f xs)
@@ -70,11 +56,6 @@ calls-all (p ∷ ps) =
     omega (arith, rest, all)
 
 -- ## users and lines of control
-
-act-named : (j : Job) (act : Option Act) → IsActIn (funcs j) act → IsActNamed j act
-act-named j None h = tt
-act-named j (Some (CallIn g)) h = h
-act-named j (Some (IrqIn g)) h = h
 
 module _ (users size tasks : ℕ) where
   -- what a line of control says of its command
@@ -130,9 +111,8 @@ module _ (above : Above) (run : CanRun above) where
   unfolding job_of
   is_job = record {
     commands = each-command users size tasks (IsNamed (job_of above)) (λ command h. h.0) _ lines;
-    acts = Each-weaker _ _ above.users (λ (s : Spec) a. act-named (job_of above) s.act a) h.users;
-    tasks = each-map task_of (λ (t : Task). IsScript (job_of above) 0 t.acts) above.tasks
-        (Each-weaker _ _ above.tasks (λ (p : LinedTask) l. leads-script (job_of above) 0 (acts_of p) l) (closed-tasks above run));
+    acts = h.users;
+    tasks = each-map task_of (λ (t : Task). IsScript (job_of above) 0 t.acts) above.tasks (closed-tasks above run);
   }
 
   pub limited : IsLimited (job_of above)
@@ -144,11 +124,13 @@ module _ (above : Above) (run : CanRun above) where
     waits = Each-weaker _ _ _ (line-waits users size tasks (length (map task_of above.tasks)) count-tasks) lines;
     raised = raised-tasks above h;
     ctls = (let n = length-map above.ctls (λ (c : LinedCtl). c.ctl) in let all = h.lines.all in let few = h.within.few_commands in let fewer = h.within.few_waits in omega (arith, n, all, few, fewer));
-    users = h.within.few_users;
-    tasks = (let n = count-tasks in let few = h.within.tasks.few in omega (arith, n, few));
-    functions = h.within.few_functions;
+    counts = record {
+      few_functions = h.within.few_functions;
+      few_users = h.within.few_users;
+      few_tasks = (let n = count-tasks in let few = h.within.tasks.few in omega (arith, n, few));
+      few_tramps = at-most (limits_of above.version).tramps (limits_of above.version).tramps (omega arith) above.tramps h.tramps;
+    };
     frames = at-most FRAMES USUAL_FRAMES (omega arith) above.depth h.depth;
-    tramps = at-most (limits_of above.version).tramps (limits_of above.version).tramps (omega arith) above.tramps h.tramps;
     levels = each-command users size tasks IsLevel (λ command h. h.2) _ lines;
     acts = (let n = acts-all above.tasks in let all = h.tasks.all_acts in let few = h.within.tasks.few_acts in omega (arith, n, all, few));
     items = subst (λ n. call_bound_of above.users (limits_of above.version).levels * n ≤ ITEMS) (sym (calls-all above.tasks ∙ h.tasks.all_calls)) h.items;

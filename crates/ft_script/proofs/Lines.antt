@@ -3,7 +3,7 @@ use Rattle.std.proofs.Common.{◌≡◌, ◌==◌, ◌&&◌, Bool, true, false, 
 use Rattle.std.specs.Prelude.{unwrap_or}
 use Rattle.std.proofs.lemmas.Bool.{eqb-true}
 use Rattle.ft_base.proofs.Small.{false_true, or-false_both}
-use Rattle.word_machine.specs.Limits.{IsVersion}
+use Rattle.ft_base.specs.Versions.{IsVersion}
 use Rattle.script_text.specs.Lines.{Line}
 use Rattle.script_form.specs.Forms.{LineForm, skip, version, new_task, call, ret, raise, lower, after}
 use Rattle.script_form.specs.Lines.{line_form}

@@ -14,6 +14,7 @@ use Rattle.ft_base.specs.declared.user.Half.TheVariants.{Filter as OfFilter, Not
 use Rattle.ft_base.specs.Marks.{Marks, empty}
 use Rattle.ft_base.specs.Job.{Func, Spec, Edit, Run, Until, Command}
 use Rattle.ft_base.specs.Versions.{limits_of}
+use Rattle.ft_base.specs.WellFormed.{IsActIn}
 use Rattle.site_set.proofs.MarksLemmas.{length-empty}
 use Rattle.filter_commands.specs.Forms.{Text, TextForm, line, named, in_module, form_of, unmarked}
 use Rattle.filter_commands.specs.Edits.{selected_by, edit_of}
@@ -23,7 +24,7 @@ use Rattle.script_form.specs.Forms.{UserAct, calls, irqs}
 use Rattle.script_waits.specs.Tasks.{LinedTask}
 use Rattle.ft_script.specs.Above.{Above, LinedCtl, declared, declared_act, user_names, user_number, pids_of, task_number, write_to, pid_command, marks_of, rank_of}
 use Rattle.ft_script.specs.Causes.{is_misplaced, has_no_pid, has_no_user, lacks_function, act_name}
-use Rattle.ft_script.specs.Holds.{IsActIn, IsLine, LinesHold, IsAtMost, Holds}
+use Rattle.ft_script.specs.Holds.{IsLine, LinesHold, IsAtMost, Holds}
 use Rattle.ft_script.proofs.NoCause.{NoCause}
 use Rattle.ft_script.proofs.Limits.{same-version, no-ctls}
 use Rattle.ft_script.proofs.TasksKept.{number-below, function-below}

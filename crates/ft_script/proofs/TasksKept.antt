@@ -9,9 +9,9 @@ use Rattle.ft_base.specs.declared.context.Ctx.{Ctx}
 use Rattle.ft_base.specs.declared.task.TaskAct.TheVariants.{Call, Ret, Lower}
 use Rattle.ft_base.specs.Same.{rank}
 use Rattle.ft_base.specs.Job.{Func, Task}
+use Rattle.ft_base.specs.Acts.{AreRaised, Leads}
 use Rattle.ft_base.proofs.Small.{false_true, or-false_both, Each-snoc}
 use Rattle.history_bound.specs.Bound.{calls_in}
-use Rattle.word_machine.specs.Limits.{AreRaised}
 use Rattle.script_text.specs.Lines.{Word, Line}
 use Rattle.script_form.specs.Forms.{LineForm, func, new_cpu, new_task, call, ret, raise, lower, after}
 use Rattle.script_waits.specs.declared.script.LinedAct.{LinedAct}
@@ -21,7 +21,7 @@ use Rattle.ft_script.specs.Levels.{levels_at, present, with_open, without, level
 use Rattle.ft_script.specs.Above.{Above, declared, push_act, function_names, number_in}
 use Rattle.ft_script.specs.Causes.{is_among, is_misplaced, is_unknown, is_unmatched, is_last, is_last_by, has_no_function}
 use Rattle.ft_script.specs.Script.{task_of}
-use Rattle.ft_script.specs.Holds.{Leads, acts_of, Balanced, TasksHold, Holds, CanRun}
+use Rattle.ft_script.specs.Holds.{acts_of, Balanced, TasksHold, Holds, CanRun}
 use Rattle.ft_script.proofs.NoCause.{NoCause}
 use Rattle.ft_script.proofs.TaskLaws.{balanced-more, balanced-task, balanced-act, balanced-each, placed-more, placed-act, sum-task, sum_acts-act, sum_calls-act}
 use Rattle.ft_script.proofs.Contexts.{by-raised, each-raised, declared-raises}

@@ -1,38 +1,25 @@
 -- What holds of what is declared, if no line has a cause.
-use Rattle.std.specs.Prelude.{ℕ, zero, suc, ◌≡◌, ◌+◌, ◌*◌, ◌<◌, ◌≤◌, false, List, [], ◌∷◌, length, map, sum_by, Option, Some, None, IfSome}
+use Rattle.std.specs.Prelude.{ℕ, ◌≡◌, ◌+◌, ◌*◌, ◌<◌, ◌≤◌, false, List, [], ◌∷◌, length, map, sum_by, Option, Some, None}
 use Rattle.std.specs.List.{AllByRecursion as Each}
 use Rattle.ft_base.specs.declared.context.Ctx.{Ctx}
 use Rattle.ft_base.specs.declared.context.Ctx.TheVariants.{Softirq, Irq, Nmi}
-use Rattle.ft_base.specs.declared.limits.TheConstants.{FRAMES, GRAPH_DEPTH, ITEMS, QUANTUM}
+use Rattle.ft_base.specs.declared.limits.TheConstants.{FRAMES, ITEMS, QUANTUM}
 use Rattle.ft_base.specs.declared.task.TaskAct.{TaskAct}
-use Rattle.ft_base.specs.declared.task.TaskAct.TheVariants.{Call, Ret, Raise, Lower, After}
-use Rattle.ft_base.specs.declared.user.Act.{Act}
-use Rattle.ft_base.specs.declared.user.Act.TheVariants.{CallIn, IrqIn}
-use Rattle.ft_base.specs.Same.{rank}
-use Rattle.ft_base.specs.Job.{Spec, Ctl, Run, Until, user_of, set_of, depth_of}
-use Rattle.ft_base.specs.Versions.{limits_of}
-use Rattle.ft_hist.specs.Plain.{context}
+use Rattle.ft_base.specs.Job.{Spec, Ctl, Run, Until}
+use Rattle.ft_base.specs.Versions.{limits_of, IsVersion}
+use Rattle.ft_base.specs.Acts.{Leads, Raises, AreRaised}
+use Rattle.ft_base.specs.WellFormed.{IsNamedIn, IsSetIn, IsActIn}
 use Rattle.history_bound.specs.Bound.{calls_in}
 use Rattle.user_specs.specs.Bound.{call_bound_of}
+use Rattle.word_machine.specs.Limits.{WaitsFor, IsLevel}
 use Rattle.script_waits.specs.declared.script.LinedAct.{LinedAct}
 use Rattle.script_waits.specs.Tasks.{LinedTask}
-use Rattle.word_machine.specs.Limits.{AreRaised, IsVersion}
 use Rattle.ft_script.specs.declared.levels.Levels.{Levels}
 use Rattle.ft_script.specs.Levels.{open_calls, is_unfinished}
 use Rattle.ft_script.specs.Above.{Above, LinedCtl}
 use Rattle.ft_script.specs.Within.{IsWithinLimits, IsInOrder}
 
 -- ## tasks
-
--- acts lead from n open calls to m: each calls a function below `size`, and each return has its call
-abbrev pub Leads : ℕ → ℕ → List TaskAct → ℕ → Type 0
-Leads size n [] m = n ≡ m
-Leads size n (Call f ∷ rest) m = (f.0 < size) × Leads size (suc n) rest m
-Leads size zero (Ret ∷ rest) m = ⊥
-Leads size (suc n) (Ret ∷ rest) m = Leads size n rest m
-Leads size n (Raise c ∷ rest) m = Leads size n rest m
-Leads size n (Lower ∷ rest) m = Leads size n rest m
-Leads size n (After k ∷ rest) m = Leads size n rest m
 
 -- the acts of a task, without their lines
 abbrev pub acts_of : LinedTask → List TaskAct
@@ -55,13 +42,7 @@ contexts_in l = above_them Nmi l.nmi (above_them Irq l.irq (above_them Softirq l
 
 -- acts lead from these contexts to those: each interrupt comes above the present one, and goes after it came
 abbrev pub RaisesTo : List Ctx → List TaskAct → List Ctx → Type 0
-RaisesTo cs [] cs' = cs ≡ cs'
-RaisesTo cs (Call f ∷ rest) cs' = RaisesTo cs rest cs'
-RaisesTo cs (Ret ∷ rest) cs' = RaisesTo cs rest cs'
-RaisesTo cs (Raise c ∷ rest) cs' = (rank (context cs) < rank c) × RaisesTo (c ∷ cs) rest cs'
-RaisesTo [] (Lower ∷ rest) cs' = ⊥
-RaisesTo (c ∷ cs) (Lower ∷ rest) cs' = RaisesTo cs rest cs'
-RaisesTo cs (After n ∷ rest) cs' = RaisesTo cs rest cs'
+RaisesTo cs acts cs' = Raises (λ c. c ≡ cs') cs acts
 
 -- each task's interrupts do so, and those of the last one lead to the contexts that the levels tell
 abbrev pub TasksRaise : List LinedTask → Levels → Type 0
@@ -80,17 +61,11 @@ pub record TasksHold (size cpus : ℕ) (tasks : List LinedTask) (levels : Levels
 
 -- ## users and lines of control
 
--- the function that a user's act calls is one of so many
-abbrev pub IsActIn : ℕ → Option Act → Type 0
-IsActIn size None = Unit {0}
-IsActIn size (Some (CallIn g)) = g.0 < size
-IsActIn size (Some (IrqIn g)) = g.0 < size
-
 -- a line of control: its user is one of so many, its set has so many functions, its depth is within the limit, and its task is one of so
 -- many
 abbrev pub IsLine : (users size tasks : ℕ) → Ctl → Type 0
-IsLine users size tasks (Run c) = IfSome (user_of c) (λ u. u < users) × IfSome (set_of c) (λ set. length set ≡ size) × IfSome (depth_of c) (λ n. n ≤ GRAPH_DEPTH)
-IsLine users size tasks (Until t n) = t < tasks
+IsLine users size tasks (Run c) = IsNamedIn users c × IsSetIn size c × IsLevel c
+IsLine users size tasks (Until t n) = WaitsFor tasks (Until t n)
 
 -- lines of control, of which so many are commands and waits
 pub record LinesHold (users size tasks : ℕ) (ctls : List LinedCtl) (commands waits : ℕ) : Type 0 where

@@ -39,11 +39,8 @@ limited = record {
   waits = (tt, (omega arith, (tt, tt)));
   raised = (tt, tt);
   ctls = omega arith;
-  users = omega arith;
-  tasks = omega arith;
-  functions = omega arith;
+  counts = record { few_functions = omega arith; few_users = omega arith; few_tasks = omega arith; few_tramps = omega arith };
   frames = omega arith;
-  tramps = omega arith;
   levels = (tt, (tt, tt));
   acts = omega arith;
   items = omega arith;
