@@ -14,7 +14,7 @@ use Rattle.ft_desk.specs.Seen.{opened}
 use Rattle.control_core.specs.Lines.{IsLineIn}
 use Rattle.control_core.specs.Plans.{IsDeclaredIn}
 use Rattle.machine_core.specs.Worlds.{Declares}
-use Rattle.ft_machine.specs.declared.job.JobParts.{JobParts}
+use Rattle.ft_machine.specs.declared.parts.JobParts.{JobParts}
 use Rattle.ft_machine.specs.Parts.{parts_of, declared_of, IsWithin, job_of}
 use Rattle.ft_machine.proofs.JobLaws.{seen-functions, seen-users, seen-version, seen-frames, seen-tramps, seen-count, seen-lines, users-count, cpus-count, seen-limited}
 use Rattle.ft_machine.proofs.OnCpu.{own-quantum, own-numbers, own-acts, quick}

@@ -9,8 +9,9 @@ use Rattle.user_specs.specs.Plain.{DeclaredCpu, spec_of, cpu_of}
 use Rattle.user_specs.specs.declared.plan.CpuPlan.{CpuPlan}
 use Rattle.control_core.specs.Lines.{lines_of}
 use Rattle.word_machine.specs.Limits.{IsLimited}
-use Rattle.ft_machine.specs.declared.job.JobParts.{JobParts}
+use Rattle.ft_machine.specs.declared.parts.JobParts.{JobParts}
 use Rattle.ft_machine.specs.Parts.{parts_of, quanta_of, cpus_from, found_in, task_count, tasks_of, IsWithin, job_of}
+use Rattle.ft_machine.specs.Plans.{AreLinesPlanned, AreRingsPlanned}
 use Rattle.ft_machine.proofs.Numbered.{length-tasks, found-number}
 
 module _ (p : JobParts) (j : Job) (e : job_of (parts_of p) ≡ j) where
@@ -62,6 +63,12 @@ module _ (p : JobParts) (j : Job) (e : job_of (parts_of p) ≡ j) where
   module _ (w : IsWithin (parts_of p)) where
     pub seen-limited : IsLimited j
     seen-limited = subst (λ (i : Job). IsLimited i) e w.limited
+
+    pub seen-lines-plan : AreLinesPlanned j
+    seen-lines-plan = subst (λ (i : Job). AreLinesPlanned i) e w.planned
+
+    pub seen-rings-plan : AreRingsPlanned j
+    seen-rings-plan = subst (λ (i : Job). AreRingsPlanned i) e w.rings
 
     pub few-users : length j.users ≤ USERS
     few-users = (few-largest j.version seen-limited.counts).few_users

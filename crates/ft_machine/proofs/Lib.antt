@@ -1,3 +1,4 @@
+pub mod PlanSamples
 pub mod Numbered
 pub mod FindLaws
 pub mod JobLaws

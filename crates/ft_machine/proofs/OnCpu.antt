@@ -12,7 +12,7 @@ use Rattle.plain_machine.specs.State.{tasks_of as numbers_on, tasks_from}
 use Rattle.user_specs.specs.Plain.{DeclaredTask, DeclaredCpu, task_of, cpu_of}
 use Rattle.user_specs.specs.declared.plan.TaskPlan.{TaskPlan}
 use Rattle.user_specs.specs.declared.plan.CpuPlan.{CpuPlan}
-use Rattle.ft_machine.specs.declared.job.JobParts.{JobParts}
+use Rattle.ft_machine.specs.declared.parts.JobParts.{JobParts}
 use Rattle.ft_machine.specs.Parts.{parts_of, quanta_of, tasks_on, cpus_with, IsWithin, job_of}
 use Rattle.ft_machine.proofs.JobLaws.{seen-quanta, seen-cpus}
 

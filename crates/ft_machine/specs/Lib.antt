@@ -1,3 +1,4 @@
+pub mod Plans
 pub mod Parts
 pub mod Machines
 pub mod Replays

@@ -3,15 +3,18 @@ use Rattle.std.specs.Prelude.{ℕ, zero, suc, ◌≡◌, ◌≤◌, ◌==◌, Li
 use Rattle.std.specs.List.{AllByRecursion as Each}
 use Rattle.ft_base.specs.declared.limits.TheConstants.{CPUS, QUANTUM}
 use Rattle.ft_base.specs.declared.turn.Turn.{Turn}
-use Rattle.ft_base.specs.Job.{Func, Spec, Task, no_task, usual_lines, usual_rings, Job}
+use Rattle.ft_base.specs.Job.{Func, Spec, Task, no_task, LinePlan, RingPlan, Job}
 use Rattle.user_specs.specs.Plain.{DeclaredTask, DeclaredCpu, spec_of, cpu_of}
 use Rattle.ft_desk.specs.declared.command.Ctl.{Ctl}
 use Rattle.ft_desk.specs.Declarations.{Declared, bare}
 use Rattle.control_core.specs.Lines.{IsLineIn, lines_of}
 use Rattle.word_machine.specs.Limits.{IsLimited}
-use Rattle.ft_machine.specs.declared.job.JobParts.{JobParts}
+use Rattle.filter_commands.specs.Kept.{plain_trigger}
+use Rattle.ft_machine.specs.declared.parts.JobParts.{JobParts}
+use Rattle.ft_machine.specs.Plans.{row_of, AreLinesPlanned, AreRingsPlanned}
 
--- the version of the language, functions, users, frames of a task's shadow stack, trampoline slots, CPUs with their tasks, control's lines and the schedule
+-- the version of the language, functions, users, frames of a task's shadow stack, trampoline slots, CPUs with their tasks, control's lines,
+-- the schedule, where the lines come from, and what is kept of a trace
 pub record Parts : Type 0 where
   pub version : ℕ
   pub functions : List Func
@@ -21,6 +24,8 @@ pub record Parts : Type 0 where
   pub cpus : List DeclaredCpu
   pub ctls : List Ctl
   pub schedule : List Turn
+  pub lines : LinePlan
+  pub rings : RingPlan
 
 -- the parts that the program holds
 abbrev pub parts_of : JobParts → Parts
@@ -33,6 +38,8 @@ parts_of p = record {
   cpus = map cpu_of p.cpus.items;
   ctls = p.ctls.items;
   schedule = p.schedule.turns.items;
+  lines = record { lanes = p.lanes.items; absent = p.absent.items; modules = map row_of p.modules.items };
+  rings = record { ring = p.ring; tracing = p.tracing; triggers = map plain_trigger p.triggers.items };
 }
 
 -- ## tasks by number, and by CPU
@@ -102,8 +109,8 @@ job_of p = record {
   tasks = tasks_of p.cpus;
   ctls = lines_of (task_count p.cpus) p.ctls;
   schedule = p.schedule;
-  lines = usual_lines;
-  rings = usual_rings;
+  lines = p.lines;
+  rings = p.rings;
 }
 
 -- what the lines of control may name
@@ -116,9 +123,13 @@ declared_of p = record { specs = map bare p.users; funcs = length p.functions; t
 --   lines      the lines of control name users and tasks that there are, and each edit has a set of the functions
 --   cpus       there are no more CPUs than a script may have
 --   quanta     each has a quantum within its limit
+--   planned    its lanes and modules are among those that there are
+--   rings      its ring and its triggers are within their limits
 pub record IsWithin (p : Parts) : Type 0 where
   pub numbered : cpus_from 0 (quanta_of p.cpus) (tasks_of p.cpus) ≡ p.cpus
   pub limited : IsLimited (job_of p)
   pub lines : Each (IsLineIn (declared_of p)) p.ctls
   pub cpus : length p.cpus ≤ CPUS
   pub quanta : Each (λ q. q ≤ QUANTUM) (quanta_of p.cpus)
+  pub planned : AreLinesPlanned (job_of p)
+  pub rings : AreRingsPlanned (job_of p)

@@ -13,9 +13,13 @@ ghost use Rattle.word_map.specs.Shapes.{shape_of};
 ghost use Rattle.word_machine.specs.Limits.{IsLimited};
 ghost use Rattle.word_machine.specs.Machine.{start};
 ghost use Rattle.machine_core.specs.Worlds.{IsFor, world_of};
+ghost use Rattle.filter_commands.specs.Kept.{plain_trigger};
 ghost use Rattle.ft_machine.specs.Parts.{parts_of, quanta_of, cpus_from, IsWithin, job_of};
+ghost use Rattle.ft_machine.specs.Plans.{row_of, AreLinesPlanned, AreRingsPlanned};
 
 use crate::find::{count, find, find_cpu};
+use crate::parts::{JobParts, ModRow};
+use filter_commands::Trigger;
 use ft_base::limits::Limits;
 use ft_base::{CpuNo, NoMemory, TaskNo};
 use ft_desk::{Ctl, Desk};
@@ -26,28 +30,6 @@ use std::alloc::Global;
 use std::marker::Model;
 use user_specs::{CpuPlan, Spec};
 use word_map::{Shape, WordMap};
-
-/// What a script declares. The limits are those of `ft_base::limits`.
-#[derive(Drop)]
-pub struct JobParts {
-    /// The version of the language that the script is in, 1 or 2.
-    pub version: u8,
-    /// The traceable functions.
-    pub table: FuncTable,
-    /// The users.
-    pub specs: Vec<Spec>,
-    /// How many frames each task's shadow stack has.
-    pub frames: u32,
-    /// How many trampolines there are.
-    pub tramps: u8,
-    /// The CPUs in order, each with its quantum and its tasks. Tasks are numbered from 0 over all
-    /// CPUs.
-    pub cpus: Vec<CpuPlan>,
-    /// What control does, in order.
-    pub ctls: Vec<Ctl>,
-    /// Whose turn it is, step by step.
-    pub schedule: Schedule,
-}
 
 impl Model for Job {
     ghost use Rattle.ft_base.specs.Job.{Job as PlainJob};
@@ -147,6 +129,56 @@ impl Job {
         ensures { result.now.turns.items ≡ self.now.schedule }
     {
         &self.parts.schedule
+    }
+
+    /// The lane of each command, below `ft_base::limits::LANES`, or nothing if there are no lanes.
+    #[tactic(auto, unfolding(crate::specs::Parts::job_of))]
+    pub fn lanes(&self) -> &[u32]
+        ensures lanes { result.now ≡ self.now.lines.lanes }
+        ensures planned { AreLinesPlanned self.now }
+    {
+        self.parts.lanes.as_slice()
+    }
+
+    /// The modules that aren't loaded at first, by number.
+    #[tactic(auto, unfolding(crate::specs::Parts::job_of))]
+    pub fn absent(&self) -> &[u32]
+        ensures { result.now ≡ self.now.lines.absent }
+    {
+        self.parts.absent.as_slice()
+    }
+
+    /// The lines that load and unload modules, in order.
+    #[tactic(auto, unfolding(crate::specs::Parts::job_of))]
+    pub fn modules(&self) -> &[ModRow]
+        ensures { map row_of result.now ≡ self.now.lines.modules }
+    {
+        self.parts.modules.as_slice()
+    }
+
+    /// How many entries each CPU's trace ring holds, from 1 to `ft_base::limits::RING`.
+    #[tactic(auto, unfolding(crate::specs::Parts::job_of))]
+    pub fn ring(&self) -> u32
+        ensures ring { result ≡ self.now.rings.ring }
+        ensures planned { AreRingsPlanned self.now }
+    {
+        self.parts.ring
+    }
+
+    /// Whether tracing is on at first.
+    #[tactic(auto, unfolding(crate::specs::Parts::job_of))]
+    pub fn tracing(&self) -> bool
+        ensures { result ≡ self.now.rings.tracing }
+    {
+        self.parts.tracing
+    }
+
+    /// What switches tracing on and off, in order.
+    #[tactic(auto, unfolding(crate::specs::Parts::job_of))]
+    pub fn triggers(&self) -> &[Trigger]
+        ensures { map plain_trigger result.now ≡ self.now.rings.triggers }
+    {
+        self.parts.triggers.as_slice()
     }
 
     /// The pid of the task of this number. `None` exactly if there is no such task.

@@ -17,11 +17,14 @@ mod find;
 mod job;
 mod laws;
 mod machine;
+mod parts;
 mod play;
 
+pub use filter_commands::Trigger;
 pub use ft_desk::{Command, Ctl};
-pub use job::{Job, JobParts};
+pub use job::Job;
 pub use laws::{all_end_if_each_does, each_actor_is_fed_its_values, every_replay_is_a_run};
 pub use machine::Machine;
 pub use machine_core::WorldParts;
+pub use parts::{JobParts, ModRow};
 pub use play::{Outcome, replay};

@@ -1,5 +1,5 @@
 -- The job of what is declared is within the limits of scripts, and the parts that a reader makes of it are within what the machine asks.
-use Rattle.std.proofs.Common.{◌≡◌, ℕ, suc, ◌*◌, ◌<◌, ◌≤◌, List, [], ◌∷◌, length, map, sum_by, Option, Some, None, refl, sym, ap, ◌∙◌, subst, arith}
+use Rattle.std.proofs.Common.{◌≡◌, ℕ, zero, suc, ◌*◌, ◌<◌, ◌≤◌, List, [], ◌∷◌, length, map, sum_by, Option, Some, None, inl, refl, sym, ap, ◌∙◌, subst, arith}
 use Rattle.std.specs.Prelude.{unwrap_or}
 use Rattle.std.specs.List.{AllByRecursion as Each}
 use Rattle.std.proofs.lemmas.List.{length-map}
@@ -19,6 +19,7 @@ use Rattle.user_specs.specs.Bound.{call_bound_of}
 use Rattle.history_bound.specs.Bound.{calls_in, all_calls}
 use Rattle.word_machine.specs.Limits.{WaitsFor, IsLevel, IsLimited}
 use Rattle.ft_machine.specs.Parts.{Parts, quanta_of, cpus_with, tasks_of, task_count, declared_of, job_of as parts_job, IsWithin}
+use Rattle.ft_machine.specs.Plans.{AreLinesPlanned, AreRingsPlanned}
 use Rattle.ft_machine.proofs.Numbered.{tasks_of-from, length-tasks}
 use Rattle.script_waits.specs.declared.script.LinedAct.{LinedAct}
 use Rattle.script_waits.specs.Tasks.{LinedTask}
@@ -136,6 +137,15 @@ module _ (above : Above) (run : CanRun above) where
     items = subst (λ n. call_bound_of above.users (limits_of above.version).levels * n ≤ ITEMS) (sym (calls-all above.tasks ∙ h.tasks.all_calls)) h.items;
   }
 
+  -- it has no lanes, no modules that change and no triggers
+  usual-lines : AreLinesPlanned (job_of above)
+  unfolding job_of
+  usual-lines = record { lanes = inl refl; absent = tt; modules = tt }
+
+  usual-rings : AreRingsPlanned (job_of above)
+  unfolding job_of
+  usual-rings = record { some = omega arith; ring = omega arith; few = omega arith; triggers = tt }
+
   module _ (p : Parts) (are : AreParts p above) where
     tasks-are : tasks_of p.cpus ≡ map task_of above.tasks
     tasks-are = ap tasks_of are.cpus ∙ tasks_of-from above.quanta (map task_of above.tasks) (each-map task_of (λ (t : Task). t.cpu < length above.quanta) above.tasks h.tasks.placed)
@@ -151,7 +161,7 @@ module _ (above : Above) (run : CanRun above) where
 
     pub job-is : parts_job p ≡ job_of above
     unfolding parts_job job_of
-    job-is = rw (are.version, are.functions, are.users, are.frames, are.tramps, quanta-are, tasks-are, lines-are, are.schedule) refl
+    job-is = rw (are.version, are.functions, are.users, are.frames, are.tramps, quanta-are, tasks-are, lines-are, are.schedule, are.lines, are.rings) refl
 
     pub is_within : IsWithin p
     is_within = record {
@@ -162,4 +172,6 @@ module _ (above : Above) (run : CanRun above) where
           (map-each (ctl_of tasks) _ p.ctls (subst (Each (IsLine users size tasks)) (sym are.ctls) lines));
       cpus = (let n = length-map p.cpus (λ (c : DeclaredCpu). c.quantum) in let q = ap (λ (qs : List ℕ). length qs) quanta-are in let few = h.within.few_cpus in omega (arith, n, q, few));
       quanta = rw quanta-are h.quanta;
+      planned = rw job-is usual-lines;
+      rings = rw job-is usual-rings;
     }

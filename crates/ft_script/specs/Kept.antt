@@ -1,6 +1,7 @@
 -- What a reader keeps of the lines above.
 use Rattle.std.specs.Prelude.{◌≡◌, ℕ, length, map, unwrap_or}
 use Rattle.ft_base.specs.declared.limits.TheConstants.{USUAL_FRAMES}
+use Rattle.ft_base.specs.Job.{usual_lines, usual_rings}
 use Rattle.ft_base.specs.Versions.{limits_of}
 use Rattle.ft_desk.specs.Commands.{ctl_of}
 use Rattle.control_core.specs.Lines.{lines_of}
@@ -53,3 +54,5 @@ pub record AreParts (p : Parts) (above : Above) : Type 0 where
   pub cpus : p.cpus ≡ cpus_from 0 above.quanta (map task_of above.tasks)
   pub ctls : lines_of (length above.tasks) p.ctls ≡ map (λ c. c.ctl) above.ctls
   pub schedule : p.schedule ≡ schedule_of above.turns
+  pub lines : p.lines ≡ usual_lines
+  pub rings : p.rings ≡ usual_rings

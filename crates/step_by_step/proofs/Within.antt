@@ -1,5 +1,6 @@
 -- The job that the program makes is within what the machine asks.
 use Rattle.std.proofs.Common.{◌≡◌, inl, [], ◌∷◌, refl, sym, subst, arith}
+use Rattle.ft_base.specs.Job.{usual_lines, usual_rings}
 use Rattle.ft_base.specs.WellFormed.{IsWellFormed}
 use Rattle.ft_desk.specs.declared.command.Ctl.TheVariants.{Run, Until}
 use Rattle.ft_desk.specs.declared.command.Command.TheVariants.{Register, Unregister}
@@ -18,6 +19,8 @@ the_parts = record {
   cpus = record { quantum = 100; tasks = record { task = 0; pid = the_task.pid; acts = the_task.acts } ∷ [] } ∷ [];
   ctls = Run (Register (record { 0 = 0 })) ∷ Until (record { 0 = 0 }) 5 ∷ Run (Unregister (record { 0 = 0 })) ∷ [];
   schedule = [];
+  lines = usual_lines;
+  rings = usual_rings;
 }
 
 pub job-is : job_of the_parts ≡ the_job
@@ -53,4 +56,6 @@ within = record {
   lines = (omega arith, (omega arith, (omega arith, tt)));
   cpus = omega arith;
   quanta = (omega arith, tt);
+  planned = rw job-is (record { lanes = inl refl; absent = tt; modules = tt });
+  rings = rw job-is (record { some = omega arith; ring = omega arith; few = omega arith; triggers = tt });
 }

@@ -15,6 +15,7 @@ ghost use Rattle.ft_machine.specs.Machines.{IsOf, state_of};
 ghost use Rattle.step_by_step.specs.TheJob.{the_functions, the_job};
 ghost use Rattle.step_by_step.specs.Silence.{items_of, IsSilent};
 
+use ft_base::limits::USUAL_RING;
 use ft_base::{Actor, CpuNo, FuncNo, TaskNo, UserNo};
 use ft_hist::theorems::silent_after_unregistration;
 use ft_machine::{Command, Ctl, Job, JobParts, Machine};
@@ -51,7 +52,8 @@ fn functions(alloc: Global) -> Result<FuncTable, AllocError>
 
 /// The job: control registers a function tracer; after that the task makes its two calls; then
 /// control unregisters the tracer. It has no frames of a shadow stack, which a function tracer
-/// doesn't use, and no schedule: `main` says whose turn it is.
+/// doesn't use, and no schedule: `main` says whose turn it is. It has no lanes, no modules and no
+/// triggers.
 fn make_job(alloc: Global) -> Result<Job, AllocError>
     ensures { IfOk result (λ job. job ≡ the_job) }
 {
@@ -95,6 +97,12 @@ fn make_job(alloc: Global) -> Result<Job, AllocError>
         schedule: Schedule {
             turns: Vec::new(alloc),
         },
+        lanes: Vec::new(alloc),
+        absent: Vec::new(alloc),
+        modules: Vec::new(alloc),
+        ring: USUAL_RING,
+        tracing: true,
+        triggers: Vec::new(alloc),
     }))
 }
 

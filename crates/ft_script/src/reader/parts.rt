@@ -10,7 +10,7 @@ ghost use Rattle.ft_script.specs.Holds.{IsAtMost};
 ghost use Rattle.ft_script.specs.Script.{task_of, schedule_of};
 
 use crate::reader::{LinedCtl, Reader};
-use ft_base::limits::{CPUS, Limits, TASKS, USUAL_FRAMES, USUAL_TURNS};
+use ft_base::limits::{CPUS, Limits, TASKS, USUAL_FRAMES, USUAL_RING, USUAL_TURNS};
 use ft_base::{TaskAct, TaskNo, Turn, Who};
 use ft_machine::{Ctl, JobParts};
 use ft_schedule::Schedule;
@@ -176,6 +176,12 @@ impl Reader {
             cpus,
             ctls,
             schedule,
+            lanes: Vec::new(alloc),
+            absent: Vec::new(alloc),
+            modules: Vec::new(alloc),
+            ring: USUAL_RING,
+            tracing: true,
+            triggers: Vec::new(alloc),
         })
     }
 }

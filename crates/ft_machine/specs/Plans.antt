@@ -1,0 +1,60 @@
+-- What the machine asks of a job's lanes, modules, ring and triggers. It reads none of them itself.
+use Rattle.std.specs.Prelude.{◌≡◌, ◌≤◌, ◌<◌, ◌⊎◌, ℕ, not, List, [], ◌∷◌, filter, length, Option, Some, None, IfSome}
+use Rattle.std.specs.List.{AllByRecursion as Each}
+use Rattle.std.specs.Str.{bytes_eq}
+use Rattle.ft_base.specs.declared.limits.TheConstants.{LANES, RING, TRIGGERS, TRIGGER_LIMIT}
+use Rattle.ft_base.specs.Job.{Func, Ctl, Run, Until, ModuleRow, Trigger as PlainTrigger, Job, funcs, commands}
+use Rattle.ft_machine.specs.declared.parts.ModRow.{ModRow}
+
+-- a line that loads or unloads a module, as plain data
+abbrev pub row_of : ModRow → ModuleRow
+row_of row = record { load = row.load; owner = row.module; answer = row.answer; first = row.first; last = row.last }
+
+-- ## modules by number
+
+-- a function's module comes before those of the functions below it, and once
+abbrev pub with_module : Option (List ℕ) → List (List ℕ) → List (List ℕ)
+with_module None below = below
+with_module (Some name) below = name ∷ filter (λ other. not (bytes_eq name other)) below
+
+-- the modules of these functions by number: each once, in the order of their first functions
+abbrev pub modules_in : List Func → List (List ℕ)
+modules_in [] = []
+modules_in (f ∷ fs) = with_module f.owner (modules_in fs)
+
+-- a number of a module of these functions
+abbrev pub IsModule : List Func → ℕ → Type 0
+IsModule functions m = m < length (modules_in functions)
+
+-- ## where control's lines come from
+
+-- the line is a command
+abbrev pub IsCommand : Ctl → Type 0
+IsCommand (Run c) = Unit {0}
+IsCommand (Until t n) = ⊥
+
+-- control has no waits, and each command has a lane
+pub record HasLanes (job : Job) : Type 0 where
+  pub commands' : Each IsCommand job.ctls
+  pub each : length job.lines.lanes ≡ length (commands job)
+  pub numbers : Each (λ lane. lane < LANES) job.lines.lanes
+
+-- there are no lanes, or each command has one; and each module that is named is one of the functions'
+pub record AreLinesPlanned (job : Job) : Type 0 where
+  pub lanes : (job.lines.lanes ≡ []) ⊎ HasLanes job
+  pub absent : Each (IsModule job.functions) job.lines.absent
+  pub modules : Each (λ row. IsModule job.functions row.owner) job.lines.modules
+
+-- ## what is kept of a trace
+
+-- a trigger has a set of so many functions, and its limit is within that of all triggers
+pub record IsTriggerOf (size : ℕ) (trigger : PlainTrigger) : Type 0 where
+  pub set : length trigger.set ≡ size
+  pub limit : IfSome trigger.limit (λ n. (1 ≤ n) × (n ≤ TRIGGER_LIMIT))
+
+-- a ring has an entry, and no more than it may have; there are no more triggers than there may be, over the job's functions
+pub record AreRingsPlanned (job : Job) : Type 0 where
+  pub some : 1 ≤ job.rings.ring
+  pub ring : job.rings.ring ≤ RING
+  pub few : length job.rings.triggers ≤ TRIGGERS
+  pub triggers : Each (IsTriggerOf (funcs job)) job.rings.triggers
