@@ -13,7 +13,7 @@ use Rattle.word_map.specs.Shapes.{shape_of}
 use Rattle.word_machine.specs.Control.{control_got, control_next, control_start}
 use Rattle.word_machine.specs.Laws.{IsOnWord, Runs, items_on}
 use Rattle.word_machine.specs.Limits.{IsLimited}
-use Rattle.word_machine.specs.Machine.{World, control_row, past_after, taken}
+use Rattle.word_machine.specs.Machine.{World, control_moved, control_row, past_after, step, taken}
 use Rattle.word_machine_laws.proofs.Limited.{limited as word-job}
 use Rattle.word_machine_laws.proofs.Marked.{control-mark}
 use Rattle.word_machine_laws.proofs.There.{control-there}
@@ -69,6 +69,14 @@ module _ (job : Job) (limited : IsLimited job) (words : List ℕ) (values : Acto
       cpus = s.cpus;
       past = past_after op past;
     }
+
+    step-is : step job ByControl s ≡ control_row job s op
+    unfolding step
+    step-is = ap (control_moved job s) next
+
+    -- it is the machine's after a step of control
+    pub control-row : after ≡ step job ByControl s
+    control-row = same ∙ sym step-is
 
     -- the machine's rule holds of it
     pub control-runs : Runs job after

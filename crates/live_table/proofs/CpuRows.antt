@@ -1,7 +1,7 @@
 -- An operation of a CPU keeps the state's rule: on the list of words, on the values that actors have taken, and on what they have marked.
 use Rattle.std.proofs.Common.{◌≡◌, ◌≢◌, ℕ, ◌<◌, Bool, true, false, List, [], ◌∷◌, ◌++◌, length, Some, IsSome, cond, inl, inr, refl, sym, ap, ◌∙◌, subst, arith, eqb-true}
 use Rattle.std.specs.Prelude.{◌==◌}
-use Rattle.std.proofs.lemmas.Bool.{cases_eq}
+use Rattle.std.proofs.lemmas.Bool.{cases_eq, lt-ltb}
 use Rattle.std.proofs.lemmas.List.{append-nil, length-append}
 use Rattle.std.proofs.lemmas.Option.{same_Some}
 use Rattle.ft_base.specs.declared.item.Item.{Item}
@@ -18,7 +18,7 @@ use Rattle.word_map.specs.Words.{at_put}
 use Rattle.word_machine.specs.Cpu.{cpu_got, cpu_next, cpu_start}
 use Rattle.word_machine.specs.Laws.{CpuTakes, IsOnWord, Runs, items_on, room_on}
 use Rattle.word_machine.specs.Limits.{IsLimited}
-use Rattle.word_machine.specs.Machine.{World, cpu_row, past_after, taken}
+use Rattle.word_machine.specs.Machine.{World, cpu_moved, cpu_row, past_after, step, taken}
 use Rattle.word_machine_laws.proofs.CpuTakes.{cpu-takes}
 use Rattle.word_machine_laws.proofs.Limited.{limited as word-job}
 use Rattle.word_machine_laws.proofs.Marked.{mark-room, other-mark, own-mark}
@@ -85,6 +85,16 @@ module _ (job : Job) (limited : IsLimited job) (words : List ℕ) (values : Acto
       cpus = λ d. states d i;
       past = past_after op past;
     }
+
+    step-is : step job (cpu c) s ≡ cpu_row job s c op
+    unfolding step
+    step-is =
+        ap (λ b. cond b (cpu_moved job s c (cpu_next job (s.cpus c))) s) (lt-ltb c (length job.quanta) inside)
+        ∙ ap (cpu_moved job s c) next
+
+    -- it is the machine's after a step of the CPU
+    pub cpu-row : after ≡ step job (cpu c) s
+    cpu-row = same ∙ sym step-is
 
     -- the machine's rule holds of it
     pub cpu-runs : Runs job after

@@ -22,11 +22,12 @@ use Rattle.ft_machine.specs.Fed.{cpu_fed, cpu_items}
 use Rattle.ft_machine.proofs.FedLaws.{cpu_after-append}
 use Rattle.live_table.specs.declared.live.Going.TheVariants.{End, More}
 use Rattle.live_table.specs.declared.view.View.{View}
+use Rattle.live_table.specs.AtomicSteps.{AtomicStep, MakesOp}
 use Rattle.live_table.specs.Operations.{op_after, op_gives, op_word}
 use Rattle.live_table.specs.Rule.{LiveRule}
 use Rattle.live_table.specs.Seats.{CpuPlace, CpuSits, IsRising}
-use Rattle.live_table.specs.Steps.{CpuSteps}
-use Rattle.live_table.specs.Views.{CpuTold, TakesOne, ToldIn, cpu_view, took, values_of}
+use Rattle.live_table.specs.Steps.{CpuSteps, given_by}
+use Rattle.live_table.specs.Views.{CpuTold, ToldIn, cpu_view, took, values_of}
 use Rattle.live_table.proofs.Moves.{cpu_allowed}
 use Rattle.live_table.proofs.Rising.{rising-more}
 use Rattle.live_table.proofs.Tables.{op-within}
@@ -36,7 +37,7 @@ use Rattle.live_table.proofs.Values.{cpu_marks-snoc}
 abbrev pub place_of : {S : Type 0} → TableId → ℕ → Me S View → ℕ → CpuPlace
 place_of table id me c = record { table_id = table; id = id; job = me.0.job; number = c; values = values_of me.0.parts }
 
-module _ {S : Type 0} (me : Me S View) (c : ℕ) (x : CpuParts) (sits : CpuSits me c x) where
+module _ (me : Me (Unit {0}) View) (c : ℕ) (x : CpuParts) (sits : CpuSits me c x) where
   -- with no operation left nothing happens
   pub cpu-stops : (o : Option Op)
       → ((job : Job) → IsLimited job → IsFor job x → o ≡ option_map (placed (shape_of job)) (cpu_next job (cpu_of job x))) → o ≡ None
@@ -66,24 +67,24 @@ module _ {S : Type 0} (me : Me S View) (c : ℕ) (x : CpuParts) (sits : CpuSits 
 
     -- the rule of the table allows it
     pub cpu-allows : (key : Job) → me.0.job ≡ key → (slots id : ℕ)
-        → Allows {S = S} (LiveRule key) slots id me (op_word code) (op_after code) (λ n m. TakesOne me (op_gives code n) m)
+        → Allows {S = Unit {0}} (LiveRule key) slots id me (op_word code) (op_after code) (λ n m. MakesOp code n me m)
     cpu-allows key same slots id =
         let job = me.0.job in
         let vs = values_of me.0.parts in
-        subst (λ (q : Job). Allows {S = S} (LiveRule q) slots id me (op_word code) (op_after code) (λ n m. TakesOne me (op_gives code n) m)) same
-        (subst (λ (u : Me S View). Allows {S = S} (LiveRule job) slots id u (op_word code) (op_after code) (λ n m. TakesOne u (op_gives code n) m)) (sym sits.view')
-        (subst (λ (o : Op). Allows {S = S} (LiveRule job) slots id (cpu_view job c vs, []) (op_word o) (op_after o) (λ n m. TakesOne (cpu_view job c vs, []) (op_gives o n) m)) choice.placed'
-        (cpu_allowed {S = S} job slots id c vs choice.op next-fed)))
+        subst (λ (q : Job). Allows {S = Unit {0}} (LiveRule q) slots id me (op_word code) (op_after code) (λ n m. MakesOp code n me m)) same
+        (subst (λ (u : Me (Unit {0}) View). Allows {S = Unit {0}} (LiveRule job) slots id u (op_word code) (op_after code) (λ n m. MakesOp code n u m)) (sym sits.view')
+        (subst (λ (o : Op). Allows {S = Unit {0}} (LiveRule job) slots id (cpu_view job c vs, []) (op_word o) (op_after o) (λ n m. MakesOp o n (cpu_view job c vs, []) m)) choice.placed'
+        (cpu_allowed job slots id c vs choice.op next-fed)))
 
-    module _ (m : Me S View) (n v : ℕ) (value : v ≡ op_gives code n) (takes : TakesOne me (op_gives code n) m) where
+    module _ (m : Me (Unit {0}) View) (n v : ℕ) (value : v ≡ op_gives code n) (takes : MakesOp code n me m) where
       -- the seat knows one value more
       knows : m ≡ (cpu_view me.0.job c (values_of me.0.parts ++ v ∷ []), [])
-      knows = takes.0 ∙ (λ i. (took (sits.view' i).0 (sym value i), (sits.view' i).1))
+      knows = takes.0.0 ∙ (λ i. (took (sits.view' i).0 (sym value i), (sits.view' i).1))
 
       told : CpuTold me.0.job c v (values_of me.0.parts)
       told =
           subst (λ z. CpuTold me.0.job c z (values_of me.0.parts)) (sym value)
-          (subst (λ (u : Me S View). ToldIn me.0.job (op_gives code n) u.0.parts) sits.view' takes.1)
+          (subst (λ (u : Me (Unit {0}) View). ToldIn me.0.job (op_gives code n) u.0.parts) sits.view' takes.0.1)
 
       takes-it : CpuTakes me.0.job (cpu_of me.0.job x) v
       takes-it = subst (λ s. CpuTakes me.0.job s v) (sym sits.fed) told.fits
@@ -109,7 +110,7 @@ module _ {S : Type 0} (me : Me S View) (c : ℕ) (x : CpuParts) (sits : CpuSits 
           → ((job : Job) → IsLimited job → IsFor job x → CpuTakes job (cpu_of job x) v → cpu_of job y ≡ cpu_got job (cpu_of job x) v)
           → ((job : Job) → IsLimited job → IsFor job x → CpuTakes job (cpu_of job x) v
           → y.marked.items ≡ x.marked.items ++ marks_in (cpu_next job (cpu_of job x)) v)
-          → y.marked.room ≡ x.marked.room → CpuSits {S = S} m c y
+          → y.marked.room ≡ x.marked.room → CpuSits m c y
       cpu-sits y of' is items room =
           let job = me.0.job in
           let vs = values_of me.0.parts in
@@ -117,7 +118,7 @@ module _ {S : Type 0} (me : Me S View) (c : ℕ) (x : CpuParts) (sits : CpuSits 
           is job sits.limited sits.is_for takes-it ∙ ap (λ (s : Cpu). cpu_got job s v) sits.fed ∙ sym (cpu_after-append job (cpu_start job c) vs (v ∷ [])) in
           let marks : y.marked.items ≡ cpu_items job c vs ++ marks_in (cpu_next job (cpu_fed job c vs)) v =
           items job sits.limited sits.is_for takes-it ∙ (λ i. sits.marked i ++ marks_in (cpu_next job (sits.fed i)) v) in
-          subst (λ (u : Me S View). CpuSits {S = S} u c y) (sym knows) record {
+          subst (λ (u : Me (Unit {0}) View). CpuSits u c y) (sym knows) record {
             view' = refl;
             limited = sits.limited;
             is_for = of' job sits.limited sits.is_for takes-it;
@@ -134,13 +135,20 @@ module _ {S : Type 0} (me : Me S View) (c : ℕ) (x : CpuParts) (sits : CpuSits 
       pub cpu-steps : (table table' : TableId) (id id' : ℕ) (s : CpuPlace) → place_of table id me c ≡ s → table' ≡ table → id' ≡ id
           → CpuSteps s More (place_of table' id' m c)
       cpu-steps table table' id id' s is same-table same-id =
-          let gives : v ≡ op_gives (placed (shape_of me.0.job) choice.op) n = value ∙ ap (λ o. op_gives o n) (sym choice.placed') in
-          let job' : m.0.job ≡ me.0.job = ap (λ (u : Me S View). u.0.job) knows in
-          let values : values_of m.0.parts ≡ values_of me.0.parts ++ op_gives (placed (shape_of me.0.job) choice.op) n ∷ [] =
-          ap (λ (u : Me S View). values_of u.0.parts) knows ∙ ap (λ z. values_of me.0.parts ++ z ∷ []) gives in
+          let job = me.0.job in
+          let vs = values_of me.0.parts in
+          let gives : v ≡ given_by job choice.op n = value ∙ ap (λ o. op_gives o n) (sym choice.placed') in
+          let job' : m.0.job ≡ job = ap (λ (u : Me (Unit {0}) View). u.0.job) knows in
+          let values : values_of m.0.parts ≡ vs ++ given_by job choice.op n ∷ [] =
+          ap (λ (u : Me (Unit {0}) View). values_of u.0.parts) knows ∙ ap (λ z. vs ++ z ∷ []) gives in
+          let known' : m.0 ≡ cpu_view m.0.job c (values_of m.0.parts) =
+          subst (λ (u : Me (Unit {0}) View). u.0 ≡ cpu_view u.0.job c (values_of u.0.parts)) (sym knows) refl in
           subst (λ (u : CpuPlace). CpuSteps u More (place_of table' id' m c)) is (
             choice.op,
             n,
             next-fed,
             λ i. record { table_id = same-table i; id = same-id i; job = job' i; number = c; values = values i },
+            subst (λ z. CpuTakes job (cpu_fed job c vs) z) gives told.fits,
+            subst (λ (u : Op × View × View). AtomicStep job (op_word u.0) n (op_after u.0 n) u.1 u.2)
+                (λ i. (sym choice.placed' i, (sits.view' i).0, known' i)) takes.1,
           )

@@ -22,10 +22,10 @@ use Rattle.word_machine_laws.proofs.Limited.{limited as word-job}
 use Rattle.ft_machine.specs.Fed.{control_fed, control_items, cpu_fed, cpu_items}
 use Rattle.live_table.specs.declared.view.Part.{Part}
 use Rattle.live_table.specs.declared.view.View.{View}
-use Rattle.live_table.specs.Laws.{IsAlwaysLegal}
+use Rattle.live_table.specs.Laws.{IsAlwaysLegal, IsAlwaysReached}
 use Rattle.live_table.specs.Recorded.{cpu, cpu_lists, lists}
 use Rattle.live_table.specs.Rule.{LiveRule, world_with}
-use Rattle.live_table.specs.Seats.{AreAtEnd, AreSeats, Board, ControlPlace, CpuPlace, history_of, items_at, lists_at, parts_of}
+use Rattle.live_table.specs.Seats.{AreAtEnd, AreSeats, Board, ControlPlace, CpuPlace, IsMadeByTurns, history_of, items_at, lists_at, parts_of}
 use Rattle.live_table.specs.Views.{part, view}
 use Rattle.live_table.proofs.Ends.{all-ended}
 
@@ -67,15 +67,20 @@ legal-turned job past l = subst (IsLegalPast job) (sym (reverse-reverse past)) l
 pub always-legal : IsAlwaysLegal
 always-legal job t r = (r.runs.kept, legal-turned job r.past r.runs.kept.legal)
 
+pub always-reached : IsAlwaysReached
+always-reached job t r = (r.reached, r.at_first)
+
 -- What the seats of a table have marked, once all are joined.
 --   placed   each place of the history has one item
 --   few      there are no more items than the job can make
+--   turns    the word machine makes the history by the steps of some actors in turn
 --   legal    the history is legal
 --   whole'   it is whole, if each seat is at its end
 pub record Gathered (job : Job) (control : ControlPlace) (cpus : List CpuPlace) : Type 0 where
   pub placed : ArePlaced (total (lists_at control cpus)) (lists_at control cpus)
   pub as_many : length (history_of control cpus) ≡ total (lists_at control cpus)
   pub few : total (lists_at control cpus) ≤ 2 * length (commands job) + call_bound_in job * all_calls job.tasks
+  pub turns : IsMadeByTurns job (history_of control cpus)
   pub legal : IsLegal job (history_of control cpus)
   pub whole' : AreAtEnd control cpus → IsWhole job (history_of control cpus)
 
@@ -130,6 +135,7 @@ module _ {S : Type 0} (b : Board) (control : ControlPlace) (cpus : List CpuPlace
     placed = subst (λ n. ArePlaced n (lists_at control cpus)) (sym many) placed-past;
     as_many = ap (λ (items : List Item). length items) history-is ∙ length-reverse r.past ∙ sym many;
     few = (let most = history-most b.job r.past r.runs.kept.legal in let e = many in omega (arith, most, e));
+    turns = (r.reached.0, history-is ∙ ap (λ (w : World). reverse w.past) r.reached.1);
     legal = subst (IsLegal b.job) (sym history-is) (legal-turned b.job r.past r.runs.kept.legal);
     whole' = λ over. subst (IsWhole b.job) (sym history-is)
         (whole b.job (word-job b.job r.limited) s r.runs.kept (all-ended b.job s r.runs.kept (control-over over) (cpu-over over)));

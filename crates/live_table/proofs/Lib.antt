@@ -3,9 +3,11 @@ pub mod Recording
 pub mod Tables
 pub mod CpuRows
 pub mod ControlRows
+pub mod Stands
 pub mod Moves
 pub mod Opening
 pub mod Seating
+pub mod Plays
 pub mod Ends
 pub mod Gathering
 pub mod Rising

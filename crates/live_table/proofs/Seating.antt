@@ -5,7 +5,7 @@ use Rattle.std.proofs.lemmas.Bool.Decides.{nat_tests}
 use mathlib.Core.Option.{some, some-ne-none, some-injective}
 use lib.ListN.{get_elem?}
 use Rattle.atomic_table.specs.Table.{Splits, Joins}
-use Rattle.atomic_table.proofs.Lists.{at_set, at_snoc}
+use Rattle.atomic_table.proofs.Lists.{at_last, at_longer, at_set, at_snoc, set_else}
 use Rattle.ft_base.specs.declared.turn.Actor.{Actor}
 use Rattle.ft_base.specs.declared.turn.Actor.TheVariants.{Control as ByControl, Cpu as ByCpu}
 use Rattle.ft_base.specs.Job.{Job}
@@ -14,9 +14,10 @@ use Rattle.live_table.specs.declared.view.View.{View}
 use Rattle.ft_machine.specs.Fed.{cpu_fed}
 use Rattle.live_table.specs.Laws.{OneSeatEach, UnsplitHaveNotStepped}
 use Rattle.live_table.specs.Recorded.{cpu}
-use Rattle.live_table.specs.Rule.{Fits, LiveRule, StandsAt}
+use Rattle.live_table.specs.Rule.{Fits, HasSeat, LiveRule, StandsAt, StandsIn}
 use Rattle.live_table.specs.Views.{control_view, cpu_view, dealer, dealt, joined, part, spent}
 use Rattle.live_table.proofs.Moves.{PartsFit, fits-set, one-part}
+use Rattle.live_table.proofs.Stands.{one-or, only-there, put-here, stands-last, stands-longer, stands-set, still-seated}
 
 -- ## where actors sit
 
@@ -73,6 +74,16 @@ splits-at {S} job id split vs room t r at =
     let seated : (j : ℕ) (v : View) → get_elem? t.views j ≡ some v → (k : ℕ) (x : Part) → get_elem? v.parts k ≡ some x → seat' x.actor ≡ j = λ j v e k x has.
     let f = r.covers.fits j v e k x has in
     seat_with-other r.seat split n x.actor (λ same. not-next r.split v.split x.actor f.stands (same ∙ ap cpu here)) ∙ f.seated in
+    let stood : (a : Actor) → HasSeat (split + 1) a → StandsIn (set t.views id left ++ right ∷ []) (seat' a) a = λ a has.
+    ⊎_elim
+    (λ (same : cpu split ≡ a). subst (λ (x : Actor). StandsIn (set t.views id left ++ right ∷ []) (seat' x) x) same
+    (subst (λ j. StandsIn (set t.views id left ++ right ∷ []) j (cpu split)) (sym (seat_with-same r.seat split n))
+    (stands-last (set t.views id left) right (cpu split) (0, part (cpu split) [], refl, refl))))
+    (λ (other : a ≡ cpu split → ⊥). subst (λ j. StandsIn (set t.views id left ++ right ∷ []) j a) (sym (seat_with-other r.seat split n a other))
+    (stands-longer (set t.views id left) (right ∷ []) (r.seat a) a
+    (stands-set t.views id (r.seat a) left a (r.covers.stood a (subst (λ z. HasSeat z a) here (still-seated split a other has)))
+    (λ v e had. (0, part ByControl vs, refl, only-there job split (part ByControl vs) t.views id at a v e had)))))
+    (one-or split a) in
     record {
       limited = r.limited;
       values = r.values;
@@ -81,6 +92,8 @@ splits-at {S} job id split vs room t r at =
       past = r.past;
       count = r.count;
       runs = r.runs;
+      reached = r.reached;
+      at_first = r.at_first;
       recorded = r.recorded;
       covers = record {
         fits = λ j v e.
@@ -103,6 +116,7 @@ splits-at {S} job id split vs room t r at =
             (one-part (λ x. Fits job r.values seat' (split + 1) n right x) (part (cpu split) [])
             record { job' = refl; seated = seat_with-same r.seat split n; has = sym (r.covers.unsplit split (omega (arith, here))); stands = omega arith }))
             (at-end (set t.views id left) right v j e);
+        stood = stood;
         unsplit = λ c low. r.covers.unsplit c (omega (arith, here, low));
         within = omega (arith, room);
       };
@@ -128,6 +142,28 @@ joins-at {S} job id v x0 other c vs own t r at apart at2 =
     (λ (new : part (cpu c) vs ≡ x). subst (Fits job r.values seat' r.split id both) new
     record { job' = job-is; seated = seat_with-same r.seat c id; has = theirs.has; stands = theirs.stands })
     (at_snoc v.parts (part (cpu c) vs) x k has) in
+    let ends : List View = set (set t.views id both) other spent in
+    let taken-in : StandsIn ends id (cpu c) = (
+      both,
+      set_else (set t.views id both) other id spent (λ e. apart (sym e)) ∙ put-here t.views id v both at,
+      (length v.parts, part (cpu c) vs, at_last v.parts (part (cpu c) vs) (length v.parts) refl, refl),
+    ) in
+    let stood : (a : Actor) → HasSeat r.split a → StandsIn ends (seat' a) a = λ a has.
+    ⊎_elim
+    (λ (same : cpu c ≡ a). subst (λ (x : Actor). StandsIn ends (seat' x) x) same
+    (subst (λ j. StandsIn ends j (cpu c)) (sym (seat_with-same r.seat c id)) taken-in))
+    (λ (ne : a ≡ cpu c → ⊥). subst (λ j. StandsIn ends j a) (sym (seat_with-other r.seat c id a ne))
+    (stands-set (set t.views id both) other (r.seat a) spent a
+    (stands-set t.views id (r.seat a) both a (r.covers.stood a has)
+    (λ u e had. (
+      had.0,
+      had.1,
+      at_longer v.parts (part (cpu c) vs ∷ []) had.0 had.1
+          (ap (λ (z : View). get_elem? z.parts had.0) (some-injective v u (sym at ∙ e)) ∙ had.2),
+      had.3,
+    )))
+    (λ u e had. absurd (ne (sym (only-there job 0 (part (cpu c) vs) (set t.views id both) other at2 a u e had))))))
+    (one-or c a) in
     record {
       limited = r.limited;
       values = r.values;
@@ -136,6 +172,8 @@ joins-at {S} job id v x0 other c vs own t r at apart at2 =
       past = r.past;
       count = r.count;
       runs = r.runs;
+      reached = r.reached;
+      at_first = r.at_first;
       recorded = r.recorded;
       covers = record {
         fits = fits-set job (set t.views id both) r.values seat' r.split other spent
@@ -152,6 +190,7 @@ joins-at {S} job id v x0 other c vs own t r at apart at2 =
             })
             (at_set t.views id j both u e))
             (λ k x has. absurd (some-ne-none x (sym has)));
+        stood = stood;
         unsplit = r.covers.unsplit;
         within = r.covers.within;
       };

@@ -1,15 +1,17 @@
 -- What the rule of the table says at any moment.
-use Rattle.std.specs.Prelude.{ℕ, ◌≡◌, ◌≤◌, reverse}
+use Rattle.std.specs.Prelude.{ℕ, ◌≡◌, ◌≤◌, [], reverse}
 use mathlib.Core.Option.{some}
 use lib.ListN.{get_elem?}
 use Rattle.atomic_table.specs.Table.{State}
+use Rattle.ft_base.specs.declared.turn.Actor.{Actor}
 use Rattle.ft_base.specs.Job.{Job}
 use Rattle.ft_hist.specs.Rules.{IsLegal}
 use Rattle.word_machine.specs.Cpu.{cpu_start}
+use Rattle.word_machine.specs.Machine.{start}
 use Rattle.word_machine.specs.Rule.{MachineRule}
 use Rattle.live_table.specs.declared.view.Part.{Part}
 use Rattle.live_table.specs.declared.view.View.{View}
-use Rattle.live_table.specs.Rule.{LiveRule, world_with}
+use Rattle.live_table.specs.Rule.{IsReached, LiveRule, state_at}
 
 -- no actor stands in two views
 abbrev pub OneSeatEach : Type 0
@@ -22,10 +24,16 @@ OneSeatEach =
 abbrev pub IsAlwaysLegal : Type 0
 IsAlwaysLegal =
     (job : Job) (t : State (Unit {0}) View) → (r : LiveRule job t)
-    → MachineRule job (world_with job t.words r.values r.past) × IsLegal job (reverse r.past)
+    → MachineRule job (state_at r) × IsLegal job (reverse r.past)
 
 -- a CPU that was not split off is as at the start
 abbrev pub UnsplitHaveNotStepped : Type 0
 UnsplitHaveNotStepped =
     (job : Job) (t : State (Unit {0}) View) → (r : LiveRule job t) → (c : ℕ) → r.split ≤ c
-    → (world_with job t.words r.values r.past).cpus c ≡ cpu_start job c
+    → (state_at r).cpus c ≡ cpu_start job c
+
+-- the state is one to which the word machine comes, and its start while no actor has taken a value
+abbrev pub IsAlwaysReached : Type 0
+IsAlwaysReached =
+    (job : Job) (t : State (Unit {0}) View) → (r : LiveRule job t)
+    → IsReached job (state_at r) × (((a : Actor) → r.values a ≡ []) → state_at r ≡ start job)

@@ -12,7 +12,7 @@ use Rattle.word_map.specs.Places.{len}
 use Rattle.word_map.specs.Shapes.{shape_of}
 use Rattle.word_machine.specs.Laws.{Runs}
 use Rattle.word_machine.specs.Limits.{IsLimited}
-use Rattle.word_machine.specs.Machine.{World}
+use Rattle.word_machine.specs.Machine.{World, run, start}
 use Rattle.machine_core.specs.Worlds.{words_of}
 use Rattle.ft_machine.specs.Fed.{control_fed, cpu_fed}
 use Rattle.live_table.specs.declared.view.Part.{Part}
@@ -33,6 +33,19 @@ abbrev pub StandsAt : ℕ → ℕ → Actor → Type 0
 StandsAt split here ByControl = here ≡ split
 StandsAt split here (ByCpu c) = c.0 < split
 
+-- control has a seat, and so has each CPU that was split off
+abbrev pub HasSeat : ℕ → Actor → Type 0
+HasSeat split ByControl = Unit {0}
+HasSeat split (ByCpu c) = c.0 < split
+
+-- a view has a part of this actor
+abbrev pub HasPart : View → Actor → Type 0
+HasPart v a = (k : ℕ) × (x : Part) × (get_elem? v.parts k ≡ some x) × (x.actor ≡ a)
+
+-- the view of the seat of this id has one
+abbrev pub StandsIn : List View → ℕ → Actor → Type 0
+StandsIn views id a = (v : View) × (get_elem? views id ≡ some v) × HasPart v a
+
 -- What holds of a part of the view of the seat of this id.
 --   job'     it is of the job
 --   seated   its actor stands in no other seat
@@ -46,12 +59,18 @@ pub record Fits (job : Job) (values : Actor → List ℕ) (seat : Actor → ℕ)
 
 -- What holds of all views.
 --   fits      each of their parts fits
+--   stood     control, and each CPU that was split off, has a part in the view of its seat. So the views tell what these have taken
 --   unsplit   a CPU that was not split off has not stepped
 --   within    no more CPUs were split off than the job has
 pub record Covers (job : Job) (views : List View) (values : Actor → List ℕ) (seat : Actor → ℕ) (split : ℕ) : Type 0 where
   pub fits : (id : ℕ) (v : View) → get_elem? views id ≡ some v → (k : ℕ) (x : Part) → get_elem? v.parts k ≡ some x → Fits job values seat split id v x
+  pub stood : (a : Actor) → HasSeat split a → StandsIn views (seat a) a
   pub unsplit : (c : ℕ) → split ≤ c → values (cpu c) ≡ []
   pub within : split ≤ length job.quanta
+
+-- the word machine comes to this state from its start, by the steps of some actors one after the other
+abbrev pub IsReached : Job → World → Type 0
+IsReached job s = (actors : List Actor) × (s ≡ run job actors (start job))
 
 -- The rule of the table.
 --   limited            the job is within the limits of scripts
@@ -60,6 +79,7 @@ pub record Covers (job : Job) (views : List View) (values : Actor → List ℕ) 
 --   past               the items so far, the latest first
 --   count              the words are the job's
 --   runs               they make up a state that keeps the word machine's rule
+--   reached, at_first  and that is one to which the machine comes from its start; it is the start while no actor has taken a value
 --   recorded           the items are what the actors have marked
 --   covers             the views know what the actors have taken
 pub record LiveRule {S : Type 0} (job : Job) (t : State S View) : Type 0 where
@@ -70,5 +90,11 @@ pub record LiveRule {S : Type 0} (job : Job) (t : State S View) : Type 0 where
   pub past : List Item
   pub count : length t.words ≡ len (shape_of job)
   pub runs : Runs job (world_with job t.words values past)
+  pub reached : IsReached job (world_with job t.words values past)
+  pub at_first : ((a : Actor) → values a ≡ []) → world_with job t.words values past ≡ start job
   pub recorded : IsRecorded job values past
   pub covers : Covers job t.views values seat split
+
+-- the state of the word machine at a moment of which the rule holds
+abbrev pub state_at : {S : Type 0} {job : Job} {t : State S View} → LiveRule job t → World
+state_at {S} {job} {t} r = world_with job t.words r.values r.past

@@ -1,9 +1,10 @@
 -- What contracts see of the table and of seats.
-use Rattle.std.specs.Prelude.{ℕ, ◌≡◌, ◌+◌, ◌*◌, ◌<◌, ◌≤◌, List, [], ◌∷◌, length, map, slice_get, Some, None}
+use Rattle.std.specs.Prelude.{ℕ, ◌≡◌, ◌+◌, ◌*◌, ◌<◌, ◌≤◌, List, [], ◌∷◌, length, map, reverse, slice_get, Some, None}
 use Rattle.atomic_table.specs.Seated.{TableId}
 use Rattle.atomic_table.specs.Table.{Me}
 use Rattle.ft_base.specs.declared.item.Item.{Item}
 use Rattle.ft_base.specs.declared.item.Stamped.{Stamped}
+use Rattle.ft_base.specs.declared.turn.Actor.{Actor}
 use Rattle.ft_base.specs.Job.{Job, commands}
 use Rattle.ft_hist.specs.Placing.{by_place}
 use Rattle.ft_hist.specs.Shown.{Shown}
@@ -15,6 +16,7 @@ use Rattle.word_machine.specs.Control.{Control, control_next}
 use Rattle.word_machine.specs.Cpu.{Cpu, cpu_next}
 use Rattle.word_machine.specs.Laws.{IsOnWord, room_on}
 use Rattle.word_machine.specs.Limits.{IsLimited}
+use Rattle.word_machine.specs.Machine.{run, start}
 use Rattle.control_core.specs.Seated.{Seated, control_of}
 use Rattle.control_core.specs.Seated as control
 use Rattle.cpu_core.specs.declared.parts.Parts.{Parts as CpuParts}
@@ -153,6 +155,10 @@ lists_at control cpus = control_items_at control ∷ map items_at cpus
 -- the history that they make
 abbrev pub history_of : ControlPlace → List CpuPlace → List Item
 history_of control cpus = by_place (lists_at control cpus)
+
+-- the word machine makes this history, by the steps of some actors one after the other
+abbrev pub IsMadeByTurns : Job → List Item → Type 0
+IsMadeByTurns job items = (actors : List Actor) × (items ≡ reverse (run job actors (start job)).past)
 
 -- each is at its end
 pub record AreAtEnd (control : ControlPlace) (cpus : List CpuPlace) : Type 0 where

@@ -1,13 +1,18 @@
 -- What a step makes of a seat.
 use Rattle.std.specs.Prelude.{ℕ, ◌≡◌, [], ◌∷◌, ◌++◌, Some, None}
+use Rattle.ft_base.specs.Job.{Job}
 use Rattle.word_map.specs.Ops.{WordOp, placed}
 use Rattle.word_map.specs.Shapes.{shape_of}
 use Rattle.word_machine.specs.Control.{control_next}
 use Rattle.word_machine.specs.Cpu.{cpu_next}
+use Rattle.word_machine.specs.Laws.{CpuTakes}
 use Rattle.live_table.specs.declared.live.Going.{Going}
 use Rattle.live_table.specs.declared.live.Going.TheVariants.{More, End}
-use Rattle.live_table.specs.Operations.{op_gives}
+use Rattle.live_table.specs.declared.view.View.{View}
+use Rattle.live_table.specs.AtomicSteps.{AtomicStep}
+use Rattle.live_table.specs.Operations.{op_after, op_gives, op_word}
 use Rattle.live_table.specs.Seats.{ControlPlace, CpuPlace, control_at, cpu_at}
+use Rattle.live_table.specs.Views.{control_view, cpu_view}
 
 -- a CPU's seat after one more value
 abbrev pub with_value : CpuPlace → ℕ → CpuPlace
@@ -17,14 +22,34 @@ with_value s v = record { table_id = s.table_id; id = s.id; job = s.job; number 
 abbrev pub with_control_value : ControlPlace → ℕ → ControlPlace
 with_control_value s v = record { table_id = s.table_id; id = s.id; job = s.job; split = s.split; values = s.values ++ v ∷ [] }
 
--- one step of the CPU: its next operation, on a word that held n; or nothing at its end
+-- what the CPU's seat knows
+abbrev pub known_to : CpuPlace → View
+known_to s = cpu_view s.job s.number s.values
+
+-- what control's knows
+abbrev pub known_to_control : ControlPlace → View
+known_to_control s = control_view s.job s.split s.values
+
+-- an operation was made on the table of a job, at one moment at which its word held n
+abbrev pub IsMade : Job → WordOp → ℕ → View → View → Type 0
+IsMade job op n known knows =
+    AtomicStep job (op_word (placed (shape_of job) op)) n (op_after (placed (shape_of job) op) n) known knows
+
+-- the value that it gave
+abbrev pub given_by : Job → WordOp → ℕ → ℕ
+given_by job op n = op_gives (placed (shape_of job) op) n
+
+-- One step of the CPU: its next operation, at a moment at which the operation's word held n. The seat has one value more, that which the
+-- operation gave, and which fits the CPU. At its end it makes none.
 abbrev pub CpuSteps : CpuPlace → Going → CpuPlace → Type 0
 CpuSteps s End t = (cpu_next s.job (cpu_at s) ≡ None) × (t ≡ s)
 CpuSteps s More t =
-    (op : WordOp) × (n : ℕ) × (cpu_next s.job (cpu_at s) ≡ Some op) × (t ≡ with_value s (op_gives (placed (shape_of s.job) op) n))
+    (op : WordOp) × (n : ℕ) × (cpu_next s.job (cpu_at s) ≡ Some op) × (t ≡ with_value s (given_by s.job op n))
+    × CpuTakes s.job (cpu_at s) (given_by s.job op n) × IsMade s.job op n (known_to s) (known_to t)
 
 -- one step of control
 abbrev pub ControlSteps : ControlPlace → Going → ControlPlace → Type 0
 ControlSteps s End t = (control_next s.job (control_at s) ≡ None) × (t ≡ s)
 ControlSteps s More t =
-    (op : WordOp) × (n : ℕ) × (control_next s.job (control_at s) ≡ Some op) × (t ≡ with_control_value s (op_gives (placed (shape_of s.job) op) n))
+    (op : WordOp) × (n : ℕ) × (control_next s.job (control_at s) ≡ Some op) × (t ≡ with_control_value s (given_by s.job op n))
+    × IsMade s.job op n (known_to_control s) (known_to_control t)

@@ -7,10 +7,13 @@
 //! operations.
 //!
 //! Promised: from the start on, between any two operations of any threads, the words and the actors
-//! make up a state of the word machine that keeps that machine's rule ([`Rules`], `specs/Rule`); a step
-//! makes exactly the next operation, or answers that there is none; the history that the seats' items
-//! make is legal, and whole if each seat is at its end. Steps take no memory and never wait. That two
-//! threads step at the same time is only tested.
+//! make up a state of the word machine that keeps that machine's rule ([`Rules`], `specs/Rule`), and to
+//! which steps of some actors one after the other lead. While no actor has taken a value, as at
+//! [`Live::start`], it is the machine's start: all words are the opening ones. A step makes exactly the
+//! next operation, on what the word holds at one moment at which the rule holds (`specs/Steps`), or
+//! answers that there is none. The history that the seats' items make is legal, and whole if each seat
+//! is at its end. Steps take no memory and never wait. That two threads step at the same time is only
+//! tested.
 #![tactic(auto)]
 
 pub mod laws;

@@ -5,7 +5,7 @@ ghost use Rattle.ft_base.specs.declared.turn.Actor.TheVariants as Actor;
 ghost use Rattle.ft_hist.specs.Placing.{ArePlaced, items_of};
 ghost use Rattle.ft_hist.specs.Rules.{IsLegal, IsWhole};
 ghost use Rattle.machine_core.specs.Starts.{AreFirst, IsFirst};
-ghost use Rattle.live_table.specs.Seats.{AreAtEnd, AreNew, AreSeats, ControlSitsAt, IsDealt, IsNewCpu, IsOpen, SitsAt, history_of, lists_at, parts_of};
+ghost use Rattle.live_table.specs.Seats.{AreAtEnd, AreNew, AreSeats, ControlSitsAt, IsDealt, IsMadeByTurns, IsNewCpu, IsOpen, SitsAt, history_of, lists_at, parts_of};
 ghost use Rattle.live_table.specs.Steps.{ControlSteps, CpuSteps};
 ghost use Rattle.live_table.specs.Views.{part, view};
 
@@ -144,7 +144,8 @@ impl Live {
         CpuSeat { seat, cpu, number }
     }
 
-    /// One step of the seat's CPU: its next operation. It takes no memory and does not wait.
+    /// One step of the seat's CPU: its next operation, on what the word holds at that moment. It takes no
+    /// memory and does not wait.
     pub fn cpu_step(&self, seat: &mut CpuSeat) -> Going
         requires { SitsAt self.now seat.old }
         ensures { CpuSteps seat.old result seat.new }
@@ -157,7 +158,8 @@ impl Live {
         Going::More
     }
 
-    /// One step of control: its next operation. It takes no memory and does not wait.
+    /// One step of control: its next operation, on what the word holds at that moment. It takes no memory
+    /// and does not wait.
     pub fn control_step(&self, seat: &mut ControlSeat) -> Going
         requires { ControlSitsAt self.now seat.old }
         ensures { ControlSteps seat.old result seat.new }
@@ -170,8 +172,9 @@ impl Live {
         Going::More
     }
 
-    /// What the seats' actors have marked, each item at its place, and one at each place; the table and
-    /// the seats are used up. All memory is taken before any seat is joined, and the fault says that it
+    /// What the seats' actors have marked, each item at its place, and one at each place: a history that
+    /// the word machine makes as well, by the steps of some actors in turn. The table and the seats are
+    /// used up. All memory is taken before any seat is joined, and the fault says that it
     /// ran out.
     pub fn gather(
         self,
@@ -183,6 +186,7 @@ impl Live {
         requires cpus { AreSeats self cpus.items }
         ensures items { IfOk result (λ h. h.items ≡ history_of control cpus.items) }
         ensures placed { IfOk result (λ h. ArePlaced (length h.items) (lists_at control cpus.items)) }
+        ensures turns { IfOk result (λ h. IsMadeByTurns self.job h.items) }
         ensures legal { IfOk result (λ h. IsLegal self.job h.items) }
         ensures whole { IfOk result (λ h. AreAtEnd control cpus.items → IsWhole self.job h.items) }
         ensures fault { IfErr result (λ e. (e.live ≡ self) × (e.control ≡ control) × (e.cpus.items ≡ cpus.items)) }

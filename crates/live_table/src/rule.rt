@@ -17,22 +17,24 @@ impl TableRule<(), View, Job> for Rules {
     ghost first = { λ job. control_view job 0 [] };
 }
 
-/// A load or a mark: the seat's actor takes what the word held.
+/// A load or a mark: the seat's actor takes what the word held at that moment. A mark adds to it.
 pub struct Takes;
 
 impl Play<(), View> for Takes {
-    ghost use Rattle.live_table.specs.Views.{TakesOne};
+    ghost use Rattle.std.specs.Prelude.{◌+◌, ◌%◌, ◌^◌};
+    ghost use Rattle.live_table.specs.AtomicSteps.{MakesStep};
 
-    ghost then = { λ st m found n. TakesOne m found n };
+    ghost then = { λ st m found n. MakesStep st.word found ((found + st.first) % 2 ^ 64) found m n };
 }
 
 /// A store: the seat's actor takes 0.
 pub struct Puts;
 
 impl Play<(), View> for Puts {
-    ghost use Rattle.live_table.specs.Views.{TakesOne};
+    ghost use Rattle.std.specs.Prelude.{ℕ};
+    ghost use Rattle.live_table.specs.AtomicSteps.{MakesStep};
 
-    ghost then = { λ st m stored n. TakesOne m 0 n };
+    ghost then = { λ st m stored n. (found : ℕ) × MakesStep st.word found stored 0 m n };
 }
 
 /// Control's seat gives the next CPU its seat.

@@ -11,9 +11,10 @@ ghost use Rattle.word_machine.specs.Machine.{start};
 ghost use Rattle.machine_core.specs.Worlds.{words_of};
 ghost use Rattle.word_machine.specs.Machine.{opening_words};
 ghost use Rattle.live_table.specs.declared.view.View.{View as SeatView};
+ghost use Rattle.live_table.specs.AtomicSteps.{MakesOp};
 ghost use Rattle.live_table.specs.Operations.{op_after, op_gives, op_word};
 ghost use Rattle.live_table.specs.Rule.{LiveRule};
-ghost use Rattle.live_table.specs.Views.{TakesOne, control_view};
+ghost use Rattle.live_table.specs.Views.{control_view};
 
 use crate::rule::{Puts, Rules, Takes};
 use crate::view::View;
@@ -53,9 +54,9 @@ pub(crate) fn open(
 pub(crate) fn make(shared: &Shared<(), View, Job, Rules>, seat: &mut Seat<(), View>, op: Op) -> u64
     requires table { seat.old.table_id ≡ shared.now.table_id }
     requires word { op_word op < shared.now.table_id.words }
-    requires allows { Allows (LiveRule shared.now.key) shared.now.table_id.slots seat.old.id seat.old.me (op_word op) (op_after op) (λ n m. TakesOne seat.old.me (op_gives op n) m) }
+    requires allows { Allows (LiveRule shared.now.key) shared.now.table_id.slots seat.old.id seat.old.me (op_word op) (op_after op) (λ n m. MakesOp op n seat.old.me m) }
     ensures same { (seat.new.table_id ≡ seat.old.table_id) × (seat.new.id ≡ seat.old.id) }
-    ensures took { (n : ℕ) × (result ≡ op_gives op n) × TakesOne seat.old.me (op_gives op n) seat.new.me }
+    ensures took { (n : ℕ) × (result ≡ op_gives op n) × MakesOp op n seat.old.me seat.new.me }
 {
     match op {
         Op::Load { word } => shared.load::<Takes>(seat, word as usize),

@@ -6,7 +6,7 @@ use Rattle.ft_hist.specs.Placing.{ArePlaced, by_place, total}
 use Rattle.ft_hist.specs.Rules.{IsLegal, IsWhole}
 use Rattle.user_specs.specs.Bound.{call_bound_in}
 use Rattle.history_bound.specs.Bound.{all_calls}
-use Rattle.live_table.specs.Seats.{lists_at}
+use Rattle.live_table.specs.Seats.{IsMadeByTurns, lists_at}
 use Rattle.live_table.proofs.Gathering.{Gathered, gathered}
 use Rattle.live_table.proofs.live.Live.gather.Goals as goal
 use Rattle.live_table.proofs.live.Live.gather.Goals.{After-settle}
@@ -37,6 +37,11 @@ returns-clause-placed c =
     let same = c.merge.ensures ∙ ap by_place c.join_all-seat.ensures.lists in
     let has = all (goal.at.returns-clause-placed c).After-settle in
     subst (λ n. ArePlaced n (lists_at c.args.control c.args.cpus.items)) (sym (ap (λ (items : List Item). length items) same ∙ has.as_many)) has.placed
+
+pub returns-clause-turns : goal.returns-clause-turns
+returns-clause-turns c =
+    let same = c.merge.ensures ∙ ap by_place c.join_all-seat.ensures.lists in
+    subst (IsMadeByTurns c.args.self.job) (sym same) (all (goal.at.returns-clause-turns c).After-settle).turns
 
 pub returns-clause-legal : goal.returns-clause-legal
 returns-clause-legal c =
