@@ -11,6 +11,7 @@ use ft_base::{FuncNo, Half, Kind, NoMemory};
 use site_set::Edit;
 use std::alloc::Global;
 use user_specs::Spec;
+use word_map::Sel;
 
 /// A user: what of its declaration the desk needs, and its state.
 #[derive(Debug, Drop)]
@@ -65,12 +66,14 @@ impl User {
     pub(crate) fn sel(&self) -> u64
         ensures { result ≡ sel_of (state_of self.now) (digit self.now.second) }
     {
-        let reg = self.reg;
-        let bits = u64::from(self.registered)
-            + 2 * u64::from(self.enabled)
-            + 4 * u64::from(self.second)
-            + 8 * u64::from(self.pair.is_open());
-        (u64::from(reg) << 32) + bits
+        let state = Sel {
+            reg: self.reg,
+            registered: self.registered,
+            enabled: self.enabled,
+            copy: u8::from(self.second),
+            empty: self.pair.is_open(),
+        };
+        state.word()
     }
 
     /// It is registered by a command of this number, and has this slot. Its sets are written into the
