@@ -12,13 +12,13 @@ use Rattle.ft_base.specs.Same.{rank, context}
 use Rattle.ft_base.specs.Job.{Task}
 use Rattle.ft_base.specs.Acts.{AreRaised}
 use Rattle.ft_base.proofs.Small.{false_true, or-false_both}
-use Rattle.script_form.specs.Forms.{LineForm, new_task, call, ret, raise, lower, after}
+use Rattle.script_text.specs.Lines.{Line}
 use Rattle.script_waits.specs.declared.script.LinedAct.{LinedAct}
 use Rattle.script_waits.specs.Tasks.{LinedTask}
 use Rattle.ft_script.specs.declared.levels.Levels.{Levels}
 use Rattle.ft_script.specs.Levels.{levels_at, level_ground, present, present_by, with_open, without, levels_after, is_raised}
-use Rattle.ft_script.specs.Above.{Above, declared, push_act}
-use Rattle.ft_script.specs.Causes.{is_unmatched}
+use Rattle.ft_script.specs.Above.{Above, Declaration, a_task, an_act, push_act, with_what}
+use Rattle.ft_script.specs.Causes.{is_unmatched, is_unbalanced}
 use Rattle.ft_script.specs.Script.{task_of}
 use Rattle.ft_script.specs.Holds.{acts_of, contexts_in, RaisesTo, TasksRaise}
 use Rattle.ft_script.proofs.TaskLaws.{length-push_act}
@@ -129,15 +129,18 @@ module _ (above : Above) (h : TasksRaise above.tasks above.levels) where
   one-more : (act : LinedAct) → RaisesTo (contexts_in l) (act.act ∷ []) (contexts_in (levels_after l act.act)) → TasksRaise (push_act above.tasks act) (levels_after l act.act)
   one-more act step = act-raises l (levels_after l act.act) above.tasks act step h
 
-  -- a line that ends nothing that hasn't begun
-  pub declared-raises : (form : LineForm) → is_unmatched l form ≡ false → TasksRaise (declared above form).tasks (declared above form).levels
-  declared-raises (new_task pid cpu) e = task-raises l pid cpu above.tasks h
-  declared-raises (call name) e = one-more _ (opened-contexts l _)
-  declared-raises ret e = one-more _ (opened-contexts l _)
-  declared-raises (raise to) e =
+  -- an act that ends nothing that hasn't begun
+  act-raises-one : (act : TaskAct) → is_unmatched l act ≡ false → RaisesTo (contexts_in l) (act ∷ []) (contexts_in (levels_after l act))
+  act-raises-one (Call f) e = opened-contexts l _
+  act-raises-one Ret e = opened-contexts l _
+  act-raises-one (Raise to) e =
       let lt = leb-false (rank to) (rank (present l)) e in
-      one-more _ (subst (λ c. rank c < rank to) (sym (present-context l)) lt, raised-contexts l to lt)
-  declared-raises lower e =
-      one-more _ (subst (λ cs. RaisesTo cs (Lower ∷ []) (contexts_in (without l (present l)))) (lowered-contexts l (not-false (is_raised l) (or-false_both _ _ e).0)) refl)
-  declared-raises (after n) e = one-more _ refl
-  declared-raises form e = h
+      (subst (λ c. rank c < rank to) (sym (present-context l)) lt, raised-contexts l to lt)
+  act-raises-one Lower e =
+      subst (λ cs. RaisesTo cs (Lower ∷ []) (contexts_in (without l (present l)))) (lowered-contexts l (not-false (is_raised l) (or-false_both _ _ e).0)) refl
+  act-raises-one (After n) e = refl
+
+  pub declared-raises : (what : Declaration) (below : List Line) → is_unbalanced l what below ≡ false → TasksRaise (with_what above what).tasks (with_what above what).levels
+  declared-raises (a_task pid cpu) below e = task-raises l pid cpu above.tasks h
+  declared-raises (an_act act) below e = one-more _ (act-raises-one act (or-false_both (is_unmatched l act) _ e).0)
+  declared-raises what below e = h

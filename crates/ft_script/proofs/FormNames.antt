@@ -1,10 +1,10 @@
 -- What a line declares as a function's name and module are names, if they aren't too long, and what it says as a version is one.
-use Rattle.std.proofs.Common.{◌≡◌, ℕ, ◌&&◌, Bool, true, false, List, [], ◌∷◌, length, Option, Some, None, inl, inr, refl, subst, codes, if◌then◌else◌}
+use Rattle.std.proofs.Common.{◌≡◌, ℕ, Bool, true, false, List, [], ◌∷◌, length, Option, Some, None, inl, inr, refl, subst, codes, if◌then◌else◌}
 use Rattle.std.specs.Prelude.{option_map}
 use Rattle.std.specs.Option.{IfSome}
 use Rattle.std.specs.Str.{bytes_eq}
+use Rattle.func_table.specs.Rows.{is_name_or_none}
 use Rattle.std.proofs.lemmas.Bool.{ltb-false}
-use Rattle.ft_base.proofs.Small.{false_true, or-false_both}
 use Rattle.ft_base.specs.declared.limits.TheConstants.{NAME_BYTES}
 use Rattle.ft_base.specs.declared.user.Half.{Half}
 use Rattle.ft_base.specs.declared.user.Kind.{Kind}
@@ -18,11 +18,9 @@ use Rattle.script_form.specs.Forms as form
 use Rattle.script_form.specs.Forms.{LineForm, UserAct, skip, version, func, depth, tramps, new_cpu, new_task, call, ret, raise, lower, after, register, unregister, write, pids, enable, disable, max_depth, until, sched}
 use Rattle.script_form.specs.Users.{user_form, user_with, user_of, kind_of, flag, argument, ipmodify_of, act_of}
 use Rattle.script_form.specs.Lines.{act_form, unlisted_form, keyed_form, form_of, line_form}
-use Rattle.ft_script.specs.Above.{Above}
-use Rattle.ft_script.specs.Causes.{is_long, is_past_limit}
-use Rattle.ft_script.specs.Within.{has_names}
+use Rattle.ft_script.specs.Causes.{is_long, is_long_or_none}
 
-abbrev OwnerNamed : Option Word → Type 0
+abbrev pub OwnerNamed : Option Word → Type 0
 OwnerNamed None = Unit {0}
 OwnerNamed (Some owner) = is_name owner ≡ true
 
@@ -169,7 +167,7 @@ in-words (key ∷ args) = in-keyed key args
 
 -- ## names, and the version
 
-form-named : (line : List ℕ) (f : LineForm) → line_form line ≡ Some f → Named f
+pub form-named : (line : List ℕ) (f : LineForm) → line_form line ≡ Some f → Named f
 unfolding line_form
 form-named line f e = subst (λ (o : Option LineForm). IfSome o Named) e
     (either (is_skipped (words_of line)) (Some skip) _ tt (either (is_plain line) _ None (in-words (words_of line)) tt))
@@ -177,21 +175,9 @@ form-named line f e = subst (λ (o : Option LineForm). IfSome o Named) e
 pub version-is : (line : List ℕ) (number : ℕ) → line_form line ≡ Some (version number) → IsVersion number
 version-is line number e = form-named line (version number) e
 
-name-short : (w : Word) → is_name w ≡ true → is_long w ≡ false → is_name_text w ≡ true
+pub name-short : (w : Word) → is_name w ≡ true → is_long w ≡ false → is_name_text w ≡ true
 name-short w e short = is_name_text-short w e (ltb-false NAME_BYTES (length w) short)
 
-and-true : (a b : Bool) → a ≡ true → b ≡ true → (a && b) ≡ true
-and-true true true e f = refl
-and-true true false e f = false_true f
-and-true false b e f = false_true e
-
--- what a line within the limits names
-pub names-hold : (above : Above) (line : List ℕ) (f : LineForm) → line_form line ≡ Some f → is_past_limit above f ≡ false → has_names f ≡ true
-names-hold above line f e within = by f (form-named line f e) within
-  where
-    by : (f : LineForm) → Named f → is_past_limit above f ≡ false → has_names f ≡ true
-    by (func name None) n w = and-true _ _ (name-short name n.0 (or-false_both _ _ w).0) refl
-    by (func name (Some owner)) n w =
-        let o = or-false_both _ _ w in
-        and-true _ _ (name-short name n.0 o.0) (name-short owner n.1 (or-false_both _ _ o.1).0)
-    by f n w = refl
+pub owner-short : (owner : Option Word) → OwnerNamed owner → is_long_or_none owner ≡ false → is_name_or_none owner ≡ true
+owner-short None e short = refl
+owner-short (Some w) e short = name-short w e short

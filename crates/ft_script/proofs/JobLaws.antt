@@ -131,7 +131,7 @@ module _ (above : Above) (run : CanRun above) where
       few_tasks = (let n = count-tasks in let few = h.within.tasks.few in omega (arith, n, few));
       few_tramps = at-most (limits_of above.version).tramps (limits_of above.version).tramps (omega arith) above.tramps h.tramps;
     };
-    frames = at-most FRAMES USUAL_FRAMES (omega arith) above.depth h.depth;
+    frames = at-most FRAMES USUAL_FRAMES (omega arith) above.frames h.frames;
     levels = each-command users size tasks IsLevel (λ command h. h.2) _ lines;
     acts = (let n = acts-all above.tasks in let all = h.tasks.all_acts in let few = h.within.tasks.few_acts in omega (arith, n, all, few));
     items = subst (λ n. call_bound_of above.users (limits_of above.version).levels * n ≤ ITEMS) (sym (calls-all above.tasks ∙ h.tasks.all_calls)) h.items;

@@ -6,6 +6,7 @@ pub mod Offence
 pub mod Answered
 pub mod FormNames
 pub mod NoCause
+pub mod Fitting
 pub mod TaskLaws
 pub mod Contexts
 pub mod TasksKept

@@ -1,24 +1,23 @@
 -- What a line without a cause leaves: what holds of what is declared goes on holding, and what is open goes on below.
-use Rattle.std.proofs.Common.{◌≡◌, ◌==◌, ◌&&◌, Bool, true, false, ℕ, List, [], ◌∷◌, Option, Some, None, inl, refl, sym, ap, ◌∙◌, subst, arith, if◌then◌else◌}
-use Rattle.std.specs.Prelude.{unwrap_or}
-use Rattle.std.proofs.lemmas.Bool.{eqb-true}
+use Rattle.std.proofs.Common.{◌≡◌, ◌&&◌, Bool, true, false, ℕ, List, [], ◌∷◌, inl, refl, sym, ◌∙◌, subst, arith}
+use Rattle.std.specs.Prelude.{None}
 use Rattle.ft_base.proofs.Small.{false_true, or-false_both}
 use Rattle.ft_base.specs.Versions.{IsVersion}
 use Rattle.script_text.specs.Lines.{Line}
-use Rattle.script_form.specs.Forms.{LineForm, skip, version, new_task, call, ret, raise, lower, after}
 use Rattle.script_form.specs.Lines.{line_form}
 use Rattle.ft_script.specs.declared.levels.Levels.{Levels}
-use Rattle.ft_script.specs.Levels.{is_unfinished}
-use Rattle.ft_script.specs.Above.{Above, none_above, declared, with_form}
-use Rattle.ft_script.specs.Causes.{is_act, is_misplaced, is_unbalanced, is_last, is_last_by, form_cause, first_line_cause, next_line_cause, line_cause, cause_of}
+use Rattle.ft_script.specs.Levels.{levels_after, is_unfinished}
+use Rattle.ft_script.specs.Above.{Above, none_above, Declaration, a_version, a_task, an_act, Resolved, with_what, declared}
+use Rattle.ft_script.specs.Causes.{is_unmatched, is_unbalanced, is_last, resolved_line, cause_of}
 use Rattle.ft_script.specs.Script.{with_line}
-use Rattle.ft_script.specs.Within.{IsWithinLimits, IsInOrder, IsBeforeControl, IsSmall, CanAdd}
+use Rattle.ft_script.specs.Within.{IsWithinLimits}
 use Rattle.ft_script.specs.Holds.{Holds}
-use Rattle.ft_script.proofs.FormNames.{version-is, names-hold}
-use Rattle.ft_script.proofs.NoCause.{NoCause, no-cause, some-none, version-alone}
-use Rattle.ft_script.proofs.Limits.{same-version, within-declared, order-declared, items-declared, no-ctls}
-use Rattle.ft_script.proofs.TasksKept.{tasks-declared}
-use Rattle.ft_script.proofs.LinesKept.{lines-declared, users-declared, depth-declared, tramps-declared, quanta-declared}
+use Rattle.ft_script.specs.Fits.{Fits}
+use Rattle.ft_script.proofs.NoCause.{no-cause_in}
+use Rattle.ft_script.proofs.Fitting.{said_last, accepted}
+use Rattle.ft_script.proofs.Limits.{IsLater, same-version, within-declared, order-declared, items-declared}
+use Rattle.ft_script.proofs.TasksKept.{Begins, tasks-declared}
+use Rattle.ft_script.proofs.LinesKept.{lines-declared, users-declared, frames-declared, tramps-declared, quanta-declared}
 
 -- ## what holds after a line
 
@@ -34,24 +33,24 @@ within-renumbered above lines rank w = record {
   few_steps = w.few_steps;
 }
 
-pub form-holds : (above : Above) → Holds above → (form : LineForm) (below : List Line) → NoCause above form below
-    → (is_last_by (Some form) (is_last below) ≡ true → is_unfinished above.levels ≡ false) → Holds (with_form above form)
-form-holds above h form below n closed = record {
-  version = subst IsVersion (same-version above form n.placed) h.version;
-  within = within-renumbered (declared above form) _ _ (within-declared above h form below n);
-  order = order-declared above h.order form below n;
-  depth = depth-declared above h form below n;
-  tramps = tramps-declared above h form below n;
-  users = users-declared above h form below n;
-  quanta = quanta-declared above h form below n;
-  tasks = tasks-declared above h form below n closed;
-  lines = lines-declared above h form below n;
-  items = items-declared above h form below n;
+later-holds : (above : Above) → Holds above → (line : Resolved) (below : List Line) → IsLater line.what → Fits above line → is_unbalanced above.levels line.what below ≡ false
+    → Begins above.levels line.what → Holds (declared above line)
+later-holds above h line below later f balanced begins = record {
+  version = subst IsVersion (same-version above line.what later) h.version;
+  within = within-renumbered (with_what above line.what) _ _ (within-declared above h line.what later f.what);
+  order = order-declared above h.order line f;
+  frames = frames-declared above h line.what f.what;
+  tramps = tramps-declared above h line.what later f.what;
+  users = users-declared above h line.what f.what;
+  quanta = quanta-declared above h line.what f.what;
+  tasks = tasks-declared above h line.what below f.what balanced begins;
+  lines = lines-declared above h line.what f.what;
+  items = items-declared above h line.what later f.what;
 }
 
--- if nothing is declared but the version, after so many lines
-empty-holds : (number lines : ℕ) → IsVersion number → let above = record none_above { version = number; lines = lines } in (above.lines ≡ 0 → above ≡ none_above) → Holds above
-empty-holds number lines is first = record {
+-- if nothing is declared but the version, after so many lines, the last of which has this rank
+empty-holds : (number lines rank : ℕ) → IsVersion number → let above = record none_above { version = number; lines = lines; rank = rank } in (above.lines ≡ 0 → above ≡ none_above) → Holds above
+empty-holds number lines rank is first = record {
   version = is;
   within = record {
     few_functions = omega arith;
@@ -63,7 +62,7 @@ empty-holds number lines is first = record {
     few_steps = omega arith;
   };
   order = record { first = first; calls = λ low. refl; ctls = λ low. refl };
-  depth = tt;
+  frames = tt;
   tramps = tt;
   users = tt;
   quanta = tt;
@@ -73,9 +72,18 @@ empty-holds number lines is first = record {
 }
 
 -- line 1 says the version, and declares nothing else
-first-holds : (above : Above) → Holds above → above.lines ≡ 0 → (number : ℕ) → IsVersion number → Holds (with_form above (version number))
-first-holds above h first number is =
-    subst (λ a. Holds (with_form a (version number))) (sym (h.order.first first)) (empty-holds number 1 is (λ none. absurd (omega (arith, none))))
+first-holds : (above : Above) → Holds above → above.lines ≡ 0 → (rank number : ℕ) → IsVersion number → Holds (declared above (record { rank = rank; what = a_version number }))
+first-holds above h first rank number is =
+    subst (λ (a : Above). Holds (declared a (record { rank = rank; what = a_version number }))) (sym (h.order.first first)) (empty-holds number 1 rank is (λ none. absurd (omega (arith, none))))
+
+line-declared : (above : Above) → Holds above → (line : Resolved) (below : List Line) → Fits above line → is_unbalanced above.levels line.what below ≡ false
+    → Begins above.levels line.what → Holds (declared above line)
+line-declared above h line below f balanced begins = by line.rank line.what f balanced begins
+  where
+    by : (rank : ℕ) (what : Declaration) → Fits above (record { rank = rank; what = what }) → is_unbalanced above.levels what below ≡ false → Begins above.levels what
+        → Holds (declared above (record { rank = rank; what = what }))
+    by rank (a_version number) f balanced begins = first-holds above h f.what.0 rank number f.what.1
+    by rank what f balanced begins = later-holds above h (record { rank = rank; what = what }) below tt f balanced begins
 
 -- ## what is open goes on below
 
@@ -83,25 +91,23 @@ first-holds above h first number is =
 abbrev pub GoesOn : Levels → List Line → Type 0
 GoesOn levels below = is_unfinished levels ≡ true → is_last below ≡ false
 
--- an act that leaves something open isn't the last
-act-goes_on : (above : Above) (form : LineForm) (below : List Line) → is_act form ≡ true → is_unbalanced above form below ≡ false → GoesOn (declared above form).levels below
-act-goes_on above form below act e running =
-    let right : (is_act form && (is_unfinished (declared above form).levels && is_last below)) ≡ false = (or-false_both _ _ e).1 in
-    rw (act, running) at right
+-- an act that leaves something open isn't the last, and what isn't an act or a task says nothing of it
+goes_on : (above : Above) (what : Declaration) (below : List Line) → is_unbalanced above.levels what below ≡ false
+    → (is_unfinished above.levels ≡ true → said_last what (is_last below) ≡ false) → GoesOn (with_what above what).levels below
+goes_on above (a_task pid cpu) below e goes = λ running. false_true running
+goes_on above (an_act act) below e goes = λ running.
+    let right : (is_unfinished (levels_after above.levels act) && is_last below) ≡ false = (or-false_both (is_unmatched above.levels act) _ e).1 in
+    rw running at right
+goes_on above what below e goes = goes
 
-other-goes_on : (above : Above) (form : LineForm) (below : List Line) → (declared above form).levels ≡ above.levels → (is_last_by (Some form) (is_last below) ≡ is_last below)
-    → (is_unfinished above.levels ≡ true → is_last_by (Some form) (is_last below) ≡ false) → GoesOn (declared above form).levels below
-other-goes_on above form below levels same goes running = sym same ∙ goes (sym (ap (λ l. is_unfinished l) levels) ∙ running)
+not-so : (b : Bool) → (b ≡ true → true ≡ false) → b ≡ false
+not-so true g = g refl
+not-so false g = refl
 
-pub goes_on : (above : Above) (form : LineForm) (below : List Line) → is_unbalanced above form below ≡ false
-    → (is_unfinished above.levels ≡ true → is_last_by (Some form) (is_last below) ≡ false) → GoesOn (declared above form).levels below
-goes_on above (new_task pid cpu) below e goes = λ running. false_true running
-goes_on above (call name) below e goes = act-goes_on above (call name) below refl e
-goes_on above ret below e goes = act-goes_on above ret below refl e
-goes_on above (raise to) below e goes = act-goes_on above (raise to) below refl e
-goes_on above lower below e goes = act-goes_on above lower below refl e
-goes_on above (after n) below e goes = act-goes_on above (after n) below refl e
-goes_on above form below e goes = other-goes_on above form below refl refl goes
+-- a task begins where nothing is open
+begins : (l : Levels) (what : Declaration) (last : Bool) → (is_unfinished l ≡ true → said_last what last ≡ false) → Begins l what
+begins l (a_task pid cpu) last goes = not-so (is_unfinished l) goes
+begins l what last goes = tt
 
 -- ## line by line
 
@@ -110,70 +116,17 @@ pub record HoldsAbove (above : Above) (lines : List Line) : Type 0 where
   pub holds : Holds above
   pub goes_on : GoesOn above.levels lines
 
-module _ (above : Above) (below : List Line) (form : LineForm) (s : Holds above) (goes : is_unfinished above.levels ≡ true → is_last_by (Some form) (is_last below) ≡ false) where
-  closed : is_last_by (Some form) (is_last below) ≡ true → is_unfinished above.levels ≡ false
-  closed last = elim (is_unfinished above.levels) as (λ b. is_unfinished above.levels ≡ b → is_unfinished above.levels ≡ false) [
-    | true ↦ λ e. false_true (sym (goes e) ∙ last)
-    | false ↦ λ e. e
-  ] refl
-
-  judged-holds : form_cause above form below ≡ None → HoldsAbove (with_form above form) below
-  judged-holds e =
-      let n = no-cause above form below e in
-      record { holds = form-holds above s form below n closed; goes_on = goes_on above form below n.balanced goes }
-
-  version-holds : above.lines ≡ 0 → (number : ℕ) → IsVersion number → form ≡ version number → HoldsAbove (with_form above form) below
-  version-holds first number is e = subst (λ f. (is_unfinished above.levels ≡ true → is_last_by (Some f) (is_last below) ≡ false) → HoldsAbove (with_form above f) below) (sym e)
-      (λ g. record { holds = first-holds above s first number is; goes_on = other-goes_on above (version number) below refl refl g }) goes
-
--- ## a line without a cause can be added
-
-before-control : (above : Above) → IsInOrder above → (form : LineForm) → is_misplaced above form ≡ false → IsBeforeControl above form
-before-control above order (new_task pid cpu) placed = no-ctls above order (new_task pid cpu) placed (omega arith)
-before-control above order form placed = tt
-
-version-added : (above : Above) (number : ℕ) → IsSmall above → CanAdd above (version number)
-version-added above number small = record { small = small; names = refl; before = tt; limit = refl; new = refl; known = refl; text = refl }
-
-judged-added : (above : Above) (line : List ℕ) (form : LineForm) (below : List Line) → IsSmall above → line_form line ≡ Some form → NoCause above form below → CanAdd above form
-judged-added above line form below small is n = record {
-  small = small;
-  names = names-hold above line form is n.limit;
-  before = before-control above small.order form n.placed;
-  limit = n.limit;
-  new = n.new;
-  known = n.known;
-  text = n.text;
-}
-
-pub can_add : (above : Above) (ended : Bool) (line : List ℕ) (form : LineForm) (below : List Line) → IsSmall above → line_form line ≡ Some form
-    → line_cause above ended (Some form) below ≡ None → CanAdd above form
-can_add above false line form below small is e = absurd (some-none e)
-can_add above true line form below small is e = elim (above.lines == 0) as (λ b. (if b then first_line_cause (Some form) else next_line_cause above below (Some form)) ≡ None → CanAdd above form) [
-  | true ↦ λ none. let v = version-alone form none in subst (CanAdd above) (sym v.1) (version-added above v.0 small)
-  | false ↦ λ none. judged-added above line form below small is (no-cause above form below none)
-] e
-
 -- a line without a cause
 pub line-holds : (above : Above) (line : Line) (below : List Line) → HoldsAbove above (line ∷ below) → cause_of above line below ≡ None → HoldsAbove (with_line above line) below
 unfolding cause_of with_line
-line-holds above line below s e = by line.ended (line_form line.bytes) refl e
-  where
-    by : (ended : Bool) (form : Option LineForm) → line_form line.bytes ≡ form → line_cause above ended form below ≡ None
-        → HoldsAbove (with_form above (unwrap_or form skip)) below
-    by false form is e = absurd (some-none e)
-    by true None is e = elim (above.lines == 0) as (λ b. (if b then first_line_cause None else next_line_cause above below None) ≡ None → HoldsAbove (with_form above skip) below) [
-      | true ↦ λ none. absurd (some-none none)
-      | false ↦ λ none. absurd (some-none none)
-    ] e
-    by true (Some form) is e =
-        let goes : is_unfinished above.levels ≡ true → is_last_by (Some form) (is_last below) ≡ false = λ running. sym (ap (λ f. is_last_by f (is_last below)) is) ∙ s.goes_on running in
-        elim (above.lines == 0) as (λ b. (above.lines == 0) ≡ b → (if b then first_line_cause (Some form) else next_line_cause above below (Some form)) ≡ None → HoldsAbove (with_form above form) below) [
-          | true ↦ λ first none.
-              let v = version-alone form none in
-              version-holds above below form s.holds goes (eqb-true above.lines 0 first) v.0 (version-is line.bytes v.0 (is ∙ ap (λ f. Some f) v.1)) v.1
-          | false ↦ λ first none. judged-holds above below form s.holds goes none
-        ] refl e
+line-holds above line below s e =
+    let ok = no-cause_in (resolved_line above line.ended (line_form line.bytes) below) e in
+    let a = accepted above s.holds.order line.ended line.bytes below ok.0 ok.1 in
+    let goes : is_unfinished above.levels ≡ true → said_last ok.0.what (is_last below) ≡ false = λ running. sym (a.last (is_last below)) ∙ s.goes_on running in
+    subst (λ (r : Resolved). HoldsAbove (declared above r) below) (sym a.meaning) (record {
+      holds = line-declared above s.holds ok.0 below a.fits a.balanced (begins above.levels ok.0.what (is_last below) goes);
+      goes_on = goes_on above ok.0.what below a.balanced goes;
+    })
 
 -- ## the beginning and the end of a text
 
@@ -187,6 +140,6 @@ closed-at_end above s = elim (is_unfinished above.levels) as (λ b. is_unfinishe
 -- nothing is declared above the first line
 pub none-holds : (lines : List Line) → HoldsAbove none_above lines
 none-holds lines = record {
-  holds = empty-holds 1 0 (inl refl) (λ first. refl);
+  holds = empty-holds 1 0 0 (inl refl) (λ first. refl);
   goes_on = λ running. false_true running;
 }

@@ -1,40 +1,55 @@
 -- The causes that a line doesn't have, if it is not refused.
-use Rattle.std.proofs.Common.{◌≡◌, ℕ, Bool, true, false, List, Option, Some, None, refl, sym, if◌then◌else◌}
+use Rattle.std.proofs.Common.{◌≡◌, ℕ, Bool, true, false, List, Some, None, refl, sym, ap, subst, if◌then◌else◌}
+use Rattle.std.specs.Prelude.{Result, Ok, Err}
 use Rattle.std.proofs.lemmas.Option.{none-some}
 use Rattle.script_text.specs.Lines.{Line}
-use Rattle.script_form.specs.Forms.{LineForm, version}
+use Rattle.script_form.specs.Forms.{LineForm}
 use Rattle.ft_script.specs.declared.faults.Cause.{Cause}
-use Rattle.ft_script.specs.Above.{Above}
-use Rattle.ft_script.specs.Causes.{is_misplaced, is_past_limit, is_duplicate, is_unknown, is_bad_text, is_unbalanced, form_cause, first_line_cause}
+use Rattle.ft_script.specs.declared.faults.Cause.TheVariants.{Syntax, Limit, Duplicate, Unbalanced}
+use Rattle.ft_script.specs.Above.{Above, Declaration, Resolved}
+use Rattle.ft_script.specs.Causes.{rank_of, is_misplaced, is_past_limit, is_duplicate, named, is_unbalanced, balanced, resolved, cause_in}
 
--- what no cause says of a line of this form
-pub record NoCause (above : Above) (form : LineForm) (below : List Line) : Type 0 where
+-- what no cause says of a line of this form, which declares this
+pub record NoCause (above : Above) (form : LineForm) (below : List Line) (line : Resolved) : Type 0 where
   pub placed : is_misplaced above form ≡ false
   pub limit : is_past_limit above form ≡ false
   pub new : is_duplicate above form ≡ false
-  pub known : is_unknown above form ≡ false
-  pub text : is_bad_text above form ≡ false
-  pub balanced : is_unbalanced above form below ≡ false
+  pub rank : rank_of form above.rank ≡ line.rank
+  pub what : named above form ≡ Ok line.what
+  pub balanced : is_unbalanced above.levels line.what below ≡ false
 
 pub some-none : {X : Type 0} {x : X} → Some x ≡ None → ⊥
 some-none {x = x} e = none-some x (sym e)
 
+-- what is refused isn't what is declared
+pub err-ok : {X Y : Type 0} (x : X) (y : Y) → Err y ≡ Ok x → ⊥
+err-ok x y e = cc
+
+pub ok-same : {X Y : Type 0} (r : Result X Y) (x y : X) → r ≡ Ok x → r ≡ Ok y → x ≡ y
+ok-same r x y e f = cc
+
+-- a line that has no cause declares something
+pub no-cause_in : {X : Type 0} (r : Result X Cause) → cause_in r ≡ None → (x : X) × (r ≡ Ok x)
+no-cause_in (Ok x) e = (x, refl)
+no-cause_in (Err cause) e = absurd (some-none e)
+
 -- a test that would be a cause, if there is none
-passes : (b : Bool) (cause : Cause) (next : Option Cause) → (if b then Some cause else next) ≡ None → (b ≡ false) × (next ≡ None)
-passes true cause next e = absurd (some-none e)
-passes false cause next e = (refl, e)
+passes : (b : Bool) (cause : Cause) (next : Result Resolved Cause) (line : Resolved) → (if b then Err cause else next) ≡ Ok line → (b ≡ false) × (next ≡ Ok line)
+passes true cause next line e = absurd (err-ok line cause e)
+passes false cause next line e = (refl, e)
 
-pub no-cause : (above : Above) (form : LineForm) (below : List Line) → form_cause above form below ≡ None → NoCause above form below
-no-cause above form below e =
-    let a = passes _ _ _ e in
-    let b = passes _ _ _ a.1 in
-    let c = passes _ _ _ b.1 in
-    let d = passes _ _ _ c.1 in
-    let p = passes _ _ _ d.1 in
-    let u = passes _ _ _ p.1 in
-    record { placed = a.0; limit = b.0; new = c.0; known = d.0; text = p.0; balanced = u.0 }
+module _ (above : Above) (below : List Line) (line : Resolved) where
+  by-balance : (rank : ℕ) (r : Result Declaration Cause) → balanced above rank r below ≡ Ok line → (rank ≡ line.rank) × (r ≡ Ok line.what) × (is_unbalanced above.levels line.what below ≡ false)
+  by-balance rank (Err cause) e = absurd (err-ok line cause e)
+  by-balance rank (Ok what) e =
+      let p = passes (is_unbalanced above.levels what below) Unbalanced (Ok (record { rank = rank; what = what })) line e in
+      let same : record { rank = rank; what = what } ≡ line = ok-same _ _ _ refl p.1 in
+      (ap (λ (r : Resolved). r.rank) same, ap (λ (r : Resolved). Ok r.what) same, subst (λ (r : Resolved). is_unbalanced above.levels r.what below ≡ false) same p.0)
 
--- line 1 says the version
-pub version-alone : (form : LineForm) → first_line_cause (Some form) ≡ None → (number : ℕ) × (form ≡ version number)
-version-alone (version number) e = (number, refl)
-version-alone _ e = absurd (some-none e)
+  pub no-cause : (form : LineForm) → resolved above form below ≡ Ok line → NoCause above form below line
+  no-cause form e =
+      let a = passes (is_misplaced above form) Syntax _ line e in
+      let b = passes (is_past_limit above form) Limit _ line a.1 in
+      let c = passes (is_duplicate above form) Duplicate _ line b.1 in
+      let d = by-balance (rank_of form above.rank) (named above form) c.1 in
+      record { placed = a.0; limit = b.0; new = c.0; rank = d.0; what = d.1; balanced = d.2 }

@@ -1,46 +1,27 @@
 -- Line by line, if no line has a cause, what is asked of the tasks comes to hold.
-use Rattle.std.proofs.Common.{◌≡◌, ℕ, zero, suc, ◌+◌, ◌-◌, ◌<◌, ◌≤◌, ◌==◌, nat_lt, true, false, cond, List, [], ◌∷◌, length, map, sum_by, Option, Some, None, refl, sym, ◌∙◌, subst, add-one, add-zero, arith}
-use Rattle.std.specs.Prelude.{is_some, unwrap_or}
-use Rattle.std.specs.List.{AllByRecursion as Each, position_or_len}
-use Rattle.std.specs.Str.{bytes_eq}
-use Rattle.std.proofs.lemmas.Bool.{ltb-true, leb-false, eqb-true, not-false}
-use Rattle.std.proofs.lemmas.List.{length_push, length-map}
+use Rattle.std.proofs.Common.{◌≡◌, ℕ, zero, suc, ◌+◌, ◌-◌, ◌<◌, ◌≤◌, ◌==◌, true, false, List, [], ◌∷◌, length, map, sum_by, Option, Some, None, refl, sym, ap, ◌∙◌, subst, arith}
+use Rattle.std.specs.List.{AllByRecursion as Each}
+use Rattle.std.proofs.lemmas.Bool.{leb-false, eqb-true, not-false}
+use Rattle.std.proofs.lemmas.List.{length_push}
 use Rattle.ft_base.specs.declared.context.Ctx.{Ctx}
-use Rattle.ft_base.specs.declared.task.TaskAct.TheVariants.{Call, Ret, Lower}
+use Rattle.ft_base.specs.declared.task.TaskAct.{TaskAct}
+use Rattle.ft_base.specs.declared.task.TaskAct.TheVariants.{Call, Ret, Raise, Lower, After}
 use Rattle.ft_base.specs.Same.{rank}
-use Rattle.ft_base.specs.Job.{Func, Task}
 use Rattle.ft_base.specs.Acts.{AreRaised, Leads}
+use Rattle.ft_base.specs.Job.{Task}
 use Rattle.ft_base.proofs.Small.{false_true, or-false_both, Each-snoc}
 use Rattle.history_bound.specs.Bound.{calls_in}
-use Rattle.script_text.specs.Lines.{Word, Line}
-use Rattle.script_form.specs.Forms.{LineForm, func, new_cpu, new_task, call, ret, raise, lower, after}
-use Rattle.script_waits.specs.declared.script.LinedAct.{LinedAct}
+use Rattle.script_text.specs.Lines.{Line}
 use Rattle.script_waits.specs.Tasks.{LinedTask}
 use Rattle.ft_script.specs.declared.levels.Levels.{Levels}
 use Rattle.ft_script.specs.Levels.{levels_at, present, with_open, without, levels_after, open_here, open_calls, is_raised, is_unfinished}
-use Rattle.ft_script.specs.Above.{Above, declared, push_act, function_names, number_in}
-use Rattle.ft_script.specs.Causes.{is_among, is_misplaced, is_unknown, is_unmatched, is_last, is_last_by, has_no_function}
+use Rattle.ft_script.specs.Above.{Above, Declaration, a_function, a_cpu, a_task, an_act, calls_with, with_what}
+use Rattle.ft_script.specs.Causes.{is_unmatched, is_unbalanced}
 use Rattle.ft_script.specs.Script.{task_of}
 use Rattle.ft_script.specs.Holds.{acts_of, Balanced, TasksHold, Holds, CanRun}
-use Rattle.ft_script.proofs.NoCause.{NoCause}
+use Rattle.ft_script.specs.Fits.{IsNextCall, FitsAs}
 use Rattle.ft_script.proofs.TaskLaws.{balanced-more, balanced-task, balanced-act, balanced-each, placed-more, placed-act, sum-task, sum_acts-act, sum_calls-act}
 use Rattle.ft_script.proofs.Contexts.{by-raised, each-raised, declared-raises}
-
--- ## a name's number is below the number of names
-
-pub number-below : (names : List Word) (name : Word) → is_among names name ≡ true → number_in names name < length names
-number-below names name e =
-    elim (nat_lt (position_or_len (bytes_eq name) names) (length names)) as (λ b. nat_lt (position_or_len (bytes_eq name) names) (length names) ≡ b
-    → is_some (cond b (Some (position_or_len (bytes_eq name) names)) None) ≡ true → unwrap_or (cond b (Some (position_or_len (bytes_eq name) names)) None) 0 < length names) [
-      | true ↦ λ l some. ltb-true _ _ l
-      | false ↦ λ l some. false_true some
-    ] refl e
-
-pub function-below : (above : Above) (name : Word) → has_no_function above name ≡ false → number_in (function_names above) name < length above.functions
-function-below above name e =
-    let n = length-map above.functions (λ (f : Func). f.name) in
-    let b = number-below (function_names above) name (not-false _ e) in
-    omega (arith, n, b)
 
 -- ## how many calls are open
 
@@ -96,111 +77,87 @@ not-zero : (n : ℕ) → (n == 0) ≡ false → 1 ≤ n
 not-zero zero e = false_true (sym e)
 not-zero (suc n) e = omega arith
 
-has_one : {X : Type 0} (xs : List X) → (length xs == 0) ≡ false → 1 ≤ length xs
-has_one [] e = false_true (sym e)
-has_one (x ∷ xs) e = omega arith
+-- each act leads on, if it has its match
+act-leads : (above : Above) (act : TaskAct) → IsNextCall above act → is_unmatched above.levels act ≡ false
+    → Leads (length above.functions) (open_calls above.levels) (act ∷ []) (open_calls (levels_after above.levels act))
+act-leads above (Call f) next e = (next.0, let o = opened above.levels (suc (open_here above.levels)) in omega (arith, o))
+act-leads above Ret next e =
+    let l = above.levels in
+    let one = not-zero (open_here l) e in
+    let o = opened l (open_here l - 1) in
+    returns (length above.functions) (open_calls l) _ (omega (arith, one, o))
+act-leads above (Raise to) next e = raised-calls above.levels to (leb-false (rank to) (rank (present above.levels)) e)
+act-leads above Lower next e =
+    let l = above.levels in
+    let b = or-false_both _ _ e in
+    let none = eqb-true (open_here l) 0 (not-false (open_here l == 0) b.1) in
+    let o = lowered-calls l (not-false (is_raised l) b.0) in
+    omega (arith, none, o)
+act-leads above (After k) next e = refl
 
-module _ (size : ℕ) (l : Levels) where
-  call-leads : (f : ℕ) → f < size → Leads size (open_calls l) (Call (record { 0 = f }) ∷ []) (open_calls (levels_after l (Call (record { 0 = f }))))
-  call-leads f below = (below, let o = opened l (suc (open_here l)) in omega (arith, o))
-
-  ret-leads : (open_here l == 0) ≡ false → Leads size (open_calls l) (Ret ∷ []) (open_calls (levels_after l Ret))
-  ret-leads e =
-      let one = not-zero (open_here l) e in
-      let o = opened l (open_here l - 1) in
-      returns size (open_calls l) _ (omega (arith, one, o))
-
-  lower-leads : is_unmatched l lower ≡ false → Leads size (open_calls l) (Lower ∷ []) (open_calls (levels_after l Lower))
-  lower-leads e =
-      let b = or-false_both _ _ e in
-      let none = eqb-true (open_here l) 0 (not-false (open_here l == 0) b.1) in
-      let o = lowered-calls l (not-false (is_raised l) b.0) in
-      omega (arith, none, o)
+calls-one : (act : TaskAct) (calls : ℕ) → calls + calls_in (act ∷ []) ≡ calls_with act calls
+calls-one (Call f) calls = omega arith
+calls-one Ret calls = omega arith
+calls-one (Raise to) calls = omega arith
+calls-one Lower calls = omega arith
+calls-one (After n) calls = omega arith
 
 -- ## one more line
+
+-- a task begins if no act above is left open
+abbrev pub Begins : Levels → Declaration → Type 0
+Begins l (a_task pid cpu) = is_unfinished l ≡ false
+Begins l _ = Unit {0}
 
 module _ (above : Above) (h : Holds above) where
   abbrev l : Levels
   l = above.levels
 
   -- a task's CPU is declared above it
-  declared-placed : (form : LineForm) → is_unknown above form ≡ false → Each (λ p. p.cpu < length (declared above form).quanta) (declared above form).tasks
-  declared-placed (new_cpu k quantum) e = let n = length_push above.quanta quantum in placed-more (length above.quanta) _ above.tasks (omega (arith, n)) h.tasks.placed
-  declared-placed (new_task pid cpu) e = Each-snoc (λ (p : LinedTask). p.cpu < length above.quanta) above.tasks _ h.tasks.placed (leb-false (length above.quanta) cpu e)
-  declared-placed (call name) e = placed-act (length above.quanta) above.tasks _ h.tasks.placed
-  declared-placed ret e = placed-act (length above.quanta) above.tasks _ h.tasks.placed
-  declared-placed (raise to) e = placed-act (length above.quanta) above.tasks _ h.tasks.placed
-  declared-placed lower e = placed-act (length above.quanta) above.tasks _ h.tasks.placed
-  declared-placed (after n) e = placed-act (length above.quanta) above.tasks _ h.tasks.placed
-  declared-placed form e = h.tasks.placed
-
-  -- one more act of the last task
-  one-more : (act : LinedAct) → (length above.tasks == 0) ≡ false → Leads (length above.functions) (open_calls l) (act.act ∷ []) (open_calls (levels_after l act.act))
-      → Balanced (length above.functions) (push_act above.tasks act) (open_calls (levels_after l act.act))
-  one-more act some step = balanced-act (length above.functions) (open_calls l) _ above.tasks act (has_one above.tasks some) step h.tasks.balanced
+  declared-placed : (what : Declaration) → FitsAs above what → Each (λ p. p.cpu < length (with_what above what).quanta) (with_what above what).tasks
+  declared-placed (a_cpu quantum) f = let n = length_push above.quanta quantum in placed-more (length above.quanta) _ above.tasks (omega (arith, n)) h.tasks.placed
+  declared-placed (a_task pid cpu) f = Each-snoc (λ (p : LinedTask). p.cpu < length above.quanta) above.tasks _ h.tasks.placed f.placed
+  declared-placed (an_act act) f = placed-act (length above.quanta) above.tasks _ h.tasks.placed
+  declared-placed what f = h.tasks.placed
 
   -- a call's function is declared above it, a return has its call, and a task begins if none is open
-  declared-balanced : (form : LineForm) (below : List Line) → NoCause above form below → (is_last_by (Some form) (is_last below) ≡ true → is_unfinished l ≡ false)
-      → Balanced (length (declared above form).functions) (declared above form).tasks (open_calls (declared above form).levels)
-  declared-balanced (func name owner) below n closed =
-      let k = length_push above.functions (record { name = name; owner = owner }) in
+  declared-balanced : (what : Declaration) (below : List Line) → FitsAs above what → is_unbalanced l what below ≡ false → Begins l what
+      → Balanced (length (with_what above what).functions) (with_what above what).tasks (open_calls (with_what above what).levels)
+  declared-balanced (a_function function) below f e begins =
+      let k = length_push above.functions function in
       balanced-more (length above.functions) _ (open_calls l) above.tasks (omega (arith, k)) h.tasks.balanced
-  declared-balanced (new_task pid cpu) below n closed =
-      balanced-task (length above.functions) pid cpu above.tasks (subst (λ k. Balanced (length above.functions) above.tasks k) (closed-calls l (closed refl)) h.tasks.balanced)
-  declared-balanced (call name) below n closed =
-      one-more _ (or-false_both _ _ n.placed).1 (call-leads (length above.functions) l (number_in (function_names above) name) (function-below above name n.known))
-  declared-balanced ret below n closed = one-more _ (or-false_both _ _ n.placed).1 (ret-leads (length above.functions) l (or-false_both _ _ n.balanced).0)
-  declared-balanced (raise to) below n closed =
-      one-more _ (or-false_both _ _ n.placed).1 (raised-calls l to (leb-false (rank to) (rank (present l)) (or-false_both _ _ n.balanced).0))
-  declared-balanced lower below n closed = one-more _ (or-false_both _ _ n.placed).1 (lower-leads (length above.functions) l (or-false_both _ _ n.balanced).0)
-  declared-balanced (after k) below n closed = one-more _ (or-false_both _ _ n.placed).1 refl
-  declared-balanced form below n closed = h.tasks.balanced
-
-  -- one more act in all
-  one-act : (act : LinedAct) → (length above.tasks == 0) ≡ false → sum_by (λ (p : LinedTask). length p.acts) (push_act above.tasks act) ≡ suc above.acts
-  one-act act some =
-      let more = sum_acts-act above.tasks act (has_one above.tasks some) in
-      let all = h.tasks.all_acts in
-      omega (arith, more, all)
+  declared-balanced (a_task pid cpu) below f e begins =
+      balanced-task (length above.functions) pid cpu above.tasks (subst (λ k. Balanced (length above.functions) above.tasks k) (closed-calls l begins) h.tasks.balanced)
+  declared-balanced (an_act act) below f e begins =
+      balanced-act (length above.functions) (open_calls l) _ above.tasks _ f.some (act-leads above act f.call (or-false_both (is_unmatched l act) _ e).0) h.tasks.balanced
+  declared-balanced what below f e begins = h.tasks.balanced
 
   -- the acts are counted
-  declared-acts : (form : LineForm) → is_misplaced above form ≡ false → sum_by (λ (p : LinedTask). length p.acts) (declared above form).tasks ≡ (declared above form).acts
-  declared-acts (new_task pid cpu) e = sum-task (λ (p : LinedTask). length p.acts) above.tasks _ refl ∙ h.tasks.all_acts
-  declared-acts (call name) e = one-act _ (or-false_both _ _ e).1
-  declared-acts ret e = one-act _ (or-false_both _ _ e).1
-  declared-acts (raise to) e = one-act _ (or-false_both _ _ e).1
-  declared-acts lower e = one-act _ (or-false_both _ _ e).1
-  declared-acts (after n) e = one-act _ (or-false_both _ _ e).1
-  declared-acts form e = h.tasks.all_acts
-
-  -- so many more calls in all
-  more-calls : (act : LinedAct) → (length above.tasks == 0) ≡ false
-      → sum_by (λ (p : LinedTask). calls_in (acts_of p)) (push_act above.tasks act) ≡ above.calls + calls_in (act.act ∷ [])
-  more-calls act some =
-      let more = sum_calls-act above.tasks act (has_one above.tasks some) in
-      let all = h.tasks.all_calls in
+  declared-acts : (what : Declaration) → FitsAs above what → sum_by (λ (p : LinedTask). length p.acts) (with_what above what).tasks ≡ (with_what above what).acts
+  declared-acts (a_task pid cpu) f = sum-task (λ (p : LinedTask). length p.acts) above.tasks _ refl ∙ h.tasks.all_acts
+  declared-acts (an_act act) f =
+      let more = sum_acts-act above.tasks (record { act = act; line = suc above.lines }) f.some in
+      let all = h.tasks.all_acts in
       omega (arith, more, all)
+  declared-acts what f = h.tasks.all_acts
 
   -- the calls are counted
-  declared-calls : (form : LineForm) → is_misplaced above form ≡ false
-      → sum_by (λ (p : LinedTask). calls_in (acts_of p)) (declared above form).tasks ≡ (declared above form).calls
-  declared-calls (new_task pid cpu) e = sum-task (λ (p : LinedTask). calls_in (acts_of p)) above.tasks _ refl ∙ h.tasks.all_calls
-  declared-calls (call name) e = more-calls _ (or-false_both _ _ e).1 ∙ add-one above.calls
-  declared-calls ret e = more-calls _ (or-false_both _ _ e).1 ∙ add-zero above.calls
-  declared-calls (raise to) e = more-calls _ (or-false_both _ _ e).1 ∙ add-zero above.calls
-  declared-calls lower e = more-calls _ (or-false_both _ _ e).1 ∙ add-zero above.calls
-  declared-calls (after n) e = more-calls _ (or-false_both _ _ e).1 ∙ add-zero above.calls
-  declared-calls form e = h.tasks.all_calls
+  declared-calls : (what : Declaration) → FitsAs above what
+      → sum_by (λ (p : LinedTask). calls_in (acts_of p)) (with_what above what).tasks ≡ (with_what above what).calls
+  declared-calls (a_task pid cpu) f = sum-task (λ (p : LinedTask). calls_in (acts_of p)) above.tasks _ refl ∙ h.tasks.all_calls
+  declared-calls (an_act act) f =
+      sum_calls-act above.tasks (record { act = act; line = suc above.lines }) f.some ∙ ap (λ n. n + calls_in (act ∷ [])) h.tasks.all_calls ∙ calls-one act above.calls
+  declared-calls what f = h.tasks.all_calls
 
   -- what holds of the tasks once a line that isn't refused has declared what it does
-  pub tasks-declared : (form : LineForm) (below : List Line) → NoCause above form below → (is_last_by (Some form) (is_last below) ≡ true → is_unfinished above.levels ≡ false)
-      → TasksHold (length (declared above form).functions) (length (declared above form).quanta) (declared above form).tasks (declared above form).levels (declared above form).acts (declared above form).calls
-  tasks-declared form below n closed = record {
-    placed = declared-placed form n.known;
-    balanced = declared-balanced form below n closed;
-    raised = declared-raises above h.tasks.raised form (or-false_both _ _ n.balanced).0;
-    all_acts = declared-acts form n.placed;
-    all_calls = declared-calls form n.placed;
+  pub tasks-declared : (what : Declaration) (below : List Line) → FitsAs above what → is_unbalanced l what below ≡ false → Begins l what
+      → let d = with_what above what in TasksHold (length d.functions) (length d.quanta) d.tasks d.levels d.acts d.calls
+  tasks-declared what below f e begins = record {
+    placed = declared-placed what f;
+    balanced = declared-balanced what below f e begins;
+    raised = declared-raises above h.tasks.raised what below e;
+    all_acts = declared-acts what f;
+    all_calls = declared-calls what f;
   }
 
 -- ## tasks that are declared

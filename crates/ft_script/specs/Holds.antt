@@ -84,7 +84,7 @@ pub record Holds (above : Above) : Type 0 where
   pub version : IsVersion above.version
   pub within : IsWithinLimits above
   pub order : IsInOrder above
-  pub depth : IsAtMost FRAMES above.depth
+  pub frames : IsAtMost FRAMES above.frames
   pub tramps : IsAtMost (limits_of above.version).tramps above.tramps
   pub users : Each (λ (s : Spec). IsActIn (length above.functions) s.act) above.users
   pub quanta : Each (λ q. q ≤ QUANTUM) above.quanta

@@ -6,3 +6,4 @@ pub mod Script
 pub mod Within
 pub mod Kept
 pub mod Holds
+pub mod Fits

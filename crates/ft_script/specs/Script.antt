@@ -1,5 +1,5 @@
 -- The job of a script, or the line for which it is refused, and why.
-use Rattle.std.specs.Prelude.{◌≡◌, ◌≢◌, ℕ, suc, ◌+◌, ◌==◌, List, [], ◌∷◌, ◌++◌, length, map, unwrap_or, Option, Some, None, ◌⊎◌, if◌then◌else◌}
+use Rattle.std.specs.Prelude.{◌≡◌, ◌≢◌, ℕ, suc, ◌+◌, ◌==◌, List, [], ◌∷◌, ◌++◌, length, map, unwrap_or, Option, Some, None, Result, Ok, Err, ◌⊎◌, if◌then◌else◌}
 use Rattle.ft_base.specs.declared.limits.TheConstants.{USUAL_FRAMES, USUAL_TURNS}
 use Rattle.ft_base.specs.declared.turn.Turn.{Turn}
 use Rattle.ft_base.specs.declared.turn.Who.TheVariants.{All}
@@ -11,19 +11,29 @@ use Rattle.script_waits.specs.declared.script.Wait.TheVariants.{Command as AComm
 use Rattle.script_waits.specs.Tasks.{LinedTask, tracks_of}
 use Rattle.script_waits.specs.Greedy.{IsDeadlock}
 use Rattle.script_text.specs.Lines.{Line, lines_of}
-use Rattle.script_form.specs.Forms.{skip}
+use Rattle.script_form.specs.Forms.{LineForm}
 use Rattle.script_form.specs.Lines.{line_form}
 use Rattle.ft_script.specs.declared.faults.Cause.{Cause}
 use Rattle.ft_script.specs.declared.faults.Cause.TheVariants.{Version, Deadlock, NoMemory}
 use Rattle.ft_script.specs.declared.faults.ScriptFault.{ScriptFault}
-use Rattle.ft_script.specs.Above.{Above, none_above, with_form}
-use Rattle.ft_script.specs.Causes.{cause_of}
+use Rattle.ft_script.specs.Above.{Above, none_above, Declaration, nothing, Resolved, declared}
+use Rattle.ft_script.specs.Causes.{rank_of, named, cause_of}
 
 -- ## what the lines declare
 
--- what is declared above the next line, after this one; a line of no form is refused, and adds nothing
+-- what this is, or nothing if it is a cause
+abbrev pub or_nothing : Result Declaration Cause → Declaration
+or_nothing (Ok what) = what
+or_nothing (Err cause) = nothing
+
+-- what a line of this form says, if it isn't refused
+abbrev pub said : Above → Option LineForm → Resolved
+said above None = record { rank = above.rank; what = nothing }
+said above (Some form) = record { rank = rank_of form above.rank; what = or_nothing (named above form) }
+
+-- what is declared above the next line, after this one; what a line that is refused adds makes no difference
 unfoldable pub with_line : Above → Line → Above
-with_line above line = with_form above (unwrap_or (line_form line.bytes) skip)
+with_line above line = declared above (said above (line_form line.bytes))
 
 -- what is declared after these lines
 abbrev pub declared_after : Above → List Line → Above
@@ -97,7 +107,7 @@ job_of above = record {
   version = above.version;
   functions = above.functions;
   users = above.users;
-  frames = unwrap_or above.depth USUAL_FRAMES;
+  frames = unwrap_or above.frames USUAL_FRAMES;
   tramps = unwrap_or above.tramps (limits_of above.version).tramps;
   quanta = above.quanta;
   tasks = map task_of above.tasks;
@@ -132,6 +142,10 @@ no_memory = record { line = 0; cause = NoMemory }
 -- the reader may answer with this fault
 abbrev pub IsFaultOf : List ℕ → ScriptFault → Type 0
 IsFaultOf text fault = (fault ≡ no_memory) ⊎ IsRefusalOf text fault
+
+-- the reader may answer with this cause at a line that is this
+abbrev pub IsRefused : {X : Type 0} → Result X Cause → Cause → Type 0
+IsRefused right cause = (cause ≡ NoMemory) ⊎ (right ≡ Err cause)
 
 -- the reader may answer with this fault at a line with this cause
 abbrev pub IsFaultAt : Above → Option Cause → ScriptFault → Type 0

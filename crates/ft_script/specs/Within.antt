@@ -1,15 +1,11 @@
--- What is declared is within the limits, and what a line may add to it.
-use Rattle.std.specs.Prelude.{◌≡◌, ◌≤◌, ◌<◌, ◌+◌, ◌^◌, ℕ, ◌&&◌, Bool, true, false, List, [], length}
+-- What is declared is within the limits, and in order.
+use Rattle.std.specs.Prelude.{◌≡◌, ◌≤◌, ◌<◌, ◌+◌, ◌^◌, ℕ, List, [], length}
 use Rattle.ft_base.specs.declared.limits.TheConstants.{CPUS, TASKS, COMMANDS, UNTILS, ACTS, LEVELS, STEPS}
 use Rattle.ft_base.specs.Versions.{limits_of}
-use Rattle.ft_base.specs.Name.{is_name_text}
-use Rattle.func_table.specs.Rows.{is_name_or_none}
 use Rattle.script_waits.specs.Tasks.{LinedTask}
-use Rattle.script_form.specs.Forms.{LineForm, func, new_task}
 use Rattle.ft_script.specs.declared.levels.Levels.{Levels}
 use Rattle.ft_script.specs.Levels.{open_calls}
 use Rattle.ft_script.specs.Above.{Above, none_above}
-use Rattle.ft_script.specs.Causes.{is_past_limit, is_duplicate, is_unknown, is_bad_text}
 
 -- no more tasks, acts and open calls than there may be; the calls are among the acts
 pub record FewTasks (tasks : List LinedTask) (levels : Levels) (acts calls : ℕ) : Type 0 where
@@ -40,23 +36,3 @@ pub record IsSmall (above : Above) : Type 0 where
   pub numbered : above.lines + 1 < 2 ^ 32
   pub within : IsWithinLimits above
   pub order : IsInOrder above
-
--- what the line declares as a function's name and module are names
-abbrev pub has_names : LineForm → Bool
-has_names (func name owner) = is_name_text name && is_name_or_none owner
-has_names _ = true
-
--- there is no line of control above a line that declares a task
-abbrev pub IsBeforeControl : Above → LineForm → Type 0
-IsBeforeControl above (new_task pid cpu) = above.ctls ≡ []
-IsBeforeControl above _ = Unit {0}
-
--- a line of this form can be added to what is declared
-pub record CanAdd (above : Above) (form : LineForm) : Type 0 where
-  pub small : IsSmall above
-  pub names : has_names form ≡ true
-  pub before : IsBeforeControl above form
-  pub limit : is_past_limit above form ≡ false
-  pub new : is_duplicate above form ≡ false
-  pub known : is_unknown above form ≡ false
-  pub text : is_bad_text above form ≡ false

@@ -2,6 +2,7 @@
 
 ghost use Rattle.std.specs.Prelude.{◌≡◌, Some};
 ghost use Rattle.ft_script.specs.FaultText.{cause_word, fault_text};
+ghost use Rattle.ft_script.specs.declared.faults.Cause.TheVariants.{NoMemory};
 ghost use Rattle.ft_script.specs.Script.{no_memory};
 
 use std::alloc::AllocError;
@@ -49,6 +50,14 @@ impl Cause {
             Cause::Deadlock => "deadlock",
             Cause::NoMemory => "no memory",
         }
+    }
+}
+
+impl From<AllocError> for Cause {
+    ghost from_gives = { λ _ cause. cause ≡ NoMemory };
+
+    fn from(_error: AllocError) -> Cause {
+        Cause::NoMemory
     }
 }
 

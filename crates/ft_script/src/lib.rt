@@ -17,6 +17,7 @@
 //! time in proportion to the bytes.
 #![tactic(auto)]
 
+mod declaration;
 mod faults;
 mod form;
 mod last_act;

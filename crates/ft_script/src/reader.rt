@@ -1,20 +1,20 @@
 //! The reader of scripts, which takes one line after the other.
 //!
-//! `causes` has the causes for which a line is refused, and `past_limit` the limits among them;
-//! `declare` has what a line adds, and `commands` what a line of control adds; `find` looks up names
-//! and pids; `parts` makes the job.
+//! `resolve` turns what a line says into what it declares, or into the first cause for which it is
+//! refused: `causes` and `past_limit` have its tests, and `find` looks up names and pids. `declare`
+//! adds what a line declares, which only want of memory hinders. `parts` makes the job.
 
 mod causes;
-mod commands;
 mod declare;
 mod find;
 mod parts;
 mod past_limit;
+mod resolve;
 
 ghost use Rattle.std.specs.Prelude.{◌≡◌};
 ghost use Rattle.ft_base.specs.declared.limits.TheConstants.{FUNCS};
 
-use crate::faults::ScriptFault;
+use crate::faults::{Cause, ScriptFault};
 use crate::levels::Levels;
 use ft_base::Turn;
 use ft_base::limits::FUNCS;
@@ -22,7 +22,7 @@ use ft_machine::Ctl;
 use func_table::FuncTable;
 use script_form::read_line;
 use script_waits::LinedTask;
-use std::alloc::Global;
+use std::alloc::{AllocError, Global};
 use user_specs::Spec;
 
 /// A line of control, and its number in the script.
@@ -42,7 +42,7 @@ pub struct Reader {
     /// The rank of the last of them that has one.
     rank: u8,
     /// The frames of a shadow stack, if the script says.
-    depth: Option<u32>,
+    frames: Option<u32>,
     /// The trampoline slots, if the script says.
     tramps: Option<u32>,
     functions: FuncTable,
@@ -82,7 +82,7 @@ impl Reader {
             version: 1,
             lines: 0,
             rank: 0,
-            depth: None,
+            frames: None,
             tramps: None,
             functions: FuncTable::new(alloc, FUNCS),
             users: Vec::new(alloc),
@@ -113,19 +113,16 @@ impl Reader {
         ensures declared { OnOk result (above_of self.new ≡ with_line (above_of self.old) (record { bytes = line.now; ended = ended })) }
         ensures err { IfErr result (IsFaultAt (above_of self.old) (cause_of (above_of self.old) (record { bytes = line.now; ended = ended }) (lines_of below.now))) }
     {
-        let number = self.lines + 1;
         let form = read_line(alloc, line)?;
-        if let Some(cause) = self.line_cause(alloc, &form, ended, below)? {
-            return Err(ScriptFault {
-                line: number,
-                cause,
-            });
-        }
-        match &form {
-            Some(form) => self.declare(alloc, form)?,
-            // A line of no form has a cause.
-            None => unreachable!(),
-        }
+        let resolved = match self.resolve_line(alloc, &form, ended, below) {
+            Ok(resolved) => resolved,
+            Err(Cause::NoMemory) => return Err(ScriptFault::from(AllocError)),
+            Err(cause) => {
+                let line = self.lines + 1;
+                return Err(ScriptFault { line, cause });
+            }
+        };
+        self.declare(alloc, resolved)?;
         Ok(())
     }
 }

@@ -6,15 +6,13 @@ use crate::form::{
 };
 use crate::reader::Reader;
 use ft_base::limits::{ACTS, COMMANDS, CPUS, GRAPH_DEPTH, ITEMS, LEVELS, Limits, TASKS, UNTILS};
-use ft_schedule::is_past_limit as is_past_sched_limit;
-use script_form::{LineForm, SchedItem};
+use script_form::LineForm;
 use user_specs::call_bound;
 
 impl Reader {
-    ghost use Rattle.std.specs.Prelude.{◌≡◌, length};
+    ghost use Rattle.std.specs.Prelude.{◌≡◌};
     ghost use Rattle.std.specs.Option.{option_copied};
     ghost use Rattle.ft_base.specs.Versions.{limits_of};
-    ghost use Rattle.ft_schedule.specs.Causes.{is_past_limit as is_past_sched_limit};
     ghost use Rattle.script_form.specs.Read.{form_read};
     ghost use Rattle.script_form.specs.Forms.{func, new_task, until};
     ghost use Rattle.ft_script.specs.Causes.{is_past_limit, is_full_of_acts, is_full_of_calls, is_full_of_commands, has_no_room};
@@ -83,14 +81,6 @@ impl Reader {
         is_bad_pid(pid) || is_bad_count(acts) || self.waits >= UNTILS
     }
 
-    /// Whether a count of the items can't be, or the schedule has too many steps with them.
-    fn is_sched_past_limit(&self, items: &[SchedItem]) -> bool
-        requires { IsWithinLimits (above_of self.now) }
-        ensures { result ≡ is_past_sched_limit (length self.now.quanta.items) self.now.steps items.now }
-    {
-        is_past_sched_limit(self.steps, items, self.quanta.len() as u32)
-    }
-
     /// Whether a name or a number of the line is outside its limits, or there is one too many of what
     /// it declares.
     pub fn is_past_limit(&self, form: &LineForm) -> bool
@@ -122,7 +112,8 @@ impl Reader {
                 is_above(*depth, GRAPH_DEPTH) || self.is_full_of_commands()
             }
             LineForm::Until { pid, acts } => self.is_until_past_limit(*pid, *acts),
-            LineForm::Sched { items } => self.is_sched_past_limit(items),
+            // Its steps are counted once it is known that all else of the line is right.
+            LineForm::Sched { .. } => false,
         }
     }
 }

@@ -1,0 +1,80 @@
+-- What a line that isn't refused declares fits what is declared above it.
+use Rattle.std.specs.Prelude.{◌≡◌, ◌≤◌, ◌<◌, ◌*◌, ℕ, suc, false, true, [], length}
+use Rattle.ft_base.specs.declared.limits.TheConstants.{CPUS, TASKS, COMMANDS, UNTILS, ACTS, LEVELS, FRAMES, ITEMS, QUANTUM, STEPS}
+use Rattle.ft_base.specs.declared.task.TaskAct.{TaskAct}
+use Rattle.ft_base.specs.declared.task.TaskAct.TheVariants.{Call}
+use Rattle.ft_base.specs.Job.{Func, Spec, Ctl, Run, Until}
+use Rattle.ft_base.specs.Name.{is_name_text}
+use Rattle.ft_base.specs.Versions.{limits_of, IsVersion}
+use Rattle.ft_base.specs.WellFormed.{IsActIn}
+use Rattle.func_table.specs.Rows.{is_name_or_none}
+use Rattle.user_specs.specs.Bound.{call_bound_of}
+use Rattle.ft_script.specs.Levels.{open_calls}
+use Rattle.ft_script.specs.Above.{Above, Declaration, nothing, a_version, a_function, some_frames, some_slots, a_user, a_cpu, a_task, an_act, a_ctl, more_turns, Resolved}
+use Rattle.ft_script.specs.Causes.{function_names, is_among}
+use Rattle.ft_script.specs.Holds.{IsLine}
+
+-- a function has names, and its own is new; there is room for it, and it comes before the lines of control
+pub record IsNewFunction (above : Above) (f : Func) : Type 0 where
+  pub name : is_name_text f.name ≡ true
+  pub owner : is_name_or_none f.owner ≡ true
+  pub new : is_among (function_names above) f.name ≡ false
+  pub room : length above.functions < (limits_of above.version).funcs
+  pub before : above.ctls ≡ []
+
+-- a user's function is there; there is room for it, and it comes before the calls and the lines of control
+pub record IsNewUser (above : Above) (s : Spec) : Type 0 where
+  pub act : IsActIn (length above.functions) s.act
+  pub room : length above.users < (limits_of above.version).users
+  pub first : above.calls ≡ 0
+  pub before : above.ctls ≡ []
+
+-- a task's CPU is there; there is room for it, and it comes before the lines of control
+pub record IsNewTask (above : Above) (cpu : ℕ) : Type 0 where
+  pub placed : cpu < length above.quanta
+  pub room : length above.tasks < TASKS
+  pub before : above.ctls ≡ []
+
+-- a call's function is there, and there may be one more call
+abbrev pub IsNextCall : Above → TaskAct → Type 0
+IsNextCall above (Call f) = (f.0 < length above.functions) × (open_calls above.levels < LEVELS)
+    × (call_bound_of above.users (limits_of above.version).levels * suc above.calls ≤ ITEMS)
+IsNextCall above _ = Unit {0}
+
+-- there is a task; there is room for one more act, and it comes before the lines of control
+pub record IsNextAct (above : Above) (act : TaskAct) : Type 0 where
+  pub some : 1 ≤ length above.tasks
+  pub room : above.acts < ACTS
+  pub call : IsNextCall above act
+  pub before : above.ctls ≡ []
+
+-- there is room for one more command, or one more wait
+abbrev pub HasRoom : Above → Ctl → Type 0
+HasRoom above (Run command) = above.commands < COMMANDS
+HasRoom above (Until task acts) = above.waits < UNTILS
+
+-- this fits
+abbrev pub FitsAs : Above → Declaration → Type 0
+FitsAs above nothing = Unit {0}
+FitsAs above (a_version number) = (above.lines ≡ 0) × IsVersion number
+FitsAs above (a_function function) = IsNewFunction above function
+FitsAs above (some_frames count) = count ≤ FRAMES
+FitsAs above (some_slots count) = count ≤ (limits_of above.version).tramps
+FitsAs above (a_user user) = IsNewUser above user
+FitsAs above (a_cpu quantum) = (quantum ≤ QUANTUM) × (length above.quanta < CPUS)
+FitsAs above (a_task pid cpu) = IsNewTask above cpu
+FitsAs above (an_act act) = IsNextAct above act
+FitsAs above (a_ctl ctl) = IsLine (length above.users) (length above.functions) (length above.tasks) ctl × HasRoom above ctl
+FitsAs above (more_turns turns steps) = steps ≤ STEPS
+
+-- acts and lines of control come at ranks of their own
+abbrev pub IsRanked : ℕ → Declaration → Type 0
+IsRanked rank (an_act act) = 5 ≤ rank
+IsRanked rank (a_ctl ctl) = 6 ≤ rank
+IsRanked rank _ = Unit {0}
+
+-- the line comes in the order of ranks, and what it declares fits
+pub record Fits (above : Above) (line : Resolved) : Type 0 where
+  pub order : above.rank ≤ line.rank
+  pub ranked : IsRanked line.rank line.what
+  pub what : FitsAs above line.what

@@ -1,0 +1,48 @@
+//! What a line declares.
+
+use ft_base::{TaskAct, Turn};
+use ft_machine::Ctl;
+use user_specs::Spec;
+
+/// What a line declares: what it names is a number, and its filter text is an edit.
+#[derive(Drop)]
+pub enum Declaration<'a> {
+    /// Nothing: a blank line, or a comment.
+    Nothing,
+    /// The version of the language.
+    Version(u8),
+    /// A function, and its module, if it has one.
+    Function {
+        name: &'a str,
+        owner: Option<&'a str>,
+    },
+    /// The frames of a shadow stack.
+    Frames(u32),
+    /// The trampoline slots.
+    Slots(u32),
+    User(Spec),
+    /// A CPU, which has the next number.
+    Cpu {
+        quantum: u32,
+    },
+    Task {
+        pid: u32,
+        cpu: u32,
+    },
+    /// An act of the last task.
+    Act(TaskAct),
+    /// A line of control.
+    Ctl(Ctl),
+    /// Turns of the schedule, and how many steps it has with them.
+    Turns {
+        turns: Vec<Turn>,
+        steps: u32,
+    },
+}
+
+/// A line that isn't refused: its rank, and what it declares.
+#[derive(Drop)]
+pub struct Resolved<'a> {
+    pub rank: u8,
+    pub what: Declaration<'a>,
+}
