@@ -71,15 +71,15 @@ length-edit functions append (b ∷ text) = length-selected functions (form_of (
 
 -- ## what is made of what is looked up
 
-of-made : {X Y : Type 0} (P : Y → Type 0) (f : X → Y) (r : Result X Cause) → IfOk r (λ x. P (f x)) → IfOk (made f r) P
+pub of-made : {X Y : Type 0} (P : Y → Type 0) (f : X → Y) (r : Result X Cause) → IfOk r (λ x. P (f x)) → IfOk (made f r) P
 of-made P f (Ok x) h = h
 of-made P f (Err cause) h = tt
 
-of-all : {X Y : Type 0} (P : Y → Type 0) (f : X → Y) (r : Result X Cause) → ((x : X) → P (f x)) → IfOk (made f r) P
+pub of-all : {X Y : Type 0} (P : Y → Type 0) (f : X → Y) (r : Result X Cause) → ((x : X) → P (f x)) → IfOk (made f r) P
 of-all P f (Ok x) h = h x
 of-all P f (Err cause) h = tt
 
-of-if : {X : Type 0} (P : X → Type 0) (b : Bool) (cause : Cause) (r : Result X Cause) → (b ≡ false → IfOk r P) → IfOk (if b then Err cause else r) P
+pub of-if : {X : Type 0} (P : X → Type 0) (b : Bool) (cause : Cause) (r : Result X Cause) → (b ≡ false → IfOk r P) → IfOk (if b then Err cause else r) P
 of-if P true cause r h = tt
 of-if P false cause r h = h refl
 
@@ -95,7 +95,7 @@ module _ (above : Above) where
   tasks = length above.tasks
 
   -- the number of what is named is below how many there are
-  function-known : (name : Word) → IfOk (function_in above name) (λ (f : FuncNo). f.0 < size)
+  pub function-known : (name : Word) → IfOk (function_in above name) (λ (f : FuncNo). f.0 < size)
   function-known name = by (position (bytes_eq name) (function_names above)) refl
     where
       by : (o : Option ℕ) → position (bytes_eq name) (function_names above) ≡ o → IfOk (made function_at (known o)) (λ (f : FuncNo). f.0 < size)

@@ -1,5 +1,5 @@
--- What a line declares as a function's name and module are names, if they aren't too long, and what it says as a version is one.
-use Rattle.std.proofs.Common.{◌≡◌, ℕ, Bool, true, false, List, [], ◌∷◌, length, Option, Some, None, inl, inr, refl, subst, codes, if◌then◌else◌}
+-- What a line declares as the name of a function, its module or a user is a name, if it isn't too long, and what it says as a version is one.
+use Rattle.std.proofs.Common.{◌≡◌, ℕ, ◌&&◌, Bool, true, false, List, [], ◌∷◌, length, Option, Some, None, inl, inr, refl, subst, codes, if◌then◌else◌}
 use Rattle.std.specs.Prelude.{option_map}
 use Rattle.std.specs.Option.{IfSome}
 use Rattle.std.specs.Str.{bytes_eq}
@@ -15,7 +15,7 @@ use Rattle.script_text.specs.Words.{both}
 use Rattle.script_text.specs.Names.{is_name, name_of}
 use Rattle.script_text.proofs.NameLemmas.{is_name_text-short}
 use Rattle.script_form.specs.Forms as form
-use Rattle.script_form.specs.Forms.{LineForm, UserAct, skip, version, func, depth, tramps, new_cpu, new_task, call, ret, raise, lower, after, register, unregister, write, pids, enable, disable, max_depth, until, sched}
+use Rattle.script_form.specs.Forms.{LineForm, UserAct, skip, version, func, depth, tramps, user, new_cpu, new_task, call, ret, raise, lower, after, register, unregister, write, pids, enable, disable, max_depth, until, sched}
 use Rattle.script_form.specs.Users.{user_form, user_with, user_of, kind_of, flag, argument, ipmodify_of, act_of}
 use Rattle.script_form.specs.Lines.{act_form, unlisted_form, keyed_form, form_of, line_form}
 use Rattle.ft_script.specs.Causes.{is_long, is_long_or_none}
@@ -24,10 +24,11 @@ abbrev pub OwnerNamed : Option Word → Type 0
 OwnerNamed None = Unit {0}
 OwnerNamed (Some owner) = is_name owner ≡ true
 
--- a function's name has a name's bytes, and its module's too; a version is one that there is
+-- a function's name has a name's bytes, its module's and a user's too; a version is one that there is
 abbrev pub Named : LineForm → Type 0
 Named (version number) = IsVersion number
 Named (func name owner) = (is_name name ≡ true) × OwnerNamed owner
+Named (user u) = is_name u.name ≡ true
 Named _ = Unit {0}
 
 -- ## forms of words
@@ -116,23 +117,24 @@ in-ctl (key ∷ args) =
     (either (bytes_eq key (codes "maxdepth")) _ _ (of-map max_depth (λ n. tt) _)
     (either (bytes_eq key (codes "until")) _ None (in-until args) tt)))))))))
 
-in-user_of : (name : Word) (kind : Kind) (regs : Bool) (m : Option (Option Word)) (pid : Bool) (a : Option (Option UserAct)) → IfSome (user_of name kind regs m pid a) Named
-in-user_of name kind regs None pid a = tt
-in-user_of name kind regs (Some m) pid None = tt
-in-user_of name kind regs (Some m) pid (Some a) = tt
+in-user_of : (name : Word) (kind : Kind) (regs : Bool) (m : Option (Option Word)) (pid : Bool) (a : Option (Option UserAct)) → is_name name ≡ true
+    → IfSome (user_of name kind regs m pid a) Named
+in-user_of name kind regs None pid a is = tt
+in-user_of name kind regs (Some m) pid None is = tt
+in-user_of name kind regs (Some m) pid (Some a) is = is
 
-in-user_with : (name : Option Word) (kind : Option (Kind × List Word)) → IfSome (user_with name kind) Named
-in-user_with None kind = tt
-in-user_with (Some name) None = tt
-in-user_with (Some name) (Some kind) =
+in-user_with : (name : Option Word) (kind : Option (Kind × List Word)) → IfSome name (λ n. is_name n ≡ true) → IfSome (user_with name kind) Named
+in-user_with None kind is = tt
+in-user_with (Some name) None is = tt
+in-user_with (Some name) (Some kind) is =
     let regs = flag (codes "regs") kind.1 in
     let modifies = argument (codes "ipmodify") regs.1 in
     let pid = flag (codes "pid") modifies.1 in
-    in-user_of name kind.0 regs.0 (ipmodify_of kind.0 modifies.0) pid.0 (act_of pid.1)
+    in-user_of name kind.0 regs.0 (ipmodify_of kind.0 modifies.0) pid.0 (act_of pid.1) is
 
 in-user : (args : List Word) → IfSome (user_form args) Named
 in-user [] = tt
-in-user (name ∷ words) = in-user_with (name_of name) (kind_of words)
+in-user (name ∷ words) = in-user_with (name_of name) (kind_of words) (name_of-is name (is_name name) refl)
 
 in-act : (key : Word) (args : List Word) → IfSome (act_form key args) Named
 in-act key args =

@@ -1,1 +1,5 @@
-mod Texts
+pub mod Texts
+pub mod Distinct
+pub mod LegalItems
+pub mod Names
+pub mod Logs

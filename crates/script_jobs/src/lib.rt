@@ -1,18 +1,24 @@
-//! What the laws of the word machine ask of a job, the job of each accepted script has: so they speak
-//! of every script that is accepted.
+//! What laws ask of a job, the job of each accepted script has: so those of the word machine and of
+//! the log speak of every script that is accepted.
 //!
-//! `ft_script` says which texts are scripts and what their jobs are (`IsJobOf`), and `word_machine` of
-//! which jobs its laws speak (`IsLimited`). The reader of scripts shows that what a text declares keeps
-//! to the limits, line by line, since the machine asks for it; here that is said of whole texts. So it
-//! holds of each script by what it says alone, also where there is no memory to read it. There is no
-//! code, and no definition of its own that an edit could turn.
+//! `ft_script` says which texts are scripts and what their jobs are (`IsJobOf`). `word_machine` says
+//! of which jobs its laws speak (`IsLimited`), and `trace_lines` of which jobs and items the log tells
+//! everything (`IsNamedApart`, `IsItemOf`). The reader of scripts shows that what a text declares keeps
+//! to the limits, line by line, since the machine asks for it; here that is said of whole texts, and
+//! that names and pids differ besides, which the machine has no need of. So it holds of each script by
+//! what it says alone, also where there is no memory to read it. There is no code, and no definition
+//! of its own that an edit could turn.
 #![tactic(auto)]
 
-ghost use Rattle.std.specs.Prelude.{ℕ, ◌≡◌, true, List, reverse};
+ghost use Rattle.std.specs.Prelude.{ℕ, ◌≡◌, ◌<◌, ◌^◌, Bool, true, List, reverse, length};
+ghost use Rattle.std.specs.List.{AllByRecursion as Each};
+ghost use Rattle.ft_base.specs.declared.item.Item.{Item};
 ghost use Rattle.ft_base.specs.declared.turn.Actor.{Actor};
 ghost use Rattle.ft_base.specs.Job.{Job};
 ghost use Rattle.ft_hist.specs.Rules.{IsLegal, IsWhole};
 ghost use Rattle.ft_script.specs.Script.{IsJobOf};
+ghost use Rattle.trace_lines.specs.LogItems.{IsItemOf, IsNamedApart};
+ghost use Rattle.trace_views.specs.LogText.{log_text};
 ghost use Rattle.word_machine.specs.Limits.{IsLimited};
 ghost use Rattle.word_machine.specs.Machine.{start, run, all_end};
 
@@ -32,4 +38,26 @@ pub fn every_history_of_a_script_is_legal()
     ensures whole { (text : List ℕ) (job : Job) (actors : List Actor) → IsJobOf text job
         → all_end job (run job actors (start job)) ≡ true
         → IsWhole job (reverse (run job actors (start job)).past) }
+{}
+
+/// The functions of an accepted script have names that differ, its users too, and the pids of its
+/// tasks differ.
+pub fn accepted_jobs_are_named_apart()
+    ensures { (text : List ℕ) (job : Job) → IsJobOf text job → IsNamedApart job }
+{}
+
+/// Each item of a legal history of an accepted script has numbers that the job has: tasks, functions
+/// and users, and counts of 64 bits.
+pub fn legal_items_are_the_jobs()
+    ensures items { (text : List ℕ) (job : Job) (items : List Item) → IsJobOf text job
+        → IsLegal job items → Each (IsItemOf job) items }
+    ensures count { (text : List ℕ) (job : Job) (items : List Item) → IsJobOf text job
+        → IsLegal job items → length items < 2 ^ 64 }
+{}
+
+/// So the log of a script tells its history: two legal histories of its job with the same log, and
+/// whether they have ended, are the same.
+pub fn the_log_of_a_script_tells_its_history()
+    ensures { (text : List ℕ) (job : Job) (a b : List Item) (x y : Bool) → IsJobOf text job
+        → IsLegal job a → IsLegal job b → log_text job a x ≡ log_text job b y → (a ≡ b) × (x ≡ y) }
 {}

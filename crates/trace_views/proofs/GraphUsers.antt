@@ -17,7 +17,7 @@ use Rattle.trace_views.specs.GraphLines.{IsWalk, IsWalkAt}
 use Rattle.trace_views.proofs.GraphLegal.{legal-nests}
 use Rattle.trace_views.proofs.ItemTexts.{texts-more}
 
-each-turned : {X : Type 0} (P : X → Type 0) (xs : List X) → Each P xs → Each P (reverse xs)
+pub each-turned : {X : Type 0} (P : X → Type 0) (xs : List X) → Each P xs → Each P (reverse xs)
 each-turned P [] h = tt
 each-turned P (x ∷ xs) h = subst (λ ys. Each P ys) (sym (reverse-append (x ∷ []) xs)) (Each-snoc P (reverse xs) x (each-turned P xs h.1) h.0)
 
