@@ -19,6 +19,7 @@ use Rattle.word_machine.specs.Control.{Position, Copy, Push, Wait1, Wait2, Wait3
 use Rattle.word_machine.specs.Task.{OpenCall, TaskState, Moment, Polling, First, Fetch, GotHead, GotBreak, InTramp, AtFirst, TestSel, TestFilter, TestNotrace, AtPids, AtDepth, Refusing, Calling, Missing, Acting, Ending, AtLink}
 use Rattle.word_machine.specs.Cpu.{Cpu, Phase, Going, any_has_more}
 use Rattle.word_machine.specs.Machine.{World}
+use Rattle.word_machine.specs.Verdicts.{WasTarget}
 use Rattle.word_machine.specs.Calls.{under_call}
 use Rattle.word_machine.specs.Rule.{MachineRule, IsOn}
 use Rattle.std.specs.List.{filter, range_with_len}
@@ -112,6 +113,14 @@ abbrev pub CpuTakes : Job → Cpu → ℕ → Type 0
 CpuTakes job me v = PhaseTakes job me me.phase v
 
 -- ## what is never done
+
+-- A trampoline is held for a call that is in it.
+--   names    its word names a user, under the number of a registration
+--   whose    the call's site had that user's own trampoline as its target after some command of the call's window, and it was this one, under
+--            that registration
+pub record IsHeldFor (job : Job) (s : World) (top : OpenCall) (slot u reg : ℕ) : Type 0 where
+  pub names : s.words.tramp slot ≡ tramp_word reg u
+  pub whose : WasTarget job s.past top slot u reg
 
 -- the user whose state, sets or link a walker of the list will load next, or whom it calls
 abbrev pub walked : Moment → Option ℕ

@@ -11,6 +11,10 @@ use Rattle.word_machine.specs.Progress.{took, gave, pids_stored, depth_stored, d
 abbrev pub HasSlot : UserState → ℕ → Type 0
 HasSlot s t = (s.registered ≡ true) × (s.slot ≡ Some t)
 
+-- after the first k commands the trampoline is this user's, under this registration
+abbrev pub IsOwned : Job → (slot u reg k : ℕ) → Type 0
+IsOwned job slot u reg k = HasSlot (state_of job k u) slot × ((state_of job k u).reg ≡ reg)
+
 -- The trampolines' words.
 --   before   whoever has a trampoline before the command has its word, until control gives it back, which is after the wait for quiet
 --            points. Otherwise a task that was preempted in the trampoline would call nobody, or another user

@@ -23,7 +23,7 @@ use Rattle.word_machine.specs.Progress.{SeenAt, selected, pids_stored, depth_sto
 use Rattle.word_machine.specs.Sites.{FetchAt, stage}
 use Rattle.word_machine.specs.UserList.{since_of, list_desk, Unlinked, ListWalk}
 use Rattle.word_machine.specs.HashCopies.{ReaderAt, InFilter, InNotrace}
-use Rattle.word_machine.specs.Trampolines.{HasSlot}
+use Rattle.word_machine.specs.Trampolines.{IsOwned}
 
 -- what the facts on tasks read of control and of the words: how many commands have returned, control's position, its requests, those
 -- before the batch, its list of users, the copies in use, the links and the copies of sets
@@ -116,16 +116,22 @@ AfterVisit job h q Nop u ms = ⊥
 abbrev pub RanIs : Job → List Item → OpenCall → Type 0
 RanIs job past c = InWindow c.call past (λ k. c.ran ≡ target (desk job k) c.func)
 
--- a trampoline was fetched: it was the target as some user's own, and that user still has it. Otherwise its word would be 0, or another
--- user's
-abbrev pub TrampSeen : Job → Here → List Item → ℕ → OpenCall → ℕ → Type 0
-TrampSeen job h past q c slot =
-    (u : ℕ) × InWindow c.call past (λ k. target (desk job k) c.func ≡ Own (record { 0 = u }))
-    × Seen job h q (selected h.p) (λ k. (is_sited (desk job k) u c.func ≡ true) × HasSlot (state_of job k u) slot)
+-- the target was this user's own trampoline at some command of the window, when the trampoline was the user's under this registration
+abbrev pub WasTarget : Job → List Item → OpenCall → (slot u reg : ℕ) → Type 0
+WasTarget job past c slot u reg = InWindow c.call past (λ k. (target (desk job k) c.func ≡ Own (record { 0 = u })) × IsOwned job slot u reg k)
 
--- its word was loaded: the user matches the function, under this registration
-abbrev pub OwnSeen : Job → Here → ℕ → OpenCall → ℕ → ℕ → Type 0
-OwnSeen job h q c u reg = Seen job h q (selected h.p) (λ k. (is_sited (desk job k) u c.func ≡ true) × ((state_of job k u).reg ≡ reg))
+-- a call is in that trampoline: it is still the user's, who still matches the function. Otherwise its word would be 0, or another user's
+abbrev pub InOwn : Job → Here → List Item → ℕ → OpenCall → (slot u reg : ℕ) → Type 0
+InOwn job h past q c slot u reg =
+    WasTarget job past c slot u reg × Seen job h q (selected h.p) (λ k. (is_sited (desk job k) u c.func ≡ true) × IsOwned job slot u reg k)
+
+-- a trampoline was fetched: whose it is is not known yet
+abbrev pub TrampSeen : Job → Here → List Item → ℕ → OpenCall → (slot : ℕ) → Type 0
+TrampSeen job h past q c slot = (u : ℕ) × (reg : ℕ) × InOwn job h past q c slot u reg
+
+-- its word was loaded, and has told whose it is
+abbrev pub OwnSeen : Job → Here → List Item → ℕ → OpenCall → (u reg : ℕ) → Type 0
+OwnSeen job h past q c u reg = (slot : ℕ) × InOwn job h past q c slot u reg
 
 -- the task is traced, if the user has the pid flag. Otherwise it would be called back for a task that both lists bar
 abbrev pub PidSeen : Job → Here → ℕ → ℕ → ℕ → Type 0
@@ -159,7 +165,7 @@ DispatchAt job h past ack q c below ms (GotHead byte) =
 DispatchAt job h past ack q c below ms GotBreak =
     (ms ≡ []) × FetchAt (stage job h.d h.p c.func) (insn job h.d c.func) (insn job (suc h.d) c.func) h.base ack GotBreak
 DispatchAt job h past ack q c below ms (InTramp slot) = (ms ≡ []) × TrampSeen job h past q c slot
-DispatchAt job h past ack q c below ms (OwnSel u reg) = (ms ≡ []) × RanIs job past c × (c.ran ≡ Own (record { 0 = u })) × OwnSeen job h q c u reg
+DispatchAt job h past ack q c below ms (OwnSel u reg) = (ms ≡ []) × RanIs job past c × (c.ran ≡ Own (record { 0 = u })) × OwnSeen job h past q c u reg
 DispatchAt job h past ack q c below ms AtFirst = (ms ≡ []) × RanIs job past c × (c.ran ≡ ByList)
 DispatchAt job h past ack q c below ms (TestSel u) = RanIs job past c × BeforeVisit job h q c.ran u ms × (c.ran ≡ ByList)
 DispatchAt job h past ack q c below ms (TestFilter u copy reg) =

@@ -27,8 +27,8 @@ module _ (job : Job) (h : Here) (past past' : List Item) (le : begun past ≤ be
   at_carried ack q c below ms Fetch u x = x
   at_carried ack q c below ms (GotHead byte) u x = x
   at_carried ack q c below ms GotBreak u x = x
-  at_carried ack q c below ms (InTramp slot) u x = (x.0, (x.1.0, window_carried c.call _ u x.1.1, x.1.2))
-  at_carried ack q c below ms (OwnSel v reg) u x = (x.0, window_carried c.call _ u x.1, x.2, x.3)
+  at_carried ack q c below ms (InTramp slot) u x = (x.0, (x.1.0, x.1.1, (window_carried c.call _ u x.1.2.0, x.1.2.1)))
+  at_carried ack q c below ms (OwnSel v reg) u x = (x.0, window_carried c.call _ u x.1, x.2, (x.3.0, (window_carried c.call _ u x.3.1.0, x.3.1.1)))
   at_carried ack q c below ms AtFirst u x = (x.0, window_carried c.call _ u x.1, x.2)
   at_carried ack q c below ms (TestSel v) u x = (window_carried c.call _ u x.0, x.1, x.2)
   at_carried ack q c below ms (TestFilter v copy reg) u x = (window_carried c.call _ u x.0, x.1, x.2, x.3, x.4)

@@ -1,30 +1,29 @@
 -- Each value that a dispatch loads fits its step: the bytes of an instruction, a trampoline's user, a user that was not visited.
-use Rattle.std.proofs.Common.{◌≡◌, ◌⊎◌, ℕ, zero, suc, ◌+◌, ◌<◌, ◌≤◌, Bool, true, false, ◌||◌, List, [], ◌∷◌, length, inl, inr, refl, sym, ap, ◌∙◌, subst, arith, eqb-true}
+use Rattle.std.proofs.Common.{◌≡◌, ◌⊎◌, ℕ, zero, suc, ◌+◌, ◌<◌, ◌≤◌, true, false, ◌||◌, List, [], ◌∷◌, length, inl, inr, refl, sym, subst, arith, eqb-true}
 use Rattle.std.specs.Prelude.{◌==◌}
 use Rattle.std.specs.List.{list_any, AllByRecursion as Each}
 use Rattle.ft_base.specs.declared.item.Ran.TheVariants.{List as ByList}
 use Rattle.ft_base.specs.declared.item.Item.{Item}
 use Rattle.ft_base.specs.Job.{Job, funcs}
-use Rattle.ft_base.specs.Desk.{desk, is_sited}
 use Rattle.ft_base.specs.Same.{same_call}
-use Rattle.ft_base.proofs.Small.{false_true, Each-filter}
+use Rattle.ft_base.proofs.Small.{Each-filter}
 use Rattle.ft_hist.specs.Past.{begun, all_visits, visits, Visit}
 use Rattle.ft_hist.specs.Rules.{IsLegalPast, IsUnvisited}
 use Rattle.word_map.specs.Contents.{tramp_word}
 use Rattle.word_map.specs.Instructions.{head_of, tail_of}
-use Rattle.word_machine.specs.Commands.{insn, effect, state_of}
+use Rattle.word_machine.specs.Commands.{insn, effect}
 use Rattle.word_machine.specs.Task.{OpenCall, GotHead, GotBreak, InTramp, AtFirst, AtLink, walks_to}
-use Rattle.word_machine.specs.Progress.{SeenAt, selected, quiet_reached}
+use Rattle.word_machine.specs.Progress.{quiet_reached}
 use Rattle.word_machine.specs.Sites.{stage, FetchAt, SiteAt, SitesInPatching}
 use Rattle.word_machine.specs.UserList.{since_of, list_desk, UserList}
-use Rattle.word_machine.specs.Trampolines.{HasSlot, TrampolinesHeld}
+use Rattle.word_machine.specs.Trampolines.{TrampolinesHeld}
 use Rattle.word_machine.specs.Verdicts.{Here, Dispatches, BeforeVisit}
 use Rattle.word_machine.specs.Rule.{Counts, IsWordJob}
 use Rattle.word_machine_laws.proofs.Visiting.{told, walk-since}
 use Rattle.word_machine_laws.proofs.DeskNumbers.{registered-inside}
 use Rattle.word_machine_laws.proofs.LoadFetch.{breaks}
 use Rattle.word_machine_laws.proofs.LoadList.{first_kept, link_kept}
-use Rattle.word_machine_laws.proofs.Effects.{gave_close, selected_took, close-passed}
+use Rattle.word_machine_laws.proofs.OwnWord.{own-word}
 use Rattle.word_machine_laws.proofs.DeskSlots.{insn-small, since-inside}
 
 -- nobody who was visited is the one who comes next
@@ -99,23 +98,9 @@ module _ (job : Job) (ok : IsWordJob job) (h : Here) (past : List Item) (clock :
   pub tramp_fits : (slot t : ℕ) (tramp : ℕ → ℕ) → TrampolinesHeld job h.d h.p tramp → quiet_reached (effect job h.d) h.p h.request t ≤ q
       → Dispatches job h past ack q c below (InTramp slot)
       → (u : ℕ) × (reg : ℕ) × (u < length job.users) × (tramp slot ≡ tramp_word reg u)
-  tramp_fits slot t tramp k passed x = by_flag (selected h.p) refl x.at.1.2
-    where
-      by_flag : (b : Bool) → selected h.p ≡ b
-          → SeenAt b (effect job h.d) h.p h.request q ((is_sited (desk job h.d) x.at.1.0 c.func ≡ true) × HasSlot (state_of job h.d x.at.1.0) slot)
-          ((is_sited (desk job (suc h.d)) x.at.1.0 c.func ≡ true) × HasSlot (state_of job (suc h.d) x.at.1.0) slot)
-          → (u : ℕ) × (reg : ℕ) × (u < length job.users) × (tramp slot ≡ tramp_word reg u)
-      by_flag false e own = (
-        x.at.1.0,
-        (state_of job h.d x.at.1.0).reg,
-        registered-inside job h.d x.at.1.0 own.1.0,
-        k.before x.at.1.0 slot own.1 (λ g. false_true (sym (sym (ap selected (gave_close (effect job h.d) h.p g).1) ∙ e))),
-      )
-      by_flag true e (inl own) =
-          (x.at.1.0, (state_of job (suc h.d) x.at.1.0).reg, registered-inside job (suc h.d) x.at.1.0 own.1.0, k.after (selected_took h.p e) x.at.1.0 slot own.1)
-      by_flag true e (inr y) = (
-        x.at.1.0,
-        (state_of job h.d x.at.1.0).reg,
-        registered-inside job h.d x.at.1.0 y.2.1.0,
-        k.before x.at.1.0 slot y.2.1 (λ g. absurd (close-passed (effect job h.d) h.p h.request q t (gave_close (effect job h.d) h.p g).1 y.0 passed y.1)),
-      )
+  tramp_fits slot t tramp k passed x = (
+    x.at.1.0,
+    x.at.1.1,
+    registered-inside job x.at.1.2.0.0 x.at.1.0 x.at.1.2.0.3.1.0.0,
+    own-word job h past q c slot x.at.1.0 x.at.1.1 t tramp k passed x.at.1.2,
+  )

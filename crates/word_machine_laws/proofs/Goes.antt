@@ -23,7 +23,7 @@ use Rattle.word_machine.specs.Sites.{reached}
 use Rattle.word_machine.specs.UserList.{since_of, list_desk}
 use Rattle.word_machine.specs.HashCopies.{ReaderAt, Reader, InFilter, InNotrace}
 use Rattle.word_machine.specs.Trampolines.{HasSlot}
-use Rattle.word_machine.specs.Verdicts.{Here, Seen, SeenVisit, Found, SeenLive, may_come, may_come_before, may_come_after, Walks, BeforeVisit, AfterVisit, TrampSeen, OwnSeen, PidSeen, LevelSeen, DeepSeen, ReasonAt, DispatchAt, Dispatches}
+use Rattle.word_machine.specs.Verdicts.{Here, Seen, SeenVisit, Found, SeenLive, may_come, may_come_before, may_come_after, Walks, BeforeVisit, AfterVisit, InOwn, PidSeen, LevelSeen, DeepSeen, ReasonAt, DispatchAt, Dispatches}
 use Rattle.word_machine.specs.Calls.{Leaves, CallAt, Calls, under_by, under_call}
 use Rattle.word_machine.specs.Tasks.{TaskRule, StandsIn}
 use Rattle.word_machine.specs.Rule.{CpuRule, PollAt}
@@ -73,11 +73,11 @@ module _ (job : Job) (past : List Item) (h h' : Here) (ack q : ℕ) (g : Goes jo
   live_goes : (u reg : ℕ) → SeenLive job h q u reg → SeenLive job h' q u reg
   live_goes u reg x = g.user u (λ s. (s.registered && s.enabled && (s.reg == reg)) ≡ true) (live_steady reg) x
 
-  tramp_goes : (c : OpenCall) (slot : ℕ) → TrampSeen job h past q c slot → TrampSeen job h' past q c slot
-  tramp_goes c slot x = (x.0, x.1, g.user x.0 (λ s. ((s.registered && is_matching s c.func) ≡ true) × HasSlot s slot) (λ s r. (r.1.0, r)) x.2)
-
-  own_goes : (c : OpenCall) (u reg : ℕ) → OwnSeen job h q c u reg → OwnSeen job h' q c u reg
-  own_goes c u reg x = g.user u (λ s. ((s.registered && is_matching s c.func) ≡ true) × (s.reg ≡ reg)) (λ s r. (sited_registered s c.func r.0, r)) x
+  own_goes : (c : OpenCall) (slot u reg : ℕ) → InOwn job h past q c slot u reg → InOwn job h' past q c slot u reg
+  own_goes c slot u reg x = (
+    x.0,
+    g.user u (λ s. ((s.registered && is_matching s c.func) ≡ true) × (HasSlot s slot × (s.reg ≡ reg))) (λ s r. (sited_registered s c.func r.0, r)) x.1,
+  )
 
   pid_goes : (u t : ℕ) → PidSeen job h q u t → PidSeen job h' q u t
   pid_goes u t x e = g.pids t true (x e)
@@ -109,8 +109,8 @@ module _ (job : Job) (past : List Item) (h h' : Here) (ack q : ℕ) (g : Goes jo
   at_goes c below ms Fetch inside x = x
   at_goes c below ms (GotHead byte) inside x = (x.0, g.fetch c.func (GotHead byte) inside x.1)
   at_goes c below ms GotBreak inside x = (x.0, g.fetch c.func GotBreak inside x.1)
-  at_goes c below ms (InTramp slot) inside x = (x.0, tramp_goes c slot x.1)
-  at_goes c below ms (OwnSel v reg) inside x = (x.0, x.1, x.2, own_goes c v reg x.3)
+  at_goes c below ms (InTramp slot) inside x = (x.0, (x.1.0, x.1.1, own_goes c slot x.1.0 x.1.1 x.1.2))
+  at_goes c below ms (OwnSel v reg) inside x = (x.0, x.1, x.2, (x.3.0, own_goes c x.3.0 v reg x.3.1))
   at_goes c below ms AtFirst inside x = x
   at_goes c below ms (TestSel v) inside x = (x.0, before_goes c.ran v ms x.1, x.2)
   at_goes c below ms (TestFilter v copy reg) inside x = (

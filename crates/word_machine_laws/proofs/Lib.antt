@@ -39,6 +39,7 @@ pub mod MarkReturn
 pub mod LoadMoments
 pub mod LoadFetch
 pub mod LoadTests
+pub mod OwnWord
 pub mod LoadOwn
 pub mod LoadList
 pub mod LoadReturn

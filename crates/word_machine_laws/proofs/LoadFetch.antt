@@ -7,6 +7,7 @@ use Rattle.ft_base.specs.declared.item.Ran.TheVariants.{Nop, List as ByList}
 use Rattle.ft_base.specs.declared.item.Item.{Item}
 use Rattle.ft_base.specs.Job.{Job, funcs}
 use Rattle.ft_base.specs.Desk.{desk, is_sited}
+use Rattle.ft_base.proofs.Small.{false_true}
 use Rattle.ft_hist.specs.Past.{begun, visits, entry_of}
 use Rattle.ft_hist.specs.Rules.{InWindow}
 use Rattle.site_bytes.specs.Bytes.{breakpoint}
@@ -16,12 +17,13 @@ use Rattle.word_machine.specs.Control.{Position, Wait3}
 use Rattle.word_machine.specs.Task.{OpenCall, Moment, Fetch, GotHead, GotBreak, InTramp, AtFirst, Closing, head_in, fetched, fetched_ran}
 use Rattle.word_machine.specs.Progress.{SeenAt, selected, underway, begun_at}
 use Rattle.word_machine.specs.Sites.{stage, stage_in, stage_by, asks, SiteAt, FetchAt, SitesInPatching}
-use Rattle.word_machine.specs.Trampolines.{HasSlot}
+use Rattle.word_machine.specs.Trampolines.{IsOwned}
 use Rattle.word_machine.specs.Verdicts.{Here, Dispatches, TrampSeen}
 use Rattle.word_machine.specs.Rule.{Counts, IsWordJob}
 use Rattle.word_machine_laws.proofs.Seen.{selected-underway}
 use Rattle.word_machine.proofs.Small.{if_case}
 use Rattle.word_machine_laws.proofs.Contents.{decode_own}
+use Rattle.word_machine_laws.proofs.DeskChanges.{numbers-kept}
 use Rattle.word_machine_laws.proofs.DeskNumbers.{InsnSays, insn-says, sites_kept, unchanged}
 use Rattle.word_machine_laws.proofs.LoadMoments.{running, dispatch_goes, entry-from}
 use Rattle.word_machine_laws.proofs.Effects.{early, late}
@@ -99,56 +101,54 @@ module _ (job : Job) (ok : IsWordJob job) (h : Here) (past : List Item) (clock :
       subst (λ n. P (suc h.d) n) (sym x.0) (says (suc h.d)),
     )
 
-    -- a trampoline: its user was the target, and still has it
+    -- whose a trampoline is: a user's that is sited and has it, under this registration
+    abbrev Owns : (t u reg k : ℕ) → Type 0
+    Owns t u reg k = (is_sited (desk job k) u c.func ≡ true) × IsOwned job t u reg k
+
+    -- the target at a desk of the window is a trampoline, and its user still has it
+    owned-at : (t k : ℕ) → (entry_of c.call past).from ≤ k → k ≤ begun past → (o : InsnSays job k c.func (suc (suc t)))
+        → SeenAt (selected h.p) (effect job h.d) h.p h.request q (Owns t o.0 (state_of job k o.0).reg h.d) (Owns t o.0 (state_of job k o.0).reg (suc h.d))
+        → TrampSeen job h past q c t
+    owned-at t k from to o seen = (o.0, (state_of job k o.0).reg, ((k, from, to, (o.1, (o.3, refl))), seen))
+
+    -- by the new desk, whose user's state is stored
+    owned-new : (t : ℕ) → selected h.p ≡ true → InsnSays job (suc h.d) c.func (suc (suc t)) → TrampSeen job h past q c t
+    owned-new t sel o =
+        let reg = (state_of job (suc h.d) o.0).reg in
+        owned-at t (suc h.d) (omega (arith, low)) (begun-high (selected-underway h.p sel)) o
+        (subst (λ b. SeenAt b (effect job h.d) h.p h.request q (Owns t o.0 reg h.d) (Owns t o.0 reg (suc h.d))) (sym sel) (inl (o.2, (o.3, refl))))
+
+    -- by the old desk
+    owned-old : (t : ℕ) (o : InsnSays job h.d c.func (suc (suc t)))
+        → (selected h.p ≡ true → SeenAt true (effect job h.d) h.p h.request q (Owns t o.0 (state_of job h.d o.0).reg h.d)
+        (Owns t o.0 (state_of job h.d o.0).reg (suc h.d))) → TrampSeen job h past q c t
+    owned-old t o still = owned-at t h.d low begun-low o (by_flag (selected h.p) refl)
+      where
+        by_flag : (b : Bool) → selected h.p ≡ b → SeenAt b (effect job h.d) h.p h.request q (Owns t o.0 (state_of job h.d o.0).reg h.d)
+            (Owns t o.0 (state_of job h.d o.0).reg (suc h.d))
+        by_flag false e = (o.2, (o.3, refl))
+        by_flag true e = still e
+
+    -- a trampoline was decoded: its user was the target, and still has it
     tramp-decoded : (t : ℕ) → Decoded c.func (suc (suc t)) → TrampSeen job h past q c t
     tramp-decoded t (inr x) =
-        let o : InsnSays job (suc h.d) c.func (suc (suc t)) = subst (λ n. InsnSays job (suc h.d) c.func n) (sym x.0) (insn-says job (suc h.d) c.func) in
-        let sel : selected h.p ≡ true = staged c.func x.1 in (
-          o.0,
-          (suc h.d, (omega (arith, low)), begun-high (selected-underway h.p sel), o.1),
-          subst (λ b. SeenAt b (effect job h.d) h.p h.request q ((is_sited (desk job h.d) o.0 c.func ≡ true) × HasSlot (state_of job h.d o.0) t)
-              ((is_sited (desk job (suc h.d)) o.0 c.func ≡ true) × HasSlot (state_of job (suc h.d) o.0) t)) (sym sel) (inl (o.2, o.3)),
-        )
+        owned-new t (staged c.func x.1) (subst (λ n. InsnSays job (suc h.d) c.func n) (sym x.0) (insn-says job (suc h.d) c.func))
     tramp-decoded t (inl x) = by_change (changes job h.d c.func) refl x.1
       where
         o : InsnSays job h.d c.func (suc (suc t))
         o = subst (λ n. InsnSays job h.d c.func n) (sym x.0) (insn-says job h.d c.func)
 
         by_change : (b : Bool) → changes job h.d c.func ≡ b → stage_by b (stage_in h.p c.func) < 5 → TrampSeen job h past q c t
-        by_change true e low5 = (o.0, (h.d, low, begun-low, o.1), by_flag (selected h.p))
-          where
-            by_flag : (b : Bool) → SeenAt b (effect job h.d) h.p h.request q ((is_sited (desk job h.d) o.0 c.func ≡ true) × HasSlot (state_of job h.d o.0) t)
-                ((is_sited (desk job (suc h.d)) o.0 c.func ≡ true) × HasSlot (state_of job (suc h.d) o.0) t)
-            by_flag false = (o.2, o.3)
-            by_flag true = elim (sites_kept job ok.job' h.d o.0 c.func t (o.2, o.3)) [
-              | inl w ↦ inr (
-                w,
-                early (effect job h.d) h.p c.func h.request q low5,
-                (o.2, o.3),
-              )
-              | inr new ↦ inl new
-            ]
+        by_change true e low5 = owned-old t o (λ sel. elim (sites_kept job ok.job' h.d o.0 c.func t (o.2, o.3)) [
+          | inl w ↦ inr (w, early (effect job h.d) h.p c.func h.request q low5, (o.2, (o.3, refl)))
+          | inr new ↦ inl (new.0, (new.1, (numbers-kept job ok.job' h.d o.0 o.3.0).1))
+        ])
         by_change false e low5 = by_flag (selected h.p) refl
           where
-            same : insn job h.d c.func ≡ insn job (suc h.d) c.func
-            same = unchanged job h.d c.func e
-
-            o' : InsnSays job (suc h.d) c.func (suc (suc t))
-            o' = subst (λ n. InsnSays job (suc h.d) c.func n) (sym (x.0 ∙ same)) (insn-says job (suc h.d) c.func)
-
             by_flag : (b : Bool) → selected h.p ≡ b → TrampSeen job h past q c t
-            by_flag false z = (
-              o.0,
-              (h.d, low, begun-low, o.1),
-              subst (λ b. SeenAt b (effect job h.d) h.p h.request q ((is_sited (desk job h.d) o.0 c.func ≡ true) × HasSlot (state_of job h.d o.0) t)
-                  ((is_sited (desk job (suc h.d)) o.0 c.func ≡ true) × HasSlot (state_of job (suc h.d) o.0) t)) (sym z) (o.2, o.3),
-            )
-            by_flag true z = (
-              o'.0,
-              (suc h.d, (omega (arith, low)), begun-high (selected-underway h.p z), o'.1),
-              subst (λ b. SeenAt b (effect job h.d) h.p h.request q ((is_sited (desk job h.d) o'.0 c.func ≡ true) × HasSlot (state_of job h.d o'.0) t)
-                  ((is_sited (desk job (suc h.d)) o'.0 c.func ≡ true) × HasSlot (state_of job (suc h.d) o'.0) t)) (sym z) (inl (o'.2, o'.3)),
-            )
+            by_flag false z = owned-old t o (λ sel. false_true (sym z ∙ sel))
+            by_flag true z =
+                owned-new t z (subst (λ n. InsnSays job (suc h.d) c.func n) (sym (x.0 ∙ unchanged job h.d c.func e)) (insn-says job (suc h.d) c.func))
 
   module _ (ack q : ℕ) (c : OpenCall) (below : List OpenCall) where
     -- after the decoding

@@ -1,5 +1,5 @@
 -- A dispatch by a user's own trampoline: the load of its word, and of the user's state.
-use Rattle.std.proofs.Common.{◌≡◌, ◌⊎◌, ℕ, suc, ◌+◌, ◌<◌, ◌≤◌, Bool, true, false, ◌&&◌, List, inl, inr, refl, sym, ap, ◌∙◌, subst, arith}
+use Rattle.std.proofs.Common.{◌≡◌, ◌⊎◌, ℕ, suc, ◌≤◌, Bool, true, false, ◌&&◌, List, inl, inr, refl, sym, ap, ◌∙◌, subst, arith}
 use Rattle.std.specs.List.{AllByRecursion as Each}
 use Rattle.std.proofs.lemmas.Bool.{cases_eq, ne_eqb, eq-eqb}
 use Rattle.ft_base.specs.declared.item.Ran.TheVariants.{Own}
@@ -10,21 +10,21 @@ use Rattle.ft_base.proofs.Small.{false_true}
 use Rattle.ft_hist.specs.Past.{visits, Visit}
 use Rattle.ft_hist.specs.Rules.{OnlyThose}
 use Rattle.ft_hist.specs.Known.{WasOff}
-use Rattle.word_map.specs.Contents.{high, half_size, sel_on, stands, tramp_user}
+use Rattle.word_map.specs.Contents.{high, sel_on, stands, tramp_user}
 use Rattle.word_machine.specs.Commands.{Effect, Adds, Removes, Edits, Enables, Disables, Lists, Levels, Nothing, effect, subject, state_of}
 use Rattle.word_machine.specs.Task.{OpenCall, InTramp, OwnSel, Closing, own_in, begin_call}
 use Rattle.word_machine.specs.Progress.{SeenAt, HoldsAt, waits, selected, desk_by, quiet_reached}
 use Rattle.word_machine.specs.HashCopies.{HashCopies, Reader}
-use Rattle.word_machine.specs.Trampolines.{HasSlot, TrampolinesHeld}
-use Rattle.word_machine.specs.Verdicts.{Here, Found, Dispatches, BeforeVisit, may_come_before, may_come_closing}
+use Rattle.word_machine.specs.Trampolines.{TrampolinesHeld}
+use Rattle.word_machine.specs.Verdicts.{Here, Seen, Found, InOwn, Dispatches, BeforeVisit, may_come_before, may_come_closing}
 use Rattle.word_machine.specs.Rule.{Counts, IsWordJob}
-use Rattle.word_machine_laws.proofs.Seen.{selected-underway}
+use Rattle.word_machine_laws.proofs.Seen.{seen_map, selected-underway}
 use Rattle.word_machine_laws.proofs.DeskChanges.{SubjectBy, between, numbers-kept}
 use Rattle.word_machine_laws.proofs.Contents.{sel-reg-is, test_on, test_off, tramp-reads}
 use Rattle.word_machine_laws.proofs.DeskNumbers.{other-same, registered-inside, sited-registered}
 use Rattle.word_machine_laws.proofs.LoadMoments.{running, dispatch_goes}
 use Rattle.word_machine_laws.proofs.LoadTests.{since_now, Comes, off-seen, seen-desk, low-of, begin_kept}
-use Rattle.word_machine_laws.proofs.Effects.{gave_close, selected_took, close-passed}
+use Rattle.word_machine_laws.proofs.OwnWord.{own-word}
 
 module _ (job : Job) (ok : IsWordJob job) (h : Here) (past : List Item) (clock : ℕ) (counts : Counts h.d h.p clock past) (ack q : ℕ) (c : OpenCall)
     (below : List OpenCall) where
@@ -33,50 +33,35 @@ module _ (job : Job) (ok : IsWordJob job) (h : Here) (past : List Item) (clock :
       → Dispatches job h past ack q c below (InTramp slot)
       → Dispatches job h past ack q (running c (Own (record { 0 = tramp_user (tramp slot) }))) below (OwnSel (tramp_user (tramp slot)) (high (tramp slot)))
   tramp_kept slot t tramp k passed x =
-      let o = x.at.1 in let r = by_flag (selected h.p) refl o.2 in
       dispatch_goes job h past ack q c below (InTramp slot) (OwnSel (tramp_user (tramp slot)) (high (tramp slot)))
       (Own (record { 0 = tramp_user (tramp slot) })) x (λ u un. inl refl)
-      (x.at.0, (o.1.0, o.1.1, o.1.2, ap (λ v. Own (record { 0 = v })) r.0 ∙ sym o.1.3), refl, r.1)
+      (x.at.0, (own.0.0, own.0.1, own.0.2, sym own.0.3.0), refl, (slot, own))
     where
-      u : ℕ
-      u = x.at.1.0
+      reads : (tramp_user (tramp slot) ≡ x.at.1.0) × (high (tramp slot) ≡ x.at.1.1)
+      reads = tramp-reads (tramp slot) x.at.1.1 x.at.1.0
+          (let i = registered-inside job x.at.1.2.0.0 x.at.1.0 x.at.1.2.0.3.1.0.0 in let m = ok.users in omega (arith, i, m))
+          (own-word job h past q c slot x.at.1.0 x.at.1.1 t tramp k passed x.at.1.2)
 
-      Sited : ℕ → ℕ → ℕ → Type 0
-      Sited j v reg = (is_sited (desk job j) v c.func ≡ true) × ((state_of job j v).reg ≡ reg)
-
-      small : (j : ℕ) → (is_sited (desk job j) x.at.1.0 c.func ≡ true) → x.at.1.0 + 1 < half_size
-      small j e = (let i = registered-inside job j x.at.1.0 (sited-registered job j x.at.1.0 c.func e) in let m = ok.users in omega (arith, i, m))
-
-      by_flag : (b : Bool) → selected h.p ≡ b
-          → SeenAt b (effect job h.d) h.p h.request q ((is_sited (desk job h.d) x.at.1.0 c.func ≡ true) × HasSlot (state_of job h.d x.at.1.0) slot)
-          ((is_sited (desk job (suc h.d)) x.at.1.0 c.func ≡ true) × HasSlot (state_of job (suc h.d) x.at.1.0) slot)
-          → (tramp_user (tramp slot) ≡ x.at.1.0) × SeenAt b (effect job h.d) h.p h.request q (Sited h.d (tramp_user (tramp slot)) (high (tramp slot)))
-          (Sited (suc h.d) (tramp_user (tramp slot)) (high (tramp slot)))
-      by_flag false e own =
-          let r = tramp-reads (tramp slot) (state_of job h.d x.at.1.0).reg x.at.1.0 (small h.d own.0)
-          (k.before x.at.1.0 slot own.1 (λ g. absurd (let z = gave_close (effect job h.d) h.p g in let y : true ≡ false = ap selected (sym z.1) ∙ e in cc))) in
-          (r.0, subst (λ (y : ℕ × ℕ). Sited h.d y.0 y.1) (λ i. (sym r.0 i, sym r.1 i)) (own.0, refl))
-      by_flag true e (inl own) =
-          let r = tramp-reads (tramp slot) (state_of job (suc h.d) x.at.1.0).reg x.at.1.0 (small (suc h.d) own.0)
-          (k.after (selected_took h.p e) x.at.1.0 slot own.1) in
-          (r.0, inl (subst (λ (y : ℕ × ℕ). Sited (suc h.d) y.0 y.1) (λ i. (sym r.0 i, sym r.1 i)) (own.0, refl)))
-      by_flag true e (inr y) =
-          let own = y.2 in
-          let r = tramp-reads (tramp slot) (state_of job h.d x.at.1.0).reg x.at.1.0 (small h.d own.0)
-          (k.before x.at.1.0 slot own.1 (λ g. absurd (let z = gave_close (effect job h.d) h.p g in
-          close-passed (effect job h.d) h.p h.request q t z.1 y.0 passed y.1))) in
-          (r.0, inr (y.0, y.1, subst (λ (w : ℕ × ℕ). Sited h.d w.0 w.1) (λ i. (sym r.0 i, sym r.1 i)) (own.0, refl)))
+      own : InOwn job h past q c slot (tramp_user (tramp slot)) (high (tramp slot))
+      own = subst (λ (y : ℕ × ℕ). InOwn job h past q c slot y.0 y.1) (λ i. (sym reads.0 i, sym reads.1 i)) x.at.1.2
 
   -- the load of the user's state: it is on, or was off
   pub own_kept : (u reg : ℕ) (sel : ℕ → ℕ) → HashCopies job h.d h.p h.copies sel h.bits → Dispatches job h past ack q c below (OwnSel u reg)
       → Dispatches job h past ack q c below (own_in (stands (sel u) reg) (begin_call job c below u reg))
   own_kept u reg sel sets x = by (sel_on (sel u)) refl
     where
+      Sited : ℕ → Type 0
+      Sited k = (is_sited (desk job k) u c.func ≡ true) × ((state_of job k u).reg ≡ reg)
+
+      sited : Seen job h q (selected h.p) Sited
+      sited = seen_map (selected h.p) (effect job h.d) h.p h.request q _ _ (Sited h.d) (Sited (suc h.d)) (λ own. (own.0, own.1.1)) (λ own. (own.0, own.1.1))
+          x.at.3.1.1
+
       s : UserState
       s = state_of job (desk_by (selected h.p) h.d) u
 
       number : high (sel u) ≡ reg
-      number = sel-reg-is job s (sel u) (h.copies u) (h.bits u) (sets.small u) (sets.sels u) ∙ by_flag (selected h.p) x.at.3
+      number = sel-reg-is job s (sel u) (h.copies u) (h.bits u) (sets.small u) (sets.sels u) ∙ by_flag (selected h.p) sited
         where
           by_flag : (b : Bool) → SeenAt b (effect job h.d) h.p h.request q ((is_sited (desk job h.d) u c.func ≡ true) × ((state_of job h.d u).reg ≡ reg))
               ((is_sited (desk job (suc h.d)) u c.func ≡ true) × ((state_of job (suc h.d) u).reg ≡ reg))
@@ -90,7 +75,7 @@ module _ (job : Job) (ok : IsWordJob job) (h : Here) (past : List Item) (clock :
       stands-is false e = rw e refl
 
       found : sel_on (sel u) ≡ true → Found job h q u reg c.func
-      found on = by_flag (selected h.p) (test_on job s (sel u) (h.copies u) (h.bits u) (sets.small u) (sets.sels u) on).1 x.at.3
+      found on = by_flag (selected h.p) (test_on job s (sel u) (h.copies u) (h.bits u) (sets.small u) (sets.sels u) on).1 sited
         where
           On : ℕ → Type 0
           On k = (is_on (desk job k) u c.func ≡ true) × ((state_of job k u).reg ≡ reg)

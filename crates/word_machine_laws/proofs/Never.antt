@@ -1,5 +1,5 @@
--- What is never done while a task uses it: a trampoline is not freed, a link is not stored anew, and a copy of sets is not written.
-use Rattle.std.proofs.Common.{◌≡◌, ◌≢◌, ℕ, suc, true, false, List, Some, None, inl, inr, refl, sym, ap, ◌∙◌, subst, arith}
+-- What is never done while a task uses it: a trampoline is not freed or given away, a link is not stored anew, and a copy of sets is not written.
+use Rattle.std.proofs.Common.{◌≡◌, ℕ, suc, true, false, List, Some, None, inl, inr, refl, sym, ap, ◌∙◌, subst, arith}
 use Rattle.std.proofs.lemmas.Option.{same_Some}
 use Rattle.ft_base.specs.declared.item.Ran.TheVariants.{List as ByList}
 use Rattle.ft_base.specs.Job.{Job}
@@ -9,26 +9,41 @@ use Rattle.ft_hist.specs.Past.{Visit}
 use Rattle.ft_base.proofs.Small.{false_true}
 use Rattle.word_map.specs.Contents.{low}
 use Rattle.word_machine.specs.Commands.{Effect, Adds, effect, subject, state_of}
-use Rattle.word_machine.specs.Task.{OpenCall, Moment, InTramp, TestSel, TestFilter, TestNotrace, AtPids, AtDepth, Refusing, Calling, Missing, Acting, Ending, AtLink}
+use Rattle.word_machine.specs.Task.{OpenCall, Moment, InTramp, OwnSel, TestSel, TestFilter, TestNotrace, AtPids, AtDepth, Refusing, Calling, Missing, Acting, Ending, AtLink}
 use Rattle.word_machine.specs.Machine.{World}
 use Rattle.word_machine.specs.Progress.{listed, is_adds, comes_to}
 use Rattle.word_machine.specs.UserList.{list_desk}
 use Rattle.word_machine.specs.HashCopies.{ReaderAt, InFilter, InNotrace}
-use Rattle.word_machine.specs.Verdicts.{Walks, BeforeVisit, AfterVisit}
+use Rattle.word_machine.specs.Verdicts.{InOwn, Walks, BeforeVisit, AfterVisit}
 use Rattle.word_machine.specs.Calls.{CallAt}
 use Rattle.word_machine.specs.Rule.{MachineRule, here, IsWordJob}
-use Rattle.word_machine.specs.Laws.{IsAt, IsLinking, IsWriting, walked, copy_read}
+use Rattle.word_machine.specs.Laws.{IsAt, IsHeldFor, IsLinking, IsWriting, walked, copy_read}
 use Rattle.word_machine_laws.proofs.DeskChanges.{SubjectBy, between}
-use Rattle.word_machine_laws.proofs.OpenCalls.{call-rule}
-use Rattle.word_machine_laws.proofs.Takes.{takes}
+use Rattle.word_machine_laws.proofs.OpenCalls.{task-rule, call-rule}
+use Rattle.word_machine_laws.proofs.OwnWord.{own-word}
 
 none_some : {A : Type 0} {B : Type 0} (x : A) → None ≡ Some x → B
 none_some x e = absurd (cc)
 
 module _ (job : Job) (ok : IsWordJob job) (s : World) (kept : MachineRule job s) (c t : ℕ) (top : OpenCall) (below : List OpenCall) where
-  -- a trampoline's word is not 0
-  pub in-tramp : (slot : ℕ) → IsAt job s c t top below (InTramp slot) → s.words.tramp slot ≢ 0
-  in-tramp slot at' e = let x = takes job ok s kept c t top below (InTramp slot) at' in let w = x.3 in omega (arith, w, e)
+  -- the trampoline that a call is in is held for it
+  held-for : (m : Moment) (slot u reg : ℕ) → IsAt job s c t top below m → InOwn job (here s kept.base) s.past (low (s.words.quiet t)) top slot u reg
+      → IsHeldFor job s top slot u reg
+  held-for m slot u reg at' x = record {
+    names = own-word job (here s kept.base) s.past (low (s.words.quiet t)) top slot u reg t s.words.tramp kept.tramps
+        (task-rule job s kept c t top below m at').reached x;
+    whose = x.0;
+  }
+
+  -- before the load of its word
+  pub in-tramp : (slot : ℕ) → IsAt job s c t top below (InTramp slot) → (u : ℕ) × (reg : ℕ) × IsHeldFor job s top slot u reg
+  in-tramp slot at' =
+      let x = (call-rule job s kept c t top below (InTramp slot) at').1.at.1 in (x.0, x.1, held-for (InTramp slot) slot x.0 x.1 at' x.2)
+
+  -- and before the load of its user's state
+  pub in-own : (u reg : ℕ) → IsAt job s c t top below (OwnSel u reg) → (slot : ℕ) × IsHeldFor job s top slot u reg
+  in-own u reg at' =
+      let x = (call-rule job s kept c t top below (OwnSel u reg) at').1.at.3 in (x.0, held-for (OwnSel u reg) x.0 u reg at' x.1)
 
   -- the user that control adds is not registered before the command
   added-new : is_adds (effect job s.control.commands_done) ≡ true

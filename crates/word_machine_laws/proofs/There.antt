@@ -1,5 +1,5 @@
 -- The next operation of each actor is on a word that the job has.
-use Rattle.std.proofs.Common.{cond, ◌≡◌, ℕ, zero, suc, ◌+◌, ◌/◌, ◌<◌, true, false, ◌||◌, List, [], ◌∷◌, ◌++◌, length, Some, inl, inr, ⊎_elim, refl, sym, ap, ◌∙◌, subst, arith}
+use Rattle.std.proofs.Common.{cond, ◌≡◌, ℕ, zero, suc, ◌+◌, ◌/◌, ◌<◌, true, false, ◌||◌, List, [], ◌∷◌, ◌++◌, length, Some, inl, inr, refl, sym, ap, ◌∙◌, subst, arith}
 use Rattle.std.specs.Prelude.{Option, None, is_some, ◌==◌, Contains, slice_index_or}
 use Rattle.std.specs.List.{AllByRecursion as Each}
 use Rattle.ft_base.specs.declared.number.CallNo.{CallNo}
@@ -24,17 +24,15 @@ use Rattle.word_machine.specs.Control.{Position, Line, Take, Copy, Select, Push,
 use Rattle.word_machine.specs.Task.{OpenCall, TaskState, Moment, Polling, First, Fetch, GotHead, GotBreak, InTramp, OwnSel, AtFirst, TestSel, TestFilter, TestNotrace, AtPids, AtDepth, Refusing, Calling, Missing, Acting, Ending, AtLink, Closing, Leaving, AtExit, Exiting, EndingExit, Returning, first_op, call_op, stack_op, task_op}
 use Rattle.word_machine.specs.Cpu.{Cpu, Phase, Going, StoringAck, StoringQuiet, Over, any_has_more, present_op, phase_op, cpu_next}
 use Rattle.word_machine.specs.Machine.{World}
-use Rattle.word_machine.specs.Progress.{selected, comes_to, is_adds, is_removes, writes_copy, relinks, selects}
+use Rattle.word_machine.specs.Progress.{comes_to, is_adds, is_removes, writes_copy, relinks, selects}
 use Rattle.word_machine.specs.Sites.{PositionAt}
 use Rattle.word_machine.specs.UserList.{UserList, list_desk}
-use Rattle.word_machine.specs.Trampolines.{HasSlot}
-use Rattle.word_machine.specs.Verdicts.{Here, Seen, BeforeVisit, AfterVisit, Walks}
+use Rattle.word_machine.specs.Verdicts.{Here, InOwn, BeforeVisit, AfterVisit, Walks}
 use Rattle.word_machine.specs.Calls.{CallAt, Calls, Opened}
 use Rattle.word_machine.specs.Rule.{MachineRule, here, CpuRule, PollAt, IsWordJob}
 use Rattle.word_map.specs.Shapes.{shape_of}
 use Rattle.word_map.specs.Places.{IsThere}
 use Rattle.word_machine.specs.Laws.{IsOnWord, WaitsAt}
-use Rattle.word_machine_laws.proofs.Seen.{seen_either}
 use Rattle.word_machine_laws.proofs.DeskChanges.{SubjectBy, between}
 use Rattle.word_machine_laws.proofs.DeskNumbers.{registered-inside}
 use Rattle.word_machine_laws.proofs.DeskSlots.{slot-small}
@@ -114,21 +112,8 @@ module _ (job : Job) (ok : IsWordJob job) (h : Here) (past : List Item) (ack fir
   after-inside : (q u : ℕ) (c : OpenCall) (ms : List Visit) → c.ran ≡ ByList → AfterVisit job h q c.ran u ms → u < length job.users
   after-inside q u c ms is b = walks-inside q u (subst (λ r. AfterVisit job h q r u ms) is b).0
 
-  slot-inside : (q u slot f : ℕ) → Seen job h q (selected h.p) (λ k. (is_sited (desk job k) u f ≡ true) × HasSlot (state_of job k u) slot) → slot < job.tramps
-  slot-inside q u slot f seen =
-      ⊎_elim (λ (a : (is_sited (desk job h.d) u f ≡ true) × HasSlot (state_of job h.d u) slot). slot-small job ok.job' h.d u slot a.1)
-      (λ (b : (selected h.p ≡ true) × ((is_sited (desk job (suc h.d)) u f ≡ true) × HasSlot (state_of job (suc h.d) u) slot)).
-      slot-small job ok.job' (suc h.d) u slot b.1.1)
-      (seen_either (selected h.p) (effect job h.d) h.p h.request q ((is_sited (desk job h.d) u f ≡ true) × HasSlot (state_of job h.d u) slot)
-      ((is_sited (desk job (suc h.d)) u f ≡ true) × HasSlot (state_of job (suc h.d) u) slot) seen)
-
-  own-inside : (q u reg f : ℕ) → Seen job h q (selected h.p) (λ k. (is_sited (desk job k) u f ≡ true) × ((state_of job k u).reg ≡ reg)) → u < length job.users
-  own-inside q u reg f seen =
-      ⊎_elim (λ (a : (is_sited (desk job h.d) u f ≡ true) × ((state_of job h.d u).reg ≡ reg)). sited-inside job ok.job' h.d u f a.0)
-      (λ (b : (selected h.p ≡ true) × ((is_sited (desk job (suc h.d)) u f ≡ true) × ((state_of job (suc h.d) u).reg ≡ reg))).
-      sited-inside job ok.job' (suc h.d) u f b.1.0)
-      (seen_either (selected h.p) (effect job h.d) h.p h.request q ((is_sited (desk job h.d) u f ≡ true) × ((state_of job h.d u).reg ≡ reg))
-      ((is_sited (desk job (suc h.d)) u f ≡ true) × ((state_of job (suc h.d) u).reg ≡ reg)) seen)
+  own-inside : (q slot u reg : ℕ) (c : OpenCall) → InOwn job h past q c slot u reg → (slot < job.tramps) × (u < length job.users)
+  own-inside q slot u reg c x = let own = x.0.3.1.0 in (slot-small job ok.job' x.0.0 u slot own, registered-inside job x.0.0 u own.0)
 
   pub call-there : (q t : ℕ) (x : TaskState) (c : OpenCall) (below : List OpenCall) (m : Moment) → Opened job past t c → CallAt job h past ack q c below m
       → IsOnWord job (call_op x c below m)
@@ -137,8 +122,8 @@ module _ (job : Job) (ok : IsWordJob job) (h : Here) (past : List Item) (ack fir
   call-there q t x c below Fetch o k = o.inside
   call-there q t x c below (GotHead byte) o k = o.inside
   call-there q t x c below GotBreak o k = o.inside
-  call-there q t x c below (InTramp s) o k = slot-inside q k.at.1.0 s c.func k.at.1.2
-  call-there q t x c below (OwnSel u reg) o k = own-inside q u reg c.func k.at.3
+  call-there q t x c below (InTramp s) o k = (own-inside q s k.at.1.0 k.at.1.1 c k.at.1.2).0
+  call-there q t x c below (OwnSel u reg) o k = (own-inside q k.at.3.0 u reg c k.at.3.1).1
   call-there q t x c below AtFirst o k = tt
   call-there q t x c below (TestSel u) o k = before-inside q u c (visits job c.call past) k.at.2 k.at.1
   call-there q t x c below (TestFilter u copy reg) o k =

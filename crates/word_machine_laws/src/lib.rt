@@ -17,13 +17,13 @@ ghost use Rattle.history_bound.specs.Bound.{items_of, calls_of, all_calls};
 ghost use Rattle.word_map.specs.Words.{at_put};
 ghost use Rattle.word_map.specs.Ops.{WordOp, Mark};
 ghost use Rattle.word_machine.specs.Control.{control_next};
-ghost use Rattle.word_machine.specs.Task.{OpenCall, Moment, InTramp, TaskState, task_start};
+ghost use Rattle.word_machine.specs.Task.{OpenCall, Moment, InTramp, OwnSel, TaskState, task_start};
 ghost use Rattle.word_machine.specs.Cpu.{cpu_next};
 ghost use Rattle.word_machine.specs.Machine.{World, start, step, run, play, all_end, is_at_end, control_row, cpu_row, taken};
 ghost use Rattle.word_machine.specs.Values.{tasks_in, copies_in};
 ghost use Rattle.word_machine.specs.Rule.{MachineRule, IsWordJob};
 ghost use Rattle.word_machine.specs.Limits.{IsLimited};
-ghost use Rattle.word_machine.specs.Laws.{HasRoom, AllFit, IsSettled, IsAt, Takes, CpuTakes, IsOnWord, IsLinking, IsWriting, walked, copy_read, items_on, room_on, Runs};
+ghost use Rattle.word_machine.specs.Laws.{HasRoom, AllFit, IsSettled, IsAt, IsHeldFor, Takes, CpuTakes, IsOnWord, IsLinking, IsWriting, walked, copy_read, items_on, room_on, Runs};
 
 /// The rule holds before the first step.
 pub fn the_rule_holds_at_the_start()
@@ -158,11 +158,14 @@ pub fn each_site_is_settled()
     ensures { (job : PlainJob) (actors : List Actor) (f : ℕ) → IsLimited job → f < funcs job → IsSettled job (run job actors (start job)) f }
 {}
 
-/// No task is in a trampoline that was freed: until it has loaded the trampoline's word, that names a user. So a trampoline may be given to
-/// another user as soon as it is freed.
+/// No task is in a trampoline that was freed or given to another user. From the decoding of the call until it has loaded the trampoline's
+/// word, and then its user's state, that word names the user and the registration whose own trampoline this was when it was the site's
+/// target. So a trampoline may be given to another user as soon as it is freed.
 pub fn no_task_is_in_a_released_trampoline()
-    ensures { (job : PlainJob) (s : World) (c t : ℕ) (top : OpenCall) (below : List OpenCall) (slot : ℕ) → IsLimited job → Runs job s
-        → IsAt job s c t top below (InTramp slot) → s.words.tramp slot ≢ 0 }
+    ensures before_the_word { (job : PlainJob) (s : World) (c t : ℕ) (top : OpenCall) (below : List OpenCall) (slot : ℕ) → IsLimited job → Runs job s
+        → IsAt job s c t top below (InTramp slot) → (u : ℕ) × (reg : ℕ) × IsHeldFor job s top slot u reg }
+    ensures before_the_state { (job : PlainJob) (s : World) (c t : ℕ) (top : OpenCall) (below : List OpenCall) (u reg : ℕ) → IsLimited job → Runs job s
+        → IsAt job s c t top below (OwnSel u reg) → (slot : ℕ) × IsHeldFor job s top slot u reg }
 {}
 
 /// No link is stored anew while a walker of the list is at its user and will follow it, also if the walk is held up by the call of a user's
