@@ -10,7 +10,7 @@ use Rattle.ft_machine.specs.declared.machine.Machine.{Machine}
 abbrev pub state_of : Job → Machine → World
 state_of job m = world_of job m.world
 
--- it is the machine of this job, in a state that the job can reach
+-- it is the machine of this job, in a state that keeps the rule of the word machine
 pub record IsOf (job : Job) (m : Machine) : Type 0 where
   pub limited : IsLimited job
   pub is_for : IsFor job m.world

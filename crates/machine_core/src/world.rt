@@ -30,7 +30,7 @@ use user_specs::{CpuPlan, Spec};
 use word_map::{Op, WordMap};
 
 /// The words, control and the CPUs. Contracts see them as lists, of which `world_of` makes the word
-/// machine's world. It is always the machine of some job, and its world one that the job can reach.
+/// machine's world. It is always the machine of some job, in a state that keeps the rule.
 #[derive(Drop)]
 pub struct World {
     map: WordMap,
