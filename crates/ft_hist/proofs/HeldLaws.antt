@@ -76,10 +76,10 @@ ne_n a b lt = elim (eqb_tells b a) [ inl x ↦ (let y : b ≡ a = x.1 in absurd 
 ne_m : (a b : ℕ) → a < b → (a == b) ≡ false
 ne_m a b lt = elim (eqb_tells a b) [ inl x ↦ (let y : a ≡ b = x.1 in absurd (omega arith)) | inr x ↦ x.0 ]
 
-not_same : (call c : CallNo) → c.n < call.n → same_call call c ≡ false
+pub not_same : (call c : CallNo) → c.n < call.n → same_call call c ≡ false
 not_same call c lt = rw (ne_n c.n call.n lt) (and-false (call.task.0 == c.task.0))
 
-not_same' : (call c : CallNo) → c.n < call.n → same_call c call ≡ false
+pub not_same' : (call c : CallNo) → c.n < call.n → same_call c call ≡ false
 not_same' call c lt = rw (ne_m c.n call.n lt) (and-false (c.task.0 == call.task.0))
 
 module _ (t : ℕ) (past : List Item) where
@@ -177,15 +177,23 @@ opens job t (item ∷ past) s e =
       | false ↦ λ other x. opens-other t past s.next (calls_on s.stack) item other (opens job t past s x)
     ] refl e
 
--- the frames that a task's top call finds are those of the calls below it
-pub held-is : (job : Job) (past : List Item) (s : PlainTask) (call : CallNo) (below : List CallNo) → plain job call.task.0 past ≡ Some s → calls_on s.stack ≡ call ∷ below → held job call past ≡ holding job past below
-held-is job past s call below here top =
-    let o = opens job call.task.0 past s here in
-    let falls = rw top at o.falls in
+-- the frames that a task's other calls hold are those of the calls on its stack
+pub held-on : (job : Job) (past : List Item) (s : PlainTask) (call : CallNo) → plain job call.task.0 past ≡ Some s
+    → held job call past ≡ length (filter (λ c. not (same_call c call) && holds job past c) (calls_on s.stack))
+held-on job past s call here =
     let frame : CallNo → Bool = λ c. cond (is_dispatched c past) (has_frame_user c (λ m. not (cancels (spec_at job m.user).kind)) (all_visits job past)) (has_frame_user c (λ m. true) (all_visits job past)) in
     ap length (
     filter-nest (λ c. c.task.0 == call.task.0) (λ c. not (same_call c call)) (λ c. is_open c past) frame (calls past)
-    ∙ ap (λ cs. filter (λ c. not (same_call c call) && (is_open c past && frame c)) cs) (o.open' ∙ top)
+    ∙ ap (λ cs. filter (λ c. not (same_call c call) && (is_open c past && frame c)) cs) (opens job call.task.0 past s here).open'
+    )
+
+-- and those that its top call finds are those of the calls below it
+pub held-is : (job : Job) (past : List Item) (s : PlainTask) (call : CallNo) (below : List CallNo) → plain job call.task.0 past ≡ Some s → calls_on s.stack ≡ call ∷ below → held job call past ≡ holding job past below
+held-is job past s call below here top =
+    let falls = rw top at (opens job call.task.0 past s here).falls in
+    held-on job past s call here
+    ∙ ap length (
+    ap (λ cs. filter (λ c. not (same_call c call) && holds job past c) cs) top
     ∙ rw (same_call-refl call) (filter-ext (λ c. not (same_call c call) && holds job past c) (λ c. holds job past c) below
     (Each-weaker (λ d. d.n < call.n) (λ d. (not (same_call d call) && holds job past d) ≡ holds job past d) below (λ d lt. rw (not_same' call d lt) refl) falls.0))
     )

@@ -22,6 +22,8 @@ pub mod EnteredOnce
 pub mod Carries
 pub mod OpenCallbacks
 pub mod OpenBacks
+pub mod Finishing
+pub mod Shadow
 pub mod ExitLevels
 pub mod Placing
 pub mod Written

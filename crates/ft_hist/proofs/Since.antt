@@ -137,7 +137,7 @@ since-item job t n call item past own le is touch d b = record {
 abbrev pub holding : Job → List Item → List CallNo → ℕ
 holding job past cs = length (filter (λ c. holds job past c) cs)
 
-any-filter : {A : Type 0} (p q r : A → Bool) (xs : List A) → list_any (λ x. p x && q x && r x) xs ≡ list_any (λ x. q x && r x) (filter p xs)
+pub any-filter : {A : Type 0} (p q r : A → Bool) (xs : List A) → list_any (λ x. p x && q x && r x) xs ≡ list_any (λ x. q x && r x) (filter p xs)
 any-filter p q r [] = refl
 any-filter p q r (x ∷ xs) = elim (p x) as (λ b. ((b && q x && r x) || list_any (λ y. p y && q y && r y) xs) ≡ list_any (λ y. q y && r y) (cond b (x ∷ filter p xs) (filter p xs))) [
   | true ↦ ap (λ b. (q x && r x) || b) (any-filter p q r xs)

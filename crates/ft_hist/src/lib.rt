@@ -15,6 +15,7 @@
 
 mod history;
 mod merging;
+pub mod plain_forms;
 pub mod theorems;
 
 pub use history::History;
