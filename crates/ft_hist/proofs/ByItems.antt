@@ -1,5 +1,5 @@
 -- From words on a past to items and back: visits, exits, Leaves and open callbacks.
-use Rattle.std.proofs.Common.{cond, ◌≡◌, ℕ, Bool, true, false, ◌&&◌, ◌||◌, ◌==◌, List, [], ◌∷◌, ◌++◌, length, reverse, refl, sym, ap, ◌∙◌, eqb-true, inl, inr}
+use Rattle.std.proofs.Common.{cond, ◌≡◌, ℕ, Bool, true, false, ◌&&◌, ◌||◌, ◌==◌, List, [], ◌∷◌, ◌++◌, length, reverse, refl, sym, ap, ◌∙◌, subst, eqb-true, inl, inr}
 use Rattle.std.proofs.lemmas.List.Folds.{list_any-append}
 use Rattle.std.proofs.lemmas.List.{reverse-append}
 use Rattle.std.specs.List.{list_any, AllByRecursion as Each}
@@ -170,6 +170,15 @@ module _ (call : CallNo) (u : ℕ) where
 
 -- ## entry callbacks and their exits
 
+-- a later visit of the call, or of another
+in-front : (b : Bool) (m : Visit) (ms rest : List Visit) → (later : List Visit) × (ms ≡ later ++ rest) → (later : List Visit) × (cond b (m ∷ ms) ms ≡ later ++ rest)
+in-front true m ms rest h = (m ∷ h.0, ap (λ xs. m ∷ xs) h.1)
+in-front false m ms rest h = h
+
+pub Each-after : {X : Type 0} (P : X → Type 0) (xs ys : List X) → Each P (xs ++ ys) → Each P ys
+Each-after P [] ys h = h
+Each-after P (x ∷ xs) ys h = Each-after P xs ys h.1
+
 module _ (job : Job) (call : CallNo) where
   -- an entry callback of the call is told by its item
   abbrev pub HasBack : Visit → List Item → Type 0
@@ -207,26 +216,38 @@ module _ (job : Job) (call : CallNo) where
   told (ExitEnd c v ∷ past) = told-more (ExitEnd c v) past (visits job call past) (told past)
   told (Ret c to ∷ past) = told-more (Ret c to) past (visits job call past) (told past)
 
-  rest : (P : Visit → Type 0) (b : Bool) (m : Visit) (ms : List Visit) → Each P (cond b (m ∷ ms) ms) → Each P ms
-  rest P true m ms h = h.1
-  rest P false m ms h = h
+  -- the visits of an older past are among those of a later one
+  pub visits-older : (newer past : List Item) → (later : List Visit) × (visits job call (newer ++ past) ≡ later ++ visits job call past)
+  unfolding all_visits
+  visits-older [] past = ([], refl)
+  visits-older (Back c v ∷ newer) past = in-front (same_call c call) (visit job c v.0 (newer ++ past) (all_visits job (newer ++ past)) true) (visits job call (newer ++ past)) (visits job call past) (visits-older newer past)
+  visits-older (Refuse c v reason ∷ newer) past = in-front (same_call c call) (visit job c v.0 (newer ++ past) (all_visits job (newer ++ past)) false) (visits job call (newer ++ past)) (visits job call past) (visits-older newer past)
+  visits-older (_ ∷ newer) past = visits-older newer past
 
-  -- and what holds of each visit of the call holds of it
+  -- a callback or a refusal of the call is its latest visit
+  pub visit-now : (u : ℕ) (x : Item) (past : List Item) → is_visit_by call u x ≡ true → (back : Bool) × (visits job call (x ∷ past) ≡ visit job call u past (all_visits job past) back ∷ visits job call past)
+  unfolding all_visits
+  visit-now u (Back c v) past h =
+      let both = and_both (same_call c call) (v.0 == u) h in
+      (true, rw both.0 (rw (same_call-eq c call both.0, eqb-true v.0 u both.1) refl))
+  visit-now u (Refuse c v reason) past h =
+      let both = and_both (same_call c call) (v.0 == u) h in
+      (false, rw both.0 (rw (same_call-eq c call both.0, eqb-true v.0 u both.1) refl))
+  visit-now u _ past h = false_true h
+
+  -- so what holds of each visit of the call holds of it
+  pub of-visit : (P : Visit → Type 0) (u : ℕ) (x : Item) (newer older : List Item) → is_visit_by call u x ≡ true → Each P (visits job call (newer ++ x ∷ older))
+      → (back : Bool) × P (visit job call u older (all_visits job older) back)
+  of-visit P u x newer older h all =
+      let now = visit-now u x older h in
+      let w = visits-older newer (x ∷ older) in
+      (now.0, (subst (λ ms. Each P ms) now.1 (Each-after P w.0 (visits job call (x ∷ older)) (subst (λ ms. Each P ms) w.1 all))).0)
+
   pub of-back : (P : Visit → Type 0) (newer older : List Item) (user : UserNo) → Each P (visits job call (newer ++ Back call user ∷ older)) → P (visit job call user.0 older (all_visits job older) true)
   unfolding all_visits
-  of-back P [] older user h = (rw (same_call-refl call) at h).0
-  of-back P (Back c v ∷ newer) older user h = of-back P newer older user (rest P (same_call c call) (visit job c v.0 (newer ++ Back call user ∷ older) (all_visits job (newer ++ Back call user ∷ older)) true) (visits job call (newer ++ Back call user ∷ older)) h)
-  of-back P (Refuse c v reason ∷ newer) older user h = of-back P newer older user (rest P (same_call c call) (visit job c v.0 (newer ++ Back call user ∷ older) (all_visits job (newer ++ Back call user ∷ older)) false) (visits job call (newer ++ Back call user ∷ older)) h)
-  of-back P (Begin k ∷ newer) older user h = of-back P newer older user h
-  of-back P (Return k a ∷ newer) older user h = of-back P newer older user h
-  of-back P (Enter c x f caller ∷ newer) older user h = of-back P newer older user h
-  of-back P (BackEnd c v ∷ newer) older user h = of-back P newer older user h
-  of-back P (Miss c v ∷ newer) older user h = of-back P newer older user h
-  of-back P (Body c g ran ∷ newer) older user h = of-back P newer older user h
-  of-back P (Leave c ∷ newer) older user h = of-back P newer older user h
-  of-back P (Exit c v e ∷ newer) older user h = of-back P newer older user h
-  of-back P (ExitEnd c v ∷ newer) older user h = of-back P newer older user h
-  of-back P (Ret c to ∷ newer) older user h = of-back P newer older user h
+  of-back P newer older user h =
+      let w = visits-older newer (Back call user ∷ older) in
+      (rw (same_call-refl call) at (Each-after P w.0 (visits job call (Back call user ∷ older)) (subst (λ ms. Each P ms) w.1 h))).0
 
   -- an exit that the call has had is told by its item
   pub exit-item : (entry : ℕ) (past : List Item) → list_any (λ e. e == entry) (exits call past) ≡ true → list_any (is_exit_for call entry) past ≡ true

@@ -16,6 +16,7 @@ pub mod Nesting
 pub mod Told
 pub mod ToldMore
 pub mod Unregistered
+pub mod Orders
 pub mod ToldExits
 pub mod FullStack
 pub mod EnteredOnce
@@ -23,6 +24,7 @@ pub mod Carries
 pub mod OpenCallbacks
 pub mod OpenBacks
 pub mod Finishing
+pub mod Wholes
 pub mod Shadow
 pub mod ExitLevels
 pub mod Placing

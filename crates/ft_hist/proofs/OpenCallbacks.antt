@@ -153,7 +153,7 @@ module _ (job : Job) (t : ℕ) (out : length job.tasks ≤ t) where
   start_none = ap (λ (x : Task). (let y : PlainTask = record { next = 1; acts = x.acts; gone = 0; contexts = []; stack = [] } in y))
       (beyond job.tasks t no_task out)
 
-  stranger : (past : List Item) → IsSome (plain job t past) → (plain job t past ≡ Some no_run) × (of_task t (callbacks past) ≡ [])
+  pub stranger : (past : List Item) → IsSome (plain job t past) → (plain job t past ≡ Some no_run) × (of_task t (callbacks past) ≡ [])
   unfolding plain
   stranger [] h = (ap (λ (x : PlainTask). Some x) start_none, refl)
   stranger (item ∷ past) h = by_own (is_of t item) refl h (λ x. stranger past x)

@@ -43,6 +43,21 @@ abbrev pub is_ret_of : CallNo → Item → Bool
 is_ret_of call (Ret c to) = same_call c call
 is_ret_of call _ = false
 
+-- a mark of a command: it begins, or returns
+abbrev pub is_command : Item → Bool
+is_command (Begin k) = true
+is_command (Return k a) = true
+is_command _ = false
+
+-- the command of this number, from 1, returns
+abbrev pub is_return_of : ℕ → Item → Bool
+is_return_of n (Return k a) = k == n
+is_return_of n _ = false
+
+-- the number of the command that registered the user, as a callback or a refusal in the call reads it after these items
+abbrev pub since_at : Job → CallNo → ℕ → List Item → ℕ
+since_at job call u items = (user_at (desk job (registration_at job call u (reverse items))) u).since
+
 -- a fact after some command of the window: from the commands that had returned after the items of `start`, to those that had
 -- begun after the items of `end'`
 abbrev pub AtSomeCommand : List Item → List Item → (ℕ → Type 0) → Type 0

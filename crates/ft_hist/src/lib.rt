@@ -8,11 +8,12 @@
 //!
 //! The specs have these definitions: `Past` (what a history tells at a place), `Plain` (plain
 //! runs), `Rules` (which item may come), `Frames` (the users of a call's frame), `Counts` (how often
-//! a user was called back, or missed). `theorems` has what legality promises, in its reader's words.
+//! a user was called back, or missed). `theorems` and `behaviour` have what legality promises, in its reader's words.
 //! `History` is the list as the program keeps it. `merge` makes it of lists whose items are marked
 //! with their places, each place once: every item stands at its place (the specs' `Placing`).
 #![tactic(auto)]
 
+pub mod behaviour;
 mod history;
 mod merging;
 pub mod plain_forms;

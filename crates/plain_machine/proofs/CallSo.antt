@@ -10,10 +10,10 @@ use Rattle.ft_base.specs.Desk.{desk, is_on, user_at, spec_at}
 use Rattle.ft_base.specs.Order.{IsFalling}
 use Rattle.ft_base.proofs.Small.{Each-weaker, Each-snoc, or-false_both}
 use Rattle.ft_base.specs.Kinds.{cancels}
-use Rattle.ft_hist.specs.Past.{Entered, done, begun, entered, entry_of, is_open, is_dispatched, exits, all_visits, visit, Visit, visits, held}
-use Rattle.ft_hist.specs.Rules.{replacement, backs_with_replacement, MayVisit}
+use Rattle.ft_hist.specs.Past.{Entered, done, begun, entered, entry_of, all_visits, visit, Visit, visits, held}
+use Rattle.ft_hist.specs.Rules.{MayVisit}
 use Rattle.ft_hist.proofs.Laws.{same_call-refl}
-use Rattle.ft_hist.specs.Known.{Watches, Sinks}
+use Rattle.ft_hist.specs.Known.{Watches}
 use Rattle.ft_hist.specs.Frames.{FrameUser, runs_after, keeps_frame, FrameOf}
 use Rattle.ft_hist.proofs.Since.{Untouched, watches-untouched}
 use Rattle.ft_hist.proofs.Visiting.{MetOf, registration_at-same, unmet, runs-back, runs-refuse, frame-none, frame-joined}

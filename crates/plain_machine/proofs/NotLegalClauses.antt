@@ -364,6 +364,48 @@ exit_that_was_cancelled legal =
     let of = (last fprobe_cancels before_cancelled (Exit (call_in 0 2) (record { 0 = 0 }) 7) legal).rule.0.of in
     false_true (sym (subst (λ u. cancels (spec_at fprobe_cancels u).kind ≡ false) of.2 of.4.2))
 
+-- and of an fprobe that found no frame
+abbrev before_missed : List Item
+before_missed =
+    before_miss ++ Miss (call_in 0 2) (record { 0 = 0 }) ∷ BackEnd (call_in 0 2) (record { 0 = 0 }) ∷ Body (call_in 0 2) (record { 0 = 1 }) (Own (record { 0 = 0 })) ∷ Leave (call_in 0 2) ∷ []
+
+pub exit_of_missed_entry : IsLegal fprobe_misses (before_missed ++ Exit (call_in 0 2) (record { 0 = 0 }) 7 ∷ []) → ⊥
+unfolding desk all_visits
+exit_of_missed_entry legal =
+    let of = (last fprobe_misses before_missed (Exit (call_in 0 2) (record { 0 = 0 }) 7) legal).rule.0.of in
+    let m : Visit = record { call = call_in 0 2; user = 0; reg = 1; since = 1; place = 7; back = true; framed = false } in
+    let none : false ≡ of.0.framed = ap (λ (x : Visit). x.framed) (only m of.0 of.1) in
+    false_true (none ∙ of.4.1)
+
+-- ## calls
+
+-- a call is entered from another than the latest one that is open
+abbrev before_enter : List Item
+before_enter =
+    before_inner ++ Back (call_in 0 2) (record { 0 = 0 }) ∷ BackEnd (call_in 0 2) (record { 0 = 0 }) ∷ Body (call_in 0 2) (record { 0 = 1 }) (Own (record { 0 = 0 })) ∷ []
+
+pub enters_from_another_call : IsLegal full_shadow_stack (before_enter ++ Enter (call_in 0 3) Normal (record { 0 = 2 }) (Some (call_in 0 1)) ∷ []) → ⊥
+unfolding plain after_item
+enters_from_another_call legal = false_true ((last full_shadow_stack before_enter (Enter (call_in 0 3) Normal (record { 0 = 2 }) (Some (call_in 0 1))) legal).run 0)
+
+-- a user is called back in a call that was never entered
+pub callback_without_enter : IsLegal first_path ((Begin 1 ∷ Return 1 Accepted ∷ []) ++ Back (call_in 0 1) (record { 0 = 0 }) ∷ []) → ⊥
+unfolding plain after_item
+callback_without_enter legal = false_true ((last first_path (Begin 1 ∷ Return 1 Accepted ∷ []) (Back (call_in 0 1) (record { 0 = 0 })) legal).run 0)
+
+-- a call is entered a second time
+pub entered_twice : IsLegal full_shadow_stack (before_enter ++ Enter (call_in 0 2) Normal (record { 0 = 2 }) (Some (call_in 0 2)) ∷ []) → ⊥
+unfolding plain after_item
+entered_twice legal = false_true ((last full_shadow_stack before_enter (Enter (call_in 0 2) Normal (record { 0 = 2 }) (Some (call_in 0 2))) legal).run 0)
+
+-- a call returns twice
+abbrev before_twice : List Item
+before_twice = before_lack ++ Ret (call_in 0 1) None ∷ []
+
+pub returned_twice : IsLegal first_path (before_twice ++ Ret (call_in 0 1) None ∷ []) → ⊥
+unfolding plain after_item
+returned_twice legal = false_true ((last first_path before_twice (Ret (call_in 0 1) None) legal).run 0)
+
 -- ## whole histories
 
 -- a command has not returned
