@@ -4,7 +4,7 @@ use Rattle.std.specs.List.{filter}
 use Rattle.ft_base.specs.declared.number.CallNo.{CallNo}
 use Rattle.ft_base.specs.declared.context.Ctx.{Ctx}
 use Rattle.ft_base.specs.declared.item.Item.{Item}
-use Rattle.ft_base.specs.declared.item.Item.TheVariants.{Begin, Return, Enter, Back, BackEnd, Refuse, Miss, Body, Leave, Exit, ExitEnd, Ret}
+use Rattle.ft_base.specs.declared.item.Item.TheVariants.{Return, Enter, Back, BackEnd, Refuse, Body, Leave, Exit, ExitEnd, Ret}
 use Rattle.ft_base.specs.declared.task.TaskAct.{TaskAct}
 use Rattle.ft_base.specs.Same.{same_call}
 use Rattle.ft_base.specs.Job.{Job}
@@ -13,7 +13,7 @@ use Rattle.ft_hist.specs.Past.{is_of, done, begun, Callback, callbacks, ended, m
 use Rattle.ft_hist.specs.Plain.{plain, ahead}
 use Rattle.ft_hist.proofs.Laws.{ahead-more, plain-other}
 use Rattle.ft_hist.proofs.WindowLaws.{begun-more}
-use Rattle.ft_hist.proofs.Since.{Untouched, touches, untouched-item}
+use Rattle.ft_hist.proofs.Since.{Untouched, touches, untouched-item, misses-other}
 
 -- the items between two pasts leave the calls of task t alone
 pub record Carries (job : Job) (t : ℕ) (past past' : List Item) : Type 0 where
@@ -40,20 +40,6 @@ touches-other v (Leave call) c other own = same-other call c v other own
 touches-other v (Exit call u entry) c other own = same-other call c v other own
 touches-other v (Ret call to) c other own = same-other call c v other own
 touches-other v _ c other own = refl
-
-misses-other : (job : Job) (v : ℕ) (item : Item) (past : List Item) → is_of v item ≡ false → miss_due job v (item ∷ past) ≡ miss_due job v past
-misses-other job v (Back c u) past e = rw e refl
-misses-other job v (Begin k) past e = refl
-misses-other job v (Return k a) past e = refl
-misses-other job v (Enter c x f caller) past e = rw e refl
-misses-other job v (BackEnd c u) past e = rw e refl
-misses-other job v (Refuse c u r) past e = rw e refl
-misses-other job v (Miss c u) past e = rw e refl
-misses-other job v (Body c g r) past e = rw e refl
-misses-other job v (Leave c) past e = rw e refl
-misses-other job v (Exit c u p) past e = rw e refl
-misses-other job v (ExitEnd c u) past e = rw e refl
-misses-other job v (Ret c to) past e = rw e refl
 
 abbrev pub of_task : ℕ → List Callback → List Callback
 of_task v bs = filter (λ b. b.call.task.0 == v) bs

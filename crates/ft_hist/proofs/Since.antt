@@ -104,7 +104,7 @@ apart t n call c own le old =
       | inr e ↦ rw e.0 refl
     ]
 
-misses-other : (job : Job) (v : ℕ) (item : Item) (past : List Item) → is_of v item ≡ false → miss_due job v (item ∷ past) ≡ miss_due job v past
+pub misses-other : (job : Job) (v : ℕ) (item : Item) (past : List Item) → is_of v item ≡ false → miss_due job v (item ∷ past) ≡ miss_due job v past
 misses-other job v (Back c u) past e = rw e refl
 misses-other job v (Begin k) past e = refl
 misses-other job v (Return k a) past e = refl
