@@ -1,5 +1,5 @@
 -- A step of a CPU of code is a row of the word machine's CPU.
-use Rattle.std.proofs.Common.{cond, ◌≡◌, ℕ, ◌<◌, ◌++◌, Bool, true, false, length, Option, Some, None, IsSome, refl, sym, ap, ◌∙◌, subst}
+use Rattle.std.proofs.Common.{cond, ◌≡◌, ℕ, ◌<◌, ◌++◌, Bool, true, false, Option, Some, None, IsSome, refl, sym, ap, ◌∙◌, subst}
 use Rattle.std.proofs.lemmas.Bool.{false≢true}
 use Rattle.std.proofs.lemmas.List.{append-nil}
 use Rattle.ft_base.specs.Job.{Job}
@@ -21,7 +21,7 @@ use Rattle.cpu_core.specs.CpuFits.{CanBeginAct, CpuFits, FitsIn, GoFits, PollFit
 use Rattle.cpu_core.specs.CpuOps.{is_running, phase_op, present_task}
 use Rattle.cpu_core.specs.CpuSteps.{began_poll, marks_in, polled_on, stamped, stepped, stepped_in, ticked, went}
 use Rattle.cpu_core.specs.Cpus.{IsBeforePoll, IsFor, cpu_of, phase_in}
-use Rattle.cpu_core.specs.Marks.{Marks}
+use Rattle.cpu_core.specs.Marks.{HasRoom, Marks}
 use Rattle.task_core.specs.States.{moment_at, state_of, users_in}
 use Rattle.task_core.specs.TaskOps.{item_in, top}
 use Rattle.cpu_core.proofs.CpuNext.{cpu-op-is, more-is}
@@ -90,7 +90,7 @@ module _ (job : Job) (c : Parts) (v : ℕ) (k : IsFor job c) (next : IsSome (cpu
         by true any small = polls (present_task c) refl (waiting job c k e r (sym (more-is job c k) ∙ any)) small
         by false none small = small
 
-    module _ (room : IsSome (item_in (cpu_next job (cpu_of job c))) → length c.marked.items < c.marked.room) where
+    module _ (room : IsSome (item_in (cpu_next job (cpu_of job c))) → HasRoom c.marked) where
       pub cpu-for : IsFor job (stepped c v)
       cpu-for = cases (IsFor job) (λ e r. going-for job c k e r v limited takes room) (λ e r. began-for job c v k e r) (λ e. polled-for job c k e v)
 

@@ -28,6 +28,7 @@ use Rattle.cpu_core.specs.declared.parts.Phase.TheVariants.{Going}
 use Rattle.task_core.specs.declared.moment.Moment.TheVariants.{Polling}
 use Rattle.task_core.specs.declared.task.Task.{Task}
 use Rattle.cpu_core.specs.Cpus.{IsFor, cpu_of, number_or, numbered, numbers, state_or, tasks_by}
+use Rattle.cpu_core.specs.Marks.{no_marks}
 use Rattle.cpu_core.specs.CpuFits.{HasNext, NextAt}
 use Rattle.cpu_core.specs.CpuOps.{runs}
 use Rattle.task_core.specs.Setups.{setup_in}
@@ -160,7 +161,7 @@ module _ (job : Job) (limited : IsLimited job) where
 
   -- ## the CPU
 
-  module _ (cpu : ℕ) (ts : List Task) (room : ℕ) (inside : cpu < length job.quanta) (quick : get_or job.quanta cpu 1 ≤ QUANTUM) (small : room ≤ ITEMS)
+  module _ (cpu : ℕ) (ts : List Task) (room : ℕ) (inside : cpu < length job.quanta) (quick : get_or job.quanta cpu 1 ≤ QUANTUM)
       (h : Each (HasBegun job) ts) (is : numbers ts ≡ tasks_of job cpu) where
     abbrev pub first-cpu : Parts
     first-cpu = record {
@@ -171,7 +172,7 @@ module _ (job : Job) (limited : IsLimited job) where
       present = first_left ts;
       count = 0;
       phase = Going;
-      marked = record { items = []; room = room };
+      marked = no_marks room;
     }
 
     pub first-for : IsFor job first-cpu
@@ -184,8 +185,8 @@ module _ (job : Job) (limited : IsLimited job) where
       size = refl;
       numbers' = is;
       tasks = subst (Each (IsTaskOf job)) (sym (words-none ts)) (each-of ts h);
-      calls = each-next (0 + (ITEMS - room)) ts h;
-      room = small;
+      calls = each-next (0 + (ITEMS - ITEMS)) ts h;
+      left = omega arith;
       items = omega arith;
       present = λ any. subst (λ o. IsSomeAnd o (λ t. is_left t ≡ true)) (sym (first-turn ts)) (found is_left ts any);
       phase' = record { free = refl; count = omega arith };
@@ -223,7 +224,7 @@ module _ (plan : CpuPlan) (cpu : ℕ) (specs : List CodeSpec) (frames guard_leve
     (setup : c.setup ≡ record { shape = shape; users = map spec_of specs; frames = frames })
     (polls : c.polls ≡ record { poll = poll_start shape cpu; size = length c.tasks })
     (quantum : c.quantum ≡ plan.quantum) (started : AreStarted frames guard_levels plan.tasks.items c.tasks) (present : c.present ≡ first_left c.tasks)
-    (count : c.count ≡ 0) (phase : c.phase ≡ Going) (marked : c.marked ≡ record { items = []; room = room }) where
+    (count : c.count ≡ 0) (phase : c.phase ≡ Going) (marked : c.marked ≡ no_marks room) where
   pub start-next : HasNext c
   start-next = subst (λ p. NextAt c p) (sym phase)
       (λ running. absurd (false≢true (sym (none-runs frames guard_levels plan.tasks.items c.tasks c.present started) ∙ running)))
@@ -239,9 +240,9 @@ module _ (plan : CpuPlan) (cpu : ℕ) (specs : List CodeSpec) (frames guard_leve
     same-polls : record { poll = poll_start (shape_of job) cpu; size = length c.tasks } ≡ c.polls
     same-polls = sym (polls ∙ ap (λ (s : Shape). record { poll = poll_start s cpu; size = length c.tasks }) is.shape')
 
-    pub start-is : cpu < shape.cpus → plan.quantum ≤ QUANTUM → room ≤ ITEMS → IsFor job c × (cpu_of job c ≡ cpu_start job cpu)
-    start-is inside quick small =
-        start-same job limited cpu c.tasks room (subst (λ (s : Shape). cpu < s.cpus) is.shape' inside) (subst (λ n. n ≤ QUANTUM) is.quantum quick) small
+    pub start-is : cpu < shape.cpus → plan.quantum ≤ QUANTUM → IsFor job c × (cpu_of job c ≡ cpu_start job cpu)
+    start-is inside quick =
+        start-same job limited cpu c.tasks room (subst (λ (s : Shape). cpu < s.cpus) is.shape' inside) (subst (λ n. n ≤ QUANTUM) is.quantum quick)
         begun-all.0 (begun-all.1 ∙ is.numbers) c (λ i. record {
           setup = same-setup i;
           polls = same-polls i;

@@ -1,5 +1,6 @@
 -- A step of a CPU that takes a value: for some job the value fits, and then it is the step of each job of which it is the CPU.
-use Rattle.std.proofs.Common.{cond, ◌≡◌, ℕ, ◌<◌, ◌++◌, Bool, true, false, length, Option, Some, None, IsSome, refl, sym, ap, ◌∙◌, subst}
+use Rattle.std.proofs.Common.{cond, ◌≡◌, ℕ, ◌++◌, Bool, true, false, List, Option, Some, None, IsSome, refl, sym, ap, ◌∙◌, subst}
+use Rattle.ft_base.specs.declared.item.Stamped.{Stamped}
 use Rattle.ft_base.specs.Job.{Job}
 use Rattle.grace_core.specs.Pasts.{begun}
 use Rattle.grace_core.specs.Polls.{poll_got}
@@ -16,7 +17,7 @@ use Rattle.cpu_core.specs.CpuOps.{is_running, present_task}
 use Rattle.cpu_core.specs.CpuSteps.{began_poll, marks_in, stepped, stepped_in, switched, ticked, went, went_by, with_poll, with_step}
 use Rattle.cpu_core.specs.Cpus.{IsFor, cpu_of}
 use Rattle.task_core.specs.Leads.{is_fetching}
-use Rattle.cpu_core.specs.Marks.{Marks}
+use Rattle.cpu_core.specs.Marks.{HasRoom, Marks}
 use Rattle.cpu_core.specs.PlainPolls.{looked}
 use Rattle.task_core.specs.Starts.{is_unmet}
 use Rattle.cpu_core.specs.Taken.{IsTaken}
@@ -39,8 +40,8 @@ module _ (c : Parts) (v : ℕ) (taken : IsTaken c v) where
     next : IsSome (cpu_next job (cpu_of job c))
     next = subst (λ (op : Option WordOp). IsSome op) same taken.next
 
-    room : IsSome (item_in (cpu_next job (cpu_of job c))) → length c.marked.items < c.marked.room
-    room = subst (λ op. IsSome (item_in op) → length c.marked.items < c.marked.room) same taken.room
+    room : IsSome (item_in (cpu_next job (cpu_of job c))) → HasRoom c.marked
+    room = subst (λ op. IsSome (item_in op) → HasRoom c.marked) same taken.room
 
     pub taken-for : IsFor job (stepped c v)
     taken-for = cpu-for job c v k next limited takes room
@@ -53,28 +54,36 @@ module _ (c : Parts) (v : ℕ) (taken : IsTaken c v) where
 
 -- ## room
 
-module _ (c : Parts) (v : ℕ) where
-  went-room : (o : Option Task) → (went_by c v o).marked.room ≡ c.marked.room
-  went-room None = refl
-  went-room (Some t) = by (is_fetching (task_after t c.setup v).moment)
-    where
-      by : (b : Bool) → (cond b (with_step c (task_after t c.setup v) (marks_in (op_of t) v))
-          (switched (with_step c (task_after t c.setup v) (marks_in (op_of t) v)) (is_unmet t v))).marked.room ≡ c.marked.room
-      by true = refl
-      by false = ap (λ (m : Marks). m.room) (switched-marked (with_step c (task_after t c.setup v) (marks_in (op_of t) v)) (is_unmet t v))
+-- a fact of what was marked but for the items
+module _ (n : Marks → ℕ) (same : (m : Marks) (items : List Stamped) → n (record m { items = items }) ≡ n m) where
+  module _ (c : Parts) (v : ℕ) where
+    went-kept : (o : Option Task) → n (went_by c v o).marked ≡ n c.marked
+    went-kept None = refl
+    went-kept (Some t) = by (is_fetching (task_after t c.setup v).moment)
+      where
+        by : (b : Bool) → n (cond b (with_step c (task_after t c.setup v) (marks_in (op_of t) v))
+            (switched (with_step c (task_after t c.setup v) (marks_in (op_of t) v)) (is_unmet t v))).marked ≡ n c.marked
+        by true = same c.marked _
+        by false = ap n (switched-marked (with_step c (task_after t c.setup v) (marks_in (op_of t) v)) (is_unmet t v)) ∙ same c.marked _
 
-  -- its poll has loaded a request
-  abbrev asked : Parts
-  asked = record (with_poll c (poll_got (begun c.polls.poll (looked c.tasks)) v)) { phase = Polling }
+    -- its poll has loaded a request
+    abbrev asked : Parts
+    asked = record (with_poll c (poll_got (begun c.polls.poll (looked c.tasks)) v)) { phase = Polling }
 
-  going-room : (b : Bool) → (cond b (went c v) (began_poll c v)).marked.room ≡ c.marked.room
-  going-room true = went-room (present_task c)
-  going-room false = ap (λ (m : Marks). m.room) (ended_poll-marked asked)
+    going-kept : (b : Bool) → n (cond b (went c v) (began_poll c v)).marked ≡ n c.marked
+    going-kept true = went-kept (present_task c)
+    going-kept false = ap n (ended_poll-marked asked)
 
-  step-room : (p : Phase) → (stepped_in c p v).marked.room ≡ c.marked.room
-  step-room Going = going-room (is_running c)
-  step-room Polling = ap (λ (m : Marks). m.room) (ended_poll-marked (with_poll c (poll_got c.polls.poll v)))
-  step-room Over = refl
+    step-kept : (p : Phase) → n (stepped_in c p v).marked ≡ n c.marked
+    step-kept Going = going-kept (is_running c)
+    step-kept Polling = ap n (ended_poll-marked (with_poll c (poll_got c.polls.poll v)))
+    step-kept Over = refl
+
+  marked-kept : (c : Parts) (v : ℕ) → n (stepped c v).marked ≡ n c.marked
+  marked-kept c v = step-kept (ticked c) v c.phase
 
 pub room-kept : (c : Parts) (v : ℕ) → (stepped c v).marked.room ≡ c.marked.room
-room-kept c v = step-room (ticked c) v c.phase
+room-kept = marked-kept (λ m. m.room) (λ m items. refl)
+
+pub left-kept : (c : Parts) (v : ℕ) → (stepped c v).marked.left ≡ c.marked.left
+left-kept = marked-kept (λ m. m.left) (λ m items. refl)

@@ -28,10 +28,10 @@ use Rattle.task_core.specs.declared.task.Task.{Task}
 use Rattle.cpu_core.specs.CpuFits.{CpuFits, FitsIn, GoFits}
 use Rattle.cpu_core.specs.CpuOps.{is_running, present_task, phase_op as phase_code_op}
 use Rattle.cpu_core.specs.CpuSteps.{marks_in, stamped, stepped, stepped_in, switched, ticked, went, with_step}
-use Rattle.cpu_core.specs.Cpus.{IsFor, cpu_of, most_marked, number_or, numbers, phase_in, tasks_by, tasks_now}
+use Rattle.cpu_core.specs.Cpus.{IsFor, cpu_of, all_marked, number_or, numbers, phase_in, tasks_by, tasks_now}
 use Rattle.task_core.specs.Fits.{TaskFits}
 use Rattle.task_core.specs.Leads.{is_fetching}
-use Rattle.cpu_core.specs.Marks.{Marks}
+use Rattle.cpu_core.specs.Marks.{HasRoom, Marks}
 use Rattle.task_core.specs.Setups.{setup_in}
 use Rattle.task_core.specs.Starts.{is_unmet}
 use Rattle.task_core.specs.States.{is_polling, moment_of, state_of}
@@ -165,13 +165,13 @@ module _ (job : Job) (c : Parts) (k : IsFor job c) (going : c.phase ≡ code.Goi
     went-or : went (ticked c) v ≡ cond (is_fetching after.moment) stepped-one (switched stepped-one (is_unmet t v))
     went-or = rw e refl
 
-    next-fits : t.next ≤ suc (most_marked c.marked)
-    next-fits = named-at (λ u. u.next ≤ suc (most_marked c.marked)) c.tasks c.present t e k.calls
+    next-fits : t.next ≤ suc (all_marked c.marked)
+    next-fits = named-at (λ u. u.next ≤ suc (all_marked c.marked)) c.tasks c.present t e k.calls
 
     marked : length stepped-one.marked.items ≡ length c.marked.items + length (marks_in (op_of t) v)
     marked = length-append c.marked.items (marks_in (op_of t) v)
 
-    one-ready : (IsSome (item_in (op_of t)) → length c.marked.items < c.marked.room) → IsReady job stepped-one
+    one-ready : (IsSome (item_in (op_of t)) → HasRoom c.marked) → IsReady job stepped-one
     one-ready room = record {
       setup = k.setup;
       shape = k.shape;
@@ -182,18 +182,18 @@ module _ (job : Job) (c : Parts) (k : IsFor job c) (going : c.phase ≡ code.Goi
       numbers' = numbers-kept;
       tasks = subst (λ ts. Each (IsTaskOf job) ts) (sym (now-is stepped-one free))
           (each-set (IsTaskOf job) c.tasks c.present after (subst (λ ts. Each (IsTaskOf job) ts) (now-is c free) k.tasks) after-of);
-      calls = each-set (λ u. u.next ≤ suc (most_marked stepped-one.marked)) c.tasks c.present after
-          (Each-weaker (λ u. u.next ≤ suc (most_marked c.marked)) (λ u. u.next ≤ suc (most_marked stepped-one.marked)) c.tasks
+      calls = each-set (λ u. u.next ≤ suc (all_marked stepped-one.marked)) c.tasks c.present after
+          (Each-weaker (λ u. u.next ≤ suc (all_marked c.marked)) (λ u. u.next ≤ suc (all_marked stepped-one.marked)) c.tasks
           (λ u le. omega (arith, marked)) k.calls)
           (omega (arith, next-within t c.setup v, next-fits, marked));
-      room = k.room;
-      items = (let le = marks-within v (length c.marked.items) c.marked.room (item_in (op_of t)) k.items room in omega (arith, marked));
+      left = k.left;
+      items = (let le = marks-within v (length c.marked.items) c.marked.left (item_in (op_of t)) k.items (λ some. (room some).left) in omega (arith, marked));
       going = going;
       free = free;
     }
 
     -- within a fetch the CPU doesn't switch
-    one-for : (IsSome (item_in (op_of t)) → length c.marked.items < c.marked.room) → is_fetching after.moment ≡ true → IsFor job stepped-one
+    one-for : (IsSome (item_in (op_of t)) → HasRoom c.marked) → is_fetching after.moment ≡ true → IsFor job stepped-one
     one-for room fetching =
         ready-for job stepped-one (one-ready room)
         (λ any. rw there (running-left job after after-of (fetching-runs after.moment fetching)))
@@ -219,17 +219,17 @@ module _ (job : Job) (c : Parts) (k : IsFor job c) (going : c.phase ≡ code.Goi
         by true = one-is
         by false = switch
 
-    went-for : (IsSome (item_in (op_of t)) → length c.marked.items < c.marked.room) → IsFor job (went (ticked c) v)
+    went-for : (IsSome (item_in (op_of t)) → HasRoom c.marked) → IsFor job (went (ticked c) v)
     went-for room =
         rw went-or
         (if_case (IsFor job) (is_fetching after.moment) stepped-one (switched stepped-one (is_unmet t v)) (one-for room)
         (λ b. switched-for job stepped-one (is_unmet t v) after there (one-ready room)))
 
-    went-fits : (IsSome (item_in (op_of t)) → length c.marked.items < c.marked.room) → GoFits c v
+    went-fits : (IsSome (item_in (op_of t)) → HasRoom c.marked) → GoFits c v
     went-fits room = record {
       present' = slice_get_within c.tasks c.present t e;
       task = rw e
-          (subst (λ s. TaskFits s t v) (sym k.setup) (task-fits job limited v t task other takes-task (omega (arith, next-fits, k.items, k.room))));
+          (subst (λ s. TaskFits s t v) (sym k.setup) (task-fits job limited v t task other takes-task (omega (arith, next-fits, k.items, k.left))));
       room = rw e room;
     }
 
@@ -257,18 +257,18 @@ module _ (job : Job) (c : Parts) (k : IsFor job c) (going : c.phase ≡ code.Goi
         went-items job c k going there.task there.is there.other v limited takes
         ∙ ap (λ op. c.marked.items ++ marks_in op v) (sym (next-op job c k going there.task there.is there.other))
 
-    module _ (room : IsSome (item_in (cpu_next job (cpu_of job c))) → length c.marked.items < c.marked.room) where
+    module _ (room : IsSome (item_in (cpu_next job (cpu_of job c))) → HasRoom c.marked) where
       pub going-for : IsFor job (went (ticked c) v)
       going-for =
           let there = running (present_task c) runs in
           went-for job c k going there.task there.is there.other v limited takes
-          (subst (λ op. IsSome (item_in op) → length c.marked.items < c.marked.room) (next-op job c k going there.task there.is there.other) room)
+          (subst (λ op. IsSome (item_in op) → HasRoom c.marked) (next-op job c k going there.task there.is there.other) room)
 
       pub going-fits : GoFits c v
       going-fits =
           let there = running (present_task c) runs in
           went-fits job c k going there.task there.is there.other v limited takes
-          (subst (λ op. IsSome (item_in op) → length c.marked.items < c.marked.room) (next-op job c k going there.task there.is there.other) room)
+          (subst (λ op. IsSome (item_in op) → HasRoom c.marked) (next-op job c k going there.task there.is there.other) room)
 
       -- also after the step is counted
       pub ticked-fits : GoFits (ticked c) v

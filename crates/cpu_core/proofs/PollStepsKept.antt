@@ -19,7 +19,7 @@ use Rattle.task_core.specs.declared.moment.Moment.TheVariants as moment
 use Rattle.task_core.specs.declared.task.Task.{Task}
 use Rattle.cpu_core.specs.CpuOps.{present_task}
 use Rattle.cpu_core.specs.CpuSteps.{act_begun, after_poll, ended_poll, switched, ticked, with_poll_over}
-use Rattle.cpu_core.specs.Cpus.{IsFor, IsOver, IsPolling, IsUnderWay, most_marked, poll_steps}
+use Rattle.cpu_core.specs.Cpus.{IsFor, IsOver, IsPolling, IsUnderWay, all_marked, poll_steps}
 use Rattle.cpu_core.specs.PlainPolls.{looked, over}
 use Rattle.cpu_core.specs.Polled.{view_of}
 use Rattle.task_core.specs.Starts.{is_left}
@@ -95,7 +95,7 @@ module _ (job : Job) (c : Parts) (me : Cpu) (k : IsFor job c) (end : CanEnd job 
     numbers' = sym (words-numbers c.tasks (view_of job me).tasks) ∙ end.numbers';
     tasks = end.tasks;
     calls = k.calls;
-    room = k.room;
+    left = k.left;
     items = k.items;
     present = k.present;
     phase' = polling;
@@ -120,8 +120,8 @@ module _ (job : Job) (c : Parts) (me : Cpu) (k : IsFor job c) (end : CanEnd job 
     size = k.size ∙ sym (words-length c.tasks (view_of job me).tasks);
     numbers' = end.numbers';
     tasks = subst (λ ts. Each (IsTaskOf job) ts) (sym (words-none (told_tasks job c me))) end.tasks;
-    calls = words-calls (suc (most_marked c.marked)) c.tasks (view_of job me).tasks k.calls;
-    room = k.room;
+    calls = words-calls (suc (all_marked c.marked)) c.tasks (view_of job me).tasks k.calls;
+    left = k.left;
     items = k.items;
     present = λ any. false_true (sym none ∙ any);
     phase' = (let is : IsOver (record (done_core job (ticked c) me) { phase = Over }) = record { free = refl; ended = none } in is);
@@ -141,8 +141,8 @@ module _ (job : Job) (c : Parts) (me : Cpu) (k : IsFor job c) (end : CanEnd job 
     tasks =
         subst (λ us. Each (IsTaskOf job) us) (sym (words-none (set ts c.present u)))
         (each-set (IsTaskOf job) ts c.present u end.tasks (begun-of job t (named-at (IsTaskOf job) ts c.present t there end.tasks) before left));
-    calls = each-set (λ x. x.next ≤ suc (most_marked c.marked)) ts c.present u calls' within;
-    room = k.room;
+    calls = each-set (λ x. x.next ≤ suc (all_marked c.marked)) ts c.present u calls' within;
+    left = k.left;
     items = k.items;
     going = refl;
     free = refl;
@@ -154,13 +154,13 @@ module _ (job : Job) (c : Parts) (me : Cpu) (k : IsFor job c) (end : CanEnd job 
       u : Task
       u = begun t (present t)
 
-      calls' : Each (λ x. x.next ≤ suc (most_marked c.marked)) ts
-      calls' = words-calls (suc (most_marked c.marked)) c.tasks (view_of job me).tasks k.calls
+      calls' : Each (λ x. x.next ≤ suc (all_marked c.marked)) ts
+      calls' = words-calls (suc (all_marked c.marked)) c.tasks (view_of job me).tasks k.calls
 
-      within : u.next ≤ suc (most_marked c.marked)
+      within : u.next ≤ suc (all_marked c.marked)
       within =
-          subst (λ n. n ≤ suc (most_marked c.marked)) (sym (begun-next t (present t)))
-          (named-at (λ x. x.next ≤ suc (most_marked c.marked)) ts c.present t there calls')
+          subst (λ n. n ≤ suc (all_marked c.marked)) (sym (begun-next t (present t)))
+          (named-at (λ x. x.next ≤ suc (all_marked c.marked)) ts c.present t there calls')
 
   -- and the CPU perhaps switches
   acted-for : any_left (told_tasks job (ticked c) me) ≡ true → c.polls.poll.cpu ≡ me.number

@@ -17,7 +17,7 @@ use Rattle.cpu_core.specs.declared.parts.Phase.TheVariants as code
 use Rattle.task_core.specs.declared.task.Task.{Task}
 use Rattle.cpu_core.specs.CpuOps.{present_task}
 use Rattle.cpu_core.specs.CpuSteps.{switched, switched_from}
-use Rattle.cpu_core.specs.Cpus.{IsFor, IsGoing, IsIn, cpu_of, fetch_step, most_marked, number_or, numbers, phase_in, tasks_now}
+use Rattle.cpu_core.specs.Cpus.{IsFor, IsGoing, IsIn, cpu_of, fetch_step, all_marked, number_or, numbers, phase_in, tasks_now}
 use Rattle.task_core.specs.Setups.{setup_in}
 use Rattle.task_core.specs.Starts.{is_left}
 use Rattle.task_core.specs.Tied.{IsTaskOf}
@@ -87,9 +87,9 @@ pub record IsReady (job : Job) (c : Parts) : Type 0 where
   pub size : c.polls.size ≡ length c.tasks
   pub numbers' : numbers c.tasks ≡ tasks_of job c.polls.poll.cpu
   pub tasks : Each (IsTaskOf job) (tasks_now c)
-  pub calls : Each (λ t. t.next ≤ suc (most_marked c.marked)) c.tasks
-  pub room : c.marked.room ≤ ITEMS
-  pub items : length c.marked.items ≤ c.marked.room
+  pub calls : Each (λ t. t.next ≤ suc (all_marked c.marked)) c.tasks
+  pub left : c.marked.left ≤ ITEMS
+  pub items : length c.marked.items ≤ c.marked.left
   pub going : c.phase ≡ code.Going
   pub free : c.polls.poll.view ≡ None
 
@@ -104,7 +104,7 @@ turned-ready job c k = record {
   numbers' = k.numbers';
   tasks = k.tasks;
   calls = k.calls;
-  room = k.room;
+  left = k.left;
   items = k.items;
   going = k.going;
   free = k.free;
@@ -123,7 +123,7 @@ ready-for job c k has within = record {
   numbers' = k.numbers';
   tasks = k.tasks;
   calls = k.calls;
-  room = k.room;
+  left = k.left;
   items = k.items;
   present = has;
   phase' = (let going : IsGoing c = record { free = k.free; count = within } in subst (λ p. IsIn c p) (sym k.going) going);

@@ -7,6 +7,7 @@ use Rattle.cpu_core.specs.declared.parts.Parts.{Parts}
 use Rattle.cpu_core.specs.declared.parts.Phase.{Phase}
 use Rattle.cpu_core.specs.declared.parts.Phase.TheVariants.{Going, Polling, Over}
 use Rattle.cpu_core.specs.CpuOps.{is_running, present_task}
+use Rattle.cpu_core.specs.Marks.{HasRoom}
 use Rattle.task_core.specs.Fits.{CanBegin, HasAct, IsTaskThere, TaskFits}
 use Rattle.cpu_core.specs.PlainPolls.{looked}
 use Rattle.task_core.specs.TaskOps.{item_in, op_of, present}
@@ -29,7 +30,7 @@ CanSwitch c = c.present < length c.tasks
 pub record GoFits (c : Parts) (v : ℕ) : Type 0 where
   pub present' : c.present < length c.tasks
   pub task : IsSomeAnd (present_task c) (λ t. TaskFits c.setup t v)
-  pub room : IsSomeAnd (present_task c) (λ t. IsSome (item_in (op_of t)) → length c.marked.items < c.marked.room)
+  pub room : IsSomeAnd (present_task c) (λ t. IsSome (item_in (op_of t)) → HasRoom c.marked)
 
 -- the act of the present task can begin
 pub record CanBeginAct (c : Parts) : Type 0 where

@@ -83,9 +83,9 @@ cpu_of job c = record {
 
 -- ## of which job it is the CPU
 
--- how many items it has marked, with those that are forgotten, if its room was the greatest at the start
-abbrev pub most_marked : Marks → ℕ
-most_marked m = length m.items + (ITEMS - m.room)
+-- how many items it has marked, with those that are forgotten
+abbrev pub all_marked : Marks → ℕ
+all_marked m = length m.items + (ITEMS - m.left)
 
 -- the present task is before a poll, if it is to have one
 abbrev pub IsBeforePoll : Option Task → Type 0
@@ -138,7 +138,7 @@ IsIn c code.Over = IsOver c
 -- A CPU of a job.
 --   setup, shape, cpu, quantum, quick   it is one of the job's CPUs, and looks up what the job declares
 --   size, numbers, tasks                its tasks are the job's
---   calls, room, items                  the numbers of calls grow no faster than the items that are marked, for which there is room
+--   calls, left, items                  the numbers of calls grow no faster than the items that are marked, which a history may have
 --   present                             its present task has an act, as long as one has
 --   phase'                              it stands where its tasks and its poll do
 pub record IsFor (job : Job) (c : Parts) : Type 0 where
@@ -150,8 +150,8 @@ pub record IsFor (job : Job) (c : Parts) : Type 0 where
   pub size : c.polls.size ≡ length c.tasks
   pub numbers' : numbers c.tasks ≡ tasks_of job c.polls.poll.cpu
   pub tasks : Each (IsTaskOf job) (tasks_now c)
-  pub calls : Each (λ t. t.next ≤ suc (most_marked c.marked)) c.tasks
-  pub room : c.marked.room ≤ ITEMS
-  pub items : length c.marked.items ≤ c.marked.room
+  pub calls : Each (λ t. t.next ≤ suc (all_marked c.marked)) c.tasks
+  pub left : c.marked.left ≤ ITEMS
+  pub items : length c.marked.items ≤ c.marked.left
   pub present : any_left c.tasks ≡ true → IsSomeAnd (present_task c) (λ t. is_left t ≡ true)
   pub phase' : IsIn c c.phase

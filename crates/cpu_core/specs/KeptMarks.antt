@@ -5,9 +5,9 @@ use Rattle.cpu_core.specs.Marks.{Marks}
 
 -- what contracts see
 abbrev pub marks_of : Inside → Marks
-marks_of d = record { items = d.items.items; room = d.room }
+marks_of d = record { items = d.items.items; room = d.room; left = d.left }
 
--- there is room for all items, of which there are no more
+-- there is room for as many items as are said, and no more items than can be marked
 pub record IsKept (d : Inside) : Type 0 where
-  pub few : vec_len d.items ≤ d.room
+  pub few : vec_len d.items ≤ d.left
   pub room : d.room ≤ vec_capacity d.items

@@ -1,12 +1,25 @@
 -- The items that a CPU has marked, as contracts see them.
-use Rattle.std.specs.Prelude.{ℕ, ◌-◌, List, [], length}
+use Rattle.std.specs.Prelude.{ℕ, ◌-◌, ◌<◌, List, [], length}
+use Rattle.ft_base.specs.declared.limits.TheConstants.{ITEMS}
 use Rattle.ft_base.specs.declared.item.Stamped.{Stamped}
 
--- the items, in the order of their places, and how many there can be
+-- The items, in the order of their places.
+--   room   how many the list has room for
+--   left   how many can be marked from the list's first one on, of all that a history may have
 pub record Marks : Type 0 where
   pub items : List Stamped
   pub room : ℕ
+  pub left : ℕ
 
--- none of them is kept any more; there is room for as many fewer
+-- no items
+abbrev pub no_marks : ℕ → Marks
+no_marks room = record { items = []; room = room; left = ITEMS }
+
+-- one more can be marked
+pub record HasRoom (m : Marks) : Type 0 where
+  pub room : length m.items < m.room
+  pub left : length m.items < m.left
+
+-- none of them is kept any more: the list has all its room again, and as many fewer can be marked
 abbrev pub emptied : Marks → Marks
-emptied m = record { items = []; room = m.room - length m.items }
+emptied m = record { items = []; room = m.room; left = m.left - length m.items }

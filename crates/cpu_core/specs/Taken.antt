@@ -1,5 +1,5 @@
 -- Of which job a CPU is at its start, and when a value may be given to it.
-use Rattle.std.specs.Prelude.{ℕ, ◌≡◌, ◌<◌, List, get_or, length, map, IsSome}
+use Rattle.std.specs.Prelude.{ℕ, ◌≡◌, List, get_or, map, IsSome}
 use Rattle.std.specs.List.{AllByRecursion as Each}
 use Rattle.ft_base.specs.Job.{Job, no_task}
 use Rattle.ft_base.specs.Versions.{levels as levels_of}
@@ -15,6 +15,7 @@ use Rattle.word_machine.specs.Laws.{CpuTakes}
 use Rattle.word_machine.specs.Limits.{IsLimited}
 use Rattle.cpu_core.specs.declared.parts.Parts.{Parts}
 use Rattle.cpu_core.specs.Cpus.{IsFor, cpu_of}
+use Rattle.cpu_core.specs.Marks.{HasRoom}
 use Rattle.task_core.specs.TaskOps.{item_in}
 
 -- what is declared for a CPU is that of this job's
@@ -34,4 +35,4 @@ pub record IsTaken (c : Parts) (v : ℕ) : Type 0 where
   pub is_for : IsFor job c
   pub takes : CpuTakes job (cpu_of job c) v
   pub next : IsSome (cpu_next job (cpu_of job c))
-  pub room : IsSome (item_in (cpu_next job (cpu_of job c))) → length c.marked.items < c.marked.room
+  pub room : IsSome (item_in (cpu_next job (cpu_of job c))) → HasRoom c.marked

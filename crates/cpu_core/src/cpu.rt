@@ -1,8 +1,8 @@
 //! A CPU, as a stepper: its next operation, and what the value that the operation gives makes of it.
 
-ghost use Rattle.std.specs.Prelude.{◌≡◌, ◌<◌, ◌≤◌, ◌++◌, [], length, All, IfOk, Option};
+ghost use Rattle.std.specs.Prelude.{◌≡◌, ◌<◌, ◌≤◌, ◌++◌, length, All, IfOk, Option};
 ghost use Rattle.std.specs.Option.{option_map};
-ghost use Rattle.ft_base.specs.declared.limits.TheConstants.{ACTS, FRAMES, GUARD_LEVELS, ITEMS, QUANTUM, TASKS};
+ghost use Rattle.ft_base.specs.declared.limits.TheConstants.{ACTS, FRAMES, GUARD_LEVELS, QUANTUM, TASKS};
 ghost use Rattle.user_specs.specs.declared.plan.TaskPlan.{TaskPlan};
 ghost use Rattle.word_map.specs.Ops.{placed};
 ghost use Rattle.word_map.specs.Shapes.{shape_of};
@@ -54,13 +54,13 @@ impl Cpu {
     ghost use Rattle.word_machine.specs.Limits.{IsLimited};
     ghost use Rattle.cpu_core.specs.Cpus.{IsFor, cpu_of};
     ghost use Rattle.cpu_core.specs.CpuSteps.{marks_in};
-    ghost use Rattle.cpu_core.specs.Marks.{emptied};
+    ghost use Rattle.cpu_core.specs.Marks.{emptied, no_marks};
     ghost use Rattle.cpu_core.specs.Taken.{IsCpuOf, IsTaken};
 
     /// CPU `cpu` of a script before its first step, with these tasks and users. `frames` is how many
     /// frames each task's shadow stack has, and `levels` how many levels each guard has, 1 or 2. It has
-    /// room for `room` items, and for all else that its
-    /// steps need. The error says that memory ran out.
+    /// room for `room` items that aren't forgotten, and for all else that its steps need. The error says
+    /// that memory ran out.
     pub fn new(
         alloc: Global,
         plan: &CpuPlan,
@@ -76,9 +76,9 @@ impl Cpu {
         requires acts { All (λ (p : TaskPlan). length p.acts.items ≤ ACTS) plan.now.tasks.items }
         requires frames { frames ≤ FRAMES }
         requires levels { levels ≤ GUARD_LEVELS }
-        ensures of { IfOk result (λ c. (job : Job) → IsLimited job → IsCpuOf job plan.now cpu.0 specs.now frames levels map → plan.now.quantum ≤ QUANTUM → room ≤ ITEMS
+        ensures of { IfOk result (λ c. (job : Job) → IsLimited job → IsCpuOf job plan.now cpu.0 specs.now frames levels map → plan.now.quantum ≤ QUANTUM
             → IsFor job c × (cpu_of job c ≡ cpu_start job cpu.0)) }
-        ensures room { IfOk result (λ c. c.marked ≡ record { items = []; room = room }) }
+        ensures room { IfOk result (λ c. c.marked ≡ no_marks room) }
     {
         let tasks = Tasks::new(alloc, plan.tasks.as_slice(), frames, levels)?;
         Ok(Cpu {
@@ -112,13 +112,14 @@ impl Cpu {
         ensures items { (job : Job) → IsLimited job → IsFor job self.old → CpuTakes job (cpu_of job self.old) value
             → self.new.marked.items ≡ self.old.marked.items ++ marks_in (cpu_next job (cpu_of job self.old)) value }
         ensures room { self.new.marked.room ≡ self.old.marked.room }
+        ensures left { self.new.marked.left ≡ self.old.marked.left }
     {
         self.parts.step(value);
     }
 
     /// Empties the list of what it has marked, once its caller has noted that elsewhere: a machine
-    /// that keeps all items in one history need not keep each of them twice. There is room for as many
-    /// fewer after it.
+    /// that keeps all items in one history need not keep each of them twice. The list keeps its room,
+    /// so a CPU whose items are forgotten one by one has enough with room for one.
     pub fn forget_items(&mut self)
         ensures of { (job : Job) → IsFor job self.old → IsFor job self.new }
         ensures parts { self.new ≡ record self.old { marked = emptied self.old.marked } }

@@ -1,18 +1,22 @@
 //! The items that a CPU has marked.
 
-ghost use Rattle.std.specs.Prelude.{◌≡◌, ◌<◌, ◌++◌, ◌∷◌, [], length, IfOk};
-ghost use Rattle.cpu_core.specs.Marks.{emptied};
+ghost use Rattle.std.specs.Prelude.{◌≡◌, ◌++◌, ◌∷◌, [], IfOk};
+ghost use Rattle.cpu_core.specs.Marks.{HasRoom, emptied, no_marks};
 
+use ft_base::limits::ITEMS;
 use ft_base::{NoMemory, Stamped};
 use std::alloc::Global;
 use std::marker::Model;
 
-/// The items that a CPU has marked, in the order of their places. Contracts see how many there can be
-/// too.
+/// The items that a CPU has marked, in the order of their places. Contracts see for how many there is
+/// room, and how many more a history may have.
 #[derive(Drop)]
 pub(crate) struct Marked {
     items: Vec<Stamped>,
+    /// For how many items the list has room.
     room: u32,
+    /// How many can be marked from the list's first one on, of all that a history may have.
+    left: u32,
 }
 
 impl Model for Marked {
@@ -30,10 +34,14 @@ impl Model for Marked {
 impl Marked {
     /// No item, and room for this many. The error says that memory ran out.
     pub(crate) fn new(alloc: Global, room: u32) -> Result<Marked, NoMemory>
-        ensures { IfOk result (λ m. m ≡ record { items = []; room = room }) }
+        ensures { IfOk result (λ m. m ≡ no_marks room) }
     {
         let items = Vec::with_capacity(alloc, room as usize).map_err(|_| NoMemory)?;
-        Ok(Marked { items, room })
+        Ok(Marked {
+            items,
+            room,
+            left: ITEMS,
+        })
     }
 
     /// All items.
@@ -53,17 +61,17 @@ impl Marked {
 
     /// One more item.
     pub(crate) fn push(&mut self, stamped: Stamped)
-        requires { length self.old.items < self.old.room }
+        requires { HasRoom self.old }
         ensures { self.new ≡ record self.old { items = self.old.items ++ stamped ∷ [] } }
     {
         self.items.push_reserved(stamped);
     }
 
-    /// Empties the list. There is room for as many fewer after it.
+    /// Empties the list, which keeps its room.
     pub(crate) fn empty(&mut self)
         ensures { self.new ≡ emptied self.old }
     {
-        self.room -= self.items.len() as u32;
+        self.left -= self.items.len() as u32;
         self.items.clear();
     }
 }

@@ -12,6 +12,7 @@ ghost use Rattle.control_core.specs.Lines.{IsLineIn, lines_of};
 ghost use Rattle.word_map.specs.Shapes.{shape_of};
 ghost use Rattle.word_machine.specs.Limits.{IsLimited};
 ghost use Rattle.word_machine.specs.Machine.{start};
+ghost use Rattle.machine_core.specs.Starts.{AreFirst};
 ghost use Rattle.machine_core.specs.Worlds.{IsFor, world_of};
 ghost use Rattle.filter_commands.specs.Kept.{plain_trigger};
 ghost use Rattle.ft_machine.specs.Parts.{parts_of, quanta_of, cpus_from, IsWithin, job_of};
@@ -25,7 +26,7 @@ use ft_base::{CpuNo, NoMemory, TaskNo};
 use ft_desk::{Ctl, Desk};
 use ft_schedule::Schedule;
 use func_table::FuncTable;
-use machine_core::{TaskLimits, World};
+use machine_core::{CpuRoom, TaskLimits, World};
 use std::alloc::Global;
 use std::marker::Model;
 use user_specs::{CpuPlan, Spec};
@@ -242,11 +243,12 @@ impl Job {
         }
     }
 
-    /// Its machine before the first step. The error says that memory ran out.
-    pub(crate) fn world(&self, alloc: Global) -> Result<World, NoMemory>
+    /// Its machine before the first step, whose CPUs have this room. The error says that memory ran out.
+    pub(crate) fn world(&self, alloc: Global, rooms: CpuRoom) -> Result<World, NoMemory>
         ensures limited { IfOk result (λ _. IsLimited self.now) }
         ensures of { IfOk result (λ w. IsFor self.now w) }
         ensures opening { IfOk result (λ w. world_of self.now w ≡ start self.now) }
+        ensures cpus { IfOk result (λ w. AreFirst rooms self.now w.cpus) }
     {
         let parts = &self.parts;
         let shape = self.shape();
@@ -262,6 +264,7 @@ impl Job {
             parts.cpus.as_slice(),
             parts.specs.as_slice(),
             limits,
+            rooms,
             WordMap::new(shape),
         )
     }

@@ -4,13 +4,15 @@ ghost use Rattle.std.specs.Prelude.{◌≡◌, ◌<◌, true, length, reverse, I
 ghost use Rattle.ft_base.specs.Job.{Job as PlainJob};
 ghost use Rattle.ft_hist.specs.Rules.{IsLegal, IsWhole};
 ghost use Rattle.word_machine.specs.Machine.{all_end, is_at_end, start, step};
+ghost use Rattle.machine_core.specs.declared.cpus.CpuRoom.TheVariants.{ForAll};
+ghost use Rattle.machine_core.specs.Starts.{AreFirst};
 ghost use Rattle.machine_core.specs.Sites.{IsWhole as IsWholeSite, site_of};
 ghost use Rattle.ft_machine.specs.Machines.{IsOf, state_of};
 
 use crate::job::Job;
 use ft_base::{Actor, FuncNo, NoMemory};
 use ft_hist::History;
-use machine_core::{World, WorldParts};
+use machine_core::{CpuRoom, World, WorldParts};
 use std::alloc::Global;
 
 /// The machine of a job, in one of its states. It keeps what it needs of the job. Contracts speak of
@@ -28,7 +30,19 @@ impl Machine {
         ensures opening { IfOk result (λ m. state_of job.now m ≡ start job.now) }
     {
         Ok(Machine {
-            world: job.world(alloc)?,
+            world: job.world(alloc, CpuRoom::ForOne)?,
+        })
+    }
+
+    /// The same, and each CPU has room of its own for all items that its tasks can mark: for those who
+    /// take the machine apart.
+    pub fn start_apart(alloc: Global, job: &Job) -> Result<Machine, NoMemory>
+        ensures of { IfOk result (λ m. IsOf job.now m) }
+        ensures opening { IfOk result (λ m. state_of job.now m ≡ start job.now) }
+        ensures cpus { IfOk result (λ m. AreFirst ForAll job.now m.world.cpus) }
+    {
+        Ok(Machine {
+            world: job.world(alloc, CpuRoom::ForAll)?,
         })
     }
 

@@ -1,5 +1,5 @@
 -- What a machine is made of before its first step, and what the seats of its actors keep then.
-use Rattle.std.proofs.Common.{◌≡◌, ℕ, ◌*◌, ◌+◌, ◌<◌, ◌≤◌, List, [], length, reverse, slice_get, Some, refl, sym, ap, ◌∙◌, subst, arith}
+use Rattle.std.proofs.Common.{◌≡◌, ℕ, ◌*◌, ◌+◌, ◌<◌, ◌≤◌, List, [], length, reverse, refl, sym, ap, ◌∙◌, subst, arith}
 use Rattle.std.proofs.lemmas.List.{reverse-reverse}
 use Rattle.atomic_table.specs.Seated.{TableId}
 use Rattle.atomic_table.specs.Table.{Me}
@@ -12,7 +12,7 @@ use Rattle.word_map.specs.Places.{len}
 use Rattle.word_map.specs.Shapes.{shape_of}
 use Rattle.word_machine.specs.Control.{control_next, control_start}
 use Rattle.word_machine.specs.Cpu.{cpu_next, cpu_start}
-use Rattle.word_machine.specs.Laws.{IsOnWord, items_on}
+use Rattle.word_machine.specs.Laws.{IsOnWord}
 use Rattle.word_machine.specs.Limits.{IsLimited}
 use Rattle.word_machine.specs.Machine.{World, opening_words, start}
 use Rattle.word_machine_laws.proofs.Limited.{limited as word-job}
@@ -21,10 +21,10 @@ use Rattle.word_machine_laws.proofs.WordsFit.{start-runs}
 use Rattle.control_core.specs.Seated.{Seated, control_of}
 use Rattle.control_core.specs.Seated as control
 use Rattle.cpu_core.specs.declared.parts.Parts.{Parts as CpuParts}
-use Rattle.cpu_core.specs.Cpus.{cpu_of}
-use Rattle.machine_core.specs.Starts.{AreFirst, IsFirst}
-use Rattle.machine_core.specs.Worlds.{IsFor, Parts, cpu_or, past_of, words_of, world_of}
-use Rattle.machine_core.proofs.Opening.{none-on}
+use Rattle.cpu_core.specs.Marks.{Marks}
+use Rattle.machine_core.specs.declared.cpus.CpuRoom.TheVariants.{ForAll}
+use Rattle.machine_core.specs.Starts.{IsFirst}
+use Rattle.machine_core.specs.Worlds.{IsFor, Parts, past_of, words_of, world_of}
 use Rattle.live_table.specs.declared.view.View.{View}
 use Rattle.live_table.specs.Seats.{ControlSits, CpuSits, IsRising, IsTable}
 use Rattle.live_table.specs.Views.{control_view, cpu_view}
@@ -57,18 +57,22 @@ control-first {S} me job x l is of' at none = subst (λ (u : Me S View). Control
 
 -- a CPU's
 pub cpu-first : {S : Type 0} (me : Me S View) (job : Job) (c : ℕ) (x : CpuParts) → IsLimited job → c < length job.quanta → me ≡ (cpu_view job c [], [])
-    → IsFirst job c x → CpuSits {S = S} me c x
+    → IsFirst ForAll job c x → CpuSits {S = S} me c x
 cpu-first {S} me job c x l inside is first = subst (λ (u : Me S View). CpuSits {S = S} u c x) (sym is) record {
   view' = refl;
   limited = l;
   is_for = first.is_for;
   within = inside;
   fed = first.same;
-  marked = first.none;
-  rising = subst IsRising (sym first.none) none-rises;
-  room = first.room;
+  marked = none;
+  rising = subst IsRising (sym none) none-rises;
+  room = ap (λ (m : Marks). m.room) first.marked;
+  left = ap (λ (m : Marks). m.left) first.marked;
   next = subst (λ s. IsOnWord job (cpu_next job s)) (sym first.same) (cpu-on-word job l c inside);
 }
+  where
+    none : x.marked.items ≡ []
+    none = ap (λ (m : Marks). m.items) first.marked
 
 -- ## the machine
 
@@ -84,24 +88,6 @@ module _ (job : Job) (w : Parts) (k : IsFor job w) (e : world_of job w ≡ start
   control-opens : control_of w.control ≡ control_start job
   unfolding start
   control-opens = ap (λ (s : World). s.control) e
-
-  cpu-opens : (c : ℕ) (x : CpuParts) → slice_get w.cpus c ≡ Some x → cpu_of job x ≡ cpu_start job c
-  unfolding start
-  cpu-opens c x at = sym (ap (λ o. cpu_or job (cpu_start job c) o) at) ∙ ap (λ (s : World). s.cpus c) e
-
-  none-on-cpu : (c : ℕ) → items_on job c (past_of w) ≡ 0
-  none-on-cpu c = ap (λ (past : List Item). items_on job c past) none-yet ∙ none-on job c
-
-  all-first : AreFirst job w.cpus
-  all-first = record {
-    count = k.cpus';
-    each = λ c x at. let own = k.each c x at in record {
-      is_for = own.is_for;
-      same = cpu-opens c x at;
-      none = own.none;
-      room = let none = none-on-cpu c in let room = own.room in omega (arith, none, room);
-    };
-  }
 
   blank : w.history.items ≡ []
   blank = sym (reverse-reverse w.history.items) ∙ ap (λ (past : List Item). reverse past) none-yet
@@ -126,9 +112,6 @@ module _ (job : Job) (w : Parts) (k : IsFor job w) (e : world_of job w ≡ start
   pub opens-control : {S : Type 0} (me : Me S View) (x : Seated) → IsLimited job → me ≡ (control_view job 0 [], []) → x ≡ w.control → ControlSits {S = S} me x
   opens-control {S} me x l is same =
       subst (λ (y : Seated). ControlSits {S = S} me y) (sym same) (control-first {S = S} me job w.control l is k.control' control-opens k.none)
-
-  pub opens-cpus : (xs : List CpuParts) → xs ≡ w.cpus → AreFirst job xs
-  opens-cpus xs same = subst (AreFirst job) (sym same) all-first
 
   pub opens-words : (list : List ℕ) → list ≡ w.words → words_of job list ≡ opening_words job
   opens-words list same = ap (words_of job) same ∙ words-open

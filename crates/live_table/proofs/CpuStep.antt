@@ -18,6 +18,7 @@ use Rattle.cpu_core.specs.Taken.{IsTaken}
 use Rattle.task_core.specs.TaskOps.{item_in}
 use Rattle.machine_core.proofs.Chosen.{Chosen, chosen, none-next}
 use Rattle.machine_core.proofs.Made.{IsOpThere, of-job}
+use Rattle.machine_core.proofs.Plans.{room-most}
 use Rattle.ft_machine.specs.Fed.{cpu_fed, cpu_items}
 use Rattle.ft_machine.proofs.FedLaws.{cpu_after-append}
 use Rattle.live_table.specs.declared.live.Going.TheVariants.{End, More}
@@ -101,7 +102,9 @@ module _ (me : Me (Unit {0}) View) (c : ℕ) (x : CpuParts) (sits : CpuSits me c
             (let lt = told.room (subst (λ s. IsSome (item_in (cpu_next me.0.job s))) sits.fed some) in
             let had = ap (λ (xs : List Stamped). length xs) sits.marked in
             let room = sits.room in
-            omega (arith, lt, had, room));
+            let left = sits.left in
+            let most = room-most me.0.job c sits.limited in
+            record { room = omega (arith, lt, had, room); left = omega (arith, lt, had, left, most) });
       }
 
       -- the seat after the CPU took it
@@ -110,8 +113,8 @@ module _ (me : Me (Unit {0}) View) (c : ℕ) (x : CpuParts) (sits : CpuSits me c
           → ((job : Job) → IsLimited job → IsFor job x → CpuTakes job (cpu_of job x) v → cpu_of job y ≡ cpu_got job (cpu_of job x) v)
           → ((job : Job) → IsLimited job → IsFor job x → CpuTakes job (cpu_of job x) v
           → y.marked.items ≡ x.marked.items ++ marks_in (cpu_next job (cpu_of job x)) v)
-          → y.marked.room ≡ x.marked.room → CpuSits m c y
-      cpu-sits y of' is items room =
+          → y.marked.room ≡ x.marked.room → y.marked.left ≡ x.marked.left → CpuSits m c y
+      cpu-sits y of' is items room left =
           let job = me.0.job in
           let vs = values_of me.0.parts in
           let fed : cpu_of job y ≡ cpu_fed job c (vs ++ v ∷ []) =
@@ -128,6 +131,7 @@ module _ (me : Me (Unit {0}) View) (c : ℕ) (x : CpuParts) (sits : CpuSits me c
             rising = subst IsRising (sym marks)
                 (rising-more (cpu_items job c vs) (cpu_next job (cpu_fed job c vs)) v (subst IsRising sits.marked sits.rising) told.told.rising);
             room = room ∙ sits.room;
+            left = left ∙ sits.left;
             next = subst (λ s. IsOnWord job (cpu_next job s)) (sym fed) told.told.next';
           }
 

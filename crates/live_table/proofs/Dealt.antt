@@ -5,6 +5,7 @@ use Rattle.ft_base.specs.Job.{Job}
 use Rattle.word_machine.specs.Limits.{IsLimited}
 use Rattle.control_core.specs.Seated.{Seated}
 use Rattle.cpu_core.specs.declared.parts.Parts.{Parts as CpuParts}
+use Rattle.machine_core.specs.declared.cpus.CpuRoom.TheVariants.{ForAll}
 use Rattle.machine_core.specs.Starts.{AreFirst, IsFirst}
 use Rattle.live_table.specs.declared.view.View.{View}
 use Rattle.live_table.specs.Seats.{ControlSits, CpuSits}
@@ -18,10 +19,10 @@ get-middle [] y zs = refl
 get-middle (x ∷ xs) y zs = get-middle xs y zs
 
 -- it has not stepped
-pub next-first : (job q : Job) (done left all : List CpuParts) (x : CpuParts) (n : ℕ) → AreFirst job all → done ++ x ∷ left ≡ all → q ≡ job → n ≡ length done
-    → IsFirst q n x
+pub next-first : (job q : Job) (done left all : List CpuParts) (x : CpuParts) (n : ℕ) → AreFirst ForAll job all → done ++ x ∷ left ≡ all → q ≡ job → n ≡ length done
+    → IsFirst ForAll q n x
 next-first job q done left all x n first is same here =
-    subst (λ (u : Job × ℕ). IsFirst u.0 u.1 x) (λ i. (sym same i, sym here i))
+    subst (λ (u : Job × ℕ). IsFirst ForAll u.0 u.1 x) (λ i. (sym same i, sym here i))
     (first.each (length done) x (ap (λ (l : List CpuParts). slice_get l (length done)) (sym is) ∙ get-middle done x left))
 
 -- ## seats
@@ -42,6 +43,6 @@ control-deals {S} me m x sits is =
 
 -- the CPU is as it was before its first step
 pub cpu-deals : {S : Type 0} (v : View) (m : Me S View) (job : Job) (c : ℕ) (x : CpuParts) → IsLimited job → v.job ≡ job → v.split ≡ c
-    → c < length job.quanta → m ≡ (dealt v, []) → IsFirst job c x → CpuSits {S = S} m c x
+    → c < length job.quanta → m ≡ (dealt v, []) → IsFirst ForAll job c x → CpuSits {S = S} m c x
 cpu-deals v m job c x l same number inside is first =
     cpu-first m job c x l inside (is ∙ (λ i. (cpu_view (same i) (number i) [], []))) first

@@ -4,6 +4,7 @@ use Rattle.atomic_table.specs.Seated.{TableId}
 use Rattle.atomic_table.specs.Table.{Me}
 use Rattle.ft_base.specs.declared.item.Item.{Item}
 use Rattle.ft_base.specs.declared.item.Stamped.{Stamped}
+use Rattle.ft_base.specs.declared.limits.TheConstants.{ITEMS}
 use Rattle.ft_base.specs.declared.turn.Actor.{Actor}
 use Rattle.ft_base.specs.Job.{Job, commands}
 use Rattle.ft_hist.specs.Placing.{by_place}
@@ -70,7 +71,7 @@ IsRising items = (j k : ℕ) (x y : Stamped) → j < k → slice_get items j ≡
 --   limited, is_for, within   the CPU is one of the job's
 --   fed            it is what these values make of it
 --   marked, rising the items that it has marked are those values', and their places increase
---   room           it has room for all that it can mark
+--   room, left     it has room for all that it can mark, and has forgotten nothing
 --   next           its next operation is on a word of the job
 pub record CpuSits {S : Type 0} (me : Me S View) (c : ℕ) (x : CpuParts) : Type 0 where
   pub view' : me ≡ (cpu_view me.0.job c (values_of me.0.parts), [])
@@ -81,6 +82,7 @@ pub record CpuSits {S : Type 0} (me : Me S View) (c : ℕ) (x : CpuParts) : Type
   pub marked : x.marked.items ≡ cpu_items me.0.job c (values_of me.0.parts)
   pub rising : IsRising x.marked.items
   pub room : x.marked.room ≡ room_on me.0.job c
+  pub left : x.marked.left ≡ ITEMS
   pub next : IsOnWord me.0.job (cpu_next me.0.job (cpu_of me.0.job x))
 
 -- what control's keeps

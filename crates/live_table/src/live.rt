@@ -4,6 +4,7 @@ ghost use Rattle.std.specs.Prelude.{◌≡◌, ◌+◌, ◌<◌, ◌≤◌, [], 
 ghost use Rattle.ft_base.specs.declared.turn.Actor.TheVariants as Actor;
 ghost use Rattle.ft_hist.specs.Placing.{ArePlaced, items_of};
 ghost use Rattle.ft_hist.specs.Rules.{IsLegal, IsWhole};
+ghost use Rattle.machine_core.specs.declared.cpus.CpuRoom.TheVariants.{ForAll};
 ghost use Rattle.machine_core.specs.Starts.{AreFirst, IsFirst};
 ghost use Rattle.live_table.specs.Seats.{AreAtEnd, AreNew, AreSeats, ControlSitsAt, IsDealt, IsMadeByTurns, IsNewCpu, IsOpen, SitsAt, history_of, lists_at, parts_of};
 ghost use Rattle.live_table.specs.Steps.{ControlSteps, CpuSteps};
@@ -91,9 +92,9 @@ impl Live {
     fn open(alloc: Global, job: &Job) -> Result<(Live, ControlSeat, Vec<Cpu>), NoMemory>
         ensures job { IfOk result (λ r. r.0.job ≡ job.now) }
         ensures control { IfOk result (λ r. IsOpen r.0 r.1 0) }
-        ensures cpus { IfOk result (λ r. AreFirst job.now r.2.items) }
+        ensures cpus { IfOk result (λ r. AreFirst ForAll job.now r.2.items) }
     {
-        let machine = Machine::start(alloc, job)?;
+        let machine = Machine::start_apart(alloc, job)?;
         // A machine that steps as one and actors that step at the same time begin alike.
         let WorldParts {
             words,
@@ -119,7 +120,7 @@ impl Live {
     ) -> Result<Vec<CpuSeat>, NoMemory>
         requires job { self.now.job ≡ job.now }
         requires control { IsOpen self.now control.old 0 }
-        requires cpus { AreFirst job.now cpus.items }
+        requires cpus { AreFirst ForAll job.now cpus.items }
         ensures control { IfOk result (λ _. IsOpen self.now control.new (length job.now.quanta)) }
         ensures cpus { IfOk result (λ seats. AreNew self.now seats.items) }
     {
@@ -136,7 +137,7 @@ impl Live {
     fn deal(&self, control: &mut ControlSeat, cpu: Cpu, number: CpuNo) -> CpuSeat
         requires own { ControlSitsAt self.now control.old }
         requires next { (control.old.split ≡ number.0) × (number.0 < length self.now.job.quanta) }
-        requires first { IsFirst self.now.job number.0 cpu }
+        requires first { IsFirst ForAll self.now.job number.0 cpu }
         ensures control { IsDealt control.old control.new }
         ensures seat { IsNewCpu self.now result number.0 }
     {

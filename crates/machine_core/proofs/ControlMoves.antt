@@ -97,7 +97,8 @@ module _ (job : Job) (limited : IsLimited job) (w : Parts) (k : IsFor job w) (r 
           is_for = own.is_for;
           number = own.number;
           none = own.none;
-          room = ap (λ n. x.marked.room + n) (ap (λ (past : List Item). items_on job c past) (noted-past op w.history h noted) ∙ same-items c op next) ∙ own.room;
+          left = ap (λ n. x.marked.left + n) (ap (λ (past : List Item). items_on job c past) (noted-past op w.history h noted) ∙ same-items c op next) ∙ own.left;
+          room = own.room;
         });
         room = noted-room op w.history h noted _ k.room;
       }

@@ -5,6 +5,7 @@ use Rattle.std.proofs.lemmas.Option.{same_Some, slice_get_read, slice_get_within
 use Rattle.std.specs.Prelude.{nat_lt, cond}
 use Rattle.ft_base.specs.declared.item.Item.{Item}
 use Rattle.ft_base.specs.declared.item.Stamped.{Stamped}
+use Rattle.ft_base.specs.declared.limits.TheConstants.{ITEMS}
 use Rattle.ft_base.specs.declared.turn.Actor.TheVariants as actor
 use Rattle.ft_base.specs.declared.number.CpuNo.{CpuNo}
 use Rattle.ft_base.specs.Desk.{desk}
@@ -31,6 +32,7 @@ use Rattle.word_machine_laws.proofs.WordsFit.{cpu-row-runs}
 use Rattle.cpu_core.specs.declared.parts.Parts.{Parts as CpuParts}
 use Rattle.cpu_core.specs.Cpus.{IsFor as IsCpuFor, cpu_of}
 use Rattle.cpu_core.specs.CpuSteps.{marks_in}
+use Rattle.cpu_core.specs.Marks.{HasRoom}
 use Rattle.cpu_core.specs.Taken.{IsTaken}
 use Rattle.task_core.specs.TaskOps.{item_in}
 use Rattle.cpu_core.proofs.Lookups.{get-set}
@@ -39,6 +41,7 @@ use Rattle.machine_core.specs.Worlds.{IsCpuAt, IsFor, Parts, cpu_or, cpus_of, pa
 use Rattle.machine_core.proofs.Chosen.{Chosen, chosen, none-next}
 use Rattle.machine_core.proofs.Made.{IsOpThere, gives-is, made-is, made-length, of-job, on-is, room-is}
 use Rattle.machine_core.proofs.Moved.{HasMoved}
+use Rattle.machine_core.proofs.Plans.{room-most}
 use Rattle.machine_core.proofs.Recording.{IsLeft, IsMarked, IsNoted, has-room, mark-item, noted-past, noted-room}
 
 -- ## the list of CPUs
@@ -117,14 +120,17 @@ module _ (job : Job) (limited : IsLimited job) (w : Parts) (k : IsFor job w) (r 
     own = k.each i x at
 
     -- there is room for what it marks, in the history too
-    mark-fits : (o : WordOp) → cpu_next job ((world_of job w).cpus i) ≡ Some o → IsSome (item_in (Some o)) → length x.marked.items < x.marked.room
+    mark-fits : (o : WordOp) → cpu_next job ((world_of job w).cpus i) ≡ Some o → IsSome (item_in (Some o)) → HasRoom x.marked
     mark-fits (Load y) e some = false_true some
     mark-fits (Store y z) e some = false_true some
     mark-fits (Mark item) e some =
         let lt = mark-room job (word-job job limited) (world_of job w) r.kept i inside item e in
         let none = ap (λ (xs : List Stamped). length xs) own.none in
-        let room = own.room in
-        omega (arith, lt, none, room)
+        let most = room-most job i limited in
+        let left = own.left in
+        let some : 0 < room_on job i = omega (arith, lt) in
+        let room = own.room some in
+        record { room = omega (arith, none, room); left = omega (arith, lt, most, none, left) }
 
     space : (item : Item) → op ≡ Mark item → 0 < w.history.spare
     space item e = has-room job w.history k.room item (subst (λ o. IsLegalPast job (past_after o (past_of w))) e runs-on.kept.legal)
@@ -135,7 +141,7 @@ module _ (job : Job) (limited : IsLimited job) (w : Parts) (k : IsFor job w) (r 
     marked (Store y z) v items e = e ∙ ap (λ (had : List Stamped). had ++ []) own.none
     marked (Mark item) v items e = (record { place = low v; item = item }, e ∙ ap (λ (had : List Stamped). had ++ marks_in (Some (Mark item)) v) own.none, refl)
 
-    module _ (y : CpuParts) (is_for : IsCpuFor job y) (none : y.marked.items ≡ []) (left : IsLeft op x.marked.room y.marked.room)
+    module _ (y : CpuParts) (is_for : IsCpuFor job y) (none : y.marked.items ≡ []) (left : IsLeft op x.marked.left y.marked.left) (stays : y.marked.room ≡ x.marked.room)
         (is : cpu_of job y ≡ cpu_got job (cpu_of job x) (gives (placed (shape_of job) op) w.words))
         (h : Shown) (noted : IsNoted op w.history h) where
       abbrev after : Parts
@@ -152,14 +158,14 @@ module _ (job : Job) (limited : IsLimited job) (w : Parts) (k : IsFor job w) (r 
         past = noted-past op w.history h noted j;
       }
 
-      -- its own room
-      own-room : (o : WordOp) → cpu_next job ((world_of job w).cpus i) ≡ Some o → IsLeft o x.marked.room y.marked.room
-          → y.marked.room + items_on job i (past_after o (past_of w)) ≡ room_on job i
-      own-room (Load a) e l = ap (λ n. n + items_on job i (past_of w)) l ∙ own.room
-      own-room (Store a b) e l = ap (λ n. n + items_on job i (past_of w)) l ∙ own.room
-      own-room (Mark item) e l =
+      -- what it can still mark
+      own-left : (o : WordOp) → cpu_next job ((world_of job w).cpus i) ≡ Some o → IsLeft o x.marked.left y.marked.left
+          → y.marked.left + items_on job i (past_after o (past_of w)) ≡ ITEMS
+      own-left (Load a) e l = ap (λ n. n + items_on job i (past_of w)) l ∙ own.left
+      own-left (Store a b) e l = ap (λ n. n + items_on job i (past_of w)) l ∙ own.left
+      own-left (Mark item) e l =
           let more = own-mark job (word-job job limited) (world_of job w) r.kept i inside item e in
-          let had = own.room in
+          let had = own.left in
           omega (arith, more, l, had)
 
       -- no other CPU has marked anything
@@ -182,7 +188,8 @@ module _ (job : Job) (limited : IsLimited job) (w : Parts) (k : IsFor job w) (r 
         is_for = is_for;
         number = number-is;
         none = none;
-        room = ap (λ n. y.marked.room + n) (on-past i) ∙ own-room op next-in left;
+        left = ap (λ n. y.marked.left + n) (on-past i) ∙ own-left op next-in left;
+        room = λ some. subst (λ n. 0 < n) (sym stays) (own.room some);
       }
 
       other-cpu : (c : ℕ) → c ≢ i → (z : CpuParts) → slice_get w.cpus c ≡ Some z → IsCpuAt job after c z
@@ -190,7 +197,8 @@ module _ (job : Job) (limited : IsLimited job) (w : Parts) (k : IsFor job w) (r 
         is_for = kept.is_for;
         number = kept.number;
         none = kept.none;
-        room = ap (λ n. z.marked.room + n) (on-past c ∙ other-count c ne op next-in) ∙ kept.room;
+        left = ap (λ n. z.marked.left + n) (on-past c ∙ other-count c ne op next-in) ∙ kept.left;
+        room = kept.room;
       }
 
       each-cpu : (c : ℕ) (z : CpuParts) → slice_get (set w.cpus i y) c ≡ Some z → IsCpuAt job after c z
@@ -227,7 +235,7 @@ module _ (job : Job) (limited : IsLimited job) (w : Parts) (k : IsFor job w) (r 
   pub cpu-takes-it : (v : ℕ) → v ≡ gives code w.words → CpuTakes job (cpu_of job x) v
   cpu-takes-it v value = subst (λ n. CpuTakes job (cpu_of job x) n) (sym (value ∙ ap (λ o. gives o w.words) (sym u.placed'))) (takes job limited w k r i x at u.op u.is)
 
-  pub cpu-fits : IsSome (item_in (cpu_next job (cpu_of job x))) → length x.marked.items < x.marked.room
+  pub cpu-fits : IsSome (item_in (cpu_next job (cpu_of job x))) → HasRoom x.marked
   cpu-fits some = mark-fits job limited w k r i x at u.op u.is u.op (next-in job limited w k r i x at u.op u.is) (subst (λ o. IsSome (item_in o)) u.is some)
 
   pub cpu-taken : (v : ℕ) → v ≡ gives code w.words → IsTaken x v
@@ -247,25 +255,25 @@ module _ (job : Job) (limited : IsLimited job) (w : Parts) (k : IsFor job w) (r 
   pub cpu-space : (command : Bool) → code ≡ CodeMark command → 0 < w.history.spare
   cpu-space command e = let m = mark-item (shape_of job) command u.op (u.placed' ∙ e) in space job limited w k r i x at u.op u.is m.0 m.1
 
-  -- there was room for a mark
-  pub cpu-had-room : (command : Bool) → code ≡ CodeMark command → 0 < x.marked.room
-  cpu-had-room command e =
+  -- a mark was left to it
+  pub cpu-had-left : (command : Bool) → code ≡ CodeMark command → 0 < x.marked.left
+  cpu-had-left command e =
       let m = mark-item (shape_of job) command u.op (u.placed' ∙ e) in
-      let lt = cpu-fits (subst (λ o. IsSome (item_in o)) (sym (u.is ∙ ap (λ o. Some o) m.1)) refl) in
+      let lt = (cpu-fits (subst (λ o. IsSome (item_in o)) (sym (u.is ∙ ap (λ o. Some o) m.1)) refl)).left in
       omega (arith, lt)
 
   pub cpu-moved : (words : List ℕ) → words ≡ made code w.words → (v : ℕ) → v ≡ gives code w.words → (y : CpuParts) → IsCpuFor job y → y.marked.items ≡ []
-      → IsLeft u.op x.marked.room y.marked.room → cpu_of job y ≡ cpu_got job (cpu_of job x) v → (h : Shown) → IsNoted u.op w.history h
+      → IsLeft u.op x.marked.left y.marked.left → y.marked.room ≡ x.marked.room → cpu_of job y ≡ cpu_got job (cpu_of job x) v → (h : Shown) → IsNoted u.op w.history h
       → (n : CpuNo) → n.0 ≡ i
       → HasMoved job (ran w words i y h) (step job (actor.Cpu n) (world_of job w))
-  cpu-moved words words-are v value y is_for none left is h noted n e =
+  cpu-moved words words-are v value y is_for none left stays is h noted n e =
       let is' : cpu_of job y ≡ cpu_got job (cpu_of job x) (gives (placed (shape_of job) u.op) w.words) =
       is ∙ ap (λ m. cpu_got job (cpu_of job x) m) (value ∙ ap (λ o. gives o w.words) (sym u.placed')) in
       let same-words : made (placed (shape_of job) u.op) w.words ≡ words = ap (λ o. made o w.words) u.placed' ∙ sym words-are in
-      let goes = cpu-moves job limited w k r i x at u.op u.is y is_for none left is' h noted in
+      let goes = cpu-moves job limited w k r i x at u.op u.is y is_for none left stays is' h noted in
       subst (λ ws. HasMoved job (ran w ws i y h) (step job (actor.Cpu n) (world_of job w))) same-words
       (record {
-        is_for = cpu-keeps job limited w k r i x at u.op u.is y is_for none left is' h noted;
+        is_for = cpu-keeps job limited w k r i x at u.op u.is y is_for none left stays is' h noted;
         is = goes ∙ sym (step-is job limited w k r i x at n e ∙ ap (λ o. cpu_moved job (world_of job w) i o) u.is);
         runs = subst (λ s. Runs job s) (sym goes) (runs-on job limited w k r i x at u.op u.is);
       })

@@ -1,5 +1,5 @@
 -- The machine before its first step.
-use Rattle.std.proofs.Common.{◌≡◌, ℕ, ◌+◌, ◌*◌, ◌≤◌, List, [], ◌∷◌, length, reverse, slice_get, sum_by, Option, Some, None, refl, sym, ap, ◌∙◌, subst, arith}
+use Rattle.std.proofs.Common.{◌≡◌, ℕ, ◌+◌, ◌*◌, ◌<◌, ◌≤◌, List, [], ◌∷◌, length, reverse, slice_get, sum_by, Option, Some, None, refl, sym, ap, ◌∙◌, subst, arith}
 use Rattle.std.proofs.lemmas.List.{length-map}
 use Rattle.std.proofs.lemmas.Option.{slice_get_within}
 use Rattle.ft_base.specs.declared.item.Item.{Item}
@@ -21,7 +21,7 @@ use Rattle.ft_desk.specs.Declarations.{IsOf}
 use Rattle.ft_desk.specs.Seen.{Seen}
 use Rattle.word_machine.specs.Control.{control_start}
 use Rattle.word_machine.specs.Cpu.{Cpu, cpu_start}
-use Rattle.word_machine.specs.Laws.{Runs, items_on, tasks_on}
+use Rattle.word_machine.specs.Laws.{Runs, items_on, room_on, tasks_on}
 use Rattle.word_machine.specs.Machine.{start}
 use Rattle.word_machine_laws.proofs.WordsFit.{start-runs}
 use Rattle.control_core.specs.Lines.{lines_of}
@@ -29,9 +29,12 @@ use Rattle.control_core.specs.Seated.{control_of}
 use Rattle.control_core.specs.Seated as control
 use Rattle.control_core.proofs.StartLaw.{starts}
 use Rattle.cpu_core.specs.declared.parts.Parts.{Parts as CpuParts}
+use Rattle.cpu_core.specs.Marks.{Marks}
 use Rattle.machine_core.specs.Worlds.{Declares, IsCpuAt, IsFor, IsRunning, Parts, cpu_or, past_of, world_of}
 use Rattle.machine_core.specs.declared.cpus.TaskLimits.{TaskLimits}
-use Rattle.machine_core.specs.Starts.{AreFirst, AreListsOf, ArePlansOf}
+use Rattle.machine_core.specs.declared.cpus.CpuRoom.{CpuRoom}
+use Rattle.machine_core.specs.declared.cpus.CpuRoom.TheVariants.{ForOne, ForAll}
+use Rattle.machine_core.specs.Starts.{AreFirst, AreListsOf, ArePlansOf, own_room}
 
 -- ## what is declared
 
@@ -64,22 +67,27 @@ none-summed (x ∷ xs) = none-summed xs
 pub none-on : (job : Job) (c : ℕ) → items_on job c [] ≡ 0
 none-on job c = none-summed (tasks_on job c)
 
+-- a CPU has room for an item, if its tasks can mark any
+has-room : (rooms : CpuRoom) (job : Job) (c : ℕ) → 0 < room_on job c → 0 < own_room rooms job c
+has-room ForOne job c some = omega arith
+has-room ForAll job c some = some
+
 -- ## the machine
 
 -- what each part is before its first step
-module _ (w : Parts) (pids : ℕ) (d : Seen) (ctls : List Ctl) (plans : List CpuPlan) (specs : List Spec) (limits : TaskLimits)
+module _ (w : Parts) (pids : ℕ) (d : Seen) (ctls : List Ctl) (plans : List CpuPlan) (specs : List Spec) (limits : TaskLimits) (rooms : CpuRoom)
     (traced : (job : Job) → length job.tasks ≡ w.shape.tasks → pids ≡ mask_of (desk job 0) (length job.tasks))
     (words : IsOpening w.shape pids w.words)
     (seated-shape : w.control.shape ≡ w.shape) (seated-desk : w.control.desk ≡ d) (seated-lines : w.control.lines ≡ lines_of w.shape.tasks ctls)
     (seated : control.IsOpening w.control)
-    (first : (job : Job) → ArePlansOf job plans specs limits w.shape → AreFirst job w.cpus)
+    (first : (job : Job) → ArePlansOf job plans specs limits w.shape → AreFirst rooms job w.cpus)
     (blank : w.history.items ≡ [])
     (room : (job : Job) → AreListsOf job ctls plans specs limits → 2 * length (commands job) + call_bound_in job * all_calls job.tasks ≤ w.history.spare) where
   no-past : past_of w ≡ []
   no-past = ap (λ (items : List Item). reverse items) blank
 
   module _ (job : Job) (h : Declares job d ctls plans specs limits w.shape) where
-    own : AreFirst job w.cpus
+    own : AreFirst rooms job w.cpus
     own = first job (declared-plans job d ctls plans specs limits w.shape h)
 
     pids-is : pids ≡ mask_of (desk job 0) (length job.tasks)
@@ -108,8 +116,9 @@ module _ (w : Parts) (pids : ℕ) (d : Seen) (ctls : List Ctl) (plans : List Cpu
     at c x e = let is = own.each c x e in record {
       is_for = is.is_for;
       number = ap (λ (y : Cpu). y.number) is.same;
-      none = is.none;
-      room = let none = ap (items_on job c) no-past ∙ none-on job c in let room = is.room in omega (arith, none, room);
+      none = ap (λ (m : Marks). m.items) is.marked;
+      left = let none = ap (items_on job c) no-past ∙ none-on job c in let left = ap (λ (m : Marks). m.left) is.marked in omega (arith, none, left);
+      room = λ some. subst (λ (m : Marks). 0 < m.room) (sym is.marked) (has-room rooms job c some);
     }
 
     is-for : IsFor job w

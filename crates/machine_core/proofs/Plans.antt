@@ -7,6 +7,7 @@ use Rattle.std.proofs.lemmas.List.{length-map}
 use Rattle.std.proofs.lemmas.Option.{none-some, same_Some}
 use Rattle.ft_base.specs.declared.limits.TheConstants.{GUARD_LEVELS, ACTS, USERS, FRAMES, ITEMS, QUANTUM, TASKS}
 use Rattle.ft_base.proofs.Versions.{few-largest, levels-most}
+use Rattle.machine_core.specs.declared.cpus.CpuRoom.{CpuRoom}
 use Rattle.machine_core.specs.declared.cpus.TaskLimits.{TaskLimits}
 use Rattle.ft_base.specs.Job.{Job, Task, no_task}
 use Rattle.plain_machine.specs.State.{tasks_from, tasks_of}
@@ -22,9 +23,9 @@ use Rattle.word_machine.specs.Laws.{room_on, tasks_on}
 use Rattle.word_machine.specs.Limits.{IsLimited}
 use Rattle.cpu_core.specs.declared.parts.Parts.{Parts}
 use Rattle.cpu_core.specs.Cpus.{IsFor, cpu_of}
-use Rattle.cpu_core.specs.Marks.{Marks}
+use Rattle.cpu_core.specs.Marks.{no_marks}
 use Rattle.cpu_core.specs.Taken.{IsCpuOf}
-use Rattle.machine_core.specs.Starts.{IsFirst, IsPlanOf}
+use Rattle.machine_core.specs.Starts.{IsFirst, IsPlanOf, own_room}
 
 -- ## a CPU's tasks among those of a job
 
@@ -79,6 +80,14 @@ own-on job c = let e : (i : ℕ) → 0 + i ≡ i = λ i. omega arith in
 own-calls : (job : Job) (c : ℕ) → sum_by (λ t. calls_of job t) (tasks_of job c) ≤ all_calls job.tasks
 own-calls job c = let e : (i : ℕ) → 0 + i ≡ i = λ i. omega arith in
     calls-below job.tasks c 0 job.tasks (λ i. ap (λ k. get_or job.tasks k no_task) (e i))
+
+-- and no more items than a history may have
+pub room-most : (job : Job) (c : ℕ) → IsLimited job → room_on job c ≤ ITEMS
+room-most job c limited =
+    let all = own-calls job c in
+    let e : sum_by (λ t. calls_of job t) (tasks_of job c) ≡ sum_by (λ t. calls_of job t) (tasks_on job c) = ap (sum_by (λ t. calls_of job t)) (own-on job c) in
+    let le = mul-le (call_bound_in job) _ (call_bound_in job) _ (omega arith) (subst (λ n. n ≤ all_calls job.tasks) e all) in
+    omega (arith, le, limited.items)
 
 -- ## the tasks of a plan
 
@@ -143,34 +152,29 @@ module _ (job : Job) (p : CpuPlan) (c : ℕ) (specs : List Spec) (limits : TaskL
   plan-room = ap₂ (λ us n. us * n) (ap₂ call_bound_of is.of'.users is.of'.levels') (own ∙ ap (sum_by (λ t. calls_of job t)) (own-on job c))
 
   pub plan-items : room_on job c ≤ ITEMS
-  plan-items =
-      let all = own-calls job c in
-      let e : sum_by (λ t. calls_of job t) (tasks_of job c) ≡ sum_by (λ t. calls_of job t) (tasks_on job c) = ap (sum_by (λ t. calls_of job t)) (own-on job c) in
-      let le = mul-le (call_bound_in job) _ (call_bound_in job) _ (omega arith) (subst (λ n. n ≤ all_calls job.tasks) e all) in
-      omega (arith, le, is.limited.items)
+  plan-items = room-most job c is.limited
 
   -- a CPU that is made by the plan, with this room, is the first
-  pub plan-first : (room : ℕ) (x : Parts) → room ≡ room_on job c
-      → (IsLimited job → IsCpuOf job p c specs limits.frames limits.levels shape → p.quantum ≤ QUANTUM → room ≤ ITEMS → IsFor job x × (cpu_of job x ≡ cpu_start job c))
-      → x.marked ≡ record { items = []; room = room } → IsFirst job c x
-  plan-first room x e of' marked =
-      let made = of' is.limited is.of' is.quick (omega (arith, e, plan-items)) in
+  pub plan-first : (rooms : CpuRoom) (room : ℕ) (x : Parts) → room ≡ own_room rooms job c
+      → (IsLimited job → IsCpuOf job p c specs limits.frames limits.levels shape → p.quantum ≤ QUANTUM → IsFor job x × (cpu_of job x ≡ cpu_start job c))
+      → x.marked ≡ no_marks room → IsFirst rooms job c x
+  plan-first rooms room x e of' marked =
+      let made = of' is.limited is.of' is.quick in
       record {
         is_for = made.0;
         same = made.1;
-        none = ap (λ (m : Marks). m.items) marked;
-        room = ap (λ (m : Marks). m.room) marked ∙ e;
+        marked = marked ∙ ap no_marks e;
       }
 
 -- what is made by a plan is the first for each job of which it is the plan
-pub plan-made : {E : Type 0} (p : CpuPlan) (c : ℕ) (specs : List Spec) (limits : TaskLimits) (shape : Shape) (room : ℕ) (r : Result Parts E)
-    → ((job : Job) → IsPlanOf job p c specs limits shape → room ≡ room_on job c)
-    → IfOk r (λ x. (job : Job) → IsLimited job → IsCpuOf job p c specs limits.frames limits.levels shape → p.quantum ≤ QUANTUM → room ≤ ITEMS
+pub plan-made : {E : Type 0} (p : CpuPlan) (c : ℕ) (specs : List Spec) (limits : TaskLimits) (shape : Shape) (rooms : CpuRoom) (room : ℕ) (r : Result Parts E)
+    → ((job : Job) → IsPlanOf job p c specs limits shape → room ≡ own_room rooms job c)
+    → IfOk r (λ x. (job : Job) → IsLimited job → IsCpuOf job p c specs limits.frames limits.levels shape → p.quantum ≤ QUANTUM
     → IsFor job x × (cpu_of job x ≡ cpu_start job c))
-    → IfOk r (λ x. x.marked ≡ record { items = []; room = room })
-    → IfOk r (λ x. (job : Job) → IsPlanOf job p c specs limits shape → IsFirst job c x)
-plan-made p c specs limits shape room (Ok x) e of' marked = λ job is. plan-first job p c specs limits shape is room x (e job is) (of' job) marked
-plan-made p c specs limits shape room (Err y) e of' marked = tt
+    → IfOk r (λ x. x.marked ≡ no_marks room)
+    → IfOk r (λ x. (job : Job) → IsPlanOf job p c specs limits shape → IsFirst rooms job c x)
+plan-made p c specs limits shape rooms room (Ok x) e of' marked = λ job is. plan-first job p c specs limits shape is rooms room x (e job is) (of' job) marked
+plan-made p c specs limits shape rooms room (Err y) e of' marked = tt
 
 -- ## one CPU after the other
 

@@ -27,10 +27,10 @@ abbrev pub IsNoted : WordOp → Shown → Shown → Type 0
 IsNoted (Mark item) h h' = (h'.items ≡ h.items ++ item ∷ []) × (h.spare ≤ h'.spare + 1)
 IsNoted _ h h' = h' ≡ h
 
--- the room of a list that was emptied after an operation
+-- how many items are left to mark after an operation, once the list was emptied
 abbrev pub IsLeft : WordOp → ℕ → ℕ → Type 0
-IsLeft (Mark item) room room' = suc room' ≡ room
-IsLeft _ room room' = room' ≡ room
+IsLeft (Mark item) left left' = suc left' ≡ left
+IsLeft _ left left' = left' ≡ left
 
 -- ## as code has the operation
 
@@ -56,11 +56,11 @@ module _ (shape : Shape) (command : Bool) (items : List Stamped) where
     spare,
   )
 
-  pub mark-left : (op : WordOp) → placed shape op ≡ CodeMark command → IsMarked op items → (room room' : ℕ) → 0 < room → room' ≡ room - length items
-      → IsLeft op room room'
-  mark-left (Load w) e m room room' some is = absurd cc
-  mark-left (Store w x) e m room room' some is = absurd cc
-  mark-left (Mark item) e m room room' some is = let one = ap (λ (xs : List Stamped). length xs) m.1 in omega (arith, is, one, some)
+  pub mark-left : (op : WordOp) → placed shape op ≡ CodeMark command → IsMarked op items → (left left' : ℕ) → 0 < left → left' ≡ left - length items
+      → IsLeft op left left'
+  mark-left (Load w) e m left left' some is = absurd cc
+  mark-left (Store w x) e m left left' some is = absurd cc
+  mark-left (Mark item) e m left left' some is = let one = ap (λ (xs : List Stamped). length xs) m.1 in omega (arith, is, one, some)
 
 -- any other operation leaves all as it was
 module _ (shape : Shape) (code : Op) (other : (command : Bool) → code ≢ CodeMark command) where
@@ -74,10 +74,10 @@ module _ (shape : Shape) (code : Op) (other : (command : Bool) → code ≢ Code
   none-noted (Store w x) e h = refl
   none-noted (Mark item) e h = absurd (other _ (sym e))
 
-  pub none-left : (op : WordOp) → placed shape op ≡ code → (room : ℕ) → IsLeft op room room
-  none-left (Load w) e room = refl
-  none-left (Store w x) e room = refl
-  none-left (Mark item) e room = absurd (other _ (sym e))
+  pub none-left : (op : WordOp) → placed shape op ≡ code → (left : ℕ) → IsLeft op left left
+  none-left (Load w) e left = refl
+  none-left (Store w x) e left = refl
+  none-left (Mark item) e left = absurd (other _ (sym e))
 
 -- ## the history
 

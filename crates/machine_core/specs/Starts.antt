@@ -1,5 +1,5 @@
 -- The CPUs of a job before their first steps.
-use Rattle.std.specs.Prelude.{ℕ, ◌≡◌, ◌<◌, ◌≤◌, List, [], length, slice_get, Some}
+use Rattle.std.specs.Prelude.{ℕ, ◌≡◌, ◌<◌, ◌≤◌, List, length, slice_get, Some}
 use Rattle.ft_base.specs.declared.limits.TheConstants.{QUANTUM}
 use Rattle.ft_base.specs.Job.{Job}
 use Rattle.user_specs.specs.declared.plan.CpuPlan.{CpuPlan}
@@ -12,7 +12,10 @@ use Rattle.word_machine.specs.Laws.{room_on}
 use Rattle.word_machine.specs.Limits.{IsLimited}
 use Rattle.cpu_core.specs.declared.parts.Parts.{Parts}
 use Rattle.cpu_core.specs.Cpus.{IsFor, cpu_of}
+use Rattle.cpu_core.specs.Marks.{no_marks}
 use Rattle.cpu_core.specs.Taken.{IsCpuOf}
+use Rattle.machine_core.specs.declared.cpus.CpuRoom.{CpuRoom}
+use Rattle.machine_core.specs.declared.cpus.CpuRoom.TheVariants.{ForOne, ForAll}
 use Rattle.machine_core.specs.declared.cpus.TaskLimits.{TaskLimits}
 
 -- what is declared for CPU c of a job
@@ -35,14 +38,18 @@ pub record AreListsOf (job : Job) (ctls : List Ctl) (plans : List CpuPlan) (spec
   pub shape : Shape
   pub declared : ArePlansOf job plans specs limits shape
 
--- CPU c of a job before its first step: the machine's, with no items, and with room for all that its tasks mark
-pub record IsFirst (job : Job) (c : ℕ) (x : Parts) : Type 0 where
+-- how many items CPU c of a job has room for: one, or all that its tasks mark
+abbrev pub own_room : CpuRoom → Job → ℕ → ℕ
+own_room ForOne job c = 1
+own_room ForAll job c = room_on job c
+
+-- CPU c of a job before its first step: the machine's, which has marked nothing, and with its room
+pub record IsFirst (rooms : CpuRoom) (job : Job) (c : ℕ) (x : Parts) : Type 0 where
   pub is_for : IsFor job x
   pub same : cpu_of job x ≡ cpu_start job c
-  pub none : x.marked.items ≡ []
-  pub room : x.marked.room ≡ room_on job c
+  pub marked : x.marked ≡ no_marks (own_room rooms job c)
 
 -- all its CPUs
-pub record AreFirst (job : Job) (cpus : List Parts) : Type 0 where
+pub record AreFirst (rooms : CpuRoom) (job : Job) (cpus : List Parts) : Type 0 where
   pub count : length cpus ≡ length job.quanta
-  pub each : (c : ℕ) (x : Parts) → slice_get cpus c ≡ Some x → IsFirst job c x
+  pub each : (c : ℕ) (x : Parts) → slice_get cpus c ≡ Some x → IsFirst rooms job c x

@@ -1,7 +1,7 @@
 -- The word machine's world that the words, control and CPUs of code stand for.
-use Rattle.std.specs.Prelude.{ℕ, ◌≡◌, ◌+◌, ◌*◌, ◌≤◌, List, [], length, reverse, slice_get, Option, Some, None}
+use Rattle.std.specs.Prelude.{ℕ, ◌≡◌, ◌+◌, ◌*◌, ◌<◌, ◌≤◌, List, [], length, reverse, slice_get, Option, Some, None}
 use Rattle.ft_base.specs.declared.item.Item.{Item}
-use Rattle.ft_base.specs.declared.limits.TheConstants.{QUANTUM}
+use Rattle.ft_base.specs.declared.limits.TheConstants.{ITEMS, QUANTUM}
 use Rattle.ft_base.specs.Desk.{desk}
 use Rattle.ft_base.specs.Job.{Job, commands}
 use Rattle.ft_hist.specs.Shown.{Shown}
@@ -70,12 +70,14 @@ world_of job w = record {
 
 -- CPU c of a job.
 --   none   what it marked is in the history, and not in its list
---   room   with the items of its tasks so far it has room for all that they mark
+--   left   the items of its tasks so far are those that it can mark no more, of all that a history may have
+--   room   it has room for one, if its tasks can mark any
 pub record IsCpuAt (job : Job) (w : Parts) (c : ℕ) (x : CpuParts) : Type 0 where
   pub is_for : cpu.IsFor job x
   pub number : x.polls.poll.cpu ≡ c
   pub none : x.marked.items ≡ []
-  pub room : x.marked.room + items_on job c (past_of w) ≡ room_on job c
+  pub left : x.marked.left + items_on job c (past_of w) ≡ ITEMS
+  pub room : 0 < room_on job c → 0 < x.marked.room
 
 -- The machine of a job.
 --   none   what control marked is in the history, and not in its list

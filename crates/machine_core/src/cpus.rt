@@ -12,7 +12,7 @@ ghost use Rattle.word_machine.specs.Cpu.{cpu_next};
 ghost use Rattle.word_machine.specs.Laws.{room_on};
 ghost use Rattle.word_machine.specs.Limits.{IsLimited};
 ghost use Rattle.cpu_core.specs.Cpus.{IsFor, cpu_of};
-ghost use Rattle.machine_core.specs.Starts.{AreFirst, ArePlansOf, IsFirst, IsPlanOf};
+ghost use Rattle.machine_core.specs.Starts.{AreFirst, ArePlansOf, IsFirst, IsPlanOf, own_room};
 
 use cpu_core::Cpu;
 use ft_base::{CpuNo, NoMemory, TaskAct};
@@ -30,39 +30,49 @@ pub struct TaskLimits {
     pub levels: u8,
 }
 
+/// How many items each CPU has room for.
+#[derive(Clone, Copy, Debug, PartialEq, Eq)]
+pub enum CpuRoom {
+    /// One: a history takes each over at once.
+    ForOne,
+    /// All that its tasks mark.
+    ForAll,
+}
+
 /// A CPU for each of these plans. The error says that memory ran out.
 pub(crate) fn new_cpus(
     alloc: Global,
     plans: &[CpuPlan],
     specs: &[Spec],
     limits: TaskLimits,
+    rooms: CpuRoom,
     map: WordMap,
 ) -> Result<Vec<Cpu>, NoMemory>
     requires { (job : Job) × ArePlansOf job plans.now specs.now limits map }
-    ensures { IfOk result (λ cpus. (job : Job) → ArePlansOf job plans.now specs.now limits map → AreFirst job cpus.items) }
+    ensures { IfOk result (λ cpus. (job : Job) → ArePlansOf job plans.now specs.now limits map → AreFirst rooms job cpus.items) }
 {
     let mut cpus = Vec::with_capacity(alloc, plans.len()).map_err(|_| NoMemory)?;
     for c in 0..map.shape().cpus {
         let plan = &plans[c as usize];
-        cpus.push_reserved(new_cpu(alloc, plan, CpuNo(c), specs, limits, map)?);
+        cpus.push_reserved(new_cpu(alloc, plan, CpuNo(c), specs, limits, rooms, map)?);
     }
     Ok(cpus)
 }
 
-/// A CPU of this number, with room for all items that its tasks' calls can make. The error says that
-/// memory ran out.
+/// A CPU of this number. The error says that memory ran out.
 fn new_cpu(
     alloc: Global,
     plan: &CpuPlan,
     cpu: CpuNo,
     specs: &[Spec],
     limits: TaskLimits,
+    rooms: CpuRoom,
     map: WordMap,
 ) -> Result<Cpu, NoMemory>
     requires { (job : Job) × IsPlanOf job plan.now cpu.0 specs.now limits map }
-    ensures { IfOk result (λ made. (job : Job) → IsPlanOf job plan.now cpu.0 specs.now limits map → IsFirst job cpu.0 made) }
+    ensures { IfOk result (λ made. (job : Job) → IsPlanOf job plan.now cpu.0 specs.now limits map → IsFirst rooms job cpu.0 made) }
 {
-    let room = room_of(plan, specs, limits);
+    let room = own_room(rooms, plan, specs, limits);
     Cpu::new(
         alloc,
         plan,
@@ -80,6 +90,17 @@ pub(crate) fn has_ended(cpu: &Cpu) -> bool
     ensures { (job : Job) → IsLimited job → IsFor job cpu.now → result ≡ is_none (cpu_next job (cpu_of job cpu.now)) }
 {
     cpu.next().is_none()
+}
+
+/// How many items a CPU has room for.
+fn own_room(rooms: CpuRoom, plan: &CpuPlan, specs: &[Spec], limits: TaskLimits) -> u32
+    requires { (job : Job) × (c : ℕ) × (shape : Shape) × IsPlanOf job plan.now c specs.now limits shape }
+    ensures { (job : Job) (c : ℕ) (shape : Shape) → IsPlanOf job plan.now c specs.now limits shape → result ≡ own_room rooms job c }
+{
+    match rooms {
+        CpuRoom::ForOne => 1,
+        CpuRoom::ForAll => room_of(plan, specs, limits),
+    }
 }
 
 /// Room for all items that the calls of the tasks of all CPUs can make.

@@ -17,5 +17,5 @@ mod cpus;
 mod table;
 mod world;
 
-pub use cpus::TaskLimits;
+pub use cpus::{CpuRoom, TaskLimits};
 pub use world::{World, WorldParts};

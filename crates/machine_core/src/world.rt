@@ -13,10 +13,10 @@ ghost use Rattle.word_machine.specs.Laws.{Runs};
 ghost use Rattle.word_machine.specs.Limits.{IsLimited};
 ghost use Rattle.word_machine.specs.Machine.{start, step, is_at_end, all_end};
 ghost use Rattle.machine_core.specs.Sites.{site_of};
-ghost use Rattle.machine_core.specs.Starts.{AreListsOf};
+ghost use Rattle.machine_core.specs.Starts.{AreFirst, AreListsOf};
 ghost use Rattle.machine_core.specs.Worlds.{Declares, IsFor, world_of};
 
-use crate::cpus::{TaskLimits, all_rooms, has_ended, new_cpus};
+use crate::cpus::{CpuRoom, TaskLimits, all_rooms, has_ended, new_cpus};
 use crate::table::Table;
 use control_core::Control;
 use cpu_core::Cpu;
@@ -69,7 +69,8 @@ impl Model for World {
 
 impl World {
     /// The machine before its first step: this desk and these lines are control's, and there is a CPU
-    /// for each plan. The error says that memory ran out.
+    /// for each plan, with this room for what it marks; it needs room for one alone as long as the
+    /// machine steps as one. The error says that memory ran out.
     pub fn new(
         alloc: Global,
         desk: Desk,
@@ -77,17 +78,19 @@ impl World {
         plans: &[CpuPlan],
         specs: &[Spec],
         limits: TaskLimits,
+        rooms: CpuRoom,
         map: WordMap,
     ) -> Result<World, NoMemory>
         requires declared { IsDeclaredIn map desk.declared }
         requires lines { All (IsLineIn desk.declared) ctls.now }
         requires job { (job : Job) × Declares job desk ctls.now plans.now specs.now limits map }
-        ensures { IfOk result (λ w. (job : Job) → Declares job desk ctls.now plans.now specs.now limits map → IsFor job w × (world_of job w ≡ start job)) }
+        ensures opening { IfOk result (λ w. (job : Job) → Declares job desk ctls.now plans.now specs.now limits map → IsFor job w × (world_of job w ≡ start job)) }
+        ensures cpus { IfOk result (λ w. (job : Job) → Declares job desk ctls.now plans.now specs.now limits map → AreFirst rooms job w.cpus) }
     {
         let history = new_history(alloc, ctls, plans, specs, limits)?;
         let table = Table::new(alloc, &map, all_tasks(&map))?;
         let control = Control::new(alloc, desk, ctls, map)?;
-        let cpus = new_cpus(alloc, plans, specs, limits, map)?;
+        let cpus = new_cpus(alloc, plans, specs, limits, rooms, map)?;
         Ok(World {
             map,
             table,

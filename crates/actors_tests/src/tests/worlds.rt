@@ -4,7 +4,7 @@
 use ft_base::{Actor, Answer, CpuNo, FuncNo, Item};
 use ft_desk::{Command, Ctl, Desk};
 use ft_hist::History;
-use machine_core::{TaskLimits, World};
+use machine_core::{CpuRoom, TaskLimits, World};
 use std::test::Fail;
 use user_specs::CpuPlan;
 use word_map::{Shape, WordMap};
@@ -70,7 +70,16 @@ fn steps_to_its_end(rt: HostRuntime) -> Result<(), Fail> {
         frames: 1,
         levels: 1,
     };
-    let mut world = World::new(alloc, desk, &lines, plans.as_slice(), &[], limits, map)?;
+    let mut world = World::new(
+        alloc,
+        desk,
+        &lines,
+        plans.as_slice(),
+        &[],
+        limits,
+        CpuRoom::ForOne,
+        map,
+    )?;
     assert!(rt; world.site(FuncNo(0)) == NOP);
     assert!(rt; is_at_its_start(&world));
     for _ in 0..20 {

@@ -1,5 +1,5 @@
 -- The rooms of the CPUs so far.
-use Rattle.std.proofs.Common.{◌≡◌, ℕ}
+use Rattle.std.proofs.Common.{◌≡◌}
 use Rattle.ft_base.specs.Job.{Job}
 use Rattle.word_map.specs.declared.shape.Shape.{Shape}
 use Rattle.machine_core.specs.Starts.{ArePlansOf}

@@ -1,8 +1,8 @@
 use Rattle.machine_core.proofs.Plans.{plan-all-acts, plan-cpu, plan-frames, plan-levels, plan-made, plan-tasks}
 use Rattle.machine_core.proofs.cpus.new_cpu.Goals as goal
 
-pub room_of-room-requires : goal.room_of-room-requires
-room_of-room-requires c = (c.requires.0, c.args.cpu.0, c.args.map, c.requires.1)
+pub own_room-room-requires : goal.own_room-room-requires
+own_room-room-requires c = (c.requires.0, c.args.cpu.0, c.args.map, c.requires.1)
 
 pub new-requires : goal.new-requires
 new-requires c = record {
@@ -15,6 +15,6 @@ new-requires c = record {
 
 pub returns : goal.returns
 returns c =
-    plan-made c.args.plan.now c.args.cpu.0 c.args.specs.now c.args.limits c.args.map c.room_of-room.result c.new.result
-    (λ job is. c.room_of-room.ensures job c.args.cpu.0 c.args.map is)
+    plan-made c.args.plan.now c.args.cpu.0 c.args.specs.now c.args.limits c.args.map c.args.rooms c.own_room-room.result c.new.result
+    (λ job is. c.own_room-room.ensures job c.args.cpu.0 c.args.map is)
     c.new.ensures.of c.new.ensures.room

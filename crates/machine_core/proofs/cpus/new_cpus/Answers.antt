@@ -24,9 +24,9 @@ loop-c-preserved c =
     slice_get-get_or c.args.plans.now c.loop-c.c c.index-plans-c.result lt ∙ ap (λ (p : CpuPlan). Some p) (sym c.index-plans-c.is) in
     record {
       first = λ job is k y e.
-          let made : IsFirst job c.loop-c.c c.in_ok-new_cpu.field-0 = c.in_ok-new_cpu.ensures {u = tt} job (is.each c.loop-c.c c.index-plans-c.result at) in
-          push-each (λ n (x : Parts). IsFirst job n x) c.loop-c.cpus.items c.in_ok-new_cpu.field-0 (c.loop-c.invariant.first job is)
-          (subst (λ n. IsFirst job n c.in_ok-new_cpu.field-0) (sym c.loop-c.invariant.count) made) k y
+          let made : IsFirst c.args.rooms job c.loop-c.c c.in_ok-new_cpu.field-0 = c.in_ok-new_cpu.ensures {u = tt} job (is.each c.loop-c.c c.index-plans-c.result at) in
+          push-each (λ n (x : Parts). IsFirst c.args.rooms job n x) c.loop-c.cpus.items c.in_ok-new_cpu.field-0 (c.loop-c.invariant.first job is)
+          (subst (λ n. IsFirst c.args.rooms job n c.in_ok-new_cpu.field-0) (sym c.loop-c.invariant.count) made) k y
           (ap (λ (xs : List Parts). slice_get xs k) (sym c.push_reserved.ensures.items) ∙ e);
       count = search rules;
       room = search rules;

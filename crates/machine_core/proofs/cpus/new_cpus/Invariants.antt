@@ -7,7 +7,7 @@ use Rattle.machine_core.proofs.cpus.new_cpus.Given as goal
 
 abbrev pub invariant-loop-c : goal.invariant-loop-c
 invariant-loop-c l = record {
-  first : (job : Job) → ArePlansOf job l.plans l.specs l.limits l.map → (k : ℕ) (x : Parts) → slice_get l.cpus.items k ≡ Some x → IsFirst job k x;
+  first : (job : Job) → ArePlansOf job l.plans l.specs l.limits l.map → (k : ℕ) (x : Parts) → slice_get l.cpus.items k ≡ Some x → IsFirst l.rooms job k x;
   count : length l.cpus.items ≡ l.c;
   room : length l.plans ≤ vec_capacity l.cpus;
 }

@@ -4,7 +4,7 @@ use Rattle.cpu_core.specs.CpuFits.{CpuFits, HasNext}
 use Rattle.cpu_core.specs.CpuSteps.{stepped}
 use Rattle.cpu_core.specs.Cpus.{IsFor, cpu_of}
 use Rattle.cpu_core.proofs.CpuNext.{cpu-op-there}
-use Rattle.cpu_core.proofs.CpuTaken.{room-kept, taken-fits, taken-for, taken-is, taken-items}
+use Rattle.cpu_core.proofs.CpuTaken.{left-kept, room-kept, taken-fits, taken-for, taken-is, taken-items}
 use Rattle.cpu_core.proofs.cpu.Cpu.got.Goals as goal
 
 pub step-requires : goal.step-requires
@@ -32,3 +32,6 @@ returns-clause-items c = λ job limited is takes.
 
 pub returns-clause-room : goal.returns-clause-room
 returns-clause-room c = ap (λ (d : Parts). d.marked.room) (now c) ∙ room-kept c.args.self.now c.args.value
+
+pub returns-clause-left : goal.returns-clause-left
+returns-clause-left c = ap (λ (d : Parts). d.marked.left) (now c) ∙ left-kept c.args.self.now c.args.value

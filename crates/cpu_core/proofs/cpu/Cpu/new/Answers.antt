@@ -32,9 +32,9 @@ module _ (c : goal.In_ok-new-3) where
   present = c.first.ensures ∙ ap first_left (sym c.tasks.view_is)
 
 pub returns-clause-of : goal.returns-clause-of
-returns-clause-of c = λ job limited is quick small.
+returns-clause-of c = λ job limited is quick.
     start-is c.args.plan.now c.args.cpu.0 c.args.specs.now c.args.frames c.args.levels c.args.map c.args.room (made c) (c.in_ok-new.ensures {u = tt}) (polls c) refl
-    (started c) (present c) refl refl (c.in_ok-new-3.ensures {u = tt}) job limited is c.requires.cpu quick small
+    (started c) (present c) refl refl (c.in_ok-new-3.ensures {u = tt}) job limited is c.requires.cpu quick
 
 pub invariant_of-result-2 : goal.invariant_of-result-2
 invariant_of-result-2 c =

@@ -4,7 +4,8 @@ use Rattle.word_map.specs.Shapes.{shape_of}
 use Rattle.ft_desk.specs.Seen.{opened}
 use Rattle.word_machine.specs.Limits.{IsLimited}
 use Rattle.word_machine.specs.Machine.{start}
-use Rattle.machine_core.specs.Worlds.{Declares, IsFor, world_of}
+use Rattle.machine_core.specs.Starts.{AreFirst}
+use Rattle.machine_core.specs.Worlds.{Declares, IsFor, Parts, world_of}
 use Rattle.ft_machine.proofs.JobLaws.{users-count, seen-limited}
 use Rattle.ft_machine.proofs.Declared.{kept, declared-in, shape-within, lines-in, declares}
 use Rattle.ft_machine.proofs.job.Job.world.Goals as goal
@@ -48,14 +49,19 @@ new-requires-3-clause-job c = (c.args.self.now, declared (goal.at.new-requires-3
 pub returns-clause-limited : goal.returns-clause-limited
 returns-clause-limited c =
     let l = seen-limited c.self.inside.parts _ c.self.view_is c.self.invariant in
-    IfOk-weaker c.new-3.result _ (λ _. IsLimited c.args.self.now) (λ w h. l) c.new-3.ensures
+    IfOk-weaker c.new-3.result _ (λ _. IsLimited c.args.self.now) (λ w h. l) c.new-3.ensures.opening
 
 pub returns-clause-of : goal.returns-clause-of
 returns-clause-of c =
     let d = declared (goal.at.returns-clause-of c).After-new-2 in
-    IfOk-weaker c.new-3.result _ (λ w. IsFor c.args.self.now w) (λ w h. (h c.args.self.now d).0) c.new-3.ensures
+    IfOk-weaker c.new-3.result _ (λ w. IsFor c.args.self.now w) (λ w h. (h c.args.self.now d).0) c.new-3.ensures.opening
 
 pub returns-clause-opening : goal.returns-clause-opening
 returns-clause-opening c =
     let d = declared (goal.at.returns-clause-opening c).After-new-2 in
-    IfOk-weaker c.new-3.result _ (λ w. world_of c.args.self.now w ≡ start c.args.self.now) (λ w h. (h c.args.self.now d).1) c.new-3.ensures
+    IfOk-weaker c.new-3.result _ (λ w. world_of c.args.self.now w ≡ start c.args.self.now) (λ w h. (h c.args.self.now d).1) c.new-3.ensures.opening
+
+pub returns-clause-cpus : goal.returns-clause-cpus
+returns-clause-cpus c =
+    let d = declared (goal.at.returns-clause-cpus c).After-new-2 in
+    IfOk-weaker c.new-3.result _ (λ (w : Parts). AreFirst c.args.rooms c.args.self.now w.cpus) (λ w h. h c.args.self.now d) c.new-3.ensures.cpus

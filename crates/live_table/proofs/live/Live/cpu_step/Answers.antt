@@ -24,7 +24,7 @@ pub invariant_of-seat : goal.invariant_of-seat
 invariant_of-seat c =
     let t = c.make-value.ensures.took in
     cpu-sits c.seat.inside.seat.me _ _ c.seat.invariant c.in-Some.op c.in-Some.ensures _ t.0 _ t.1 t.2 _
-    c.got.ensures.of c.got.ensures.cpu c.got.ensures.items c.got.ensures.room
+    c.got.ensures.of c.got.ensures.cpu c.got.ensures.items c.got.ensures.room c.got.ensures.left
 
 pub returns : goal.returns
 returns c =

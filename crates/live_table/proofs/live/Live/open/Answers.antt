@@ -1,6 +1,8 @@
 -- The words, control, the CPUs and the room are those of the job before its first step.
-use Rattle.std.proofs.Common.{◌∙◌}
-use Rattle.live_table.proofs.AtStart.{opens-control, opens-cpus, opens-table, opens-words}
+use Rattle.std.proofs.Common.{◌∙◌, sym, subst}
+use Rattle.machine_core.specs.declared.cpus.CpuRoom.TheVariants.{ForAll}
+use Rattle.machine_core.specs.Starts.{AreFirst}
+use Rattle.live_table.proofs.AtStart.{opens-control, opens-table, opens-words}
 use Rattle.live_table.proofs.live.Live.open.Goals as goal
 
 pub open-requires-clause-opening : goal.open-requires-clause-opening
@@ -21,5 +23,4 @@ invariant_of-result c =
 
 pub returns-clause-cpus : goal.returns-clause-cpus
 returns-clause-cpus c =
-    let m = c.in_ok-machine.ensures in
-    opens-cpus c.args.job.now c.in_ok-machine.machine.world m.of.is_for m.opening _ c.into_parts-words.ensures.cpus
+    subst (AreFirst ForAll c.args.job.now) (sym c.into_parts-words.ensures.cpus) c.in_ok-machine.ensures.cpus

@@ -33,15 +33,19 @@ module _ (c : goal.In_ok-cpus) where
     history = c.in_ok-history.history;
   }
 
-pub returns : goal.returns
-returns c =
-    opens (made c) c.all_tasks.result c.args.desk c.args.ctls.now c.args.plans.now c.args.specs.now c.args.limits c.all_tasks.ensures
+pub returns-clause-opening : goal.returns-clause-opening
+returns-clause-opening c =
+    opens (made c) c.all_tasks.result c.args.desk c.args.ctls.now c.args.plans.now c.args.specs.now c.args.limits c.args.rooms c.all_tasks.ensures
     (c.in_ok-table.ensures {u = tt}) c.in_ok-control.ensures.shape c.in_ok-control.ensures.desk c.in_ok-control.ensures.lines
     c.in_ok-control.ensures.opening (c.in_ok-cpus.ensures {u = tt}) c.in_ok-history.ensures.empty c.in_ok-history.ensures.room
 
+pub returns-clause-cpus : goal.returns-clause-cpus
+returns-clause-cpus c = λ job h.
+    c.in_ok-cpus.ensures {u = tt} job (declared-plans job c.args.desk c.args.ctls.now c.args.plans.now c.args.specs.now c.args.limits c.args.map h)
+
 pub invariant_of-result : goal.invariant_of-result
 invariant_of-result c = record {
-  running = opens-running (made c) c.all_tasks.result c.args.desk c.args.ctls.now c.args.plans.now c.args.specs.now c.args.limits c.all_tasks.ensures
+  running = opens-running (made c) c.all_tasks.result c.args.desk c.args.ctls.now c.args.plans.now c.args.specs.now c.args.limits c.args.rooms c.all_tasks.ensures
       (c.in_ok-table.ensures {u = tt}) c.in_ok-control.ensures.shape c.in_ok-control.ensures.desk c.in_ok-control.ensures.lines
       c.in_ok-control.ensures.opening (c.in_ok-cpus.ensures {u = tt}) c.in_ok-history.ensures.empty c.in_ok-history.ensures.room c.requires.job.0 c.requires.job.1;
 }

@@ -8,7 +8,7 @@ use Rattle.word_machine.specs.Machine.{step}
 use Rattle.cpu_core.specs.declared.parts.Parts.{Parts as CpuParts}
 use Rattle.machine_core.specs.Kept.{parts_of}
 use Rattle.machine_core.specs.Worlds.{IsFor, IsRunning, Parts, world_of}
-use Rattle.machine_core.proofs.CpuMoves.{cpu-again, cpu-chosen, cpu-had-room, cpu-marked, cpu-moved, cpu-none, cpu-on, cpu-rests, cpu-room, cpu-space, cpu-taken, cpu-takes-it, found, ran}
+use Rattle.machine_core.proofs.CpuMoves.{cpu-again, cpu-chosen, cpu-had-left, cpu-marked, cpu-moved, cpu-none, cpu-on, cpu-rests, cpu-room, cpu-space, cpu-taken, cpu-takes-it, found, ran}
 use Rattle.machine_core.proofs.Forgotten.{cpu-same}
 use Rattle.machine_core.proofs.Moved.{HasMoved, moved-from, running-on}
 use Rattle.machine_core.proofs.Recording.{IsLeft, mark-left, mark-noted, mark-one, none-left, none-marked, none-noted}
@@ -91,14 +91,15 @@ module _ (c : goal.After-self-1) where
       let is = x.placed' ∙ c.in-Mark.is in
       let marked = cpu-marked job limited before k r c.args.cpu.0 cpu at c.in-Some.op x c.make-value.result c.items.result.now
       (c.items.ensures ∙ c.got.ensures.items job limited own takes) in
-      let room : c.forget_items.new.self.marked.room ≡ cpu.marked.room - length c.items.result.now =
-      ap (λ (y : CpuParts). y.marked.room) c.forget_items.ensures.parts ∙ (λ i. c.got.ensures.room i - length (sym c.items.ensures i)) in
+      let left : c.forget_items.new.self.marked.left ≡ cpu.marked.left - length c.items.result.now =
+      ap (λ (y : CpuParts). y.marked.left) c.forget_items.ensures.parts ∙ (λ i. c.got.ensures.left i - length (sym c.items.ensures i)) in
       cpu-moved job limited before k r c.args.cpu.0 cpu at c.in-Some.op x
       c.make-value.new.self c.make-value.ensures.words c.make-value.result c.make-value.ensures.value c.forget_items.new.self
       (c.forget_items.ensures.of job (c.got.ensures.of job limited own takes))
       (ap (λ (y : CpuParts). y.marked.items) c.forget_items.ensures.parts)
-      (mark-left (shape_of job) c.in-Mark.command c.items.result.now x.op is marked cpu.marked.room c.forget_items.new.self.marked.room
-      (cpu-had-room job limited before k r c.args.cpu.0 cpu at c.in-Some.op x c.in-Mark.command c.in-Mark.is) room)
+      (mark-left (shape_of job) c.in-Mark.command c.items.result.now x.op is marked cpu.marked.left c.forget_items.new.self.marked.left
+      (cpu-had-left job limited before k r c.args.cpu.0 cpu at c.in-Some.op x c.in-Mark.command c.in-Mark.is) left)
+      (ap (λ (y : CpuParts). y.marked.room) c.forget_items.ensures.parts ∙ c.got.ensures.room)
       (cpu-same job c.got.new.self c.forget_items.new.self _ c.forget_items.ensures.parts ∙ c.got.ensures.cpu job limited own takes)
       c.note.new.history
       (mark-noted (shape_of job) c.in-Mark.command c.items.result.now x.op is marked c.self.inside.history c.note.new.history c.note.ensures.added c.note.ensures.room)
@@ -140,7 +141,8 @@ module _ (c : goal.After-self-in_default-op-1) where
       c.make-value.new.self c.make-value.ensures.words c.make-value.result c.make-value.ensures.value c.got.new.self
       (c.got.ensures.of job limited own takes)
       (none-marked (shape_of job) c.in-Some.op other x.op x.placed' c.got.new.self.marked.items marked)
-      (subst (λ n. IsLeft x.op cpu'.marked.room n) (sym c.got.ensures.room) (none-left (shape_of job) c.in-Some.op other x.op x.placed' cpu'.marked.room))
+      (subst (λ n. IsLeft x.op cpu'.marked.left n) (sym c.got.ensures.left) (none-left (shape_of job) c.in-Some.op other x.op x.placed' cpu'.marked.left))
+      c.got.ensures.room
       (c.got.ensures.cpu job limited own takes)
       c.self.inside.history
       (none-noted (shape_of job) c.in-Some.op other x.op x.placed' c.self.inside.history)
