@@ -23,8 +23,7 @@ use patch_core::Batch;
 use std::alloc::Global;
 use std::marker::Model;
 use std::snapshot::Snapshot;
-use word_map::halves::{high, low};
-use word_map::{Op, WordMap};
+use word_map::{Op, WordMap, clock, quiet};
 
 /// Control, with the items that it has marked.
 #[derive(Drop)]
@@ -212,8 +211,8 @@ impl Control {
     {
         match self.lines.get(self.line as usize) {
             None => {}
-            Some(Ctl::Until { acts, .. }) => {
-                if *acts <= high(value) {
+            Some(Ctl::Until { acts: awaited, .. }) => {
+                if *awaited <= quiet::acts(value) {
                     self.line += 1;
                 }
             }
@@ -221,7 +220,7 @@ impl Control {
                 self.answer = self.desk.plan(command);
                 self.phase = begin_phase(&self.map, self.desk.last());
                 self.items.push_reserved(Stamped {
-                    place: low(value),
+                    place: clock::items_at(value),
                     item: Item::Begin {
                         k: self.commands_done + 1,
                     },
@@ -321,7 +320,7 @@ impl Control {
         self.batch = Batch::new(self.map);
         self.phase = Phase::Line;
         self.items.push_reserved(Stamped {
-            place: low(value),
+            place: clock::items_at(value),
             item: Item::Return {
                 k: self.commands_done,
                 answer: self.answer,

@@ -13,8 +13,7 @@ ghost use Rattle.control_core.specs.Lines.{IsTaskIn};
 use ft_desk::{Ctl, Desk, Plan, TrampChange};
 use hash_pages::PageWriter;
 use patch_core::{Batch, BatchNext};
-use word_map::halves::tramp_word;
-use word_map::{Op, WordMap};
+use word_map::{Op, WordMap, tramp};
 
 /// At a line: the Begin of a command, or the load of the word of a task that is waited for.
 pub(crate) fn line_op(map: &WordMap, lines: &[Ctl], line: u32) -> Option<Op>
@@ -39,7 +38,7 @@ pub(crate) fn take_op(map: &WordMap, plan: &Plan) -> Option<Op>
     match (plan.user, plan.tramp) {
         (Some(user), TrampChange::Set { slot, reg }) => Some(Op::Store {
             word: map.tramp(slot),
-            value: tramp_word(reg, user),
+            value: tramp::word(reg, user),
         }),
         _ => None,
     }

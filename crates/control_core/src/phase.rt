@@ -1,7 +1,6 @@
 //! Where control stands in a command, and where it goes from there by the desk's plan.
 
 ghost use Rattle.std.specs.Prelude.{◌≡◌, ◌+◌, ◌<◌, ◌≤◌, ◌^◌, length, All};
-ghost use Rattle.word_map.specs.Contents.{sel_copy};
 ghost use Rattle.patch_core.specs.Moves.{IsChange};
 ghost use Rattle.ft_desk.specs.Plans.{plain_plan};
 ghost use Rattle.control_core.specs.Plans.{IsPlanIn};
@@ -12,7 +11,7 @@ use grace_core::Waiter;
 use hash_pages::PageWriter;
 use ops_list::Linker;
 use patch_core::{Batch, BatchNext};
-use word_map::WordMap;
+use word_map::{Sel, WordMap};
 
 /// Where control stands: at a line, or in a command before its next operation.
 #[derive(Drop)]
@@ -65,7 +64,7 @@ pub(crate) fn store_phase(map: &WordMap, plan: &Plan) -> Phase
         return number_phase(plan);
     };
     if plan.pair {
-        Phase::Writing(PageWriter::new(user, copy_named(sel), sel, *map))
+        Phase::Writing(PageWriter::new(user, Sel::of(sel).copy, sel, *map))
     } else {
         Phase::Selecting
     }
@@ -139,12 +138,4 @@ pub(crate) fn release_phase(plan: &Plan) -> Phase
         TrampChange::Clear { .. } => Phase::Releasing,
         TrampChange::Keep | TrampChange::Set { .. } => Phase::Closing,
     }
-}
-
-/// The copy of a user's sets that its state names.
-fn copy_named(sel: u64) -> u8
-    ensures copy { result ≡ sel_copy sel }
-    ensures two { result < 2 }
-{
-    ((sel / 4) % 2) as u8
 }

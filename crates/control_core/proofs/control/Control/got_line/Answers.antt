@@ -35,21 +35,21 @@ returns-in-None c =
     line-none c.self.inside c.args.self.now c.self.view_is c.args.value
     (none-at c.deref.result.now c.self.inside.lines.items c.self.inside.line c.deref.ensures.value found.0)
 
-pub returns-then-acts-high : goal.returns-then-acts-high
-returns-then-acts-high c =
+pub returns-then-awaited-acts : goal.returns-then-awaited-acts
+returns-then-awaited-acts c =
     let found = (c.in-Some-Until.ensures {u = tt}).lookup in
-    line-over c.self.inside c.args.self.now c.self.view_is c.args.value c.in-Some-Until.field-0-0 c.in-Some-Until.acts
+    line-over c.self.inside c.args.self.now c.self.view_is c.args.value c.in-Some-Until.field-0-0 c.in-Some-Until.awaited
     (line-at c.deref.result.now c.self.inside.lines.items c.self.inside.line c.in-Some-Until.field-0.now
-    (Until c.in-Some-Until.field-0-0 c.in-Some-Until.acts) c.deref.ensures.value found.3.0 found.1 c.in-Some-Until.field-0-is)
-    (subst (λ (h : ℕ). c.in-Some-Until.acts ≤ h) c.high.ensures c.if-acts-high.true)
+    (Until c.in-Some-Until.field-0-0 c.in-Some-Until.awaited) c.deref.ensures.value found.3.0 found.1 c.in-Some-Until.field-0-is)
+    (subst (λ (h : ℕ). c.in-Some-Until.awaited ≤ h) c.acts.ensures c.if-awaited-acts.true)
 
-pub returns-else-acts-high : goal.returns-else-acts-high
-returns-else-acts-high c =
+pub returns-else-awaited-acts : goal.returns-else-awaited-acts
+returns-else-awaited-acts c =
     let found = (c.in-Some-Until.ensures {u = tt}).lookup in
-    line-waits c.self.inside c.args.self.now c.self.view_is c.args.value c.in-Some-Until.field-0-0 c.in-Some-Until.acts
+    line-waits c.self.inside c.args.self.now c.self.view_is c.args.value c.in-Some-Until.field-0-0 c.in-Some-Until.awaited
     (line-at c.deref.result.now c.self.inside.lines.items c.self.inside.line c.in-Some-Until.field-0.now
-    (Until c.in-Some-Until.field-0-0 c.in-Some-Until.acts) c.deref.ensures.value found.3.0 found.1 c.in-Some-Until.field-0-is)
-    (subst (λ (h : ℕ). h < c.in-Some-Until.acts) c.high.ensures c.if-acts-high.false)
+    (Until c.in-Some-Until.field-0-0 c.in-Some-Until.awaited) c.deref.ensures.value found.3.0 found.1 c.in-Some-Until.field-0-is)
+    (subst (λ (h : ℕ). h < c.in-Some-Until.awaited) c.acts.ensures c.if-awaited-acts.false)
 
 pub returns-in-Some-Run : goal.returns-in-Some-Run
 returns-in-Some-Run c =
@@ -60,5 +60,5 @@ returns-in-Some-Run c =
     (command_of c.self.inside.desk.declared.tasks c.in-Some-Run.command)
     c.plan-self-inside.ensures.answer c.plan-self-inside.ensures.accepted c.plan-self-inside.ensures.refused in
     line-run c.self.inside c.args.self.now c.self.view_is c.args.value c.in-Some-Run.command here c.self.invariant
-    c.plan-self-inside.new.self c.plan-self-inside.result c.begin_phase-self-inside.result _ c.push_reserved.new.self (c.self.inside.commands_done + 1) c.low.result
-    next c.plan-self-inside.ensures.answer c.last.ensures c.begin_phase-self-inside.ensures (omega arith) c.low.ensures c.push_reserved.ensures.items
+    c.plan-self-inside.new.self c.plan-self-inside.result c.begin_phase-self-inside.result _ c.push_reserved.new.self (c.self.inside.commands_done + 1) c.items_at.result
+    next c.plan-self-inside.ensures.answer c.last.ensures c.begin_phase-self-inside.ensures (omega arith) c.items_at.ensures c.push_reserved.ensures.items
