@@ -4,7 +4,7 @@ use Rattle.ft_base.specs.declared.item.Item.{Item}
 use Rattle.ft_base.specs.declared.item.Item.TheVariants.{Begin, Return}
 use Rattle.ft_base.specs.Job.{Job}
 use Rattle.word_map.specs.declared.shape.Shape.{Shape}
-use Rattle.word_map.specs.Contents.{low}
+use Rattle.word_map.specs.Contents.{low, mark_weight}
 use Rattle.word_map.specs.Ops.{WordOp, Load, Store, Mark, is_command, placed}
 use Rattle.word_map.specs.Places.{IsThere, len, place, words_in}
 use Rattle.word_map.specs.Shapes.{shape_of}
@@ -13,7 +13,7 @@ use Rattle.word_map.proofs.PlaceLaws.{is_map, put_flat, read_there}
 use Rattle.word_machine.specs.Laws.{AllFit, IsOnWord}
 use Rattle.word_machine.specs.Machine.{World, taken, weight, words_after}
 use Rattle.word_machine.specs.Rule.{MachineRule}
-use Rattle.machine_core.specs.Tables.{HasRoomAt, IsOn, counts, gives, made}
+use Rattle.machine_core.specs.Tables.{HasRoomAt, IsOn, gives, made}
 
 -- the word of an operation is there
 abbrev pub IsOpThere : Shape → WordOp → Type 0
@@ -30,7 +30,7 @@ of-job job (Mark item) t = t
 -- ## the clock
 
 -- code's mark adds what the machine's does
-weight-is : (item : Item) → counts (is_command item) ≡ weight item
+weight-is : (item : Item) → mark_weight (is_command item) ≡ weight item
 weight-is (Begin k) = refl
 weight-is (Return k answer) = refl
 weight-is _ = refl
@@ -45,7 +45,7 @@ past-counted job s k = let e = k.counts.clock' in let r = k.counts.room in omega
 pub made-length : (shape : Shape) (op : WordOp) (list : List ℕ) → length (made (placed shape op) list) ≡ length list
 made-length shape (Load w) list = refl
 made-length shape (Store w x) list = length-set list (place shape w) x
-made-length shape (Mark item) list = length-set list 0 (get_or list 0 0 + counts (is_command item))
+made-length shape (Mark item) list = length-set list 0 (get_or list 0 0 + mark_weight (is_command item))
 
 module _ (shape : Shape) (pids : ℕ) (list : List ℕ) (many : length list ≡ len shape) where
   -- there is a clock
@@ -59,8 +59,8 @@ module _ (shape : Shape) (pids : ℕ) (list : List ℕ) (many : length list ≡ 
   made-is (Store w x) t = put_flat shape pids list w x many t
   made-is (Mark item) t =
       let e = weight-is item in
-      let same : get_or list 0 0 + counts (is_command item) ≡ weight item + get_or list 0 0 = omega (arith, e) in
-      put_flat shape pids list Clock (get_or list 0 0 + counts (is_command item)) many (record {})
+      let same : get_or list 0 0 + mark_weight (is_command item) ≡ weight item + get_or list 0 0 = omega (arith, e) in
+      put_flat shape pids list Clock (get_or list 0 0 + mark_weight (is_command item)) many (record {})
       ∙ ap (λ n. put Clock n (words_in shape pids list)) same
 
   -- so is the value that it gives

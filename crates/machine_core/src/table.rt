@@ -7,7 +7,7 @@ ghost use Rattle.machine_core.specs.Tables.{HasRoomAt, IsOn, gives, made};
 use ft_base::NoMemory;
 use std::alloc::Global;
 use std::marker::Model;
-use word_map::{Op, WordMap};
+use word_map::{Op, WordMap, clock};
 
 /// The shared words. Contracts see them as a list, the clock first.
 #[derive(Drop)]
@@ -65,8 +65,7 @@ impl Table {
             }
             Op::Mark { command } => {
                 let clock = self.words[0];
-                // The high half counts the items of commands, the low half all items.
-                self.words[0] = clock + if command { 0x1_0000_0001 } else { 1 };
+                self.words[0] = clock + clock::mark_weight(command);
                 clock
             }
         }
