@@ -1,4 +1,4 @@
--- Lists of seats that are alike, place by place.
+-- Lists of seats that are alike, seat by seat.
 use Rattle.std.proofs.Common.{◌≡◌, ℕ, zero, suc, ◌<◌, List, [], ◌∷◌, ◌++◌, length, get_or, refl, sym, ap, ◌∙◌, subst, arith}
 use Rattle.std.proofs.Math.ListN.{set}
 use Rattle.std.proofs.lemmas.List.{map-append, length-map, get_or-map}
@@ -6,8 +6,8 @@ use Rattle.std.proofs.lemmas.List.Elements.{All-head, All-tail, AllZip-get_or, l
 use Rattle.std.proofs.lemmas.Slice.Zip.{all_zipped_more, AllZip-long}
 use Rattle.live_table.specs.Seats.{Board}
 use Rattle.live_threads.specs.AnySeats.{IsSeatOf, IsSameSeat, IsEndedSeat, AreSeatsOf, AreSameSeats, AreEndedSeats}
-use Rattle.live_threads.specs.Places.{seat_of, seats_in}
-use Rattle.live_threads.specs.declared.place.Place.{Place}
+use Rattle.live_threads.specs.Seatings.{seat_of, seats_in}
+use Rattle.live_threads.specs.declared.seating.Seating.{Seating}
 use Rattle.live_threads.specs.declared.seat.AnySeat.{AnySeat}
 
 same_then : (s t u : AnySeat) → IsSameSeat s t → IsSameSeat t u → IsSameSeat s u
@@ -26,8 +26,8 @@ all_same_then (s ∷ ss) (t ∷ ts) [] a b = absurd b
 all_same_then (s ∷ ss) (t ∷ ts) (u ∷ us) a b = (same_then s t u a.0 b.0, all_same_then ss ts us a.1 b.1)
 
 -- the seats that were launched, and then stepped
-pub same_places : (ss : List AnySeat) (ps qs : List Place) → AreSameSeats ss (seats_in ps) → AreSameSeats (seats_in ps) (seats_in qs) → AreSameSeats ss (seats_in qs)
-same_places ss ps qs a b = all_same_then ss (seats_in ps) (seats_in qs) a b
+pub same_seatings : (ss : List AnySeat) (ps qs : List Seating) → AreSameSeats ss (seats_in ps) → AreSameSeats (seats_in ps) (seats_in qs) → AreSameSeats ss (seats_in qs)
+same_seatings ss ps qs a b = all_same_then ss (seats_in ps) (seats_in qs) a b
 
 -- the same seats, and then at their ends, are the first at their ends
 pub over_then : (ss ts us : List AnySeat) → AreSameSeats ss ts → AreEndedSeats ts us → AreEndedSeats ss us
@@ -46,22 +46,22 @@ same_table b ss ts all same k d in' =
     let a = all k d (omega arith) in
     (r.table_id ∙ a.0, r.job ∙ a.1)
 
-pub as_many : (ss : List AnySeat) (ps : List Place) → AreSameSeats ss (seats_in ps) → length ps ≡ length ss
+pub as_many : (ss : List AnySeat) (ps : List Seating) → AreSameSeats ss (seats_in ps) → length ps ≡ length ss
 as_many ss ps same = sym (length-map ps seat_of) ∙ AllZip-long IsSameSeat ss (seats_in ps) same
 
--- one more place
-pub placed : (ss : List AnySeat) (ps qs : List Place) (s : AnySeat) (q : Place) → AreSameSeats ss (seats_in ps) → IsSameSeat s (seat_of q) → qs ≡ ps ++ q ∷ [] → AreSameSeats (ss ++ s ∷ []) (seats_in qs)
+-- one more seating
+pub placed : (ss : List AnySeat) (ps qs : List Seating) (s : AnySeat) (q : Seating) → AreSameSeats ss (seats_in ps) → IsSameSeat s (seat_of q) → qs ≡ ps ++ q ∷ [] → AreSameSeats (ss ++ s ∷ []) (seats_in qs)
 placed ss ps qs s q have same is =
     subst (AreSameSeats (ss ++ s ∷ [])) (sym (ap seats_in is ∙ map-append seat_of ps (q ∷ []))) (all_zipped_more IsSameSeat ss (seats_in ps) s (seat_of q) have same)
 
 -- one more seat at its end
-pub finished : (ps : List Place) (ts us : List AnySeat) (p : Place) (t : AnySeat) → AreEndedSeats (seats_in ps) ts → IsEndedSeat (seat_of p) t → us ≡ ts ++ t ∷ [] → AreEndedSeats (seats_in (ps ++ p ∷ [])) us
+pub finished : (ps : List Seating) (ts us : List AnySeat) (p : Seating) (t : AnySeat) → AreEndedSeats (seats_in ps) ts → IsEndedSeat (seat_of p) t → us ≡ ts ++ t ∷ [] → AreEndedSeats (seats_in (ps ++ p ∷ [])) us
 finished ps ts us p t over end is =
     subst (λ l. AreEndedSeats l us) (sym (map-append seat_of ps (p ∷ [])))
     (subst (AreEndedSeats (seats_in ps ++ seat_of p ∷ [])) (sym is) (all_zipped_more IsEndedSeat (seats_in ps) ts (seat_of p) t over end))
 
--- the seat at one place takes a step
-pub stepped : (ss : List AnySeat) (ps : List Place) (i : ℕ) (p q : Place) → AreSameSeats ss (seats_in ps) → p ≡ get_or ps i p → IsSameSeat (seat_of p) (seat_of q) → AreSameSeats ss (seats_in (set ps i q))
+-- the seat of one seating takes a step
+pub stepped : (ss : List AnySeat) (ps : List Seating) (i : ℕ) (p q : Seating) → AreSameSeats ss (seats_in ps) → p ≡ get_or ps i p → IsSameSeat (seat_of p) (seat_of q) → AreSameSeats ss (seats_in (set ps i q))
 stepped [] [] i p q have at same = tt
 stepped [] (r ∷ ps) i p q have at same = absurd have
 stepped (s ∷ ss) [] i p q have at same = absurd have
@@ -69,16 +69,16 @@ stepped (s ∷ ss) (r ∷ ps) zero p q have at same =
     (same_then s (seat_of r) (seat_of q) have.0 (subst (λ z. IsSameSeat (seat_of z) (seat_of q)) at same), have.1)
 stepped (s ∷ ss) (r ∷ ps) (suc i) p q have at same = (have.0, stepped ss ps i p q have.1 at same)
 
--- the seat at one place is of the table
-pub one_of : (b : Board) (ps : List Place) (i : ℕ) (p : Place) → AreSeatsOf b (seats_in ps) → p ≡ get_or ps i p → i < length ps → IsSeatOf b (seat_of p)
+-- the seat of one seating is of the table
+pub one_of : (b : Board) (ps : List Seating) (i : ℕ) (p : Seating) → AreSeatsOf b (seats_in ps) → p ≡ get_or ps i p → i < length ps → IsSeatOf b (seat_of p)
 one_of b ps i p sit at in' =
     let n = length-map ps seat_of in
     subst (IsSeatOf b) (get_or-map seat_of ps i p (seat_of p) in' ∙ ap seat_of (sym at)) (sit i (seat_of p) (omega arith))
 
--- what holds of the seats of all places holds of that of one in the middle
-pub middle : (b : Board) (ps : List Place) (p : Place) (qs all : List Place) → ps ++ p ∷ qs ≡ all → AreSeatsOf b (seats_in all) → IsSeatOf b (seat_of p)
+-- what holds of the seats of all seatings holds of that of one in the middle
+pub middle : (b : Board) (ps : List Seating) (p : Seating) (qs all : List Seating) → ps ++ p ∷ qs ≡ all → AreSeatsOf b (seats_in all) → IsSeatOf b (seat_of p)
 middle b ps p qs all is sit = within ps (subst (λ l. AreSeatsOf b (seats_in l)) (sym is) sit)
   where
-    within : (l : List Place) → AreSeatsOf b (seats_in (l ++ p ∷ qs)) → IsSeatOf b (seat_of p)
+    within : (l : List Seating) → AreSeatsOf b (seats_in (l ++ p ∷ qs)) → IsSeatOf b (seat_of p)
     within [] h = All-head (IsSeatOf b) (seat_of p) (seats_in qs) h
     within (z ∷ l) h = within l (All-tail (IsSeatOf b) (seat_of z) (seats_in (l ++ p ∷ qs)) h)

@@ -1,4 +1,4 @@
 pub mod Ends
 pub mod AnySeats
-pub mod Places
+pub mod Seatings
 pub mod Rooms

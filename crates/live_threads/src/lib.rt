@@ -10,8 +10,8 @@
 //! order in the code alone (`run_all` in src/run.rt).
 #![tactic(auto)]
 
-mod place;
 mod run;
 mod seat;
+mod seating;
 
 pub use run::{Ended, run_live};

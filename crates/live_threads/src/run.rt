@@ -4,11 +4,11 @@ ghost use Rattle.std.specs.Prelude.{List, ◌≡◌, ◌+◌, ◌^◌, ◌<◌, 
 ghost use Rattle.live_table.specs.Seats.{AreSeats, ControlPlace, ControlSitsAt, CpuPlace};
 ghost use Rattle.live_threads.specs.AnySeats.{AreEndedSeats, AreSameSeats, AreSeatsOf, all_of};
 ghost use Rattle.live_threads.specs.Ends.{AreEnded, IsEndedControl};
-ghost use Rattle.live_threads.specs.Places.{seats_in};
+ghost use Rattle.live_threads.specs.Seatings.{seats_in};
 ghost use Rattle.live_threads.specs.Rooms.{HasRooms};
 
-use crate::place::{Place, finish, launch, step_here};
 use crate::seat::AnySeat;
+use crate::seating::{Seating, finish, launch, step_here};
 use ft_io::Gate;
 use live_table::{ControlSeat, CpuSeat, Going, Live};
 use std::alloc::{AllocError, Global};
@@ -33,8 +33,8 @@ struct Rooms {
     flags: Vec<AtomicBool>,
     /// For the seats that are to be launched.
     seats: Vec<AnySeat>,
-    /// For the places of those that were.
-    places: Vec<Place>,
+    /// For the seatings of those that were.
+    seatings: Vec<Seating>,
     /// For the seats at their ends.
     ended: Vec<AnySeat>,
     /// For those of the CPUs.
@@ -52,13 +52,13 @@ fn make_rooms(alloc: Global, cpus: usize) -> Result<Rooms, AllocError>
         flags.push_reserved(AtomicBool::new(false));
     }
     let seats = Vec::with_capacity(alloc, all)?;
-    let places = Vec::with_capacity(alloc, all)?;
+    let seatings = Vec::with_capacity(alloc, all)?;
     let ended = Vec::with_capacity(alloc, all)?;
     let cpus = Vec::with_capacity(alloc, cpus)?;
     Ok(Rooms {
         flags,
         seats,
-        places,
+        seatings,
         ended,
         cpus,
     })
@@ -103,30 +103,30 @@ fn launch_all<'s, E, R: Threads + Wait + Sync, G: Gate>(
     gate: &'s G,
     flags: &'s [AtomicBool],
     seats: Vec<AnySeat>,
-    mut places: Vec<Place>,
-) -> Vec<Place>
+    mut seatings: Vec<Seating>,
+) -> Vec<Seating>
     requires seats { AreSeatsOf live.now seats.items }
     requires flags { length flags.now ≡ length seats.items }
-    requires room { (places.items ≡ []) × (vec_capacity places ≡ length seats.items) }
+    requires room { (seatings.items ≡ []) × (vec_capacity seatings ≡ length seats.items) }
     ensures { AreSameSeats seats.items (seats_in result.items) }
 {
     for seat in seats {
-        let flag = &flags[places.len()];
-        places.push_reserved(launch(scope, rt, live, gate, flag, seat));
+        let flag = &flags[seatings.len()];
+        seatings.push_reserved(launch(scope, rt, live, gate, flag, seat));
     }
-    places
+    seatings
 }
 
 /// Steps the seats that are here in turn until all of them are at their ends. One may wait for another,
 /// so none is stepped to its end alone.
-fn step_rest<R: Wait, G: Gate>(rt: &R, live: &Live, gate: &G, places: &mut Vec<Place>)
-    requires { AreSeatsOf live.now (seats_in places.old.items) }
-    ensures { AreSameSeats (seats_in places.old.items) (seats_in places.new.items) }
+fn step_rest<R: Wait, G: Gate>(rt: &R, live: &Live, gate: &G, seatings: &mut Vec<Seating>)
+    requires { AreSeatsOf live.now (seats_in seatings.old.items) }
+    ensures { AreSameSeats (seats_in seatings.old.items) (seats_in seatings.new.items) }
 {
     for _ in rt.forever() {
         let mut going = Going::End;
-        for i in 0..places.len() {
-            if step_here(live, gate, &mut places[i]) == Going::More {
+        for i in 0..seatings.len() {
+            if step_here(live, gate, &mut seatings[i]) == Going::More {
                 going = Going::More;
             }
         }
@@ -142,15 +142,15 @@ fn finish_all<R: Threads + Wait + Sync, G: Gate>(
     rt: &R,
     live: &Live,
     gate: &G,
-    places: Vec<Place>,
+    seatings: Vec<Seating>,
     mut ended: Vec<AnySeat>,
 ) -> Vec<AnySeat>
-    requires places { AreSeatsOf live.now (seats_in places.items) }
-    requires room { (ended.items ≡ []) × (vec_capacity ended ≡ length places.items) }
-    ensures { AreEndedSeats (seats_in places.items) result.items }
+    requires seatings { AreSeatsOf live.now (seats_in seatings.items) }
+    requires room { (ended.items ≡ []) × (vec_capacity ended ≡ length seatings.items) }
+    ensures { AreEndedSeats (seats_in seatings.items) result.items }
 {
-    for place in places {
-        ended.push_reserved(finish(rt, live, gate, place));
+    for seating in seatings {
+        ended.push_reserved(finish(rt, live, gate, seating));
     }
     ended
 }
@@ -171,18 +171,18 @@ fn run_all<'s, E, R: Threads + Wait + Sync, G: Gate>(
     gate: &'s G,
     flags: &'s [AtomicBool],
     seats: Vec<AnySeat>,
-    places: Vec<Place>,
+    seatings: Vec<Seating>,
     ended: Vec<AnySeat>,
 ) -> Vec<AnySeat>
     requires seats { AreSeatsOf live.now seats.items }
     requires flags { length flags.now ≡ length seats.items }
-    requires places { (places.items ≡ []) × (vec_capacity places ≡ length seats.items) }
+    requires seatings { (seatings.items ≡ []) × (vec_capacity seatings ≡ length seats.items) }
     requires ended { (ended.items ≡ []) × (vec_capacity ended ≡ length seats.items) }
     ensures { AreEndedSeats seats.items result.items }
 {
-    let mut places = launch_all(scope, rt, live, gate, flags, seats, places);
-    step_rest(rt, live, gate, &mut places);
-    finish_all(rt, live, gate, places, ended)
+    let mut seatings = launch_all(scope, rt, live, gate, flags, seats, seatings);
+    step_rest(rt, live, gate, &mut seatings);
+    finish_all(rt, live, gate, seatings, ended)
 }
 
 /// Brings the seats to their ends, with all memory at hand.
@@ -203,7 +203,7 @@ fn run_in<R: Threads + Wait + Sync, G: Gate>(
     let Rooms {
         flags,
         seats,
-        places,
+        seatings,
         ended,
         cpus: room,
     } = rooms;
@@ -213,9 +213,9 @@ fn run_in<R: Threads + Wait + Sync, G: Gate>(
         thread::scope_env(),
         rt,
         move |scope| -> Vec<AnySeat>
-            requires { AreSeatsOf live.now seats.items × (length flags.now ≡ length seats.items) × (places.items ≡ []) × (vec_capacity places ≡ length seats.items) × (ended.items ≡ []) × (vec_capacity ended ≡ length seats.items) }
+            requires { AreSeatsOf live.now seats.items × (length flags.now ≡ length seats.items) × (seatings.items ≡ []) × (vec_capacity seatings ≡ length seats.items) × (ended.items ≡ []) × (vec_capacity ended ≡ length seats.items) }
             ensures { AreEndedSeats seats.items result.items }
-        { run_all(scope, rt, live, gate, flags, seats, places, ended) },
+        { run_all(scope, rt, live, gate, flags, seats, seatings, ended) },
     );
     take_apart(ended, room)
 }

@@ -1,8 +1,8 @@
-//! The place of a seat while it runs: in a thread of its own, or here.
+//! Where a seat runs: in a thread of its own, or here.
 
 ghost use Rattle.std.specs.Prelude.{MatchResult};
 ghost use Rattle.live_threads.specs.AnySeats.{IsEndedSeat, IsSameSeat, IsSeatOf};
-ghost use Rattle.live_threads.specs.Places.{seat_of};
+ghost use Rattle.live_threads.specs.Seatings.{seat_of};
 
 use crate::seat::{AnySeat, run_seat, step_seat};
 use ft_io::{Gate, OpenGate};
@@ -24,9 +24,9 @@ impl Promise<Result<AnySeat, AnySeat>> for SeatPromise {
     ghost kept_by = { λ p r. MatchResult r (λ t. IsEndedSeat p.0.value t) (λ t. IsSameSeat p.0.value t) };
 }
 
-/// Where a seat is.
+/// Where a seat runs.
 #[derive(Drop)]
-pub(crate) enum Place {
+pub(crate) enum Seating {
     /// In a thread of its own.
     There(PromisedHandle<Result<AnySeat, AnySeat>, SeatPromise>),
     /// Here, with the number of its steps so far, and whether it is at its end.
@@ -61,7 +61,7 @@ pub(crate) fn launch<'s, E, R: Threads + Wait + Sync, G: Gate>(
     gate: &'s G,
     refused: &'s AtomicBool,
     seat: AnySeat,
-) -> Place
+) -> Seating
     requires { IsSeatOf live.now seat }
     ensures { IsSameSeat seat (seat_of result) }
 {
@@ -71,28 +71,28 @@ pub(crate) fn launch<'s, E, R: Threads + Wait + Sync, G: Gate>(
         ensures { MatchResult result (λ t. IsEndedSeat seat t) (λ t. IsSameSeat seat t) }
     { seat_thread(rt, live, gate, refused, seat) };
     match scope.spawn_with(promise, job) {
-        Ok(handle) => Place::There(handle),
+        Ok(handle) => Seating::There(handle),
         // The closure has the seat, so it is called for it. With the flag set it makes no step: run to
         // its end here, the seat could wait for others that aren't launched yet, without end.
         Err(failed) => {
             refused.store(true, Ordering::Relaxed);
             match (failed.value)() {
-                Ok(seat) => Place::Here(seat, 0, false),
-                Err(seat) => Place::Here(seat, 0, false),
+                Ok(seat) => Seating::Here(seat, 0, false),
+                Err(seat) => Seating::Here(seat, 0, false),
             }
         }
     }
 }
 
 /// One step of a seat that is here and not at its end.
-pub(crate) fn step_here<G: Gate>(live: &Live, gate: &G, place: &mut Place) -> Going
-    requires { IsSeatOf live.now (seat_of place.old) }
-    ensures { IsSameSeat (seat_of place.old) (seat_of place.new) }
+pub(crate) fn step_here<G: Gate>(live: &Live, gate: &G, seating: &mut Seating) -> Going
+    requires { IsSeatOf live.now (seat_of seating.old) }
+    ensures { IsSameSeat (seat_of seating.old) (seat_of seating.new) }
 {
-    match place {
-        Place::There(_) => Going::End,
-        Place::Here(_, _, true) => Going::End,
-        Place::Here(seat, steps, over) => {
+    match seating {
+        Seating::There(_) => Going::End,
+        Seating::Here(_, _, true) => Going::End,
+        Seating::Here(seat, steps, over) => {
             let going = step_seat(live, gate, *steps, seat);
             match going {
                 Going::More => *steps = steps.saturating_add(1),
@@ -108,17 +108,17 @@ pub(crate) fn finish<R: Threads + Wait + Sync, G: Gate>(
     rt: &R,
     live: &Live,
     gate: &G,
-    place: Place,
+    seating: Seating,
 ) -> AnySeat
-    requires { IsSeatOf live.now (seat_of place) }
-    ensures { IsEndedSeat (seat_of place) result }
+    requires { IsSeatOf live.now (seat_of seating) }
+    ensures { IsEndedSeat (seat_of seating) result }
 {
-    match place {
-        Place::There(handle) => match handle.join(rt) {
+    match seating {
+        Seating::There(handle) => match handle.join(rt) {
             Ok(seat) => seat,
             Err(seat) => run_seat(rt, live, gate, seat),
         },
         // One call, which finds no step, and which no gate has to hear of a second time.
-        Place::Here(seat, _, _) => run_seat(rt, live, &OpenGate, seat),
+        Seating::Here(seat, _, _) => run_seat(rt, live, &OpenGate, seat),
     }
 }

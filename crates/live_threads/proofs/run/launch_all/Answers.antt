@@ -10,7 +10,7 @@ loop-seat-preserved g c =
     let done = c.loop-seat.yielded in
     let left = into_iter_items c.next.new.self in
     record {
-      same = placed done c.loop-seat.places.items c.push_reserved.new.self.items c.in-Some.seat c.launch.result i.same c.launch.ensures c.push_reserved.ensures.items;
+      same = placed done c.loop-seat.seatings.items c.push_reserved.new.self.items c.in-Some.seat c.launch.result i.same c.launch.ensures c.push_reserved.ensures.items;
       room = search rules;
       rest = append_assoc done (c.in-Some.seat ∷ []) left ∙ ap (λ (l : List AnySeat). done ++ l) (sym c.in-Some.ensures.steps.0) ∙ i.rest;
     }

@@ -8,7 +8,7 @@ scoped-ended-requires g c =
     let seats = c.put_together-seats.result.items in
     let sit = all_sit c.args.live.now c.args.control c.args.cpus.items seats c.requires.control c.requires.cpus c.put_together-seats.ensures in
     let n = sym (all_count c.args.control c.args.cpus.items seats c.put_together-seats.ensures) in
-    record { at = λ a. ((sit, c.as_slice-flags.ensures.len ∙ e.flags ∙ n, e.places.0, e.places.1 ∙ n, e.ended.0, e.ended.1 ∙ n), (search rules, search rules)) }
+    record { at = λ a. ((sit, c.as_slice-flags.ensures.len ∙ e.flags ∙ n, e.seatings.0, e.seatings.1 ∙ n, e.ended.0, e.ended.1 ∙ n), (search rules, search rules)) }
 
 pub take_apart-requires-clause-seats : goal.take_apart-requires-clause-seats
 take_apart-requires-clause-seats g c =
