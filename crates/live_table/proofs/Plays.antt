@@ -1,8 +1,9 @@
 -- What the table asks before a load and a store, and what they tell, in the words of their plays.
-use Rattle.std.proofs.Common.{◌≡◌, ℕ, ◌+◌, ◌%◌, ◌^◌, ◌<◌, true, false, slice_index, refl, sym, subst, arith}
+use Rattle.std.proofs.Common.{◌≡◌, ℕ, ◌+◌, ◌%◌, ◌^◌, ◌<◌, Bool, slice_index, refl, sym, subst, arith}
 use Rattle.atomic_table.specs.Table.{Allows, Me, State, carried_after}
 use Rattle.word_map.specs.declared.op.Op.{Op}
 use Rattle.word_map.specs.declared.op.Op.TheVariants.{Load, Store, Mark}
+use Rattle.word_map.specs.Contents.{mark_weight}
 use Rattle.live_table.specs.declared.view.View.{View}
 use Rattle.live_table.specs.AtomicSteps.{MakesOp, MakesStep}
 use Rattle.live_table.specs.Operations.{op_after, op_gives, op_word}
@@ -33,12 +34,9 @@ module _ (me : Me (Unit {0}) View) where
         let a = own t r homes at small in
         (a.0, a.1, a.2, a.3, (slice_index t.words word, a.4))
 
-    pub command-asks : op ≡ Mark true
-        → Allows holds slots id me 0 (λ n. (n + 4294967297) % 2 ^ 64) (λ n m. MakesStep 0 n ((n + 4294967297) % 2 ^ 64) n me m)
-    command-asks is = subst (Asks holds slots id) is asks
-
-    pub mark-asks : op ≡ Mark false → Allows holds slots id me 0 (λ n. (n + 1) % 2 ^ 64) (λ n m. MakesStep 0 n ((n + 1) % 2 ^ 64) n me m)
-    mark-asks is = subst (Asks holds slots id) is asks
+    pub mark-asks : (command : Bool) → op ≡ Mark command
+        → Allows holds slots id me 0 (λ n. (n + mark_weight command) % 2 ^ 64) (λ n m. MakesStep 0 n ((n + mark_weight command) % 2 ^ 64) n me m)
+    mark-asks command is = subst (Asks holds slots id) is asks
 
   pub load-tells : (op : Op) (word n : ℕ) (m : Me (Unit {0}) View) → op ≡ Load word → MakesStep word n ((n + 0) % 2 ^ 64) n me m → Tells op n m
   load-tells op word n m is told =

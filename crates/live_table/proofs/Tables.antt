@@ -5,7 +5,7 @@ use Rattle.ft_base.specs.Desk.{desk}
 use Rattle.ft_base.specs.Job.{Job}
 use Rattle.word_map.specs.declared.op.Op.{Op}
 use Rattle.word_map.specs.declared.op.Op.TheVariants.{Load, Store, Mark}
-use Rattle.word_map.specs.Contents.{mask_of}
+use Rattle.word_map.specs.Contents.{mark_weight, mask_of}
 use Rattle.word_map.specs.Ops as named
 use Rattle.word_map.specs.Ops.{WordOp, placed}
 use Rattle.word_map.specs.Places.{len}
@@ -15,7 +15,7 @@ use Rattle.word_map.specs.declared.shape.Shape.{Shape}
 use Rattle.word_map.proofs.PlaceLaws.{is_map}
 use Rattle.word_machine.specs.Laws.{AllFit}
 use Rattle.word_machine.specs.Machine.{taken, words_after}
-use Rattle.machine_core.specs.Tables.{HasRoomAt, counts, gives, made}
+use Rattle.machine_core.specs.Tables.{HasRoomAt, gives, made}
 use Rattle.machine_core.specs.Worlds.{words_of}
 use Rattle.machine_core.proofs.Made.{IsOpThere, gives-is, made-is, room-is}
 use Rattle.live_table.specs.Operations.{op_after, op_gives, op_word}
@@ -33,7 +33,7 @@ gave-is words (Store w x) = refl
 gave-is words (Mark command) = refl
 
 -- a mark on a clock that has room does not wrap
-counted-is : (command : Bool) (n : ℕ) → n + counts command < 2 ^ 64 → op_after (Mark command) n ≡ n + counts command
+counted-is : (command : Bool) (n : ℕ) → n + mark_weight command < 2 ^ 64 → op_after (Mark command) n ≡ n + mark_weight command
 counted-is true n room = omega (arith, room)
 counted-is false n room = omega (arith, room)
 

@@ -22,7 +22,7 @@ use atomic_table::{Seat, Shared, Table};
 use ft_base::NoMemory;
 use ft_machine::Job;
 use std::alloc::Global;
-use word_map::Op;
+use word_map::{Op, clock};
 
 /// A table over the words of a job before its first step, with control's seat. The error says that
 /// memory ran out.
@@ -64,8 +64,7 @@ pub(crate) fn make(shared: &Shared<(), View, Job, Rules>, seat: &mut Seat<(), Vi
             shared.store::<Puts>(seat, word as usize, value);
             0
         }
-        Op::Mark { command: true } => shared.fetch_add::<Takes>(seat, 0, 0x1_0000_0001),
-        Op::Mark { command: false } => shared.fetch_add::<Takes>(seat, 0, 1),
+        Op::Mark { command } => shared.fetch_add::<Takes>(seat, 0, clock::mark_weight(command)),
     }
 }
 

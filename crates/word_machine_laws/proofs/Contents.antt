@@ -1,5 +1,5 @@
--- What the contents of words say: a user's state, a word of a set, a trampoline, the two parts of an instruction.
-use Rattle.std.proofs.Common.{◌≡◌, ℕ, zero, suc, ◌+◌, ◌*◌, ◌%◌, ◌/◌, ◌<◌, ◌≤◌, Bool, true, false, ◌||◌, ◌&&◌, length, map, get_or, refl, sym, ap, ◌∙◌, arith}
+-- What the contents of words say: a user's state, a word of a set, the tasks that are traced, the two parts of an instruction.
+use Rattle.std.proofs.Common.{◌≡◌, ℕ, zero, suc, ◌+◌, ◌%◌, ◌/◌, ◌<◌, ◌≤◌, Bool, true, false, ◌||◌, ◌&&◌, length, map, get_or, refl, sym, ap, ◌∙◌, arith}
 use Rattle.std.specs.Prelude.{◌==◌}
 use Rattle.std.specs.List.{range_with_len}
 use Rattle.std.specs.Int.{bit_at}
@@ -11,28 +11,15 @@ use Rattle.ft_base.specs.Marks.{holds, is_empty}
 use Rattle.ft_base.specs.Job.{Job}
 use Rattle.ft_base.specs.Desk.{Desk, UserState, is_allowed, is_matching}
 use Rattle.ft_base.proofs.Small.{false_true}
-use Rattle.ft_base.specs.Marks.{Marks}
-use Rattle.site_set.specs.Marks.{word_of}
-use Rattle.site_set.proofs.MarksLemmas.{bit_at-word_of, bit_at-number_with_bits}
-use Rattle.word_map.specs.Contents.{high, half_size, sel_word, sel_on, sel_copy, sel_empty, stands, tramp_word, tramp_user, is_marked, mask_of, low, halves}
+use Rattle.site_set.proofs.MarksLemmas.{bit_at-number_with_bits}
+use Rattle.word_map.specs.Contents.{high, half_size, sel_word, sel_on, sel_copy, sel_empty, stands, is_marked, mask_of, low}
 use Rattle.word_map.specs.Instructions.{head_of, tail_of, decode}
+use Rattle.word_map.proofs.ContentLaws.{marked-is, told}
 use Rattle.word_machine.specs.Commands.{set_words}
 use Rattle.word_machine.specs.HashCopies.{SelIs, Reader}
 use Rattle.word_machine.proofs.Small.{and-false, or-right, digit-one}
 
 -- ## a user's state
-
--- what a state's word says, by its bits
-told : (reg copy : ℕ) (r e b : Bool) → copy < 2 → (sel_on (sel_word reg r e copy b) ≡ (r && e)) × (sel_copy (sel_word reg r e copy b) ≡ copy)
-    × (sel_empty (sel_word reg r e copy b) ≡ b) × (high (sel_word reg r e copy b) ≡ reg)
-told reg copy true true true h = (grind (arith, nat_tests), omega arith, grind (arith, nat_tests), omega arith)
-told reg copy true true false h = (grind (arith, nat_tests), omega arith, grind (arith, nat_tests), omega arith)
-told reg copy true false true h = (grind (arith, nat_tests), omega arith, grind (arith, nat_tests), omega arith)
-told reg copy true false false h = (grind (arith, nat_tests), omega arith, grind (arith, nat_tests), omega arith)
-told reg copy false true true h = (grind (arith, nat_tests), omega arith, grind (arith, nat_tests), omega arith)
-told reg copy false true false h = (grind (arith, nat_tests), omega arith, grind (arith, nat_tests), omega arith)
-told reg copy false false true h = (grind (arith, nat_tests), omega arith, grind (arith, nat_tests), omega arith)
-told reg copy false false false h = (grind (arith, nat_tests), omega arith, grind (arith, nat_tests), omega arith)
 
 module _ (reg copy : ℕ) (r e b : Bool) (h : copy < 2) where
   on_of : sel_on (sel_word reg r e copy b) ≡ (r && e)
@@ -99,9 +86,6 @@ stands-live job s v copy reg bits small is = (let a = sel-on-is job s v copy bit
 
 -- ## a word of a set
 
-pub marked-is : (s : Marks) (f : ℕ) → is_marked (word_of s (f / 64)) f ≡ holds s f
-marked-is s f = bit_at-word_of s (f / 64) (f % 64) (omega arith) ∙ (let z : 64 * (f / 64) + f % 64 ≡ f = omega arith in ap (λ n. holds s n) z)
-
 -- a task in the word of the allowed ones
 pub mask-is : (d : Desk) (tasks t : ℕ) → tasks ≤ 64 → t < tasks → is_marked (mask_of d tasks) t ≡ is_allowed d t
 mask-is d tasks t few inside =
@@ -134,11 +118,6 @@ module _ (job : Job) (s : UserState) (copy : ℕ → ℕ → ℕ) (reg f : ℕ) 
       → on_by s f ≡ false
   notrace_off inside r passes e = (let h : holds s.notrace f ≡ true = sym (notrace-word inside r) ∙ e in rw (h, passes, r.registered) refl)
 
--- ## a trampoline's word
-
-pub tramp-reads : (v reg u : ℕ) → u + 1 < half_size → v ≡ tramp_word reg u → (tramp_user v ≡ u) × (high v ≡ reg)
-tramp-reads v reg u small e = (omega (arith, small, e), omega (arith, small, e))
-
 -- ## the two parts of an instruction
 
 pub decode_own : (f i : ℕ) → f < 4096 → decode f (head_of i) (tail_of f i) ≡ i
@@ -149,9 +128,6 @@ decode_own f (suc (suc s)) lt =
     rw z (omega (arith, lt))
 
 -- ## the halves of a word
-
-pub low-halves : (g l : ℕ) → l < half_size → (low (halves g l) ≡ l) × (high (halves g l) ≡ g)
-low-halves g l lt = (omega arith, omega arith)
 
 pub low-small : (v : ℕ) → low v < half_size
 low-small v = omega arith

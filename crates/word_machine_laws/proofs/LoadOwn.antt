@@ -20,7 +20,8 @@ use Rattle.word_machine.specs.Verdicts.{Here, Seen, Found, InOwn, Dispatches, Be
 use Rattle.word_machine.specs.Rule.{Counts, IsWordJob}
 use Rattle.word_machine_laws.proofs.Seen.{seen_map, selected-underway}
 use Rattle.word_machine_laws.proofs.DeskChanges.{SubjectBy, between, numbers-kept}
-use Rattle.word_machine_laws.proofs.Contents.{sel-reg-is, test_on, test_off, tramp-reads}
+use Rattle.word_map.proofs.ContentLaws.{tramp-reads}
+use Rattle.word_machine_laws.proofs.Contents.{sel-reg-is, test_on, test_off}
 use Rattle.word_machine_laws.proofs.DeskNumbers.{other-same, registered-inside, sited-registered}
 use Rattle.word_machine_laws.proofs.LoadMoments.{running, dispatch_goes}
 use Rattle.word_machine_laws.proofs.LoadTests.{since_now, Comes, off-seen, seen-desk, low-of, begin_kept}

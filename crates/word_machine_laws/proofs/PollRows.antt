@@ -30,7 +30,8 @@ use Rattle.word_machine_laws.proofs.TaskSteps.{task_step, SteppedBy, is_polling}
 use Rattle.word_machine_laws.proofs.PollTasks.{task_ack, quiet_calls}
 use Rattle.word_machine_laws.proofs.PollSteps.{moved-kept, poll_on-kept}
 use Rattle.word_machine_laws.proofs.Effects.{reached-low, quiet-low, asked-four}
-use Rattle.word_machine_laws.proofs.Contents.{low-halves, low-small}
+use Rattle.word_map.proofs.ContentLaws.{low-halves}
+use Rattle.word_machine_laws.proofs.Contents.{low-small}
 use Rattle.word_machine_laws.proofs.TasksOf.{task_goes_on}
 use Rattle.word_machine_laws.proofs.Told.{told-more}
 use Rattle.word_machine_laws.proofs.Finished.{task-gone, Grows, grows-put, grows-moved, grows-on, grows-polling, present-is, present-got, polling-of}

@@ -1,9 +1,7 @@
 //! Words of two halves, each a number below 2 ^ 32. What the halves mean, the module of each word says.
 
-ghost use Rattle.std.specs.Prelude.{◌≡◌, ◌<◌};
-ghost use Rattle.word_map.specs.Contents.{greatest_half, halves, high, low, tramp_word};
-
-use ft_base::UserNo;
+ghost use Rattle.std.specs.Prelude.{◌≡◌};
+ghost use Rattle.word_map.specs.Contents.{halves, high, low};
 
 /// The word that has these two halves.
 pub fn halves(high: u32, low: u32) -> u64
@@ -24,12 +22,4 @@ pub fn low(word: u64) -> u32
     ensures { result ≡ low word }
 {
     (word & 0xFFFF_FFFF) as u32
-}
-
-/// A trampoline's word, as `tramp::word` makes it.
-pub fn tramp_word(reg: u32, user: UserNo) -> u64
-    requires { user.0 < greatest_half }
-    ensures { result ≡ tramp_word reg user.0 }
-{
-    crate::tramp::word(reg, user)
 }

@@ -7,15 +7,15 @@
 //! nowhere else: [`Sel`], [`clock`], [`quiet`], [`next`], [`tramp`], [`name`], [`bits`].
 //!
 //! Promised: words of different names or numbers have different places, all below the map's length,
-//! so a store at one place changes the word of that name and no other; a word that is taken apart
-//! gives what it was made of ([`laws`]). The list of [`WordMap::opening`] has at each word's place
-//! what the word holds at the start. It alone takes memory; that it is found is only tested, in
-//! `steppers_tests`.
+//! so a store at one place changes the word of that name and no other; a word that is made here gives
+//! what it was made of when it is taken apart ([`laws`]). The list of [`WordMap::opening`] has at each
+//! word's place what the word holds at the start. It alone takes memory; that it is found is only
+//! tested, in `steppers_tests`.
 #![tactic(auto)]
 
 pub mod bits;
 pub mod clock;
-pub mod halves;
+mod halves;
 pub mod laws;
 mod map;
 pub mod name;

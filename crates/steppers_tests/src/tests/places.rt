@@ -1,10 +1,11 @@
-//! [`word_map::WordMap`]: places of a small shape and of the greatest one, the words at the start, and words of two halves.
+//! [`word_map`]: places of a small shape and of the greatest one, the words at the start, and words that
+//! hold more than one number.
 
 use ft_base::limits::{CPUS, FUNCS, TASKS, TRAMPS, USERS};
 use ft_base::{CpuNo, FuncNo, Half, TaskNo, UserNo};
+use site_bytes::Insn;
 use std::test::Fail;
-use word_map::halves::{halves, high, low, tramp_word};
-use word_map::{Shape, WordMap};
+use word_map::{Sel, Shape, WordMap, clock, name, next, quiet, tramp};
 
 /// A small shape, whose sets have one word each.
 const SMALL: Shape = Shape {
@@ -95,20 +96,76 @@ fn reaches_full_size(rt: HostRuntime) -> Result<(), Fail> {
     Ok(())
 }
 
-/// Two halves, and the word that has them.
-static HALVES: [(u32, u32, u64); 5] = [
-    (0, 0, 0),
-    (0, u32::MAX, 4_294_967_295),
-    (1, 0, 4_294_967_296),
-    (7, 3, 30_064_771_075),
-    (u32::MAX, u32::MAX, u64::MAX),
+/// A registration number; whether the user is registered and enabled, whether the second copy is in use,
+/// and whether the filter is empty; and the word of such a state.
+static STATES: [(u32, bool, bool, bool, bool, u64); 6] = [
+    (0, false, false, false, false, 0),
+    (0, true, false, false, false, 1),
+    (0, false, true, false, false, 2),
+    (0, false, false, true, false, 4),
+    (0, false, false, false, true, 8),
+    (u32::MAX, true, true, true, true, 0xFFFF_FFFF_0000_000F),
 ];
 
 #[test]
-fn halves_there_and_back(rt: HostRuntime) {
-    for (upper, lower, word) in HALVES {
-        assert!(rt; halves(upper, lower) == word, "{word}");
-        assert!(rt; high(word) == upper && low(word) == lower, "{word}");
+fn states_there_and_back(rt: HostRuntime) {
+    for (reg, registered, enabled, second, empty, word) in STATES {
+        let state = Sel {
+            reg,
+            registered,
+            enabled,
+            copy: u8::from(second),
+            empty,
+        };
+        assert!(rt; state.word() == word && Sel::of(word) == state, "{word}");
     }
-    assert!(rt; tramp_word(7, UserNo(2)) == 30_064_771_075);
+}
+
+/// Acts, a request, and the word of a task that has come to them.
+static QUIET: [(u32, u32, u64); 5] = [
+    (0, 0, 0),
+    (0, quiet::ENDED, 4_294_967_295),
+    (1, 0, 4_294_967_296),
+    (7, 3, 30_064_771_075),
+    (u32::MAX, quiet::ENDED, u64::MAX),
+];
+
+#[test]
+fn acts_and_requests_there_and_back(rt: HostRuntime) {
+    for (acts, request, word) in QUIET {
+        assert!(rt; quiet::word(acts, request) == word, "{word}");
+        assert!(rt;
+            quiet::acts(word) == acts && quiet::request(word) == request,
+            "{word}"
+        );
+    }
+}
+
+#[test]
+fn the_clock_counts(rt: HostRuntime) {
+    assert!(rt; clock::mark_weight(false) == 1 && clock::mark_weight(true) == 4_294_967_297);
+    // 4 items of commands among 7
+    let clock = 17_179_869_191;
+    assert!(rt; clock::items_at(clock) == 7 && clock::returned_at(clock) == 2);
+}
+
+/// Instructions, and their numbers.
+static NUMBERS: [(Insn, u64); 4] = [
+    (Insn::Nop, 0),
+    (Insn::List, 1),
+    (Insn::Own(0), 2),
+    (Insn::Own(63), 65),
+];
+
+#[test]
+fn instructions_and_users_have_numbers(rt: HostRuntime) {
+    for (insn, number) in NUMBERS {
+        assert!(rt; next::number_of(insn) == number, "{number}");
+    }
+    assert!(rt; next::insn_numbered(1) == Insn::List && next::insn_numbered(65) == Insn::Own(63));
+    let word = tramp::word(7, UserNo(2));
+    assert!(rt; word == 30_064_771_075);
+    assert!(rt; tramp::user(word) == UserNo(2) && tramp::reg(word) == 7);
+    assert!(rt; name::name_of(None) == 0 && name::name_of(Some(UserNo(2))) == 3);
+    assert!(rt; name::named(0) == None && name::named(3) == Some(UserNo(2)));
 }

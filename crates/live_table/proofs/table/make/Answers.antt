@@ -1,7 +1,6 @@
-use Rattle.std.proofs.Common.{ap, ◌∙◌}
 use Rattle.word_map.specs.declared.op.Op.TheVariants.{Load, Store, Mark}
 use Rattle.live_table.specs.Rule.{LiveRule}
-use Rattle.live_table.proofs.Plays.{command-asks, load-asks, load-tells, mark-asks, store-asks, word-within}
+use Rattle.live_table.proofs.Plays.{load-asks, load-tells, mark-asks, store-asks, word-within}
 use Rattle.live_table.proofs.table.make.Goals as goal
 
 pub load-requires : goal.load-requires
@@ -19,20 +18,11 @@ store-requires c = (
 )
 
 pub fetch_add-requires : goal.fetch_add-requires
-fetch_add-requires c =
-    let is = c.in-Mark-true.is ∙ ap Mark c.in-Mark-true.command-test in (
-      c.requires.table,
-      word-within _ _ _ c.requires.word is,
-      command-asks _ c.args.op (LiveRule c.args.shared.now.key) _ _ c.requires.allows is,
-    )
-
-pub fetch_add-requires-in-Mark-false : goal.fetch_add-requires-in-Mark-false
-fetch_add-requires-in-Mark-false c =
-    let is = c.in-Mark-false.is ∙ ap Mark c.in-Mark-false.command-test in (
-      c.requires.table,
-      word-within _ _ _ c.requires.word is,
-      mark-asks _ c.args.op (LiveRule c.args.shared.now.key) _ _ c.requires.allows is,
-    )
+fetch_add-requires c = rw c.mark_weight.ensures (
+  c.requires.table,
+  word-within _ _ (Mark c.in-Mark.command) c.requires.word c.in-Mark.is,
+  mark-asks _ c.args.op (LiveRule c.args.shared.now.key) _ _ c.requires.allows c.in-Mark.command c.in-Mark.is,
+)
 
 pub returns-in-Load-clause-took : goal.returns-in-Load-clause-took
 returns-in-Load-clause-took c = load-tells _ c.args.op c.in-Load.word _ _ c.in-Load.is c.load.ensures.2
