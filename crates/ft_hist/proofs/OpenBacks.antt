@@ -319,7 +319,8 @@ opened job t (item ∷ past) s e = by (is_of t item) refl (λ p here. opened job
 count-cons : (p : Callback → Bool) (b : Callback) (bs : List Callback) → count_by p (b ∷ bs) ≡ (if p b then 1 else 0) + count_by p bs
 count-cons p b bs = sum_by-cons (λ (c : Callback). cond (p c) 1 0) b bs
 
-count-of_task : (t : ℕ) (x : Ctx) (bs : List Callback) → count_by (is_at t x) bs ≡ count_by (λ b. is_ctx b.ctx x) (of_task t bs)
+-- the callbacks of a task in a context
+pub count-of_task : (t : ℕ) (x : Ctx) (bs : List Callback) → count_by (is_at t x) bs ≡ count_by (λ b. is_ctx b.ctx x) (of_task t bs)
 count-of_task t x [] = refl
 count-of_task t x (b ∷ bs) = count-cons (is_at t x) b bs ∙ by (b.call.task.0 == t) (count-of_task t x bs)
   where

@@ -1,10 +1,9 @@
 -- The history that lists of marked items make, and what one more item makes of it.
-use Rattle.std.proofs.Common.{cond, ◌≡◌, ◌≢◌, ℕ, zero, suc, ◌+◌, ◌<◌, ◌≤◌, ◌⊎◌, true, false, ◌==◌, List, [], ◌∷◌, ◌++◌, length, map, set, slice_get, Some, None, refl, sym, ap, ◌∙◌, subst, arith, inl, inr}
+use Rattle.std.proofs.Common.{cond, ◌≡◌, ◌≢◌, ℕ, zero, suc, ◌+◌, ◌<◌, ◌≤◌, ◌⊎◌, true, false, ◌==◌, List, [], ◌∷◌, ◌++◌, length, Some, None, refl, sym, ap, ◌∙◌, subst, arith, inl, inr}
 use Rattle.std.specs.List.{AllByRecursion as Each, fold}
 use Rattle.std.proofs.lemmas.Bool.Decides.{nat_tests}
 use Rattle.std.proofs.lemmas.Bool.{cases_eq}
 use Rattle.std.proofs.lemmas.List.{length_push}
-use Rattle.std.proofs.lemmas.Option.{none-some, same_Some}
 use Rattle.ft_base.specs.declared.item.Stamped.{Stamped}
 use Rattle.ft_base.proofs.Small.{==-refl, Each-snoc, Each-weaker}
 use Rattle.ft_hist.specs.Placing.{AreCounted, ArePlaced, before, item_among, item_in, or_item, past_below, times_among, times_in, total}
@@ -167,18 +166,3 @@ module _ (s : Stamped) where
 -- one more item, at the next place
 pub placed-grows : (s : Stamped) (ls ls' : List (List Stamped)) → Grows s ls ls' → ArePlaced s.place ls → ArePlaced (suc s.place) ls'
 placed-grows s ls ls' g is = placed-more s ls ls' g is
-
--- ## one of several actors
-
-module _ {A : Type 0} (f : A → List Stamped) where
-  -- it marks an item
-  pub map-grows : (s : Stamped) (xs : List A) (i : ℕ) (x y : A) → slice_get xs i ≡ Some x → f y ≡ f x ++ s ∷ [] → Grows s (map f xs) (map f (set xs i y))
-  map-grows s [] i x y at e = absurd (none-some x at)
-  map-grows s (z ∷ xs) zero x y at e = inl (e ∙ ap (λ a. f a ++ s ∷ []) (sym (same_Some z x at)), refl)
-  map-grows s (z ∷ xs) (suc i) x y at e = inr (refl, map-grows s xs i x y at e)
-
-  -- it marks nothing
-  pub map-kept : (xs : List A) (i : ℕ) (x y : A) → slice_get xs i ≡ Some x → f y ≡ f x → map f (set xs i y) ≡ map f xs
-  map-kept [] i x y at e = absurd (none-some x at)
-  map-kept (z ∷ xs) zero x y at e = λ j. (e ∙ ap f (sym (same_Some z x at))) j ∷ map f xs
-  map-kept (z ∷ xs) (suc i) x y at e = ap (λ (ys : List (List Stamped)). f z ∷ ys) (map-kept xs i x y at e)

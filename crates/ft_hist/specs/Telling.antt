@@ -1,15 +1,19 @@
 -- The words in which the laws of histories are told: whose item it is, and facts at the commands of a window.
-use Rattle.std.specs.Prelude.{ℕ, ◌≡◌, ◌≤◌, ◌⊎◌, Bool, true, false, ◌&&◌, ◌==◌, List, ◌∷◌, ◌++◌, Some, reverse}
+use Rattle.std.specs.Prelude.{ℕ, ◌≡◌, ◌≤◌, ◌⊎◌, Bool, true, false, ◌&&◌, ◌==◌, List, ◌∷◌, ◌++◌, Some, reverse, take}
 use Rattle.std.specs.List.{filter}
 use Rattle.ft_base.specs.declared.number.CallNo.{CallNo}
 use Rattle.ft_base.specs.declared.item.Item.{Item}
-use Rattle.ft_base.specs.declared.item.Item.TheVariants.{Back, BackEnd, Refuse, Exit, ExitEnd, Ret}
+use Rattle.ft_base.specs.declared.item.Item.TheVariants.{Begin, Return, Back, BackEnd, Refuse, Exit, ExitEnd, Ret}
 use Rattle.ft_base.specs.Same.{same_call}
 use Rattle.ft_base.specs.declared.number.UserNo.{UserNo}
 use Rattle.ft_base.specs.Job.{Job, Command, takes_off}
 use Rattle.ft_base.specs.Desk.{desk, is_live, spec_at, user_at}
 use Rattle.ft_base.specs.Kinds.{has_depth, has_exit, cancels}
 use Rattle.ft_hist.specs.Past.{done, begun, calls, done_at_leave, held, is_open, registration_at}
+
+-- the items before a place, the latest first
+abbrev pub past_at : ℕ → List Item → List Item
+past_at place items = reverse (take place items)
 
 -- a task's open calls, the latest first
 abbrev pub open_calls : ℕ → List Item → List CallNo

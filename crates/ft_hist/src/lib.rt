@@ -7,8 +7,10 @@
 //! its past, and *whole* if besides all commands have returned and each task has made its run.
 //!
 //! The specs have these definitions: `Past` (what a history tells at a place), `Plain` (plain
-//! runs), `Rules` (which item may come), `Frames` (the users of a call's frame), `Counts` (how often
-//! a user was called back, or missed). `theorems` and `behaviour` have what legality promises, in its reader's words.
+//! runs), `Rules` (which item may come), `Frames` (the users of a call's frame), `Known` (what is
+//! known of an open call), `Counts` (how often a user was called back, or missed). `theorems` and
+//! `behaviour` have what legality promises, in its reader's words, and `plain_forms` says that two
+//! passages of the rules are one with a plainer form (the specs' `ShadowStack` and `Finished`).
 //! `History` is the list as the program keeps it. `merge` makes it of lists whose items are marked
 //! with their places, each place once: every item stands at its place (the specs' `Placing`).
 #![tactic(auto)]

@@ -10,8 +10,10 @@ use Rattle.ft_base.specs.Same.{same_call}
 use Rattle.ft_hist.specs.Past.{entry_of}
 use Rattle.func_profile.specs.declared.tally.Tally.{Tally}
 use Rattle.func_profile.specs.Rows.{row_of, IsEntered, HasRows}
-use Rattle.func_profile.specs.Tallies.{function_at, row_at, with_hit, with_time, past_at, IsTally}
-use Rattle.func_profile.proofs.Places.{back-at, exit-at, past-more, length-past}
+use Rattle.ft_hist.specs.Telling.{past_at}
+use Rattle.func_profile.specs.Tallies.{function_at, row_at, with_hit, with_time, IsTally}
+use Rattle.ft_hist.proofs.Splitting.{past-more, length-past}
+use Rattle.func_profile.proofs.Places.{back-at, exit-at}
 use Rattle.func_profile.proofs.TallyLemmas.{function-some, function-is, hits-bound, time-bound, row-at, tally-enter, tally-back, tally-exit, tally-back-other, tally-exit-other, tally-rest, is_noted}
 
 -- the item at a place, and what is kept of those before it

@@ -1,23 +1,17 @@
 -- The items of a history at its places, and their pasts.
-use Rattle.std.proofs.Common.{◌≡◌, ℕ, ◌+◌, ◌<◌, List, [], ◌∷◌, ◌++◌, length, reverse, take, drop, slice_get, Some, sym, ap, ◌∙◌, subst, arith}
-use Rattle.std.proofs.lemmas.List.{take_more, reverse-append, take-append-drop, drop_more, length-take-le, length-reverse, take_all}
+use Rattle.std.proofs.Common.{◌≡◌, ℕ, ◌+◌, ◌<◌, List, ◌∷◌, ◌++◌, length, reverse, take, drop, slice_get, Some, sym, ap, ◌∙◌, subst, arith}
+use Rattle.std.proofs.lemmas.List.{take-append-drop, drop_more, length-take-le, take_all}
 use Rattle.std.proofs.lemmas.Option.{slice_get_within, get_or_from_slice_get}
 use Rattle.ft_base.specs.declared.number.CallNo.{CallNo}
 use Rattle.ft_base.specs.declared.number.UserNo.{UserNo}
 use Rattle.ft_base.specs.declared.item.Item.{Item}
 use Rattle.ft_base.specs.declared.item.Item.TheVariants.{Back, Exit}
 use Rattle.func_profile.specs.Rows.{IsEntered, HasRows}
-use Rattle.func_profile.specs.Tallies.{past_at}
+use Rattle.ft_hist.specs.Telling.{past_at}
 
 module _ (items : List Item) (k : ℕ) (item : Item) (here : slice_get items k ≡ Some item) where
   within : k < length items
   within = slice_get_within items k item here
-
-  -- the past of the next place has the item on top
-  pub past-more : past_at (k + 1) items ≡ item ∷ past_at k items
-  past-more =
-      ap reverse (take_more items k item within ∙ ap (λ x. take k items ++ x ∷ []) (get_or_from_slice_get items k item item here))
-      ∙ reverse-append (take k items) (item ∷ [])
 
   split : items ≡ take k items ++ item ∷ drop (k + 1) items
   split =
@@ -26,10 +20,6 @@ module _ (items : List Item) (k : ℕ) (item : Item) (here : slice_get items k �
 
   length-front : length (take k items) ≡ k
   length-front = length-take-le k items (omega (arith, within))
-
-  -- as many items are before a place as its number
-  pub length-past : length (past_at k items) ≡ k
-  length-past = length-reverse (take k items) ∙ length-front
 
 module _ (funcs : ℕ) (items : List Item) (rows : HasRows funcs items) (k : ℕ) (call : CallNo) (user : UserNo) where
   -- the call of a callback was entered

@@ -1,5 +1,5 @@
 -- What the program keeps of the items so far, against what they tell.
-use Rattle.std.specs.Prelude.{ℕ, ◌≡◌, ◌+◌, Bool, ◌&&◌, ◌==◌, List, [], map, reverse, take, Option, slice_index_or}
+use Rattle.std.specs.Prelude.{ℕ, ◌≡◌, ◌+◌, Bool, ◌&&◌, ◌==◌, List, [], map, Option, slice_index_or}
 use Rattle.std.specs.Option.{option_map}
 use Rattle.std.specs.List.{range_with_len}
 use Rattle.std.specs.HashMap.{get}
@@ -10,10 +10,6 @@ use Rattle.ft_hist.specs.Past.{entered}
 use Rattle.func_profile.specs.declared.profile.ProfileRow.{ProfileRow}
 use Rattle.func_profile.specs.declared.tally.Tally.{Tally}
 use Rattle.func_profile.specs.Rows.{row_of}
-
--- the past of a place
-abbrev pub past_at : ℕ → List Item → List Item
-past_at place items = reverse (take place items)
 
 -- two keys are the same
 abbrev pub same_key : ℕ × ℕ → ℕ × ℕ → Bool

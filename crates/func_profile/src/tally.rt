@@ -21,7 +21,8 @@ pub(crate) struct Tally {
 }
 
 impl Tally {
-    ghost use Rattle.func_profile.specs.Tallies.{IsTally, function_at, past_at, row_at, with_hit, with_time};
+    ghost use Rattle.ft_hist.specs.Telling.{past_at};
+    ghost use Rattle.func_profile.specs.Tallies.{IsTally, function_at, row_at, with_hit, with_time};
 
     /// No call, and rows without hits for functions below `funcs`.
     pub(crate) fn new(alloc: Global, funcs: u32) -> Result<Tally, NoMemory>

@@ -1,8 +1,7 @@
 -- Items of a history, one after the other.
 use Rattle.std.proofs.Common.{◌≡◌, ℕ, ◌+◌, ◌<◌, ◌≤◌, List, [], ◌∷◌, ◌++◌, length, reverse, take, drop, slice_get, Some, true, sym, ap, ◌∙◌, subst, arith}
 use Rattle.std.specs.Prelude.{IfSome}
-use Rattle.std.proofs.lemmas.List.{take_more, reverse-append, take-append-drop, length-take-le, length-reverse, take_all}
-use Rattle.std.proofs.lemmas.Option.{slice_get_within, get_or_from_slice_get}
+use Rattle.std.proofs.lemmas.List.{reverse-append, take-append-drop, length-take-le, length-reverse, take_all}
 use Rattle.ft_base.specs.declared.item.Answer.{Answer}
 use Rattle.ft_base.specs.declared.item.Item.{Item}
 use Rattle.ft_base.specs.declared.item.Item.TheVariants.{Begin, Return, Back, Refuse, Body}
@@ -10,21 +9,12 @@ use Rattle.ft_base.specs.Job.{Job}
 use Rattle.ft_base.specs.Desk.{is_accepted}
 use Rattle.ft_hist.specs.Past.{begun, done}
 use Rattle.ft_hist.specs.Rules.{IsLegal, IsLegalPast, IsStill, MayFollow, MayReturn}
+use Rattle.ft_hist.proofs.Splitting.{past-more}
 use Rattle.history_check.specs.TakenOff.{command_at}
 use Rattle.history_check.specs.Backs.{AreBacksLegal, AreBacksLegalPast, KeepsBacks}
-use Rattle.history_check.specs.KeptBacks.{past_at}
+use Rattle.ft_hist.specs.Telling.{past_at}
 
 -- ## places
-
-module _ (items : List Item) (k : ℕ) (item : Item) (here : slice_get items k ≡ Some item) where
-  within : k < length items
-  within = slice_get_within items k item here
-
-  -- the past of the next place has the item on top
-  pub past-more : past_at (k + 1) items ≡ item ∷ past_at k items
-  past-more =
-      ap reverse (take_more items k item within ∙ ap (λ x. take k items ++ x ∷ []) (get_or_from_slice_get items k item item here))
-      ∙ reverse-append (take k items) (item ∷ [])
 
 -- the past of the end is the whole history
 pub past-all : (items : List Item) (k : ℕ) → length items ≤ k → past_at k items ≡ reverse items

@@ -1,5 +1,5 @@
 -- What a check of callbacks keeps of the items so far, against what they tell.
-use Rattle.std.specs.Prelude.{ℕ, ◌≡◌, ◌<◌, ◌≤◌, Bool, true, false, ◌||◌, ◌&&◌, ◌==◌, nat_lt, List, [], ◌∷◌, map, reverse, take, Option, Some, None, unwrap_or, if◌then◌else◌, IsTrue, ◌↔◌}
+use Rattle.std.specs.Prelude.{ℕ, ◌≡◌, ◌<◌, ◌≤◌, Bool, true, false, ◌||◌, ◌&&◌, ◌==◌, nat_lt, List, [], ◌∷◌, map, Option, Some, None, unwrap_or, if◌then◌else◌, IsTrue, ◌↔◌}
 use Rattle.std.specs.List.{list_any, AllByRecursion as Each}
 use Rattle.std.specs.HashMap.{HashMap, get}
 use Rattle.std.specs.HashSet.{HashSet, contains}
@@ -106,10 +106,6 @@ pub record IsCheck (job : Job) (past : List Item) (c : Check) : Type 0 where
   pub entries : (call : CallNo) → IsEntry job past call (entry_at c call)
   pub visited : (call : CallNo) (u : ℕ) → is_visited c call u ≡ list_any (λ m. m.user == u) (visits job call past)
   pub callbacks : map kept_callback c.callbacks.items ≡ map told_callback (callbacks past)
-
--- the items before a place, the latest first
-abbrev pub past_at : ℕ → List Item → List Item
-past_at place items = reverse (take place items)
 
 -- whether an item keeps the rules is told, and if it does it is taken in
 pub record IsNoted (job : Job) (past : List Item) (item : Item) (keeps : Bool) (c : Check) : Type 0 where

@@ -17,10 +17,12 @@ use Rattle.trace_views.specs.declared.function.FunctionLine.{FunctionLine}
 use Rattle.trace_views.specs.declared.function.OpenCall.{OpenCall}
 use Rattle.trace_views.specs.FunctionText.{function_line, function_part, parent_word}
 use Rattle.trace_views.specs.KeptCalls.{kept_call, runs, parent_of, parent_name, function_line_text, HasOpenCalls}
-use Rattle.trace_views.specs.Places.{past_at, part_at}
+use Rattle.ft_hist.specs.Telling.{past_at}
+use Rattle.trace_views.specs.Places.{part_at}
 use Rattle.trace_views.specs.TaskStacks.{stack_at}
 use Rattle.trace_views.specs.Words.{is_function}
-use Rattle.trace_views.proofs.ItemTexts.{legal-at, length-past, part-is}
+use Rattle.ft_hist.proofs.Splitting.{length-past}
+use Rattle.trace_views.proofs.ItemTexts.{legal-at, part-is}
 use Rattle.trace_views.proofs.KeptLaws.{top-at-back, below-at-back, parent-is}
 use Rattle.trace_views.proofs.TopCalls.{named}
 

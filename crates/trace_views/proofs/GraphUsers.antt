@@ -9,7 +9,8 @@ use Rattle.ft_base.specs.Job.{Job}
 use Rattle.ft_base.proofs.Small.{Each-snoc}
 use Rattle.ft_hist.specs.Rules.{IsLegal}
 use Rattle.trace_views.specs.declared.graph.Walk.{Walk}
-use Rattle.trace_views.specs.Places.{past_at, part_at}
+use Rattle.ft_hist.specs.Telling.{past_at}
+use Rattle.trace_views.specs.Places.{part_at}
 use Rattle.trace_views.specs.Words.{item_texts}
 use Rattle.trace_views.specs.Leaves.{IsInTasks, AreInTasks}
 use Rattle.trace_views.specs.GraphWalks.{Nests}

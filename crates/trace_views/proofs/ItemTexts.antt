@@ -1,14 +1,14 @@
 -- The texts of the items of a history, one after the other.
-use Rattle.std.proofs.Common.{◌≡◌, ℕ, zero, suc, ◌+◌, ◌≤◌, List, [], ◌∷◌, ◌++◌, Some, length, take, drop, refl, sym, ap, ◌∙◌, subst, arith, append_assoc, append-nil, add-one}
+use Rattle.std.proofs.Common.{◌≡◌, ℕ, zero, suc, ◌+◌, ◌≤◌, List, [], ◌∷◌, ◌++◌, Some, length, take, drop, refl, sym, ap, ◌∙◌, subst, append_assoc, append-nil, add-one}
 use Rattle.std.specs.Prelude.{slice_get, reverse}
-use Rattle.std.proofs.lemmas.List.{drop_all, reverse-append, length-reverse, length-take-le, take-append-drop}
-use Rattle.std.proofs.lemmas.Option.{slice_get_within}
+use Rattle.std.proofs.lemmas.List.{drop_all, reverse-append, take-append-drop}
 use Rattle.ft_base.specs.declared.item.Item.{Item}
 use Rattle.ft_base.specs.Job.{Job}
 use Rattle.ft_hist.specs.Rules.{IsLegal, IsLegalPast}
 use Rattle.ft_hist.proofs.Told.{legal-to}
 use Rattle.trace_views.specs.Words.{item_texts}
-use Rattle.trace_views.specs.Places.{past_at, part_at}
+use Rattle.ft_hist.specs.Telling.{past_at}
+use Rattle.trace_views.specs.Places.{part_at}
 
 -- from a place on
 pub drop_at_get : {A : Type 0} (xs : List A) (p : ℕ) (x : A) → slice_get xs p ≡ Some x → drop p xs ≡ x ∷ drop (suc p) xs
@@ -25,10 +25,6 @@ module _ (items : List Item) (p : ℕ) (x : Item) (here : slice_get items p ≡ 
   -- the past of the next place
   pub past-next : past_at (suc p) items ≡ x ∷ past_at p items
   past-next = ap (λ (zs : List Item). reverse zs) (take-item items p x here) ∙ reverse-append (take p items) (x ∷ [])
-
-  -- the past of a place is as long as the place says
-  pub length-past : length (past_at p items) ≡ p
-  length-past = length-reverse (take p items) ∙ length-take-le p items (omega (arith, slice_get_within items p x here))
 
   -- in a legal history the item may follow its past
   pub legal-at : (job : Job) → IsLegal job items → IsLegalPast job (x ∷ past_at p items)

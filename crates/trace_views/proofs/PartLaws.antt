@@ -12,7 +12,8 @@ use Rattle.ft_base.specs.Job.{Job}
 use Rattle.trace_views.specs.declared.graph.GraphCall.{GraphCall}
 use Rattle.trace_views.specs.declared.graph_line.Shown.{Shown}
 use Rattle.trace_views.specs.declared.graph.Walk.{Walk}
-use Rattle.trace_views.specs.Places.{past_at, part_at}
+use Rattle.ft_hist.specs.Telling.{past_at}
+use Rattle.trace_views.specs.Places.{part_at}
 use Rattle.trace_views.specs.Words.{function_word}
 use Rattle.trace_views.specs.Leaves.{leaf_exits}
 use Rattle.trace_views.specs.GraphText.{latest, leaf_exit, is_here, level, called_word, ends_leaf, entry_line, exit_line, graph_part}

@@ -11,13 +11,14 @@ use Rattle.ft_base.specs.declared.item.Item.{Item}
 use Rattle.ft_base.specs.declared.item.Item.TheVariants.{Enter, Back, Exit, Ret}
 use Rattle.trace_views.specs.declared.graph.GraphCall.{GraphCall}
 use Rattle.trace_views.specs.declared.graph.Walk.{Walk}
-use Rattle.trace_views.specs.Places.{past_at}
+use Rattle.ft_hist.specs.Telling.{past_at}
 use Rattle.trace_views.specs.TaskStacks.{stack_at, with_top}
 use Rattle.trace_views.specs.Leaves.{leaf_exits}
 use Rattle.trace_views.specs.GraphText.{latest, leaf_exit, level}
 use Rattle.trace_views.specs.GraphWalks.{backs_in, backs_open, IsTop, Nests}
 use Rattle.trace_views.specs.GraphLines.{IsWalk, IsWalkAt, graph_call, graph_calls, no_call, top_at, with_back}
-use Rattle.trace_views.proofs.ItemTexts.{drop_at_get, past-next, length-past}
+use Rattle.ft_hist.proofs.Splitting.{length-past}
+use Rattle.trace_views.proofs.ItemTexts.{drop_at_get, past-next}
 use Rattle.trace_views.proofs.GraphLevels.{backs_open-short}
 use Rattle.trace_views.proofs.GraphItems.{top-level, backs-enter, backs-ret, backs-back}
 use Rattle.trace_views.proofs.TaskLists.{by_task-set, by_task-same}

@@ -5,8 +5,7 @@ use Rattle.ft_base.specs.declared.number.CallNo.{CallNo}
 use Rattle.ft_base.specs.declared.item.Item.{Item}
 use Rattle.ft_base.specs.Job.{Job}
 use Rattle.ft_hist.specs.Past.{entry_of}
-use Rattle.ft_hist.specs.Telling.{open_calls}
-use Rattle.trace_views.specs.Places.{past_at}
+use Rattle.ft_hist.specs.Telling.{past_at, open_calls}
 use Rattle.trace_views.specs.declared.graph.GraphCall.{GraphCall}
 use Rattle.trace_views.specs.declared.graph.Walk.{Walk}
 use Rattle.trace_views.specs.declared.graph_line.GraphLine.{GraphLine}

@@ -1,10 +1,7 @@
 -- What is printed place by place: the items before a place are its past, the latest first.
-use Rattle.std.specs.Prelude.{ℕ, suc, List, [], reverse, take, drop, slice_get, Option, Some, None}
+use Rattle.std.specs.Prelude.{ℕ, suc, List, [], drop, slice_get, Option, Some, None}
 use Rattle.ft_base.specs.declared.item.Item.{Item}
-
--- the items before a place, the latest first
-abbrev pub past_at : ℕ → List Item → List Item
-past_at p items = reverse (take p items)
+use Rattle.ft_hist.specs.Telling.{past_at}
 
 -- what the item at a place prints, nothing if there is none; `text` is told the items before it, the latest first, and those after it
 abbrev pub part_at : (List Item → Item → List Item → List ℕ) → ℕ → List Item → List ℕ

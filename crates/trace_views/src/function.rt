@@ -8,7 +8,8 @@ ghost use Rattle.ft_hist.specs.Rules.{IsLegal, IsLegalPast};
 ghost use Rattle.trace_views.specs.FunctionText.{function_part};
 ghost use Rattle.trace_views.specs.KeptCalls.{HasOpenCalls, IsOfTasks, runs, parent_of};
 ghost use Rattle.trace_views.specs.KeptCalls.{function_line_text};
-ghost use Rattle.trace_views.specs.Places.{past_at, part_at};
+ghost use Rattle.ft_hist.specs.Telling.{past_at};
+ghost use Rattle.trace_views.specs.Places.{part_at};
 ghost use Rattle.trace_views.specs.TaskStacks.{stack_at};
 ghost use Rattle.trace_views.specs.Words.{is_function, item_texts, lines_text};
 

@@ -1,5 +1,5 @@
 -- A task's open calls and its plain stack: numbers, frames and guards.
-use Rattle.std.proofs.Common.{cond, ◌≡◌, ℕ, suc, ◌+◌, ◌<◌, Bool, true, false, ◌&&◌, ◌==◌, List, [], ◌∷◌, length, Some, refl, sym, ap, ◌∙◌, subst, arith, inl, inr}
+use Rattle.std.proofs.Common.{cond, ◌≡◌, ℕ, suc, ◌+◌, ◌<◌, Bool, true, false, ◌==◌, List, [], ◌∷◌, length, Some, refl, sym, ap, ◌∙◌, subst, arith, inl, inr}
 use Rattle.std.specs.Prelude.{count_by}
 use Rattle.std.proofs.lemmas.List.Sums.{sum_by-cons}
 use Rattle.std.proofs.lemmas.Bool.Decides.{eqb_tells}
@@ -10,7 +10,7 @@ use Rattle.ft_base.specs.declared.item.Item.{Item}
 use Rattle.ft_base.specs.Same.{same_call, same_ctx}
 use Rattle.ft_base.specs.Job.{Job}
 use Rattle.ft_base.proofs.Small.{and-false}
-use Rattle.ft_hist.specs.Past.{Callback, callbacks, is_at, is_ctx, open_callbacks, held}
+use Rattle.ft_hist.specs.Past.{Callback, callbacks, is_ctx, open_callbacks, held}
 use Rattle.ft_hist.proofs.RunLaws.{calls_on}
 use Rattle.ft_hist.specs.Known.{holds}
 use Rattle.ft_hist.proofs.Since.{Untouched, untouched-item, touches, holding}
@@ -21,7 +21,7 @@ use Rattle.word_machine.specs.Verdicts.{Here}
 use Rattle.word_machine.specs.Calls.{Calls, under_by, under_call}
 use Rattle.word_machine.specs.Tasks.{RunsAt, plain_stack, callbacks_at}
 use Rattle.ft_hist.proofs.Carries.{of_task}
-use Rattle.word_machine.proofs.Small.{zero-plus}
+use Rattle.ft_hist.proofs.OpenBacks.{count-of_task}
 
 abbrev pub calls_of : List OpenCall → List CallNo
 calls_of [] = []
@@ -78,14 +78,6 @@ held-level job h past ack q x c below m r st k =
 -- one more in a list that is counted
 count-cons : {A : Type 0} (p : A → Bool) (x : A) (xs : List A) → count_by p (x ∷ xs) ≡ cond (p x) 1 0 + count_by p xs
 count-cons p x xs = sum_by-cons (λ y. cond (p y) 1 0) x xs
-
-count-of_task : (t : ℕ) (y : Ctx) (bs : List Callback) → count_by (is_at t y) bs ≡ count_by (λ b. is_ctx b.ctx y) (of_task t bs)
-count-of_task t y [] = refl
-count-of_task t y (b ∷ bs) = count-cons (is_at t y) b bs ∙ elim (b.call.task.0 == t) as (λ e. cond (e && is_ctx b.ctx y) 1 0 + count_by (is_at t y) bs
-    ≡ count_by (λ b. is_ctx b.ctx y) (cond e (b ∷ of_task t bs) (of_task t bs))) [
-      | true ↦ ap (λ n. cond (is_ctx b.ctx y) 1 0 + n) (count-of_task t y bs) ∙ sym (count-cons (λ (b : Callback). is_ctx b.ctx y) b (of_task t bs))
-      | false ↦ zero-plus (count_by (is_at t y) bs) ∙ count-of_task t y bs
-    ]
 
 levels-below : (scripted : Bool) (u : ℕ) (y : Ctx) (stack : List OpenCall) → count_by (λ b. is_ctx b.ctx y) (callbacks_at (under_by scripted u) stack)
     ≡ held_levels (guards_under scripted stack) y

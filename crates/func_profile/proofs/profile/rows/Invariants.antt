@@ -1,5 +1,6 @@
 use Rattle.std.proofs.Common.{length, ◌≡◌}
-use Rattle.func_profile.specs.Tallies.{IsTally, past_at}
+use Rattle.ft_hist.specs.Telling.{past_at}
+use Rattle.func_profile.specs.Tallies.{IsTally}
 use Rattle.func_profile.proofs.profile.rows.Given as goal
 
 -- what is kept is what the items so far tell

@@ -1,8 +1,10 @@
 -- The items so far keep the rules; one that doesn't tells against the whole history.
 use Rattle.std.proofs.Common.{refl, sym, ◌∙◌, subst, arith}
 use Rattle.history_check.specs.Backs.{AreBacksLegalPast}
-use Rattle.history_check.specs.KeptBacks.{IsCheck, past_at}
-use Rattle.history_check.proofs.PastLaws.{all-keep, begun-room, done-room, item-keeps, more-keeps, none-breaks, past-more}
+use Rattle.ft_hist.specs.Telling.{past_at}
+use Rattle.history_check.specs.KeptBacks.{IsCheck}
+use Rattle.ft_hist.proofs.Splitting.{past-more}
+use Rattle.history_check.proofs.PastLaws.{all-keep, begun-room, done-room, item-keeps, more-keeps, none-breaks}
 use Rattle.history_check.proofs.backs.backs_legal.Goals as goal
 
 pub note-requires-clause-done : goal.note-requires-clause-done

@@ -1,7 +1,7 @@
 use Rattle.std.proofs.Common.{ap, sym, ◌∙◌, arith}
 use Rattle.ft_hist.specs.Past.{done}
-use Rattle.func_profile.specs.Tallies.{past_at}
-use Rattle.func_profile.proofs.Places.{past-more}
+use Rattle.ft_hist.specs.Telling.{past_at}
+use Rattle.ft_hist.proofs.Splitting.{past-more}
 use Rattle.trace_views.specs.Returned.{done_with}
 use Rattle.trace_views.proofs.ReturnedLaws.{done-more, done-with-le}
 use Rattle.trace_views.proofs.enabled.returned.Goals as goal

@@ -1,6 +1,6 @@
 use Rattle.std.proofs.Common.{arith, add-one}
 use Rattle.trace_views.specs.FunctionText.{function_part}
-use Rattle.trace_views.specs.Places.{past_at}
+use Rattle.ft_hist.specs.Telling.{past_at}
 use Rattle.trace_views.proofs.ItemTexts.{legal-at, past-next, texts-more, texts-all}
 use Rattle.trace_views.proofs.TopCalls.{named}
 use Rattle.trace_views.proofs.function.function_lines.Goals as goal

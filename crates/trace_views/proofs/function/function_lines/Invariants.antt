@@ -1,7 +1,7 @@
 use Rattle.std.proofs.Common.{◌≡◌, [], ◌++◌, drop}
 use Rattle.trace_views.specs.FunctionText.{function_part}
 use Rattle.trace_views.specs.KeptCalls.{HasOpenCalls, function_line_text}
-use Rattle.trace_views.specs.Places.{past_at}
+use Rattle.ft_hist.specs.Telling.{past_at}
 use Rattle.trace_views.specs.Words.{item_texts, lines_text}
 use Rattle.trace_views.proofs.function.function_lines.Given as goal
 

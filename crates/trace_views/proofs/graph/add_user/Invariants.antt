@@ -1,5 +1,5 @@
 use Rattle.std.proofs.Common.{◌≡◌, [], ◌++◌, drop}
-use Rattle.trace_views.specs.Places.{past_at}
+use Rattle.ft_hist.specs.Telling.{past_at}
 use Rattle.trace_views.specs.Words.{item_texts, lines_text}
 use Rattle.trace_views.specs.GraphText.{graph_part}
 use Rattle.trace_views.specs.GraphLines.{IsWalkAt, graph_line_text}
