@@ -126,14 +126,14 @@ module _ (above : Above) (run : CanRun above) where
     raised = raised-tasks above h;
     ctls = (let n = length-map above.ctls (λ (c : LinedCtl). c.ctl) in let all = h.lines.all in let few = h.within.few_commands in let fewer = h.within.few_waits in omega (arith, n, all, few, fewer));
     counts = record {
-      few_functions = h.within.few_functions;
-      few_users = h.within.few_users;
-      few_tasks = (let n = count-tasks in let few = h.within.tasks.few in omega (arith, n, few));
-      few_tramps = at-most (limits_of above.version).tramps (limits_of above.version).tramps (omega arith) above.tramps h.tramps;
+      few_functions = h.within.counts.few_functions;
+      few_users = h.within.counts.few_users;
+      few_tasks = (let n = count-tasks in let few = h.within.counts.few_tasks in omega (arith, n, few));
+      few_tramps = at-most (limits_of above.version).tramps (limits_of above.version).tramps (omega arith) above.tramps h.within.counts.few_tramps;
     };
     frames = at-most FRAMES USUAL_FRAMES (omega arith) above.frames h.frames;
     levels = each-command users size tasks IsLevel (λ command h. h.2) _ lines;
-    acts = (let n = acts-all above.tasks in let all = h.tasks.all_acts in let few = h.within.tasks.few_acts in omega (arith, n, all, few));
+    acts = (let n = acts-all above.tasks in let all = h.tasks.all_acts in let few = h.within.acts.few_acts in omega (arith, n, all, few));
     items = subst (λ n. call_bound_of above.users (limits_of above.version).levels * n ≤ ITEMS) (sym (calls-all above.tasks ∙ h.tasks.all_calls)) h.items;
   }
 

@@ -1,18 +1,19 @@
 -- What a line without a cause declares keeps the limits and the order.
 use Rattle.std.proofs.Common.{◌≡◌, ℕ, suc, ◌+◌, ◌-◌, ◌*◌, ◌<◌, ◌≤◌, List, [], ◌∷◌, ◌++◌, length, refl, subst, ◌∙◌, arith}
+use Rattle.std.specs.Prelude.{unwrap_or}
 use Rattle.std.proofs.lemmas.List.{length_push}
 use Rattle.ft_base.specs.declared.context.Ctx.{Ctx}
 use Rattle.ft_base.specs.declared.context.Ctx.TheVariants.{Normal, Softirq, Irq, Nmi}
-use Rattle.ft_base.specs.declared.limits.TheConstants.{CPUS, COMMANDS, UNTILS, LEVELS, ITEMS, STEPS}
+use Rattle.ft_base.specs.declared.limits.TheConstants.{CPUS, TASKS, COMMANDS, UNTILS, LEVELS, ITEMS, STEPS}
 use Rattle.ft_base.specs.declared.task.TaskAct.{TaskAct}
 use Rattle.ft_base.specs.declared.task.TaskAct.TheVariants.{Call, Ret, Raise, Lower, After}
 use Rattle.ft_base.specs.Job.{Run, Until}
-use Rattle.ft_base.specs.Versions.{limits_of}
+use Rattle.ft_base.specs.Versions.{limits_of, IsFew}
 use Rattle.user_specs.specs.Bound.{call_bound_of}
 use Rattle.ft_script.specs.declared.levels.Levels.{Levels}
 use Rattle.ft_script.specs.Levels.{present, open_in, open_here, open_calls, with_open, without, levels_after}
-use Rattle.ft_script.specs.Above.{Above, Declaration, a_version, a_function, a_user, a_cpu, a_task, an_act, a_ctl, more_turns, Resolved, calls_with, with_what, declared}
-use Rattle.ft_script.specs.Within.{FewTasks, IsWithinLimits, IsInOrder}
+use Rattle.ft_script.specs.Above.{Above, Declaration, a_version, a_function, some_slots, a_user, a_cpu, a_task, an_act, a_ctl, more_turns, Resolved, calls_with, with_what, declared}
+use Rattle.ft_script.specs.Within.{FewActs, IsWithinLimits, IsInOrder}
 use Rattle.ft_script.specs.Holds.{Holds}
 use Rattle.ft_script.specs.Fits.{IsNextCall, FitsAs, IsRanked, Fits}
 use Rattle.ft_script.proofs.TaskLaws.{length-push_act}
@@ -71,11 +72,23 @@ room-for limit xs x l = let n = length_push xs x in omega (arith, n, l)
 module _ (above : Above) (h : Holds above) where
   within-functions : (what : Declaration) → FitsAs above what → length (with_what above what).functions ≤ (limits_of above.version).funcs
   within-functions (a_function function) f = room-for (limits_of above.version).funcs above.functions function f.room
-  within-functions what f = h.within.few_functions
+  within-functions what f = h.within.counts.few_functions
 
   within-users : (what : Declaration) → FitsAs above what → length (with_what above what).users ≤ (limits_of above.version).users
   within-users (a_user user) f = room-for (limits_of above.version).users above.users user f.room
-  within-users what f = h.within.few_users
+  within-users what f = h.within.counts.few_users
+
+  within-tasks : (what : Declaration) → FitsAs above what → length (with_what above what).tasks ≤ TASKS
+  within-tasks (a_task pid cpu) f = room-for TASKS above.tasks _ f.room
+  within-tasks (an_act act) f =
+      let n = length-push_act above.tasks (record { act = act; line = suc above.lines }) in
+      let few = h.within.counts.few_tasks in
+      omega (arith, n, few)
+  within-tasks what f = h.within.counts.few_tasks
+
+  within-tramps : (what : Declaration) → FitsAs above what → unwrap_or (with_what above what).tramps 0 ≤ (limits_of above.version).tramps
+  within-tramps (some_slots count) f = f
+  within-tramps what f = h.within.counts.few_tramps
 
   within-cpus : (what : Declaration) → FitsAs above what → length (with_what above what).quanta ≤ CPUS
   within-cpus (a_cpu quantum) f = room-for CPUS above.quanta quantum f.1
@@ -111,40 +124,42 @@ module _ (above : Above) (h : Holds above) where
       omega (arith, opened, deep)
   few-open Ret next =
       let closed = calls-with_open above.levels (present above.levels) (open_here above.levels - 1) in
-      let low = h.within.tasks.few_open in
+      let low = h.within.acts.few_open in
       omega (arith, closed, low)
   few-open (Raise to) next =
       let raised = calls-with_open above.levels to 0 in
-      let low = h.within.tasks.few_open in
+      let low = h.within.acts.few_open in
       omega (arith, raised, low)
   few-open Lower next =
       let lowered = calls-without above.levels (present above.levels) in
-      let low = h.within.tasks.few_open in
+      let low = h.within.acts.few_open in
       omega (arith, lowered, low)
-  few-open (After n) next = h.within.tasks.few_open
+  few-open (After n) next = h.within.acts.few_open
 
-  within-tasks : (what : Declaration) → FitsAs above what → let d = with_what above what in FewTasks d.tasks d.levels d.acts d.calls
-  within-tasks (a_task pid cpu) f = record {
-    few = room-for _ above.tasks _ f.room;
-    few_acts = h.within.tasks.few_acts;
-    few_calls = h.within.tasks.few_calls;
+  within-acts : (what : Declaration) → FitsAs above what → let d = with_what above what in FewActs d.levels d.acts d.calls
+  within-acts (a_task pid cpu) f = record {
+    few_acts = h.within.acts.few_acts;
+    few_calls = h.within.acts.few_calls;
     few_open = omega arith;
   }
-  within-tasks (an_act act) f =
-      let n = length-push_act above.tasks (record { act = act; line = suc above.lines }) in
-      let few = h.within.tasks.few in
-      let few_calls = h.within.tasks.few_calls in
+  within-acts (an_act act) f =
+      let few_calls = h.within.acts.few_calls in
       let made = few-calls act in
       let left = f.room in
-      record { few = omega (arith, n, few); few_acts = omega (arith, left); few_calls = omega (arith, made, few_calls); few_open = few-open act f.call }
-  within-tasks what f = h.within.tasks
+      record { few_acts = omega (arith, left); few_calls = omega (arith, made, few_calls); few_open = few-open act f.call }
+  within-acts what f = h.within.acts
 
   pub within-declared : (what : Declaration) → IsLater what → FitsAs above what → IsWithinLimits (with_what above what)
   within-declared what later f = record {
-    few_functions = subst (λ v. length (with_what above what).functions ≤ (limits_of v).funcs) (same-version above what later) (within-functions what f);
-    few_users = subst (λ v. length (with_what above what).users ≤ (limits_of v).users) (same-version above what later) (within-users what f);
+    counts = (let d = with_what above what in
+        subst (λ v. IsFew (limits_of v) (length d.functions) (length d.users) (length d.tasks) (unwrap_or d.tramps 0)) (same-version above what later) (record {
+          few_functions = within-functions what f;
+          few_users = within-users what f;
+          few_tasks = within-tasks what f;
+          few_tramps = within-tramps what f;
+        }));
     few_cpus = within-cpus what f;
-    tasks = within-tasks what f;
+    acts = within-acts what f;
     few_commands = within-commands what f;
     few_waits = within-waits what f;
     few_steps = within-steps what f;

@@ -17,17 +17,16 @@ use Rattle.ft_script.proofs.NoCause.{no-cause_in}
 use Rattle.ft_script.proofs.Fitting.{said_last, accepted}
 use Rattle.ft_script.proofs.Limits.{IsLater, same-version, within-declared, order-declared, items-declared}
 use Rattle.ft_script.proofs.TasksKept.{Begins, tasks-declared}
-use Rattle.ft_script.proofs.LinesKept.{lines-declared, users-declared, frames-declared, tramps-declared, quanta-declared}
+use Rattle.ft_script.proofs.LinesKept.{lines-declared, users-declared, frames-declared, quanta-declared}
 
 -- ## what holds after a line
 
 -- the number of the last line and its rank make no difference to the limits
 within-renumbered : (above : Above) (lines rank : ℕ) → IsWithinLimits above → IsWithinLimits (record above { lines = lines; rank = rank })
 within-renumbered above lines rank w = record {
-  few_functions = w.few_functions;
-  few_users = w.few_users;
+  counts = w.counts;
   few_cpus = w.few_cpus;
-  tasks = w.tasks;
+  acts = w.acts;
   few_commands = w.few_commands;
   few_waits = w.few_waits;
   few_steps = w.few_steps;
@@ -40,7 +39,6 @@ later-holds above h line below later f balanced begins = record {
   within = within-renumbered (with_what above line.what) _ _ (within-declared above h line.what later f.what);
   order = order-declared above h.order line f;
   frames = frames-declared above h line.what f.what;
-  tramps = tramps-declared above h line.what later f.what;
   users = users-declared above h line.what f.what;
   quanta = quanta-declared above h line.what f.what;
   tasks = tasks-declared above h line.what below f.what balanced begins;
@@ -53,17 +51,15 @@ empty-holds : (number lines rank : ℕ) → IsVersion number → let above = rec
 empty-holds number lines rank is first = record {
   version = is;
   within = record {
-    few_functions = omega arith;
-    few_users = omega arith;
+    counts = record { few_functions = omega arith; few_users = omega arith; few_tasks = omega arith; few_tramps = omega arith };
     few_cpus = omega arith;
-    tasks = record { few = omega arith; few_acts = omega arith; few_calls = omega arith; few_open = omega arith };
+    acts = record { few_acts = omega arith; few_calls = omega arith; few_open = omega arith };
     few_commands = omega arith;
     few_waits = omega arith;
     few_steps = omega arith;
   };
   order = record { first = first; calls = λ low. refl; ctls = λ low. refl };
-  frames = tt;
-  tramps = tt;
+  frames = omega arith;
   users = tt;
   quanta = tt;
   tasks = record { placed = tt; balanced = refl; raised = tt; all_acts = refl; all_calls = refl };

@@ -1,5 +1,5 @@
 -- A line without a cause declares users and lines of control that name what is there, and numbers within their limits.
-use Rattle.std.proofs.Common.{◌≡◌, ℕ, suc, ◌+◌, ◌≤◌, List, [], ◌∷◌, ◌++◌, length, Option, Some, None, subst, arith}
+use Rattle.std.proofs.Common.{◌≡◌, ℕ, suc, ◌+◌, ◌≤◌, List, [], ◌∷◌, ◌++◌, length, Option, Some, None, arith}
 use Rattle.std.specs.List.{AllByRecursion as Each}
 use Rattle.std.proofs.lemmas.List.{length_push}
 use Rattle.ft_base.proofs.Small.{Each-snoc, Each-weaker}
@@ -7,12 +7,10 @@ use Rattle.ft_base.specs.declared.limits.TheConstants.{FRAMES, QUANTUM}
 use Rattle.ft_base.specs.declared.user.Act.{Act}
 use Rattle.ft_base.specs.declared.user.Act.TheVariants.{CallIn, IrqIn}
 use Rattle.ft_base.specs.Job.{Spec, Ctl, Run, Until}
-use Rattle.ft_base.specs.Versions.{limits_of}
 use Rattle.ft_base.specs.WellFormed.{IsActIn}
-use Rattle.ft_script.specs.Above.{Above, LinedCtl, Declaration, a_function, some_frames, some_slots, a_user, a_cpu, a_task, an_act, a_ctl, commands_with, waits_with, with_what}
+use Rattle.ft_script.specs.Above.{Above, LinedCtl, Declaration, a_function, some_frames, a_user, a_cpu, a_task, an_act, a_ctl, commands_with, waits_with, with_what}
 use Rattle.ft_script.specs.Holds.{IsLine, LinesHold, IsAtMost, Holds}
 use Rattle.ft_script.specs.Fits.{FitsAs}
-use Rattle.ft_script.proofs.Limits.{IsLater, same-version}
 
 -- ## users
 
@@ -70,13 +68,6 @@ module _ (above : Above) (h : Holds above) where
   pub frames-declared : (what : Declaration) → FitsAs above what → IsAtMost FRAMES (with_what above what).frames
   frames-declared (some_frames count) f = f
   frames-declared what f = h.frames
-
-  few-tramps : (what : Declaration) → FitsAs above what → IsAtMost (limits_of above.version).tramps (with_what above what).tramps
-  few-tramps (some_slots count) f = f
-  few-tramps what f = h.tramps
-
-  pub tramps-declared : (what : Declaration) → IsLater what → FitsAs above what → let d = with_what above what in IsAtMost (limits_of d.version).tramps d.tramps
-  tramps-declared what later f = subst (λ v. IsAtMost (limits_of v).tramps (with_what above what).tramps) (same-version above what later) (few-tramps what f)
 
   pub quanta-declared : (what : Declaration) → FitsAs above what → Each (λ q. q ≤ QUANTUM) (with_what above what).quanta
   quanta-declared (a_cpu quantum) f = Each-snoc (λ q. q ≤ QUANTUM) above.quanta quantum h.quanta f.0

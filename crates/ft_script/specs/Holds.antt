@@ -1,5 +1,5 @@
 -- What holds of what is declared, if no line has a cause.
-use Rattle.std.specs.Prelude.{ℕ, ◌≡◌, ◌+◌, ◌*◌, ◌<◌, ◌≤◌, false, List, [], ◌∷◌, length, map, sum_by, Option, Some, None}
+use Rattle.std.specs.Prelude.{ℕ, ◌≡◌, ◌+◌, ◌*◌, ◌<◌, ◌≤◌, false, List, [], ◌∷◌, length, map, sum_by, Option, Some, None, unwrap_or}
 use Rattle.std.specs.List.{AllByRecursion as Each}
 use Rattle.ft_base.specs.declared.context.Ctx.{Ctx}
 use Rattle.ft_base.specs.declared.context.Ctx.TheVariants.{Softirq, Irq, Nmi}
@@ -74,8 +74,7 @@ pub record LinesHold (users size tasks : ℕ) (ctls : List LinedCtl) (commands w
 
 -- a number that the script may say is at most this, if it says it
 abbrev pub IsAtMost : ℕ → Option ℕ → Type 0
-IsAtMost limit None = Unit {0}
-IsAtMost limit (Some n) = n ≤ limit
+IsAtMost limit said = unwrap_or said 0 ≤ limit
 
 -- ## all
 
@@ -85,7 +84,6 @@ pub record Holds (above : Above) : Type 0 where
   pub within : IsWithinLimits above
   pub order : IsInOrder above
   pub frames : IsAtMost FRAMES above.frames
-  pub tramps : IsAtMost (limits_of above.version).tramps above.tramps
   pub users : Each (λ (s : Spec). IsActIn (length above.functions) s.act) above.users
   pub quanta : Each (λ q. q ≤ QUANTUM) above.quanta
   pub tasks : TasksHold (length above.functions) (length above.quanta) above.tasks above.levels above.acts above.calls

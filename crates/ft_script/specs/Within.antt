@@ -1,25 +1,22 @@
 -- What is declared is within the limits, and in order.
-use Rattle.std.specs.Prelude.{◌≡◌, ◌≤◌, ◌<◌, ◌+◌, ◌^◌, ℕ, List, [], length}
-use Rattle.ft_base.specs.declared.limits.TheConstants.{CPUS, TASKS, COMMANDS, UNTILS, ACTS, LEVELS, STEPS}
-use Rattle.ft_base.specs.Versions.{limits_of}
-use Rattle.script_waits.specs.Tasks.{LinedTask}
+use Rattle.std.specs.Prelude.{◌≡◌, ◌≤◌, ◌<◌, ◌+◌, ◌^◌, ℕ, [], length, unwrap_or}
+use Rattle.ft_base.specs.declared.limits.TheConstants.{CPUS, COMMANDS, UNTILS, ACTS, LEVELS, STEPS}
+use Rattle.ft_base.specs.Versions.{limits_of, IsFew}
 use Rattle.ft_script.specs.declared.levels.Levels.{Levels}
 use Rattle.ft_script.specs.Levels.{open_calls}
 use Rattle.ft_script.specs.Above.{Above, none_above}
 
--- no more tasks, acts and open calls than there may be; the calls are among the acts
-pub record FewTasks (tasks : List LinedTask) (levels : Levels) (acts calls : ℕ) : Type 0 where
-  pub few : length tasks ≤ TASKS
+-- no more acts and open calls than there may be; the calls are among the acts
+pub record FewActs (levels : Levels) (acts calls : ℕ) : Type 0 where
   pub few_acts : acts ≤ ACTS
   pub few_calls : calls ≤ acts
   pub few_open : open_calls levels ≤ LEVELS
 
--- what is declared is within the limits of its version
+-- what is declared is within the limits of its version; a script that doesn't say its slots has no more than it may
 pub record IsWithinLimits (above : Above) : Type 0 where
-  pub few_functions : length above.functions ≤ (limits_of above.version).funcs
-  pub few_users : length above.users ≤ (limits_of above.version).users
+  pub counts : IsFew (limits_of above.version) (length above.functions) (length above.users) (length above.tasks) (unwrap_or above.tramps 0)
   pub few_cpus : length above.quanta ≤ CPUS
-  pub tasks : FewTasks above.tasks above.levels above.acts above.calls
+  pub acts : FewActs above.levels above.acts above.calls
   pub few_commands : above.commands ≤ COMMANDS
   pub few_waits : above.waits ≤ UNTILS
   pub few_steps : above.steps ≤ STEPS
