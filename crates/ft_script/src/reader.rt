@@ -66,7 +66,7 @@ pub struct Reader {
 }
 
 impl Reader {
-    ghost use Rattle.std.specs.Prelude.{None, IfErr, OnOk};
+    ghost use Rattle.std.specs.Prelude.{◌+◌, ◌<◌, ◌^◌, suc, None, IfErr, OnOk};
     ghost use Rattle.script_text.specs.Lines.{lines_of};
     ghost use Rattle.ft_script.specs.Above.{none_above};
     ghost use Rattle.ft_script.specs.Causes.{cause_of};
@@ -99,6 +99,17 @@ impl Reader {
         }
     }
 
+    /// The next line is refused for this cause.
+    fn fault(&self, cause: Cause) -> ScriptFault
+        requires { self.now.lines + 1 < 2 ^ 32 }
+        ensures { result ≡ record { line = suc self.now.lines; cause = cause } }
+    {
+        ScriptFault {
+            line: self.lines + 1,
+            cause,
+        }
+    }
+
     /// Reads the next line. `ended` says whether a line feed ends it, and `below` is the text below.
     #[tactic(auto, unfolding(crate::specs::Causes::cause_of, crate::specs::Script::with_line))]
     pub fn read(
@@ -117,10 +128,7 @@ impl Reader {
         let resolved = match self.resolve_line(alloc, &form, ended, below) {
             Ok(resolved) => resolved,
             Err(Cause::NoMemory) => return Err(ScriptFault::from(AllocError)),
-            Err(cause) => {
-                let line = self.lines + 1;
-                return Err(ScriptFault { line, cause });
-            }
+            Err(cause) => return Err(self.fault(cause)),
         };
         self.declare(alloc, resolved)?;
         Ok(())
