@@ -7,8 +7,9 @@ ghost use Rattle.ft_base.specs.declared.item.Item.{Item};
 ghost use Rattle.trace_lines.specs.LogItems.{IsItemOf, IsNamedApart};
 ghost use Rattle.trace_views.specs.LogText.{log_text};
 
-/// The log tells its history: for a job whose names and pids differ, equal texts come from equal
-/// histories and equal ends. So what is said of a history is said of the text that was written.
+/// The log tells its history: for a job whose names and pids differ, and items that have numbers of the
+/// job, equal texts come from equal histories and equal ends. `script_jobs` says that scripts have such
+/// jobs and items. So what is said of a history is said of the text that was written.
 pub fn log_tells_its_history()
     ensures { (job : PlainJob) (a b : List Item) (x y : Bool) → IsNamedApart job
         → Each (IsItemOf job) a → Each (IsItemOf job) b → length a < 2 ^ 64 → length b < 2 ^ 64

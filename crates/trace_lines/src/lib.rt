@@ -2,8 +2,9 @@
 //! place, and those of the views, which `trace_views` works out and whose texts it defines.
 //!
 //! Promised: [`put_log`] and [`put_lines`] put exactly the texts of their lines, and take no memory:
-//! what was written can't be taken back if memory runs out. The text of the log tells the history
-//! that it was written for ([`laws`]). A [`GrownText`] is a sink in memory.
+//! what was written can't be taken back if memory runs out. The text of the log tells its history, if
+//! names and pids differ and items have numbers of the job ([`laws`]). A [`GrownText`] is a sink in
+//! memory.
 #![tactic(auto)]
 
 mod columns;

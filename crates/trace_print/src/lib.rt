@@ -12,8 +12,7 @@
 //! Promised: [`print`] gives, for each legal history of a job, exactly the text of its form, as the
 //! specs define it; [`write_text`] writes it to a sink in pieces, or a beginning of it if the sink
 //! fails, and [`write_log`] does so with the form log of any history; [`summary`] gives exactly the
-//! counts. The text of the form log tells the history that it was written for ([`laws`]). Only tested,
-//! in `trace_print_tests` and `ft_app_tests`: that memory is found.
+//! counts. Only tested, in `trace_print_tests` and `ft_app_tests`: that memory is found.
 //!
 //! A form is worked out line by line, as numbers, which takes memory (`trace_views`). Then the lines
 //! are put, which takes none (`trace_lines`): what was written can't be taken back if memory runs out.
