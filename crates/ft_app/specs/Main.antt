@@ -5,6 +5,7 @@ use Rattle.ft_base.specs.declared.limits.TheConstants.{INPUT_BYTES}
 use Rattle.ft_base.specs.declared.item.Item.{Item}
 use Rattle.ft_base.specs.Job.{Job}
 use Rattle.ft_io.specs.Causes.{AppendsFront}
+use Rattle.ft_words.specs.declared.order.Form.TheVariants.{Log}
 use Rattle.ft_words.specs.declared.order.Order.{Order}
 use Rattle.ft_words.specs.declared.order.Order.TheVariants.{Replay, Run, Bulk}
 use Rattle.ft_words.specs.Language.{Gives}
@@ -79,6 +80,12 @@ pub record IsBegun (order : Order) (script : List ℕ) (holds holds' : Option (L
   pub text : List ℕ
   pub is_reply : IsReplyTo order script status text
   pub front : AppendsFront holds holds' text
+
+-- the order asks for the form log
+abbrev pub IsLogged : Order → Type 0
+IsLogged (Replay Log) = Unit {0}
+IsLogged (Run Log) = Unit {0}
+IsLogged _ = ⊥
 
 -- ## the statuses
 
