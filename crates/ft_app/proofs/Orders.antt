@@ -9,8 +9,8 @@ use Rattle.ft_words.specs.declared.order.Order.{Order}
 use Rattle.ft_words.specs.declared.order.Order.TheVariants.{Replay, Run, Bulk}
 use Rattle.ft_app.specs.declared.status.Status.{Status}
 use Rattle.ft_app.specs.Status.{code_of}
-use Rattle.ft_app.specs.Main.{ReadWhole, Gets, IsToGet, HasRun, HasRefused, IsReplied, Answers}
-use Rattle.ft_app.proofs.Replies.{reply-played, reply-refused, reply-answers}
+use Rattle.ft_app.specs.Main.{ReadWhole, Gets, IsToGet, IsReplied, Answers}
+use Rattle.ft_app.proofs.Replies.{reply-answers}
 
 -- a source that is left as it was gave nothing
 pub unread-within : (remaining remaining' : Option (List ℕ)) → remaining' ≡ remaining → GaveAtMost INPUT_BYTES remaining remaining'
@@ -61,12 +61,6 @@ module _ (order : Order) (remaining remaining' holds holds' : Option (List ℕ))
     (gets : Gets order remaining remaining' got) (is_script : script ≡ got) (replied : IsReplied order script status holds holds') (is_code : code ≡ code_of status) where
   replied' : IsReplied order got status holds holds'
   replied' = subst (λ s. IsReplied order s status holds holds') is_script replied
-
-  pub has_run : code ≡ 0 → HasRun order remaining remaining' holds holds'
-  has_run zero = record { script = got; read = gets; played = reply-played order holds holds' got status replied'.text replied'.is_reply (sym is_code ∙ zero) replied'.written }
-
-  pub has_refused : code ≡ 3 → HasRefused order remaining remaining' holds holds'
-  has_refused three = record { script = got; read = gets; refused = reply-refused order holds holds' got status replied'.text replied'.is_reply (sym is_code ∙ three) replied'.written }
 
   pub answers : (told : List ℕ) → IsToGet order remaining told → Answers order told code holds holds'
   answers told is_told =

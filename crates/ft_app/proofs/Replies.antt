@@ -1,5 +1,5 @@
 -- What is written for a script, and what the statuses say of it.
-use Rattle.std.proofs.Common.{◌≡◌, ◌≢◌, ℕ, Bool, List, Option, inl, inr, refl, subst}
+use Rattle.std.proofs.Common.{◌≢◌, ℕ, Bool, List, Option, inl, inr, refl, subst}
 use Rattle.std.specs.Io.KnownBytes.{Appends}
 use Rattle.ft_base.specs.declared.item.Item.{Item}
 use Rattle.ft_base.specs.Job.{Job}
@@ -14,7 +14,7 @@ use Rattle.ft_app.specs.declared.status.Status.{Status}
 use Rattle.ft_app.specs.declared.status.Status.TheVariants.{Done, Refused}
 use Rattle.ft_app.specs.Status.{code_of}
 use Rattle.ft_app.specs.Reply.{IsReplyTo, of_history, of_refusal, IsHistoryFor, printed, refusal_text}
-use Rattle.ft_app.specs.Main.{HasPrinted, IsPlayed, IsRefused, IsReplied, IsBegun, Answers}
+use Rattle.ft_app.specs.Main.{HasPrinted, IsReplied, IsBegun, Answers}
 
 -- a fault that isn't out of memory is a refusal
 pub real-refusal : (script : List ℕ) (fault : ScriptFault) → IsFaultOf script fault → fault ≢ no_memory → IsRefusalOf script fault
@@ -41,14 +41,6 @@ module _ (order : Order) where
 
     has_printed : (job : Job) (items : List Item) (ended : Bool) → IsHistoryFor order job items ended → Appends holds holds' (printed order job items ended) → HasPrinted order job holds holds'
     has_printed job items ended history written = record { items = items; ended = ended; history = history; written = written }
-
-    pub reply-played : (script : List ℕ) (status : Status) (text : List ℕ) → IsReplyTo order script status text → code_of status ≡ 0 → Appends holds holds' text → IsPlayed order script holds holds'
-    reply-played script _ _ (of_history job accepted items ended history) e written = record { job = job; accepted = accepted; written = has_printed job items ended history written }
-    reply-played script _ _ (of_refusal fault refused) e written = absurd (cc)
-
-    pub reply-refused : (script : List ℕ) (status : Status) (text : List ℕ) → IsReplyTo order script status text → code_of status ≡ 3 → Appends holds holds' text → IsRefused script holds holds'
-    reply-refused script _ _ (of_history job accepted items ended history) e written = absurd (cc)
-    reply-refused script _ _ (of_refusal fault refused) e written = record { fault = fault; refused = refused; written = written }
 
     -- the reply is the answer to the script
     pub reply-answers : (script : List ℕ) (status : Status) (text : List ℕ) → IsReplyTo order script status text → Appends holds holds' text → Answers order script (code_of status) holds holds'

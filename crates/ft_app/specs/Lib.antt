@@ -1,3 +1,4 @@
 pub mod Status
 pub mod Reply
 pub mod Main
+pub mod Ends

@@ -1,4 +1,4 @@
--- What the top call promises, status by status.
+-- What an order gets, and what was written for it.
 use Rattle.std.specs.Prelude.{ℕ, ◌≡◌, ◌≤◌, ◌⊎◌, Bool, List, Option, Some, length}
 use Rattle.std.specs.Io.KnownBytes.{Consumes, Appends, IsAtEnd}
 use Rattle.ft_base.specs.declared.limits.TheConstants.{INPUT_BYTES}
@@ -8,7 +8,6 @@ use Rattle.ft_io.specs.Causes.{AppendsFront}
 use Rattle.ft_words.specs.declared.order.Form.TheVariants.{Log}
 use Rattle.ft_words.specs.declared.order.Order.{Order}
 use Rattle.ft_words.specs.declared.order.Order.TheVariants.{Replay, Run, Bulk}
-use Rattle.ft_words.specs.Language.{Gives}
 use Rattle.ft_schedule.specs.Bulk.{bulk_text}
 use Rattle.ft_script.specs.declared.faults.ScriptFault.{ScriptFault}
 use Rattle.ft_script.specs.Script.{IsJobOf, IsRefusalOf}
@@ -16,10 +15,6 @@ use Rattle.ft_app.specs.declared.status.Status.{Status}
 use Rattle.ft_app.specs.declared.status.Status.TheVariants.{Done, Refused, NoMemory}
 use Rattle.ft_app.specs.Status.{code_of}
 use Rattle.ft_app.specs.Reply.{IsReplyTo, IsHistoryFor, printed, refusal_text}
-
--- the words are in the command's language: they give an order
-abbrev pub IsLanguage : List (List ℕ) → Type 0
-IsLanguage words = (order : Order) × Gives words order
 
 -- the order is carried out without running threads
 abbrev pub IsPlain : Order → Type 0

@@ -1,13 +1,12 @@
 //! An order carried out over any source and sink, whatever carries its job out.
 
-ghost use Rattle.std.specs.Prelude.{◌≡◌, ◌≢◌, ◌≤◌, ℕ, List, length, IfOk, IfErr};
+ghost use Rattle.std.specs.Prelude.{◌≡◌, ◌≢◌, ◌≤◌, ℕ, length, IfOk, IfErr};
 ghost use Rattle.std.specs.Fn.{FnOnceReturnsAt};
 ghost use Rattle.ft_io.specs.Causes.{Rose, GaveMore, GaveAtMost};
 ghost use Rattle.ft_words.specs.declared.order.Order.TheVariants.{Bulk};
-ghost use Rattle.ft_app.specs.declared.status.Status.{Status};
-ghost use Rattle.ft_app.specs.Status.{code_of};
 ghost use Rattle.ft_app.specs.Reply.{Serves};
-ghost use Rattle.ft_app.specs.Main.{Gets, IsToGet, HasRun, HasRefused, HasBegun, Answers};
+ghost use Rattle.ft_app.specs.Ends.{Ends, Only};
+ghost use Rattle.ft_app.specs.Main.{Gets};
 
 use crate::reply::{ReplyFail, write_reply};
 use crate::status::Status;
@@ -30,42 +29,8 @@ pub(crate) fn answer<C: FnOnce(&Job) -> Result<Outcome, NoMemory> + Drop, S: Sou
 ) -> u8
     requires callable { C.IsAlwaysCallable carry_out }
     requires serves { Serves order.now (FnOnceReturnsAt C.FnOnce carry_out) }
-    ensures known { (status : Status) × (result ≡ code_of status) }
-    ensures spoken { result ≢ code_of Status.Language }
-
-    // What the order prints of a history of the script's job; the line of its refusal.
-    ensures run { result ≡ code_of Status.Done
-        → HasRun order.now (S.remaining source.old) (S.remaining source.new)
-        (K.holds sink.old) (K.holds sink.new) }
-    ensures refused { result ≡ code_of Status.Refused
-        → HasRefused order.now (S.remaining source.old) (S.remaining source.new)
-        (K.holds sink.old) (K.holds sink.new) }
-
-    // A generated script isn't read.
-    ensures generated { (n : ℕ) → order.now ≡ Bulk n → source.new ≡ source.old }
-
-    ensures read_fault { result ≡ code_of Status.ReadFault
-        → Rose (S.faults source.old) (S.faults source.new) }
-    ensures write_fault { result ≡ code_of Status.WriteFault
-        → Rose (K.faults sink.old) (K.faults sink.new) }
-    ensures begun { result ≡ code_of Status.WriteFault
-        → HasBegun order.now (S.remaining source.old) (S.remaining source.new)
-        (K.holds sink.old) (K.holds sink.new) }
-
-    // Status 7 comes exactly if one byte more than the limit was given.
-    ensures too_long { result ≡ code_of Status.TooLong
-        → GaveMore INPUT_BYTES (S.remaining source.old) (S.remaining source.new) }
-    ensures within { result ≢ code_of Status.TooLong
-        → GaveAtMost INPUT_BYTES (S.remaining source.old) (S.remaining source.new) }
-
-    ensures nothing { result ≢ code_of Status.Done → result ≢ code_of Status.Refused
-        → result ≢ code_of Status.WriteFault → sink.new ≡ sink.old }
-
-    // If nothing outside goes wrong, a script is carried out and any other text is refused.
-    ensures complete { ¬ Rose (S.faults source.old) (S.faults source.new)
-        → ¬ Rose (K.faults sink.old) (K.faults sink.new)
-        → (script : List ℕ) → IsToGet order.now (S.remaining source.old) script
-        → Answers order.now script result (K.holds sink.old) (K.holds sink.new) }
+    ensures { Ends S.remaining S.faults K.holds K.faults (Only order.now)
+        result source.old source.new sink.old sink.new }
 {
     let script = match script_for(alloc, order, source) {
         Ok(script) => script,

@@ -1,19 +1,13 @@
 //! The top call over any source and sink.
 
-ghost use Rattle.std.specs.Prelude.{◌≡◌, ◌≢◌, ◌≤◌, ◌⊎◌, ℕ, List, length, map, Some};
-ghost use Rattle.ft_io.specs.Causes.{Rose, GaveMore, GaveAtMost};
-ghost use Rattle.ft_words.specs.declared.order.Order.{Order};
-ghost use Rattle.ft_words.specs.declared.order.Order.TheVariants.{Bulk};
+ghost use Rattle.std.specs.Prelude.{map};
 ghost use Rattle.ft_words.specs.Language.{Gives};
-ghost use Rattle.ft_app.specs.declared.status.Status.{Status};
-ghost use Rattle.ft_app.specs.Status.{code_of};
-ghost use Rattle.ft_app.specs.Main.{IsLanguage, IsToGet, HasRun, HasRefused, HasBegun, Answers};
+ghost use Rattle.ft_app.specs.Ends.{Ends};
 
 use crate::answer::answer;
 use crate::plain::ft_plain;
 use crate::run::run;
 use crate::status::Status;
-use ft_base::limits::INPUT_BYTES;
 use ft_io::{Gate, Sink, Source};
 use ft_words::{Order, WordsFault, read_words};
 use std::alloc::Global;
@@ -37,55 +31,10 @@ pub fn ft_main<R: Threads + Wait + Sync, S: Source, K: Sink, G: Gate>(
     sink: &mut K,
     gate: &G,
 ) -> u8
-    ensures known { (status : Status) × (result ≡ code_of status) }
-
-    // Status 2 comes exactly for words outside the language, unless memory is out.
-    ensures language { result ≡ code_of Status.Language
-        → ¬ IsLanguage (map (λ word. word.now) words.now) }
-    ensures unspoken { ¬ IsLanguage (map (λ word. word.now) words.now)
-        → (result ≡ code_of Status.Language) ⊎ (result ≡ code_of Status.NoMemory) }
-    ensures unread { result ≡ code_of Status.Language → source.new ≡ source.old }
-
-    // The words give an order. What it prints of a history of the script's job, of its replay or of
-    // running threads, which is legal; the line of its refusal.
-    ensures run { result ≡ code_of Status.Done → (order : Order)
-        × Gives (map (λ word. word.now) words.now) order
-        × HasRun order (S.remaining source.old) (S.remaining source.new)
-        (K.holds sink.old) (K.holds sink.new) }
-    ensures refused { result ≡ code_of Status.Refused → (order : Order)
-        × Gives (map (λ word. word.now) words.now) order
-        × HasRefused order (S.remaining source.old) (S.remaining source.new)
-        (K.holds sink.old) (K.holds sink.new) }
-
-    // A generated script isn't read.
-    ensures generated { (n : ℕ) → Gives (map (λ word. word.now) words.now) (Bulk n)
-        → source.new ≡ source.old }
-
-    ensures read_fault { result ≡ code_of Status.ReadFault
-        → Rose (S.faults source.old) (S.faults source.new) }
-    ensures write_fault { result ≡ code_of Status.WriteFault
-        → Rose (K.faults sink.old) (K.faults sink.new) }
-    ensures begun { result ≡ code_of Status.WriteFault → (order : Order)
-        × Gives (map (λ word. word.now) words.now) order
-        × HasBegun order (S.remaining source.old) (S.remaining source.new)
-        (K.holds sink.old) (K.holds sink.new) }
-
-    // Status 7 comes exactly if one byte more than the limit was given.
-    ensures too_long { result ≡ code_of Status.TooLong
-        → GaveMore INPUT_BYTES (S.remaining source.old) (S.remaining source.new) }
-    ensures within { result ≢ code_of Status.TooLong
-        → GaveAtMost INPUT_BYTES (S.remaining source.old) (S.remaining source.new) }
-
-    ensures nothing { result ≢ code_of Status.Done → result ≢ code_of Status.Refused
-        → result ≢ code_of Status.WriteFault → sink.new ≡ sink.old }
-
-    // If nothing outside goes wrong, a script is carried out and any other text is refused. A call
-    // that waits, as it may with `Run`, keeps this if it returns.
-    ensures complete { (order : Order) → Gives (map (λ word. word.now) words.now) order
-        → ¬ Rose (S.faults source.old) (S.faults source.new)
-        → ¬ Rose (K.faults sink.old) (K.faults sink.new)
-        → (script : List ℕ) → IsToGet order (S.remaining source.old) script
-        → Answers order script result (K.holds sink.old) (K.holds sink.new) }
+    // With each status, what was read and written under the order that the words give, if they give one:
+    // `Says` in specs/Ends has a line for each, and `Ends` what holds of all.
+    ensures { Ends S.remaining S.faults K.holds K.faults (Gives (map (λ word. word.now) words.now))
+        result source.old source.new sink.old sink.new }
 {
     match read_words(alloc, words) {
         Ok(order) => match order {
