@@ -4,7 +4,7 @@ ghost use Rattle.std.specs.Prelude.{◌≡◌, ◌<◌, ◌≤◌, ◌^◌, ◌+
 ghost use Rattle.ft_base.specs.declared.limits.TheConstants.{FUNCS};
 ghost use Rattle.patch_core.specs.Moves.{batch_next, coded, IsChange};
 
-use site_bytes::{BREAKPOINT, Insn, SiteChange, head_of, tail_of};
+use site_bytes::{BREAKPOINT, SiteChange, head_of, tail_of};
 use std::marker::Model;
 use word_map::{Op, WordMap, next};
 
