@@ -19,7 +19,7 @@ ghost use Rattle.word_machine.specs.Cpu.{Cpu, cpu_got, cpu_next, cpu_start};
 ghost use Rattle.word_machine.specs.Limits.{IsLimited};
 ghost use Rattle.word_machine.specs.Rule.{ControlLines};
 ghost use Rattle.led_jobs.specs.Led.{in_order, later, more_to_come, with_lines, with_next};
-ghost use Rattle.led_jobs.specs.Orders.{AreLed, picked};
+ghost use Rattle.led_jobs.specs.Orders.{AreLed};
 
 /// Whatever lines come, control starts as it does without them. While it isn't at its end its next
 /// operation is the same, and so is what it becomes, with these lines to come. The desk after commands
