@@ -23,6 +23,8 @@ pub go : (d : Inside) (b : Batched) (p : Phase) → IsKept d → busy d.phase �
 go d b p k busy-is shape made g r = record {
   safe = in-phase (seated_of d) b.made p k.safe busy-is made g r;
   lines = k.lines;
+  led = k.led;
+  space = k.space;
   batch = shape;
   room = (let e : busy p ≡ busy d.phase = g.begun ∙ sym busy-is in rw e k.room);
 }

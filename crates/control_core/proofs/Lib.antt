@@ -1,3 +1,6 @@
+pub mod Picked
+pub mod Leading
+pub mod Named
 pub mod Desks
 pub mod Plans
 pub mod Copies
@@ -29,5 +32,8 @@ pub mod WaitLaw
 pub mod LineLaw
 pub mod Law
 pub mod Marked
+pub mod Stays
 pub mod Opening
 pub mod StartLaw
+pub mod LeadLaw
+pub mod Led

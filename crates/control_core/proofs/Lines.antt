@@ -1,9 +1,8 @@
 -- A line of control: nothing is left, a wait goes on or is over, or a command begins.
-use Rattle.std.proofs.Common.{cond, ◌≡◌, ◌≢◌, ℕ, suc, ◌+◌, ◌*◌, ◌<◌, ◌≤◌, false, List, [], ◌∷◌, ◌++◌, length, get_or, Option, Some, None, refl, sym, ap, ◌∙◌, subst, arith, vec_len, vec_capacity}
-use Rattle.std.specs.Prelude.{All, nat_lt, option_map, slice_get}
-use Rattle.std.proofs.lemmas.Option.{get_or_from_slice_get, slice_get-get_or, slice_get-map, slice_get_past, slice_get_within}
-use Rattle.std.proofs.lemmas.List.{length-map}
-use Rattle.std.proofs.lemmas.Bool.{le-leb, lt-leb, ltb-false}
+use Rattle.std.proofs.Common.{cond, ◌≡◌, ◌≢◌, ℕ, suc, ◌+◌, ◌*◌, ◌<◌, ◌≤◌, List, [], ◌∷◌, ◌++◌, length, get_or, Option, Some, None, refl, sym, ap, ◌∙◌, subst, arith, vec_len, vec_capacity}
+use Rattle.std.specs.Prelude.{All, option_map, slice_get}
+use Rattle.std.proofs.lemmas.Option.{slice_get-get_or, slice_get-map, slice_get_within}
+use Rattle.std.proofs.lemmas.Bool.{le-leb, lt-leb}
 use Rattle.std.specs.Global.{Vec}
 use Rattle.ft_base.specs.declared.item.Answer.{Answer}
 use Rattle.ft_base.specs.declared.item.Answer.TheVariants.{Accepted, Already, NotThere, Invalid, NoMatch, Busy}
@@ -21,6 +20,7 @@ use Rattle.ft_desk.specs.Commands.{IsInShape, command_of, ctl_of}
 use Rattle.ft_desk.specs.Declarations.{Declared, job_of}
 use Rattle.ft_desk.specs.Plans.{PlainPlan}
 use Rattle.ft_desk.specs.Seen.{Seen, after_command, answer, carried_out, turned_down}
+use Rattle.led_jobs.specs.Orders.{picked}
 use Rattle.control_core.specs.declared.phase.Phase.{Phase}
 use Rattle.control_core.specs.declared.phase.Phase.TheVariants as phase
 use Rattle.control_core.specs.declared.control.Control.TheInside.{Inside}
@@ -30,19 +30,25 @@ use Rattle.control_core.specs.Phases.{begin_to}
 use Rattle.control_core.specs.Seated.{Seated}
 use Rattle.control_core.specs.Kept.{IsKept, asked, busy, seated_of, requests_of_line}
 use Rattle.control_core.specs.Steps.{line_after, marked}
+use Rattle.control_core.proofs.Picked.{picked-count, picked-each}
 use Rattle.control_core.proofs.DeskIn.{commands-after, declared-after, desk-after, plan-after}
 use Rattle.control_core.proofs.Safe.{Goes, begin-goes}
 
 -- ## the present line
 
+-- a line of a script, for those who go through all of them
 pub line-at : (xs items : List Ctl) (i : ℕ) (x y : Ctl) → xs ≡ items → i < length xs → x ≡ get_or xs i x → x ≡ y → slice_get items i ≡ Some y
 line-at xs items i x y same lt at' is =
     ap (λ (zs : List Ctl). slice_get zs i) (sym same) ∙ slice_get-get_or xs i x lt ∙ ap Some (sym at' ∙ is)
 
-pub none-at : (xs items : List Ctl) (i : ℕ) → xs ≡ items → false ≡ nat_lt i (length xs) → slice_get items i ≡ None
-none-at xs items i same past =
-    let le : length xs ≤ i = ltb-false i (length xs) (sym past) in
-    ap (λ (zs : List Ctl). slice_get zs i) (sym same) ∙ slice_get_past xs i le
+-- the line that is led there
+pub present-is : (xs items : List Ctl) (ks order : List ℕ) (i : ℕ) (o : Option Ctl) → xs ≡ items → ks ≡ order → o ≡ slice_get (picked xs ks) i
+    → slice_get (picked items order) i ≡ o
+present-is xs items ks order i o lines numbers is = (λ j. slice_get (picked (sym lines j) (sym numbers j)) i) ∙ sym is
+
+pub present-at : (xs items : List Ctl) (ks order : List ℕ) (i : ℕ) (x y : Ctl) → xs ≡ items → ks ≡ order → Some x ≡ slice_get (picked xs ks) i → x ≡ y
+    → slice_get (picked items order) i ≡ Some y
+present-at xs items ks order i x y lines numbers at' is = present-is xs items ks order i (Some y) lines numbers (ap Some (sym is) ∙ at')
 
 -- the answer tells what the desk is after a command
 pub planned : (a : Answer) (s next : Seen) (x : Command) → a ≡ answer s x → (a ≡ Accepted → next ≡ carried_out s x)
@@ -54,18 +60,16 @@ planned Invalid s next x e ok refused = refused (λ h. cc) ∙ ap (λ a. cond (i
 planned NoMatch s next x e ok refused = refused (λ h. cc) ∙ ap (λ a. cond (is_accepted a) (carried_out s x) (turned_down s)) e
 planned (Busy f u) s next x e ok refused = refused (λ h. cc) ∙ ap (λ a. cond (is_accepted a) (carried_out s x) (turned_down s)) e
 
--- a line in the shape
-at-line : (d : Declared) (xs : List Ctl) (i : ℕ) (y : Ctl) → All (IsLineIn d) xs → slice_get xs i ≡ Some y → IsLineIn d y
-at-line d xs i y all e =
-    subst (IsLineIn d) (get_or_from_slice_get xs i y y e) (all i y (slice_get_within xs i y e))
-
 module _ (d : Inside) (k : IsKept d) where
+  abbrev lines : List Ctl
+  lines = picked d.lines.items d.order.items
+
   -- the command of the present line is in the shape
-  pub run-in : (x : Code) → slice_get d.lines.items d.line ≡ Some (Run x) → IsInShape d.desk.declared x
-  run-in x e = at-line d.desk.declared d.lines.items d.line (Run x) k.lines e
+  pub run-in : (x : Code) → slice_get lines d.line ≡ Some (Run x) → IsInShape d.desk.declared x
+  run-in x e = picked-each (IsLineIn d.desk.declared) d.lines.items d.order.items d.line (Run x) k.lines e
 
   -- the desk after it, and its plan
-  module _ (x : Code) (e : slice_get d.lines.items d.line ≡ Some (Run x)) where
+  module _ (x : Code) (e : slice_get lines d.line ≡ Some (Run x)) where
     tasks-same : d.desk.declared.tasks ≡ d.map.tasks
     tasks-same = k.safe.desk.declared.tasks
 
@@ -88,8 +92,8 @@ module _ (d : Inside) (k : IsKept d) where
         let g : Goes c p = goes c refl in
         let idle : busy d.phase ≡ 0 = ap busy line in
         let none : asked d.phase ≡ 0 = ap asked line in
-        let lt : d.line < length d.lines.items = slice_get_within d.lines.items d.line (Run x) e in
-        let count : length c.lines ≡ length d.lines.items = length-map d.lines.items (ctl_of d.map.tasks) in
+        let count : length lines ≡ length d.order.items = picked-count d.lines.items d.order.items k.led.within in
+        let within : d.line < length lines = slice_get_within lines d.line (Run x) e in
         let numbered : next.commands ≡ suc d.desk.commands = ap (λ (t : Seen). t.commands) n ∙ commands-after d.map d.desk (command_of d.desk.declared.tasks x) in
         let old-numbered : d.desk.commands ≡ d.commands_done + busy d.phase = k.safe.numbered in
         let few : d.request ≤ requests_of_line * d.line + d.batch.made + asked d.phase = k.safe.requests in
@@ -104,6 +108,7 @@ module _ (d : Inside) (k : IsKept d) where
             numbered = omega arith;
             counted = k.safe.counted;
             within = omega arith;
+            led = k.safe.led;
             few = k.safe.few;
             named = k.safe.named;
             moved = k.safe.moved;
@@ -112,6 +117,8 @@ module _ (d : Inside) (k : IsKept d) where
           };
           lines = subst (λ (t : Declared). All (IsLineIn t) d.lines.items)
               (sym (ap (λ (t : Seen). t.declared) n ∙ declared-after d.map d.desk (command_of d.desk.declared.tasks x))) k.lines;
+          led = k.led;
+          space = k.space;
           batch = k.batch;
           room = omega arith;
         }
@@ -119,22 +126,25 @@ module _ (d : Inside) (k : IsKept d) where
 -- ## what is seen after the line
 
 module _ (d : Inside) (s : Seated) (v : seated_of d ≡ s) (w : ℕ) where
+  abbrev present : Option Ctl
+  present = slice_get (picked d.lines.items d.order.items) d.line
+
   -- the line that is seen
-  line-seen : (o : Option Ctl) → slice_get d.lines.items d.line ≡ o → slice_get s.lines s.line ≡ option_map (ctl_of d.map.tasks) o
+  line-seen : (o : Option Ctl) → present ≡ o → slice_get s.lines s.line ≡ option_map (ctl_of d.map.tasks) o
   line-seen o e =
-      ap (λ (c : Seated). slice_get c.lines c.line) (sym v) ∙ slice_get-map (ctl_of d.map.tasks) d.lines.items d.line
+      ap (λ (c : Seated). slice_get c.lines c.line) (sym v) ∙ slice_get-map (ctl_of d.map.tasks) (picked d.lines.items d.order.items) d.line
       ∙ ap (option_map (ctl_of d.map.tasks)) e
 
-  pub line-none : slice_get d.lines.items d.line ≡ None → s ≡ line_after s (slice_get s.lines s.line) w
+  pub line-none : present ≡ None → s ≡ line_after s (slice_get s.lines s.line) w
   line-none e = sym (ap (λ o. line_after s o w) (line-seen None e))
 
-  pub line-waits : (t : TaskNo) (n : ℕ) → slice_get d.lines.items d.line ≡ Some (Until t n) → high w < n
+  pub line-waits : (t : TaskNo) (n : ℕ) → present ≡ Some (Until t n) → high w < n
       → s ≡ line_after s (slice_get s.lines s.line) w
   line-waits t n e lt =
       ap (λ b. cond b (record s { line = suc s.line }) s) (sym (lt-leb n (high w) lt))
       ∙ sym (ap (λ o. line_after s o w) (line-seen (Some (Until t n)) e))
 
-  pub line-over : (t : TaskNo) (n : ℕ) → slice_get d.lines.items d.line ≡ Some (Until t n) → n ≤ high w
+  pub line-over : (t : TaskNo) (n : ℕ) → present ≡ Some (Until t n) → n ≤ high w
       → seated_of (record d { line = d.line + 1 }) ≡ line_after s (slice_get s.lines s.line) w
   line-over t n e le =
       let one : d.line + 1 ≡ suc d.line = omega arith in
@@ -143,7 +153,7 @@ module _ (d : Inside) (s : Seated) (v : seated_of d ≡ s) (w : ℕ) where
       ∙ ap (λ b. cond b (record s { line = suc s.line }) s) (sym (le-leb n (high w) le))
       ∙ sym (ap (λ o. line_after s o w) (line-seen (Some (Until t n)) e))
 
-  pub line-run : (x : Code) → slice_get d.lines.items d.line ≡ Some (Run x) → IsKept d
+  pub line-run : (x : Code) → present ≡ Some (Run x) → IsKept d
       → (next : Seen) (a : Answer) (p : Phase) (plan : PlainPlan) (items : Vec Stamped) (k place : ℕ)
       → next ≡ after_command d.desk (command_of d.desk.declared.tasks x) → a ≡ answer d.desk (command_of d.desk.declared.tasks x)
       → plan ≡ next.plan → p ≡ begin_to d.map plan → k ≡ suc d.commands_done → place ≡ low w

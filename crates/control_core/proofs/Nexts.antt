@@ -1,5 +1,5 @@
 -- The next operation as its parts give it.
-use Rattle.std.proofs.Common.{◌≡◌, List, Option, Some, sym, ap, ◌∙◌, subst}
+use Rattle.std.proofs.Common.{◌≡◌, ℕ, List, Option, Some, sym, ap, ◌∙◌, subst}
 use Rattle.std.specs.Prelude.{option_map, slice_get}
 use Rattle.std.proofs.lemmas.Option.{slice_get-map}
 use Rattle.ft_base.specs.declared.number.UserNo.{UserNo}
@@ -10,6 +10,7 @@ use Rattle.hash_pages.specs.Pages.{Page, page_next}
 use Rattle.ft_desk.specs.declared.command.Ctl.{Ctl}
 use Rattle.ft_desk.specs.Commands.{ctl_of}
 use Rattle.ft_desk.specs.Seen.{Seen}
+use Rattle.led_jobs.specs.Orders.{picked}
 use Rattle.control_core.specs.declared.phase.Phase.{Phase}
 use Rattle.control_core.specs.declared.phase.Phase.TheVariants as phase
 use Rattle.control_core.specs.declared.control.Control.TheInside.{Inside}
@@ -29,12 +30,13 @@ next-of d s p v e =
     ∙ ap (λ (c : Seated). option_map (placed c.shape) (op_of c)) v
 
 -- the present line
-pub line-is : (d : Inside) (xs : List Ctl) → xs ≡ d.lines.items
-    → option_map (placed d.map) (line_next d.commands_done (option_map (ctl_of d.map.tasks) (slice_get xs d.line)))
+pub line-is : (d : Inside) (xs : List Ctl) (ks : List ℕ) → xs ≡ d.lines.items → ks ≡ d.order.items
+    → option_map (placed d.map) (line_next d.commands_done (option_map (ctl_of d.map.tasks) (slice_get (picked xs ks) d.line)))
     ≡ option_map (placed d.map) (op_in (seated_of d) phase.Line)
-line-is d xs e =
+line-is d xs ks lines order =
     ap (λ o. option_map (placed d.map) (line_next d.commands_done o))
-    (ap (λ (ys : List Ctl). option_map (ctl_of d.map.tasks) (slice_get ys d.line)) e ∙ sym (slice_get-map (ctl_of d.map.tasks) d.lines.items d.line))
+    ((λ i. option_map (ctl_of d.map.tasks) (slice_get (picked (lines i) (order i)) d.line))
+    ∙ sym (slice_get-map (ctl_of d.map.tasks) (picked d.lines.items d.order.items) d.line))
 
 -- the page of the plan's user
 pub write-is : (s : Seen) (page : Page) (u : UserNo) (pair : Pair) (user : Option UserNo) → user ≡ s.plan.user → user ≡ Some u

@@ -47,6 +47,7 @@ in-phase c made p s b m g r = record {
   numbered = (let e : busy p ≡ busy c.phase = g.begun ∙ sym b in s.numbered ∙ ap (λ k. c.commands_done + k) (sym e));
   counted = s.counted;
   within = (let e : busy p ≡ busy c.phase = g.begun ∙ sym b in rw e s.within);
+  led = s.led;
   few = s.few;
   named = s.named;
   moved = m;

@@ -5,6 +5,7 @@ use Rattle.word_map.specs.Shapes.{IsShape}
 use Rattle.word_map.specs.Places.{words_for}
 use Rattle.grace_core.specs.declared.waiter.WaitPhase.{WaitPhase}
 use Rattle.grace_core.specs.declared.waiter.WaitPhase.TheVariants.{Asking, Waiting, Ended as WaitEnded}
+use Rattle.led_jobs.specs.Orders.{AreLed, picked}
 use Rattle.control_core.specs.Lines.{IsLineIn, IsNamedLine, lines_of}
 use Rattle.control_core.specs.Plans.{IsDeskIn, IsPlanIn}
 use Rattle.control_core.specs.declared.phase.Phase.{Phase}
@@ -58,8 +59,9 @@ pub record IsSafe (c : Seated) : Type 0 where
   pub copied : length c.before.copies ≡ c.shape.users
   pub numbered : c.desk.commands ≡ c.commands_done + busy c.phase
   pub counted : c.commands_done ≤ c.line
-  pub within : c.line + busy c.phase ≤ length c.lines
-  pub few : length c.lines ≤ COMMANDS + UNTILS
+  pub within : c.line + busy c.phase ≤ length c.order
+  pub led : length c.order ≤ length c.all
+  pub few : length c.all ≤ COMMANDS + UNTILS
   pub named : All (IsNamedLine c.shape.users) c.lines
   pub moved : c.made ≤ moves
   pub requests : c.request ≤ requests_of_line * c.line + c.made + asked c.phase
@@ -73,7 +75,9 @@ seated_of d = record {
   shape = d.map;
   desk = d.desk;
   before = d.before.value;
-  lines = lines_of d.map.tasks d.lines.items;
+  all = lines_of d.map.tasks d.lines.items;
+  order = d.order.items;
+  lines = lines_of d.map.tasks (picked d.lines.items d.order.items);
   line = d.line;
   commands_done = d.commands_done;
   request = d.request;
@@ -83,9 +87,12 @@ seated_of d = record {
   items = d.items.items;
 }
 
--- the fields fit together, each line is in the shape, and there is room for all items
+-- the fields fit together, each line is in the shape and is led at most once, and there is room for the numbers of all lines and for all
+-- items
 pub record IsKept (d : Inside) : Type 0 where
   pub safe : IsSafe (seated_of d)
   pub lines : All (IsLineIn d.desk.declared) d.lines.items
+  pub led : AreLed (length d.lines.items) d.order.items
+  pub space : vec_len d.lines ≤ vec_capacity d.order
   pub batch : d.batch.shape ≡ d.map
   pub room : vec_len d.items + 2 * vec_len d.lines ≤ vec_capacity d.items + 2 * d.line + busy d.phase

@@ -1,5 +1,6 @@
 -- What contracts see of control, and the control of the word machine that it stands for.
 use Rattle.std.specs.Prelude.{ℕ, ◌≡◌, Bool, true, false, List, [], drop, take, length, slice_get, Option, Some, if◌then◌else◌}
+use Rattle.std.specs.List.{range_with_len}
 use Rattle.ft_base.specs.declared.item.Answer.{Answer}
 use Rattle.ft_base.specs.declared.item.Stamped.{Stamped}
 use Rattle.ft_base.specs.Job.{Job, Command, Ctl, Run, commands_in}
@@ -27,12 +28,15 @@ use Rattle.control_core.specs.Positions.{IsUnderWay, linking_at, patching_at, sy
 use Rattle.control_core.specs.declared.phase.Phase.{Phase}
 use Rattle.control_core.specs.declared.phase.Phase.TheVariants as phase
 
--- the shape, the desk, the desk before the command under way, all lines, the present one, how many commands have returned, how many
--- requests were stored, the answer to the command under way, how many moves of its batch were made, where it stands, and what it marked
+-- the shape, the desk, the desk before the command under way, all lines, the numbers of those that are led, these lines, which of them is the
+-- present one, how many commands have returned, how many requests were stored, the answer to the command under way, how many moves of its
+-- batch were made, where it stands, and what it marked
 pub record Seated : Type 0 where
   pub shape : Shape
   pub desk : Seen
   pub before : Seen
+  pub all : List Ctl
+  pub order : List ℕ
   pub lines : List Ctl
   pub line : ℕ
   pub commands_done : ℕ
@@ -146,6 +150,11 @@ pub record IsFor (job : Job) (c : Seated) : Type 0 where
   pub counted : c.commands_done ≡ length (commands_in (take c.line c.lines))
   pub now : IsDeskOf job c c.phase
   pub fits : Fits c c.phase
+
+-- control leads all lines, as they stand
+pub record LeadsAll (c : Seated) : Type 0 where
+  pub order : c.order ≡ range_with_len 0 (length c.all)
+  pub lines : c.lines ≡ c.all
 
 -- control before its first line
 pub record IsOpening (c : Seated) : Type 0 where

@@ -1,16 +1,18 @@
 //! Control: the lines of a script, one after the other.
 
-ghost use Rattle.std.specs.Prelude.{◌≡◌, ◌+◌, ◌*◌, ◌<◌, ◌≤◌, ◌^◌, suc, [], ◌++◌, length, option_map, slice_get, vec_capacity, vec_len, All, IfOk};
+ghost use Rattle.std.specs.Prelude.{◌≡◌, ◌+◌, ◌*◌, ◌<◌, ◌≤◌, ◌^◌, suc, [], ◌∷◌, ◌++◌, length, option_map, slice_get, vec_capacity, vec_len, All, IfOk};
 ghost use Rattle.ft_base.specs.declared.limits.TheConstants.{COMMANDS, UNTILS};
 ghost use Rattle.word_map.specs.Places.{words_for};
 ghost use Rattle.word_map.specs.Ops.{placed};
 ghost use Rattle.grace_core.specs.Waits.{wait_got};
 ghost use Rattle.ft_desk.specs.Seen.{opened};
+ghost use Rattle.led_jobs.specs.Orders.{AreLed, IsLed, picked};
 ghost use Rattle.control_core.specs.Lines.{IsLineIn, lines_of};
 ghost use Rattle.control_core.specs.Plans.{IsDeclaredIn};
 ghost use Rattle.control_core.specs.Phases.{is_asking as asks, is_over as over, is_linked_up, quiet_to, release_in, store_to};
 
 use crate::ops::{depth_op, line_op, patch_op, pids_op, release_op, select_op, take_op, write_op};
+use crate::order::{numbers, present};
 use crate::phase::{
     Phase, batch_phase, begin_phase, list_phase, quiet_phase, release_phase, store_phase,
 };
@@ -32,8 +34,12 @@ pub struct Control {
     desk: Desk,
     /// The desk after the commands that have returned, for contracts alone.
     before: Snapshot<Desk>,
+    /// All lines of the script, as they stand there.
     lines: Vec<Ctl>,
-    /// The present line.
+    /// The numbers of those that are led, in the order in which they are carried out. There is room
+    /// for all, so that leading takes no memory.
+    order: Vec<u32>,
+    /// Which of those that are led is the present one.
     line: u32,
     /// How many commands have returned.
     commands_done: u32,
@@ -60,14 +66,15 @@ impl Model for Control {
 }
 
 impl Control {
-    ghost use Rattle.word_machine.specs.Control.{control_got, control_next};
-    ghost use Rattle.ft_base.specs.Job.{Job};
-    ghost use Rattle.control_core.specs.Seated.{IsFor, IsOpening, control_of};
+    ghost use Rattle.word_machine.specs.Control.{control_got, control_next, control_start};
+    ghost use Rattle.ft_base.specs.Job.{Job, LinePlan};
+    ghost use Rattle.led_jobs.specs.Led.{later, more_to_come, with_lines};
+    ghost use Rattle.control_core.specs.Seated.{IsFor, IsOpening, LeadsAll, control_of};
     ghost use Rattle.control_core.specs.Kept.{IsSafe, busy, asked, moves};
     ghost use Rattle.control_core.specs.Steps.{at_phase, closed, line_after, linked, linked_after, listed, marks_in, moved, op_of, page_after, stepped, wrote};
 
-    /// Control before the first of these lines, with room for all that it marks. The error says that
-    /// memory ran out.
+    /// Control before the first of these lines, all of which are led as they stand, with room for all
+    /// that it marks. The error says that memory ran out.
     pub fn new(alloc: Global, desk: Desk, ctls: &[Ctl], map: WordMap) -> Result<Control, NoMemory>
         requires desk { desk ≡ opened desk.declared }
         requires declared { IsDeclaredIn map desk.declared }
@@ -76,16 +83,19 @@ impl Control {
         ensures shape { IfOk result (λ c. c.shape ≡ map) }
         ensures desk { IfOk result (λ c. c.desk ≡ desk) }
         ensures lines { IfOk result (λ c. c.lines ≡ lines_of map.tasks ctls.now) }
+        ensures all { IfOk result (λ c. LeadsAll c) }
         ensures opening { IfOk result (λ c. IsOpening c) }
     {
         let items = room_for(alloc, ctls.len())?;
         let lines = copies(alloc, ctls)?;
+        let order = numbers(alloc, ctls.len() as u32)?;
         let _shape = map.shape();
         Ok(Control {
             map,
             before: Snapshot::of(&desk),
             desk,
             lines,
+            order,
             line: 0,
             commands_done: 0,
             request: 0,
@@ -96,7 +106,38 @@ impl Control {
         })
     }
 
-    /// Its next operation; none after the last line.
+    /// Takes all lines back before the first step: none is led, until [`lead`](Self::lead) leads it.
+    pub fn withhold(&mut self)
+        requires { IsOpening self.old }
+        ensures withheld { self.new ≡ record self.old { lines = []; order = [] } }
+        ensures of { (job : Job) (plan : LinePlan) → IsFor job self.old → IsFor (with_lines job [] plan) self.new }
+        ensures control { (job : Job) (plan : LinePlan) → IsFor job self.old → control_of self.new ≡ control_start (with_lines job [] plan) }
+    {
+        self.order.clear();
+    }
+
+    /// Leads one more line, which wasn't led before: it comes after those that were. Control of a job
+    /// is then control of the job with this line as well. It takes no memory.
+    pub fn lead(&mut self, line: u32)
+        requires there { line < length self.old.all }
+        requires fresh { IsLed self.old.order line → ⊥ }
+        ensures led { self.new ≡ record self.old { lines = self.old.lines ++ picked self.old.all (line ∷ []); order = self.old.order ++ line ∷ [] } }
+        ensures of { (job : Job) (plan : LinePlan) → IsFor job self.old → IsFor (later job (picked self.old.all (line ∷ [])) plan) self.new }
+        ensures control { control_of self.new ≡ more_to_come (picked self.old.all (line ∷ [])) (control_of self.old) }
+    {
+        self.order.push_reserved(line);
+    }
+
+    /// The numbers of the lines that were led so far, in the order in which they are carried out.
+    pub fn order(&self) -> &[u32]
+        ensures order { result.now ≡ self.now.order }
+        ensures led { AreLed (length self.now.all) result.now }
+        ensures lines { self.now.lines ≡ picked self.now.all result.now }
+    {
+        self.order.as_slice()
+    }
+
+    /// Its next operation; none after the last line that is led.
     pub fn next(&self) -> Option<Op>
         ensures { (job : Job) → IsFor job self.now → result ≡ option_map (placed self.now.shape) (control_next job (control_of self.now)) }
     {
@@ -108,6 +149,8 @@ impl Control {
     pub fn got(&mut self, value: u64)
         ensures of { (job : Job) → IsFor job self.old → IsFor job self.new }
         ensures control { (job : Job) → IsFor job self.old → control_of self.new ≡ control_got job (control_of self.old) value }
+        ensures all { self.new.all ≡ self.old.all }
+        ensures order { self.new.order ≡ self.old.order }
         ensures items { (job : Job) → IsFor job self.old
             → self.new.items ≡ self.old.items ++ marks_in (control_next job (control_of self.old)) value }
     {
@@ -127,7 +170,12 @@ impl Control {
         ensures { result ≡ option_map (placed self.now.shape) (op_of self.now) }
     {
         match &self.phase {
-            Phase::Line => line_op(&self.map, self.lines.as_slice(), self.line),
+            Phase::Line => line_op(
+                &self.map,
+                self.lines.as_slice(),
+                self.order.as_slice(),
+                self.line,
+            ),
             Phase::Taking => take_op(&self.map, self.desk.last()),
             Phase::Writing(writer) => write_op(&self.desk, writer),
             Phase::Selecting => select_op(&self.map, self.desk.last()),
@@ -209,7 +257,7 @@ impl Control {
         requires { self.old.phase ≡ Phase.Line }
         ensures { self.new ≡ line_after self.old (slice_get self.old.lines self.old.line) value }
     {
-        match self.lines.get(self.line as usize) {
+        match present(self.lines.as_slice(), self.order.as_slice(), self.line) {
             None => {}
             Some(Ctl::Until { acts: awaited, .. }) => {
                 if *awaited <= quiet::acts(value) {

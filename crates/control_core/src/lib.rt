@@ -6,6 +6,10 @@
 //! and state, the list, the batch of call sites, the wait for quiet points, the trampoline that is
 //! free again. Where one must not come before another, a comment says who could be harmed.
 //!
+//! All lines are *led* as they stand, unless they are withheld before the first step. Then each is led
+//! on its own while control runs ([`Control::lead`]), and control is that of the job with the lines that
+//! were led so far: those to come are read by no operation.
+//!
 //! Promised: for every job whose lines and shape it has, its start, its next operation, what a value
 //! makes of it and what it marks are those of the word machine's control. A plan of the desk is what
 //! the machine stores for the command ([`laws`]). Only [`Control::new`] takes memory; that it is found
@@ -15,6 +19,7 @@
 mod control;
 pub mod laws;
 mod ops;
+mod order;
 mod phase;
 
 pub use control::Control;

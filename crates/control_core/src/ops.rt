@@ -6,21 +6,26 @@ ghost use Rattle.word_map.specs.Ops.{placed};
 ghost use Rattle.patch_core.specs.Moves.{batch_next};
 ghost use Rattle.ft_desk.specs.Commands.{ctl_of};
 ghost use Rattle.ft_desk.specs.Plans.{plain_plan};
+ghost use Rattle.led_jobs.specs.Orders.{AreLed, picked};
 ghost use Rattle.control_core.specs.Plans.{IsPlanIn};
 ghost use Rattle.control_core.specs.Steps.{depth_next, line_next, patch_next, pids_next, release_next, select_next, take_next, write_next};
 ghost use Rattle.control_core.specs.Lines.{IsTaskIn};
 
+use crate::order::present;
 use ft_desk::{Ctl, Desk, Plan, TrampChange};
 use hash_pages::PageWriter;
 use patch_core::{Batch, BatchNext};
 use word_map::{Op, WordMap, tramp};
 
-/// At a line: the Begin of a command, or the load of the word of a task that is waited for.
-pub(crate) fn line_op(map: &WordMap, lines: &[Ctl], line: u32) -> Option<Op>
-    requires { All (IsTaskIn map.now.tasks) lines.now }
-    ensures { (done : ℕ) → result ≡ option_map (placed map.now) (line_next done (option_map (ctl_of map.now.tasks) (slice_get lines.now line))) }
+/// At a line of those that are led: the Begin of a command, or the load of the word of a task that is
+/// waited for.
+pub(crate) fn line_op(map: &WordMap, lines: &[Ctl], order: &[u32], line: u32) -> Option<Op>
+    requires lines { All (IsTaskIn map.now.tasks) lines.now }
+    requires led { AreLed (length lines.now) order.now }
+    ensures { (done : ℕ) → result ≡ option_map (placed map.now)
+        (line_next done (option_map (ctl_of map.now.tasks) (slice_get (picked lines.now order.now) line))) }
 {
-    match lines.get(line as usize)? {
+    match present(lines, order, line)? {
         Ctl::Run(_) => Some(Op::Mark { command: true }),
         Ctl::Until { task, .. } => Some(Op::Load {
             word: map.quiet(*task),

@@ -9,6 +9,7 @@ ghost use Rattle.user_specs.specs.Bound.{call_bound_in};
 ghost use Rattle.word_map.specs.Contents.{mask_of};
 ghost use Rattle.control_core.specs.Lines.{IsLineIn};
 ghost use Rattle.control_core.specs.Plans.{IsDeclaredIn};
+ghost use Rattle.control_core.specs.Seated.{IsOpening, LeadsAll};
 ghost use Rattle.word_machine.specs.Laws.{Runs};
 ghost use Rattle.word_machine.specs.Limits.{IsLimited};
 ghost use Rattle.word_machine.specs.Machine.{start, step, is_at_end, all_end};
@@ -85,6 +86,7 @@ impl World {
         requires lines { All (IsLineIn desk.declared) ctls.now }
         requires job { (job : Job) × Declares job desk ctls.now plans.now specs.now limits map }
         ensures opening { IfOk result (λ w. (job : Job) → Declares job desk ctls.now plans.now specs.now limits map → IsFor job w × (world_of job w ≡ start job)) }
+        ensures control { IfOk result (λ w. IsOpening w.control × LeadsAll w.control) }
         ensures cpus { IfOk result (λ w. (job : Job) → Declares job desk ctls.now plans.now specs.now limits map → AreFirst rooms job w.cpus) }
     {
         let history = new_history(alloc, ctls, plans, specs, limits)?;

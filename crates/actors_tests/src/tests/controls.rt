@@ -1,8 +1,9 @@
 //! [`control_core::Control`]: control carries out a script over words in one list, while one CPU and one
 //! task tell each request at once. What it stores is compared with what was worked out by hand.
 
-ghost use Rattle.std.specs.Prelude.{◌≡◌};
+ghost use Rattle.std.specs.Prelude.{◌≡◌, length, IfOk};
 ghost use Rattle.control_core.specs.Lines.{IsLineIn};
+ghost use Rattle.control_core.specs.Seated.{IsOpening};
 
 use super::user;
 use control_core::Control;
@@ -90,6 +91,8 @@ fn done(words: &mut Vec<u64>, op: Op) -> u64 {
 /// Control before a registration, an unregistration and a graph depth.
 fn start(rt: &impl Abort, alloc: Global, map: WordMap) -> Result<Control, Fail>
     requires { map ≡ SHAPE }
+    ensures opening { IfOk result (λ c. IsOpening c) }
+    ensures three { IfOk result (λ c. length c.all ≡ 3) }
 {
     let user = user(alloc, Kind::Function)?;
     let specs = vec![in alloc; user]?;
@@ -119,6 +122,28 @@ fn stores_of(
     Ok(stores)
 }
 
+/// The same of the graph depth and then the registration, which are led one after the other.
+static LED_STORES: [(u32, u64); 15] = [
+    // The depth, and its wait.
+    (4, 3),
+    (1, 1),
+    // The user takes the trampoline, for its first registration.
+    (10, 0x1_0000_0001),
+    (15, 0),
+    (16, 0),
+    (12, 0x1_0000_000F),
+    (11, 0),
+    (2, 1),
+    // The site becomes a call from 0x1000 to 0x100000.
+    (7, 2),
+    (5, 0xCC),
+    (1, 2),
+    (6, 0x0F_EFFB),
+    (1, 3),
+    (5, 0xE8),
+    (1, 4),
+];
+
 /// The last item that control marks.
 static LAST: Stamped = Stamped {
     place: 5,
@@ -143,5 +168,27 @@ fn a_user_comes_and_goes(rt: HostRuntime) -> Result<(), Fail> {
     let stores = stores_of(alloc, &mut control, &mut words)?;
     assert!(rt; stores.as_slice() == STORES.as_slice());
     assert!(rt; has_run_all(&control));
+    Ok(())
+}
+
+/// Whether control is at its end once the third line and then the first were led.
+fn has_led_two(control: &Control) -> bool {
+    let order = [2, 0];
+    control.order() == order.as_slice() && control.next().is_none() && control.items().len() == 4
+}
+
+#[test]
+fn two_lines_of_three_are_led(rt: HostRuntime) -> Result<(), Fail> {
+    let alloc = rt.alloc();
+    let map = WordMap::new(SHAPE);
+    let mut control = start(&rt, alloc, map)?;
+    control.withhold();
+    assert!(rt; control.next().is_none());
+    control.lead(2);
+    control.lead(0);
+    let mut words = map.opening(alloc, 0)?;
+    let stores = stores_of(alloc, &mut control, &mut words)?;
+    assert!(rt; stores.as_slice() == LED_STORES.as_slice());
+    assert!(rt; has_led_two(&control));
     Ok(())
 }

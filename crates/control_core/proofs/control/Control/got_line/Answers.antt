@@ -1,16 +1,21 @@
-use Rattle.std.proofs.Common.{ℕ, ◌+◌, ◌<◌, ◌≤◌, subst, arith}
+use Rattle.std.proofs.Common.{ℕ, ◌+◌, ◌<◌, ◌≤◌, None, subst, arith}
 use Rattle.ft_desk.specs.declared.command.Ctl.TheVariants.{Run, Until}
 use Rattle.ft_desk.specs.Commands.{command_of}
 use Rattle.control_core.specs.declared.phase.Phase.TheVariants as phase
 use Rattle.control_core.proofs.Kept.{phase-seen}
-use Rattle.control_core.proofs.Lines.{line-at, line-none, line-over, line-run, line-waits, none-at, planned, run-kept, run-plan}
+use Rattle.control_core.proofs.Lines.{present-at, line-none, line-over, line-run, line-waits, planned, present-is, run-in, run-kept, run-plan}
 use Rattle.control_core.proofs.control.Control.got_line.Goals as goal
+
+pub plan-self-inside-requires-clause-numbers : goal.plan-self-inside-requires-clause-numbers
+plan-self-inside-requires-clause-numbers c =
+    let here = present-at c.as_slice.result.now c.self.inside.lines.items c.as_slice-2.result.now c.self.inside.order.items c.self.inside.line
+    c.in-Some-Run.field-0.now (Run c.in-Some-Run.command) c.as_slice.ensures.value c.as_slice-2.ensures.value (c.in-Some-Run.ensures {u = tt}).line c.in-Some-Run.field-0-is in
+    run-in c.self.inside c.self.invariant c.in-Some-Run.command here
 
 pub begin_phase-self-inside-requires : goal.begin_phase-self-inside-requires
 begin_phase-self-inside-requires c =
-    let found = (c.in-Some-Run.ensures {u = tt}).lookup in
-    let here = line-at c.deref.result.now c.self.inside.lines.items c.self.inside.line c.in-Some-Run.field-0.now (Run c.in-Some-Run.command)
-    c.deref.ensures.value found.3.0 found.1 c.in-Some-Run.field-0-is in
+    let here = present-at c.as_slice.result.now c.self.inside.lines.items c.as_slice-2.result.now c.self.inside.order.items c.self.inside.line
+    c.in-Some-Run.field-0.now (Run c.in-Some-Run.command) c.as_slice.ensures.value c.as_slice-2.ensures.value (c.in-Some-Run.ensures {u = tt}).line c.in-Some-Run.field-0-is in
     let next = planned c.plan-self-inside.result c.self.inside.desk c.plan-self-inside.new.self
     (command_of c.self.inside.desk.declared.tasks c.in-Some-Run.command)
     c.plan-self-inside.ensures.answer c.plan-self-inside.ensures.accepted c.plan-self-inside.ensures.refused in
@@ -18,9 +23,8 @@ begin_phase-self-inside-requires c =
 
 pub invariant_of-self-in-Some-Run : goal.invariant_of-self-in-Some-Run
 invariant_of-self-in-Some-Run c =
-    let found = (c.in-Some-Run.ensures {u = tt}).lookup in
-    let here = line-at c.deref.result.now c.self.inside.lines.items c.self.inside.line c.in-Some-Run.field-0.now (Run c.in-Some-Run.command)
-    c.deref.ensures.value found.3.0 found.1 c.in-Some-Run.field-0-is in
+    let here = present-at c.as_slice.result.now c.self.inside.lines.items c.as_slice-2.result.now c.self.inside.order.items c.self.inside.line
+    c.in-Some-Run.field-0.now (Run c.in-Some-Run.command) c.as_slice.ensures.value c.as_slice-2.ensures.value (c.in-Some-Run.ensures {u = tt}).line c.in-Some-Run.field-0-is in
     let next = planned c.plan-self-inside.result c.self.inside.desk c.plan-self-inside.new.self
     (command_of c.self.inside.desk.declared.tasks c.in-Some-Run.command)
     c.plan-self-inside.ensures.answer c.plan-self-inside.ensures.accepted c.plan-self-inside.ensures.refused in
@@ -31,31 +35,28 @@ invariant_of-self-in-Some-Run c =
 
 pub returns-in-None : goal.returns-in-None
 returns-in-None c =
-    let found = (c.in-None.ensures {u = tt}).lookup in
     line-none c.self.inside c.args.self.now c.self.view_is c.args.value
-    (none-at c.deref.result.now c.self.inside.lines.items c.self.inside.line c.deref.ensures.value found.0)
+    (present-is c.as_slice.result.now c.self.inside.lines.items c.as_slice-2.result.now c.self.inside.order.items c.self.inside.line None
+    c.as_slice.ensures.value c.as_slice-2.ensures.value (c.in-None.ensures {u = tt}).line)
 
 pub returns-then-awaited-acts : goal.returns-then-awaited-acts
 returns-then-awaited-acts c =
-    let found = (c.in-Some-Until.ensures {u = tt}).lookup in
     line-over c.self.inside c.args.self.now c.self.view_is c.args.value c.in-Some-Until.field-0-0 c.in-Some-Until.awaited
-    (line-at c.deref.result.now c.self.inside.lines.items c.self.inside.line c.in-Some-Until.field-0.now
-    (Until c.in-Some-Until.field-0-0 c.in-Some-Until.awaited) c.deref.ensures.value found.3.0 found.1 c.in-Some-Until.field-0-is)
+    (present-at c.as_slice.result.now c.self.inside.lines.items c.as_slice-2.result.now c.self.inside.order.items c.self.inside.line
+    c.in-Some-Until.field-0.now (Until c.in-Some-Until.field-0-0 c.in-Some-Until.awaited) c.as_slice.ensures.value c.as_slice-2.ensures.value (c.in-Some-Until.ensures {u = tt}).line c.in-Some-Until.field-0-is)
     (subst (λ (h : ℕ). c.in-Some-Until.awaited ≤ h) c.acts.ensures c.if-awaited-acts.true)
 
 pub returns-else-awaited-acts : goal.returns-else-awaited-acts
 returns-else-awaited-acts c =
-    let found = (c.in-Some-Until.ensures {u = tt}).lookup in
     line-waits c.self.inside c.args.self.now c.self.view_is c.args.value c.in-Some-Until.field-0-0 c.in-Some-Until.awaited
-    (line-at c.deref.result.now c.self.inside.lines.items c.self.inside.line c.in-Some-Until.field-0.now
-    (Until c.in-Some-Until.field-0-0 c.in-Some-Until.awaited) c.deref.ensures.value found.3.0 found.1 c.in-Some-Until.field-0-is)
+    (present-at c.as_slice.result.now c.self.inside.lines.items c.as_slice-2.result.now c.self.inside.order.items c.self.inside.line
+    c.in-Some-Until.field-0.now (Until c.in-Some-Until.field-0-0 c.in-Some-Until.awaited) c.as_slice.ensures.value c.as_slice-2.ensures.value (c.in-Some-Until.ensures {u = tt}).line c.in-Some-Until.field-0-is)
     (subst (λ (h : ℕ). h < c.in-Some-Until.awaited) c.acts.ensures c.if-awaited-acts.false)
 
 pub returns-in-Some-Run : goal.returns-in-Some-Run
 returns-in-Some-Run c =
-    let found = (c.in-Some-Run.ensures {u = tt}).lookup in
-    let here = line-at c.deref.result.now c.self.inside.lines.items c.self.inside.line c.in-Some-Run.field-0.now (Run c.in-Some-Run.command)
-    c.deref.ensures.value found.3.0 found.1 c.in-Some-Run.field-0-is in
+    let here = present-at c.as_slice.result.now c.self.inside.lines.items c.as_slice-2.result.now c.self.inside.order.items c.self.inside.line
+    c.in-Some-Run.field-0.now (Run c.in-Some-Run.command) c.as_slice.ensures.value c.as_slice-2.ensures.value (c.in-Some-Run.ensures {u = tt}).line c.in-Some-Run.field-0-is in
     let next = planned c.plan-self-inside.result c.self.inside.desk c.plan-self-inside.new.self
     (command_of c.self.inside.desk.declared.tasks c.in-Some-Run.command)
     c.plan-self-inside.ensures.answer c.plan-self-inside.ensures.accepted c.plan-self-inside.ensures.refused in

@@ -11,7 +11,7 @@ use Rattle.control_core.proofs.control.Control.op.Goals as goal
 pub returns-in-Line : goal.returns-in-Line
 returns-in-Line c =
     c.line_op.ensures c.self.inside.commands_done
-    ∙ line-is c.self.inside c.as_slice.result.now c.as_slice.ensures.value
+    ∙ line-is c.self.inside c.as_slice.result.now c.as_slice-in-Line.result.now c.as_slice.ensures.value c.as_slice-in-Line.ensures.value
     ∙ next-of c.self.inside c.args.self.now phase.Line c.self.view_is c.in-Line.is
 
 pub returns-in-Linking : goal.returns-in-Linking

@@ -39,6 +39,9 @@ returns-clause-opening c =
     (c.in_ok-table.ensures {u = tt}) c.in_ok-control.ensures.shape c.in_ok-control.ensures.desk c.in_ok-control.ensures.lines
     c.in_ok-control.ensures.opening (c.in_ok-cpus.ensures {u = tt}) c.in_ok-history.ensures.empty c.in_ok-history.ensures.room
 
+pub returns-clause-control : goal.returns-clause-control
+returns-clause-control c = (c.in_ok-control.ensures.opening, c.in_ok-control.ensures.all)
+
 pub returns-clause-cpus : goal.returns-clause-cpus
 returns-clause-cpus c = λ job h.
     c.in_ok-cpus.ensures {u = tt} job (declared-plans job c.args.desk c.args.ctls.now c.args.plans.now c.args.specs.now c.args.limits c.args.map h)
