@@ -1,6 +1,6 @@
 //! A job: what a script declares.
 
-ghost use Rattle.std.specs.Prelude.{◌≡◌, ◌≤◌, ℕ, map, length, slice_get, option_map, All, IfOk};
+ghost use Rattle.std.specs.Prelude.{◌≡◌, ◌≤◌, ℕ, map, length, slice_get, option_map, All, IfErr, IfOk};
 ghost use Rattle.ft_base.specs.declared.limits.TheConstants.{CPUS};
 ghost use Rattle.ft_base.specs.Desk.{desk};
 ghost use Rattle.ft_base.specs.Job.{Job as PlainJob, funcs};
@@ -9,6 +9,9 @@ ghost use Rattle.ft_desk.specs.Declarations.{IsOf, job_of as job_of_desk};
 ghost use Rattle.ft_desk.specs.Seen.{opened};
 ghost use Rattle.ft_desk.specs.Sites.{row_at};
 ghost use Rattle.control_core.specs.Lines.{IsLineIn, lines_of};
+ghost use Rattle.control_core.specs.Seated.{IsOpening, LeadsAll};
+ghost use Rattle.led_jobs.specs.Led.{in_order};
+ghost use Rattle.led_jobs.specs.Orders.{AreAllLed};
 ghost use Rattle.word_map.specs.Shapes.{shape_of};
 ghost use Rattle.word_machine.specs.Limits.{IsLimited};
 ghost use Rattle.word_machine.specs.Machine.{start};
@@ -19,6 +22,7 @@ ghost use Rattle.ft_machine.specs.Parts.{parts_of, quanta_of, cpus_from, IsWithi
 ghost use Rattle.ft_machine.specs.Plans.{row_of, AreLinesPlanned, AreRingsPlanned};
 
 use crate::find::{count, find, find_cpu};
+use crate::order::copies;
 use crate::parts::{JobParts, ModRow};
 use filter_commands::Trigger;
 use ft_base::limits::Limits;
@@ -223,6 +227,24 @@ impl Job {
         Ok((desk, self.parts.ctls.as_slice()))
     }
 
+    /// The job with its lines and their lanes in this order. The error is want of memory alone, and
+    /// gives the job back unchanged.
+    pub fn in_order(self, alloc: Global, order: &[u32]) -> Result<Job, Job>
+        requires { AreAllLed (length self.ctls) order.now }
+        ensures ok { IfOk result (λ j. j ≡ in_order self order.now) }
+        ensures err { IfErr result (λ j. j ≡ self) }
+    {
+        match copies(alloc, &self.parts, order) {
+            Ok((ctls, lanes)) => {
+                let mut parts = self.parts;
+                parts.ctls = ctls;
+                parts.lanes = lanes;
+                Ok(Job { parts })
+            }
+            Err(NoMemory) => Err(self),
+        }
+    }
+
     /// How many tasks there are, over all CPUs.
     pub fn tasks(&self) -> u32
         ensures { result ≡ length self.now.tasks }
@@ -248,6 +270,7 @@ impl Job {
         ensures limited { IfOk result (λ _. IsLimited self.now) }
         ensures of { IfOk result (λ w. IsFor self.now w) }
         ensures opening { IfOk result (λ w. world_of self.now w ≡ start self.now) }
+        ensures control { IfOk result (λ w. IsOpening w.control × LeadsAll w.control) }
         ensures cpus { IfOk result (λ w. AreFirst rooms self.now w.cpus) }
     {
         let parts = &self.parts;

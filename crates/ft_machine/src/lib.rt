@@ -17,6 +17,7 @@ mod find;
 mod job;
 mod laws;
 mod machine;
+mod order;
 mod parts;
 mod play;
 

@@ -4,6 +4,7 @@ ghost use Rattle.std.specs.Prelude.{◌≡◌, ◌<◌, true, length, reverse, I
 ghost use Rattle.ft_base.specs.Job.{Job as PlainJob};
 ghost use Rattle.ft_hist.specs.Rules.{IsLegal, IsWhole};
 ghost use Rattle.word_machine.specs.Machine.{all_end, is_at_end, start, step};
+ghost use Rattle.control_core.specs.Seated.{IsOpening, LeadsAll};
 ghost use Rattle.machine_core.specs.declared.cpus.CpuRoom.TheVariants.{ForAll};
 ghost use Rattle.machine_core.specs.Starts.{AreFirst};
 ghost use Rattle.machine_core.specs.Sites.{IsWhole as IsWholeSite, site_of};
@@ -39,6 +40,7 @@ impl Machine {
     pub fn start_apart(alloc: Global, job: &Job) -> Result<Machine, NoMemory>
         ensures of { IfOk result (λ m. IsOf job.now m) }
         ensures opening { IfOk result (λ m. state_of job.now m ≡ start job.now) }
+        ensures control { IfOk result (λ m. IsOpening m.world.control × LeadsAll m.world.control) }
         ensures cpus { IfOk result (λ m. AreFirst ForAll job.now m.world.cpus) }
     {
         Ok(Machine {

@@ -4,6 +4,7 @@ mod histories;
 mod hostile;
 mod jobs;
 mod judged;
+mod ordered;
 
 use ft_base::{Actor, CpuNo, Item, NoMemory, TaskNo};
 use ft_hist::History;

@@ -61,6 +61,9 @@ returns-clause-opening c =
     let d = declared (goal.at.returns-clause-opening c).After-new-2 in
     IfOk-weaker c.new-3.result _ (λ w. world_of c.args.self.now w ≡ start c.args.self.now) (λ w h. (h c.args.self.now d).1) c.new-3.ensures.opening
 
+pub returns-clause-control : goal.returns-clause-control
+returns-clause-control c = c.new-3.ensures.control
+
 pub returns-clause-cpus : goal.returns-clause-cpus
 returns-clause-cpus c =
     let d = declared (goal.at.returns-clause-cpus c).After-new-2 in
