@@ -1,13 +1,17 @@
 -- What a machine is made of before its first step, and what the seats of its actors keep then.
-use Rattle.std.proofs.Common.{◌≡◌, ℕ, ◌*◌, ◌+◌, ◌<◌, ◌≤◌, List, [], length, reverse, refl, sym, ap, ◌∙◌, subst, arith}
+use Rattle.std.proofs.Common.{◌≡◌, ℕ, None, ◌*◌, ◌+◌, ◌<◌, ◌≤◌, Bool, true, false, List, [], length, reverse, inl, inr, refl, sym, ap, ◌∙◌, subst, arith}
+use Rattle.std.specs.List.{range_with_len}
 use Rattle.std.proofs.lemmas.List.{reverse-reverse}
 use Rattle.atomic_table.specs.Seated.{TableId}
 use Rattle.atomic_table.specs.Table.{Me}
 use Rattle.ft_base.specs.declared.item.Item.{Item}
-use Rattle.ft_base.specs.Job.{Job, commands}
+use Rattle.ft_base.specs.Job.{Job, Ctl, commands}
 use Rattle.ft_hist.specs.Shown.{Shown}
 use Rattle.user_specs.specs.Bound.{call_bound_in}
 use Rattle.history_bound.specs.Bound.{all_calls}
+use Rattle.led_jobs.specs.Led.{in_order}
+use Rattle.led_jobs.specs.Orders.{AreLed}
+use Rattle.led_jobs.proofs.Orders.{whole}
 use Rattle.word_map.specs.Places.{len}
 use Rattle.word_map.specs.Shapes.{shape_of}
 use Rattle.word_machine.specs.Control.{control_next, control_start}
@@ -18,16 +22,23 @@ use Rattle.word_machine.specs.Machine.{World, opening_words, start}
 use Rattle.word_machine_laws.proofs.Limited.{limited as word-job}
 use Rattle.word_machine_laws.proofs.There.{control-there, cpu-there}
 use Rattle.word_machine_laws.proofs.WordsFit.{start-runs}
-use Rattle.control_core.specs.Seated.{Seated, control_of}
+use Rattle.control_core.specs.Seated.{IsOpening, LeadsAll, Seated, control_of}
 use Rattle.control_core.specs.Seated as control
+use Rattle.control_core.proofs.Leading.{all-led, none-led}
+use Rattle.control_core.proofs.Led.{withheld-starts}
 use Rattle.cpu_core.specs.declared.parts.Parts.{Parts as CpuParts}
 use Rattle.cpu_core.specs.Marks.{Marks}
 use Rattle.machine_core.specs.declared.cpus.CpuRoom.TheVariants.{ForAll}
 use Rattle.machine_core.specs.Starts.{IsFirst}
 use Rattle.machine_core.specs.Worlds.{IsFor, Parts, past_of, words_of, world_of}
+use Rattle.ft_machine.specs.Fed.{control_fed}
+use Rattle.ft_machine.specs.Plans.{AreLinesPlanned}
 use Rattle.live_table.specs.declared.view.View.{View}
-use Rattle.live_table.specs.Seats.{ControlSits, CpuSits, IsRising, IsTable}
-use Rattle.live_table.specs.Views.{control_view, cpu_view}
+use Rattle.live_table.specs.Seats.{Board, ControlPlace, ControlSits, CpuSits, IsOpen, IsRising, IsTable, control_at, withheld_if}
+use Rattle.live_table.specs.Views.{control_view, cpu_view, led_first, order_first, values_of}
+use Rattle.live_table.proofs.ControlStep.{control_place_of}
+use Rattle.live_table.proofs.Opening.{first-limited}
+use Rattle.live_table.proofs.Orders.{commands-few}
 
 -- ## seats
 
@@ -43,17 +54,71 @@ unfolding start
 cpu-on-word job l c inside = cpu-there job (word-job job l) (start job) c inside (start-runs job l).kept
 
 -- control's, if no CPU was split off from it
-control-first : {S : Type 0} (me : Me S View) (job : Job) (x : Seated) → IsLimited job → me ≡ (control_view job 0 [], [])
-    → control.IsFor job x → control_of x ≡ control_start job → x.items ≡ [] → ControlSits {S = S} me x
-control-first {S} me job x l is of' at none = subst (λ (u : Me S View). ControlSits {S = S} u x) (sym is) record {
+control-first : {S : Type 0} (me : Me S View) (job led : Job) (x : Seated) → IsLimited led → me ≡ (control_view job led 0 [], [])
+    → x.all ≡ job.ctls → AreLed (length job.ctls) x.order → led ≡ in_order job x.order
+    → control.IsFor led x → control_of x ≡ control_start led → x.items ≡ [] → ControlSits {S = S} me x
+control-first {S} me job led x l is all once knows of' at none = subst (λ (u : Me S View). ControlSits {S = S} u x) (sym is) record {
   view' = refl;
+  lines = all;
+  once = once;
+  led = knows;
   limited = l;
   is_for = of';
   fed = at;
   marked = none;
   rising = subst IsRising (sym none) none-rises;
-  next = subst (λ s. IsOnWord job (control_next job s)) (sym at) (control-on-word job l);
+  next = subst (λ s. IsOnWord led (control_next led s)) (sym at) (control-on-word led l);
 }
+
+-- lanes are no more than lines
+lanes-few : (job : Job) → AreLinesPlanned job → length job.lines.lanes ≤ length job.ctls
+lanes-few job planned = elim planned.lanes [
+  | inl none ↦ (let e = ap length none in omega (arith, e))
+  | inr has ↦ (let e = has.each in let few = commands-few job.ctls in omega (arith, e, few))
+]
+
+-- so the lines that are led at first are those of their order
+led-in-order : (job : Job) (withheld : Bool) → AreLinesPlanned job → led_first job withheld ≡ in_order job (order_first job withheld)
+led-in-order job true planned = refl
+led-in-order job false planned = sym (whole job (lanes-few job planned))
+
+order-once : (job : Job) (withheld : Bool) → AreLed (length job.ctls) (order_first job withheld)
+order-once job true = none-led (length job.ctls)
+order-once job false = all-led (length job.ctls)
+
+-- control whose lines are withheld or not, before its first step
+module _ (job : Job) (x : Seated) (is : control.IsFor job x) (all : LeadsAll x) where
+  lines-are : x.all ≡ job.ctls
+  lines-are = sym all.lines ∙ is.lines
+
+  first-order : (withheld : Bool) → (withheld_if withheld x).order ≡ order_first job withheld
+  first-order true = refl
+  first-order false = all.order ∙ ap (λ (l : List Ctl). range_with_len 0 (length l)) lines-are
+
+module _ (job : Job) (x : Seated) (is : control.IsFor job x) (opening : IsOpening x) (all : LeadsAll x) (at : control_of x ≡ control_start job) where
+  first-for : (withheld : Bool) → control.IsFor (led_first job withheld) (withheld_if withheld x)
+  first-for true = (withheld-starts job (record job.lines { lanes = [] }) x is opening).0
+  first-for false = is
+
+  first-at : (withheld : Bool) → control_of (withheld_if withheld x) ≡ control_start (led_first job withheld)
+  first-at true = (withheld-starts job (record job.lines { lanes = [] }) x is opening).1
+  first-at false = at
+
+  first-lines : (withheld : Bool) → (withheld_if withheld x).all ≡ job.ctls
+  first-lines true = lines-are job x is all
+  first-lines false = lines-are job x is all
+
+  first-none : (withheld : Bool) → x.items ≡ [] → (withheld_if withheld x).items ≡ []
+  first-none true none = none
+  first-none false none = none
+
+  pub withheld-first : {S : Type 0} (me : Me S View) (withheld : Bool) → IsLimited job → AreLinesPlanned job
+      → me ≡ (control_view job (led_first job withheld) 0 [], []) → x.items ≡ [] → ControlSits {S = S} me (withheld_if withheld x)
+  withheld-first {S} me withheld l planned same none =
+      control-first {S = S} me job (led_first job withheld) (withheld_if withheld x) (first-limited job withheld l) same (first-lines withheld)
+      (subst (AreLed (length job.ctls)) (sym (first-order job x is all withheld)) (order-once job withheld))
+      (led-in-order job withheld planned ∙ ap (in_order job) (sym (first-order job x is all withheld)))
+      (first-for withheld) (first-at withheld) (first-none withheld none)
 
 -- a CPU's
 pub cpu-first : {S : Type 0} (me : Me S View) (job : Job) (c : ℕ) (x : CpuParts) → IsLimited job → c < length job.quanta → me ≡ (cpu_view job c [], [])
@@ -109,9 +174,45 @@ module _ (job : Job) (w : Parts) (k : IsFor job w) (e : world_of job w ≡ start
         space = space;
       })
 
-  pub opens-control : {S : Type 0} (me : Me S View) (x : Seated) → IsLimited job → me ≡ (control_view job 0 [], []) → x ≡ w.control → ControlSits {S = S} me x
-  opens-control {S} me x l is same =
-      subst (λ (y : Seated). ControlSits {S = S} me y) (sym same) (control-first {S = S} me job w.control l is k.control' control-opens k.none)
+  pub opens-control : {S : Type 0} (me : Me S View) (withheld : Bool) (x : Seated) → IsLimited job → AreLinesPlanned job
+      → IsOpening w.control → LeadsAll w.control → me ≡ (control_view job (led_first job withheld) 0 [], []) → x ≡ withheld_if withheld w.control
+      → ControlSits {S = S} me x
+  opens-control {S} me withheld x l planned opening all is same =
+      subst (λ (y : Seated). ControlSits {S = S} me y) (sym same)
+      (withheld-first job w.control k.control' opening all control-opens {S = S} me withheld l planned is k.none)
+
+  pub opens-place : {S : Type 0} (all : LeadsAll w.control) (me : Me S View) (withheld : Bool) (table id-table : TableId) (id : ℕ) (key : Job) (x : Seated)
+      → key ≡ job → id-table ≡ table → me ≡ (control_view job (led_first job withheld) 0 [], []) → x ≡ withheld_if withheld w.control
+      → IsOpen (record { table_id = table; job = key }) (control_place_of {S = S} id-table id me x) withheld 0
+  opens-place {S} all me withheld table id-table id key x same seat is same-x = record {
+    table_id = seat;
+    job = ap (λ (u : Me S View). u.0.job) is ∙ sym same;
+    led = ap (λ (u : Me S View). u.0.led) is ∙ ap (λ (q : Job). led_first q withheld) (sym same);
+    order = ap (λ (c : Seated). c.order) same-x ∙ first-order job w.control k.control' all withheld ∙ ap (λ (q : Job). order_first q withheld) (sym same);
+    split' = ap (λ (u : Me S View). u.0.split) is;
+    values = ap (λ (u : Me S View). values_of u.0.parts) is;
+  }
 
   pub opens-words : (list : List ℕ) → list ≡ w.words → words_of job list ≡ opening_words job
   opens-words list same = ap (words_of job) same ∙ words-open
+
+-- ## control's seat to its caller
+
+-- after so many CPUs were split off
+pub dealt-open : (b : Board) (s t : ControlPlace) (withheld : Bool) (n : ℕ) → IsOpen b s withheld 0 → t ≡ record s { split = n } → IsOpen b t withheld n
+dealt-open b s t withheld n was is = subst (λ (u : ControlPlace). IsOpen b u withheld n) (sym is) record {
+  table_id = was.table_id;
+  job = was.job;
+  led = was.led;
+  order = was.order;
+  split' = refl;
+  values = was.values;
+}
+
+-- with its lines withheld it is at its end
+no-line : (job : Job) → control_next (in_order job []) (control_start (in_order job [])) ≡ None
+unfolding control_next
+no-line job = refl
+
+pub withheld-ends : (b : Board) (s : ControlPlace) (n : ℕ) → IsOpen b s true n → control_next s.led (control_at s) ≡ None
+withheld-ends b s n was = (λ i. control_next (was.led i) (control_fed (was.led i) (was.values i))) ∙ no-line b.job

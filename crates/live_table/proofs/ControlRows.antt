@@ -30,7 +30,7 @@ use Rattle.live_table.proofs.Tables.{changed, changed-named, gave, gave-named}
 use Rattle.live_table.proofs.Values.{control_marks-snoc, control_values}
 
 module _ (job : Job) (limited : IsLimited job) (words : List ℕ) (values : Actor → List ℕ) (past : List Item)
-    (count : length words ≡ len (shape_of job)) (runs : Runs job (world_with job words values past)) (recorded : IsRecorded job values past) where
+    (count : length words ≡ len (shape_of job)) (runs : Runs job (world_with job words values past)) where
   abbrev s : World
   s = world_with job words values past
 
@@ -96,24 +96,25 @@ module _ (job : Job) (limited : IsLimited job) (words : List ℕ) (values : Acto
     none-count d (Store w x) e = refl
     none-count d (Mark item) e = control-mark job s d item e
 
-    -- so is it of the items
-    pub control-recorded : IsRecorded job values' (past_after op past)
-    control-recorded =
-        let follows = control-follows job values values' op (value op) (λ d. refl) marked in
-        record {
-          placed = placed-on (lists job values) (lists job values') past op (value op) at follows recorded.placed;
-          items = items-on (lists job values) (lists job values') past op (value op) at follows recorded.placed.below recorded.items;
-          own = λ d within. recorded.own d within ∙ sym (none-count d op next);
-        }
+    module _ (recorded : IsRecorded job values past) where
+      -- so is it of the items
+      pub control-recorded : IsRecorded job values' (past_after op past)
+      control-recorded =
+          let follows = control-follows job values values' op (value op) (λ d. refl) marked in
+          record {
+            placed = placed-on (lists job values) (lists job values') past op (value op) at follows recorded.placed;
+            items = items-on (lists job values) (lists job values') past op (value op) at follows recorded.placed.below recorded.items;
+            own = λ d within. recorded.own d within ∙ sym (none-count d op next);
+          }
 
-    rising : (item : Item) → Some op ≡ Some (Mark item) → AreCounted (low (value op)) (control_items job (values ByControl))
-    rising item e =
-        let told : low (value op) ≡ length past = subst (λ o. Tells o (value op) (length past)) (same_Some op (Mark item) e) at in
-        subst (λ n. AreCounted n (control_items job (values ByControl))) (sym told) recorded.placed.below.0
+      rising : (item : Item) → Some op ≡ Some (Mark item) → AreCounted (low (value op)) (control_items job (values ByControl))
+      rising item e =
+          let told : low (value op) ≡ length past = subst (λ o. Tells o (value op) (length past)) (same_Some op (Mark item) e) at in
+          subst (λ n. AreCounted n (control_items job (values ByControl))) (sym told) recorded.placed.below.0
 
-    -- what the operation tells
-    pub control-told : ControlTold job (value op) (values ByControl)
-    control-told = record {
-      rising = λ item e. rising item (sym next ∙ e);
-      next' = control-there job (word-job job limited) after control-runs.kept control-runs.waits;
-    }
+      -- what the operation tells
+      pub control-told : ControlTold job (value op) (values ByControl)
+      control-told = record {
+        rising = λ item e. rising item (sym next ∙ e);
+        next' = control-there job (word-job job limited) after control-runs.kept control-runs.waits;
+      }

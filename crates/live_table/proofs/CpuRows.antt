@@ -37,7 +37,7 @@ use Rattle.live_table.proofs.Tables.{changed, changed-named, gave, gave-named}
 use Rattle.live_table.proofs.Values.{cpu_marks-snoc, cpu_values, cpu_values-other, cpu_values-same}
 
 module _ (job : Job) (limited : IsLimited job) (words : List ℕ) (values : Actor → List ℕ) (past : List Item)
-    (count : length words ≡ len (shape_of job)) (runs : Runs job (world_with job words values past)) (recorded : IsRecorded job values past) where
+    (count : length words ≡ len (shape_of job)) (runs : Runs job (world_with job words values past)) where
   abbrev s : World
   s = world_with job words values past
 
@@ -109,60 +109,61 @@ module _ (job : Job) (limited : IsLimited job) (words : List ℕ) (values : Acto
     at : Tells op (value op) (length past)
     at = subst (λ v. Tells op v (length past)) (sym value-is) (tells job s runs.kept op)
 
-    own-count : (o : WordOp) → cpu_next job (s.cpus c) ≡ Some o → (v : ℕ)
-        → length (cpu_items job c (values (cpu c)) ++ marks_in (Some o) v) ≡ items_on job c (past_after o past)
-    own-count (Load w) e v = ap (λ (xs : List Stamped). length xs) (append-nil (cpu_items job c (values (cpu c)))) ∙ recorded.own c inside
-    own-count (Store w x) e v = ap (λ (xs : List Stamped). length xs) (append-nil (cpu_items job c (values (cpu c)))) ∙ recorded.own c inside
-    own-count (Mark item) e v =
-        let one = length-append (cpu_items job c (values (cpu c))) (marks_in (Some (Mark item)) v) in
-        let grown = own-mark job (word-job job limited) s runs.kept c inside item e in
-        let had = recorded.own c inside in
-        omega (arith, one, grown, had)
+    module _ (recorded : IsRecorded job values past) where
+      own-count : (o : WordOp) → cpu_next job (s.cpus c) ≡ Some o → (v : ℕ)
+          → length (cpu_items job c (values (cpu c)) ++ marks_in (Some o) v) ≡ items_on job c (past_after o past)
+      own-count (Load w) e v = ap (λ (xs : List Stamped). length xs) (append-nil (cpu_items job c (values (cpu c)))) ∙ recorded.own c inside
+      own-count (Store w x) e v = ap (λ (xs : List Stamped). length xs) (append-nil (cpu_items job c (values (cpu c)))) ∙ recorded.own c inside
+      own-count (Mark item) e v =
+          let one = length-append (cpu_items job c (values (cpu c))) (marks_in (Some (Mark item)) v) in
+          let grown = own-mark job (word-job job limited) s runs.kept c inside item e in
+          let had = recorded.own c inside in
+          omega (arith, one, grown, had)
 
-    other-count : (d : ℕ) → d ≢ c → (o : WordOp) → cpu_next job (s.cpus c) ≡ Some o → items_on job d (past_after o past) ≡ items_on job d past
-    other-count d ne (Load w) e = refl
-    other-count d ne (Store w x) e = refl
-    other-count d ne (Mark item) e = other-mark job (word-job job limited) s runs.kept c inside item e d ne
+      other-count : (d : ℕ) → d ≢ c → (o : WordOp) → cpu_next job (s.cpus c) ≡ Some o → items_on job d (past_after o past) ≡ items_on job d past
+      other-count d ne (Load w) e = refl
+      other-count d ne (Store w x) e = refl
+      other-count d ne (Mark item) e = other-mark job (word-job job limited) s runs.kept c inside item e d ne
 
-    counts : (d : ℕ) → d < length job.quanta → length (cpu_items job d (values' (cpu d))) ≡ items_on job d (past_after op past)
-    counts d within = elim (cases_eq d c) [
-      | inl e ↦ subst (λ n. length (cpu_items job n (values' (cpu n))) ≡ items_on job n (past_after op past)) (sym e)
-          (ap (λ (xs : List Stamped). length xs) marked ∙ own-count op next (value op))
-      | inr ne ↦ ap (λ vs. length (cpu_items job d vs)) (cpu_values-other values c more d ne) ∙ recorded.own d within ∙ sym (other-count d ne op next)
-    ]
+      counts : (d : ℕ) → d < length job.quanta → length (cpu_items job d (values' (cpu d))) ≡ items_on job d (past_after op past)
+      counts d within = elim (cases_eq d c) [
+        | inl e ↦ subst (λ n. length (cpu_items job n (values' (cpu n))) ≡ items_on job n (past_after op past)) (sym e)
+            (ap (λ (xs : List Stamped). length xs) marked ∙ own-count op next (value op))
+        | inr ne ↦ ap (λ vs. length (cpu_items job d vs)) (cpu_values-other values c more d ne) ∙ recorded.own d within ∙ sym (other-count d ne op next)
+      ]
 
-    -- so is it of the items
-    pub cpu-recorded : IsRecorded job values' (past_after op past)
-    cpu-recorded =
-        let follows = cpu-follows job values values' c (λ d ne. cpu_values-other values c more d ne) op (value op) inside refl marked in
-        record {
-          placed = placed-on (lists job values) (lists job values') past op (value op) at follows recorded.placed;
-          items = items-on (lists job values) (lists job values') past op (value op) at follows recorded.placed.below recorded.items;
-          own = counts;
-        }
+      -- so is it of the items
+      pub cpu-recorded : IsRecorded job values' (past_after op past)
+      cpu-recorded =
+          let follows = cpu-follows job values values' c (λ d ne. cpu_values-other values c more d ne) op (value op) inside refl marked in
+          record {
+            placed = placed-on (lists job values) (lists job values') past op (value op) at follows recorded.placed;
+            items = items-on (lists job values) (lists job values') past op (value op) at follows recorded.placed.below recorded.items;
+            own = counts;
+          }
 
-    rising : (item : Item) → Some op ≡ Some (Mark item) → AreCounted (low (value op)) (cpu_items job c (values (cpu c)))
-    rising item e =
-        let told : low (value op) ≡ length past = subst (λ o. Tells o (value op) (length past)) (same_Some op (Mark item) e) at in
-        subst (λ n. AreCounted n (cpu_items job c (values (cpu c)))) (sym told)
-        (at-cpu (AreCounted (length past)) job values c 0 (length job.quanta) (omega arith) (omega (arith, inside)) recorded.placed.below.1)
+      rising : (item : Item) → Some op ≡ Some (Mark item) → AreCounted (low (value op)) (cpu_items job c (values (cpu c)))
+      rising item e =
+          let told : low (value op) ≡ length past = subst (λ o. Tells o (value op) (length past)) (same_Some op (Mark item) e) at in
+          subst (λ n. AreCounted n (cpu_items job c (values (cpu c)))) (sym told)
+          (at-cpu (AreCounted (length past)) job values c 0 (length job.quanta) (omega arith) (omega (arith, inside)) recorded.placed.below.1)
 
-    has-room : (o : WordOp) → cpu_next job (s.cpus c) ≡ Some o → IsSome (item_in (Some o)) → length (cpu_items job c (values (cpu c))) < room_on job c
-    has-room (Load w) e some = false_true some
-    has-room (Store w x) e some = false_true some
-    has-room (Mark item) e some =
-        let lt = mark-room job (word-job job limited) s runs.kept c inside item e in
-        let had = recorded.own c inside in
-        omega (arith, lt, had)
+      has-room : (o : WordOp) → cpu_next job (s.cpus c) ≡ Some o → IsSome (item_in (Some o)) → length (cpu_items job c (values (cpu c))) < room_on job c
+      has-room (Load w) e some = false_true some
+      has-room (Store w x) e some = false_true some
+      has-room (Mark item) e some =
+          let lt = mark-room job (word-job job limited) s runs.kept c inside item e in
+          let had = recorded.own c inside in
+          omega (arith, lt, had)
 
-    -- what the operation tells
-    pub cpu-told : CpuTold job c (value op) (values (cpu c))
-    cpu-told = record {
-      fits = subst (λ v. CpuTakes job (s.cpus c) v) (sym value-is) (cpu-takes job (word-job job limited) s runs.kept c inside op next);
-      room = λ some. has-room op next (subst (λ o. IsSome (item_in o)) next some);
-      told = record {
-        rising = λ item e. rising item (sym next ∙ e);
-        next' = subst (λ vs. IsOnWord job (cpu_next job (cpu_fed job c vs))) (cpu_values-same values c more)
-            (cpu-there job (word-job job limited) after c inside cpu-runs.kept);
-      };
-    }
+      -- what the operation tells
+      pub cpu-told : CpuTold job c (value op) (values (cpu c))
+      cpu-told = record {
+        fits = subst (λ v. CpuTakes job (s.cpus c) v) (sym value-is) (cpu-takes job (word-job job limited) s runs.kept c inside op next);
+        room = λ some. has-room op next (subst (λ o. IsSome (item_in o)) next some);
+        told = record {
+          rising = λ item e. rising item (sym next ∙ e);
+          next' = subst (λ vs. IsOnWord job (cpu_next job (cpu_fed job c vs))) (cpu_values-same values c more)
+              (cpu-there job (word-job job limited) after c inside cpu-runs.kept);
+        };
+      }

@@ -68,16 +68,16 @@ module _ (me : Me (Unit {0}) View) (c : ℕ) (x : CpuParts) (sits : CpuSits me c
 
     -- the rule of the table allows it
     pub cpu-allows : (key : Job) → me.0.job ≡ key → (slots id : ℕ)
-        → Allows {S = Unit {0}} (LiveRule key) slots id me (op_word code) (op_after code) (λ n m. MakesOp code n me m)
+        → Allows {S = Unit {0}} (LiveRule key) slots id me (op_word code) (op_after code) (λ n m. MakesOp None code n me m)
     cpu-allows key same slots id =
         let job = me.0.job in
         let vs = values_of me.0.parts in
-        subst (λ (q : Job). Allows {S = Unit {0}} (LiveRule q) slots id me (op_word code) (op_after code) (λ n m. MakesOp code n me m)) same
-        (subst (λ (u : Me (Unit {0}) View). Allows {S = Unit {0}} (LiveRule job) slots id u (op_word code) (op_after code) (λ n m. MakesOp code n u m)) (sym sits.view')
-        (subst (λ (o : Op). Allows {S = Unit {0}} (LiveRule job) slots id (cpu_view job c vs, []) (op_word o) (op_after o) (λ n m. MakesOp o n (cpu_view job c vs, []) m)) choice.placed'
+        subst (λ (q : Job). Allows {S = Unit {0}} (LiveRule q) slots id me (op_word code) (op_after code) (λ n m. MakesOp None code n me m)) same
+        (subst (λ (u : Me (Unit {0}) View). Allows {S = Unit {0}} (LiveRule job) slots id u (op_word code) (op_after code) (λ n m. MakesOp None code n u m)) (sym sits.view')
+        (subst (λ (o : Op). Allows {S = Unit {0}} (LiveRule job) slots id (cpu_view job c vs, []) (op_word o) (op_after o) (λ n m. MakesOp None o n (cpu_view job c vs, []) m)) choice.placed'
         (cpu_allowed job slots id c vs choice.op next-fed)))
 
-    module _ (m : Me (Unit {0}) View) (n v : ℕ) (value : v ≡ op_gives code n) (takes : MakesOp code n me m) where
+    module _ (m : Me (Unit {0}) View) (n v : ℕ) (value : v ≡ op_gives code n) (takes : MakesOp None code n me m) where
       -- the seat knows one value more
       knows : m ≡ (cpu_view me.0.job c (values_of me.0.parts ++ v ∷ []), [])
       knows = takes.0.0 ∙ (λ i. (took (sits.view' i).0 (sym value i), (sits.view' i).1))
@@ -85,7 +85,7 @@ module _ (me : Me (Unit {0}) View) (c : ℕ) (x : CpuParts) (sits : CpuSits me c
       told : CpuTold me.0.job c v (values_of me.0.parts)
       told =
           subst (λ z. CpuTold me.0.job c z (values_of me.0.parts)) (sym value)
-          (subst (λ (u : Me (Unit {0}) View). ToldIn me.0.job (op_gives code n) u.0.parts) sits.view' takes.0.1)
+          (subst (λ (u : Me (Unit {0}) View). ToldIn u.0.led (op_gives code n) u.0.parts) sits.view' takes.0.1)
 
       takes-it : CpuTakes me.0.job (cpu_of me.0.job x) v
       takes-it = subst (λ s. CpuTakes me.0.job s v) (sym sits.fed) told.fits
@@ -153,6 +153,6 @@ module _ (me : Me (Unit {0}) View) (c : ℕ) (x : CpuParts) (sits : CpuSits me c
             next-fed,
             λ i. record { table_id = same-table i; id = same-id i; job = job' i; number = c; values = values i },
             subst (λ z. CpuTakes job (cpu_fed job c vs) z) gives told.fits,
-            subst (λ (u : Op × View × View). AtomicStep job (op_word u.0) n (op_after u.0 n) u.1 u.2)
+            subst (λ (u : Op × View × View). AtomicStep job None (op_word u.0) n (op_after u.0 n) u.1 u.2)
                 (λ i. (sym choice.placed' i, (sits.view' i).0, known' i)) takes.1,
           )

@@ -30,9 +30,12 @@ next-first job q done left all x n first is same here =
 -- control is as it was
 pub control-deals : {S : Type 0} (me m : Me S View) (x : Seated) → ControlSits me x → m ≡ (dealer me.0, me.1) → ControlSits {S = S} m x
 control-deals {S} me m x sits is =
-    subst (λ (u : Me S View). ControlSits {S = S} u x) (sym (is ∙ ap (λ (u : Me S View). (view me.0.job (me.0.split + 1) u.0.parts, u.1)) sits.view'))
+    subst (λ (u : Me S View). ControlSits {S = S} u x) (sym (is ∙ ap (λ (u : Me S View). (view me.0.job me.0.led (me.0.split + 1) u.0.parts, u.1)) sits.view'))
     record {
       view' = refl;
+      lines = sits.lines;
+      once = sits.once;
+      led = sits.led;
       limited = sits.limited;
       is_for = sits.is_for;
       fed = sits.fed;

@@ -14,6 +14,8 @@ use Rattle.ft_hist.specs.Rules.{IsLegal, IsLegalPast, IsWhole}
 use Rattle.user_specs.specs.Bound.{call_bound_in}
 use Rattle.history_bound.specs.Bound.{all_calls}
 use Rattle.history_bound.proofs.Bounded.{history-most}
+use Rattle.led_jobs.specs.Led.{in_order}
+use Rattle.led_jobs.specs.Orders.{AreLed}
 use Rattle.word_machine.specs.Control.{control_next}
 use Rattle.word_machine.specs.Cpu.{cpu_next}
 use Rattle.word_machine.specs.Machine.{World}
@@ -24,10 +26,13 @@ use Rattle.live_table.specs.declared.view.Part.{Part}
 use Rattle.live_table.specs.declared.view.View.{View}
 use Rattle.live_table.specs.Laws.{IsAlwaysLegal, IsAlwaysReached}
 use Rattle.live_table.specs.Recorded.{cpu, cpu_lists, lists}
-use Rattle.live_table.specs.Rule.{LiveRule, world_with}
+use Rattle.live_table.specs.Rule.{LiveRule, StandsFor, led_at, world_with}
 use Rattle.live_table.specs.Seats.{AreAtEnd, AreSeats, Board, ControlPlace, CpuPlace, IsMadeByTurns, history_of, items_at, lists_at, parts_of}
 use Rattle.live_table.specs.Views.{part, view}
 use Rattle.live_table.proofs.Ends.{all-ended}
+use Rattle.live_table.proofs.Later.{stands-now}
+use Rattle.live_table.proofs.Lines.{cpu-lists-same, cpu-next-same}
+use Rattle.live_table.proofs.Orders.{commands-picked}
 
 -- ## lists of seats
 
@@ -64,13 +69,17 @@ legal-turned : (job : Job) (past : List Item) → IsLegalPast job past → IsLeg
 unfolding IsLegal
 legal-turned job past l = subst (IsLegalPast job) (sym (reverse-reverse past)) l
 
+-- at any moment
+stands-at : {S : Type 0} {job : Job} {t : State S View} (r : LiveRule job t) → StandsFor (led_at r) t.words r.values r.past
+stands-at {S} {job} {t} r = stands-now (led_at r) t.words r.values r.past r.led r.runs
+
 pub always-legal : IsAlwaysLegal
-always-legal job t r = (r.runs.kept, legal-turned job r.past r.runs.kept.legal)
+always-legal job t r = let s = stands-at r in (s.runs.kept, legal-turned (led_at r) r.past s.runs.kept.legal)
 
 pub always-reached : IsAlwaysReached
-always-reached job t r = (r.reached, r.at_first)
+always-reached job t r = let s = stands-at r in (s.reached, s.at_first)
 
--- What the seats of a table have marked, once all are joined.
+-- What the seats of a table have marked, once all are joined, if these lines were led.
 --   placed   each place of the history has one item
 --   few      there are no more items than the job can make
 --   turns    the word machine makes the history by the steps of some actors in turn
@@ -80,18 +89,27 @@ pub record Gathered (job : Job) (control : ControlPlace) (cpus : List CpuPlace) 
   pub placed : ArePlaced (total (lists_at control cpus)) (lists_at control cpus)
   pub as_many : length (history_of control cpus) ≡ total (lists_at control cpus)
   pub few : total (lists_at control cpus) ≤ 2 * length (commands job) + call_bound_in job * all_calls job.tasks
-  pub turns : IsMadeByTurns job (history_of control cpus)
-  pub legal : IsLegal job (history_of control cpus)
-  pub whole' : AreAtEnd control cpus → IsWhole job (history_of control cpus)
+  pub turns : IsMadeByTurns control.led (history_of control cpus)
+  pub legal : IsLegal control.led (history_of control cpus)
+  pub whole' : AreAtEnd control cpus → IsWhole control.led (history_of control cpus)
 
 module _ {S : Type 0} (b : Board) (control : ControlPlace) (cpus : List CpuPlace) (id : ℕ) (t : State S View)
-    (same : control.job ≡ b.job) (seats : AreSeats b cpus) (r : LiveRule b.job t)
-    (at : get_elem? t.views id ≡ some (view control.job control.split (part ByControl control.values ∷ parts_of cpus))) where
+    (seats : AreSeats b cpus) (r : LiveRule b.job t)
+    (at : get_elem? t.views id ≡ some (view control.job control.led control.split (part ByControl control.values ∷ parts_of cpus))) where
   abbrev all : View
-  all = view control.job control.split (part ByControl control.values ∷ parts_of cpus)
+  all = view control.job control.led control.split (part ByControl control.values ∷ parts_of cpus)
+
+  abbrev led : Job
+  led = led_at r
 
   abbrev s : World
-  s = world_with b.job t.words r.values r.past
+  s = world_with led t.words r.values r.past
+
+  now : StandsFor led t.words r.values r.past
+  now = stands-at r
+
+  knows : control.led ≡ led
+  knows = (r.covers.fits id all at 0 (part ByControl control.values) refl).stands.0
 
   control-has : control.values ≡ r.values ByControl
   control-has = (r.covers.fits id all at 0 (part ByControl control.values) refl).has
@@ -101,7 +119,7 @@ module _ {S : Type 0} (b : Board) (control : ControlPlace) (cpus : List CpuPlace
       (r.covers.fits id all at (suc k) (part (cpu x.number) x.values) (parts-at cpus k x e)).has ∙ ap (λ c. r.values (cpu c)) (seats.each k x e).1
 
   -- the lists of the rule are those of the seats
-  lists-are : lists b.job r.values ≡ lists_at control cpus
+  lists-are : lists led r.values ≡ lists_at control cpus
   lists-are =
       let rest : cpu_lists b.job r.values 0 (length b.job.quanta) ≡ map items_at cpus =
       ap (cpu_lists b.job r.values 0) (sym seats.count)
@@ -110,40 +128,56 @@ module _ {S : Type 0} (b : Board) (control : ControlPlace) (cpus : List CpuPlace
       let n = seats.each k x e in
       let z : 0 + k ≡ k = omega arith in
       ap (λ c. cpu_items b.job c (r.values (cpu c))) z ∙ (λ i. cpu_items (sym n.0.1 i) (sym n.1 i) (sym (cpu-has k x e) i))) in
-      λ i. control_items (sym same i) (sym control-has i) ∷ rest i
+      let whole : cpu_lists led r.values 0 (length b.job.quanta) ≡ map items_at cpus =
+      cpu-lists-same b.job r.ctls r.plan r.values 0 (length b.job.quanta) ∙ rest in
+      λ i. control_items (sym knows i) (sym control-has i) ∷ whole i
 
   placed-past : ArePlaced (length r.past) (lists_at control cpus)
-  placed-past = subst (λ ls. ArePlaced (length r.past) ls) lists-are r.recorded.placed
+  placed-past = subst (λ ls. ArePlaced (length r.past) ls) lists-are r.runs.recorded.placed
 
   many : total (lists_at control cpus) ≡ length r.past
   many = placed-past.count
 
   history-is : history_of control cpus ≡ reverse r.past
-  history-is = ap (λ (past : List Item). reverse past) (sym (r.recorded.items ∙ (λ i. past_below (lists-are i) (sym many i))))
+  history-is = ap (λ (past : List Item). reverse past) (sym (r.runs.recorded.items ∙ (λ i. past_below (lists-are i) (sym many i))))
 
-  control-over : AreAtEnd control cpus → control_next b.job s.control ≡ None
-  control-over over = (λ i. control_next (sym same i) (control_fed (sym same i) (sym control-has i))) ∙ over.control_over
+  control-over : AreAtEnd control cpus → control_next led s.control ≡ None
+  control-over over = (λ i. control_next (sym knows i) (control_fed (sym knows i) (sym control-has i))) ∙ over.control_over
 
-  cpu-over : AreAtEnd control cpus → (c : ℕ) → c < length b.job.quanta → cpu_next b.job (s.cpus c) ≡ None
+  cpu-over : AreAtEnd control cpus → (c : ℕ) → c < length b.job.quanta → cpu_next led (s.cpus c) ≡ None
   cpu-over over c inside =
       let x = seat-at cpus c (let n = seats.count in omega (arith, n, inside)) in
       let n = seats.each c x.0 x.1 in
-      (λ i. cpu_next (sym n.0.1 i) (cpu_fed (sym n.0.1 i) (sym n.1 i) (sym (cpu-has c x.0 x.1) i))) ∙ over.cpus_over c x.0 x.1
+      cpu-next-same b.job r.ctls r.plan c (r.values (cpu c))
+      ∙ (λ i. cpu_next (sym n.0.1 i) (cpu_fed (sym n.0.1 i) (sym n.1 i) (sym (cpu-has c x.0 x.1) i)))
+      ∙ over.cpus_over c x.0 x.1
 
-  all-gathered : Gathered b.job control cpus
-  all-gathered = record {
-    placed = subst (λ n. ArePlaced n (lists_at control cpus)) (sym many) placed-past;
-    as_many = ap (λ (items : List Item). length items) history-is ∙ length-reverse r.past ∙ sym many;
-    few = (let most = history-most b.job r.past r.runs.kept.legal in let e = many in omega (arith, most, e));
-    turns = (r.reached.0, history-is ∙ ap (λ (w : World). reverse w.past) r.reached.1);
-    legal = subst (IsLegal b.job) (sym history-is) (legal-turned b.job r.past r.runs.kept.legal);
-    whole' = λ over. subst (IsWhole b.job) (sym history-is)
-        (whole b.job (word-job b.job r.limited) s r.runs.kept (all-ended b.job s r.runs.kept (control-over over) (cpu-over over)));
-  }
+  -- the lines that were led have no more commands than the job
+  module _ (order : List ℕ) (once : AreLed (length b.job.ctls) order) (in-that : control.led ≡ in_order b.job order) where
+    commands-few : length (commands led) ≤ length (commands b.job)
+    commands-few =
+        subst (λ (job : Job). length (commands job) ≤ length (commands b.job)) (sym in-that ∙ knows) (commands-picked b.job.ctls order once)
+
+    all-gathered : Gathered b.job control cpus
+    all-gathered = record {
+      placed = subst (λ n. ArePlaced n (lists_at control cpus)) (sym many) placed-past;
+      as_many = ap (λ (items : List Item). length items) history-is ∙ length-reverse r.past ∙ sym many;
+      few = (let most : length r.past ≤ 2 * length (commands led) + call_bound_in b.job * all_calls b.job.tasks = history-most led r.past now.runs.kept.legal in
+          let e = many in let fewer = commands-few in omega (arith, most, e, fewer));
+      turns = subst (λ (job : Job). IsMadeByTurns job (history_of control cpus)) (sym knows)
+          (now.reached.0, history-is ∙ ap (λ (w : World). reverse w.past) now.reached.1);
+      legal = subst (λ (job : Job). IsLegal job (history_of control cpus)) (sym knows)
+          (subst (IsLegal led) (sym history-is) (legal-turned led r.past now.runs.kept.legal));
+      whole' = λ over. subst (λ (job : Job). IsWhole job (history_of control cpus)) (sym knows)
+          (subst (IsWhole led) (sym history-is)
+          (whole led (word-job led r.led) s now.runs.kept (all-ended led s now.runs.kept (control-over over) (cpu-over over))));
+    }
 
 -- at a table and a seat that are known
 pub gathered : {S : Type 0} (b : Board) (control : ControlPlace) (cpus : List CpuPlace) (id : ℕ) (t : State S View) (key : Job) (v : View)
     → key ≡ b.job → control.job ≡ b.job → AreSeats b cpus → LiveRule key t → get_elem? t.views id ≡ some v
-    → v ≡ view control.job control.split (part ByControl control.values ∷ parts_of cpus) → Gathered b.job control cpus
-gathered {S} b control cpus id t key v is same seats r at last =
-    all-gathered b control cpus id t same seats (subst (λ (job : Job). LiveRule {S = S} job t) is r) (at ∙ ap (λ (u : View). some u) last)
+    → v ≡ view control.job control.led control.split (part ByControl control.values ∷ parts_of cpus)
+    → AreLed (length control.job.ctls) control.order → control.led ≡ in_order control.job control.order → Gathered b.job control cpus
+gathered {S} b control cpus id t key v is same seats r at last once in-that =
+    all-gathered b control cpus id t seats (subst (λ (job : Job). LiveRule {S = S} job t) is r) (at ∙ ap (λ (u : View). some u) last) control.order
+    (subst (λ (job : Job). AreLed (length job.ctls) control.order) same once) (in-that ∙ ap (λ (job : Job). in_order job control.order) same)

@@ -30,13 +30,13 @@ next-sits b done left all s seats is =
 -- ## parts
 
 -- what control's seat knows after one more has joined it
-pub joined-more : (v w : View) (job : Job) (split : ℕ) (x0 : Part) (ss : List CpuPlace) (q : Job) (c : ℕ) (values : List ℕ) (s : CpuPlace)
-    → v ≡ view job split (x0 ∷ parts_of ss) → w ≡ cpu_view q c values → part (cpu c) values ≡ part (cpu s.number) s.values
-    → joined v w ≡ view job split (x0 ∷ parts_of (ss ++ s ∷ []))
-joined-more v w job split x0 ss q c values s is other same =
+pub joined-more : (v w : View) (job led : Job) (split : ℕ) (x0 : Part) (ss : List CpuPlace) (q : Job) (c : ℕ) (values : List ℕ) (s : CpuPlace)
+    → v ≡ view job led split (x0 ∷ parts_of ss) → w ≡ cpu_view q c values → part (cpu c) values ≡ part (cpu s.number) s.values
+    → joined v w ≡ view job led split (x0 ∷ parts_of (ss ++ s ∷ []))
+joined-more v w job led split x0 ss q c values s is other same =
     (λ i. joined (is i) (other i))
-    ∙ ap (λ (p : Part). view job split (x0 ∷ parts_of ss ++ p ∷ [])) same
-    ∙ ap (λ (l : List Part). view job split (x0 ∷ l)) (sym (parts-more ss s))
+    ∙ ap (λ (p : Part). view job led split (x0 ∷ parts_of ss ++ p ∷ [])) same
+    ∙ ap (λ (l : List Part). view job led split (x0 ∷ l)) (sym (parts-more ss s))
 
 -- ## lists
 

@@ -1,9 +1,12 @@
 pub mod Values
+pub mod Orders
 pub mod Recording
 pub mod Tables
 pub mod CpuRows
 pub mod ControlRows
 pub mod Stands
+pub mod Lines
+pub mod Later
 pub mod Moves
 pub mod Opening
 pub mod Seating
@@ -13,6 +16,7 @@ pub mod Gathering
 pub mod Rising
 pub mod CpuStep
 pub mod ControlStep
+pub mod LineStep
 pub mod AtStart
 pub mod Dealt
 pub mod Joined

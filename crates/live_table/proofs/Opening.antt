@@ -1,25 +1,31 @@
 -- The rule of the table holds of the words of a job before its first step, with control's seat.
-use Rattle.std.proofs.Common.{◌≡◌, ℕ, zero, suc, List, [], ◌∷◌, length, refl, sym, subst, arith}
+use Rattle.std.proofs.Common.{◌≡◌, ℕ, zero, suc, Bool, true, false, List, [], ◌∷◌, ◌++◌, length, refl, sym, ap, ◌∙◌, subst, arith}
 use Rattle.std.specs.List.{AllByRecursion as Each}
 use mathlib.Core.Option.{some, some-ne-none, some-injective}
 use lib.ListN.{get_elem?}
-use Rattle.atomic_table.specs.Table.{opening}
+use Rattle.atomic_table.specs.Table as table
 use Rattle.ft_base.specs.declared.turn.Actor.{Actor}
 use Rattle.ft_base.specs.declared.turn.Actor.TheVariants.{Control as ByControl, Cpu as ByCpu}
-use Rattle.ft_base.specs.Job.{Job}
+use Rattle.ft_base.specs.Desk.{desk}
+use Rattle.ft_base.specs.Job.{Job, Ctl, LinePlan}
 use Rattle.ft_hist.specs.Placing.{AreCounted, total}
-use Rattle.word_map.specs.Places.{len}
+use Rattle.led_jobs.specs.Led.{with_lines}
+use Rattle.led_jobs.proofs.Limits.{limited_in_order}
+use Rattle.word_map.specs.Contents.{mask_of}
+use Rattle.word_map.specs.Places.{len, words_in}
 use Rattle.word_map.specs.Shapes.{shape_of}
+use Rattle.word_map.specs.Words.{opening}
 use Rattle.word_machine.specs.Laws.{Runs}
 use Rattle.word_machine.specs.Limits.{IsLimited}
 use Rattle.word_machine.specs.Machine.{opening_words, run, start}
 use Rattle.word_machine_laws.proofs.WordsFit.{start-runs}
+use Rattle.control_core.proofs.Leading.{none-led}
 use Rattle.machine_core.specs.Worlds.{words_of}
 use Rattle.machine_core.proofs.Opening.{none-on}
 use Rattle.live_table.specs.declared.view.View.{View}
 use Rattle.live_table.specs.Recorded.{IsRecorded, cpu_lists}
-use Rattle.live_table.specs.Rule.{Fits, HasSeat, LiveRule, StandsIn, world_with}
-use Rattle.live_table.specs.Views.{control_view, part}
+use Rattle.live_table.specs.Rule.{Fits, HasSeat, LiveRule, RunsOn, StandsFor, StandsIn, world_with}
+use Rattle.live_table.specs.Views.{control_view, led_first, part}
 use Rattle.live_table.proofs.Moves.{PartsFit, one-part}
 
 -- ## nothing is marked
@@ -54,9 +60,11 @@ one-view P x here zero v e = subst (P 0) (some-injective x v e) here
 one-view P x here (suc id) v e = absurd (some-ne-none v (sym e))
 
 -- control alone has a seat
-control-stands : (job : Job) (a : Actor) → HasSeat 0 a → StandsIn (control_view job 0 [] ∷ []) 0 a
-control-stands job ByControl has = (control_view job 0 [], refl, (0, part ByControl [], refl, refl))
-control-stands job (ByCpu c) has = absurd (omega (arith, has))
+control-stands : (job led : Job) (a : Actor) → HasSeat 0 a → StandsIn (control_view job led 0 [] ∷ []) 0 a
+control-stands job led ByControl has = (control_view job led 0 [], refl, (0, part ByControl [], refl, refl))
+control-stands job led (ByCpu c) has = absurd (omega (arith, has))
+
+-- ## the machine
 
 -- it is the machine's start
 at-start : (job : Job) (words : List ℕ) → words_of job words ≡ opening_words job → world_with job words none [] ≡ start job
@@ -67,26 +75,69 @@ at-run : (job : Job) (words : List ℕ) → words_of job words ≡ opening_words
 unfolding run
 at-run job words is = at-start job words is
 
-pub opens : {S : Type 0} (job : Job) → IsLimited job → (words : List ℕ) → length words ≡ len (shape_of job) → words_of job words ≡ opening_words job
-    → LiveRule {S = S} job (opening words [] (control_view job 0 []))
-unfolding start
-opens {S} job limited words count is = record {
+stands-first : (job : Job) (words : List ℕ) → IsLimited job → words_of job words ≡ opening_words job → StandsFor job words none []
+stands-first job words limited is = record {
+  runs = subst (Runs job) (sym (at-start job words is)) (start-runs job limited);
+  reached = ([], at-run job words is);
+  at_first = λ unstepped. at-start job words is;
+}
+
+-- the words are the opening ones whatever the lines are
+desk-first : (job : Job) (ctls : List Ctl) (plan : LinePlan) → desk (with_lines job ctls plan) 0 ≡ desk job 0
+unfolding desk
+desk-first job ctls plan = refl
+
+words-first : (job : Job) (ctls : List Ctl) (plan : LinePlan) (words : List ℕ) → words_of job words ≡ opening_words job
+    → words_of (with_lines job ctls plan) words ≡ opening_words (with_lines job ctls plan)
+words-first job ctls plan words is =
+    let same = desk-first job ctls plan in
+    ap (λ d. words_in (shape_of job) (mask_of d (length job.tasks)) words) same
+    ∙ is
+    ∙ sym (ap (λ d. opening (mask_of d (length job.tasks))) same)
+
+-- ## the table
+
+runs-first : (job : Job) (ctls : List Ctl) (plan : LinePlan) (words : List ℕ) → words_of job words ≡ opening_words job
+    → RunsOn (with_lines job ctls plan) words none []
+runs-first job ctls plan words is = record {
+  stands = λ more lines l. stands-first (with_lines job (ctls ++ more) lines) words l (words-first job (ctls ++ more) lines words is);
+  control = λ more lines. refl;
+  marked = λ more lines. refl;
+  recorded = none-recorded (with_lines job ctls plan);
+}
+
+-- with these lines led
+opens-with : {S : Type 0} (job : Job) (ctls : List Ctl) (plan : LinePlan) → IsLimited job → IsLimited (with_lines job ctls plan)
+    → (words : List ℕ) → length words ≡ len (shape_of job) → words_of job words ≡ opening_words job
+    → LiveRule {S = S} job (table.opening words [] (control_view job (with_lines job ctls plan) 0 []))
+opens-with {S} job ctls plan limited led words count is = record {
   limited = limited;
+  ctls = ctls;
+  plan = plan;
+  led = led;
   values = none;
   seat = λ a. 0;
   split = 0;
   past = [];
   count = count;
-  runs = subst (Runs job) (λ i. record { words = sym is i; control = (start job).control; cpus = (start job).cpus; past = [] }) (start-runs job limited);
-  reached = ([], at-run job words is);
-  at_first = λ unstepped. at-start job words is;
-  recorded = none-recorded job;
+  runs = runs-first job ctls plan words is;
   covers = record {
-    fits = one-view (λ id v. PartsFit job none (λ a. 0) 0 id v) (control_view job 0 [])
-        (one-part (λ x. Fits job none (λ a. 0) 0 0 (control_view job 0 []) x) (part ByControl [])
-        record { job' = refl; seated = refl; has = refl; stands = refl });
-    stood = control-stands job;
+    fits = one-view (λ id v. PartsFit job (with_lines job ctls plan) none (λ a. 0) 0 id v) (control_view job (with_lines job ctls plan) 0 [])
+        (one-part (λ x. Fits job (with_lines job ctls plan) none (λ a. 0) 0 0 (control_view job (with_lines job ctls plan) 0 []) x) (part ByControl [])
+        record { job' = refl; seated = refl; has = refl; stands = (refl, refl) });
+    stood = control-stands job (with_lines job ctls plan);
     unsplit = λ c low. refl;
     within = omega arith;
   };
 }
+
+-- the lines that are led at first are within the limits
+pub first-limited : (job : Job) (withheld : Bool) → IsLimited job → IsLimited (led_first job withheld)
+first-limited job true limited = limited_in_order job [] limited (none-led (length job.ctls))
+first-limited job false limited = limited
+
+pub opens : {S : Type 0} (job : Job) (withheld : Bool) → IsLimited job → (words : List ℕ) → length words ≡ len (shape_of job)
+    → words_of job words ≡ opening_words job → LiveRule {S = S} job (table.opening words [] (control_view job (led_first job withheld) 0 []))
+opens {S} job true limited words count is =
+    opens-with {S = S} job [] (record job.lines { lanes = [] }) limited (first-limited job true limited) words count is
+opens {S} job false limited words count is = opens-with {S = S} job job.ctls job.lines limited limited words count is

@@ -14,7 +14,7 @@ use Rattle.live_table.specs.declared.view.View.{View}
 use Rattle.ft_machine.specs.Fed.{cpu_fed}
 use Rattle.live_table.specs.Laws.{OneSeatEach, UnsplitHaveNotStepped}
 use Rattle.live_table.specs.Recorded.{cpu}
-use Rattle.live_table.specs.Rule.{Fits, HasSeat, LiveRule, StandsAt, StandsIn}
+use Rattle.live_table.specs.Rule.{Fits, HasSeat, LiveRule, StandsAt, StandsIn, led_at}
 use Rattle.live_table.specs.Views.{control_view, cpu_view, dealer, dealt, joined, part, spent}
 use Rattle.live_table.proofs.Moves.{PartsFit, fits-set, one-part}
 use Rattle.live_table.proofs.Stands.{one-or, only-there, put-here, stands-last, stands-longer, stands-set, still-seated}
@@ -55,25 +55,26 @@ at-end (x ∷ xs) a b zero e = inl e
 at-end (x ∷ xs) a b (suc j) e = ⊎_elim (λ t. inl t) (λ t. inr (ap suc t.0, t.1)) (at-end xs a b j e)
 
 -- a CPU that was split off is not the next one
-not-next : (split here : ℕ) (a : Actor) → StandsAt split here a → a ≡ cpu split → ⊥
-not-next split here a at e = let lt : split < split = subst (λ (x : Actor). StandsAt split here x) e at in omega (arith, lt)
+not-next : (led own : Job) (split here : ℕ) (a : Actor) → StandsAt led split own here a → a ≡ cpu split → ⊥
+not-next led own split here a at e = let lt : split < split = subst (λ (x : Actor). StandsAt led split own here x) e at in omega (arith, lt)
 
-raised : (split here : ℕ) (a : Actor) → (a ≡ ByControl → ⊥) → StandsAt split here a → StandsAt (split + 1) here a
-raised split here ByControl apart at = absurd (apart refl)
-raised split here (ByCpu d) apart at = omega (arith, at)
+raised : (led own : Job) (split here : ℕ) (a : Actor) → (a ≡ ByControl → ⊥) → StandsAt led split own here a → StandsAt led (split + 1) own here a
+raised led own split here ByControl apart at = absurd (apart refl)
+raised led own split here (ByCpu d) apart at = omega (arith, at)
 
-splits-at : {S : Type 0} (job : Job) (id split : ℕ) (vs : List ℕ) → split < length job.quanta
-    → Splits {S = S} (LiveRule job) id (control_view job split vs) (control_view job (split + 1) vs) (cpu_view job split [])
-splits-at {S} job id split vs room t r at =
-    let mine = r.covers.fits id (control_view job split vs) at 0 (part ByControl vs) refl in
-    let here : split ≡ r.split = mine.stands in
-    let left = control_view job (split + 1) vs in
+splits-at : {S : Type 0} (job own : Job) (id split : ℕ) (vs : List ℕ) → split < length job.quanta
+    → Splits {S = S} (LiveRule job) id (control_view job own split vs) (control_view job own (split + 1) vs) (cpu_view job split [])
+splits-at {S} job own id split vs room t r at =
+    let led : Job = led_at r in
+    let mine = r.covers.fits id (control_view job own split vs) at 0 (part ByControl vs) refl in
+    let here : split ≡ r.split = mine.stands.1 in
+    let left = control_view job own (split + 1) vs in
     let right = cpu_view job split [] in
     let n : ℕ = length (set t.views id left) in
     let seat' : Actor → ℕ = seat_with r.seat split n in
     let seated : (j : ℕ) (v : View) → get_elem? t.views j ≡ some v → (k : ℕ) (x : Part) → get_elem? v.parts k ≡ some x → seat' x.actor ≡ j = λ j v e k x has.
     let f = r.covers.fits j v e k x has in
-    seat_with-other r.seat split n x.actor (λ same. not-next r.split v.split x.actor f.stands (same ∙ ap cpu here)) ∙ f.seated in
+    seat_with-other r.seat split n x.actor (λ same. not-next led v.led r.split v.split x.actor f.stands (same ∙ ap cpu here)) ∙ f.seated in
     let stood : (a : Actor) → HasSeat (split + 1) a → StandsIn (set t.views id left ++ right ∷ []) (seat' a) a = λ a has.
     ⊎_elim
     (λ (same : cpu split ≡ a). subst (λ (x : Actor). StandsIn (set t.views id left ++ right ∷ []) (seat' x) x) same
@@ -82,38 +83,43 @@ splits-at {S} job id split vs room t r at =
     (λ (other : a ≡ cpu split → ⊥). subst (λ j. StandsIn (set t.views id left ++ right ∷ []) j a) (sym (seat_with-other r.seat split n a other))
     (stands-longer (set t.views id left) (right ∷ []) (r.seat a) a
     (stands-set t.views id (r.seat a) left a (r.covers.stood a (subst (λ z. HasSeat z a) here (still-seated split a other has)))
-    (λ v e had. (0, part ByControl vs, refl, only-there job split (part ByControl vs) t.views id at a v e had)))))
+    (λ v e had. (0, part ByControl vs, refl, only-there job own split (part ByControl vs) t.views id at a v e had)))))
     (one-or split a) in
     record {
       limited = r.limited;
+      ctls = r.ctls;
+      plan = r.plan;
+      led = r.led;
       values = r.values;
       seat = seat';
       split = split + 1;
       past = r.past;
       count = r.count;
       runs = r.runs;
-      reached = r.reached;
-      at_first = r.at_first;
-      recorded = r.recorded;
       covers = record {
         fits = λ j v e.
             ⊎_elim
-            (λ old. fits-set job t.views r.values seat' (split + 1) id left
+            (λ old. fits-set job led t.views r.values seat' (split + 1) id left
             (λ j' u apart e' k x has.
             let f = r.covers.fits j' u e' k x has in
             record {
               job' = f.job';
               seated = seated j' u e' k x has;
               has = f.has;
-              stands = raised split u.split x.actor (λ same. apart (sym f.seated ∙ ap r.seat same ∙ mine.seated))
-                  (subst (λ z. StandsAt z u.split x.actor) (sym here) f.stands);
+              stands = raised led u.led split u.split x.actor (λ same. apart (sym f.seated ∙ ap r.seat same ∙ mine.seated))
+                  (subst (λ z. StandsAt led z u.led u.split x.actor) (sym here) f.stands);
             })
-            (one-part (λ x. Fits job r.values seat' (split + 1) id left x) (part ByControl vs)
-            record { job' = refl; seated = seated id (control_view job split vs) at 0 (part ByControl vs) refl; has = mine.has; stands = refl })
+            (one-part (λ x. Fits job led r.values seat' (split + 1) id left x) (part ByControl vs)
+            record {
+              job' = refl;
+              seated = seated id (control_view job own split vs) at 0 (part ByControl vs) refl;
+              has = mine.has;
+              stands = (mine.stands.0, refl);
+            })
             j v old)
             (λ (new : (j ≡ n) × (right ≡ v)).
-            subst (λ (u : ℕ × View). PartsFit job r.values seat' (split + 1) u.0 u.1) (λ i. (sym new.0 i, new.1 i))
-            (one-part (λ x. Fits job r.values seat' (split + 1) n right x) (part (cpu split) [])
+            subst (λ (u : ℕ × View). PartsFit job led r.values seat' (split + 1) u.0 u.1) (λ i. (sym new.0 i, new.1 i))
+            (one-part (λ x. Fits job led r.values seat' (split + 1) n right x) (part (cpu split) [])
             record { job' = refl; seated = seat_with-same r.seat split n; has = sym (r.covers.unsplit split (omega (arith, here))); stands = omega arith }))
             (at-end (set t.views id left) right v j e);
         stood = stood;
@@ -129,6 +135,7 @@ joins-at : {S : Type 0} (job : Job) (id : ℕ) (v : View) (x0 : Part) (other c :
     → Joins {S = S} (LiveRule job) id v other (cpu_view job c vs) (joined v (cpu_view job c vs)) spent
 joins-at {S} job id v x0 other c vs own t r at apart at2 =
     let w = cpu_view job c vs in
+    let led : Job = led_at r in
     let both = joined v w in
     let seat' : Actor → ℕ = seat_with r.seat c id in
     let old-at : get_elem? t.views other ≡ some w =
@@ -136,10 +143,10 @@ joins-at {S} job id v x0 other c vs own t r at apart at2 =
     (at_set t.views id other both w at2) in
     let theirs = r.covers.fits other w old-at 0 (part (cpu c) vs) refl in
     let job-is = (r.covers.fits id v at 0 x0 own).job' in
-    let mine : PartsFit job r.values seat' r.split id both = λ k x has.
+    let mine : PartsFit job led r.values seat' r.split id both = λ k x has.
     ⊎_elim
     (λ old. let f = r.covers.fits id v at k x old in record { job' = f.job'; seated = seat_with-kept r.seat c id x.actor f.seated; has = f.has; stands = f.stands })
-    (λ (new : part (cpu c) vs ≡ x). subst (Fits job r.values seat' r.split id both) new
+    (λ (new : part (cpu c) vs ≡ x). subst (Fits job led r.values seat' r.split id both) new
     record { job' = job-is; seated = seat_with-same r.seat c id; has = theirs.has; stands = theirs.stands })
     (at_snoc v.parts (part (cpu c) vs) x k has) in
     let ends : List View = set (set t.views id both) other spent in
@@ -162,24 +169,24 @@ joins-at {S} job id v x0 other c vs own t r at apart at2 =
           (ap (λ (z : View). get_elem? z.parts had.0) (some-injective v u (sym at ∙ e)) ∙ had.2),
       had.3,
     )))
-    (λ u e had. absurd (ne (sym (only-there job 0 (part (cpu c) vs) (set t.views id both) other at2 a u e had))))))
+    (λ u e had. absurd (ne (sym (only-there job job 0 (part (cpu c) vs) (set t.views id both) other at2 a u e had))))))
     (one-or c a) in
     record {
       limited = r.limited;
+      ctls = r.ctls;
+      plan = r.plan;
+      led = r.led;
       values = r.values;
       seat = seat';
       split = r.split;
       past = r.past;
       count = r.count;
       runs = r.runs;
-      reached = r.reached;
-      at_first = r.at_first;
-      recorded = r.recorded;
       covers = record {
-        fits = fits-set job (set t.views id both) r.values seat' r.split other spent
+        fits = fits-set job led (set t.views id both) r.values seat' r.split other spent
             (λ j u not-other e.
             ⊎_elim
-            (λ (z : (j ≡ id) × (both ≡ u)). subst (λ (y : ℕ × View). PartsFit job r.values seat' r.split y.0 y.1) (λ i. (sym z.0 i, z.1 i)) mine)
+            (λ (z : (j ≡ id) × (both ≡ u)). subst (λ (y : ℕ × View). PartsFit job led r.values seat' r.split y.0 y.1) (λ i. (sym z.0 i, z.1 i)) mine)
             (λ (z : (j ≢ id) × (get_elem? t.views j ≡ some u)). λ (k : ℕ) (x : Part) has.
             let f = r.covers.fits j u z.1 k x has in
             record {
@@ -199,12 +206,12 @@ joins-at {S} job id v x0 other c vs own t r at apart at2 =
 -- ## the same at seats that are known
 
 -- control's seat gives the next CPU its seat
-pub splits : {S : Type 0} (job q : Job) (id split : ℕ) (vs : List ℕ) (v : View) → v ≡ control_view q split vs → q ≡ job → split < length job.quanta
-    → Splits {S = S} (LiveRule job) id v (dealer v) (dealt v)
-splits {S} job q id split vs v is same room =
+pub splits : {S : Type 0} (job q own : Job) (id split : ℕ) (vs : List ℕ) (v : View) → v ≡ control_view q own split vs → q ≡ job
+    → split < length job.quanta → Splits {S = S} (LiveRule job) id v (dealer v) (dealt v)
+splits {S} job q own id split vs v is same room =
     subst (λ (u : View). Splits {S = S} (LiveRule job) id u (dealer u) (dealt u)) (sym is)
-    (subst (λ (r : Job). Splits {S = S} (LiveRule job) id (control_view r split vs) (control_view r (split + 1) vs) (cpu_view r split [])) (sym same)
-    (splits-at job id split vs room))
+    (subst (λ (r : Job). Splits {S = S} (LiveRule job) id (control_view r own split vs) (control_view r own (split + 1) vs) (cpu_view r split [])) (sym same)
+    (splits-at job own id split vs room))
 
 -- a seat takes in a CPU's
 pub joins : {S : Type 0} (job q : Job) (id : ℕ) (v : View) (x0 : Part) (other c : ℕ) (vs : List ℕ) (w : View)
@@ -223,4 +230,4 @@ one-seat-each job t i j v w k l x y r at has at2 has2 same =
 
 -- a CPU that was not split off is as at the start
 pub not-stepped : UnsplitHaveNotStepped
-not-stepped job t r c le = ap (cpu_fed job c) (r.covers.unsplit c le)
+not-stepped job t r c le = ap (cpu_fed (led_at r) c) (r.covers.unsplit c le)

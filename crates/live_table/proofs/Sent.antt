@@ -26,20 +26,23 @@ fields-send =
           (
             search (sendable, crosses, ctl.the_send) depth 10,
             (
-              search sendable,
+              search (sendable, crosses) depth 10,
               (
                 search sendable,
                 (
                   search sendable,
                   (
-                    answer.the_field_send,
+                    search sendable,
                     (
-                      batch.the_send,
+                      answer.the_field_send,
                       (
-                        phase.the_field_send,
+                        batch.the_send,
                         (
-                          search (sendable, crosses, stamped.the_send) depth 10,
-                          tt,
+                          phase.the_field_send,
+                          (
+                            search (sendable, crosses, stamped.the_send) depth 10,
+                            tt,
+                          ),
                         ),
                       ),
                     ),

@@ -69,11 +69,11 @@ only-actor p a zero x e same = ap (λ (z : Part). z.actor) (some-injective p x e
 only-actor p a (suc k) x e same = absurd (some-ne-none x (sym e))
 
 -- of the view that is known to stand there
-pub only-there : (job : Job) (here : ℕ) (p : Part) (views : List View) (id : ℕ) → get_elem? views id ≡ some (view job here (p ∷ []))
+pub only-there : (job led : Job) (here : ℕ) (p : Part) (views : List View) (id : ℕ) → get_elem? views id ≡ some (view job led here (p ∷ []))
     → (a : Actor) (v : View) → get_elem? views id ≡ some v → HasPart v a → p.actor ≡ a
-only-there job here p views id at a v e has =
-    let is : v ≡ view job here (p ∷ []) = some-injective v (view job here (p ∷ [])) (sym e ∙ at) in
-    let h : HasPart (view job here (p ∷ [])) a = subst (λ (u : View). HasPart u a) is has in
+only-there job led here p views id at a v e has =
+    let is : v ≡ view job led here (p ∷ []) = some-injective v (view job led here (p ∷ [])) (sym e ∙ at) in
+    let h : HasPart (view job led here (p ∷ [])) a = subst (λ (u : View). HasPart u a) is has in
     only-actor p a h.0 h.1 h.2 h.3
 
 -- ## states

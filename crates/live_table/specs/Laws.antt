@@ -1,4 +1,4 @@
--- What the rule of the table says at any moment.
+-- What the rule of the table says at any moment, of the job with the lines that are led so far.
 use Rattle.std.specs.Prelude.{ℕ, ◌≡◌, ◌≤◌, [], reverse}
 use mathlib.Core.Option.{some}
 use lib.ListN.{get_elem?}
@@ -11,7 +11,7 @@ use Rattle.word_machine.specs.Machine.{start}
 use Rattle.word_machine.specs.Rule.{MachineRule}
 use Rattle.live_table.specs.declared.view.Part.{Part}
 use Rattle.live_table.specs.declared.view.View.{View}
-use Rattle.live_table.specs.Rule.{IsReached, LiveRule, state_at}
+use Rattle.live_table.specs.Rule.{IsReached, LiveRule, led_at, state_at}
 
 -- no actor stands in two views
 abbrev pub OneSeatEach : Type 0
@@ -24,7 +24,7 @@ OneSeatEach =
 abbrev pub IsAlwaysLegal : Type 0
 IsAlwaysLegal =
     (job : Job) (t : State (Unit {0}) View) → (r : LiveRule job t)
-    → MachineRule job (state_at r) × IsLegal job (reverse r.past)
+    → MachineRule (led_at r) (state_at r) × IsLegal (led_at r) (reverse r.past)
 
 -- a CPU that was not split off is as at the start
 abbrev pub UnsplitHaveNotStepped : Type 0
@@ -36,4 +36,4 @@ UnsplitHaveNotStepped =
 abbrev pub IsAlwaysReached : Type 0
 IsAlwaysReached =
     (job : Job) (t : State (Unit {0}) View) → (r : LiveRule job t)
-    → IsReached job (state_at r) × (((a : Actor) → r.values a ≡ []) → state_at r ≡ start job)
+    → IsReached (led_at r) (state_at r) × (((a : Actor) → r.values a ≡ []) → state_at r ≡ start (led_at r))

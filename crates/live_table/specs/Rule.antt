@@ -1,5 +1,6 @@
 -- The rule of the table: at any moment between two atomic steps, whoever makes them, the words and what the seats know make up a state of
--- the word machine that keeps that machine's rule.
+-- the word machine that keeps that machine's rule. While control's lines are led one by one, that is said of each job that may still come of
+-- those that were led so far; if all were led at the start, it is said of the job itself in the same words.
 use Rattle.std.specs.Prelude.{ℕ, ◌≡◌, ◌<◌, ◌≤◌, List, [], length}
 use mathlib.Core.Option.{some}
 use lib.ListN.{get_elem?}
@@ -7,14 +8,15 @@ use Rattle.atomic_table.specs.Table.{State}
 use Rattle.ft_base.specs.declared.item.Item.{Item}
 use Rattle.ft_base.specs.declared.turn.Actor.{Actor}
 use Rattle.ft_base.specs.declared.turn.Actor.TheVariants.{Control as ByControl, Cpu as ByCpu}
-use Rattle.ft_base.specs.Job.{Job}
+use Rattle.ft_base.specs.Job.{Job, Ctl, LinePlan}
+use Rattle.led_jobs.specs.Led.{later, more_to_come, with_lines}
 use Rattle.word_map.specs.Places.{len}
 use Rattle.word_map.specs.Shapes.{shape_of}
 use Rattle.word_machine.specs.Laws.{Runs}
 use Rattle.word_machine.specs.Limits.{IsLimited}
 use Rattle.word_machine.specs.Machine.{World, run, start}
 use Rattle.machine_core.specs.Worlds.{words_of}
-use Rattle.ft_machine.specs.Fed.{control_fed, cpu_fed}
+use Rattle.ft_machine.specs.Fed.{control_fed, control_items, cpu_fed}
 use Rattle.live_table.specs.declared.view.Part.{Part}
 use Rattle.live_table.specs.declared.view.View.{View}
 use Rattle.live_table.specs.Recorded.{IsRecorded, cpu}
@@ -28,10 +30,10 @@ world_with job words values past = record {
   past = past;
 }
 
--- control's view counts the CPUs that were split off, and no other CPU has a view
-abbrev pub StandsAt : ℕ → ℕ → Actor → Type 0
-StandsAt split here ByControl = here ≡ split
-StandsAt split here (ByCpu c) = c.0 < split
+-- control's view has the lines that are led so far, and counts the CPUs that were split off; and no other CPU has a view
+abbrev pub StandsAt : Job → ℕ → Job → ℕ → Actor → Type 0
+StandsAt led split own here ByControl = (own ≡ led) × (here ≡ split)
+StandsAt led split own here (ByCpu c) = c.0 < split
 
 -- control has a seat, and so has each CPU that was split off
 abbrev pub HasSeat : ℕ → Actor → Type 0
@@ -50,20 +52,20 @@ StandsIn views id a = (v : View) × (get_elem? views id ≡ some v) × HasPart v
 --   job'     it is of the job
 --   seated   its actor stands in no other seat
 --   has      it has all values that its actor has taken
---   stands   its actor was split off
-pub record Fits (job : Job) (values : Actor → List ℕ) (seat : Actor → ℕ) (split id : ℕ) (v : View) (x : Part) : Type 0 where
+--   stands   its actor was split off, and control's view has the lines that are led
+pub record Fits (job led : Job) (values : Actor → List ℕ) (seat : Actor → ℕ) (split id : ℕ) (v : View) (x : Part) : Type 0 where
   pub job' : v.job ≡ job
   pub seated : seat x.actor ≡ id
   pub has : x.values ≡ values x.actor
-  pub stands : StandsAt split v.split x.actor
+  pub stands : StandsAt led split v.led v.split x.actor
 
 -- What holds of all views.
 --   fits      each of their parts fits
 --   stood     control, and each CPU that was split off, has a part in the view of its seat. So the views tell what these have taken
 --   unsplit   a CPU that was not split off has not stepped
 --   within    no more CPUs were split off than the job has
-pub record Covers (job : Job) (views : List View) (values : Actor → List ℕ) (seat : Actor → ℕ) (split : ℕ) : Type 0 where
-  pub fits : (id : ℕ) (v : View) → get_elem? views id ≡ some v → (k : ℕ) (x : Part) → get_elem? v.parts k ≡ some x → Fits job values seat split id v x
+pub record Covers (job led : Job) (views : List View) (values : Actor → List ℕ) (seat : Actor → ℕ) (split : ℕ) : Type 0 where
+  pub fits : (id : ℕ) (v : View) → get_elem? views id ≡ some v → (k : ℕ) (x : Part) → get_elem? v.parts k ≡ some x → Fits job led values seat split id v x
   pub stood : (a : Actor) → HasSeat split a → StandsIn views (seat a) a
   pub unsplit : (c : ℕ) → split ≤ c → values (cpu c) ≡ []
   pub within : split ≤ length job.quanta
@@ -72,29 +74,57 @@ pub record Covers (job : Job) (views : List View) (values : Actor → List ℕ) 
 abbrev pub IsReached : Job → World → Type 0
 IsReached job s = (actors : List Actor) × (s ≡ run job actors (start job))
 
+-- What holds of a job and of the state that words, values and items make up.
+--   runs       it keeps the word machine's rule
+--   reached    the machine comes to it from its start
+--   at_first   it is the start while no actor has taken a value
+pub record StandsFor (job : Job) (words : List ℕ) (values : Actor → List ℕ) (past : List Item) : Type 0 where
+  pub runs : Runs job (world_with job words values past)
+  pub reached : IsReached job (world_with job words values past)
+  pub at_first : ((a : Actor) → values a ≡ []) → world_with job words values past ≡ start job
+
+-- What holds of the job so far, whatever lines are led after its own, wherever they come from.
+--   stands     the same words, values and items make up a state of the job with those lines
+--   control    the values make the same of control, with those lines to come
+--   marked     and it has marked the same
+--   recorded   the items are what the actors have marked
+pub record RunsOn (led : Job) (words : List ℕ) (values : Actor → List ℕ) (past : List Item) : Type 0 where
+  pub stands : (more : List Ctl) (plan : LinePlan) → IsLimited (later led more plan) → StandsFor (later led more plan) words values past
+  pub control : (more : List Ctl) (plan : LinePlan) → control_fed (later led more plan) (values ByControl) ≡ more_to_come more (control_fed led (values ByControl))
+  pub marked : (more : List Ctl) (plan : LinePlan) → control_items (later led more plan) (values ByControl) ≡ control_items led (values ByControl)
+  pub recorded : IsRecorded led values past
+
 -- The rule of the table.
---   limited            the job is within the limits of scripts
---   values             what each actor has taken
---   seat, split        the seat in which it stands; how many CPUs were split off
---   past               the items so far, the latest first
---   count              the words are the job's
---   runs               they make up a state that keeps the word machine's rule
---   reached, at_first  and that is one to which the machine comes from its start; it is the start while no actor has taken a value
---   recorded           the items are what the actors have marked
---   covers             the views know what the actors have taken
+--   limited       the job is within the limits of scripts
+--   ctls, plan    the lines that are led so far, and where they come from
+--   led           the job with these lines is within the limits, too
+--   values        what each actor has taken
+--   seat, split   the seat in which it stands; how many CPUs were split off
+--   past          the items so far, the latest first
+--   count         the words are the job's
+--   runs          they make up a state of the word machine, whatever lines are led later
+--   covers        the views know the lines that are led so far, and what the actors have taken
 pub record LiveRule {S : Type 0} (job : Job) (t : State S View) : Type 0 where
   pub limited : IsLimited job
+  pub ctls : List Ctl
+  pub plan : LinePlan
+  pub led : IsLimited (with_lines job ctls plan)
   pub values : Actor → List ℕ
   pub seat : Actor → ℕ
   pub split : ℕ
   pub past : List Item
   pub count : length t.words ≡ len (shape_of job)
-  pub runs : Runs job (world_with job t.words values past)
-  pub reached : IsReached job (world_with job t.words values past)
-  pub at_first : ((a : Actor) → values a ≡ []) → world_with job t.words values past ≡ start job
-  pub recorded : IsRecorded job values past
-  pub covers : Covers job t.views values seat split
+  pub runs : RunsOn (with_lines job ctls plan) t.words values past
+  pub covers : Covers job (with_lines job ctls plan) t.views values seat split
 
--- the state of the word machine at a moment of which the rule holds
+-- the job with the lines that are led so far, at a moment of which the rule holds
+abbrev pub led_at : {S : Type 0} {job : Job} {t : State S View} → LiveRule job t → Job
+led_at {S} {job} {t} r = with_lines job r.ctls r.plan
+
+-- the state of the word machine then, for a job with these or other lines
+abbrev pub state_for : {S : Type 0} {job : Job} {t : State S View} → Job → LiveRule job t → World
+state_for {S} {job} {t} led r = world_with led t.words r.values r.past
+
+-- the same for the lines that are led
 abbrev pub state_at : {S : Type 0} {job : Job} {t : State S View} → LiveRule job t → World
-state_at {S} {job} {t} r = world_with job t.words r.values r.past
+state_at r = state_for (led_at r) r

@@ -1,5 +1,5 @@
 -- What contracts see of the table and of seats.
-use Rattle.std.specs.Prelude.{ℕ, ◌≡◌, ◌+◌, ◌*◌, ◌<◌, ◌≤◌, List, [], ◌∷◌, length, map, reverse, slice_get, Some, None}
+use Rattle.std.specs.Prelude.{ℕ, ◌≡◌, ◌+◌, ◌*◌, ◌<◌, ◌≤◌, Bool, List, [], ◌∷◌, length, map, reverse, slice_get, Some, None, if◌then◌else◌}
 use Rattle.atomic_table.specs.Seated.{TableId}
 use Rattle.atomic_table.specs.Table.{Me}
 use Rattle.ft_base.specs.declared.item.Item.{Item}
@@ -11,6 +11,8 @@ use Rattle.ft_hist.specs.Placing.{by_place}
 use Rattle.ft_hist.specs.Shown.{Shown}
 use Rattle.user_specs.specs.Bound.{call_bound_in}
 use Rattle.history_bound.specs.Bound.{all_calls}
+use Rattle.led_jobs.specs.Led.{in_order}
+use Rattle.led_jobs.specs.Orders.{AreLed}
 use Rattle.word_map.specs.Places.{len}
 use Rattle.word_map.specs.Shapes.{shape_of}
 use Rattle.word_machine.specs.Control.{Control, control_next}
@@ -27,7 +29,7 @@ use Rattle.ft_machine.specs.Fed.{control_fed, control_items, cpu_fed, cpu_items}
 use Rattle.live_table.specs.declared.view.Part.{Part}
 use Rattle.live_table.specs.declared.view.View.{View}
 use Rattle.live_table.specs.Recorded.{cpu as cpu_actor}
-use Rattle.live_table.specs.Views.{control_view, cpu_view, part, values_of}
+use Rattle.live_table.specs.Views.{control_view, cpu_view, led_first, order_first, part, values_of}
 
 -- ## the table
 
@@ -54,11 +56,14 @@ pub record CpuPlace : Type 0 where
   pub number : ℕ
   pub values : List ℕ
 
--- control's seat: besides, how many CPUs were split off
+-- control's seat: besides, the job with the lines that were led so far, their numbers in the order in which they were led, and how many
+-- CPUs were split off
 pub record ControlPlace : Type 0 where
   pub table_id : TableId
   pub id : ℕ
   pub job : Job
+  pub led : Job
+  pub order : List ℕ
   pub split : ℕ
   pub values : List ℕ
 
@@ -85,15 +90,22 @@ pub record CpuSits {S : Type 0} (me : Me S View) (c : ℕ) (x : CpuParts) : Type
   pub left : x.marked.left ≡ ITEMS
   pub next : IsOnWord me.0.job (cpu_next me.0.job (cpu_of me.0.job x))
 
--- what control's keeps
+-- What control's seat keeps.
+--   view'          the seat knows the lines that were led, and control's values, and nothing else
+--   lines, once    control's lines are the job's, and each was led once at most
+--   led            the lines that it knows are those that control has led
+--   limited, is_for, fed, marked, rising, next   as a CPU's, for the job with these lines
 pub record ControlSits {S : Type 0} (me : Me S View) (x : Seated) : Type 0 where
-  pub view' : me ≡ (control_view me.0.job me.0.split (values_of me.0.parts), [])
-  pub limited : IsLimited me.0.job
-  pub is_for : control.IsFor me.0.job x
-  pub fed : control_of x ≡ control_fed me.0.job (values_of me.0.parts)
-  pub marked : x.items ≡ control_items me.0.job (values_of me.0.parts)
+  pub view' : me ≡ (control_view me.0.job me.0.led me.0.split (values_of me.0.parts), [])
+  pub lines : x.all ≡ me.0.job.ctls
+  pub once : AreLed (length me.0.job.ctls) x.order
+  pub led : me.0.led ≡ in_order me.0.job x.order
+  pub limited : IsLimited me.0.led
+  pub is_for : control.IsFor me.0.led x
+  pub fed : control_of x ≡ control_fed me.0.led (values_of me.0.parts)
+  pub marked : x.items ≡ control_items me.0.led (values_of me.0.parts)
   pub rising : IsRising x.items
-  pub next : IsOnWord me.0.job (control_next me.0.job (control_of x))
+  pub next : IsOnWord me.0.led (control_next me.0.led (control_of x))
 
 -- the CPU that sits there
 abbrev pub cpu_at : CpuPlace → Cpu
@@ -101,7 +113,7 @@ cpu_at s = cpu_fed s.job s.number s.values
 
 -- the control that sits there
 abbrev pub control_at : ControlPlace → Control
-control_at s = control_fed s.job s.values
+control_at s = control_fed s.led s.values
 
 -- what the CPU has marked
 abbrev pub items_at : CpuPlace → List Stamped
@@ -109,17 +121,26 @@ items_at s = cpu_items s.job s.number s.values
 
 -- what control has marked
 abbrev pub control_items_at : ControlPlace → List Stamped
-control_items_at s = control_items s.job s.values
+control_items_at s = control_items s.led s.values
 
 -- ## the seats of a table
 
--- control has not stepped, and so many CPUs were split off
-abbrev pub IsOpen : Board → ControlPlace → ℕ → Type 0
-IsOpen b s split = (s.table_id ≡ b.table_id) × (s.job ≡ b.job) × (s.split ≡ split) × (s.values ≡ [])
+-- control's code, if its lines are withheld or not
+abbrev pub withheld_if : Bool → Seated → Seated
+withheld_if withheld x = if withheld then record x { lines = []; order = [] } else x
+
+-- control has not stepped, all its lines are led or withheld, and so many CPUs were split off
+pub record IsOpen (b : Board) (s : ControlPlace) (withheld : Bool) (split : ℕ) : Type 0 where
+  pub table_id : s.table_id ≡ b.table_id
+  pub job : s.job ≡ b.job
+  pub led : s.led ≡ led_first b.job withheld
+  pub order : s.order ≡ order_first b.job withheld
+  pub split' : s.split ≡ split
+  pub values : s.values ≡ []
 
 -- one more CPU was split off
 abbrev pub IsDealt : ControlPlace → ControlPlace → Type 0
-IsDealt s t = t ≡ record { table_id = s.table_id; id = s.id; job = s.job; split = s.split + 1; values = s.values }
+IsDealt s t = t ≡ record s { split = s.split + 1 }
 
 -- the seat of CPU c, which has not stepped
 abbrev pub IsNewCpu : Board → CpuPlace → ℕ → Type 0
@@ -164,5 +185,5 @@ IsMadeByTurns job items = (actors : List Actor) × (items ≡ reverse (run job a
 
 -- each is at its end
 pub record AreAtEnd (control : ControlPlace) (cpus : List CpuPlace) : Type 0 where
-  pub control_over : control_next control.job (control_at control) ≡ None
+  pub control_over : control_next control.led (control_at control) ≡ None
   pub cpus_over : (k : ℕ) (s : CpuPlace) → slice_get cpus k ≡ Some s → cpu_next s.job (cpu_at s) ≡ None

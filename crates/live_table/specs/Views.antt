@@ -1,5 +1,6 @@
 -- What seats know: their views, what a step adds to one, and what it tells.
-use Rattle.std.specs.Prelude.{ℕ, ◌≡◌, ◌+◌, ◌<◌, List, [], ◌∷◌, ◌++◌, length, Some, Option, IsSome}
+use Rattle.std.specs.Prelude.{ℕ, ◌≡◌, ◌+◌, ◌<◌, Bool, List, [], ◌∷◌, ◌++◌, length, Some, None, Option, IsSome, if◌then◌else◌}
+use Rattle.std.specs.List.{range_with_len}
 use Rattle.atomic_table.specs.Table.{Me}
 use Rattle.ft_base.specs.declared.item.Item.{Item}
 use Rattle.ft_base.specs.declared.item.Stamped.{Stamped}
@@ -7,6 +8,7 @@ use Rattle.ft_base.specs.declared.turn.Actor.{Actor}
 use Rattle.ft_base.specs.declared.turn.Actor.TheVariants.{Control as ByControl, Cpu as ByCpu}
 use Rattle.ft_base.specs.Job.{usual_lines, usual_rings, Job}
 use Rattle.ft_hist.specs.Placing.{AreCounted}
+use Rattle.led_jobs.specs.Led.{in_order, with_next}
 use Rattle.word_map.specs.Contents.{low}
 use Rattle.word_map.specs.Ops.{WordOp, Mark}
 use Rattle.word_machine.specs.Control.{control_next}
@@ -24,17 +26,17 @@ use Rattle.live_table.specs.Recorded.{cpu}
 abbrev pub part : Actor → List ℕ → Part
 part a values = record { actor = a; values = values }
 
--- a seat's view: the job, how many CPUs were split off, the seat's own actor, and those of the seats that joined it
-abbrev pub view : Job → ℕ → List Part → View
-view job split parts = record { job = job; split = split; parts = parts }
+-- a seat's view: the job, the job by which its own actor goes, how many CPUs were split off, that actor, and those of the seats that joined it
+abbrev pub view : Job → Job → ℕ → List Part → View
+view job led split parts = record { job = job; led = led; split = split; parts = parts }
 
--- control's, after so many CPUs were split off
-abbrev pub control_view : Job → ℕ → List ℕ → View
-control_view job split values = view job split (part ByControl values ∷ [])
+-- control's, after so many CPUs were split off: control goes by the job with the lines that were led so far
+abbrev pub control_view : Job → Job → ℕ → List ℕ → View
+control_view job led split values = view job led split (part ByControl values ∷ [])
 
--- CPU c's
+-- CPU c's, which goes by the whole job
 abbrev pub cpu_view : Job → ℕ → List ℕ → View
-cpu_view job c values = view job 0 (part (cpu c) values ∷ [])
+cpu_view job c values = view job job 0 (part (cpu c) values ∷ [])
 
 -- a job of nobody
 abbrev pub no_job : Job
@@ -42,12 +44,31 @@ no_job = record { version = 1; functions = []; users = []; frames = 0; tramps = 
 
 -- the view of a seat that has joined another
 abbrev pub spent : View
-spent = view no_job 0 []
+spent = view no_job no_job 0 []
 
 -- the values of the seat's own actor
 abbrev pub values_of : List Part → List ℕ
 values_of [] = []
 values_of (x ∷ xs) = x.values
+
+-- ## lines that are led
+
+-- the job with the lines that are led at first: all, or none if they are withheld
+abbrev pub led_first : Job → Bool → Job
+led_first job withheld = if withheld then in_order job [] else job
+
+-- the numbers of these lines
+abbrev pub order_first : Job → Bool → List ℕ
+order_first job withheld = if withheld then [] else range_with_len 0 (length job.ctls)
+
+-- the job so far, once this line is led as well, if one is
+abbrev pub led_on : Job → Job → Option ℕ → Job
+led_on job led None = led
+led_on job led (Some k) = with_next job led k
+
+-- the view of a seat that leads it
+abbrev pub leading : Option ℕ → View → View
+leading line w = view w.job (led_on w.job w.led line) w.split w.parts
 
 -- ## moves
 
@@ -58,11 +79,11 @@ took_in v (x ∷ xs) = part x.actor (x.values ++ v ∷ []) ∷ xs
 
 -- the seat's own actor takes a value
 abbrev pub took : View → ℕ → View
-took w v = view w.job w.split (took_in v w.parts)
+took w v = view w.job w.led w.split (took_in v w.parts)
 
 -- control's view after one more CPU was split off
 abbrev pub dealer : View → View
-dealer v = view v.job (v.split + 1) v.parts
+dealer v = view v.job v.led (v.split + 1) v.parts
 
 -- the view of that CPU
 abbrev pub dealt : View → View
@@ -70,7 +91,7 @@ dealt v = cpu_view v.job v.split []
 
 -- the view of a seat that another joined
 abbrev pub joined : View → View → View
-joined v w = view v.job v.split (v.parts ++ w.parts)
+joined v w = view v.job v.led v.split (v.parts ++ w.parts)
 
 -- ## what a step tells
 
@@ -83,8 +104,8 @@ pub record IsTold (job : Job) (items : List Stamped) (op next : Option WordOp) (
 
 -- of control's
 abbrev pub ControlTold : Job → ℕ → List ℕ → Type 0
-ControlTold job v values =
-    IsTold job (control_items job values) (control_next job (control_fed job values)) (control_next job (control_fed job (values ++ v ∷ []))) v
+ControlTold led v values =
+    IsTold led (control_items led values) (control_next led (control_fed led values)) (control_next led (control_fed led (values ++ v ∷ []))) v
 
 -- of CPU c's: besides, the value fits, and there is room for what is marked
 pub record CpuTold (job : Job) (c v : ℕ) (values : List ℕ) : Type 0 where
@@ -92,7 +113,7 @@ pub record CpuTold (job : Job) (c v : ℕ) (values : List ℕ) : Type 0 where
   pub room : IsSome (item_in (cpu_next job (cpu_fed job c values))) → length (cpu_items job c values) < room_on job c
   pub told : IsTold job (cpu_items job c values) (cpu_next job (cpu_fed job c values)) (cpu_next job (cpu_fed job c (values ++ v ∷ []))) v
 
--- of an actor's
+-- of that of an actor that goes by this job
 abbrev pub ToldAt : Job → ℕ → List ℕ → Actor → Type 0
 ToldAt job v values ByControl = ControlTold job v values
 ToldAt job v values (ByCpu c) = CpuTold job c.0 v values
@@ -104,4 +125,4 @@ ToldIn job v (x ∷ xs) = ToldAt job v x.values x.actor
 
 -- the seat's own actor takes a value, and what is told of it
 abbrev pub TakesOne : {S : Type 0} → Me S View → ℕ → Me S View → Type 0
-TakesOne m v n = (n ≡ (took m.0 v, m.1)) × ToldIn m.0.job v m.0.parts
+TakesOne m v n = (n ≡ (took m.0 v, m.1)) × ToldIn m.0.led v m.0.parts

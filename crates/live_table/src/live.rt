@@ -1,31 +1,37 @@
 //! The words that threads share, and the steps of their seats.
 
-ghost use Rattle.std.specs.Prelude.{◌≡◌, ◌+◌, ◌<◌, ◌≤◌, [], ◌∷◌, length, vec_capacity, IfErr, IfOk};
+ghost use Rattle.std.specs.Prelude.{◌≡◌, ◌+◌, ◌<◌, ◌≤◌, true, false, [], ◌∷◌, length, slice_get, vec_capacity, Some, None, IfErr, IfOk};
 ghost use Rattle.ft_base.specs.declared.turn.Actor.TheVariants as Actor;
+ghost use Rattle.ft_base.specs.Job.{Command, Run};
 ghost use Rattle.ft_hist.specs.Placing.{ArePlaced, items_of};
 ghost use Rattle.ft_hist.specs.Rules.{IsLegal, IsWhole};
+ghost use Rattle.led_jobs.specs.Orders.{IsLed};
+ghost use Rattle.word_machine.specs.Control.{control_next};
+ghost use Rattle.control_core.specs.Seated.{IsOpening};
 ghost use Rattle.machine_core.specs.declared.cpus.CpuRoom.TheVariants.{ForAll};
 ghost use Rattle.machine_core.specs.Starts.{AreFirst, IsFirst};
-ghost use Rattle.live_table.specs.Seats.{AreAtEnd, AreNew, AreSeats, ControlSitsAt, IsDealt, IsMadeByTurns, IsNewCpu, IsOpen, SitsAt, history_of, lists_at, parts_of};
-ghost use Rattle.live_table.specs.Steps.{ControlSteps, CpuSteps};
+ghost use Rattle.live_table.specs.Seats.{AreAtEnd, AreNew, AreSeats, ControlSitsAt, IsDealt, IsMadeByTurns, IsNewCpu, IsOpen, SitsAt, control_at, history_of, lists_at, parts_of, withheld_if};
+ghost use Rattle.live_table.specs.Steps.{ControlLeads, ControlSteps, CpuSteps};
 ghost use Rattle.live_table.specs.Views.{part, view};
 
-use crate::rule::{Deals, Gathers, Rules};
+use crate::rule::{Deals, Gathers, Key, Rules};
 use crate::seats::{ControlSeat, CpuSeat};
-use crate::table::{make, open, settle};
+use crate::table::{make, make_begin, open, settle};
 use crate::view::View;
 use atomic_table::{Seat, Table};
+use control_core::Control;
 use cpu_core::Cpu;
 use ft_base::{CpuNo, NoMemory, Stamped};
 use ft_hist::{History, merge};
 use ft_machine::{Job, Machine, WorldParts};
 use std::alloc::Global;
 use std::marker::Model;
+use std::snapshot::Snapshot;
 
 /// The words that threads share. Contracts see which table it is, and the job.
 #[derive(Drop)]
 pub struct Live {
-    table: Table<(), View, Job, Rules, Global>,
+    table: Table<(), View, Key, Rules, Global>,
     /// Empty, with room for all items that the job can make.
     room: History,
 }
@@ -35,9 +41,9 @@ impl Model for Live {
 
     ghost Value = { Board };
 
-    ghost view = { λ l. record { table_id = l.table.shared.table_id; job = l.table.shared.key } };
+    ghost view = { λ l. record { table_id = l.table.shared.table_id; job = l.table.shared.key.job.value } };
 
-    ghost invariant = { λ l. IsTable (record { table_id = l.table.shared.table_id; job = l.table.shared.key }) l.room };
+    ghost invariant = { λ l. IsTable (record { table_id = l.table.shared.table_id; job = l.table.shared.key.job.value }) l.room };
 }
 
 /// A job before its first step, with a seat for each actor.
@@ -73,13 +79,32 @@ pub enum Going {
 
 impl Live {
     /// The job before its first step, with a seat for each actor and room for all items that the job can
-    /// make. The error says that memory ran out.
+    /// make. All its lines are led, in their order. The error says that memory ran out.
     pub fn start(alloc: Global, job: &Job) -> Result<Started, NoMemory>
         ensures job { IfOk result (λ s. s.live.job ≡ job.now) }
-        ensures control { IfOk result (λ s. IsOpen s.live s.control (length job.now.quanta)) }
+        ensures control { IfOk result (λ s. IsOpen s.live s.control false (length job.now.quanta)) }
         ensures cpus { IfOk result (λ s. AreNew s.live s.cpus.items) }
     {
-        let (live, mut control, cpus) = Live::open(alloc, job)?;
+        Live::start_with(alloc, job, false)
+    }
+
+    /// The same with control's lines withheld: control is at its end until a line is led.
+    pub fn start_open(alloc: Global, job: &Job) -> Result<Started, NoMemory>
+        ensures job { IfOk result (λ s. s.live.job ≡ job.now) }
+        ensures control { IfOk result (λ s. IsOpen s.live s.control true (length job.now.quanta)) }
+        ensures ended { IfOk result (λ s. control_next s.control.led (control_at s.control) ≡ None) }
+        ensures cpus { IfOk result (λ s. AreNew s.live s.cpus.items) }
+    {
+        Live::start_with(alloc, job, true)
+    }
+
+    /// Either of the two.
+    fn start_with(alloc: Global, job: &Job, withheld: bool) -> Result<Started, NoMemory>
+        ensures job { IfOk result (λ s. s.live.job ≡ job.now) }
+        ensures control { IfOk result (λ s. IsOpen s.live s.control withheld (length job.now.quanta)) }
+        ensures cpus { IfOk result (λ s. AreNew s.live s.cpus.items) }
+    {
+        let (live, mut control, cpus) = Live::open(alloc, job, withheld)?;
         let cpus = live.deal_all(alloc, job, &mut control, cpus)?;
         Ok(Started {
             live,
@@ -89,20 +114,31 @@ impl Live {
     }
 
     /// The words, control's seat and the CPUs, which have none yet. The error says that memory ran out.
-    fn open(alloc: Global, job: &Job) -> Result<(Live, ControlSeat, Vec<Cpu>), NoMemory>
+    fn open(
+        alloc: Global,
+        job: &Job,
+        withheld: bool,
+    ) -> Result<(Live, ControlSeat, Vec<Cpu>), NoMemory>
         ensures job { IfOk result (λ r. r.0.job ≡ job.now) }
-        ensures control { IfOk result (λ r. IsOpen r.0 r.1 0) }
+        ensures control { IfOk result (λ r. IsOpen r.0 r.1 withheld 0) }
         ensures cpus { IfOk result (λ r. AreFirst ForAll job.now r.2.items) }
     {
         let machine = Machine::start_apart(alloc, job)?;
         // A machine that steps as one and actors that step at the same time begin alike.
         let WorldParts {
             words,
-            control,
+            mut control,
             cpus,
             history,
         } = machine.into_parts();
-        let (table, seat) = open(alloc, words.as_slice(), job)?;
+        withhold_if(&mut control, withheld);
+        // For its contract alone: no line has more than one lane.
+        let _lanes = job.lanes();
+        let key = Key {
+            job: Snapshot::of(job),
+            withheld,
+        };
+        let (table, seat) = open(alloc, words.as_slice(), &key)?;
         let live = Live {
             table,
             room: history,
@@ -119,9 +155,10 @@ impl Live {
         cpus: Vec<Cpu>,
     ) -> Result<Vec<CpuSeat>, NoMemory>
         requires job { self.now.job ≡ job.now }
-        requires control { IsOpen self.now control.old 0 }
+        requires control { ControlSitsAt self.now control.old }
+        requires split { control.old.split ≡ 0 }
         requires cpus { AreFirst ForAll job.now cpus.items }
-        ensures control { IfOk result (λ _. IsOpen self.now control.new (length job.now.quanta)) }
+        ensures control { IfOk result (λ _. control.new ≡ record control.old { split = length job.now.quanta }) }
         ensures cpus { IfOk result (λ seats. AreNew self.now seats.items) }
     {
         let count = job.cpus().len();
@@ -173,10 +210,29 @@ impl Live {
         Going::More
     }
 
+    /// Leads the command at this line of the job: it becomes the next one, and its Begin is marked, in
+    /// one atomic step. Control's further steps carry it out. It takes no memory and does not wait.
+    ///
+    /// Control has to be at its end. Were a command led while another is under way, its Begin would come
+    /// before that one's Return: a call at that moment would count as made under a registration of which
+    /// control has stored nothing yet, and the user would miss it. And a line that was led is not led
+    /// again: the lane that it belongs to would see its command carried out twice.
+    pub fn lead(&self, seat: &mut ControlSeat, command: u32)
+        requires control { ControlSitsAt self.now seat.old }
+        requires ended { control_next seat.old.led (control_at seat.old) ≡ None }
+        requires command { (c : Command) × (slice_get seat.old.job.ctls command ≡ Some (Run c)) }
+        requires fresh { IsLed seat.old.order command → ⊥ }
+        ensures { ControlLeads seat.old command seat.new }
+    {
+        let clock = make_begin(&self.table.shared, &mut seat.seat, command);
+        seat.control.lead(command);
+        seat.control.got(clock);
+    }
+
     /// What the seats' actors have marked, each item at its place, and one at each place: a history that
-    /// the word machine makes as well, by the steps of some actors in turn. The table and the seats are
-    /// used up. All memory is taken before any seat is joined, and the fault says that it
-    /// ran out.
+    /// the word machine makes as well, by the steps of some actors in turn, of the job with the lines
+    /// that were led. The table and the seats are used up. All memory is taken before any seat is joined,
+    /// and the fault says that it ran out.
     pub fn gather(
         self,
         alloc: Global,
@@ -187,11 +243,13 @@ impl Live {
         requires cpus { AreSeats self cpus.items }
         ensures items { IfOk result (λ h. h.items ≡ history_of control cpus.items) }
         ensures placed { IfOk result (λ h. ArePlaced (length h.items) (lists_at control cpus.items)) }
-        ensures turns { IfOk result (λ h. IsMadeByTurns self.job h.items) }
-        ensures legal { IfOk result (λ h. IsLegal self.job h.items) }
-        ensures whole { IfOk result (λ h. AreAtEnd control cpus.items → IsWhole self.job h.items) }
+        ensures turns { IfOk result (λ h. IsMadeByTurns control.led h.items) }
+        ensures legal { IfOk result (λ h. IsLegal control.led h.items) }
+        ensures whole { IfOk result (λ h. AreAtEnd control cpus.items → IsWhole control.led h.items) }
         ensures fault { IfErr result (λ e. (e.live ≡ self) × (e.control ≡ control) × (e.cpus.items ≡ cpus.items)) }
     {
+        // For its contract alone: each line was led once, so the room is enough.
+        let _order = control.order();
         let Ok(lists) = Vec::with_capacity(alloc, 1 + cpus.len()) else {
             return Err(GatherFault {
                 live: self,
@@ -218,7 +276,7 @@ impl Live {
         requires empty { lists.items ≡ [] }
         requires room { 1 + length cpus.items ≤ vec_capacity lists }
         ensures table { result.0.table_id ≡ self.now.table_id }
-        ensures parts { result.0.me.0 ≡ view control.job control.split (part Actor.Control control.values ∷ parts_of cpus.items) }
+        ensures parts { result.0.me.0 ≡ view control.job control.led control.split (part Actor.Control control.values ∷ parts_of cpus.items) }
         ensures lists { items_of result.1.items ≡ lists_at control cpus.items }
     {
         let ControlSeat {
@@ -236,5 +294,15 @@ impl Live {
             lists.push_reserved(cpu.into_items());
         }
         (seat, lists)
+    }
+}
+
+/// Withholds control's lines, if they are to be led one by one.
+fn withhold_if(control: &mut Control, withheld: bool)
+    requires { IsOpening control.old }
+    ensures { control.new ≡ withheld_if withheld control.old }
+{
+    if withheld {
+        control.withhold();
     }
 }

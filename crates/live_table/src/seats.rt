@@ -1,6 +1,8 @@
 //! The seats of the actors.
 
-ghost use Rattle.std.specs.Prelude.{◌≡◌};
+ghost use Rattle.std.specs.Prelude.{◌≡◌, length};
+ghost use Rattle.led_jobs.specs.Led.{in_order};
+ghost use Rattle.led_jobs.specs.Orders.{AreLed};
 ghost use Rattle.live_table.specs.Seats.{IsRising, control_items_at, items_at};
 
 use crate::view::View;
@@ -46,8 +48,9 @@ impl CpuSeat {
     }
 }
 
-/// Control's seat. Contracts see which seat it is, how many CPUs were split off from it, and the
-/// values that control has taken.
+/// Control's seat. Contracts see which seat it is, the job with the lines that were led so far, the
+/// numbers of these lines, how many CPUs were split off from the seat, and the values that control has
+/// taken.
 #[derive(Drop)]
 pub struct ControlSeat {
     pub(crate) seat: Seat<(), View>,
@@ -60,12 +63,22 @@ impl Model for ControlSeat {
 
     ghost Value = { ControlPlace };
 
-    ghost view = { λ s. record { table_id = s.seat.table_id; id = s.seat.id; job = s.seat.me.0.job; split = s.seat.me.0.split; values = values_of s.seat.me.0.parts } };
+    ghost view = { λ s. record { table_id = s.seat.table_id; id = s.seat.id; job = s.seat.me.0.job; led = s.seat.me.0.led; order = s.control.order; split = s.seat.me.0.split; values = values_of s.seat.me.0.parts } };
 
     ghost invariant = { λ s. ControlSits s.seat.me s.control };
 }
 
 impl ControlSeat {
+    /// The numbers of the lines that were led so far, in the order in which they were. Each line of the
+    /// job was led once at most.
+    pub fn order(&self) -> &[u32]
+        ensures order { result.now ≡ self.now.order }
+        ensures once { AreLed (length self.now.job.ctls) self.now.order }
+        ensures led { self.now.led ≡ in_order self.now.job self.now.order }
+    {
+        self.control.order()
+    }
+
     /// What control has marked so far. The places increase.
     pub fn items(&self) -> &[Stamped]
         ensures items { result.now ≡ control_items_at self.now }

@@ -16,6 +16,9 @@ pub struct Part {
 pub struct View {
     /// The job.
     pub job: Job,
+    /// The job by which the seat's own actor goes: in control's seat with the lines that were led so
+    /// far, in a CPU's the whole job.
+    pub led: Job,
     /// In control's seat, how many CPUs were split off from it; 0 in a CPU's.
     pub split: u32,
     /// The seat's own actor, and after it those of the seats that joined it.

@@ -5,15 +5,15 @@ use Rattle.live_table.proofs.live.Live.cpu_step.Goals as goal
 
 pub make-value-requires-clause-word : goal.make-value-requires-clause-word
 make-value-requires-clause-word c =
-    let same : c.seat.inside.seat.me.0.job ≡ c.self.inside.table.shared.key =
+    let same : c.seat.inside.seat.me.0.job ≡ c.self.inside.table.shared.key.job.value =
     ap (λ (s : CpuPlace). s.job) c.seat.view_is ∙ c.requires.1 ∙ sym (ap (λ (b : Board). b.job) c.self.view_is) in
-    cpu-within c.seat.inside.seat.me _ _ c.seat.invariant c.in-Some.op c.in-Some.ensures c.self.inside.table.shared.key same _ c.self.invariant.words
+    cpu-within c.seat.inside.seat.me _ _ c.seat.invariant c.in-Some.op c.in-Some.ensures c.self.inside.table.shared.key.job.value same _ c.self.invariant.words
 
 pub make-value-requires-clause-allows : goal.make-value-requires-clause-allows
 make-value-requires-clause-allows c =
-    let same : c.seat.inside.seat.me.0.job ≡ c.self.inside.table.shared.key =
+    let same : c.seat.inside.seat.me.0.job ≡ c.self.inside.table.shared.key.job.value =
     ap (λ (s : CpuPlace). s.job) c.seat.view_is ∙ c.requires.1 ∙ sym (ap (λ (b : Board). b.job) c.self.view_is) in
-    cpu-allows c.seat.inside.seat.me _ _ c.seat.invariant c.in-Some.op c.in-Some.ensures c.self.inside.table.shared.key same _ _
+    cpu-allows c.seat.inside.seat.me _ _ c.seat.invariant c.in-Some.op c.in-Some.ensures c.self.inside.table.shared.key.job.value same _ _
 
 pub got-requires : goal.got-requires
 got-requires c =

@@ -10,17 +10,17 @@ use Rattle.live_table.proofs.live.Live.deal.Goals as goal
 
 pub split_seat-seat-requires : goal.split_seat-seat-requires
 split_seat-seat-requires c =
-    let key : c.self.inside.table.shared.key ≡ c.args.self.now.job = ap (λ (b : Board). b.job) c.self.view_is in
+    let key : c.self.inside.table.shared.key.job.value ≡ c.args.self.now.job = ap (λ (b : Board). b.job) c.self.view_is in
     let table = ap (λ (b : Board). b.table_id) c.self.view_is in
     let split : c.control.inside.seat.me.0.split ≡ c.args.control.now.split = ap (λ (s : ControlPlace). s.split) c.control.view_is in
     let quanta = ap (λ (j : Job). length j.quanta) key in
     let number = c.requires.next.0 in
     let few = c.requires.next.1 in
     let words = c.self.invariant.words in
-    let clock = has-clock (shape_of c.self.inside.table.shared.key) in (
+    let clock = has-clock (shape_of c.self.inside.table.shared.key.job.value) in (
       ap (λ (s : ControlPlace). s.table_id) c.control.view_is ∙ c.requires.own.0 ∙ sym table,
       omega (arith, words, clock),
-      splits _ _ _ _ _ _ (ap (λ m. m.0) c.control.invariant.view') (ap (λ (s : ControlPlace). s.job) c.control.view_is ∙ c.requires.own.1 ∙ sym key)
+      splits _ _ _ _ _ _ _ (ap (λ m. m.0) c.control.invariant.view') (ap (λ (s : ControlPlace). s.job) c.control.view_is ∙ c.requires.own.1 ∙ sym key)
           (omega (arith, split, number, quanta, few)),
     )
 
@@ -31,6 +31,6 @@ pub invariant_of-result : goal.invariant_of-result
 invariant_of-result c =
     let split : c.control.inside.seat.me.0.split ≡ c.args.control.now.split = ap (λ (s : ControlPlace). s.split) c.control.view_is in
     let same : c.control.inside.seat.me.0.job ≡ c.args.self.now.job = ap (λ (s : ControlPlace). s.job) c.control.view_is ∙ c.requires.own.1 in
-    let key : c.self.inside.table.shared.key ≡ c.args.self.now.job = ap (λ (b : Board). b.job) c.self.view_is in
+    let key : c.self.inside.table.shared.key.job.value ≡ c.args.self.now.job = ap (λ (b : Board). b.job) c.self.view_is in
     cpu-deals c.control.inside.seat.me.0 _ c.args.self.now.job _ _ (subst IsLimited key c.self.invariant.limited) same (split ∙ c.requires.next.0) c.requires.next.1
     c.split_seat-seat.ensures.4 c.requires.first

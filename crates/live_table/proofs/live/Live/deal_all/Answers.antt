@@ -1,5 +1,5 @@
 -- One more CPU has its seat.
-use Rattle.std.proofs.Common.{rules, ◌≡◌, ◌++◌, ◌∷◌, [], List, length, slice_get, vec_len, sym, ap, ◌∙◌, arith, subst, append_assoc, length-append}
+use Rattle.std.proofs.Common.{rules, ◌≡◌, ◌+◌, ◌++◌, ◌∷◌, [], List, length, slice_get, vec_len, sym, ap, ◌∙◌, arith, subst, append_assoc, length-append}
 use Rattle.std.specs.Vec.Iter.{into_iter_items}
 use Rattle.cpu_core.specs.declared.parts.Parts.{Parts as CpuParts}
 use Rattle.machine_core.proofs.Plans.{push-each}
@@ -24,14 +24,11 @@ loop-cpu-preserved c =
     let left = into_iter_items c.next.new.self in
     let many : length c.loop-cpu.seats.items ≡ vec_len c.loop-cpu.seats = search rules in
     let one = length-append done (c.in-Some.cpu ∷ []) in
-    let was = i.control in
+    let more : c.loop-cpu.control.split + 1 ≡ length (done ++ c.in-Some.cpu ∷ []) = (let n = i.split in omega (arith, n, one)) in
     record {
-      control = (
-        ap (λ (s : ControlPlace). s.table_id) d.control ∙ was.0,
-        ap (λ (s : ControlPlace). s.job) d.control ∙ was.1,
-        (let e = ap (λ (s : ControlPlace). s.split) d.control in let n = was.2 in omega (arith, e, n, one)),
-        ap (λ (s : ControlPlace). s.values) d.control ∙ was.3,
-      );
+      sits = (ap (λ (s : ControlPlace). s.table_id) d.control ∙ i.sits.0, ap (λ (s : ControlPlace). s.job) d.control ∙ i.sits.1);
+      split = ap (λ (s : ControlPlace). s.split) d.control ∙ more;
+      control = d.control ∙ (λ k. record (i.control k) { split = more k });
       count = (let e = ap length p.items in let more = length-append c.loop-cpu.seats.items (c.deal.result ∷ []) in let n = i.count in omega (arith, e, more, n, one));
       room = p.capacity ∙ i.room;
       each = λ k s at.

@@ -15,7 +15,7 @@ all : (c : After-settle) → Gathered c.args.self.job c.args.control c.args.cpus
 all c =
     let t = c.settle.ensures in
     gathered c.args.self c.args.control c.args.cpus.items _ t.0 _ _ (ap (λ b. b.job) c.self.view_is) c.requires.control.1 c.requires.cpus t.1 t.2
-    c.join_all-seat.ensures.parts
+    c.join_all-seat.ensures.parts c.order-order.ensures.once c.order-order.ensures.led
 
 pub merge-requires-clause-empty : goal.merge-requires-clause-empty
 merge-requires-clause-empty c = c.self.invariant.empty
@@ -41,14 +41,14 @@ returns-clause-placed c =
 pub returns-clause-turns : goal.returns-clause-turns
 returns-clause-turns c =
     let same = c.merge.ensures ∙ ap by_place c.join_all-seat.ensures.lists in
-    subst (IsMadeByTurns c.args.self.job) (sym same) (all (goal.at.returns-clause-turns c).After-settle).turns
+    subst (IsMadeByTurns c.args.control.led) (sym same) (all (goal.at.returns-clause-turns c).After-settle).turns
 
 pub returns-clause-legal : goal.returns-clause-legal
 returns-clause-legal c =
     let same = c.merge.ensures ∙ ap by_place c.join_all-seat.ensures.lists in
-    subst (IsLegal c.args.self.job) (sym same) (all (goal.at.returns-clause-legal c).After-settle).legal
+    subst (IsLegal c.args.control.led) (sym same) (all (goal.at.returns-clause-legal c).After-settle).legal
 
 pub returns-clause-whole : goal.returns-clause-whole
 returns-clause-whole c =
     let same = c.merge.ensures ∙ ap by_place c.join_all-seat.ensures.lists in
-    λ over. subst (IsWhole c.args.self.job) (sym same) ((all (goal.at.returns-clause-whole c).After-settle).whole' over)
+    λ over. subst (IsWhole c.args.control.led) (sym same) ((all (goal.at.returns-clause-whole c).After-settle).whole' over)

@@ -21,7 +21,7 @@ join_seat-requires c =
     let table = ap (λ (b : Board). b.table_id) c.self.view_is in
     let key = ap (λ (b : Board). b.job) c.self.view_is in
     let words = c.self.invariant.words in
-    let clock = has-clock (shape_of c.self.inside.table.shared.key) in (
+    let clock = has-clock (shape_of c.self.inside.table.shared.key.job.value) in (
       i.table ∙ sym table,
       ap (λ (s : CpuPlace). s.table_id) c.joining.view_is ∙ mine.0 ∙ sym table,
       ap (λ m. m.1) c.joining.invariant.view',
@@ -40,7 +40,7 @@ loop-joining-preserved c =
     let one = length-append done (c.in-Some.joining ∷ []) in
     record {
       table = j.0 ∙ i.table;
-      parts = ap (λ m. m.0) j.2 ∙ joined-more _ _ _ _ _ _ _ _ _ c.in-Some.joining i.parts (ap (λ m. m.0) c.joining.invariant.view')
+      parts = ap (λ m. m.0) j.2 ∙ joined-more _ _ _ _ _ _ _ _ _ _ c.in-Some.joining i.parts (ap (λ m. m.0) c.joining.invariant.view')
           (ap (λ (s : CpuPlace). part (cpu s.number) s.values) c.joining.view_is);
       listed = listed-more c.loop-joining.lists.items _ c.into_items-in-loop-joining.result c.args.control done c.in-Some.joining i.listed p.items
           (c.into_items-in-loop-joining.ensures ∙ c.joining.invariant.marked ∙ ap items_at c.joining.view_is);

@@ -10,7 +10,7 @@ use Rattle.live_table.proofs.live.Live.join_all.Given as goal
 abbrev pub invariant-loop-joining : goal.invariant-loop-joining
 invariant-loop-joining l = record {
   table : l.seat.table_id ≡ l.self.table_id;
-  parts : l.seat.me.0 ≡ view l.fn.control.job l.fn.control.split (part ByControl l.fn.control.values ∷ parts_of l.yielded);
+  parts : l.seat.me.0 ≡ view l.fn.control.job l.fn.control.led l.fn.control.split (part ByControl l.fn.control.values ∷ parts_of l.yielded);
   listed : items_of l.lists.items ≡ lists_at l.fn.control l.yielded;
   count : length l.lists.items ≡ 1 + length l.yielded;
   room : 1 + length l.fn.cpus.items ≤ vec_capacity l.lists;
