@@ -1,5 +1,6 @@
 pub mod LogLines
 pub mod LogSamples
+pub mod LogSaid
 pub mod LogWords
 pub mod LogReads
 pub mod LogTells

@@ -1,6 +1,6 @@
 -- A reader of the log: from the words of an item it gives the item again, so the words tell the item.
-use Rattle.std.proofs.Common.{cond, if◌then◌else◌, ◌≡◌, ℕ, zero, suc, ◌<◌, ◌≤◌, Bool, true, false, ◌==◌, List, [], ◌∷◌, ◌++◌, length, codes, Option, Some, None, refl, sym, ap, ◌∙◌, arith, inl, eqb-true}
-use Rattle.std.specs.Prelude.{get_or}
+use Rattle.std.proofs.Common.{cond, if◌then◌else◌, ◌≡◌, ℕ, zero, suc, ◌<◌, ◌≤◌, ◌^◌, Bool, true, false, ◌==◌, List, [], ◌∷◌, ◌++◌, length, codes, Option, Some, None, refl, sym, ap, ◌∙◌, arith, inl, eqb-true}
+use Rattle.std.specs.Prelude.{get_or, IfSome}
 use Rattle.std.specs.Fmt.{decimal}
 use Rattle.std.specs.Str.{bytes_eq}
 use Rattle.std.specs.Str.Parse.{digits_value}
@@ -22,8 +22,9 @@ use Rattle.ft_base.specs.Job.{Job, Func, Task, Spec, funcs, no_func, no_task}
 use Rattle.ft_base.specs.Desk.{plain_spec}
 use Rattle.ft_base.proofs.Small.{==-refl}
 use Rattle.trace_views.specs.Words.{Word, function_word, user_word, pid_at}
-use Rattle.trace_views.specs.LogText.{call_word, caller_word, context_word, reason_word, ran_words, answer_words, item_words}
+use Rattle.trace_views.specs.LogText.{call_word, caller_word, context_word, reason_word, ran_words, answer_words, lane_words}
 use Rattle.trace_lines.specs.LogItems.{IsNamedApart, IsCallOf, IsCallerOf, IsRanOf, IsAnswerOf, IsItemOf}
+use Rattle.trace_lines.proofs.LogSaid.{said, AreSmall, IsInLaneAlike}
 use Rattle.trace_lines.proofs.LogWords.{upto, beyond, upto-at, beyond-at, decimal-free, decimal-first, value-decimal}
 
 -- the place of the first that passes
@@ -173,9 +174,10 @@ module _ (job : Job) (apart : IsNamedApart job) where
       else (if bytes_eq w (codes "exit-end") then ExitEnd (read_call job a) (read_user job b)
       else Ret (read_call job a) (read_caller job b)))))
   read_rest w (a ∷ b ∷ c ∷ []) =
-      if bytes_eq w (codes "refuse") then Refuse (read_call job a) (read_user job b) (read_reason c)
+      if bytes_eq w (codes "begin") then Begin (read_number a)
+      else (if bytes_eq w (codes "refuse") then Refuse (read_call job a) (read_user job b) (read_reason c)
       else (if bytes_eq w (codes "exit") then Exit (read_call job a) (read_user job b) (read_number c)
-      else Body (read_call job a) (read_function job b) (read_ran (c ∷ [])))
+      else Body (read_call job a) (read_function job b) (read_ran (c ∷ []))))
   read_rest w (a ∷ b ∷ c ∷ d ∷ []) =
       if bytes_eq w (codes "enter") then Enter (read_call job a) (read_context b) (read_function job c) (read_caller job d)
       else (if bytes_eq w (codes "return") then Return (read_number a) (read_answer (b ∷ c ∷ d ∷ []))
@@ -186,27 +188,47 @@ module _ (job : Job) (apart : IsNamedApart job) where
   read_item [] = Begin 0
   read_item (w ∷ rest) = read_rest w rest
 
-  item-again : (item : Item) → IsItemOf job item → read_item (item_words job item) ≡ item
-  item-again (Begin k) of = rw (value-decimal k of) refl
-  item-again (Return k Accepted) of = rw (value-decimal k of.0) refl
-  item-again (Return k Already) of = rw (value-decimal k of.0) refl
-  item-again (Return k NotThere) of = rw (value-decimal k of.0) refl
-  item-again (Return k Invalid) of = rw (value-decimal k of.0) refl
-  item-again (Return k NoMatch) of = rw (value-decimal k of.0) refl
-  item-again (Return k (Busy f u)) of = rw (value-decimal k of.0, function-again f of.1.0, user-again u of.1.1) refl
-  item-again (Enter call ctx f caller) of = rw (call-again call of.0, context-again ctx, function-again f of.1, caller-again caller of.2) refl
-  item-again (Back call u) of = rw (call-again call of.0, user-again u of.1) refl
-  item-again (BackEnd call u) of = rw (call-again call of.0, user-again u of.1) refl
-  item-again (Refuse call u reason) of = rw (call-again call of.0, user-again u of.1, reason-again reason) refl
-  item-again (Miss call u) of = rw (call-again call of.0, user-again u of.1) refl
-  item-again (Body call g Nop) of = rw (call-again call of.0, function-again g of.1) refl
-  item-again (Body call g ByList) of = rw (call-again call of.0, function-again g of.1) refl
-  item-again (Body call g (Own u)) of = rw (call-again call of.0, function-again g of.1, user-again u of.2) refl
-  item-again (Leave call) of = rw (call-again call of) refl
-  item-again (Exit call u entry) of = rw (call-again call of.0, user-again u of.1, value-decimal entry of.2) refl
-  item-again (ExitEnd call u) of = rw (call-again call of.0, user-again u of.1) refl
-  item-again (Ret call to) of = rw (call-again call of.0, caller-again to of.1) refl
+  begin-again : (k : ℕ) (lane : Option ℕ) → k < 2 ^ 64 → read_item (codes "begin" ∷ decimal k ∷ lane_words lane) ≡ Begin k
+  begin-again k None of = rw (value-decimal k of) refl
+  begin-again k (Some lane) of = rw (value-decimal k of) refl
+
+  module _ (lanes : ℕ → Option ℕ) where
+    item-again : (item : Item) → IsItemOf job item → read_item (said job lanes item) ≡ item
+    item-again (Begin k) of = begin-again k (lanes k) of
+    item-again (Return k Accepted) of = rw (value-decimal k of.0) refl
+    item-again (Return k Already) of = rw (value-decimal k of.0) refl
+    item-again (Return k NotThere) of = rw (value-decimal k of.0) refl
+    item-again (Return k Invalid) of = rw (value-decimal k of.0) refl
+    item-again (Return k NoMatch) of = rw (value-decimal k of.0) refl
+    item-again (Return k (Busy f u)) of = rw (value-decimal k of.0, function-again f of.1.0, user-again u of.1.1) refl
+    item-again (Enter call ctx f caller) of = rw (call-again call of.0, context-again ctx, function-again f of.1, caller-again caller of.2) refl
+    item-again (Back call u) of = rw (call-again call of.0, user-again u of.1) refl
+    item-again (BackEnd call u) of = rw (call-again call of.0, user-again u of.1) refl
+    item-again (Refuse call u reason) of = rw (call-again call of.0, user-again u of.1, reason-again reason) refl
+    item-again (Miss call u) of = rw (call-again call of.0, user-again u of.1) refl
+    item-again (Body call g Nop) of = rw (call-again call of.0, function-again g of.1) refl
+    item-again (Body call g ByList) of = rw (call-again call of.0, function-again g of.1) refl
+    item-again (Body call g (Own u)) of = rw (call-again call of.0, function-again g of.1, user-again u of.2) refl
+    item-again (Leave call) of = rw (call-again call of) refl
+    item-again (Exit call u entry) of = rw (call-again call of.0, user-again u of.1, value-decimal entry of.2) refl
+    item-again (ExitEnd call u) of = rw (call-again call of.0, user-again u of.1) refl
+    item-again (Ret call to) of = rw (call-again call of.0, caller-again to of.1) refl
 
   -- so equal words come from equal items
-  pub same-item : (i j : Item) → IsItemOf job i → IsItemOf job j → item_words job i ≡ item_words job j → i ≡ j
-  same-item i j a b e = sym (item-again i a) ∙ ap (λ (ws : List Word). read_item ws) e ∙ item-again j b
+  pub same-item : (ls ms : ℕ → Option ℕ) (i j : Item) → IsItemOf job i → IsItemOf job j → said job ls i ≡ said job ms j → i ≡ j
+  same-item ls ms i j a b e = sym (item-again ls i a) ∙ ap (λ (ws : List Word). read_item ws) e ∙ item-again ms j b
+
+  -- ## the lanes of commands
+
+  abbrev read_lane : List Word → Option ℕ
+  read_lane (w ∷ k ∷ word ∷ lane ∷ rest) = Some (digits_value 10 lane)
+  read_lane _ = None
+
+  lane-again : (k : ℕ) (lane : Option ℕ) → IfSome lane (λ n. n < 2 ^ 64) → read_lane (codes "begin" ∷ decimal k ∷ lane_words lane) ≡ lane
+  lane-again k None small = refl
+  lane-again k (Some lane) small = ap (λ (n : ℕ). Some n) (value-decimal lane small)
+
+  -- so equal words come from equal lanes
+  pub same-lane : (ls ms : ℕ → Option ℕ) (item : Item) → AreSmall ls → AreSmall ms → said job ls item ≡ said job ms item → IsInLaneAlike ls ms item
+  same-lane ls ms (Begin k) a b e = sym (lane-again k (ls k) (a k)) ∙ ap (λ (ws : List Word). read_lane ws) e ∙ lane-again k (ms k) (b k)
+  same-lane ls ms _ a b e = tt

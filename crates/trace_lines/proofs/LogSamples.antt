@@ -60,6 +60,15 @@ commands : texts (Begin 1 ∷ Return 1 Accepted ∷ Return 2 Already ∷ Return 
 unfolding digits
 commands = refl
 
+-- the same job in lanes, and a command that it doesn't have
+abbrev in_lanes : Job
+in_lanes = record job { lines = record usual_lines { lanes = 1 ∷ 0 ∷ [] } }
+
+lanes : map (λ item. joined (item_words in_lanes item)) (Begin 1 ∷ Begin 2 ∷ Return 2 Already ∷ Begin 3 ∷ [])
+    ≡ codes "begin 1 lane 1" ∷ codes "begin 2 lane 0" ∷ codes "return 2 already" ∷ codes "begin 3" ∷ []
+unfolding digits
+lanes = refl
+
 entries : texts (Enter (call 1) Normal func None ∷ Enter (call 2) Softirq func (Some (call 1)) ∷ Enter (call 3) Irq no_func None ∷ Enter stray Nmi func (Some stray) ∷ [])
     ≡ codes "enter 10.1 normal do_fork -" ∷ codes "enter 10.2 softirq do_fork 10.1" ∷ codes "enter 10.3 irq  -" ∷ codes "enter 0.4 nmi do_fork 0.4" ∷ []
 unfolding digits

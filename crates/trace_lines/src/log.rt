@@ -2,8 +2,9 @@
 
 ghost use Rattle.std.specs.Prelude.{◌≡◌, [], ◌∷◌, ◌++◌, codes};
 ghost use Rattle.ft_io.specs.Pieces.{Puts};
+ghost use Rattle.std.specs.Fmt.{decimal};
 ghost use Rattle.trace_views.specs.Words.{user_word};
-ghost use Rattle.trace_views.specs.LogText.{call_word, caller_word};
+ghost use Rattle.trace_views.specs.LogText.{call_word, caller_word, lane_words};
 ghost use Rattle.trace_views.specs.LogText.{context_word, reason_word, ran_words, answer_words, joined};
 ghost use Rattle.trace_views.specs.LogText.{item_words, log_line, log_lines};
 
@@ -113,16 +114,26 @@ fn put_visit<K: Sink, N: Named>(
     pieces.put(sink, names.user(user).as_bytes());
 }
 
+/// Puts the beginning of a command, and its lane if it has one.
+fn put_begin<K: Sink>(pieces: &mut Pieces, sink: &mut K, k: u32, lane: Option<u32>)
+    ensures { Puts K.holds K.faults (codes " " ++ joined (codes "begin" ∷ decimal k ∷ lane_words lane))
+        sink.old pieces.old sink.new pieces.new }
+{
+    pieces.put(sink, b" begin ");
+    put_number(pieces, sink, k);
+    if let Some(lane) = lane {
+        pieces.put(sink, b" lane ");
+        put_number(pieces, sink, lane);
+    }
+}
+
 /// Puts a space, and what an item says after its place.
 fn put_item<K: Sink, N: Named>(pieces: &mut Pieces, sink: &mut K, names: &N, item: &Item)
     ensures { Puts K.holds K.faults (codes " " ++ joined (item_words (N.job names.now) item.now))
         sink.old pieces.old sink.new pieces.new }
 {
     match *item {
-        Item::Begin { k } => {
-            pieces.put(sink, b" begin ");
-            put_number(pieces, sink, k);
-        }
+        Item::Begin { k } => put_begin(pieces, sink, k, names.lane(k)),
         Item::Return { k, answer } => {
             pieces.put(sink, b" return ");
             put_number(pieces, sink, k);

@@ -86,6 +86,14 @@ impl<'a> Named for Names<'a> {
         }
     }
 
+    fn lane(&self, command: u32) -> Option<u32> {
+        if command == 0 {
+            None
+        } else {
+            self.job.lanes().get(command as usize - 1).copied()
+        }
+    }
+
     fn users(&self) -> u32 {
         self.job.users()
     }

@@ -36,6 +36,28 @@ ctl register p
 ctl register e
 ";
 
+/// Two commands in one lane, and a third in another.
+const LANES: &str = "ftrace 1
+func a
+user t function
+user s function
+lane 0
+ctl register t
+ctl unregister t
+lane 1
+ctl register s
+";
+
+/// The log of its replay, in the order of the lines.
+const LANES_LOG: &[u8] = b"0 begin 1 lane 0
+1 return 1 ok
+2 begin 2 lane 0
+3 return 2 ok
+4 begin 3 lane 1
+5 return 3 ok
+end
+";
+
 static FORMS: [Form; 5] = [
     Form::Log,
     Form::Function,
@@ -57,12 +79,17 @@ fn sink_of(alloc: Global, room: usize) -> Result<MemSink, Fail> {
     Ok(MemSink::new(alloc, 7, room, Vec::new(alloc))?)
 }
 
-/// The job of a user of each kind.
-fn each_kind(alloc: Global) -> Result<Job, Fail> {
-    match read(alloc, EACH_KIND) {
+/// The job of a text that isn't refused.
+fn job_of(alloc: Global, text: &str) -> Result<Job, Fail> {
+    match read(alloc, text) {
         Some(job) => Ok(job),
         None => Err("refused")?,
     }
+}
+
+/// The job of a user of each kind.
+fn each_kind(alloc: Global) -> Result<Job, Fail> {
+    job_of(alloc, EACH_KIND)
 }
 
 /// Writes a form of a replay into a sink.
@@ -151,6 +178,15 @@ fn a_full_sink_has_a_beginning(rt: HostRuntime) -> Result<(), Fail> {
     for form in &FORMS {
         assert!(rt; is_cut_off(alloc, &job, &outcome, *form)?);
     }
+    Ok(())
+}
+
+#[test]
+fn a_log_tells_the_lanes(rt: HostRuntime) -> Result<(), Fail> {
+    let alloc = rt.alloc();
+    let job = job_of(alloc, LANES)?;
+    let outcome = replay(alloc, &job)?;
+    assert!(rt; is_written(alloc, &job, &outcome, Form::Log, LANES_LOG)?);
     Ok(())
 }
 

@@ -13,7 +13,7 @@ use Rattle.ft_base.specs.declared.item.Reason.TheVariants.{Pid, Recursion, Depth
 use Rattle.ft_base.specs.declared.item.Answer.{Answer}
 use Rattle.ft_base.specs.declared.item.Answer.TheVariants.{Accepted, Already, NotThere, Invalid, NoMatch, Busy}
 use Rattle.ft_base.specs.Job.{Job}
-use Rattle.trace_views.specs.Words.{Word, function_word, user_word, pid_at, last_line}
+use Rattle.trace_views.specs.Words.{Word, function_word, user_word, pid_at, lane_at, last_line}
 
 -- a call: the pid of its task, a dot and its number
 abbrev pub call_word : Job → CallNo → Word
@@ -52,9 +52,14 @@ answer_words job Invalid = codes "invalid" ∷ []
 answer_words job NoMatch = codes "no-match" ∷ []
 answer_words job (Busy f u) = codes "busy" ∷ function_word job f.0 ∷ user_word job u.0 ∷ []
 
+-- the lane of a command, if it has one
+abbrev pub lane_words : Option ℕ → List Word
+lane_words None = []
+lane_words (Some lane) = codes "lane" ∷ decimal lane ∷ []
+
 -- the words of an item, after its place
 abbrev pub item_words : Job → Item → List Word
-item_words job (Begin k) = codes "begin" ∷ decimal k ∷ []
+item_words job (Begin k) = codes "begin" ∷ decimal k ∷ lane_words (lane_at job k)
 item_words job (Return k answer) = codes "return" ∷ decimal k ∷ answer_words job answer
 item_words job (Enter call ctx f caller) = codes "enter" ∷ call_word job call ∷ context_word ctx ∷ function_word job f.0 ∷ caller_word job caller ∷ []
 item_words job (Back call u) = codes "back" ∷ call_word job call ∷ user_word job u.0 ∷ []

@@ -1,5 +1,5 @@
 -- Words that the printed texts share: names, pids and CPUs by number, and columns.
-use Rattle.std.specs.Prelude.{ℕ, suc, Bool, true, false, ◌-◌, List, [], ◌∷◌, ◌++◌, length, replicate, get_or, codes, if◌then◌else◌}
+use Rattle.std.specs.Prelude.{ℕ, zero, suc, Bool, true, false, ◌-◌, List, [], ◌∷◌, ◌++◌, length, replicate, get_or, slice_get, codes, Option, None, if◌then◌else◌}
 use Rattle.ft_base.specs.declared.user.Kind.{Kind}
 use Rattle.ft_base.specs.declared.user.Kind.TheVariants.{Function, Graph, Profile}
 use Rattle.ft_base.specs.declared.item.Item.{Item}
@@ -25,6 +25,11 @@ pid_at job t = (get_or job.tasks t no_task).pid
 -- the CPU of a task, 0 for a number that the job doesn't have
 abbrev pub cpu_at : Job → ℕ → ℕ
 cpu_at job t = (get_or job.tasks t no_task).cpu
+
+-- the lane of a command, which is numbered from 1: nothing if the job has no lanes
+abbrev pub lane_at : Job → ℕ → Option ℕ
+lane_at job zero = None
+lane_at job (suc n) = slice_get job.lines.lanes n
 
 -- the line with the name of a user, whose lines follow
 unfoldable pub user_line : Word → List ℕ

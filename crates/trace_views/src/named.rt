@@ -18,7 +18,7 @@ pub trait Named {
     ghost use Rattle.ft_base.specs.Desk.{spec_at};
     ghost use Rattle.ft_base.specs.Job.{Job, funcs};
     ghost use Rattle.ft_base.specs.WellFormed.{IsWellFormed};
-    ghost use Rattle.trace_views.specs.Words.{function_word, user_word, pid_at, cpu_at};
+    ghost use Rattle.trace_views.specs.Words.{function_word, user_word, pid_at, cpu_at, lane_at};
 
     /// The job.
     ghost job: { Self → Job };
@@ -39,6 +39,11 @@ pub trait Named {
     fn task(&self, task: TaskNo) -> TaskName
         ensures pid { result.pid ≡ pid_at (job self.now) task.0 }
         ensures cpu { result.cpu ≡ cpu_at (job self.now) task.0 };
+
+    /// The lane of a command, which is numbered from 1. `None` if the job has no lanes, or no such
+    /// command.
+    fn lane(&self, command: u32) -> Option<u32>
+        ensures { result ≡ lane_at (job self.now) command };
 
     /// How many functions there are.
     fn functions(&self) -> u32

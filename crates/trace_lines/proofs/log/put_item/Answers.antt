@@ -1,18 +1,18 @@
-use Rattle.std.proofs.Common.{◌++◌, ◌∙◌, codes}
+use Rattle.std.proofs.Common.{◌∷◌, ◌++◌, ◌∙◌, ap, codes}
 use Rattle.std.specs.Fmt.{decimal}
 use Rattle.ft_io.proofs.PieceLaws.{puts-then, puts-equal}
 use Rattle.trace_views.specs.Words.{function_word, user_word}
-use Rattle.trace_views.specs.LogText.{call_word, reason_word}
+use Rattle.trace_views.specs.LogText.{call_word, lane_words, joined, reason_word}
 use Rattle.trace_lines.proofs.LogLines.{joined-ran, joined-answer, visit-more}
 use Rattle.trace_lines.proofs.log.put_item.Goals as goal
 
 pub returns-in-Begin : goal.returns-in-Begin
-returns-in-Begin g c = rw c.in-Begin.is (puts-then c.put.ensures c.put_number.ensures)
+returns-in-Begin g c = rw c.in-Begin.is (puts-equal (ap (λ lane. codes " " ++ joined (codes "begin" ∷ decimal c.in-Begin.k ∷ lane_words lane)) c.lane.ensures) c.put_begin.ensures)
 
 pub returns-in-Return : goal.returns-in-Return
-returns-in-Return g c = rw c.in-Return.is (puts-then c.put-in-Return.ensures
+returns-in-Return g c = rw c.in-Return.is (puts-then c.put.ensures
     (puts-equal (joined-answer (g.N.Named.job c.args.names.now) (decimal c.in-Return.k) c.in-Return.answer)
-    (puts-then c.put_number-in-Return.ensures (puts-then c.put-in-Return-2.ensures c.put_answer.ensures))))
+    (puts-then c.put_number.ensures (puts-then c.put-in-Return.ensures c.put_answer.ensures))))
 
 pub returns-in-Enter : goal.returns-in-Enter
 returns-in-Enter g c = rw c.in-Enter.is (puts-then c.put-in-Enter.ensures (puts-then c.put_call.ensures (puts-then c.put-in-Enter-2.ensures
