@@ -35,6 +35,7 @@ pub data LineForm : Type 0 where
   user : (line : UserLine) → LineForm
   new_cpu : (cpu : ℕ) → (quantum : ℕ) → LineForm
   new_task : (pid : ℕ) → (cpu : ℕ) → LineForm
+  new_lane : (lane : ℕ) → LineForm
   call : (function : Word) → LineForm
   ret : LineForm
   raise : (to : Ctx) → LineForm

@@ -11,7 +11,7 @@ use Rattle.script_text.specs.Names.{is_name, number_of}
 use Rattle.ft_schedule.specs.declared.item.SchedItem.{SchedItem}
 use Rattle.ft_schedule.specs.Items.{some_items_of}
 use Rattle.script_form.specs.Names.{is_act}
-use Rattle.script_form.specs.Forms.{UserAct, calls, irqs, UserLine, LineForm, skip, version, func, depth, tramps, user, new_cpu, new_task, call, ret, raise, lower, after, register, unregister, write, pids, enable, disable, max_depth, until, sched}
+use Rattle.script_form.specs.Forms.{UserAct, calls, irqs, UserLine, LineForm, skip, version, func, depth, tramps, user, new_cpu, new_task, new_lane, call, ret, raise, lower, after, register, unregister, write, pids, enable, disable, max_depth, until, sched}
 
 -- ---- the words of a user's line
 
@@ -82,6 +82,7 @@ pub data HasForm : List Word → LineForm → Type 0 where
   a_user : (u : UserLine) → IsUser u → HasForm (codes "user" ∷ user_words u) (user u)
   a_cpu : (first second : Word) (cpu quantum : ℕ) → number_of first ≡ Some cpu → number_of second ≡ Some quantum → HasForm (codes "cpu" ∷ first ∷ codes "quantum" ∷ second ∷ []) (new_cpu cpu quantum)
   a_task : (first second : Word) (pid cpu : ℕ) → number_of first ≡ Some pid → number_of second ≡ Some cpu → HasForm (codes "task" ∷ first ∷ codes "cpu" ∷ second ∷ []) (new_task pid cpu)
+  a_lane : (word : Word) (n : ℕ) → number_of word ≡ Some n → HasForm (codes "lane" ∷ word ∷ []) (new_lane n)
   a_call : (function : Word) → is_name function ≡ true → HasForm (codes "call" ∷ function ∷ []) (call function)
   a_ret : HasForm (codes "ret" ∷ []) ret
   a_softirq : HasForm (codes "softirq" ∷ []) (raise Softirq)

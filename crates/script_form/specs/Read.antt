@@ -5,8 +5,8 @@ use Rattle.script_form.specs.declared.form.UserAct.{UserAct as ActRead}
 use Rattle.script_form.specs.declared.form.UserAct.TheVariants.{Call as CallRead, Irq as IrqRead}
 use Rattle.script_form.specs.declared.form.UserLine.{UserLine as UserRead}
 use Rattle.script_form.specs.declared.form.LineForm.{LineForm as FormRead}
-use Rattle.script_form.specs.declared.form.LineForm.TheVariants.{Skip, Version, Func, Depth, Tramps, User, NewCpu, NewTask, Call, Ret, Raise, Lower, After, Register, Unregister, Write, Pids, Enable, Disable, MaxDepth, Until, Sched}
-use Rattle.script_form.specs.Forms.{UserAct, calls, irqs, UserLine, LineForm, skip, version, func, depth, tramps, user, new_cpu, new_task, call, ret, raise, lower, after, register, unregister, write, pids, enable, disable, max_depth, until, sched}
+use Rattle.script_form.specs.declared.form.LineForm.TheVariants.{Skip, Version, Func, Depth, Tramps, User, NewCpu, NewTask, NewLane, Call, Ret, Raise, Lower, After, Register, Unregister, Write, Pids, Enable, Disable, MaxDepth, Until, Sched}
+use Rattle.script_form.specs.Forms.{UserAct, calls, irqs, UserLine, LineForm, skip, version, func, depth, tramps, user, new_cpu, new_task, new_lane, call, ret, raise, lower, after, register, unregister, write, pids, enable, disable, max_depth, until, sched}
 
 -- what a user does at its entry callbacks
 abbrev pub act_read : ActRead → UserAct
@@ -34,6 +34,7 @@ form_read (Tramps slots) = tramps slots
 form_read (User line) = user (user_read line)
 form_read (NewCpu cpu quantum) = new_cpu cpu quantum
 form_read (NewTask pid cpu) = new_task pid cpu
+form_read (NewLane lane) = new_lane lane
 form_read (Call function) = call function.now
 form_read Ret = ret
 form_read (Raise to) = raise to

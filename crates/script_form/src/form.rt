@@ -61,6 +61,12 @@ pub enum LineForm<'a> {
         pid: u64,
         cpu: u64,
     },
+    /// There is a lane, of this number, of which the commands below are. Each lane is a control script
+    /// of its own, and one lock lets their commands through one at a time (`kernel/trace/ftrace.c`,
+    /// `ftrace_lock`).
+    NewLane {
+        lane: u64,
+    },
     /// The task calls the function of this name.
     Call {
         function: &'a str,

@@ -43,6 +43,9 @@ fn read_unlisted<'a>(key: &str, args: &[&'a str]) -> Option<LineForm<'a>>
         "user" => read_user(args),
         "cpu" => read_cpu(args),
         "task" => read_task(args),
+        "lane" => Some(LineForm::NewLane {
+            lane: only_number(args)?,
+        }),
         _ => read_act(key, args),
     }
 }

@@ -58,8 +58,11 @@ iret
 after 0
 after 3";
 
-/// Lines that have a form: control and the schedule.
+/// Lines that have a form: lanes, control and the schedule.
 const GOOD_CONTROL: &str = "\
+lane 0
+lane 0000000008
+lane 9999999999
 ctl register u
 ctl unregister u
 ctl enable u
@@ -158,8 +161,15 @@ after f
 after 1 1
 return";
 
-/// Lines that have none: control and the schedule.
+/// Lines that have none: lanes, control and the schedule.
 const BAD_CONTROL: &str = "\
+lane
+lane a
+lane -1
+lane 00000000000
+lane 0 1
+Lane 0
+ctl lane 0
 ctl register 1
 ctl register
 ctl register u v
@@ -272,6 +282,7 @@ fn reads_declarations_and_acts(rt: HostRuntime) -> Result<(), Fail> {
             ("tramps 0", LineForm::Tramps { slots: 0 }),
             ("cpu 1 quantum 7", LineForm::NewCpu { cpu: 1, quantum: 7 }),
             ("task 10 cpu 3", LineForm::NewTask { pid: 10, cpu: 3 }),
+            ("lane 0000000007", LineForm::NewLane { lane: 7 }),
             ("call f", LineForm::Call { function: "f" }),
             ("ret", LineForm::Ret),
             ("softirq", LineForm::Raise { to: Ctx::Softirq }),
