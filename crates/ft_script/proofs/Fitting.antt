@@ -1,13 +1,13 @@
 -- What a line that isn't refused declares fits what is declared above it.
 use Rattle.std.proofs.Common.{◌≡◌, ℕ, zero, suc, ◌+◌, ◌*◌, ◌<◌, ◌≤◌, ◌==◌, ◌||◌, nat_le, Bool, true, false, List, [], ◌∷◌, length, position, Option, Some, None, refl, sym, ap, ap₂, ◌∙◌, subst, arith, add-one, if◌then◌else◌}
-use Rattle.std.specs.Prelude.{is_some, sum_by, Result, Ok, Err, IfOk}
+use Rattle.std.specs.Prelude.{is_some, not, sum_by, Result, Ok, Err, IfOk}
 use Rattle.std.specs.List.{list_any}
 use Rattle.std.specs.Str.{bytes_eq}
-use Rattle.std.proofs.lemmas.Bool.{ltb-false, leb-false, eqb-true}
+use Rattle.std.proofs.lemmas.Bool.{ltb-false, leb-false, eqb-true, not-false}
 use Rattle.std.proofs.lemmas.List.{length-map, length-set}
 use Rattle.std.proofs.lemmas.List.Quantifiers.{position-Some}
 use Rattle.ft_base.proofs.Small.{false_true, or-false_both}
-use Rattle.ft_base.specs.declared.limits.TheConstants.{CPUS, TASKS, COMMANDS, UNTILS, ACTS, LEVELS, FRAMES, GRAPH_DEPTH, ITEMS, QUANTUM, STEPS}
+use Rattle.ft_base.specs.declared.limits.TheConstants.{CPUS, TASKS, LANES, COMMANDS, UNTILS, ACTS, LEVELS, FRAMES, GRAPH_DEPTH, ITEMS, QUANTUM, STEPS}
 use Rattle.ft_base.specs.declared.number.FuncNo.{FuncNo}
 use Rattle.ft_base.specs.declared.task.TaskAct.{TaskAct}
 use Rattle.ft_base.specs.declared.task.TaskAct.TheVariants.{Call, Ret, Raise, Lower, After}
@@ -26,7 +26,7 @@ use Rattle.filter_commands.specs.Edits.{selected_by, edit_of}
 use Rattle.ft_schedule.specs.Causes.{has_bad_count, steps_of, is_past_limit as is_past_sched_limit, has_unknown}
 use Rattle.user_specs.specs.Bound.{call_bound_of}
 use Rattle.script_text.specs.Lines.{Word, Line}
-use Rattle.script_form.specs.Forms.{LineForm, skip, version, func, depth, tramps, user, new_cpu, new_task, call, ret, raise, lower, after, register, unregister, write, pids, enable, disable, max_depth, until, sched}
+use Rattle.script_form.specs.Forms.{LineForm, skip, version, func, depth, tramps, user, new_cpu, new_task, new_lane, call, ret, raise, lower, after, register, unregister, write, pids, enable, disable, max_depth, until, sched}
 use Rattle.script_form.specs.Forms.{UserLine, UserAct, calls, irqs}
 use Rattle.script_form.specs.Lines.{line_form}
 use Rattle.script_waits.specs.Tasks.{LinedTask}
@@ -34,7 +34,7 @@ use Rattle.ft_script.specs.declared.faults.Cause.{Cause}
 use Rattle.ft_script.specs.declared.faults.Cause.TheVariants.{Unknown, Pattern, Limit, Syntax, Version}
 use Rattle.ft_script.specs.Levels.{open_calls}
 use Rattle.ft_script.specs.Above.{Above, Declaration, a_version, a_user, a_task, an_act, a_ctl, Resolved}
-use Rattle.ft_script.specs.Causes.{rank_of, is_misplaced, is_out_of_place, is_past_limit, is_duplicate, is_full_of_acts, is_full_of_calls, is_full_of_commands, has_no_room, is_long, is_long_or_none, is_last_by, function_names, user_names, pids_of, known, made, function_at, function_in, function_or_none, user_in, task_in, cpu_in, act_in, spec_with, spec_in, write_to, write_with, edit_in, marks_of, has_no_pid, pid_command, pids_in, a_command, named, is_unbalanced, resolved, first_line, next_line, resolved_line}
+use Rattle.ft_script.specs.Causes.{rank_of, is_misplaced, has_ctl_in_no_lane, is_out_of_place, is_past_limit, is_duplicate, is_full_of_acts, is_full_of_calls, is_full_of_commands, has_no_room, is_long, is_long_or_none, is_last_by, function_names, user_names, pids_of, known, made, function_at, function_in, function_or_none, user_in, task_in, cpu_in, act_in, spec_with, spec_in, write_to, write_with, edit_in, marks_of, has_no_pid, pid_command, pids_in, a_command, named, is_unbalanced, resolved, first_line, next_line, resolved_line}
 use Rattle.ft_script.specs.Script.{or_nothing, said}
 use Rattle.ft_script.specs.Within.{IsInOrder}
 use Rattle.ft_script.specs.Holds.{IsLine}
@@ -181,6 +181,7 @@ says above (tramps slots) = (tt, λ b. refl)
 says above (user u) = of-all (Says above (user u)) a_user (spec_in above u) (λ s. (tt, λ b. refl))
 says above (new_cpu cpu quantum) = (tt, λ b. refl)
 says above (new_task pid cpu) = of-all (Says above (new_task pid cpu)) (a_task pid) (cpu_in above cpu) (λ c. (tt, λ b. refl))
+says above (new_lane lane) = (tt, λ b. refl)
 says above (call name) = of-all (Says above (call name)) (λ f. an_act (Call f)) (function_in above name) (λ f. (omega arith, λ b. refl))
 says above ret = (omega arith, λ b. refl)
 says above (raise to) = (omega arith, λ b. refl)
@@ -224,13 +225,13 @@ module _ (above : Above) (order : IsInOrder above) where
   user-command command name there few = of-made (FitsAs above) (λ u. a_command (command u)) (user_in above name) (by (user_in above name) (user-known above name))
     where
       by : (r : Result ℕ Cause) → IfOk r (λ u. u < length above.users) → IfOk r (λ u. FitsAs above (a_command (command u)))
-      by (Ok u) lt = (there u lt, room COMMANDS above.commands few)
+      by (Ok u) lt = (there u lt, room COMMANDS above.commands few, tt)
       by (Err cause) h = tt
 
   -- one more command that names what is there
   known-command : (r : Result Command Cause) → IfOk r (λ c. IsLine (length above.users) (length above.functions) (length above.tasks) (Run c)) → is_full_of_commands above ≡ false
       → IfOk (made a_command r) (FitsAs above)
-  known-command (Ok c) there few = (there, room COMMANDS above.commands few)
+  known-command (Ok c) there few = (there, room COMMANDS above.commands few, tt)
   known-command (Err cause) there few = tt
 
   -- a user, a call and a wait, if what they name is there
@@ -255,9 +256,9 @@ module _ (above : Above) (order : IsInOrder above) where
       other-act (call name) (Call f) placed (or-false_both _ _ placed).1 (omega arith) full.0
       (h, room LEVELS (open_calls above.levels) rest.0, subst (λ k. call_bound_of above.users levels * k ≤ ITEMS) (add-one above.calls) fits)
 
-  wait-fits : (acts : ℕ) → nat_le UNTILS above.waits ≡ false → (r : Result ℕ Cause) → IfOk r (λ t. t < length above.tasks) → IfOk r (λ t. FitsAs above (a_ctl (Until t acts)))
-  wait-fits acts few (Err cause) h = tt
-  wait-fits acts few (Ok t) h = (h, room UNTILS above.waits few)
+  wait-fits : (acts : ℕ) → nat_le UNTILS above.waits ≡ false → above.lane_count ≡ 0 → (r : Result ℕ Cause) → IfOk r (λ t. t < length above.tasks) → IfOk r (λ t. FitsAs above (a_ctl (Until t acts)))
+  wait-fits acts few none (Err cause) h = tt
+  wait-fits acts few none (Ok t) h = (h, room UNTILS above.waits few, none)
 
   named-fits : (form : LineForm) → Named form → is_misplaced above form ≡ false → is_past_limit above form ≡ false → is_duplicate above form ≡ false → IfOk (named above form) (FitsAs above)
   named-fits skip n placed limit new = tt
@@ -287,6 +288,9 @@ module _ (above : Above) (order : IsInOrder above) where
         room = room TASKS (length above.tasks) (or-false_both _ _ (or-false_both _ _ limit).1).1;
         before = no-ctls above order (new_task pid cpu) placed (omega arith);
       }))
+  named-fits (new_lane lane) n placed limit new =
+      let both = or-false_both (not (lane == above.lane_count)) (has_ctl_in_no_lane above) (or-false_both _ _ placed).1 in
+      record { room = room LANES above.lane_count limit; each = eqb-true (length above.lanes) (length above.ctls) (not-false (length above.lanes == length above.ctls) both.1) }
   named-fits (call name) n placed limit new =
       of-made (FitsAs above) (λ f. an_act (Call f)) (function_in above name)
       (call-fits name placed (or-false_both (is_long name) (is_full_of_calls above) limit).1 (function_in above name) (function-known above name))
@@ -303,10 +307,10 @@ module _ (above : Above) (order : IsInOrder above) where
   named-fits (disable name) n placed limit new = user-command Disable name (λ u lt. (lt, tt, tt)) (or-false_both _ _ limit).1
   named-fits (max_depth k) n placed limit new =
       let both = or-false_both _ _ limit in
-      ((tt, tt, ltb-false GRAPH_DEPTH k both.0), room COMMANDS above.commands both.1)
+      ((tt, tt, ltb-false GRAPH_DEPTH k both.0), room COMMANDS above.commands both.1, tt)
   named-fits (until pid k) n placed limit new =
       of-made (FitsAs above) (λ task. a_ctl (Until task k)) (task_in above pid)
-      (wait-fits k (or-false_both _ _ (or-false_both _ _ limit).1).1 (task_in above pid) (task-known above pid))
+      (wait-fits k (or-false_both _ _ (or-false_both _ _ limit).1).1 (eqb-true above.lane_count 0 (not-false (above.lane_count == 0) (or-false_both _ _ placed).1)) (task_in above pid) (task-known above pid))
   named-fits (sched items) n placed limit new =
       of-if (FitsAs above) (is_past_sched_limit (length above.quanta) above.steps items) Limit _ (λ few. of-if (FitsAs above) (has_unknown (length above.quanta) items) Unknown _ (λ there.
       ltb-false STEPS (above.steps + sum_by (steps_of (length above.quanta)) items) (or-false_both (list_any has_bad_count items) _ few).1))

@@ -1,5 +1,5 @@
 -- What a line declares as the name of a function, its module or a user is a name, if it isn't too long, and what it says as a version is one.
-use Rattle.std.proofs.Common.{◌≡◌, ℕ, ◌&&◌, Bool, true, false, List, [], ◌∷◌, length, Option, Some, None, inl, inr, refl, subst, codes, if◌then◌else◌}
+use Rattle.std.proofs.Common.{◌≡◌, ℕ, Bool, true, false, List, [], ◌∷◌, length, Option, Some, None, inl, inr, refl, subst, codes, if◌then◌else◌}
 use Rattle.std.specs.Prelude.{option_map}
 use Rattle.std.specs.Option.{IfSome}
 use Rattle.std.specs.Str.{bytes_eq}
@@ -15,7 +15,7 @@ use Rattle.script_text.specs.Words.{both}
 use Rattle.script_text.specs.Names.{is_name, name_of}
 use Rattle.script_text.proofs.NameLemmas.{is_name_text-short}
 use Rattle.script_form.specs.Forms as form
-use Rattle.script_form.specs.Forms.{LineForm, UserAct, skip, version, func, depth, tramps, user, new_cpu, new_task, call, ret, raise, lower, after, register, unregister, write, pids, enable, disable, max_depth, until, sched}
+use Rattle.script_form.specs.Forms.{LineForm, UserAct, skip, version, func, depth, tramps, user, new_cpu, new_task, new_lane, call, ret, raise, lower, after, register, unregister, write, pids, enable, disable, max_depth, until, sched}
 use Rattle.script_form.specs.Users.{user_form, user_with, user_of, kind_of, flag, argument, ipmodify_of, act_of}
 use Rattle.script_form.specs.Lines.{act_form, unlisted_form, keyed_form, form_of, line_form}
 use Rattle.ft_script.specs.Causes.{is_long, is_long_or_none}
@@ -155,7 +155,8 @@ in-unlisted key args =
     (either (bytes_eq key (codes "user")) _ _ (in-user args)
     (either (bytes_eq key (codes "cpu")) _ _ (in-cpu args)
     (either (bytes_eq key (codes "task")) _ _ (in-task args)
-    (in-act key args)))))))
+    (either (bytes_eq key (codes "lane")) _ _ (of-map new_lane (λ n. tt) _)
+    (in-act key args))))))))
 
 in-keyed : (key : Word) (args : List Word) → IfSome (keyed_form key args) Named
 in-keyed key args =

@@ -1,12 +1,12 @@
 -- The job of what is declared is within the limits of scripts, and the parts that a reader makes of it are within what the machine asks.
-use Rattle.std.proofs.Common.{◌≡◌, ℕ, suc, ◌*◌, ◌<◌, ◌≤◌, List, [], ◌∷◌, length, map, sum_by, Option, Some, None, inl, refl, sym, ap, ◌∙◌, subst, arith}
+use Rattle.std.proofs.Common.{◌≡◌, ℕ, zero, suc, ◌*◌, ◌<◌, ◌≤◌, List, [], ◌∷◌, length, map, sum_by, Option, Some, None, ◌⊎◌, inl, inr, refl, sym, ap, ◌∙◌, subst, arith}
 use Rattle.std.specs.Prelude.{unwrap_or}
 use Rattle.std.specs.List.{AllByRecursion as Each}
 use Rattle.std.proofs.lemmas.List.{length-map}
 use Rattle.std.proofs.lemmas.List.Sums.{sum_by-cons}
 use Rattle.ft_base.proofs.Small.{Each-weaker}
 use Rattle.ft_base.specs.declared.limits.TheConstants.{FRAMES, USUAL_FRAMES, ITEMS}
-use Rattle.ft_base.specs.Job.{Spec, Task, Ctl as PlainCtl, Run as PlainRun, Until as PlainUntil, Command, commands_in, funcs}
+use Rattle.ft_base.specs.Job.{Spec, Task, Ctl as PlainCtl, Run as PlainRun, Until as PlainUntil, Command, commands_in}
 use Rattle.ft_base.specs.Versions.{limits_of}
 use Rattle.ft_base.specs.WellFormed.{IsNamed, IsScript, IsWellFormed}
 use Rattle.ft_desk.specs.declared.command.Ctl.{Ctl}
@@ -19,13 +19,13 @@ use Rattle.user_specs.specs.Bound.{call_bound_of}
 use Rattle.history_bound.specs.Bound.{calls_in, all_calls}
 use Rattle.word_machine.specs.Limits.{WaitsFor, IsLevel, IsLimited}
 use Rattle.ft_machine.specs.Parts.{Parts, quanta_of, cpus_with, tasks_of, task_count, declared_of, job_of as parts_job, IsWithin}
-use Rattle.ft_machine.specs.Plans.{AreLinesPlanned, AreRingsPlanned}
+use Rattle.ft_machine.specs.Plans.{IsCommand, HasLanes, AreLinesPlanned, AreRingsPlanned}
 use Rattle.ft_machine.proofs.Numbered.{tasks_of-from, length-tasks}
 use Rattle.script_waits.specs.declared.script.LinedAct.{LinedAct}
 use Rattle.script_waits.specs.Tasks.{LinedTask}
 use Rattle.ft_script.specs.Above.{Above, LinedCtl}
 use Rattle.ft_script.specs.Script.{task_of, job_of}
-use Rattle.ft_script.specs.Holds.{acts_of, IsLine, IsAtMost, Holds, CanRun}
+use Rattle.ft_script.specs.Holds.{acts_of, IsLine, LanesHold, IsAtMost, Holds, CanRun}
 use Rattle.ft_script.specs.Kept.{AreParts}
 use Rattle.ft_script.proofs.TasksKept.{closed-tasks, raised-tasks}
 
@@ -74,6 +74,12 @@ module _ (users size tasks : ℕ) where
   line-in : (d : Declared) → length d.specs ≡ users → d.funcs ≡ size → d.tasks ≡ tasks → (c : Ctl) → IsLine users size tasks (ctl_of tasks c) → IsLineIn d c
   line-in d u s t (Run command) h = rw (u, s, t) (h.0, h.1)
   line-in d u s t (Until v k) h = omega (arith, t, h)
+
+-- if each line is a command, there are as many commands as lines
+all-commands : (ctls : List PlainCtl) → Each IsCommand ctls → length (commands_in ctls) ≡ length ctls
+all-commands [] h = refl
+all-commands (PlainRun c ∷ rest) h = ap suc (all-commands rest h.1)
+all-commands (PlainUntil t n ∷ rest) h = absurd h.0
 
 -- ## numbers
 
@@ -137,10 +143,20 @@ module _ (above : Above) (run : CanRun above) where
     items = subst (λ n. call_bound_of above.users (limits_of above.version).levels * n ≤ ITEMS) (sym (calls-all above.tasks ∙ h.tasks.all_calls)) h.items;
   }
 
-  -- it has no lanes, no modules that change and no triggers
-  usual-lines : AreLinesPlanned (job_of above)
+  lanes-planned : (count : ℕ) → LanesHold count above.lanes above.ctls → (above.lanes ≡ []) ⊎ HasLanes (job_of above)
   unfolding job_of
-  usual-lines = record { lanes = inl refl; absent = tt; modules = tt }
+  lanes-planned zero none = inl none
+  lanes-planned (suc last) all =
+      let each = each-map (λ (c : LinedCtl). c.ctl) IsCommand above.ctls all.0 in
+      let n = length-map above.ctls (λ (c : LinedCtl). c.ctl) in
+      let m = all-commands (map (λ (c : LinedCtl). c.ctl) above.ctls) each in
+      let some = all.1 in
+      inr (record { commands' = each; each = omega (arith, n, m, some); numbers = all.2 })
+
+  -- it has no lanes, or each command has one; and it has no modules that change and no triggers
+  lines-planned : AreLinesPlanned (job_of above)
+  unfolding job_of
+  lines-planned = record { lanes = lanes-planned above.lane_count h.lanes; absent = tt; modules = tt }
 
   usual-rings : AreRingsPlanned (job_of above)
   unfolding job_of
@@ -172,6 +188,6 @@ module _ (above : Above) (run : CanRun above) where
           (map-each (ctl_of tasks) _ p.ctls (subst (Each (IsLine users size tasks)) (sym are.ctls) lines));
       cpus = (let n = length-map p.cpus (λ (c : DeclaredCpu). c.quantum) in let q = ap (λ (qs : List ℕ). length qs) quanta-are in let few = h.within.few_cpus in omega (arith, n, q, few));
       quanta = rw quanta-are h.quanta;
-      planned = rw job-is usual-lines;
+      planned = rw job-is lines-planned;
       rings = rw job-is usual-rings;
     }

@@ -4,7 +4,7 @@ use Rattle.std.specs.Prelude.{unwrap_or}
 use Rattle.std.proofs.lemmas.List.{length_push}
 use Rattle.ft_base.specs.declared.context.Ctx.{Ctx}
 use Rattle.ft_base.specs.declared.context.Ctx.TheVariants.{Normal, Softirq, Irq, Nmi}
-use Rattle.ft_base.specs.declared.limits.TheConstants.{CPUS, TASKS, COMMANDS, UNTILS, LEVELS, ITEMS, STEPS}
+use Rattle.ft_base.specs.declared.limits.TheConstants.{CPUS, TASKS, LANES, COMMANDS, UNTILS, LEVELS, ITEMS, STEPS}
 use Rattle.ft_base.specs.declared.task.TaskAct.{TaskAct}
 use Rattle.ft_base.specs.declared.task.TaskAct.TheVariants.{Call, Ret, Raise, Lower, After}
 use Rattle.ft_base.specs.Job.{Run, Until}
@@ -12,7 +12,7 @@ use Rattle.ft_base.specs.Versions.{limits_of, IsFew}
 use Rattle.user_specs.specs.Bound.{call_bound_of}
 use Rattle.ft_script.specs.declared.levels.Levels.{Levels}
 use Rattle.ft_script.specs.Levels.{present, open_in, open_here, open_calls, with_open, without, levels_after}
-use Rattle.ft_script.specs.Above.{Above, Declaration, a_version, a_function, some_slots, a_user, a_cpu, a_task, an_act, a_ctl, more_turns, Resolved, calls_with, with_what, declared}
+use Rattle.ft_script.specs.Above.{Above, Declaration, a_version, a_function, some_slots, a_user, a_cpu, a_task, an_act, a_lane, a_ctl, more_turns, Resolved, calls_with, with_what, declared}
 use Rattle.ft_script.specs.Within.{FewActs, IsWithinLimits, IsInOrder}
 use Rattle.ft_script.specs.Holds.{Holds}
 use Rattle.ft_script.specs.Fits.{IsNextCall, FitsAs, IsRanked, Fits}
@@ -104,6 +104,10 @@ module _ (above : Above) (h : Holds above) where
   within-waits (a_ctl (Until task acts)) f = let r : above.waits < UNTILS = f.1 in omega (arith, r)
   within-waits what f = h.within.few_waits
 
+  within-lanes : (what : Declaration) → FitsAs above what → (with_what above what).lane_count ≤ LANES
+  within-lanes a_lane f = let r = f.room in omega (arith, r)
+  within-lanes what f = h.within.few_lanes
+
   within-steps : (what : Declaration) → FitsAs above what → (with_what above what).steps ≤ STEPS
   within-steps (more_turns turns steps) f = f
   within-steps what f = h.within.few_steps
@@ -162,6 +166,7 @@ module _ (above : Above) (h : Holds above) where
     acts = within-acts what f;
     few_commands = within-commands what f;
     few_waits = within-waits what f;
+    few_lanes = within-lanes what f;
     few_steps = within-steps what f;
   }
 

@@ -17,7 +17,7 @@ use Rattle.ft_script.proofs.NoCause.{no-cause_in}
 use Rattle.ft_script.proofs.Fitting.{said_last, accepted}
 use Rattle.ft_script.proofs.Limits.{IsLater, same-version, within-declared, order-declared, items-declared}
 use Rattle.ft_script.proofs.TasksKept.{Begins, tasks-declared}
-use Rattle.ft_script.proofs.LinesKept.{lines-declared, users-declared, frames-declared, quanta-declared}
+use Rattle.ft_script.proofs.LinesKept.{lines-declared, lanes-declared, users-declared, frames-declared, quanta-declared}
 
 -- ## what holds after a line
 
@@ -29,6 +29,7 @@ within-renumbered above lines rank w = record {
   acts = w.acts;
   few_commands = w.few_commands;
   few_waits = w.few_waits;
+  few_lanes = w.few_lanes;
   few_steps = w.few_steps;
 }
 
@@ -43,6 +44,7 @@ later-holds above h line below later f balanced begins = record {
   quanta = quanta-declared above h line.what f.what;
   tasks = tasks-declared above h line.what below f.what balanced begins;
   lines = lines-declared above h line.what f.what;
+  lanes = lanes-declared above h line.what f.what;
   items = items-declared above h line.what later f.what;
 }
 
@@ -56,6 +58,7 @@ empty-holds number lines rank is first = record {
     acts = record { few_acts = omega arith; few_calls = omega arith; few_open = omega arith };
     few_commands = omega arith;
     few_waits = omega arith;
+    few_lanes = omega arith;
     few_steps = omega arith;
   };
   order = record { first = first; calls = λ low. refl; ctls = λ low. refl };
@@ -64,6 +67,7 @@ empty-holds number lines rank is first = record {
   quanta = tt;
   tasks = record { placed = tt; balanced = refl; raised = tt; all_acts = refl; all_calls = refl };
   lines = record { named = tt; all = refl };
+  lanes = refl;
   items = omega arith;
 }
 

@@ -1,5 +1,5 @@
 -- What the lines above a line have declared.
-use Rattle.std.specs.Prelude.{ℕ, suc, List, [], ◌∷◌, ◌++◌, Option, Some, None}
+use Rattle.std.specs.Prelude.{ℕ, zero, suc, List, [], ◌∷◌, ◌++◌, Option, Some, None}
 use Rattle.ft_base.specs.declared.task.TaskAct.{TaskAct}
 use Rattle.ft_base.specs.declared.task.TaskAct.TheVariants.{Call}
 use Rattle.ft_base.specs.declared.turn.Turn.{Turn}
@@ -31,6 +31,8 @@ pub record Above : Type 0 where
   pub ctls : List LinedCtl  -- the lines of control
   pub commands : ℕ  -- how many of them are commands
   pub waits : ℕ  -- how many of them are waits
+  pub lane_count : ℕ  -- how many lanes there are
+  pub lanes : List ℕ  -- the lane of each command, if there are lanes
   pub turns : List Turn  -- the schedule
   pub steps : ℕ  -- how many steps it has
 
@@ -52,6 +54,8 @@ none_above = record {
   ctls = [];
   commands = 0;
   waits = 0;
+  lane_count = 0;
+  lanes = [];
   turns = [];
   steps = 0;
 }
@@ -69,6 +73,7 @@ pub data Declaration : Type 0 where
   a_cpu : (quantum : ℕ) → Declaration  -- it has the next number
   a_task : (pid : ℕ) → (cpu : ℕ) → Declaration
   an_act : (act : TaskAct) → Declaration  -- of the last task
+  a_lane : Declaration  -- it has the next number
   a_ctl : (ctl : Ctl) → Declaration
   more_turns : (turns : List Turn) → (steps : ℕ) → Declaration  -- the schedule has this many steps with them
 
@@ -103,6 +108,11 @@ abbrev pub waits_with : Ctl → ℕ → ℕ
 waits_with (Run command) waits = waits
 waits_with (Until task acts) waits = suc waits
 
+-- the lanes of the commands with one more line of control, which belongs to the last lane, if there is one
+abbrev pub lanes_with : ℕ → List ℕ → List ℕ
+lanes_with zero lanes = lanes
+lanes_with (suc last) lanes = lanes ++ last ∷ []
+
 -- one more act of the last task
 abbrev pub with_act : Above → TaskAct → Above
 with_act above act = record above {
@@ -118,6 +128,7 @@ with_ctl above ctl = record above {
   ctls = above.ctls ++ record { ctl = ctl; line = suc above.lines } ∷ [];
   commands = commands_with ctl above.commands;
   waits = waits_with ctl above.waits;
+  lanes = lanes_with above.lane_count above.lanes;
 }
 
 -- one more of what this is
@@ -131,6 +142,7 @@ with_what above (a_user user) = record above { users = above.users ++ user ∷ [
 with_what above (a_cpu quantum) = record above { quanta = above.quanta ++ quantum ∷ [] }
 with_what above (a_task pid cpu) = record above { tasks = above.tasks ++ record { pid = pid; cpu = cpu; acts = [] } ∷ []; levels = level_ground }
 with_what above (an_act act) = with_act above act
+with_what above a_lane = record above { lane_count = suc above.lane_count }
 with_what above (a_ctl ctl) = with_ctl above ctl
 with_what above (more_turns turns steps) = record above { turns = above.turns ++ turns; steps = steps }
 

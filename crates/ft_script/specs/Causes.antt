@@ -3,7 +3,7 @@
 use Rattle.std.specs.Prelude.{ℕ, ◌+◌, ◌*◌, ◌^◌, ◌==◌, ◌&&◌, ◌||◌, not, nat_le, nat_lt, Bool, true, false, List, [], ◌∷◌, length, map, sum_by, is_some, position, Option, Some, None, option_map, Result, Ok, Err, if◌then◌else◌}
 use Rattle.std.specs.List.{list_any}
 use Rattle.std.specs.Str.{bytes_eq}
-use Rattle.ft_base.specs.declared.limits.TheConstants.{CPUS, TASKS, COMMANDS, UNTILS, ACTS, LEVELS, FRAMES, GRAPH_DEPTH, ITEMS, QUANTUM, PID, NAME_BYTES}
+use Rattle.ft_base.specs.declared.limits.TheConstants.{CPUS, TASKS, LANES, COMMANDS, UNTILS, ACTS, LEVELS, FRAMES, GRAPH_DEPTH, ITEMS, QUANTUM, PID, NAME_BYTES}
 use Rattle.ft_base.specs.declared.number.FuncNo.{FuncNo}
 use Rattle.ft_base.specs.declared.task.TaskAct.{TaskAct}
 use Rattle.ft_base.specs.declared.task.TaskAct.TheVariants.{Call, Ret, Raise, Lower, After}
@@ -22,14 +22,14 @@ use Rattle.ft_schedule.specs.Items.{turn_from}
 use Rattle.ft_schedule.specs.Causes.{is_past_limit as is_past_sched_limit, has_unknown, steps_of}
 use Rattle.user_specs.specs.Bound.{call_bound_of}
 use Rattle.script_text.specs.Lines.{Word, Line}
-use Rattle.script_form.specs.Forms.{LineForm, skip, version, func, depth, tramps, user, new_cpu, new_task, call, ret, raise, lower, after, register, unregister, write, pids, enable, disable, max_depth, until, sched}
+use Rattle.script_form.specs.Forms.{LineForm, skip, version, func, depth, tramps, user, new_cpu, new_task, new_lane, call, ret, raise, lower, after, register, unregister, write, pids, enable, disable, max_depth, until, sched}
 use Rattle.script_form.specs.Forms.{UserLine, UserAct, calls, irqs}
 use Rattle.script_form.specs.Lines.{line_form}
 use Rattle.ft_script.specs.declared.faults.Cause.{Cause}
 use Rattle.ft_script.specs.declared.faults.Cause.TheVariants.{Version, Syntax, Limit, Duplicate, Unknown, Pattern, Unbalanced}
 use Rattle.ft_script.specs.declared.levels.Levels.{Levels}
 use Rattle.ft_script.specs.Levels.{present, open_here, open_calls, levels_after, is_raised, is_unfinished}
-use Rattle.ft_script.specs.Above.{Above, Declaration, nothing, a_version, a_function, some_frames, some_slots, a_user, a_cpu, a_task, an_act, a_ctl, more_turns, Resolved}
+use Rattle.ft_script.specs.Above.{Above, Declaration, nothing, a_version, a_function, some_frames, some_slots, a_user, a_cpu, a_task, an_act, a_lane, a_ctl, more_turns, Resolved}
 
 -- ## syntax
 
@@ -60,12 +60,19 @@ is_act lower = true
 is_act (after n) = true
 is_act _ = false
 
--- the version once more, `depth` or `tramps` once more, a CPU that isn't the next one, an act before any task
+-- a line of control above has no lane
+abbrev pub has_ctl_in_no_lane : Above → Bool
+has_ctl_in_no_lane above = not (length above.lanes == length above.ctls)
+
+-- the version once more, `depth` or `tramps` once more, a CPU or a lane that isn't the next one, a lane below a line of control that has none,
+-- a wait of control in a script with lanes, an act before any task
 abbrev pub is_out_of_place : Above → LineForm → Bool
 is_out_of_place above (version number) = true
 is_out_of_place above (depth frames) = is_some above.frames
 is_out_of_place above (tramps slots) = is_some above.tramps
 is_out_of_place above (new_cpu cpu quantum) = not (cpu == length above.quanta)
+is_out_of_place above (new_lane lane) = not (lane == above.lane_count) || has_ctl_in_no_lane above
+is_out_of_place above (until pid n) = not (above.lane_count == 0)
 is_out_of_place above form = is_act form && (length above.tasks == 0)
 
 -- the line comes after one of a higher rank, or is out of place
@@ -136,6 +143,7 @@ is_past_limit above (tramps slots) = nat_lt (limits_of above.version).tramps slo
 is_past_limit above (user u) = has_long_name u || nat_le (limits_of above.version).users (length above.users)
 is_past_limit above (new_cpu cpu quantum) = is_bad_quantum quantum || nat_le CPUS (length above.quanta)
 is_past_limit above (new_task pid cpu) = is_bad_pid pid || (is_big cpu || nat_le TASKS (length above.tasks))
+is_past_limit above (new_lane lane) = nat_le LANES above.lane_count
 is_past_limit above (call name) = is_long name || is_full_of_calls above
 is_past_limit above ret = is_full_of_acts above
 is_past_limit above (raise to) = is_full_of_acts above
@@ -285,6 +293,7 @@ named above (tramps slots) = Ok (some_slots slots)
 named above (user u) = made a_user (spec_in above u)
 named above (new_cpu cpu quantum) = Ok (a_cpu quantum)
 named above (new_task pid cpu) = made (a_task pid) (cpu_in above cpu)
+named above (new_lane lane) = Ok a_lane
 named above (call name) = made (λ f. an_act (Call f)) (function_in above name)
 named above ret = Ok (an_act Ret)
 named above (raise to) = Ok (an_act (Raise to))

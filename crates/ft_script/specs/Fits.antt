@@ -1,6 +1,6 @@
 -- What a line that isn't refused declares fits what is declared above it.
 use Rattle.std.specs.Prelude.{◌≡◌, ◌≤◌, ◌<◌, ◌*◌, ℕ, suc, false, true, [], length}
-use Rattle.ft_base.specs.declared.limits.TheConstants.{CPUS, TASKS, COMMANDS, UNTILS, ACTS, LEVELS, FRAMES, ITEMS, QUANTUM, STEPS}
+use Rattle.ft_base.specs.declared.limits.TheConstants.{CPUS, TASKS, LANES, COMMANDS, UNTILS, ACTS, LEVELS, FRAMES, ITEMS, QUANTUM, STEPS}
 use Rattle.ft_base.specs.declared.task.TaskAct.{TaskAct}
 use Rattle.ft_base.specs.declared.task.TaskAct.TheVariants.{Call}
 use Rattle.ft_base.specs.Job.{Func, Spec, Ctl, Run, Until}
@@ -10,7 +10,7 @@ use Rattle.ft_base.specs.WellFormed.{IsActIn}
 use Rattle.func_table.specs.Rows.{is_name_or_none}
 use Rattle.user_specs.specs.Bound.{call_bound_of}
 use Rattle.ft_script.specs.Levels.{open_calls}
-use Rattle.ft_script.specs.Above.{Above, Declaration, nothing, a_version, a_function, some_frames, some_slots, a_user, a_cpu, a_task, an_act, a_ctl, more_turns, Resolved}
+use Rattle.ft_script.specs.Above.{Above, Declaration, nothing, a_version, a_function, some_frames, some_slots, a_user, a_cpu, a_task, an_act, a_lane, a_ctl, more_turns, Resolved}
 use Rattle.ft_script.specs.Causes.{function_names, is_among}
 use Rattle.ft_script.specs.Holds.{IsLine}
 
@@ -53,6 +53,16 @@ abbrev pub HasRoom : Above → Ctl → Type 0
 HasRoom above (Run command) = above.commands < COMMANDS
 HasRoom above (Until task acts) = above.waits < UNTILS
 
+-- a wait comes where there are no lanes
+abbrev pub IsWhereItMay : Above → Ctl → Type 0
+IsWhereItMay above (Run command) = Unit {0}
+IsWhereItMay above (Until task acts) = above.lane_count ≡ 0
+
+-- there is room for one more lane, and each line of control above has one
+pub record IsNextLane (above : Above) : Type 0 where
+  pub room : above.lane_count < LANES
+  pub each : length above.lanes ≡ length above.ctls
+
 -- this fits
 abbrev pub FitsAs : Above → Declaration → Type 0
 FitsAs above nothing = Unit {0}
@@ -64,7 +74,8 @@ FitsAs above (a_user user) = IsNewUser above user
 FitsAs above (a_cpu quantum) = (quantum ≤ QUANTUM) × (length above.quanta < CPUS)
 FitsAs above (a_task pid cpu) = IsNewTask above cpu
 FitsAs above (an_act act) = IsNextAct above act
-FitsAs above (a_ctl ctl) = IsLine (length above.users) (length above.functions) (length above.tasks) ctl × HasRoom above ctl
+FitsAs above a_lane = IsNextLane above
+FitsAs above (a_ctl ctl) = IsLine (length above.users) (length above.functions) (length above.tasks) ctl × HasRoom above ctl × IsWhereItMay above ctl
 FitsAs above (more_turns turns steps) = steps ≤ STEPS
 
 -- acts and lines of control come at ranks of their own

@@ -1,9 +1,9 @@
 -- What holds of what is declared, if no line has a cause.
-use Rattle.std.specs.Prelude.{ℕ, ◌≡◌, ◌+◌, ◌*◌, ◌<◌, ◌≤◌, false, List, [], ◌∷◌, length, map, sum_by, Option, Some, None, unwrap_or}
+use Rattle.std.specs.Prelude.{ℕ, zero, suc, ◌≡◌, ◌+◌, ◌*◌, ◌<◌, ◌≤◌, false, List, [], ◌∷◌, length, map, sum_by, Option, Some, None, unwrap_or}
 use Rattle.std.specs.List.{AllByRecursion as Each}
 use Rattle.ft_base.specs.declared.context.Ctx.{Ctx}
 use Rattle.ft_base.specs.declared.context.Ctx.TheVariants.{Softirq, Irq, Nmi}
-use Rattle.ft_base.specs.declared.limits.TheConstants.{FRAMES, ITEMS, QUANTUM}
+use Rattle.ft_base.specs.declared.limits.TheConstants.{FRAMES, ITEMS, LANES, QUANTUM}
 use Rattle.ft_base.specs.declared.task.TaskAct.{TaskAct}
 use Rattle.ft_base.specs.Job.{Spec, Ctl, Run, Until}
 use Rattle.ft_base.specs.Versions.{limits_of, IsVersion}
@@ -12,6 +12,7 @@ use Rattle.ft_base.specs.WellFormed.{IsNamedIn, IsSetIn, IsActIn}
 use Rattle.history_bound.specs.Bound.{calls_in}
 use Rattle.user_specs.specs.Bound.{call_bound_of}
 use Rattle.word_machine.specs.Limits.{WaitsFor, IsLevel}
+use Rattle.ft_machine.specs.Plans.{IsCommand}
 use Rattle.script_waits.specs.declared.script.LinedAct.{LinedAct}
 use Rattle.script_waits.specs.Tasks.{LinedTask}
 use Rattle.ft_script.specs.declared.levels.Levels.{Levels}
@@ -72,6 +73,11 @@ pub record LinesHold (users size tasks : ℕ) (ctls : List LinedCtl) (commands w
   pub named : Each (λ c. IsLine users size tasks c.ctl) ctls
   pub all : length ctls ≡ commands + waits
 
+-- no line of control has a lane if there are no lanes; else each is a command, and has one
+abbrev pub LanesHold : ℕ → List ℕ → List LinedCtl → Type 0
+LanesHold zero lanes ctls = lanes ≡ []
+LanesHold (suc last) lanes ctls = Each (λ c. IsCommand c.ctl) ctls × (length lanes ≡ length ctls) × Each (λ lane. lane < LANES) lanes
+
 -- a number that the script may say is at most this, if it says it
 abbrev pub IsAtMost : ℕ → Option ℕ → Type 0
 IsAtMost limit said = unwrap_or said 0 ≤ limit
@@ -88,6 +94,7 @@ pub record Holds (above : Above) : Type 0 where
   pub quanta : Each (λ q. q ≤ QUANTUM) above.quanta
   pub tasks : TasksHold (length above.functions) (length above.quanta) above.tasks above.levels above.acts above.calls
   pub lines : LinesHold (length above.users) (length above.functions) (length above.tasks) above.ctls above.commands above.waits
+  pub lanes : LanesHold above.lane_count above.lanes above.ctls
   pub items : call_bound_of above.users (limits_of above.version).levels * above.calls ≤ ITEMS
 
 -- the same, and nothing is left open

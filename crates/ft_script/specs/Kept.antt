@@ -13,9 +13,9 @@ use Rattle.script_waits.specs.Tasks.{lined_task}
 use Rattle.ft_script.specs.declared.reader.Reader.{Reader}
 use Rattle.ft_script.specs.declared.reader.LinedCtl.{LinedCtl as KeptLine}
 use Rattle.ft_script.specs.declared.declaration.Declaration.{Declaration as KeptDeclaration}
-use Rattle.ft_script.specs.declared.declaration.Declaration.TheVariants.{Nothing, Version, Function, Frames, Slots, User, Cpu, Task, Act, Ctl, Turns}
+use Rattle.ft_script.specs.declared.declaration.Declaration.TheVariants.{Nothing, Version, Function, Frames, Slots, User, Cpu, Task, Act, Lane, Ctl, Turns}
 use Rattle.ft_script.specs.declared.declaration.Resolved.{Resolved as KeptResolved}
-use Rattle.ft_script.specs.Above.{Above, LinedCtl, Declaration, nothing, a_version, a_function, some_frames, some_slots, a_user, a_cpu, a_task, an_act, a_ctl, more_turns, Resolved}
+use Rattle.ft_script.specs.Above.{Above, LinedCtl, Declaration, nothing, a_version, a_function, some_frames, some_slots, a_user, a_cpu, a_task, an_act, a_lane, a_ctl, more_turns, Resolved}
 use Rattle.ft_script.specs.Script.{wait_of, task_of, schedule_of}
 
 -- a line of control that the reader keeps, if there are this many tasks
@@ -44,6 +44,8 @@ above_of r = record {
   ctls = map (lined_ctl (length r.tasks.items)) r.ctls.items;
   commands = r.commands;
   waits = r.waits;
+  lane_count = r.lane_count;
+  lanes = r.lanes.items;
   turns = r.turns.items;
   steps = r.steps;
 }
@@ -59,6 +61,7 @@ declaration_of tasks (User spec) = a_user (spec_of spec)
 declaration_of tasks (Cpu quantum) = a_cpu quantum
 declaration_of tasks (Task pid cpu) = a_task pid cpu
 declaration_of tasks (Act act) = an_act act
+declaration_of tasks Lane = a_lane
 declaration_of tasks (Ctl ctl) = a_ctl (ctl_of tasks ctl)
 declaration_of tasks (Turns turns steps) = more_turns turns.items steps
 
@@ -76,5 +79,5 @@ pub record AreParts (p : Parts) (above : Above) : Type 0 where
   pub cpus : p.cpus ≡ cpus_from 0 above.quanta (map task_of above.tasks)
   pub ctls : lines_of (length above.tasks) p.ctls ≡ map (λ c. c.ctl) above.ctls
   pub schedule : p.schedule ≡ schedule_of above.turns
-  pub lines : p.lines ≡ usual_lines
+  pub lines : p.lines ≡ record usual_lines { lanes = above.lanes }
   pub rings : p.rings ≡ usual_rings

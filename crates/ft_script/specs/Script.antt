@@ -87,7 +87,8 @@ wait_of (Until t n) = AnUntil (record { 0 = t }) n
 abbrev pub control_of : Above → List ControlLine
 control_of above = map (λ c. record { wait = wait_of c.ctl; line = c.line }) above.ctls
 
--- the lowest line that is left waiting in the greedy run, or none if all come to their ends
+-- the lowest line that is left waiting in the greedy run, or none if all come to their ends. The run goes through control's lines from first to
+-- last, also in a script with lanes: no line of control waits there, so that in every order all commands get through
 abbrev pub LeavesWaiting : List ℕ → Option ℕ → Type 0
 LeavesWaiting text lowest = IsDeadlock (tracks_of (declared_in text).tasks) (control_of (declared_in text)) lowest
 
@@ -113,7 +114,7 @@ job_of above = record {
   tasks = map task_of above.tasks;
   ctls = map (λ c. c.ctl) above.ctls;
   schedule = schedule_of above.turns;
-  lines = usual_lines;
+  lines = record usual_lines { lanes = above.lanes };
   rings = usual_rings;
 }
 

@@ -1,6 +1,6 @@
 -- What is declared is within the limits, and in order.
 use Rattle.std.specs.Prelude.{◌≡◌, ◌≤◌, ◌<◌, ◌+◌, ◌^◌, ℕ, [], length, unwrap_or}
-use Rattle.ft_base.specs.declared.limits.TheConstants.{CPUS, COMMANDS, UNTILS, ACTS, LEVELS, STEPS}
+use Rattle.ft_base.specs.declared.limits.TheConstants.{CPUS, LANES, COMMANDS, UNTILS, ACTS, LEVELS, STEPS}
 use Rattle.ft_base.specs.Versions.{limits_of, IsFew}
 use Rattle.ft_script.specs.declared.levels.Levels.{Levels}
 use Rattle.ft_script.specs.Levels.{open_calls}
@@ -19,6 +19,7 @@ pub record IsWithinLimits (above : Above) : Type 0 where
   pub acts : FewActs above.levels above.acts above.calls
   pub few_commands : above.commands ≤ COMMANDS
   pub few_waits : above.waits ≤ UNTILS
+  pub few_lanes : above.lane_count ≤ LANES
   pub few_steps : above.steps ≤ STEPS
 
 -- lines come in the order of their ranks: above line 1 nothing is declared, as long as no line of a task can have come there is no call, and

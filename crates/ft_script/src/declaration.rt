@@ -31,6 +31,8 @@ pub enum Declaration<'a> {
     },
     /// An act of the last task.
     Act(TaskAct),
+    /// A lane, which has the next number.
+    Lane,
     /// A line of control.
     Ctl(Ctl),
     /// Turns of the schedule, and how many steps it has with them.

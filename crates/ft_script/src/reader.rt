@@ -59,6 +59,9 @@ pub struct Reader {
     ctls: Vec<LinedCtl>,
     commands: u32,
     waits: u32,
+    /// How many lanes there are, and the lane of each command, if there are lanes.
+    lane_count: u32,
+    lanes: Vec<u32>,
     /// The schedule, and how many steps it has.
     turns: Vec<Turn>,
     steps: u32,
@@ -94,6 +97,8 @@ impl Reader {
             ctls: Vec::new(alloc),
             commands: 0,
             waits: 0,
+            lane_count: 0,
+            lanes: Vec::new(alloc),
             turns: Vec::new(alloc),
             steps: 0,
         }

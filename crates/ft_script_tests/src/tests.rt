@@ -136,6 +136,50 @@ fn no_form_or_place(rt: HostRuntime) -> Result<(), Fail> {
     )
 }
 
+/// A lane that isn't the next one, or comes below a line of control that has none, and a wait in a
+/// script with lanes.
+#[test]
+fn lanes_out_of_place(rt: HostRuntime) -> Result<(), Fail> {
+    refuses(
+        &rt,
+        rt.alloc(),
+        Cause::Syntax,
+        &[
+            ("ftrace 1; ctl maxdepth 1; lane 0", 3),
+            ("ftrace 1; lane 1", 2),
+            ("ftrace 2; lane 1", 2),
+            ("ftrace 2; ctl maxdepth 1; lane 0", 3),
+            ("ftrace 1; lane 0; lane 0", 3),
+            ("ftrace 1; lane 0; ctl maxdepth 1; lane 2", 4),
+            ("ftrace 1; lane 4294967295", 2),
+            ("ftrace 1; lane 9999999999", 2),
+            ("ftrace 1; lane 10000000000", 2),
+            ("ftrace 1; lane 0; lane 4294967297", 3),
+            ("ftrace 1; lane", 2),
+            ("ftrace 1; lane 0 0", 2),
+            ("ftrace 1; lane 0; func a", 3),
+            ("ftrace 1; lane 0; cpu 0 quantum 5", 3),
+            ("ftrace 1; lane 0; task 10 cpu 0", 3),
+            ("ftrace 1; sched k; lane 0", 3),
+            ("ftrace 1; lane 0; sched k; lane 1", 4),
+            (
+                "ftrace 1; cpu 0 quantum 5; task 10 cpu 0; after 1; ctl until 10 1; lane 0",
+                6,
+            ),
+            (
+                "ftrace 1; cpu 0 quantum 5; task 10 cpu 0; after 1; lane 0; ctl until 10 1",
+                6,
+            ),
+            ("ftrace 1; lane 0; ctl until 10 1", 3),
+            ("ftrace 1; lane 0; ctl until 0 0", 3),
+            (
+                "ftrace 1; lane 0; lane 1; lane 2; lane 3; lane 4; lane 5; lane 6; lane 7; lane 9",
+                10,
+            ),
+        ],
+    )
+}
+
 #[test]
 fn outside_limits(rt: HostRuntime) -> Result<(), Fail> {
     refuses(
@@ -171,6 +215,15 @@ fn outside_limits(rt: HostRuntime) -> Result<(), Fail> {
             ("ftrace 1; ctl nopid 0", 2),
             ("ftrace 1; ctl pid 5 4194305", 2),
             ("ftrace 1; ctl maxdepth 513", 2),
+            (
+                "ftrace 1; lane 0; lane 1; lane 2; lane 3; lane 4; lane 5; lane 6; lane 7; lane 8",
+                10,
+            ),
+            (
+                "ftrace 2; lane 0; lane 1; lane 2; lane 3; lane 4; lane 5; lane 6; lane 7; ctl maxdepth 0; lane 8",
+                11,
+            ),
+            ("ftrace 1; lane 0; ctl maxdepth 513", 3),
             ("ftrace 1; sched 0*4000001", 2),
             ("ftrace 1; cpu 0 quantum 5; sched 1*4000001", 3),
             ("ftrace 1; cpu 0 quantum 5; sched all*2000000; sched k", 4),

@@ -14,11 +14,18 @@ impl Reader {
     ghost use Rattle.std.specs.List.{list_any};
     ghost use Rattle.script_text.specs.Lines.{lines_of};
     ghost use Rattle.script_form.specs.Read.{form_read};
-    ghost use Rattle.ft_script.specs.Causes.{is_misplaced, is_out_of_place, is_duplicate, has_pid, has_no_pid, is_unmatched, is_unbalanced};
+    ghost use Rattle.ft_script.specs.Causes.{is_misplaced, has_ctl_in_no_lane, is_out_of_place, is_duplicate, has_pid, has_no_pid, is_unmatched, is_unbalanced};
     ghost use Rattle.ft_script.specs.Within.{IsWithinLimits};
     ghost use Rattle.ft_script.specs.Kept.{above_of, declaration_of};
 
     // ## syntax
+
+    /// Whether a line of control above has no lane.
+    fn has_ctl_in_no_lane(&self) -> bool
+        ensures { result ≡ has_ctl_in_no_lane (above_of self.now) }
+    {
+        self.lanes.len() != self.ctls.len()
+    }
 
     /// Whether the line is out of place, whatever its rank.
     fn is_out_of_place(&self, form: &LineForm) -> bool
@@ -29,6 +36,10 @@ impl Reader {
             LineForm::Depth { .. } => self.frames.is_some(),
             LineForm::Tramps { .. } => self.tramps.is_some(),
             LineForm::NewCpu { cpu, .. } => *cpu != self.quanta.len() as u64,
+            LineForm::NewLane { lane } => {
+                *lane != u64::from(self.lane_count) || self.has_ctl_in_no_lane()
+            }
+            LineForm::Until { .. } => self.lane_count != 0,
             other => is_act(other) && self.tasks.is_empty(),
         }
     }

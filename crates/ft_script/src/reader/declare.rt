@@ -32,7 +32,7 @@ impl Reader {
     ghost use Rattle.ft_base.specs.Name.{is_name_text};
     ghost use Rattle.func_table.specs.Rows.{is_name_or_none};
     ghost use Rattle.ft_desk.specs.Commands.{ctl_of};
-    ghost use Rattle.ft_script.specs.Above.{declared, with_what, with_act, with_ctl, a_function, a_task, more_turns};
+    ghost use Rattle.ft_script.specs.Above.{declared, with_what, with_act, with_ctl, lanes_with, a_function, a_task, more_turns};
     ghost use Rattle.ft_script.specs.Causes.{function_names, is_among};
     ghost use Rattle.ft_script.specs.Within.{IsSmall};
     ghost use Rattle.ft_script.specs.Fits.{Fits, FitsAs};
@@ -85,6 +85,16 @@ impl Reader {
         Ok(())
     }
 
+    /// Puts one more line of control into the last lane, if there is one.
+    fn put_in_lane(&mut self) -> Result<(), AllocError>
+        ensures { OnOk result (above_of self.new ≡ record (above_of self.old) { lanes = lanes_with self.old.lane_count self.old.lanes.items }) }
+    {
+        if self.lane_count > 0 {
+            self.lanes.push(self.lane_count - 1)?;
+        }
+        Ok(())
+    }
+
     fn add_ctl(&mut self, ctl: Ctl) -> Result<(), AllocError>
         requires { IsSmall (above_of self.old) }
         ensures { OnOk result (above_of self.new ≡ with_ctl (above_of self.old) (ctl_of (length self.old.tasks.items) ctl)) }
@@ -92,6 +102,7 @@ impl Reader {
         let line = self.lines + 1;
         let is_command = matches!(&ctl, Ctl::Run(_));
         self.ctls.push(LinedCtl { ctl, line })?;
+        self.put_in_lane()?;
         if is_command {
             self.commands += 1;
         } else {
@@ -124,6 +135,7 @@ impl Reader {
             Declaration::Cpu { quantum } => self.quanta.push(quantum)?,
             Declaration::Task { pid, cpu } => self.add_task(alloc, pid, cpu)?,
             Declaration::Act(act) => self.add_act(act)?,
+            Declaration::Lane => self.lane_count += 1,
             Declaration::Ctl(ctl) => self.add_ctl(ctl)?,
             Declaration::Turns { turns, steps } => self.add_turns(turns, steps)?,
         }

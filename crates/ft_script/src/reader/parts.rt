@@ -162,6 +162,8 @@ impl Reader {
             ctls,
             commands: _,
             waits: _,
+            lane_count: _,
+            lanes,
             turns,
             steps: _,
         } = self;
@@ -176,7 +178,7 @@ impl Reader {
             cpus,
             ctls,
             schedule,
-            lanes: Vec::new(alloc),
+            lanes,
             absent: Vec::new(alloc),
             modules: Vec::new(alloc),
             ring: USUAL_RING,

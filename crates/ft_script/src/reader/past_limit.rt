@@ -5,7 +5,9 @@ use crate::form::{
     is_big, is_full, is_long, is_long_or_none,
 };
 use crate::reader::Reader;
-use ft_base::limits::{ACTS, COMMANDS, CPUS, GRAPH_DEPTH, ITEMS, LEVELS, Limits, TASKS, UNTILS};
+use ft_base::limits::{
+    ACTS, COMMANDS, CPUS, GRAPH_DEPTH, ITEMS, LANES, LEVELS, Limits, TASKS, UNTILS,
+};
 use script_form::LineForm;
 use user_specs::call_bound;
 
@@ -99,6 +101,7 @@ impl Reader {
                 is_bad_quantum(*quantum) || is_full(self.quanta.len(), CPUS)
             }
             LineForm::NewTask { pid, cpu } => self.is_task_past_limit(*pid, *cpu),
+            LineForm::NewLane { .. } => self.lane_count >= LANES,
             LineForm::Call { function } => is_long(function) || self.is_full_of_calls(),
             LineForm::Ret | LineForm::Raise { .. } | LineForm::Lower => self.is_full_of_acts(),
             LineForm::After { commands } => is_bad_count(*commands) || self.is_full_of_acts(),

@@ -231,6 +231,7 @@ impl Reader {
                 pid: *pid as u32,
                 cpu: self.cpu(*cpu)?,
             },
+            LineForm::NewLane { .. } => Declaration::Lane,
             LineForm::Call { function } => {
                 Declaration::Act(TaskAct::Call(self.function(function)?))
             }

@@ -242,3 +242,38 @@ fn reads_the_last_task(rt: HostRuntime) -> Result<(), Fail> {
     assert!(rt; are_first_and_last(&job));
     Ok(())
 }
+
+// Scripts, and the lanes of their commands. A lane may have none.
+static LANES: [(&str, &[u32]); 6] = [
+    ("ftrace 1\nctl maxdepth 1\n", &[]),
+    ("ftrace 1\nlane 0\n", &[]),
+    (
+        "ftrace 2\nlane 0\nctl maxdepth 1\nctl maxdepth 2\n",
+        &[0, 0],
+    ),
+    (
+        "ftrace 1\nlane 0\nctl pid\nlane 1\nctl nopid\nctl pid\n",
+        &[0, 1, 1],
+    ),
+    (
+        "ftrace 1\nlane 0\n#\nlane 1\n\nctl pid\n#\nlane 2\nsched k\n",
+        &[1],
+    ),
+    (
+        "ftrace 1\nlane 0\nlane 1\nlane 2\nlane 3\nlane 4\nlane 5\nlane 6\nlane 7\nctl pid\n",
+        &[7],
+    ),
+];
+
+/// Whether the commands of a script have these lanes.
+fn has_lanes(alloc: Global, script: &str, lanes: &[u32]) -> Result<bool, Fail> {
+    Ok(job_of(alloc, script)?.lanes() == lanes)
+}
+
+#[test]
+fn reads_lanes(rt: HostRuntime) -> Result<(), Fail> {
+    for (script, lanes) in LANES.iter() {
+        assert!(rt; has_lanes(rt.alloc(), script, lanes)?, "{script}");
+    }
+    Ok(())
+}

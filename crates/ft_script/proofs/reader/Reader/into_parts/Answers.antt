@@ -19,6 +19,6 @@ returns c =
           ∙ ap (λ n. lines_of n (map (λ x. x.ctl) c.args.self.ctls.items)) (mapped_length lined_task tasks)
           ∙ ctls-kept (length tasks) c.args.self.ctls.items;
       schedule = c.in_ok-schedule.ensures;
-      lines = rw (c.new.ensures.items, c.new-2.ensures.items, c.new-3.ensures.items) refl;
-      rings = rw c.new-4.ensures.items refl;
+      lines = rw (c.new.ensures.items, c.new-2.ensures.items) refl;
+      rings = rw c.new-3.ensures.items refl;
     }
