@@ -3,3 +3,5 @@ pub mod Distinct
 pub mod LegalItems
 pub mod Names
 pub mod Logs
+pub mod LaneOrders
+pub mod OrderedLogs

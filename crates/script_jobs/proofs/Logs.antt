@@ -17,7 +17,7 @@ use Rattle.script_jobs.proofs.Names.{accepted_named, accepted_replaced}
 use Rattle.script_jobs.proofs.LegalItems.{legal-items}
 
 -- a legal history of a limited job is no longer than a machine can count
-short : (job : Job) (items : List Item) → IsLimited job → IsLegal job items → length items < 2 ^ 64
+pub short : (job : Job) (items : List Item) → IsLimited job → IsLegal job items → length items < 2 ^ 64
 short job items l legal =
     let most = history-bounded job items legal in
     let c = few-commands job.ctls in

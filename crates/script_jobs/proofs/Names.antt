@@ -18,7 +18,7 @@ use Rattle.ft_schedule.specs.Causes.{is_past_limit as is_past_sched_limit, has_u
 use Rattle.ft_base.specs.Desk.{plain_spec}
 use Rattle.ft_base.proofs.Small.{==-refl, or-false_both, Each-snoc, Each-weaker}
 use Rattle.script_text.specs.Lines.{Word, Line, lines_of}
-use Rattle.script_form.specs.Forms.{LineForm, UserLine, skip, version, func, depth, tramps, user, new_cpu, new_task, call, ret, raise, lower, after, register, unregister, write, pids, enable, disable, max_depth, until, sched}
+use Rattle.script_form.specs.Forms.{LineForm, UserLine, skip, version, func, depth, tramps, user, new_cpu, new_task, new_lane, call, ret, raise, lower, after, register, unregister, write, pids, enable, disable, max_depth, until, sched}
 use Rattle.script_form.specs.Lines.{line_form}
 use Rattle.script_waits.specs.declared.script.LinedAct.{LinedAct}
 use Rattle.script_waits.specs.Tasks.{LinedTask}
@@ -32,6 +32,7 @@ use Rattle.ft_script.proofs.FormNames.{Named, form-named, name-short}
 use Rattle.ft_script.proofs.NoCause.{no-cause, no-cause_in, err-ok, ok-same}
 use Rattle.ft_script.proofs.Fitting.{of-made, of-all, of-if, function-known}
 use Rattle.trace_lines.specs.LogItems.{IsNamedApart}
+use Rattle.script_jobs.proofs.Texts.{accepted_lanes}
 use Rattle.script_jobs.proofs.LegalItems.{IsReplacedIn}
 use Rattle.script_jobs.proofs.Distinct.{Distinct, distinct-push, distinct-places}
 
@@ -95,6 +96,7 @@ module _ (above : Above) where
   named-new (new_cpu cpu quantum) is limit new = tt
   named-new (new_task pid cpu) is limit new =
       of-all (NewNames above) (a_task pid) (cpu_in above cpu) (λ c. (ltb-false PID pid (or-false_both _ _ (or-false_both _ _ limit).0).1, new))
+  named-new (new_lane lane) is limit new = tt
   named-new (call name) is limit new = of-all (NewNames above) (λ f. an_act (Call f)) (function_in above name) (λ f. tt)
   named-new ret is limit new = tt
   named-new (raise to) is limit new = tt
@@ -257,12 +259,13 @@ module _ (above : Above) (h : NamesHold above) where
         let e = ap (λ task. task.pid) (get_or_past (map task_of above.tasks) t no_task (omega (arith, k, ge))) in omega (arith, e))
   ]
 
-  pub job-named : IsNamedApart (job_of above)
+  pub job-named : Each (λ lane. lane < 2 ^ 64) (job_of above).lines.lanes → IsNamedApart (job_of above)
   unfolding job_of
-  job-named = record {
+  job-named small = record {
     functions = λ f lt. looked-up (λ (g : Func). g.name) (λ (w : Word). is_name_text w ≡ true) above.functions f no_func lt h.names.functions';
     users = λ u lt. looked-up (λ (s : Spec). s.name) (λ (w : Word). is_name_text w ≡ true) above.users u plain_spec lt h.names.users';
     pids = pid-small;
+    lanes = small;
     apart_functions = λ f g lf lg e. places (λ (x : Func). x.name) above.functions f g no_func lf lg h.names.distinct_functions e;
     apart_users = λ u v lu lv e. places (λ (s : Spec). s.name) above.users u v plain_spec lu lv h.names.distinct_users e;
     apart_pids = λ s t ls lt e. let k = length-map above.tasks task_of in
@@ -276,7 +279,9 @@ module _ (above : Above) (h : NamesHold above) where
   job-replaced = h.replaced
 
 pub accepted_named : (text : List ℕ) (job : Job) → IsJobOf text job → IsNamedApart job
-accepted_named text job is = subst IsNamedApart (sym is.meaning) (job-named (declared_in text) (names-hold text is.accepted))
+accepted_named text job is =
+    subst IsNamedApart (sym is.meaning) (job-named (declared_in text) (names-hold text is.accepted)
+    (subst (λ (j : Job). Each (λ lane. lane < 2 ^ 64) j.lines.lanes) is.meaning (accepted_lanes text job is)))
 
 pub accepted_replaced : (text : List ℕ) (job : Job) → IsJobOf text job → Each (IsReplacedIn (funcs job)) job.users
 accepted_replaced text job is =

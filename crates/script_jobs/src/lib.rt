@@ -16,7 +16,10 @@ ghost use Rattle.ft_base.specs.declared.item.Item.{Item};
 ghost use Rattle.ft_base.specs.declared.turn.Actor.{Actor};
 ghost use Rattle.ft_base.specs.Job.{Job};
 ghost use Rattle.ft_hist.specs.Rules.{IsLegal, IsWhole};
+ghost use Rattle.ft_machine.specs.Plans.{HasLanes};
 ghost use Rattle.ft_script.specs.Script.{IsJobOf};
+ghost use Rattle.led_jobs.specs.Led.{in_order};
+ghost use Rattle.led_jobs.specs.Orders.{IsLaneOrder};
 ghost use Rattle.trace_lines.specs.LogItems.{IsItemOf, IsNamedApart};
 ghost use Rattle.trace_views.specs.LogText.{log_text};
 ghost use Rattle.word_machine.specs.Limits.{IsLimited};
@@ -60,4 +63,15 @@ pub fn legal_items_are_the_jobs()
 pub fn the_log_of_a_script_tells_its_history()
     ensures { (text : List ℕ) (job : Job) (a b : List Item) (x y : Bool) → IsJobOf text job
         → IsLegal job a → IsLegal job b → log_text job a x ≡ log_text job b y → (a ≡ b) × (x ≡ y) }
+{}
+
+/// A script in lanes has a job for each order in which its commands may go. Its log tells the order, too:
+/// two whole histories of its job, in whatever orders of the lanes, with the same log are the same, have
+/// ended or not alike, and their commands went in the same order.
+pub fn the_log_of_lanes_tells_their_order()
+    ensures { (text : List ℕ) (job : Job) (order other : List ℕ) (a b : List Item) (x y : Bool) → IsJobOf text job → HasLanes job
+        → IsLaneOrder job.lines.lanes order → IsLaneOrder job.lines.lanes other
+        → IsWhole (in_order job order) a → IsWhole (in_order job other) b
+        → log_text (in_order job order) a x ≡ log_text (in_order job other) b y
+        → (order ≡ other) × (a ≡ b) × (x ≡ y) }
 {}
