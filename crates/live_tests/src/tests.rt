@@ -2,7 +2,9 @@
 
 mod histories;
 mod jobs;
+mod lanes;
 mod meeting;
+mod order;
 mod table;
 mod tally;
 mod threads;

@@ -5,25 +5,25 @@ use Rattle.std.proofs.lemmas.List.{length-map}
 use Rattle.std.proofs.lemmas.Slice.Zip.{AllZip-long}
 use Rattle.std.proofs.lemmas.List.Elements.{All-nil, All-cons}
 use Rattle.live_table.specs.Seats.{AreSeats, Board, ControlPlace, ControlSitsAt, CpuPlace}
-use Rattle.live_threads.specs.AnySeats.{IsSeatOf, IsEndedSeat, AreSeatsOf, AreEndedSeats, all_of}
+use Rattle.live_threads.specs.AnySeats.{IsSeatOf, IsEndedSeat, AreSeatsOf, AreEndedSeats, all_of, cpus_as_any}
 use Rattle.live_threads.specs.Ends.{IsEndedCpu, IsEndedControl, AreEnded}
 use Rattle.live_threads.specs.declared.seat.AnySeat.{AnySeat}
 use Rattle.live_threads.specs.declared.seat.AnySeat.TheVariants.{Control, Cpu}
 
--- the seats of CPUs
-abbrev own : List CpuPlace → List AnySeat
-own cpus = map (λ s. Cpu s) cpus
-
 -- ## put together
 
-cpus_sit : (b : Board) (cpus : List CpuPlace) → ((k : ℕ) (s : CpuPlace) → slice_get cpus k ≡ Some s → IsSeatOf b (Cpu s)) → AreSeatsOf b (own cpus)
+pub cpus_sit : (b : Board) (cpus : List CpuPlace) → ((k : ℕ) (s : CpuPlace) → slice_get cpus k ≡ Some s → IsSeatOf b (Cpu s)) → AreSeatsOf b (cpus_as_any cpus)
 cpus_sit b [] each = All-nil (IsSeatOf b)
-cpus_sit b (s ∷ cpus) each = All-cons (IsSeatOf b) (Cpu s) (own cpus) (each zero s refl) (cpus_sit b cpus (λ k t at. each (suc k) t at))
+cpus_sit b (s ∷ cpus) each = All-cons (IsSeatOf b) (Cpu s) (cpus_as_any cpus) (each zero s refl) (cpus_sit b cpus (λ k t at. each (suc k) t at))
+
+-- control's first, and the CPUs' after it
+pub all_together : (control : ControlPlace) (cpus : List CpuPlace) (none one ss : List AnySeat) → none ≡ [] → one ≡ none ++ Control control ∷ [] → ss ≡ one ++ cpus_as_any cpus → ss ≡ all_of control cpus
+all_together control cpus none one ss empty more is = is ∙ ap (λ l. l ++ cpus_as_any cpus) (more ∙ ap (λ l. l ++ Control control ∷ []) empty)
 
 -- all are of the table
 pub all_sit : (b : Board) (control : ControlPlace) (cpus : List CpuPlace) (ss : List AnySeat) → ControlSitsAt b control → AreSeats b cpus → ss ≡ all_of control cpus → AreSeatsOf b ss
 all_sit b control cpus ss sits seats is =
-    subst (AreSeatsOf b) (sym is) (All-cons (IsSeatOf b) (Control control) (own cpus) sits (cpus_sit b cpus (λ k s at. (seats.each k s at).0)))
+    subst (AreSeatsOf b) (sym is) (All-cons (IsSeatOf b) (Control control) (cpus_as_any cpus) sits (cpus_sit b cpus (λ k s at. (seats.each k s at).0)))
 
 -- one more than there are CPUs
 pub all_count : (control : ControlPlace) (cpus : List CpuPlace) (ss : List AnySeat) → ss ≡ all_of control cpus → length ss ≡ length cpus + 1
@@ -38,7 +38,7 @@ all_over control cpus ss ts is over = subst (λ l. AreEndedSeats l ts) is over
 pub over_count : (control : ControlPlace) (cpus : List CpuPlace) (ts : List AnySeat) → AreEndedSeats (all_of control cpus) ts → length ts ≡ length cpus + 1
 over_count control cpus ts over = AllZip-long IsEndedSeat (all_of control cpus) ts over ∙ all_count control cpus (all_of control cpus) refl
 
-not_control : (xs : List AnySeat) (x : ControlPlace) (left : List AnySeat) (all : List CpuPlace) → xs ++ Control x ∷ left ≡ own all → ⊥
+not_control : (xs : List AnySeat) (x : ControlPlace) (left : List AnySeat) (all : List CpuPlace) → xs ++ Control x ∷ left ≡ cpus_as_any all → ⊥
 not_control [] x left [] e = cc
 not_control [] x left (s ∷ all) e = cc
 not_control (y ∷ xs) x left [] e = cc
@@ -48,11 +48,11 @@ not_control (y ∷ xs) x left (s ∷ all) e = not_control xs x left all (cc)
 pub one_control : (k x : ControlPlace) (done its left seats : List AnySeat) (seat : AnySeat)
     → Control k ∷ (done ++ its) ≡ seats → its ≡ seat ∷ left → seat ≡ Control x → (c : ControlPlace) × (all : List CpuPlace) × (seats ≡ all_of c all) → ⊥
 one_control k x done its left seats seat whole first kind has =
-    let e : done ++ Control x ∷ left ≡ own has.1 = let all = has.2 in cc in
+    let e : done ++ Control x ∷ left ≡ cpus_as_any has.1 = let all = has.2 in cc in
     not_control done x left has.1 e
 
 -- the same seats as CPUs' are CPUs'
-cpus_again : (ss : List CpuPlace) (ts : List AnySeat) → AreEndedSeats (own ss) ts → (us : List CpuPlace) × (ts ≡ own us)
+pub cpus_again : (ss : List CpuPlace) (ts : List AnySeat) → AreEndedSeats (cpus_as_any ss) ts → (us : List CpuPlace) × (ts ≡ cpus_as_any us)
 cpus_again [] [] over = ([], refl)
 cpus_again [] (t ∷ ts) over = absurd over
 cpus_again (s ∷ ss) [] over = absurd over
@@ -68,23 +68,26 @@ ended_cpu : (s t : CpuPlace) → IsEndedSeat (Cpu s) (Cpu t) → IsEndedCpu s t
 ended_cpu s t e = let a = e.0.actor in (record { table_id = e.0.table_id; id = e.0.id; job = e.0.job; number = omega arith }, e.1)
 
 ended_control : (s t : ControlPlace) → IsEndedSeat (Control s) (Control t) → IsEndedControl s t
-ended_control s t e = (record { table_id = e.0.table_id; id = e.0.id; job = e.0.job; split = e.0.split }, e.1)
+ended_control s t e = (record { table_id = e.0.table_id; id = e.0.id; job = e.0.job; led = e.0.led; order = e.0.order; split = e.0.split }, e.1)
 
-ended_count : (ss ts : List CpuPlace) → AreEndedSeats (own ss) (own ts) → length ts ≡ length ss
+ended_count : (ss ts : List CpuPlace) → AreEndedSeats (cpus_as_any ss) (cpus_as_any ts) → length ts ≡ length ss
 ended_count [] [] over = refl
 ended_count [] (t ∷ ts) over = absurd over
 ended_count (s ∷ ss) [] over = absurd over
 ended_count (s ∷ ss) (t ∷ ts) over = ap suc (ended_count ss ts over.1)
 
-ended_each : (ss ts : List CpuPlace) → AreEndedSeats (own ss) (own ts) → (k : ℕ) (t : CpuPlace) → slice_get ts k ≡ Some t → (s : CpuPlace) × (slice_get ss k ≡ Some s) × IsEndedCpu s t
+ended_each : (ss ts : List CpuPlace) → AreEndedSeats (cpus_as_any ss) (cpus_as_any ts) → (k : ℕ) (t : CpuPlace) → slice_get ts k ≡ Some t → (s : CpuPlace) × (slice_get ss k ≡ Some s) × IsEndedCpu s t
 ended_each [] [] over k t at = absurd (cc)
 ended_each [] (u ∷ ts) over k t at = absurd over
 ended_each (s ∷ ss) [] over k t at = absurd over
 ended_each (s ∷ ss) (u ∷ ts) over zero t at = let e : u ≡ t = cc in (s, refl, subst (IsEndedCpu s) e (ended_cpu s u over.0))
 ended_each (s ∷ ss) (u ∷ ts) over (suc k) t at = ended_each ss ts over.1 k t at
 
+pub cpus_ended : (ss ts : List CpuPlace) → AreEndedSeats (cpus_as_any ss) (cpus_as_any ts) → AreEnded ss ts
+cpus_ended ss ts over = record { count = ended_count ss ts over; each = ended_each ss ts over }
+
 -- control's and the CPUs' seats are at their ends if all are
 pub ended_apart : (control c : ControlPlace) (cpus us : List CpuPlace) (ts : List AnySeat) → AreEndedSeats (all_of control cpus) ts → ts ≡ all_of c us → IsEndedControl control c × AreEnded cpus us
 ended_apart control c cpus us ts over is =
     let o = subst (AreEndedSeats (all_of control cpus)) is over in
-    (ended_control control c o.0, record { count = ended_count cpus us o.1; each = ended_each cpus us o.1 })
+    (ended_control control c o.0, cpus_ended cpus us o.1)

@@ -1,4 +1,10 @@
 pub mod Alike
+pub mod Places
 pub mod Apart
 pub mod StartToEnd
 pub mod Sent
+pub mod Orders
+pub mod Counting
+pub mod Serving
+pub mod Conducting
+pub mod LaneRuns

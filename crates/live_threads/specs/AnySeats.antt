@@ -1,5 +1,5 @@
 -- Seats of either kind.
-use Rattle.std.specs.Prelude.{◌≡◌, ℕ, ◌+◌, List, ◌∷◌, map, Option, None}
+use Rattle.std.specs.Prelude.{◌≡◌, ℕ, ◌+◌, List, [], ◌∷◌, map, Option, None}
 use Rattle.std.specs.List.{All, AllZip}
 use Rattle.atomic_table.specs.Seated.{TableId}
 use Rattle.ft_base.specs.Job.{Job}
@@ -27,6 +27,16 @@ abbrev pub job_of : AnySeat → Job
 job_of (Control s) = s.job
 job_of (Cpu s) = s.job
 
+-- the job with the lines that were led so far: a CPU's whole job
+abbrev pub led_of : AnySeat → Job
+led_of (Control s) = s.led
+led_of (Cpu s) = s.job
+
+-- the numbers of these lines: none of a CPU's
+abbrev pub order_of : AnySeat → List ℕ
+order_of (Control s) = s.order
+order_of (Cpu s) = []
+
 -- its actor, as gates number them: 0 is control, and c + 1 is CPU c
 abbrev pub actor_of : AnySeat → ℕ
 actor_of (Control s) = 0
@@ -39,7 +49,7 @@ split_of (Cpu s) = 0
 
 -- its next operation; none at its end
 abbrev pub next_of : AnySeat → Option WordOp
-next_of (Control s) = control_next s.job (control_at s)
+next_of (Control s) = control_next s.led (control_at s)
 next_of (Cpu s) = cpu_next s.job (cpu_at s)
 
 -- it is one of the table's
@@ -51,6 +61,8 @@ pub record IsSameSeat (s t : AnySeat) : Type 0 where
   pub table_id : table_of t ≡ table_of s
   pub id : id_of t ≡ id_of s
   pub job : job_of t ≡ job_of s
+  pub led : led_of t ≡ led_of s
+  pub order : order_of t ≡ order_of s
   pub actor : actor_of t ≡ actor_of s
   pub split : split_of t ≡ split_of s
 
@@ -60,9 +72,13 @@ IsEndedSeat s t = IsSameSeat s t × (next_of t ≡ None)
 
 -- ## the seats of a table
 
+-- the CPUs' seats
+abbrev pub cpus_as_any : List CpuPlace → List AnySeat
+cpus_as_any cpus = map (λ s. Cpu s) cpus
+
 -- control's seat, and after it the CPUs'
 abbrev pub all_of : ControlPlace → List CpuPlace → List AnySeat
-all_of control cpus = Control control ∷ map (λ s. Cpu s) cpus
+all_of control cpus = Control control ∷ cpus_as_any cpus
 
 -- each is one of the table's
 abbrev pub AreSeatsOf : Board → List AnySeat → Type 0

@@ -11,11 +11,13 @@ pub record IsSameCpu (s t : CpuPlace) : Type 0 where
   pub job : t.job ≡ s.job
   pub number : t.number ≡ s.number
 
--- control's same seat, whatever values control has taken
+-- control's same seat, to which the same lines were led, whatever values control has taken
 pub record IsSameControl (s t : ControlPlace) : Type 0 where
   pub table_id : t.table_id ≡ s.table_id
   pub id : t.id ≡ s.id
   pub job : t.job ≡ s.job
+  pub led : t.led ≡ s.led
+  pub order : t.order ≡ s.order
   pub split : t.split ≡ s.split
 
 -- the same seat of a CPU, which has no step left
@@ -24,7 +26,7 @@ IsEndedCpu s t = IsSameCpu s t × (cpu_next t.job (cpu_at t) ≡ None)
 
 -- control's same seat, which has no step left
 abbrev pub IsEndedControl : ControlPlace → ControlPlace → Type 0
-IsEndedControl s t = IsSameControl s t × (control_next t.job (control_at t) ≡ None)
+IsEndedControl s t = IsSameControl s t × (control_next t.led (control_at t) ≡ None)
 
 -- the same CPUs' seats in the same order, each at its end
 pub record AreEnded (ss ts : List CpuPlace) : Type 0 where

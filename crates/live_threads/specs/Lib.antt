@@ -2,3 +2,6 @@ pub mod Ends
 pub mod AnySeats
 pub mod Seatings
 pub mod Rooms
+pub mod LaneItems
+pub mod Led
+pub mod Conducted

@@ -1,14 +1,23 @@
--- The seat of a seating: the caller's own, or the one that its thread has promised to give back.
-use Rattle.std.specs.Prelude.{List, map}
-use Rattle.live_threads.specs.declared.seating.Seating.{Seating}
-use Rattle.live_threads.specs.declared.seating.Seating.TheVariants.{There, Here}
+-- The seats of a seating: those that threads have promised to give back, and those that are here.
+use Rattle.std.specs.Prelude.{ℕ, suc, List, [], ◌∷◌, map}
+use Rattle.live_threads.specs.declared.here.HereSeat.{HereSeat}
 use Rattle.live_threads.specs.declared.seat.AnySeat.{AnySeat}
+use Rattle.live_threads.specs.declared.seating.Place.{Place}
+use Rattle.live_threads.specs.declared.seating.Place.TheVariants.{There, Here}
 
--- the seat, at whatever point of its run
-abbrev pub seat_of : Seating → AnySeat
-seat_of (There handle) = handle.promise.0.value
-seat_of (Here seat steps over) = seat
+-- the seats that are here, at whatever point of their runs
+abbrev pub own_seats : List HereSeat → List AnySeat
+own_seats here = map (λ h. h.seat) here
 
--- those of these seatings, in order
-abbrev pub seats_in : List Seating → List AnySeat
-seats_in seatings = map seat_of seatings
+-- how many of these places are here
+abbrev pub here_in : List Place → ℕ
+here_in [] = 0
+here_in (There thread ∷ places) = here_in places
+here_in (Here ∷ places) = suc (here_in places)
+
+-- the seats of these places, if those that are here are these
+abbrev pub seats_in : List Place → List HereSeat → List AnySeat
+seats_in [] here = []
+seats_in (There thread ∷ places) here = thread.promise.0.value ∷ seats_in places here
+seats_in (Here ∷ places) [] = []
+seats_in (Here ∷ places) (h ∷ here) = h.seat ∷ seats_in places here

@@ -1,17 +1,17 @@
 //! All seats of a table, brought to their ends.
 
-ghost use Rattle.std.specs.Prelude.{List, ◌≡◌, ◌+◌, ◌^◌, ◌<◌, [], length, vec_capacity, IfOk, IfErr};
+ghost use Rattle.std.specs.Prelude.{List, ◌≡◌, ◌≤◌, ◌+◌, ◌++◌, [], length, vec_len, vec_capacity, IfOk, IfErr};
 ghost use Rattle.live_table.specs.Seats.{AreSeats, ControlPlace, ControlSitsAt, CpuPlace};
-ghost use Rattle.live_threads.specs.AnySeats.{AreEndedSeats, AreSameSeats, AreSeatsOf, all_of};
+ghost use Rattle.live_threads.specs.AnySeats.{AreEndedSeats, AreSeatsOf, all_of, cpus_as_any};
 ghost use Rattle.live_threads.specs.Ends.{AreEnded, IsEndedControl};
-ghost use Rattle.live_threads.specs.Seatings.{seats_in};
-ghost use Rattle.live_threads.specs.Rooms.{HasRooms};
+ghost use Rattle.live_threads.specs.Rooms.{HasPlaces, HasRooms};
 
+use crate::rooms::{Rooms, make_rooms};
 use crate::seat::AnySeat;
-use crate::seating::{Seating, finish, launch, step_here};
+use crate::seating::{Seating, end_all, launch_all};
 use ft_io::Gate;
-use live_table::{ControlSeat, CpuSeat, Going, Live};
-use std::alloc::{AllocError, Global};
+use live_table::{ControlSeat, CpuSeat, Live};
+use std::alloc::Global;
 use std::sync::Wait;
 use std::sync::atomic::AtomicBool;
 use std::thread;
@@ -26,50 +26,11 @@ pub struct Ended {
     pub cpus: Vec<CpuSeat>,
 }
 
-/// All memory that a run takes, but for its threads.
-#[derive(Drop)]
-struct Rooms {
-    /// For each seat whether no thread could be started for it.
-    flags: Vec<AtomicBool>,
-    /// For the seats that are to be launched.
-    seats: Vec<AnySeat>,
-    /// For the seatings of those that were.
-    seatings: Vec<Seating>,
-    /// For the seats at their ends.
-    ended: Vec<AnySeat>,
-    /// For those of the CPUs.
-    cpus: Vec<CpuSeat>,
-}
-
-/// Room for control's seat and so many of CPUs.
-fn make_rooms(alloc: Global, cpus: usize) -> Result<Rooms, AllocError>
-    requires { cpus + 1 < 2 ^ 64 }
-    ensures { IfOk result (λ r. HasRooms r cpus) }
+/// The CPUs' seats after these, in order.
+pub(crate) fn add_cpus(mut seats: Vec<AnySeat>, cpus: Vec<CpuSeat>) -> Vec<AnySeat>
+    requires { vec_len seats + length cpus.items ≤ vec_capacity seats }
+    ensures { result.items ≡ seats.items ++ cpus_as_any cpus.items }
 {
-    let all = cpus + 1;
-    let mut flags = Vec::with_capacity(alloc, all)?;
-    for made in 0..all {
-        flags.push_reserved(AtomicBool::new(false));
-    }
-    let seats = Vec::with_capacity(alloc, all)?;
-    let seatings = Vec::with_capacity(alloc, all)?;
-    let ended = Vec::with_capacity(alloc, all)?;
-    let cpus = Vec::with_capacity(alloc, cpus)?;
-    Ok(Rooms {
-        flags,
-        seats,
-        seatings,
-        ended,
-        cpus,
-    })
-}
-
-/// Control's seat, and after it the CPUs'.
-fn put_together(control: ControlSeat, cpus: Vec<CpuSeat>, mut seats: Vec<AnySeat>) -> Vec<AnySeat>
-    requires { (seats.items ≡ []) × (vec_capacity seats ≡ length cpus.items + 1) }
-    ensures { result.items ≡ all_of control cpus.items }
-{
-    seats.push_reserved(AnySeat::Control(control));
     for cpu in cpus {
         seats.push_reserved(AnySeat::Cpu(cpu));
     }
@@ -77,9 +38,9 @@ fn put_together(control: ControlSeat, cpus: Vec<CpuSeat>, mut seats: Vec<AnySeat
 }
 
 /// Control's seat and the CPUs' apart again.
-fn take_apart(seats: Vec<AnySeat>, mut cpus: Vec<CpuSeat>) -> Ended
+pub(crate) fn take_apart(seats: Vec<AnySeat>, mut cpus: Vec<CpuSeat>) -> Ended
     requires seats { (control : ControlPlace) × (all : List CpuPlace) × (seats.items ≡ all_of control all) }
-    requires room { (cpus.items ≡ []) × (vec_capacity cpus + 1 ≡ length seats.items) }
+    requires room { (cpus.items ≡ []) × (length seats.items ≤ vec_capacity cpus + 1) }
     ensures { seats.items ≡ all_of result.control result.cpus.items }
 {
     let mut seats = seats.into_iter();
@@ -95,75 +56,10 @@ fn take_apart(seats: Vec<AnySeat>, mut cpus: Vec<CpuSeat>) -> Ended
     Ended { control, cpus }
 }
 
-/// Launches each seat, in order.
-fn launch_all<'s, E, R: Threads + Wait + Sync, G: Gate>(
-    scope: &'s Scope<'s, E>,
-    rt: &'s R,
-    live: &'s Live,
-    gate: &'s G,
-    flags: &'s [AtomicBool],
-    seats: Vec<AnySeat>,
-    mut seatings: Vec<Seating>,
-) -> Vec<Seating>
-    requires seats { AreSeatsOf live.now seats.items }
-    requires flags { length flags.now ≡ length seats.items }
-    requires room { (seatings.items ≡ []) × (vec_capacity seatings ≡ length seats.items) }
-    ensures { AreSameSeats seats.items (seats_in result.items) }
-{
-    for seat in seats {
-        let flag = &flags[seatings.len()];
-        seatings.push_reserved(launch(scope, rt, live, gate, flag, seat));
-    }
-    seatings
-}
-
-/// Steps the seats that are here in turn until all of them are at their ends. One may wait for another,
-/// so none is stepped to its end alone.
-fn step_rest<R: Wait, G: Gate>(rt: &R, live: &Live, gate: &G, seatings: &mut Vec<Seating>)
-    requires { AreSeatsOf live.now (seats_in seatings.old.items) }
-    ensures { AreSameSeats (seats_in seatings.old.items) (seats_in seatings.new.items) }
-{
-    for _ in rt.forever() {
-        let mut going = Going::End;
-        for i in 0..seatings.len() {
-            if step_here(live, gate, &mut seatings[i]) == Going::More {
-                going = Going::More;
-            }
-        }
-        if going == Going::End {
-            break;
-        }
-        thread::yield_now();
-    }
-}
-
-/// Each seat at its end, in order.
-fn finish_all<R: Threads + Wait + Sync, G: Gate>(
-    rt: &R,
-    live: &Live,
-    gate: &G,
-    seatings: Vec<Seating>,
-    mut ended: Vec<AnySeat>,
-) -> Vec<AnySeat>
-    requires seatings { AreSeatsOf live.now (seats_in seatings.items) }
-    requires room { (ended.items ≡ []) × (vec_capacity ended ≡ length seatings.items) }
-    ensures { AreEndedSeats (seats_in seatings.items) result.items }
-{
-    for seating in seatings {
-        ended.push_reserved(finish(rt, live, gate, seating));
-    }
-    ended
-}
-
 /// Brings each seat to its end.
 ///
-/// The order is what keeps a run from hanging, and no clause says it:
-///
-/// 1. All seats are launched before any is stepped here. A thread that was started may wait for one
-///    that wasn't yet, and goes on once that one steps.
-/// 2. Those that are here are stepped to their ends before any thread is joined. Joined first, a thread
-///    that waits for a seat that is here would never come to its end.
-/// 3. Then the threads are joined.
+/// All seats are launched before any is stepped here, and no clause says this: a thread that was started
+/// may wait for a seat that wasn't yet, and goes on once that one steps.
 fn run_all<'s, E, R: Threads + Wait + Sync, G: Gate>(
     scope: &'s Scope<'s, E>,
     rt: &'s R,
@@ -171,18 +67,17 @@ fn run_all<'s, E, R: Threads + Wait + Sync, G: Gate>(
     gate: &'s G,
     flags: &'s [AtomicBool],
     seats: Vec<AnySeat>,
-    seatings: Vec<Seating>,
+    seating: Seating,
     ended: Vec<AnySeat>,
 ) -> Vec<AnySeat>
     requires seats { AreSeatsOf live.now seats.items }
-    requires flags { length flags.now ≡ length seats.items }
-    requires seatings { (seatings.items ≡ []) × (vec_capacity seatings ≡ length seats.items) }
-    requires ended { (ended.items ≡ []) × (vec_capacity ended ≡ length seats.items) }
+    requires flags { length seats.items ≤ length flags.now }
+    requires seating { HasPlaces seating (length seats.items) }
+    requires ended { (ended.items ≡ []) × (length seats.items ≤ vec_capacity ended) }
     ensures { AreEndedSeats seats.items result.items }
 {
-    let mut seatings = launch_all(scope, rt, live, gate, flags, seats, seatings);
-    step_rest(rt, live, gate, &mut seatings);
-    finish_all(rt, live, gate, seatings, ended)
+    let seating = launch_all(scope, rt, live, gate, flags, seats, seating);
+    end_all(rt, live, gate, seating, ended)
 }
 
 /// Brings the seats to their ends, with all memory at hand.
@@ -202,20 +97,21 @@ fn run_in<R: Threads + Wait + Sync, G: Gate>(
 {
     let Rooms {
         flags,
-        seats,
-        seatings,
+        mut seats,
+        seating,
         ended,
         cpus: room,
     } = rooms;
-    let seats = put_together(control, cpus, seats);
+    seats.push_reserved(AnySeat::Control(control));
+    let seats = add_cpus(seats, cpus);
     let flags = flags.as_slice();
     let ended = thread::scope(
         thread::scope_env(),
         rt,
         move |scope| -> Vec<AnySeat>
-            requires { AreSeatsOf live.now seats.items × (length flags.now ≡ length seats.items) × (seatings.items ≡ []) × (vec_capacity seatings ≡ length seats.items) × (ended.items ≡ []) × (vec_capacity ended ≡ length seats.items) }
+            requires { AreSeatsOf live.now seats.items × (length seats.items ≤ length flags.now) × HasPlaces seating (length seats.items) × (ended.items ≡ []) × (length seats.items ≤ vec_capacity ended) }
             ensures { AreEndedSeats seats.items result.items }
-        { run_all(scope, rt, live, gate, flags, seats, seatings, ended) },
+        { run_all(scope, rt, live, gate, flags, seats, seating, ended) },
     );
     take_apart(ended, room)
 }

@@ -3,10 +3,13 @@
 ghost use Rattle.std.specs.Prelude.{◌≡◌, ◌≤◌, None};
 ghost use Rattle.live_threads.specs.AnySeats.{IsEndedSeat, IsSameSeat, IsSeatOf, actor_of, next_of};
 
-use ft_io::Gate;
+use crate::passing::Passing;
 use live_table::{ControlSeat, CpuSeat, Going, Live};
 use std::sync::Wait;
 use std::thread;
+
+/// Control's number, as gates number actors. That of CPU c is c + 1.
+pub(crate) const CONTROL: u32 = 0;
 
 /// A seat of either kind.
 #[derive(Drop)]
@@ -21,19 +24,19 @@ impl AnySeat {
         ensures { actor_of self.now ≤ u32.MAX → result ≡ actor_of self.now }
     {
         match self {
-            AnySeat::Control(_) => 0,
+            AnySeat::Control(_) => CONTROL,
             AnySeat::Cpu(seat) => seat.number().0.saturating_add(1),
         }
     }
 }
 
 /// Passes the gate and makes one step, if there is one. `steps` is the number of the seat's steps so far.
-pub(crate) fn step_seat<G: Gate>(live: &Live, gate: &G, steps: u64, seat: &mut AnySeat) -> Going
+pub(crate) fn step_seat<G: Passing>(live: &Live, gate: &G, steps: u64, seat: &mut AnySeat) -> Going
     requires { IsSeatOf live.now seat.old }
     ensures same { IsSameSeat seat.old seat.new }
     ensures end { result ≡ Going.End → next_of seat.new ≡ None }
 {
-    gate.pass(seat.actor(), steps);
+    gate.let_pass(seat.actor(), steps);
     match seat {
         AnySeat::Control(seat) => live.control_step(seat),
         AnySeat::Cpu(seat) => live.cpu_step(seat),
@@ -41,7 +44,7 @@ pub(crate) fn step_seat<G: Gate>(live: &Live, gate: &G, steps: u64, seat: &mut A
 }
 
 /// Steps a seat that hasn't stepped until its end.
-pub(crate) fn run_seat<R: Wait, G: Gate>(
+pub(crate) fn run_seat<R: Wait, G: Passing>(
     rt: &R,
     live: &Live,
     gate: &G,

@@ -1,124 +1,120 @@
-//! Where a seat runs: in a thread of its own, or here.
+//! Seats, each in a thread of its own or here.
 
-ghost use Rattle.std.specs.Prelude.{MatchResult};
-ghost use Rattle.live_threads.specs.AnySeats.{IsEndedSeat, IsSameSeat, IsSeatOf};
-ghost use Rattle.live_threads.specs.Seatings.{seat_of};
+ghost use Rattle.std.specs.Prelude.{List, ◌≡◌, ◌+◌, ◌≤◌, ◌++◌, length, vec_len, vec_capacity};
+ghost use Rattle.live_threads.specs.declared.seat.AnySeat.{AnySeat};
+ghost use Rattle.live_threads.specs.AnySeats.{AreEndedSeats, AreSameSeats, AreSeatsOf};
+ghost use Rattle.live_threads.specs.Rooms.{HasPlaces};
+ghost use Rattle.live_threads.specs.Seatings.{here_in, seats_in};
 
-use crate::seat::{AnySeat, run_seat, step_seat};
+use crate::here::{HereSeat, step_all};
+use crate::seat::{AnySeat, run_seat};
+use crate::seat_thread::{SeatThread, join_seat, launch};
 use ft_io::{Gate, OpenGate};
-use live_table::{Going, Live};
-use std::snapshot::Snapshot;
+use live_table::Live;
 use std::sync::Wait;
-use std::sync::atomic::{AtomicBool, Ordering};
-use std::thread::{Promise, PromisedHandle, Scope, Threads};
+use std::sync::atomic::AtomicBool;
+use std::thread::{Scope, Threads};
 
-/// What a thread promises of the seat that it was given: it comes back at its end (`Ok`), or without a
-/// step (`Err`).
+/// Where a seat is.
 #[derive(Drop)]
-pub(crate) struct SeatPromise(pub(crate) Snapshot<AnySeat>);
-
-impl Promise<Result<AnySeat, AnySeat>> for SeatPromise {
-    ghost use Rattle.std.specs.Prelude.{MatchResult};
-    ghost use Rattle.live_threads.specs.AnySeats.{IsEndedSeat, IsSameSeat};
-
-    ghost kept_by = { λ p r. MatchResult r (λ t. IsEndedSeat p.0.value t) (λ t. IsSameSeat p.0.value t) };
-}
-
-/// Where a seat runs.
-#[derive(Drop)]
-pub(crate) enum Seating {
+pub(crate) enum Place {
     /// In a thread of its own.
-    There(PromisedHandle<Result<AnySeat, AnySeat>, SeatPromise>),
-    /// Here, with the number of its steps so far, and whether it is at its end.
-    Here(AnySeat, u64, bool),
+    There(SeatThread),
+    /// Among those that are here.
+    Here,
 }
 
-/// What a thread does: it steps the seat until its end, or gives it back at once if the flag is set.
-fn seat_thread<R: Wait, G: Gate>(
-    rt: &R,
-    live: &Live,
-    gate: &G,
-    refused: &AtomicBool,
-    seat: AnySeat,
-) -> Result<AnySeat, AnySeat>
-    requires { IsSeatOf live.now seat }
-    ensures { MatchResult result (λ t. IsEndedSeat seat t) (λ t. IsSameSeat seat t) }
-{
-    // Relaxed is enough: the flag is set by the thread that then runs this very closure itself, so it
-    // reads its own store. A thread that was started never finds its flag set. No data hangs on it.
-    if refused.load(Ordering::Relaxed) {
-        return Err(seat);
-    }
-    Ok(run_seat(rt, live, gate, seat))
+/// Where all seats are. Those that are here are a list of their own, which may go to another thread,
+/// as no handle may.
+#[derive(Drop)]
+pub(crate) struct Seating {
+    /// For each seat where it is.
+    pub(crate) places: Vec<Place>,
+    /// The seats that are here, in order.
+    pub(crate) here: Vec<HereSeat>,
 }
 
-/// Starts a thread for the seat. If none can be started, the seat stays here. The flag is the seat's
-/// own, and isn't set.
-pub(crate) fn launch<'s, E, R: Threads + Wait + Sync, G: Gate>(
+/// Launches each seat, in order. Those for which no thread can be started stay here.
+pub(crate) fn launch_all<'s, E, R: Threads + Wait + Sync, G: Gate>(
     scope: &'s Scope<'s, E>,
     rt: &'s R,
     live: &'s Live,
     gate: &'s G,
-    refused: &'s AtomicBool,
-    seat: AnySeat,
+    flags: &'s [AtomicBool],
+    seats: Vec<AnySeat>,
+    seating: Seating,
 ) -> Seating
-    requires { IsSeatOf live.now seat }
-    ensures { IsSameSeat seat (seat_of result) }
+    requires seats { AreSeatsOf live.now seats.items }
+    requires flags { length seats.items ≤ length flags.now }
+    requires seating { HasPlaces seating (length seats.items) }
+    ensures same { AreSameSeats seats.items (seats_in result.places.items result.here.items) }
+    ensures here { here_in result.places.items ≡ length result.here.items }
 {
-    let promise = SeatPromise(Snapshot::of(&seat));
-    let job = move || -> Result<AnySeat, AnySeat>
-        requires { IsSeatOf live.now seat }
-        ensures { MatchResult result (λ t. IsEndedSeat seat t) (λ t. IsSameSeat seat t) }
-    { seat_thread(rt, live, gate, refused, seat) };
-    match scope.spawn_with(promise, job) {
-        Ok(handle) => Seating::There(handle),
-        // The closure has the seat, so it is called for it. With the flag set it makes no step: run to
-        // its end here, the seat could wait for others that aren't launched yet, without end.
-        Err(failed) => {
-            refused.store(true, Ordering::Relaxed);
-            match (failed.value)() {
-                Ok(seat) => Seating::Here(seat, 0, false),
-                Err(seat) => Seating::Here(seat, 0, false),
+    let Seating {
+        mut places,
+        mut here,
+    } = seating;
+    for seat in seats {
+        let flag = &flags[places.len()];
+        match launch(scope, rt, live, gate, flag, seat) {
+            Ok(thread) => places.push_reserved(Place::There(thread)),
+            Err(seat) => {
+                places.push_reserved(Place::Here);
+                here.push_reserved(HereSeat::new(seat));
             }
         }
     }
+    Seating { places, here }
 }
 
-/// One step of a seat that is here and not at its end.
-pub(crate) fn step_here<G: Gate>(live: &Live, gate: &G, seating: &mut Seating) -> Going
-    requires { IsSeatOf live.now (seat_of seating.old) }
-    ensures { IsSameSeat (seat_of seating.old) (seat_of seating.new) }
-{
-    match seating {
-        Seating::There(_) => Going::End,
-        Seating::Here(_, _, true) => Going::End,
-        Seating::Here(seat, steps, over) => {
-            let going = step_seat(live, gate, *steps, seat);
-            match going {
-                Going::More => *steps = steps.saturating_add(1),
-                Going::End => *over = true,
-            }
-            going
-        }
-    }
-}
-
-/// The seat at its end. One that is here is stepped to its end already.
-pub(crate) fn finish<R: Threads + Wait + Sync, G: Gate>(
+/// Each seat at its end, in order, after those of `ended`. The seats that are here are stepped to their
+/// ends already.
+fn finish_all<R: Threads + Wait + Sync, G: Gate>(
     rt: &R,
     live: &Live,
     gate: &G,
     seating: Seating,
-) -> AnySeat
-    requires { IsSeatOf live.now (seat_of seating) }
-    ensures { IsEndedSeat (seat_of seating) result }
+    mut ended: Vec<AnySeat>,
+) -> Vec<AnySeat>
+    requires seats { AreSeatsOf live.now (seats_in seating.places.items seating.here.items) }
+    requires here { here_in seating.places.items ≡ length seating.here.items }
+    requires room { vec_len ended + length seating.places.items ≤ vec_capacity ended }
+    ensures { (seats : List AnySeat) × (result.items ≡ ended.items ++ seats) × AreEndedSeats (seats_in seating.places.items seating.here.items) seats }
 {
-    match seating {
-        Seating::There(handle) => match handle.join(rt) {
-            Ok(seat) => seat,
-            Err(seat) => run_seat(rt, live, gate, seat),
-        },
-        // One call, which finds no step, and which no gate has to hear of a second time.
-        Seating::Here(seat, _, _) => run_seat(rt, live, &OpenGate, seat),
+    let Seating { places, here } = seating;
+    let mut rest = here.into_iter();
+    for place in places {
+        match place {
+            Place::There(thread) => ended.push_reserved(join_seat(rt, live, gate, thread)),
+            Place::Here => {
+                let Some(own) = rest.next() else {
+                    unreachable!();
+                };
+                // One call, which finds no step, and which no gate has to hear of a second time.
+                ended.push_reserved(run_seat(rt, live, &OpenGate, own.seat));
+            }
+        }
     }
+    ended
+}
+
+/// Brings each seat to its end, in order, after those of `ended`.
+///
+/// Those that are here are stepped to their ends before any thread is joined. Joined first, a thread that
+/// waits for a seat that is here would never come to its end; no clause says this.
+pub(crate) fn end_all<R: Threads + Wait + Sync, G: Gate>(
+    rt: &R,
+    live: &Live,
+    gate: &G,
+    seating: Seating,
+    ended: Vec<AnySeat>,
+) -> Vec<AnySeat>
+    requires seats { AreSeatsOf live.now (seats_in seating.places.items seating.here.items) }
+    requires here { here_in seating.places.items ≡ length seating.here.items }
+    requires room { vec_len ended + length seating.places.items ≤ vec_capacity ended }
+    ensures { (seats : List AnySeat) × (result.items ≡ ended.items ++ seats) × AreEndedSeats (seats_in seating.places.items seating.here.items) seats }
+{
+    let Seating { places, mut here } = seating;
+    step_all(rt, live, gate, &mut here);
+    finish_all(rt, live, gate, Seating { places, here }, ended)
 }

@@ -88,6 +88,40 @@ cpu 0 quantum 100
 cpu 1 quantum 100
 ";
 
+/// Two users of which one is registered and unregistered by one lane, and the other registered by
+/// another.
+const LANES: &str = "ftrace 1
+func a
+user t function
+user s function
+lane 0
+ctl register t
+ctl unregister t
+lane 1
+ctl register s
+";
+
+/// The same, and a call on each of two CPUs. One of them waits until two commands have returned.
+const LANES_AND_CALLS: &str = "ftrace 1
+func a
+user t function
+user s function
+cpu 0 quantum 100
+cpu 1 quantum 100
+task 10 cpu 0
+after 2
+call a
+ret
+task 11 cpu 1
+call a
+ret
+lane 0
+ctl register t
+ctl unregister t
+lane 1
+ctl register s
+";
+
 /// Calls of each task.
 const CALLS: u32 = 10;
 
@@ -125,6 +159,16 @@ pub fn one_order(alloc: Global) -> Result<Job, Fail> {
 /// The job of commands alone.
 pub fn commands_alone(alloc: Global) -> Result<Job, Fail> {
     job_of(alloc, COMMANDS)
+}
+
+/// The job of three commands in two lanes.
+pub fn lanes_alone(alloc: Global) -> Result<Job, Fail> {
+    job_of(alloc, LANES)
+}
+
+/// The job of three commands in two lanes, and two calls.
+pub fn lanes_and_calls(alloc: Global) -> Result<Job, Fail> {
+    job_of(alloc, LANES_AND_CALLS)
 }
 
 /// A task of ten calls, on this CPU.

@@ -1,33 +1,44 @@
-//! A gate at which three actors meet.
+//! A gate at which actors meet.
 
 use ft_io::Gate;
 use std::sync::atomic::{AtomicBool, AtomicU32, Ordering};
 use std::thread;
 
-/// The pass in which they meet, by the number of steps before it.
-const STEP: u64 = 5;
-
-/// Control and two CPUs.
-const ACTORS: u32 = 3;
-
 /// How often an actor looks for the others before it gives up.
 const TURNS: u32 = 10_000_000;
 
-/// Holds control and the first two CPUs in that pass until all three have come into it. On one thread
-/// no two of them are ever in a pass at once, and the first gives up.
+/// Holds some actors in one of their passes until all of them have come into it. On one thread no two
+/// of them are ever in a pass at once, and the first gives up.
 ///
 /// Relaxed is enough for both words: no other memory hangs on them, and each is read again when the
 /// threads have been joined.
 #[derive(Drop)]
 pub struct Meeting {
+    /// The first of the actors, whose numbers follow one another.
+    first: u32,
+    actors: u32,
+    /// The pass, by the number of steps before it.
+    step: u64,
     came: AtomicU32,
     failed: AtomicBool,
 }
 
 impl Meeting {
-    /// Nobody has come yet.
-    pub fn new() -> Meeting {
+    /// Of control and the first two CPUs, in their passes with step 5. Nobody has come yet.
+    pub fn of_three() -> Meeting {
+        Meeting::new(0, 3, 5)
+    }
+
+    /// Of the lanes 0 and 1, in their passes with step 0. Nobody has come yet.
+    pub fn of_lanes() -> Meeting {
+        Meeting::new(100, 2, 0)
+    }
+
+    fn new(first: u32, actors: u32, step: u64) -> Meeting {
         Meeting {
+            first,
+            actors,
+            step,
             came: AtomicU32::new(0),
             failed: AtomicBool::new(false),
         }
@@ -46,12 +57,13 @@ impl Meeting {
 
 impl Gate for Meeting {
     fn pass(&self, actor: u32, step: u64) {
-        if actor >= ACTORS || step != STEP {
+        let is_one = actor >= self.first && actor - self.first < self.actors;
+        if !is_one || step != self.step {
             return;
         }
         self.came.fetch_add(1, Ordering::Relaxed);
         for _ in 0..TURNS {
-            if self.came() >= ACTORS {
+            if self.came() >= self.actors {
                 return;
             }
             thread::yield_now();

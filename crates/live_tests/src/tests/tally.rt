@@ -3,8 +3,8 @@
 use ft_io::Gate;
 use std::sync::atomic::{AtomicBool, AtomicU64, Ordering};
 
-/// Control and two CPUs.
-const ACTORS: usize = 3;
+/// Control, two CPUs and two lanes.
+const ACTORS: usize = 5;
 
 /// Notes how often each actor passes, and whether it passes with the numbers 0, 1, 2 and so on, each
 /// once.
@@ -21,15 +21,21 @@ impl Tally {
     /// Nobody has passed yet.
     pub fn new() -> Tally {
         Tally {
-            passes: [AtomicU64::new(0), AtomicU64::new(0), AtomicU64::new(0)],
+            passes: [
+                AtomicU64::new(0),
+                AtomicU64::new(0),
+                AtomicU64::new(0),
+                AtomicU64::new(0),
+                AtomicU64::new(0),
+            ],
             broken: AtomicBool::new(false),
         }
     }
 
     /// How often each actor has passed.
     pub fn passes(&self) -> [u64; ACTORS] {
-        let [control, first, second] = &self.passes;
-        [control, first, second].map(|passes| passes.load(Ordering::Relaxed))
+        let [control, first, second, lane, other] = &self.passes;
+        [control, first, second, lane, other].map(|passes| passes.load(Ordering::Relaxed))
     }
 
     /// Whether an actor passed with another number than how often it had passed before, or one passed
@@ -41,9 +47,15 @@ impl Tally {
 
 impl Gate for Tally {
     fn pass(&self, actor: u32, step: u64) {
+        let place = match actor {
+            0..=2 => actor as usize,
+            100 => 3,
+            101 => 4,
+            _ => ACTORS,
+        };
         let before = self
             .passes
-            .get(actor as usize)
+            .get(place)
             .map(|passes| passes.fetch_add(1, Ordering::Relaxed));
         if before != Some(step) {
             self.broken.store(true, Ordering::Relaxed);

@@ -59,7 +59,7 @@ fn items_of_three<R: Threads + Wait + Sync>(
 
 #[test]
 fn threads_pass_together(rt: HostRuntime) -> Result<(), Fail> {
-    let meeting = Meeting::new();
+    let meeting = Meeting::of_three();
     let items = items_of_three(&rt, rt.alloc(), &meeting)?;
     // Each came, so the gate was passed, and none gave up, so they were there together.
     assert!(rt; meeting.came() == 3);
@@ -70,8 +70,9 @@ fn threads_pass_together(rt: HostRuntime) -> Result<(), Fail> {
     Ok(())
 }
 
-/// How often control and two CPUs pass the gate in a run of the job, each with the numbers from 0 on.
-fn passes<R: Threads + Wait + Sync>(rt: &R, alloc: Global, job: &Job) -> Result<[u64; 3], Fail> {
+/// How often control, two CPUs and two lanes pass the gate in a run of the job, each with the numbers
+/// from 0 on.
+fn passes<R: Threads + Wait + Sync>(rt: &R, alloc: Global, job: &Job) -> Result<[u64; 5], Fail> {
     let tally = Tally::new();
     run(rt, alloc, job, &tally)?;
     if tally.is_broken() {
@@ -108,7 +109,7 @@ fn passes_with_commands<R: Threads + Wait + Sync>(rt: &R, alloc: Global) -> Resu
     let job = commands_alone(alloc)?;
     let control = steps_and_one(alloc, &job, Actor::Control)?;
     let passes = passes(rt, alloc, &job)?;
-    Ok(passes == [control, 0, 0])
+    Ok(passes == [control, 0, 0, 0, 0])
 }
 
 /// Whether each CPU passes once a step, if nothing is asked for and control has no step.
@@ -117,11 +118,11 @@ fn passes_with_calls<R: Threads + Wait + Sync>(rt: &R, alloc: Global) -> Result<
     let first = steps_and_one(alloc, &job, Actor::Cpu(CpuNo(0)))?;
     let second = steps_and_one(alloc, &job, Actor::Cpu(CpuNo(1)))?;
     let passes = passes(rt, alloc, &job)?;
-    Ok(passes == [1, first, second])
+    Ok(passes == [1, first, second, 0, 0])
 }
 
 /// How often each passes if all are under way. How often control asks is the threads' choice.
-fn passes_with_both<R: Threads + Wait + Sync>(rt: &R, alloc: Global) -> Result<[u64; 3], Fail> {
+fn passes_with_both<R: Threads + Wait + Sync>(rt: &R, alloc: Global) -> Result<[u64; 5], Fail> {
     let job = three_at_once(alloc)?;
     passes(rt, alloc, &job)
 }

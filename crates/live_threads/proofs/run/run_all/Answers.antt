@@ -1,25 +1,31 @@
-use Rattle.std.proofs.Common.{◌∙◌, sym}
+use Rattle.std.proofs.Common.{◌≡◌, List, ◌++◌, length, ◌∙◌, sym, ap, subst, arith}
+use Rattle.std.proofs.lemmas.Slice.Zip.{AllZip-long}
+use Rattle.live_threads.specs.AnySeats.{AreEndedSeats, IsSameSeat}
 use Rattle.live_threads.specs.Seatings.{seats_in}
-use Rattle.live_threads.proofs.Alike.{as_many, over_then, same_table, same_seatings}
+use Rattle.live_threads.specs.declared.seat.AnySeat.{AnySeat}
+use Rattle.live_threads.proofs.Alike.{over_then, same_table}
+use Rattle.live_threads.proofs.Places.{as_many}
 use Rattle.live_threads.proofs.run.run_all.Goals as goal
 
-pub step_rest-requires-after_bounds : goal.step_rest-requires-after_bounds
-step_rest-requires-after_bounds g c =
-    let sit = same_table c.args.live.now c.args.seats.items (seats_in c.launch_all-seatings.result.items) c.requires.seats c.launch_all-seatings.ensures in
-    λ _ _. sit
+pub end_all-requires-clause-seats : goal.end_all-requires-clause-seats
+end_all-requires-clause-seats g c =
+    let l = c.launch_all-seating in
+    λ _ _. same_table c.args.live.now c.args.seats.items (seats_in l.result.places.items l.result.here.items) c.requires.seats l.ensures.same
 
-pub finish_all-requires-clause-seatings : goal.finish_all-requires-clause-seatings
-finish_all-requires-clause-seatings g c =
-    let same = same_seatings c.args.seats.items c.launch_all-seatings.result.items c.step_rest.new.seatings.items c.launch_all-seatings.ensures c.step_rest.ensures in
-    let sit = same_table c.args.live.now c.args.seats.items (seats_in c.step_rest.new.seatings.items) c.requires.seats same in
-    λ _ _. sit
-
-pub finish_all-requires-clause-room : goal.finish_all-requires-clause-room
-finish_all-requires-clause-room g c =
-    let same = same_seatings c.args.seats.items c.launch_all-seatings.result.items c.step_rest.new.seatings.items c.launch_all-seatings.ensures c.step_rest.ensures in
-    λ _ _. (c.requires.ended.0, c.requires.ended.1 ∙ sym (as_many c.args.seats.items c.step_rest.new.seatings.items same))
+pub end_all-requires-clause-room : goal.end_all-requires-clause-room
+end_all-requires-clause-room g c =
+    let l = c.launch_all-seating in
+    let ps = l.result.places.items in
+    let hs = l.result.here.items in
+    let n = as_many ps hs l.ensures.here in
+    let m = AllZip-long IsSameSeat c.args.seats.items (seats_in ps hs) l.ensures.same in
+    let e = ap length c.requires.ended.0 in
+    let r = c.requires.ended.1 in
+    λ _ _. omega (arith, n, m, e, r)
 
 pub returns : goal.returns
 returns g c =
-    let same = same_seatings c.args.seats.items c.launch_all-seatings.result.items c.step_rest.new.seatings.items c.launch_all-seatings.ensures c.step_rest.ensures in
-    over_then c.args.seats.items (seats_in c.step_rest.new.seatings.items) c.finish_all.result.items same c.finish_all.ensures
+    let l = c.launch_all-seating in
+    let f = c.end_all.ensures in
+    let all : c.end_all.result.items ≡ f.0 = f.1 ∙ ap (λ (l : List AnySeat). l ++ f.0) c.requires.ended.0 in
+    subst (AreEndedSeats c.args.seats.items) (sym all) (over_then c.args.seats.items (seats_in l.result.places.items l.result.here.items) f.0 l.ensures.same f.2)
