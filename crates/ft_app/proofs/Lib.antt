@@ -2,3 +2,4 @@ pub mod Replies
 pub mod Orders
 pub mod WrittenLogs
 pub mod Ends
+pub mod Merges

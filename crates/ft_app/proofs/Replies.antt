@@ -13,7 +13,7 @@ use Rattle.ft_script.proofs.Answered.{not_both, one_job, one_fault}
 use Rattle.ft_app.specs.declared.status.Status.{Status}
 use Rattle.ft_app.specs.declared.status.Status.TheVariants.{Done, Refused}
 use Rattle.ft_app.specs.Status.{code_of}
-use Rattle.ft_app.specs.Reply.{IsReplyTo, of_history, of_refusal, IsHistoryFor, printed, refusal_text}
+use Rattle.ft_app.specs.Reply.{IsReplyTo, of_history, of_refusal, IsCarriedOut, IsHistoryFor, printed, refusal_text}
 use Rattle.ft_app.specs.Main.{HasPrinted, IsReplied, IsBegun, Answers}
 
 -- a fault that isn't out of memory is a refusal
@@ -31,21 +31,23 @@ module _ (order : Order) where
   -- ## a reply that was written in full
 
   module _ (holds holds' : Option (List ℕ)) where
-    pub history-replied : (script : List ℕ) (job : Job) (items : List Item) (ended : Bool) → IsJobOf script job → IsHistoryFor order job items ended
-        → Appends holds holds' (printed order job items ended) → IsReplied order script Done holds holds'
-    history-replied script job items ended accepted history written =
-        record { text = printed order job items ended; is_reply = of_history job accepted items ended history; written = written }
+    pub history-replied : (script : List ℕ) (job led : Job) (items : List Item) (ended : Bool) → IsJobOf script job → IsCarriedOut order job led items ended
+        → Appends holds holds' (printed order led items ended) → IsReplied order script Done holds holds'
+    history-replied script job led items ended accepted carried_out written =
+        record { text = printed order led items ended; is_reply = of_history job accepted led items ended carried_out; written = written }
 
     pub refusal-replied : (script : List ℕ) (fault : ScriptFault) → IsRefusalOf script fault → Appends holds holds' (refusal_text fault) → IsReplied order script Refused holds holds'
     refusal-replied script fault refused written = record { text = refusal_text fault; is_reply = of_refusal fault refused; written = written }
 
-    has_printed : (job : Job) (items : List Item) (ended : Bool) → IsHistoryFor order job items ended → Appends holds holds' (printed order job items ended) → HasPrinted order job holds holds'
-    has_printed job items ended history written = record { items = items; ended = ended; history = history; written = written }
+    has_printed : (job led : Job) (items : List Item) (ended : Bool) → IsCarriedOut order job led items ended → Appends holds holds' (printed order led items ended)
+        → HasPrinted order job holds holds'
+    has_printed job led items ended carried_out written =
+        record { led = led; items = items; ended = ended; carried_out = carried_out; written = written }
 
     -- the reply is the answer to the script
     pub reply-answers : (script : List ℕ) (status : Status) (text : List ℕ) → IsReplyTo order script status text → Appends holds holds' text → Answers order script (code_of status) holds holds'
-    reply-answers script _ _ (of_history job accepted items ended history) written = record {
-      accepted = λ job' a. inl (refl, subst (λ j. HasPrinted order j holds holds') (one_job script job job' accepted a) (has_printed job items ended history written));
+    reply-answers script _ _ (of_history job accepted led items ended carried_out) written = record {
+      accepted = λ job' a. inl (refl, subst (λ j. HasPrinted order j holds holds') (one_job script job job' accepted a) (has_printed job led items ended carried_out written));
       refused = λ fault r. absurd (not_both script job fault accepted r);
     }
     reply-answers script _ _ (of_refusal fault refused) written = record {
@@ -55,10 +57,10 @@ module _ (order : Order) where
 
     -- ## a reply that was begun
 
-    pub history-begun : (script : List ℕ) (job : Job) (items : List Item) (ended : Bool) → IsJobOf script job → IsHistoryFor order job items ended
-        → AppendsFront holds holds' (printed order job items ended) → IsBegun order script holds holds'
-    history-begun script job items ended accepted history front =
-        record { status = Done; text = printed order job items ended; is_reply = of_history job accepted items ended history; front = front }
+    pub history-begun : (script : List ℕ) (job led : Job) (items : List Item) (ended : Bool) → IsJobOf script job → IsCarriedOut order job led items ended
+        → AppendsFront holds holds' (printed order led items ended) → IsBegun order script holds holds'
+    history-begun script job led items ended accepted carried_out front =
+        record { status = Done; text = printed order led items ended; is_reply = of_history job accepted led items ended carried_out; front = front }
 
     pub refusal-begun : (script : List ℕ) (fault : ScriptFault) → IsRefusalOf script fault → AppendsFront holds holds' (refusal_text fault) → IsBegun order script holds holds'
     refusal-begun script fault refused front = record { status = Refused; text = refusal_text fault; is_reply = of_refusal fault refused; front = front }

@@ -20,7 +20,8 @@ IsNone gives = (order : Order) → gives order → ⊥
 -- a source of which is told what is left and how many faults there were, and a sink of which is told what it holds and how many there were
 module _ {S K : Type 0} (remaining : S → Option (List ℕ)) (read_faults : S → ℕ) (holds : K → Option (List ℕ)) (write_faults : K → ℕ) where
   -- What a status says of the order that is given, and of the source and the sink before and after.
-  --   0   what the order prints of a history of its script's job was written: of its replay, or of running threads
+  --   0   what the order prints of a history of its script's job was written: of its replay, or of running threads, which lead the commands
+  --       of lanes in an order of these
   --   2   no order is given; nothing was read, and nothing written
   --   3   the line was written that says where and why the order's script is refused
   --   4   the source failed; nothing was written

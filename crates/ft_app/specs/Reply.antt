@@ -1,11 +1,12 @@
 -- What is written for a script.
-use Rattle.std.specs.Prelude.{ℕ, ◌≡◌, ◌++◌, Bool, true, List, Result, IfOk, codes, reverse}
+use Rattle.std.specs.Prelude.{ℕ, ◌≡◌, ◌≢◌, ◌++◌, Bool, true, List, [], Result, IfOk, codes, reverse}
 use Rattle.ft_base.specs.declared.item.Item.{Item}
 use Rattle.ft_base.specs.declared.memory.NoMemory.{NoMemory}
 use Rattle.ft_base.specs.Job.{Job}
 use Rattle.ft_hist.specs.Rules.{IsLegal, IsWhole}
+use Rattle.led_jobs.specs.Led.{in_order}
+use Rattle.led_jobs.specs.Orders.{IsLaneOrder}
 use Rattle.word_machine.specs.Machine.{play, all_end}
-use Rattle.ft_machine.specs.declared.play.Outcome.{Outcome}
 use Rattle.ft_words.specs.declared.order.Order.{Order}
 use Rattle.ft_words.specs.declared.order.Order.TheVariants.{Replay, Run, Bulk}
 use Rattle.ft_script.specs.declared.faults.ScriptFault.{ScriptFault}
@@ -13,6 +14,7 @@ use Rattle.ft_script.specs.FaultText.{fault_text}
 use Rattle.ft_script.specs.Script.{IsJobOf, IsRefusalOf}
 use Rattle.trace_print.specs.Texts.{text_of}
 use Rattle.trace_print.specs.SummaryText.{summary_text}
+use Rattle.ft_app.specs.declared.carried_out.CarriedOut.{CarriedOut}
 use Rattle.ft_app.specs.declared.status.Status.{Status}
 use Rattle.ft_app.specs.declared.status.Status.TheVariants.{Done, Refused}
 
@@ -29,6 +31,22 @@ printed (Bulk n) job items ended = summary_text n items ended
 -- the line that says where a script is refused, and why
 abbrev pub refusal_text : ScriptFault → List ℕ
 refusal_text fault = fault_text fault ++ codes "\n"
+
+-- ## the job that is carried out
+
+-- The job with its commands in an order in which the lock of its lanes may let them through. The order is a merge of the lanes: it has each
+-- command once, and each lane's in its order. A job without lanes is itself
+pub record IsMergeOf (job led : Job) : Type 0 where
+  pub alone : job.lines.lanes ≡ [] → led ≡ job
+  pub merged : job.lines.lanes ≢ [] → (order : List ℕ) × IsLaneOrder job.lines.lanes order × (led ≡ in_order job order)
+
+-- the job as an order carries it out: as it stands, or with `Run` in an order of its lanes
+abbrev pub IsLedFor : Order → Job → Job → Type 0
+IsLedFor (Replay form) job led = led ≡ job
+IsLedFor (Run form) job led = IsMergeOf job led
+IsLedFor (Bulk n) job led = led ≡ job
+
+-- ## its history
 
 -- the history of the replay of a job, which is legal; whether every actor is at its end is told, and then it is whole
 pub record IsReplayOf (job : Job) (items : List Item) (ended : Bool) : Type 0 where
@@ -48,13 +66,21 @@ IsHistoryFor (Replay form) job items ended = IsReplayOf job items ended
 IsHistoryFor (Run form) job items ended = IsRunOf job items ended
 IsHistoryFor (Bulk n) job items ended = IsReplayOf job items ended
 
--- each outcome that is made of a job has a history that the order prints
-abbrev pub Serves : Order → (Job → Result Outcome NoMemory → Type 0) → Type 0
-Serves order makes = (job : Job) (made : Result Outcome NoMemory) → makes job made → IfOk made (λ o. IsHistoryFor order job o.history.items o.ended)
+-- a job was carried out: `led` is the job as the order carries it out, and this is a history of that which the order prints
+pub record IsCarriedOut (order : Order) (job led : Job) (items : List Item) (ended : Bool) : Type 0 where
+  pub led' : IsLedFor order job led
+  pub history : IsHistoryFor order led items ended
 
--- what an order writes for a script, and the status once it is written in full: what it prints of a history of the script's job,
--- or the line of the refusal
+-- whatever is made of a job, it was carried out
+abbrev pub Serves : Order → (Job → Result CarriedOut NoMemory → Type 0) → Type 0
+Serves order makes =
+    (job : Job) (made : Result CarriedOut NoMemory) → makes job made → IfOk made (λ c. IsCarriedOut order job c.job c.outcome.history.items c.outcome.ended)
+
+-- ## the reply
+
+-- what an order writes for a script, and the status once it is written in full: what it prints of a history of the script's job
+-- as it was carried out, or the line of the refusal
 pub data IsReplyTo (order : Order) (script : List ℕ) : Status → List ℕ → Type 0 where
-  of_history : (job : Job) → IsJobOf script job → (items : List Item) (ended : Bool) → IsHistoryFor order job items ended
-      → IsReplyTo order script Done (printed order job items ended)
+  of_history : (job : Job) → IsJobOf script job → (led : Job) (items : List Item) (ended : Bool) → IsCarriedOut order job led items ended
+      → IsReplyTo order script Done (printed order led items ended)
   of_refusal : (fault : ScriptFault) → IsRefusalOf script fault → IsReplyTo order script Refused (refusal_text fault)

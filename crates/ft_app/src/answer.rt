@@ -1,26 +1,27 @@
 //! An order carried out over any source and sink, whatever carries its job out.
 
 ghost use Rattle.std.specs.Prelude.{◌≡◌, ◌≢◌, ◌≤◌, ℕ, length, IfOk, IfErr};
-ghost use Rattle.std.specs.Fn.{FnOnceReturnsAt};
+ghost use Rattle.std.specs.Fn.{FnOnceReturns};
 ghost use Rattle.ft_io.specs.Causes.{Rose, GaveMore, GaveAtMost};
 ghost use Rattle.ft_words.specs.declared.order.Order.TheVariants.{Bulk};
 ghost use Rattle.ft_app.specs.Reply.{Serves};
 ghost use Rattle.ft_app.specs.Ends.{Ends, Only};
 ghost use Rattle.ft_app.specs.Main.{Gets};
 
+use crate::carried_out::CarriedOut;
 use crate::reply::{ReplyFail, write_reply};
 use crate::status::Status;
 use ft_base::NoMemory;
 use ft_base::limits::INPUT_BYTES;
 use ft_io::{ReadFail, Sink, Source, read_all};
-use ft_machine::{Job, Outcome};
+use ft_machine::Job;
 use ft_schedule::bulk_script;
 use ft_words::Order;
 use std::alloc::Global;
 
 /// Carries an order out; `carry_out` does so with the script's job. It gives the number of the
 /// [`Status`].
-pub(crate) fn answer<C: FnOnce(&Job) -> Result<Outcome, NoMemory> + Drop, S: Source, K: Sink>(
+pub(crate) fn answer<C: FnOnce(Job) -> Result<CarriedOut, NoMemory> + Drop, S: Source, K: Sink>(
     alloc: Global,
     order: &Order,
     carry_out: C,
@@ -28,7 +29,7 @@ pub(crate) fn answer<C: FnOnce(&Job) -> Result<Outcome, NoMemory> + Drop, S: Sou
     sink: &mut K,
 ) -> u8
     requires callable { C.IsAlwaysCallable carry_out }
-    requires serves { Serves order.now (FnOnceReturnsAt C.FnOnce carry_out) }
+    requires serves { Serves order.now (λ job made. FnOnceReturns C.FnOnce carry_out (job, tt) made) }
     ensures { Ends S.remaining S.faults K.holds K.faults (Only order.now)
         result source.old source.new sink.old sink.new }
 {

@@ -12,14 +12,17 @@
 //! only for its reason; with status 0 the text is what the order prints of a history of the script's
 //! job, that of its replay or one of running threads; that history is legal, and whole if the text
 //! ends with `end`, as it does with threads; and if nothing outside goes wrong, a script is answered
-//! with status 0 and any other text with status 3, unless memory is out. A log that was written tells
-//! its history ([`laws`]). With running threads this holds if the call returns: it may wait, and no
-//! proof says that it ends. Only tested, in `ft_app_tests`: that it does in some runs, that the
-//! history is that of the threads, that memory is found if there is some, and that generated scripts
-//! are accepted.
+//! with status 0 and any other text with status 3, unless memory is out. If the script has lanes,
+//! threads lead its commands in some order that is a merge of the lanes, and the history and the text
+//! are those of the job in that order. A log that was written tells its history, and that order
+//! ([`laws`]). With running threads this holds if the call returns: it may wait, and no proof says that
+//! it ends. Only tested, in `ft_app_tests`: that it does in some runs, that the history is that of the
+//! threads, in the order in which the lanes took their turns, that memory is found if there is some,
+//! and that generated scripts are accepted.
 #![tactic(auto)]
 
 mod answer;
+mod carried_out;
 pub mod laws;
 mod plain;
 mod printed;

@@ -6,9 +6,9 @@ ghost use Rattle.ft_app.specs.Ends.{Ends, Only};
 ghost use Rattle.ft_app.specs.Main.{IsPlain};
 
 use crate::answer::answer;
+use crate::carried_out::replayed;
 use crate::status::Status;
 use ft_io::{Sink, Source};
-use ft_machine::replay;
 use ft_words::Order;
 use std::alloc::Global;
 
@@ -31,5 +31,5 @@ pub fn ft_plain<S: Source, K: Sink>(
         result source.old source.new sink.old sink.new }
     ensures spoken { result ≢ code_of Status.Language }
 {
-    answer(alloc, order, |job| replay(alloc, job), source, sink)
+    answer(alloc, order, |job| replayed(alloc, job), source, sink)
 }

@@ -1,20 +1,21 @@
-//! What is written for a script: what an order prints of a history of its job, or the line of its
-//! refusal.
+//! What is written for a script: what an order prints of a history of its job as it was carried out,
+//! or the line of its refusal.
 
 ghost use Rattle.std.specs.Prelude.{◌≡◌, ◌≢◌, ◌≤◌, length, IfOk, OnOk, Err};
 ghost use Rattle.std.specs.Io.KnownBytes.{Appends};
-ghost use Rattle.std.specs.Fn.{FnOnceReturnsAt};
+ghost use Rattle.std.specs.Fn.{FnOnceReturns};
 ghost use Rattle.ft_io.specs.Causes.{Rose, AppendsFront};
 ghost use Rattle.ft_script.specs.Script.{no_memory};
 ghost use Rattle.ft_app.specs.Reply.{Serves, refusal_text};
 ghost use Rattle.ft_app.specs.Main.{IsReplied, IsBegun};
 
+use crate::carried_out::CarriedOut;
 use crate::printed::write_printed;
 use crate::status::Status;
 use ft_base::NoMemory;
 use ft_base::limits::INPUT_BYTES;
 use ft_io::{Sink, write_all};
-use ft_machine::{Job, Outcome};
+use ft_machine::Job;
 use ft_script::{Cause, ScriptFault, read_script};
 use ft_words::Order;
 use std::alloc::Global;
@@ -32,7 +33,7 @@ pub(crate) enum ReplyFail {
 
 /// Writes the reply of an order to a script; `carry_out` carries the script's job out. It gives the
 /// status that says which reply was written.
-pub(crate) fn write_reply<C: FnOnce(&Job) -> Result<Outcome, NoMemory> + Drop, K: Sink>(
+pub(crate) fn write_reply<C: FnOnce(Job) -> Result<CarriedOut, NoMemory> + Drop, K: Sink>(
     alloc: Global,
     order: Order,
     carry_out: C,
@@ -41,7 +42,7 @@ pub(crate) fn write_reply<C: FnOnce(&Job) -> Result<Outcome, NoMemory> + Drop, K
 ) -> Result<Status, ReplyFail>
     requires short { length script.now ≤ INPUT_BYTES }
     requires callable { C.IsAlwaysCallable carry_out }
-    requires serves { Serves order (FnOnceReturnsAt C.FnOnce carry_out) }
+    requires serves { Serves order (λ job made. FnOnceReturns C.FnOnce carry_out (job, tt) made) }
     ensures all { IfOk result
         (λ status. IsReplied order script.now status (K.holds sink.old) (K.holds sink.new)) }
     ensures front { result ≡ Err ReplyFail.Sink
@@ -51,7 +52,7 @@ pub(crate) fn write_reply<C: FnOnce(&Job) -> Result<Outcome, NoMemory> + Drop, K
 {
     match read_script(alloc, script) {
         Ok(job) => {
-            let Ok(outcome) = carry_out(&job) else {
+            let Ok(CarriedOut { job, outcome }) = carry_out(job) else {
                 return Err(ReplyFail::NoMemory);
             };
             write_printed(alloc, order, &job, &outcome, sink)?;

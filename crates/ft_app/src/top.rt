@@ -17,7 +17,8 @@ use std::thread::Threads;
 /// Reads the order that the words give, and carries it out. The words are the command's, without the
 /// program's name. `Replay` and `Bulk` are carried out by [`ft_plain`]. `Run` reads a script from the
 /// source, carries it out with running threads, and writes their history to the sink, in the order's
-/// form. Each thread passes the gate before each of its steps.
+/// form. Each thread passes the gate before each of its steps. Each lane of a script is a thread, and
+/// the commands go in the order in which their lock lets them through.
 ///
 /// It gives the number of its [`Status`], and writes nothing elsewhere. The steps come in this
 /// order: words, read, script, memory for the replay or the threads, write. `NoMemory` may come in

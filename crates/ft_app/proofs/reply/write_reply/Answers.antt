@@ -1,5 +1,4 @@
-use Rattle.std.proofs.Common.{◌≡◌, Err, refl, rules}
-use Rattle.std.proofs.lemmas.Fn.{gave_at}
+use Rattle.std.proofs.Common.{◌≡◌, Err, rules}
 use Rattle.ft_app.specs.declared.reply.ReplyFail.TheVariants.{Sink}
 use Rattle.ft_app.proofs.Replies.{history-legal, history-replied, history-begun, refusal-replied, refusal-begun, real-refusal}
 use Rattle.ft_app.proofs.reply.write_reply.Goals as goal
@@ -8,18 +7,18 @@ use Rattle.ft_app.proofs.reply.write_reply.Goals as goal
 
 pub write_printed-requires : goal.write_printed-requires
 write_printed-requires g c =
-    history-legal c.args.order c.in-Ok.job _ _ (c.requires.serves _ _ (gave_at g.C.FnOnce c.in-Ok-carry_out.ensures refl))
+    history-legal c.args.order _ _ _ (c.requires.serves _ _ c.in-Ok-carry_out.ensures).history
 
 pub returns-in_ok-write_printed-in-Ok-clause-all : goal.returns-in_ok-write_printed-in-Ok-clause-all
 returns-in_ok-write_printed-in-Ok-clause-all g c =
-    history-replied c.args.order _ _ c.args.script.now c.in-Ok.job _ _ c.in-Ok.ensures.job
-    (c.requires.serves _ _ (gave_at g.C.FnOnce c.in-Ok-carry_out.ensures refl)) c.in_ok-write_printed-in-Ok.ensures.all
+    history-replied c.args.order _ _ c.args.script.now c.in-Ok.job _ _ _ c.in-Ok.ensures.job
+    (c.requires.serves _ _ c.in-Ok-carry_out.ensures) c.in_ok-write_printed-in-Ok.ensures.all
 
 pub returns-in_err-write_printed-in-Ok-clause-front : goal.returns-in_err-write_printed-in-Ok-clause-front
 returns-in_err-write_printed-in-Ok-clause-front g c = λ e.
     let failed : c.write_printed.result ≡ Err Sink = search rules in
-    history-begun c.args.order _ _ c.args.script.now c.in-Ok.job _ _ c.in-Ok.ensures.job
-    (c.requires.serves _ _ (gave_at g.C.FnOnce c.in-Ok-carry_out.ensures refl)) (c.write_printed.ensures.front failed)
+    history-begun c.args.order _ _ c.args.script.now c.in-Ok.job _ _ _ c.in-Ok.ensures.job
+    (c.requires.serves _ _ c.in-Ok-carry_out.ensures) (c.write_printed.ensures.front failed)
 
 -- ## the line of a refusal
 

@@ -1,0 +1,19 @@
+use Rattle.std.proofs.Common.{◌≡◌, ◌∙◌}
+use Rattle.ft_app.proofs.Merges.{in-lanes, whole-run, without-lanes}
+use Rattle.ft_app.proofs.run.run.Goals as goal
+
+pub returns-then-is_empty-clause-led : goal.returns-then-is_empty-clause-led
+returns-then-is_empty-clause-led g c =
+    without-lanes c.args.job c.lanes.result.now c.is_empty.result c.lanes.ensures.lanes c.is_empty.ensures c.if-is_empty.true _ c.run_to_end.ensures.job
+
+pub returns-in-Ok-clause-led : goal.returns-in-Ok-clause-led
+returns-in-Ok-clause-led g c =
+    let ran = c.in-Ok.ensures.ok in
+    let same : c.run_to_end-in-Ok.result.job ≡ c.in-Ok.field-0.job = (let e = c.run_to_end-in-Ok.ensures.job in let f = c.in-Ok.job-is in cc) in
+    in-lanes c.args.job c.lanes.result.now c.is_empty.result c.lanes.ensures.lanes c.is_empty.ensures c.if-is_empty.false ran.0 ran.1 _ (same ∙ ran.2)
+
+pub returns-in-Ok-clause-run : goal.returns-in-Ok-clause-run
+returns-in-Ok-clause-run g c =
+    let same : c.run_to_end-in-Ok.result.job ≡ c.in-Ok.field-0.job = (let e = c.run_to_end-in-Ok.ensures.job in let f = c.in-Ok.job-is in cc) in
+    let same' : c.run_to_end-in-Ok.result.outcome.history.items ≡ c.in-Ok.field-0.history.items = (let e = c.run_to_end-in-Ok.ensures.items in let f = c.in-Ok.history-is in cc) in
+    whole-run _ _ _ _ _ same same' c.run_to_end-in-Ok.ensures.ended c.in-Ok.ensures.ok.3
