@@ -34,6 +34,7 @@ KEPT = {
     "first_path": ("first_path", [], True),
     "contexts": ("contexts", [], True),
     "registered_again": ("registered_again", [], True),
+    "one_trampoline": ("one_trampoline", [], True),
     "preempted_in_callback": ("preempted_in_callback", ["--window", "10.1"], True),
     "two_cpus_of_realistic": ("realistic", ["--from", "12", "--to", "72"], False),
 }
@@ -50,6 +51,7 @@ TEXTS = {"2": [1], "0002": [1], "ext3_*": [1, 2], "*read": [0, 1], "*:mod:ext3":
 # A call that is entered while command 1 is under way, and whose body begins while command 2 is; before 1 there was command 0.
 WINDOW_SCRIPT = "ftrace 1;func a;user t function;cpu 0 quantum 9;task 10 cpu 0;call a;ret;ctl unregister t;ctl register t;"
 WINDOW_LOG = "0 begin 1;1 enter 10.1 normal a -;2 return 1 not-there;3 begin 2;4 body 10.1 a nop;5 leave 10.1;6 ret 10.1 -;7 return 2 ok;end;"
+BEGIN = re.compile(r"^\d+ begin (\d+) lane (\d+)$", re.M)
 SVG = "{http://www.w3.org/2000/svg}"
 NEAR = 0.2  # lengths are rounded
 
@@ -106,7 +108,7 @@ def rectangle(group):
 
 
 def nesting_faults(groups):
-    """What is wrong with the boxes of a lane: any two are apart, or one lies in the other."""
+    """What is wrong with the boxes of a row: any two are apart, or one lies in the other."""
     around = []
     for left, upper, right, lower in sorted(map(rectangle, groups), key=lambda box: (box[0], -box[2])):
         while around and around[-1][2] <= left + NEAR:
@@ -123,9 +125,9 @@ def picture_faults(text, log, first, last):
         svg = ElementTree.fromstring(text)
     except ElementTree.ParseError as error:
         return [f"no XML: {error}"]
-    lanes = [group for group in svg.findall(f"{SVG}g") if group.get("class") in ("lane control", "lane task")]
-    groups = {lane: lane.findall(f"{SVG}g") for lane in lanes}
-    drawn = [group for lane in lanes for group in groups[lane]]
+    rows = [group for group in svg.findall(f"{SVG}g") if group.get("class") in ("row control", "row task")]
+    groups = {row: row.findall(f"{SVG}g") for row in rows}
+    drawn = [group for row in rows for group in groups[row]]
     counts = collections.Counter(group.get("class").split(" ")[0] for group in drawn)
     wanted, names = boxes_of(log, first, last)
     found = [] if counts == wanted else [f"boxes {dict(counts)}, not {dict(wanted)}"]
@@ -134,7 +136,10 @@ def picture_faults(text, log, first, last):
     width, height = float(svg.get("width")), float(svg.get("height"))
     if any(not (0 <= left <= right <= width and 0 <= upper <= lower <= height) for left, upper, right, lower in map(rectangle, drawn)):
         found.append("a box isn't within the page")
-    return found + [fault for lane in lanes for fault in nesting_faults(groups[lane])]
+    lanes = {f"command-{number}": f"lane-{lane}" for number, lane in BEGIN.findall(log.decode())}
+    for row in rows:
+        found += [f"{group.get('id')} isn't in the row of its lane" for group in groups[row] if lanes.get(group.get("id"), row.get("id")) != row.get("id")]
+    return found + [fault for row in rows for fault in nesting_faults(groups[row])]
 
 
 # Traces.

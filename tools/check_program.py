@@ -6,8 +6,9 @@
 - each status with its cause: streams that fail, too long an input, and memory from too little to begin up to ample;
 - each limit of the language reached and passed, in at most a hundred times the time that it takes now, and all at once;
 - a long history in each printed form;
-- runs by threads: scripts with one order only print what a replay of them prints, and others come to their ends;
-- random scripts of script_forms.py and viewed_scripts.py, whose forms have to follow from the log.
+- runs by threads: scripts with one order only print what a replay of them prints, scripts with lanes what a replay of their commands in the
+  order of the lock prints (lane_runs.py), and others come to their ends;
+- random scripts, whose forms have to follow from the log (random_scripts.py).
 
 Each row asks for the status and for what is written; nothing may be written to standard error.
 The last line is `edges: N passed, M failed`, and the status is 0 if nothing failed.
@@ -28,21 +29,20 @@ sys.dont_write_bytecode = True
 import check_docs  # noqa: E402
 import command_words  # noqa: E402
 import full_scripts  # noqa: E402
+import lane_runs  # noqa: E402
 import long_check  # noqa: E402
 import memory_limits  # noqa: E402
+import random_scripts  # noqa: E402
 import runs  # noqa: E402
 import script_forms as forms  # noqa: E402
 import script_texts  # noqa: E402
 import text_lines  # noqa: E402
-import viewed_scripts  # noqa: E402
-import views_of_log  # noqa: E402
 
 SCRIPT = b"ftrace 1\nfunc a\nuser tr function\ncpu 0 quantum 100\ntask 10 cpu 0\nafter 1\ncall a\nret\nctl register tr\n"
 LOG = b"0 begin 1\n1 return 1 ok\n2 enter 10.1 normal a -\n3 back 10.1 tr\n4 back-end 10.1 tr\n"
 LOG += b"5 body 10.1 a own tr\n6 leave 10.1\n7 ret 10.1 -\nend\n"
 CALLED = b"     10 [000] .        3: a <-root (tr)\nend\n"  # the form function
 CALLS_OF_TASK = 3_000  # that are made under limits on the address space
-SEEDS = 50
 
 
 # The statuses with their causes.
@@ -236,6 +236,11 @@ def commands(count):
     return script(USER, (["ctl register t", "ctl unregister t"] * count)[:count])
 
 
+def lanes(count):
+    """Each has a command."""
+    return script(USER, [line for lane in range(count) for line in [f"lane {lane}", f"ctl {('register', 'unregister')[lane % 2]} t"]])
+
+
 def waits(count):
     return script(FUNCTION, TASK, CALL, ["ctl until 10 1"] * count)
 
@@ -408,6 +413,7 @@ LIMITS = [
     Limit("calls beside users that make calls", calls, CALLS, "end", 705_193, CALLS + 1, "line 1242: limit", 0.2),
     Limit("calls beside users that make calls, version 2", nested_calls, CALLS_IN_2, "end", 276_265, CALLS_IN_2 + 1, "line 26: limit", 0.2),
     Limit("commands", commands, forms.COMMANDS, "end", 2_049, forms.COMMANDS + 1, "line 1028: limit"),
+    Limit("lanes", lanes, forms.LANES, "end", 17, forms.LANES + 1, "line 20: limit"),
     Limit("until lines", waits, forms.UNTILS, "end", 5, forms.UNTILS + 1, "line 1031: limit"),
     Limit("steps", steps, forms.STEPS, "stopped", 1, forms.STEPS + 1, "line 8: limit"),
     Limit("steps, each an item", step_items, forms.STEPS, "stopped", 1, forms.STEPS + 1, "line 7: limit", 0.3),
@@ -494,16 +500,11 @@ def nests_lines():
     return {"log": 2 * forms.VERSION_1.users + calls * (4 + 2 * 16 + 2 * 12) + 1, "function": 4 * calls + 1, "graph": 4 * graph + 1, "profile": 4 * 2 + 4 + 1, "enabled": 2}
 
 
-def text_faults(came, form):
-    """What is wrong with an answer that is to be the text of an accepted script."""
-    return runs.faults(came, 0) or text_lines.faults(form, came.out)
-
-
 def check_forms(rows, program):
     text = nests()
     for form, count in nests_lines().items():
         came = runs.answer([program, "replay", "--print", form], text, FORM_SECONDS)
-        found, lines = text_faults(came, form), came.out.count(b"\n")
+        found, lines = random_scripts.text_faults(came, form), came.out.count(b"\n")
         rows.row(f"forms: nests of calls: {form}", found + [f"{lines} lines, not {count}"] * (lines != count), came.seconds)
 
 
@@ -552,30 +553,6 @@ def check_runs(rows, program, top):
         rows.row(f"runs: nests of calls: {form}", found + [f"{lines} lines, not {count}"] * (lines != count), came.seconds)
 
 
-# Random scripts.
-def check_accepted(rows, program, name, script):
-    """The log of an accepted script, and its other forms as views_of_log works them out of the log."""
-    log = runs.answer([program, "replay"], script)
-    found = text_faults(log, "log")
-    rows.row(f"random: {name}: log", found, log.seconds)
-    for form in [] if found else views_of_log.VIEWS:
-        came = runs.answer([program, "replay", "--print", form], script)
-        rows.row(f"random: {name}: {form}", runs.faults(came, 0, views_of_log.text(form, script, log.out)), came.seconds)
-
-
-def check_random(rows, program):
-    """Scripts that are accepted, in each form; and broken variants, which are accepted or refused, in one form each."""
-    for seed in range(SEEDS):
-        check_accepted(rows, program, f"script_forms.py --seed {seed}", forms.script(seed))
-        check_accepted(rows, program, f"viewed_scripts.py --seed {seed}", viewed_scripts.script(seed))
-        form = text_lines.FORMS[seed % len(text_lines.FORMS)]
-        came = runs.answer([program, "replay", "--print", form], forms.mutated(seed))
-        found = runs.faults(came, 3) if check_docs.REFUSED.fullmatch(came.out) else text_faults(came, form)
-        rows.row(f"random: script_forms.py --seed {seed} --mutate: {form}", found, came.seconds)
-        came = runs.answer([program, "run", "--print", form], forms.script(seed), RUN_SECONDS)
-        rows.row(f"random: script_forms.py --seed {seed}: run, {form}", command_words.run_faults(came, form), came.seconds)
-
-
 def main():
     parser = runs.options(__doc__)
     long_check.add_options(parser)
@@ -591,7 +568,8 @@ def main():
     full_scripts.check(rows, options.program)
     check_forms(rows, options.program)
     check_runs(rows, options.program, options.top)
-    check_random(rows, options.program)
+    lane_runs.check(rows, options.program, options.top)
+    random_scripts.check(rows, options.program)
     return rows.end()
 
 

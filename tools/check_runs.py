@@ -6,24 +6,31 @@ repository. The N scripts of each source have the seeds from S on:
 
     plain      script_forms.py
     viewed     viewed_scripts.py, scripts that most forms have lines of
-    generated  `REFERENCE gen`
-    crowded    script_forms.py, with a task of calls more on each of the most CPUs, up to the most tasks
+    laned      the same with lanes
+    generated  `REFERENCE gen`, half of them of version 2, and half of them with lanes
+    crowded    script_forms.py, with a task of calls more on each of the most CPUs, up to the most tasks;
+               half of them with lanes
 
 Each script that `PROGRAM replay` accepts goes through `PROGRAM run`, which has to end within SECONDS with
-status 0 and write nothing to standard error; and `REFERENCE check --log LOG` has to call the log whole. So
-many runs of a script are made as --times says. The last line says how many runs there were, how many scripts
-had more than one log, and what was found; the status is 1 if anything was. What is wrong is kept in FOLDER.
+status 0 and write nothing to standard error; and `REFERENCE check --log LOG` has to call the log whole. A
+log of a script with lanes is judged without them, as one of the script whose commands are in the order that the
+log tells: the other program takes a notrace set of a lane for what the lines above have made of it. So many runs
+of a script are made as --times says. The last line says how many runs there were, how many scripts had more than
+one log, and what was found; the status is 1 if anything was. What is wrong is kept in FOLDER.
 Two runs go on at a time, each with threads of its own.
 """
 import argparse
 import concurrent.futures
 import pathlib
+import random
 import shutil
 import sys
 import tempfile
 from typing import NamedTuple
 
 sys.dont_write_bytecode = True
+import lane_orders  # noqa: E402
+import log_reader  # noqa: E402
 import runs  # noqa: E402
 import script_forms  # noqa: E402
 import viewed_scripts  # noqa: E402
@@ -31,6 +38,7 @@ import viewed_scripts  # noqa: E402
 FOLDER = pathlib.Path(tempfile.gettempdir()) / "run-faults"
 WORKERS = 2
 SECONDS = 120
+SOURCES = ["plain", "viewed", "laned", "generated", "crowded"]
 
 
 class Ran(NamedTuple):
@@ -48,7 +56,9 @@ def crowded(seed):
     """A script whose CPUs and tasks are as many as there may be, each task with calls of a script of this seed."""
     lines = script_forms.script(seed).decode().splitlines()
     head = [" ".join(lines[0].split())] + [line for line in lines if line.split(" ", 1)[0] in ("func", "depth", "tramps", "user")]
-    control = [line for line in lines if line.startswith("ctl ") and line.split()[1] not in ("until", "pid", "nopid")]
+    control = [line.split() for line in lines if line.startswith("ctl ") and line.split()[1] not in ("until", "pid", "nopid")]
+    if seed % 2:
+        control = viewed_scripts.with_lanes(random.Random(f"crowded {seed}"), control, 1 + seed // 2 % viewed_scripts.LANES)
     names = [line.split()[1] for line in head if line.startswith("func ")] or ["f"]
     if not any(line.startswith("func ") for line in head):
         head.insert(1, "func f")
@@ -59,15 +69,15 @@ def crowded(seed):
         for call in range(1 + (seed + number) % 4):
             name = names[(seed + number * 7 + call * 3) % len(names)]
             tasks += [f"call {name}", f"call {names[call % len(names)]}", "ret", "ret"]
-    return ("\n".join([*head, *cpus, *tasks, *control]) + "\n").encode()
+    return ("\n".join([*head, *cpus, *tasks, *map(" ".join, control)]) + "\n").encode()
 
 
 def text_of(source, seed, reference):
     """The script of this source and seed."""
     if source == "generated":
         size = "medium" if seed % 8 == 7 else "small"
-        return runs.answer([reference, "gen", "--seed", str(seed), "--size", size, "--features", runs.version_features(seed)], b"", SECONDS).out
-    return {"plain": script_forms.script, "viewed": viewed_scripts.script, "crowded": crowded}[source](seed)
+        return runs.answer([reference, "gen", "--seed", str(seed), "--size", size, "--features", runs.features(seed)], b"", SECONDS).out
+    return {"plain": script_forms.script, "viewed": viewed_scripts.script, "laned": viewed_scripts.laned, "crowded": crowded}[source](seed)
 
 
 def judgement(log, text, reference):
@@ -85,8 +95,14 @@ def faults_of(came, text, reference):
     if came.status is None:
         return [came.err.decode()]
     found = [f"status {came.status}"] * (came.status != 0) + ["it writes to standard error"] * bool(came.err)
-    said = "whole" if found else judgement(came.out, text, reference)
-    return found + [said] * (said != "whole")
+    if found:
+        return found
+    try:
+        script, log = lane_orders.reading(text, came.out)
+    except log_reader.Fault as fault:
+        return [str(fault)]
+    said = judgement(log, script, reference)
+    return [said] * (said != "whole")
 
 
 def try_script(job):
@@ -120,6 +136,7 @@ def read_options():
     parser.add_argument("--count", type=int, required=True, metavar="N", help="scripts of each source")
     parser.add_argument("--times", type=int, default=1, metavar="K", help="runs of each script, else 1")
     parser.add_argument("--seed", type=int, default=0, metavar="S", help="the first seed, else 0")
+    parser.add_argument("--sources", type=runs.names_of(SOURCES), default=SOURCES, metavar="SOURCE,..", help="the sources, else all")
     parser.add_argument("--keep", type=pathlib.Path, default=FOLDER, metavar="FOLDER", help=f"where scripts with faults are kept, else {FOLDER}")
     options = parser.parse_args()
     for path in (options.program, options.reference):
@@ -130,9 +147,8 @@ def read_options():
 
 def main():
     options = read_options()
-    sources = ["plain", "viewed", "generated", "crowded"]
-    jobs = [(options, source, seed) for source in sources for seed in range(options.seed, options.seed + options.count)]
-    accepted, several, wrong = dict.fromkeys(sources, 0), 0, 0
+    jobs = [(options, source, seed) for source in options.sources for seed in range(options.seed, options.seed + options.count)]
+    accepted, several, wrong = dict.fromkeys(options.sources, 0), 0, 0
     with concurrent.futures.ThreadPoolExecutor(WORKERS) as workers:
         for done in workers.map(try_script, jobs):
             accepted[done.source] += done.accepted

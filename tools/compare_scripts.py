@@ -7,11 +7,13 @@ repository. The N scripts of each source have the seeds from S on:
     plain      script_forms.py, scripts that are accepted
     mutated    script_forms.py, slightly broken ones
     viewed     viewed_scripts.py, scripts that most forms have lines of
-    generated  `REFERENCE gen`, half of them of version 2, each second one through `REFERENCE mutate`
+    laned      the same with lanes
+    generated  `REFERENCE gen`, half of them of version 2, and half of them with lanes; each second one
+               through `REFERENCE mutate`
     stepped    `REFERENCE gen`, with a schedule of single steps in place of its own, which chooses the
                turn of every load and store
 
-Each script goes through `PROGRAM replay --print FORM` and `REFERENCE --machine e2 --features v2
+Each script goes through `PROGRAM replay --print FORM` and `REFERENCE --machine e2 --features v2,lanes
 replay --print FORM`, for each form of --forms: all five, if it isn't given. They agree exactly if status
 and bytes are the same and PROGRAM writes nothing to standard error.
 
@@ -28,7 +30,7 @@ At the end there is a line for each source: what became of its scripts, and how 
 tells something in each form. `# user U`, an fprobe without hits, and the last line tell nothing.
 
 To try the comparison itself, let PROGRAM be a script that runs
-`REFERENCE --machine e2 --features v2 "$@"`: then nothing differs.
+`REFERENCE --machine e2 --features v2,lanes "$@"`: then nothing differs.
 """
 import argparse
 import collections
@@ -47,8 +49,8 @@ import script_forms  # noqa: E402
 import text_lines  # noqa: E402
 import viewed_scripts  # noqa: E402
 
-SCRIPTS = {"plain": script_forms.script, "mutated": script_forms.mutated, "viewed": viewed_scripts.script, "bulk": bulk_script.script}
-SOURCES = ["plain", "mutated", "viewed", "generated", "stepped"]
+SCRIPTS = {"plain": script_forms.script, "mutated": script_forms.mutated, "viewed": viewed_scripts.script, "laned": viewed_scripts.laned, "bulk": bulk_script.script}
+SOURCES = ["plain", "mutated", "viewed", "laned", "generated", "stepped"]
 REFUSAL = re.compile(rb"line (\d+): ([a-z]+)\n")
 FOLDER = pathlib.Path(tempfile.gettempdir()) / "script-differences"
 WORKERS = 2
@@ -76,12 +78,12 @@ class Compared(NamedTuple):
 
 def commands_of(source, seed, reference):
     """The commands that write the script of this source and seed, each of which reads what the one before it wrote."""
-    tool = {"viewed": viewed_scripts, "bulk": bulk_script}.get(source, script_forms)
+    tool = {"viewed": viewed_scripts, "laned": viewed_scripts, "bulk": bulk_script}.get(source, script_forms)
     written = [sys.executable, tool.__file__, "--seed", str(seed)]
     if source in SCRIPTS:
-        return [written + ["--mutate"] * (source == "mutated")]
+        return [written + ["--mutate"] * (source == "mutated") + ["--lanes"] * (source == "laned")]
     size = "medium" if seed % 8 == 7 else "small"
-    gen = [reference, "gen", "--seed", str(seed), "--size", size, "--features", runs.version_features(seed)]
+    gen = [reference, "gen", "--seed", str(seed), "--size", size, "--features", runs.features(seed)]
     return [gen, written + ["--step"]] if source == "stepped" else [gen] + [[reference, "mutate", "--seed", str(seed)]] * (seed % 2)
 
 
@@ -121,7 +123,7 @@ def cause_of(ours):
 
 def replaying(reference):
     """The other program, with the machine and the language that are ftcore's."""
-    return [reference, "--machine", "e2", "--features", "v2"]
+    return [reference, "--machine", "e2", "--features", "v2,lanes"]
 
 
 def words_of(options, source, seed):
@@ -172,23 +174,16 @@ def seeds_of_bulk(options):
     return [script_forms.NUMBER - at // 4 if at % 4 == 3 else seed for at, seed in enumerate(seeds)]
 
 
-def forms_of(text):
-    """The forms that are named, with commas between them."""
-    names = text.split(",")
-    if not names or set(names) - set(text_lines.FORMS):
-        raise argparse.ArgumentTypeError(f"the forms are {', '.join(text_lines.FORMS)}")
-    return names
-
-
 def read_options():
     title = __doc__.split("\n", 1)
     parser = argparse.ArgumentParser(description=title[0], epilog=title[1], formatter_class=argparse.RawDescriptionHelpFormatter)
     parser.add_argument("program", metavar="PROGRAM", help="the program, as crates/ftcore/out/ftcore")
     parser.add_argument("reference", metavar="REFERENCE", help="the other program")
     parser.add_argument("--count", type=int, required=True, metavar="N", help="scripts of each source but bulk")
-    parser.add_argument("--forms", type=forms_of, default=text_lines.FORMS, metavar="FORM,..", help="the forms, else all five")
+    parser.add_argument("--forms", type=runs.names_of(text_lines.FORMS), default=text_lines.FORMS, metavar="FORM,..", help="the forms, else all five")
     parser.add_argument("--bulk", type=int, default=0, metavar="M", help="seeds of bulk, else none")
     parser.add_argument("--seed", type=int, default=0, metavar="S", help="the first seed, else 0")
+    parser.add_argument("--sources", type=runs.names_of(SOURCES), default=SOURCES, metavar="SOURCE,..", help="the sources but bulk, else all")
     parser.add_argument("--keep", type=pathlib.Path, default=FOLDER, metavar="FOLDER", help=f"where scripts that differ are kept, else {FOLDER}")
     options = parser.parse_args()
     for path in (options.program, options.reference):
@@ -229,7 +224,7 @@ class Totals:
 
 def main():
     options = read_options()
-    jobs = [(options, source, seed) for source in SOURCES for seed in range(options.seed, options.seed + options.count)]
+    jobs = [(options, source, seed) for source in options.sources for seed in range(options.seed, options.seed + options.count)]
     jobs += [(options, "bulk", seed) for seed in seeds_of_bulk(options)]
     totals = Totals(options)
     with concurrent.futures.ThreadPoolExecutor(WORKERS) as workers:

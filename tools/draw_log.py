@@ -5,16 +5,17 @@
     tools/draw_log.py x.ft x.log --svg x.svg --trace x.json
 
 The picture has a column for each item of the log, in its order. On top are the commands of control, each
-from its begin to its return, with its answer. Then comes a lane for each task, with its calls: the function,
-the number of the call, the context if it isn't normal, the callbacks in it, and what its site called. At the
-bottom is, for each function, what its call site is meant to be: a nop, a user's own trampoline, or the list
-caller. That isn't in the log; it is worked out from the commands that were accepted. Hatched is the time in
-which a command that changes it is under way. A browser shows the items of a box that the pointer is on.
+from its begin to its return, with its answer; in a script with lanes there is a row for each lane, with its
+own commands. Then comes a row for each task, with its calls: the function, the number of the call, the
+context if it isn't normal, the callbacks in it, and what its site called. At the bottom is, for each
+function, what its call site is meant to be: a nop, a user's own trampoline, or the list caller. That isn't
+in the log; it is worked out from the commands that were accepted. Hatched is the time in which a command
+that changes it is under way. A browser shows the items of a box that the pointer is on.
 
 The trace is for https://ui.perfetto.dev or chrome://tracing, which open it as a file. One place of the
-log is a millisecond there. Control and the CPUs are processes, and tasks are threads of their CPUs. Arrows
-go from a command that turns a user on to the user's first callback, and from the last one to the command
-that turns it off. The trace is always of the whole log.
+log is a millisecond there. Control and the CPUs are processes; lanes are threads of control, and tasks are
+threads of their CPUs. Arrows go from a command that turns a user on to the user's first callback, and from
+the last one to the command that turns it off. The trace is always of the whole log.
 """
 import argparse
 import pathlib

@@ -96,7 +96,8 @@ def all_targets(script, commands):
     """The targets of all functions before any command and after each one that began; one that hasn't returned counts as accepted."""
     desk = Desk(script)
     found = [desk.targets()]
-    for command, words in zip(commands, script.commands):
+    for command in commands:
+        words = command.name.split(" ")
         if command.note in (None, "ok") and words[0] in ("register", "unregister", "filter", "notrace"):
             desk.carry_out(*words)
             found.append(desk.targets())

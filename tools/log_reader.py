@@ -14,7 +14,7 @@ import limits  # noqa: E402
 REFUSAL = re.compile(r"line [0-9]+: [a-z]+")
 
 # How many words each item has after its place and its name.
-WORDS = {"begin": (1,), "return": (2, 4), "enter": (4,), "back": (2,), "back-end": (2,), "refuse": (3,), "miss": (2,)}
+WORDS = {"begin": (1, 3), "return": (2, 4), "enter": (4,), "back": (2,), "back-end": (2,), "refuse": (3,), "miss": (2,)}
 WORDS.update({"body": (3, 4), "leave": (1,), "exit": (3,), "exit-end": (2,), "ret": (2,)})
 # The items of a task that open a box, those that close it, and those that are one at a single place.
 OPENED = {"enter": "call", "back": "entry", "body": "body", "exit": "exit"}
@@ -39,6 +39,7 @@ class Script(NamedTuple):
     users: List[str]
     tasks: Dict[int, int]  # the CPU of each pid
     commands: List[List[str]]
+    lanes: List[List[int]]  # the commands of each lane, by their numbers from 0; none if the script has no lanes
 
 
 @dataclasses.dataclass(eq=False)
@@ -46,7 +47,7 @@ class Box:
     """Something that has a beginning and an end in the history; `end` is None if the log ends before it does.
 
     what     name             note
-    command  its words        the answer, None before the return
+    command  its words        the answer, None before the return; its lane is None if the script has no lanes
     call     the function     the context
     entry    the user         -
     exit     the user         the place of its entry
@@ -63,13 +64,15 @@ class Box:
     end: Optional[int] = None
     parent: Optional["Box"] = None
     depth: int = 0  # how many boxes it lies in
+    lane: Optional[int] = None
 
 
 class History(NamedTuple):
-    """What a log tells. The boxes of a task are in the order in which they begin."""
+    """What a log tells. The boxes of control and of a task are in the order in which they begin."""
 
     lines: List[str]  # the items
     commands: List[Box]
+    order: List[int]  # which command of the script each of these is
     tasks: Dict[int, List[Box]]
     calls: Dict[str, Box]
     bodies: Dict[str, Box]  # of the calls whose body began
@@ -80,7 +83,7 @@ def read_script(text):
     """What the script with these bytes declares."""
     lines = text.decode("latin-1").split("\n")
     slots = limits.version_of(lines[0].split()).tramps  # if the script doesn't say how many
-    script = Script([], slots, [], {}, [])
+    script = Script([], slots, [], {}, [], [])
     for number, line in enumerate(lines, 1):
         words = line.split()
         try:
@@ -92,11 +95,27 @@ def read_script(text):
                 script.users.append(words[1])
             elif words[:1] == ["task"]:
                 script.tasks[int(words[1])] = int(words[3])
+            elif words[:1] == ["lane"]:
+                script.lanes.append([])
             elif words[:1] == ["ctl"] and words[1] != "until":
                 script.commands.append(words[1:])
+                for lane in script.lanes[-1:]:
+                    lane.append(len(script.commands) - 1)
         except (IndexError, ValueError):
             raise Fault(f"line {number} of the script has no form: {line.strip()[:60]!r}") from None
     return script._replace(slots=slots)
+
+
+class Turns:
+    """Which command of a script begins next: that of the next line or, in a script with lanes, the next one of the lane that the log names."""
+
+    def __init__(self, script):
+        lists = {f"lane {lane}": numbers for lane, numbers in enumerate(script.lanes)} or {"": range(len(script.commands))}
+        self.left = {named: iter(numbers) for named, numbers in lists.items()}
+
+    def next(self, named):
+        """The number, from 0, of the command whose item `begin` ends with this after its own number; None if there is no such command."""
+        return next(self.left.get(named, iter([])), None)
 
 
 class Reader:
@@ -104,8 +123,9 @@ class Reader:
 
     def __init__(self, script):
         self.script = script
+        self.turns = Turns(script)
         self.functions = {function.name for function in script.functions}
-        self.history = History([], [], {pid: [] for pid in script.tasks}, {}, {}, True)
+        self.history = History([], [], [], {pid: [] for pid in script.tasks}, {}, {}, True)
         self.open: Dict[int, List[Box]] = {pid: [] for pid in script.tasks}
 
     def require(self, is_so, what):
@@ -125,16 +145,19 @@ class Reader:
         else:
             self.task(kind, *words)
 
-    def control(self, kind, number, *answer):
+    def control(self, kind, number, *words):
         commands, place = self.history.commands, len(self.history.lines) - 1
         is_open = bool(commands) and commands[-1].end is None
         if kind == "begin":
             self.require(not is_open and number == str(len(commands) + 1), "is no command's turn")
-            self.require(len(commands) < len(self.script.commands), "there is no such command")
-            commands.append(Box("command", number, " ".join(self.script.commands[len(commands)]), None, place))
+            at = self.turns.next(" ".join(words))
+            self.require(at is not None, "there is no such command")
+            lane = int(words[1]) if words else None
+            commands.append(Box("command", number, " ".join(self.script.commands[at]), None, place, lane=lane))
+            self.history.order.append(at)
         else:
             self.require(is_open and number == commands[-1].key, "no such command is under way")
-            commands[-1].end, commands[-1].note = place, " ".join(answer)
+            commands[-1].end, commands[-1].note = place, " ".join(words)
 
     def task(self, kind, call, *words):
         pid = int(call.split(".")[0]) if re.fullmatch(r"\d+\.\d+", call) else None

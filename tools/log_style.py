@@ -16,7 +16,7 @@ SHAPES = """
     .refused rect { stroke-dasharray: 5 3 }
     .refusal rect { stroke-dasharray: 4 2 }
     .miss rect { stroke-dasharray: 1 2 }
-    .lane .tag, .lane .page { stroke: none }
+    .row .tag, .row .page { stroke: none }
     .in-window rect { stroke-width: 2.5 }
     .changing rect:first-child { fill: url(#hatch) }
     .window rect { fill-opacity: .13; stroke-width: 1.2; stroke-dasharray: 6 3; pointer-events: none }
@@ -27,13 +27,13 @@ COLOURS = """
     .page { fill: %(page)s }
     .panel { fill: %(panel)s }
     .columns { stroke: %(line)s }
-    .returns, .line, .hatch, .lane rect { stroke: %(edge)s }
+    .returns, .line, .hatch, .row rect { stroke: %(edge)s }
     .command rect, .list rect, .normal rect { fill: %(normal)s }
     .softirq rect { fill: %(softirq)s }
     .irq rect { fill: %(irq)s }
     .nmi rect { fill: %(nmi)s }
     .body rect, .command.refused rect { fill: %(page)s }
-    .lane .tag { fill: %(ink)s }
+    .row .tag { fill: %(ink)s }
     .tagged { fill: %(page)s }
     .window rect { fill: %(window)s; stroke: %(window)s }
 """

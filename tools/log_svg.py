@@ -1,4 +1,4 @@
-"""The picture of a history: an SVG with a column for each item, in which control, each task and each call site has a lane."""
+"""The picture of a history: an SVG with a column for each item, in which control or each of its lanes, each task and each call site has a row."""
 import html
 import math
 
@@ -17,11 +17,11 @@ HEAD = 17  # the height of a box without others in it, and how far below its top
 FOOT = 4  # below them
 GAP = 8  # between panels, and at their edges
 COMMAND = 48  # the height of a command
-SITE = 24  # that of a site's lane
+SITE = 24  # that of a site's row
 KEY_ROW = 20  # that of a row of the key
 HATCHED = 46  # the width of a hatched box that isn't for the text in it
 LONGEST = 28  # letters of a name that are shown
-SITES = 12  # lanes of sites; if there are more functions, those whose sites are meant to be the same share one
+SITES = 12  # rows of sites; if there are more functions, those whose sites are meant to be the same share one
 
 # Paths from the upper left corner of an icon.
 ICONS = {"entry": "l7 4.5l-7 4.5z", "exit": "m7 0l-7 4.5l7 4.5z", "miss": "m1 1l7 7m0-7l-7 7",
@@ -78,17 +78,17 @@ def icon(what, x, y):
 # What the key explains if it is in the picture: the classes of its sample, the sample, and what it means.
 SAMPLE = '<rect width="26" height="14"/>'
 KEY = [
-    ("call", "lane call normal", SAMPLE, "call; its context, if not normal"),
-    ("body", "lane body", SAMPLE, "its body, and what its site called"),
-    ("entry", "lane entry u0", SAMPLE + icon("entry", 10, 2.5), "entry callback of a user"),
-    ("exit", "lane exit u0", SAMPLE + icon("exit", 9, 2.5), "exit callback"),
-    ("refusal", "lane refusal u0", SAMPLE + icon("refusal", 8.5, 2.5), "callback refused, and why"),
-    ("miss", "lane miss u0", SAMPLE + icon("miss", 8.5, 2.5), "exit missed"),
-    ("refused", "lane command refused u0", SAMPLE, "command that isn't accepted"),
-    ("returns", "lane", path("returns", "M13 0v14"), "a command has returned"),
-    ("changing", "lane changing", SAMPLE, "site while a command changes it"),
-    ("fetch", "lane", path("fetch", "M10 5h7l-3.5 5z"), "a call's body begins"),
-    ("cut", "lane call normal", '<rect width="26" height="14" stroke-dasharray="26 14 40 0"/>', "goes on outside, or wasn't over"),
+    ("call", "row call normal", SAMPLE, "call; its context, if not normal"),
+    ("body", "row body", SAMPLE, "its body, and what its site called"),
+    ("entry", "row entry u0", SAMPLE + icon("entry", 10, 2.5), "entry callback of a user"),
+    ("exit", "row exit u0", SAMPLE + icon("exit", 9, 2.5), "exit callback"),
+    ("refusal", "row refusal u0", SAMPLE + icon("refusal", 8.5, 2.5), "callback refused, and why"),
+    ("miss", "row miss u0", SAMPLE + icon("miss", 8.5, 2.5), "exit missed"),
+    ("refused", "row command refused u0", SAMPLE, "command that isn't accepted"),
+    ("returns", "row", path("returns", "M13 0v14"), "a command has returned"),
+    ("changing", "row changing", SAMPLE, "site while a command changes it"),
+    ("fetch", "row", path("fetch", "M10 5h7l-3.5 5z"), "a call's body begins"),
+    ("cut", "row call normal", '<rect width="26" height="14" stroke-dasharray="26 14 40 0"/>', "goes on outside, or wasn't over"),
 ]
 
 
@@ -169,7 +169,7 @@ class Picture:
         self.hues = {user: f"u{number % len(log_style.HUES)}" for number, user in enumerate(script.users)}
         self.commands = self.seen(history.commands)
         self.tasks = {pid: self.seen(boxes) for pid, boxes in history.tasks.items()}
-        self.sites = self.site_lanes()
+        self.sites = self.site_rows()
         boxes = [box for boxes in [self.commands, *self.tasks.values()] for box in boxes]
         needs = [(box.begin, last if box.end is None else box.end, wanted_width(box)) for box in boxes]
         self.columns = Columns(first, last, self.gutter(), needs)
@@ -178,19 +178,19 @@ class Picture:
     def seen(self, boxes):
         return [box for box in boxes if box.begin <= self.last and (box.end is None or box.end >= self.first)]
 
-    def site_lanes(self):
-        """The spans of each lane of sites, and the numbers of its functions."""
+    def site_rows(self):
+        """The spans of each row of sites, and the numbers of its functions."""
         targets = log_desk.all_targets(self.script, self.history.commands)
-        lanes, count = {}, len(self.script.functions)
+        rows, count = {}, len(self.script.functions)
         for number in range(count):
             spans = [span for span in log_desk.spans(self.history.commands, targets, number)
                      if (span.begin or 0) <= self.last + 1 and (span.end is None or span.end >= self.first)]
-            lanes.setdefault((tuple(spans), count > SITES or number), (spans, []))[1].append(number)
-        return list(lanes.values())
+            rows.setdefault((tuple(spans), count > SITES or number), (spans, []))[1].append(number)
+        return list(rows.values())
 
     def gutter(self):
-        """Where the lanes begin, after their headings."""
-        headings = ["control"] + [f"task {pid} CPU {cpu}" for pid, cpu in self.script.tasks.items()]
+        """Where the rows begin, after their headings."""
+        headings = ["lane 0 control" if self.script.lanes else "control"] + [f"task {pid} CPU {cpu}" for pid, cpu in self.script.tasks.items()]
         headings += [" ".join(part for _, part in self.site_heading(numbers)) for _, numbers in self.sites]
         return max(map(width_of, headings)) + 3 * GAP
 
@@ -203,7 +203,7 @@ class Picture:
         self.parts += ["  " + part for part in parts if part]
 
     def panel(self, height, above=0, has_returns=True):
-        """The ground of some lanes. Below what is above them are an edge for each column, and one for each command that has returned."""
+        """The ground of some rows. Below what is above them are an edge for each column, and one for each command that has returned."""
         upright = lambda xs: "".join(f"M{plain(x)} {plain(self.y + above)}V{plain(self.y + height)}" for x in xs)
         returns = [self.columns.right(box.end) for box in self.commands if has_returns and box.end is not None and box.end <= self.last]
         self.ground += [rect(GAP, self.y, self.columns.end, height, ' class="panel" rx="4"'), path("columns", upright(self.columns.edges))]
@@ -260,25 +260,30 @@ class Picture:
             self.add(rect(x, y + 3, width_of(tag(box)) + 6, 12, ' class="tag" rx="2"'), text(x + 3, y + 12.5, tag(box), "tagged"))
         self.add("</g>")
 
-    # Lanes.
+    # Rows.
 
     def control(self):
-        height = COMMAND + 14 + 2 * GAP
-        self.panel(height, has_returns=False)
-        self.add('<g class="lane control">', text(2 * GAP, self.y + GAP + 27, "control", "name"))
-        for box in self.commands:
-            self.command(box, self.y + GAP + 14)
-        self.add("</g>")
-        self.y += height
+        """The row of control or, in a script with lanes, those of its lanes, on one ground."""
+        lanes = range(len(self.script.lanes)) if self.script.lanes else [None]
+        self.panel(len(lanes) * (COMMAND + 14 + GAP) + GAP, has_returns=False)
+        for lane in lanes:
+            name, heading = ("", "control") if lane is None else (f' id="lane-{lane}"', [("name", f"lane {lane}"), ("muted", "control")])
+            self.add(f'<g class="row control"{name}>', text(2 * GAP, self.y + GAP + 27, heading, "name" if lane is None else ""))
+            for box in self.commands:
+                if box.lane == lane:
+                    self.command(box, self.y + GAP + 14)
+            self.add("</g>")
+            self.y += COMMAND + 14 + GAP
+        self.y += GAP
 
     def cpu(self, cpu, pids):
-        """The lanes of a CPU's tasks, on one ground."""
+        """The rows of a CPU's tasks, on one ground."""
         levels = {pid: self.levels(self.tasks[pid]) for pid in pids}
         heights = {pid: 2 * GAP + HEAD + max(levels[pid].values(), default=0) * (HEAD + FOOT) for pid in pids}
         self.panel(sum(heights.values()))
         for pid in pids:
             heading = [("name", f"task {pid}"), ("muted", f"CPU {cpu}")]
-            self.add(f'<g class="lane task" id="task-{pid}">', text(2 * GAP, self.y + GAP + 12.5, heading))
+            self.add(f'<g class="row task" id="task-{pid}">', text(2 * GAP, self.y + GAP + 12.5, heading))
             for box in self.tasks[pid]:
                 self.box(box, self.y + GAP + box.depth * HEAD, HEAD + levels[pid][box] * (HEAD + FOOT))
             self.add("</g>")
@@ -300,7 +305,7 @@ class Picture:
         fetches = self.fetches()
         for spans, numbers in self.sites:
             names = [self.script.functions[number].name for number in numbers]
-            self.add(f'<g class="lane site" id="site-{numbers[0] + 1}"><title>{", ".join(names)}</title>')
+            self.add(f'<g class="row site" id="site-{numbers[0] + 1}"><title>{", ".join(names)}</title>')
             self.add(text(2 * GAP, y + 15, self.site_heading(numbers)))
             for span in spans:
                 self.span(span, y + 3)
@@ -345,7 +350,7 @@ class Picture:
             shapes.append(rect(left + 2.5, y + 1, width_of(words) + 4, HEAD - 2, ' class="page"'))
         return shapes
 
-    # What is above the lanes, across them and below.
+    # What is above the rows, across them and below.
 
     def heading(self):
         count = len(self.history.lines)
@@ -366,7 +371,7 @@ class Picture:
         self.add(text(edges[-1] + 4, y, ends, "muted"))
 
     def shade(self, top):
-        """The window of a call: from its `enter` to its `body`, over all lanes."""
+        """The window of a call: from its `enter` to its `body`, over all rows."""
         body = self.history.bodies.get(self.call)
         left, right = self.columns.left(self.history.calls[self.call].begin), self.columns.right(body.begin if body else None)
         done, begun = self.window
@@ -387,8 +392,8 @@ class Picture:
         self.add("</g>")
         self.y += math.ceil(len(rows) / count) * KEY_ROW
 
-    def lanes(self):
-        """All lanes, from where `y` is."""
+    def rows(self):
+        """All rows, from where `y` is."""
         self.control()
         for cpu in sorted(set(self.script.tasks.values())):
             self.y += GAP
@@ -401,7 +406,7 @@ class Picture:
         self.heading()
         self.axis(66)
         self.y = top = 92 if self.call else 74
-        self.lanes()
+        self.rows()
         if self.call:
             self.shade(top)
         self.y += 2 * GAP

@@ -21,15 +21,17 @@ def slice_name(box):
 
 
 class Trace:
-    """The events of a history. Control is a process, and so is each CPU; its tasks are its threads."""
+    """The events of a history. Control is a process, and so is each CPU; the lanes of a script and its tasks are their threads."""
 
     def __init__(self, script, history):
         self.history, self.metadata, self.events = history, [], []
         spare = (number for number in itertools.count(1) if number not in script.tasks)
         control = next(spare)
-        self.tracks = {None: (control, control)}  # by the pid of a task, or None: a process and a thread
+        self.tracks = {}  # by the pid of a task, or `control` and the lane, if any: a process and a thread
         self.process(control, "control", 0)
-        self.thread((control, control), "control", 0)
+        for lane in range(len(script.lanes)) if script.lanes else [None]:
+            self.tracks["control", lane] = (control, control if lane is None else next(spare))
+            self.thread(self.tracks["control", lane], "control" if lane is None else f"lane {lane}", lane or 0)
         for order, cpu in enumerate(sorted(set(script.tasks.values())), 1):
             process = next(spare)
             self.process(process, f"CPU {cpu}", order)
@@ -45,23 +47,23 @@ class Trace:
         for kind, args in [("thread_name", {"name": name}), ("thread_sort_index", {"sort_index": order})]:
             self.metadata.append({"ph": "M", "name": kind, "pid": track[0], "tid": track[1], "args": args})
 
-    def event(self, phase, name, pid, time, **more):
-        process, thread = self.tracks[pid]
+    def event(self, phase, name, track, time, **more):
+        process, thread = self.tracks[track]
         self.events.append({"ph": phase, "name": name, "pid": process, "tid": thread, "ts": time, **more})
 
-    def slices(self, boxes, pid=None):
+    def slices(self, boxes, track):
         """What is on one track: a slice for each box, and an instant for each refusal and miss. What isn't over ends with the log."""
         lines = self.history.lines
         for box in boxes:
             phase, more = ("B", {}) if box.what not in ("refusal", "miss") else ("i", {"s": "t"})
-            self.event(phase, slice_name(box), pid, box.begin * PLACE, cat=box.what, args={"item": lines[box.begin]}, **more)
+            self.event(phase, slice_name(box), track, box.begin * PLACE, cat=box.what, args={"item": lines[box.begin]}, **more)
         for box in reversed(boxes):
             if box.what not in ("refusal", "miss"):
                 end, said = (len(lines), "none: the log ends") if box.end is None else (box.end, lines[box.end])
-                self.event("E", slice_name(box), pid, end * PLACE, cat=box.what, args={"last item": said})
+                self.event("E", slice_name(box), track, end * PLACE, cat=box.what, args={"last item": said})
 
     def arrow(self, number, name, begin, end):
-        """From a point of one track to one of another, each a task's pid, or None, and a time."""
+        """From a point of one track to one of another, each a track and a time."""
         self.event("s", name, *begin, cat="arrow", id=number)
         self.event("f", name, *end, cat="arrow", id=number, bp="e")
 
@@ -74,9 +76,9 @@ class Trace:
                       if box.what in ("entry", "exit") and box.name == user and on.begin < box.begin < over]
             called.sort(key=lambda point: point[1])
             if called:
-                self.arrow(next(numbers), f"{user} on", (None, on.begin * PLACE + INSIDE), called[0])
+                self.arrow(next(numbers), f"{user} on", (("control", on.lane), on.begin * PLACE + INSIDE), called[0])
             if called and off:
-                self.arrow(next(numbers), f"{user} off", called[-1], (None, off.end * PLACE - INSIDE))
+                self.arrow(next(numbers), f"{user} off", called[-1], (("control", off.lane), off.end * PLACE - INSIDE))
 
 
 def times_on(commands):
@@ -94,7 +96,8 @@ def times_on(commands):
 def trace(script, history, name):
     """The text of the trace: an event a line, in the order of time."""
     made = Trace(script, history)
-    made.slices(history.commands)
+    for lane in sorted({command.lane for command in history.commands}, key=str):
+        made.slices([command for command in history.commands if command.lane == lane], ("control", lane))
     for pid, boxes in history.tasks.items():
         made.slices(boxes, pid)
     made.arrows()

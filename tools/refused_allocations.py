@@ -9,8 +9,9 @@ threads. Each run has to end with status 6 and write nothing, or with status 0 a
 the start of a thread is refused, with the latter. Nothing may be written to standard error.
 
 Two scripts are replayed and run, in each form: that of README.md, and one with a user of each kind and
-option; their waits leave one order of what happens. examples/realistic.ft is replayed alone. From the
-1,000th call on, as only `bulk` makes them, each step is a hundredth of the way.
+option; their waits leave one order of what happens. examples/realistic.ft is replayed alone, and
+examples/unregistered_by_another.ft is run: it has two lanes, and each order of their commands has its own
+texts. From the 1,000th call on, as only `bulk` makes them, each step is a hundredth of the way.
 
 There is a line for each order; with --verbose it has the numbers of the refused calls that the program did
 without. The last line says in how many runs a call was refused, and what was found; the status is 1 if anything was. It
@@ -27,6 +28,8 @@ import tempfile
 sys.dont_write_bytecode = True
 import check_program  # noqa: E402
 import command_words  # noqa: E402
+import lane_orders  # noqa: E402
+import log_reader  # noqa: E402
 import runs  # noqa: E402
 import text_lines  # noqa: E402
 
@@ -114,13 +117,14 @@ class Refusals:
         with os.fdopen(told, "rb") as read:
             return came, bool(read.read())
 
-    def check(self, what, words, text, wanted, kind, which):
-        """A run for each call of a kind; a line that tells what became of them."""
+    def check(self, what, words, text, whole, kind, which):
+        """A run for each call of a kind; a line that tells what became of them. A run that has memory prints one of the whole texts."""
         ends, beyond, call = collections.defaultdict(list), 0, 0
         while beyond < BEYOND:
             call += call // 100 if call >= EACH else 1
             came, was_made = self.answer(words, text, kind, which, call)
             self.runs, beyond = self.runs + was_made, 0 if was_made else beyond + 1
+            wanted = came.out if came.out in whole else whole[0]
             end = came[:3] if came[:3] == (6, b"", b"") and kind == "calls" else (0, wanted, b"")
             found = runs.faults(came, end[0], end[1])
             if found:
@@ -132,8 +136,17 @@ class Refusals:
         print(f"{what}: {' '.join(words)}: {kind} {which}: {len(ends[6])} out of memory, {len(ends[0])} whole{done_without}", flush=True)
 
 
+def texts_of_orders(program, text, form):
+    """What a script with lanes may print: a text for each order of its commands."""
+    lanes, whole = log_reader.read_script(text).lanes, []
+    for order in lane_orders.orders(lanes):
+        came = runs.answer([program, "replay", "--print", form], lane_orders.in_order(text, order))
+        whole.append(lane_orders.with_lanes(came.out, lanes, order))
+    return whole
+
+
 def orders(program, top):
-    """What is run, and the text that it is to print."""
+    """What is run, and the texts of which it is to print one."""
     scripts = [("README.md's script", check_program.SCRIPT, ["replay", "run"]), ("a user of each kind", EACH_KIND, ["replay", "run"])]
     scripts.append(("realistic.ft", (top / "examples" / "realistic.ft").read_bytes(), ["replay"]))
     for what, text, modes in scripts:
@@ -142,8 +155,11 @@ def orders(program, top):
             if wanted.status != 0 or wanted.err or text_lines.faults(form, wanted.out) or not wanted.out.endswith(b"end\n"):
                 sys.exit(f"{what}: it isn't replayed to its end in the form {form}")
             for mode in modes:
-                yield what, [mode, "--print", form], text, wanted.out
-    yield "no bytes", ["bulk"], b"", command_words.summary(program, 1)
+                yield what, [mode, "--print", form], text, [wanted.out]
+    text = (top / "examples" / "unregistered_by_another.ft").read_bytes()
+    for form in text_lines.FORMS:
+        yield "two lanes", ["run", "--print", form], text, texts_of_orders(program, text, form)
+    yield "no bytes", ["bulk"], b"", [command_words.summary(program, 1)]
 
 
 def main():
@@ -152,10 +168,10 @@ def main():
         library = str(pathlib.Path(folder) / "refused.so")
         subprocess.run(["cc", "-shared", "-fPIC", "-O1", "-x", "c", "-", "-o", library, "-ldl", "-pthread"], input=LIBRARY.encode(), check=True)
         refusals = Refusals(options.program, library, options.verbose)
-        for what, words, text, wanted in orders(options.program, options.top):
+        for what, words, text, whole in orders(options.program, options.top):
             for kind, which in itertools.product(["calls", "starts"], ["alone", "onwards"]):
                 if kind == "calls" or words[0] == "run":
-                    refusals.check(what, words, text, wanted, kind, which)
+                    refusals.check(what, words, text, whole, kind, which)
     print(f"refused: {refusals.runs} runs, {refusals.wrong} found")
     return 1 if refusals.wrong else 0
 

@@ -34,9 +34,22 @@ def answer(command, text=b"", seconds=SECONDS, **how):
         return Answer(None, b"", str(error).encode(), time.monotonic() - begun)
 
 
-def version_features(seed):
-    """The features with which the other program generates a script of this seed: every third and fourth one is of version 2."""
-    return "v2" if seed // 2 % 2 else "none"
+def features(seed):
+    """The features with which the other program generates a script of this seed: every third and fourth one is of version 2, and the second
+    four of each eight may have lanes."""
+    return ",".join(["v2"] * (seed // 2 % 2) + ["lanes"] * (seed // 4 % 2)) or "none"
+
+
+def names_of(known):
+    """What reads a list of these names, with commas between them, as a word of the command."""
+
+    def read(text):
+        names = text.split(",")
+        if set(names) - set(known):
+            raise argparse.ArgumentTypeError(f"there are {', '.join(known)}")
+        return names
+
+    return read
 
 
 def brief(text):

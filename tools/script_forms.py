@@ -15,9 +15,10 @@ import sys
 sys.dont_write_bytecode = True
 import limits  # noqa: E402
 from limits import LIMITS, VERSION_1, VERSION_2, VERSIONS  # noqa: E402
+from odd_lines import EDGES, FURTHER_LINES, NUMBER, NUMBERS, ODD_WORDS, TEXTS, TOO_BIG  # noqa: E402
 
 # The ranks of the lines, as docs/LANGUAGE.md has them.
-RANKS = {"ftrace": 0, "func": 1, "depth": 2, "tramps": 2, "user": 3, "cpu": 4, "ctl": 6, "sched": 7}
+RANKS = {"ftrace": 0, "func": 1, "depth": 2, "tramps": 2, "user": 3, "cpu": 4, "lane": 6, "ctl": 6, "sched": 7}
 CONTEXTS = ["normal", "softirq", "irq", "nmi"]  # each of the last three interrupts those before it
 ACT_WORDS = ["call", "ret", "after", *CONTEXTS[1:], "iret"]
 RANKS.update(dict.fromkeys(["task", *ACT_WORDS], 5))
@@ -25,6 +26,7 @@ RANKS.update(dict.fromkeys(["task", *ACT_WORDS], 5))
 # The limits that the program has, but for those that differ by version.
 CPUS = LIMITS["CPUS"]
 TASKS = LIMITS["TASKS"]
+LANES = LIMITS["LANES"]
 COMMANDS = LIMITS["COMMANDS"]
 UNTILS = LIMITS["UNTILS"]
 ACTS = LIMITS["ACTS"]
@@ -38,7 +40,6 @@ PATTERN_BYTES = LIMITS["PATTERN_BYTES"]
 FRAMES = LIMITS["FRAMES"]
 GRAPH_DEPTH = LIMITS["GRAPH_DEPTH"]
 INPUT_BYTES = LIMITS["INPUT_BYTES"]
-NUMBER = 4_294_967_295
 DIGITS = 10
 
 # What the scripts are made of.
@@ -187,6 +188,16 @@ def without_deadlock(rng, tasks, control):
         del lines[place]
 
 
+def in_lanes(rng, control, count):
+    """The lines of control in this many lanes, of which some may have none. Waits go, since a script with lanes has none."""
+    commands = [line for line in control if line[0] != "until"]
+    firsts = [0, *sorted(rng.randint(0, len(commands)) for _ in range(count - 1)), len(commands)]
+    lines = []
+    for lane, (first, past) in enumerate(zip(firsts, firsts[1:])):
+        lines += [["lane", numeral(rng, lane)]] + [["ctl"] + line for line in commands[first:past]]
+    return lines
+
+
 def item(rng, who, count):
     """An item of a schedule: so many turns of an actor, or of all."""
     return who if count == 1 and rng.random() < 0.8 else f"{who}*{numeral(rng, count)}"
@@ -251,7 +262,8 @@ def plain(rng):
     lines += [["cpu", numeral(rng, cpu), "quantum", numeral(rng, rng.choice([1, 2, 3, 7, 15, 40, 100, QUANTUM]))] for cpu in range(cpus)]
     for pid, cpu, todo in tasks:
         lines += [["task", numeral(rng, pid), "cpu", numeral(rng, cpu)]] + todo
-    return lines + [["ctl"] + line for line in control] + schedule(rng, cpus)
+    lanes = rng.choice([1, 2, 2, 3, 4, LANES]) if rng.random() < 0.2 else 0
+    return lines + (in_lanes(rng, control, lanes) if lanes else [["ctl"] + line for line in control]) + schedule(rng, cpus)
 
 
 def dressed(rng, lines):
@@ -267,42 +279,7 @@ def dressed(rng, lines):
     return "".join(line + "\n" for line in out).encode()
 
 
-# Broken variants. Each function changes the lines in place, or does nothing if it finds no line to change.
-
-# good lines and bad ones, by rank, for a user, a pid and a function of the script; `;` ends a line
-FURTHER_LINES = {
-    2: ["depth 1", f"depth {FRAMES}", f"depth {FRAMES + 1}", "depth 0", "tramps 0"]
-    + [f"tramps {version.tramps + more}" for version in VERSIONS for more in (0, 1)],
-    3: ["user u2 function", "user u2 graph", "user u2 profile", "user u2 fprobe", "user u2 fprobe exit"]
-    + ["user u2 fprobe exit cancel", "user u2 function regs", "user u2 function pid", "user u2 function regs ipmodify {function}"]
-    + ["user u2 function ipmodify {function}", "user u2 function call {function}", "user u2 graph irq {function}"]
-    + ["user u2 function pid call {function}", "user u2 graph ipmodify {function}", "user u2 function pid regs"]
-    + ["user u2 function call {function} irq {function}", "user u2 fprobe cancel", "user u2 function call"]
-    + ["user ipmodify function ipmodify ipmodify", "user u2 function regs regs", "user u2", "user u2 fprobe regs exit"]
-    + ["user {user} graph", "user u2 function call nobody", "user u2 profile regs pid irq nobody", "user u2 function ipmodify nobody"],
-    5: ["softirq", "irq", "nmi", "iret", "softirq;iret", "irq;call {function};ret;iret", "nmi;iret", "irq;softirq;iret;iret"]
-    + ["irq;call {function};iret;ret", "softirq;irq;nmi;iret;iret;iret", "softirq;softirq;iret;iret", "nmi;nmi;iret;iret"]
-    + ["call {function};irq;ret;iret", "softirq;call {function};nmi;call {function};ret;iret;ret;iret", "irq;iret;iret", "softirq iret"],
-    6: ["ctl enable {user}", "ctl disable {user}", "ctl maxdepth 0", f"ctl maxdepth {GRAPH_DEPTH}", f"ctl maxdepth {GRAPH_DEPTH + 1}"]
-    + ["ctl pid", "ctl nopid", "ctl pid {pid}", "ctl nopid {pid} {pid}", "ctl pid 0", f"ctl nopid {PID + 1}", "ctl pid 77"]
-    + ["ctl filter {user} >", "ctl notrace {user} >", "ctl filter {user} >>", "ctl notrace {user}", "ctl enable nobody"]
-    + ["ctl pid {pid} 77", f"ctl nopid {{pid}} {PID}", "ctl maxdepth", "ctl disable {user} {user}", "ctl filter nobody > :", "ctl"],
-}
-TEXTS = ["*", "a", "1", "!1", "0", "2", "99", "007", str(NUMBER + 2), "!", "!!", "!a*", ":mod:ext3", ":mod:", ":mod:!", ":mod:!*", "*:mod:s?d"]
-TEXTS += ["!*:mod:!snd", "a:b", "a:mod:m:n", "a\\b", "[a", "[!]", "[c-a]", "a:mod:!!m", ":", "x" * PATTERN_BYTES, "x" * (PATTERN_BYTES + 1)]
-TEXTS += ["x" * 250 + ":mod:" + "y" * 250, "*:mod:" + "y" * (PATTERN_BYTES + 1), "0" * 300 + "1", "#", ">", "a b"]
-ODD_WORDS = ["ftrace", "1", "2", "func", "user", "cpu", "quantum", "task", "call", "ret", "after", "ctl", "register", "unregister", "until"]
-ODD_WORDS += ["sched", "k", "all", "0", "8", "07", "k*0", "all*2", "0*", "*3", "k*1*1", "zz", "9x", "-1", "+1", "a/b"]
-ODD_WORDS += ["x" * (NAME_BYTES + 1), "function", "graph"]
-EDGES = {
-    "quantum": [0, 1, QUANTUM, QUANTUM + 1], "pid": [0, 1, PID, PID + 1], "cpu": [0, CPUS - 1, CPUS, CPUS + 1, 63],
-    "wait": [0, 1, 2, COMMANDS, COMMANDS + 1], "count": [0, 1, 2, STEPS, STEPS + 1], "frames": [0, 1, FRAMES, FRAMES + 1],
-    "slots": [0, 1, *(version.tramps + more for version in VERSIONS for more in (0, 1))], "depth": [0, 1, GRAPH_DEPTH, GRAPH_DEPTH + 1],
-}
-TOO_BIG = [NUMBER, NUMBER + 1, 9_999_999_999, 10_000_000_000, "00000000001", "0000000001", "00"]
-# where the numbers of a line are, by its first word, or by the second one of control
-NUMBERS = {"depth": {1: "frames"}, "tramps": {1: "slots"}, "cpu": {1: "cpu", 3: "quantum"}, "task": {1: "pid", 3: "cpu"}, "after": {1: "wait"}}
-NUMBERS.update({"until": {2: "pid", 3: "wait"}, "pid": {2: "pid", 3: "pid"}, "nopid": {2: "pid", 3: "pid"}, "maxdepth": {2: "depth"}})
+# Broken variants. Each function changes the lines in place, or does nothing if it finds no line to change. What they put in is in odd_lines.py.
 
 
 def rank_of(line):
@@ -393,7 +370,7 @@ def unknown(rng, lines):
 
 
 def declare_again(rng, lines):
-    found = places(lines, "func", "user", "task", "cpu")
+    found = places(lines, "func", "user", "task", "cpu", "lane")
     if found:
         place = rng.choice(found)
         again = list(lines[place])
@@ -445,6 +422,18 @@ def add_wait(rng, lines):
         lines.insert(at_rank(rng, lines, 5), ["after", str(rng.choice([1, 2, 5, COMMANDS, NUMBER]))])
 
 
+def add_lanes(rng, lines):
+    """The lines of control in lanes, at times one lane more than there may be, or with waits among them."""
+    control = [line[1:] for line in lines if line[:1] == ["ctl"] and len(line) > 1]
+    waits = [["ctl"] + line for line in control if line[0] == "until"]
+    new = in_lanes(rng, control, rng.choice([1, 2, 3, LANES, LANES + 1]))
+    for wait in waits if rng.random() < 0.3 else []:
+        new.insert(rng.randint(0, len(new)), wait)
+    lines[:] = [line for line in lines if line[:1] not in (["ctl"], ["lane"])]
+    place = sum(rank_of(line) < 6 for line in lines)
+    lines[place:place] = new
+
+
 def change_version(rng, lines):
     others = ["ftrace 3", "ftrace", "ftrace 1 1", "ftrace 2 1", "ftrace 01", "Ftrace 1", "# ftrace 1", "", "func a", "ftrace 1 # x"]
     new = rng.choice([*others, "ftrace 1", "ftrace 1", "ftrace 2", "ftrace 2"]).split()
@@ -475,6 +464,10 @@ def many_cpus(rng, lines, more):
 
 def many_tasks(rng, lines, more):
     return [["task", str(200 + n), "cpu", "0"] for n in range(TASKS + more - len(places(lines, "task")))]
+
+
+def many_lanes(rng, lines, more):
+    return [["lane", str(n)] for n in range(len(places(lines, "lane")), LANES + more)]
 
 
 def many_commands(rng, lines, more):
@@ -515,7 +508,8 @@ def many_acts(rng, lines, more):
     return [["call", declared(lines, "func")[0]], ["ret"]] * ((ACTS + 1 - have) // 2) + [["after", "1"]] * more
 
 
-MANY = [long_name, long_module, many_functions, many_users, many_cpus, many_tasks, many_commands, many_waits, many_levels, many_items, many_acts]
+MANY = [long_name, long_module, many_functions, many_users, many_cpus, many_tasks, many_lanes, many_commands, many_waits, many_levels, many_items]
+MANY += [many_acts]
 MANY += [long_name, long_module, many_users, many_cpus, many_tasks, many_items]
 
 
@@ -528,7 +522,7 @@ def many(rng, lines):
 
 
 CHANGES = [change_word, drop_word, double_word, swap_lines, drop_line, double_line, set_number, set_turns, unknown, declare_again]
-CHANGES += [unbalance, add_lines, add_lines, add_task, add_text, add_text, add_wait, change_version, many]
+CHANGES += [unbalance, add_lines, add_lines, add_task, add_text, add_text, add_wait, add_lanes, change_version, many]
 
 
 def broken_bytes(rng, text):

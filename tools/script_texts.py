@@ -33,6 +33,16 @@ SCRIPTS = [
     Told("commands that are repeated",
         "ftrace 1; func a; user t function; ctl register t; ctl register t; ctl unregister t; ctl unregister t",
         {"log": "0 begin 1; 1 return 1 ok; 2 begin 2; 3 return 2 already; 4 begin 3; 5 return 3 ok; 6 begin 4; 7 return 4 not-there; end"}),
+    Told("lanes: a replay carries out their commands in the order of the lines",
+        "ftrace 1; func a; user t function; user s function; lane 0; ctl register t; ctl unregister t; lane 1; ctl register s",
+        {"log": "0 begin 1 lane 0; 1 return 1 ok; 2 begin 2 lane 0; 3 return 2 ok; 4 begin 3 lane 1; 5 return 3 ok; end"},
+        is_ordered=False),
+    Told("lanes: each order of the commands leaves the same users",
+        "ftrace 1; func a; user t function; user s function; lane 0; ctl register t; ctl unregister t; lane 1; ctl register s",
+        {"enabled": "a (1)     own s; end"}),
+    Told("lanes without commands, and zeros in front of a number",
+        "ftrace 2; lane 0; lane 0000000001; lane 02; ctl maxdepth 1",
+        {"log": "0 begin 1 lane 2; 1 return 1 ok; end"}),
     Told("two users that replace functions",
         "ftrace 1; func a; func b; func c; func d; user p function regs ipmodify d; user q function regs ipmodify d; cpu 0 quantum 100; task 10 cpu 0; after 7; "
         "call b; ret; ctl filter p > a; ctl filter p >> b; ctl filter q > [bc]; ctl register p; ctl register q; ctl unregister p; ctl register q",
@@ -148,6 +158,16 @@ REFUSED = [
     ("ftrace 1; func a; func a", "line 3: duplicate"),
     ("ftrace 1; func a23456789b23456789c23456789d23456789e23456789f23456789g234567890", "line 2: limit"),
     ("ftrace 1; cpu 0 quantum 5; task 10 cpu 0; irq; softirq", "line 5: unbalanced"),
+    ("ftrace 1; lane", "line 2: syntax"),
+    ("ftrace 1; lane 0 1", "line 2: syntax"),
+    ("ftrace 1; lane 0; lane 0", "line 3: syntax"),
+    ("ftrace 1; lane 4294967296", "line 2: syntax"),
+    ("ftrace 2; lane 0; lane 1; lane 2; lane 3; lane 4; lane 5; lane 6; lane 7; lane 9", "line 10: syntax"),
+    ("ftrace 1; sched k; lane 0", "line 3: syntax"),
+    ("ftrace 1; lane 0; ctl until 10 0", "line 3: syntax"),
+    ("ftrace 1; ctl until 10 1; lane 0", "line 2: unknown"),
+    ("ftrace 1; cpu 0 quantum 5; task 10 cpu 0; lane 0; softirq; iret", "line 5: syntax"),
+    ("ftrace 1; cpu 0 quantum 5; task 10 cpu 0; after 2; lane 0; ctl maxdepth 1; lane 1", "line 4: deadlock"),
 ]
 REFUSED_BYTES = [(b"ftrace 1\n\x80\n", "line 2: syntax"), (b"ftrace 1\n# \x80\n\x80\n", "line 3: syntax")]  # a byte that only a comment may have
 

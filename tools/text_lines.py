@@ -5,7 +5,7 @@ import runs
 
 ENDS = (b"end", b"stopped")
 # The items of a log; C is a call.
-ITEMS = [rb"begin \d+", rb"return \d+ (ok|already|not-there|invalid|no-match|busy \S+ \S+)", rb"enter C (normal|softirq|irq|nmi) \S+ (-|C)"]
+ITEMS = [rb"begin \d+( lane [0-7])?", rb"return \d+ (ok|already|not-there|invalid|no-match|busy \S+ \S+)", rb"enter C (normal|softirq|irq|nmi) \S+ (-|C)"]
 ITEMS += [rb"(back|back-end|miss|exit-end) C \S+", rb"refuse C \S+ (pid|recursion|depth)", rb"body C \S+ (nop|list|own \S+)"]
 ITEMS += [rb"leave C", rb"exit C \S+ \d+", rb"ret C (-|C)"]
 

@@ -1,13 +1,14 @@
 #!/usr/bin/env python3
 """Writes a random script that most printed forms have lines of, to standard output.
 
-    viewed_scripts.py --seed N
+    viewed_scripts.py --seed N             a script without lanes
+    viewed_scripts.py --seed N --lanes     one with lanes, of other commands
 
 Of the scripts of script_forms.py most print nothing in some form: no user of its kind is called back. Here there are
 a function, a graph and a profile user at least, nearly all users are registered before the tasks go on, and the calls
 nest. Users are unregistered, registered again and given other sets while calls are open.
 
-One seed gives one script, which is accepted. compare_scripts.py takes `script` from here.
+One seed gives one script, which is accepted. compare_scripts.py takes `script` and `laned` from here.
 """
 import argparse
 import random
@@ -18,6 +19,7 @@ import script_forms as forms  # noqa: E402
 
 ALWAYS = ["function", "graph", "profile"]  # the kinds that three of the forms are about
 FURTHER = [*ALWAYS, "graph", "profile", "fprobe exit", "fprobe exit", "fprobe exit cancel", "fprobe"]
+LANES = forms.LIMITS["LANES"]
 MOST_FURTHER = 4  # users beside those of the kinds above
 
 
@@ -89,15 +91,39 @@ def lines_of(rng):
     return lines + [["ctl"] + line for line in control] + schedule(rng, cpus)
 
 
+def with_lanes(rng, lines, count):
+    """The lines of a script with its commands dealt out to so many lanes, and without waits of control."""
+    lanes = [[] for _ in range(count)]
+    for line in lines:
+        if line[0] == "ctl" and line[1] != "until":
+            rng.choice(lanes).append(line)
+    control = [line for number, lane in enumerate(lanes) for line in [["lane", str(number)], *lane]]
+    above = [line for line in lines if line[0] not in ("ctl", "sched")]
+    return above + control + [line for line in lines if line[0] == "sched"]
+
+
+def text_of(lines):
+    """The text of these lines."""
+    return "".join(" ".join(line) + "\n" for line in lines).encode()
+
+
 def script(seed):
     """The text of the script of this seed."""
-    return "".join(" ".join(line) + "\n" for line in lines_of(random.Random(f"viewed {seed}"))).encode()
+    return text_of(lines_of(random.Random(f"viewed {seed}")))
+
+
+def laned(seed):
+    """The text of the script with lanes of this seed."""
+    rng = random.Random(f"laned {seed}")
+    return text_of(with_lanes(rng, lines_of(rng), rng.randint(1, LANES)))
 
 
 def main():
     parser = argparse.ArgumentParser(description="Writes a random script that most printed forms have lines of.")
     parser.add_argument("--seed", type=int, required=True)
-    sys.stdout.buffer.write(script(parser.parse_args().seed))
+    parser.add_argument("--lanes", action="store_true", help="one with lanes")
+    words = parser.parse_args()
+    sys.stdout.buffer.write(laned(words.seed) if words.lanes else script(words.seed))
 
 
 if __name__ == "__main__":

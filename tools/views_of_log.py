@@ -144,10 +144,11 @@ def profile_lines(told):
 
 
 def enabled_lines(told):
-    desk = log_desk.Desk(told.script)
+    desk, turns = log_desk.Desk(told.script), log_reader.Turns(told.script)
     for words in told.items:
-        command = told.script.commands[int(words[1]) - 1] if words[0] == "return" else None
-        if command and words[2] == "ok" and command[0] in ("register", "unregister", "filter", "notrace"):
+        if words[0] == "begin":
+            command = told.script.commands[turns.next(" ".join(words[2:]))]
+        elif words[0] == "return" and words[2] == "ok" and command[0] in ("register", "unregister", "filter", "notrace"):
             desk.carry_out(*command)
     for number, function in enumerate(told.script.functions):
         sited = [user for user in told.users if number in desk.matched.get(user.name, ())]

@@ -1,0 +1,55 @@
+"""Scripts with lanes, whose commands a run by threads carries out in any order that keeps each lane's own.
+
+A log of such a run names the lane of each command, and so tells the order. It is the log of the script without lanes whose
+commands are in that order, but for the lanes that it names.
+"""
+import re
+
+import log_reader
+
+LANE = re.compile(rb"[ \t]*lane[ \t]")
+CONTROL = re.compile(rb"[ \t]*ctl[ \t]")
+BEGIN = re.compile(rb"^(\d+ begin (\d+))( lane \d+)?$", re.M)
+
+
+def has_lanes(text):
+    """Whether a script has a line `lane N`."""
+    return any(map(LANE.match, text.splitlines()))
+
+
+def in_order(text, order):
+    """The script with these bytes without its lanes, its commands in this order; they are numbered from 0."""
+    lines = [line for line in text.splitlines(keepends=True) if not LANE.match(line)]
+    commands = [line for line in lines if CONTROL.match(line)]
+    turns = iter(order)
+    return b"".join(commands[next(turns)] if CONTROL.match(line) else line for line in lines)
+
+
+def without_lanes(log):
+    """A log that doesn't name the lanes of its commands."""
+    return BEGIN.sub(rb"\1", log)
+
+
+def with_lanes(log, lanes, order):
+    """A log of the commands in this order that names the lane of each, for these lanes of a script."""
+    lane_of = {number: lane for lane, numbers in enumerate(lanes) for number in numbers}
+    return BEGIN.sub(lambda found: found[1] + b" lane %d" % lane_of[order[int(found[2]) - 1]], log)
+
+
+def orders(lanes):
+    """Each order of the commands of these lanes."""
+    lanes = [lane for lane in lanes if lane]
+    if not lanes:
+        yield []
+    for number, (first, *rest) in enumerate(lanes):
+        for others in orders([*lanes[:number], rest, *lanes[number + 1 :]]):
+            yield [first, *others]
+
+
+def reading(text, log):
+    """The script and the log that are judged for the log of a run of this script: these two or, if it has lanes, both without them, the
+    commands in the order of the log. Raises log_reader.Fault if the log doesn't fit the script, or names a lane that isn't its command's."""
+    if not has_lanes(text):
+        return text, log
+    order = log_reader.read_log(log, log_reader.read_script(text)).order
+    return in_order(text, order), without_lanes(log)

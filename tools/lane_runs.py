@@ -1,0 +1,71 @@
+"""Runs by threads of scripts with lanes: each prints what a replay prints of the commands in the order in which the lock let them through.
+
+In these scripts nothing but that order is left open: tasks wait for all commands, or make no calls. And a script at all limits comes to
+its end, in an order that the lanes may have.
+"""
+import random
+
+import command_words
+import full_scripts
+import lane_orders
+import log_reader
+import runs
+import script_forms as forms
+import viewed_scripts
+
+LANES = viewed_scripts.LANES
+EXAMPLES = ["one_trampoline", "unregistered_by_another"]
+TIMES = 10  # that each example is run
+SEEDS = 20
+SECONDS = 60  # that a run may take
+
+
+def of_order(program, text, order):
+    """The log of a replay of the commands of a script in this order, with their lanes."""
+    came = runs.answer([program, "replay"], lane_orders.in_order(text, order), SECONDS)
+    return lane_orders.with_lanes(came.out, log_reader.read_script(text).lanes, order)
+
+
+def faults(program, text, seconds=SECONDS, is_told=True):
+    """What is wrong with a run of a script with lanes, and how long it took. If it isn't told by its order, the order alone is asked for."""
+    came = runs.answer([program, "run"], text, seconds)
+    found = command_words.run_faults(came, "log")
+    if not found:
+        try:
+            order = log_reader.read_log(came.out, log_reader.read_script(text)).order
+            found = runs.faults(came, 0, of_order(program, text, order)) if is_told else []
+        except log_reader.Fault as fault:
+            found = [str(fault)]
+    return found, came.seconds
+
+
+def commands_alone(lines):
+    """The lines of a script without what its tasks do, and without its schedule."""
+    return [line for line in lines if line[0] not in [*forms.ACT_WORDS, "sched"]]
+
+
+def largest():
+    """As many lanes and commands as there may be: each lane registers a user of its own, and unregisters it, again and again."""
+    lines = ["ftrace 1", "func a", "func b", *[f"user u{lane} function" for lane in range(LANES)], "cpu 0 quantum 100"]
+    for lane in range(LANES):
+        lines += [f"lane {lane}", *[f"ctl {('register', 'unregister')[number % 2]} u{lane}" for number in range(forms.COMMANDS // LANES)]]
+    return "".join(line + "\n" for line in lines).encode()
+
+
+def full():
+    """The script at all limits of version 2, its commands in lanes."""
+    lines = [line.split() for line in full_scripts.script(forms.VERSION_2).decode().splitlines()]
+    return viewed_scripts.text_of(viewed_scripts.with_lanes(random.Random("full"), lines, LANES))
+
+
+def check(rows, program, top):
+    for name in EXAMPLES:
+        for _ in range(TIMES):
+            rows.row(f"lanes: {name}", *faults(program, (top / "examples" / f"{name}.ft").read_bytes()))
+    for seed in range(SEEDS):
+        rng = random.Random(f"lanes {seed}")
+        lines = commands_alone(viewed_scripts.lines_of(rng))
+        text = viewed_scripts.text_of(viewed_scripts.with_lanes(rng, lines, rng.randint(1, LANES)))
+        rows.row(f"lanes: random commands {seed}", *faults(program, text))
+    rows.row("lanes: the most lanes and commands", *faults(program, largest()))
+    rows.row("lanes: all limits of version 2", *faults(program, full(), full_scripts.RUN_SECONDS, is_told=False))

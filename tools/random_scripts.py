@@ -1,0 +1,40 @@
+"""Random scripts: those that are accepted in each form, which has to follow from the log, and run by threads; and broken variants."""
+import check_docs
+import command_words
+import runs
+import script_forms as forms
+import text_lines
+import viewed_scripts
+import views_of_log
+
+SEEDS = 50
+RUN_SECONDS = 60  # that a run may take
+
+
+def text_faults(came, form):
+    """What is wrong with an answer that is to be the text of an accepted script."""
+    return runs.faults(came, 0) or text_lines.faults(form, came.out)
+
+
+def check_accepted(rows, program, name, script):
+    """The log of an accepted script, and its other forms as views_of_log works them out of the log."""
+    log = runs.answer([program, "replay"], script)
+    found = text_faults(log, "log")
+    rows.row(f"random: {name}: log", found, log.seconds)
+    for form in [] if found else views_of_log.VIEWS:
+        came = runs.answer([program, "replay", "--print", form], script)
+        rows.row(f"random: {name}: {form}", runs.faults(came, 0, views_of_log.text(form, script, log.out)), came.seconds)
+
+
+def check(rows, program):
+    """Scripts that are accepted, in each form; and broken variants, which are accepted or refused, in one form each."""
+    for seed in range(SEEDS):
+        check_accepted(rows, program, f"script_forms.py --seed {seed}", forms.script(seed))
+        check_accepted(rows, program, f"viewed_scripts.py --seed {seed}", viewed_scripts.script(seed))
+        check_accepted(rows, program, f"viewed_scripts.py --seed {seed} --lanes", viewed_scripts.laned(seed))
+        form = text_lines.FORMS[seed % len(text_lines.FORMS)]
+        came = runs.answer([program, "replay", "--print", form], forms.mutated(seed))
+        found = runs.faults(came, 3) if check_docs.REFUSED.fullmatch(came.out) else text_faults(came, form)
+        rows.row(f"random: script_forms.py --seed {seed} --mutate: {form}", found, came.seconds)
+        came = runs.answer([program, "run", "--print", form], forms.script(seed), RUN_SECONDS)
+        rows.row(f"random: script_forms.py --seed {seed}: run, {form}", command_words.run_faults(came, form), came.seconds)
