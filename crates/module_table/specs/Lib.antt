@@ -1,0 +1,6 @@
+pub mod Modules
+pub mod Names
+pub mod Lines
+pub mod Reached
+pub mod Made
+pub mod Kept
