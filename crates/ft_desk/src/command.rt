@@ -63,6 +63,23 @@ impl Command {
             | Command::MaxDepth(_) => None,
         }
     }
+
+    /// An equal command. The error says that memory ran out.
+    pub fn copy(&self) -> Result<Command, NoMemory>
+        ensures { IfOk result (λ copy. copy ≡ self.now) }
+    {
+        match self {
+            Command::Register(user) => Ok(Command::Register(*user)),
+            Command::Unregister(user) => Ok(Command::Unregister(*user)),
+            Command::Filter(user, edit) => Ok(Command::Filter(*user, copy_edit(edit)?)),
+            Command::Notrace(user, edit) => Ok(Command::Notrace(*user, copy_edit(edit)?)),
+            Command::Pid(mask) => Ok(Command::Pid(*mask)),
+            Command::NoPid(mask) => Ok(Command::NoPid(*mask)),
+            Command::Enable(user) => Ok(Command::Enable(*user)),
+            Command::Disable(user) => Ok(Command::Disable(*user)),
+            Command::MaxDepth(depth) => Ok(Command::MaxDepth(*depth)),
+        }
+    }
 }
 
 /// A line of control.
@@ -80,29 +97,12 @@ impl Ctl {
         ensures { IfOk result (λ ctl. ctl ≡ self.now) }
     {
         match self {
-            Ctl::Run(command) => Ok(Ctl::Run(copy_command(command)?)),
+            Ctl::Run(command) => Ok(Ctl::Run(command.copy()?)),
             Ctl::Until { task, acts } => Ok(Ctl::Until {
                 task: *task,
                 acts: *acts,
             }),
         }
-    }
-}
-
-/// An equal command.
-fn copy_command(command: &Command) -> Result<Command, NoMemory>
-    ensures { IfOk result (λ copy. copy ≡ command.now) }
-{
-    match command {
-        Command::Register(user) => Ok(Command::Register(*user)),
-        Command::Unregister(user) => Ok(Command::Unregister(*user)),
-        Command::Filter(user, edit) => Ok(Command::Filter(*user, copy_edit(edit)?)),
-        Command::Notrace(user, edit) => Ok(Command::Notrace(*user, copy_edit(edit)?)),
-        Command::Pid(mask) => Ok(Command::Pid(*mask)),
-        Command::NoPid(mask) => Ok(Command::NoPid(*mask)),
-        Command::Enable(user) => Ok(Command::Enable(*user)),
-        Command::Disable(user) => Ok(Command::Disable(*user)),
-        Command::MaxDepth(depth) => Ok(Command::MaxDepth(*depth)),
     }
 }
 

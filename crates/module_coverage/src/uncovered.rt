@@ -14,19 +14,8 @@ use crate::history::{first_away, histories, modules_of, story};
 use crate::span::Span;
 use crate::walk::spans_of;
 use ft_base::{FuncNo, NoMemory};
-use script_waits::{ControlLine, LinedTask};
+use script_waits::{ControlLine, LinedTask, lower};
 use std::alloc::{AllocError, Global};
-
-/// The lower of two lines, each of which may be missing.
-fn lower(a: Option<u32>, b: Option<u32>) -> Option<u32>
-    ensures { result ≡ lower_of a b }
-{
-    match (a, b) {
-        (None, _) => b,
-        (_, None) => a,
-        (Some(x), Some(y)) => { if x <= y { a } else { b } }
-    }
-}
 
 /// The module of a function, if it lies in one.
 fn owner_of(owners: &[Option<u32>], func: FuncNo) -> Option<u32>

@@ -10,3 +10,4 @@ pub mod ListLaws
 pub mod KeptLaws
 pub mod ClashLaws
 pub mod OpeningLaws
+pub mod NumberSamples

@@ -99,32 +99,3 @@ pub(crate) fn depth_after(depth: u32, command: &Command) -> u32
         | Command::Disable(_) => depth,
     }
 }
-
-/// An equal command. The error says that memory ran out.
-pub(crate) fn copy_command(command: &Command) -> Result<Command, NoMemory>
-    ensures { IfOk result (λ copy. copy ≡ command.now) }
-{
-    match command {
-        Command::Register(user) => Ok(Command::Register(*user)),
-        Command::Unregister(user) => Ok(Command::Unregister(*user)),
-        Command::Filter(user, edit) => Ok(Command::Filter(*user, copy_edit(edit)?)),
-        Command::Notrace(user, edit) => Ok(Command::Notrace(*user, copy_edit(edit)?)),
-        Command::Pid(mask) => Ok(Command::Pid(*mask)),
-        Command::NoPid(mask) => Ok(Command::NoPid(*mask)),
-        Command::Enable(user) => Ok(Command::Enable(*user)),
-        Command::Disable(user) => Ok(Command::Disable(*user)),
-        Command::MaxDepth(depth) => Ok(Command::MaxDepth(*depth)),
-    }
-}
-
-/// An equal edit. The error says that memory ran out.
-fn copy_edit(edit: &Edit) -> Result<Edit, NoMemory>
-    ensures { IfOk result (λ copy. copy ≡ edit.now) }
-{
-    Ok(Edit {
-        append: edit.append,
-        remove: edit.remove,
-        clear: edit.clear,
-        set: edit.set.copy().map_err(|_| NoMemory)?,
-    })
-}

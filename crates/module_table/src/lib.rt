@@ -23,3 +23,4 @@ mod owners;
 pub use line::ModLine;
 pub use modules::Modules;
 pub use names::ModuleNames;
+pub use owners::owners_of;

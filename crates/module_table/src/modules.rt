@@ -14,12 +14,12 @@ ghost use Rattle.module_table.specs.Lines.{Plain, Load, Unload, after_line, answ
 ghost use Rattle.module_table.specs.Reached.{IsLineIn, IsReached, IsSafe, kept_back, moved, moving};
 ghost use Rattle.module_table.specs.Made.{Appends, is_masking, line_of};
 
-use crate::commands::{copy_command, depth_after, plan_all, run_all, run_one};
+use crate::commands::{depth_after, plan_all, run_all, run_one};
 use crate::hidden::{first_hidden, hidden_functions, is_loaded, with_module};
 use crate::line::ModLine;
 use crate::masks::{edited_set, mask, modifiers, moving, no_sets, opening};
 use crate::names::ModuleNames;
-use crate::owners::{loaded_at_first, owners};
+use crate::owners::{loaded_at_first, owners_of};
 use filter_hash::HashPair;
 use ft_base::{Answer, FuncNo, Half, NoMemory, UserNo};
 use ft_desk::{Command, Desk};
@@ -77,7 +77,7 @@ impl Modules {
         ensures { IfOk result (λ m. m ≡ at_first (declared_by specs.now shape) table.now.functions absent.now) }
     {
         let names = ModuleNames::new(alloc, table)?;
-        let owners = owners(alloc, table, &names)?;
+        let owners = owners_of(alloc, table, &names)?;
         let loaded = loaded_at_first(alloc, names.len(), absent)?;
         let first = first_hidden(alloc, owners.as_slice(), loaded.as_slice(), absent)?;
         let own = no_sets(alloc, shape.users, shape.funcs)?;
@@ -191,7 +191,7 @@ impl Modules {
         ensures err { OnErr result (self.new ≡ self.old) }
         ensures out_err { OnErr result (out.new.items ≡ out.old.items) }
     {
-        let copy = copy_command(command)?;
+        let copy = command.copy()?;
         let answer = run_one(&mut self.desk, copy, out)?;
         self.depth = depth_after(self.depth, command);
         Ok(answer)

@@ -10,7 +10,7 @@ use func_table::FuncTable;
 use std::alloc::Global;
 
 /// The number of the module of each function, if it lies in one. The error says that memory ran out.
-pub(crate) fn owners(
+pub fn owners_of(
     alloc: Global,
     table: &FuncTable,
     names: &ModuleNames,

@@ -18,3 +18,4 @@ mod waiting;
 
 pub use ending::{deadlock, deadlock_is_one, whoever_is_left_waits};
 pub use script::{ControlLine, LinedAct, LinedTask, Wait};
+pub use waiting::lower;

@@ -7,7 +7,7 @@ ghost use Rattle.script_waits.specs.Greedy.{IsLeast, lower_of, Waits};
 use crate::script::{ControlLine, LinedAct, LinedTask};
 
 /// The lower of two lines, each of which may be missing.
-fn lower(a: Option<u32>, b: Option<u32>) -> Option<u32>
+pub fn lower(a: Option<u32>, b: Option<u32>) -> Option<u32>
     ensures { result ≡ lower_of a b }
 {
     match (a, b) {
