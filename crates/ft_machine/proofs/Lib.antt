@@ -1,4 +1,3 @@
-pub mod PlanSamples
 pub mod Numbered
 pub mod FindLaws
 pub mod JobLaws

@@ -1,26 +1,14 @@
 -- What the machine asks of a job's lanes, modules, ring and triggers. It reads none of them itself.
-use Rattle.std.specs.Prelude.{◌≡◌, ◌≤◌, ◌<◌, ◌⊎◌, ℕ, not, List, [], ◌∷◌, filter, length, Option, Some, None, IfSome}
+use Rattle.std.specs.Prelude.{◌≡◌, ◌≤◌, ◌<◌, ◌⊎◌, ℕ, List, [], length, IfSome}
 use Rattle.std.specs.List.{AllByRecursion as Each}
-use Rattle.std.specs.Str.{bytes_eq}
 use Rattle.ft_base.specs.declared.limits.TheConstants.{LANES, RING, TRIGGERS, TRIGGER_LIMIT}
 use Rattle.ft_base.specs.Job.{Func, Ctl, Run, Until, ModuleRow, Trigger as PlainTrigger, Job, funcs, commands}
+use Rattle.module_table.specs.Modules.{modules_in}
 use Rattle.ft_machine.specs.declared.parts.ModRow.{ModRow}
 
 -- a line that loads or unloads a module, as plain data
 abbrev pub row_of : ModRow → ModuleRow
 row_of row = record { load = row.load; owner = row.module; answer = row.answer; first = row.first; last = row.last }
-
--- ## modules by number
-
--- a function's module comes before those of the functions below it, and once
-abbrev pub with_module : Option (List ℕ) → List (List ℕ) → List (List ℕ)
-with_module None below = below
-with_module (Some name) below = name ∷ filter (λ other. not (bytes_eq name other)) below
-
--- the modules of these functions by number: each once, in the order of their first functions
-abbrev pub modules_in : List Func → List (List ℕ)
-modules_in [] = []
-modules_in (f ∷ fs) = with_module f.owner (modules_in fs)
 
 -- a number of a module of these functions
 abbrev pub IsModule : List Func → ℕ → Type 0

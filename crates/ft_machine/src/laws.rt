@@ -1,9 +1,15 @@
-//! Laws of replays.
+//! Laws of replays and of sites.
 
-ghost use Rattle.std.specs.Prelude.{◌≡◌, ◌↔◌, ◌<◌, ℕ, true, List, length};
+ghost use Rattle.std.specs.Prelude.{◌≡◌, ◌↔◌, ◌<◌, ℕ, true, List, [], length};
+ghost use Rattle.ft_base.specs.declared.item.Item.{Item};
+ghost use Rattle.ft_base.specs.Desk.{desk, sited};
 ghost use Rattle.ft_base.specs.Job.{Job as PlainJob};
 ghost use Rattle.ft_base.specs.Schedule.{IsActor, actors_of};
 ghost use Rattle.ft_base.specs.declared.turn.Actor.{Actor};
+ghost use Rattle.ft_hist.specs.Past.{begun, done};
+ghost use Rattle.machine_core.specs.Sites.{IsWhole as IsWholeSite};
+ghost use Rattle.site_bytes.specs.Bytes.{bytes_of};
+ghost use Rattle.site_bytes.specs.declared.insn.Insn.TheVariants.{Nop};
 ghost use Rattle.word_machine.specs.Machine.{World, all_end, is_at_end, play, run, start};
 ghost use Rattle.ft_machine.specs.Fed.{control_fed, control_takes, cpu_fed, cpu_takes};
 ghost use Rattle.ft_machine.specs.Replays.{StopsAt};
@@ -27,4 +33,11 @@ pub fn each_actor_is_fed_its_values()
         → (run job actors (start job)).control ≡ control_fed job (control_takes job actors (start job)) }
     ensures cpus { (job : PlainJob) (actors : List Actor) (c : ℕ) → c < length job.quanta
         → (run job actors (start job)).cpus c ≡ cpu_fed job c (cpu_takes job c actors (start job)) }
+{}
+
+/// Between two commands a whole site at which no user is sited has the nop's bytes. So whatever
+/// `Machine::site` gives for a function of a module that isn't loaded is a nop between two lines.
+pub fn sites_of_nobody_are_nops()
+    ensures { (job : PlainJob) (past : List Item) (f : ℕ) (bytes : List ℕ) → IsWholeSite job past f bytes
+        → begun past ≡ done past → sited (desk job (done past)) f ≡ [] → bytes ≡ bytes_of f Nop }
 {}
