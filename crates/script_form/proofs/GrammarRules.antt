@@ -9,9 +9,9 @@ use Rattle.script_text.specs.Lines.{Word}
 use Rattle.script_text.specs.Words.{all_read}
 use Rattle.script_text.specs.Names.{is_name, name_of, number_of}
 use Rattle.ft_schedule.specs.Items.{some_items_of}
-use Rattle.script_form.specs.Forms.{LineForm, skip, version, func, depth, tramps, new_cpu, new_task, new_lane, call, ret, raise, lower, after, register, unregister, write, pids, enable, disable, max_depth, until, sched, only_name, only_number, alone, version_form, func_form, cpu_form, task_form, arrow_of, write_form, until_form, ctl_form}
+use Rattle.script_form.specs.Forms.{LineForm, skip, version, func, depth, tramps, absent, new_cpu, new_task, new_lane, call, ret, raise, lower, after, register, unregister, write, pids, enable, disable, max_depth, until, load, unload, sched, only_name, only_number, alone, version_form, func_form, cpu_form, task_form, arrow_of, write_form, until_form, ctl_form}
 use Rattle.script_form.specs.Lines.{act_form, keyed_form, form_of}
-use Rattle.script_form.specs.Grammar.{half_word, HasForm, nothing, first_version, second_version, a_function, a_module_function, a_depth, some_tramps, a_cpu, a_task, a_lane, a_call, a_ret, a_softirq, an_irq, an_nmi, an_iret, an_after, a_register, an_unregister, a_write, an_append, a_clear, only_pids, other_pids, an_enable, a_disable, a_max_depth, an_until, a_schedule}
+use Rattle.script_form.specs.Grammar.{half_word, HasForm, nothing, first_version, second_version, a_function, a_module_function, a_depth, some_tramps, an_absent, a_cpu, a_task, a_lane, a_call, a_ret, a_softirq, an_irq, an_nmi, an_iret, an_after, a_register, an_unregister, a_write, an_append, a_clear, only_pids, other_pids, an_enable, a_disable, a_max_depth, an_until, a_load, an_unload, a_schedule}
 use Rattle.script_text.proofs.KeyLemmas.{is_key, at_key, named}
 use Rattle.script_text.proofs.WordLemmas.{made_of_one, made_of_both}
 use Rattle.script_form.proofs.UserRules.{user-rule}
@@ -127,7 +127,9 @@ module _ (form : LineForm) where
       (at_key (Some form) (λ ws. HasForm (codes "ctl" ∷ ws) form) key (codes "disable") args (only_names (λ ws f. HasForm (codes "ctl" ∷ codes "disable" ∷ ws) f) disable a_disable args)
       (at_key (Some form) (λ ws. HasForm (codes "ctl" ∷ ws) form) key (codes "maxdepth") args (only_numbers (λ ws f. HasForm (codes "ctl" ∷ codes "maxdepth" ∷ ws) f) max_depth a_max_depth args)
       (at_key (Some form) (λ ws. HasForm (codes "ctl" ∷ ws) form) key (codes "until") args (until-rule args)
-      (λ none. absurd (cc))))))))))) e
+      (at_key (Some form) (λ ws. HasForm (codes "ctl" ∷ ws) form) key (codes "load") args (only_names (λ ws f. HasForm (codes "ctl" ∷ codes "load" ∷ ws) f) load a_load args)
+      (at_key (Some form) (λ ws. HasForm (codes "ctl" ∷ ws) form) key (codes "unload") args (only_names (λ ws f. HasForm (codes "ctl" ∷ codes "unload" ∷ ws) f) unload an_unload args)
+      (λ none. absurd (cc))))))))))))) e
 
   -- ---- acts, and all lines
 
@@ -150,11 +152,12 @@ module _ (form : LineForm) where
       (at_key (Some form) (λ ws. HasForm ws form) key (codes "func") args (func-rule args)
       (at_key (Some form) (λ ws. HasForm ws form) key (codes "depth") args (only_numbers (λ ws f. HasForm (codes "depth" ∷ ws) f) depth a_depth args)
       (at_key (Some form) (λ ws. HasForm ws form) key (codes "tramps") args (only_numbers (λ ws f. HasForm (codes "tramps" ∷ ws) f) tramps some_tramps args)
+      (at_key (Some form) (λ ws. HasForm ws form) key (codes "absent") args (only_names (λ ws f. HasForm (codes "absent" ∷ ws) f) absent an_absent args)
       (at_key (Some form) (λ ws. HasForm ws form) key (codes "user") args (user-rule form args)
       (at_key (Some form) (λ ws. HasForm ws form) key (codes "cpu") args (cpu-rule args)
       (at_key (Some form) (λ ws. HasForm ws form) key (codes "task") args (task-rule args)
       (at_key (Some form) (λ ws. HasForm ws form) key (codes "lane") args (only_numbers (λ ws f. HasForm (codes "lane" ∷ ws) f) new_lane a_lane args)
-      (act-rule key args)))))))))) e
+      (act-rule key args))))))))))) e
 
   pub form_of-rule : (words : List Word) → form_of words ≡ Some form → HasForm words form
   form_of-rule [] e = let same : skip ≡ form = cc in subst (HasForm []) same nothing

@@ -32,6 +32,7 @@ pub data LineForm : Type 0 where
   func : (name : Word) → (owner : Option Word) → LineForm
   depth : (frames : ℕ) → LineForm
   tramps : (slots : ℕ) → LineForm
+  absent : (owner : Word) → LineForm
   user : (line : UserLine) → LineForm
   new_cpu : (cpu : ℕ) → (quantum : ℕ) → LineForm
   new_task : (pid : ℕ) → (cpu : ℕ) → LineForm
@@ -49,6 +50,8 @@ pub data LineForm : Type 0 where
   disable : (name : Word) → LineForm
   max_depth : (n : ℕ) → LineForm
   until : (pid : ℕ) → (acts : ℕ) → LineForm
+  load : (owner : Word) → LineForm
+  unload : (owner : Word) → LineForm
   sched : (items : List SchedItem) → LineForm
 
 -- ---- arguments
@@ -112,7 +115,7 @@ abbrev pub until_form : List Word → Option LineForm
 until_form (pid ∷ acts ∷ []) = both until (number_of pid) (number_of acts)
 until_form _ = None
 
--- commands without a list, and the wait
+-- commands without a list, the wait, and what loads and unloads a module
 abbrev pub command_form : Word → List Word → Option LineForm
 command_form key args =
     if bytes_eq key (codes "register") then option_map register (only_name args)
@@ -123,16 +126,18 @@ command_form key args =
     else (if bytes_eq key (codes "disable") then option_map disable (only_name args)
     else (if bytes_eq key (codes "maxdepth") then option_map max_depth (only_number args)
     else (if bytes_eq key (codes "until") then until_form args
-    else None)))))))
+    else (if bytes_eq key (codes "load") then option_map load (only_name args)
+    else (if bytes_eq key (codes "unload") then option_map unload (only_name args)
+    else None)))))))))
 
--- a command or the wait, whose key this is
+-- a line of control, whose key this is
 abbrev pub control_form : Word → List Word → Option LineForm
 control_form key args =
     if bytes_eq key (codes "pid") then pids_form false args
     else (if bytes_eq key (codes "nopid") then pids_form true args
     else command_form key args)
 
--- `ctl` and a command, or the wait
+-- `ctl`, and what control does
 abbrev pub ctl_form : List Word → Option LineForm
 ctl_form [] = None
 ctl_form (key ∷ args) = control_form key args

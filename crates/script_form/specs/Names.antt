@@ -2,7 +2,7 @@
 use Rattle.std.specs.Prelude.{◌≡◌, Bool, true, Option, Some, None}
 use Rattle.script_text.specs.Lines.{Word}
 use Rattle.script_text.specs.Names.{is_name}
-use Rattle.script_form.specs.Forms.{UserAct, calls, irqs, LineForm, func, user, call, register, unregister, write, enable, disable}
+use Rattle.script_form.specs.Forms.{UserAct, calls, irqs, LineForm, func, absent, user, call, register, unregister, write, enable, disable, load, unload}
 
 -- a name, if there is one
 abbrev pub is_name_or_none : Option Word → Bool
@@ -18,6 +18,7 @@ is_act (Some (irqs function)) = is_name function
 -- what the line holds as a name is one, but for its length
 abbrev pub IsWellNamed : LineForm → Type 0
 IsWellNamed (func name owner) = (is_name name ≡ true) × (is_name_or_none owner ≡ true)
+IsWellNamed (absent owner) = is_name owner ≡ true
 IsWellNamed (user u) = (is_name u.name ≡ true) × (is_name_or_none u.ipmodify ≡ true) × (is_act u.act ≡ true)
 IsWellNamed (call function) = is_name function ≡ true
 IsWellNamed (register name) = is_name name ≡ true
@@ -25,4 +26,6 @@ IsWellNamed (unregister name) = is_name name ≡ true
 IsWellNamed (write half append name text) = is_name name ≡ true
 IsWellNamed (enable name) = is_name name ≡ true
 IsWellNamed (disable name) = is_name name ≡ true
+IsWellNamed (load owner) = is_name owner ≡ true
+IsWellNamed (unload owner) = is_name owner ≡ true
 IsWellNamed _ = Unit {0}

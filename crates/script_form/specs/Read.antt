@@ -5,8 +5,8 @@ use Rattle.script_form.specs.declared.form.UserAct.{UserAct as ActRead}
 use Rattle.script_form.specs.declared.form.UserAct.TheVariants.{Call as CallRead, Irq as IrqRead}
 use Rattle.script_form.specs.declared.form.UserLine.{UserLine as UserRead}
 use Rattle.script_form.specs.declared.form.LineForm.{LineForm as FormRead}
-use Rattle.script_form.specs.declared.form.LineForm.TheVariants.{Skip, Version, Func, Depth, Tramps, User, NewCpu, NewTask, NewLane, Call, Ret, Raise, Lower, After, Register, Unregister, Write, Pids, Enable, Disable, MaxDepth, Until, Sched}
-use Rattle.script_form.specs.Forms.{UserAct, calls, irqs, UserLine, LineForm, skip, version, func, depth, tramps, user, new_cpu, new_task, new_lane, call, ret, raise, lower, after, register, unregister, write, pids, enable, disable, max_depth, until, sched}
+use Rattle.script_form.specs.declared.form.LineForm.TheVariants.{Skip, Version, Func, Depth, Tramps, Absent, User, NewCpu, NewTask, NewLane, Call, Ret, Raise, Lower, After, Register, Unregister, Write, Pids, Enable, Disable, MaxDepth, Until, Load, Unload, Sched}
+use Rattle.script_form.specs.Forms.{UserAct, calls, irqs, UserLine, LineForm, skip, version, func, depth, tramps, absent, user, new_cpu, new_task, new_lane, call, ret, raise, lower, after, register, unregister, write, pids, enable, disable, max_depth, until, load, unload, sched}
 
 -- what a user does at its entry callbacks
 abbrev pub act_read : ActRead → UserAct
@@ -31,6 +31,7 @@ form_read (Version number) = version number
 form_read (Func name owner) = func name.now (option_copied owner)
 form_read (Depth frames) = depth frames
 form_read (Tramps slots) = tramps slots
+form_read (Absent owner) = absent owner.now
 form_read (User line) = user (user_read line)
 form_read (NewCpu cpu quantum) = new_cpu cpu quantum
 form_read (NewTask pid cpu) = new_task pid cpu
@@ -48,4 +49,6 @@ form_read (Enable name) = enable name.now
 form_read (Disable name) = disable name.now
 form_read (MaxDepth frames) = max_depth frames
 form_read (Until pid acts) = until pid acts
+form_read (Load owner) = load owner.now
+form_read (Unload owner) = unload owner.now
 form_read (Sched items) = sched items.items

@@ -76,7 +76,7 @@ fn read_until<'a>(args: &[&'a str]) -> Option<LineForm<'a>>
     }
 }
 
-/// A command without a list, or the wait.
+/// A command without a list, the wait, or what loads or unloads a module.
 fn read_command<'a>(key: &str, args: &[&'a str]) -> Option<LineForm<'a>>
     ensures { option_map form_read result ≡ command_form key.now (map (λ w. w.now) args.now) }
 {
@@ -99,6 +99,12 @@ fn read_command<'a>(key: &str, args: &[&'a str]) -> Option<LineForm<'a>>
             depth: only_number(args)?,
         }),
         "until" => read_until(args),
+        "load" => Some(LineForm::Load {
+            owner: only_name(args)?,
+        }),
+        "unload" => Some(LineForm::Unload {
+            owner: only_name(args)?,
+        }),
         _ => None,
     }
 }
@@ -117,7 +123,7 @@ fn read_pids<'a>(
     }
 }
 
-/// A command or the wait, whose key this is.
+/// A line of control, whose key this is.
 fn read_control<'a>(
     alloc: Global,
     key: &str,
@@ -132,7 +138,7 @@ fn read_control<'a>(
     }
 }
 
-/// `ctl` and a command, or the wait.
+/// `ctl`, and what control does.
 pub fn read_ctl<'a>(alloc: Global, args: &[&'a str]) -> Result<Option<LineForm<'a>>, AllocError>
     ensures { IfOk result (λ r. option_map form_read r ≡ ctl_form (map (λ w. w.now) args.now)) }
 {

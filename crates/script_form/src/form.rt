@@ -49,6 +49,10 @@ pub enum LineForm<'a> {
     Tramps {
         slots: u64,
     },
+    /// The module of this name isn't loaded at first.
+    Absent {
+        owner: &'a str,
+    },
     /// There is a user.
     User(UserLine<'a>),
     /// There is a CPU, of this number, whose tasks run for this many steps at a time.
@@ -122,6 +126,15 @@ pub enum LineForm<'a> {
     Until {
         pid: u64,
         acts: u64,
+    },
+    /// The module of this name is loaded, as by `insmod` (`kernel/trace/ftrace.c`, `ftrace_module_enable`).
+    Load {
+        owner: &'a str,
+    },
+    /// The module of this name is unloaded, as by `rmmod` (`kernel/trace/ftrace.c`,
+    /// `ftrace_release_mod`).
+    Unload {
+        owner: &'a str,
     },
     /// The next items of the schedule, of which there are one or more.
     Sched {

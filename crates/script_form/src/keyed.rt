@@ -6,7 +6,7 @@ ghost use Rattle.script_form.specs.Lines.{unlisted_form, keyed_form};
 ghost use Rattle.script_form.specs.Read.{form_read};
 
 use crate::acts::read_act;
-use crate::arguments::only_number;
+use crate::arguments::{only_name, only_number};
 use crate::control::read_ctl;
 use crate::declarations::{read_cpu, read_func, read_task, read_version};
 use crate::form::LineForm;
@@ -39,6 +39,9 @@ fn read_unlisted<'a>(key: &str, args: &[&'a str]) -> Option<LineForm<'a>>
         }),
         "tramps" => Some(LineForm::Tramps {
             slots: only_number(args)?,
+        }),
+        "absent" => Some(LineForm::Absent {
+            owner: only_name(args)?,
         }),
         "user" => read_user(args),
         "cpu" => read_cpu(args),
