@@ -32,6 +32,9 @@ pub enum Form {
     /// the call site calls. The kernel prints the like into the file `enabled_functions`
     /// (ftrace.rst, The File System).
     Enabled,
+    /// The lines that load and unload modules, each with its answer and the numbers of the commands
+    /// that carry it out. The lines are this project's own: no tool prints the like.
+    Modules,
 }
 
 /// What the program is to do.
@@ -69,6 +72,7 @@ fn form_of(name: &str) -> Option<Form>
         "graph" => Some(Form::Graph),
         "profile" => Some(Form::Profile),
         "enabled" => Some(Form::Enabled),
+        "modules" => Some(Form::Modules),
         _ => None,
     }
 }

@@ -6,3 +6,4 @@ pub mod LogReads
 pub mod LogTells
 pub mod InColumns
 pub mod GraphFronts
+pub mod ModuleLines

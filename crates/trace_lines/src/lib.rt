@@ -15,6 +15,7 @@ mod grown;
 pub mod laws;
 mod lines;
 mod log;
+mod modules;
 mod profile;
 
 pub use columns::last_line;

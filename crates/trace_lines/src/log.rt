@@ -73,7 +73,12 @@ pub(crate) fn ran_parts<'a, N: Named>(names: &'a N, ran: Ran) -> (&'static str, 
 }
 
 /// Puts the answer of a command.
-fn put_answer<K: Sink, N: Named>(pieces: &mut Pieces, sink: &mut K, names: &N, answer: Answer)
+pub(crate) fn put_answer<K: Sink, N: Named>(
+    pieces: &mut Pieces,
+    sink: &mut K,
+    names: &N,
+    answer: Answer,
+)
     ensures { Puts K.holds K.faults (joined (answer_words (N.job names.now) answer))
         sink.old pieces.old sink.new pieces.new }
 {

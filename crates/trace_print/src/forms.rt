@@ -1,6 +1,6 @@
 //! The text of a history in each form.
 
-ghost use Rattle.std.specs.Prelude.{◌≡◌, ◌≤◌, ◌++◌, Bool, Err, reverse, IfOk, OnOk};
+ghost use Rattle.std.specs.Prelude.{◌≡◌, ◌≤◌, ◌++◌, Bool, Err, map, reverse, IfOk, OnOk};
 ghost use Rattle.std.specs.Io.KnownBytes.{Appends};
 ghost use Rattle.ft_base.specs.Desk.{desk};
 ghost use Rattle.ft_base.specs.Job.{funcs};
@@ -11,20 +11,22 @@ ghost use Rattle.ft_io.specs.Pieces.{Puts};
 ghost use Rattle.trace_views.specs.LogText.{log_text};
 ghost use Rattle.trace_print.specs.Texts.{body_of, text_of};
 ghost use Rattle.trace_views.specs.EnabledText.{enabled_line_text, enabled_lines};
+ghost use Rattle.ft_machine.specs.Plans.{row_of};
+ghost use Rattle.trace_views.specs.ModulesText.{row_of_line};
 ghost use Rattle.trace_views.specs.Words.{last_line, lines_text};
 
 use crate::names::Names;
 use ft_base::NoMemory;
 use ft_hist::History;
 use ft_io::{Pieces, Sink};
-use ft_machine::Job;
+use ft_machine::{Job, ModRow};
 use ft_words::Form;
 use std::alloc::Global;
 use thiserror::Error;
 use trace_lines::{GrownText, last_line, put_lines, put_log};
 use trace_views::{
-    EnabledLine, FunctionLine, GraphLine, ProfileLine, enabled_lines, function_lines, graph_lines,
-    profile_lines, returned,
+    EnabledLine, FunctionLine, GraphLine, ModuleLine, ProfileLine, enabled_lines, function_lines,
+    graph_lines, profile_lines, returned,
 };
 
 /// Why a text was not written whole.
@@ -47,6 +49,7 @@ enum Lines {
     Graph(Vec<GraphLine>),
     Profile(Vec<ProfileLine>),
     Enabled(Vec<EnabledLine>),
+    Modules(Vec<ModuleLine>),
 }
 
 /// Works out the lines of the form enabled.
@@ -62,6 +65,30 @@ fn lines_of_desk(
     enabled_lines(alloc, names, &desk)
 }
 
+/// A line of the form modules.
+fn module_line(row: &ModRow) -> ModuleLine
+    ensures { row_of_line result ≡ row_of row.now }
+{
+    ModuleLine {
+        load: row.load,
+        module: row.module,
+        answer: row.answer,
+        first: row.first,
+        last: row.last,
+    }
+}
+
+/// Works out the lines of the form modules.
+fn lines_of_modules(alloc: Global, names: &Names) -> Result<Vec<ModuleLine>, NoMemory>
+    ensures { IfOk result (λ lines. map row_of_line lines.items ≡ names.now.lines.modules) }
+{
+    let rows = names.job().modules();
+    rows.iter()
+        .map(|row| module_line(row))
+        .collect(alloc)
+        .map_err(|_| NoMemory)
+}
+
 /// Works out the lines of a form.
 fn lines_of(alloc: Global, names: &Names, history: &History, form: Form) -> Result<Lines, NoMemory>
     requires { IsLegal names.now history.now.items }
@@ -74,6 +101,7 @@ fn lines_of(alloc: Global, names: &Names, history: &History, form: Form) -> Resu
         Form::Graph => Ok(Lines::Graph(graph_lines(alloc, names, history)?)),
         Form::Profile => Ok(Lines::Profile(profile_lines(alloc, names, history)?)),
         Form::Enabled => Ok(Lines::Enabled(lines_of_desk(alloc, names, history)?)),
+        Form::Modules => Ok(Lines::Modules(lines_of_modules(alloc, names)?)),
     }
 }
 
@@ -94,6 +122,7 @@ fn put_body<K: Sink>(
         Lines::Graph(lines) => put_lines(pieces, sink, names, lines.as_slice()),
         Lines::Profile(lines) => put_lines(pieces, sink, names, lines.as_slice()),
         Lines::Enabled(lines) => put_lines(pieces, sink, names, lines.as_slice()),
+        Lines::Modules(lines) => put_lines(pieces, sink, names, lines.as_slice()),
     }
 }
 

@@ -8,6 +8,7 @@
 //! | graph | the function graph tracer (`ftrace.rst`, "function graph tracer") | for each graph user, one an entry callback and one an exit callback; one for both if nothing is between |
 //! | profile | `trace_stat` (`ftrace.rst`, `function_profile_enabled`), an fprobe's `nmissed` | for each profile user one a function; one an fprobe |
 //! | enabled | `enabled_functions` (`ftrace.rst`, "The File System") | one a function that some users trace |
+//! | modules | | one a line that loads or unloads a module |
 //!
 //! Promised: [`print`] gives, for each legal history of a job, exactly the text of its form, as the
 //! specs define it; [`write_text`] writes it to a sink in pieces, or a beginning of it if the sink

@@ -1,24 +1,27 @@
-//! A job's names, and the pid and the CPU of each task, found by number in constant time.
+//! A job's names, those of its modules among them, and the pid and the CPU of each task, found by number in constant time.
 
 ghost use Rattle.std.specs.Prelude.{◌≡◌, IfOk};
 ghost use Rattle.trace_print.specs.TaskNames.{name_at};
 
 use ft_base::{FuncNo, Kind, NoMemory, TaskNo, UserNo};
 use ft_machine::Job;
+use module_table::ModuleNames;
 use std::alloc::Global;
 use std::marker::Model;
 use trace_views::{Named, TaskName};
 
-/// The names of a job's functions and users, and its tasks by number. Contracts see the job. A job
+/// The names of a job's functions, modules and users, and its tasks by number. Contracts see the job. A job
 /// keeps each task at its CPU, so that one would have to be looked for at each line.
 #[derive(Drop)]
 pub(crate) struct Names<'a> {
     job: &'a Job,
+    modules: ModuleNames,
     tasks: Vec<TaskName>,
 }
 
 impl<'a> Model for Names<'a> {
     ghost use Rattle.ft_base.specs.Job.{Job as PlainJob};
+    ghost use Rattle.module_table.specs.Modules.{modules_in};
     ghost use Rattle.trace_print.specs.TaskNames.{names_of};
     ghost use Rattle.std.specs.Prelude.{◌≡◌};
 
@@ -26,7 +29,7 @@ impl<'a> Model for Names<'a> {
 
     ghost view = { λ n. n.job.now };
 
-    ghost invariant = { λ n. n.tasks.items ≡ names_of n.job.now };
+    ghost invariant = { λ n. (n.modules ≡ modules_in n.job.now.functions) × (n.tasks.items ≡ names_of n.job.now) };
 }
 
 impl<'a> Names<'a> {
@@ -34,11 +37,16 @@ impl<'a> Names<'a> {
     pub(crate) fn new(alloc: Global, job: &'a Job) -> Result<Names<'a>, NoMemory>
         ensures { IfOk result (λ names. names ≡ job.entry.now) }
     {
+        let modules = ModuleNames::new(alloc, job.table())?;
         let mut tasks = Vec::with_capacity(alloc, job.tasks() as usize).map_err(|_| NoMemory)?;
         for t in 0..job.tasks() {
             tasks.push_reserved(task_name(job, TaskNo(t)));
         }
-        Ok(Names { job, tasks })
+        Ok(Names {
+            job,
+            modules,
+            tasks,
+        })
     }
 
     /// The job.
@@ -56,6 +64,14 @@ impl<'a> Named for Names<'a> {
         let table = self.job.table();
         if function.0 < table.len() {
             table.name(function)
+        } else {
+            ""
+        }
+    }
+
+    fn module(&self, number: u32) -> &str {
+        if number < self.modules.len() {
+            self.modules.name(number)
         } else {
             ""
         }

@@ -1,5 +1,5 @@
 -- The texts of lines, one after the other.
-use Rattle.std.proofs.Common.{◌≡◌, ℕ, ◌+◌, ◌<◌, ◌≤◌, List, [], ◌∷◌, ◌++◌, length, drop, get_or, refl, sym, ap, ◌∙◌, append_assoc, append-nil}
+use Rattle.std.proofs.Common.{◌≡◌, ℕ, ◌+◌, ◌<◌, ◌≤◌, List, [], ◌∷◌, ◌++◌, length, map, drop, get_or, refl, sym, ap, ◌∙◌, append_assoc, append-nil}
 use Rattle.std.proofs.lemmas.List.{drop_all, drop_more}
 use Rattle.trace_views.specs.Words.{lines_text}
 
@@ -25,3 +25,8 @@ module _ {L : Type 0} (text : L → List ℕ) where
     -- all lines
     pub lines-all : length lines ≤ i → t ++ lines_text text (drop i lines) ≡ all → t ≡ all
     lines-all past so_far = let a : t ++ [] ≡ all = rw (drop_all i lines past) at so_far in sym (append-nil t) ∙ a
+
+-- the texts of lines by what each is read as
+pub lines-read : {L M : Type 0} (text : M → List ℕ) (read : L → M) (lines : List L) → lines_text (λ line. text (read line)) lines ≡ lines_text text (map read lines)
+lines-read text read [] = refl
+lines-read text read (line ∷ lines) = ap (λ (t : List ℕ). text (read line) ++ t) (lines-read text read lines)

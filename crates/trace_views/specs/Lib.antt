@@ -11,6 +11,7 @@ pub mod GraphText
 pub mod FunctionText
 pub mod ProfileText
 pub mod EnabledText
+pub mod ModulesText
 pub mod ItemCounts
 pub mod Counted
 pub mod Returned

@@ -8,6 +8,7 @@
 //! | graph | the function graph tracer (`ftrace.rst`, "function graph tracer") | for each graph user, one an entry callback and one an exit callback; one for both if nothing is between |
 //! | profile | `trace_stat` (`ftrace.rst`, `function_profile_enabled`), an fprobe's `nmissed` | for each profile user one a function; one an fprobe |
 //! | enabled | `enabled_functions` (`ftrace.rst`, "The File System") | one a function that some users trace |
+//! | modules | | one a line that loads or unloads a module |
 //!
 //! Promised: [`function_lines`], [`graph_lines`] and [`profile_lines`] give, for each legal history of a
 //! job, and [`enabled_lines`] for the desk that it leaves, lines whose texts are exactly those of the
@@ -21,6 +22,7 @@ mod function;
 mod graph;
 mod graph_line;
 mod leaves;
+mod modules;
 mod named;
 mod profile;
 mod stacks;
@@ -30,5 +32,6 @@ pub use enabled::{EnabledLine, enabled_lines, returned};
 pub use function::{FunctionLine, function_lines};
 pub use graph::graph_lines;
 pub use graph_line::{GraphLine, Shown};
+pub use modules::ModuleLine;
 pub use named::{Named, TaskName};
 pub use profile::{ProfileLine, profile_lines};

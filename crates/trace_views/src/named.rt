@@ -18,6 +18,7 @@ pub trait Named {
     ghost use Rattle.ft_base.specs.Desk.{spec_at};
     ghost use Rattle.ft_base.specs.Job.{Job, funcs};
     ghost use Rattle.ft_base.specs.WellFormed.{IsWellFormed};
+    ghost use Rattle.trace_views.specs.ModulesText.{module_word};
     ghost use Rattle.trace_views.specs.Words.{function_word, user_word, pid_at, cpu_at, lane_at};
 
     /// The job.
@@ -26,6 +27,10 @@ pub trait Named {
     /// The name of a function. Empty if the job doesn't have the number.
     fn function(&self, function: FuncNo) -> &str
         ensures { result.now ≡ function_word (job self.now) function.0 };
+
+    /// The name of a module. Empty if the job doesn't have the number.
+    fn module(&self, number: u32) -> &str
+        ensures { result.now ≡ module_word (job self.now) number };
 
     /// The name of a user. Empty if the job doesn't have the number.
     fn user(&self, user: UserNo) -> &str

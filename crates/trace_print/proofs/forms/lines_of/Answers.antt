@@ -1,10 +1,13 @@
 use Rattle.std.proofs.Common.{List, ℕ, ◌++◌, ap, refl, ◌∙◌, append_assoc}
-use Rattle.trace_views.specs.Words.{last_line, user_texts}
+use Rattle.ft_base.specs.Job.{ModuleRow}
+use Rattle.trace_views.specs.Words.{last_line, user_texts, lines_text}
 use Rattle.trace_views.specs.LogText.{log_text}
 use Rattle.trace_views.specs.FunctionText.{function_text}
 use Rattle.trace_views.specs.GraphText.{graph_text}
 use Rattle.trace_views.specs.ProfileText.{profile_text, user_profile, fprobe_line}
 use Rattle.trace_views.specs.EnabledText.{enabled_text}
+use Rattle.trace_views.specs.ModulesText.{row_of_line, module_line, modules_text}
+use Rattle.trace_views.proofs.LineTexts.{lines-read}
 use Rattle.trace_print.proofs.forms.lines_of.Goals as goal
 
 pub returns-in-Log : goal.returns-in-Log
@@ -31,3 +34,10 @@ pub returns-in_ok-lines_of_desk-in-Enabled : goal.returns-in_ok-lines_of_desk-in
 unfolding enabled_text
 returns-in_ok-lines_of_desk-in-Enabled c =
     rw c.in-Enabled.is (λ ended. ap (λ (t : List ℕ). t ++ last_line ended) c.in_ok-lines_of_desk-in-Enabled.ensures)
+
+pub returns-in_ok-lines_of_modules-in-Modules : goal.returns-in_ok-lines_of_modules-in-Modules
+unfolding modules_text
+returns-in_ok-lines_of_modules-in-Modules c =
+    rw c.in-Modules.is (λ ended. ap (λ (t : List ℕ). t ++ last_line ended)
+    (lines-read (module_line c.args.names.now) row_of_line _
+    ∙ ap (λ (rows : List ModuleRow). lines_text (module_line c.args.names.now) rows) c.in_ok-lines_of_modules-in-Modules.ensures))

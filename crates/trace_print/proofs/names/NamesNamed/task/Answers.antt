@@ -9,14 +9,14 @@ use Rattle.trace_print.proofs.names.NamesNamed.task.Goals as goal
 
 there : (c : goal.After-result-1) → c.in-Some.name.now ≡ name_at c.args.self.now c.args.task.0
 there c =
-    let kept = c.deref.ensures.value ∙ c.self.invariant ∙ ap names_of c.self.view_is in
+    let kept = c.deref.ensures.value ∙ c.self.invariant.1 ∙ ap names_of c.self.view_is in
     let found = c.in-Some.ensures.lookup in
     let here = slice_get_read c.deref.result.now (length c.deref.result.now) c.args.task.0 c.in-Some.name.now refl found.3.0 found.1 in
     name-there c.args.self.now c.args.task.0 c.in-Some.name.now (subst (λ xs. slice_get xs c.args.task.0 ≡ Some c.in-Some.name.now) kept here)
 
 none : (c : goal.In-None) → (0 ≡ pid_at c.args.self.now c.args.task.0) × (0 ≡ cpu_at c.args.self.now c.args.task.0)
 none c =
-    let kept = c.deref.ensures.value ∙ c.self.invariant ∙ ap names_of c.self.view_is in
+    let kept = c.deref.ensures.value ∙ c.self.invariant.1 ∙ ap names_of c.self.view_is in
     no-name c.args.self.now c.args.task.0 (subst (λ xs. length xs ≤ c.args.task.0) kept c.in-None.ensures.lookup.3)
 
 pub returns-in-Some-clause-pid : goal.returns-in-Some-clause-pid
