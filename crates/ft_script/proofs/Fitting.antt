@@ -16,7 +16,7 @@ use Rattle.ft_base.specs.declared.user.Act.TheVariants.{CallIn, IrqIn}
 use Rattle.ft_base.specs.declared.user.Half.{Half}
 use Rattle.ft_base.specs.declared.user.Half.TheVariants.{Filter as OfFilter, Notrace as OfNotrace}
 use Rattle.ft_base.specs.Marks.{Marks, empty}
-use Rattle.ft_base.specs.Job.{Func, Spec, Edit, Run, Until, Command, Register, Unregister, Enable, Disable}
+use Rattle.ft_base.specs.Job.{Func, Spec, Edit, Command, Register, Unregister, Enable, Disable}
 use Rattle.ft_base.specs.Versions.{limits_of, IsVersion}
 use Rattle.ft_base.specs.WellFormed.{IsActIn}
 use Rattle.site_set.proofs.MarksLemmas.{length-empty}
@@ -25,20 +25,24 @@ use Rattle.filter_commands.specs.Causes.{first_cause}
 use Rattle.filter_commands.specs.Edits.{selected_by, edit_of}
 use Rattle.ft_schedule.specs.Causes.{has_bad_count, steps_of, is_past_limit as is_past_sched_limit, has_unknown}
 use Rattle.user_specs.specs.Bound.{call_bound_of}
+use Rattle.ft_machine.specs.Plans.{IsModule}
+use Rattle.module_table.specs.Modules.{modules_in}
+use Rattle.module_table.specs.Lines.{Line as ModuleLine, Plain, Load, Unload}
 use Rattle.script_text.specs.Lines.{Word, Line}
-use Rattle.script_form.specs.Forms.{LineForm, skip, version, func, depth, tramps, user, new_cpu, new_task, new_lane, call, ret, raise, lower, after, register, unregister, write, pids, enable, disable, max_depth, until, sched}
+use Rattle.script_form.specs.Forms.{LineForm, skip, version, func, depth, tramps, absent, user, new_cpu, new_task, new_lane, call, ret, raise, lower, after, register, unregister, write, pids, enable, disable, max_depth, until, load, unload, sched}
 use Rattle.script_form.specs.Forms.{UserLine, UserAct, calls, irqs}
 use Rattle.script_form.specs.Lines.{line_form}
 use Rattle.script_waits.specs.Tasks.{LinedTask}
 use Rattle.ft_script.specs.declared.faults.Cause.{Cause}
 use Rattle.ft_script.specs.declared.faults.Cause.TheVariants.{Unknown, Pattern, Limit, Syntax, Version}
 use Rattle.ft_script.specs.Levels.{open_calls}
-use Rattle.ft_script.specs.Above.{Above, Declaration, a_version, a_user, a_task, an_act, a_ctl, Resolved}
-use Rattle.ft_script.specs.Causes.{rank_of, is_misplaced, has_ctl_in_no_lane, is_out_of_place, is_past_limit, is_duplicate, is_full_of_acts, is_full_of_calls, is_full_of_commands, has_no_room, is_long, is_long_or_none, is_last_by, function_names, user_names, pids_of, known, made, function_at, function_in, function_or_none, user_in, task_in, cpu_in, act_in, spec_with, spec_in, write_to, write_with, edit_in, marks_of, has_no_pid, pid_command, pids_in, a_command, named, is_unbalanced, resolved, first_line, next_line, resolved_line}
+use Rattle.ft_script.specs.Above.{Above, Run, Until, Declaration, a_version, an_absence, a_user, a_task, an_act, a_ctl, Resolved}
+use Rattle.ft_script.specs.Expansion.{command_count}
+use Rattle.ft_script.specs.Causes.{rank_of, is_misplaced, has_ctl_in_no_lane, is_out_of_place, is_past_limit, is_absent, is_duplicate, is_full_of_acts, is_full_of_calls, is_full_of_commands, has_no_room, is_long, is_long_or_none, is_last_by, function_names, user_names, pids_of, known, made, function_at, function_in, function_or_none, module_named, module_in, user_in, task_in, cpu_in, act_in, spec_with, spec_in, write_to, write_with, edit_in, marks_of, has_no_pid, pid_command, pids_in, a_command, named, is_unbalanced, resolved, first_line, next_line, resolved_line}
 use Rattle.ft_script.specs.Script.{or_nothing, said}
 use Rattle.ft_script.specs.Within.{IsInOrder}
 use Rattle.ft_script.specs.Holds.{IsLine}
-use Rattle.ft_script.specs.Fits.{IsNextCall, IsNextAct, FitsAs, IsRanked, Fits}
+use Rattle.ft_script.specs.Fits.{IsNextCall, IsNextAct, IsWhereItMay, FitsAs, IsRanked, Fits}
 use Rattle.ft_script.proofs.FormNames.{Named, form-named, version-is, name-short, owner-short}
 use Rattle.ft_script.proofs.NoCause.{no-cause, err-ok, ok-same}
 
@@ -48,9 +52,17 @@ use Rattle.ft_script.proofs.NoCause.{no-cause, err-ok, ok-same}
 rank-above : (above : Above) (form : LineForm) → is_misplaced above form ≡ false → above.rank ≤ rank_of form above.rank
 rank-above above form placed = ltb-false (rank_of form above.rank) above.rank (or-false_both _ (is_out_of_place above form) placed).0
 
+-- above a function there is no absent module
+no-absences : (above : Above) → IsInOrder above → (form : LineForm) → is_misplaced above form ≡ false → rank_of form above.rank < 2 → above.absent ≡ []
+no-absences above order form placed low = order.absent (let r = rank-above above form placed in omega (arith, r, low))
+
 -- above a line that comes before those of control there is none of them
 no-ctls : (above : Above) → IsInOrder above → (form : LineForm) → is_misplaced above form ≡ false → rank_of form above.rank < 6 → above.ctls ≡ []
 no-ctls above order form placed low = order.ctls (let r = rank-above above form placed in omega (arith, r, low))
+
+-- and no lane
+no-lanes : (above : Above) → IsInOrder above → (form : LineForm) → is_misplaced above form ≡ false → rank_of form above.rank < 6 → above.lane_count ≡ 0
+no-lanes above order form placed low = order.lanes (let r = rank-above above form placed in omega (arith, r, low))
 
 -- above a line that comes before those of tasks there is no call
 no-calls : (above : Above) → IsInOrder above → (form : LineForm) → is_misplaced above form ≡ false → rank_of form above.rank < 5 → above.calls ≡ 0
@@ -105,6 +117,16 @@ module _ (above : Above) where
           let b = (position-Some (bytes_eq name) (function_names above) i [] at).0 in
           let lt : i < size = omega (arith, n, b) in lt
 
+  module-there : (name : Word) (m : ℕ) → module_named above name ≡ Some m → IsModule above.functions m
+  module-there name m at = (position-Some (bytes_eq name) (modules_in above.functions) m [] at).0
+
+  module-known : (name : Word) → IfOk (module_in above name) (IsModule above.functions)
+  module-known name = by (module_named above name) refl
+    where
+      by : (o : Option ℕ) → module_named above name ≡ o → IfOk (known o) (IsModule above.functions)
+      by None at = tt
+      by (Some m) at = module-there name m at
+
   user-known : (name : Word) → IfOk (user_in above name) (λ u. u < users)
   user-known name = by (position (bytes_eq name) (user_names above)) refl
     where
@@ -138,12 +160,12 @@ module _ (above : Above) where
 
   -- ## lines of control
 
-  write-line : (half : Half) (u : ℕ) (edit : Edit) → u < users → length edit.set ≡ size → IsLine users size tasks (Run (write_to half u edit))
+  write-line : (half : Half) (u : ℕ) (edit : Edit) → u < users → length edit.set ≡ size → IsLine above (Run (Plain (write_to half u edit)))
   write-line OfFilter u edit lt e = (lt, e, tt)
   write-line OfNotrace u edit lt e = (lt, e, tt)
 
   write-known : (half : Half) (u : Result ℕ Cause) (edit : Result Edit Cause) → IfOk u (λ n. n < users) → IfOk edit (λ (e : Edit). length e.set ≡ size)
-      → IfOk (write_with half u edit) (λ (c : Command). IsLine users size tasks (Run c))
+      → IfOk (write_with half u edit) (λ (c : Command). IsLine above (Run (Plain c)))
   write-known half (Err cause) edit hu he = tt
   write-known half (Ok u) (Err cause) hu he = tt
   write-known half (Ok u) (Ok edit) hu he = write-line half u edit hu he
@@ -151,13 +173,13 @@ module _ (above : Above) where
   edit-known : (append : Bool) (text : Word) → IfOk (edit_in above append text) (λ (e : Edit). length e.set ≡ size)
   edit-known append text = of-if (λ (e : Edit). length e.set ≡ size) (is_some (first_cause size append text)) Pattern (Ok (edit_of above.functions append text)) (λ right. length-edit above.functions append text)
 
-  pid-line : (excluded : Bool) (marks : Marks) → IsLine users size tasks (Run (pid_command excluded marks))
+  pid-line : (excluded : Bool) (marks : Marks) → IsLine above (Run (Plain (pid_command excluded marks)))
   pid-line true marks = (tt, tt, tt)
   pid-line false marks = (tt, tt, tt)
 
-  pids-known : (excluded : Bool) (list : List ℕ) → IfOk (pids_in above excluded list) (λ (c : Command). IsLine users size tasks (Run c))
+  pids-known : (excluded : Bool) (list : List ℕ) → IfOk (pids_in above excluded list) (λ (c : Command). IsLine above (Run (Plain c)))
   pids-known excluded list =
-      of-if (λ (c : Command). IsLine users size tasks (Run c)) (list_any (has_no_pid above) list) Unknown (Ok (pid_command excluded (marks_of above list))) (λ there. pid-line excluded (marks_of above list))
+      of-if (λ (c : Command). IsLine above (Run (Plain c))) (list_any (has_no_pid above) list) Unknown (Ok (pid_command excluded (marks_of above list))) (λ there. pid-line excluded (marks_of above list))
 
 -- ## what a line of a form declares
 
@@ -178,10 +200,11 @@ says above (version number) = (tt, λ b. refl)
 says above (func name owner) = (tt, λ b. refl)
 says above (depth frames) = (tt, λ b. refl)
 says above (tramps slots) = (tt, λ b. refl)
+says above (absent owner) = of-all (Says above (absent owner)) an_absence (module_in above owner) (λ m. (omega arith, λ b. refl))
 says above (user u) = of-all (Says above (user u)) a_user (spec_in above u) (λ s. (tt, λ b. refl))
 says above (new_cpu cpu quantum) = (tt, λ b. refl)
 says above (new_task pid cpu) = of-all (Says above (new_task pid cpu)) (a_task pid) (cpu_in above cpu) (λ c. (tt, λ b. refl))
-says above (new_lane lane) = (tt, λ b. refl)
+says above (new_lane lane) = (omega arith, λ b. refl)
 says above (call name) = of-all (Says above (call name)) (λ f. an_act (Call f)) (function_in above name) (λ f. (omega arith, λ b. refl))
 says above ret = (omega arith, λ b. refl)
 says above (raise to) = (omega arith, λ b. refl)
@@ -196,6 +219,8 @@ says above (enable name) = of-all (Says above (enable name)) (λ u. a_command (E
 says above (disable name) = of-all (Says above (disable name)) (λ u. a_command (Disable u)) (user_in above name) (λ u. (omega arith, λ b. refl))
 says above (max_depth n) = (omega arith, λ b. refl)
 says above (until pid n) = of-all (Says above (until pid n)) (λ task. a_ctl (Until task n)) (task_in above pid) (λ t. (omega arith, λ b. refl))
+says above (load owner) = of-all (Says above (load owner)) (λ m. a_ctl (Run (Load m))) (module_in above owner) (λ m. (omega arith, λ b. refl))
+says above (unload owner) = of-all (Says above (unload owner)) (λ m. a_ctl (Run (Unload m))) (module_in above owner) (λ m. (omega arith, λ b. refl))
 says above (sched items) =
     of-if (Says above (sched items)) (is_past_sched_limit (length above.quanta) above.steps items) Limit _ (λ few.
     of-if (Says above (sched items)) (has_unknown (length above.quanta) items) Unknown _ (λ there. (tt, λ b. refl)))
@@ -207,6 +232,10 @@ room limit k e = leb-false limit k e
 has_one : {X : Type 0} (xs : List X) → (length xs == 0) ≡ false → 1 ≤ length xs
 has_one [] e = false_true (sym e)
 has_one (x ∷ xs) e = omega arith
+
+has_none : {X : Type 0} (xs : List X) → (length xs == 0) ≡ true → xs ≡ []
+has_none [] e = refl
+has_none (x ∷ xs) e = (let n = eqb-true (length (x ∷ xs)) 0 e in absurd (omega (arith, n)))
 
 module _ (above : Above) (order : IsInOrder above) where
   -- an act that isn't a call
@@ -220,21 +249,45 @@ module _ (above : Above) (order : IsInOrder above) where
   }
 
   -- one more command of a user
-  user-command : (command : ℕ → Command) (name : Word) → ((u : ℕ) → u < length above.users → IsLine (length above.users) (length above.functions) (length above.tasks) (Run (command u)))
+  user-command : (command : ℕ → Command) (name : Word) → ((u : ℕ) → u < length above.users → IsLine above (Run (Plain (command u))))
       → is_full_of_commands above ≡ false → IfOk (made (λ u. a_command (command u)) (user_in above name)) (FitsAs above)
   user-command command name there few = of-made (FitsAs above) (λ u. a_command (command u)) (user_in above name) (by (user_in above name) (user-known above name))
     where
       by : (r : Result ℕ Cause) → IfOk r (λ u. u < length above.users) → IfOk r (λ u. FitsAs above (a_command (command u)))
-      by (Ok u) lt = (there u lt, room COMMANDS above.commands few, tt)
+      by (Ok u) lt = (there u lt, room COMMANDS (command_count above) few, tt)
       by (Err cause) h = tt
 
   -- one more command that names what is there
-  known-command : (r : Result Command Cause) → IfOk r (λ c. IsLine (length above.users) (length above.functions) (length above.tasks) (Run c)) → is_full_of_commands above ≡ false
+  known-command : (r : Result Command Cause) → IfOk r (λ c. IsLine above (Run (Plain c))) → is_full_of_commands above ≡ false
       → IfOk (made a_command r) (FitsAs above)
-  known-command (Ok c) there few = (there, room COMMANDS above.commands few, tt)
+  known-command (Ok c) there few = (there, room COMMANDS (command_count above) few, tt)
   known-command (Err cause) there few = tt
 
-  -- a user, a call and a wait, if what they name is there
+  -- a load or an unload, if the module that it names is there and there are no lanes
+  module-line : (line : ℕ → ModuleLine) → ((m : ℕ) → IsModule above.functions m → IsLine above (Run (line m)) × IsWhereItMay above (Run (line m)))
+      → is_full_of_commands above ≡ false → (owner : Word) → IfOk (made (λ m. a_ctl (Run (line m))) (module_in above owner)) (FitsAs above)
+  module-line line fits few owner = of-made (FitsAs above) (λ m. a_ctl (Run (line m))) (module_in above owner) (by (module_in above owner) (module-known above owner))
+    where
+      by : (r : Result ℕ Cause) → IfOk r (IsModule above.functions) → IfOk r (λ m. FitsAs above (a_ctl (Run (line m))))
+      by (Ok m) there = (let f = fits m there in (f.0, room COMMANDS (command_count above) few, f.1))
+      by (Err cause) there = tt
+
+  no-lane : not (above.lane_count == 0) ≡ false → above.lane_count ≡ 0
+  no-lane e = eqb-true above.lane_count 0 (not-false (above.lane_count == 0) e)
+
+  -- an absent module, a user, a call and a wait, if what they name is there
+  absence-fits : (owner : Word) → is_misplaced above (absent owner) ≡ false → is_duplicate above (absent owner) ≡ false → IfOk (module_in above owner) (λ m. FitsAs above (an_absence m))
+  absence-fits owner placed new = by (module_named above owner) refl new
+    where
+      by : (o : Option ℕ) → module_named above owner ≡ o → is_absent above o ≡ false → IfOk (known o) (λ m. FitsAs above (an_absence m))
+      by None at new = tt
+      by (Some m) at new = record {
+        there = module-there above owner m at;
+        new = new;
+        before = no-ctls above order (absent owner) placed (omega arith);
+        alone = no-lanes above order (absent owner) placed (omega arith);
+      }
+
   user-fits : (u : UserLine) → is_misplaced above (user u) ≡ false → nat_le (limits_of above.version).users (length above.users) ≡ false
       → (r : Result Spec Cause) → IfOk r (λ (s : Spec). IsActIn (length above.functions) s.act) → IfOk r (λ (s : Spec). FitsAs above (a_user s))
   user-fits u placed few (Err cause) h = tt
@@ -272,10 +325,15 @@ module _ (above : Above) (order : IsInOrder above) where
         owner = owner-short owner n.1 rest.0;
         new = new;
         room = room (limits_of above.version).funcs (length above.functions) rest.1;
+        first = no-absences above order (func name owner) placed (omega arith);
         before = no-ctls above order (func name owner) placed (omega arith);
       }
   named-fits (depth frames) n placed limit new = ltb-false FRAMES frames (or-false_both _ _ limit).1
-  named-fits (tramps slots) n placed limit new = ltb-false (limits_of above.version).tramps slots limit
+  named-fits (tramps slots) n placed limit new = record {
+    few = ltb-false (limits_of above.version).tramps slots limit;
+    before = no-ctls above order (tramps slots) placed (omega arith);
+  }
+  named-fits (absent owner) n placed limit new = of-made (FitsAs above) an_absence (module_in above owner) (absence-fits owner placed new)
   named-fits (user u) n placed limit new =
       of-made (FitsAs above) a_user (spec_in above u)
       (user-fits u placed (or-false_both _ _ limit).1 (spec_in above u) (spec-known above u (function_or_none above u.ipmodify) (act_in above u.act) (act-known above u.act)))
@@ -289,8 +347,13 @@ module _ (above : Above) (order : IsInOrder above) where
         before = no-ctls above order (new_task pid cpu) placed (omega arith);
       }))
   named-fits (new_lane lane) n placed limit new =
-      let both = or-false_both (not (lane == above.lane_count)) (has_ctl_in_no_lane above) (or-false_both _ _ placed).1 in
-      record { room = room LANES above.lane_count limit; each = eqb-true (length above.lanes) (length above.ctls) (not-false (length above.lanes == length above.ctls) both.1) }
+      let next = or-false_both (not (lane == above.lane_count)) (has_ctl_in_no_lane above || not (length above.absent == 0)) (or-false_both _ _ placed).1 in
+      let both = or-false_both (has_ctl_in_no_lane above) (not (length above.absent == 0)) next.1 in
+      record {
+        room = room LANES above.lane_count limit;
+        each = eqb-true (length above.lanes) (length above.ctls) (not-false (length above.lanes == length above.ctls) both.0);
+        loaded = has_none above.absent (not-false (length above.absent == 0) both.1);
+      }
   named-fits (call name) n placed limit new =
       of-made (FitsAs above) (λ f. an_act (Call f)) (function_in above name)
       (call-fits name placed (or-false_both (is_long name) (is_full_of_calls above) limit).1 (function_in above name) (function-known above name))
@@ -307,10 +370,12 @@ module _ (above : Above) (order : IsInOrder above) where
   named-fits (disable name) n placed limit new = user-command Disable name (λ u lt. (lt, tt, tt)) (or-false_both _ _ limit).1
   named-fits (max_depth k) n placed limit new =
       let both = or-false_both _ _ limit in
-      ((tt, tt, ltb-false GRAPH_DEPTH k both.0), room COMMANDS above.commands both.1, tt)
+      ((tt, tt, ltb-false GRAPH_DEPTH k both.0), room COMMANDS (command_count above) both.1, tt)
   named-fits (until pid k) n placed limit new =
       of-made (FitsAs above) (λ task. a_ctl (Until task k)) (task_in above pid)
-      (wait-fits k (or-false_both _ _ (or-false_both _ _ limit).1).1 (eqb-true above.lane_count 0 (not-false (above.lane_count == 0) (or-false_both _ _ placed).1)) (task_in above pid) (task-known above pid))
+      (wait-fits k (or-false_both _ _ (or-false_both _ _ limit).1).1 (no-lane (or-false_both _ _ placed).1) (task_in above pid) (task-known above pid))
+  named-fits (load owner) n placed limit new = module-line Load (λ m there. (there, no-lane (or-false_both _ _ placed).1)) (or-false_both _ _ limit).1 owner
+  named-fits (unload owner) n placed limit new = module-line Unload (λ m there. (there, no-lane (or-false_both _ _ placed).1)) (or-false_both _ _ limit).1 owner
   named-fits (sched items) n placed limit new =
       of-if (FitsAs above) (is_past_sched_limit (length above.quanta) above.steps items) Limit _ (λ few. of-if (FitsAs above) (has_unknown (length above.quanta) items) Unknown _ (λ there.
       ltb-false STEPS (above.steps + sum_by (steps_of (length above.quanta)) items) (or-false_both (list_any has_bad_count items) _ few).1))

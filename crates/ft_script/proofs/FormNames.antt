@@ -15,7 +15,7 @@ use Rattle.script_text.specs.Words.{both}
 use Rattle.script_text.specs.Names.{is_name, name_of}
 use Rattle.script_text.proofs.NameLemmas.{is_name_text-short}
 use Rattle.script_form.specs.Forms as form
-use Rattle.script_form.specs.Forms.{LineForm, UserAct, skip, version, func, depth, tramps, user, new_cpu, new_task, new_lane, call, ret, raise, lower, after, register, unregister, write, pids, enable, disable, max_depth, until, sched}
+use Rattle.script_form.specs.Forms.{LineForm, UserAct, skip, version, func, depth, tramps, absent, user, new_cpu, new_task, new_lane, call, ret, raise, lower, after, register, unregister, write, pids, enable, disable, max_depth, until, load, unload, sched}
 use Rattle.script_form.specs.Users.{user_form, user_with, user_of, kind_of, flag, argument, ipmodify_of, act_of}
 use Rattle.script_form.specs.Lines.{act_form, unlisted_form, keyed_form, form_of, line_form}
 use Rattle.ft_script.specs.Causes.{is_long, is_long_or_none}
@@ -115,7 +115,9 @@ in-ctl (key ∷ args) =
     (either (bytes_eq key (codes "enable")) _ _ (of-map enable (λ w. tt) _)
     (either (bytes_eq key (codes "disable")) _ _ (of-map disable (λ w. tt) _)
     (either (bytes_eq key (codes "maxdepth")) _ _ (of-map max_depth (λ n. tt) _)
-    (either (bytes_eq key (codes "until")) _ None (in-until args) tt)))))))))
+    (either (bytes_eq key (codes "until")) _ _ (in-until args)
+    (either (bytes_eq key (codes "load")) _ _ (of-map load (λ w. tt) _)
+    (either (bytes_eq key (codes "unload")) _ None (of-map unload (λ w. tt) _) tt)))))))))))
 
 in-user_of : (name : Word) (kind : Kind) (regs : Bool) (m : Option (Option Word)) (pid : Bool) (a : Option (Option UserAct)) → is_name name ≡ true
     → IfSome (user_of name kind regs m pid a) Named
@@ -152,11 +154,12 @@ in-unlisted key args =
     (either (bytes_eq key (codes "func")) _ _ (in-func args)
     (either (bytes_eq key (codes "depth")) _ _ (of-map depth (λ n. tt) _)
     (either (bytes_eq key (codes "tramps")) _ _ (of-map tramps (λ n. tt) _)
+    (either (bytes_eq key (codes "absent")) _ _ (of-map absent (λ w. tt) _)
     (either (bytes_eq key (codes "user")) _ _ (in-user args)
     (either (bytes_eq key (codes "cpu")) _ _ (in-cpu args)
     (either (bytes_eq key (codes "task")) _ _ (in-task args)
     (either (bytes_eq key (codes "lane")) _ _ (of-map new_lane (λ n. tt) _)
-    (in-act key args))))))))
+    (in-act key args)))))))))
 
 in-keyed : (key : Word) (args : List Word) → IfSome (keyed_form key args) Named
 in-keyed key args =

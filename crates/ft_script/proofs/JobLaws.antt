@@ -8,6 +8,7 @@ use Rattle.ft_base.proofs.Small.{Each-weaker}
 use Rattle.ft_base.specs.declared.limits.TheConstants.{FRAMES, USUAL_FRAMES, ITEMS}
 use Rattle.ft_base.specs.Job.{Spec, Task, Ctl as PlainCtl, Run as PlainRun, Until as PlainUntil, Command, commands_in}
 use Rattle.ft_base.specs.Versions.{limits_of}
+use Rattle.ft_base.specs.Acts.{AreRaised, Leads}
 use Rattle.ft_base.specs.WellFormed.{IsNamed, IsScript, IsWellFormed}
 use Rattle.ft_desk.specs.declared.command.Ctl.{Ctl}
 use Rattle.ft_desk.specs.declared.command.Ctl.TheVariants.{Run, Until}
@@ -19,14 +20,18 @@ use Rattle.user_specs.specs.Bound.{call_bound_of}
 use Rattle.history_bound.specs.Bound.{calls_in, all_calls}
 use Rattle.word_machine.specs.Limits.{WaitsFor, IsLevel, IsLimited}
 use Rattle.ft_machine.specs.Parts.{Parts, quanta_of, cpus_with, tasks_of, task_count, declared_of, job_of as parts_job, IsWithin}
-use Rattle.ft_machine.specs.Plans.{IsCommand, HasLanes, AreLinesPlanned, AreRingsPlanned}
+use Rattle.ft_machine.specs.Plans.{HasLanes, AreLinesPlanned, AreRingsPlanned}
 use Rattle.ft_machine.proofs.Numbered.{tasks_of-from, length-tasks}
+use Rattle.ft_machine.proofs.Ordered.{all-commands}
 use Rattle.script_waits.specs.declared.script.LinedAct.{LinedAct}
 use Rattle.script_waits.specs.Tasks.{LinedTask}
-use Rattle.ft_script.specs.Above.{Above, LinedCtl}
-use Rattle.ft_script.specs.Script.{task_of, job_of}
-use Rattle.ft_script.specs.Holds.{acts_of, IsLine, LanesHold, IsAtMost, Holds, CanRun}
+use Rattle.ft_script.specs.Above.{Above}
+use Rattle.ft_script.specs.Expansion.{Expansion, expansion_of}
+use Rattle.ft_script.specs.Script.{task_of, task_in_job, job_tasks_of, job_of}
+use Rattle.ft_script.specs.Holds.{acts_of, LanesHold, IsAtMost, Holds, CanRun}
 use Rattle.ft_script.specs.Kept.{AreParts}
+use Rattle.ft_script.proofs.ActsInJob.{leads-in_job, raises-in_job, each-in_job, placed-in_job, all_acts-in_job, all_calls-in_job}
+use Rattle.ft_script.proofs.Carried.{IsLineOfJob, lines-carried, waits-carried, rows-carried, lanes-carried}
 use Rattle.ft_script.proofs.TasksKept.{closed-tasks, raised-tasks}
 
 -- ## tasks
@@ -56,30 +61,24 @@ calls-all (p ∷ ps) =
     let all = sum_by-cons (λ (x : LinedTask). calls_in (acts_of x)) p ps in
     omega (arith, rest, all)
 
--- ## users and lines of control
+-- ## lines of control
 
 module _ (users size tasks : ℕ) where
   -- what a line of control says of its command
-  each-command : (P : Command → Type 0) → ((c : Command) → IsLine users size tasks (PlainRun c) → P c) → (ctls : List PlainCtl) → Each (IsLine users size tasks) ctls
-      → Each P (commands_in ctls)
+  each-command : (P : Command → Type 0) → ((c : Command) → IsLineOfJob users size tasks (PlainRun c) → P c) → (ctls : List PlainCtl)
+      → Each (IsLineOfJob users size tasks) ctls → Each P (commands_in ctls)
   each-command P f [] h = tt
   each-command P f (PlainRun c ∷ rest) h = (f c h.0, each-command P f rest h.1)
   each-command P f (PlainUntil t n ∷ rest) h = each-command P f rest h.1
 
-  line-waits : (k : ℕ) → k ≡ tasks → (c : PlainCtl) → IsLine users size tasks c → WaitsFor k c
+  line-waits : (k : ℕ) → k ≡ tasks → (c : PlainCtl) → IsLineOfJob users size tasks c → WaitsFor k c
   line-waits k e (PlainRun c) h = tt
   line-waits k e (PlainUntil t n) h = omega (arith, e, h)
 
   -- a line of a desk that declares so many
-  line-in : (d : Declared) → length d.specs ≡ users → d.funcs ≡ size → d.tasks ≡ tasks → (c : Ctl) → IsLine users size tasks (ctl_of tasks c) → IsLineIn d c
+  line-in : (d : Declared) → length d.specs ≡ users → d.funcs ≡ size → d.tasks ≡ tasks → (c : Ctl) → IsLineOfJob users size tasks (ctl_of tasks c) → IsLineIn d c
   line-in d u s t (Run command) h = rw (u, s, t) (h.0, h.1)
   line-in d u s t (Until v k) h = omega (arith, t, h)
-
--- if each line is a command, there are as many commands as lines
-all-commands : (ctls : List PlainCtl) → Each IsCommand ctls → length (commands_in ctls) ≡ length ctls
-all-commands [] h = refl
-all-commands (PlainRun c ∷ rest) h = ap suc (all-commands rest h.1)
-all-commands (PlainUntil t n ∷ rest) h = absurd h.0
 
 -- ## numbers
 
@@ -108,18 +107,36 @@ module _ (above : Above) (run : CanRun above) where
   abbrev tasks : ℕ
   tasks = length above.tasks
 
-  lines : Each (IsLine users size tasks) (map (λ (c : LinedCtl). c.ctl) above.ctls)
-  lines = each-map (λ (c : LinedCtl). c.ctl) _ above.ctls h.lines.named
+  -- what the lines of control come to
+  abbrev carried : Expansion
+  carried = expansion_of above
 
-  count-tasks : length (map task_of above.tasks) ≡ tasks
-  count-tasks = length-map above.tasks task_of
+  -- the tasks in the job, with their lines
+  abbrev those : List LinedTask
+  those = job_tasks_of above
+
+  lines : Each (IsLineOfJob users size tasks) carried.ctls
+  lines = lines-carried above h
+
+  count-tasks : length (map task_of those) ≡ tasks
+  count-tasks = length-map those task_of ∙ length-map above.tasks (task_in_job carried.ends)
+
+  closed : Each (λ p. Leads size 0 (acts_of p) 0) those
+  closed = each-in_job carried.ends (λ acts. Leads size 0 acts 0) (leads-in_job carried.ends size 0 0) above.tasks (closed-tasks above run)
+
+  raised : Each (λ p. AreRaised [] (acts_of p)) those
+  raised = each-in_job carried.ends (AreRaised []) (raises-in_job carried.ends (λ _. Unit {0}) []) above.tasks
+      (map-each task_of (λ (t : Task). AreRaised [] t.acts) above.tasks (raised-tasks above h))
+
+  placed : Each (λ (t : Task). t.cpu < length above.quanta) (map task_of those)
+  placed = each-map task_of (λ (t : Task). t.cpu < length above.quanta) those (placed-in_job carried.ends (length above.quanta) above.tasks h.tasks.placed)
 
   is_job : IsWellFormed (job_of above)
   unfolding job_of
   is_job = record {
     commands = each-command users size tasks (IsNamed (job_of above)) (λ command h. h.0) _ lines;
     acts = h.users;
-    tasks = each-map task_of (λ (t : Task). IsScript (job_of above) 0 t.acts) above.tasks (closed-tasks above run);
+    tasks = each-map task_of (λ (t : Task). IsScript (job_of above) 0 t.acts) those closed;
   }
 
   pub limited : IsLimited (job_of above)
@@ -127,10 +144,10 @@ module _ (above : Above) (run : CanRun above) where
   limited = record {
     version = h.version;
     job' = is_job;
-    placed = each-map task_of (λ (t : Task). t.cpu < length above.quanta) above.tasks h.tasks.placed;
-    waits = Each-weaker _ _ _ (line-waits users size tasks (length (map task_of above.tasks)) count-tasks) lines;
-    raised = raised-tasks above h;
-    ctls = (let n = length-map above.ctls (λ (c : LinedCtl). c.ctl) in let all = h.lines.all in let few = h.within.few_commands in let fewer = h.within.few_waits in omega (arith, n, all, few, fewer));
+    placed = placed;
+    waits = Each-weaker _ _ _ (line-waits users size tasks (length (map task_of those)) count-tasks) lines;
+    raised = each-map task_of (λ (t : Task). AreRaised [] t.acts) those raised;
+    ctls = (let all = waits-carried above h in let few = h.within.few_commands in let fewer = h.within.few_waits in omega (arith, all, few, fewer));
     counts = record {
       few_functions = h.within.counts.few_functions;
       few_users = h.within.counts.few_users;
@@ -139,41 +156,44 @@ module _ (above : Above) (run : CanRun above) where
     };
     frames = at-most FRAMES USUAL_FRAMES (omega arith) above.frames h.frames;
     levels = each-command users size tasks IsLevel (λ command h. h.2) _ lines;
-    acts = (let n = acts-all above.tasks in let all = h.tasks.all_acts in let few = h.within.acts.few_acts in omega (arith, n, all, few));
-    items = subst (λ n. call_bound_of above.users (limits_of above.version).levels * n ≤ ITEMS) (sym (calls-all above.tasks ∙ h.tasks.all_calls)) h.items;
+    acts = (let n = acts-all those in let m = all_acts-in_job carried.ends above.tasks in let all = h.tasks.all_acts in let few = h.within.acts.few_acts in
+        omega (arith, n, m, all, few));
+    items = subst (λ n. call_bound_of above.users (limits_of above.version).levels * n ≤ ITEMS)
+        (sym (calls-all those ∙ all_calls-in_job carried.ends above.tasks ∙ h.tasks.all_calls)) h.items;
   }
 
-  lanes-planned : (count : ℕ) → LanesHold count above.lanes above.ctls → (above.lanes ≡ []) ⊎ HasLanes (job_of above)
+  -- it has no lanes, or each line of control is a command and has one
+  pub lanes-planned : (count : ℕ) → above.lane_count ≡ count → LanesHold above count → (above.lanes ≡ []) ⊎ HasLanes (job_of above)
   unfolding job_of
-  lanes-planned zero none = inl none
-  lanes-planned (suc last) all =
-      let each = each-map (λ (c : LinedCtl). c.ctl) IsCommand above.ctls all.0 in
-      let n = length-map above.ctls (λ (c : LinedCtl). c.ctl) in
-      let m = all-commands (map (λ (c : LinedCtl). c.ctl) above.ctls) each in
-      let some = all.1 in
-      inr (record { commands' = each; each = omega (arith, n, m, some); numbers = all.2 })
+  lanes-planned zero is none = inl none
+  lanes-planned (suc last) is all =
+      let c = lanes-carried above last is h in
+      let m = all-commands carried.ctls c.1 in
+      let n = c.2 in
+      let each = all.each in
+      inr (record { commands' = c.1; each = omega (arith, n, m, each); numbers = all.numbers })
 
-  -- it has no lanes, or each command has one; and it has no modules that change and no triggers
+  -- so has each command, and its modules are there
   lines-planned : AreLinesPlanned (job_of above)
   unfolding job_of
-  lines-planned = record { lanes = lanes-planned above.lane_count h.lanes; absent = tt; modules = tt }
+  lines-planned = record { lanes = lanes-planned above.lane_count refl h.lanes; absent = h.absent; modules = rows-carried above h }
 
   usual-rings : AreRingsPlanned (job_of above)
   unfolding job_of
   usual-rings = record { some = omega arith; ring = omega arith; few = omega arith; triggers = tt }
 
   module _ (p : Parts) (are : AreParts p above) where
-    tasks-are : tasks_of p.cpus ≡ map task_of above.tasks
-    tasks-are = ap tasks_of are.cpus ∙ tasks_of-from above.quanta (map task_of above.tasks) (each-map task_of (λ (t : Task). t.cpu < length above.quanta) above.tasks h.tasks.placed)
+    tasks-are : tasks_of p.cpus ≡ map task_of those
+    tasks-are = ap tasks_of are.cpus ∙ tasks_of-from above.quanta (map task_of those) placed
 
     quanta-are : quanta_of p.cpus ≡ above.quanta
-    quanta-are = ap quanta_of are.cpus ∙ quanta-from above.quanta 0 0 (map task_of above.tasks)
+    quanta-are = ap quanta_of are.cpus ∙ quanta-from above.quanta 0 0 (map task_of those)
 
     count-is : task_count p.cpus ≡ tasks
     count-is = sym (length-tasks p.cpus) ∙ ap (λ (ts : List Task). length ts) tasks-are ∙ count-tasks
 
-    lines-are : lines_of (task_count p.cpus) p.ctls ≡ map (λ c. c.ctl) above.ctls
-    lines-are = subst (λ n. lines_of n p.ctls ≡ map (λ c. c.ctl) above.ctls) (sym count-is) are.ctls
+    lines-are : lines_of (task_count p.cpus) p.ctls ≡ carried.ctls
+    lines-are = subst (λ n. lines_of n p.ctls ≡ carried.ctls) (sym count-is) are.ctls
 
     pub job-is : parts_job p ≡ job_of above
     unfolding parts_job job_of
@@ -185,7 +205,7 @@ module _ (above : Above) (run : CanRun above) where
       limited = subst IsLimited (sym job-is) limited;
       lines = Each-weaker _ _ p.ctls
           (line-in users size tasks (declared_of p) (length-map p.users bare ∙ ap (λ (us : List Spec). length us) are.users) (ap (λ fs. length fs) are.functions) count-is)
-          (map-each (ctl_of tasks) _ p.ctls (subst (Each (IsLine users size tasks)) (sym are.ctls) lines));
+          (map-each (ctl_of tasks) _ p.ctls (subst (Each (IsLineOfJob users size tasks)) (sym are.ctls) lines));
       cpus = (let n = length-map p.cpus (λ (c : DeclaredCpu). c.quantum) in let q = ap (λ (qs : List ℕ). length qs) quanta-are in let few = h.within.few_cpus in omega (arith, n, q, few));
       quanta = rw quanta-are h.quanta;
       planned = rw job-is lines-planned;

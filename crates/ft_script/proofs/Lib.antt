@@ -15,3 +15,14 @@ pub mod LinesKept
 pub mod Lines
 pub mod OtherVersions
 pub mod JobLaws
+pub mod ActsInJob
+pub mod Added
+pub mod Carried
+pub mod CommandCounts
+pub mod Coverage
+pub mod DeskOfJob
+pub mod Expanding
+pub mod HiddenModules
+pub mod KeptReader
+pub mod LoadedLaws
+pub mod ReadForms

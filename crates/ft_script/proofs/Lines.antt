@@ -8,16 +8,16 @@ use Rattle.script_form.specs.Lines.{line_form}
 use Rattle.ft_script.specs.declared.levels.Levels.{Levels}
 use Rattle.ft_script.specs.Levels.{levels_after, is_unfinished}
 use Rattle.ft_script.specs.Above.{Above, none_above, Declaration, a_version, a_task, an_act, Resolved, with_what, declared}
-use Rattle.ft_script.specs.Causes.{is_unmatched, is_unbalanced, is_last, resolved_line, cause_of}
+use Rattle.ft_script.specs.Causes.{is_unmatched, is_unbalanced, is_last, resolved_line, has_too_many_commands, carried_out, cause_of}
 use Rattle.ft_script.specs.Script.{with_line}
 use Rattle.ft_script.specs.Within.{IsWithinLimits}
-use Rattle.ft_script.specs.Holds.{Holds}
+use Rattle.ft_script.specs.Holds.{LinesHold, LanesHold, Holds}
 use Rattle.ft_script.specs.Fits.{Fits}
-use Rattle.ft_script.proofs.NoCause.{no-cause_in}
+use Rattle.ft_script.proofs.NoCause.{no-cause_in, carried}
 use Rattle.ft_script.proofs.Fitting.{said_last, accepted}
 use Rattle.ft_script.proofs.Limits.{IsLater, same-version, within-declared, order-declared, items-declared}
 use Rattle.ft_script.proofs.TasksKept.{Begins, tasks-declared}
-use Rattle.ft_script.proofs.LinesKept.{lines-declared, lanes-declared, users-declared, frames-declared, quanta-declared}
+use Rattle.ft_script.proofs.LinesKept.{lines-kept, lanes-kept, lines-declared, lanes-declared, absent-declared, users-declared, user_lines-declared, frames-declared, quanta-declared}
 
 -- ## what holds after a line
 
@@ -33,18 +33,27 @@ within-renumbered above lines rank w = record {
   few_steps = w.few_steps;
 }
 
-later-holds : (above : Above) → Holds above → (line : Resolved) (below : List Line) → IsLater line.what → Fits above line → is_unbalanced above.levels line.what below ≡ false
-    → Begins above.levels line.what → Holds (declared above line)
-later-holds above h line below later f balanced begins = record {
+-- nor to the lines of control and the lanes
+lines-renumbered : (above : Above) (lines rank : ℕ) → LinesHold above → LinesHold (record above { lines = lines; rank = rank })
+lines-renumbered above lines rank h = lines-kept above (record above { lines = lines; rank = rank }) refl refl refl refl refl h
+
+lanes-renumbered : (above : Above) (lines rank count : ℕ) → LanesHold above count → LanesHold (record above { lines = lines; rank = rank }) count
+lanes-renumbered above lines rank count h = lanes-kept above (record above { lines = lines; rank = rank }) count refl refl refl h
+
+later-holds : (above : Above) → Holds above → (line : Resolved) (below : List Line) → IsLater line.what → Fits above line → has_too_many_commands above line.what ≡ false
+    → is_unbalanced above.levels line.what below ≡ false → Begins above.levels line.what → Holds (declared above line)
+later-holds above h line below later f few balanced begins = record {
   version = subst IsVersion (same-version above line.what later) h.version;
-  within = within-renumbered (with_what above line.what) _ _ (within-declared above h line.what later f.what);
+  within = within-renumbered (with_what above line.what) _ _ (within-declared above h line.what later f.what few);
   order = order-declared above h.order line f;
   frames = frames-declared above h line.what f.what;
+  absent = absent-declared above h line.what f.what;
   users = users-declared above h line.what f.what;
+  user_lines = user_lines-declared above h line.what;
   quanta = quanta-declared above h line.what f.what;
   tasks = tasks-declared above h line.what below f.what balanced begins;
-  lines = lines-declared above h line.what f.what;
-  lanes = lanes-declared above h line.what f.what;
+  lines = lines-renumbered (with_what above line.what) _ _ (lines-declared above h line.what f.what);
+  lanes = lanes-renumbered (with_what above line.what) _ _ _ (lanes-declared above h line.what f.what);
   items = items-declared above h line.what later f.what;
 }
 
@@ -61,9 +70,11 @@ empty-holds number lines rank is first = record {
     few_lanes = omega arith;
     few_steps = omega arith;
   };
-  order = record { first = first; calls = λ low. refl; ctls = λ low. refl };
+  order = record { first = first; absent = λ low. refl; calls = λ low. refl; lanes = λ low. refl; ctls = λ low. refl };
   frames = omega arith;
+  absent = tt;
   users = tt;
+  user_lines = refl;
   quanta = tt;
   tasks = record { placed = tt; balanced = refl; raised = tt; all_acts = refl; all_calls = refl };
   lines = record { named = tt; all = refl };
@@ -76,14 +87,14 @@ first-holds : (above : Above) → Holds above → above.lines ≡ 0 → (rank nu
 first-holds above h first rank number is =
     subst (λ (a : Above). Holds (declared a (record { rank = rank; what = a_version number }))) (sym (h.order.first first)) (empty-holds number 1 rank is (λ none. absurd (omega (arith, none))))
 
-line-declared : (above : Above) → Holds above → (line : Resolved) (below : List Line) → Fits above line → is_unbalanced above.levels line.what below ≡ false
-    → Begins above.levels line.what → Holds (declared above line)
-line-declared above h line below f balanced begins = by line.rank line.what f balanced begins
+line-declared : (above : Above) → Holds above → (line : Resolved) (below : List Line) → Fits above line → has_too_many_commands above line.what ≡ false
+    → is_unbalanced above.levels line.what below ≡ false → Begins above.levels line.what → Holds (declared above line)
+line-declared above h line below f few balanced begins = by line.rank line.what f few balanced begins
   where
-    by : (rank : ℕ) (what : Declaration) → Fits above (record { rank = rank; what = what }) → is_unbalanced above.levels what below ≡ false → Begins above.levels what
-        → Holds (declared above (record { rank = rank; what = what }))
-    by rank (a_version number) f balanced begins = first-holds above h f.what.0 rank number f.what.1
-    by rank what f balanced begins = later-holds above h (record { rank = rank; what = what }) below tt f balanced begins
+    by : (rank : ℕ) (what : Declaration) → Fits above (record { rank = rank; what = what }) → has_too_many_commands above what ≡ false → is_unbalanced above.levels what below ≡ false
+        → Begins above.levels what → Holds (declared above (record { rank = rank; what = what }))
+    by rank (a_version number) f few balanced begins = first-holds above h f.what.0 rank number f.what.1
+    by rank what f few balanced begins = later-holds above h (record { rank = rank; what = what }) below tt f few balanced begins
 
 -- ## what is open goes on below
 
@@ -120,11 +131,12 @@ pub record HoldsAbove (above : Above) (lines : List Line) : Type 0 where
 pub line-holds : (above : Above) (line : Line) (below : List Line) → HoldsAbove above (line ∷ below) → cause_of above line below ≡ None → HoldsAbove (with_line above line) below
 unfolding cause_of with_line
 line-holds above line below s e =
-    let ok = no-cause_in (resolved_line above line.ended (line_form line.bytes) below) e in
-    let a = accepted above s.holds.order line.ended line.bytes below ok.0 ok.1 in
+    let ok = no-cause_in (carried_out above (resolved_line above line.ended (line_form line.bytes) below)) e in
+    let c = carried above (resolved_line above line.ended (line_form line.bytes) below) ok.0 ok.1 in
+    let a = accepted above s.holds.order line.ended line.bytes below ok.0 c.0 in
     let goes : is_unfinished above.levels ≡ true → said_last ok.0.what (is_last below) ≡ false = λ running. sym (a.last (is_last below)) ∙ s.goes_on running in
     subst (λ (r : Resolved). HoldsAbove (declared above r) below) (sym a.meaning) (record {
-      holds = line-declared above s.holds ok.0 below a.fits a.balanced (begins above.levels ok.0.what (is_last below) goes);
+      holds = line-declared above s.holds ok.0 below a.fits c.1 a.balanced (begins above.levels ok.0.what (is_last below) goes);
       goes_on = goes_on above ok.0.what below a.balanced goes;
     })
 

@@ -14,6 +14,10 @@ pub mapped_length : {X Y : Type 0} (f : X → Y) (xs : List X) → length (map f
 mapped_length f [] = refl
 mapped_length f (x ∷ xs) = ap suc (mapped_length f xs)
 
+pub mapped_twice : {X Y Z : Type 0} (g : Y → Z) (f : X → Y) (xs : List X) → map g (map f xs) ≡ map (λ x. g (f x)) xs
+mapped_twice g f [] = refl
+mapped_twice g f (x ∷ xs) = ap (λ zs. g (f x) ∷ zs) (mapped_twice g f xs)
+
 pub position_map : {X Y : Type 0} (p : Y → Bool) (f : X → Y) (xs : List X) → position p (map f xs) ≡ position (λ x. p (f x)) xs
 position_map p f xs = ap₂ (λ i l. cond (nat_lt i l) (Some i) None) (first_map p f xs) (mapped_length f xs)
 

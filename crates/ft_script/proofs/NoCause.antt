@@ -7,7 +7,7 @@ use Rattle.script_form.specs.Forms.{LineForm}
 use Rattle.ft_script.specs.declared.faults.Cause.{Cause}
 use Rattle.ft_script.specs.declared.faults.Cause.TheVariants.{Syntax, Limit, Duplicate, Unbalanced}
 use Rattle.ft_script.specs.Above.{Above, Declaration, Resolved}
-use Rattle.ft_script.specs.Causes.{rank_of, is_misplaced, is_past_limit, is_duplicate, named, is_unbalanced, balanced, resolved, cause_in}
+use Rattle.ft_script.specs.Causes.{rank_of, is_misplaced, is_past_limit, is_duplicate, named, is_unbalanced, balanced, resolved, has_too_many_commands, carried_out, cause_in}
 
 -- what no cause says of a line of this form, which declares this
 pub record NoCause (above : Above) (form : LineForm) (below : List Line) (line : Resolved) : Type 0 where
@@ -37,6 +37,14 @@ no-cause_in (Err cause) e = absurd (some-none e)
 passes : (b : Bool) (cause : Cause) (next : Result Resolved Cause) (line : Resolved) → (if b then Err cause else next) ≡ Ok line → (b ≡ false) × (next ≡ Ok line)
 passes true cause next line e = absurd (err-ok line cause e)
 passes false cause next line e = (refl, e)
+
+-- a line that may stand here and has no cause doesn't bring too many commands
+pub carried : (above : Above) (r : Result Resolved Cause) (line : Resolved) → carried_out above r ≡ Ok line → (r ≡ Ok line) × (has_too_many_commands above line.what ≡ false)
+carried above (Err cause) line e = absurd (err-ok line cause e)
+carried above (Ok other) line e =
+    let p = passes (has_too_many_commands above other.what) Limit (Ok other) line e in
+    let same : other ≡ line = ok-same _ _ _ refl p.1 in
+    (p.1, subst (λ (r : Resolved). has_too_many_commands above r.what ≡ false) same p.0)
 
 module _ (above : Above) (below : List Line) (line : Resolved) where
   by-balance : (rank : ℕ) (r : Result Declaration Cause) → balanced above rank r below ≡ Ok line → (rank ≡ line.rank) × (r ≡ Ok line.what) × (is_unbalanced above.levels line.what below ≡ false)

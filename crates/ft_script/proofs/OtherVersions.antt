@@ -4,19 +4,22 @@ use Rattle.std.specs.Prelude.{◌+◌, length, map, sum_by, is_some, unwrap_or, 
 use Rattle.std.proofs.Math.Dec.{eqb-suc-zero}
 use Rattle.ft_base.proofs.Small.{false_true, or-false_both}
 use Rattle.ft_base.specs.declared.task.TaskAct.TheVariants.{Call}
-use Rattle.ft_base.specs.Job.{Job, Until, Register, Unregister, Enable, Disable}
+use Rattle.ft_base.specs.Job.{Job, Register, Unregister, Enable, Disable}
 use Rattle.ft_base.specs.Versions.{limits_of}
 use Rattle.ft_schedule.specs.Items.{turn_from}
 use Rattle.ft_schedule.specs.Causes.{is_past_limit as is_past_sched_limit, has_unknown, steps_of}
+use Rattle.ft_desk.specs.Declarations.{Declared, bare}
+use Rattle.module_table.specs.Lines.{Load, Unload, Between, at_first, opening_of}
 use Rattle.script_text.specs.Lines.{Line, lines_of}
-use Rattle.script_form.specs.Forms.{LineForm, version, user, new_task, call, register, unregister, write, pids, enable, disable, until, sched}
+use Rattle.script_form.specs.Forms.{LineForm, version, absent, user, new_task, call, register, unregister, write, pids, enable, disable, until, load, unload, sched}
 use Rattle.script_form.specs.Lines.{line_form}
 use Rattle.ft_script.specs.declared.faults.Cause.{Cause}
 use Rattle.ft_script.specs.declared.faults.Cause.TheVariants.{Limit, Unknown}
-use Rattle.ft_script.specs.Above.{Above, none_above, Declaration, a_version, a_user, a_task, an_act, a_ctl, more_turns, with_what, declared}
-use Rattle.ft_script.specs.Causes.{rank_of, is_misplaced, made, function_in, user_in, task_in, cpu_in, spec_in, edit_in, write_with, pids_in, a_command, named, resolved, resolved_line, cause_in, cause_of}
-use Rattle.ft_script.specs.Script.{or_nothing, said, with_line, declared_after, declared_in, refusal_below, refusal_of, job_of, IsJobOf}
-use Rattle.ft_script.proofs.NoCause.{some-none, no-cause, no-cause_in}
+use Rattle.ft_script.specs.Above.{Above, Run, Until, none_above, slots_of, Declaration, a_version, an_absence, a_user, a_task, an_act, a_ctl, more_turns, Resolved, with_what, declared}
+use Rattle.ft_script.specs.Expansion.{Expansion, runs_of, expanded_all, lines_as_they_are, expansion_of}
+use Rattle.ft_script.specs.Causes.{rank_of, is_misplaced, made, function_in, module_in, user_in, task_in, cpu_in, spec_in, edit_in, write_with, pids_in, a_command, named, resolved, resolved_line, carried_out, cause_in, cause_of}
+use Rattle.ft_script.specs.Script.{or_nothing, said, with_line, declared_after, declared_in, refusal_below, refusal_of, task_of, task_in_job, job_of, IsJobOf}
+use Rattle.ft_script.proofs.NoCause.{some-none, no-cause, no-cause_in, carried}
 use Rattle.ft_script.proofs.Limits.{IsLater}
 use Rattle.ft_script.proofs.Ends.{neither, none-refused, lines-with_line}
 
@@ -32,6 +35,7 @@ later-if false cause r h = h
 
 later : (above : Above) (form : LineForm) → is_misplaced above form ≡ false → IsLater (or_nothing (named above form))
 later above (version other) placed = false_true (sym (or-false_both _ _ placed).1)
+later above (absent owner) placed = later-made an_absence (module_in above owner) (λ m. tt)
 later above (user u) placed = later-made a_user (spec_in above u) (λ s. tt)
 later above (new_task pid cpu) placed = later-made (a_task pid) (cpu_in above cpu) (λ c. tt)
 later above (call name) placed = later-made (λ f. an_act (Call f)) (function_in above name) (λ f. tt)
@@ -42,13 +46,31 @@ later above (pids excluded list) placed = later-made a_command (pids_in above ex
 later above (enable name) placed = later-made (λ u. a_command (Enable u)) (user_in above name) (λ u. tt)
 later above (disable name) placed = later-made (λ u. a_command (Disable u)) (user_in above name) (λ u. tt)
 later above (until pid n) placed = later-made (λ task. a_ctl (Until task n)) (task_in above pid) (λ t. tt)
+later above (load owner) placed = later-made (λ m. a_ctl (Run (Load m))) (module_in above owner) (λ m. tt)
+later above (unload owner) placed = later-made (λ m. a_ctl (Run (Unload m))) (module_in above owner) (λ m. tt)
 later above (sched items) placed =
     let turns : Result Declaration Cause = Ok (more_turns (map turn_from items) (above.steps + sum_by (steps_of (length above.quanta)) items)) in
     later-if (is_past_sched_limit (length above.quanta) above.steps items) Limit (if has_unknown (length above.quanta) items then Err Unknown else turns)
     (later-if (has_unknown (length above.quanta) items) Unknown turns tt)
 later above form placed = tt
 
+-- a line below line 1 that has a form
+resolved-below : (above : Above) (form : LineForm) (below : List Line) (line : Resolved) → (above.lines == 0) ≡ false → resolved_line above true (Some form) below ≡ Ok line
+    → resolved above form below ≡ Ok line
+resolved-below above form below line later e = rw later at e
+
 -- ## another version
+
+-- what the lines of control come to, if there are so many trampoline slots
+abbrev expansion_at : Above → ℕ → Expansion
+expansion_at above slots =
+    let those : Declared = record { specs = map bare above.users; funcs = length above.functions; tasks = length above.tasks; tramps = slots } in
+    let known : Between = at_first those above.functions above.absent in
+    let start : Expansion = record { known = known; ctls = runs_of (opening_of known.declared known.first); rows = []; ends = [] } in
+    if above.lane_count == 0 then expanded_all start above.ctls else record start { ctls = lines_as_they_are above.ctls }
+
+expansion-is : (above : Above) → expansion_of above ≡ expansion_at above (slots_of above)
+expansion-is above = refl
 
 module _ (number : ℕ) where
   -- the same, but of this version
@@ -72,12 +94,13 @@ module _ (number : ℕ) where
   unfolding cause_of with_line
   line-so above line below later e = by line.ended (line_form line.bytes) e
     where
-      by : (ended : Bool) (form : Option LineForm) → cause_in (resolved_line above ended form below) ≡ None → declared (of_version above) (said (of_version above) form) ≡ of_version (declared above (said above form))
+      by : (ended : Bool) (form : Option LineForm) → cause_in (carried_out above (resolved_line above ended form below)) ≡ None → declared (of_version above) (said (of_version above) form) ≡ of_version (declared above (said above form))
       by false form e = absurd (some-none e)
       by true None e = absurd (some-none (rw later at e))
       by true (Some form) e =
-          let ok = no-cause_in (resolved above form below) (rw later at e) in
-          form-so above form (no-cause above below ok.0 form ok.1).placed
+          let ok = no-cause_in (carried_out above (resolved_line above true (Some form) below)) e in
+          let out = (carried above (resolved_line above true (Some form) below) ok.0 ok.1).0 in
+          form-so above form (no-cause above below ok.0 form (resolved-below above form below ok.0 later out)).placed
 
   lines-so : (above : Above) (lines : List Line) → (above.lines == 0) ≡ false → refusal_below above lines ≡ None → declared_after (of_version above) lines ≡ of_version (declared_after above lines)
   lines-so above [] later e = refl
@@ -89,7 +112,14 @@ module _ (number : ℕ) where
   -- if slots are said, the version makes no difference to how many there are
   job-so : (above : Above) → is_some above.tramps ≡ true → job_of (of_version above) ≡ record (job_of above) { version = number }
   unfolding job_of
-  job-so above said = ap (λ k. record (job_of above) { version = number; tramps = k }) (by above.tramps said)
+  job-so above said =
+      ap (λ (k : ℕ). record (job_of above) {
+        version = number;
+        tramps = k;
+        tasks = map task_of (map (task_in_job (expansion_at above k).ends) above.tasks);
+        ctls = (expansion_at above k).ctls;
+        lines = record { lanes = above.lanes; absent = above.absent; modules = (expansion_at above k).rows };
+      }) (by above.tramps said)
     where
       by : (o : Option ℕ) → is_some o ≡ true → unwrap_or o (limits_of number).tramps ≡ unwrap_or o (limits_of above.version).tramps
       by None e = false_true e
@@ -104,7 +134,7 @@ first-line : (line : Line) (below : List Line) → cause_of none_above line belo
 unfolding cause_of with_line
 first-line line below e = by line.ended (line_form line.bytes) e
   where
-    by : (ended : Bool) (form : Option LineForm) → cause_in (resolved_line none_above ended form below) ≡ None → (number : ℕ) × (declared none_above (said none_above form) ≡ of_version number start_line)
+    by : (ended : Bool) (form : Option LineForm) → cause_in (carried_out none_above (resolved_line none_above ended form below)) ≡ None → (number : ℕ) × (declared none_above (said none_above form) ≡ of_version number start_line)
     by false form e = absurd (some-none e)
     by true (Some (version number)) e = (number, refl)
     by true _ e = absurd (some-none e)

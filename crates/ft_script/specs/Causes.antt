@@ -12,7 +12,7 @@ use Rattle.ft_base.specs.declared.user.Act.TheVariants.{CallIn, IrqIn}
 use Rattle.ft_base.specs.declared.user.Half.{Half}
 use Rattle.ft_base.specs.declared.user.Half.TheVariants.{Filter as OfFilter, Notrace as OfNotrace}
 use Rattle.ft_base.specs.Marks.{Marks}
-use Rattle.ft_base.specs.Job.{Spec, Run, Until, Command, Register, Unregister, Filter, Notrace, Pid, NoPid, Enable, Disable, MaxDepth, Edit}
+use Rattle.ft_base.specs.Job.{Spec, Command, Register, Unregister, Filter, Notrace, Pid, NoPid, Enable, Disable, MaxDepth, Edit}
 use Rattle.ft_base.specs.Same.{rank}
 use Rattle.ft_base.specs.Versions.{limits_of}
 use Rattle.filter_commands.specs.Causes.{first_cause}
@@ -21,15 +21,18 @@ use Rattle.ft_schedule.specs.declared.item.SchedItem.{SchedItem}
 use Rattle.ft_schedule.specs.Items.{turn_from}
 use Rattle.ft_schedule.specs.Causes.{is_past_limit as is_past_sched_limit, has_unknown, steps_of}
 use Rattle.user_specs.specs.Bound.{call_bound_of}
+use Rattle.module_table.specs.Modules.{modules_in, number_among}
+use Rattle.module_table.specs.Lines.{Plain, Load, Unload}
 use Rattle.script_text.specs.Lines.{Word, Line}
-use Rattle.script_form.specs.Forms.{LineForm, skip, version, func, depth, tramps, user, new_cpu, new_task, new_lane, call, ret, raise, lower, after, register, unregister, write, pids, enable, disable, max_depth, until, sched}
+use Rattle.script_form.specs.Forms.{LineForm, skip, version, func, depth, tramps, absent, user, new_cpu, new_task, new_lane, call, ret, raise, lower, after, register, unregister, write, pids, enable, disable, max_depth, until, load, unload, sched}
 use Rattle.script_form.specs.Forms.{UserLine, UserAct, calls, irqs}
 use Rattle.script_form.specs.Lines.{line_form}
 use Rattle.ft_script.specs.declared.faults.Cause.{Cause}
 use Rattle.ft_script.specs.declared.faults.Cause.TheVariants.{Version, Syntax, Limit, Duplicate, Unknown, Pattern, Unbalanced}
 use Rattle.ft_script.specs.declared.levels.Levels.{Levels}
 use Rattle.ft_script.specs.Levels.{present, open_here, open_calls, levels_after, is_raised, is_unfinished}
-use Rattle.ft_script.specs.Above.{Above, Declaration, nothing, a_version, a_function, some_frames, some_slots, a_user, a_cpu, a_task, an_act, a_lane, a_ctl, more_turns, Resolved}
+use Rattle.ft_script.specs.Above.{Above, Run, Until, Declaration, nothing, a_version, a_function, some_frames, some_slots, an_absence, a_user, a_cpu, a_task, an_act, a_lane, a_ctl, more_turns, Resolved, with_ctl}
+use Rattle.ft_script.specs.Expansion.{command_count}
 
 -- ## syntax
 
@@ -40,6 +43,7 @@ rank_of (version number) before = 0
 rank_of (func name owner) before = 1
 rank_of (depth frames) before = 2
 rank_of (tramps slots) before = 2
+rank_of (absent owner) before = 2
 rank_of (user u) before = 3
 rank_of (new_cpu cpu quantum) before = 4
 rank_of (new_task pid cpu) before = 5
@@ -64,15 +68,21 @@ is_act _ = false
 abbrev pub has_ctl_in_no_lane : Above → Bool
 has_ctl_in_no_lane above = not (length above.lanes == length above.ctls)
 
--- the version once more, `depth` or `tramps` once more, a CPU or a lane that isn't the next one, a lane below a line of control that has none,
--- a wait of control in a script with lanes, an act before any task
+-- a lane that isn't the next one, a lane below a line of control that has none, a lane in a script with an absent module
+abbrev pub is_wrong_lane : Above → ℕ → Bool
+is_wrong_lane above lane = not (lane == above.lane_count) || (has_ctl_in_no_lane above || not (length above.absent == 0))
+
+-- the version once more, `depth` or `tramps` once more, a CPU that isn't the next one, a lane that is wrong, a wait of control, a load or an
+-- unload in a script with lanes, an act before any task
 abbrev pub is_out_of_place : Above → LineForm → Bool
 is_out_of_place above (version number) = true
 is_out_of_place above (depth frames) = is_some above.frames
 is_out_of_place above (tramps slots) = is_some above.tramps
 is_out_of_place above (new_cpu cpu quantum) = not (cpu == length above.quanta)
-is_out_of_place above (new_lane lane) = not (lane == above.lane_count) || has_ctl_in_no_lane above
+is_out_of_place above (new_lane lane) = is_wrong_lane above lane
 is_out_of_place above (until pid n) = not (above.lane_count == 0)
+is_out_of_place above (load owner) = not (above.lane_count == 0)
+is_out_of_place above (unload owner) = not (above.lane_count == 0)
 is_out_of_place above form = is_act form && (length above.tasks == 0)
 
 -- the line comes after one of a higher rank, or is out of place
@@ -133,13 +143,15 @@ is_full_of_calls above = is_full_of_acts above || (nat_le LEVELS (open_calls abo
 
 -- one more command is too many
 abbrev pub is_full_of_commands : Above → Bool
-is_full_of_commands above = nat_le COMMANDS above.commands
+is_full_of_commands above = nat_le COMMANDS (command_count above)
 
--- a name or a number of the line is outside its limits, or there is one too many of what it declares; the steps of a schedule are counted below
+-- a name or a number of the line is outside its limits, or there is one too many of what it declares; the steps of a schedule and the commands
+-- of a load or an unload are counted below
 abbrev pub is_past_limit : Above → LineForm → Bool
 is_past_limit above (func name owner) = is_long name || (is_long_or_none owner || nat_le (limits_of above.version).funcs (length above.functions))
 is_past_limit above (depth frames) = is_bad_depth frames
 is_past_limit above (tramps slots) = nat_lt (limits_of above.version).tramps slots
+is_past_limit above (absent owner) = is_long owner
 is_past_limit above (user u) = has_long_name u || nat_le (limits_of above.version).users (length above.users)
 is_past_limit above (new_cpu cpu quantum) = is_bad_quantum quantum || nat_le CPUS (length above.quanta)
 is_past_limit above (new_task pid cpu) = is_bad_pid pid || (is_big cpu || nat_le TASKS (length above.tasks))
@@ -157,6 +169,8 @@ is_past_limit above (enable name) = is_long name || is_full_of_commands above
 is_past_limit above (disable name) = is_long name || is_full_of_commands above
 is_past_limit above (max_depth n) = nat_lt GRAPH_DEPTH n || is_full_of_commands above
 is_past_limit above (until pid n) = is_bad_pid pid || (is_bad_count n || nat_le UNTILS above.waits)
+is_past_limit above (load owner) = is_long owner || is_full_of_commands above
+is_past_limit above (unload owner) = is_long owner || is_full_of_commands above
 is_past_limit above _ = false
 
 -- ## duplicate
@@ -181,9 +195,19 @@ is_among names name = is_some (position (bytes_eq name) names)
 abbrev pub has_pid : Above → ℕ → Bool
 has_pid above pid = is_some (position (λ p. p == pid) (pids_of above))
 
--- the function, the user or the pid that the line declares is declared above
+-- the number of the module of this name, if there is one
+abbrev pub module_named : Above → Word → Option ℕ
+module_named above name = number_among (modules_in above.functions) (Some name)
+
+-- the module is absent already
+abbrev pub is_absent : Above → Option ℕ → Bool
+is_absent above None = false
+is_absent above (Some m) = list_any (λ other. other == m) above.absent
+
+-- the function, the absent module, the user or the pid that the line declares is declared above
 abbrev pub is_duplicate : Above → LineForm → Bool
 is_duplicate above (func name owner) = is_among (function_names above) name
+is_duplicate above (absent owner) = is_absent above (module_named above owner)
 is_duplicate above (user u) = is_among (user_names above) u.name
 is_duplicate above (new_task pid cpu) = has_pid above pid
 is_duplicate above _ = false
@@ -212,6 +236,10 @@ function_in above name = made function_at (known (position (bytes_eq name) (func
 abbrev pub function_or_none : Above → Option Word → Result (Option FuncNo) Cause
 function_or_none above None = Ok None
 function_or_none above (Some name) = made (λ f. Some f) (function_in above name)
+
+-- the number of the module of this name
+abbrev pub module_in : Above → Word → Result ℕ Cause
+module_in above name = known (module_named above name)
 
 -- the number of the user of this name
 abbrev pub user_in : Above → Word → Result ℕ Cause
@@ -274,7 +302,7 @@ pids_in above excluded list = if list_any (has_no_pid above) list then Err Unkno
 
 -- one more command
 abbrev pub a_command : Command → Declaration
-a_command command = a_ctl (Run command)
+a_command command = a_ctl (Run (Plain command))
 
 -- the turns of these items, if there aren't too many steps with them, and each CPU is there
 abbrev pub turns_in : Above → List SchedItem → Result Declaration Cause
@@ -290,6 +318,7 @@ named above (version number) = Ok (a_version number)
 named above (func name owner) = Ok (a_function (record { name = name; owner = owner }))
 named above (depth frames) = Ok (some_frames frames)
 named above (tramps slots) = Ok (some_slots slots)
+named above (absent owner) = made an_absence (module_in above owner)
 named above (user u) = made a_user (spec_in above u)
 named above (new_cpu cpu quantum) = Ok (a_cpu quantum)
 named above (new_task pid cpu) = made (a_task pid) (cpu_in above cpu)
@@ -307,6 +336,8 @@ named above (enable name) = made (λ u. a_command (Enable u)) (user_in above nam
 named above (disable name) = made (λ u. a_command (Disable u)) (user_in above name)
 named above (max_depth n) = Ok (a_command (MaxDepth n))
 named above (until pid n) = made (λ task. a_ctl (Until task n)) (task_in above pid)
+named above (load owner) = made (λ m. a_ctl (Run (Load m))) (module_in above owner)
+named above (unload owner) = made (λ m. a_ctl (Run (Unload m))) (module_in above owner)
 named above (sched items) = turns_in above items
 
 -- ## unbalanced
@@ -367,6 +398,20 @@ resolved_line above ended form below =
     else (if above.lines == 0 then first_line form
     else next_line above below form)
 
+-- ## the commands of a line
+
+-- with this line there are too many commands
+abbrev pub has_too_many_commands : Above → Declaration → Bool
+has_too_many_commands above (a_ctl ctl) = nat_lt COMMANDS (command_count (with_ctl above ctl))
+has_too_many_commands above what = false
+
+-- a line that may stand here, if there aren't too many commands with it
+abbrev pub carried_out : Above → Result Resolved Cause → Result Resolved Cause
+carried_out above (Err cause) = Err cause
+carried_out above (Ok line) = if has_too_many_commands above line.what then Err Limit else Ok line
+
+-- ## the first cause
+
 -- the cause, if this is one
 abbrev pub cause_in : {X : Type 0} → Result X Cause → Option Cause
 cause_in (Ok x) = None
@@ -374,4 +419,4 @@ cause_in (Err cause) = Some cause
 
 -- the first cause of a line, of which these are the lines below
 unfoldable pub cause_of : Above → Line → List Line → Option Cause
-cause_of above line below = cause_in (resolved_line above line.ended (line_form line.bytes) below)
+cause_of above line below = cause_in (carried_out above (resolved_line above line.ended (line_form line.bytes) below))

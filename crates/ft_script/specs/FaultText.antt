@@ -2,7 +2,7 @@
 use Rattle.std.specs.Prelude.{List, ℕ, ◌++◌, codes}
 use Rattle.std.specs.Fmt.{decimal}
 use Rattle.ft_script.specs.declared.faults.Cause.{Cause}
-use Rattle.ft_script.specs.declared.faults.Cause.TheVariants.{Version, Syntax, Limit, Duplicate, Unknown, Pattern, Unbalanced, Deadlock, NoMemory}
+use Rattle.ft_script.specs.declared.faults.Cause.TheVariants.{Version, Syntax, Limit, Duplicate, Unknown, Pattern, Unbalanced, Deadlock, Unloaded, NoMemory}
 use Rattle.ft_script.specs.declared.faults.ScriptFault.{ScriptFault}
 
 -- the word for a cause
@@ -15,6 +15,7 @@ cause_word Unknown = codes "unknown"
 cause_word Pattern = codes "pattern"
 cause_word Unbalanced = codes "unbalanced"
 cause_word Deadlock = codes "deadlock"
+cause_word Unloaded = codes "unloaded"
 cause_word NoMemory = codes "no memory"
 
 -- the line and the cause

@@ -1,23 +1,24 @@
 -- What holds of what is declared, if no line has a cause.
-use Rattle.std.specs.Prelude.{ℕ, zero, suc, ◌≡◌, ◌+◌, ◌*◌, ◌<◌, ◌≤◌, false, List, [], ◌∷◌, length, map, sum_by, Option, Some, None, unwrap_or}
+use Rattle.std.specs.Prelude.{ℕ, zero, suc, ◌≡◌, ◌*◌, ◌<◌, ◌≤◌, Bool, true, false, List, [], ◌∷◌, length, map, sum_by, count_by, Option, Some, None, unwrap_or}
 use Rattle.std.specs.List.{AllByRecursion as Each}
 use Rattle.ft_base.specs.declared.context.Ctx.{Ctx}
 use Rattle.ft_base.specs.declared.context.Ctx.TheVariants.{Softirq, Irq, Nmi}
 use Rattle.ft_base.specs.declared.limits.TheConstants.{FRAMES, ITEMS, LANES, QUANTUM}
 use Rattle.ft_base.specs.declared.task.TaskAct.{TaskAct}
-use Rattle.ft_base.specs.Job.{Spec, Ctl, Run, Until}
+use Rattle.ft_base.specs.Job.{Spec}
 use Rattle.ft_base.specs.Versions.{limits_of, IsVersion}
 use Rattle.ft_base.specs.Acts.{Leads, Raises, AreRaised}
 use Rattle.ft_base.specs.WellFormed.{IsNamedIn, IsSetIn, IsActIn}
 use Rattle.history_bound.specs.Bound.{calls_in}
 use Rattle.user_specs.specs.Bound.{call_bound_of}
-use Rattle.word_machine.specs.Limits.{WaitsFor, IsLevel}
-use Rattle.ft_machine.specs.Plans.{IsCommand}
+use Rattle.word_machine.specs.Limits.{IsLevel}
+use Rattle.ft_machine.specs.Plans.{IsModule}
+use Rattle.module_table.specs.Lines.{Plain, Load, Unload}
 use Rattle.script_waits.specs.declared.script.LinedAct.{LinedAct}
 use Rattle.script_waits.specs.Tasks.{LinedTask}
 use Rattle.ft_script.specs.declared.levels.Levels.{Levels}
 use Rattle.ft_script.specs.Levels.{open_calls, is_unfinished}
-use Rattle.ft_script.specs.Above.{Above, LinedCtl}
+use Rattle.ft_script.specs.Above.{Above, ScriptCtl, Run, Until, LinedCtl}
 use Rattle.ft_script.specs.Within.{IsWithinLimits, IsInOrder}
 
 -- ## tasks
@@ -62,21 +63,39 @@ pub record TasksHold (size cpus : ℕ) (tasks : List LinedTask) (levels : Levels
 
 -- ## users and lines of control
 
--- a line of control: its user is one of so many, its set has so many functions, its depth is within the limit, and its task is one of so
--- many
-abbrev pub IsLine : (users size tasks : ℕ) → Ctl → Type 0
-IsLine users size tasks (Run c) = IsNamedIn users c × IsSetIn size c × IsLevel c
-IsLine users size tasks (Until t n) = WaitsFor tasks (Until t n)
+-- a line of control: its user, its module and its task are declared, its set has a mark for each function, and its depth is within the limit
+abbrev pub IsLine : Above → ScriptCtl → Type 0
+IsLine above (Run (Plain c)) = IsNamedIn (length above.users) c × IsSetIn (length above.functions) c × IsLevel c
+IsLine above (Run (Load owner)) = IsModule above.functions owner
+IsLine above (Run (Unload owner)) = IsModule above.functions owner
+IsLine above (Until t n) = t < length above.tasks
 
--- lines of control, of which so many are commands and waits
-pub record LinesHold (users size tasks : ℕ) (ctls : List LinedCtl) (commands waits : ℕ) : Type 0 where
-  pub named : Each (λ c. IsLine users size tasks c.ctl) ctls
-  pub all : length ctls ≡ commands + waits
+-- a wait
+abbrev pub is_wait : ScriptCtl → Bool
+is_wait (Run line) = false
+is_wait (Until t n) = true
 
--- no line of control has a lane if there are no lanes; else each is a command, and has one
-abbrev pub LanesHold : ℕ → List ℕ → List LinedCtl → Type 0
-LanesHold zero lanes ctls = lanes ≡ []
-LanesHold (suc last) lanes ctls = Each (λ c. IsCommand c.ctl) ctls × (length lanes ≡ length ctls) × Each (λ lane. lane < LANES) lanes
+-- lines of control, of which so many are waits
+pub record LinesHold (above : Above) : Type 0 where
+  pub named : Each (λ c. IsLine above c.ctl) above.ctls
+  pub all : count_by (λ c. is_wait c.ctl) above.ctls ≡ above.waits
+
+-- a command
+abbrev pub IsPlain : ScriptCtl → Type 0
+IsPlain (Run (Plain c)) = Unit {0}
+IsPlain _ = ⊥
+
+-- each line of control is a command and has a lane, and no module is absent
+pub record AreInLanes (above : Above) : Type 0 where
+  pub plain : Each (λ c. IsPlain c.ctl) above.ctls
+  pub each : length above.lanes ≡ length above.ctls
+  pub numbers : Each (λ lane. lane < LANES) above.lanes
+  pub loaded : above.absent ≡ []
+
+-- no line of control has a lane if there are no lanes; else each has one
+abbrev pub LanesHold : Above → ℕ → Type 0
+LanesHold above zero = above.lanes ≡ []
+LanesHold above (suc last) = AreInLanes above
 
 -- a number that the script may say is at most this, if it says it
 abbrev pub IsAtMost : ℕ → Option ℕ → Type 0
@@ -90,11 +109,13 @@ pub record Holds (above : Above) : Type 0 where
   pub within : IsWithinLimits above
   pub order : IsInOrder above
   pub frames : IsAtMost FRAMES above.frames
+  pub absent : Each (IsModule above.functions) above.absent
   pub users : Each (λ (s : Spec). IsActIn (length above.functions) s.act) above.users
+  pub user_lines : length above.user_lines ≡ length above.users
   pub quanta : Each (λ q. q ≤ QUANTUM) above.quanta
   pub tasks : TasksHold (length above.functions) (length above.quanta) above.tasks above.levels above.acts above.calls
-  pub lines : LinesHold (length above.users) (length above.functions) (length above.tasks) above.ctls above.commands above.waits
-  pub lanes : LanesHold above.lane_count above.lanes above.ctls
+  pub lines : LinesHold above
+  pub lanes : LanesHold above above.lane_count
   pub items : call_bound_of above.users (limits_of above.version).levels * above.calls ≤ ITEMS
 
 -- the same, and nothing is left open

@@ -1,8 +1,10 @@
 pub mod FaultText
 pub mod Levels
 pub mod Above
+pub mod Expansion
 pub mod Causes
 pub mod Script
+pub mod Hidden
 pub mod Within
 pub mod Kept
 pub mod Holds

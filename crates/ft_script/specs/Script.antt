@@ -1,22 +1,29 @@
 -- The job of a script, or the line for which it is refused, and why.
-use Rattle.std.specs.Prelude.{◌≡◌, ◌≢◌, ℕ, suc, ◌+◌, ◌==◌, List, [], ◌∷◌, ◌++◌, length, map, unwrap_or, Option, Some, None, Result, Ok, Err, ◌⊎◌, if◌then◌else◌}
+use Rattle.std.specs.Prelude.{◌≡◌, ◌≢◌, ℕ, suc, ◌+◌, ◌==◌, ◌||◌, Bool, true, false, List, [], ◌∷◌, ◌++◌, length, map, slice_get, unwrap_or, Option, Some, None, Result, Ok, Err, ◌⊎◌, if◌then◌else◌}
 use Rattle.ft_base.specs.declared.limits.TheConstants.{USUAL_FRAMES, USUAL_TURNS}
+use Rattle.ft_base.specs.declared.number.FuncNo.{FuncNo}
 use Rattle.ft_base.specs.declared.turn.Turn.{Turn}
 use Rattle.ft_base.specs.declared.turn.Who.TheVariants.{All}
-use Rattle.ft_base.specs.Job.{Job, Task, Ctl, Run, Until, usual_lines, usual_rings}
-use Rattle.ft_base.specs.Versions.{limits_of}
+use Rattle.ft_base.specs.declared.user.Act.{Act}
+use Rattle.ft_base.specs.declared.user.Act.TheVariants.{CallIn, IrqIn}
+use Rattle.ft_base.specs.Job.{Job, Spec, Task, LinePlan, usual_rings}
+use Rattle.script_waits.specs.declared.script.LinedAct.{LinedAct}
 use Rattle.script_waits.specs.declared.script.ControlLine.{ControlLine}
 use Rattle.script_waits.specs.declared.script.Wait.{Wait}
 use Rattle.script_waits.specs.declared.script.Wait.TheVariants.{Command as ACommand, Until as AnUntil}
 use Rattle.script_waits.specs.Tasks.{LinedTask, tracks_of}
-use Rattle.script_waits.specs.Greedy.{IsDeadlock}
+use Rattle.script_waits.specs.Greedy.{IsDeadlock, IsLeast}
+use Rattle.module_table.specs.Modules.{module_of}
+use Rattle.module_coverage.specs.Loaded.{is_changing}
+use Rattle.module_coverage.specs.Reading.{IsUncoveredCall}
 use Rattle.script_text.specs.Lines.{Line, lines_of}
 use Rattle.script_form.specs.Forms.{LineForm}
 use Rattle.script_form.specs.Lines.{line_form}
 use Rattle.ft_script.specs.declared.faults.Cause.{Cause}
-use Rattle.ft_script.specs.declared.faults.Cause.TheVariants.{Version, Deadlock, NoMemory}
+use Rattle.ft_script.specs.declared.faults.Cause.TheVariants.{Version, Deadlock, Unloaded, NoMemory}
 use Rattle.ft_script.specs.declared.faults.ScriptFault.{ScriptFault}
-use Rattle.ft_script.specs.Above.{Above, none_above, Declaration, nothing, Resolved, declared}
+use Rattle.ft_script.specs.Above.{Above, ScriptCtl, Run, Until, none_above, slots_of, Declaration, nothing, Resolved, declared}
+use Rattle.ft_script.specs.Expansion.{expansion_of, act_in_job}
 use Rattle.ft_script.specs.Causes.{rank_of, named, cause_of}
 
 -- ## what the lines declare
@@ -78,9 +85,9 @@ pub record IsClean (text : List ℕ) : Type 0 where
 
 -- ## whether the script can end
 
--- what a line of control is for those that wait
-abbrev pub wait_of : Ctl → Wait
-wait_of (Run command) = ACommand
+-- what a line of control is for those that wait: commands, loads and unloads count alike
+abbrev pub wait_of : ScriptCtl → Wait
+wait_of (Run line) = ACommand
 wait_of (Until t n) = AnUntil (record { 0 = t }) n
 
 -- the lines of control, for those that wait
@@ -94,9 +101,21 @@ LeavesWaiting text lowest = IsDeadlock (tracks_of (declared_in text).tasks) (con
 
 -- ## the job: the list of the lines' meanings
 
+-- a task whose waits are those of the job, if there are so many commands after each command, load and unload
+abbrev pub task_in_job : List ℕ → LinedTask → LinedTask
+task_in_job ends task = record task { acts = map (λ (a : LinedAct). record a { act = act_in_job ends a.act }) task.acts }
+
 -- a task of the job
 abbrev pub task_of : LinedTask → Task
 task_of task = record { pid = task.pid; cpu = task.cpu; acts = map (λ a. a.act) task.acts }
+
+-- the tasks, whose waits are those of the job
+abbrev pub job_tasks_of : Above → List LinedTask
+job_tasks_of above = map (task_in_job (expansion_of above).ends) above.tasks
+
+-- the tasks of the job
+abbrev pub tasks_of : Above → List Task
+tasks_of above = map task_of (job_tasks_of above)
 
 -- the schedule; without a `sched` line each actor steps in turn
 abbrev pub schedule_of : List Turn → List Turn
@@ -109,14 +128,54 @@ job_of above = record {
   functions = above.functions;
   users = above.users;
   frames = unwrap_or above.frames USUAL_FRAMES;
-  tramps = unwrap_or above.tramps (limits_of above.version).tramps;
+  tramps = slots_of above;
   quanta = above.quanta;
-  tasks = map task_of above.tasks;
-  ctls = map (λ c. c.ctl) above.ctls;
+  tasks = tasks_of above;
+  ctls = (expansion_of above).ctls;
   schedule = schedule_of above.turns;
-  lines = record usual_lines { lanes = above.lanes };
+  lines = record { lanes = above.lanes; absent = above.absent; modules = (expansion_of above).rows };
   rings = usual_rings;
 }
+
+-- ## whether modules are there when their functions are needed
+
+-- the function that an act calls, if there is an act
+abbrev pub called_by : Option Act → Option FuncNo
+called_by None = None
+called_by (Some (CallIn f)) = Some f
+called_by (Some (IrqIn f)) = Some f
+
+-- the module, if there is one, is named by a line: it is absent at first, or is loaded or unloaded
+abbrev pub is_named_module : LinePlan → Option ℕ → Bool
+is_named_module lines None = false
+is_named_module lines (Some m) = is_changing lines m
+
+-- the function, if there is one, lies in such a module
+abbrev pub lies_in_named : Job → Option FuncNo → Bool
+lies_in_named job None = false
+lies_in_named job (Some f) = is_named_module job.lines (module_of job.functions f.0)
+
+-- at its callbacks a user calls a function of such a module, or it puts one in the place of those that it traces. Nothing in the script says
+-- when
+abbrev pub needs_named : Job → Spec → Bool
+needs_named job s = lies_in_named job (called_by s.act) || lies_in_named job s.ipmodify
+
+-- line n is that of such a user
+pub record IsLineOfNeed (job : Job) (above : Above) (n : ℕ) : Type 0 where
+  pub number : ℕ
+  pub spec : Spec
+  pub user : slice_get above.users number ≡ Some spec
+  pub line : slice_get above.user_lines number ≡ Some n
+  pub needs : needs_named job spec ≡ true
+
+-- line n is that of such a user, or that of a call that isn't covered
+pub data MayFindUnloaded (above : Above) (n : ℕ) : Type 0 where
+  user_may : IsLineOfNeed (job_of above) above n → MayFindUnloaded above n
+  call_may : IsUncoveredCall (job_of above) (tracks_of above.tasks) n → MayFindUnloaded above n
+
+-- the lowest line that may find a module unloaded whose function it needs, or none
+abbrev pub LeavesUnloaded : List ℕ → Option ℕ → Type 0
+LeavesUnloaded text lowest = IsLeast (MayFindUnloaded (declared_in text)) lowest
 
 -- ## what the reader answers
 
@@ -124,6 +183,7 @@ job_of above = record {
 pub record IsJobOf (text : List ℕ) (job : Job) : Type 0 where
   pub accepted : refusal_of text ≡ None
   pub ends : LeavesWaiting text None
+  pub loaded : LeavesUnloaded text None
   pub meaning : job ≡ job_of (declared_in text)
 
 -- no line has a cause, and the script can't end: the fault is at the lowest line that is left waiting
@@ -132,9 +192,17 @@ pub record IsDeadlockOf (text : List ℕ) (fault : ScriptFault) : Type 0 where
   pub cause : fault.cause ≡ Deadlock
   pub line : LeavesWaiting text (Some fault.line)
 
+-- no line has a cause and the script can end, but a module may be unloaded when a function of it is needed: the fault is at the lowest line
+-- that may find it so
+pub record IsUnloadedOf (text : List ℕ) (fault : ScriptFault) : Type 0 where
+  pub accepted : refusal_of text ≡ None
+  pub ends : LeavesWaiting text None
+  pub cause : fault.cause ≡ Unloaded
+  pub line : LeavesUnloaded text (Some fault.line)
+
 -- the text is refused, with this fault
 abbrev pub IsRefusalOf : List ℕ → ScriptFault → Type 0
-IsRefusalOf text fault = (refusal_of text ≡ Some fault) ⊎ IsDeadlockOf text fault
+IsRefusalOf text fault = (refusal_of text ≡ Some fault) ⊎ (IsDeadlockOf text fault ⊎ IsUnloadedOf text fault)
 
 -- out of memory
 abbrev pub no_memory : ScriptFault

@@ -1,8 +1,17 @@
 //! What a line declares.
 
-use ft_base::{TaskAct, Turn};
-use ft_machine::Ctl;
+use ft_base::{TaskAct, TaskNo, Turn};
+use module_table::ModLine;
 use user_specs::Spec;
+
+/// A line of control, as a script has it.
+#[derive(Drop)]
+pub enum ScriptCtl {
+    /// A command, a load or an unload.
+    Run(ModLine),
+    /// Control waits until the task has finished this many acts.
+    Until { task: TaskNo, acts: u32 },
+}
 
 /// What a line declares: what it names is a number, and its filter text is an edit.
 #[derive(Drop)]
@@ -20,6 +29,8 @@ pub enum Declaration<'a> {
     Frames(u32),
     /// The trampoline slots.
     Slots(u32),
+    /// The number of a module that isn't loaded at first.
+    Absence(u32),
     User(Spec),
     /// A CPU, which has the next number.
     Cpu {
@@ -34,7 +45,7 @@ pub enum Declaration<'a> {
     /// A lane, which has the next number.
     Lane,
     /// A line of control.
-    Ctl(Ctl),
+    Ctl(ScriptCtl),
     /// Turns of the schedule, and how many steps it has with them.
     Turns {
         turns: Vec<Turn>,

@@ -19,9 +19,9 @@ pub enum Cause {
     Syntax,
     /// A number or a name is outside its limits, or there is one too many of something.
     Limit,
-    /// A function, a user or a pid is declared once more.
+    /// A function, a user or a pid is declared once more, or a module is absent once more.
     Duplicate,
-    /// A function, a user, a pid or a CPU isn't declared above.
+    /// A function, a module, a user, a pid or a CPU isn't declared above.
     Unknown,
     /// The filter text is refused.
     Pattern,
@@ -30,6 +30,10 @@ pub enum Cause {
     /// No line has another cause, and the script can't end: this is the lowest line that would be
     /// left waiting.
     Deadlock,
+    /// No line has another cause, and a module may be unloaded when a function of it is needed: this is
+    /// the lowest line of a call that may find it so, or of a user that calls such a function or puts it
+    /// in the place of others.
+    Unloaded,
     /// Out of memory. The line is 0.
     NoMemory,
 }
@@ -48,6 +52,7 @@ impl Cause {
             Cause::Pattern => "pattern",
             Cause::Unbalanced => "unbalanced",
             Cause::Deadlock => "deadlock",
+            Cause::Unloaded => "unloaded",
             Cause::NoMemory => "no memory",
         }
     }

@@ -5,6 +5,7 @@ ghost use Rattle.std.specs.Prelude.{◌≡◌, nat_le, nat_lt, option_map};
 ghost use Rattle.std.specs.List.{list_any};
 ghost use Rattle.std.specs.Option.{option_copied};
 ghost use Rattle.script_form.specs.Read.{form_read, user_read};
+ghost use Rattle.ft_script.specs.Kept.{names_module};
 ghost use Rattle.ft_script.specs.Causes.{rank_of, is_act, is_long, is_long_or_none, has_long_name, act_name, is_big, is_bad_count, is_bad_pid, is_bad_depth, is_bad_quantum};
 
 use ft_base::limits::{FRAMES, NAME_BYTES, PID, QUANTUM};
@@ -33,7 +34,7 @@ pub fn rank_of(form: &LineForm, before: u8) -> u8
         LineForm::Skip => before,
         LineForm::Version { .. } => 0,
         LineForm::Func { .. } => 1,
-        LineForm::Depth { .. } | LineForm::Tramps { .. } => 2,
+        LineForm::Depth { .. } | LineForm::Tramps { .. } | LineForm::Absent { .. } => 2,
         LineForm::User(_) => 3,
         LineForm::NewCpu { .. } => 4,
         LineForm::NewTask { .. }
@@ -45,6 +46,16 @@ pub fn rank_of(form: &LineForm, before: u8) -> u8
         LineForm::Sched { .. } => 7,
         _ => 6,
     }
+}
+
+/// Whether the line says the name of a module by which it is looked up.
+pub fn names_module(form: &LineForm) -> bool
+    ensures { result ≡ names_module (form_read form.now) }
+{
+    matches!(
+        form,
+        LineForm::Absent { .. } | LineForm::Load { .. } | LineForm::Unload { .. }
+    )
 }
 
 // ## limits

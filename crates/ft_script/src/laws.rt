@@ -5,7 +5,7 @@ ghost use Rattle.ft_base.specs.Job.{Job};
 ghost use Rattle.script_text.specs.Lines.{Line, lines_of};
 ghost use Rattle.ft_script.specs.declared.faults.ScriptFault.{ScriptFault};
 ghost use Rattle.ft_script.specs.Above.{none_above};
-ghost use Rattle.ft_script.specs.Script.{refusal_below, declared_in, job_of, IsFirstRefusal, IsClean, LeavesWaiting, IsJobOf, IsRefusalOf};
+ghost use Rattle.ft_script.specs.Script.{refusal_below, declared_in, job_of, IsFirstRefusal, IsClean, LeavesWaiting, LeavesUnloaded, IsJobOf, IsRefusalOf};
 
 /// A text is a script or it is refused, never both, and it has one job or one fault.
 pub fn a_text_has_one_answer()
@@ -15,15 +15,16 @@ pub fn a_text_has_one_answer()
     ensures one_fault { (text : List ℕ) (a b : ScriptFault) → IsRefusalOf text a → IsRefusalOf text b → a ≡ b }
 {}
 
-/// A fault other than a deadlock is that of the first line that has a cause, with its first cause.
+/// A fault other than a deadlock and an unloaded module is that of the first line that has a cause, with its first cause.
 pub fn refusal_is_first()
     ensures { (text : List ℕ) (fault : ScriptFault)
         → (refusal_below none_above (lines_of text) ≡ Some fault) ↔ IsFirstRefusal none_above (lines_of text) fault }
 {}
 
-/// A text none of whose lines has a cause is a script if the greedy run leaves nobody waiting.
+/// A text none of whose lines has a cause is a script if the greedy run leaves nobody waiting, and no line
+/// may find a module unloaded.
 pub fn a_clean_text_is_a_script()
-    ensures { (text : List ℕ) → IsClean text → LeavesWaiting text None → IsJobOf text (job_of (declared_in text)) }
+    ensures { (text : List ℕ) → IsClean text → LeavesWaiting text None → LeavesUnloaded text None → IsJobOf text (job_of (declared_in text)) }
 {}
 
 /// Two scripts that differ in line 1 alone, which says the version, and that say how many trampoline

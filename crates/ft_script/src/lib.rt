@@ -5,7 +5,9 @@
 //! control, turns of the schedule. What the lines above a line have declared decides, with the line
 //! itself, whether the line has a cause to be refused; only whether an act is its task's last is seen
 //! from the lines below. A text is a script if no line has a cause and its tasks and control can all
-//! come to their ends (`script_waits`). Then its job is the list of what its lines mean.
+//! come to their ends (`script_waits`), and no function of a module is needed when that may be unloaded (`module_coverage`).
+//! Then its job is the list of what its lines mean; lines of control come to the commands that carry
+//! them out (`module_table`).
 //!
 //! Proved: [`read_script`] gives exactly the job of each script, and of each other text the lowest
 //! line that has a cause and the first of its causes; out of memory is the one other answer. A text
@@ -14,10 +16,11 @@
 //! trampoline slots there are has the same job in each version that accepts it
 //! ([`a_version_changes_no_more_than_limits`]). Only tested, in
 //! `ft_script_tests`: that the largest scripts are read when there is memory, and that reading takes
-//! time in proportion to the bytes.
+//! time in proportion to the bytes and to what each line of control plans.
 #![tactic(auto)]
 
 mod declaration;
+mod expansion;
 mod faults;
 mod form;
 mod last_act;

@@ -10,13 +10,14 @@ use script_form::LineForm;
 use std::alloc::{AllocError, Global};
 
 impl Reader {
-    ghost use Rattle.std.specs.Prelude.{◌≡◌, length, IfOk};
+    ghost use Rattle.std.specs.Prelude.{◌≡◌, ◌==◌, length, Some, IfOk};
     ghost use Rattle.std.specs.List.{list_any};
     ghost use Rattle.script_text.specs.Lines.{lines_of};
     ghost use Rattle.script_form.specs.Read.{form_read};
-    ghost use Rattle.ft_script.specs.Causes.{is_misplaced, has_ctl_in_no_lane, is_out_of_place, is_duplicate, has_pid, has_no_pid, is_unmatched, is_unbalanced};
+    ghost use Rattle.ft_script.specs.Causes.{is_misplaced, has_ctl_in_no_lane, is_wrong_lane, is_out_of_place, is_absent, module_named, is_duplicate, has_pid, has_no_pid, is_unmatched, is_unbalanced};
     ghost use Rattle.ft_script.specs.Within.{IsWithinLimits};
-    ghost use Rattle.ft_script.specs.Kept.{above_of, declaration_of};
+    ghost use Rattle.module_table.specs.Modules.{modules_in};
+    ghost use Rattle.ft_script.specs.Kept.{above_of, declaration_of, HasNames};
 
     // ## syntax
 
@@ -25,6 +26,13 @@ impl Reader {
         ensures { result ≡ has_ctl_in_no_lane (above_of self.now) }
     {
         self.lanes.len() != self.ctls.len()
+    }
+
+    /// Whether a lane of this number can't come here.
+    fn is_wrong_lane(&self, lane: u64) -> bool
+        ensures { result ≡ is_wrong_lane (above_of self.now) lane }
+    {
+        lane != u64::from(self.lane_count) || self.has_ctl_in_no_lane() || !self.absent.is_empty()
     }
 
     /// Whether the line is out of place, whatever its rank.
@@ -36,10 +44,10 @@ impl Reader {
             LineForm::Depth { .. } => self.frames.is_some(),
             LineForm::Tramps { .. } => self.tramps.is_some(),
             LineForm::NewCpu { cpu, .. } => *cpu != self.quanta.len() as u64,
-            LineForm::NewLane { lane } => {
-                *lane != u64::from(self.lane_count) || self.has_ctl_in_no_lane()
+            LineForm::NewLane { lane } => self.is_wrong_lane(*lane),
+            LineForm::Until { .. } | LineForm::Load { .. } | LineForm::Unload { .. } => {
+                self.lane_count != 0
             }
-            LineForm::Until { .. } => self.lane_count != 0,
             other => is_act(other) && self.tasks.is_empty(),
         }
     }
@@ -70,11 +78,31 @@ impl Reader {
         pids.iter().any(|pid| self.has_no_pid(*pid))
     }
 
+    /// Whether the module of this name is absent already.
+    fn is_absent(&self, owner: &str) -> bool
+        requires { self.now.names ≡ Some (modules_in self.now.functions.functions) }
+        ensures { result ≡ is_absent (above_of self.now) (module_named (above_of self.now) owner.now) }
+    {
+        match self.module_number(owner) {
+            Some(number) => self.has_absent(number),
+            None => false,
+        }
+    }
+
+    /// Whether the module of this number is absent already.
+    fn has_absent(&self, number: u32) -> bool
+        ensures { result ≡ list_any (λ other. other == number) self.now.absent.items }
+    {
+        self.absent.iter().any(|other| *other == number)
+    }
+
     pub fn is_duplicate(&self, form: &LineForm) -> bool
+        requires { HasNames self.now (form_read form.now) }
         ensures { result ≡ is_duplicate (above_of self.now) (form_read form.now) }
     {
         match form {
             LineForm::Func { name, .. } => self.functions.find(name).is_some(),
+            LineForm::Absent { owner } => self.is_absent(owner),
             LineForm::User(user) => user_number(self.users.as_slice(), user.name).is_some(),
             LineForm::NewTask { pid, .. } => self.has_pid(*pid),
             _ => false,

@@ -1,19 +1,25 @@
 //! What a reader that has read all lines gives: whether the script can end, and the parts of its job.
 
-ghost use Rattle.std.specs.Prelude.{◌≡◌, ◌≤◌, map, length, unwrap_or, IfOk};
+ghost use Rattle.std.specs.Prelude.{◌≡◌, ◌≤◌, ◌++◌, ℕ, [], map, length, unwrap_or, None, IfOk, IfSome, OnOk};
 ghost use Rattle.ft_base.specs.Versions.{limits_of};
 ghost use Rattle.user_specs.specs.Plain.{cpu_of, task_of as plan_seen};
 ghost use Rattle.ft_machine.specs.Parts.{tasks_on, cpus_from};
+ghost use Rattle.script_waits.specs.declared.script.LinedAct.{LinedAct};
 ghost use Rattle.script_waits.specs.Tasks.{lined_task};
-ghost use Rattle.ft_script.specs.Kept.{control_line};
+ghost use Rattle.control_core.specs.Lines.{lines_of};
+ghost use Rattle.ft_script.specs.Expansion.{commands_by, act_in_job, line_as_it_is, lines_as_they_are};
+ghost use Rattle.ft_script.specs.Kept.{control_line, lined_ctl};
 ghost use Rattle.ft_script.specs.Holds.{IsAtMost};
-ghost use Rattle.ft_script.specs.Script.{task_of, schedule_of};
+ghost use Rattle.ft_script.specs.Script.{task_of, task_in_job, schedule_of};
 
+use crate::declaration::ScriptCtl;
+use crate::expansion::Expansion;
 use crate::reader::{LinedCtl, Reader};
 use ft_base::limits::{CPUS, Limits, TASKS, USUAL_FRAMES, USUAL_RING, USUAL_TURNS};
 use ft_base::{TaskAct, TaskNo, Turn, Who};
-use ft_machine::{Ctl, JobParts};
+use ft_machine::{Ctl, JobParts, ModRow};
 use ft_schedule::Schedule;
+use module_table::ModLine;
 use script_waits::{ControlLine, LinedAct, LinedTask, Wait, deadlock};
 use std::alloc::{AllocError, Global};
 use user_specs::{CpuPlan, TaskPlan};
@@ -25,8 +31,8 @@ fn control_line(line: &LinedCtl) -> ControlLine
     ensures { result ≡ control_line line.now }
 {
     let wait = match &line.ctl {
-        Ctl::Run(_) => Wait::Command,
-        Ctl::Until { task, acts } => Wait::Until {
+        ScriptCtl::Run(_) => Wait::Command,
+        ScriptCtl::Until { task, acts } => Wait::Until {
             task: *task,
             acts: *acts,
         },
@@ -44,6 +50,67 @@ fn control_lines(alloc: Global, lines: &[LinedCtl]) -> Result<Vec<ControlLine>, 
 }
 
 // ## parts of the job
+
+/// How many commands there are after the first `n` commands, loads and unloads of a script, if there are
+/// so many after each of them; `n` itself if they stay as they are.
+fn commands_by(ends: &[u32], n: u32) -> u32
+    ensures { result ≡ commands_by ends.now n }
+{
+    if n == 0 {
+        return 0;
+    }
+    match ends.get(n as usize - 1) {
+        Some(commands) => *commands,
+        None => n,
+    }
+}
+
+/// The act in the job.
+fn act_in_job(ends: &[u32], act: LinedAct) -> LinedAct
+    ensures { result ≡ record act { act = act_in_job ends.now act.act } }
+{
+    match act.act {
+        TaskAct::After(n) => LinedAct {
+            act: TaskAct::After(commands_by(ends, n)),
+            line: act.line,
+        },
+        _ => act,
+    }
+}
+
+/// The acts in the job.
+fn acts_in_job(alloc: Global, ends: &[u32], acts: &[LinedAct]) -> Result<Vec<LinedAct>, AllocError>
+    ensures { IfOk result (λ v. v.items ≡ map {A = LinedAct} (λ a. record a { act = act_in_job ends.now a.act }) acts.now) }
+{
+    acts.iter().map(|act| act_in_job(ends, *act)).collect(alloc)
+}
+
+/// A task whose waits are those of the job.
+fn task_in_job(alloc: Global, ends: &[u32], task: &LinedTask) -> Result<LinedTask, AllocError>
+    ensures { IfOk result (λ t. lined_task t ≡ task_in_job ends.now (lined_task task.now)) }
+{
+    let acts = acts_in_job(alloc, ends, task.acts.as_slice())?;
+    Ok(LinedTask {
+        pid: task.pid,
+        cpu: task.cpu,
+        acts,
+    })
+}
+
+/// The tasks, whose waits are those of the job.
+fn tasks_in_job(
+    alloc: Global,
+    ends: &[u32],
+    tasks: &[LinedTask],
+) -> Result<Vec<LinedTask>, AllocError>
+    ensures { IfOk result (λ v. map lined_task v.items ≡ map (task_in_job ends.now) (map lined_task tasks.now)) }
+{
+    let mut those = Vec::new(alloc);
+    for task in tasks {
+        those.push(task_in_job(alloc, ends, task)?)?;
+    }
+    Ok(those)
+}
 
 /// The acts without their lines.
 fn plain_acts(alloc: Global, acts: &[LinedAct]) -> Result<Vec<TaskAct>, AllocError>
@@ -90,7 +157,7 @@ fn cpu_plans(alloc: Global, quanta: &[u32], tasks: &[LinedTask]) -> Result<Vec<C
 }
 
 /// How many trampoline slots there are in a script of this version, which may say it.
-fn slots(version: u8, said: Option<u32>) -> u8
+pub fn slots(version: u8, said: Option<u32>) -> u8
     requires { IsAtMost (limits_of version).tramps said }
     ensures { result ≡ unwrap_or said (limits_of version).tramps }
 {
@@ -100,11 +167,44 @@ fn slots(version: u8, said: Option<u32>) -> u8
     }
 }
 
-/// The lines of control without their numbers.
-fn plain_ctls(alloc: Global, lines: Vec<LinedCtl>) -> Result<Vec<Ctl>, AllocError>
-    ensures { IfOk result (λ v. v.items ≡ map (λ c. c.ctl) lines.items) }
+/// Adds a line of control as it is, if it is neither a load nor an unload.
+fn push_as_it_is(ctls: &mut Vec<Ctl>, line: LinedCtl) -> Result<(), AllocError>
+    ensures { OnOk result ((tasks : ℕ) → lines_of tasks ctls.new.items ≡ lines_of tasks ctls.old.items ++ line_as_it_is (lined_ctl tasks line).ctl) }
 {
-    lines.into_iter().map(|line| line.ctl).collect(alloc)
+    match line.ctl {
+        ScriptCtl::Run(ModLine::Plain(command)) => ctls.push(Ctl::Run(command))?,
+        ScriptCtl::Run(ModLine::Load(_) | ModLine::Unload(_)) => {}
+        ScriptCtl::Until { task, acts } => ctls.push(Ctl::Until { task, acts })?,
+    }
+    Ok(())
+}
+
+/// The lines of control as they are.
+fn lines_as_they_are(alloc: Global, lines: Vec<LinedCtl>) -> Result<Vec<Ctl>, AllocError>
+    ensures { IfOk result (λ v. (tasks : ℕ) → lines_of tasks v.items ≡ lines_as_they_are (map (lined_ctl tasks) lines.items)) }
+{
+    let mut ctls = Vec::new(alloc);
+    for line in lines {
+        push_as_it_is(&mut ctls, line)?;
+    }
+    Ok(ctls)
+}
+
+/// The lines of control in the job, and the loads and unloads: what the lines come to, or in a script
+/// with lanes the lines as they are.
+fn job_lines(
+    alloc: Global,
+    expansion: Option<Expansion>,
+    lines: Vec<LinedCtl>,
+) -> Result<(Vec<Ctl>, Vec<ModRow>), AllocError>
+    ensures some { IfOk result (λ r. IfSome expansion (λ x. (r.0.items ≡ x.ctls.items) × (r.1.items ≡ x.rows.items))) }
+    ensures none { IfOk result (λ r. expansion ≡ None → (r.1.items ≡ [])
+        × ((tasks : ℕ) → lines_of tasks r.0.items ≡ lines_as_they_are (map (lined_ctl tasks) lines.items))) }
+{
+    match expansion {
+        Some(expansion) => Ok(expansion.into_lines()),
+        None => Ok((lines_as_they_are(alloc, lines)?, Vec::new(alloc))),
+    }
 }
 
 /// The schedule. Without a `sched` line, control and each CPU step in turn.
@@ -127,8 +227,9 @@ impl Reader {
     ghost use Rattle.ft_machine.specs.Parts.{parts_of};
     ghost use Rattle.script_waits.specs.Tasks.{tracks_of};
     ghost use Rattle.script_waits.specs.Greedy.{IsDeadlock};
-    ghost use Rattle.ft_script.specs.Kept.{above_of, AreParts};
-    ghost use Rattle.ft_script.specs.Script.{control_of};
+    ghost use Rattle.ft_script.specs.Expansion.{expansion_of};
+    ghost use Rattle.ft_script.specs.Kept.{above_of, AreParts, IsOpen};
+    ghost use Rattle.ft_script.specs.Script.{control_of, job_tasks_of};
 
     /// The lowest line that would be left waiting, if there is one.
     pub fn deadlock(&self, alloc: Global) -> Result<Option<u32>, AllocError>
@@ -138,14 +239,36 @@ impl Reader {
         deadlock(alloc, self.tasks.as_slice(), control.as_slice())
     }
 
-    /// The parts of the job.
-    pub fn into_parts(self, alloc: Global) -> Result<JobParts, AllocError>
+    /// The tasks, whose waits are those of the job.
+    pub fn job_tasks(&self, alloc: Global) -> Result<Vec<LinedTask>, AllocError>
+        requires open { IsOpen self.now }
+        ensures { IfOk result (λ v. map lined_task v.items ≡ job_tasks_of (above_of self.now)) }
+    {
+        tasks_in_job(alloc, self.ends(), self.tasks.as_slice())
+    }
+
+    /// How many commands there are after each command, load and unload; nothing if the lines of control
+    /// stay as they are.
+    fn ends(&self) -> &[u32]
+        requires open { IsOpen self.now }
+        ensures { result.now ≡ (expansion_of (above_of self.now)).ends }
+    {
+        match &self.expansion {
+            Some(expansion) => expansion.ends(),
+            None => &[],
+        }
+    }
+
+    /// The parts of the job, which has these tasks.
+    pub fn into_parts(self, alloc: Global, tasks: Vec<LinedTask>) -> Result<JobParts, AllocError>
         requires cpus { length self.quanta.items ≤ CPUS }
-        requires tasks { length self.tasks.items ≤ TASKS }
+        requires few { length self.tasks.items ≤ TASKS }
         requires tramps { IsAtMost (limits_of self.version).tramps self.tramps }
+        requires open { IsOpen self }
+        requires tasks { map lined_task tasks.items ≡ job_tasks_of (above_of self) }
         ensures { IfOk result (λ p. AreParts (parts_of p) (above_of self)) }
     {
-        let cpus = cpu_plans(alloc, self.quanta.as_slice(), self.tasks.as_slice())?;
+        let cpus = cpu_plans(alloc, self.quanta.as_slice(), tasks.as_slice())?;
         let Reader {
             version,
             lines: _,
@@ -153,21 +276,24 @@ impl Reader {
             frames,
             tramps,
             functions,
+            names: _,
+            absent,
             users,
+            user_lines: _,
             quanta: _,
             tasks: _,
             levels: _,
             acts: _,
             calls: _,
             ctls,
-            commands: _,
             waits: _,
+            expansion,
             lane_count: _,
             lanes,
             turns,
             steps: _,
         } = self;
-        let ctls = plain_ctls(alloc, ctls)?;
+        let (ctls, modules) = job_lines(alloc, expansion, ctls)?;
         let schedule = schedule(turns)?;
         Ok(JobParts {
             version,
@@ -179,8 +305,8 @@ impl Reader {
             ctls,
             schedule,
             lanes,
-            absent: Vec::new(alloc),
-            modules: Vec::new(alloc),
+            absent,
+            modules,
             ring: USUAL_RING,
             tracing: true,
             triggers: Vec::new(alloc),

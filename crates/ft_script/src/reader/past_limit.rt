@@ -12,14 +12,15 @@ use script_form::LineForm;
 use user_specs::call_bound;
 
 impl Reader {
-    ghost use Rattle.std.specs.Prelude.{◌≡◌};
+    ghost use Rattle.std.specs.Prelude.{◌≡◌, ◌<◌, ◌^◌, None};
     ghost use Rattle.std.specs.Option.{option_copied};
     ghost use Rattle.ft_base.specs.Versions.{limits_of};
     ghost use Rattle.script_form.specs.Read.{form_read};
     ghost use Rattle.script_form.specs.Forms.{func, new_task, until};
     ghost use Rattle.ft_script.specs.Causes.{is_past_limit, is_full_of_acts, is_full_of_calls, is_full_of_commands, has_no_room};
     ghost use Rattle.ft_script.specs.Within.{IsWithinLimits};
-    ghost use Rattle.ft_script.specs.Kept.{above_of};
+    ghost use Rattle.ft_script.specs.Expansion.{command_count};
+    ghost use Rattle.ft_script.specs.Kept.{above_of, IsKept};
 
     /// What differs by version, of what there may be.
     fn limits(&self) -> Limits
@@ -35,11 +36,44 @@ impl Reader {
         self.acts >= ACTS
     }
 
+    /// How many commands the lines of control so far come to, those with which control opens among them.
+    pub fn command_count(&self) -> u32
+        requires few { self.now.expansion ≡ None → command_count (above_of self.now) < 2 ^ 32 }
+        requires kept { IsKept self.now }
+        ensures { result ≡ command_count (above_of self.now) }
+    {
+        match &self.expansion {
+            Some(expansion) => expansion.commands(),
+            None => self.unexpanded_count(),
+        }
+    }
+
+    /// The same, as long as the reader hasn't what they come to.
+    fn unexpanded_count(&self) -> u32
+        requires few { command_count (above_of self.now) < 2 ^ 32 }
+        requires none { self.now.expansion ≡ None }
+        requires kept { IsKept self.now }
+        ensures { result ≡ command_count (above_of self.now) }
+    {
+        if self.lane_count > 0 {
+            // Each line is a command.
+            return self.ctls.len() as u32;
+        }
+        // There is no line yet. With an absent module control opens with a command for each user.
+        if self.absent.is_empty() {
+            0
+        } else {
+            self.users.len() as u32
+        }
+    }
+
     /// Whether one more command is too many.
     fn is_full_of_commands(&self) -> bool
+        requires within { IsWithinLimits (above_of self.now) }
+        requires kept { IsKept self.now }
         ensures { result ≡ is_full_of_commands (above_of self.now) }
     {
-        self.commands >= COMMANDS
+        self.command_count() >= COMMANDS
     }
 
     /// Whether the calls, with one more, could make more items than a history may have.
@@ -86,7 +120,8 @@ impl Reader {
     /// Whether a name or a number of the line is outside its limits, or there is one too many of what
     /// it declares.
     pub fn is_past_limit(&self, form: &LineForm) -> bool
-        requires { IsWithinLimits (above_of self.now) }
+        requires within { IsWithinLimits (above_of self.now) }
+        requires kept { IsKept self.now }
         ensures { result ≡ is_past_limit (above_of self.now) (form_read form.now) }
     {
         match form {
@@ -94,6 +129,7 @@ impl Reader {
             LineForm::Func { name, owner } => self.is_func_past_limit(name, *owner),
             LineForm::Depth { frames } => is_bad_depth(*frames),
             LineForm::Tramps { slots } => is_above(*slots, u32::from(self.limits().tramps)),
+            LineForm::Absent { owner } => is_long(owner),
             LineForm::User(user) => {
                 has_long_name(user) || is_full(self.users.len(), self.limits().users)
             }
@@ -110,6 +146,9 @@ impl Reader {
             | LineForm::Write { user, .. }
             | LineForm::Enable { user }
             | LineForm::Disable { user } => is_long(user) || self.is_full_of_commands(),
+            LineForm::Load { owner } | LineForm::Unload { owner } => {
+                is_long(owner) || self.is_full_of_commands()
+            }
             LineForm::Pids { pids, .. } => any_bad_pid(pids) || self.is_full_of_commands(),
             LineForm::MaxDepth { depth } => {
                 is_above(*depth, GRAPH_DEPTH) || self.is_full_of_commands()

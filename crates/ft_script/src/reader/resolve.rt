@@ -7,7 +7,7 @@ ghost use Rattle.ft_script.specs.Causes.{a_command, first_line};
 ghost use Rattle.ft_script.specs.Script.{IsRefused};
 ghost use Rattle.ft_script.specs.Kept.{declaration_of, resolved_of};
 
-use crate::declaration::{Declaration, Resolved};
+use crate::declaration::{Declaration, Resolved, ScriptCtl};
 use crate::faults::Cause;
 use crate::form::rank_of;
 use crate::reader::Reader;
@@ -15,18 +15,19 @@ use crate::reader::find::{pid_mask, task_number, user_number};
 use filter_commands::{EditFault, read_edit};
 use ft_base::limits::{TASKS, USERS};
 use ft_base::{Act, FuncNo, Half, TaskAct, TaskNo, Turn, UserNo};
-use ft_machine::{Command, Ctl};
+use ft_machine::Command;
 use ft_schedule::{SchedItem, has_unknown, push_turns, steps_with};
+use module_table::ModLine;
 use script_form::{LineForm, UserAct, UserLine};
 use site_set::Edit;
 use std::alloc::Global;
 use user_specs::Spec;
 
-/// A line of control that carries out a command.
+/// A line of control that is a command.
 fn command<'a>(command: Command) -> Declaration<'a>
     ensures { (tasks : ℕ) → declaration_of tasks result ≡ a_command (command_of tasks command) }
 {
-    Declaration::Ctl(Ctl::Run(command))
+    Declaration::Ctl(ScriptCtl::Run(ModLine::Plain(command)))
 }
 
 /// Line 1, which says the version.
@@ -44,7 +45,7 @@ fn first_line<'a>(form: &Option<LineForm<'a>>) -> Result<Resolved<'a>, Cause>
 }
 
 impl Reader {
-    ghost use Rattle.std.specs.Prelude.{◌≡◌, ◌≤◌, ◌<◌, ◌^◌, false, length, option_map, Ok, IfOk, IfErr};
+    ghost use Rattle.std.specs.Prelude.{◌≡◌, ◌≤◌, ◌<◌, ◌^◌, false, length, option_map, Some, Ok, IfOk, IfErr, IfSome};
     ghost use Rattle.std.specs.Option.{option_copied};
     ghost use Rattle.ft_desk.specs.Commands.{command_of};
     ghost use Rattle.script_form.specs.Read.{form_read, act_read, user_read};
@@ -52,10 +53,11 @@ impl Reader {
     ghost use Rattle.site_set.specs.Edits.{plain_edit};
     ghost use Rattle.user_specs.specs.Plain.{spec_of};
     ghost use Rattle.ft_script.specs.Above.{more_turns};
-    ghost use Rattle.ft_script.specs.Causes.{is_past_limit, made, function_in, function_or_none, user_in, task_in, cpu_in, act_in, spec_in, edit_in, write_with, pids_in, turns_in, named, resolved, resolved_line};
+    ghost use Rattle.ft_script.specs.Causes.{is_past_limit, made, function_in, function_or_none, module_named, module_in, user_in, task_in, cpu_in, act_in, spec_in, edit_in, write_with, pids_in, turns_in, named, resolved, resolved_line};
     ghost use Rattle.ft_script.specs.Script.{IsRefused};
     ghost use Rattle.ft_script.specs.Within.{IsWithinLimits};
-    ghost use Rattle.ft_script.specs.Kept.{above_of, declaration_of, resolved_of};
+    ghost use Rattle.module_table.specs.Modules.{modules_in};
+    ghost use Rattle.ft_script.specs.Kept.{above_of, declaration_of, resolved_of, IsKept, HasNames};
 
     // ## what a line names
 
@@ -75,6 +77,27 @@ impl Reader {
         match name {
             None => Ok(None),
             Some(name) => Ok(Some(self.function(name)?)),
+        }
+    }
+
+    /// The number of the module of this name, if there is one.
+    pub fn module_number(&self, name: &str) -> Option<u32>
+        requires { self.now.names ≡ Some (modules_in self.now.functions.functions) }
+        ensures { result ≡ module_named (above_of self.now) name.now }
+    {
+        match &self.names {
+            Some(names) => names.find(name),
+            None => None,
+        }
+    }
+
+    fn module(&self, name: &str) -> Result<u32, Cause>
+        requires { self.now.names ≡ Some (modules_in self.now.functions.functions) }
+        ensures { result ≡ module_in (above_of self.now) name.now }
+    {
+        match self.module_number(name) {
+            Some(number) => Ok(number),
+            None => Err(Cause::Unknown),
         }
     }
 
@@ -211,6 +234,7 @@ impl Reader {
     fn named<'a>(&self, alloc: Global, form: &LineForm<'a>) -> Result<Declaration<'a>, Cause>
         requires within { IsWithinLimits (above_of self.now) }
         requires limit { is_past_limit (above_of self.now) (form_read form.now) ≡ false }
+        requires names { HasNames self.now (form_read form.now) }
         ensures ok { IfOk result (λ what. named (above_of self.now) (form_read form.now) ≡ Ok (declaration_of (length self.now.tasks.items) what)) }
         ensures err { IfErr result (IsRefused (named (above_of self.now) (form_read form.now))) }
     {
@@ -223,6 +247,7 @@ impl Reader {
             },
             LineForm::Depth { frames } => Declaration::Frames(*frames as u32),
             LineForm::Tramps { slots } => Declaration::Slots(*slots as u32),
+            LineForm::Absent { owner } => Declaration::Absence(self.module(owner)?),
             LineForm::User(line) => Declaration::User(self.spec(alloc, line)?),
             LineForm::NewCpu { quantum, .. } => Declaration::Cpu {
                 quantum: *quantum as u32,
@@ -251,10 +276,16 @@ impl Reader {
             LineForm::Enable { user } => command(Command::Enable(self.user(user)?)),
             LineForm::Disable { user } => command(Command::Disable(self.user(user)?)),
             LineForm::MaxDepth { depth } => command(Command::MaxDepth(*depth as u32)),
-            LineForm::Until { pid, acts } => Declaration::Ctl(Ctl::Until {
+            LineForm::Until { pid, acts } => Declaration::Ctl(ScriptCtl::Until {
                 task: self.task(*pid)?,
                 acts: *acts as u32,
             }),
+            LineForm::Load { owner } => {
+                Declaration::Ctl(ScriptCtl::Run(ModLine::Load(self.module(owner)?)))
+            }
+            LineForm::Unload { owner } => {
+                Declaration::Ctl(ScriptCtl::Run(ModLine::Unload(self.module(owner)?)))
+            }
             LineForm::Sched { items } => {
                 let (turns, steps) = self.turns(alloc, items)?;
                 Declaration::Turns { turns, steps }
@@ -270,7 +301,9 @@ impl Reader {
         form: &LineForm<'a>,
         below: &[u8],
     ) -> Result<Resolved<'a>, Cause>
-        requires { IsWithinLimits (above_of self.now) }
+        requires within { IsWithinLimits (above_of self.now) }
+        requires kept { IsKept self.now }
+        requires names { HasNames self.now (form_read form.now) }
         ensures ok { IfOk result (λ line. resolved (above_of self.now) (form_read form.now) (lines_of below.now) ≡ Ok (resolved_of (length self.now.tasks.items) line)) }
         ensures err { IfErr result (IsRefused (resolved (above_of self.now) (form_read form.now) (lines_of below.now))) }
     {
@@ -302,7 +335,9 @@ impl Reader {
         ended: bool,
         below: &[u8],
     ) -> Result<Resolved<'a>, Cause>
-        requires { IsWithinLimits (above_of self.now) }
+        requires within { IsWithinLimits (above_of self.now) }
+        requires kept { IsKept self.now }
+        requires names { IfSome form.now (λ form. HasNames self.now (form_read form)) }
         ensures ok { IfOk result (λ line. resolved_line (above_of self.now) ended (option_map form_read form.now) (lines_of below.now) ≡ Ok (resolved_of (length self.now.tasks.items) line)) }
         ensures err { IfErr result (IsRefused (resolved_line (above_of self.now) ended (option_map form_read form.now) (lines_of below.now))) }
     {

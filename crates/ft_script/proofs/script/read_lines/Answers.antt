@@ -1,24 +1,29 @@
-use Rattle.std.proofs.Common.{◌≡◌, suc, sym, ap, ◌∙◌, subst, arith}
+use Rattle.std.proofs.Common.{◌≡◌, ◌⊎◌, suc, Some, sym, ap, ◌∙◌, subst, arith}
+use Rattle.std.specs.Prelude.{Result, IfErr}
+use Rattle.std.proofs.lemmas.Result.{err_from_is_err_and}
 use Rattle.script_text.specs.Lines.{Line, lines_of}
-use Rattle.ft_script.specs.Above.{Above}
-use Rattle.ft_script.specs.Script.{refusal_below, declared_after}
+use Rattle.ft_script.specs.declared.faults.ScriptFault.{ScriptFault}
+use Rattle.ft_script.specs.declared.reader.Reader.{Reader}
+use Rattle.ft_script.specs.Above.{Above, none_above}
+use Rattle.ft_script.specs.Script.{refusal_below, declared_after, no_memory}
 use Rattle.ft_script.specs.Kept.{above_of}
-use Rattle.ft_script.proofs.Ends.{no_lines, refused-more, declared-more, lines-more}
+use Rattle.ft_script.proofs.Ends.{no_lines, refused-more, refused-here, declared-more, lines-more}
 use Rattle.ft_script.proofs.Lines.{HoldsAbove, line-holds, none-holds, closed-at_end}
 use Rattle.ft_script.proofs.script.read_lines.Goals as goal
 
-pub read-requires : goal.read-requires
-read-requires c =
+pub read-requires-clause-small : goal.read-requires-clause-small
+read-requires-clause-small c =
     let inv = c.loop-rest.invariant in
     record { numbered = omega (arith, inv.few, c.first_line-ended.ensures.shorter); within = inv.holds.holds.within; order = inv.holds.holds.order }
 
 pub loop-rest-init : goal.loop-rest-init
 loop-rest-init c =
-    let new = c.new-reader.ensures in
+    let new = c.new-reader.ensures.above in
     let none : c.new-reader.result.lines ≡ 0 = ap (λ (a : Above). a.lines) new in
     record {
       few = omega (arith, none, c.requires);
       holds = subst (λ (a : Above). HoldsAbove a (lines_of c.args.text.now)) (sym new) (none-holds (lines_of c.args.text.now));
+      kept = c.new-reader.ensures.kept;
       refused = ap (λ (a : Above). refusal_below a (lines_of c.args.text.now)) new;
       declared = ap (λ (a : Above). declared_after a (lines_of c.args.text.now)) new;
     }
@@ -36,6 +41,7 @@ loop-rest-preserved c =
     record {
       few = omega (arith, count, inv.few, c.first_line-ended.ensures.shorter);
       holds = subst (λ (a : Above). HoldsAbove a (lines_of c.first_line-ended.result.2.now)) (sym read.declared) (line-holds old line (lines_of c.first_line-ended.result.2.now) (rw cut at here) read.clear);
+      kept = read.kept;
       refused = refused-more old new line c.loop-rest.rest.now c.first_line-ended.result.2.now cut read.declared read.clear ∙ inv.refused;
       declared = declared-more old new line c.loop-rest.rest.now c.first_line-ended.result.2.now cut read.declared ∙ inv.declared;
     }
@@ -53,3 +59,13 @@ returns-clause-runs c =
     let last : HoldsAbove above (lines_of c.loop-rest.rest.now) = c.loop-rest.invariant.holds in
     let ended = rw (no_lines c.loop-rest.rest.now c.loop-rest-test.ensures) at last in
     record { holds = ended.holds; closed = closed-at_end above ended }
+
+pub returns-in_err-read-clause-refused : goal.returns-in_err-read-clause-refused
+returns-in_err-read-clause-refused c =
+    let p = err_from_is_err_and c.from_residual.result c.from_residual.ensures.1 in
+    let same : c.in_err-read.field-0.0 ≡ p.0 = cc in
+    let IsFault : ScriptFault → Type 0 = λ fault. (fault ≡ no_memory) ⊎ (refusal_below none_above (lines_of c.args.text.now) ≡ Some fault) in
+    let line : Line = record { bytes = c.first_line-ended.result.0.now; ended = c.first_line-ended.result.1 } in
+    subst (λ (r : Result Reader ScriptFault). IfErr r IsFault) (sym p.1) (subst IsFault same
+    (refused-here (above_of c.loop-rest.reader) line c.loop-rest.rest.now c.first_line-ended.result.2.now c.args.text.now c.first_line-ended.ensures.cut c.loop-rest.invariant.refused
+    c.in_err-read.field-0.0 c.in_err-read.ensures.err))
