@@ -5,3 +5,5 @@ pub mod Names
 pub mod Logs
 pub mod LaneOrders
 pub mod OrderedLogs
+pub mod Modules
+pub mod Sites

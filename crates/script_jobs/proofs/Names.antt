@@ -13,23 +13,25 @@ use Rattle.ft_base.specs.declared.number.FuncNo.{FuncNo}
 use Rattle.ft_base.specs.Name.{is_name_text}
 use Rattle.ft_base.specs.declared.task.TaskAct.TheVariants.{Call}
 use Rattle.ft_base.specs.declared.user.Act.{Act}
-use Rattle.ft_base.specs.Job.{Job, Func, Spec, Until, Register, Unregister, Enable, Disable, no_func, no_task, funcs}
+use Rattle.ft_base.specs.Job.{Job, Func, Spec, Register, Unregister, Enable, Disable, no_func, no_task, funcs}
 use Rattle.ft_schedule.specs.Causes.{is_past_limit as is_past_sched_limit, has_unknown}
 use Rattle.ft_base.specs.Desk.{plain_spec}
 use Rattle.ft_base.proofs.Small.{==-refl, or-false_both, Each-snoc, Each-weaker}
 use Rattle.script_text.specs.Lines.{Word, Line, lines_of}
-use Rattle.script_form.specs.Forms.{LineForm, UserLine, skip, version, func, depth, tramps, user, new_cpu, new_task, new_lane, call, ret, raise, lower, after, register, unregister, write, pids, enable, disable, max_depth, until, sched}
+use Rattle.script_form.specs.Forms.{LineForm, UserLine, skip, version, func, depth, tramps, absent, user, new_cpu, new_task, new_lane, call, ret, raise, lower, after, register, unregister, write, pids, enable, disable, max_depth, until, load, unload, sched}
 use Rattle.script_form.specs.Lines.{line_form}
 use Rattle.script_waits.specs.declared.script.LinedAct.{LinedAct}
 use Rattle.script_waits.specs.Tasks.{LinedTask}
+use Rattle.module_table.specs.Lines.{Load, Unload}
 use Rattle.ft_script.specs.declared.faults.Cause.{Cause}
 use Rattle.ft_script.specs.declared.faults.Cause.TheVariants.{Version, Syntax, Limit, Unknown}
-use Rattle.ft_script.specs.Above.{Above, none_above, Declaration, a_version, a_function, a_user, a_task, an_act, a_ctl, Resolved, push_act, with_what, declared}
-use Rattle.ft_script.specs.Causes.{is_past_limit, is_duplicate, is_among, has_pid, function_names, user_names, pids_of, function_in, function_or_none, user_in, task_in, cpu_in, act_in, spec_with, spec_in, write_with, edit_in, pids_in, a_command, named, first_line, next_line, resolved_line, cause_of}
-use Rattle.ft_script.specs.Script.{or_nothing, said, with_line, refusal_below, refusal_of, declared_after, declared_in, task_of, job_of, IsJobOf}
+use Rattle.ft_script.specs.Above.{Above, ScriptCtl, Run, Until, none_above, Declaration, a_version, a_function, an_absence, a_user, a_task, an_act, a_ctl, Resolved, push_act, with_what, declared}
+use Rattle.ft_script.specs.Expansion.{expansion_of}
+use Rattle.ft_script.specs.Causes.{is_past_limit, is_duplicate, is_among, has_pid, function_names, user_names, pids_of, function_in, function_or_none, module_in, user_in, task_in, cpu_in, act_in, spec_with, spec_in, write_with, edit_in, pids_in, a_command, named, first_line, next_line, resolved_line, carried_out, cause_of}
+use Rattle.ft_script.specs.Script.{or_nothing, said, with_line, refusal_below, refusal_of, declared_after, declared_in, task_of, task_in_job, tasks_of, job_of, IsJobOf}
 use Rattle.ft_script.proofs.Ends.{neither, none-refused}
 use Rattle.ft_script.proofs.FormNames.{Named, form-named, name-short}
-use Rattle.ft_script.proofs.NoCause.{no-cause, no-cause_in, err-ok, ok-same}
+use Rattle.ft_script.proofs.NoCause.{no-cause, no-cause_in, carried, err-ok, ok-same}
 use Rattle.ft_script.proofs.Fitting.{of-made, of-all, of-if, function-known}
 use Rattle.trace_lines.specs.LogItems.{IsNamedApart}
 use Rattle.script_jobs.proofs.Texts.{accepted_lanes}
@@ -90,6 +92,7 @@ module _ (above : Above) where
   named-new (func name owner) is limit new = (name-short name is.0 (or-false_both _ _ limit).0, new)
   named-new (depth frames) is limit new = tt
   named-new (tramps slots) is limit new = tt
+  named-new (absent owner) is limit new = of-all (NewNames above) an_absence (module_in above owner) (λ m. tt)
   named-new (user u) is limit new =
       of-made (NewNames above) a_user (spec_in above u)
       (user-new u (name-short u.name is (or-false_both _ _ (or-false_both _ _ limit).0).0) new (function_or_none above u.ipmodify) (act_in above u.act) (replaced-known u.ipmodify))
@@ -111,6 +114,8 @@ module _ (above : Above) where
   named-new (disable name) is limit new = of-all (NewNames above) (λ u. a_command (Disable u)) (user_in above name) (λ u. tt)
   named-new (max_depth k) is limit new = tt
   named-new (until pid k) is limit new = of-all (NewNames above) (λ task. a_ctl (Until task k)) (task_in above pid) (λ t. tt)
+  named-new (load owner) is limit new = of-all (NewNames above) (λ m. a_ctl (Run (Load m))) (module_in above owner) (λ m. tt)
+  named-new (unload owner) is limit new = of-all (NewNames above) (λ m. a_ctl (Run (Unload m))) (module_in above owner) (λ m. tt)
   named-new (sched items) is limit new =
       of-if (NewNames above) (is_past_sched_limit (length above.quanta) above.steps items) Limit _ (λ few.
       of-if (NewNames above) (has_unknown (length above.quanta) items) Unknown _ (λ there. tt))
@@ -202,8 +207,9 @@ module _ (above : Above) (h : NamesHold above) where
   pub line-names : (line : Line) (below : List Line) → cause_of above line below ≡ None → NamesHold (with_line above line)
   unfolding cause_of with_line
   line-names line below e =
-      let ok = no-cause_in (resolved_line above line.ended (line_form line.bytes) below) e in
-      let a = line-new above line.ended line.bytes below ok.0 ok.1 in
+      let resolved = resolved_line above line.ended (line_form line.bytes) below in
+      let ok = no-cause_in (carried_out above resolved) e in
+      let a = line-new above line.ended line.bytes below ok.0 (carried above resolved ok.0 ok.1).0 in
       subst (λ (r : Resolved). NamesHold (declared above r)) (sym a.1) (what-names ok.0 a.0)
 
 -- ## line by line
@@ -249,14 +255,24 @@ module _ (above : Above) (h : NamesHold above) where
       distinct-places (map f xs) e i j (f d) (omega (arith, k, li)) (omega (arith, k, lj))
       (get_or-map f xs i d (f d) li ∙ same ∙ sym (get_or-map f xs j d (f d) lj))
 
-  pid-is : (t : ℕ) → t < length above.tasks → (get_or (map task_of above.tasks) t no_task).pid ≡ (get_or above.tasks t no_lined).pid
-  pid-is t lt = ap (λ task. task.pid) (get_or-map task_of above.tasks t no_lined no_task lt)
+  -- in the job there are as many tasks, with the same pids
+  abbrev in_job : LinedTask → LinedTask
+  in_job = task_in_job (expansion_of above).ends
 
-  pid-small : (t : ℕ) → (get_or (map task_of above.tasks) t no_task).pid < 2 ^ 64
+  those : length (tasks_of above) ≡ length above.tasks
+  those = length-map (map in_job above.tasks) task_of ∙ length-map above.tasks in_job
+
+  pid-is : (t : ℕ) → t < length above.tasks → (get_or (tasks_of above) t no_task).pid ≡ (get_or above.tasks t no_lined).pid
+  pid-is t lt =
+      let k = length-map above.tasks in_job in
+      ap (λ task. task.pid) (get_or-map task_of (map in_job above.tasks) t no_lined no_task (omega (arith, k, lt)))
+      ∙ ap (λ (task : LinedTask). task.pid) (get_or-map in_job above.tasks t no_lined no_lined lt)
+
+  pid-small : (t : ℕ) → (get_or (tasks_of above) t no_task).pid < 2 ^ 64
   pid-small t = elim (cases_lt t (length above.tasks)) [
     | inl lt ↦ (let e = pid-is t lt in let le = looked-up (λ (p : LinedTask). p.pid) (λ k. k ≤ PID) above.tasks t no_lined lt h.names.pids' in omega (arith, e, le))
-    | inr ge ↦ (let k = length-map above.tasks task_of in
-        let e = ap (λ task. task.pid) (get_or_past (map task_of above.tasks) t no_task (omega (arith, k, ge))) in omega (arith, e))
+    | inr ge ↦ (let k = those in
+        let e = ap (λ task. task.pid) (get_or_past (tasks_of above) t no_task (omega (arith, k, ge))) in omega (arith, e))
   ]
 
   pub job-named : Each (λ lane. lane < 2 ^ 64) (job_of above).lines.lanes → IsNamedApart (job_of above)
@@ -268,7 +284,7 @@ module _ (above : Above) (h : NamesHold above) where
     lanes = small;
     apart_functions = λ f g lf lg e. places (λ (x : Func). x.name) above.functions f g no_func lf lg h.names.distinct_functions e;
     apart_users = λ u v lu lv e. places (λ (s : Spec). s.name) above.users u v plain_spec lu lv h.names.distinct_users e;
-    apart_pids = λ s t ls lt e. let k = length-map above.tasks task_of in
+    apart_pids = λ s t ls lt e. let k = those in
         let ls' : s < length above.tasks = omega (arith, k, ls) in
         let lt' : t < length above.tasks = omega (arith, k, lt) in
         places (λ (p : LinedTask). p.pid) above.tasks s t no_lined ls' lt' h.names.distinct_pids (sym (pid-is s ls') ∙ e ∙ pid-is t lt');

@@ -3,21 +3,28 @@
 //!
 //! `ft_script` says which texts are scripts and what their jobs are (`IsJobOf`). `word_machine` says
 //! of which jobs its laws speak (`IsLimited`), and `trace_lines` of which jobs and items the log tells
-//! everything (`IsNamedApart`, `IsItemOf`). The reader of scripts shows that what a text declares keeps
+//! everything (`IsNamedApart`, `IsItemOf`), and `module_laws` in which histories no call reaches a module
+//! that isn't loaded (`KeepsLoaded`). The reader of scripts shows that what a text declares keeps
 //! to the limits, line by line, since the machine asks for it; here that is said of whole texts, and
 //! that names and pids differ besides, which the machine has no need of. So it holds of each script by
 //! what it says alone, also where there is no memory to read it. There is no code, and no definition
 //! of its own that an edit could turn.
 #![tactic(auto)]
 
-ghost use Rattle.std.specs.Prelude.{ℕ, ◌≡◌, ◌<◌, ◌^◌, Bool, true, List, reverse, length};
+ghost use Rattle.std.specs.Prelude.{ℕ, ◌≡◌, ◌≢◌, ◌<◌, ◌^◌, Bool, true, false, List, [], reverse, length};
 ghost use Rattle.std.specs.List.{AllByRecursion as Each};
 ghost use Rattle.ft_base.specs.declared.item.Item.{Item};
 ghost use Rattle.ft_base.specs.declared.turn.Actor.{Actor};
 ghost use Rattle.ft_base.specs.Job.{Job};
+ghost use Rattle.ft_hist.specs.Past.{begun, done};
 ghost use Rattle.ft_hist.specs.Rules.{IsLegal, IsWhole};
 ghost use Rattle.ft_machine.specs.Plans.{HasLanes};
-ghost use Rattle.ft_script.specs.Script.{IsJobOf};
+ghost use Rattle.ft_script.specs.Hidden.{known_after, is_there};
+ghost use Rattle.ft_script.specs.Script.{declared_in, IsJobOf};
+ghost use Rattle.machine_core.specs.Sites.{IsWhole as IsWholeSite};
+ghost use Rattle.module_laws.specs.Kept.{KeepsLoaded, RunsLoaded};
+ghost use Rattle.site_bytes.specs.Bytes.{bytes_of};
+ghost use Rattle.site_bytes.specs.declared.insn.Insn.TheVariants.{Nop};
 ghost use Rattle.led_jobs.specs.Led.{in_order};
 ghost use Rattle.led_jobs.specs.Orders.{IsLaneOrder};
 ghost use Rattle.trace_lines.specs.LogItems.{IsItemOf, IsNamedApart};
@@ -63,6 +70,30 @@ pub fn legal_items_are_the_jobs()
 pub fn the_log_of_a_script_tells_its_history()
     ensures { (text : List ℕ) (job : Job) (a b : List Item) (x y : Bool) → IsJobOf text job
         → IsLegal job a → IsLegal job b → log_text job a x ≡ log_text job b y → (a ≡ b) × (x ≡ y) }
+{}
+
+/// No call of an accepted script reaches code that isn't there: in each legal history of its job each item
+/// of a call finds the module of the call's function loaded, after the commands that have returned there
+/// and after those that have begun; and so does each body, which may be that of a replacement.
+pub fn calls_of_scripts_find_their_modules()
+    ensures calls { (text : List ℕ) (job : Job) (items : List Item) → IsJobOf text job → IsLegal job items → KeepsLoaded job items }
+    ensures bodies { (text : List ℕ) (job : Job) (items : List Item) → IsJobOf text job → IsLegal job items → RunsLoaded job items }
+{}
+
+/// Between whole lines of control nobody traces a function of a module that isn't loaded: if no command
+/// is under way, and those of the first n lines have returned, a whole site of it has the nop's bytes,
+/// which are what `Machine::site` gives.
+pub fn unloaded_modules_have_no_patched_sites()
+    ensures { (text : List ℕ) (job : Job) (n f : ℕ) (past : List Item) (bytes : List ℕ) → IsJobOf text job
+        → (declared_in text).lane_count ≡ 0 → f < length job.functions
+        → IsWholeSite job past f bytes → begun past ≡ done past → done past ≡ (known_after (declared_in text) n).commands
+        → is_there job (done past) f ≡ false → bytes ≡ bytes_of f Nop }
+{}
+
+/// No line of a script in lanes names a module.
+pub fn scripts_in_lanes_name_no_modules()
+    ensures { (text : List ℕ) (job : Job) → IsJobOf text job → job.lines.lanes ≢ []
+        → (job.lines.absent ≡ []) × (job.lines.modules ≡ []) }
 {}
 
 /// A script in lanes has a job for each order in which its commands may go. Its log tells the order, too:
