@@ -14,6 +14,7 @@ use Rattle.ft_app.specs.Reply.{IsReplyTo, of_history, of_refusal}
 use Rattle.ft_app.specs.Ends.{Ends, IsNone, Only, Says}
 use Rattle.ft_app.specs.Main.{Answers, Gets, IsBegun, IsReplied, IsToGet}
 use Rattle.ft_app.proofs.Orders.{answers, gets-within, not-too-long, unread-within}
+use Rattle.ft_app.proofs.Replies.{has_printed}
 
 -- ## no words
 
@@ -63,7 +64,7 @@ module _ {S K : Type 0} (remaining : S → Option (List ℕ)) (read_faults : S �
         played = record {
           job = job;
           accepted = accepted;
-          written = record { led = led; items = items; ended = ended; carried_out = carried_out; written = written };
+          written = has_printed order (holds sink) (holds sink') got job led items ended accepted carried_out written;
         };
       },
     )

@@ -1,3 +1,4 @@
+pub mod Histories
 pub mod Replies
 pub mod Orders
 pub mod WrittenLogs

@@ -3,9 +3,7 @@ use Rattle.std.proofs.Common.{◌≢◌, ℕ, Bool, List, Option, inl, inr, refl
 use Rattle.std.specs.Io.KnownBytes.{Appends}
 use Rattle.ft_base.specs.declared.item.Item.{Item}
 use Rattle.ft_base.specs.Job.{Job}
-use Rattle.ft_hist.specs.Rules.{IsLegal}
 use Rattle.ft_words.specs.declared.order.Order.{Order}
-use Rattle.ft_words.specs.declared.order.Order.TheVariants.{Replay, Run, Bulk}
 use Rattle.ft_io.specs.Causes.{AppendsFront}
 use Rattle.ft_script.specs.declared.faults.ScriptFault.{ScriptFault}
 use Rattle.ft_script.specs.Script.{IsJobOf, IsRefusalOf, IsFaultOf, no_memory}
@@ -13,19 +11,14 @@ use Rattle.ft_script.proofs.Answered.{not_both, one_job, one_fault}
 use Rattle.ft_app.specs.declared.status.Status.{Status}
 use Rattle.ft_app.specs.declared.status.Status.TheVariants.{Done, Refused}
 use Rattle.ft_app.specs.Status.{code_of}
-use Rattle.ft_app.specs.Reply.{IsReplyTo, of_history, of_refusal, IsCarriedOut, IsHistoryFor, printed, refusal_text}
+use Rattle.ft_app.specs.Reply.{IsReplyTo, of_history, of_refusal, IsCarriedOut, printed, refusal_text}
+use Rattle.ft_app.proofs.Histories.{finds-modules}
 use Rattle.ft_app.specs.Main.{HasPrinted, IsReplied, IsBegun, Answers}
 
 -- a fault that isn't out of memory is a refusal
 pub real-refusal : (script : List ℕ) (fault : ScriptFault) → IsFaultOf script fault → fault ≢ no_memory → IsRefusalOf script fault
 real-refusal script fault (inl e) real = absurd (real e)
 real-refusal script fault (inr refused) real = refused
-
--- the history that an order prints is legal
-pub history-legal : (order : Order) (job : Job) (items : List Item) (ended : Bool) → IsHistoryFor order job items ended → IsLegal job items
-history-legal (Replay form) job items ended h = h.legal
-history-legal (Run form) job items ended h = h.whole.legal
-history-legal (Bulk n) job items ended h = h.legal
 
 module _ (order : Order) where
   -- ## a reply that was written in full
@@ -39,15 +32,21 @@ module _ (order : Order) where
     pub refusal-replied : (script : List ℕ) (fault : ScriptFault) → IsRefusalOf script fault → Appends holds holds' (refusal_text fault) → IsReplied order script Refused holds holds'
     refusal-replied script fault refused written = record { text = refusal_text fault; is_reply = of_refusal fault refused; written = written }
 
-    has_printed : (job led : Job) (items : List Item) (ended : Bool) → IsCarriedOut order job led items ended → Appends holds holds' (printed order led items ended)
-        → HasPrinted order job holds holds'
-    has_printed job led items ended carried_out written =
-        record { led = led; items = items; ended = ended; carried_out = carried_out; written = written }
+    pub has_printed : (script : List ℕ) (job led : Job) (items : List Item) (ended : Bool) → IsJobOf script job → IsCarriedOut order job led items ended
+        → Appends holds holds' (printed order led items ended) → HasPrinted order job holds holds'
+    has_printed script job led items ended accepted carried_out written = record {
+      led = led;
+      items = items;
+      ended = ended;
+      carried_out = carried_out;
+      there = finds-modules order script job led items ended accepted carried_out;
+      written = written;
+    }
 
     -- the reply is the answer to the script
     pub reply-answers : (script : List ℕ) (status : Status) (text : List ℕ) → IsReplyTo order script status text → Appends holds holds' text → Answers order script (code_of status) holds holds'
     reply-answers script _ _ (of_history job accepted led items ended carried_out) written = record {
-      accepted = λ job' a. inl (refl, subst (λ j. HasPrinted order j holds holds') (one_job script job job' accepted a) (has_printed job led items ended carried_out written));
+      accepted = λ job' a. inl (refl, subst (λ j. HasPrinted order j holds holds') (one_job script job job' accepted a) (has_printed script job led items ended accepted carried_out written));
       refused = λ fault r. absurd (not_both script job fault accepted r);
     }
     reply-answers script _ _ (of_refusal fault refused) written = record {

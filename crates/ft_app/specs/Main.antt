@@ -14,7 +14,7 @@ use Rattle.ft_script.specs.Script.{IsJobOf, IsRefusalOf}
 use Rattle.ft_app.specs.declared.status.Status.{Status}
 use Rattle.ft_app.specs.declared.status.Status.TheVariants.{Done, Refused, NoMemory}
 use Rattle.ft_app.specs.Status.{code_of}
-use Rattle.ft_app.specs.Reply.{IsReplyTo, IsCarriedOut, printed, refusal_text}
+use Rattle.ft_app.specs.Reply.{IsReplyTo, IsCarriedOut, FindsModules, printed, refusal_text}
 
 -- the order is carried out without running threads
 abbrev pub IsPlain : Order → Type 0
@@ -45,12 +45,14 @@ IsToGet (Bulk n) remaining script = script ≡ bulk_text n
 -- ## what is written for it
 
 -- what the order prints of a history of the job was appended: of its replay, or with `Run` of running threads. With lanes it is one of the
--- job with its commands in the order in which they were led, and so is what is printed
+-- job with its commands in the order in which they were led, and so is what is printed. In that history no call reaches a function of a
+-- module that isn't loaded
 pub record HasPrinted (order : Order) (job : Job) (holds holds' : Option (List ℕ)) : Type 0 where
   pub led : Job
   pub items : List Item
   pub ended : Bool
   pub carried_out : IsCarriedOut order job led items ended
+  pub there : FindsModules led items
   pub written : Appends holds holds' (printed order led items ended)
 
 -- the text is a script, and what the order prints of a history of its job was appended

@@ -6,6 +6,7 @@ use Rattle.ft_base.specs.Job.{Job}
 use Rattle.ft_hist.specs.Rules.{IsLegal, IsWhole}
 use Rattle.led_jobs.specs.Led.{in_order}
 use Rattle.led_jobs.specs.Orders.{IsLaneOrder}
+use Rattle.module_laws.specs.Kept.{KeepsLoaded, RunsLoaded}
 use Rattle.word_machine.specs.Machine.{play, all_end}
 use Rattle.ft_words.specs.declared.order.Order.{Order}
 use Rattle.ft_words.specs.declared.order.Order.TheVariants.{Replay, Run, Bulk}
@@ -70,6 +71,11 @@ IsHistoryFor (Bulk n) job items ended = IsReplayOf job items ended
 pub record IsCarriedOut (order : Order) (job led : Job) (items : List Item) (ended : Bool) : Type 0 where
   pub led' : IsLedFor order job led
   pub history : IsHistoryFor order led items ended
+
+-- no call reaches code that isn't there: the module of a call's function is loaded at each item of the call, and so is that of each function
+-- whose body runs, after the commands that have returned there and after those that have begun
+abbrev pub FindsModules : Job → List Item → Type 0
+FindsModules job items = KeepsLoaded job items × RunsLoaded job items
 
 -- whatever is made of a job, it was carried out
 abbrev pub Serves : Order → (Job → Result CarriedOut NoMemory → Type 0) → Type 0

@@ -10,8 +10,8 @@
 //!
 //! Proved, for every source, sink and gate: each status says what was read and written, and comes
 //! only for its reason; with status 0 the text is what the order prints of a history of the script's
-//! job, that of its replay or one of running threads; that history is legal, and whole if the text
-//! ends with `end`, as it does with threads; and if nothing outside goes wrong, a script is answered
+//! job, that of its replay or one of running threads; that history is legal, no call of it reaches a
+//! module that isn't loaded, and it is whole if the text ends with `end`, as it does with threads; and if nothing outside goes wrong, a script is answered
 //! with status 0 and any other text with status 3, unless memory is out. If the script has lanes,
 //! threads lead its commands in some order that is a merge of the lanes, and the history and the text
 //! are those of the job in that order. A log that was written tells its history, and that order

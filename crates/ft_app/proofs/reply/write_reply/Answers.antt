@@ -1,6 +1,7 @@
 use Rattle.std.proofs.Common.{◌≡◌, Err, rules}
 use Rattle.ft_app.specs.declared.reply.ReplyFail.TheVariants.{Sink}
-use Rattle.ft_app.proofs.Replies.{history-legal, history-replied, history-begun, refusal-replied, refusal-begun, real-refusal}
+use Rattle.ft_app.proofs.Histories.{history-legal}
+use Rattle.ft_app.proofs.Replies.{history-replied, history-begun, refusal-replied, refusal-begun, real-refusal}
 use Rattle.ft_app.proofs.reply.write_reply.Goals as goal
 
 -- ## the text of a history
