@@ -4,7 +4,7 @@ use ft_words::{Form, Order, WordsFault, read_words};
 use std::alloc::Global;
 use std::process::Abort;
 
-static GOOD: [(&[&str], Order); 61] = [
+static GOOD: [(&[&str], Order); 63] = [
     (&["replay"], Order::Replay(Form::Log)),
     (&["--", "replay"], Order::Replay(Form::Log)),
     (&["replay", "--"], Order::Replay(Form::Log)),
@@ -31,6 +31,11 @@ static GOOD: [(&[&str], Order); 61] = [
         Order::Replay(Form::Enabled),
     ),
     (&["replay", "--print=enabled"], Order::Replay(Form::Enabled)),
+    (
+        &["replay", "--print", "modules"],
+        Order::Replay(Form::Modules),
+    ),
+    (&["replay", "--print=modules"], Order::Replay(Form::Modules)),
     // The option before the mode, and each place of `--`.
     (&["--print", "graph", "replay"], Order::Replay(Form::Graph)),
     (
@@ -200,7 +205,7 @@ static BAD_VALUES: [&[&str]; 41] = [
     &["replay", "--print==log"],
     &["replay", "--print", "functions"],
     &["replay", "--print", "graph,log"],
-    &["replay", "--print", "modules"],
+    &["replay", "--print", "module"],
     &["replay", "--print", "1"],
     &["run", "--print"],
     &["run", "--print="],

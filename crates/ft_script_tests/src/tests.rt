@@ -2,6 +2,7 @@
 
 mod counts;
 mod jobs;
+mod modules;
 
 use ft_base::limits::INPUT_BYTES;
 use ft_script::{Cause, ScriptFault, read_script};

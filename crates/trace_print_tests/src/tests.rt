@@ -15,10 +15,10 @@ use trace_print::{Form, TextFail, print, write_log, write_text};
 /// Room for each text here.
 const ROOM: usize = 4_096;
 
-/// A user of each kind, and a call within a call.
+/// A user of each kind, a call within a call, and a module.
 const EACH_KIND: &str = "ftrace 1
 func a
-func b
+func b m
 user t function
 user g graph
 user p profile
@@ -34,6 +34,7 @@ ctl register t
 ctl register g
 ctl register p
 ctl register e
+ctl load m
 ";
 
 /// Two commands in one lane, and a third in another.
@@ -58,12 +59,13 @@ const LANES_LOG: &[u8] = b"0 begin 1 lane 0
 end
 ";
 
-static FORMS: [Form; 5] = [
+static FORMS: [Form; 6] = [
     Form::Log,
     Form::Function,
     Form::Graph,
     Form::Profile,
     Form::Enabled,
+    Form::Modules,
 ];
 
 /// The job of a text; none if it is refused. The texts here are short enough.

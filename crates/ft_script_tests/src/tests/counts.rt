@@ -78,6 +78,31 @@ fn commands(rt: HostRuntime) -> Result<(), Fail> {
     )
 }
 
+/// The commands of a load count, and those with which control opens.
+#[test]
+fn commands_of_loads(rt: HostRuntime) -> Result<(), Fail> {
+    let first =
+        "ftrace 1\nfunc e ext3\nabsent ext3\nuser t function\nuser u function\nctl load ext3\n";
+    // Two before the first line, three of the load, and one for each that is `already`.
+    at_most(&rt, rt.alloc(), first, "ctl load ext3\n", "", 1019, 1026)
+}
+
+/// With one command left, a load that has two is refused, and one that is `already` isn't.
+#[test]
+fn commands_of_the_last_load(rt: HostRuntime) -> Result<(), Fail> {
+    let first = "ftrace 1\nfunc e ext3\nuser t function\n";
+    let fault = fault_of_repeated(rt.alloc(), first, "ctl maxdepth 1\n", "", 1023)?;
+    assert!(rt; fault.is_none());
+    let mut text = String::from_str(rt.alloc(), first)?;
+    put_times(&mut text, "ctl maxdepth 1\n", 1023)?;
+    let mut loaded = String::from_str(rt.alloc(), text.as_str())?;
+    loaded.push_str("ctl load ext3\n")?;
+    assert!(rt; fault_of(rt.alloc(), loaded.as_str()).is_none());
+    text.push_str("ctl unload ext3\n")?;
+    assert!(rt; fault_of(rt.alloc(), text.as_str()) == too_many(1027));
+    Ok(())
+}
+
 #[test]
 fn waits_of_control(rt: HostRuntime) -> Result<(), Fail> {
     let first = "ftrace 1\nfunc a\ncpu 0 quantum 5\ntask 10 cpu 0\ncall a\nret\n";

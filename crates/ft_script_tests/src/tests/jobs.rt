@@ -171,12 +171,13 @@ fn is_filter_of_p(line: &Ctl) -> bool {
     !edit.append && !edit.remove && !edit.clear && selects(edit, [true, true, false])
 }
 
-/// Whether a line takes the third function out of the notrace set of user 0.
+/// Whether a line sets the notrace set of user 0 to what an edit leaves that takes the third function out of
+/// the empty one.
 fn is_notrace_of_t(line: &Ctl) -> bool {
     let Ctl::Run(Command::Notrace(UserNo(0), edit)) = line else {
         return false;
     };
-    edit.append && edit.remove && !edit.clear && selects(edit, [false, false, true])
+    !edit.append && !edit.remove && edit.clear && selects(edit, [false, false, false])
 }
 
 /// Whether a line clears the filter of user 0.
