@@ -1,7 +1,7 @@
 #!/usr/bin/env python3
 """Runs what the pages show through the built program, which must give those very bytes and the status that belongs to them:
 
-- each script of examples/: NAME.ft prints NAME.log, and NAME.function, NAME.graph, NAME.profile and NAME.enabled
+- each script of examples/: NAME.ft prints NAME.log, and NAME.function, NAME.graph, NAME.profile, NAME.enabled and NAME.modules
   with `--print` and that word. The log has to be there, the others may be; there are no other files;
 - each row of docs/LANGUAGE.md that has its script, in a table whose first two columns are `script` and `prints`;
 - the blocks of README.md and of each page of docs/ that are scripts or commands.
@@ -39,7 +39,7 @@ import runs  # noqa: E402
 
 REFUSED = re.compile(rb"line [1-9][0-9]*: [a-z]+\n")
 ENDS = (b"end\n", b"stopped\n")
-FORMS = {form: ["replay", "--print", form] for form in ("function", "graph", "profile", "enabled")}
+FORMS = {form: ["replay", "--print", form] for form in ("function", "graph", "profile", "enabled", "modules")}
 FORMS["log"] = ["replay"]
 COMMAND = re.compile(rb"\$ ftcore((?: [\w=.-]+)*)(?: < (examples/[\w.]+\.ft))?\n")
 RECIPE = (b"head -n N FILE", b"printf ")

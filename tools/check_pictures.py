@@ -4,7 +4,8 @@
 - the pictures and traces of docs/pictures/, which must come out byte for byte;
 - for each script of examples/ that isn't refused: its picture, whole and a part of it, has a box for each item that begins
   one, and they lie in one another; its trace has an end for each beginning, by name and in order, and time never goes back;
-  and each call ran what its site was meant to be at some command of its window, so the model of the sites fits the log;
+  and each call ran what its site was meant to be at some command of its window, so the model of the sites fits the log; each module
+  that comes and goes has a row, and each call of a function of one is made while that is loaded;
 - that model by itself: what filter texts select, the globs of docs/LANGUAGE.md among them; and which commands a window has;
 - what can't be drawn, which ends with status 1, a reason and no file.
 
@@ -22,6 +23,7 @@ import xml.etree.ElementTree as ElementTree
 
 sys.dont_write_bytecode = True
 import check_docs  # noqa: E402
+import control_lines  # noqa: E402
 import log_desk  # noqa: E402
 import log_reader  # noqa: E402
 import log_svg  # noqa: E402
@@ -35,6 +37,7 @@ KEPT = {
     "contexts": ("contexts", [], True),
     "registered_again": ("registered_again", [], True),
     "one_trampoline": ("one_trampoline", [], True),
+    "module_unloaded": ("module_unloaded", [], True),
     "preempted_in_callback": ("preempted_in_callback", ["--window", "10.1"], True),
     "two_cpus_of_realistic": ("realistic", ["--from", "12", "--to", "72"], False),
 }
@@ -193,6 +196,27 @@ def site_faults(script, history):
     return found
 
 
+# Modules.
+
+def module_faults(script, history):
+    """Which calls are made while the module of their function isn't loaded, by the spans of the picture."""
+    spans = {module: log_desk.module_spans(script, history.commands, module) for module in control_lines.changing(script)}
+    owners, found = {function.name: function.module for function in script.functions}, []
+    for call, box in history.calls.items():
+        end = len(history.lines) if box.end is None else box.end
+        for begin, over, target, later in spans.get(owners[box.name], []):
+            is_apart = (begin or 0) > end or over is not None and over <= box.begin
+            found += [] if is_apart or (target, later) == (log_desk.LOADED, None) else [f"{call} is made while {owners[box.name]} is {later or target}"]
+    return found
+
+
+def module_row_faults(text, script):
+    """What is wrong with the rows of modules in a picture: there is one for each that comes and goes."""
+    rows = [group.get("id") for group in ElementTree.fromstring(text).findall(f"{SVG}g") if group.get("class") == "row module"]
+    wanted = [f"module-{module}" for module in control_lines.changing(script)]
+    return [] if rows == wanted else [f"the rows of modules are {rows}, not {wanted}"]
+
+
 def check_texts(rows, page):
     """What globs match, and what filter texts select."""
     globs = [cells for _, head, cells in check_docs.table_rows(page.read_text()) if head == ["pattern", "name", "matches"]]
@@ -226,9 +250,12 @@ def check_examples(rows, folder):
         count = len(history.lines)
         for first, last in sorted({(0, count - 1), (count // 3, max(count // 3, 2 * count // 3 - 1))} if count else {(0, -1)}):
             text = log_svg.Picture(script, history, path.stem, first, last).whole()
-            rows.row(f"{folder.name}/{path.name}, picture of {first} to {last}", picture_faults(text, log, first, last))
+            found = picture_faults(text, log, first, last) or module_row_faults(text, script)
+            rows.row(f"{folder.name}/{path.name}, picture of {first} to {last}", found)
         rows.row(f"{folder.name}/{path.name}, trace", trace_faults(log_trace.trace(script, history, path.stem), log))
         rows.row(f"{folder.name}/{path.name}, sites", site_faults(script, history))
+        if control_lines.changing(script):
+            rows.row(f"{folder.name}/{path.name}, modules", module_faults(script, history))
 
 
 # What can't be drawn.

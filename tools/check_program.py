@@ -32,6 +32,7 @@ import full_scripts  # noqa: E402
 import lane_runs  # noqa: E402
 import long_check  # noqa: E402
 import memory_limits  # noqa: E402
+import odd_lines  # noqa: E402
 import random_scripts  # noqa: E402
 import runs  # noqa: E402
 import script_forms as forms  # noqa: E402
@@ -236,6 +237,12 @@ def commands(count):
     return script(USER, (["ctl register t", "ctl unregister t"] * count)[:count])
 
 
+def loads(count):
+    """So many commands, all of which load and unload a module, and keep its functions out of the user's sight before."""
+    lines = [f"ctl {('load', 'unload')[number % 2]} m" for number in range((count - 1) // 2)]
+    return script("ftrace 1", "func a", "func b m", "absent m", "user t function", lines, ["ctl maxdepth 0"] * ((count - 1) % 2))
+
+
 def lanes(count):
     """Each has a command."""
     return script(USER, [line for lane in range(count) for line in [f"lane {lane}", f"ctl {('register', 'unregister')[lane % 2]} t"]])
@@ -413,6 +420,7 @@ LIMITS = [
     Limit("calls beside users that make calls", calls, CALLS, "end", 705_193, CALLS + 1, "line 1242: limit", 0.2),
     Limit("calls beside users that make calls, version 2", nested_calls, CALLS_IN_2, "end", 276_265, CALLS_IN_2 + 1, "line 26: limit", 0.2),
     Limit("commands", commands, forms.COMMANDS, "end", 2_049, forms.COMMANDS + 1, "line 1028: limit"),
+    Limit("commands of loads and unloads", loads, forms.COMMANDS, "end", 2_049, forms.COMMANDS + 1, "line 517: limit"),
     Limit("lanes", lanes, forms.LANES, "end", 17, forms.LANES + 1, "line 20: limit"),
     Limit("until lines", waits, forms.UNTILS, "end", 5, forms.UNTILS + 1, "line 1031: limit"),
     Limit("steps", steps, forms.STEPS, "stopped", 1, forms.STEPS + 1, "line 8: limit"),
@@ -425,7 +433,7 @@ LIMITS = [
     Limit("name of a user", user_name, forms.NAME_BYTES, "end", 3, forms.NAME_BYTES + 1, "line 2: limit"),
     Limit("name in a command", registered_name, forms.NAME_BYTES, "end", 3, forms.NAME_BYTES + 1, "line 3: limit"),
     Limit("digits", digits, forms.DIGITS, "end", 5, forms.DIGITS + 1, "line 3: syntax"),
-    Limit("number", after, forms.NUMBER, "line 6: deadlock", 1, forms.NUMBER + 1, "line 6: limit"),
+    Limit("number", after, odd_lines.NUMBER, "line 6: deadlock", 1, odd_lines.NUMBER + 1, "line 6: limit"),
     Limit("quantum", quantum, forms.QUANTUM, "end", 5, forms.QUANTUM + 1, "line 3: limit"),
     Limit("least quantum", quantum, 1, "end", 5, 0, "line 3: limit"),
     Limit("pid", pid, forms.PID, "end", 5, forms.PID + 1, "line 4: limit"),
@@ -512,7 +520,8 @@ def check_forms(rows, program):
 
 # Examples whose waits leave one order of what happens, whoever steps when.
 ORDERED = ["answers", "contexts", "filters", "first_path", "fprobe_cancel", "fprobe_exit", "full_shadow_stack", "graph", "graph_depth"]
-ORDERED += ["interrupted_callback", "ipmodify", "list_then_own", "missed_exit", "nested_calls", "no_trampoline", "profile", "refused_depth"]
+ORDERED += ["interrupted_callback", "ipmodify", "list_then_own", "missed_exit", "module_busy", "module_loaded", "module_patched"]
+ORDERED += ["module_unloaded", "nested_calls", "no_trampoline", "profile", "refused_depth"]
 ORDERED += ["recursion_in_interrupt", "recursion_once", "refused_recursion", "registered_again", "seventeen_users", "unregistered_in_call", "until"]
 RUN_SECONDS = 60  # that a run may take
 

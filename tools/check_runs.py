@@ -7,9 +7,10 @@ repository. The N scripts of each source have the seeds from S on:
     plain      script_forms.py
     viewed     viewed_scripts.py, scripts that most forms have lines of
     laned      the same with lanes
-    generated  `REFERENCE gen`, half of them of version 2, and half of them with lanes
+    loading    the same with modules that come and go
+    generated  `REFERENCE gen`, half of them of version 2, half of them with lanes, and half of them with modules
     crowded    script_forms.py, with a task of calls more on each of the most CPUs, up to the most tasks;
-               half of them with lanes
+               half of those without modules that come and go have lanes
 
 Each script that `PROGRAM replay` accepts goes through `PROGRAM run`, which has to end within SECONDS with
 status 0 and write nothing to standard error; and `REFERENCE check --log LOG` has to call the log whole. A
@@ -29,6 +30,7 @@ import tempfile
 from typing import NamedTuple
 
 sys.dont_write_bytecode = True
+import control_lines  # noqa: E402
 import lane_orders  # noqa: E402
 import log_reader  # noqa: E402
 import runs  # noqa: E402
@@ -38,7 +40,8 @@ import viewed_scripts  # noqa: E402
 FOLDER = pathlib.Path(tempfile.gettempdir()) / "run-faults"
 WORKERS = 2
 SECONDS = 120
-SOURCES = ["plain", "viewed", "laned", "generated", "crowded"]
+VIEWED = ["viewed", "laned", "loading"]
+SOURCES = ["plain", *VIEWED, "generated", "crowded"]
 
 
 class Ran(NamedTuple):
@@ -53,14 +56,16 @@ class Ran(NamedTuple):
 
 
 def crowded(seed):
-    """A script whose CPUs and tasks are as many as there may be, each task with calls of a script of this seed."""
+    """A script whose CPUs and tasks are as many as there may be, each task with calls of a script of this seed, of functions that stay."""
     lines = script_forms.script(seed).decode().splitlines()
-    head = [" ".join(lines[0].split())] + [line for line in lines if line.split(" ", 1)[0] in ("func", "depth", "tramps", "user")]
+    head = [" ".join(lines[0].split())] + [line for line in lines if line.split(" ", 1)[0] in ("func", "depth", "tramps", "absent", "user")]
     control = [line.split() for line in lines if line.startswith("ctl ") and line.split()[1] not in ("until", "pid", "nopid")]
-    if seed % 2:
+    changing = {line.split()[1] for line in head if line.startswith("absent ")} | {words[2] for words in control if words[1] in control_lines.LOADS}
+    if seed % 2 and not changing:
         control = viewed_scripts.with_lanes(random.Random(f"crowded {seed}"), control, 1 + seed // 2 % viewed_scripts.LANES)
-    names = [line.split()[1] for line in head if line.startswith("func ")] or ["f"]
-    if not any(line.startswith("func ") for line in head):
+    names = [line.split()[1] for line in head if line.startswith("func ") and not changing.intersection(line.split()[2:])]
+    if not names:
+        names = ["f"]
         head.insert(1, "func f")
     cpus = [f"cpu {cpu} quantum {3 + (seed + cpu) % 9}" for cpu in range(script_forms.CPUS)]
     tasks = []
@@ -77,7 +82,7 @@ def text_of(source, seed, reference):
     if source == "generated":
         size = "medium" if seed % 8 == 7 else "small"
         return runs.answer([reference, "gen", "--seed", str(seed), "--size", size, "--features", runs.features(seed)], b"", SECONDS).out
-    return {"plain": script_forms.script, "viewed": viewed_scripts.script, "laned": viewed_scripts.laned, "crowded": crowded}[source](seed)
+    return {"plain": script_forms.script, "crowded": crowded, **viewed_scripts.SOURCES}[source](seed)
 
 
 def judgement(log, text, reference):

@@ -5,16 +5,18 @@ REFERENCE is a program that was written from the same rules by other hands, and 
 repository. The N scripts of each source have the seeds from S on:
 
     plain      script_forms.py, scripts that are accepted
-    mutated    script_forms.py, slightly broken ones
+    mutated    broken_scripts.py, slightly broken ones
     viewed     viewed_scripts.py, scripts that most forms have lines of
     laned      the same with lanes
-    generated  `REFERENCE gen`, half of them of version 2, and half of them with lanes; each second one
-               through `REFERENCE mutate`
+    loading    the same with modules that come and go
+    uncovered  the same, but a call may find its module unloaded
+    generated  `REFERENCE gen`, half of them of version 2, half of them with lanes, and half of them with
+               modules; each second one through `REFERENCE mutate`
     stepped    `REFERENCE gen`, with a schedule of single steps in place of its own, which chooses the
                turn of every load and store
 
-Each script goes through `PROGRAM replay --print FORM` and `REFERENCE --machine e2 --features v2,lanes
-replay --print FORM`, for each form of --forms: all five, if it isn't given. They agree exactly if status
+Each script goes through `PROGRAM replay --print FORM` and `REFERENCE --machine e2 --features
+v2,lanes,modules replay --print FORM`, for each form of --forms: all six, if it isn't given. They agree exactly if status
 and bytes are the same and PROGRAM writes nothing to standard error.
 
 With --bulk M there is a sixth source, bulk, of M seeds: S and those after it, but each fourth one is among
@@ -30,7 +32,7 @@ At the end there is a line for each source: what became of its scripts, and how 
 tells something in each form. `# user U`, an fprobe without hits, and the last line tell nothing.
 
 To try the comparison itself, let PROGRAM be a script that runs
-`REFERENCE --machine e2 --features v2,lanes "$@"`: then nothing differs.
+`REFERENCE --machine e2 --features v2,lanes,modules "$@"`: then nothing differs.
 """
 import argparse
 import collections
@@ -43,14 +45,17 @@ import tempfile
 from typing import NamedTuple
 
 sys.dont_write_bytecode = True
+import broken_scripts  # noqa: E402
 import bulk_script  # noqa: E402
+import odd_lines  # noqa: E402
 import runs  # noqa: E402
 import script_forms  # noqa: E402
 import text_lines  # noqa: E402
 import viewed_scripts  # noqa: E402
 
-SCRIPTS = {"plain": script_forms.script, "mutated": script_forms.mutated, "viewed": viewed_scripts.script, "laned": viewed_scripts.laned, "bulk": bulk_script.script}
-SOURCES = ["plain", "mutated", "viewed", "laned", "generated", "stepped"]
+SCRIPTS = {"plain": script_forms.script, "mutated": broken_scripts.script, "bulk": bulk_script.script, **viewed_scripts.SOURCES}
+SOURCES = ["plain", "mutated", *viewed_scripts.SOURCES, "generated", "stepped"]
+TOOLS = {"mutated": broken_scripts, "bulk": bulk_script, **dict.fromkeys(viewed_scripts.SOURCES, viewed_scripts)}  # the others are script_forms.py's
 REFUSAL = re.compile(rb"line (\d+): ([a-z]+)\n")
 FOLDER = pathlib.Path(tempfile.gettempdir()) / "script-differences"
 WORKERS = 2
@@ -78,10 +83,9 @@ class Compared(NamedTuple):
 
 def commands_of(source, seed, reference):
     """The commands that write the script of this source and seed, each of which reads what the one before it wrote."""
-    tool = {"viewed": viewed_scripts, "laned": viewed_scripts, "bulk": bulk_script}.get(source, script_forms)
-    written = [sys.executable, tool.__file__, "--seed", str(seed)]
+    written = [sys.executable, TOOLS.get(source, script_forms).__file__, "--seed", str(seed)]
     if source in SCRIPTS:
-        return [written + ["--mutate"] * (source == "mutated") + ["--lanes"] * (source == "laned")]
+        return [written + viewed_scripts.OPTIONS.get(source, [])]
     size = "medium" if seed % 8 == 7 else "small"
     gen = [reference, "gen", "--seed", str(seed), "--size", size, "--features", runs.features(seed)]
     return [gen, written + ["--step"]] if source == "stepped" else [gen] + [[reference, "mutate", "--seed", str(seed)]] * (seed % 2)
@@ -123,7 +127,7 @@ def cause_of(ours):
 
 def replaying(reference):
     """The other program, with the machine and the language that are ftcore's."""
-    return [reference, "--machine", "e2", "--features", "v2,lanes"]
+    return [reference, "--machine", "e2", "--features", "v2,lanes,modules"]
 
 
 def words_of(options, source, seed):
@@ -171,7 +175,7 @@ def keep(options, done):
 def seeds_of_bulk(options):
     """The seeds of the source bulk."""
     seeds = range(options.seed, options.seed + options.bulk)
-    return [script_forms.NUMBER - at // 4 if at % 4 == 3 else seed for at, seed in enumerate(seeds)]
+    return [odd_lines.NUMBER - at // 4 if at % 4 == 3 else seed for at, seed in enumerate(seeds)]
 
 
 def read_options():
@@ -180,7 +184,7 @@ def read_options():
     parser.add_argument("program", metavar="PROGRAM", help="the program, as crates/ftcore/out/ftcore")
     parser.add_argument("reference", metavar="REFERENCE", help="the other program")
     parser.add_argument("--count", type=int, required=True, metavar="N", help="scripts of each source but bulk")
-    parser.add_argument("--forms", type=runs.names_of(text_lines.FORMS), default=text_lines.FORMS, metavar="FORM,..", help="the forms, else all five")
+    parser.add_argument("--forms", type=runs.names_of(text_lines.FORMS), default=text_lines.FORMS, metavar="FORM,..", help="the forms, else all six")
     parser.add_argument("--bulk", type=int, default=0, metavar="M", help="seeds of bulk, else none")
     parser.add_argument("--seed", type=int, default=0, metavar="S", help="the first seed, else 0")
     parser.add_argument("--sources", type=runs.names_of(SOURCES), default=SOURCES, metavar="SOURCE,..", help="the sources but bulk, else all")

@@ -12,6 +12,12 @@ function, what its call site is meant to be: a nop, a user's own trampoline, or 
 in the log; it is worked out from the commands that were accepted. Hatched is the time in which a command
 that changes it is under way. A browser shows the items of a box that the pointer is on.
 
+If modules come and go, the commands of a load or an unload have its line as their label, as `load ext3`,
+with the colour of the user whose notrace set is written, and the last of them the line's answer; those
+before the first line have `hides ext3`. Above the call sites is a row for each such module: when it is
+loaded and, hatched, when the commands of a line that loads or unloads it are under way. The log tells
+nothing of modules: all this is worked out from the script.
+
 The trace is for https://ui.perfetto.dev or chrome://tracing, which open it as a file. One place of the
 log is a millisecond there. Control and the CPUs are processes; lanes are threads of control, and tasks are
 threads of their CPUs. Arrows go from a command that turns a user on to the user's first callback, and from

@@ -2,8 +2,10 @@
 
 What a crate does for a small job it has to do for the largest one too: these scripts have as many functions, users,
 trampolines, CPUs, tasks, commands, waits and acts as a version allows, so that nothing gives up between the sizes
-that other rows have.
+that other rows have. Half of them have modules that come and go, whose lines are most of the commands.
 """
+import itertools
+
 import command_words
 import memory_limits
 import runs
@@ -16,18 +18,50 @@ PART = 4  # a log is written in pieces: it may take a fourth of its own length b
 
 def script(version):
     """Each user has a filter of its own and is registered before the calls; then they go and come back, and control waits for tasks between."""
-    wait, calls = 2 * version.users, (forms.ACTS // forms.TASKS - 1) // 2
+    registered = registrations(version)
     lines = [f"ftrace {version.number}"] + [f"func f{number}" for number in range(version.funcs)]
-    lines += [f"depth {forms.FRAMES}", f"tramps {version.tramps}"]
+    lines += machine(version, []) + tasks(len(registered), lambda number: number % version.funcs)
+    return text_of(lines + registered + rest_of_control(version.users, forms.COMMANDS - len(registered), forms.UNTILS))
+
+
+def script_with_modules(version):
+    """The same, but half of the functions lie in two modules. One is loaded before the calls; the other, which nobody calls, comes and goes."""
+    registered, load = [*registrations(version), "ctl load m0"], 1 + version.users
+    modules = {1: " m1", 2: " m0"}
+    lines = [f"ftrace {version.number}"] + [f"func f{number}{modules.get(number % 4, '')}" for number in range(version.funcs)]
+    lines += machine(version, ["absent m0", "absent m1"]) + tasks(len(registered), lambda number: 2 * number % version.funcs)
+    left = forms.COMMANDS - version.users - 2 * version.users - load
+    rest = rest_of_control(version.users, left - left // 2 // load * load, forms.UNTILS)
+    for number in range(left // 2 // load):
+        rest.insert((number + 1) * 100, f"ctl {('load', 'unload')[number % 2]} m1")
+    return text_of(lines + registered + rest)
+
+
+def text_of(lines):
+    """The text of these lines."""
+    return "".join(line + "\n" for line in lines).encode()
+
+
+def machine(version, absent):
+    """The sizes of the machine, the modules that are absent, the users and the CPUs."""
+    lines = [f"depth {forms.FRAMES}", f"tramps {version.tramps}", *absent]
     lines += [f"user u{number} function" for number in range(version.users)]
-    lines += [f"cpu {cpu} quantum 100" for cpu in range(forms.CPUS)]
+    return lines + [f"cpu {cpu} quantum 100" for cpu in range(forms.CPUS)]
+
+
+def tasks(wait, function):
+    """The tasks, which wait for so many lines of control. The number of the function of each call is worked out from the call's."""
+    lines, calls = [], (forms.ACTS // forms.TASKS - 1) // 2
     for task in range(forms.TASKS):
         lines += [f"task {100 + task} cpu {task % forms.CPUS}", f"after {wait}"]
-        lines += [line for call in range(calls) for line in [f"call f{(37 * call + 61 * task) % version.funcs}", "ret"]]
-    lines += [f"ctl filter u{user} > f{user}" for user in range(version.users)]
-    lines += [f"ctl register u{user}" for user in range(version.users)]
-    lines += rest_of_control(version.users, forms.COMMANDS - wait, forms.UNTILS)
-    return "".join(line + "\n" for line in lines).encode()
+        lines += [line for call in range(calls) for line in [f"call f{function(37 * call + 61 * task)}", "ret"]]
+    return lines
+
+
+def registrations(version):
+    """The commands by which each user gets a filter and is registered."""
+    lines = [f"ctl filter u{user} > f{user}" for user in range(version.users)]
+    return lines + [f"ctl register u{user}" for user in range(version.users)]
 
 
 def rest_of_control(users, commands, waits):
@@ -43,16 +77,16 @@ def rest_of_control(users, commands, waits):
 
 def check_full(rows, program):
     """Each form follows from the log, and a run by threads comes to its end."""
-    for version in forms.VERSIONS:
-        text = script(version)
+    for version, make in itertools.product(forms.VERSIONS, [script, script_with_modules]):
+        text, what = make(version), f"all limits of version {version.number}" + (", modules" if make is script_with_modules else "")
         log = runs.answer([program, "replay"], text, SECONDS)
         found = runs.faults(log, 0) + ["it doesn't end"] * (not log.out.endswith(b"\nend\n"))
-        rows.row(f"all limits of version {version.number}: log", found, log.seconds)
+        rows.row(f"{what}: log", found, log.seconds)
         for form in [] if found else views_of_log.VIEWS:
             came = runs.answer([program, "replay", "--print", form], text, SECONDS)
-            rows.row(f"all limits of version {version.number}: {form}", runs.faults(came, 0, views_of_log.text(form, text, log.out)), came.seconds)
+            rows.row(f"{what}: {form}", runs.faults(came, 0, views_of_log.text(form, text, log.out)), came.seconds)
         came = runs.answer([program, "run"], text, RUN_SECONDS)
-        rows.row(f"all limits of version {version.number}: run", command_words.run_faults(came, "log"), came.seconds)
+        rows.row(f"{what}: run", command_words.run_faults(came, "log"), came.seconds)
 
 
 def check_memory_of_log(rows, program):

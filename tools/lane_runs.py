@@ -55,7 +55,7 @@ def largest():
 def full():
     """The script at all limits of version 2, its commands in lanes."""
     lines = [line.split() for line in full_scripts.script(forms.VERSION_2).decode().splitlines()]
-    return viewed_scripts.text_of(viewed_scripts.with_lanes(random.Random("full"), lines, LANES))
+    return forms.text_of(viewed_scripts.with_lanes(random.Random("full"), lines, LANES))
 
 
 def check(rows, program, top):
@@ -65,7 +65,7 @@ def check(rows, program, top):
     for seed in range(SEEDS):
         rng = random.Random(f"lanes {seed}")
         lines = commands_alone(viewed_scripts.lines_of(rng))
-        text = viewed_scripts.text_of(viewed_scripts.with_lanes(rng, lines, rng.randint(1, LANES)))
+        text = forms.text_of(viewed_scripts.with_lanes(rng, lines, rng.randint(1, LANES)))
         rows.row(f"lanes: random commands {seed}", *faults(program, text))
     rows.row("lanes: the most lanes and commands", *faults(program, largest()))
     rows.row("lanes: all limits of version 2", *faults(program, full(), full_scripts.RUN_SECONDS, is_told=False))

@@ -1,12 +1,15 @@
 """What the call site of each function is meant to be, after each command of a script.
 
-The rules are those of docs/RULES.md, "Users and matching", and of docs/LANGUAGE.md, "Filter texts". The answers are the log's.
+The rules are those of docs/RULES.md, "Users and matching" and "Commands and answers", and of docs/LANGUAGE.md, "Filter texts" and "Modules
+that come and go". What is drawn goes by the answers of the log.
 """
 import re
 from typing import NamedTuple, Optional
 
 CLASS = re.compile(r"\[(!|(?!!))(.[^]]*)\]")  # ends at the first `]` that isn't the first byte in it; any other `[` is itself
 NOP, LIST = "nop", "list"  # besides these, `own U`, as the log has it
+HIDE = "hide"  # what a command does that keeps functions out of a user's sight: `hide`, the user, and their numbers
+LOADED, AWAY = "loaded", "not loaded"  # what a module is
 
 
 def items(text):
@@ -49,13 +52,18 @@ def selected(functions, text):
 
 
 class Desk:
-    """Who is registered, who of them has a trampoline, and which functions each user's filter and notrace set have."""
+    """Who is registered, who of them has a trampoline, and which functions each user's filter and notrace set have.
+
+    On the desk a notrace set holds the functions of the modules that aren't loaded, too; here these are apart, `hidden`.
+    """
 
     def __init__(self, script):
-        self.functions, self.slots = script.functions, script.slots
+        self.functions, self.slots, self.users = script.functions, script.slots, script.users
         self.sets = {"filter": {user: set() for user in script.users}, "notrace": {user: set() for user in script.users}}
+        self.hidden = dict.fromkeys(script.users, frozenset())
         self.registered = {}  # whether each registered user found a free slot, and so has a trampoline of its own
         self.matched = {}  # the numbers of the functions that a registered user matches
+        self.selections = {}  # what each filter text, without its mark, selects
 
     def carry_out(self, word, *words):
         """A command that is accepted."""
@@ -63,23 +71,78 @@ class Desk:
             self.registered[words[0]] = sum(self.registered.values()) < self.slots
         elif word == "unregister":
             self.registered.pop(words[0], None)
+            self.matched.pop(words[0], None)
         elif word in self.sets:
-            self.edit(self.sets[word], *words)
-        self.matched = {user: self.matching(user) for user in self.registered}
+            self.sets[word][words[0]] = self.edited(word, *words)
+        elif word == HIDE:
+            self.hidden[words[0]] = words[1]
+        if words and words[0] in self.registered:
+            self.matched[words[0]] = self.matching(words[0])
 
-    def edit(self, sets, user, mode, text=None):
-        """`>` starts from the empty set and `>>` from the set as it is; without a text the set is cleared."""
-        before = sets[user] if mode == ">>" else set()
+    def edited(self, word, user, mode, text=None):
+        """A set after an edit: `>` starts from the empty set and `>>` from the set as it is; without a text the set is cleared."""
+        before = self.sets[word][user] if mode == ">>" else set()
         if text is None:
-            sets[user] = set()
-        elif text.startswith("!"):
-            sets[user] = before - selected(self.functions, text[1:])
-        else:
-            sets[user] = before | selected(self.functions, text)
+            return set()
+        return before - self.selected(text) if text.startswith("!") else before | self.selected(text)
 
-    def matching(self, user):
-        """An empty filter means all functions, and the notrace set wins."""
-        return (self.sets["filter"][user] or set(range(len(self.functions)))) - self.sets["notrace"][user]
+    def selected(self, text):
+        """The functions that a filter text selects."""
+        text = text.removeprefix("!")
+        if text not in self.selections:
+            self.selections[text] = selected(self.functions, text)
+        return self.selections[text]
+
+    def matching(self, user, **others):
+        """An empty filter means all functions, and the notrace set wins. Other sets may stand in the place of the user's, or of what is hidden."""
+        sets = {"filter": self.sets["filter"][user], "notrace": self.sets["notrace"][user], "hidden": self.hidden[user], **others}
+        return (sets["filter"] or set(range(len(self.functions)))) - sets["notrace"] - sets["hidden"]
+
+    # The answers.
+
+    def answer(self, word, *words):
+        """That of a command on this desk."""
+        if word in ("pid", "nopid", "maxdepth"):
+            return "ok"
+        user = words[0]
+        if word in self.sets:
+            return self.answer_of_edit(word, *words)
+        if word == "register":
+            return "already" if user in self.registered else self.claim(user)
+        if user not in self.registered:
+            return "not-there"
+        return "ok" if word == "unregister" or self.users[user].kind == "fprobe" else "invalid"
+
+    def answer_of_edit(self, word, user, mode, text=None):
+        if text is not None and not self.selected(text):
+            return "no-match"
+        return self.claim(user, **{word: self.edited(word, user, mode, text)}) if user in self.registered else "ok"
+
+    def claim(self, user, **others):
+        """The answer for a user that is registered or would be, with these sets: one that replaces functions can't share them."""
+        if not self.users[user].is_replacing:
+            return "ok"
+        if not (others.get("filter", self.sets["filter"][user]) and self.users[user].has_regs):
+            return "invalid"
+        matched = {other: self.matched[other] for other in self.replacing() if other != user}
+        shared = self.matching(user, **others).intersection(set().union(*matched.values()))
+        return self.busy(min(shared), matched) if shared else "ok"
+
+    def clash(self, hidden):
+        """The answer of a load after which these functions are hidden."""
+        matched = {user: self.matching(user, hidden=hidden) for user in self.replacing()}
+        shared = [number for number in range(len(self.functions)) if sum(number in numbers for numbers in matched.values()) > 1]
+        return self.busy(shared[0], matched) if shared else "ok"
+
+    def replacing(self):
+        """The registered users that replace functions, in the order of their lines."""
+        return [user for user, told in self.users.items() if told.is_replacing and user in self.registered]
+
+    def busy(self, number, matched):
+        """The answer where one of these users has this function already."""
+        return f"busy {self.functions[number].name} {next(user for user, numbers in matched.items() if number in numbers)}"
+
+    # The sites.
 
     def target(self, number):
         """What the site of a function is meant to be, by the users that are registered and match it, enabled or not."""
@@ -97,9 +160,8 @@ def all_targets(script, commands):
     desk = Desk(script)
     found = [desk.targets()]
     for command in commands:
-        words = command.name.split(" ")
-        if command.note in (None, "ok") and words[0] in ("register", "unregister", "filter", "notrace"):
-            desk.carry_out(*words)
+        if command.note in (None, "ok") and command.words[0] in ("register", "unregister", "filter", "notrace", HIDE):
+            desk.carry_out(*command.words)
             found.append(desk.targets())
         else:
             found.append(found[-1])
@@ -107,7 +169,7 @@ def all_targets(script, commands):
 
 
 class Span(NamedTuple):
-    """A site from a command's end to the next one's begin, or, with `later`, while a command that changes it is under way.
+    """A site from a command's end to the next one's begin, or, with `later`, while a command that changes it is under way; so too a module.
 
     The places are those of the first item in it, None for the start, and of the first after it, None for the end.
     """
@@ -130,4 +192,19 @@ def spans(commands, targets, number):
         since = over
     if not found or since is not None:
         found.append(Span(since, None, targets[-1][number]))
+    return found
+
+
+def module_spans(script, commands, module):
+    """The spans of a module, in order. It changes from the begin of a line's first command to the return of its last."""
+    found, since, now = [], None, AWAY if module in script.absent else LOADED
+    for line in script.module_lines:
+        if (line.module, line.answer) != (module, "ok") or line.first >= len(commands):
+            continue
+        later = LOADED if line.word == "load" else AWAY
+        over = commands[line.last].end + 1 if line.last < len(commands) and commands[line.last].end is not None else None
+        found += [Span(since, commands[line.first].begin, now), Span(commands[line.first].begin, over, now, later)]
+        since, now = over, later
+    if not found or since is not None:
+        found.append(Span(since, None, now))
     return found

@@ -9,6 +9,7 @@ import sys
 from typing import Dict, List, NamedTuple, Optional
 
 sys.dont_write_bytecode = True
+import control_lines  # noqa: E402
 import limits  # noqa: E402
 
 REFUSAL = re.compile(r"line [0-9]+: [a-z]+")
@@ -31,15 +32,26 @@ class Function(NamedTuple):
     module: Optional[str]
 
 
+class User(NamedTuple):
+    name: str
+    kind: str
+    has_regs: bool
+    is_replacing: bool
+    needs: List[str]  # the functions that it puts in the place of others, and that its callbacks call
+
+
 class Script(NamedTuple):
-    """What a script declares, each in the order of its lines; a command is its words after `ctl`."""
+    """What a script declares, each in the order of its lines; what its lines of control come to is in control_lines.py."""
 
     functions: List[Function]
     slots: int
-    users: List[str]
+    absent: List[str]  # the modules that aren't loaded at first
+    users: Dict[str, User]
     tasks: Dict[int, int]  # the CPU of each pid
-    commands: List[List[str]]
+    lines: List[List[str]]  # those of control that aren't waits: their words after `ctl`
     lanes: List[List[int]]  # the commands of each lane, by their numbers from 0; none if the script has no lanes
+    commands: List[control_lines.Command] = []
+    module_lines: List[control_lines.ModuleLine] = []  # the loads and unloads
 
 
 @dataclasses.dataclass(eq=False)
@@ -47,7 +59,7 @@ class Box:
     """Something that has a beginning and an end in the history; `end` is None if the log ends before it does.
 
     what     name             note
-    command  its words        the answer, None before the return; its lane is None if the script has no lanes
+    command  its line         the answer, None before the return; its lane is None if the script has no lanes
     call     the function     the context
     entry    the user         -
     exit     the user         the place of its entry
@@ -65,6 +77,7 @@ class Box:
     parent: Optional["Box"] = None
     depth: int = 0  # how many boxes it lies in
     lane: Optional[int] = None
+    words: List[str] = ()  # what a command does
 
 
 class History(NamedTuple):
@@ -79,11 +92,22 @@ class History(NamedTuple):
     is_ended: bool
 
 
+def user_of(words):
+    """The user of a line."""
+    options = words[3:]
+    for part in ("exit", "cancel"):
+        options = options[options[:1] == [part]:]
+    has_regs = options[:1] == ["regs"]
+    is_replacing = options[has_regs:][:1] == ["ipmodify"]
+    needs, options = (options[has_regs + 1 :][:1], options[has_regs + 2 :]) if is_replacing else ([], options[has_regs:])
+    return User(words[1], words[2], has_regs, is_replacing, needs + options[options[:1] == ["pid"] :][1:2])
+
+
 def read_script(text):
     """What the script with these bytes declares."""
     lines = text.decode("latin-1").split("\n")
     slots = limits.version_of(lines[0].split()).tramps  # if the script doesn't say how many
-    script = Script([], slots, [], {}, [], [])
+    script = Script([], slots, [], {}, {}, [], [])
     for number, line in enumerate(lines, 1):
         words = line.split()
         try:
@@ -91,23 +115,26 @@ def read_script(text):
                 script.functions.append(Function(words[1], words[2] if len(words) > 2 else None))
             elif words[:1] == ["tramps"]:
                 slots = int(words[1])
+            elif words[:1] == ["absent"]:
+                script.absent.append(words[1])
             elif words[:1] == ["user"]:
-                script.users.append(words[1])
+                script.users[words[1]] = user_of(words)
             elif words[:1] == ["task"]:
                 script.tasks[int(words[1])] = int(words[3])
             elif words[:1] == ["lane"]:
                 script.lanes.append([])
             elif words[:1] == ["ctl"] and words[1] != "until":
-                script.commands.append(words[1:])
+                script.lines.append(words[1:])
                 for lane in script.lanes[-1:]:
-                    lane.append(len(script.commands) - 1)
+                    lane.append(len(script.lines) - 1)
         except (IndexError, ValueError):
             raise Fault(f"line {number} of the script has no form: {line.strip()[:60]!r}") from None
-    return script._replace(slots=slots)
+    commands, module_lines = control_lines.expanded(script)
+    return script._replace(slots=slots, commands=commands, module_lines=module_lines)
 
 
 class Turns:
-    """Which command of a script begins next: that of the next line or, in a script with lanes, the next one of the lane that the log names."""
+    """Which command of a script begins next: the next one or, in a script with lanes, the next one of the lane that the log names."""
 
     def __init__(self, script):
         lists = {f"lane {lane}": numbers for lane, numbers in enumerate(script.lanes)} or {"": range(len(script.commands))}
@@ -153,11 +180,13 @@ class Reader:
             at = self.turns.next(" ".join(words))
             self.require(at is not None, "there is no such command")
             lane = int(words[1]) if words else None
-            commands.append(Box("command", number, " ".join(self.script.commands[at]), None, place, lane=lane))
+            command = self.script.commands[at]
+            commands.append(Box("command", number, command.line, None, place, lane=lane, words=command.words))
             self.history.order.append(at)
         else:
             self.require(is_open and number == commands[-1].key, "no such command is under way")
-            commands[-1].end, commands[-1].note = place, " ".join(words)
+            command = self.script.commands[self.history.order[-1]]
+            commands[-1].end, commands[-1].note = place, command.answer or " ".join(words)
 
     def task(self, kind, call, *words):
         pid = int(call.split(".")[0]) if re.fullmatch(r"\d+\.\d+", call) else None

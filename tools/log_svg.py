@@ -1,7 +1,9 @@
-"""The picture of a history: an SVG with a column for each item, in which control or each of its lanes, each task and each call site has a row."""
+"""The picture of a history: an SVG with a column for each item, in which control or each of its lanes, each task, each module that comes and
+goes, and each call site has a row."""
 import html
 import math
 
+import control_lines
 import log_desk
 import log_reader
 import log_style
@@ -29,6 +31,8 @@ ICONS = {"entry": "l7 4.5l-7 4.5z", "exit": "m7 0l-7 4.5l7 4.5z", "miss": "m1 1l
 HATCH = '<pattern id="hatch" width="6" height="6" patternUnits="userSpaceOnUse"><path class="hatch" d="M-1 1l2-2M0 6l6-6M5 7l2-2"/></pattern>'
 DESCRIPTION = "Above are the commands of control, below them the calls of each task with the callbacks in them, "
 DESCRIPTION += "and at the bottom what the call site of each function is meant to be."
+OF_MODULES = " Above these is when each module that comes and goes is loaded."
+MODULES_SHOW = "modules: when each is loaded, by the commands that have returned"
 SITES_SHOW = "call sites: what each is meant to be, by the commands that have returned"
 
 
@@ -75,6 +79,9 @@ def icon(what, x, y):
     return path("icon", f"M{plain(x)} {plain(y)}{ICONS[what]}")
 
 
+# What a module is, and as which shape of a site it is drawn.
+OF_MODULE = {log_desk.LOADED: "normal", log_desk.AWAY: log_desk.NOP}
+
 # What the key explains if it is in the picture: the classes of its sample, the sample, and what it means.
 SAMPLE = '<rect width="26" height="14"/>'
 KEY = [
@@ -87,6 +94,7 @@ KEY = [
     ("refused", "row command refused u0", SAMPLE, "command that isn't accepted"),
     ("returns", "row", path("returns", "M13 0v14"), "a command has returned"),
     ("changing", "row changing", SAMPLE, "site while a command changes it"),
+    ("loading", "row changing", SAMPLE, "module while it is loaded or unloaded"),
     ("fetch", "row", path("fetch", "M10 5h7l-3.5 5z"), "a call's body begins"),
     ("cut", "row call normal", '<rect width="26" height="14" stroke-dasharray="26 14 40 0"/>', "goes on outside, or wasn't over"),
 ]
@@ -169,6 +177,7 @@ class Picture:
         self.hues = {user: f"u{number % len(log_style.HUES)}" for number, user in enumerate(script.users)}
         self.commands = self.seen(history.commands)
         self.tasks = {pid: self.seen(boxes) for pid, boxes in history.tasks.items()}
+        self.modules = {module: self.shown(log_desk.module_spans(script, history.commands, module)) for module in control_lines.changing(script)}
         self.sites = self.site_rows()
         boxes = [box for boxes in [self.commands, *self.tasks.values()] for box in boxes]
         needs = [(box.begin, last if box.end is None else box.end, wanted_width(box)) for box in boxes]
@@ -178,19 +187,22 @@ class Picture:
     def seen(self, boxes):
         return [box for box in boxes if box.begin <= self.last and (box.end is None or box.end >= self.first)]
 
+    def shown(self, spans):
+        return [span for span in spans if (span.begin or 0) <= self.last + 1 and (span.end is None or span.end >= self.first)]
+
     def site_rows(self):
         """The spans of each row of sites, and the numbers of its functions."""
         targets = log_desk.all_targets(self.script, self.history.commands)
         rows, count = {}, len(self.script.functions)
         for number in range(count):
-            spans = [span for span in log_desk.spans(self.history.commands, targets, number)
-                     if (span.begin or 0) <= self.last + 1 and (span.end is None or span.end >= self.first)]
+            spans = self.shown(log_desk.spans(self.history.commands, targets, number))
             rows.setdefault((tuple(spans), count > SITES or number), (spans, []))[1].append(number)
         return list(rows.values())
 
     def gutter(self):
         """Where the rows begin, after their headings."""
         headings = ["lane 0 control" if self.script.lanes else "control"] + [f"task {pid} CPU {cpu}" for pid, cpu in self.script.tasks.items()]
+        headings += [f"{short(module, 20)} module" for module in self.modules]
         headings += [" ".join(part for _, part in self.site_heading(numbers)) for _, numbers in self.sites]
         return max(map(width_of, headings)) + 3 * GAP
 
@@ -232,7 +244,7 @@ class Picture:
 
     def command_classes(self, box):
         yield "command"
-        yield from [self.hues[word] for word in box.name.split(" ")[1:2] if word in self.hues]
+        yield from [self.hues[word] for word in box.words[1:2] if word in self.hues]
         if box.note not in (None, "ok"):
             yield "refused"
         if self.window and max(1, self.window[0]) <= int(box.key) <= self.window[1]:
@@ -298,6 +310,20 @@ class Picture:
                 levels[box.parent] = max(levels[box.parent], levels[box] + 1)
         return levels
 
+    def module_rows(self):
+        """The rows of the modules that come and go, on one ground."""
+        self.panel(2 * GAP + 16 + SITE * len(self.modules), above=GAP + 16)
+        self.add(text(2 * GAP, self.y + GAP + 11, MODULES_SHOW, "words muted"))
+        self.y += GAP + 18
+        for module, spans in self.modules.items():
+            self.add(f'<g class="row module" id="module-{module}"><title>{module}</title>')
+            self.add(text(2 * GAP, self.y + 15, [("name", short(module, 20)), ("muted", "module")]))
+            for span in spans:
+                self.span(span, self.y + 3)
+            self.add("</g>")
+            self.y += SITE
+        self.y += GAP - 2
+
     def call_sites(self):
         height, y = 2 * GAP + 16 + SITE * len(self.sites), self.y + GAP + 18
         self.panel(height, above=GAP + 16)
@@ -325,13 +351,14 @@ class Picture:
         return places
 
     def span(self, span, y):
-        """A site as it is meant to be for a while, or while it is changed."""
+        """A site as it is meant to be for a while, or while it is changed; or a module, which is drawn as a site if it isn't loaded."""
         left = self.columns.left(span.begin)
         right = self.columns.end if span.end is None or span.end > self.last + 1 else self.columns.left(span.end)
-        kind = "changing" if span.later else span.target.split(" ")[0]
+        is_module = span.target in OF_MODULE
+        kind = "changing" if span.later else OF_MODULE.get(span.target) or span.target.split(" ")[0]
         words = short(f"{span.target} → {span.later}" if span.later else span.target)
         words = words if width_of(words) + (HATCHED if span.later else 10) <= right - left else ""
-        self.uses.add(kind)
+        self.uses.add("loading" if span.later and is_module else kind)
         if left < right:
             classes = f"own {self.hues[span.target[4:]]}" if kind == "own" else kind
             self.add(f'<g class="{classes}">', *self.span_shapes(kind, left, right, y, words))
@@ -399,6 +426,9 @@ class Picture:
             self.y += GAP
             self.cpu(cpu, [pid for pid, on in self.script.tasks.items() if on == cpu])
         self.y += GAP
+        if self.modules:
+            self.module_rows()
+            self.y += GAP
         self.call_sites()
 
     def whole(self):
@@ -413,6 +443,7 @@ class Picture:
         self.key()
         width, height = plain(self.columns.end + 2 * GAP), plain(self.y + GAP)
         head = f'<svg xmlns="http://www.w3.org/2000/svg" width="{width}" height="{height}" viewBox="0 0 {width} {height}" role="img">'
-        parts = [f"<title>{escaped(self.name)}</title>", f"<desc>{DESCRIPTION}</desc>", log_style.style(len(self.script.users)), f"<defs>{HATCH}</defs>"]
+        said = DESCRIPTION + (OF_MODULES if self.modules else "")
+        parts = [f"<title>{escaped(self.name)}</title>", f"<desc>{said}</desc>", log_style.style(len(self.script.users)), f"<defs>{HATCH}</defs>"]
         parts += [f'<rect class="page" width="{width}" height="{height}"/>', *self.ground]
         return "\n".join([head, *["  " + part for part in parts], *self.parts, "</svg>", ""])

@@ -1,4 +1,4 @@
-"""Lines, words and numbers that a script may have or not: what the broken variants of script_forms.py are made of."""
+"""Lines, words and numbers that a script may have or not: what broken_scripts.py puts into scripts."""
 import sys
 
 sys.dont_write_bytecode = True
@@ -18,7 +18,7 @@ NUMBER = 4_294_967_295  # the most that a number may be
 
 # Good lines and bad ones, by rank, for a user, a pid and a function of the script; `;` ends a line
 FURTHER_LINES = {
-    2: ["depth 1", f"depth {FRAMES}", f"depth {FRAMES + 1}", "depth 0", "tramps 0"]
+    2: ["absent nobody", "absent ext3", "absent", "absent ext3 snd", "depth 1", f"depth {FRAMES}", f"depth {FRAMES + 1}", "depth 0", "tramps 0"]
     + [f"tramps {version.tramps + more}" for version in VERSIONS for more in (0, 1)],
     3: ["user u2 function", "user u2 graph", "user u2 profile", "user u2 fprobe", "user u2 fprobe exit"]
     + ["user u2 fprobe exit cancel", "user u2 function regs", "user u2 function pid", "user u2 function regs ipmodify {function}"]
@@ -34,6 +34,7 @@ FURTHER_LINES = {
     + ["ctl pid", "ctl nopid", "ctl pid {pid}", "ctl nopid {pid} {pid}", "ctl pid 0", f"ctl nopid {PID + 1}", "ctl pid 77"]
     + ["ctl filter {user} >", "ctl notrace {user} >", "ctl filter {user} >>", "ctl notrace {user}", "ctl enable nobody"]
     + ["ctl pid {pid} 77", f"ctl nopid {{pid}} {PID}", "ctl maxdepth", "ctl disable {user} {user}", "ctl filter nobody > :", "ctl"]
+    + ["ctl load ext3", "ctl unload ext3", "ctl load ext3;ctl unload ext3", "ctl load", "ctl unload {user}", "ctl load ext3 snd", "load ext3"]
     + ["lane 0", "lane 0;ctl pid", "lane 1", "lane 1;ctl register {user}", f"lane {LANES}", "lane", "lane 0 0", "lane k", "ctl lane 0"],
 }
 
@@ -42,7 +43,7 @@ TEXTS = ["*", "a", "1", "!1", "0", "2", "99", "007", str(NUMBER + 2), "!", "!!",
 TEXTS += ["!*:mod:!snd", "a:b", "a:mod:m:n", "a\\b", "[a", "[!]", "[c-a]", "a:mod:!!m", ":", "x" * PATTERN_BYTES, "x" * (PATTERN_BYTES + 1)]
 TEXTS += ["x" * 250 + ":mod:" + "y" * 250, "*:mod:" + "y" * (PATTERN_BYTES + 1), "0" * 300 + "1", "#", ">", "a b"]
 ODD_WORDS = ["ftrace", "1", "2", "func", "user", "cpu", "quantum", "task", "call", "ret", "after", "ctl", "register", "unregister", "until"]
-ODD_WORDS += ["lane", "sched", "k", "all", "0", "8", "07", "k*0", "all*2", "0*", "*3", "k*1*1", "zz", "9x", "-1", "+1", "a/b"]
+ODD_WORDS += ["lane", "absent", "load", "unload", "sched", "k", "all", "0", "8", "07", "k*0", "all*2", "0*", "*3", "k*1*1", "zz", "9x", "-1", "+1", "a/b"]
 ODD_WORDS += ["x" * (NAME_BYTES + 1), "function", "graph"]
 
 # Numbers at their limits and past them.

@@ -1,6 +1,8 @@
 """Random scripts: those that are accepted in each form, which has to follow from the log, and run by threads; and broken variants."""
+import broken_scripts
 import check_docs
 import command_words
+import covered_calls
 import runs
 import script_forms as forms
 import text_lines
@@ -26,15 +28,26 @@ def check_accepted(rows, program, name, script):
         rows.row(f"random: {name}: {form}", runs.faults(came, 0, views_of_log.text(form, script, log.out)), came.seconds)
 
 
+def check_uncovered(rows, program, seed):
+    """A script in which a call may find its module unloaded is refused for it, at the line that covered_calls.py finds."""
+    text = viewed_scripts.uncovered(seed)
+    came = runs.answer([program, "replay"], text)
+    line = covered_calls.lowest_line(text)
+    found = text_faults(came, "log") if line is None else runs.faults(came, 3, f"line {line}: unloaded\n".encode())
+    rows.row(f"random: viewed_scripts.py --seed {seed} --uncovered", found, came.seconds)
+
+
 def check(rows, program):
     """Scripts that are accepted, in each form; and broken variants, which are accepted or refused, in one form each."""
     for seed in range(SEEDS):
         check_accepted(rows, program, f"script_forms.py --seed {seed}", forms.script(seed))
         check_accepted(rows, program, f"viewed_scripts.py --seed {seed}", viewed_scripts.script(seed))
         check_accepted(rows, program, f"viewed_scripts.py --seed {seed} --lanes", viewed_scripts.laned(seed))
+        check_accepted(rows, program, f"viewed_scripts.py --seed {seed} --modules", viewed_scripts.loading(seed))
+        check_uncovered(rows, program, seed)
         form = text_lines.FORMS[seed % len(text_lines.FORMS)]
-        came = runs.answer([program, "replay", "--print", form], forms.mutated(seed))
+        came = runs.answer([program, "replay", "--print", form], broken_scripts.script(seed))
         found = runs.faults(came, 3) if check_docs.REFUSED.fullmatch(came.out) else text_faults(came, form)
-        rows.row(f"random: script_forms.py --seed {seed} --mutate: {form}", found, came.seconds)
+        rows.row(f"random: broken_scripts.py --seed {seed}: {form}", found, came.seconds)
         came = runs.answer([program, "run", "--print", form], forms.script(seed), RUN_SECONDS)
         rows.row(f"random: script_forms.py --seed {seed}: run, {form}", command_words.run_faults(came, form), came.seconds)

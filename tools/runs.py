@@ -35,9 +35,9 @@ def answer(command, text=b"", seconds=SECONDS, **how):
 
 
 def features(seed):
-    """The features with which the other program generates a script of this seed: every third and fourth one is of version 2, and the second
-    four of each eight may have lanes."""
-    return ",".join(["v2"] * (seed // 2 % 2) + ["lanes"] * (seed // 4 % 2)) or "none"
+    """The features with which the other program generates a script of this seed: every third and fourth one is of version 2, the second
+    four of each eight may have lanes, and the second eight of each sixteen modules that come and go."""
+    return ",".join(["v2"] * (seed // 2 % 2) + ["lanes"] * (seed // 4 % 2) + ["modules"] * (seed // 8 % 2)) or "none"
 
 
 def names_of(known):

@@ -43,6 +43,11 @@ SCRIPTS = [
     Told("lanes without commands, and zeros in front of a number",
         "ftrace 2; lane 0; lane 0000000001; lane 02; ctl maxdepth 1",
         {"log": "0 begin 1 lane 2; 1 return 1 ok; end"}),
+    Told("a module is hidden at first, and loaded",
+        "ftrace 1; func a; func e ext3; absent ext3; user t function; cpu 0 quantum 100; task 10 cpu 0; after 2; call e; ret; ctl register t; ctl load ext3",
+        {"log": "0 begin 1; 1 return 1 ok; 2 begin 2; 3 return 2 ok; 4 begin 3; 5 return 3 ok; 6 begin 4; 7 return 4 ok; 8 enter 10.1 normal e -; 9 back 10.1 t; "
+                "10 back-end 10.1 t; 11 body 10.1 e own t; 12 leave 10.1; 13 ret 10.1 -; end",
+         "modules": "load ext3 ok 3 4; end"}),
     Told("two users that replace functions",
         "ftrace 1; func a; func b; func c; func d; user p function regs ipmodify d; user q function regs ipmodify d; cpu 0 quantum 100; task 10 cpu 0; after 7; "
         "call b; ret; ctl filter p > a; ctl filter p >> b; ctl filter q > [bc]; ctl register p; ctl register q; ctl unregister p; ctl register q",

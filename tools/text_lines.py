@@ -21,6 +21,7 @@ LINES = {
     "graph": rb"# user \S+|" + column(2) + rb"\) " + column(7) + rb" \| ( {8} \| (  )*\S+\(\) \{|" + column(8) + rb" \| (  )*(\} /\* \S+ \*/|\S+\(\);))",
     "profile": rb"# user \S+|\S+ \d+ \d+|# fprobe \S+ hits \d+ missed \d+",
     "enabled": rb"\S+ \([1-9]\d*\)( R|  )( I|  ) (list|own \S+)",
+    "modules": rb"(un)?load \S+ (ok|already|not-there|busy \S+ \S+) \d+ \d+",
 }
 LINES = {form: re.compile(line) for form, line in LINES.items()}
 FORMS = list(LINES)

@@ -1,11 +1,12 @@
 #!/usr/bin/env python3
-"""Works out the forms function, graph, profile and enabled of a history from a script and its printed log.
+"""Works out the forms function, graph, profile, enabled and modules of a history from a script and its printed log.
 
     ./ftcore replay < x.ft > x.log
     tools/views_of_log.py x.ft x.log graph
 
 It is written by the words of docs/LANGUAGE.md, "The printed forms", so that check_program.py can ask whether the program
-prints the same: of the program's text for the form log this takes each item's words, and nothing else.
+prints the same: of the program's text for the form log this takes each item's words, and nothing else. The form modules tells nothing of
+the history but its last line: it is worked out from the script, by control_lines.py.
 """
 import argparse
 import collections
@@ -18,13 +19,6 @@ import log_desk  # noqa: E402
 import log_reader  # noqa: E402
 
 LETTERS = {"normal": ".", "softirq": "s", "irq": "h", "nmi": "z"}
-
-
-class User(NamedTuple):
-    name: str
-    kind: str
-    has_regs: bool
-    is_replacing: bool
 
 
 class Callback(NamedTuple):
@@ -40,22 +34,12 @@ def pid_of(call):
     return int(call.partition(".")[0])
 
 
-def user_of(words):
-    """The user of a line."""
-    options = words[3:]
-    for part in ("exit", "cancel"):
-        options = options[options[:1] == [part]:]
-    has_regs = options[:1] == ["regs"]
-    return User(words[1], words[2], has_regs, options[has_regs:][:1] == ["ipmodify"])
-
-
 class Told:
     """What a script and its log tell: the users, the items in words, the last line, and the calls."""
 
     def __init__(self, script, log):
         self.script = log_reader.read_script(script)
-        lines = (line.split() for line in script.decode("latin-1").split("\n"))
-        self.users = [user_of(words) for words in lines if words[:1] == ["user"]]
+        self.users = list(self.script.users.values())
         *items, self.last = log.decode("latin-1").splitlines()
         self.items = [item.split(" ")[1:] for item in items]
         self.entered = {words[1]: words[2:] for words in self.items if words[0] == "enter"}  # context, function, caller
@@ -148,8 +132,8 @@ def enabled_lines(told):
     for words in told.items:
         if words[0] == "begin":
             command = told.script.commands[turns.next(" ".join(words[2:]))]
-        elif words[0] == "return" and words[2] == "ok" and command[0] in ("register", "unregister", "filter", "notrace"):
-            desk.carry_out(*command)
+        elif words[0] == "return" and words[2] == "ok":
+            desk.carry_out(*command.words)
     for number, function in enumerate(told.script.functions):
         sited = [user for user in told.users if number in desk.matched.get(user.name, ())]
         flags = "".join(f" {letter}" if has else "  " for letter, has in
@@ -158,11 +142,16 @@ def enabled_lines(told):
             yield f"{function.name} ({len(sited)}){flags} {desk.target(number)}"
 
 
-VIEWS = {"function": function_lines, "graph": graph_lines, "profile": profile_lines, "enabled": enabled_lines}
+def modules_lines(told):
+    for word, module, answer, first, last in told.script.module_lines:
+        yield f"{word} {module} {answer} {first + 1} {last + 1}"
+
+
+VIEWS = {"function": function_lines, "graph": graph_lines, "profile": profile_lines, "enabled": enabled_lines, "modules": modules_lines}
 
 
 def text(form, script, log):
-    """The text of an accepted script with this log, in one of the four forms."""
+    """The text of an accepted script with this log, in one of the other forms."""
     told = Told(script, log)
     return "".join(line + "\n" for line in [*VIEWS[form](told), told.last]).encode("latin-1")
 
