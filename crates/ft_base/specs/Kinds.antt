@@ -1,7 +1,12 @@
 -- Kinds of users.
 use Rattle.std.specs.Prelude.{Bool, true, false, ◌||◌}
 use Rattle.ft_base.specs.declared.user.Kind.{Kind}
-use Rattle.ft_base.specs.declared.user.Kind.TheVariants.{Graph, Fprobe, Profile}
+use Rattle.ft_base.specs.declared.user.Kind.TheVariants.{Function, Graph, Fprobe, Profile}
+
+-- a function tracer, whose entry callbacks are what the rings of a trace keep (ftrace.rst, The Tracers: function)
+abbrev pub is_function : Kind → Bool
+is_function Function = true
+is_function _ = false
 
 -- an fprobe, which alone can be disabled and enabled (fprobe.rst, The usage of fprobe)
 abbrev pub is_fprobe : Kind → Bool

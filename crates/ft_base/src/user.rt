@@ -1,7 +1,7 @@
 //! How a user of the tracer is declared: its kind, and what it does when it is called back.
 
 ghost use Rattle.std.specs.Prelude.{◌≡◌};
-ghost use Rattle.ft_base.specs.Kinds.{is_fprobe, has_depth, has_exit, cancels, wants_frame};
+ghost use Rattle.ft_base.specs.Kinds.{is_function, is_fprobe, has_depth, has_exit, cancels, wants_frame};
 
 use crate::number::FuncNo;
 
@@ -20,6 +20,14 @@ pub enum Kind {
 }
 
 impl Kind {
+    /// Whether it is a function tracer, whose entry callbacks the trace rings keep (`ftrace.rst`, "The
+    /// Tracers").
+    pub fn is_function(self) -> bool
+        ensures { result ≡ is_function self }
+    {
+        matches!(self, Kind::Function)
+    }
+
     /// Whether it is an fprobe, which alone can be disabled and enabled (`fprobe.rst`, "The usage of
     /// fprobe").
     pub fn is_fprobe(self) -> bool

@@ -9,3 +9,4 @@ pub mod PlayLaws
 pub mod Replays
 pub mod FedLaws
 pub mod Ordered
+pub mod Nobody

@@ -3,7 +3,7 @@ use Rattle.std.specs.Prelude.{◌≡◌, ◌≤◌, ◌<◌, ◌⊎◌, ℕ, Lis
 use Rattle.std.specs.List.{AllByRecursion as Each}
 use Rattle.ft_base.specs.declared.limits.TheConstants.{LANES, RING, TRIGGERS, TRIGGER_LIMIT}
 use Rattle.ft_base.specs.Job.{Func, Ctl, Run, Until, ModuleRow, Trigger as PlainTrigger, Job, funcs, commands}
-use Rattle.module_table.specs.Modules.{modules_in}
+use Rattle.func_table.specs.Modules.{modules_in}
 use Rattle.ft_machine.specs.declared.parts.ModRow.{ModRow}
 
 -- a line that loads or unloads a module, as plain data

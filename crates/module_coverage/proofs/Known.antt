@@ -11,7 +11,7 @@ use Rattle.ft_base.specs.Job.{Job, Task, Ctl, Run, Until, ModuleRow, no_task}
 use Rattle.script_waits.specs.declared.script.LinedAct.{LinedAct}
 use Rattle.script_waits.specs.declared.script.ControlLine.{ControlLine}
 use Rattle.script_waits.specs.declared.script.Wait.{Wait}
-use Rattle.module_table.specs.Modules.{module_of}
+use Rattle.func_table.specs.Modules.{module_of}
 use Rattle.module_coverage.specs.declared.change.Change.{Change}
 use Rattle.module_coverage.specs.declared.span.Span.{Span}
 use Rattle.module_coverage.specs.Loaded.{is_absent, loaded_after, is_loaded}

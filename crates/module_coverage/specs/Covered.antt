@@ -4,7 +4,7 @@ use Rattle.ft_base.specs.declared.number.FuncNo.{FuncNo}
 use Rattle.ft_base.specs.declared.task.TaskAct.{TaskAct}
 use Rattle.ft_base.specs.declared.task.TaskAct.TheVariants.{Call, Ret, After}
 use Rattle.ft_base.specs.Job.{Job, Ctl, Run, Until, no_task}
-use Rattle.module_table.specs.Modules.{module_of}
+use Rattle.func_table.specs.Modules.{module_of}
 use Rattle.module_coverage.specs.Loaded.{is_changing, is_loaded}
 
 -- ## when a call may begin, and when it has returned

@@ -8,7 +8,7 @@ use Rattle.script_waits.specs.declared.script.LinedAct.{LinedAct}
 use Rattle.script_waits.specs.declared.script.ControlLine.{ControlLine}
 use Rattle.script_waits.specs.declared.script.Wait.{Wait}
 use Rattle.script_waits.specs.declared.script.Wait.TheVariants.{Command as ACommand, Until as AnUntil}
-use Rattle.module_table.specs.Modules.{module_of}
+use Rattle.func_table.specs.Modules.{module_of}
 use Rattle.module_coverage.specs.declared.change.Change.{Change}
 use Rattle.module_coverage.specs.Covered.{IsCovered}
 use Rattle.module_coverage.specs.Plan.{ModulePlan, owner_in}

@@ -22,7 +22,7 @@ use Rattle.ft_hist.proofs.RunLaws.{some_inj, calls_on, sound}
 use Rattle.ft_hist.proofs.Splitting.{splits}
 use Rattle.ft_hist.proofs.Told.{legal-to}
 use Rattle.ft_hist.proofs.WindowLaws.{done-more, entry_of-more, legal-counts}
-use Rattle.module_table.specs.Modules.{module_of}
+use Rattle.func_table.specs.Modules.{module_of}
 use Rattle.module_coverage.specs.Covered.{AreCovered, commands_until, to_command}
 use Rattle.module_laws.specs.Apart.{IsApart, AreActsApart, AreReplacementsApart}
 use Rattle.module_laws.specs.Kept.{IsLoadedNow, IsThere, KeepsLoaded, RunsLoaded}

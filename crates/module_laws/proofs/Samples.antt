@@ -25,7 +25,7 @@ use Rattle.ft_hist.specs.Rules.{IsLegal}
 use Rattle.ft_hist.proofs.RunLaws.{some_inj}
 use Rattle.plain_machine.specs.State.{start, played, play, all_end, step, whole}
 use Rattle.plain_machine.proofs.Plays.{Plays, named, call_in, legal-of}
-use Rattle.module_table.specs.Modules.{module_of}
+use Rattle.func_table.specs.Modules.{module_of}
 use Rattle.module_coverage.specs.Covered.{AreCovered, acts_of, from_command, to_command}
 use Rattle.module_coverage.specs.Loaded.{is_loaded}
 use Rattle.module_laws.specs.Apart.{AreActsApart, AreReplacementsApart}

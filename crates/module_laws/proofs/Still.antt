@@ -7,7 +7,7 @@ use Rattle.ft_base.specs.Job.{Job, LinePlan, ModuleRow}
 use Rattle.ft_base.specs.Desk.{is_accepted}
 use Rattle.ft_base.proofs.Small.{or-false_both}
 use Rattle.ft_hist.specs.Past.{done, begun}
-use Rattle.module_table.specs.Modules.{module_of}
+use Rattle.func_table.specs.Modules.{module_of}
 use Rattle.module_coverage.specs.Loaded.{is_absent, is_changing, is_loaded, loaded_after}
 use Rattle.module_laws.specs.Apart.{IsApart}
 use Rattle.module_laws.specs.Kept.{IsThere, IsLoadedNow}

@@ -8,7 +8,7 @@ use Rattle.ft_base.specs.declared.item.Ran.{Ran}
 use Rattle.ft_base.specs.Items.{call_of}
 use Rattle.ft_base.specs.Job.{Job}
 use Rattle.ft_hist.specs.Past.{done, begun, entry_of}
-use Rattle.module_table.specs.Modules.{module_of}
+use Rattle.func_table.specs.Modules.{module_of}
 use Rattle.module_coverage.specs.Loaded.{is_loaded}
 
 -- the module is loaded after the commands that have returned in this past, and after those that have begun

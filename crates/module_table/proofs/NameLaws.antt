@@ -9,7 +9,7 @@ use Rattle.std.proofs.lemmas.List.{length-map, map_push}
 use Rattle.std.proofs.lemmas.Slice.Eq.{bytes_eq-Decides}
 use Rattle.ft_base.specs.Job.{Func}
 use Rattle.module_table.specs.Made.{noted}
-use Rattle.module_table.specs.Modules.{modules_in, with_module, number_among}
+use Rattle.func_table.specs.Modules.{modules_in, with_module, number_among}
 
 -- ## a new name goes last
 

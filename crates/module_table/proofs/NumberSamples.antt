@@ -2,7 +2,7 @@
 use Rattle.std.proofs.Common.{◌≡◌, List, ℕ, [], ◌∷◌, Option, Some, None, refl}
 use Rattle.std.specs.Prelude.{codes}
 use Rattle.ft_base.specs.Job.{Func}
-use Rattle.module_table.specs.Modules.{modules_in}
+use Rattle.func_table.specs.Modules.{modules_in}
 
 -- a function of this module
 abbrev in_module : Option (List ℕ) → Func

@@ -11,7 +11,7 @@ use Rattle.ft_base.proofs.Small.{false_true, and_both}
 use Rattle.ft_desk.specs.Declarations.{Declared, job_of}
 use Rattle.ft_desk.proofs.ClaimLaws.{funcs-is}
 use Rattle.site_set.proofs.MarksLemmas.{length-empty, holds-empty, length-union, holds-union, same_members}
-use Rattle.module_table.specs.Modules.{modules_in}
+use Rattle.func_table.specs.Modules.{modules_in}
 use Rattle.module_table.specs.Lines.{Between, Line, Plain, Load, Unload, own_of, hidden, hidden_now, masks_from, desk_after, opened_with, at_first, owners_of, loaded_at_first, masks_for, clash, answer_to, after_line, after_lines}
 use Rattle.module_table.specs.Reached.{IsReached, IsLineIn, HidesFunctions}
 use Rattle.module_table.proofs.HiddenLaws.{holds-hidden, length-hidden, matches-union}
@@ -177,7 +177,7 @@ module _ (b : Between) (is : IsReached b) where
       grouped false y z = refl
 
 -- as many modules as before
-loaded-size : (b : Between) (line : Line) → length (after_line b line).loaded ≡ length b.loaded
+pub loaded-size : (b : Between) (line : Line) → length (after_line b line).loaded ≡ length b.loaded
 loaded-size b (Plain c) = refl
 loaded-size b (Load m) = by (is_accepted (answer_to b (Load m)))
   where

@@ -14,7 +14,7 @@ use Rattle.ft_desk.specs.Commands.{command_of, IsInShape}
 use Rattle.ft_desk.specs.Declarations.{Declared, bare, declared_by, job_of}
 use Rattle.ft_desk.specs.Seen.{Seen, opened}
 use Rattle.module_table.specs.Lines.{desk_after, opening_of, opened_with, at_first, owners_of, loaded_at_first, first_hidden, mask, masks_from}
-use Rattle.module_table.specs.Modules.{modules_in, number_among}
+use Rattle.func_table.specs.Modules.{modules_in, number_among}
 use Rattle.module_table.specs.Reached.{IsReached}
 use Rattle.module_table.proofs.HiddenLaws.{length-hidden}
 use Rattle.module_table.proofs.ListLaws.{length-loaded}

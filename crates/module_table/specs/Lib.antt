@@ -1,4 +1,3 @@
-pub mod Modules
 pub mod Names
 pub mod Lines
 pub mod Reached

@@ -8,7 +8,7 @@ use Rattle.ft_base.specs.Marks.{Marks, union, is_empty, empty}
 use Rattle.ft_base.specs.Job.{Job, Func, Edit, Command, Notrace, MaxDepth}
 use Rattle.ft_base.specs.Desk.{Desk, user_at, spec_at, matches_by, lowest, busy_or, edited, answer_on, is_accepted, after, opening}
 use Rattle.ft_desk.specs.Declarations.{Declared, job_of}
-use Rattle.module_table.specs.Modules.{modules_in, number_among}
+use Rattle.func_table.specs.Modules.{modules_in, number_among}
 
 -- a line of control: a command, or a module that is loaded or unloaded
 pub data Line : Type 0 where

@@ -6,7 +6,7 @@ ghost use Rattle.std.specs.List.{AllByRecursion as Each};
 ghost use Rattle.ft_base.specs.Job.{Func, Job, MaxDepth};
 ghost use Rattle.ft_base.specs.Desk.{Desk};
 ghost use Rattle.ft_desk.specs.Declarations.{Declared};
-ghost use Rattle.module_table.specs.Modules.{modules_in};
+ghost use Rattle.func_table.specs.Modules.{modules_in};
 ghost use Rattle.module_table.specs.Lines.{Line, after_lines, at_first, desk_after};
 ghost use Rattle.module_table.specs.Reached.{HidesFunctions, IsLineIn};
 

@@ -9,7 +9,7 @@ ghost use Rattle.site_set.specs.Edits.{plain_edit};
 ghost use Rattle.word_map.specs.Shapes.{IsShape};
 ghost use Rattle.ft_desk.specs.Declarations.{declared_by, job_of};
 ghost use Rattle.ft_desk.specs.Commands.{command_of, IsInShape};
-ghost use Rattle.module_table.specs.Modules.{modules_in};
+ghost use Rattle.func_table.specs.Modules.{modules_in};
 ghost use Rattle.module_table.specs.Lines.{Plain, Load, Unload, after_line, answer_to, at_first, clash, commands_for, desk_after, hidden, hidden_now, holder_of, opening_of, replaces, selects};
 ghost use Rattle.module_table.specs.Reached.{IsLineIn, IsReached, IsSafe, kept_back, moved, moving};
 ghost use Rattle.module_table.specs.Made.{Appends, is_masking, line_of};

@@ -3,7 +3,7 @@
 ghost use Rattle.std.specs.Prelude.{◌≡◌, ◌==◌, ℕ, ◌+◌, ◌<◌, ◌≤◌, length, map, take, Some, IfOk, OnOk, slice_get, string_bytes};
 ghost use Rattle.ft_base.specs.declared.limits.TheConstants.{FUNCS};
 ghost use Rattle.module_table.specs.Made.{noted};
-ghost use Rattle.module_table.specs.Modules.{modules_in, number_among};
+ghost use Rattle.func_table.specs.Modules.{modules_in, number_among};
 
 use ft_base::{FuncNo, NoMemory};
 use func_table::FuncTable;

@@ -1,7 +1,7 @@
 //! The module of each function, and which modules are loaded at first.
 
 ghost use Rattle.std.specs.Prelude.{◌≡◌, ℕ, ◌<◌, ◌≤◌, ◌^◌, length, map, get_or, None, All, IfOk};
-ghost use Rattle.module_table.specs.Modules.{number_among};
+ghost use Rattle.func_table.specs.Modules.{number_among};
 ghost use Rattle.module_table.specs.Lines.{loaded_at_first};
 
 use crate::names::ModuleNames;

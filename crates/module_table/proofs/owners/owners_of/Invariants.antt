@@ -1,5 +1,5 @@
 use Rattle.std.proofs.Common.{◌≡◌, ◌≤◌, length, map, take, vec_capacity}
-use Rattle.module_table.specs.Modules.{number_among}
+use Rattle.func_table.specs.Modules.{number_among}
 use Rattle.module_table.proofs.owners.owners_of.Given as goal
 
 abbrev pub invariant-loop-f : goal.invariant-loop-f

@@ -1,5 +1,5 @@
 use Rattle.std.proofs.Common.{◌≡◌, map, take, string_bytes}
-use Rattle.module_table.specs.Modules.{modules_in}
+use Rattle.func_table.specs.Modules.{modules_in}
 use Rattle.module_table.proofs.names.ModuleNames.new.Given as goal
 
 -- the modules of the functions so far
