@@ -1,0 +1,11 @@
+mod Samples
+pub mod Numbers
+pub mod Totals
+pub mod Lists
+pub mod OneMore
+pub mod OnCpus
+pub mod Assembled
+pub mod Alone
+pub mod HitAll
+pub mod FoldLegal
+pub mod Parts
