@@ -7,11 +7,11 @@ use Rattle.ft_base.specs.declared.user.Kind.TheVariants.{Function, Graph, Profil
 use Rattle.script_text.specs.Lines.{Word}
 use Rattle.script_text.specs.Words.{both}
 use Rattle.script_text.specs.Names.{is_name}
-use Rattle.script_form.specs.Forms.{UserAct, calls, irqs, UserLine, LineForm, func, depth, tramps, absent, user, new_cpu, new_task, new_lane, call, after, register, unregister, write, pids, enable, disable, max_depth, until, load, unload, sched}
+use Rattle.script_form.specs.Forms.{UserAct, calls, irqs, UserLine, LineForm, func, depth, tramps, absent, ring, user, new_cpu, new_task, new_lane, call, after, register, unregister, write, pids, enable, disable, max_depth, until, load, unload, sched}
 use Rattle.script_form.specs.Users.{flag, cancel_kind, exit_kind, kind_of, ipmodify_of, act_of, user_of, options_form, user_with, user_form}
 use Rattle.script_form.specs.Lines.{form_of}
 use Rattle.script_form.specs.Names.{is_act}
-use Rattle.script_form.specs.Grammar.{kind_words, act_words, option_words, user_words, is_kind, is_ipmodify, IsUser, HasForm, nothing, first_version, second_version, a_function, a_module_function, a_depth, some_tramps, an_absent, a_user, a_cpu, a_task, a_lane, a_call, a_ret, a_softirq, an_irq, an_nmi, an_iret, an_after, a_register, an_unregister, a_write, an_append, a_clear, only_pids, other_pids, an_enable, a_disable, a_max_depth, an_until, a_load, an_unload, a_schedule}
+use Rattle.script_form.specs.Grammar.{kind_words, act_words, option_words, user_words, is_kind, is_ipmodify, IsUser, HasForm, nothing, first_version, second_version, a_function, a_module_function, a_depth, some_tramps, an_absent, a_ring, tracing_is_off, a_trigger, a_user, a_cpu, a_task, a_lane, a_call, a_ret, a_softirq, an_irq, an_nmi, an_iret, an_after, a_register, an_unregister, a_write, an_append, a_clear, only_pids, other_pids, an_enable, a_disable, a_max_depth, an_until, a_load, an_unload, a_schedule}
 
 -- ---- users
 
@@ -99,6 +99,9 @@ form_of-written _ _ (a_module_function name owner named owned) = ap₂ (both (λ
 form_of-written _ _ (a_depth word n is) = ap (option_map depth) is
 form_of-written _ _ (some_tramps word n is) = ap (option_map tramps) is
 form_of-written _ _ (an_absent owner named) = ap (option_map absent) (name-is _ named)
+form_of-written _ _ (a_ring word n is) = ap (option_map ring) is
+form_of-written _ _ tracing_is_off = refl
+form_of-written _ _ (a_trigger text) = refl
 form_of-written _ _ (a_user u can) = user-is u can
 form_of-written _ _ (a_cpu first second cpu quantum is are) = ap₂ (both new_cpu) is are
 form_of-written _ _ (a_task first second pid cpu is are) = ap₂ (both new_task) is are

@@ -9,9 +9,9 @@ use Rattle.script_text.specs.Lines.{Word}
 use Rattle.script_text.specs.Words.{all_read}
 use Rattle.script_text.specs.Names.{is_name, name_of, number_of}
 use Rattle.ft_schedule.specs.Items.{some_items_of}
-use Rattle.script_form.specs.Forms.{LineForm, skip, version, func, depth, tramps, absent, new_cpu, new_task, new_lane, call, ret, raise, lower, after, register, unregister, write, pids, enable, disable, max_depth, until, load, unload, sched, only_name, only_number, alone, version_form, func_form, cpu_form, task_form, arrow_of, write_form, until_form, ctl_form}
+use Rattle.script_form.specs.Forms.{LineForm, skip, version, func, depth, tramps, absent, ring, tracing_off, trigger, new_cpu, new_task, new_lane, call, ret, raise, lower, after, register, unregister, write, pids, enable, disable, max_depth, until, load, unload, sched, only_name, only_number, only_word, alone, version_form, func_form, tracing_form, cpu_form, task_form, arrow_of, write_form, until_form, ctl_form}
 use Rattle.script_form.specs.Lines.{act_form, keyed_form, form_of}
-use Rattle.script_form.specs.Grammar.{half_word, HasForm, nothing, first_version, second_version, a_function, a_module_function, a_depth, some_tramps, an_absent, a_cpu, a_task, a_lane, a_call, a_ret, a_softirq, an_irq, an_nmi, an_iret, an_after, a_register, an_unregister, a_write, an_append, a_clear, only_pids, other_pids, an_enable, a_disable, a_max_depth, an_until, a_load, an_unload, a_schedule}
+use Rattle.script_form.specs.Grammar.{half_word, HasForm, nothing, first_version, second_version, a_function, a_module_function, a_depth, some_tramps, an_absent, a_ring, tracing_is_off, a_trigger, a_cpu, a_task, a_lane, a_call, a_ret, a_softirq, an_irq, an_nmi, an_iret, an_after, a_register, an_unregister, a_write, an_append, a_clear, only_pids, other_pids, an_enable, a_disable, a_max_depth, an_until, a_load, an_unload, a_schedule}
 use Rattle.script_text.proofs.KeyLemmas.{is_key, at_key, named}
 use Rattle.script_text.proofs.WordLemmas.{made_of_one, made_of_both}
 use Rattle.script_form.proofs.UserRules.{user-rule}
@@ -49,6 +49,12 @@ module _ (form : LineForm) where
   only_numbers H f rule (word ∷ []) e = made_of_one form (H (word ∷ [])) f (number_of word) (rule word) e
   only_numbers H f rule (_ ∷ _ ∷ _) e = absurd (cc)
 
+  only_words : (H : List Word → LineForm → Type 0) (f : Word → LineForm) → ((word : Word) → H (word ∷ []) (f word)) → (args : List Word)
+      → option_map f (only_word args) ≡ Some form → H args form
+  only_words H f rule [] e = absurd (cc)
+  only_words H f rule (word ∷ []) e = let same : f word ≡ form = cc in subst (H (word ∷ [])) same (rule word)
+  only_words H f rule (_ ∷ _ ∷ _) e = absurd (cc)
+
   no_arguments : (H : List Word → LineForm → Type 0) (f : LineForm) → H [] f → (args : List Word) → alone f args ≡ Some form → H args form
   no_arguments H f rule [] e = let same : f ≡ form = cc in subst (H []) same rule
   no_arguments H f rule (_ ∷ _) e = absurd (cc)
@@ -73,6 +79,13 @@ module _ (form : LineForm) where
       let w = named owner o are in
       subst (λ x. HasForm (codes "func" ∷ name ∷ owner ∷ []) (func x (Some o))) m.1 (subst (λ x. HasForm (codes "func" ∷ name ∷ owner ∷ []) (func name (Some x))) w.1 (a_module_function name owner m.0 w.0))) e
   func-rule (_ ∷ _ ∷ _ ∷ _) e = absurd (cc)
+
+  tracing-rule : (args : List Word) → tracing_form args ≡ Some form → HasForm (codes "tracing" ∷ args) form
+  tracing-rule [] e = absurd (cc)
+  tracing-rule (word ∷ []) e =
+      at_key (Some form) (λ ws. HasForm (codes "tracing" ∷ ws) form) word (codes "off") []
+      (λ is. let same : tracing_off ≡ form = cc in subst (HasForm (codes "tracing" ∷ codes "off" ∷ [])) same tracing_is_off) (λ none. absurd (cc)) e
+  tracing-rule (_ ∷ _ ∷ _) e = absurd (cc)
 
   cpu-rule : (args : List Word) → cpu_form args ≡ Some form → HasForm (codes "cpu" ∷ args) form
   cpu-rule [] e = absurd (cc)
@@ -153,11 +166,14 @@ module _ (form : LineForm) where
       (at_key (Some form) (λ ws. HasForm ws form) key (codes "depth") args (only_numbers (λ ws f. HasForm (codes "depth" ∷ ws) f) depth a_depth args)
       (at_key (Some form) (λ ws. HasForm ws form) key (codes "tramps") args (only_numbers (λ ws f. HasForm (codes "tramps" ∷ ws) f) tramps some_tramps args)
       (at_key (Some form) (λ ws. HasForm ws form) key (codes "absent") args (only_names (λ ws f. HasForm (codes "absent" ∷ ws) f) absent an_absent args)
+      (at_key (Some form) (λ ws. HasForm ws form) key (codes "ring") args (only_numbers (λ ws f. HasForm (codes "ring" ∷ ws) f) ring a_ring args)
+      (at_key (Some form) (λ ws. HasForm ws form) key (codes "tracing") args (tracing-rule args)
+      (at_key (Some form) (λ ws. HasForm ws form) key (codes "trigger") args (only_words (λ ws f. HasForm (codes "trigger" ∷ ws) f) trigger a_trigger args)
       (at_key (Some form) (λ ws. HasForm ws form) key (codes "user") args (user-rule form args)
       (at_key (Some form) (λ ws. HasForm ws form) key (codes "cpu") args (cpu-rule args)
       (at_key (Some form) (λ ws. HasForm ws form) key (codes "task") args (task-rule args)
       (at_key (Some form) (λ ws. HasForm ws form) key (codes "lane") args (only_numbers (λ ws f. HasForm (codes "lane" ∷ ws) f) new_lane a_lane args)
-      (act-rule key args))))))))))) e
+      (act-rule key args)))))))))))))) e
 
   pub form_of-rule : (words : List Word) → form_of words ≡ Some form → HasForm words form
   form_of-rule [] e = let same : skip ≡ form = cc in subst (HasForm []) same nothing

@@ -33,6 +33,9 @@ pub data LineForm : Type 0 where
   depth : (frames : ℕ) → LineForm
   tramps : (slots : ℕ) → LineForm
   absent : (owner : Word) → LineForm
+  ring : (entries : ℕ) → LineForm
+  tracing_off : LineForm
+  trigger : (text : Word) → LineForm
   user : (line : UserLine) → LineForm
   new_cpu : (cpu : ℕ) → (quantum : ℕ) → LineForm
   new_task : (pid : ℕ) → (cpu : ℕ) → LineForm
@@ -66,6 +69,11 @@ abbrev pub only_number : List Word → Option ℕ
 only_number (n ∷ []) = number_of n
 only_number _ = None
 
+-- the argument, if it is the only one
+abbrev pub only_word : List Word → Option Word
+only_word (word ∷ []) = Some word
+only_word _ = None
+
 -- a line that is its key alone
 abbrev pub alone : LineForm → List Word → Option LineForm
 alone form [] = Some form
@@ -83,6 +91,11 @@ abbrev pub func_form : List Word → Option LineForm
 func_form (name ∷ []) = option_map (λ n. func n None) (name_of name)
 func_form (name ∷ owner ∷ []) = both (λ n o. func n (Some o)) (name_of name) (name_of owner)
 func_form _ = None
+
+-- `tracing off`
+abbrev pub tracing_form : List Word → Option LineForm
+tracing_form (word ∷ []) = if bytes_eq word (codes "off") then Some tracing_off else None
+tracing_form _ = None
 
 -- `cpu N quantum Q`
 abbrev pub cpu_form : List Word → Option LineForm

@@ -11,7 +11,7 @@ use Rattle.script_text.specs.Names.{is_name, number_of}
 use Rattle.ft_schedule.specs.declared.item.SchedItem.{SchedItem}
 use Rattle.ft_schedule.specs.Items.{some_items_of}
 use Rattle.script_form.specs.Names.{is_act}
-use Rattle.script_form.specs.Forms.{UserAct, calls, irqs, UserLine, LineForm, skip, version, func, depth, tramps, absent, user, new_cpu, new_task, new_lane, call, ret, raise, lower, after, register, unregister, write, pids, enable, disable, max_depth, until, load, unload, sched}
+use Rattle.script_form.specs.Forms.{UserAct, calls, irqs, UserLine, LineForm, skip, version, func, depth, tramps, absent, ring, tracing_off, trigger, user, new_cpu, new_task, new_lane, call, ret, raise, lower, after, register, unregister, write, pids, enable, disable, max_depth, until, load, unload, sched}
 
 -- ---- the words of a user's line
 
@@ -80,6 +80,9 @@ pub data HasForm : List Word → LineForm → Type 0 where
   a_depth : (word : Word) (n : ℕ) → number_of word ≡ Some n → HasForm (codes "depth" ∷ word ∷ []) (depth n)
   some_tramps : (word : Word) (n : ℕ) → number_of word ≡ Some n → HasForm (codes "tramps" ∷ word ∷ []) (tramps n)
   an_absent : (owner : Word) → is_name owner ≡ true → HasForm (codes "absent" ∷ owner ∷ []) (absent owner)
+  a_ring : (word : Word) (n : ℕ) → number_of word ≡ Some n → HasForm (codes "ring" ∷ word ∷ []) (ring n)
+  tracing_is_off : HasForm (codes "tracing" ∷ codes "off" ∷ []) tracing_off
+  a_trigger : (text : Word) → HasForm (codes "trigger" ∷ text ∷ []) (trigger text)
   a_user : (u : UserLine) → IsUser u → HasForm (codes "user" ∷ user_words u) (user u)
   a_cpu : (first second : Word) (cpu quantum : ℕ) → number_of first ≡ Some cpu → number_of second ≡ Some quantum → HasForm (codes "cpu" ∷ first ∷ codes "quantum" ∷ second ∷ []) (new_cpu cpu quantum)
   a_task : (first second : Word) (pid cpu : ℕ) → number_of first ≡ Some pid → number_of second ≡ Some cpu → HasForm (codes "task" ∷ first ∷ codes "cpu" ∷ second ∷ []) (new_task pid cpu)

@@ -3,7 +3,7 @@ use Rattle.std.specs.Prelude.{ℕ, List, [], ◌∷◌, codes, Option, Some, Non
 use Rattle.std.specs.Str.{bytes_eq}
 use Rattle.ft_base.specs.declared.context.Ctx.TheVariants.{Softirq, Irq, Nmi}
 use Rattle.script_text.specs.Lines.{Word, words_of, is_skipped, is_plain}
-use Rattle.script_form.specs.Forms.{LineForm, skip, depth, tramps, absent, new_lane, call, ret, raise, lower, after, only_name, only_number, alone, version_form, func_form, cpu_form, task_form, ctl_form, sched_form}
+use Rattle.script_form.specs.Forms.{LineForm, skip, depth, tramps, absent, ring, trigger, new_lane, call, ret, raise, lower, after, only_name, only_number, only_word, alone, version_form, func_form, tracing_form, cpu_form, task_form, ctl_form, sched_form}
 use Rattle.script_form.specs.Users.{user_form}
 
 -- the acts of a task
@@ -26,11 +26,14 @@ unlisted_form key args =
     else (if bytes_eq key (codes "depth") then option_map depth (only_number args)
     else (if bytes_eq key (codes "tramps") then option_map tramps (only_number args)
     else (if bytes_eq key (codes "absent") then option_map absent (only_name args)
+    else (if bytes_eq key (codes "ring") then option_map ring (only_number args)
+    else (if bytes_eq key (codes "tracing") then tracing_form args
+    else (if bytes_eq key (codes "trigger") then option_map trigger (only_word args)
     else (if bytes_eq key (codes "user") then user_form args
     else (if bytes_eq key (codes "cpu") then cpu_form args
     else (if bytes_eq key (codes "task") then task_form args
     else (if bytes_eq key (codes "lane") then option_map new_lane (only_number args)
-    else act_form key args))))))))
+    else act_form key args)))))))))))
 
 -- the key chooses the form, and the arguments have to fit it
 abbrev pub keyed_form : Word → List Word → Option LineForm

@@ -5,8 +5,8 @@ use Rattle.script_form.specs.declared.form.UserAct.{UserAct as ActRead}
 use Rattle.script_form.specs.declared.form.UserAct.TheVariants.{Call as CallRead, Irq as IrqRead}
 use Rattle.script_form.specs.declared.form.UserLine.{UserLine as UserRead}
 use Rattle.script_form.specs.declared.form.LineForm.{LineForm as FormRead}
-use Rattle.script_form.specs.declared.form.LineForm.TheVariants.{Skip, Version, Func, Depth, Tramps, Absent, User, NewCpu, NewTask, NewLane, Call, Ret, Raise, Lower, After, Register, Unregister, Write, Pids, Enable, Disable, MaxDepth, Until, Load, Unload, Sched}
-use Rattle.script_form.specs.Forms.{UserAct, calls, irqs, UserLine, LineForm, skip, version, func, depth, tramps, absent, user, new_cpu, new_task, new_lane, call, ret, raise, lower, after, register, unregister, write, pids, enable, disable, max_depth, until, load, unload, sched}
+use Rattle.script_form.specs.declared.form.LineForm.TheVariants.{Skip, Version, Func, Depth, Tramps, Absent, Ring, TracingOff, Trigger, User, NewCpu, NewTask, NewLane, Call, Ret, Raise, Lower, After, Register, Unregister, Write, Pids, Enable, Disable, MaxDepth, Until, Load, Unload, Sched}
+use Rattle.script_form.specs.Forms.{UserAct, calls, irqs, UserLine, LineForm, skip, version, func, depth, tramps, absent, ring, tracing_off, trigger, user, new_cpu, new_task, new_lane, call, ret, raise, lower, after, register, unregister, write, pids, enable, disable, max_depth, until, load, unload, sched}
 
 -- what a user does at its entry callbacks
 abbrev pub act_read : ActRead → UserAct
@@ -32,6 +32,9 @@ form_read (Func name owner) = func name.now (option_copied owner)
 form_read (Depth frames) = depth frames
 form_read (Tramps slots) = tramps slots
 form_read (Absent owner) = absent owner.now
+form_read (Ring entries) = ring entries
+form_read TracingOff = tracing_off
+form_read (Trigger text) = trigger text.now
 form_read (User line) = user (user_read line)
 form_read (NewCpu cpu quantum) = new_cpu cpu quantum
 form_read (NewTask pid cpu) = new_task pid cpu

@@ -2,7 +2,7 @@
 
 ghost use Rattle.std.specs.Prelude.{◌≡◌, map, option_map};
 ghost use Rattle.std.specs.Option.{option_copied};
-ghost use Rattle.script_form.specs.Forms.{only_name, only_number, alone};
+ghost use Rattle.script_form.specs.Forms.{only_name, only_number, only_word, alone};
 ghost use Rattle.script_form.specs.Read.{form_read};
 
 use crate::form::LineForm;
@@ -24,6 +24,16 @@ pub fn only_number(args: &[&str]) -> Option<u64>
 {
     match args {
         [word] => number(word),
+        _ => None,
+    }
+}
+
+/// The argument, if it is the only one.
+pub fn only_word<'a>(args: &[&'a str]) -> Option<&'a str>
+    ensures { option_copied result ≡ only_word (map (λ w. w.now) args.now) }
+{
+    match args {
+        [word] => Some(*word),
         _ => None,
     }
 }

@@ -1,7 +1,7 @@
-//! Lines that declare functions, CPUs and tasks, and the first line.
+//! Lines that declare functions, CPUs and tasks, that tracing is off, and the first line.
 
 ghost use Rattle.std.specs.Prelude.{◌≡◌, map, option_map};
-ghost use Rattle.script_form.specs.Forms.{version_form, func_form, cpu_form, task_form};
+ghost use Rattle.script_form.specs.Forms.{version_form, func_form, tracing_form, cpu_form, task_form};
 ghost use Rattle.script_form.specs.Read.{form_read};
 
 use crate::form::LineForm;
@@ -35,6 +35,16 @@ pub fn read_func<'a>(args: &[&'a str]) -> Option<LineForm<'a>>
                 owner: Some(owner),
             })
         }
+        _ => None,
+    }
+}
+
+/// `tracing off`.
+pub fn read_tracing<'a>(args: &[&'a str]) -> Option<LineForm<'a>>
+    ensures { option_map form_read result ≡ tracing_form (map (λ w. w.now) args.now) }
+{
+    match args {
+        [word] if *word == "off" => Some(LineForm::TracingOff),
         _ => None,
     }
 }

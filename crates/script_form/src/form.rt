@@ -53,6 +53,18 @@ pub enum LineForm<'a> {
     Absent {
         owner: &'a str,
     },
+    /// How many entries each CPU's trace ring holds (`ftrace.rst`, `buffer_size_kb`).
+    Ring {
+        entries: u64,
+    },
+    /// `tracing off`: nothing is written into the rings until a trigger switches tracing on
+    /// (`ftrace.rst`, `tracing_on`).
+    TracingOff,
+    /// The text of a trigger, which switches tracing on or off when functions are called
+    /// (`ftrace.rst`, "Filter commands": `traceon` and `traceoff`, with a count).
+    Trigger {
+        text: &'a str,
+    },
     /// There is a user.
     User(UserLine<'a>),
     /// There is a CPU, of this number, whose tasks run for this many steps at a time.

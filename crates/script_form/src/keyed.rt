@@ -6,9 +6,9 @@ ghost use Rattle.script_form.specs.Lines.{unlisted_form, keyed_form};
 ghost use Rattle.script_form.specs.Read.{form_read};
 
 use crate::acts::read_act;
-use crate::arguments::{only_name, only_number};
+use crate::arguments::{only_name, only_number, only_word};
 use crate::control::read_ctl;
-use crate::declarations::{read_cpu, read_func, read_task, read_version};
+use crate::declarations::{read_cpu, read_func, read_task, read_tracing, read_version};
 use crate::form::LineForm;
 use crate::users::read_user;
 use ft_schedule::read_items;
@@ -42,6 +42,13 @@ fn read_unlisted<'a>(key: &str, args: &[&'a str]) -> Option<LineForm<'a>>
         }),
         "absent" => Some(LineForm::Absent {
             owner: only_name(args)?,
+        }),
+        "ring" => Some(LineForm::Ring {
+            entries: only_number(args)?,
+        }),
+        "tracing" => read_tracing(args),
+        "trigger" => Some(LineForm::Trigger {
+            text: only_word(args)?,
         }),
         "user" => read_user(args),
         "cpu" => read_cpu(args),

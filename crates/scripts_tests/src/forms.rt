@@ -23,6 +23,20 @@ depth 0
 depth 9999999999
 tramps 16";
 
+/// Lines that have a form: rings, tracing and triggers.
+const GOOD_RINGS: &str = "\
+ring 0
+ring 9999999999
+ring 0000000001
+tracing off
+\ttracing  off\t
+trigger f*:traceon
+trigger f:traceoff:1
+trigger off
+trigger trigger
+trigger 7
+trigger :";
+
 /// Lines that have a form: users.
 const GOOD_USERS: &str = "\
 user u function
@@ -110,6 +124,27 @@ depth
 depth -1
 depth 1 2
 tramps x";
+
+/// Lines that have none: rings, tracing and triggers.
+const BAD_RINGS: &str = "\
+ring
+ring f
+ring -1
+ring 12345678901
+ring 1 2
+Ring 1
+tracing
+tracing on
+tracing OFF
+tracing 0
+tracing off off
+tracing_off
+tracingoff
+trigger
+trigger f:traceon 1
+trigger f:traceon :1
+trigger f\u{e4}:traceon
+triggers f:traceon";
 
 /// Lines that have none: users.
 const BAD_USERS: &str = "\
@@ -226,6 +261,12 @@ fn tells_lines_with_a_form(rt: HostRuntime) -> Result<(), Fail> {
 }
 
 #[test]
+fn tells_rings_and_triggers_with_a_form(rt: HostRuntime) -> Result<(), Fail> {
+    check(&rt, GOOD_RINGS, true)?;
+    check(&rt, BAD_RINGS, false)
+}
+
+#[test]
 fn tells_users_with_a_form(rt: HostRuntime) -> Result<(), Fail> {
     check(&rt, GOOD_USERS, true)?;
     check(&rt, BAD_USERS, false)
@@ -290,6 +331,26 @@ fn reads_declarations_and_acts(rt: HostRuntime) -> Result<(), Fail> {
             ("nmi", LineForm::Raise { to: Ctx::Nmi }),
             ("iret", LineForm::Lower),
             ("after 0000000012", LineForm::After { commands: 12 }),
+        ],
+    )?;
+    Ok(())
+}
+
+#[test]
+fn reads_rings_tracing_and_triggers(rt: HostRuntime) -> Result<(), Fail> {
+    check_forms(
+        &rt,
+        &[
+            ("ring 2", LineForm::Ring { entries: 2 }),
+            ("ring 0000065537", LineForm::Ring { entries: 65_537 }),
+            ("tracing off", LineForm::TracingOff),
+            (
+                "trigger b:traceoff:1",
+                LineForm::Trigger {
+                    text: "b:traceoff:1",
+                },
+            ),
+            ("trigger off", LineForm::Trigger { text: "off" }),
         ],
     )?;
     Ok(())
