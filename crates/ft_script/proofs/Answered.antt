@@ -15,7 +15,7 @@ use Rattle.script_waits.specs.Greedy.{IsLeast, lower_of}
 use Rattle.script_waits.proofs.Least.{least-same}
 use Rattle.script_waits.proofs.Unique.{deadlock_one}
 use Rattle.script_waits.proofs.Found.{deadlock_found}
-use Rattle.module_table.specs.Modules.{module_of}
+use Rattle.func_table.specs.Modules.{module_of}
 use Rattle.module_table.proofs.LowestLaws.{lowest-some, lowest-none}
 use Rattle.module_coverage.specs.Covered.{from_command, to_command, IsCovered}
 use Rattle.module_coverage.specs.Loaded.{is_loaded}

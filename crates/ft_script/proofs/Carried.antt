@@ -14,17 +14,17 @@ use Rattle.filter_hash.proofs.EditLaws.{length-edited}
 use Rattle.word_machine.specs.Limits.{IsLevel}
 use Rattle.ft_desk.specs.Declarations.{Declared, bare, job_of}
 use Rattle.ft_machine.specs.Plans.{IsModule, IsCommand}
-use Rattle.module_table.specs.Modules.{modules_in}
+use Rattle.func_table.specs.Modules.{modules_in}
 use Rattle.module_table.specs.Lines.{Between, Line as ModuleLine, Plain, Load, Unload, own_of, hidden, hidden_now, mask, masks_from, masks_for, selects, command_for, answer_to, loaded_after, commands_for, desk_after, after_line, opening_of}
 use Rattle.module_table.specs.Reached.{IsReached, IsLineIn}
 use Rattle.module_table.proofs.ListLaws.{length-loaded}
 use Rattle.module_table.proofs.MovedLaws.{depth-last}
 use Rattle.module_table.proofs.OpeningLaws.{masks-depth}
-use Rattle.module_table.proofs.OpenedLaws.{reached-first, reached-line}
+use Rattle.module_table.proofs.OpenedLaws.{reached-first, reached-line, loaded-size}
 use Rattle.ft_script.specs.Above.{Above, LinedCtl, ScriptCtl, Run, Until}
 use Rattle.ft_script.specs.Expansion.{Expansion, declarations_of, runs_of, opened, rows_for, expanded, expanded_all, line_as_it_is, lines_as_they_are, expansion_of, command_count}
 use Rattle.ft_script.specs.Holds.{IsLine, is_wait, IsPlain, AreInLanes, LanesHold, Holds}
-use Rattle.ft_script.proofs.Expanding.{expansion-plain, expansion-lanes, modules-line, commands-runs, count-runs, count-wait}
+use Rattle.ft_script.proofs.Expanding.{expansion-plain, expansion-lanes, commands-runs, count-runs, count-wait}
 
 -- a line of the job's control: its user and its task are declared, its set has a mark for each function, and its depth is within the limit
 abbrev pub IsLineOfJob : ℕ → ℕ → ℕ → Ctl → Type 0
@@ -154,7 +154,7 @@ module _ (above : Above) where
       reached = reached-line b is.reached line (line-in b.declared (length b.loaded) line is.specs is.funcs is.loaded h);
       specs = is.specs;
       funcs = is.funcs;
-      loaded = modules-line b line ∙ is.loaded;
+      loaded = loaded-size b line ∙ is.loaded;
       level = depth-of_line line h;
       lines = each-append (IsLineOfJob users size tasks) x.ctls (runs_of (commands_for b line)) is.lines (each-run users size tasks (commands_for b line) (commands-of_job line h));
       rows = each-append (λ (row : ModuleRow). row.owner < modules) x.rows (rows_for b line) is.rows (rows-of_line line h);

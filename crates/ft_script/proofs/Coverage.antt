@@ -27,7 +27,7 @@ use Rattle.script_waits.specs.declared.script.Wait.{Wait}
 use Rattle.script_waits.specs.Tasks.{LinedTask, tracks_of}
 use Rattle.script_waits.specs.Greedy.{IsLeast, lower_of}
 use Rattle.script_waits.proofs.Least.{least-same, least-lower}
-use Rattle.module_table.specs.Modules.{modules_in, number_among, module_of}
+use Rattle.func_table.specs.Modules.{modules_in, number_among, module_of}
 use Rattle.module_table.specs.Lines.{Line as ModuleLine, Plain, Load, Unload, answer_to, commands_for, owners_of}
 use Rattle.module_coverage.specs.declared.change.Change.{Change}
 use Rattle.module_coverage.specs.Loaded.{is_changing, is_loaded}

@@ -1,13 +1,14 @@
 -- What control's lines come to, line by line: what stays the same, and how many commands there are.
-use Rattle.std.proofs.Common.{cond, ◌≡◌, ◌≢◌, ℕ, suc, ◌+◌, ◌≤◌, ◌==◌, Bool, true, false, List, [], ◌∷◌, ◌++◌, length, set, replicate, Option, Some, None, refl, sym, ap, ◌∙◌, subst, arith}
+use Rattle.std.proofs.Common.{cond, ◌≡◌, ◌≢◌, ℕ, suc, ◌+◌, ◌≤◌, ◌==◌, Bool, true, false, List, [], ◌∷◌, ◌++◌, length, replicate, Option, Some, None, refl, sym, ap, ◌∙◌, subst, arith}
 use Rattle.std.proofs.Math.Dec.{eqb-suc-zero}
 use Rattle.std.proofs.lemmas.List.{length-append, length-map, length-replicate, length-set, length_push}
 use Rattle.ft_base.specs.Marks.{Marks, empty}
 use Rattle.ft_base.specs.Job.{Command, Register, Unregister, Filter, Notrace, Pid, NoPid, Enable, Disable, MaxDepth, Ctl, Run as RunCommand, Until as UntilActs, Func, commands_in}
 use Rattle.ft_base.specs.Desk.{is_accepted}
 use Rattle.ft_desk.specs.Declarations.{Declared, bare}
-use Rattle.module_table.specs.Modules.{modules_in}
-use Rattle.module_table.specs.Lines.{Between, Line as ModuleLine, Plain, Load, Unload, at_first, opening_of, owners_of, loaded_at_first, hidden, masks_from, masks_for, answer_to, commands_for, loaded_after, own_by, own_after, after_line}
+use Rattle.func_table.specs.Modules.{modules_in}
+use Rattle.module_table.specs.Lines.{Between, Line as ModuleLine, Plain, Load, Unload, at_first, opening_of, owners_of, loaded_at_first, hidden, masks_from, masks_for, answer_to, commands_for, loaded_after, own_by, own_after}
+use Rattle.module_table.proofs.OpenedLaws.{loaded-size}
 use Rattle.ft_script.specs.Above.{Above, LinedCtl, ScriptCtl, Run, Until}
 use Rattle.ft_script.specs.Expansion.{Expansion, declarations_of, runs_of, opened, expanded, expanded_all, lines_as_they_are, expansion_of, command_count}
 
@@ -42,22 +43,8 @@ pub declared-still : (x : Expansion) (ctls : List LinedCtl) → (expanded_all x 
 declared-still x [] = refl
 declared-still x (c ∷ ctls) = declared-still (expanded x c.ctl) ctls ∙ declared-one x c.ctl
 
--- as many modules as before
-pub modules-line : (b : Between) (line : ModuleLine) → length (after_line b line).loaded ≡ length b.loaded
-modules-line b (Plain c) = refl
-modules-line b (Load m) = by (is_accepted (answer_to b (Load m)))
-  where
-    by : (a : Bool) → length (cond a (set b.loaded m true) b.loaded) ≡ length b.loaded
-    by true = length-set b.loaded m true
-    by false = refl
-modules-line b (Unload m) = by (is_accepted (answer_to b (Unload m)))
-  where
-    by : (a : Bool) → length (cond a (set b.loaded m false) b.loaded) ≡ length b.loaded
-    by true = length-set b.loaded m false
-    by false = refl
-
 pub modules-one : (x : Expansion) (ctl : ScriptCtl) → length (expanded x ctl).known.loaded ≡ length x.known.loaded
-modules-one x (Run line) = modules-line x.known line
+modules-one x (Run line) = loaded-size x.known line
 modules-one x (Until task acts) = refl
 
 -- the number of modules stays

@@ -1,5 +1,5 @@
 -- What a line that isn't refused declares fits what is declared above it.
-use Rattle.std.proofs.Common.{◌≡◌, ℕ, zero, suc, ◌+◌, ◌*◌, ◌<◌, ◌≤◌, ◌==◌, ◌||◌, nat_le, Bool, true, false, List, [], ◌∷◌, length, position, Option, Some, None, refl, sym, ap, ap₂, ◌∙◌, subst, arith, add-one, if◌then◌else◌}
+use Rattle.std.proofs.Common.{◌≡◌, ℕ, zero, suc, ◌+◌, ◌*◌, ◌<◌, ◌≤◌, ◌==◌, ◌||◌, nat_le, nat_lt, Bool, true, false, List, [], ◌∷◌, length, position, Option, Some, None, refl, sym, ap, ap₂, ◌∙◌, subst, arith, add-one, if◌then◌else◌}
 use Rattle.std.specs.Prelude.{is_some, not, sum_by, Result, Ok, Err, IfOk}
 use Rattle.std.specs.List.{list_any}
 use Rattle.std.specs.Str.{bytes_eq}
@@ -7,7 +7,7 @@ use Rattle.std.proofs.lemmas.Bool.{ltb-false, leb-false, eqb-true, not-false}
 use Rattle.std.proofs.lemmas.List.{length-map, length-set}
 use Rattle.std.proofs.lemmas.List.Quantifiers.{position-Some}
 use Rattle.ft_base.proofs.Small.{false_true, or-false_both}
-use Rattle.ft_base.specs.declared.limits.TheConstants.{CPUS, TASKS, LANES, COMMANDS, UNTILS, ACTS, LEVELS, FRAMES, GRAPH_DEPTH, ITEMS, QUANTUM, STEPS}
+use Rattle.ft_base.specs.declared.limits.TheConstants.{CPUS, TASKS, LANES, COMMANDS, UNTILS, ACTS, LEVELS, FRAMES, RING, TRIGGERS, GRAPH_DEPTH, ITEMS, QUANTUM, STEPS}
 use Rattle.ft_base.specs.declared.number.FuncNo.{FuncNo}
 use Rattle.ft_base.specs.declared.task.TaskAct.{TaskAct}
 use Rattle.ft_base.specs.declared.task.TaskAct.TheVariants.{Call, Ret, Raise, Lower, After}
@@ -16,35 +16,37 @@ use Rattle.ft_base.specs.declared.user.Act.TheVariants.{CallIn, IrqIn}
 use Rattle.ft_base.specs.declared.user.Half.{Half}
 use Rattle.ft_base.specs.declared.user.Half.TheVariants.{Filter as OfFilter, Notrace as OfNotrace}
 use Rattle.ft_base.specs.Marks.{Marks, empty}
-use Rattle.ft_base.specs.Job.{Func, Spec, Edit, Command, Register, Unregister, Enable, Disable}
+use Rattle.ft_base.specs.Job.{Func, Spec, Trigger, Edit, Command, Register, Unregister, Enable, Disable}
 use Rattle.ft_base.specs.Versions.{limits_of, IsVersion}
 use Rattle.ft_base.specs.WellFormed.{IsActIn}
 use Rattle.site_set.proofs.MarksLemmas.{length-empty}
 use Rattle.filter_commands.specs.Forms.{Text, TextForm, line as at_line, named as by_name, in_module, form_of, unmarked}
 use Rattle.filter_commands.specs.Causes.{first_cause}
 use Rattle.filter_commands.specs.Edits.{selected_by, edit_of}
+use Rattle.filter_commands.specs.Triggers.{trigger_of, trigger_cause}
 use Rattle.ft_schedule.specs.Causes.{has_bad_count, steps_of, is_past_limit as is_past_sched_limit, has_unknown}
 use Rattle.user_specs.specs.Bound.{call_bound_of}
 use Rattle.ft_machine.specs.Plans.{IsModule}
-use Rattle.module_table.specs.Modules.{modules_in}
+use Rattle.func_table.specs.Modules.{modules_in}
 use Rattle.module_table.specs.Lines.{Line as ModuleLine, Plain, Load, Unload}
 use Rattle.script_text.specs.Lines.{Word, Line}
-use Rattle.script_form.specs.Forms.{LineForm, skip, version, func, depth, tramps, absent, user, new_cpu, new_task, new_lane, call, ret, raise, lower, after, register, unregister, write, pids, enable, disable, max_depth, until, load, unload, sched}
+use Rattle.script_form.specs.Forms.{LineForm, skip, version, func, depth, tramps, absent, ring, tracing_off, trigger, user, new_cpu, new_task, new_lane, call, ret, raise, lower, after, register, unregister, write, pids, enable, disable, max_depth, until, load, unload, sched}
 use Rattle.script_form.specs.Forms.{UserLine, UserAct, calls, irqs}
 use Rattle.script_form.specs.Lines.{line_form}
 use Rattle.script_waits.specs.Tasks.{LinedTask}
 use Rattle.ft_script.specs.declared.faults.Cause.{Cause}
 use Rattle.ft_script.specs.declared.faults.Cause.TheVariants.{Unknown, Pattern, Limit, Syntax, Version}
 use Rattle.ft_script.specs.Levels.{open_calls}
-use Rattle.ft_script.specs.Above.{Above, Run, Until, Declaration, a_version, an_absence, a_user, a_task, an_act, a_ctl, Resolved}
+use Rattle.ft_script.specs.Above.{Above, Run, Until, Declaration, a_version, an_absence, a_trigger, a_user, a_task, an_act, a_ctl, Resolved}
 use Rattle.ft_script.specs.Expansion.{command_count}
-use Rattle.ft_script.specs.Causes.{rank_of, is_misplaced, has_ctl_in_no_lane, is_out_of_place, is_past_limit, is_absent, is_duplicate, is_full_of_acts, is_full_of_calls, is_full_of_commands, has_no_room, is_long, is_long_or_none, is_last_by, function_names, user_names, pids_of, known, made, function_at, function_in, function_or_none, module_named, module_in, user_in, task_in, cpu_in, act_in, spec_with, spec_in, write_to, write_with, edit_in, marks_of, has_no_pid, pid_command, pids_in, a_command, named, is_unbalanced, resolved, first_line, next_line, resolved_line}
+use Rattle.ft_script.specs.Causes.{rank_of, is_misplaced, has_ctl_in_no_lane, is_out_of_place, is_past_limit, is_absent, is_duplicate, is_full_of_acts, is_full_of_calls, is_full_of_commands, has_no_room, is_long, is_long_or_none, is_last_by, function_names, user_names, pids_of, known, made, function_at, function_in, function_or_none, module_named, module_in, user_in, task_in, cpu_in, act_in, spec_with, spec_in, write_to, write_with, edit_in, trigger_in, marks_of, has_no_pid, pid_command, pids_in, a_command, named, is_unbalanced, resolved, first_line, next_line, resolved_line}
 use Rattle.ft_script.specs.Script.{or_nothing, said}
 use Rattle.ft_script.specs.Within.{IsInOrder}
 use Rattle.ft_script.specs.Holds.{IsLine}
 use Rattle.ft_script.specs.Fits.{IsNextCall, IsNextAct, IsWhereItMay, FitsAs, IsRanked, Fits}
 use Rattle.ft_script.proofs.FormNames.{Named, form-named, version-is, name-short, owner-short}
-use Rattle.ft_script.proofs.NoCause.{no-cause, err-ok, ok-same}
+use Rattle.ft_script.proofs.NoCause.{no-cause, not-zero, err-ok, ok-same}
+use Rattle.ft_script.proofs.RingsKept.{trigger-over}
 
 -- ## the order of ranks
 
@@ -55,6 +57,10 @@ rank-above above form placed = ltb-false (rank_of form above.rank) above.rank (o
 -- above a function there is no absent module
 no-absences : (above : Above) → IsInOrder above → (form : LineForm) → is_misplaced above form ≡ false → rank_of form above.rank < 2 → above.absent ≡ []
 no-absences above order form placed low = order.absent (let r = rank-above above form placed in omega (arith, r, low))
+
+-- and no trigger
+no-triggers : (above : Above) → IsInOrder above → (form : LineForm) → is_misplaced above form ≡ false → rank_of form above.rank < 2 → above.triggers ≡ []
+no-triggers above order form placed low = order.triggers (let r = rank-above above form placed in omega (arith, r, low))
 
 -- above a line that comes before those of control there is none of them
 no-ctls : (above : Above) → IsInOrder above → (form : LineForm) → is_misplaced above form ≡ false → rank_of form above.rank < 6 → above.ctls ≡ []
@@ -201,6 +207,9 @@ says above (func name owner) = (tt, λ b. refl)
 says above (depth frames) = (tt, λ b. refl)
 says above (tramps slots) = (tt, λ b. refl)
 says above (absent owner) = of-all (Says above (absent owner)) an_absence (module_in above owner) (λ m. (omega arith, λ b. refl))
+says above (ring entries) = (tt, λ b. refl)
+says above tracing_off = (tt, λ b. refl)
+says above (trigger text) = of-all (Says above (trigger text)) a_trigger (trigger_in above text) (λ t. (omega arith, λ b. refl))
 says above (user u) = of-all (Says above (user u)) a_user (spec_in above u) (λ s. (tt, λ b. refl))
 says above (new_cpu cpu quantum) = (tt, λ b. refl)
 says above (new_task pid cpu) = of-all (Says above (new_task pid cpu)) (a_task pid) (cpu_in above cpu) (λ c. (tt, λ b. refl))
@@ -229,10 +238,6 @@ says above (sched items) =
 room : (limit k : ℕ) → nat_le limit k ≡ false → k < limit
 room limit k e = leb-false limit k e
 
-has_one : {X : Type 0} (xs : List X) → (length xs == 0) ≡ false → 1 ≤ length xs
-has_one [] e = false_true (sym e)
-has_one (x ∷ xs) e = omega arith
-
 has_none : {X : Type 0} (xs : List X) → (length xs == 0) ≡ true → xs ≡ []
 has_none [] e = refl
 has_none (x ∷ xs) e = (let n = eqb-true (length (x ∷ xs)) 0 e in absurd (omega (arith, n)))
@@ -242,7 +247,7 @@ module _ (above : Above) (order : IsInOrder above) where
   other-act : (form : LineForm) (act : TaskAct) → is_misplaced above form ≡ false → (length above.tasks == 0) ≡ false → rank_of form above.rank < 6 → is_full_of_acts above ≡ false
       → IsNextCall above act → IsNextAct above act
   other-act form act placed some low full next = record {
-    some = has_one above.tasks some;
+    some = not-zero (length above.tasks) some;
     room = room ACTS above.acts full;
     call = next;
     before = no-ctls above order form placed low;
@@ -326,6 +331,7 @@ module _ (above : Above) (order : IsInOrder above) where
         new = new;
         room = room (limits_of above.version).funcs (length above.functions) rest.1;
         first = no-absences above order (func name owner) placed (omega arith);
+        untriggered = no-triggers above order (func name owner) placed (omega arith);
         before = no-ctls above order (func name owner) placed (omega arith);
       }
   named-fits (depth frames) n placed limit new = ltb-false FRAMES frames (or-false_both _ _ limit).1
@@ -334,6 +340,16 @@ module _ (above : Above) (order : IsInOrder above) where
     before = no-ctls above order (tramps slots) placed (omega arith);
   }
   named-fits (absent owner) n placed limit new = of-made (FitsAs above) an_absence (module_in above owner) (absence-fits owner placed new)
+  named-fits (ring entries) n placed limit new =
+      let both = or-false_both (entries == 0) (nat_lt RING entries) limit in
+      (not-zero entries both.0, ltb-false RING entries both.1)
+  named-fits tracing_off n placed limit new = tt
+  named-fits (trigger text) n placed limit new =
+      of-made (FitsAs above) a_trigger (trigger_in above text)
+      (of-if (λ (t : Trigger). FitsAs above (a_trigger t)) (is_some (trigger_cause text)) Pattern (Ok (trigger_of above.functions text)) (λ right. record {
+        room = room TRIGGERS (length above.triggers) limit;
+        over = trigger-over above.functions text;
+      }))
   named-fits (user u) n placed limit new =
       of-made (FitsAs above) a_user (spec_in above u)
       (user-fits u placed (or-false_both _ _ limit).1 (spec_in above u) (spec-known above u (function_or_none above u.ipmodify) (act_in above u.act) (act-known above u.act)))

@@ -15,7 +15,7 @@ use Rattle.script_text.specs.Words.{both}
 use Rattle.script_text.specs.Names.{is_name, name_of}
 use Rattle.script_text.proofs.NameLemmas.{is_name_text-short}
 use Rattle.script_form.specs.Forms as form
-use Rattle.script_form.specs.Forms.{LineForm, UserAct, skip, version, func, depth, tramps, absent, user, new_cpu, new_task, new_lane, call, ret, raise, lower, after, register, unregister, write, pids, enable, disable, max_depth, until, load, unload, sched}
+use Rattle.script_form.specs.Forms.{LineForm, UserAct, skip, version, func, depth, tramps, absent, ring, tracing_off, trigger, user, new_cpu, new_task, new_lane, call, ret, raise, lower, after, register, unregister, write, pids, enable, disable, max_depth, until, load, unload, sched}
 use Rattle.script_form.specs.Users.{user_form, user_with, user_of, kind_of, flag, argument, ipmodify_of, act_of}
 use Rattle.script_form.specs.Lines.{act_form, unlisted_form, keyed_form, form_of, line_form}
 use Rattle.ft_script.specs.Causes.{is_long, is_long_or_none}
@@ -75,6 +75,11 @@ in-version : (args : List Word) → IfSome (form.version_form args) Named
 in-version [] = tt
 in-version (n ∷ []) = either (bytes_eq n (codes "1")) (Some (version 1)) _ (inl refl) (either (bytes_eq n (codes "2")) (Some (version 2)) None (inr refl) tt)
 in-version (_ ∷ _ ∷ _) = tt
+
+in-tracing : (args : List Word) → IfSome (form.tracing_form args) Named
+in-tracing [] = tt
+in-tracing (word ∷ []) = either (bytes_eq word (codes "off")) (Some tracing_off) None tt tt
+in-tracing (_ ∷ _ ∷ _) = tt
 
 in-cpu : (args : List Word) → IfSome (form.cpu_form args) Named
 in-cpu [] = tt
@@ -155,11 +160,14 @@ in-unlisted key args =
     (either (bytes_eq key (codes "depth")) _ _ (of-map depth (λ n. tt) _)
     (either (bytes_eq key (codes "tramps")) _ _ (of-map tramps (λ n. tt) _)
     (either (bytes_eq key (codes "absent")) _ _ (of-map absent (λ w. tt) _)
+    (either (bytes_eq key (codes "ring")) _ _ (of-map ring (λ n. tt) _)
+    (either (bytes_eq key (codes "tracing")) _ _ (in-tracing args)
+    (either (bytes_eq key (codes "trigger")) _ _ (of-map trigger (λ w. tt) _)
     (either (bytes_eq key (codes "user")) _ _ (in-user args)
     (either (bytes_eq key (codes "cpu")) _ _ (in-cpu args)
     (either (bytes_eq key (codes "task")) _ _ (in-task args)
     (either (bytes_eq key (codes "lane")) _ _ (of-map new_lane (λ n. tt) _)
-    (in-act key args)))))))))
+    (in-act key args))))))))))))
 
 in-keyed : (key : Word) (args : List Word) → IfSome (keyed_form key args) Named
 in-keyed key args =

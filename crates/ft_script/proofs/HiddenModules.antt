@@ -8,7 +8,7 @@ use Rattle.std.proofs.lemmas.List.Quantifiers.{position-Some}
 use Rattle.ft_base.specs.Job.{Func, no_func}
 use Rattle.ft_base.specs.Desk.{Desk, desk, user_at, is_sited}
 use Rattle.ft_desk.specs.Declarations.{Declared, bare}
-use Rattle.module_table.specs.Modules.{modules_in, number_among, module_of}
+use Rattle.func_table.specs.Modules.{modules_in, number_among, module_of}
 use Rattle.module_table.specs.Lines.{Between, owners_of, is_hidden}
 use Rattle.module_table.specs.Reached.{IsReached, is_open}
 use Rattle.module_table.proofs.OpenedLaws.{hides-functions}

@@ -32,6 +32,7 @@ use Rattle.ft_script.specs.Holds.{acts_of, LanesHold, IsAtMost, Holds, CanRun}
 use Rattle.ft_script.specs.Kept.{AreParts}
 use Rattle.ft_script.proofs.ActsInJob.{leads-in_job, raises-in_job, each-in_job, placed-in_job, all_acts-in_job, all_calls-in_job}
 use Rattle.ft_script.proofs.Carried.{IsLineOfJob, lines-carried, waits-carried, rows-carried, lanes-carried}
+use Rattle.ft_script.proofs.RingsKept.{entries-within}
 use Rattle.ft_script.proofs.TasksKept.{closed-tasks, raised-tasks}
 
 -- ## tasks
@@ -178,9 +179,9 @@ module _ (above : Above) (run : CanRun above) where
   unfolding job_of
   lines-planned = record { lanes = lanes-planned above.lane_count refl h.lanes; absent = h.absent; modules = rows-carried above h }
 
-  usual-rings : AreRingsPlanned (job_of above)
+  rings-planned : AreRingsPlanned (job_of above)
   unfolding job_of
-  usual-rings = record { some = omega arith; ring = omega arith; few = omega arith; triggers = tt }
+  rings-planned = (let e = entries-within above.ring h.rings.entries in record { some = e.0; ring = e.1; few = h.rings.few; triggers = h.rings.each })
 
   module _ (p : Parts) (are : AreParts p above) where
     tasks-are : tasks_of p.cpus ≡ map task_of those
@@ -209,5 +210,5 @@ module _ (above : Above) (run : CanRun above) where
       cpus = (let n = length-map p.cpus (λ (c : DeclaredCpu). c.quantum) in let q = ap (λ (qs : List ℕ). length qs) quanta-are in let few = h.within.few_cpus in omega (arith, n, q, few));
       quanta = rw quanta-are h.quanta;
       planned = rw job-is lines-planned;
-      rings = rw job-is usual-rings;
+      rings = rw job-is rings-planned;
     }

@@ -1,11 +1,11 @@
 -- What a reader keeps beside what is declared: the absent modules, the names of all modules, and what the lines of control come to.
-use Rattle.std.proofs.Common.{◌≡◌, ◌≢◌, ℕ, zero, suc, ◌+◌, ◌^◌, ◌<◌, ◌≤◌, ◌⊎◌, inl, inr, Bool, true, false, List, [], ◌∷◌, ◌++◌, length, map, Option, Some, None, is_some, refl, sym, ap, ap₂, ◌∙◌, subst, arith}
+use Rattle.std.proofs.Common.{◌≡◌, ◌≢◌, ℕ, zero, suc, ◌+◌, ◌^◌, ◌<◌, ◌≤◌, ◌⊎◌, inl, inr, true, false, List, [], ◌∷◌, ◌++◌, length, map, Option, Some, None, is_some, refl, sym, ap, ap₂, ◌∙◌, subst, arith}
 use Rattle.std.specs.Prelude.{IfSome, unwrap_or, nat_lt}
 use Rattle.std.specs.List.{AllByRecursion as Each}
 use Rattle.std.proofs.lemmas.Bool.Decides.{nat_tests}
 use Rattle.ft_base.proofs.Small.{Each-snoc}
 use Rattle.ft_base.proofs.Versions.{few-largest}
-use Rattle.ft_base.specs.declared.limits.TheConstants.{COMMANDS, USERS}
+use Rattle.ft_base.specs.declared.limits.TheConstants.{COMMANDS}
 use Rattle.ft_base.specs.Job.{Spec, Ctl as PlainCtl, ModuleRow}
 use Rattle.ft_base.specs.Versions.{limits_of}
 use Rattle.word_map.specs.declared.shape.Shape.{Shape}
@@ -14,7 +14,7 @@ use Rattle.user_specs.specs.Plain.{spec_of}
 use Rattle.ft_desk.specs.Declarations.{Declared, bare, declared_by}
 use Rattle.control_core.specs.Lines.{lines_of}
 use Rattle.ft_machine.specs.Plans.{row_of, IsModule}
-use Rattle.module_table.specs.Modules.{modules_in}
+use Rattle.func_table.specs.Modules.{modules_in}
 use Rattle.module_table.specs.Lines.{Between, Plain, Load, Unload, Line as ModuleLine, at_first, opening_of}
 use Rattle.module_table.specs.Made.{line_of}
 use Rattle.module_table.specs.Reached.{IsLineIn}
@@ -26,7 +26,7 @@ use Rattle.ft_script.specs.declared.declaration.ScriptCtl.TheVariants.{Run as Ke
 use Rattle.ft_script.specs.declared.expansion.Expansion.{Expansion as KeptExpansion}
 use Rattle.ft_script.specs.declared.declaration.Declaration.{Declaration as KeptDeclaration}
 use Rattle.ft_script.specs.declared.declaration.Declaration.TheVariants.{Ctl as KeptCtlLine}
-use Rattle.ft_script.specs.Above.{Above, none_above, ScriptCtl, Run, Until, LinedCtl, slots_of, lanes_with, with_ctl, with_what, Declaration, nothing, a_version, a_function, some_frames, some_slots, an_absence, a_user, a_cpu, a_task, an_act, a_lane, a_ctl, more_turns}
+use Rattle.ft_script.specs.Above.{Above, ScriptCtl, Run, Until, LinedCtl, slots_of, lanes_with, with_ctl, with_what, Declaration, a_version, a_function, some_slots, an_absence, a_user, a_task, an_act, a_lane, a_ctl}
 use Rattle.ft_script.specs.Expansion.{Expansion, declarations_of, runs_of, opened, expanded, expanded_all, expansion_of, command_count}
 use Rattle.ft_script.specs.Causes.{has_too_many_commands}
 use Rattle.ft_script.specs.Within.{IsWithinLimits, IsInOrder}

@@ -14,6 +14,7 @@ pub mod Limits
 pub mod LinesKept
 pub mod Lines
 pub mod OtherVersions
+pub mod RingsKept
 pub mod JobLaws
 pub mod ActsInJob
 pub mod Added

@@ -14,7 +14,7 @@ use Rattle.ft_base.proofs.Versions.{few-largest}
 use Rattle.user_specs.specs.Bound.{call_bound_of}
 use Rattle.ft_script.specs.declared.levels.Levels.{Levels}
 use Rattle.ft_script.specs.Levels.{present, open_in, open_here, open_calls, with_open, without, levels_after}
-use Rattle.ft_script.specs.Above.{Above, Run, Until, LinedCtl, Declaration, a_version, a_function, some_slots, an_absence, a_user, a_cpu, a_task, an_act, a_lane, a_ctl, more_turns, Resolved, calls_with, with_what, declared}
+use Rattle.ft_script.specs.Above.{Above, Run, Until, LinedCtl, Declaration, a_version, a_function, some_slots, an_absence, a_trigger, a_user, a_cpu, a_task, an_act, a_lane, a_ctl, more_turns, Resolved, calls_with, with_what, declared}
 use Rattle.ft_script.specs.Expansion.{Expansion, opened, expanded_all, lines_as_they_are, expansion_of, command_count}
 use Rattle.ft_script.specs.Causes.{has_too_many_commands}
 use Rattle.ft_script.specs.Within.{FewActs, IsWithinLimits, IsInOrder}
@@ -41,6 +41,11 @@ kept-absent : (above : Above) (rank : ℕ) (what : Declaration) → IsRanked ran
 kept-absent above rank (an_absence owner) ranked low = absurd (omega (arith, ranked, low))
 kept-absent above rank what ranked low = refl
 
+-- nor a trigger
+kept-triggers : (above : Above) (rank : ℕ) (what : Declaration) → IsRanked rank what → rank < 2 → (with_what above what).triggers ≡ above.triggers
+kept-triggers above rank (a_trigger trigger) ranked low = absurd (omega (arith, ranked, low))
+kept-triggers above rank what ranked low = refl
+
 -- what comes before the lines of tasks adds no call
 kept-calls : (above : Above) (rank : ℕ) (what : Declaration) → IsRanked rank what → rank < 5 → (with_what above what).calls ≡ above.calls
 kept-calls above rank (an_act act) ranked low = absurd (omega (arith, ranked, low))
@@ -60,6 +65,7 @@ pub order-declared : (above : Above) → IsInOrder above → (line : Resolved) �
 order-declared above order line f = record {
   first = λ none. absurd (omega (arith, none));
   absent = λ low. kept-absent above line.rank line.what f.ranked low ∙ order.absent (let r = f.order in omega (arith, r, low));
+  triggers = λ low. kept-triggers above line.rank line.what f.ranked low ∙ order.triggers (let r = f.order in omega (arith, r, low));
   calls = λ low. kept-calls above line.rank line.what f.ranked low ∙ order.calls (let r = f.order in omega (arith, r, low));
   lanes = λ low. kept-lanes above line.rank line.what f.ranked low ∙ order.lanes (let r = f.order in omega (arith, r, low));
   ctls = λ low. kept-ctls above line.rank line.what f.ranked low ∙ order.ctls (let r = f.order in omega (arith, r, low));

@@ -16,6 +16,7 @@ use Rattle.ft_script.specs.Fits.{Fits}
 use Rattle.ft_script.proofs.NoCause.{no-cause_in, carried}
 use Rattle.ft_script.proofs.Fitting.{said_last, accepted}
 use Rattle.ft_script.proofs.Limits.{IsLater, same-version, within-declared, order-declared, items-declared}
+use Rattle.ft_script.proofs.RingsKept.{rings-declared}
 use Rattle.ft_script.proofs.TasksKept.{Begins, tasks-declared}
 use Rattle.ft_script.proofs.LinesKept.{lines-kept, lanes-kept, lines-declared, lanes-declared, absent-declared, users-declared, user_lines-declared, frames-declared, quanta-declared}
 
@@ -48,6 +49,7 @@ later-holds above h line below later f few balanced begins = record {
   order = order-declared above h.order line f;
   frames = frames-declared above h line.what f.what;
   absent = absent-declared above h line.what f.what;
+  rings = rings-declared above h line.what f.what;
   users = users-declared above h line.what f.what;
   user_lines = user_lines-declared above h line.what;
   quanta = quanta-declared above h line.what f.what;
@@ -70,9 +72,10 @@ empty-holds number lines rank is first = record {
     few_lanes = omega arith;
     few_steps = omega arith;
   };
-  order = record { first = first; absent = λ low. refl; calls = λ low. refl; lanes = λ low. refl; ctls = λ low. refl };
+  order = record { first = first; absent = λ low. refl; triggers = λ low. refl; calls = λ low. refl; lanes = λ low. refl; ctls = λ low. refl };
   frames = omega arith;
   absent = tt;
+  rings = record { entries = tt; few = omega arith; each = tt };
   users = tt;
   user_lines = refl;
   quanta = tt;

@@ -7,14 +7,15 @@ use Rattle.std.proofs.lemmas.List.FromFn.{get_or-map-range_with_len}
 use Rattle.ft_base.specs.Job.{ModuleRow}
 use Rattle.ft_base.specs.Desk.{is_accepted}
 use Rattle.ft_base.proofs.Small.{and-false}
-use Rattle.module_table.specs.Modules.{modules_in}
+use Rattle.func_table.specs.Modules.{modules_in}
 use Rattle.module_table.specs.Lines.{Line as ModuleLine, Plain, Load, Unload, commands_for, answer_to}
 use Rattle.module_table.proofs.ListLaws.{length-loaded}
+use Rattle.module_table.proofs.OpenedLaws.{loaded-size}
 use Rattle.module_coverage.specs.Loaded.{changes, loaded_after, is_loaded}
 use Rattle.ft_script.specs.Above.{Above, ScriptCtl, Run, Until, LinedCtl}
 use Rattle.ft_script.specs.Expansion.{Expansion, opened, rows_for, with_line, expanded, expanded_all}
 use Rattle.ft_script.specs.Script.{job_of}
-use Rattle.ft_script.proofs.Expanding.{modules-line, modules-still, commands-some, counts-grow}
+use Rattle.ft_script.proofs.Expanding.{modules-still, commands-some, counts-grow}
 use Rattle.ft_script.proofs.DeskOfJob.{first_lines, all-lines}
 
 -- after some rows and then some more
@@ -71,14 +72,14 @@ loaded-line : (absent : List ℕ) (x : Expansion) (line : ModuleLine) → AreLoa
 loaded-line absent x (Plain c) are m k lt le =
     loaded-joined m k (not (list_any (λ other. other == m) absent)) x.rows [] ∙ are m k lt (omega (arith, le))
 loaded-line absent x (Load owner) are m k lt le =
-    let within : m < length x.known.loaded = subst (λ n. m < n) (modules-line x.known (Load owner)) lt in
+    let within : m < length x.known.loaded = subst (λ n. m < n) (loaded-size x.known (Load owner)) lt in
     let last = x.known.commands + length (commands_for x.known (Load owner)) in
     let was = not (list_any (λ other. other == m) absent) in
     loaded-joined m k was x.rows (rows_for x.known (Load owner))
     ∙ row-done x.known.loaded owner m last k true (is_accepted (answer_to x.known (Load owner))) (loaded_after m k was x.rows)
     within le (are m k within (omega (arith, le)))
 loaded-line absent x (Unload owner) are m k lt le =
-    let within : m < length x.known.loaded = subst (λ n. m < n) (modules-line x.known (Unload owner)) lt in
+    let within : m < length x.known.loaded = subst (λ n. m < n) (loaded-size x.known (Unload owner)) lt in
     let last = x.known.commands + length (commands_for x.known (Unload owner)) in
     let was = not (list_any (λ other. other == m) absent) in
     loaded-joined m k was x.rows (rows_for x.known (Unload owner))

@@ -1,7 +1,8 @@
 -- The causes that a line doesn't have, if it is not refused.
-use Rattle.std.proofs.Common.{◌≡◌, ℕ, Bool, true, false, List, Some, None, refl, sym, ap, subst, if◌then◌else◌}
+use Rattle.std.proofs.Common.{◌≡◌, ℕ, zero, suc, ◌≤◌, ◌==◌, Bool, true, false, List, Some, None, refl, sym, ap, subst, arith, if◌then◌else◌}
 use Rattle.std.specs.Prelude.{Result, Ok, Err}
 use Rattle.std.proofs.lemmas.Option.{none-some}
+use Rattle.ft_base.proofs.Small.{false_true}
 use Rattle.script_text.specs.Lines.{Line}
 use Rattle.script_form.specs.Forms.{LineForm}
 use Rattle.ft_script.specs.declared.faults.Cause.{Cause}
@@ -27,6 +28,11 @@ err-ok x y e = cc
 
 pub ok-same : {X Y : Type 0} (r : Result X Y) (x y : X) → r ≡ Ok x → r ≡ Ok y → x ≡ y
 ok-same r x y e f = cc
+
+-- a number that isn't 0
+pub not-zero : (n : ℕ) → (n == 0) ≡ false → 1 ≤ n
+not-zero zero e = false_true (sym e)
+not-zero (suc n) e = omega arith
 
 -- a line that has no cause declares something
 pub no-cause_in : {X : Type 0} (r : Result X Cause) → cause_in r ≡ None → (x : X) × (r ≡ Ok x)

@@ -11,13 +11,13 @@ use Rattle.ft_schedule.specs.Causes.{is_past_limit as is_past_sched_limit, has_u
 use Rattle.ft_desk.specs.Declarations.{Declared, bare}
 use Rattle.module_table.specs.Lines.{Load, Unload, Between, at_first, opening_of}
 use Rattle.script_text.specs.Lines.{Line, lines_of}
-use Rattle.script_form.specs.Forms.{LineForm, version, absent, user, new_task, call, register, unregister, write, pids, enable, disable, until, load, unload, sched}
+use Rattle.script_form.specs.Forms.{LineForm, version, absent, trigger, user, new_task, call, register, unregister, write, pids, enable, disable, until, load, unload, sched}
 use Rattle.script_form.specs.Lines.{line_form}
 use Rattle.ft_script.specs.declared.faults.Cause.{Cause}
 use Rattle.ft_script.specs.declared.faults.Cause.TheVariants.{Limit, Unknown}
-use Rattle.ft_script.specs.Above.{Above, Run, Until, none_above, slots_of, Declaration, a_version, an_absence, a_user, a_task, an_act, a_ctl, more_turns, Resolved, with_what, declared}
+use Rattle.ft_script.specs.Above.{Above, Run, Until, none_above, slots_of, Declaration, a_version, an_absence, a_trigger, a_user, a_task, an_act, a_ctl, more_turns, Resolved, with_what, declared}
 use Rattle.ft_script.specs.Expansion.{Expansion, runs_of, expanded_all, lines_as_they_are, expansion_of}
-use Rattle.ft_script.specs.Causes.{rank_of, is_misplaced, made, function_in, module_in, user_in, task_in, cpu_in, spec_in, edit_in, write_with, pids_in, a_command, named, resolved, resolved_line, carried_out, cause_in, cause_of}
+use Rattle.ft_script.specs.Causes.{rank_of, is_misplaced, made, function_in, module_in, user_in, task_in, cpu_in, spec_in, edit_in, trigger_in, write_with, pids_in, a_command, named, resolved, resolved_line, carried_out, cause_in, cause_of}
 use Rattle.ft_script.specs.Script.{or_nothing, said, with_line, declared_after, declared_in, refusal_below, refusal_of, task_of, task_in_job, job_of, IsJobOf}
 use Rattle.ft_script.proofs.NoCause.{some-none, no-cause, no-cause_in, carried}
 use Rattle.ft_script.proofs.Limits.{IsLater}
@@ -36,6 +36,7 @@ later-if false cause r h = h
 later : (above : Above) (form : LineForm) → is_misplaced above form ≡ false → IsLater (or_nothing (named above form))
 later above (version other) placed = false_true (sym (or-false_both _ _ placed).1)
 later above (absent owner) placed = later-made an_absence (module_in above owner) (λ m. tt)
+later above (trigger text) placed = later-made a_trigger (trigger_in above text) (λ t. tt)
 later above (user u) placed = later-made a_user (spec_in above u) (λ s. tt)
 later above (new_task pid cpu) placed = later-made (a_task pid) (cpu_in above cpu) (λ c. tt)
 later above (call name) placed = later-made (λ f. an_act (Call f)) (function_in above name) (λ f. tt)

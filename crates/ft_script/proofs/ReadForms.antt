@@ -1,6 +1,6 @@
 -- The fault of a line that is refused.
 use Rattle.std.proofs.Common.{◌≡◌, ◌≢◌, suc, ◌⊎◌, inl, inr, false, true, refl, sym, ap, ◌∙◌, subst}
-use Rattle.std.specs.Prelude.{Some, None, Result, Ok, Err, if◌then◌else◌, cond}
+use Rattle.std.specs.Prelude.{Some, None, Result, Ok, Err, cond}
 use Rattle.ft_script.specs.declared.faults.Cause.{Cause}
 use Rattle.ft_script.specs.declared.faults.Cause.TheVariants.{Limit, NoMemory}
 use Rattle.ft_script.specs.declared.faults.ScriptFault.{ScriptFault}

@@ -1,5 +1,5 @@
 -- Line by line, if no line has a cause, what is asked of the tasks comes to hold.
-use Rattle.std.proofs.Common.{◌≡◌, ℕ, zero, suc, ◌+◌, ◌-◌, ◌<◌, ◌≤◌, ◌==◌, true, false, List, [], ◌∷◌, length, map, sum_by, Option, Some, None, refl, sym, ap, ◌∙◌, subst, arith}
+use Rattle.std.proofs.Common.{◌≡◌, ℕ, zero, suc, ◌+◌, ◌-◌, ◌<◌, ◌==◌, true, false, List, [], ◌∷◌, length, map, sum_by, Option, Some, None, refl, sym, ap, ◌∙◌, subst, arith}
 use Rattle.std.specs.List.{AllByRecursion as Each}
 use Rattle.std.proofs.lemmas.Bool.{leb-false, eqb-true, not-false}
 use Rattle.std.proofs.lemmas.List.{length_push}
@@ -20,6 +20,7 @@ use Rattle.ft_script.specs.Causes.{is_unmatched, is_unbalanced}
 use Rattle.ft_script.specs.Script.{task_of}
 use Rattle.ft_script.specs.Holds.{acts_of, Balanced, TasksHold, Holds, CanRun}
 use Rattle.ft_script.specs.Fits.{IsNextCall, FitsAs}
+use Rattle.ft_script.proofs.NoCause.{not-zero}
 use Rattle.ft_script.proofs.TaskLaws.{balanced-more, balanced-task, balanced-act, balanced-each, placed-more, placed-act, sum-task, sum_acts-act, sum_calls-act}
 use Rattle.ft_script.proofs.Contexts.{by-raised, each-raised, declared-raises}
 
@@ -72,10 +73,6 @@ closed-calls l e =
 returns : (size n m : ℕ) → n ≡ suc m → Leads size n (Ret ∷ []) m
 returns size zero m e = absurd (omega (arith, e))
 returns size (suc n) m e = omega (arith, e)
-
-not-zero : (n : ℕ) → (n == 0) ≡ false → 1 ≤ n
-not-zero zero e = false_true (sym e)
-not-zero (suc n) e = omega arith
 
 -- each act leads on, if it has its match
 act-leads : (above : Above) (act : TaskAct) → IsNextCall above act → is_unmatched above.levels act ≡ false

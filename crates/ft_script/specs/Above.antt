@@ -1,9 +1,9 @@
 -- What the lines above a line have declared.
-use Rattle.std.specs.Prelude.{ℕ, zero, suc, List, [], ◌∷◌, ◌++◌, Option, Some, None, unwrap_or}
+use Rattle.std.specs.Prelude.{ℕ, zero, suc, Bool, true, false, List, [], ◌∷◌, ◌++◌, Option, Some, None, unwrap_or}
 use Rattle.ft_base.specs.declared.task.TaskAct.{TaskAct}
 use Rattle.ft_base.specs.declared.task.TaskAct.TheVariants.{Call}
 use Rattle.ft_base.specs.declared.turn.Turn.{Turn}
-use Rattle.ft_base.specs.Job.{Func, Spec}
+use Rattle.ft_base.specs.Job.{Func, Spec, Trigger}
 use Rattle.ft_base.specs.Versions.{limits_of}
 use Rattle.module_table.specs.Lines.{Line as ModuleLine}
 use Rattle.script_waits.specs.declared.script.LinedAct.{LinedAct}
@@ -30,6 +30,9 @@ pub record Above : Type 0 where
   pub tramps : Option ℕ  -- trampoline slots, if the script says
   pub functions : List Func
   pub absent : List ℕ  -- the modules that aren't loaded at first
+  pub ring : Option ℕ  -- entries of each CPU's trace ring, if the script says
+  pub tracing : Bool  -- whether tracing is on at first
+  pub triggers : List Trigger  -- what switches it
   pub users : List Spec
   pub user_lines : List ℕ  -- the line of each user
   pub quanta : List ℕ  -- the quantum of each CPU
@@ -54,6 +57,9 @@ none_above = record {
   tramps = None;
   functions = [];
   absent = [];
+  ring = None;
+  tracing = true;
+  triggers = [];
   users = [];
   user_lines = [];
   quanta = [];
@@ -75,7 +81,7 @@ slots_of above = unwrap_or above.tramps (limits_of above.version).tramps
 
 -- ## what a line declares
 
--- what a line declares: what it names is a number, and its filter text is an edit
+-- what a line declares: what it names is a number, its filter text is an edit, and a trigger's text is a trigger
 pub data Declaration : Type 0 where
   nothing : Declaration  -- blank, or a comment
   a_version : (number : ℕ) → Declaration
@@ -83,6 +89,9 @@ pub data Declaration : Type 0 where
   some_frames : (count : ℕ) → Declaration  -- of a shadow stack
   some_slots : (count : ℕ) → Declaration  -- of trampolines
   an_absence : (owner : ℕ) → Declaration  -- of a module, at first
+  some_entries : (count : ℕ) → Declaration  -- of each trace ring
+  no_tracing : Declaration  -- at first
+  a_trigger : (trigger : Trigger) → Declaration
   a_user : (user : Spec) → Declaration
   a_cpu : (quantum : ℕ) → Declaration  -- it has the next number
   a_task : (pid : ℕ) → (cpu : ℕ) → Declaration
@@ -151,6 +160,9 @@ with_what above (a_function function) = record above { functions = above.functio
 with_what above (some_frames count) = record above { frames = Some count }
 with_what above (some_slots count) = record above { tramps = Some count }
 with_what above (an_absence owner) = record above { absent = above.absent ++ owner ∷ [] }
+with_what above (some_entries count) = record above { ring = Some count }
+with_what above no_tracing = record above { tracing = false }
+with_what above (a_trigger trigger) = record above { triggers = above.triggers ++ trigger ∷ [] }
 with_what above (a_user user) = with_user above user
 with_what above (a_cpu quantum) = record above { quanta = above.quanta ++ quantum ∷ [] }
 with_what above (a_task pid cpu) = record above { tasks = above.tasks ++ record { pid = pid; cpu = cpu; acts = [] } ∷ []; levels = level_ground }

@@ -3,7 +3,7 @@
 use Rattle.std.specs.Prelude.{ℕ, ◌+◌, ◌*◌, ◌^◌, ◌==◌, ◌&&◌, ◌||◌, not, nat_le, nat_lt, Bool, true, false, List, [], ◌∷◌, length, map, sum_by, is_some, position, Option, Some, None, option_map, Result, Ok, Err, if◌then◌else◌}
 use Rattle.std.specs.List.{list_any}
 use Rattle.std.specs.Str.{bytes_eq}
-use Rattle.ft_base.specs.declared.limits.TheConstants.{CPUS, TASKS, LANES, COMMANDS, UNTILS, ACTS, LEVELS, FRAMES, GRAPH_DEPTH, ITEMS, QUANTUM, PID, NAME_BYTES}
+use Rattle.ft_base.specs.declared.limits.TheConstants.{CPUS, TASKS, LANES, COMMANDS, UNTILS, ACTS, LEVELS, FRAMES, RING, TRIGGERS, GRAPH_DEPTH, ITEMS, QUANTUM, PID, NAME_BYTES}
 use Rattle.ft_base.specs.declared.number.FuncNo.{FuncNo}
 use Rattle.ft_base.specs.declared.task.TaskAct.{TaskAct}
 use Rattle.ft_base.specs.declared.task.TaskAct.TheVariants.{Call, Ret, Raise, Lower, After}
@@ -12,26 +12,27 @@ use Rattle.ft_base.specs.declared.user.Act.TheVariants.{CallIn, IrqIn}
 use Rattle.ft_base.specs.declared.user.Half.{Half}
 use Rattle.ft_base.specs.declared.user.Half.TheVariants.{Filter as OfFilter, Notrace as OfNotrace}
 use Rattle.ft_base.specs.Marks.{Marks}
-use Rattle.ft_base.specs.Job.{Spec, Command, Register, Unregister, Filter, Notrace, Pid, NoPid, Enable, Disable, MaxDepth, Edit}
+use Rattle.ft_base.specs.Job.{Spec, Trigger, Command, Register, Unregister, Filter, Notrace, Pid, NoPid, Enable, Disable, MaxDepth, Edit}
 use Rattle.ft_base.specs.Same.{rank}
 use Rattle.ft_base.specs.Versions.{limits_of}
 use Rattle.filter_commands.specs.Causes.{first_cause}
 use Rattle.filter_commands.specs.Edits.{edit_of}
+use Rattle.filter_commands.specs.Triggers.{trigger_of, trigger_cause}
 use Rattle.ft_schedule.specs.declared.item.SchedItem.{SchedItem}
 use Rattle.ft_schedule.specs.Items.{turn_from}
 use Rattle.ft_schedule.specs.Causes.{is_past_limit as is_past_sched_limit, has_unknown, steps_of}
 use Rattle.user_specs.specs.Bound.{call_bound_of}
-use Rattle.module_table.specs.Modules.{modules_in, number_among}
+use Rattle.func_table.specs.Modules.{modules_in, number_among}
 use Rattle.module_table.specs.Lines.{Plain, Load, Unload}
 use Rattle.script_text.specs.Lines.{Word, Line}
-use Rattle.script_form.specs.Forms.{LineForm, skip, version, func, depth, tramps, absent, user, new_cpu, new_task, new_lane, call, ret, raise, lower, after, register, unregister, write, pids, enable, disable, max_depth, until, load, unload, sched}
+use Rattle.script_form.specs.Forms.{LineForm, skip, version, func, depth, tramps, absent, ring, tracing_off, trigger, user, new_cpu, new_task, new_lane, call, ret, raise, lower, after, register, unregister, write, pids, enable, disable, max_depth, until, load, unload, sched}
 use Rattle.script_form.specs.Forms.{UserLine, UserAct, calls, irqs}
 use Rattle.script_form.specs.Lines.{line_form}
 use Rattle.ft_script.specs.declared.faults.Cause.{Cause}
 use Rattle.ft_script.specs.declared.faults.Cause.TheVariants.{Version, Syntax, Limit, Duplicate, Unknown, Pattern, Unbalanced}
 use Rattle.ft_script.specs.declared.levels.Levels.{Levels}
 use Rattle.ft_script.specs.Levels.{present, open_here, open_calls, levels_after, is_raised, is_unfinished}
-use Rattle.ft_script.specs.Above.{Above, Run, Until, Declaration, nothing, a_version, a_function, some_frames, some_slots, an_absence, a_user, a_cpu, a_task, an_act, a_lane, a_ctl, more_turns, Resolved, with_ctl}
+use Rattle.ft_script.specs.Above.{Above, Run, Until, Declaration, nothing, a_version, a_function, some_frames, some_slots, an_absence, some_entries, no_tracing, a_trigger, a_user, a_cpu, a_task, an_act, a_lane, a_ctl, more_turns, Resolved, with_ctl}
 use Rattle.ft_script.specs.Expansion.{command_count}
 
 -- ## syntax
@@ -44,6 +45,9 @@ rank_of (func name owner) before = 1
 rank_of (depth frames) before = 2
 rank_of (tramps slots) before = 2
 rank_of (absent owner) before = 2
+rank_of (ring entries) before = 2
+rank_of tracing_off before = 2
+rank_of (trigger text) before = 2
 rank_of (user u) before = 3
 rank_of (new_cpu cpu quantum) before = 4
 rank_of (new_task pid cpu) before = 5
@@ -72,12 +76,14 @@ has_ctl_in_no_lane above = not (length above.lanes == length above.ctls)
 abbrev pub is_wrong_lane : Above → ℕ → Bool
 is_wrong_lane above lane = not (lane == above.lane_count) || (has_ctl_in_no_lane above || not (length above.absent == 0))
 
--- the version once more, `depth` or `tramps` once more, a CPU that isn't the next one, a lane that is wrong, a wait of control, a load or an
--- unload in a script with lanes, an act before any task
+-- the version once more, `depth`, `tramps`, `ring` or `tracing off` once more, a CPU that isn't the next one, a lane that is wrong, a wait of
+-- control, a load or an unload in a script with lanes, an act before any task
 abbrev pub is_out_of_place : Above → LineForm → Bool
 is_out_of_place above (version number) = true
 is_out_of_place above (depth frames) = is_some above.frames
 is_out_of_place above (tramps slots) = is_some above.tramps
+is_out_of_place above (ring entries) = is_some above.ring
+is_out_of_place above tracing_off = not above.tracing
 is_out_of_place above (new_cpu cpu quantum) = not (cpu == length above.quanta)
 is_out_of_place above (new_lane lane) = is_wrong_lane above lane
 is_out_of_place above (until pid n) = not (above.lane_count == 0)
@@ -125,6 +131,10 @@ is_bad_pid pid = (pid == 0) || nat_lt PID pid
 abbrev pub is_bad_depth : ℕ → Bool
 is_bad_depth frames = (frames == 0) || nat_lt FRAMES frames
 
+-- a number of entries that no ring can have
+abbrev pub is_bad_ring : ℕ → Bool
+is_bad_ring entries = (entries == 0) || nat_lt RING entries
+
 -- a quantum that no CPU can have
 abbrev pub is_bad_quantum : ℕ → Bool
 is_bad_quantum quantum = (quantum == 0) || nat_lt QUANTUM quantum
@@ -152,6 +162,8 @@ is_past_limit above (func name owner) = is_long name || (is_long_or_none owner |
 is_past_limit above (depth frames) = is_bad_depth frames
 is_past_limit above (tramps slots) = nat_lt (limits_of above.version).tramps slots
 is_past_limit above (absent owner) = is_long owner
+is_past_limit above (ring entries) = is_bad_ring entries
+is_past_limit above (trigger text) = nat_le TRIGGERS (length above.triggers)
 is_past_limit above (user u) = has_long_name u || nat_le (limits_of above.version).users (length above.users)
 is_past_limit above (new_cpu cpu quantum) = is_bad_quantum quantum || nat_le CPUS (length above.quanta)
 is_past_limit above (new_task pid cpu) = is_bad_pid pid || (is_big cpu || nat_le TASKS (length above.tasks))
@@ -212,7 +224,7 @@ is_duplicate above (user u) = is_among (user_names above) u.name
 is_duplicate above (new_task pid cpu) = has_pid above pid
 is_duplicate above _ = false
 
--- ## unknown, pattern: what the line declares, once what it names is looked up and its filter text is read
+-- ## unknown, pattern: what the line declares, once what it names is looked up and its filter or trigger text is read
 
 -- what is looked up, if it is there
 abbrev pub known : {X : Type 0} → Option X → Result X Cause
@@ -273,6 +285,10 @@ spec_in above u = spec_with u (function_or_none above u.ipmodify) (act_in above 
 abbrev pub edit_in : Above → Bool → Word → Result Edit Cause
 edit_in above append text = if is_some (first_cause (length above.functions) append text) then Err Pattern else Ok (edit_of above.functions append text)
 
+-- the trigger of a text
+abbrev pub trigger_in : Above → Word → Result Trigger Cause
+trigger_in above text = if is_some (trigger_cause text) then Err Pattern else Ok (trigger_of above.functions text)
+
 -- a write to one of a user's two sets
 abbrev pub write_to : Half → ℕ → Edit → Command
 write_to OfFilter u edit = Filter u edit
@@ -319,6 +335,9 @@ named above (func name owner) = Ok (a_function (record { name = name; owner = ow
 named above (depth frames) = Ok (some_frames frames)
 named above (tramps slots) = Ok (some_slots slots)
 named above (absent owner) = made an_absence (module_in above owner)
+named above (ring entries) = Ok (some_entries entries)
+named above tracing_off = Ok no_tracing
+named above (trigger text) = made a_trigger (trigger_in above text)
 named above (user u) = made a_user (spec_in above u)
 named above (new_cpu cpu quantum) = Ok (a_cpu quantum)
 named above (new_task pid cpu) = made (a_task pid) (cpu_in above cpu)

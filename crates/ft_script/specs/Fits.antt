@@ -1,29 +1,31 @@
 -- What a line that isn't refused declares fits what is declared above it.
 use Rattle.std.specs.Prelude.{◌≡◌, ◌≤◌, ◌<◌, ◌*◌, ℕ, suc, false, true, [], length, Some}
-use Rattle.ft_base.specs.declared.limits.TheConstants.{CPUS, TASKS, LANES, COMMANDS, UNTILS, ACTS, LEVELS, FRAMES, ITEMS, QUANTUM, STEPS}
+use Rattle.ft_base.specs.declared.limits.TheConstants.{CPUS, TASKS, LANES, COMMANDS, UNTILS, ACTS, LEVELS, FRAMES, TRIGGERS, ITEMS, QUANTUM, STEPS}
 use Rattle.ft_base.specs.declared.task.TaskAct.{TaskAct}
 use Rattle.ft_base.specs.declared.task.TaskAct.TheVariants.{Call}
-use Rattle.ft_base.specs.Job.{Func, Spec}
+use Rattle.ft_base.specs.Job.{Func, Spec, Trigger}
 use Rattle.ft_base.specs.Name.{is_name_text}
 use Rattle.ft_base.specs.Versions.{limits_of, IsVersion}
 use Rattle.ft_base.specs.WellFormed.{IsActIn}
 use Rattle.func_table.specs.Rows.{is_name_or_none}
 use Rattle.user_specs.specs.Bound.{call_bound_of}
-use Rattle.module_table.specs.Modules.{modules_in}
+use Rattle.func_table.specs.Modules.{modules_in}
+use Rattle.ft_machine.specs.Plans.{IsTriggerOf}
 use Rattle.module_table.specs.Lines.{Plain}
 use Rattle.ft_script.specs.Levels.{open_calls}
-use Rattle.ft_script.specs.Above.{Above, ScriptCtl, Run, Until, Declaration, nothing, a_version, a_function, some_frames, some_slots, an_absence, a_user, a_cpu, a_task, an_act, a_lane, a_ctl, more_turns, Resolved}
+use Rattle.ft_script.specs.Above.{Above, ScriptCtl, Run, Until, Declaration, nothing, a_version, a_function, some_frames, some_slots, an_absence, some_entries, no_tracing, a_trigger, a_user, a_cpu, a_task, an_act, a_lane, a_ctl, more_turns, Resolved}
 use Rattle.ft_script.specs.Expansion.{command_count}
 use Rattle.ft_script.specs.Causes.{function_names, is_among, is_absent}
-use Rattle.ft_script.specs.Holds.{IsLine}
+use Rattle.ft_script.specs.Holds.{IsLine, IsRing}
 
--- a function has names, and its own is new; there is room for it, and it comes before the absent modules and the lines of control
+-- a function has names, and its own is new; there is room for it, and it comes before the absent modules, the triggers and the lines of control
 pub record IsNewFunction (above : Above) (f : Func) : Type 0 where
   pub name : is_name_text f.name ≡ true
   pub owner : is_name_or_none f.owner ≡ true
   pub new : is_among (function_names above) f.name ≡ false
   pub room : length above.functions < (limits_of above.version).funcs
   pub first : above.absent ≡ []
+  pub untriggered : above.triggers ≡ []
   pub before : above.ctls ≡ []
 
 -- trampoline slots are no more than there may be, and are said before the lines of control
@@ -37,6 +39,11 @@ pub record IsNewAbsence (above : Above) (owner : ℕ) : Type 0 where
   pub new : is_absent above (Some owner) ≡ false
   pub before : above.ctls ≡ []
   pub alone : above.lane_count ≡ 0
+
+-- there is room for one more trigger, which is one over the functions
+pub record IsNewTrigger (above : Above) (trigger : Trigger) : Type 0 where
+  pub room : length above.triggers < TRIGGERS
+  pub over : IsTriggerOf (length above.functions) trigger
 
 -- a user's function is there; there is room for it, and it comes before the calls and the lines of control
 pub record IsNewUser (above : Above) (s : Spec) : Type 0 where
@@ -88,6 +95,9 @@ FitsAs above (a_function function) = IsNewFunction above function
 FitsAs above (some_frames count) = count ≤ FRAMES
 FitsAs above (some_slots count) = IsSlots above count
 FitsAs above (an_absence owner) = IsNewAbsence above owner
+FitsAs above (some_entries count) = IsRing count
+FitsAs above no_tracing = Unit {0}
+FitsAs above (a_trigger trigger) = IsNewTrigger above trigger
 FitsAs above (a_user user) = IsNewUser above user
 FitsAs above (a_cpu quantum) = (quantum ≤ QUANTUM) × (length above.quanta < CPUS)
 FitsAs above (a_task pid cpu) = IsNewTask above cpu
@@ -96,9 +106,10 @@ FitsAs above a_lane = IsNextLane above
 FitsAs above (a_ctl ctl) = IsLine above ctl × HasRoom above ctl × IsWhereItMay above ctl
 FitsAs above (more_turns turns steps) = steps ≤ STEPS
 
--- absent modules, acts, lanes and lines of control come at ranks of their own
+-- absent modules, triggers, acts, lanes and lines of control come at ranks of their own
 abbrev pub IsRanked : ℕ → Declaration → Type 0
 IsRanked rank (an_absence owner) = 2 ≤ rank
+IsRanked rank (a_trigger trigger) = 2 ≤ rank
 IsRanked rank (an_act act) = 5 ≤ rank
 IsRanked rank a_lane = 6 ≤ rank
 IsRanked rank (a_ctl ctl) = 6 ≤ rank

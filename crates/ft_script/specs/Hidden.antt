@@ -2,7 +2,7 @@
 use Rattle.std.specs.Prelude.{◌≡◌, ℕ, ◌<◌, ◌&&◌, Bool, true, length, take, Option, Some, None}
 use Rattle.ft_base.specs.Job.{Job}
 use Rattle.ft_base.specs.Desk.{Desk, desk, user_at, matches_by, is_sited, is_on}
-use Rattle.module_table.specs.Modules.{module_of}
+use Rattle.func_table.specs.Modules.{module_of}
 use Rattle.module_table.specs.Lines.{Between, own_of}
 use Rattle.module_coverage.specs.Loaded.{is_loaded}
 use Rattle.ft_script.specs.Above.{Above}

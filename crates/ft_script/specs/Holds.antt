@@ -1,24 +1,24 @@
 -- What holds of what is declared, if no line has a cause.
-use Rattle.std.specs.Prelude.{ℕ, zero, suc, ◌≡◌, ◌*◌, ◌<◌, ◌≤◌, Bool, true, false, List, [], ◌∷◌, length, map, sum_by, count_by, Option, Some, None, unwrap_or}
+use Rattle.std.specs.Prelude.{ℕ, zero, suc, ◌≡◌, ◌*◌, ◌<◌, ◌≤◌, Bool, true, false, List, [], ◌∷◌, length, map, sum_by, count_by, Option, Some, None, unwrap_or, IfSome}
 use Rattle.std.specs.List.{AllByRecursion as Each}
 use Rattle.ft_base.specs.declared.context.Ctx.{Ctx}
 use Rattle.ft_base.specs.declared.context.Ctx.TheVariants.{Softirq, Irq, Nmi}
-use Rattle.ft_base.specs.declared.limits.TheConstants.{FRAMES, ITEMS, LANES, QUANTUM}
+use Rattle.ft_base.specs.declared.limits.TheConstants.{FRAMES, ITEMS, LANES, QUANTUM, RING, TRIGGERS}
 use Rattle.ft_base.specs.declared.task.TaskAct.{TaskAct}
-use Rattle.ft_base.specs.Job.{Spec}
+use Rattle.ft_base.specs.Job.{Spec, Trigger}
 use Rattle.ft_base.specs.Versions.{limits_of, IsVersion}
 use Rattle.ft_base.specs.Acts.{Leads, Raises, AreRaised}
 use Rattle.ft_base.specs.WellFormed.{IsNamedIn, IsSetIn, IsActIn}
 use Rattle.history_bound.specs.Bound.{calls_in}
 use Rattle.user_specs.specs.Bound.{call_bound_of}
 use Rattle.word_machine.specs.Limits.{IsLevel}
-use Rattle.ft_machine.specs.Plans.{IsModule}
+use Rattle.ft_machine.specs.Plans.{IsModule, IsTriggerOf}
 use Rattle.module_table.specs.Lines.{Plain, Load, Unload}
 use Rattle.script_waits.specs.declared.script.LinedAct.{LinedAct}
 use Rattle.script_waits.specs.Tasks.{LinedTask}
 use Rattle.ft_script.specs.declared.levels.Levels.{Levels}
 use Rattle.ft_script.specs.Levels.{open_calls, is_unfinished}
-use Rattle.ft_script.specs.Above.{Above, ScriptCtl, Run, Until, LinedCtl}
+use Rattle.ft_script.specs.Above.{Above, ScriptCtl, Run, Until}
 use Rattle.ft_script.specs.Within.{IsWithinLimits, IsInOrder}
 
 -- ## tasks
@@ -101,6 +101,18 @@ LanesHold above (suc last) = AreInLanes above
 abbrev pub IsAtMost : ℕ → Option ℕ → Type 0
 IsAtMost limit said = unwrap_or said 0 ≤ limit
 
+-- ## rings and triggers
+
+-- a ring has an entry, and no more than it may have
+abbrev pub IsRing : ℕ → Type 0
+IsRing entries = (1 ≤ entries) × (entries ≤ RING)
+
+-- the entries of a ring are within the limits, if the script says how many; there are no more triggers than there may be, over `size` functions
+pub record RingsHold (size : ℕ) (ring : Option ℕ) (triggers : List Trigger) : Type 0 where
+  pub entries : IfSome ring IsRing
+  pub few : length triggers ≤ TRIGGERS
+  pub each : Each (IsTriggerOf size) triggers
+
 -- ## all
 
 -- what is declared is of a version that there is, within its limits and in order, and names what is there; its calls make no more items than a history may have
@@ -110,6 +122,7 @@ pub record Holds (above : Above) : Type 0 where
   pub order : IsInOrder above
   pub frames : IsAtMost FRAMES above.frames
   pub absent : Each (IsModule above.functions) above.absent
+  pub rings : RingsHold (length above.functions) above.ring above.triggers
   pub users : Each (λ (s : Spec). IsActIn (length above.functions) s.act) above.users
   pub user_lines : length above.user_lines ≡ length above.users
   pub quanta : Each (λ q. q ≤ QUANTUM) above.quanta

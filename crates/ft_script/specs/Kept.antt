@@ -3,13 +3,14 @@ use Rattle.std.specs.Prelude.{◌≡◌, ◌≢◌, ℕ, Bool, true, false, List
 use Rattle.std.specs.List.{AllByRecursion as Each}
 use Rattle.std.specs.Option.{option_copied}
 use Rattle.ft_base.specs.declared.limits.TheConstants.{USUAL_FRAMES}
-use Rattle.ft_base.specs.Job.{Job, usual_rings}
+use Rattle.ft_base.specs.Job.{Job}
+use Rattle.filter_commands.specs.Kept.{plain_trigger}
 use Rattle.control_core.specs.Lines.{lines_of}
 use Rattle.ft_machine.specs.Parts.{Parts, cpus_from}
 use Rattle.ft_machine.specs.Plans.{row_of, IsModule}
 use Rattle.module_table.specs.Lines.{owners_of}
 use Rattle.module_table.specs.Made.{line_of}
-use Rattle.module_table.specs.Modules.{modules_in}
+use Rattle.func_table.specs.Modules.{modules_in}
 use Rattle.module_table.specs.Reached.{IsLineIn}
 use Rattle.script_form.specs.Forms.{LineForm, absent, load, unload}
 use Rattle.user_specs.specs.Plain.{spec_of}
@@ -22,11 +23,11 @@ use Rattle.ft_script.specs.declared.expansion.Expansion.{Expansion as KeptExpans
 use Rattle.ft_script.specs.declared.reader.LinedCtl.{LinedCtl as KeptLine}
 use Rattle.ft_script.specs.declared.reader.coverage.NamedModules.{NamedModules}
 use Rattle.ft_script.specs.declared.declaration.Declaration.{Declaration as KeptDeclaration}
-use Rattle.ft_script.specs.declared.declaration.Declaration.TheVariants.{Nothing, Version, Function, Frames, Slots, Absence, User, Cpu, Task, Act, Lane, Ctl, Turns}
+use Rattle.ft_script.specs.declared.declaration.Declaration.TheVariants.{Nothing, Version, Function, Frames, Slots, Absence, Entries, NoTracing, Trigger, User, Cpu, Task, Act, Lane, Ctl, Turns}
 use Rattle.ft_script.specs.declared.declaration.Resolved.{Resolved as KeptResolved}
-use Rattle.ft_script.specs.Above.{Above, ScriptCtl, Run, Until, LinedCtl, slots_of, Declaration, nothing, a_version, a_function, some_frames, some_slots, an_absence, a_user, a_cpu, a_task, an_act, a_lane, a_ctl, more_turns, Resolved}
+use Rattle.ft_script.specs.Above.{Above, ScriptCtl, Run, Until, LinedCtl, slots_of, Declaration, nothing, a_version, a_function, some_frames, some_slots, an_absence, some_entries, no_tracing, a_trigger, a_user, a_cpu, a_task, an_act, a_lane, a_ctl, more_turns, Resolved}
 use Rattle.ft_script.specs.Expansion.{Expansion, expansion_of}
-use Rattle.ft_script.specs.Script.{wait_of, task_of, tasks_of, schedule_of}
+use Rattle.ft_script.specs.Script.{wait_of, tasks_of, schedule_of, rings_of}
 use Rattle.ft_script.specs.Holds.{IsPlain}
 
 -- a line of control that the program holds, if there are this many tasks
@@ -52,6 +53,9 @@ above_of r = record {
   tramps = r.tramps;
   functions = r.functions.functions;
   absent = r.absent.items;
+  ring = r.ring;
+  tracing = r.tracing;
+  triggers = map plain_trigger r.triggers.items;
   users = map spec_of r.users.items;
   user_lines = r.user_lines.items;
   quanta = r.quanta.items;
@@ -143,6 +147,9 @@ declaration_of tasks (Function name owner) = a_function (record { name = name.no
 declaration_of tasks (Frames count) = some_frames count
 declaration_of tasks (Slots count) = some_slots count
 declaration_of tasks (Absence owner) = an_absence owner
+declaration_of tasks (Entries count) = some_entries count
+declaration_of tasks NoTracing = no_tracing
+declaration_of tasks (Trigger trigger) = a_trigger (plain_trigger trigger)
 declaration_of tasks (User spec) = a_user (spec_of spec)
 declaration_of tasks (Cpu quantum) = a_cpu quantum
 declaration_of tasks (Task pid cpu) = a_task pid cpu
@@ -166,4 +173,4 @@ pub record AreParts (p : Parts) (above : Above) : Type 0 where
   pub ctls : lines_of (length above.tasks) p.ctls ≡ (expansion_of above).ctls
   pub schedule : p.schedule ≡ schedule_of above.turns
   pub lines : p.lines ≡ record { lanes = above.lanes; absent = above.absent; modules = (expansion_of above).rows }
-  pub rings : p.rings ≡ usual_rings
+  pub rings : p.rings ≡ rings_of above

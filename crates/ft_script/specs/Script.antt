@@ -1,19 +1,19 @@
 -- The job of a script, or the line for which it is refused, and why.
 use Rattle.std.specs.Prelude.{◌≡◌, ◌≢◌, ℕ, suc, ◌+◌, ◌==◌, ◌||◌, Bool, true, false, List, [], ◌∷◌, ◌++◌, length, map, slice_get, unwrap_or, Option, Some, None, Result, Ok, Err, ◌⊎◌, if◌then◌else◌}
-use Rattle.ft_base.specs.declared.limits.TheConstants.{USUAL_FRAMES, USUAL_TURNS}
+use Rattle.ft_base.specs.declared.limits.TheConstants.{USUAL_FRAMES, USUAL_RING, USUAL_TURNS}
 use Rattle.ft_base.specs.declared.number.FuncNo.{FuncNo}
 use Rattle.ft_base.specs.declared.turn.Turn.{Turn}
 use Rattle.ft_base.specs.declared.turn.Who.TheVariants.{All}
 use Rattle.ft_base.specs.declared.user.Act.{Act}
 use Rattle.ft_base.specs.declared.user.Act.TheVariants.{CallIn, IrqIn}
-use Rattle.ft_base.specs.Job.{Job, Spec, Task, LinePlan, usual_rings}
+use Rattle.ft_base.specs.Job.{Job, Spec, Task, LinePlan, RingPlan}
 use Rattle.script_waits.specs.declared.script.LinedAct.{LinedAct}
 use Rattle.script_waits.specs.declared.script.ControlLine.{ControlLine}
 use Rattle.script_waits.specs.declared.script.Wait.{Wait}
 use Rattle.script_waits.specs.declared.script.Wait.TheVariants.{Command as ACommand, Until as AnUntil}
 use Rattle.script_waits.specs.Tasks.{LinedTask, tracks_of}
 use Rattle.script_waits.specs.Greedy.{IsDeadlock, IsLeast}
-use Rattle.module_table.specs.Modules.{module_of}
+use Rattle.func_table.specs.Modules.{module_of}
 use Rattle.module_coverage.specs.Loaded.{is_changing}
 use Rattle.module_coverage.specs.Reading.{IsUncoveredCall}
 use Rattle.script_text.specs.Lines.{Line, lines_of}
@@ -121,6 +121,10 @@ tasks_of above = map task_of (job_tasks_of above)
 abbrev pub schedule_of : List Turn → List Turn
 schedule_of turns = if length turns == 0 then record { who = All; count = USUAL_TURNS } ∷ [] else turns
 
+-- what is kept of a trace
+abbrev pub rings_of : Above → RingPlan
+rings_of above = record { ring = unwrap_or above.ring USUAL_RING; tracing = above.tracing; triggers = above.triggers }
+
 -- the job of what is declared
 unfoldable pub job_of : Above → Job
 job_of above = record {
@@ -134,7 +138,7 @@ job_of above = record {
   ctls = (expansion_of above).ctls;
   schedule = schedule_of above.turns;
   lines = record { lanes = above.lanes; absent = above.absent; modules = (expansion_of above).rows };
-  rings = usual_rings;
+  rings = rings_of above;
 }
 
 -- ## whether modules are there when their functions are needed

@@ -23,11 +23,13 @@ pub record IsWithinLimits (above : Above) : Type 0 where
   pub few_lanes : above.lane_count ≤ LANES
   pub few_steps : above.steps ≤ STEPS
 
--- lines come in the order of their ranks: above line 1 nothing is declared, as long as no line that says a module is absent can have come none
--- is, as long as no line of a task can have come there is no call, and as long as no lane and no line of control can have come there is none
+-- lines come in the order of their ranks: above line 1 nothing is declared, as long as no line that says a module is absent and no trigger can
+-- have come there is none, as long as no line of a task can have come there is no call, and as long as no lane and no line of control can have
+-- come there is none
 pub record IsInOrder (above : Above) : Type 0 where
   pub first : above.lines ≡ 0 → above ≡ none_above
   pub absent : above.rank < 2 → above.absent ≡ []
+  pub triggers : above.rank < 2 → above.triggers ≡ []
   pub calls : above.rank < 5 → above.calls ≡ 0
   pub lanes : above.rank < 6 → above.lane_count ≡ 0
   pub ctls : above.rank < 6 → above.ctls ≡ []

@@ -1,5 +1,6 @@
 //! What a line declares.
 
+use filter_commands::Trigger;
 use ft_base::{TaskAct, TaskNo, Turn};
 use module_table::ModLine;
 use user_specs::Spec;
@@ -13,7 +14,8 @@ pub enum ScriptCtl {
     Until { task: TaskNo, acts: u32 },
 }
 
-/// What a line declares: what it names is a number, and its filter text is an edit.
+/// What a line declares: what it names is a number, its filter text is an edit, and a trigger's text
+/// is a trigger.
 #[derive(Drop)]
 pub enum Declaration<'a> {
     /// Nothing: a blank line, or a comment.
@@ -31,6 +33,11 @@ pub enum Declaration<'a> {
     Slots(u32),
     /// The number of a module that isn't loaded at first.
     Absence(u32),
+    /// The entries of each CPU's trace ring.
+    Entries(u32),
+    /// Tracing is off at first.
+    NoTracing,
+    Trigger(Trigger),
     User(Spec),
     /// A CPU, which has the next number.
     Cpu {

@@ -1,9 +1,10 @@
 //! What control's lines come to: the commands that carry out commands, loads and unloads, and the waits.
 
-ghost use Rattle.std.specs.Prelude.{◌≡◌, ◌++◌, ℕ, suc, [], ◌∷◌, length, map, OnOk, IfOk};
+ghost use Rattle.std.specs.Prelude.{◌≡◌, ◌++◌, ℕ, [], length, map, OnOk, IfOk};
 ghost use Rattle.ft_desk.specs.Commands.{command_of};
 ghost use Rattle.control_core.specs.Lines.{lines_of};
 ghost use Rattle.ft_machine.specs.Plans.{row_of};
+ghost use Rattle.module_table.specs.Lines.{opening_of};
 ghost use Rattle.ft_script.specs.Expansion.{runs_of};
 
 use crate::declaration::ScriptCtl;
@@ -39,14 +40,23 @@ fn push_runs(ctls: &mut Vec<Ctl>, commands: Vec<Command>) -> Result<(), AllocErr
     Ok(())
 }
 
+/// The commands with which control opens, as lines of control.
+fn opening_lines(alloc: Global, modules: &Modules) -> Result<Vec<Ctl>, AllocError>
+    ensures { IfOk result (λ v. lines_of modules.now.declared.tasks v.items ≡ runs_of (opening_of modules.now.declared modules.now.first)) }
+{
+    let mut ctls = Vec::new(alloc);
+    let opening = modules.opening(alloc).map_err(|_| AllocError)?;
+    push_runs(&mut ctls, opening)?;
+    Ok(ctls)
+}
+
 impl Expansion {
-    ghost use Rattle.std.specs.Prelude.{◌+◌, ◌<◌, ◌≤◌, ◌^◌, All, OnErr};
+    ghost use Rattle.std.specs.Prelude.{◌+◌, ◌<◌, ◌^◌, All};
     ghost use Rattle.word_map.specs.Shapes.{IsShape};
-    ghost use Rattle.ft_base.specs.declared.limits.TheConstants.{USERS};
     ghost use Rattle.ft_desk.specs.Declarations.{declared_by};
-    ghost use Rattle.module_table.specs.Lines.{at_first, opening_of};
+    ghost use Rattle.module_table.specs.Lines.{at_first};
     ghost use Rattle.module_table.specs.Made.{line_of};
-    ghost use Rattle.module_table.specs.Modules.{modules_in};
+    ghost use Rattle.func_table.specs.Modules.{modules_in};
     ghost use Rattle.module_table.specs.Reached.{IsLineIn};
     ghost use Rattle.ft_script.specs.Expansion.{rows_with, with_line, expanded};
     ghost use Rattle.ft_script.specs.Kept.{expansion_in, script_ctl_of, IsCtlIn};
@@ -69,9 +79,7 @@ impl Expansion {
         ensures ends { IfOk result (λ x. x.ends.items ≡ []) }
     {
         let modules = Modules::new(alloc, table, specs, shape, absent).map_err(|_| AllocError)?;
-        let opening = modules.opening(alloc).map_err(|_| AllocError)?;
-        let mut ctls = Vec::new(alloc);
-        push_runs(&mut ctls, opening)?;
+        let ctls = opening_lines(alloc, &modules)?;
         Ok(Expansion {
             modules,
             ctls,

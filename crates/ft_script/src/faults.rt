@@ -23,7 +23,7 @@ pub enum Cause {
     Duplicate,
     /// A function, a module, a user, a pid or a CPU isn't declared above.
     Unknown,
-    /// The filter text is refused.
+    /// The text of a filter or of a trigger is refused.
     Pattern,
     /// A call and its return, or an interrupt and its return, don't match.
     Unbalanced,

@@ -6,9 +6,9 @@ ghost use Rattle.std.specs.List.{list_any};
 ghost use Rattle.std.specs.Option.{option_copied};
 ghost use Rattle.script_form.specs.Read.{form_read, user_read};
 ghost use Rattle.ft_script.specs.Kept.{names_module};
-ghost use Rattle.ft_script.specs.Causes.{rank_of, is_act, is_long, is_long_or_none, has_long_name, act_name, is_big, is_bad_count, is_bad_pid, is_bad_depth, is_bad_quantum};
+ghost use Rattle.ft_script.specs.Causes.{rank_of, is_act, is_long, is_long_or_none, has_long_name, act_name, is_big, is_bad_count, is_bad_pid, is_bad_depth, is_bad_ring, is_bad_quantum};
 
-use ft_base::limits::{FRAMES, NAME_BYTES, PID, QUANTUM};
+use ft_base::limits::{FRAMES, NAME_BYTES, PID, QUANTUM, RING};
 use script_form::{LineForm, UserAct, UserLine};
 
 /// Whether it is an act of a task.
@@ -34,7 +34,12 @@ pub fn rank_of(form: &LineForm, before: u8) -> u8
         LineForm::Skip => before,
         LineForm::Version { .. } => 0,
         LineForm::Func { .. } => 1,
-        LineForm::Depth { .. } | LineForm::Tramps { .. } | LineForm::Absent { .. } => 2,
+        LineForm::Depth { .. }
+        | LineForm::Tramps { .. }
+        | LineForm::Absent { .. }
+        | LineForm::Ring { .. }
+        | LineForm::TracingOff
+        | LineForm::Trigger { .. } => 2,
         LineForm::User(_) => 3,
         LineForm::NewCpu { .. } => 4,
         LineForm::NewTask { .. }
@@ -142,6 +147,13 @@ pub fn is_bad_depth(frames: u64) -> bool
     ensures { result ≡ is_bad_depth frames }
 {
     frames == 0 || is_above(frames, FRAMES)
+}
+
+/// Whether no trace ring can have this many entries.
+pub fn is_bad_ring(entries: u64) -> bool
+    ensures { result ≡ is_bad_ring entries }
+{
+    entries == 0 || is_above(entries, RING)
 }
 
 /// Whether no CPU can have this quantum.

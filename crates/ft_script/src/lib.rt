@@ -1,8 +1,8 @@
 //! The *job* of a script, or the line for which it is refused and the *cause*.
 //!
 //! A script is read one line after the other. Each line has a form (`script_form`), and a line of a
-//! form *declares* something: a function, a user, a CPU, a task, an act of the last task, a line of
-//! control, turns of the schedule. What the lines above a line have declared decides, with the line
+//! form *declares* something: a function, a trigger, a user, a CPU, a task, an act of the last task, a
+//! line of control, turns of the schedule. What the lines above a line have declared decides, with the line
 //! itself, whether the line has a cause to be refused; only whether an act is its task's last is seen
 //! from the lines below. A text is a script if no line has a cause and its tasks and control can all
 //! come to their ends (`script_waits`), and no function of a module is needed when that may be unloaded (`module_coverage`).

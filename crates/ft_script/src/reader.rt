@@ -24,6 +24,7 @@ use crate::expansion::Expansion;
 use crate::faults::{Cause, ScriptFault};
 use crate::form::names_module;
 use crate::levels::Levels;
+use filter_commands::Trigger;
 use ft_base::Turn;
 use ft_base::limits::FUNCS;
 use func_table::FuncTable;
@@ -58,6 +59,11 @@ pub struct Reader {
     names: Option<ModuleNames>,
     /// The modules that aren't loaded at first.
     absent: Vec<u32>,
+    /// The entries of each CPU's trace ring, if the script says.
+    ring: Option<u32>,
+    /// Whether tracing is on at first, and what switches it.
+    tracing: bool,
+    triggers: Vec<Trigger>,
     users: Vec<Spec>,
     /// The line of each user.
     user_lines: Vec<u32>,
@@ -123,6 +129,9 @@ impl Reader {
             functions: FuncTable::new(alloc, FUNCS),
             names: None,
             absent: Vec::new(alloc),
+            ring: None,
+            tracing: true,
+            triggers: Vec::new(alloc),
             users: Vec::new(alloc),
             user_lines: Vec::new(alloc),
             quanta: Vec::new(alloc),

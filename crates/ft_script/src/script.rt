@@ -1,12 +1,14 @@
 //! A script: all its lines, whether it can end, and its job.
 
-ghost use Rattle.std.specs.Prelude.{◌≡◌, ◌≤◌, ◌⊎◌, ℕ, map, length, IfOk, IfErr, Some, None};
-ghost use Rattle.script_waits.specs.Tasks.{lined_task};
+ghost use Rattle.std.specs.Prelude.{◌≡◌, ◌≤◌, ◌⊎◌, ℕ, map, length, OnOk, IfOk, IfErr, Some, None};
+ghost use Rattle.user_specs.specs.Plain.{cpu_of};
+ghost use Rattle.ft_machine.specs.Parts.{cpus_from};
+ghost use Rattle.script_waits.specs.Tasks.{lined_task, tracks_of};
+ghost use Rattle.script_waits.specs.Greedy.{IsLeast, IsDeadlock};
 ghost use Rattle.script_text.specs.Lines.{lines_of};
 ghost use Rattle.ft_script.specs.Above.{none_above};
-ghost use Rattle.script_waits.specs.Greedy.{IsLeast};
-ghost use Rattle.ft_script.specs.declared.faults.Cause.TheVariants.{Unloaded};
-ghost use Rattle.ft_script.specs.Script.{refusal_below, refusal_of, declared_in, no_memory, job_of, job_tasks_of, LeavesWaiting, MayFindUnloaded, IsJobOf, IsFaultOf};
+ghost use Rattle.ft_script.specs.declared.faults.Cause.TheVariants.{Deadlock, Unloaded};
+ghost use Rattle.ft_script.specs.Script.{refusal_below, refusal_of, declared_in, control_of, no_memory, job_of, tasks_of, job_tasks_of, LeavesWaiting, LeavesUnloaded, MayFindUnloaded, IsJobOf, IsFaultOf};
 ghost use Rattle.ft_script.specs.Hidden.{HidesModules};
 ghost use Rattle.ft_script.specs.Holds.{CanRun};
 ghost use Rattle.ft_script.specs.Kept.{above_of, IsKept, IsOpen};
@@ -18,44 +20,54 @@ use ft_machine::Job;
 use script_text::first_line;
 use script_waits::LinedTask;
 use std::alloc::{AllocError, Global};
+use user_specs::CpuPlan;
 
-/// Reads all lines.
-fn read_lines(alloc: Global, text: &[u8]) -> Result<Reader, ScriptFault>
-    requires { length text.now ≤ INPUT_BYTES }
-    ensures clear { IfOk result (λ _. refusal_below none_above (lines_of text.now) ≡ None) }
-    ensures declared { IfOk result (λ reader. above_of reader ≡ declared_in text.now) }
-    ensures runs { IfOk result (λ reader. CanRun (above_of reader)) }
-    ensures kept { IfOk result (λ reader. IsKept reader) }
+/// Reads all lines into a reader that has read none.
+fn read_lines(alloc: Global, text: &[u8], reader: &mut Reader) -> Result<(), ScriptFault>
+    requires few { length text.now ≤ INPUT_BYTES }
+    requires none { above_of reader.old ≡ none_above }
+    requires kept { IsKept reader.old }
+    ensures clear { OnOk result (refusal_below none_above (lines_of text.now) ≡ None) }
+    ensures declared { OnOk result (above_of reader.new ≡ declared_in text.now) }
+    ensures runs { OnOk result (CanRun (above_of reader.new)) }
+    ensures kept { OnOk result (IsKept reader.new) }
     ensures refused { IfErr result (λ fault. (fault ≡ no_memory) ⊎ (refusal_below none_above (lines_of text.now) ≡ Some fault)) }
 {
-    let mut reader = Reader::new(alloc);
     let mut rest = text;
     while !rest.is_empty() {
         let (line, ended, below) = first_line(rest);
         reader.read(alloc, line, ended, below)?;
         rest = below;
     }
-    Ok(reader)
+    Ok(())
 }
 
-/// The job of all lines, which has these tasks.
-fn make_job(alloc: Global, reader: Reader, tasks: Vec<LinedTask>) -> Result<Job, AllocError>
-    requires runs { CanRun (above_of reader) }
-    requires open { IsOpen reader }
-    requires tasks { map lined_task tasks.items ≡ job_tasks_of (above_of reader) }
-    ensures { IfOk result (λ job. job ≡ job_of (above_of reader)) }
+/// Refuses the lowest line that would be left waiting, if there is one.
+fn check_end(alloc: Global, reader: &Reader) -> Result<(), ScriptFault>
+    ensures ends { OnOk result (IsDeadlock (tracks_of (above_of reader.now).tasks) (control_of (above_of reader.now)) None) }
+    ensures refused { IfErr result (λ fault. (fault ≡ no_memory)
+        ⊎ ((fault.cause ≡ Deadlock) × IsDeadlock (tracks_of (above_of reader.now).tasks) (control_of (above_of reader.now)) (Some fault.line))) }
 {
-    Ok(Job::new(reader.into_parts(alloc, tasks)?))
+    match reader.deadlock(alloc)? {
+        None => Ok(()),
+        Some(line) => Err(ScriptFault {
+            line,
+            cause: Cause::Deadlock,
+        }),
+    }
 }
 
-/// Reads a text whose lines have no cause, and which can end. Control is open then.
-fn read_text(alloc: Global, text: &[u8]) -> Result<Reader, ScriptFault>
-    requires { length text.now ≤ INPUT_BYTES }
-    ensures accepted { IfOk result (λ _. refusal_of text.now ≡ None) }
-    ensures ends { IfOk result (λ _. LeavesWaiting text.now None) }
-    ensures declared { IfOk result (λ reader. above_of reader ≡ declared_in text.now) }
-    ensures runs { IfOk result (λ reader. CanRun (above_of reader)) }
-    ensures open { IfOk result (λ reader. IsOpen reader) }
+/// Reads a text whose lines have no cause, and which can end, into a reader that has read none. Control
+/// is open then.
+fn read_text(alloc: Global, text: &[u8], reader: &mut Reader) -> Result<(), ScriptFault>
+    requires few { length text.now ≤ INPUT_BYTES }
+    requires none { above_of reader.old ≡ none_above }
+    requires kept { IsKept reader.old }
+    ensures accepted { OnOk result (refusal_of text.now ≡ None) }
+    ensures ends { OnOk result (LeavesWaiting text.now None) }
+    ensures declared { OnOk result (above_of reader.new ≡ declared_in text.now) }
+    ensures runs { OnOk result (CanRun (above_of reader.new)) }
+    ensures open { OnOk result (IsOpen reader.new) }
     ensures refused { IfErr result (IsFaultOf text.now) }
 {
     if text.is_empty() {
@@ -64,34 +76,70 @@ fn read_text(alloc: Global, text: &[u8]) -> Result<Reader, ScriptFault>
             cause: Cause::Version,
         });
     }
-    let mut reader = read_lines(alloc, text)?;
-    if let Some(line) = reader.deadlock(alloc)? {
-        return Err(ScriptFault {
-            line,
-            cause: Cause::Deadlock,
-        });
-    }
-    reader.open(alloc)?;
-    Ok(reader)
+    read_lines(alloc, text, reader)?;
+    check_end(alloc, reader)?;
+    Ok(reader.open(alloc)?)
 }
 
-/// The job of a text that was read, if no line of it may find a module unloaded.
-fn finish(alloc: Global, reader: Reader) -> Result<Job, ScriptFault>
-    requires runs { CanRun (above_of reader) }
-    requires open { IsOpen reader }
-    ensures job { IfOk result (λ job. job ≡ job_of (above_of reader)) }
-    ensures loaded { IfOk result (λ _. IsLeast (MayFindUnloaded (above_of reader)) None) }
+/// Refuses the lowest line that may find a module unloaded, if there is one. The tasks are those of the
+/// job.
+fn check_modules(alloc: Global, reader: &Reader, tasks: &[LinedTask]) -> Result<(), ScriptFault>
+    requires runs { CanRun (above_of reader.now) }
+    requires open { IsOpen reader.now }
+    requires tasks { map lined_task tasks.now ≡ job_tasks_of (above_of reader.now) }
+    ensures loaded { OnOk result (IsLeast (MayFindUnloaded (above_of reader.now)) None) }
     ensures refused { IfErr result (λ fault. (fault ≡ no_memory)
-        ⊎ ((fault.cause ≡ Unloaded) × IsLeast (MayFindUnloaded (above_of reader)) (Some fault.line))) }
+        ⊎ ((fault.cause ≡ Unloaded) × IsLeast (MayFindUnloaded (above_of reader.now)) (Some fault.line))) }
 {
-    let tasks = reader.job_tasks(alloc)?;
-    if let Some(line) = reader.unloaded(alloc, tasks.as_slice())? {
-        return Err(ScriptFault {
+    match reader.unloaded(alloc, tasks)? {
+        None => Ok(()),
+        Some(line) => Err(ScriptFault {
             line,
             cause: Cause::Unloaded,
-        });
+        }),
     }
-    Ok(make_job(alloc, reader, tasks)?)
+}
+
+/// The plans of the job's CPUs, if no line may find a module unloaded.
+fn plan(alloc: Global, reader: &Reader) -> Result<Vec<CpuPlan>, ScriptFault>
+    requires runs { CanRun (above_of reader.now) }
+    requires open { IsOpen reader.now }
+    ensures plans { IfOk result (λ v. map cpu_of v.items ≡ cpus_from 0 (above_of reader.now).quanta (tasks_of (above_of reader.now))) }
+    ensures loaded { IfOk result (λ _. IsLeast (MayFindUnloaded (above_of reader.now)) None) }
+    ensures refused { IfErr result (λ fault. (fault ≡ no_memory)
+        ⊎ ((fault.cause ≡ Unloaded) × IsLeast (MayFindUnloaded (above_of reader.now)) (Some fault.line))) }
+{
+    let tasks = reader.job_tasks(alloc)?;
+    check_modules(alloc, reader, tasks.as_slice())?;
+    Ok(reader.cpu_plans(alloc, tasks.as_slice())?)
+}
+
+/// Reads a script into a reader that has read none, and plans the job's CPUs.
+fn read_plans(alloc: Global, text: &[u8], reader: &mut Reader) -> Result<Vec<CpuPlan>, ScriptFault>
+    requires few { length text.now ≤ INPUT_BYTES }
+    requires none { above_of reader.old ≡ none_above }
+    requires kept { IsKept reader.old }
+    ensures accepted { IfOk result (λ _. refusal_of text.now ≡ None) }
+    ensures ends { IfOk result (λ _. LeavesWaiting text.now None) }
+    ensures loaded { IfOk result (λ _. LeavesUnloaded text.now None) }
+    ensures declared { IfOk result (λ _. above_of reader.new ≡ declared_in text.now) }
+    ensures runs { IfOk result (λ _. CanRun (above_of reader.new)) }
+    ensures open { IfOk result (λ _. IsOpen reader.new) }
+    ensures plans { IfOk result (λ v. map cpu_of v.items ≡ cpus_from 0 (above_of reader.new).quanta (tasks_of (above_of reader.new))) }
+    ensures refused { IfErr result (IsFaultOf text.now) }
+{
+    read_text(alloc, text, reader)?;
+    plan(alloc, reader)
+}
+
+/// The job of all lines, whose CPUs have these plans.
+fn make_job(alloc: Global, reader: Reader, cpus: Vec<CpuPlan>) -> Result<Job, AllocError>
+    requires runs { CanRun (above_of reader) }
+    requires open { IsOpen reader }
+    requires plans { map cpu_of cpus.items ≡ cpus_from 0 (above_of reader).quanta (tasks_of (above_of reader)) }
+    ensures { IfOk result (λ job. job ≡ job_of (above_of reader)) }
+{
+    Ok(Job::new(reader.into_parts(alloc, cpus)?))
 }
 
 /// Reads a script. Its job is the list of what its lines mean.
@@ -110,6 +158,7 @@ pub fn read_script(alloc: Global, text: &[u8]) -> Result<Job, ScriptFault>
     ensures hides { IfOk result (λ job. (declared_in text.now).lane_count ≡ 0 → (n : ℕ) → HidesModules (declared_in text.now) job n) }
     ensures refused { IfErr result (IsFaultOf text.now) }
 {
-    let reader = read_text(alloc, text)?;
-    finish(alloc, reader)
+    let mut reader = Reader::new(alloc);
+    let cpus = read_plans(alloc, text, &mut reader)?;
+    Ok(make_job(alloc, reader, cpus)?)
 }

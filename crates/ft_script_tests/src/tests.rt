@@ -3,6 +3,7 @@
 mod counts;
 mod jobs;
 mod modules;
+mod rings;
 
 use ft_base::limits::INPUT_BYTES;
 use ft_script::{Cause, ScriptFault, read_script};

@@ -18,16 +18,16 @@ use Rattle.ft_schedule.specs.Causes.{is_past_limit as is_past_sched_limit, has_u
 use Rattle.ft_base.specs.Desk.{plain_spec}
 use Rattle.ft_base.proofs.Small.{==-refl, or-false_both, Each-snoc, Each-weaker}
 use Rattle.script_text.specs.Lines.{Word, Line, lines_of}
-use Rattle.script_form.specs.Forms.{LineForm, UserLine, skip, version, func, depth, tramps, absent, user, new_cpu, new_task, new_lane, call, ret, raise, lower, after, register, unregister, write, pids, enable, disable, max_depth, until, load, unload, sched}
+use Rattle.script_form.specs.Forms.{LineForm, UserLine, skip, version, func, depth, tramps, absent, ring, tracing_off, trigger, user, new_cpu, new_task, new_lane, call, ret, raise, lower, after, register, unregister, write, pids, enable, disable, max_depth, until, load, unload, sched}
 use Rattle.script_form.specs.Lines.{line_form}
 use Rattle.script_waits.specs.declared.script.LinedAct.{LinedAct}
 use Rattle.script_waits.specs.Tasks.{LinedTask}
 use Rattle.module_table.specs.Lines.{Load, Unload}
 use Rattle.ft_script.specs.declared.faults.Cause.{Cause}
 use Rattle.ft_script.specs.declared.faults.Cause.TheVariants.{Version, Syntax, Limit, Unknown}
-use Rattle.ft_script.specs.Above.{Above, ScriptCtl, Run, Until, none_above, Declaration, a_version, a_function, an_absence, a_user, a_task, an_act, a_ctl, Resolved, push_act, with_what, declared}
+use Rattle.ft_script.specs.Above.{Above, Run, Until, none_above, Declaration, a_version, a_function, an_absence, a_trigger, a_user, a_task, an_act, a_ctl, Resolved, push_act, with_what, declared}
 use Rattle.ft_script.specs.Expansion.{expansion_of}
-use Rattle.ft_script.specs.Causes.{is_past_limit, is_duplicate, is_among, has_pid, function_names, user_names, pids_of, function_in, function_or_none, module_in, user_in, task_in, cpu_in, act_in, spec_with, spec_in, write_with, edit_in, pids_in, a_command, named, first_line, next_line, resolved_line, carried_out, cause_of}
+use Rattle.ft_script.specs.Causes.{is_past_limit, is_duplicate, is_among, has_pid, function_names, user_names, pids_of, function_in, function_or_none, module_in, user_in, task_in, cpu_in, act_in, spec_with, spec_in, write_with, edit_in, trigger_in, pids_in, a_command, named, first_line, next_line, resolved_line, carried_out, cause_of}
 use Rattle.ft_script.specs.Script.{or_nothing, said, with_line, refusal_below, refusal_of, declared_after, declared_in, task_of, task_in_job, tasks_of, job_of, IsJobOf}
 use Rattle.ft_script.proofs.Ends.{neither, none-refused}
 use Rattle.ft_script.proofs.FormNames.{Named, form-named, name-short}
@@ -93,6 +93,9 @@ module _ (above : Above) where
   named-new (depth frames) is limit new = tt
   named-new (tramps slots) is limit new = tt
   named-new (absent owner) is limit new = of-all (NewNames above) an_absence (module_in above owner) (λ m. tt)
+  named-new (ring entries) is limit new = tt
+  named-new tracing_off is limit new = tt
+  named-new (trigger text) is limit new = of-all (NewNames above) a_trigger (trigger_in above text) (λ t. tt)
   named-new (user u) is limit new =
       of-made (NewNames above) a_user (spec_in above u)
       (user-new u (name-short u.name is (or-false_both _ _ (or-false_both _ _ limit).0).0) new (function_or_none above u.ipmodify) (act_in above u.act) (replaced-known u.ipmodify))

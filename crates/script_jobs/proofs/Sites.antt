@@ -1,24 +1,21 @@
 -- Between whole lines the sites of functions of modules that aren't loaded are nops, since no user is sited there.
-use Rattle.std.proofs.Common.{◌≡◌, ℕ, zero, suc, ◌<◌, ◌&&◌, Bool, true, false, List, [], ◌∷◌, length, get_or, refl, sym, ap, ◌∙◌, subst, arith}
+use Rattle.std.proofs.Common.{◌≡◌, ℕ, suc, ◌<◌, ◌&&◌, Bool, false, List, [], ◌∷◌, length, get_or, refl, sym, ap, ◌∙◌, subst, arith}
 use Rattle.ft_base.specs.declared.item.Item.{Item}
-use Rattle.ft_base.specs.Desk.{Desk, UserState, desk, unseen, sited, sited_from, is_matching, target_by}
+use Rattle.ft_base.specs.Desk.{Desk, UserState, desk, unseen, sited, sited_from, is_matching}
 use Rattle.ft_base.specs.Job.{Job}
 use Rattle.ft_base.proofs.DeskLaws.{length-desk}
+use Rattle.ft_base.proofs.Small.{and-false}
 use Rattle.ft_hist.specs.Past.{begun, done}
 use Rattle.machine_core.specs.Sites.{IsWhole}
 use Rattle.site_bytes.specs.Bytes.{bytes_of}
 use Rattle.site_bytes.specs.declared.insn.Insn.TheVariants.{Nop}
-use Rattle.word_map.specs.Instructions.{insn_at, insn_of}
+use Rattle.ft_machine.proofs.Nobody.{nobody-nop}
 use Rattle.ft_script.specs.Above.{Above}
 use Rattle.ft_script.specs.Script.{declared_in, job_of, IsJobOf}
 use Rattle.ft_script.specs.Holds.{CanRun}
 use Rattle.ft_script.specs.Hidden.{known_after, is_there, matches_by_own}
 use Rattle.ft_script.proofs.HiddenModules.{hides}
 use Rattle.script_jobs.proofs.Texts.{can_run}
-
-and-false : (b : Bool) → (b && false) ≡ false
-and-false true = refl
-and-false false = refl
 
 -- if none of these users is sited, the list of those that are is empty
 none-sited : (d : Desk) (f base : ℕ) (users : List UserState)
@@ -44,10 +41,7 @@ module _ (above : Above) (run : CanRun above) (single : above.lane_count ≡ 0) 
       ∙ ap (λ (b : Bool). matches_by_own (desk job k) (known_after above n) u f && b) away ∙ and-false _)
 
   pub unloaded-nop : (past : List Item) (bytes : List ℕ) → IsWhole job past f bytes → begun past ≡ done past → done past ≡ k → is_there job k f ≡ false → bytes ≡ bytes_of f Nop
-  unfolding insn_at
-  unloaded-nop past bytes whole still here away =
-      let d = desk job (done past) in
-      whole.between still ∙ ap (λ users. bytes_of f (insn_of d (target_by d users))) (ap (λ c. sited (desk job c) f) here ∙ nobody away)
+  unloaded-nop past bytes whole still here away = nobody-nop job past f bytes whole still (ap (λ c. sited (desk job c) f) here ∙ nobody away)
 
 -- the same of an accepted text
 pub accepted-nop : (text : List ℕ) (j : Job) (n f : ℕ) (past : List Item) (bytes : List ℕ) → IsJobOf text j → (declared_in text).lane_count ≡ 0

@@ -2,7 +2,7 @@
 //! the log speak of every script that is accepted.
 //!
 //! `ft_script` says which texts are scripts and what their jobs are (`IsJobOf`). `word_machine` says
-//! of which jobs its laws speak (`IsLimited`), and `trace_lines` of which jobs and items the log tells
+//! of which jobs its laws speak (`IsLimited`), `trace_lines` of which jobs and items the log tells
 //! everything (`IsNamedApart`, `IsItemOf`), and `module_laws` in which histories no call reaches a module
 //! that isn't loaded (`KeepsLoaded`). The reader of scripts shows that what a text declares keeps
 //! to the limits, line by line, since the machine asks for it; here that is said of whole texts, and

@@ -16,7 +16,7 @@ impl Reader {
     ghost use Rattle.script_form.specs.Read.{form_read};
     ghost use Rattle.ft_script.specs.Causes.{is_misplaced, has_ctl_in_no_lane, is_wrong_lane, is_out_of_place, is_absent, module_named, is_duplicate, has_pid, has_no_pid, is_unmatched, is_unbalanced};
     ghost use Rattle.ft_script.specs.Within.{IsWithinLimits};
-    ghost use Rattle.module_table.specs.Modules.{modules_in};
+    ghost use Rattle.func_table.specs.Modules.{modules_in};
     ghost use Rattle.ft_script.specs.Kept.{above_of, declaration_of, HasNames};
 
     // ## syntax
@@ -43,6 +43,8 @@ impl Reader {
             LineForm::Version { .. } => true,
             LineForm::Depth { .. } => self.frames.is_some(),
             LineForm::Tramps { .. } => self.tramps.is_some(),
+            LineForm::Ring { .. } => self.ring.is_some(),
+            LineForm::TracingOff => !self.tracing,
             LineForm::NewCpu { cpu, .. } => *cpu != self.quanta.len() as u64,
             LineForm::NewLane { lane } => self.is_wrong_lane(*lane),
             LineForm::Until { .. } | LineForm::Load { .. } | LineForm::Unload { .. } => {

@@ -10,6 +10,7 @@ use crate::faults::Cause;
 use crate::levels::Levels;
 use crate::reader::parts::slots;
 use crate::reader::{LinedCtl, Reader};
+use filter_commands::Trigger;
 use ft_base::limits::{COMMANDS, FUNCS};
 use ft_base::{TaskAct, Turn};
 use script_waits::{LinedAct, LinedTask};
@@ -37,8 +38,9 @@ impl Reader {
     ghost use Rattle.ft_base.specs.Name.{is_name_text};
     ghost use Rattle.func_table.specs.Rows.{is_name_or_none};
     ghost use Rattle.user_specs.specs.Plain.{spec_of};
+    ghost use Rattle.filter_commands.specs.Kept.{plain_trigger};
     ghost use Rattle.ft_script.specs.declared.faults.Cause.TheVariants.{Limit, NoMemory};
-    ghost use Rattle.ft_script.specs.Above.{declared, slots_of, with_what, with_user, with_act, with_ctl, lanes_with, a_function, an_absence, a_cpu, a_task, a_ctl, more_turns};
+    ghost use Rattle.ft_script.specs.Above.{declared, slots_of, with_what, with_user, with_act, with_ctl, lanes_with, a_function, an_absence, a_trigger, a_cpu, a_task, a_ctl, more_turns};
     ghost use Rattle.ft_script.specs.Expansion.{expanded, expansion_of, command_count};
     ghost use Rattle.ft_script.specs.Causes.{function_names, is_among, has_too_many_commands, carried_out};
     ghost use Rattle.ft_script.specs.Script.{IsRefused};
@@ -85,6 +87,14 @@ impl Reader {
         ensures rest { OnOk result (KeepsRest self.old self.new) }
     {
         self.absent.push(owner)?;
+        Ok(())
+    }
+
+    fn add_trigger(&mut self, trigger: Trigger) -> Result<(), AllocError>
+        ensures above { OnOk result (above_of self.new ≡ with_what (above_of self.old) (a_trigger (plain_trigger trigger))) }
+        ensures rest { OnOk result (KeepsRest self.old self.new) }
+    {
+        self.triggers.push(trigger)?;
         Ok(())
     }
 
@@ -256,6 +266,9 @@ impl Reader {
             Declaration::Frames(frames) => self.frames = Some(frames),
             Declaration::Slots(slots) => self.tramps = Some(slots),
             Declaration::Absence(owner) => self.add_absence(owner)?,
+            Declaration::Entries(entries) => self.ring = Some(entries),
+            Declaration::NoTracing => self.tracing = false,
+            Declaration::Trigger(trigger) => self.add_trigger(trigger)?,
             Declaration::User(spec) => self.add_user(spec)?,
             Declaration::Cpu { quantum } => self.add_cpu(quantum)?,
             Declaration::Task { pid, cpu } => self.add_task(alloc, pid, cpu)?,

@@ -51,6 +51,14 @@ fn control_lines(alloc: Global, lines: &[LinedCtl]) -> Result<Vec<ControlLine>, 
 
 // ## parts of the job
 
+/// What control does in the job, and whose turn it is.
+#[derive(Drop)]
+struct Course {
+    ctls: Vec<Ctl>,
+    modules: Vec<ModRow>,
+    schedule: Schedule,
+}
+
 /// How many commands there are after the first `n` commands, loads and unloads of a script, if there are
 /// so many after each of them; `n` itself if they stay as they are.
 fn commands_by(ends: &[u32], n: u32) -> u32
@@ -221,6 +229,27 @@ fn schedule(turns: Vec<Turn>) -> Result<Schedule, AllocError>
     Ok(Schedule { turns })
 }
 
+/// The course of a job with these lines of control and these turns.
+fn course_of(
+    alloc: Global,
+    expansion: Option<Expansion>,
+    lines: Vec<LinedCtl>,
+    turns: Vec<Turn>,
+) -> Result<Course, AllocError>
+    ensures some { IfOk result (λ r. IfSome expansion (λ x. (r.ctls.items ≡ x.ctls.items) × (r.modules.items ≡ x.rows.items))) }
+    ensures none { IfOk result (λ r. expansion ≡ None → (r.modules.items ≡ [])
+        × ((tasks : ℕ) → lines_of tasks r.ctls.items ≡ lines_as_they_are (map (lined_ctl tasks) lines.items))) }
+    ensures schedule { IfOk result (λ r. r.schedule.turns.items ≡ schedule_of turns.items) }
+{
+    let (ctls, modules) = job_lines(alloc, expansion, lines)?;
+    let schedule = schedule(turns)?;
+    Ok(Course {
+        ctls,
+        modules,
+        schedule,
+    })
+}
+
 // ## what a reader gives
 
 impl Reader {
@@ -229,7 +258,7 @@ impl Reader {
     ghost use Rattle.script_waits.specs.Greedy.{IsDeadlock};
     ghost use Rattle.ft_script.specs.Expansion.{expansion_of};
     ghost use Rattle.ft_script.specs.Kept.{above_of, AreParts, IsOpen};
-    ghost use Rattle.ft_script.specs.Script.{control_of, job_tasks_of};
+    ghost use Rattle.ft_script.specs.Script.{control_of, tasks_of, job_tasks_of};
 
     /// The lowest line that would be left waiting, if there is one.
     pub fn deadlock(&self, alloc: Global) -> Result<Option<u32>, AllocError>
@@ -259,16 +288,23 @@ impl Reader {
         }
     }
 
-    /// The parts of the job, which has these tasks.
-    pub fn into_parts(self, alloc: Global, tasks: Vec<LinedTask>) -> Result<JobParts, AllocError>
-        requires cpus { length self.quanta.items ≤ CPUS }
-        requires few { length self.tasks.items ≤ TASKS }
+    /// The plans of the CPUs of the job, which has these tasks.
+    pub fn cpu_plans(&self, alloc: Global, tasks: &[LinedTask]) -> Result<Vec<CpuPlan>, AllocError>
+        requires cpus { length self.now.quanta.items ≤ CPUS }
+        requires few { length self.now.tasks.items ≤ TASKS }
+        requires tasks { map lined_task tasks.now ≡ job_tasks_of (above_of self.now) }
+        ensures { IfOk result (λ v. map cpu_of v.items ≡ cpus_from 0 self.now.quanta.items (tasks_of (above_of self.now))) }
+    {
+        cpu_plans(alloc, self.quanta.as_slice(), tasks)
+    }
+
+    /// The parts of the job, whose CPUs have these plans.
+    pub fn into_parts(self, alloc: Global, cpus: Vec<CpuPlan>) -> Result<JobParts, AllocError>
         requires tramps { IsAtMost (limits_of self.version).tramps self.tramps }
         requires open { IsOpen self }
-        requires tasks { map lined_task tasks.items ≡ job_tasks_of (above_of self) }
+        requires plans { map cpu_of cpus.items ≡ cpus_from 0 self.quanta.items (tasks_of (above_of self)) }
         ensures { IfOk result (λ p. AreParts (parts_of p) (above_of self)) }
     {
-        let cpus = cpu_plans(alloc, self.quanta.as_slice(), tasks.as_slice())?;
         let Reader {
             version,
             lines: _,
@@ -278,6 +314,9 @@ impl Reader {
             functions,
             names: _,
             absent,
+            ring,
+            tracing,
+            triggers,
             users,
             user_lines: _,
             quanta: _,
@@ -293,8 +332,11 @@ impl Reader {
             turns,
             steps: _,
         } = self;
-        let (ctls, modules) = job_lines(alloc, expansion, ctls)?;
-        let schedule = schedule(turns)?;
+        let Course {
+            ctls,
+            modules,
+            schedule,
+        } = course_of(alloc, expansion, ctls, turns)?;
         Ok(JobParts {
             version,
             table: functions,
@@ -307,9 +349,9 @@ impl Reader {
             lanes,
             absent,
             modules,
-            ring: USUAL_RING,
-            tracing: true,
-            triggers: Vec::new(alloc),
+            ring: ring.unwrap_or(USUAL_RING),
+            tracing,
+            triggers,
         })
     }
 }

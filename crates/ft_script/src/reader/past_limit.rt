@@ -2,11 +2,11 @@
 
 use crate::form::{
     any_bad_pid, has_long_name, is_above, is_bad_count, is_bad_depth, is_bad_pid, is_bad_quantum,
-    is_big, is_full, is_long, is_long_or_none,
+    is_bad_ring, is_big, is_full, is_long, is_long_or_none,
 };
 use crate::reader::Reader;
 use ft_base::limits::{
-    ACTS, COMMANDS, CPUS, GRAPH_DEPTH, ITEMS, LANES, LEVELS, Limits, TASKS, UNTILS,
+    ACTS, COMMANDS, CPUS, GRAPH_DEPTH, ITEMS, LANES, LEVELS, Limits, TASKS, TRIGGERS, UNTILS,
 };
 use script_form::LineForm;
 use user_specs::call_bound;
@@ -125,11 +125,13 @@ impl Reader {
         ensures { result ≡ is_past_limit (above_of self.now) (form_read form.now) }
     {
         match form {
-            LineForm::Skip | LineForm::Version { .. } => false,
+            LineForm::Skip | LineForm::Version { .. } | LineForm::TracingOff => false,
             LineForm::Func { name, owner } => self.is_func_past_limit(name, *owner),
             LineForm::Depth { frames } => is_bad_depth(*frames),
             LineForm::Tramps { slots } => is_above(*slots, u32::from(self.limits().tramps)),
             LineForm::Absent { owner } => is_long(owner),
+            LineForm::Ring { entries } => is_bad_ring(*entries),
+            LineForm::Trigger { .. } => is_full(self.triggers.len(), TRIGGERS),
             LineForm::User(user) => {
                 has_long_name(user) || is_full(self.users.len(), self.limits().users)
             }

@@ -12,7 +12,7 @@ use crate::faults::Cause;
 use crate::form::rank_of;
 use crate::reader::Reader;
 use crate::reader::find::{pid_mask, task_number, user_number};
-use filter_commands::{EditFault, read_edit};
+use filter_commands::{EditFault, Trigger, TriggerFault, read_edit, read_trigger};
 use ft_base::limits::{TASKS, USERS};
 use ft_base::{Act, FuncNo, Half, TaskAct, TaskNo, Turn, UserNo};
 use ft_machine::Command;
@@ -51,12 +51,13 @@ impl Reader {
     ghost use Rattle.script_form.specs.Read.{form_read, act_read, user_read};
     ghost use Rattle.script_text.specs.Lines.{lines_of};
     ghost use Rattle.site_set.specs.Edits.{plain_edit};
+    ghost use Rattle.filter_commands.specs.Kept.{plain_trigger};
     ghost use Rattle.user_specs.specs.Plain.{spec_of};
     ghost use Rattle.ft_script.specs.Above.{more_turns};
-    ghost use Rattle.ft_script.specs.Causes.{is_past_limit, made, function_in, function_or_none, module_named, module_in, user_in, task_in, cpu_in, act_in, spec_in, edit_in, write_with, pids_in, turns_in, named, resolved, resolved_line};
+    ghost use Rattle.ft_script.specs.Causes.{is_past_limit, made, function_in, function_or_none, module_named, module_in, user_in, task_in, cpu_in, act_in, spec_in, edit_in, trigger_in, write_with, pids_in, turns_in, named, resolved, resolved_line};
     ghost use Rattle.ft_script.specs.Script.{IsRefused};
     ghost use Rattle.ft_script.specs.Within.{IsWithinLimits};
-    ghost use Rattle.module_table.specs.Modules.{modules_in};
+    ghost use Rattle.func_table.specs.Modules.{modules_in};
     ghost use Rattle.ft_script.specs.Kept.{above_of, declaration_of, resolved_of, IsKept, HasNames};
 
     // ## what a line names
@@ -173,6 +174,18 @@ impl Reader {
         }
     }
 
+    /// The trigger of a text.
+    fn trigger(&self, alloc: Global, text: &str) -> Result<Trigger, Cause>
+        ensures ok { IfOk result (λ trigger. trigger_in (above_of self.now) text.now ≡ Ok (plain_trigger trigger)) }
+        ensures err { IfErr result (IsRefused (trigger_in (above_of self.now) text.now)) }
+    {
+        match read_trigger(alloc, text, &self.functions) {
+            Ok(trigger) => Ok(trigger),
+            Err(TriggerFault::NoMemory) => Err(Cause::NoMemory),
+            Err(TriggerFault::Command | TriggerFault::Pattern) => Err(Cause::Pattern),
+        }
+    }
+
     /// A write to one of a user's two sets.
     fn write(
         &self,
@@ -230,7 +243,8 @@ impl Reader {
 
     // ## what a line declares
 
-    /// What a line of this form declares: what it names is looked up, and its filter text is read.
+    /// What a line of this form declares: what it names is looked up, and its filter or trigger text
+    /// is read.
     fn named<'a>(&self, alloc: Global, form: &LineForm<'a>) -> Result<Declaration<'a>, Cause>
         requires within { IsWithinLimits (above_of self.now) }
         requires limit { is_past_limit (above_of self.now) (form_read form.now) ≡ false }
@@ -248,6 +262,9 @@ impl Reader {
             LineForm::Depth { frames } => Declaration::Frames(*frames as u32),
             LineForm::Tramps { slots } => Declaration::Slots(*slots as u32),
             LineForm::Absent { owner } => Declaration::Absence(self.module(owner)?),
+            LineForm::Ring { entries } => Declaration::Entries(*entries as u32),
+            LineForm::TracingOff => Declaration::NoTracing,
+            LineForm::Trigger { text } => Declaration::Trigger(self.trigger(alloc, text)?),
             LineForm::User(line) => Declaration::User(self.spec(alloc, line)?),
             LineForm::NewCpu { quantum, .. } => Declaration::Cpu {
                 quantum: *quantum as u32,

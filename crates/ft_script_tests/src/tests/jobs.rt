@@ -9,7 +9,8 @@ use std::alloc::{AllocError, Global};
 use std::process::Abort;
 use std::test::Fail;
 
-fn job_of(alloc: Global, script: &str) -> Result<Job, Fail> {
+/// The job of a script, if it is one. The scripts here are short enough.
+pub fn job_of(alloc: Global, script: &str) -> Result<Job, Fail> {
     if script.len() > 10_000 {
         return Err("too long".into());
     }

@@ -1,11 +1,8 @@
-use Rattle.std.proofs.Common.{◌≡◌, ◌⊎◌, suc, Some, sym, ap, ◌∙◌, subst, arith}
-use Rattle.std.specs.Prelude.{Result, IfErr}
+use Rattle.std.proofs.Common.{◌≡◌, suc, sym, ap, ◌∙◌, subst, arith}
 use Rattle.std.proofs.lemmas.Result.{err_from_is_err_and}
 use Rattle.script_text.specs.Lines.{Line, lines_of}
-use Rattle.ft_script.specs.declared.faults.ScriptFault.{ScriptFault}
-use Rattle.ft_script.specs.declared.reader.Reader.{Reader}
-use Rattle.ft_script.specs.Above.{Above, none_above}
-use Rattle.ft_script.specs.Script.{refusal_below, declared_after, no_memory}
+use Rattle.ft_script.specs.Above.{Above}
+use Rattle.ft_script.specs.Script.{refusal_below, declared_after}
 use Rattle.ft_script.specs.Kept.{above_of}
 use Rattle.ft_script.proofs.Ends.{no_lines, refused-more, refused-here, declared-more, lines-more}
 use Rattle.ft_script.proofs.Lines.{HoldsAbove, line-holds, none-holds, closed-at_end}
@@ -18,12 +15,12 @@ read-requires-clause-small c =
 
 pub loop-rest-init : goal.loop-rest-init
 loop-rest-init c =
-    let new = c.new-reader.ensures.above in
-    let none : c.new-reader.result.lines ≡ 0 = ap (λ (a : Above). a.lines) new in
+    let new = c.requires.none in
+    let none : c.args.reader.now.lines ≡ 0 = ap (λ (a : Above). a.lines) new in
     record {
-      few = omega (arith, none, c.requires);
+      few = omega (arith, none, c.requires.few);
       holds = subst (λ (a : Above). HoldsAbove a (lines_of c.args.text.now)) (sym new) (none-holds (lines_of c.args.text.now));
-      kept = c.new-reader.ensures.kept;
+      kept = c.requires.kept;
       refused = ap (λ (a : Above). refusal_below a (lines_of c.args.text.now)) new;
       declared = ap (λ (a : Above). declared_after a (lines_of c.args.text.now)) new;
     }
@@ -63,9 +60,6 @@ returns-clause-runs c =
 pub returns-in_err-read-clause-refused : goal.returns-in_err-read-clause-refused
 returns-in_err-read-clause-refused c =
     let p = err_from_is_err_and c.from_residual.result c.from_residual.ensures.1 in
-    let same : c.in_err-read.field-0.0 ≡ p.0 = cc in
-    let IsFault : ScriptFault → Type 0 = λ fault. (fault ≡ no_memory) ⊎ (refusal_below none_above (lines_of c.args.text.now) ≡ Some fault) in
     let line : Line = record { bytes = c.first_line-ended.result.0.now; ended = c.first_line-ended.result.1 } in
-    subst (λ (r : Result Reader ScriptFault). IfErr r IsFault) (sym p.1) (subst IsFault same
-    (refused-here (above_of c.loop-rest.reader) line c.loop-rest.rest.now c.first_line-ended.result.2.now c.args.text.now c.first_line-ended.ensures.cut c.loop-rest.invariant.refused
-    c.in_err-read.field-0.0 c.in_err-read.ensures.err))
+    rw (p.1, p.2) (refused-here (above_of c.loop-rest.reader) line c.loop-rest.rest.now c.first_line-ended.result.2.now c.args.text.now
+    c.first_line-ended.ensures.cut c.loop-rest.invariant.refused c.in_err-read.field-0.0 c.in_err-read.ensures.err)

@@ -1,21 +1,27 @@
-use Rattle.std.proofs.Common.{◌≡◌, ℕ, List, Option, refl, sym, ap, ◌∙◌, subst, inl, inr}
+use Rattle.std.proofs.Common.{◌≡◌, ℕ, ◌⊎◌, List, Some, None, sym, ◌∙◌, subst, inl, inr}
+use Rattle.std.proofs.lemmas.Result.{err_from_is_err_and}
 use Rattle.script_waits.specs.Tasks.{tracks_of}
 use Rattle.script_waits.specs.Greedy.{IsDeadlock}
+use Rattle.ft_script.specs.declared.faults.Cause.TheVariants.{Deadlock}
+use Rattle.ft_script.specs.declared.faults.ScriptFault.{ScriptFault}
 use Rattle.ft_script.specs.Above.{Above}
-use Rattle.ft_script.specs.Script.{control_of, declared_in, LeavesWaiting}
-use Rattle.ft_script.specs.Kept.{above_of}
+use Rattle.ft_script.specs.Script.{refusal_of, control_of, declared_in, no_memory, IsFaultOf}
 use Rattle.ft_script.proofs.Ends.{refusal-some}
 use Rattle.ft_script.proofs.script.read_text.Goals as goal
 
--- who is left waiting, if what is found is the lowest of them
-waiting : (text : List ℕ) (above : Above) (found lowest : Option ℕ) → above ≡ declared_in text → found ≡ lowest
-    → IsDeadlock (tracks_of above.tasks) (control_of above) found → LeavesWaiting text lowest
-waiting text above found lowest declared is h =
-    subst (λ (a : Above). IsDeadlock (tracks_of a.tasks) (control_of a) lowest) declared (subst (IsDeadlock (tracks_of above.tasks) (control_of above)) is h)
-
-pub returns-in-Some-clause-refused : goal.returns-in-Some-clause-refused
-returns-in-Some-clause-refused c = inr (inr (inl (record {
-  accepted = refusal-some c.args.text.now (sym c.if-is_empty.ensures) ∙ c.in_ok-reader.ensures.clear;
-  cause = refl;
-  line = waiting c.args.text.now (above_of c.in_ok-reader.reader) _ _ c.in_ok-reader.ensures.declared c.in-Some.is c.in_ok-line.ensures;
+-- a text that has no cause is refused if it can't end
+fault : (text : List ℕ) (above : Above) → above ≡ declared_in text → refusal_of text ≡ None → (f : ScriptFault)
+    → (f ≡ no_memory) ⊎ ((f.cause ≡ Deadlock) × IsDeadlock (tracks_of above.tasks) (control_of above) (Some f.line)) → IsFaultOf text f
+fault text above declared accepted f (inl memory) = inl memory
+fault text above declared accepted f (inr h) = inr (inr (inl (record {
+  accepted = accepted;
+  cause = h.0;
+  line = subst (λ (a : Above). IsDeadlock (tracks_of a.tasks) (control_of a) (Some f.line)) declared h.1;
 })))
+
+pub returns-in_err-check_end-clause-refused : goal.returns-in_err-check_end-clause-refused
+returns-in_err-check_end-clause-refused c =
+    let p = err_from_is_err_and c.from_residual-in_err-check_end.result c.from_residual-in_err-check_end.ensures.1 in
+    let read = c.in_ok-read_lines.ensures in
+    let accepted = refusal-some c.args.text.now (sym c.if-is_empty.ensures) ∙ read.clear in
+    rw (p.1, p.2) (fault c.args.text.now _ read.declared accepted _ c.in_err-check_end.ensures.refused)

@@ -1,4 +1,3 @@
-use Rattle.std.proofs.Common.{◌≡◌}
 use Rattle.std.proofs.lemmas.Result.{on_ok_weaker}
 use Rattle.ft_script.proofs.KeptReader.{open-line, open-room, open-step}
 use Rattle.ft_script.proofs.reader.Reader.expand.Goals as goal

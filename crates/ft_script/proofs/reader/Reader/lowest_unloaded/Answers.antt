@@ -4,7 +4,7 @@ use Rattle.std.specs.Result.{MatchResult, IfOk, is_ok}
 use Rattle.ft_base.specs.Job.{Func}
 use Rattle.ft_machine.specs.declared.parts.ModRow.{ModRow}
 use Rattle.ft_machine.specs.Plans.{row_of}
-use Rattle.module_table.specs.Modules.{modules_in, number_among}
+use Rattle.func_table.specs.Modules.{modules_in, number_among}
 use Rattle.module_table.specs.Lines.{owners_of}
 use Rattle.module_coverage.specs.declared.change.Change.{Change}
 use Rattle.module_coverage.specs.Plan.{ModulePlan}

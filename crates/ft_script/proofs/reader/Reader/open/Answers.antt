@@ -1,4 +1,4 @@
-use Rattle.std.proofs.Common.{◌≡◌, ℕ, List, Some, refl, sym, ap, ap₂, ◌∙◌, arith}
+use Rattle.std.proofs.Common.{◌≡◌, ℕ, List, refl, sym, ap, ap₂, ◌∙◌, arith}
 use Rattle.user_specs.specs.declared.spec.Spec.{Spec}
 use Rattle.word_map.specs.declared.shape.Shape.{Shape}
 use Rattle.ft_desk.specs.Declarations.{declared_by}

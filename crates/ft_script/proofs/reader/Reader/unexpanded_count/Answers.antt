@@ -1,4 +1,4 @@
-use Rattle.std.proofs.Common.{◌≡◌, ◌≢◌, [], length, vec_len, sym, ap, ◌∙◌, arith}
+use Rattle.std.proofs.Common.{◌≢◌, [], length, vec_len, sym, ap, ◌∙◌, arith}
 use Rattle.std.proofs.lemmas.Bool.{eqb-false}
 use Rattle.ft_script.proofs.CommandCounts.{lanes-counted, users-counted}
 use Rattle.ft_script.proofs.reader.Reader.unexpanded_count.Goals as goal
