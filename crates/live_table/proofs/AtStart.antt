@@ -5,6 +5,7 @@ use Rattle.std.proofs.lemmas.List.{reverse-reverse}
 use Rattle.atomic_table.specs.Seated.{TableId}
 use Rattle.atomic_table.specs.Table.{Me}
 use Rattle.ft_base.specs.declared.item.Item.{Item}
+use Rattle.ft_base.specs.declared.item.Stamped.{Stamped}
 use Rattle.ft_base.specs.Job.{Job, Ctl, commands}
 use Rattle.ft_hist.specs.Shown.{Shown}
 use Rattle.user_specs.specs.Bound.{call_bound_in}
@@ -122,8 +123,8 @@ module _ (job : Job) (x : Seated) (is : control.IsFor job x) (opening : IsOpenin
 
 -- a CPU's
 pub cpu-first : {S : Type 0} (me : Me S View) (job : Job) (c : ℕ) (x : CpuParts) → IsLimited job → c < length job.quanta → me ≡ (cpu_view job c [], [])
-    → IsFirst ForAll job c x → CpuSits {S = S} me c x
-cpu-first {S} me job c x l inside is first = subst (λ (u : Me S View). CpuSits {S = S} u c x) (sym is) record {
+    → IsFirst ForAll job c x → CpuSits {S = S} me c x false
+cpu-first {S} me job c x l inside is first = subst (λ (u : Me S View). CpuSits {S = S} u c x false) (sym is) record {
   view' = refl;
   limited = l;
   is_for = first.is_for;
@@ -131,7 +132,9 @@ cpu-first {S} me job c x l inside is first = subst (λ (u : Me S View). CpuSits 
   fed = first.same;
   marked = none;
   rising = subst IsRising (sym none) none-rises;
+  last = record { marked = λ e. cc; none = λ e. refl };
   room = ap (λ (m : Marks). m.room) first.marked;
+  few = let n = ap (λ (l : List Stamped). length l) none in omega (arith, n);
   left = ap (λ (m : Marks). m.left) first.marked;
   next = subst (λ s. IsOnWord job (cpu_next job s)) (sym first.same) (cpu-on-word job l c inside);
 }

@@ -1,5 +1,5 @@
 -- A step of a CPU's seat: what the table asks before the operation, what the CPU asks of the value, and what the seat keeps after it.
-use Rattle.std.proofs.Common.{◌≡◌, ℕ, ◌<◌, List, [], ◌∷◌, ◌++◌, length, Option, Some, None, IsSome, option_map, refl, sym, ap, ◌∙◌, subst, arith}
+use Rattle.std.proofs.Common.{◌≡◌, ℕ, ◌<◌, Bool, nat_lt, List, [], ◌∷◌, ◌++◌, length, Option, Some, None, IsSome, option_map, refl, sym, ap, ◌∙◌, subst, arith}
 use Rattle.atomic_table.specs.Seated.{TableId}
 use Rattle.atomic_table.specs.Table.{Me, Allows}
 use Rattle.ft_base.specs.declared.item.Stamped.{Stamped}
@@ -9,7 +9,7 @@ use Rattle.word_map.specs.Ops.{WordOp, placed}
 use Rattle.word_map.specs.Places.{len}
 use Rattle.word_map.specs.Shapes.{shape_of}
 use Rattle.word_machine.specs.Cpu.{Cpu, cpu_got, cpu_next, cpu_start}
-use Rattle.word_machine.specs.Laws.{CpuTakes, IsOnWord}
+use Rattle.word_machine.specs.Laws.{CpuTakes, IsOnWord, room_on}
 use Rattle.word_machine.specs.Limits.{IsLimited}
 use Rattle.cpu_core.specs.declared.parts.Parts.{Parts as CpuParts}
 use Rattle.cpu_core.specs.CpuSteps.{marks_in}
@@ -26,9 +26,10 @@ use Rattle.live_table.specs.declared.view.View.{View}
 use Rattle.live_table.specs.AtomicSteps.{AtomicStep, MakesOp}
 use Rattle.live_table.specs.Operations.{op_after, op_gives, op_word}
 use Rattle.live_table.specs.Rule.{LiveRule}
-use Rattle.live_table.specs.Seats.{CpuPlace, CpuSits, IsRising}
+use Rattle.live_table.specs.Seats.{CpuPlace, CpuSits, IsLast, IsRising, last_mark}
 use Rattle.live_table.specs.Steps.{CpuSteps, given_by}
 use Rattle.live_table.specs.Views.{CpuTold, ToldIn, cpu_view, took, values_of}
+use Rattle.live_table.proofs.Lasts.{few-more, last-more, last_mark-snoc}
 use Rattle.live_table.proofs.Moves.{cpu_allowed}
 use Rattle.live_table.proofs.Rising.{rising-more}
 use Rattle.live_table.proofs.Tables.{op-within}
@@ -38,7 +39,7 @@ use Rattle.live_table.proofs.Values.{cpu_marks-snoc}
 abbrev pub place_of : {S : Type 0} → TableId → ℕ → Me S View → ℕ → CpuPlace
 place_of table id me c = record { table_id = table; id = id; job = me.0.job; number = c; values = values_of me.0.parts }
 
-module _ (me : Me (Unit {0}) View) (c : ℕ) (x : CpuParts) (sits : CpuSits me c x) where
+module _ (me : Me (Unit {0}) View) (c : ℕ) (x : CpuParts) (fresh : Bool) (sits : CpuSits me c x fresh) where
   -- with no operation left nothing happens
   pub cpu-stops : (o : Option Op)
       → ((job : Job) → IsLimited job → IsFor job x → o ≡ option_map (placed (shape_of job)) (cpu_next job (cpu_of job x))) → o ≡ None
@@ -113,15 +114,20 @@ module _ (me : Me (Unit {0}) View) (c : ℕ) (x : CpuParts) (sits : CpuSits me c
           → ((job : Job) → IsLimited job → IsFor job x → CpuTakes job (cpu_of job x) v → cpu_of job y ≡ cpu_got job (cpu_of job x) v)
           → ((job : Job) → IsLimited job → IsFor job x → CpuTakes job (cpu_of job x) v
           → y.marked.items ≡ x.marked.items ++ marks_in (cpu_next job (cpu_of job x)) v)
-          → y.marked.room ≡ x.marked.room → y.marked.left ≡ x.marked.left → CpuSits m c y
-      cpu-sits y of' is items room left =
+          → y.marked.room ≡ x.marked.room → y.marked.left ≡ x.marked.left
+          → (before after : List Stamped) → before ≡ x.marked.items → after ≡ y.marked.items → CpuSits m c y (nat_lt (length before) (length after))
+      cpu-sits y of' is items room left before after first then =
           let job = me.0.job in
           let vs = values_of me.0.parts in
           let fed : cpu_of job y ≡ cpu_fed job c (vs ++ v ∷ []) =
           is job sits.limited sits.is_for takes-it ∙ ap (λ (s : Cpu). cpu_got job s v) sits.fed ∙ sym (cpu_after-append job (cpu_start job c) vs (v ∷ [])) in
           let marks : y.marked.items ≡ cpu_items job c vs ++ marks_in (cpu_next job (cpu_fed job c vs)) v =
           items job sits.limited sits.is_for takes-it ∙ (λ i. sits.marked i ++ marks_in (cpu_next job (sits.fed i)) v) in
-          subst (λ (u : Me (Unit {0}) View). CpuSits u c y) (sym knows) record {
+          let op = cpu_next job (cpu_fed job c vs) in
+          let had = ap (λ (l : List Stamped). length l) sits.marked in
+          let fresh' = nat_lt (length before) (length after) in
+          let few = sits.few in
+          subst (λ (u : Me (Unit {0}) View). CpuSits u c y fresh') (sym knows) record {
             view' = refl;
             limited = sits.limited;
             is_for = of' job sits.limited sits.is_for takes-it;
@@ -130,7 +136,12 @@ module _ (me : Me (Unit {0}) View) (c : ℕ) (x : CpuParts) (sits : CpuSits me c
             marked = marks ∙ sym (cpu_marks-snoc job (cpu_start job c) vs v);
             rising = subst IsRising (sym marks)
                 (rising-more (cpu_items job c vs) (cpu_next job (cpu_fed job c vs)) v (subst IsRising sits.marked sits.rising) told.told.rising);
+            last = subst (λ (b : Bool). IsLast y.marked.items b (last_mark job (cpu_start job c) (vs ++ v ∷ [])))
+                (λ i. nat_lt (length ((sym sits.marked ∙ sym first) i)) (length (sym then i)))
+                (last-more (cpu_items job c vs) y.marked.items op v marks (last_mark job (cpu_start job c) (vs ++ v ∷ []))
+                (last_mark-snoc job (cpu_start job c) vs v));
             room = room ∙ sits.room;
+            few = few-more (cpu_items job c vs) y.marked.items op v marks (room_on job c) told.room (omega (arith, few, had));
             left = left ∙ sits.left;
             next = subst (λ s. IsOnWord job (cpu_next job s)) (sym fed) told.told.next';
           }

@@ -1,5 +1,5 @@
 -- Seats after one more CPU was split off from control's.
-use Rattle.std.proofs.Common.{◌≡◌, ℕ, ◌+◌, ◌<◌, List, [], ◌∷◌, ◌++◌, length, slice_get, Some, refl, sym, ap, ◌∙◌, subst}
+use Rattle.std.proofs.Common.{◌≡◌, ℕ, ◌+◌, ◌<◌, false, List, [], ◌∷◌, ◌++◌, length, slice_get, Some, refl, sym, ap, ◌∙◌, subst}
 use Rattle.atomic_table.specs.Table.{Me}
 use Rattle.ft_base.specs.Job.{Job}
 use Rattle.word_machine.specs.Limits.{IsLimited}
@@ -46,6 +46,6 @@ control-deals {S} me m x sits is =
 
 -- the CPU is as it was before its first step
 pub cpu-deals : {S : Type 0} (v : View) (m : Me S View) (job : Job) (c : ℕ) (x : CpuParts) → IsLimited job → v.job ≡ job → v.split ≡ c
-    → c < length job.quanta → m ≡ (dealt v, []) → IsFirst ForAll job c x → CpuSits {S = S} m c x
+    → c < length job.quanta → m ≡ (dealt v, []) → IsFirst ForAll job c x → CpuSits {S = S} m c x false
 cpu-deals v m job c x l same number inside is first =
     cpu-first m job c x l inside (is ∙ (λ i. (cpu_view (same i) (number i) [], []))) first

@@ -14,6 +14,7 @@ pub mod Plays
 pub mod Ends
 pub mod Gathering
 pub mod Rising
+pub mod Lasts
 pub mod CpuStep
 pub mod ControlStep
 pub mod LineStep
@@ -21,3 +22,4 @@ pub mod AtStart
 pub mod Dealt
 pub mod Joined
 pub mod Sent
+pub mod OwnItems

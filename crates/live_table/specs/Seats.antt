@@ -1,5 +1,5 @@
 -- What contracts see of the table and of seats.
-use Rattle.std.specs.Prelude.{ℕ, ◌≡◌, ◌+◌, ◌*◌, ◌<◌, ◌≤◌, Bool, List, [], ◌∷◌, length, map, reverse, slice_get, Some, None, if◌then◌else◌}
+use Rattle.std.specs.Prelude.{ℕ, ◌≡◌, ◌+◌, ◌*◌, ◌<◌, ◌≤◌, Bool, true, false, List, [], ◌∷◌, ◌++◌, length, map, reverse, slice_get, Option, Some, None, if◌then◌else◌}
 use Rattle.atomic_table.specs.Seated.{TableId}
 use Rattle.atomic_table.specs.Table.{Me}
 use Rattle.ft_base.specs.declared.item.Item.{Item}
@@ -16,7 +16,7 @@ use Rattle.led_jobs.specs.Orders.{AreLed}
 use Rattle.word_map.specs.Places.{len}
 use Rattle.word_map.specs.Shapes.{shape_of}
 use Rattle.word_machine.specs.Control.{Control, control_next}
-use Rattle.word_machine.specs.Cpu.{Cpu, cpu_next}
+use Rattle.word_machine.specs.Cpu.{Cpu, cpu_got, cpu_next, cpu_start}
 use Rattle.word_machine.specs.Laws.{IsOnWord, room_on}
 use Rattle.word_machine.specs.Limits.{IsLimited}
 use Rattle.word_machine.specs.Machine.{run, start}
@@ -25,6 +25,7 @@ use Rattle.control_core.specs.Seated as control
 use Rattle.cpu_core.specs.declared.parts.Parts.{Parts as CpuParts}
 use Rattle.cpu_core.specs.Cpus.{cpu_of}
 use Rattle.cpu_core.specs.Cpus as cpu
+use Rattle.cpu_core.specs.CpuSteps.{marks_in}
 use Rattle.ft_machine.specs.Fed.{control_fed, control_items, cpu_fed, cpu_items}
 use Rattle.live_table.specs.declared.view.Part.{Part}
 use Rattle.live_table.specs.declared.view.View.{View}
@@ -71,14 +72,27 @@ pub record ControlPlace : Type 0 where
 abbrev pub IsRising : List Stamped → Type 0
 IsRising items = (j k : ℕ) (x y : Stamped) → j < k → slice_get items j ≡ Some x → slice_get items k ≡ Some y → x.place < y.place
 
+-- the item that a CPU marks with the last of these values, if that marks one
+abbrev pub last_mark : Job → Cpu → List ℕ → Option Stamped
+last_mark job me [] = None
+last_mark job me (v ∷ []) = slice_get (marks_in (cpu_next job me) v) 0
+last_mark job me (v ∷ w ∷ vs) = last_mark job (cpu_got job me v) (w ∷ vs)
+
+-- The last of these items was marked by a CPU's last step if that is fresh; else the step marked none, or there was none.
+pub record IsLast (items : List Stamped) (fresh : Bool) (last : Option Stamped) : Type 0 where
+  pub marked : fresh ≡ true → (x : Stamped) × (last ≡ Some x) × ((before : List Stamped) × (items ≡ before ++ x ∷ []))
+  pub none : fresh ≡ false → last ≡ None
+
 -- What a CPU's seat keeps.
 --   view'          the seat knows the CPU's values, and nothing else
 --   limited, is_for, within   the CPU is one of the job's
 --   fed            it is what these values make of it
 --   marked, rising the items that it has marked are those values', and their places increase
+--   last           it is known whether its last step marked the last of them
 --   room, left     it has room for all that it can mark, and has forgotten nothing
+--   few            and it has marked no more
 --   next           its next operation is on a word of the job
-pub record CpuSits {S : Type 0} (me : Me S View) (c : ℕ) (x : CpuParts) : Type 0 where
+pub record CpuSits {S : Type 0} (me : Me S View) (c : ℕ) (x : CpuParts) (fresh : Bool) : Type 0 where
   pub view' : me ≡ (cpu_view me.0.job c (values_of me.0.parts), [])
   pub limited : IsLimited me.0.job
   pub is_for : cpu.IsFor me.0.job x
@@ -86,7 +100,9 @@ pub record CpuSits {S : Type 0} (me : Me S View) (c : ℕ) (x : CpuParts) : Type
   pub fed : cpu_of me.0.job x ≡ cpu_fed me.0.job c (values_of me.0.parts)
   pub marked : x.marked.items ≡ cpu_items me.0.job c (values_of me.0.parts)
   pub rising : IsRising x.marked.items
+  pub last : IsLast x.marked.items fresh (last_mark me.0.job (cpu_start me.0.job c) (values_of me.0.parts))
   pub room : x.marked.room ≡ room_on me.0.job c
+  pub few : length x.marked.items ≤ room_on me.0.job c
   pub left : x.marked.left ≡ ITEMS
   pub next : IsOnWord me.0.job (cpu_next me.0.job (cpu_of me.0.job x))
 
@@ -118,6 +134,10 @@ control_at s = control_fed s.led s.values
 -- what the CPU has marked
 abbrev pub items_at : CpuPlace → List Stamped
 items_at s = cpu_items s.job s.number s.values
+
+-- what the CPU's last step has marked, if it marked anything
+abbrev pub last_at : CpuPlace → Option Stamped
+last_at s = last_mark s.job (cpu_start s.job s.number) s.values
 
 -- what control has marked
 abbrev pub control_items_at : ControlPlace → List Stamped

@@ -179,7 +179,12 @@ impl Live {
         ensures seat { IsNewCpu self.now result number.0 }
     {
         let seat = self.table.shared.split_seat::<Deals>(&mut control.seat);
-        CpuSeat { seat, cpu, number }
+        CpuSeat {
+            seat,
+            cpu,
+            number,
+            fresh: false,
+        }
     }
 
     /// One step of the seat's CPU: its next operation, on what the word holds at that moment. It takes no
@@ -192,7 +197,9 @@ impl Live {
             return Going::End;
         };
         let value = make(&self.table.shared, &mut seat.seat, op);
+        let before = seat.cpu.items().len();
         seat.cpu.got(value);
+        seat.fresh = seat.cpu.items().len() > before;
         Going::More
     }
 
@@ -289,6 +296,7 @@ impl Live {
                 seat: other,
                 cpu,
                 number: _,
+                fresh: _,
             } = joining;
             self.table.shared.join_seat::<Gathers>(&mut seat, other);
             lists.push_reserved(cpu.into_items());

@@ -1,9 +1,10 @@
 //! The seats of the actors.
 
-ghost use Rattle.std.specs.Prelude.{◌≡◌, length};
+ghost use Rattle.std.specs.Prelude.{◌≡◌, ◌≤◌, length, option_map};
 ghost use Rattle.led_jobs.specs.Led.{in_order};
 ghost use Rattle.led_jobs.specs.Orders.{AreLed};
-ghost use Rattle.live_table.specs.Seats.{IsRising, control_items_at, items_at};
+ghost use Rattle.word_machine.specs.Laws.{room_on};
+ghost use Rattle.live_table.specs.Seats.{IsRising, control_items_at, items_at, last_at};
 
 use crate::view::View;
 use atomic_table::Seat;
@@ -18,6 +19,8 @@ pub struct CpuSeat {
     pub(crate) seat: Seat<(), View>,
     pub(crate) cpu: Cpu,
     pub(crate) number: CpuNo,
+    /// Whether its last step marked an item.
+    pub(crate) fresh: bool,
 }
 
 impl Model for CpuSeat {
@@ -28,7 +31,7 @@ impl Model for CpuSeat {
 
     ghost view = { λ s. record { table_id = s.seat.table_id; id = s.seat.id; job = s.seat.me.0.job; number = s.number.0; values = values_of s.seat.me.0.parts } };
 
-    ghost invariant = { λ s. CpuSits s.seat.me s.number.0 s.cpu };
+    ghost invariant = { λ s. CpuSits s.seat.me s.number.0 s.cpu s.fresh };
 }
 
 impl CpuSeat {
@@ -39,12 +42,26 @@ impl CpuSeat {
         self.number
     }
 
-    /// What the CPU has marked so far. The places increase.
+    /// What the CPU has marked so far. The places increase, and there are no more than its calls can
+    /// make.
     pub fn items(&self) -> &[Stamped]
         ensures items { result.now ≡ items_at self.now }
         ensures rising { IsRising result.now }
+        ensures few { length result.now ≤ room_on self.now.job self.now.number }
     {
         self.cpu.items()
+    }
+
+    /// The item that the CPU's last step marked. `None` exactly if that step marked none, or there was
+    /// no step. A call that finds no step left is no step.
+    pub fn last(&self) -> Option<&Stamped>
+        ensures { option_map (λ x. x.now) result ≡ last_at self.now }
+    {
+        if self.fresh {
+            self.cpu.items().last()
+        } else {
+            None
+        }
     }
 }
 
