@@ -4,7 +4,7 @@ use ft_words::{Form, Order, WordsFault, read_words};
 use std::alloc::Global;
 use std::process::Abort;
 
-static GOOD: [(&[&str], Order); 63] = [
+static GOOD: [(&[&str], Order); 66] = [
     (&["replay"], Order::Replay(Form::Log)),
     (&["--", "replay"], Order::Replay(Form::Log)),
     (&["replay", "--"], Order::Replay(Form::Log)),
@@ -36,6 +36,8 @@ static GOOD: [(&[&str], Order); 63] = [
         Order::Replay(Form::Modules),
     ),
     (&["replay", "--print=modules"], Order::Replay(Form::Modules)),
+    (&["replay", "--print", "rings"], Order::Replay(Form::Rings)),
+    (&["replay", "--print=rings"], Order::Replay(Form::Rings)),
     // The option before the mode, and each place of `--`.
     (&["--print", "graph", "replay"], Order::Replay(Form::Graph)),
     (
@@ -73,6 +75,7 @@ static GOOD: [(&[&str], Order); 63] = [
     (&["run", "--print=graph"], Order::Run(Form::Graph)),
     (&["run", "--print=profile"], Order::Run(Form::Profile)),
     (&["run", "--print", "enabled"], Order::Run(Form::Enabled)),
+    (&["run", "--print=rings"], Order::Run(Form::Rings)),
     (&["--print", "graph", "run"], Order::Run(Form::Graph)),
     (&["--print", "graph", "--", "run"], Order::Run(Form::Graph)),
     (&["--print=enabled", "run", "--"], Order::Run(Form::Enabled)),

@@ -5,7 +5,7 @@ use Rattle.std.proofs.lemmas.Bool.{and_parts}
 use Rattle.std.proofs.lemmas.Bool.Decides.{nat_tests}
 use Rattle.std.proofs.lemmas.Option.{same_Some, none-some}
 use Rattle.ft_words.specs.declared.order.Form.{Form}
-use Rattle.ft_words.specs.declared.order.Form.TheVariants.{Log, Function, Graph, Profile, Enabled, Modules}
+use Rattle.ft_words.specs.declared.order.Form.TheVariants.{Log, Function, Graph, Profile, Enabled, Modules, Rings}
 use Rattle.ft_words.specs.declared.order.Order.{Order}
 use Rattle.ft_words.specs.declared.order.Order.TheVariants.{Replay, Run, Bulk}
 use Rattle.ft_words.specs.Command.{is_taken, value_in}
@@ -21,6 +21,7 @@ IsPlain-form_name Graph = refl
 IsPlain-form_name Profile = refl
 IsPlain-form_name Enabled = refl
 IsPlain-form_name Modules = refl
+IsPlain-form_name Rings = refl
 
 IsPlain-form : (value : Option Text) (f : Form) → SaysForm value f → IsPlainIfSaid value
 IsPlain-form None f h = tt
@@ -121,7 +122,9 @@ module _ (words : List Text) (m : Text) (value : Option Text) (found : Some m �
 
 -- a name's first byte tells its form
 form_at : ℕ → Form
-form_at b = if b == 102 then Function else (if b == 103 then Graph else (if b == 112 then Profile else (if b == 101 then Enabled else (if b == 109 then Modules else Log))))
+form_at b =
+    if b == 102 then Function else (if b == 103 then Graph else (if b == 112 then Profile else (if b == 101 then Enabled
+    else (if b == 109 then Modules else (if b == 114 then Rings else Log)))))
 
 form_at-name : (f : Form) → form_at (slice_index (form_name f) 0) ≡ f
 unfolding form_at
@@ -131,6 +134,7 @@ form_at-name Graph = refl
 form_at-name Profile = refl
 form_at-name Enabled = refl
 form_at-name Modules = refl
+form_at-name Rings = refl
 
 one_form : (value : Option Text) (f g : Form) → SaysForm value f → SaysForm value g → f ≡ g
 one_form None f g a b = a ∙ sym b

@@ -5,7 +5,7 @@ use Rattle.std.specs.Char.{is_ascii_digit}
 use Rattle.std.specs.Str.Parse.{digits_value}
 use Rattle.ft_words.specs.declared.seed.TheConstants.{SEED_DIGITS}
 use Rattle.ft_words.specs.declared.order.Form.{Form}
-use Rattle.ft_words.specs.declared.order.Form.TheVariants.{Log, Function, Graph, Profile, Enabled, Modules}
+use Rattle.ft_words.specs.declared.order.Form.TheVariants.{Log, Function, Graph, Profile, Enabled, Modules, Rings}
 use Rattle.ft_words.specs.declared.order.Order.{Order}
 use Rattle.ft_words.specs.declared.order.Order.TheVariants.{Replay, Run, Bulk}
 
@@ -45,6 +45,7 @@ form_name Graph = codes "graph"
 form_name Profile = codes "profile"
 form_name Enabled = codes "enabled"
 form_name Modules = codes "modules"
+form_name Rings = codes "rings"
 
 -- the form is the one of the name that is said, and `log` if none is said
 abbrev pub SaysForm : Option Text → Form → Type 0

@@ -3,8 +3,8 @@
 //! The words are those after the program's name. One is the mode, `replay`, `run` or `bulk`. Each
 //! mode has one option, which may come once, before or after the mode; its value is the next word,
 //! or follows `=` in the same word. With `replay` and with `run` it is `--print`, whose value is the
-//! name of a form, `log`, `function`, `graph`, `profile`, `enabled` or `modules`; the form is `log`
-//! without it.
+//! name of a form, `log`, `function`, `graph`, `profile`, `enabled`, `modules` or `rings`; the form is
+//! `log` without it.
 //! With `bulk` it is `--seed`, whose value is a number of 1 to 10 digits up to 4,294,967,295; the
 //! seed is 1 without it. The word `--` may come once where a new word begins, and after it only the
 //! mode may come. No other words are in the language: an option's name is never cut short, and there

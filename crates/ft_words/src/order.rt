@@ -35,6 +35,10 @@ pub enum Form {
     /// The lines that load and unload modules, each with its answer and the numbers of the commands
     /// that carry it out. The lines are this project's own: no tool prints the like.
     Modules,
+    /// The ring of each CPU: how many entries it holds of how many that were written into it, and the
+    /// line of each, as in the form function; then how often each trigger fired. The kernel prints the
+    /// like into the files `per_cpu/cpu<cpu>/trace` (ftrace.rst, The File System).
+    Rings,
 }
 
 /// What the program is to do.
@@ -73,6 +77,7 @@ fn form_of(name: &str) -> Option<Form>
         "profile" => Some(Form::Profile),
         "enabled" => Some(Form::Enabled),
         "modules" => Some(Form::Modules),
+        "rings" => Some(Form::Rings),
         _ => None,
     }
 }

@@ -17,6 +17,7 @@ mod lines;
 mod log;
 mod modules;
 mod profile;
+mod rings;
 
 pub use columns::last_line;
 pub use grown::GrownText;

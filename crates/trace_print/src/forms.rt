@@ -1,6 +1,6 @@
 //! The text of a history in each form.
 
-ghost use Rattle.std.specs.Prelude.{◌≡◌, ◌≤◌, ◌++◌, Bool, Err, map, reverse, IfOk, OnOk};
+ghost use Rattle.std.specs.Prelude.{◌≡◌, ◌≤◌, ◌++◌, length, Bool, Err, map, reverse, IfOk, OnOk};
 ghost use Rattle.std.specs.Io.KnownBytes.{Appends};
 ghost use Rattle.ft_base.specs.Desk.{desk};
 ghost use Rattle.ft_base.specs.Job.{funcs};
@@ -9,10 +9,12 @@ ghost use Rattle.ft_hist.specs.Rules.{IsLegal};
 ghost use Rattle.ft_io.specs.Causes.{Rose, AppendsFront};
 ghost use Rattle.ft_io.specs.Pieces.{Puts};
 ghost use Rattle.trace_views.specs.LogText.{log_text};
-ghost use Rattle.trace_print.specs.Texts.{body_of, text_of};
+ghost use Rattle.trace_print.specs.Texts.{body_of, fold_text, text_of};
 ghost use Rattle.trace_views.specs.EnabledText.{enabled_line_text, enabled_lines};
 ghost use Rattle.ft_machine.specs.Plans.{row_of};
 ghost use Rattle.trace_views.specs.ModulesText.{row_of_line};
+ghost use Rattle.trace_views.specs.RingLines.{HasEntries};
+ghost use Rattle.trace_views.specs.RingsText.{rings_text};
 ghost use Rattle.trace_views.specs.Words.{last_line, lines_text};
 
 use crate::names::Names;
@@ -21,12 +23,14 @@ use ft_hist::History;
 use ft_io::{Pieces, Sink};
 use ft_machine::{Job, ModRow};
 use ft_words::Form;
+use ring_rules::Rings;
 use std::alloc::Global;
 use thiserror::Error;
 use trace_lines::{GrownText, last_line, put_lines, put_log};
+use trace_rings::fold_rings;
 use trace_views::{
-    EnabledLine, FunctionLine, GraphLine, ModuleLine, ProfileLine, enabled_lines, function_lines,
-    graph_lines, profile_lines, returned,
+    EnabledLine, FunctionLine, GraphLine, ModuleLine, ProfileLine, RingsLine, enabled_lines,
+    function_lines, graph_lines, profile_lines, returned, rings_lines,
 };
 
 /// Why a text was not written whole.
@@ -50,6 +54,7 @@ enum Lines {
     Profile(Vec<ProfileLine>),
     Enabled(Vec<EnabledLine>),
     Modules(Vec<ModuleLine>),
+    Rings(Vec<RingsLine>),
 }
 
 /// Works out the lines of the form enabled.
@@ -89,6 +94,34 @@ fn lines_of_modules(alloc: Global, names: &Names) -> Result<Vec<ModuleLine>, NoM
         .map_err(|_| NoMemory)
 }
 
+/// Works out the lines of the form rings, of these rings.
+fn lines_of_rings(
+    alloc: Global,
+    names: &Names,
+    history: &History,
+    rings: &Rings,
+) -> Result<Lines, NoMemory>
+    requires legal { IsLegal names.now history.now.items }
+    requires cpus { length rings.now.cpus ≡ length names.now.quanta }
+    requires entries { HasEntries history.now.items rings.now }
+    ensures { IfOk result (λ lines. (ended : Bool) → body_of names.now history.now.items lines ++ last_line ended
+        ≡ rings_text names.now history.now.items rings.now ended) }
+{
+    // Called for its contract alone: a job has at most as many CPUs as the limit says.
+    let _cpus = names.job().cpus();
+    Ok(Lines::Rings(rings_lines(alloc, names, history, rings)?))
+}
+
+/// Works out the lines of the form rings, of the rings of a history that is gone through by place.
+fn lines_of_fold(alloc: Global, names: &Names, history: &History) -> Result<Lines, NoMemory>
+    requires { IsLegal names.now history.now.items }
+    ensures { IfOk result (λ lines. (ended : Bool) → body_of names.now history.now.items lines ++ last_line ended
+        ≡ fold_text names.now history.now.items ended) }
+{
+    let rings = fold_rings(alloc, names.job(), history)?;
+    lines_of_rings(alloc, names, history, &rings)
+}
+
 /// Works out the lines of a form.
 fn lines_of(alloc: Global, names: &Names, history: &History, form: Form) -> Result<Lines, NoMemory>
     requires { IsLegal names.now history.now.items }
@@ -102,6 +135,7 @@ fn lines_of(alloc: Global, names: &Names, history: &History, form: Form) -> Resu
         Form::Profile => Ok(Lines::Profile(profile_lines(alloc, names, history)?)),
         Form::Enabled => Ok(Lines::Enabled(lines_of_desk(alloc, names, history)?)),
         Form::Modules => Ok(Lines::Modules(lines_of_modules(alloc, names)?)),
+        Form::Rings => lines_of_fold(alloc, names, history),
     }
 }
 
@@ -123,6 +157,7 @@ fn put_body<K: Sink>(
         Lines::Profile(lines) => put_lines(pieces, sink, names, lines.as_slice()),
         Lines::Enabled(lines) => put_lines(pieces, sink, names, lines.as_slice()),
         Lines::Modules(lines) => put_lines(pieces, sink, names, lines.as_slice()),
+        Lines::Rings(lines) => put_lines(pieces, sink, names, lines.as_slice()),
     }
 }
 
@@ -156,8 +191,9 @@ fn send<K: Sink>(
 
 /// Writes the text of a history of the job in a form to the sink, in pieces. All memory is taken
 /// before the first byte is written. The last line is `end` if every actor is at its end, else
-/// `stopped`. It takes time linear in the history and in the text, once for each graph or profile
-/// user and fprobe.
+/// `stopped`. The form rings has the rings of the history gone through by place, from the first item to
+/// the last. It takes time linear in the history and in the text, once for each graph or profile
+/// user and fprobe; for each entry of a ring the logarithm of the history comes to it.
 pub fn write_text<K: Sink>(
     alloc: Global,
     job: &Job,
@@ -207,6 +243,37 @@ pub fn write_log<K: Sink>(
     send(alloc, &names, history, &Lines::Log, ended, sink)
 }
 
+/// Writes the text of rings of the job, form rings, as [`write_text`] does: of those that threads have
+/// kept, and not those of the history gone through by place. There has to be one for each CPU, and each
+/// entry has to be the place of an entry callback in the history.
+pub fn write_rings<K: Sink>(
+    alloc: Global,
+    job: &Job,
+    history: &History,
+    ended: bool,
+    rings: &Rings,
+    sink: &mut K,
+) -> Result<(), TextFail>
+    requires legal { IsLegal job.now history.now.items }
+    requires cpus { length rings.now.cpus ≡ length job.now.quanta }
+    requires entries { HasEntries history.now.items rings.now }
+    ensures all { OnOk result (Appends (K.holds sink.old) (K.holds sink.new)
+        (rings_text job.now history.now.items rings.now ended)) }
+    ensures front { result ≡ Err TextFail.Sink → AppendsFront (K.holds sink.old) (K.holds sink.new)
+        (rings_text job.now history.now.items rings.now ended) }
+    ensures fault { result ≡ Err TextFail.Sink → Rose (K.faults sink.old) (K.faults sink.new) }
+    ensures memory { result ≡ Err TextFail.NoMemory → sink.new ≡ sink.old }
+    ensures faults { K.faults sink.old ≤ K.faults sink.new }
+{
+    let Ok(names) = Names::new(alloc, job) else {
+        return Err(TextFail::NoMemory);
+    };
+    let Ok(lines) = lines_of_rings(alloc, &names, history, rings) else {
+        return Err(TextFail::NoMemory);
+    };
+    send(alloc, &names, history, &lines, ended, sink)
+}
+
 /// The text of a history of the job in a form, as [`write_text`] writes it. The error says that
 /// memory ran out.
 pub fn print(
@@ -221,6 +288,26 @@ pub fn print(
 {
     let mut text = GrownText::new(alloc);
     match write_text(alloc, job, history, ended, form, &mut text) {
+        Ok(()) => Ok(text.into_bytes()),
+        Err(_) => Err(NoMemory),
+    }
+}
+
+/// The text of rings of the job, as [`write_rings`] writes it. The error says that memory ran out.
+pub fn print_rings(
+    alloc: Global,
+    job: &Job,
+    history: &History,
+    ended: bool,
+    rings: &Rings,
+) -> Result<Vec<u8>, NoMemory>
+    requires legal { IsLegal job.now history.now.items }
+    requires cpus { length rings.now.cpus ≡ length job.now.quanta }
+    requires entries { HasEntries history.now.items rings.now }
+    ensures { IfOk result (λ text. text.items ≡ rings_text job.now history.now.items rings.now ended) }
+{
+    let mut text = GrownText::new(alloc);
+    match write_rings(alloc, job, history, ended, rings, &mut text) {
         Ok(()) => Ok(text.into_bytes()),
         Err(_) => Err(NoMemory),
     }

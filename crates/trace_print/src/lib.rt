@@ -9,11 +9,13 @@
 //! | profile | `trace_stat` (`ftrace.rst`, `function_profile_enabled`), an fprobe's `nmissed` | for each profile user one a function; one an fprobe |
 //! | enabled | `enabled_functions` (`ftrace.rst`, "The File System") | one a function that some users trace |
 //! | modules | | one a line that loads or unloads a module |
+//! | rings | `per_cpu/cpu0/trace` (`ftrace.rst`, `per_cpu`, `buffer_size_kb`, `overwrite`) | for each CPU one, and one an entry that its ring holds; one a trigger |
 //!
 //! Promised: [`print`] gives, for each legal history of a job, exactly the text of its form, as the
 //! specs define it; [`write_text`] writes it to a sink in pieces, or a beginning of it if the sink
-//! fails, and [`write_log`] does so with the form log of any history; [`summary`] gives exactly the
-//! counts. Only tested, in `trace_print_tests` and `ft_app_tests`: that memory is found.
+//! fails, and [`write_log`] does so with the form log of any history; [`print_rings`] and
+//! [`write_rings`] do so with the form rings, of rings that threads have kept; [`summary`] gives exactly
+//! the counts. Only tested, in `trace_print_tests` and `ft_app_tests`: that memory is found.
 //!
 //! A form is worked out line by line, as numbers, which takes memory (`trace_views`). Then the lines
 //! are put, which takes none (`trace_lines`): what was written can't be taken back if memory runs out.
@@ -23,7 +25,7 @@ mod forms;
 mod names;
 mod totals;
 
-pub use forms::{TextFail, print, write_log, write_text};
+pub use forms::{TextFail, print, print_rings, write_log, write_rings, write_text};
 pub use ft_words::Form;
 pub use totals::summary;
 pub use trace_lines::laws;

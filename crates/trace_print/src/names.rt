@@ -21,7 +21,7 @@ pub(crate) struct Names<'a> {
 
 impl<'a> Model for Names<'a> {
     ghost use Rattle.ft_base.specs.Job.{Job as PlainJob};
-    ghost use Rattle.module_table.specs.Modules.{modules_in};
+    ghost use Rattle.func_table.specs.Modules.{modules_in};
     ghost use Rattle.trace_print.specs.TaskNames.{names_of};
     ghost use Rattle.std.specs.Prelude.{◌≡◌};
 

@@ -10,7 +10,8 @@ use ft_machine::{Job, Outcome, replay};
 use ft_script::read_script;
 use std::alloc::Global;
 use std::test::Fail;
-use trace_print::{Form, TextFail, print, write_log, write_text};
+use trace_print::{Form, TextFail, print, print_rings, write_log, write_rings, write_text};
+use trace_rings::fold_rings;
 
 /// Room for each text here.
 const ROOM: usize = 4_096;
@@ -59,13 +60,14 @@ const LANES_LOG: &[u8] = b"0 begin 1 lane 0
 end
 ";
 
-static FORMS: [Form; 6] = [
+static FORMS: [Form; 7] = [
     Form::Log,
     Form::Function,
     Form::Graph,
     Form::Profile,
     Form::Enabled,
     Form::Modules,
+    Form::Rings,
 ];
 
 /// The job of a text; none if it is refused. The texts here are short enough.
@@ -146,6 +148,27 @@ fn a_sink_gets_what_is_printed(rt: HostRuntime) -> Result<(), Fail> {
     for form in &FORMS {
         assert!(rt; is_printed(alloc, &job, &outcome, *form)?);
     }
+    Ok(())
+}
+
+/// Whether rings are printed in their own text, and a sink gets it.
+fn are_printed(alloc: Global, job: &Job, outcome: &Outcome) -> Result<bool, Fail>
+    requires { IsLegal job.now outcome.now.history.items }
+{
+    let Outcome { history, ended } = outcome;
+    let rings = fold_rings(alloc, job, history)?;
+    let text = print_rings(alloc, job, history, *ended, &rings)?;
+    let mut sink = sink_of(alloc, ROOM)?;
+    let written = write_rings(alloc, job, history, *ended, &rings, &mut sink);
+    Ok(written == Ok(()) && sink.bytes() == text.as_slice() && has_end(text.as_slice()))
+}
+
+#[test]
+fn rings_are_printed(rt: HostRuntime) -> Result<(), Fail> {
+    let alloc = rt.alloc();
+    let job = each_kind(alloc)?;
+    let outcome = replay(alloc, &job)?;
+    assert!(rt; are_printed(alloc, &job, &outcome)?);
     Ok(())
 }
 

@@ -1,6 +1,6 @@
 pub mod StackSteps
 pub mod CountLaws
-pub mod UserTexts
+pub mod NumberedTexts
 pub mod ProfileLines
 pub mod EnabledLines
 pub mod ReturnedLaws
@@ -20,3 +20,5 @@ pub mod GraphUsers
 pub mod TaskLists
 pub mod LineTexts
 pub mod LineLaws
+pub mod BackLines
+pub mod RingEntries

@@ -10,7 +10,8 @@ use Rattle.ft_base.specs.Same.{same_call}
 use Rattle.ft_base.specs.Job.{Job}
 use Rattle.ft_base.specs.Desk.{spec_at}
 use Rattle.ft_hist.specs.Past.{entry_of}
-use Rattle.trace_views.specs.Words.{function_word, user_word, pid_at, cpu_at, last_line, right_in, zeros_in, item_texts, is_function}
+use Rattle.trace_views.specs.Words.{function_word, user_word, pid_at, cpu_at, last_line, right_in, zeros_in, item_texts}
+use Rattle.ft_base.specs.Kinds.{is_function}
 
 -- a context, in the column of the flags of an interrupt
 abbrev pub context_letter : Ctx → List ℕ

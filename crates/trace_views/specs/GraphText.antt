@@ -8,7 +8,7 @@ use Rattle.ft_base.specs.declared.item.Item.TheVariants.{Back, Exit}
 use Rattle.ft_base.specs.Same.{same_call}
 use Rattle.ft_base.specs.Job.{Job, Spec}
 use Rattle.ft_hist.specs.Past.{entry_of, is_open}
-use Rattle.trace_views.specs.Words.{function_word, user_line, pid_at, cpu_at, last_line, spaces, right_in, item_texts, user_texts, is_graph}
+use Rattle.trace_views.specs.Words.{function_word, user_line, pid_at, cpu_at, last_line, spaces, right_in, item_texts, numbered_texts, is_graph}
 
 -- ## levels
 
@@ -95,4 +95,4 @@ user_graph job items u spec =
 
 -- the text
 unfoldable pub graph_text : Job → List Item → Bool → List ℕ
-graph_text job items ended = user_texts (user_graph job items) 0 job.users ++ last_line ended
+graph_text job items ended = numbered_texts (user_graph job items) 0 job.users ++ last_line ended

@@ -12,6 +12,8 @@ pub mod FunctionText
 pub mod ProfileText
 pub mod EnabledText
 pub mod ModulesText
+pub mod RingsText
+pub mod RingLines
 pub mod ItemCounts
 pub mod Counted
 pub mod Returned

@@ -3,7 +3,7 @@ use Rattle.std.specs.Prelude.{ℕ, Bool, List, [], ◌∷◌, ◌++◌, get_or, 
 use Rattle.std.specs.Fmt.{decimal}
 use Rattle.ft_base.specs.declared.item.Item.{Item}
 use Rattle.ft_base.specs.Job.{Job, ModuleRow}
-use Rattle.module_table.specs.Modules.{modules_in}
+use Rattle.func_table.specs.Modules.{modules_in}
 use Rattle.trace_views.specs.declared.modules.ModuleLine.{ModuleLine}
 use Rattle.trace_views.specs.Words.{Word, last_line, lines_text}
 use Rattle.trace_views.specs.LogText.{answer_words, joined}

@@ -10,7 +10,7 @@ use Rattle.func_profile.specs.declared.profile.ProfileRow.{ProfileRow}
 use Rattle.func_profile.specs.Rows.{rows_of}
 use Rattle.trace_views.specs.declared.profile.ProfileLine.{ProfileLine}
 use Rattle.trace_views.specs.declared.profile.ProfileLine.TheVariants.{User, Row, Fprobe}
-use Rattle.trace_views.specs.Words.{Word, function_word, user_word, user_line, last_line, lines_text, user_texts, is_profile}
+use Rattle.trace_views.specs.Words.{Word, function_word, user_word, user_line, last_line, lines_text, numbered_texts, is_profile}
 
 -- the line of a row: the function, its hits and its time
 unfoldable pub row_line : Job → ProfileRow → List ℕ
@@ -36,4 +36,4 @@ fprobe_line items u spec = if is_fprobe spec.kind then counts_line spec.name (ba
 
 -- the text: the profile users in order, then the fprobes
 unfoldable pub profile_text : Job → List Item → Bool → List ℕ
-profile_text job items ended = user_texts (user_profile job items) 0 job.users ++ (user_texts (fprobe_line items) 0 job.users ++ last_line ended)
+profile_text job items ended = numbered_texts (user_profile job items) 0 job.users ++ (numbered_texts (fprobe_line items) 0 job.users ++ last_line ended)

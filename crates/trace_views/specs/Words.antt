@@ -1,9 +1,9 @@
 -- Words that the printed texts share: names, pids and CPUs by number, and columns.
 use Rattle.std.specs.Prelude.{ℕ, zero, suc, Bool, true, false, ◌-◌, List, [], ◌∷◌, ◌++◌, length, replicate, get_or, slice_get, codes, Option, None, if◌then◌else◌}
 use Rattle.ft_base.specs.declared.user.Kind.{Kind}
-use Rattle.ft_base.specs.declared.user.Kind.TheVariants.{Function, Graph, Profile}
+use Rattle.ft_base.specs.declared.user.Kind.TheVariants.{Graph, Profile}
 use Rattle.ft_base.specs.declared.item.Item.{Item}
-use Rattle.ft_base.specs.Job.{Job, Spec, no_task, no_func}
+use Rattle.ft_base.specs.Job.{Job, no_task, no_func}
 use Rattle.ft_base.specs.Desk.{spec_at}
 
 -- the bytes of a word
@@ -65,16 +65,12 @@ abbrev pub item_texts : (List Item → Item → List Item → List ℕ) → List
 item_texts text past [] = []
 item_texts text past (item ∷ rest) = text past item rest ++ item_texts text (item ∷ past) rest
 
--- the texts of the users from a number on, in order; each is told its number and its declaration
-abbrev pub user_texts : (ℕ → Spec → List ℕ) → ℕ → List Spec → List ℕ
-user_texts text u [] = []
-user_texts text u (spec ∷ rest) = text u spec ++ user_texts text (suc u) rest
+-- the texts of users, CPUs or triggers from a number on, in order; each is told its number and itself
+abbrev pub numbered_texts : {A : Type 0} → (ℕ → A → List ℕ) → ℕ → List A → List ℕ
+numbered_texts text n [] = []
+numbered_texts text n (x ∷ rest) = text n x ++ numbered_texts text (suc n) rest
 
 -- ## kinds of users
-
-abbrev pub is_function : Kind → Bool
-is_function Function = true
-is_function _ = false
 
 abbrev pub is_graph : Kind → Bool
 is_graph Graph = true

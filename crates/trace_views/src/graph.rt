@@ -6,7 +6,7 @@ ghost use Rattle.ft_base.specs.Job.{Job as PlainJob};
 ghost use Rattle.ft_base.specs.Desk.{spec_at};
 ghost use Rattle.ft_hist.specs.Rules.{IsLegal};
 ghost use Rattle.trace_views.specs.Places.{part_at};
-ghost use Rattle.trace_views.specs.Words.{item_texts, user_texts, lines_text, is_graph};
+ghost use Rattle.trace_views.specs.Words.{item_texts, numbered_texts, lines_text, is_graph};
 ghost use Rattle.trace_views.specs.TaskStacks.{stack_at, with_top};
 ghost use Rattle.trace_views.specs.Leaves.{leaf_exits};
 ghost use Rattle.trace_views.specs.GraphText.{graph_part, user_graph};
@@ -297,7 +297,7 @@ pub fn graph_lines<N: Named>(
 ) -> Result<Vec<GraphLine>, NoMemory>
     requires { IsLegal (N.job names.now) history.now.items }
     ensures { IfOk result (λ lines. lines_text (graph_line_text (N.job names.now)) lines.items
-        ≡ user_texts (user_graph (N.job names.now) history.now.items) 0 (N.job names.now).users) }
+        ≡ numbered_texts (user_graph (N.job names.now) history.now.items) 0 (N.job names.now).users) }
 {
     let users = names.users();
     // Room for all lines at once: one that grows as they come would be copied to ever larger places.

@@ -9,11 +9,12 @@
 //! | profile | `trace_stat` (`ftrace.rst`, `function_profile_enabled`), an fprobe's `nmissed` | for each profile user one a function; one an fprobe |
 //! | enabled | `enabled_functions` (`ftrace.rst`, "The File System") | one a function that some users trace |
 //! | modules | | one a line that loads or unloads a module |
+//! | rings | `per_cpu/cpu0/trace` (`ftrace.rst`, `per_cpu`, `buffer_size_kb`) | for each CPU one, and one an entry that its ring holds; one a trigger |
 //!
 //! Promised: [`function_lines`], [`graph_lines`] and [`profile_lines`] give, for each legal history of a
-//! job, and [`enabled_lines`] for the desk that it leaves, lines whose texts are exactly those of the
-//! view. What they need of a job is [`Named`]. Only tested, in `trace_print_tests`: that memory is
-//! found.
+//! job, [`enabled_lines`] for the desk that it leaves, and [`rings_lines`] for rings whose entries are
+//! entry callbacks of it, lines whose texts are exactly those of the view. What they need of a job is
+//! [`Named`]. Only tested, in `trace_print_tests`: that memory is found.
 #![tactic(auto)]
 
 mod counts;
@@ -25,6 +26,7 @@ mod leaves;
 mod modules;
 mod named;
 mod profile;
+mod rings;
 mod stacks;
 
 pub use counts::{Counts, counted};
@@ -35,3 +37,4 @@ pub use graph_line::{GraphLine, Shown};
 pub use modules::ModuleLine;
 pub use named::{Named, TaskName};
 pub use profile::{ProfileLine, profile_lines};
+pub use rings::{RingsLine, rings_lines};

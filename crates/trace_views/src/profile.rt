@@ -5,7 +5,7 @@ ghost use Rattle.ft_base.specs.Desk.{spec_at};
 ghost use Rattle.ft_base.specs.Job.{funcs};
 ghost use Rattle.ft_hist.specs.Rules.{IsLegal};
 ghost use Rattle.func_profile.specs.Rows.{HasRows};
-ghost use Rattle.trace_views.specs.Words.{lines_text, user_texts};
+ghost use Rattle.trace_views.specs.Words.{lines_text, numbered_texts};
 ghost use Rattle.trace_views.specs.ProfileText.{profile_line_text, user_profile, fprobe_line};
 ghost use Rattle.trace_views.specs.declared.profile.ProfileLine.TheVariants.{User, Row};
 
@@ -108,7 +108,7 @@ fn push_profiles<N: Named>(
     requires rows { HasRows (funcs (N.job names.now)) history.now.items }
     ensures { OnOk result (lines_text (profile_line_text (N.job names.now)) lines.new.items
         ≡ lines_text (profile_line_text (N.job names.now)) lines.old.items
-        ++ user_texts (user_profile (N.job names.now) history.now.items) 0 (N.job names.now).users) }
+        ++ numbered_texts (user_profile (N.job names.now) history.now.items) 0 (N.job names.now).users) }
 {
     for u in 0..users {
         push_profile(alloc, lines, names, history, UserNo(u))?;
@@ -126,7 +126,7 @@ fn push_fprobes<N: Named>(
     requires { users ≡ length (N.job names.now).users }
     ensures { OnOk result (lines_text (profile_line_text (N.job names.now)) lines.new.items
         ≡ lines_text (profile_line_text (N.job names.now)) lines.old.items
-        ++ user_texts (fprobe_line history.now.items) 0 (N.job names.now).users) }
+        ++ numbered_texts (fprobe_line history.now.items) 0 (N.job names.now).users) }
 {
     for u in 0..users {
         push_fprobe(lines, names, history, UserNo(u))?;
@@ -143,8 +143,8 @@ pub fn profile_lines<N: Named>(
 ) -> Result<Vec<ProfileLine>, NoMemory>
     requires { IsLegal (N.job names.now) history.now.items }
     ensures { IfOk result (λ lines. lines_text (profile_line_text (N.job names.now)) lines.items
-        ≡ user_texts (user_profile (N.job names.now) history.now.items) 0 (N.job names.now).users
-        ++ user_texts (fprobe_line history.now.items) 0 (N.job names.now).users) }
+        ≡ numbered_texts (user_profile (N.job names.now) history.now.items) 0 (N.job names.now).users
+        ++ numbered_texts (fprobe_line history.now.items) 0 (N.job names.now).users) }
 {
     let users = names.users();
     let mut lines = Vec::new(alloc);

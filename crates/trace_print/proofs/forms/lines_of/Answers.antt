@@ -1,6 +1,6 @@
 use Rattle.std.proofs.Common.{List, ℕ, ◌++◌, ap, refl, ◌∙◌, append_assoc}
 use Rattle.ft_base.specs.Job.{ModuleRow}
-use Rattle.trace_views.specs.Words.{last_line, user_texts, lines_text}
+use Rattle.trace_views.specs.Words.{last_line, numbered_texts, lines_text}
 use Rattle.trace_views.specs.LogText.{log_text}
 use Rattle.trace_views.specs.FunctionText.{function_text}
 use Rattle.trace_views.specs.GraphText.{graph_text}
@@ -28,7 +28,7 @@ pub returns-in_ok-profile_lines-in-Profile : goal.returns-in_ok-profile_lines-in
 unfolding profile_text
 returns-in_ok-profile_lines-in-Profile c =
     rw c.in-Profile.is (λ ended. ap (λ (t : List ℕ). t ++ last_line ended) c.in_ok-profile_lines-in-Profile.ensures
-    ∙ append_assoc (user_texts (user_profile c.args.names.now c.args.history.now.items) 0 c.args.names.now.users) (user_texts (fprobe_line c.args.history.now.items) 0 c.args.names.now.users) (last_line ended))
+    ∙ append_assoc (numbered_texts (user_profile c.args.names.now c.args.history.now.items) 0 c.args.names.now.users) (numbered_texts (fprobe_line c.args.history.now.items) 0 c.args.names.now.users) (last_line ended))
 
 pub returns-in_ok-lines_of_desk-in-Enabled : goal.returns-in_ok-lines_of_desk-in-Enabled
 unfolding enabled_text
