@@ -8,15 +8,21 @@
 //! in memory. All memory is had before the first byte is written. The program makes that call with its
 //! arguments as the words.
 //!
-//! Proved, for every source, sink and gate: each status says what was read and written, and comes
-//! only for its reason; with status 0 the text is what the order prints of a history of the script's
-//! job, that of its replay or one of running threads; that history is legal, no call of it reaches a
-//! module that isn't loaded, and it is whole if the text ends with `end`, as it does with threads; and if nothing outside goes wrong, a script is answered
-//! with status 0 and any other text with status 3, unless memory is out. If the script has lanes,
-//! threads lead its commands in some order that is a merge of the lanes, and the history and the text
-//! are those of the job in that order. A log that was written tells its history, and that order
-//! ([`laws`]). With running threads this holds if the call returns: it may wait, and no proof says that
-//! it ends. Only tested, in `ft_app_tests`: that it does in some runs, that the history is that of the
+//! Proved, for every source, sink and gate:
+//!
+//! - Each status says what was read and written, and comes only for its reason. If nothing outside goes
+//!   wrong, a script is answered with status 0 and any other text with status 3, unless memory is out.
+//! - With status 0 the text is what the order prints of a history of the script's job, that of its
+//!   replay or one of running threads. That history is legal, no call of it reaches a module that isn't
+//!   loaded, and it is whole if the text ends with `end`, as it does with threads.
+//! - If the script has lanes, threads lead its commands in some order that is a merge of the lanes, and
+//!   the history and the text are those of the job in that order.
+//! - The rings of the form `rings` are those of the history gone through by place, and legal for it. So
+//!   a trigger with a limit has fired as often as it was hit, but no more often than the limit.
+//! - A log that was written tells its history, and the order of its lanes ([`laws`]).
+//!
+//! With running threads this holds if the call returns: it may wait, and no proof says that it ends.
+//! Only tested, in `ft_app_tests`: that it does in some runs, that the history is that of the
 //! threads, in the order in which the lanes took their turns, that memory is found if there is some,
 //! and that generated scripts are accepted.
 #![tactic(auto)]
