@@ -5,3 +5,5 @@ pub mod NoteLaws
 pub mod SilentLaws
 pub mod EndLaws
 pub mod PastLaws
+pub mod PartLaws
+pub mod VerdictLaws

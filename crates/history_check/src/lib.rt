@@ -11,6 +11,8 @@
 mod backs;
 mod desks;
 mod laws;
+mod verdict;
 
 pub use backs::backs_legal;
-pub use laws::legal_histories_keep_backs;
+pub use laws::{a_history_has_one_verdict, legal_histories_keep_backs, legality_is_its_parts};
+pub use verdict::{Rule, Verdict};
