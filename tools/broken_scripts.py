@@ -13,12 +13,13 @@ import sys
 sys.dont_write_bytecode = True
 import control_lines  # noqa: E402
 import log_reader  # noqa: E402
-from odd_lines import EDGES, FURTHER_LINES, NUMBER, NUMBERS, ODD_WORDS, TEXTS, TOO_BIG  # noqa: E402
+from odd_lines import EDGES, FURTHER_LINES, NUMBER, NUMBERS, ODD_WORDS, TEXTS, TOO_BIG, TRIGGER_TEXTS  # noqa: E402
 from script_forms import ACTS, ACT_WORDS, COMMANDS, CONTEXTS, CPUS, ITEMS, KINDS, LANES, LEVELS, NAME_BYTES  # noqa: E402
-from script_forms import STEPS, TASKS, UNTILS, VERSION_1, call_bound, dressed, has_act, in_lanes, plain, text_of, version_of  # noqa: E402
+from script_forms import STEPS, TASKS, TRIGGERS, UNTILS, VERSION_1, call_bound, dressed, has_act, in_lanes, plain, text_of, trigger_text  # noqa: E402
+from script_forms import version_of  # noqa: E402
 
 # The ranks of the lines, as docs/LANGUAGE.md has them.
-RANKS = {"ftrace": 0, "func": 1, "depth": 2, "tramps": 2, "absent": 2, "user": 3, "cpu": 4, "lane": 6, "ctl": 6, "sched": 7}
+RANKS = {"ftrace": 0, "func": 1, "depth": 2, "tramps": 2, "absent": 2, "ring": 2, "tracing": 2, "trigger": 2, "user": 3, "cpu": 4, "lane": 6, "ctl": 6, "sched": 7}
 RANKS.update(dict.fromkeys(["task", *ACT_WORDS], 5))
 
 
@@ -153,6 +154,11 @@ def add_text(rng, lines):
     lines.insert(at_rank(rng, lines, 6), ["ctl"] + edit)
 
 
+def add_trigger(rng, lines):
+    """A trigger, whose text may be refused."""
+    lines.insert(at_rank(rng, lines, 2), ["trigger", rng.choice(TRIGGER_TEXTS)])
+
+
 def add_wait(rng, lines):
     """A wait that may never be met."""
     pids = declared(lines, "task")
@@ -227,6 +233,12 @@ def command_count(lines):
         return sum(line[1:2] != ["until"] for line in lines if line[:1] == ["ctl"])
 
 
+def many_triggers(rng, lines, more):
+    """At times the one too many can't be read."""
+    count, functions = TRIGGERS + more - len(places(lines, "trigger")), declared(lines, "func") or ["a"]
+    return [["trigger", trigger_text(rng, functions)] for _ in range(count - 1)] + [["trigger", rng.choice(TRIGGER_TEXTS[:2] + ["a"])]] * (count > 0)
+
+
 def many_commands(rng, lines, more):
     command_line = rng.choice([["ctl", "register", user] for user in declared(lines, "user")] + [["ctl", "maxdepth", "1"]])
     return [command_line] * (COMMANDS + more - command_count(lines))
@@ -273,7 +285,7 @@ def many_acts(rng, lines, more):
 
 
 MANY = [long_name, long_module, many_functions, many_users, many_cpus, many_tasks, many_lanes, many_commands, many_waits, many_levels, many_items]
-MANY += [many_acts, many_loads]
+MANY += [many_acts, many_loads, many_triggers]
 MANY += [long_name, long_module, many_users, many_cpus, many_tasks, many_items]
 
 
@@ -286,7 +298,7 @@ def many(rng, lines):
 
 
 CHANGES = [change_word, drop_word, double_word, swap_lines, drop_line, double_line, set_number, set_turns, unknown, declare_again]
-CHANGES += [unbalance, add_lines, add_lines, add_task, add_text, add_text, add_wait, add_lanes, add_modules, add_modules, change_version, many]
+CHANGES += [unbalance, add_lines, add_lines, add_task, add_text, add_text, add_trigger, add_wait, add_lanes, add_modules, add_modules, change_version, many]
 
 
 def broken_bytes(rng, text):

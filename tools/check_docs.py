@@ -1,13 +1,13 @@
 #!/usr/bin/env python3
 """Runs what the pages show through the built program, which must give those very bytes and the status that belongs to them:
 
-- each script of examples/: NAME.ft prints NAME.log, and NAME.function, NAME.graph, NAME.profile, NAME.enabled and NAME.modules
-  with `--print` and that word. The log has to be there, the others may be; there are no other files;
+- each script of examples/: NAME.ft prints NAME.log, and NAME.function, NAME.graph, NAME.profile, NAME.enabled, NAME.modules
+  and NAME.rings with `--print` and that word. The log has to be there, the others may be; there are no other files;
 - each row of docs/LANGUAGE.md that has its script, in a table whose first two columns are `script` and `prints`;
 - the blocks of README.md and of each page of docs/ that are scripts or commands.
 
-The program that docs/LIBRARY.md has in full isn't run here, but by `rt ci`: the page has to have the bytes of its source and
-of the output that is stored beside it.
+The programs of docs/LIBRARY.md aren't run here, but by `rt ci`: the page has to have the bytes of the one's source, and of the output
+that is stored beside each.
 
 A block is lines of a page that begin with four blanks, with no other line between them.
 
@@ -39,13 +39,14 @@ import runs  # noqa: E402
 
 REFUSED = re.compile(rb"line [1-9][0-9]*: [a-z]+\n")
 ENDS = (b"end\n", b"stopped\n")
-FORMS = {form: ["replay", "--print", form] for form in ("function", "graph", "profile", "enabled", "modules")}
+FORMS = {form: ["replay", "--print", form] for form in ("function", "graph", "profile", "enabled", "modules", "rings")}
 FORMS["log"] = ["replay"]
 COMMAND = re.compile(rb"\$ ftcore((?: [\w=.-]+)*)(?: < (examples/[\w.]+\.ft))?\n")
 RECIPE = (b"head -n N FILE", b"printf ")
 EXAMPLE = "examples/realistic.ft"  # what recipes are tried on
 TYPED = re.compile(rb"\./ftcore((?: [\w=.-]+)*)(?: < (examples/[\w.]+\.ft))?(?:  .*)?\n")
 IS_COMMAND = re.compile(r"[\s>*+-]*\$\s*\S*ftcore\b")
+PROGRAMS = {"step_by_step": [(b"rust", "src/main.rt"), (b"text", "stdout")]}  # what of them docs/LIBRARY.md has
 NOT_EMPTY = ("README.md", "TOUR.md")  # the pages that have a script at least
 
 
@@ -134,13 +135,14 @@ def blocks(text):
     return found
 
 
-def show_library(rows, page, crate):
-    """Two rows: the page has the program of this crate, and what that prints, each as the first block of its kind."""
+def show_library(rows, page, crate, what):
+    """A row for each of these, a kind of block and a file of this crate: the page has the file as a block of its kind."""
     text = page.read_bytes()
-    for kind, path in ((b"rust", crate / "src" / "main.rt"), (b"text", crate / "stdout")):
-        found = re.search(rb"^```" + kind + rb"\n(.*?)^```$", text, re.DOTALL | re.MULTILINE)
-        fault = runs.other_text(found[1], path.read_bytes()) if found else "there is no such block"
-        rows.row(f"{page.name}, {path.name} of {crate.name}", [fault] if fault else [])
+    for kind, path in what:
+        found, wanted = re.findall(b"^```" + kind + rb"\n(.*?)^```$", text, re.DOTALL | re.MULTILINE), (crate / path).read_bytes()
+        others = [runs.other_text(block, wanted) for block in found]
+        fault = None if None in others else others[0] if others else "there is no such block"
+        rows.row(f"{page.name}, {path} of {crate.name}", [fault] if fault else [])
 
 
 def commands(number, block):
@@ -255,7 +257,8 @@ def main():
     rows = runs.Rows("docs", words.verbose)
     show_examples(rows, words.program, words.top / "examples")
     show_table_rows(rows, words.program, words.top / "docs" / "LANGUAGE.md")
-    show_library(rows, words.top / "docs" / "LIBRARY.md", words.top / "crates" / "step_by_step")
+    for crate, what in PROGRAMS.items():
+        show_library(rows, words.top / "docs" / "LIBRARY.md", words.top / "crates" / crate, what)
     pages = [words.top / "README.md", *sorted((words.top / "docs").glob("*.md"))]
     page_names.check(rows, words.top, pages)
     for path in pages:

@@ -5,7 +5,8 @@
 - for each script of examples/ that isn't refused: its picture, whole and a part of it, has a box for each item that begins
   one, and they lie in one another; its trace has an end for each beginning, by name and in order, and time never goes back;
   and each call ran what its site was meant to be at some command of its window, so the model of the sites fits the log; each module
-  that comes and goes has a row, and each call of a function of one is made while that is loaded;
+  that comes and goes has a row, and each call of a function of one is made while that is loaded; with rings, the entries that are drawn as
+  held are those of NAME.rings, there is a row for each trigger, and as many of its marks are filled as it fired there;
 - that model by itself: what filter texts select, the globs of docs/LANGUAGE.md among them; and which commands a window has;
 - what can't be drawn, which ends with status 1, a reason and no file.
 
@@ -28,6 +29,7 @@ import log_desk  # noqa: E402
 import log_reader  # noqa: E402
 import log_svg  # noqa: E402
 import log_trace  # noqa: E402
+import rings_of_log  # noqa: E402
 import runs  # noqa: E402
 
 TOOL = pathlib.Path(__file__).resolve().parent / "draw_log.py"
@@ -39,6 +41,8 @@ KEPT = {
     "one_trampoline": ("one_trampoline", [], True),
     "module_unloaded": ("module_unloaded", [], True),
     "preempted_in_callback": ("preempted_in_callback", ["--window", "10.1"], True),
+    "ring_stops": ("ring_stops", [], True),
+    "trigger_counts": ("trigger_counts", [], False),
     "two_cpus_of_realistic": ("realistic", ["--from", "12", "--to", "72"], False),
 }
 # The items that begin a box and those that end it, with the class of the box; a refusal and a miss are one item.
@@ -55,6 +59,8 @@ TEXTS = {"2": [1], "0002": [1], "ext3_*": [1, 2], "*read": [0, 1], "*:mod:ext3":
 WINDOW_SCRIPT = "ftrace 1;func a;user t function;cpu 0 quantum 9;task 10 cpu 0;call a;ret;ctl unregister t;ctl register t;"
 WINDOW_LOG = "0 begin 1;1 enter 10.1 normal a -;2 return 1 not-there;3 begin 2;4 body 10.1 a nop;5 leave 10.1;6 ret 10.1 -;7 return 2 ok;end;"
 BEGIN = re.compile(r"^\d+ begin (\d+) lane (\d+)$", re.M)
+ENTRY = re.compile(r"^.{16} *(\d+): ", re.M)  # in the form rings
+FIRED = re.compile(r"^# trigger \d+ fired (\d+)$", re.M)
 SVG = "{http://www.w3.org/2000/svg}"
 NEAR = 0.2  # lengths are rounded
 
@@ -217,6 +223,23 @@ def module_row_faults(text, script):
     return [] if rows == wanted else [f"the rows of modules are {rows}, not {wanted}"]
 
 
+# Rings.
+
+def ring_faults(text, printed):
+    """What is wrong with what a picture of the whole history tells of rings, by what was printed of these."""
+    groups = ElementTree.fromstring(text).iter(f"{SVG}g")
+    held, drawn = [], []
+    for group in groups:
+        kinds = group.get("class", "").split(" ")
+        if kinds[0] == "entry" and "held" in kinds:
+            held.append(int(group.find(f"{SVG}title").text.split(" ")[0]))
+        if kinds == ["row", "trigger"]:
+            drawn.append(len(group.findall(f"{SVG}g/{SVG}path[@class='fetch']")))
+    wanted, fired = [int(place) for place in ENTRY.findall(printed)], [int(count) for count in FIRED.findall(printed)]
+    found = [] if sorted(held) == sorted(wanted) else [f"the entries {sorted(held)} are drawn as held, not {sorted(wanted)}"]
+    return found + ([] if drawn == fired else [f"the triggers are drawn as fired {drawn} times, not {fired}"])
+
+
 def check_texts(rows, page):
     """What globs match, and what filter texts select."""
     globs = [cells for _, head, cells in check_docs.table_rows(page.read_text()) if head == ["pattern", "name", "matches"]]
@@ -256,6 +279,9 @@ def check_examples(rows, folder):
         rows.row(f"{folder.name}/{path.name}, sites", site_faults(script, history))
         if control_lines.changing(script):
             rows.row(f"{folder.name}/{path.name}, modules", module_faults(script, history))
+        if rings_of_log.says_something(script) and path.with_suffix(".rings").exists():
+            text = log_svg.Picture(script, history, path.stem, 0, count - 1).whole()
+            rows.row(f"{folder.name}/{path.name}, rings", ring_faults(text, path.with_suffix(".rings").read_text()))
 
 
 # What can't be drawn.

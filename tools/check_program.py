@@ -323,12 +323,17 @@ def until(number):
     return script(FUNCTION, TASK, CALL, f"ctl until 10 {number}")
 
 
-def depth(number):
-    return script(FUNCTION, f"depth {number}", TASK, CALL)
+def sized(word):
+    """Makes a script with a line of this word and a number."""
+    return lambda number: script(FUNCTION, f"{word} {number}", TASK, CALL)
 
 
-def tramps(number):
-    return script(FUNCTION, f"tramps {number}", TASK, CALL)
+def triggers(count):
+    return script(FUNCTION, ["trigger *:traceoff"] * count, TASK, CALL)
+
+
+def trigger_limit(number):
+    return script(FUNCTION, f"trigger a:traceoff:{number}", TASK, CALL)
 
 
 def graph_depth(number):
@@ -443,10 +448,15 @@ LIMITS = [
     Limit("least pid of a list", listed_pid, 1, "end", 7, 0, "line 8: limit"),
     Limit("N of after", after, 1, "end", 9, 0, "line 6: limit"),
     Limit("N of until", until, 1, "end", 5, 0, "line 7: limit"),
-    Limit("depth", depth, forms.FRAMES, "end", 5, forms.FRAMES + 1, "line 3: limit"),
-    Limit("least depth", depth, 1, "end", 5, 0, "line 3: limit"),
-    Limit("tramps", tramps, ONE.tramps, "end", 5, ONE.tramps + 1, "line 3: limit"),
-    Limit("tramps, version 2", in_version_2(tramps), TWO.tramps, "end", 5, TWO.tramps + 1, "line 3: limit"),
+    Limit("depth", sized("depth"), forms.FRAMES, "end", 5, forms.FRAMES + 1, "line 3: limit"),
+    Limit("least depth", sized("depth"), 1, "end", 5, 0, "line 3: limit"),
+    Limit("tramps", sized("tramps"), ONE.tramps, "end", 5, ONE.tramps + 1, "line 3: limit"),
+    Limit("tramps, version 2", in_version_2(sized("tramps")), TWO.tramps, "end", 5, TWO.tramps + 1, "line 3: limit"),
+    Limit("ring", sized("ring"), forms.RING, "end", 5, forms.RING + 1, "line 3: limit"),
+    Limit("least ring", sized("ring"), 1, "end", 5, 0, "line 3: limit"),
+    Limit("triggers", triggers, forms.TRIGGERS, "end", 5, forms.TRIGGERS + 1, "line 11: limit"),
+    Limit("count of a trigger", trigger_limit, forms.TRIGGER_LIMIT, "end", 5, forms.TRIGGER_LIMIT + 1, "line 3: pattern"),
+    Limit("least count of a trigger", trigger_limit, 1, "end", 5, 0, "line 3: pattern"),
     Limit("maxdepth", graph_depth, forms.GRAPH_DEPTH, "end", 7, forms.GRAPH_DEPTH + 1, "line 7: limit"),
     Limit("glob", glob, forms.PATTERN_BYTES, "end", 3, forms.PATTERN_BYTES + 1, "line 4: pattern"),
     # the most bytes, and scripts whose time could grow faster than their size
@@ -502,10 +512,11 @@ def nests():
 
 
 def nests_lines():
-    """How many lines that script prints in each form. In a call 16 users are called back, of which 12 have an exit."""
+    """How many lines that script prints in each form. In a call 16 users are called back, of which 12 have an exit. Each ring is full."""
     calls = NEST * NESTS * forms.TASKS
     graph = 1 + (2 * NEST - 1) * NESTS * forms.TASKS  # a heading; the innermost call of a nest has one line
-    return {"log": 2 * forms.VERSION_1.users + calls * (4 + 2 * 16 + 2 * 12) + 1, "function": 4 * calls + 1, "graph": 4 * graph + 1, "profile": 4 * 2 + 4 + 1, "enabled": 2}
+    counts = {"log": 2 * forms.VERSION_1.users + calls * (4 + 2 * 16 + 2 * 12) + 1, "function": 4 * calls + 1, "graph": 4 * graph + 1}
+    return {**counts, "profile": 4 * 2 + 4 + 1, "enabled": 2, "rings": forms.CPUS * (1 + forms.LIMITS["USUAL_RING"]) + 1}
 
 
 def check_forms(rows, program):
@@ -522,7 +533,7 @@ def check_forms(rows, program):
 ORDERED = ["answers", "contexts", "filters", "first_path", "fprobe_cancel", "fprobe_exit", "full_shadow_stack", "graph", "graph_depth"]
 ORDERED += ["interrupted_callback", "ipmodify", "list_then_own", "missed_exit", "module_busy", "module_loaded", "module_patched"]
 ORDERED += ["module_unloaded", "nested_calls", "no_trampoline", "profile", "refused_depth"]
-ORDERED += ["recursion_in_interrupt", "recursion_once", "refused_recursion", "registered_again", "seventeen_users", "unregistered_in_call", "until"]
+ORDERED += ["recursion_in_interrupt", "recursion_once", "refused_recursion", "registered_again", "ring_stops", "seventeen_users", "unregistered_in_call", "until"]
 RUN_SECONDS = 60  # that a run may take
 
 

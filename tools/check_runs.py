@@ -7,8 +7,9 @@ repository. The N scripts of each source have the seeds from S on:
     plain      script_forms.py
     viewed     viewed_scripts.py, scripts that most forms have lines of
     laned      the same with lanes
+    ringed     the same with rings and triggers
     loading    the same with modules that come and go
-    generated  `REFERENCE gen`, half of them of version 2, half of them with lanes, and half of them with modules
+    generated  `REFERENCE gen`, half of them of version 2, half of them with lanes, half of them with modules, and half of them with rings
     crowded    script_forms.py, with a task of calls more on each of the most CPUs, up to the most tasks;
                half of those without modules that come and go have lanes
 
@@ -40,7 +41,8 @@ import viewed_scripts  # noqa: E402
 FOLDER = pathlib.Path(tempfile.gettempdir()) / "run-faults"
 WORKERS = 2
 SECONDS = 120
-VIEWED = ["viewed", "laned", "loading"]
+VIEWED = ["viewed", "laned", "ringed", "loading"]
+HEAD = ["func", "depth", "tramps", "absent", "ring", "tracing", "trigger", "user"]  # the lines of a script that `crowded` keeps
 SOURCES = ["plain", *VIEWED, "generated", "crowded"]
 
 
@@ -58,7 +60,7 @@ class Ran(NamedTuple):
 def crowded(seed):
     """A script whose CPUs and tasks are as many as there may be, each task with calls of a script of this seed, of functions that stay."""
     lines = script_forms.script(seed).decode().splitlines()
-    head = [" ".join(lines[0].split())] + [line for line in lines if line.split(" ", 1)[0] in ("func", "depth", "tramps", "absent", "user")]
+    head = [" ".join(lines[0].split())] + [line for line in lines if line.split(" ", 1)[0] in HEAD]
     control = [line.split() for line in lines if line.startswith("ctl ") and line.split()[1] not in ("until", "pid", "nopid")]
     changing = {line.split()[1] for line in head if line.startswith("absent ")} | {words[2] for words in control if words[1] in control_lines.LOADS}
     if seed % 2 and not changing:

@@ -8,15 +8,16 @@ repository. The N scripts of each source have the seeds from S on:
     mutated    broken_scripts.py, slightly broken ones
     viewed     viewed_scripts.py, scripts that most forms have lines of
     laned      the same with lanes
+    ringed     the same with rings and triggers
     loading    the same with modules that come and go
     uncovered  the same, but a call may find its module unloaded
-    generated  `REFERENCE gen`, half of them of version 2, half of them with lanes, and half of them with
-               modules; each second one through `REFERENCE mutate`
+    generated  `REFERENCE gen`, half of them of version 2, half of them with lanes, half of them with
+               modules, and half of them with rings; each second one through `REFERENCE mutate`
     stepped    `REFERENCE gen`, with a schedule of single steps in place of its own, which chooses the
                turn of every load and store
 
 Each script goes through `PROGRAM replay --print FORM` and `REFERENCE --machine e2 --features
-v2,lanes,modules replay --print FORM`, for each form of --forms: all six, if it isn't given. They agree exactly if status
+v2,lanes,modules,rings replay --print FORM`, for each form of --forms: all seven, if it isn't given. They agree exactly if status
 and bytes are the same and PROGRAM writes nothing to standard error.
 
 With --bulk M there is a sixth source, bulk, of M seeds: S and those after it, but each fourth one is among
@@ -32,7 +33,7 @@ At the end there is a line for each source: what became of its scripts, and how 
 tells something in each form. `# user U`, an fprobe without hits, and the last line tell nothing.
 
 To try the comparison itself, let PROGRAM be a script that runs
-`REFERENCE --machine e2 --features v2,lanes,modules "$@"`: then nothing differs.
+`REFERENCE --machine e2 --features v2,lanes,modules,rings "$@"`: then nothing differs.
 """
 import argparse
 import collections
@@ -127,7 +128,7 @@ def cause_of(ours):
 
 def replaying(reference):
     """The other program, with the machine and the language that are ftcore's."""
-    return [reference, "--machine", "e2", "--features", "v2,lanes,modules"]
+    return [reference, "--machine", "e2", "--features", "v2,lanes,modules,rings"]
 
 
 def words_of(options, source, seed):
@@ -184,7 +185,7 @@ def read_options():
     parser.add_argument("program", metavar="PROGRAM", help="the program, as crates/ftcore/out/ftcore")
     parser.add_argument("reference", metavar="REFERENCE", help="the other program")
     parser.add_argument("--count", type=int, required=True, metavar="N", help="scripts of each source but bulk")
-    parser.add_argument("--forms", type=runs.names_of(text_lines.FORMS), default=text_lines.FORMS, metavar="FORM,..", help="the forms, else all six")
+    parser.add_argument("--forms", type=runs.names_of(text_lines.FORMS), default=text_lines.FORMS, metavar="FORM,..", help="the forms, else all seven")
     parser.add_argument("--bulk", type=int, default=0, metavar="M", help="seeds of bulk, else none")
     parser.add_argument("--seed", type=int, default=0, metavar="S", help="the first seed, else 0")
     parser.add_argument("--sources", type=runs.names_of(SOURCES), default=SOURCES, metavar="SOURCE,..", help="the sources but bulk, else all")

@@ -18,10 +18,16 @@ before the first line have `hides ext3`. Above the call sites is a row for each 
 loaded and, hatched, when the commands of a line that loads or unloads it are under way. The log tells
 nothing of modules: all this is worked out from the script.
 
+If the script has a line `ring`, `tracing off` or `trigger`, there is a row below the tasks that says when
+tracing is on, and a row for each trigger with a mark for each call that hits it, filled if it fires. The
+box of an entry callback that a ring holds in the end has a thick edge. The log tells nothing of rings:
+they are those of the history gone through by place, as a replay prints them; a run by threads may have
+kept others.
+
 The trace is for https://ui.perfetto.dev or chrome://tracing, which open it as a file. One place of the
 log is a millisecond there. Control and the CPUs are processes; lanes are threads of control, and tasks are
 threads of their CPUs. Arrows go from a command that turns a user on to the user's first callback, and from
-the last one to the command that turns it off. The trace is always of the whole log.
+the last one to the command that turns it off. The trace is always of the whole log, and has nothing of rings.
 """
 import argparse
 import pathlib

@@ -1,7 +1,7 @@
 """Scripts that are at all limits of a version at once, and how much memory the longest log takes.
 
 What a crate does for a small job it has to do for the largest one too: these scripts have as many functions, users,
-trampolines, CPUs, tasks, commands, waits and acts as a version allows, so that nothing gives up between the sizes
+trampolines, CPUs, tasks, triggers, commands, waits and acts as a version allows, and the largest rings, so that nothing gives up between the sizes
 that other rows have. Half of them have modules that come and go, whose lines are most of the commands.
 """
 import itertools
@@ -43,8 +43,9 @@ def text_of(lines):
 
 
 def machine(version, absent):
-    """The sizes of the machine, the modules that are absent, the users and the CPUs."""
-    lines = [f"depth {forms.FRAMES}", f"tramps {version.tramps}", *absent]
+    """The sizes of the machine, the modules that are absent, the triggers, the users and the CPUs."""
+    lines = [f"depth {forms.FRAMES}", f"tramps {version.tramps}", *absent, f"ring {forms.RING}"]
+    lines += [f"trigger f*{number}:{('traceoff', 'traceon')[number % 2]}:{forms.TRIGGER_LIMIT}" for number in range(forms.TRIGGERS)]
     lines += [f"user u{number} function" for number in range(version.users)]
     return lines + [f"cpu {cpu} quantum 100" for cpu in range(forms.CPUS)]
 
@@ -85,8 +86,9 @@ def check_full(rows, program):
         for form in [] if found else views_of_log.VIEWS:
             came = runs.answer([program, "replay", "--print", form], text, SECONDS)
             rows.row(f"{what}: {form}", runs.faults(came, 0, views_of_log.text(form, text, log.out)), came.seconds)
-        came = runs.answer([program, "run"], text, RUN_SECONDS)
-        rows.row(f"{what}: run", command_words.run_faults(came, "log"), came.seconds)
+        form = "log" if make is script_with_modules else "rings"
+        came = runs.answer([program, "run", "--print", form], text, RUN_SECONDS)
+        rows.row(f"{what}: run, {form}", command_words.run_faults(came, form), came.seconds)
 
 
 def check_memory_of_log(rows, program):

@@ -40,6 +40,14 @@ class User(NamedTuple):
     needs: List[str]  # the functions that it puts in the place of others, and that its callbacks call
 
 
+class Trigger(NamedTuple):
+    """What calls of the functions whose names a glob matches make of tracing, and how often they may; None if that has no limit."""
+
+    glob: str
+    is_on: bool
+    limit: Optional[int]
+
+
 class Script(NamedTuple):
     """What a script declares, each in the order of its lines; what its lines of control come to is in control_lines.py."""
 
@@ -52,6 +60,10 @@ class Script(NamedTuple):
     lanes: List[List[int]]  # the commands of each lane, by their numbers from 0; none if the script has no lanes
     commands: List[control_lines.Command] = []
     module_lines: List[control_lines.ModuleLine] = []  # the loads and unloads
+    cpus: int = 0
+    ring: int = limits.LIMITS["USUAL_RING"]  # how many entries a CPU's ring holds
+    is_tracing: bool = True  # whether tracing is on at first
+    triggers: List[Trigger] = []
 
 
 @dataclasses.dataclass(eq=False)
@@ -103,11 +115,18 @@ def user_of(words):
     return User(words[1], words[2], has_regs, is_replacing, needs + options[options[:1] == ["pid"] :][1:2])
 
 
+def trigger_of(text):
+    """The trigger of a line's text."""
+    glob, word, *limit = text.split(":")
+    return Trigger(glob, word == "traceon", int(limit[0]) if limit else None)
+
+
 def read_script(text):
     """What the script with these bytes declares."""
     lines = text.decode("latin-1").split("\n")
     slots = limits.version_of(lines[0].split()).tramps  # if the script doesn't say how many
-    script = Script([], slots, [], {}, {}, [], [])
+    ring, is_tracing, cpus = limits.LIMITS["USUAL_RING"], True, 0
+    script = Script([], slots, [], {}, {}, [], [], triggers=[])
     for number, line in enumerate(lines, 1):
         words = line.split()
         try:
@@ -117,8 +136,16 @@ def read_script(text):
                 slots = int(words[1])
             elif words[:1] == ["absent"]:
                 script.absent.append(words[1])
+            elif words[:1] == ["ring"]:
+                ring = int(words[1])
+            elif words[:1] == ["tracing"]:
+                is_tracing = False
+            elif words[:1] == ["trigger"]:
+                script.triggers.append(trigger_of(words[1]))
             elif words[:1] == ["user"]:
                 script.users[words[1]] = user_of(words)
+            elif words[:1] == ["cpu"]:
+                cpus += 1
             elif words[:1] == ["task"]:
                 script.tasks[int(words[1])] = int(words[3])
             elif words[:1] == ["lane"]:
@@ -130,7 +157,7 @@ def read_script(text):
         except (IndexError, ValueError):
             raise Fault(f"line {number} of the script has no form: {line.strip()[:60]!r}") from None
     commands, module_lines = control_lines.expanded(script)
-    return script._replace(slots=slots, commands=commands, module_lines=module_lines)
+    return script._replace(slots=slots, commands=commands, module_lines=module_lines, cpus=cpus, ring=ring, is_tracing=is_tracing)
 
 
 class Turns:

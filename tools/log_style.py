@@ -17,7 +17,7 @@ SHAPES = """
     .refusal rect { stroke-dasharray: 4 2 }
     .miss rect { stroke-dasharray: 1 2 }
     .row .tag, .row .page { stroke: none }
-    .in-window rect { stroke-width: 2.5 }
+    .in-window rect, .held rect { stroke-width: 2.5 }
     .changing rect:first-child { fill: url(#hatch) }
     .window rect { fill-opacity: .13; stroke-width: 1.2; stroke-dasharray: 6 3; pointer-events: none }
 """

@@ -1,5 +1,5 @@
-"""The picture of a history: an SVG with a column for each item, in which control or each of its lanes, each task, each module that comes and
-goes, and each call site has a row."""
+"""The picture of a history: an SVG with a column for each item, in which control or each of its lanes, each task, tracing and each trigger, each
+module that comes and goes, and each call site has a row."""
 import html
 import math
 
@@ -7,6 +7,7 @@ import control_lines
 import log_desk
 import log_reader
 import log_style
+import rings_of_log
 
 CELL = 26  # the least width of a column
 LEAD = 52  # before the first column: what was before, or is cut off
@@ -32,7 +33,9 @@ HATCH = '<pattern id="hatch" width="6" height="6" patternUnits="userSpaceOnUse">
 DESCRIPTION = "Above are the commands of control, below them the calls of each task with the callbacks in them, "
 DESCRIPTION += "and at the bottom what the call site of each function is meant to be."
 OF_MODULES = " Above these is when each module that comes and goes is loaded."
+OF_RINGS = " Below the tasks is when tracing is on, and which calls hit a trigger."
 MODULES_SHOW = "modules: when each is loaded, by the commands that have returned"
+TRACING_SHOWS = "tracing: when it is on, and which calls hit a trigger, if the history is gone through by place"
 SITES_SHOW = "call sites: what each is meant to be, by the commands that have returned"
 
 
@@ -79,8 +82,11 @@ def icon(what, x, y):
     return path("icon", f"M{plain(x)} {plain(y)}{ICONS[what]}")
 
 
-# What a module is, and as which shape of a site it is drawn.
+# What a module or tracing is, and as which shape of a site it is drawn.
 OF_MODULE = {log_desk.LOADED: "normal", log_desk.AWAY: log_desk.NOP}
+OF_TRACING = {rings_of_log.ON: "normal", rings_of_log.OFF: log_desk.NOP}
+# The mark of a hit of a trigger, from its left corner: filled if it fires.
+HIT = "l4.5-4.5l4.5 4.5l-4.5 4.5z"
 
 # What the key explains if it is in the picture: the classes of its sample, the sample, and what it means.
 SAMPLE = '<rect width="26" height="14"/>'
@@ -89,12 +95,15 @@ KEY = [
     ("body", "row body", SAMPLE, "its body, and what its site called"),
     ("entry", "row entry u0", SAMPLE + icon("entry", 10, 2.5), "entry callback of a user"),
     ("exit", "row exit u0", SAMPLE + icon("exit", 9, 2.5), "exit callback"),
+    ("held", "row entry u0 held", SAMPLE + icon("entry", 10, 2.5), "an entry that its ring holds in the end"),
     ("refusal", "row refusal u0", SAMPLE + icon("refusal", 8.5, 2.5), "callback refused, and why"),
     ("miss", "row miss u0", SAMPLE + icon("miss", 8.5, 2.5), "exit missed"),
     ("refused", "row command refused u0", SAMPLE, "command that isn't accepted"),
     ("returns", "row", path("returns", "M13 0v14"), "a command has returned"),
     ("changing", "row changing", SAMPLE, "site while a command changes it"),
     ("loading", "row changing", SAMPLE, "module while it is loaded or unloaded"),
+    ("fires", "row", path("fetch", f"M9 7{HIT}"), "a trigger is hit, and fires"),
+    ("hit", "row", path("line", f"M9 7{HIT}"), "a trigger is hit, and doesn't fire"),
     ("fetch", "row", path("fetch", "M10 5h7l-3.5 5z"), "a call's body begins"),
     ("cut", "row call normal", '<rect width="26" height="14" stroke-dasharray="26 14 40 0"/>', "goes on outside, or wasn't over"),
 ]
@@ -178,6 +187,9 @@ class Picture:
         self.commands = self.seen(history.commands)
         self.tasks = {pid: self.seen(boxes) for pid, boxes in history.tasks.items()}
         self.modules = {module: self.shown(log_desk.module_spans(script, history.commands, module)) for module in control_lines.changing(script)}
+        self.is_ringed, items = rings_of_log.says_something(script), [line.split(" ")[1:] for line in history.lines]
+        self.traced, self.rings = rings_of_log.traced(script, items), rings_of_log.by_place(script, items)
+        self.held = {place for held in self.rings.held for place in held} if self.is_ringed else set()
         self.sites = self.site_rows()
         boxes = [box for boxes in [self.commands, *self.tasks.values()] for box in boxes]
         needs = [(box.begin, last if box.end is None else box.end, wanted_width(box)) for box in boxes]
@@ -203,8 +215,14 @@ class Picture:
         """Where the rows begin, after their headings."""
         headings = ["lane 0 control" if self.script.lanes else "control"] + [f"task {pid} CPU {cpu}" for pid, cpu in self.script.tasks.items()]
         headings += [f"{short(module, 20)} module" for module in self.modules]
+        headings += [" ".join(part for _, part in self.trigger_heading(number)) for number in range(len(self.script.triggers))]
         headings += [" ".join(part for _, part in self.site_heading(numbers)) for _, numbers in self.sites]
         return max(map(width_of, headings)) + 3 * GAP
+
+    def trigger_heading(self, number):
+        trigger = self.script.triggers[number]
+        limit = "" if trigger.limit is None else f":{trigger.limit}"
+        return [("name", f"trigger {number}"), ("muted", f"{short(trigger.glob, 20)}:trace{'on' if trigger.is_on else 'off'}{limit}")]
 
     def site_heading(self, numbers):
         function, others = self.script.functions[numbers[0]], len(numbers) - 1
@@ -261,6 +279,7 @@ class Picture:
     def box(self, box, y, height):
         """A box of a task."""
         classes = [box.what] + ([self.hues[box.name]] if box.what in ICONS else [box.note] if box.what == "call" else [])
+        classes += ["held"] * (box.what == "entry" and box.begin in self.held)
         left, edges = self.rect(box, y, height)
         x = left + 6 + (13 if box.what in ICONS else 0)
         self.uses.update(classes)
@@ -310,6 +329,29 @@ class Picture:
                 levels[box.parent] = max(levels[box.parent], levels[box] + 1)
         return levels
 
+    def tracing_rows(self):
+        """When tracing is on, and below it a row for each trigger, on one ground."""
+        self.panel(2 * GAP + 16 + SITE * (1 + len(self.script.triggers)), above=GAP + 16, has_returns=False)
+        self.add(text(2 * GAP, self.y + GAP + 11, TRACING_SHOWS, "words muted"))
+        self.y += GAP + 18
+        self.add('<g class="row tracing"><title>tracing</title>', text(2 * GAP, self.y + 15, "tracing", "name"))
+        for span in self.shown(rings_of_log.spans(self.script, self.rings)):
+            self.span(span, self.y + 3)
+        self.add("</g>")
+        for number, fired in enumerate(self.rings.fired):
+            self.y += SITE
+            self.add(f'<g class="row trigger" id="trigger-{number}">', text(2 * GAP, self.y + 15, self.trigger_heading(number)))
+            for place in [place for place, hit in self.traced.hits.items() if number in hit and self.first <= place <= self.last]:
+                self.hit(place, place in fired)
+            self.add("</g>")
+        self.y += SITE + GAP - 2
+
+    def hit(self, place, fires):
+        """A call that hits a trigger."""
+        self.uses.add("fires" if fires else "hit")
+        mark = path("fetch" if fires else "line", f"M{plain(self.columns.left(place) + INSET)} {plain(self.y + 11.5)}{HIT}")
+        self.add(f"<g><title>{escaped(self.history.lines[place])}</title>{mark}</g>")
+
     def module_rows(self):
         """The rows of the modules that come and go, on one ground."""
         self.panel(2 * GAP + 16 + SITE * len(self.modules), above=GAP + 16)
@@ -351,11 +393,11 @@ class Picture:
         return places
 
     def span(self, span, y):
-        """A site as it is meant to be for a while, or while it is changed; or a module, which is drawn as a site if it isn't loaded."""
+        """A site as it is meant to be for a while, or while it is changed; or a module, or tracing, drawn as sites are."""
         left = self.columns.left(span.begin)
         right = self.columns.end if span.end is None or span.end > self.last + 1 else self.columns.left(span.end)
         is_module = span.target in OF_MODULE
-        kind = "changing" if span.later else OF_MODULE.get(span.target) or span.target.split(" ")[0]
+        kind = "changing" if span.later else {**OF_MODULE, **OF_TRACING}.get(span.target) or span.target.split(" ")[0]
         words = short(f"{span.target} → {span.later}" if span.later else span.target)
         words = words if width_of(words) + (HATCHED if span.later else 10) <= right - left else ""
         self.uses.add("loading" if span.later and is_module else kind)
@@ -426,6 +468,9 @@ class Picture:
             self.y += GAP
             self.cpu(cpu, [pid for pid, on in self.script.tasks.items() if on == cpu])
         self.y += GAP
+        if self.is_ringed:
+            self.tracing_rows()
+            self.y += GAP
         if self.modules:
             self.module_rows()
             self.y += GAP
@@ -443,7 +488,7 @@ class Picture:
         self.key()
         width, height = plain(self.columns.end + 2 * GAP), plain(self.y + GAP)
         head = f'<svg xmlns="http://www.w3.org/2000/svg" width="{width}" height="{height}" viewBox="0 0 {width} {height}" role="img">'
-        said = DESCRIPTION + (OF_MODULES if self.modules else "")
+        said = DESCRIPTION + (OF_MODULES if self.modules else "") + (OF_RINGS if self.is_ringed else "")
         parts = [f"<title>{escaped(self.name)}</title>", f"<desc>{said}</desc>", log_style.style(len(self.script.users)), f"<defs>{HATCH}</defs>"]
         parts += [f'<rect class="page" width="{width}" height="{height}"/>', *self.ground]
         return "\n".join([head, *["  " + part for part in parts], *self.parts, "</svg>", ""])

@@ -4,13 +4,13 @@ The other program, REFERENCE, was written from the same rules by other hands, an
 number, the seed, gives a row of scripts, the same ones in the same order each time; how many are taken depends on
 the minutes. Each is one of
 
-    plain, mutated, viewed, laned, loading, uncovered, generated   those of compare_scripts.py
-    crowded                                                        those of check_runs.py, with the most CPUs and tasks
+    plain, mutated, viewed, laned, ringed, loading, uncovered, generated   those of compare_scripts.py
+    crowded                                                                those of check_runs.py, with the most CPUs and tasks
 
 Half of them get quanta from 1 to 20. Half get another schedule: one of single steps, or a hostile one, which holds an
 actor after some steps, in the midst of a command or a call, while another goes on. Each script is
 
-- replayed in the six forms by both: status and bytes have to be the same;
+- replayed in the seven forms by both: status and bytes have to be the same;
 - judged: REFERENCE has to call the log of its replay legal, and whole if it comes to its end;
 - run by threads: REFERENCE has to call the log whole, that of a script with lanes as one of the script without them, whose commands
   are in the order that the log tells; and a script that is refused has to get the same line.
@@ -38,7 +38,7 @@ import script_forms
 import text_lines
 
 FOLDER = pathlib.Path(tempfile.gettempdir()) / "long-check"
-SOURCES = ["plain"] * 3 + ["mutated"] * 3 + ["viewed"] * 2 + ["laned"] * 3 + ["loading"] * 3
+SOURCES = ["plain"] * 3 + ["mutated"] * 3 + ["viewed"] * 2 + ["laned"] * 3 + ["ringed"] * 3 + ["loading"] * 3
 SOURCES += ["uncovered"] + ["generated"] * 3 + ["crowded"]
 SCHEDULES = ["own", "own", "steps", "hostile"]
 MOST_QUANTUM = 20

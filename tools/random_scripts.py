@@ -43,6 +43,7 @@ def check(rows, program):
         check_accepted(rows, program, f"script_forms.py --seed {seed}", forms.script(seed))
         check_accepted(rows, program, f"viewed_scripts.py --seed {seed}", viewed_scripts.script(seed))
         check_accepted(rows, program, f"viewed_scripts.py --seed {seed} --lanes", viewed_scripts.laned(seed))
+        check_accepted(rows, program, f"viewed_scripts.py --seed {seed} --rings", viewed_scripts.ringed(seed))
         check_accepted(rows, program, f"viewed_scripts.py --seed {seed} --modules", viewed_scripts.loading(seed))
         check_uncovered(rows, program, seed)
         form = text_lines.FORMS[seed % len(text_lines.FORMS)]

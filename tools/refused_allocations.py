@@ -8,9 +8,9 @@ neither it nor any call after it does; and for every N up to the last thread, so
 threads. Each run has to end with status 6 and write nothing, or with status 0 and the whole text; if only
 the start of a thread is refused, with the latter. Nothing may be written to standard error.
 
-Three scripts are replayed and run, in each form: that of README.md, one with a user of each kind and
-option, and examples/module_patched.ft, whose module comes and goes; their waits leave one order of what
-happens. examples/realistic.ft is replayed alone, and examples/unregistered_by_another.ft is run: it has two
+Four scripts are replayed and run, in each form: that of README.md, one with a user of each kind and
+option, examples/module_patched.ft, whose module comes and goes, and examples/ring_stops.ft, which has a
+ring and a trigger; their waits leave one order of what happens. examples/realistic.ft is replayed alone, and examples/unregistered_by_another.ft is run: it has two
 lanes, and each order of their commands has its own texts. From the 1,000th call on, as only `bulk` makes
 them, each step is a hundredth of the way.
 
@@ -149,7 +149,7 @@ def texts_of_orders(program, text, form):
 def orders(program, top):
     """What is run, and the texts of which it is to print one."""
     scripts = [("README.md's script", check_program.SCRIPT, ["replay", "run"]), ("a user of each kind", EACH_KIND, ["replay", "run"])]
-    scripts.append(("module_patched.ft", (top / "examples" / "module_patched.ft").read_bytes(), ["replay", "run"]))
+    scripts += [(f"{name}.ft", (top / "examples" / f"{name}.ft").read_bytes(), ["replay", "run"]) for name in ("module_patched", "ring_stops")]
     scripts.append(("realistic.ft", (top / "examples" / "realistic.ft").read_bytes(), ["replay"]))
     for what, text, modes in scripts:
         for form in text_lines.FORMS:

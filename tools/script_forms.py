@@ -36,6 +36,9 @@ NAME_BYTES = LIMITS["NAME_BYTES"]
 PATTERN_BYTES = LIMITS["PATTERN_BYTES"]
 FRAMES = LIMITS["FRAMES"]
 GRAPH_DEPTH = LIMITS["GRAPH_DEPTH"]
+RING = LIMITS["RING"]
+TRIGGERS = LIMITS["TRIGGERS"]
+TRIGGER_LIMIT = LIMITS["TRIGGER_LIMIT"]
 INPUT_BYTES = LIMITS["INPUT_BYTES"]
 DIGITS = 10
 
@@ -160,6 +163,22 @@ def commands(rng, users, functions, tasks, count):
     return lines
 
 
+# Rings and triggers.
+
+def trigger_text(rng, functions):
+    """The text of a trigger that is accepted; most of those with a limit are hit more often."""
+    limit = rng.choice([1, 1, 2, 3, rng.randint(1, 20), TRIGGER_LIMIT])
+    told = f":{str(limit).rjust(rng.choice([1, 1, 1, 7]), '0')}" if rng.random() < 0.6 else ""
+    return f"{rng.choice(functions * 3 + GLOBS)}:{rng.choice(['traceon', 'traceoff'])}{told}"
+
+
+def rings(rng, functions, most=RING):
+    """Lines about rings, tracing and triggers, each of which may be missing. A ring holds so many entries at most."""
+    lines = [["ring", numeral(rng, rng.choice([1, 1, 2, 3, 5, most, rng.randint(1, most)]))]] * (rng.random() < 0.7)
+    lines += [["tracing", "off"]] * (rng.random() < 0.4)
+    return lines + [["trigger", trigger_text(rng, functions)] for _ in range(rng.choice([0, 1, 1, 2, 3, TRIGGERS]))]
+
+
 # Modules that come and go.
 
 def owners_of(rng, functions):
@@ -276,6 +295,7 @@ def plain(rng):
     sizes = [["depth", numeral(rng, rng.choice([1, 2, 3, FRAMES]))]] if rng.random() < 0.4 else []
     sizes += [["tramps", numeral(rng, rng.choice([0, 1, 2, version.tramps]))]] if rng.random() < 0.4 else []
     sizes += [["absent", module] for module in changing if rng.random() < 0.6]
+    sizes += rings(rng, functions) if rng.random() < 0.3 else []
     cpus = rng.choice([0, 1, 1, 2, 2, 3, 5, CPUS])
     pids = rng.sample(PIDS, rng.choice([0, 1, 2, 3, cpus, cpus, 2 * cpus, 3 * cpus, TASKS if scale > 1 else 4])) if cpus else []
     deepest, most = rng.choice([1, 2, 3, 8, 40]), max(4, 12 * scale * cpus // max(1, len(pids)))

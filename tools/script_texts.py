@@ -48,6 +48,24 @@ SCRIPTS = [
         {"log": "0 begin 1; 1 return 1 ok; 2 begin 2; 3 return 2 ok; 4 begin 3; 5 return 3 ok; 6 begin 4; 7 return 4 ok; 8 enter 10.1 normal e -; 9 back 10.1 t; "
                 "10 back-end 10.1 t; 11 body 10.1 e own t; 12 leave 10.1; 13 ret 10.1 -; end",
          "modules": "load ext3 ok 3 4; end"}),
+    Told("a trigger stops tracing, and the ring holds the last entries",
+        "ftrace 1; func a; func b; ring 2; trigger b:traceoff:1; user t function; cpu 0 quantum 100; task 10 cpu 0; after 1; call a; ret; call a; ret; call a; ret; "
+        "call b; ret; ctl register t",
+        {"rings": "# cpu 0 entries 2/3;      10 [000] .        9: a <-root (t);      10 [000] .       15: a <-root (t); # trigger 0 fired 1; end"}),
+    Told("a call that stops tracing has no entry",
+        "ftrace 1; func a; func b; ring 2; trigger a:traceoff:1; user t function; cpu 0 quantum 100; task 10 cpu 0; after 1; call a; ret; call a; ret; call a; ret; "
+        "call b; ret; ctl register t",
+        {"rings": "# cpu 0 entries 0/0; # trigger 0 fired 1; end"}),
+    Told("triggers are hit in the order of their lines",
+        "ftrace 1; func a; trigger a:traceoff; trigger ?:traceon:2; user t function; user s graph; cpu 0 quantum 100; task 10 cpu 0; after 2; call a; ret; call a; ret; "
+        "call a; ret; ctl register t; ctl register s",
+        {"rings": "# cpu 0 entries 2/2;      10 [000] .        7: a <-root (t);      10 [000] .       17: a <-root (t); # trigger 0 fired 3; # trigger 1 fired 2; end"}),
+    Told("tracing is off at first, and a callback's call switches it on",
+        "ftrace 2; func a; func b; tracing off; trigger b:traceon; user t function call b; cpu 0 quantum 100; task 10 cpu 0; after 1; call a; ret; ctl register t",
+        {"rings": "# cpu 0 entries 1/1;      10 [000] .        5: b <-a (t); # trigger 0 fired 2; end"}),
+    Told("a CPU without tasks, and a trigger that nothing hits",
+        "ftrace 1; func a; ring 0000000001; trigger b*:traceoff:0000001; cpu 0 quantum 1; cpu 1 quantum 1",
+        {"rings": "# cpu 0 entries 0/0; # cpu 1 entries 0/0; # trigger 0 fired 0; end"}),
     Told("two users that replace functions",
         "ftrace 1; func a; func b; func c; func d; user p function regs ipmodify d; user q function regs ipmodify d; cpu 0 quantum 100; task 10 cpu 0; after 7; "
         "call b; ret; ctl filter p > a; ctl filter p >> b; ctl filter q > [bc]; ctl register p; ctl register q; ctl unregister p; ctl register q",
@@ -163,6 +181,11 @@ REFUSED = [
     ("ftrace 1; func a; func a", "line 3: duplicate"),
     ("ftrace 1; func a23456789b23456789c23456789d23456789e23456789f23456789g234567890", "line 2: limit"),
     ("ftrace 1; cpu 0 quantum 5; task 10 cpu 0; irq; softirq", "line 5: unbalanced"),
+    ("ftrace 1; func a; trigger a:traceoff:0", "line 3: pattern"),
+    ("ftrace 1; func a; ring 2; tracing off; ring 65537", "line 5: syntax"),
+    ("ftrace 1; ring 4294967296", "line 2: limit"),
+    ("ftrace 1; user t function; ring 2", "line 3: syntax"),
+    ("ftrace 1; func a; trigger a:traceoff:1; trigger a:traceoff:1; depth 65", "line 5: limit"),
     ("ftrace 1; lane", "line 2: syntax"),
     ("ftrace 1; lane 0 1", "line 2: syntax"),
     ("ftrace 1; lane 0; lane 0", "line 3: syntax"),

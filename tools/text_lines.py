@@ -23,9 +23,10 @@ LINES = {
     "enabled": rb"\S+ \([1-9]\d*\)( R|  )( I|  ) (list|own \S+)",
     "modules": rb"(un)?load \S+ (ok|already|not-there|busy \S+ \S+) \d+ \d+",
 }
+LINES["rings"] = rb"# cpu [0-7] entries \d+/\d+|# trigger [0-7] fired \d+|" + LINES["function"]
 LINES = {form: re.compile(line) for form, line in LINES.items()}
 FORMS = list(LINES)
-EMPTY = re.compile(rb"# user \S+|# fprobe \S+ hits 0 missed 0|end|stopped")
+EMPTY = re.compile(rb"# user \S+|# fprobe \S+ hits 0 missed 0|# cpu \d entries 0/0|# trigger \d fired 0|end|stopped")
 
 
 def faults(form, out):
@@ -43,5 +44,6 @@ def faults(form, out):
 
 
 def tells(out):
-    """Whether a text has a line that tells something. `# user U`, an fprobe without hits, and the last line tell nothing."""
+    """Whether a text has a line that tells something. `# user U`, an fprobe without hits, an empty ring, a trigger that hasn't fired, and the last
+    line tell nothing."""
     return any(not EMPTY.fullmatch(line) for line in out.splitlines())

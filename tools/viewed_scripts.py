@@ -3,6 +3,7 @@
 
     viewed_scripts.py --seed N                a script without lanes
     viewed_scripts.py --seed N --lanes        one with lanes, of other commands
+    viewed_scripts.py --seed N --rings        one with rings and triggers, on up to the most CPUs
     viewed_scripts.py --seed N --modules      one with modules that come and go, many of whose functions are called
     viewed_scripts.py --seed N --uncovered    the same, but a call may find its module unloaded
 
@@ -11,7 +12,7 @@ a function, a graph and a profile user at least, nearly all users are registered
 nest. Users are unregistered, registered again and given other sets while calls are open.
 
 One seed gives one script, which is accepted; of those that are uncovered most are refused. compare_scripts.py takes `script`, `laned`,
-`loading` and `uncovered` from here.
+`ringed`, `loading` and `uncovered` from here.
 """
 import argparse
 import random
@@ -24,6 +25,7 @@ ALWAYS = ["function", "graph", "profile"]  # the kinds that three of the forms a
 FURTHER = [*ALWAYS, "graph", "profile", "fprobe exit", "fprobe exit", "fprobe exit cancel", "fprobe"]
 LANES = forms.LIMITS["LANES"]
 MOST_FURTHER = 4  # users beside those of the kinds above
+MOST_HELD = 12  # entries that a ring holds
 
 
 def users(rng, functions):
@@ -135,17 +137,18 @@ def below(rng, cpus, tasks, control):
     return lines + [["ctl"] + line for line in control] + schedule(rng, cpus)
 
 
-def lines_of(rng):
-    """The lines of a script, of either version."""
+def lines_of(rng, is_ringed=False):
+    """The lines of a script, of either version, at times with rings and triggers and on more CPUs."""
     version, functions = rng.choice(forms.VERSIONS), rng.sample(forms.FUNCTIONS, rng.randint(2, 6))
     told = users(rng, functions)
-    names, cpus = [words[1] for words in told], rng.choice([1, 1, 2, 3])
+    names, cpus = [words[1] for words in told], rng.choice([1, 2, 2, 3, 5, forms.CPUS] if is_ringed else [1, 1, 2, 3])
     first = opening(rng, told, functions)
     tasks = tasks_of(rng, functions, cpus, forms.ITEMS // forms.call_bound(told, version), len(first))
     control = first + amid(rng, names, functions, tasks, rng.randint(0, 10))
     forms.without_deadlock(rng, tasks, control)
     lines = [["ftrace", str(version.number)]] + [["func", name] + [rng.choice(forms.MODULES)] * (rng.random() < 0.3) for name in functions]
-    return lines + sizes(rng) + told + below(rng, cpus, tasks, control)
+    lines += sizes(rng) + (forms.rings(rng, functions, MOST_HELD) if is_ringed else [])
+    return lines + told + below(rng, cpus, tasks, control)
 
 
 def lines_with_modules(rng, is_covered):
@@ -196,6 +199,11 @@ def laned(seed):
     return forms.text_of(with_lanes(rng, lines_of(rng), rng.randint(1, LANES)))
 
 
+def ringed(seed):
+    """The text of the script with rings and triggers of this seed."""
+    return forms.text_of(lines_of(random.Random(f"ringed {seed}"), is_ringed=True))
+
+
 def loading(seed):
     """The text of the script with modules that come and go of this seed."""
     return forms.text_of(lines_with_modules(random.Random(f"loading {seed}"), is_covered=True))
@@ -206,8 +214,8 @@ def uncovered(seed):
     return forms.text_of(lines_with_modules(random.Random(f"uncovered {seed}"), is_covered=False))
 
 
-SOURCES = {"viewed": script, "laned": laned, "loading": loading, "uncovered": uncovered}
-OPTIONS = {"laned": ["--lanes"], "loading": ["--modules"], "uncovered": ["--uncovered"]}  # with which one is written
+SOURCES = {"viewed": script, "laned": laned, "ringed": ringed, "loading": loading, "uncovered": uncovered}
+OPTIONS = {"laned": ["--lanes"], "ringed": ["--rings"], "loading": ["--modules"], "uncovered": ["--uncovered"]}  # with which one is written
 
 
 def main():
@@ -215,6 +223,7 @@ def main():
     parser.add_argument("--seed", type=int, required=True)
     which = parser.add_mutually_exclusive_group()
     which.add_argument("--lanes", action="store_const", dest="make", const=laned, default=script, help="one with lanes")
+    which.add_argument("--rings", action="store_const", dest="make", const=ringed, help="one with rings and triggers")
     which.add_argument("--modules", action="store_const", dest="make", const=loading, help="one with modules that come and go")
     which.add_argument("--uncovered", action="store_const", dest="make", const=uncovered, help="the same, but a call may find its module unloaded")
     words = parser.parse_args()

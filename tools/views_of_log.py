@@ -1,12 +1,13 @@
 #!/usr/bin/env python3
-"""Works out the forms function, graph, profile, enabled and modules of a history from a script and its printed log.
+"""Works out the forms function, graph, profile, enabled, modules and rings of a history from a script and its printed log.
 
     ./ftcore replay < x.ft > x.log
     tools/views_of_log.py x.ft x.log graph
 
 It is written by the words of docs/LANGUAGE.md, "The printed forms", so that check_program.py can ask whether the program
 prints the same: of the program's text for the form log this takes each item's words, and nothing else. The form modules tells nothing of
-the history but its last line: it is worked out from the script, by control_lines.py.
+the history but its last line: it is worked out from the script, by control_lines.py. The rings are those of the history gone through by
+place, by rings_of_log.py: those of a run by threads may differ.
 """
 import argparse
 import collections
@@ -17,6 +18,7 @@ from typing import NamedTuple, Optional
 sys.dont_write_bytecode = True
 import log_desk  # noqa: E402
 import log_reader  # noqa: E402
+import rings_of_log  # noqa: E402
 
 LETTERS = {"normal": ".", "softirq": "s", "irq": "h", "nmi": "z"}
 
@@ -60,9 +62,10 @@ class Told:
         return sum(words[0] == item[0] and tuple(words[2:]) == item[1:] for words in self.items)
 
 
-def function_lines(told):
-    """A call's body runs from its `body` on; in a call without one it is a callback that calls."""
-    running, users = {}, set(told.of_kind("function"))
+def entry_lines(told):
+    """The line of each entry callback of a function user, by its place. A call's body runs from its `body` on; in a call without one it is a
+    callback that calls."""
+    running, users, found = {}, set(told.of_kind("function")), {}
     for place, words in enumerate(told.items):
         if words[0] == "enter":
             running[words[1]] = words[3]
@@ -71,7 +74,21 @@ def function_lines(told):
         elif words[0] == "back" and words[2] in users:
             context, func, caller = told.entered[words[1]]
             pid, parent = pid_of(words[1]), running.get(caller, "root")
-            yield f"{pid:>7} [{told.script.tasks[pid]:03}] {LETTERS[context]} {place:>8}: {func} <-{parent} ({words[2]})"
+            found[place] = f"{pid:>7} [{told.script.tasks[pid]:03}] {LETTERS[context]} {place:>8}: {func} <-{parent} ({words[2]})"
+    return found
+
+
+def function_lines(told):
+    return entry_lines(told).values()
+
+
+def rings_lines(told):
+    rings, lines = rings_of_log.by_place(told.script, told.items), entry_lines(told)
+    for cpu, (held, written) in enumerate(zip(rings.held, rings.written)):
+        yield f"# cpu {cpu} entries {len(held)}/{written}"
+        yield from map(lines.get, held)
+    for number, fired in enumerate(rings.fired):
+        yield f"# trigger {number} fired {len(fired)}"
 
 
 def levels(told, user):
@@ -147,7 +164,7 @@ def modules_lines(told):
         yield f"{word} {module} {answer} {first + 1} {last + 1}"
 
 
-VIEWS = {"function": function_lines, "graph": graph_lines, "profile": profile_lines, "enabled": enabled_lines, "modules": modules_lines}
+VIEWS = {"function": function_lines, "graph": graph_lines, "profile": profile_lines, "enabled": enabled_lines, "modules": modules_lines, "rings": rings_lines}
 
 
 def text(form, script, log):
