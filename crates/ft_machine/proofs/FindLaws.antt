@@ -6,16 +6,17 @@ use Rattle.ft_base.specs.Job.{Task}
 use Rattle.ft_base.proofs.Small.{false_true}
 use Rattle.user_specs.specs.Plain.{DeclaredTask, task_of, cpu_of}
 use Rattle.user_specs.specs.declared.plan.CpuPlan.{CpuPlan}
-use Rattle.ft_machine.specs.Parts.{found_on, or_else, found_in}
+use Rattle.ft_machine.specs.Parts.{found_on, or_else, found_in, said_of}
+use Rattle.ft_base.specs.declared.task.TaskAct.{TaskAct}
 
--- the pid of a task is the same on any CPU
-pid-on : (n c : ℕ) (ts : List DeclaredTask) → option_map (λ t. t.pid) (found_on n c ts) ≡ option_map (λ t. t.pid) (found_on n 0 ts)
-pid-on n c [] = refl
-pid-on n c (t ∷ ts) =
-    elim (t.task == n) as (λ b. option_map (λ u. u.pid) (cond b (Some (record { pid = t.pid; cpu = c; acts = t.acts })) (found_on n c ts))
-    ≡ option_map (λ u. u.pid) (cond b (Some (record { pid = t.pid; cpu = 0; acts = t.acts })) (found_on n 0 ts))) [
+-- what is said of a task is the same on any CPU
+said-on : (n c : ℕ) (ts : List DeclaredTask) → option_map said_of (found_on n c ts) ≡ option_map said_of (found_on n 0 ts)
+said-on n c [] = refl
+said-on n c (t ∷ ts) =
+    elim (t.task == n) as (λ b. option_map said_of (cond b (Some (record { pid = t.pid; cpu = c; acts = t.acts })) (found_on n c ts))
+    ≡ option_map said_of (cond b (Some (record { pid = t.pid; cpu = 0; acts = t.acts })) (found_on n 0 ts))) [
       | true ↦ refl
-      | false ↦ pid-on n c ts
+      | false ↦ said-on n c ts
     ]
 
 -- the CPU of a task that is found on one is that one
@@ -44,16 +45,16 @@ module _ (cpus : List CpuPlan) (n i : ℕ) (x : CpuPlan) (so : found_in n i (map
   cut : found_in n 0 (map cpu_of cpus) ≡ or_else (found_on n i (map task_of x.tasks.items)) (found_in n (suc i) (map cpu_of (drop (i + 1) cpus)))
   cut = sym so ∙ ap (λ (l : List CpuPlan). found_in n i (map cpu_of l)) (drop_more cpus i x lt ∙ ap (λ (y : CpuPlan). y ∷ drop (i + 1) cpus) (sym read))
 
-  module _ (o : Option ℕ) (is : o ≡ option_map (λ t. t.pid) (found_on n 0 (map task_of x.tasks.items))) where
-    here : option_map (λ t. t.pid) (found_on n i (map task_of x.tasks.items)) ≡ o
-    here = pid-on n i (map task_of x.tasks.items) ∙ sym is
+  module _ (o : Option (ℕ × List TaskAct)) (is : o ≡ option_map said_of (found_on n 0 (map task_of x.tasks.items))) where
+    here : option_map said_of (found_on n i (map task_of x.tasks.items)) ≡ o
+    here = said-on n i (map task_of x.tasks.items) ∙ sym is
 
     there : is_some (found_on n i (map task_of x.tasks.items)) ≡ is_some o
-    there = sym (some-map (λ (t : Task). t.pid) (found_on n i (map task_of x.tasks.items))) ∙ ap (λ (p : Option ℕ). is_some p) here
+    there = sym (some-map said_of (found_on n i (map task_of x.tasks.items))) ∙ ap (λ (p : Option (ℕ × List TaskAct)). is_some p) here
 
     -- the task is on this CPU
-    pub found-here : is_some o ≡ true → o ≡ option_map (λ t. t.pid) (found_in n 0 (map cpu_of cpus))
-    found-here some = sym here ∙ ap (λ (p : Option Task). option_map (λ t. t.pid) p) (sym (cut ∙ first-some _ _ (there ∙ some)))
+    pub found-here : is_some o ≡ true → o ≡ option_map said_of (found_in n 0 (map cpu_of cpus))
+    found-here some = sym here ∙ ap (λ (p : Option Task). option_map said_of p) (sym (cut ∙ first-some _ _ (there ∙ some)))
 
     -- so its CPU is this one
     pub cpu-here : is_some o ≡ true → Some i ≡ option_map (λ t. t.cpu) (found_in n 0 (map cpu_of cpus))

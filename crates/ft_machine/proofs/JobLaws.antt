@@ -1,8 +1,9 @@
 -- A job and its parts.
-use Rattle.std.proofs.Common.{◌≡◌, ℕ, ◌≤◌, List, length, map, Option, sym, ap, ◌∙◌, subst, arith}
+use Rattle.std.proofs.Common.{◌≡◌, ℕ, ◌≤◌, List, length, map, Option, Some, None, refl, sym, ap, ◌∙◌, subst, arith}
 use Rattle.std.specs.Prelude.{slice_get, option_map}
 use Rattle.std.proofs.lemmas.List.{length-map}
 use Rattle.ft_base.specs.declared.limits.TheConstants.{TASKS, USERS}
+use Rattle.ft_base.specs.declared.task.TaskAct.{TaskAct}
 use Rattle.ft_base.specs.Job.{Job, Task}
 use Rattle.ft_base.proofs.Versions.{few-largest}
 use Rattle.user_specs.specs.Plain.{DeclaredCpu, spec_of, cpu_of}
@@ -10,7 +11,7 @@ use Rattle.user_specs.specs.declared.plan.CpuPlan.{CpuPlan}
 use Rattle.control_core.specs.Lines.{lines_of}
 use Rattle.word_machine.specs.Limits.{IsLimited}
 use Rattle.ft_machine.specs.declared.parts.JobParts.{JobParts}
-use Rattle.ft_machine.specs.Parts.{parts_of, quanta_of, cpus_from, found_in, task_count, tasks_of, IsWithin, job_of}
+use Rattle.ft_machine.specs.Parts.{parts_of, quanta_of, cpus_from, found_in, said_of, task_count, tasks_of, IsWithin, job_of}
 use Rattle.ft_machine.specs.Plans.{AreLinesPlanned, AreRingsPlanned}
 use Rattle.ft_machine.proofs.Numbered.{length-tasks, found-number}
 
@@ -84,12 +85,16 @@ module _ (p : JobParts) (j : Job) (e : job_of (parts_of p) ≡ j) where
     seen-found : (n : ℕ) → found_in n 0 (map cpu_of p.cpus.items) ≡ slice_get j.tasks n
     seen-found n = found-number (map cpu_of p.cpus.items) w.numbered n ∙ ap (λ (ts : List Task). slice_get ts n) seen-tasks
 
-    -- and its pid
-    pub seen-pid : (cpus : List CpuPlan) → cpus ≡ p.cpus.items → (n : ℕ) (o : Option ℕ) → o ≡ option_map (λ t. t.pid) (found_in n 0 (map cpu_of cpus))
-        → o ≡ option_map (λ t. t.pid) (slice_get j.tasks n)
-    seen-pid cpus is n o h = (rw is at h) ∙ ap (λ (t : Option Task). option_map (λ u. u.pid) t) (seen-found n)
+    -- what is told of it
+    pub seen-as : {A : Type 0} (f : Task → A) (cpus : List CpuPlan) → cpus ≡ p.cpus.items → (n : ℕ) (o : Option A) → o ≡ option_map f (found_in n 0 (map cpu_of cpus))
+        → o ≡ option_map f (slice_get j.tasks n)
+    seen-as f cpus is n o h = (rw is at h) ∙ ap (λ (t : Option Task). option_map f t) (seen-found n)
 
-    -- and its CPU
-    pub seen-cpu : (cpus : List CpuPlan) → cpus ≡ p.cpus.items → (n : ℕ) (o : Option ℕ) → o ≡ option_map (λ t. t.cpu) (found_in n 0 (map cpu_of cpus))
-        → o ≡ option_map (λ t. t.cpu) (slice_get j.tasks n)
-    seen-cpu cpus is n o h = (rw is at h) ∙ ap (λ (t : Option Task). option_map (λ u. u.cpu) t) (seen-found n)
+    -- what a script says of it beside its CPU, or a part of that
+    pub seen-said : {A : Type 0} (g : ℕ × List TaskAct → A) (cpus : List CpuPlan) → cpus ≡ p.cpus.items → (n : ℕ) (o : Option (ℕ × List TaskAct))
+        → o ≡ option_map said_of (found_in n 0 (map cpu_of cpus)) → option_map g o ≡ option_map (λ t. g (said_of t)) (slice_get j.tasks n)
+    seen-said g cpus is n o h = ap (option_map g) (seen-as said_of cpus is n o h) ∙ twice (slice_get j.tasks n)
+      where
+        twice : (t : Option Task) → option_map g (option_map said_of t) ≡ option_map (λ t. g (said_of t)) t
+        twice None = refl
+        twice (Some t) = refl

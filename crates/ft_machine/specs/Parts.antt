@@ -3,6 +3,7 @@ use Rattle.std.specs.Prelude.{ℕ, zero, suc, ◌≡◌, ◌≤◌, ◌==◌, Li
 use Rattle.std.specs.List.{AllByRecursion as Each}
 use Rattle.ft_base.specs.declared.limits.TheConstants.{CPUS, QUANTUM}
 use Rattle.ft_base.specs.declared.turn.Turn.{Turn}
+use Rattle.ft_base.specs.declared.task.TaskAct.{TaskAct}
 use Rattle.ft_base.specs.Job.{Func, Spec, Task, no_task, LinePlan, RingPlan, Job}
 use Rattle.user_specs.specs.Plain.{DeclaredTask, DeclaredCpu, spec_of, cpu_of}
 use Rattle.ft_desk.specs.declared.command.Ctl.{Ctl}
@@ -61,6 +62,10 @@ cpus_with c (q ∷ qs) n ts = record { quantum = q; tasks = tasks_on c n ts } �
 -- the CPUs from c on with these quanta, and their tasks among all of a job
 abbrev pub cpus_from : ℕ → List ℕ → List Task → List DeclaredCpu
 cpus_from c qs ts = cpus_with c qs 0 ts
+
+-- what a script says of a task beside its CPU
+abbrev pub said_of : Task → ℕ × List TaskAct
+said_of t = (t.pid, t.acts)
 
 -- the task of this number among those of CPU c
 abbrev pub found_on : ℕ → ℕ → List DeclaredTask → Option Task

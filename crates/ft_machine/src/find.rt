@@ -4,7 +4,7 @@
 ghost use Rattle.std.specs.Prelude.{◌≡◌, ◌≤◌, map, length, sum_by, option_map};
 ghost use Rattle.ft_base.specs.declared.limits.TheConstants.{CPUS};
 ghost use Rattle.user_specs.specs.Plain.{task_of, cpu_of};
-ghost use Rattle.ft_machine.specs.Parts.{found_on, found_in};
+ghost use Rattle.ft_machine.specs.Parts.{found_on, found_in, said_of};
 
 use ft_base::limits::TASKS;
 use ft_base::{CpuNo, TaskNo};
@@ -24,7 +24,7 @@ pub(crate) fn count(cpus: &[CpuPlan]) -> u32
 
 /// The task of this number among those of one CPU.
 fn find_on(tasks: &[TaskPlan], task: TaskNo) -> Option<&TaskPlan>
-    ensures { option_map (λ p. p.now.pid) result ≡ option_map (λ t. t.pid) (found_on task.0 0 (map task_of tasks.now)) }
+    ensures { option_map (λ p. (p.now.pid, p.now.acts.items)) result ≡ option_map said_of (found_on task.0 0 (map task_of tasks.now)) }
 {
     for plan in tasks {
         if plan.task == task {
@@ -36,7 +36,7 @@ fn find_on(tasks: &[TaskPlan], task: TaskNo) -> Option<&TaskPlan>
 
 /// The task of this number, on whatever CPU.
 pub(crate) fn find(cpus: &[CpuPlan], task: TaskNo) -> Option<&TaskPlan>
-    ensures { option_map (λ p. p.now.pid) result ≡ option_map (λ t. t.pid) (found_in task.0 0 (map cpu_of cpus.now)) }
+    ensures { option_map (λ p. (p.now.pid, p.now.acts.items)) result ≡ option_map said_of (found_in task.0 0 (map cpu_of cpus.now)) }
 {
     for cpu in cpus {
         let found = find_on(cpu.tasks.as_slice(), task);

@@ -26,7 +26,7 @@ use crate::order::copies;
 use crate::parts::{JobParts, ModRow};
 use filter_commands::Trigger;
 use ft_base::limits::Limits;
-use ft_base::{CpuNo, NoMemory, TaskNo};
+use ft_base::{CpuNo, NoMemory, TaskAct, TaskNo};
 use ft_desk::{Ctl, Desk};
 use ft_schedule::Schedule;
 use func_table::FuncTable;
@@ -192,6 +192,16 @@ impl Job {
     {
         match find(self.parts.cpus.as_slice(), task) {
             Some(plan) => Some(plan.pid),
+            None => None,
+        }
+    }
+
+    /// What the task of this number does, in order. `None` exactly if there is no such task.
+    pub fn acts(&self, task: TaskNo) -> Option<&[TaskAct]>
+        ensures { option_map (λ a. a.now) result ≡ option_map (λ t. t.acts) (slice_get self.now.tasks task.0) }
+    {
+        match find(self.parts.cpus.as_slice(), task) {
+            Some(plan) => Some(plan.acts.as_slice()),
             None => None,
         }
     }
