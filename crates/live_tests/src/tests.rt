@@ -5,6 +5,7 @@ mod jobs;
 mod lanes;
 mod meeting;
 mod order;
+mod rings;
 mod table;
 mod tally;
 mod threads;

@@ -8,7 +8,7 @@ use Rattle.led_jobs.specs.Orders.{IsLed, lane_of}
 use Rattle.word_machine.specs.Control.{control_next}
 use Rattle.ft_machine.specs.Plans.{HasLanes, IsCommand}
 use Rattle.live_table.specs.Seats.{Board, ControlPlace, ControlSitsAt, control_at}
-use Rattle.live_threads.specs.AnySeats.{AreSameSeats, AreSeatsOf, actor_of}
+use Rattle.live_threads.specs.AnySeats.{AreSameSeats, AreSeatsOf, actor_of, without_rings}
 use Rattle.live_threads.specs.Conducted.{IsConducted, IsReady, actors_of}
 use Rattle.live_threads.specs.LaneItems.{AreCounts, as_items, rank}
 use Rattle.live_threads.specs.declared.seat.AnySeat.{AnySeat}
@@ -48,8 +48,9 @@ same_actors (s ∷ ss) (t ∷ ts) same = ap (λ n. n ∷ actors_of ts) same.0.ac
 none_in_order : (counts : List ℕ) → IsInOrder counts []
 none_in_order counts = record { lanes = λ k s at. absurd (cc); items = λ l lt. refl; below = λ l lt. omega arith }
 
-pub conducted_first : (b live : Board) (counts counts2 name lanes : List ℕ) (seats here : List AnySeat) (control : ControlPlace) → b ≡ live → counts ≡ counts2 → name ≡ actors_of here → seats ≡ here → IsReady live lanes counts2 control
-    → AreSeatsOf live here → IsConducted b counts name seats live lanes control here
+pub conducted_first : (b live : Board) (counts counts2 name lanes : List ℕ) (seats here : List AnySeat) (control : ControlPlace) → b ≡ live
+    → counts ≡ counts2 → name ≡ actors_of here → seats ≡ here → IsReady live lanes counts2 control
+    → AreSeatsOf (without_rings live) here → IsConducted b counts name seats live lanes control here
 conducted_first b live counts counts2 name lanes seats here control at same named own r sit = record {
   live' = sym at;
   lanes' = r.lanes' ∙ ap (λ (z : Board). z.job.lines.lanes) (sym at);
@@ -57,7 +58,7 @@ conducted_first b live counts counts2 name lanes seats here control at same name
   few = r.few;
   sits = subst (λ z. ControlSitsAt z control) (sym at) r.sits;
   over = r.over;
-  given = subst (AreSeatsOf b) (sym own) (subst (λ z. AreSeatsOf z here) (sym at) sit);
+  given = subst (AreSeatsOf (without_rings b)) (sym own) (subst (λ z. AreSeatsOf (without_rings z) here) (sym at) sit);
   same = subst (λ l. AreSameSeats l here) (sym own) (same_all here);
   named = ap actors_of own ∙ sym named;
   counted = subst (AreCounts lanes) (sym same) r.counted;
@@ -66,8 +67,10 @@ conducted_first b live counts counts2 name lanes seats here control at same name
 
 -- ## a turn
 
-module _ (b : Board) (counts name : List ℕ) (seats : List AnySeat) (live : Board) (lanes : List ℕ) (control : ControlPlace) (here : List AnySeat) (h : IsConducted b counts name seats live lanes control here)
-    (k lane item : ℕ) (lt : k < length lanes) (of' : lane_of lanes k ≡ lane) (is : rank lanes k ≡ item) (in' : lane < length counts) (next : item ≡ done_of lane (as_items lanes control.order)) where
+module _ (b : Board) (counts name : List ℕ) (seats : List AnySeat) (live : Board) (lanes : List ℕ) (control : ControlPlace) (here : List AnySeat)
+    (h : IsConducted b counts name seats live lanes control here)
+    (k lane item : ℕ) (lt : k < length lanes) (of' : lane_of lanes k ≡ lane) (is : rank lanes k ≡ item) (in' : lane < length counts)
+    (next : item ≡ done_of lane (as_items lanes control.order)) where
   inside : lane_of lanes k < length counts
   inside = subst (λ l. l < length counts) (sym of') in'
 
@@ -85,10 +88,12 @@ module _ (b : Board) (counts name : List ℕ) (seats : List AnySeat) (live : Boa
       (r.0, ap (λ (j : Job). slice_get j.ctls k) h.sits.1 ∙ r.1)
 
   -- and once it was led, and control is at its end again, all is kept
-  pub conducted_more : item < slice_index counts lane → (control2 : ControlPlace) (here2 : List AnySeat) → control2.table_id ≡ control.table_id → control2.job ≡ control.job → control2.order ≡ control.order ++ k ∷ []
+  pub conducted_more : item < slice_index counts lane → (control2 : ControlPlace) (here2 : List AnySeat) → control2.table_id ≡ control.table_id
+      → control2.job ≡ control.job → control2.order ≡ control.order ++ k ∷ []
       → control_next control2.led (control_at control2) ≡ None → AreSameSeats here here2 → IsConducted b counts name seats live lanes control2 here2
   conducted_more left control2 here2 ts js os over same =
-      let left' : rank lanes k < slice_index counts (lane_of lanes k) = subst (λ l. rank lanes k < slice_index counts l) (sym of') (omega (arith, is, left)) in
+      let left' : rank lanes k < slice_index counts (lane_of lanes k) =
+      subst (λ l. rank lanes k < slice_index counts l) (sym of') (omega (arith, is, left)) in
       record {
         live' = h.live';
         lanes' = h.lanes';
@@ -104,6 +109,8 @@ module _ (b : Board) (counts name : List ℕ) (seats : List AnySeat) (live : Boa
       }
 
 -- the seats that are here are the table's
-pub conducted_sit : (b : Board) (counts name : List ℕ) (seats : List AnySeat) (live : Board) (lanes : List ℕ) (control : ControlPlace) (here : List AnySeat) → IsConducted b counts name seats live lanes control here
-    → AreSeatsOf live here
-conducted_sit b counts name seats live lanes control here h = subst (λ l. AreSeatsOf l here) (sym h.live') (same_table b seats here h.given h.same)
+pub conducted_sit : (b : Board) (counts name : List ℕ) (seats : List AnySeat) (live : Board) (lanes : List ℕ) (control : ControlPlace)
+    (here : List AnySeat) → IsConducted b counts name seats live lanes control here
+    → AreSeatsOf (without_rings live) here
+conducted_sit b counts name seats live lanes control here h =
+    subst (λ l. AreSeatsOf (without_rings l) here) (sym h.live') (same_table (without_rings b) seats here h.given h.same)

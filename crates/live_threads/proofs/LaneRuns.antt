@@ -16,7 +16,7 @@ use Rattle.live_threads.specs.Ends.{AreEnded}
 use Rattle.live_threads.specs.LaneItems.{AreAllServed, AreCounts, as_items}
 use Rattle.live_threads.specs.declared.seat.AnySeat.{AnySeat}
 use Rattle.live_threads.specs.declared.seat.AnySeat.TheVariants.{Control, Cpu}
-use Rattle.live_threads.proofs.Apart.{cpus_again, cpus_ended, cpus_sit}
+use Rattle.live_threads.proofs.Apart.{cpus_again, cpus_ended}
 use Rattle.live_threads.proofs.Conducting.{lane_each}
 use Rattle.live_threads.proofs.Orders.{merged_order}
 
@@ -26,7 +26,8 @@ use Rattle.live_threads.proofs.Orders.{merged_order}
 pub launched : (cpus : List CpuPlace) (none ss : List AnySeat) → none ≡ [] → ss ≡ none ++ cpus_as_any cpus → ss ≡ cpus_as_any cpus
 launched cpus none ss empty is = is ∙ ap (λ l. l ++ cpus_as_any cpus) empty
 
-module _ (b : Board) (lanes counts : List ℕ) (cpus : List CpuPlace) (ss back : List AnySeat) (is : ss ≡ cpus_as_any cpus) (r : IsRun b lanes counts ss back) where
+module _ (b : Board) (lanes counts : List ℕ) (cpus : List CpuPlace) (ss back : List AnySeat) (is : ss ≡ cpus_as_any cpus)
+    (r : IsRun b lanes counts ss back) where
   over : AreEndedSeats (cpus_as_any cpus) r.cpus
   over = subst (λ l. AreEndedSeats l r.cpus) is r.cpus'
 
@@ -64,14 +65,18 @@ lines_are : (job : Job) (lanes : List ℕ) → HasLanes job → lanes ≡ job.li
 lines_are job lanes planned is = sym (lane_each job planned) ∙ ap (λ (l : List ℕ). length l) (sym is)
 
 -- the lanes and their counts are read again
-read_again : (lanes lanes2 counts counts2 own : List ℕ) → lanes ≡ own → lanes2 ≡ own → counts2 ≡ counts → AreCounts lanes counts → AreCounts lanes2 counts2
-read_again lanes lanes2 counts counts2 own is is2 same counted = subst (λ l. AreCounts l counts2) (is ∙ sym is2) (subst (AreCounts lanes) (sym same) counted)
+read_again : (lanes lanes2 counts counts2 own : List ℕ) → lanes ≡ own → lanes2 ≡ own → counts2 ≡ counts → AreCounts lanes counts
+    → AreCounts lanes2 counts2
+read_again lanes lanes2 counts counts2 own is is2 same counted =
+    subst (λ l. AreCounts l counts2) (is ∙ sym is2) (subst (AreCounts lanes) (sym same) counted)
 
 -- Of a job whose lanes and counts were read before the table was made, and again.
-module _ (b : Board) (job : Job) (lanes lanes2 counts counts2 : List ℕ) (c : ControlPlace) (planned : HasLanes job) (at : b.job ≡ job) (is : lanes ≡ job.lines.lanes) (is2 : lanes2 ≡ job.lines.lanes) (same : counts2 ≡ counts)
+module _ (b : Board) (job : Job) (lanes lanes2 counts counts2 : List ℕ) (c : ControlPlace) (planned : HasLanes job) (at : b.job ≡ job)
+    (is : lanes ≡ job.lines.lanes) (is2 : lanes2 ≡ job.lines.lanes) (same : counts2 ≡ counts)
     (counted : AreCounts lanes counts) where
   -- before the first turn
-  pub all_ready : (split : ℕ) → IsLimited job → length counts ≤ LANES → sum counts ≤ length lanes → IsOpen b c true split → control_next c.led (control_at c) ≡ None → IsReady b lanes2 counts2 c
+  pub all_ready : (split : ℕ) → IsLimited job → length counts ≤ LANES → sum counts ≤ length lanes → IsOpen b c true split
+      → control_next c.led (control_at c) ≡ None → IsReady b lanes2 counts2 c
   all_ready split limited few most first over =
       let n = lines_are job lanes2 planned is2 in
       let m = limited.ctls in
@@ -89,10 +94,12 @@ module _ (b : Board) (job : Job) (lanes lanes2 counts counts2 : List ℕ) (c : C
 
   -- and after the last one
   pub all_served : (order : List ℕ) → IsMerge counts2 (as_items lanes2 order) → AreAllServed job.lines.lanes order
-  all_served order merge = subst (λ l. AreAllServed l order) is2 (counts2, read_again lanes lanes2 counts counts2 job.lines.lanes is is2 same counted, merge)
+  all_served order merge = subst (λ l. AreAllServed l order) is2
+      (counts2, read_again lanes lanes2 counts counts2 job.lines.lanes is is2 same counted, merge)
 
 -- what was led to control is a merge of the lanes
-pub led_merge : (b : Board) (job : Job) (c : ControlPlace) → HasLanes job → b.job ≡ job → ControlSitsAt b c → AreLed (length c.job.ctls) c.order → AreAllServed job.lines.lanes c.order → IsLaneOrder job.lines.lanes c.order
+pub led_merge : (b : Board) (job : Job) (c : ControlPlace) → HasLanes job → b.job ≡ job → ControlSitsAt b c → AreLed (length c.job.ctls) c.order
+    → AreAllServed job.lines.lanes c.order → IsLaneOrder job.lines.lanes c.order
 led_merge b job c planned at sits once served =
     let led : AreLed (length job.ctls) c.order = subst (λ (j : Job). AreLed (length j.ctls) c.order) (sits.1 ∙ at) once in
     merged_order job.lines.lanes served.0 c.order served.1 (subst (λ n. AreLed n c.order) (sym (lane_each job planned)) led) served.2

@@ -3,8 +3,7 @@ use Rattle.std.proofs.Common.{◌≡◌, ℕ, suc, ◌+◌, List, [], ◌∷◌,
 use Rattle.std.proofs.lemmas.List.{length-map}
 use Rattle.std.proofs.lemmas.List.Elements.{All-cons, All-head, All-nil, All-tail}
 use Rattle.std.proofs.lemmas.Slice.Zip.{AllZip-long, all_zipped_more}
-use Rattle.live_table.specs.Seats.{Board}
-use Rattle.live_threads.specs.AnySeats.{AreEndedSeats, AreSameSeats, AreSeatsOf, IsEndedSeat, IsSameSeat, IsSeatOf}
+use Rattle.live_threads.specs.AnySeats.{Tables, AreEndedSeats, AreSameSeats, AreSeatsOf, IsEndedSeat, IsSameSeat, IsSeatOf}
 use Rattle.live_threads.specs.Seatings.{here_in, own_seats, seats_in}
 use Rattle.live_threads.proofs.Alike.{same_one}
 use Rattle.live_threads.specs.declared.here.HereSeat.{HereSeat}
@@ -46,7 +45,8 @@ module _ (ss : List AnySeat) (ps qs : List Place) (hs gs : List HereSeat) (s : A
 
 -- ## stepped
 
-pub own_sit : (b : Board) (ps : List Place) (hs : List HereSeat) → here_in ps ≡ length hs → AreSeatsOf b (seats_in ps hs) → AreSeatsOf b (own_seats hs)
+pub own_sit : (b : Tables) (ps : List Place) (hs : List HereSeat) → here_in ps ≡ length hs → AreSeatsOf b (seats_in ps hs)
+    → AreSeatsOf b (own_seats hs)
 own_sit b [] [] e sit = All-nil (IsSeatOf b)
 own_sit b [] (h ∷ hs) e sit = absurd (omega (arith, e))
 own_sit b (There t ∷ ps) hs e sit = own_sit b ps hs e (All-tail (IsSeatOf b) t.promise.0.value (seats_in ps hs) sit)
@@ -79,7 +79,7 @@ pub count_first : (its left : List Place) (p q : Place) → its ≡ p ∷ left �
 count_first its left p q first kind = ap here_in (first ∙ ap (λ r. r ∷ left) kind)
 
 -- the first of these seats is the table's, and so are the others
-module _ (b : Board) (all left : List AnySeat) (t : AnySeat) (sit : AreSeatsOf b all) (is : all ≡ t ∷ left) where
+module _ (b : Tables) (all left : List AnySeat) (t : AnySeat) (sit : AreSeatsOf b all) (is : all ≡ t ∷ left) where
   pub first_sits : IsSeatOf b t
   first_sits = All-head (IsSeatOf b) t left (subst (AreSeatsOf b) is sit)
 

@@ -8,6 +8,7 @@ use Rattle.desk_lock.specs.declared.served.LaneNames as lane_names
 use Rattle.live_table.proofs.live.Live.TheSendSync as live
 use Rattle.live_table.proofs.seats.CpuSeat.TheSendSync as cpu_seat
 use Rattle.live_table.proofs.Sent.{control-seat-send}
+use Rattle.ring_table.proofs.seats.RingSeat.TheSendSync as ring_seat
 use Rattle.live_threads.specs.contracts.here.HereSeat as here_seat
 use Rattle.live_threads.specs.contracts.lanes.conductor.Conductor as conductor
 use Rattle.live_threads.specs.contracts.lanes.conductor.Conductor.TheInside as inside
@@ -16,7 +17,7 @@ use Rattle.live_threads.specs.contracts.seat.AnySeat as any_seat
 use Rattle.live_threads.specs.declared.lanes.conductor.TableNames as table_names
 
 pub seat_send : IsSend (any_seat.the_field).row
-seat_send = search (sendable, control-seat-send, cpu_seat.the_send) depth 12
+seat_send = search (sendable, control-seat-send, cpu_seat.the_send, ring_seat.the_send) depth 14
 
 here_send : IsSend here_seat.the_row
 here_send = search (sendable, seat_send) depth 12

@@ -7,7 +7,7 @@ use Rattle.word_machine.specs.Control.{control_next}
 use Rattle.ft_machine.specs.Plans.{HasLanes}
 use Rattle.live_table.specs.Seats.{Board, ControlPlace, ControlSitsAt, control_at}
 use Rattle.live_table.specs.Views.{no_job}
-use Rattle.live_threads.specs.AnySeats.{AreEndedSeats, AreSameSeats, AreSeatsOf, actor_of}
+use Rattle.live_threads.specs.AnySeats.{AreEndedSeats, AreSameSeats, AreSeatsOf, actor_of, without_rings}
 use Rattle.live_threads.specs.LaneItems.{AreCounts, as_items}
 use Rattle.live_threads.specs.declared.seat.AnySeat.{AnySeat}
 use Rattle.live_threads.specs.declared.seat.AnySeat.TheVariants.{Control}
@@ -37,7 +37,7 @@ pub record IsConducted (b : Board) (counts name : List ℕ) (seats : List AnySea
   pub few : length lanes ≤ COMMANDS + UNTILS
   pub sits : ControlSitsAt b control
   pub over : control_next control.led (control_at control) ≡ None
-  pub given : AreSeatsOf b seats
+  pub given : AreSeatsOf (without_rings b) seats
   pub same : AreSameSeats seats here
   pub named : actors_of seats ≡ name
   pub counted : AreCounts lanes counts

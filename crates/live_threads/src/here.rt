@@ -1,12 +1,13 @@
 //! Seats that are stepped here, in turn.
 
 ghost use Rattle.std.specs.Prelude.{◌≡◌};
-ghost use Rattle.live_threads.specs.AnySeats.{AreSameSeats, AreSeatsOf, IsSameSeat, IsSeatOf};
+ghost use Rattle.live_threads.specs.AnySeats.{AreSameSeats, AreSeatsOf, IsSameSeat, IsSeatOf, tables};
 ghost use Rattle.live_threads.specs.Seatings.{own_seats};
 
 use crate::passing::Passing;
 use crate::seat::{AnySeat, step_seat};
 use live_table::{Going, Live};
+use ring_table::RingTable;
 use std::sync::Wait;
 use std::thread;
 
@@ -34,14 +35,19 @@ impl HereSeat {
     }
 
     /// One step, if the seat isn't at its end.
-    pub(crate) fn step<G: Passing>(&mut self, live: &Live, gate: &G) -> Going
-        requires { IsSeatOf live.now self.old.seat }
+    pub(crate) fn step<G: Passing>(
+        &mut self,
+        live: &Live,
+        rings: &Option<RingTable>,
+        gate: &G,
+    ) -> Going
+        requires { IsSeatOf (tables live.now rings.now) self.old.seat }
         ensures { IsSameSeat self.old.seat self.new.seat }
     {
         if self.over {
             return Going::End;
         }
-        let going = step_seat(live, gate, self.steps, &mut self.seat);
+        let going = step_seat(live, rings, gate, self.steps, &mut self.seat);
         match going {
             Going::More => self.steps = self.steps.saturating_add(1),
             Going::End => self.over = true,
@@ -51,13 +57,18 @@ impl HereSeat {
 }
 
 /// One step of each seat that isn't at its end.
-pub(crate) fn step_each<G: Passing>(live: &Live, gate: &G, here: &mut Vec<HereSeat>) -> Going
-    requires { AreSeatsOf live.now (own_seats here.old.items) }
+pub(crate) fn step_each<G: Passing>(
+    live: &Live,
+    rings: &Option<RingTable>,
+    gate: &G,
+    here: &mut Vec<HereSeat>,
+) -> Going
+    requires { AreSeatsOf (tables live.now rings.now) (own_seats here.old.items) }
     ensures { AreSameSeats (own_seats here.old.items) (own_seats here.new.items) }
 {
     let mut going = Going::End;
     for i in 0..here.len() {
-        if here[i].step(live, gate) == Going::More {
+        if here[i].step(live, rings, gate) == Going::More {
             going = Going::More;
         }
     }
@@ -66,12 +77,18 @@ pub(crate) fn step_each<G: Passing>(live: &Live, gate: &G, here: &mut Vec<HereSe
 
 /// Steps the seats in turn until all of them are at their ends. One may wait for another, so none is
 /// stepped to its end alone.
-pub(crate) fn step_all<R: Wait, G: Passing>(rt: &R, live: &Live, gate: &G, here: &mut Vec<HereSeat>)
-    requires { AreSeatsOf live.now (own_seats here.old.items) }
+pub(crate) fn step_all<R: Wait, G: Passing>(
+    rt: &R,
+    live: &Live,
+    rings: &Option<RingTable>,
+    gate: &G,
+    here: &mut Vec<HereSeat>,
+)
+    requires { AreSeatsOf (tables live.now rings.now) (own_seats here.old.items) }
     ensures { AreSameSeats (own_seats here.old.items) (own_seats here.new.items) }
 {
     for _ in rt.forever() {
-        if step_each(live, gate, here) == Going::End {
+        if step_each(live, rings, gate, here) == Going::End {
             break;
         }
         thread::yield_now();

@@ -2,7 +2,7 @@
 
 ghost use Rattle.std.specs.Prelude.{List, ◌≡◌, ◌≤◌, ◌+◌, ◌++◌, [], length, vec_len, vec_capacity, IfOk, IfErr};
 ghost use Rattle.live_table.specs.Seats.{AreSeats, ControlPlace, ControlSitsAt, CpuPlace};
-ghost use Rattle.live_threads.specs.AnySeats.{AreEndedSeats, AreSeatsOf, all_of, cpus_as_any};
+ghost use Rattle.live_threads.specs.AnySeats.{AreEndedSeats, AreSeatsOf, all_of, cpus_as_any, tables};
 ghost use Rattle.live_threads.specs.Ends.{AreEnded, IsEndedControl};
 ghost use Rattle.live_threads.specs.Rooms.{HasPlaces, HasRooms};
 
@@ -11,6 +11,7 @@ use crate::seat::AnySeat;
 use crate::seating::{Seating, end_all, launch_all};
 use ft_io::Gate;
 use live_table::{ControlSeat, CpuSeat, Live};
+use ring_table::RingTable;
 use std::alloc::Global;
 use std::sync::Wait;
 use std::sync::atomic::AtomicBool;
@@ -50,7 +51,7 @@ pub(crate) fn take_apart(seats: Vec<AnySeat>, mut cpus: Vec<CpuSeat>) -> Ended
     for seat in seats {
         match seat {
             AnySeat::Cpu(cpu) => cpus.push_reserved(cpu),
-            AnySeat::Control(_) => unreachable!(),
+            AnySeat::Control(_) | AnySeat::Traced(_) => unreachable!(),
         }
     }
     Ended { control, cpus }
@@ -64,20 +65,48 @@ fn run_all<'s, E, R: Threads + Wait + Sync, G: Gate>(
     scope: &'s Scope<'s, E>,
     rt: &'s R,
     live: &'s Live,
+    rings: &'s Option<RingTable>,
     gate: &'s G,
     flags: &'s [AtomicBool],
     seats: Vec<AnySeat>,
     seating: Seating,
     ended: Vec<AnySeat>,
 ) -> Vec<AnySeat>
-    requires seats { AreSeatsOf live.now seats.items }
+    requires seats { AreSeatsOf (tables live.now rings.now) seats.items }
     requires flags { length seats.items ≤ length flags.now }
     requires seating { HasPlaces seating (length seats.items) }
     requires ended { (ended.items ≡ []) × (length seats.items ≤ vec_capacity ended) }
     ensures { AreEndedSeats seats.items result.items }
 {
-    let seating = launch_all(scope, rt, live, gate, flags, seats, seating);
-    end_all(rt, live, gate, seating, ended)
+    let seating = launch_all(scope, rt, live, rings, gate, flags, seats, seating);
+    end_all(rt, live, rings, gate, seating, ended)
+}
+
+/// The same with threads of its own.
+pub(crate) fn run_scoped<R: Threads + Wait + Sync, G: Gate>(
+    rt: &R,
+    live: &Live,
+    rings: &Option<RingTable>,
+    gate: &G,
+    flags: &[AtomicBool],
+    seats: Vec<AnySeat>,
+    seating: Seating,
+    ended: Vec<AnySeat>,
+) -> Vec<AnySeat>
+    requires seats { AreSeatsOf (tables live.now rings.now) seats.items }
+    requires flags { length seats.items ≤ length flags.now }
+    requires seating { HasPlaces seating (length seats.items) }
+    requires ended { (ended.items ≡ []) × (length seats.items ≤ vec_capacity ended) }
+    ensures { AreEndedSeats seats.items result.items }
+{
+    thread::scope(
+        thread::scope_env(),
+        rt,
+        move |scope| -> Vec<AnySeat>
+            requires { AreSeatsOf (tables live.now rings.now) seats.items × (length seats.items ≤ length flags.now) × HasPlaces seating (length seats.items) × (ended.items ≡ []) × (length seats.items ≤ vec_capacity ended) }
+            ensures { AreEndedSeats seats.items result.items }
+        { run_all(scope, rt, live, rings, gate, flags, seats, seating, ended) },
+    )
 }
 
 /// Brings the seats to their ends, with all memory at hand.
@@ -104,14 +133,16 @@ fn run_in<R: Threads + Wait + Sync, G: Gate>(
     } = rooms;
     seats.push_reserved(AnySeat::Control(control));
     let seats = add_cpus(seats, cpus);
-    let flags = flags.as_slice();
-    let ended = thread::scope(
-        thread::scope_env(),
+    let rings = None;
+    let ended = run_scoped(
         rt,
-        move |scope| -> Vec<AnySeat>
-            requires { AreSeatsOf live.now seats.items × (length seats.items ≤ length flags.now) × HasPlaces seating (length seats.items) × (ended.items ≡ []) × (length seats.items ≤ vec_capacity ended) }
-            ensures { AreEndedSeats seats.items result.items }
-        { run_all(scope, rt, live, gate, flags, seats, seating, ended) },
+        live,
+        &rings,
+        gate,
+        flags.as_slice(),
+        seats,
+        seating,
+        ended,
     );
     take_apart(ended, room)
 }

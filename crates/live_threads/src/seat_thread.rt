@@ -1,11 +1,12 @@
 //! The thread of a seat.
 
 ghost use Rattle.std.specs.Prelude.{MatchResult};
-ghost use Rattle.live_threads.specs.AnySeats.{IsEndedSeat, IsSameSeat, IsSeatOf};
+ghost use Rattle.live_threads.specs.AnySeats.{IsEndedSeat, IsSameSeat, IsSeatOf, tables};
 
 use crate::seat::{AnySeat, run_seat};
 use ft_io::Gate;
 use live_table::Live;
+use ring_table::RingTable;
 use std::snapshot::Snapshot;
 use std::sync::Wait;
 use std::sync::atomic::{AtomicBool, Ordering};
@@ -30,11 +31,12 @@ pub(crate) type SeatThread = PromisedHandle<Result<AnySeat, AnySeat>, SeatPromis
 fn seat_thread<R: Wait, G: Gate>(
     rt: &R,
     live: &Live,
+    rings: &Option<RingTable>,
     gate: &G,
     refused: &AtomicBool,
     seat: AnySeat,
 ) -> Result<AnySeat, AnySeat>
-    requires { IsSeatOf live.now seat }
+    requires { IsSeatOf (tables live.now rings.now) seat }
     ensures { MatchResult result (λ t. IsEndedSeat seat t) (λ t. IsSameSeat seat t) }
 {
     // Relaxed is enough: the flag is set by the thread that then runs this very closure itself, so it
@@ -42,7 +44,7 @@ fn seat_thread<R: Wait, G: Gate>(
     if refused.load(Ordering::Relaxed) {
         return Err(seat);
     }
-    Ok(run_seat(rt, live, gate, seat))
+    Ok(run_seat(rt, live, rings, gate, seat))
 }
 
 /// Starts a thread for the seat. If none can be started, the seat comes back. The flag is the seat's
@@ -51,18 +53,19 @@ pub(crate) fn launch<'s, E, R: Threads + Wait + Sync, G: Gate>(
     scope: &'s Scope<'s, E>,
     rt: &'s R,
     live: &'s Live,
+    rings: &'s Option<RingTable>,
     gate: &'s G,
     refused: &'s AtomicBool,
     seat: AnySeat,
 ) -> Result<SeatThread, AnySeat>
-    requires { IsSeatOf live.now seat }
+    requires { IsSeatOf (tables live.now rings.now) seat }
     ensures { MatchResult result (λ h. IsSameSeat seat h.promise.0.value) (λ t. IsSameSeat seat t) }
 {
     let promise = SeatPromise(Snapshot::of(&seat));
     let job = move || -> Result<AnySeat, AnySeat>
-        requires { IsSeatOf live.now seat }
+        requires { IsSeatOf (tables live.now rings.now) seat }
         ensures { MatchResult result (λ t. IsEndedSeat seat t) (λ t. IsSameSeat seat t) }
-    { seat_thread(rt, live, gate, refused, seat) };
+    { seat_thread(rt, live, rings, gate, refused, seat) };
     match scope.spawn_with(promise, job) {
         Ok(handle) => Ok(handle),
         // The closure has the seat, so it is called for it. With the flag set it makes no step: run to
@@ -81,14 +84,15 @@ pub(crate) fn launch<'s, E, R: Threads + Wait + Sync, G: Gate>(
 pub(crate) fn join_seat<R: Threads + Wait + Sync, G: Gate>(
     rt: &R,
     live: &Live,
+    rings: &Option<RingTable>,
     gate: &G,
     handle: SeatThread,
 ) -> AnySeat
-    requires { IsSeatOf live.now handle.promise.0.value }
+    requires { IsSeatOf (tables live.now rings.now) handle.promise.0.value }
     ensures { IsEndedSeat handle.promise.0.value result }
 {
     match handle.join(rt) {
         Ok(seat) => seat,
-        Err(seat) => run_seat(rt, live, gate, seat),
+        Err(seat) => run_seat(rt, live, rings, gate, seat),
     }
 }

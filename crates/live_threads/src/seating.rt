@@ -2,7 +2,7 @@
 
 ghost use Rattle.std.specs.Prelude.{List, ◌≡◌, ◌+◌, ◌≤◌, ◌++◌, length, vec_len, vec_capacity};
 ghost use Rattle.live_threads.specs.declared.seat.AnySeat.{AnySeat};
-ghost use Rattle.live_threads.specs.AnySeats.{AreEndedSeats, AreSameSeats, AreSeatsOf};
+ghost use Rattle.live_threads.specs.AnySeats.{AreEndedSeats, AreSameSeats, AreSeatsOf, tables};
 ghost use Rattle.live_threads.specs.Rooms.{HasPlaces};
 ghost use Rattle.live_threads.specs.Seatings.{here_in, seats_in};
 
@@ -11,6 +11,7 @@ use crate::seat::{AnySeat, run_seat};
 use crate::seat_thread::{SeatThread, join_seat, launch};
 use ft_io::{Gate, OpenGate};
 use live_table::Live;
+use ring_table::RingTable;
 use std::sync::Wait;
 use std::sync::atomic::AtomicBool;
 use std::thread::{Scope, Threads};
@@ -39,12 +40,13 @@ pub(crate) fn launch_all<'s, E, R: Threads + Wait + Sync, G: Gate>(
     scope: &'s Scope<'s, E>,
     rt: &'s R,
     live: &'s Live,
+    rings: &'s Option<RingTable>,
     gate: &'s G,
     flags: &'s [AtomicBool],
     seats: Vec<AnySeat>,
     seating: Seating,
 ) -> Seating
-    requires seats { AreSeatsOf live.now seats.items }
+    requires seats { AreSeatsOf (tables live.now rings.now) seats.items }
     requires flags { length seats.items ≤ length flags.now }
     requires seating { HasPlaces seating (length seats.items) }
     ensures same { AreSameSeats seats.items (seats_in result.places.items result.here.items) }
@@ -56,7 +58,7 @@ pub(crate) fn launch_all<'s, E, R: Threads + Wait + Sync, G: Gate>(
     } = seating;
     for seat in seats {
         let flag = &flags[places.len()];
-        match launch(scope, rt, live, gate, flag, seat) {
+        match launch(scope, rt, live, rings, gate, flag, seat) {
             Ok(thread) => places.push_reserved(Place::There(thread)),
             Err(seat) => {
                 places.push_reserved(Place::Here);
@@ -72,11 +74,12 @@ pub(crate) fn launch_all<'s, E, R: Threads + Wait + Sync, G: Gate>(
 fn finish_all<R: Threads + Wait + Sync, G: Gate>(
     rt: &R,
     live: &Live,
+    rings: &Option<RingTable>,
     gate: &G,
     seating: Seating,
     mut ended: Vec<AnySeat>,
 ) -> Vec<AnySeat>
-    requires seats { AreSeatsOf live.now (seats_in seating.places.items seating.here.items) }
+    requires seats { AreSeatsOf (tables live.now rings.now) (seats_in seating.places.items seating.here.items) }
     requires here { here_in seating.places.items ≡ length seating.here.items }
     requires room { vec_len ended + length seating.places.items ≤ vec_capacity ended }
     ensures { (seats : List AnySeat) × (result.items ≡ ended.items ++ seats) × AreEndedSeats (seats_in seating.places.items seating.here.items) seats }
@@ -85,13 +88,13 @@ fn finish_all<R: Threads + Wait + Sync, G: Gate>(
     let mut rest = here.into_iter();
     for place in places {
         match place {
-            Place::There(thread) => ended.push_reserved(join_seat(rt, live, gate, thread)),
+            Place::There(thread) => ended.push_reserved(join_seat(rt, live, rings, gate, thread)),
             Place::Here => {
                 let Some(own) = rest.next() else {
                     unreachable!();
                 };
                 // One call, which finds no step, and which no gate has to hear of a second time.
-                ended.push_reserved(run_seat(rt, live, &OpenGate, own.seat));
+                ended.push_reserved(run_seat(rt, live, rings, &OpenGate, own.seat));
             }
         }
     }
@@ -105,16 +108,17 @@ fn finish_all<R: Threads + Wait + Sync, G: Gate>(
 pub(crate) fn end_all<R: Threads + Wait + Sync, G: Gate>(
     rt: &R,
     live: &Live,
+    rings: &Option<RingTable>,
     gate: &G,
     seating: Seating,
     ended: Vec<AnySeat>,
 ) -> Vec<AnySeat>
-    requires seats { AreSeatsOf live.now (seats_in seating.places.items seating.here.items) }
+    requires seats { AreSeatsOf (tables live.now rings.now) (seats_in seating.places.items seating.here.items) }
     requires here { here_in seating.places.items ≡ length seating.here.items }
     requires room { vec_len ended + length seating.places.items ≤ vec_capacity ended }
     ensures { (seats : List AnySeat) × (result.items ≡ ended.items ++ seats) × AreEndedSeats (seats_in seating.places.items seating.here.items) seats }
 {
     let Seating { places, mut here } = seating;
-    step_all(rt, live, gate, &mut here);
-    finish_all(rt, live, gate, Seating { places, here }, ended)
+    step_all(rt, live, rings, gate, &mut here);
+    finish_all(rt, live, rings, gate, Seating { places, here }, ended)
 }

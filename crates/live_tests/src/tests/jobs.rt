@@ -88,6 +88,16 @@ cpu 0 quantum 100
 cpu 1 quantum 100
 ";
 
+/// The same with two triggers: one may fire three times, the other at each call.
+const TRIGGERS: &str = "ftrace 1
+func a
+trigger a:traceoff:3
+trigger a:traceon
+user t function
+cpu 0 quantum 100
+cpu 1 quantum 100
+";
+
 /// Two users of which one is registered and unregistered by one lane, and the other registered by
 /// another.
 const LANES: &str = "ftrace 1
@@ -201,4 +211,24 @@ pub fn calls_alone(alloc: Global) -> Result<Job, Fail> {
     let mut text = two_tasks(alloc)?;
     add_task(&mut text, "task 12 cpu 1\n")?;
     job_of(alloc, text.as_str())
+}
+
+/// Two CPUs with a task of ten calls each, all of them after the command that registers a user.
+fn calls_after_command(alloc: Global, head: &str) -> Result<Job, Fail> {
+    let mut text = String::new(alloc);
+    text.push_str(head)?;
+    add_task(&mut text, "task 10 cpu 0\nafter 1\n")?;
+    add_task(&mut text, "task 11 cpu 1\nafter 1\n")?;
+    text.push_str("ctl register t\n")?;
+    job_of(alloc, text.as_str())
+}
+
+/// Calls that are all called back, and no trigger.
+pub fn traced_calls(alloc: Global) -> Result<Job, Fail> {
+    calls_after_command(alloc, TWO_CPUS)
+}
+
+/// The same calls, with triggers.
+pub fn triggered_calls(alloc: Global) -> Result<Job, Fail> {
+    calls_after_command(alloc, TRIGGERS)
 }

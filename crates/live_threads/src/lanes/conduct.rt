@@ -5,7 +5,7 @@ ghost use Rattle.ft_base.specs.declared.limits.TheConstants.{LANES};
 ghost use Rattle.desk_lock.specs.Journals.{IsMerge, done_of};
 ghost use Rattle.word_machine.specs.Control.{control_next};
 ghost use Rattle.live_table.specs.Seats.{ControlSitsAt, control_at};
-ghost use Rattle.live_threads.specs.AnySeats.{AreSameSeats, AreSeatsOf};
+ghost use Rattle.live_threads.specs.AnySeats.{AreSameSeats, AreSeatsOf, without_rings};
 ghost use Rattle.live_threads.specs.Conducted.{IsReady, actors_of};
 ghost use Rattle.live_threads.specs.LaneItems.{as_items};
 ghost use Rattle.live_threads.specs.Seatings.{own_seats};
@@ -108,7 +108,7 @@ fn conduct_as<N: TableNames + Send + Sync, R: Threads + Wait + Sync, G: Gate>(
 ) -> (ControlSeat, Vec<HereSeat>)
     requires names { (N.board ≡ live.now) × (N.counts ≡ counts.now) × (N.name ≡ actors_of (own_seats here.items)) × (N.here ≡ own_seats here.items) }
     requires ready { IsReady live.now lanes.now counts.now control }
-    requires here { AreSeatsOf live.now (own_seats here.items) }
+    requires here { AreSeatsOf (without_rings live.now) (own_seats here.items) }
     ensures control { ControlSitsAt live.now result.0 × (control_next result.0.led (control_at result.0) ≡ None) }
     ensures here { AreSameSeats (own_seats here.items) (own_seats result.1.items) }
     ensures order { IsMerge counts.now (as_items lanes.now result.0.order) }
@@ -142,7 +142,7 @@ pub(crate) fn conduct_all<R: Threads + Wait + Sync, G: Gate>(
     here: Vec<HereSeat>,
 ) -> (ControlSeat, Vec<HereSeat>)
     requires ready { IsReady live.now lanes.now counts.now control }
-    requires here { AreSeatsOf live.now (own_seats here.items) }
+    requires here { AreSeatsOf (without_rings live.now) (own_seats here.items) }
     ensures control { ControlSitsAt live.now result.0 × (control_next result.0.led (control_at result.0) ≡ None) }
     ensures here { AreSameSeats (own_seats here.items) (own_seats result.1.items) }
     ensures order { IsMerge counts.now (as_items lanes.now result.0.order) }

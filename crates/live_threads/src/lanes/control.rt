@@ -5,7 +5,7 @@ ghost use Rattle.ft_base.specs.Job.{Command, Run};
 ghost use Rattle.led_jobs.specs.Orders.{IsLed};
 ghost use Rattle.word_machine.specs.Control.{control_next};
 ghost use Rattle.live_table.specs.Seats.{ControlSitsAt, control_at};
-ghost use Rattle.live_threads.specs.AnySeats.{AreSameSeats, AreSeatsOf};
+ghost use Rattle.live_threads.specs.AnySeats.{AreSameSeats, AreSeatsOf, without_rings};
 ghost use Rattle.live_threads.specs.Ends.{IsEndedControl, IsSameControl};
 ghost use Rattle.live_threads.specs.Led.{IsLedOn};
 ghost use Rattle.live_threads.specs.Seatings.{own_seats};
@@ -65,15 +65,16 @@ impl LedControl {
         here: &mut Vec<HereSeat>,
     )
         requires control { ControlSitsAt live.now self.old.seat }
-        requires here { AreSeatsOf live.now (own_seats here.old.items) }
+        requires here { AreSeatsOf (without_rings live.now) (own_seats here.old.items) }
         ensures control { IsEndedControl self.old.seat self.new.seat }
         ensures here { AreSameSeats (own_seats here.old.items) (own_seats here.new.items) }
     {
+        let rings = None;
         for _ in rt.forever() {
             if self.step(live, gate) == Going::End {
                 break;
             }
-            step_each(live, gate, here);
+            step_each(live, &rings, gate, here);
             // What control waits for may need the processor.
             thread::yield_now();
         }

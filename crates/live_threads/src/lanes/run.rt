@@ -8,7 +8,7 @@ ghost use Rattle.led_jobs.specs.Orders.{IsLaneOrder};
 ghost use Rattle.word_machine.specs.Control.{control_next};
 ghost use Rattle.ft_machine.specs.Plans.{HasLanes};
 ghost use Rattle.live_table.specs.Seats.{AreAtEnd, AreSeats, ControlSitsAt, IsMadeByTurns, control_at};
-ghost use Rattle.live_threads.specs.AnySeats.{AreSeatsOf};
+ghost use Rattle.live_threads.specs.AnySeats.{AreSeatsOf, tables};
 ghost use Rattle.live_threads.specs.Conducted.{IsReady, IsRun};
 ghost use Rattle.live_threads.specs.Ends.{AreEnded};
 ghost use Rattle.live_threads.specs.LaneItems.{AreAllServed, as_items};
@@ -24,6 +24,7 @@ use ft_hist::History;
 use ft_io::Gate;
 use ft_machine::Job;
 use live_table::{ControlSeat, CpuSeat, Live, Started};
+use ring_table::RingTable;
 use std::alloc::{AllocError, Global};
 use std::sync::Wait;
 use std::sync::atomic::AtomicBool;
@@ -57,6 +58,7 @@ fn run_beside<'s, E, R: Threads + Wait + Sync, G: Gate>(
     rt: &'s R,
     alloc: Global,
     live: &'s Live,
+    rings: &'s Option<RingTable>,
     gate: &'s G,
     lanes: &'s [u32],
     counts: &'s [u32],
@@ -66,17 +68,18 @@ fn run_beside<'s, E, R: Threads + Wait + Sync, G: Gate>(
     seating: Seating,
     mut ended: Vec<AnySeat>,
 ) -> Vec<AnySeat>
+    requires rings { rings.now ≡ None }
     requires ready { IsReady live.now lanes.now counts.now control }
-    requires seats { AreSeatsOf live.now seats.items }
+    requires seats { AreSeatsOf (tables live.now rings.now) seats.items }
     requires flags { length seats.items ≤ length flags.now }
     requires seating { HasPlaces seating (length seats.items) }
     requires ended { (ended.items ≡ []) × (length seats.items + 1 ≤ vec_capacity ended) }
     ensures { IsRun live.now lanes.now counts.now seats.items result.items }
 {
-    let Seating { places, here } = launch_all(scope, rt, live, gate, flags, seats, seating);
+    let Seating { places, here } = launch_all(scope, rt, live, rings, gate, flags, seats, seating);
     let (control, here) = conduct_all(rt, alloc, live, gate, lanes, counts, control, here);
     ended.push_reserved(AnySeat::Control(control));
-    end_all(rt, live, gate, Seating { places, here }, ended)
+    end_all(rt, live, rings, gate, Seating { places, here }, ended)
 }
 
 /// The run, with all memory at hand.
@@ -107,15 +110,18 @@ fn run_in<R: Threads + Wait + Sync, G: Gate>(
     } = rooms;
     let seats = add_cpus(seats, cpus);
     let flags = flags.as_slice();
+    let rings = None;
+    let rings = &rings;
     let ended = thread::scope(
         thread::scope_env(),
         rt,
         move |scope| -> Vec<AnySeat>
-            requires { IsReady live.now lanes.now counts.now control × AreSeatsOf live.now seats.items × (length seats.items ≤ length flags.now) × HasPlaces seating (length seats.items) × (ended.items ≡ []) × (length seats.items + 1 ≤ vec_capacity ended) }
+            requires { (rings.now ≡ None) × IsReady live.now lanes.now counts.now control × AreSeatsOf (tables live.now rings.now) seats.items × (length seats.items ≤ length flags.now) × HasPlaces seating (length seats.items) × (ended.items ≡ []) × (length seats.items + 1 ≤ vec_capacity ended) }
             ensures { IsRun live.entry.now lanes.entry.now counts.entry.now seats.items result.items }
         {
             run_beside(
-                scope, rt, alloc, live, gate, lanes, counts, flags, control, seats, seating, ended,
+                scope, rt, alloc, live, rings, gate, lanes, counts, flags, control, seats, seating,
+                ended,
             )
         },
     );

@@ -1,3 +1,4 @@
+use Rattle.live_threads.specs.AnySeats.{tables}
 use Rattle.live_threads.specs.Seatings.{own_seats}
 use Rattle.live_threads.proofs.Alike.{all_same_then, same_all, same_table}
 use Rattle.live_threads.proofs.here.step_all.Goals as goal
@@ -8,7 +9,7 @@ loop-init g c = same_all (own_seats c.args.here.now.items)
 
 pub step_each-requires : goal.step_each-requires
 step_each-requires g c =
-    let sit = same_table c.args.live.now (own_seats c.args.here.now.items) (own_seats c.loop.here.items) c.requires c.loop.invariant in
+    let sit = same_table (tables c.args.live.now c.args.rings.now) (own_seats c.args.here.now.items) (own_seats c.loop.here.items) c.requires c.loop.invariant in
     sit
 
 pub loop-preserved : goal.loop-preserved

@@ -1,4 +1,5 @@
 use Rattle.std.proofs.Common.{rules}
+use Rattle.live_threads.specs.AnySeats.{tables}
 use Rattle.live_threads.specs.Seatings.{own_seats}
 use Rattle.live_threads.proofs.Alike.{same_all, same_table, stepped, one_of}
 use Rattle.live_threads.proofs.here.step_each.Goals as goal
@@ -8,8 +9,8 @@ loop-i-init g c = record { same = same_all (own_seats c.args.here.now.items); co
 
 pub step-requires : goal.step-requires
 step-requires g c =
-    let sit = same_table c.args.live.now (own_seats c.args.here.now.items) (own_seats c.loop-i.here.items) c.requires c.loop-i.invariant.same in
-    one_of c.args.live.now c.loop-i.here.items c.loop-i.i c.index_mut.result.now sit c.index_mut.ensures.value (search rules)
+    let sit = same_table (tables c.args.live.now c.args.rings.now) (own_seats c.args.here.now.items) (own_seats c.loop-i.here.items) c.requires c.loop-i.invariant.same in
+    one_of (tables c.args.live.now c.args.rings.now) c.loop-i.here.items c.loop-i.i c.index_mut.result.now sit c.index_mut.ensures.value (search rules)
 
 pub loop-i-preserved : goal.loop-i-preserved
 loop-i-preserved g c = record {

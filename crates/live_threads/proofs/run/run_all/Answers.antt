@@ -1,6 +1,6 @@
 use Rattle.std.proofs.Common.{◌≡◌, List, ◌++◌, length, ◌∙◌, sym, ap, subst, arith}
 use Rattle.std.proofs.lemmas.Slice.Zip.{AllZip-long}
-use Rattle.live_threads.specs.AnySeats.{AreEndedSeats, IsSameSeat}
+use Rattle.live_threads.specs.AnySeats.{AreEndedSeats, IsSameSeat, tables}
 use Rattle.live_threads.specs.Seatings.{seats_in}
 use Rattle.live_threads.specs.declared.seat.AnySeat.{AnySeat}
 use Rattle.live_threads.proofs.Alike.{over_then, same_table}
@@ -10,7 +10,7 @@ use Rattle.live_threads.proofs.run.run_all.Goals as goal
 pub end_all-requires-clause-seats : goal.end_all-requires-clause-seats
 end_all-requires-clause-seats g c =
     let l = c.launch_all-seating in
-    λ _ _. same_table c.args.live.now c.args.seats.items (seats_in l.result.places.items l.result.here.items) c.requires.seats l.ensures.same
+    λ _ _. same_table (tables c.args.live.now c.args.rings.now) c.args.seats.items (seats_in l.result.places.items l.result.here.items) c.requires.seats l.ensures.same
 
 pub end_all-requires-clause-room : goal.end_all-requires-clause-room
 end_all-requires-clause-room g c =

@@ -1,7 +1,7 @@
 use Rattle.std.proofs.Common.{◌≡◌, ◌+◌, ◌≤◌, List, [], ◌∷◌, ◌++◌, length, subst, append-nil, append_assoc, ap, ◌∙◌, sym, arith}
 use Rattle.std.specs.Vec.Iter.{into_iter_items}
 use Rattle.std.proofs.lemmas.List.{nil_from_length}
-use Rattle.live_threads.specs.AnySeats.{AreEndedSeats}
+use Rattle.live_threads.specs.AnySeats.{AreEndedSeats, tables}
 use Rattle.live_threads.specs.Seatings.{seats_in}
 use Rattle.live_threads.specs.declared.seat.AnySeat.{AnySeat}
 use Rattle.live_threads.specs.declared.seating.Place.{Place}
@@ -15,7 +15,7 @@ join_seat-requires-after_bounds g c κs within =
     let left = into_iter_items c.next.new.self in
     let hs = into_iter_items c.loop-place.rest in
     let t = c.in-There.thread in
-    first_sits c.args.live.now (seats_in its hs) (seats_in left hs) t.promise.0.value c.loop-place.invariant.left (first_is its left hs c.in-Some.place (There t) c.in-Some.ensures.steps.0 c.in-There.is)
+    first_sits (tables c.args.live.now c.args.rings.now) (seats_in its hs) (seats_in left hs) t.promise.0.value c.loop-place.invariant.left (first_is its left hs c.in-Some.place (There t) c.in-Some.ensures.steps.0 c.in-There.is)
 
 pub loop-place-preserved-in-There : goal.loop-place-preserved-in-There
 loop-place-preserved-in-There g c =
@@ -30,7 +30,7 @@ loop-place-preserved-in-There g c =
     let is = first_is its left hs c.in-Some.place (There t) first c.in-There.is in
     let all = seats_in c.args.seating.places.items c.args.seating.here.items in
     record {
-      left = others_sit c.args.live.now (seats_in its hs) (seats_in left hs) t.promise.0.value i.left is;
+      left = others_sit (tables c.args.live.now c.args.rings.now) (seats_in its hs) (seats_in left hs) t.promise.0.value i.left is;
       here' = sym (count_first its left c.in-Some.place (There t) first c.in-There.is) ∙ i.here';
       over = (
         o.0 ++ u ∷ [],
@@ -47,7 +47,7 @@ run_seat-requires g c =
     let hs = into_iter_items c.loop-place.rest in
     let gs = into_iter_items c.next-in-Here.new.self in
     let h = c.in-Some-next.own in
-    first_sits c.args.live.now (seats_in its hs) (seats_in left gs) h.seat c.loop-place.invariant.left (first_here its left hs gs c.in-Some.place h c.in-Some.ensures.steps.0 c.in-Here.is c.in-Some-next.ensures.cases.0)
+    first_sits (tables c.args.live.now c.args.rings.now) (seats_in its hs) (seats_in left gs) h.seat c.loop-place.invariant.left (first_here its left hs gs c.in-Some.place h c.in-Some.ensures.steps.0 c.in-Here.is c.in-Some-next.ensures.cases.0)
 
 pub loop-place-preserved : goal.loop-place-preserved
 loop-place-preserved g c =
@@ -66,7 +66,7 @@ loop-place-preserved g c =
     let m = ap length more in
     let all = seats_in c.args.seating.places.items c.args.seating.here.items in
     record {
-      left = others_sit c.args.live.now (seats_in its hs) (seats_in left gs) h.seat i.left is;
+      left = others_sit (tables c.args.live.now c.args.rings.now) (seats_in its hs) (seats_in left gs) h.seat i.left is;
       here' = omega (arith, i.here', n, m);
       over = (
         o.0 ++ u ∷ [],

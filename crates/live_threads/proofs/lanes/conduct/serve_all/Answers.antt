@@ -23,4 +23,5 @@ returns g c =
     let v = c.loop-lane.value in
     let over = c.loop-lane-test.false in
     let n = ap (λ (l : List ℕ). length l) c.requires.counts.0 in
-    merged g.N.LaneNames.counts (as_items v.lanes v.control.order) c.keeps.ensures.order (λ l lt. c.loop-lane.invariant.whole l (omega (arith, lt, over, n)))
+    merged g.N.LaneNames.counts (as_items v.lanes v.control.order) c.keeps.ensures.order
+    (λ l lt. c.loop-lane.invariant.whole l (omega (arith, lt, over, n)))

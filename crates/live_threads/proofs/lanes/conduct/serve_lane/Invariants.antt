@@ -6,5 +6,6 @@ use Rattle.live_threads.proofs.lanes.conduct.serve_lane.Given as goal
 abbrev pub invariant-loop-item : goal.invariant-loop-item
 invariant-loop-item g l = record {
   done : done_of l.lane (as_items l.value.lanes l.value.control.order) ≡ l.item;
-  others : (m : ℕ) → m ≢ l.lane → done_of m (as_items l.value.lanes l.value.control.order) ≡ done_of m (as_items l.fn.value.lanes l.fn.value.control.order);
+  others : (m : ℕ) → m ≢ l.lane → done_of m (as_items l.value.lanes l.value.control.order)
+      ≡ done_of m (as_items l.fn.value.lanes l.fn.value.control.order);
 }

@@ -12,4 +12,7 @@ pub loop-k-preserved : goal.loop-k-preserved
 loop-k-preserved c =
     let i = c.loop-k.invariant in
     let few = i.few in
-    record { own = ap (λ (n : ℕ). n + 1) i.own ∙ sym (count_one c.args.lane c.args.lanes.now c.loop-k.k c.loop-k-test.true c.if-lanes-k.false); few = omega (arith, few) }
+    record {
+      own = ap (λ (n : ℕ). n + 1) i.own ∙ sym (count_one c.args.lane c.args.lanes.now c.loop-k.k c.loop-k-test.true c.if-lanes-k.false);
+      few = omega (arith, few);
+    }

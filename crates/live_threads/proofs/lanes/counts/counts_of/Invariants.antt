@@ -3,4 +3,8 @@ use Rattle.live_threads.proofs.Counting.{counts_from}
 use Rattle.live_threads.proofs.lanes.counts.counts_of.Given as goal
 
 abbrev pub invariant-loop-lane : goal.invariant-loop-lane
-invariant-loop-lane l = record { items : l.counts.items ≡ counts_from 0 l.lane l.lanes; made : vec_len l.counts ≡ l.lane; room : vec_capacity l.counts ≡ l.all }
+invariant-loop-lane l = record {
+  items : l.counts.items ≡ counts_from 0 l.lane l.lanes;
+  made : vec_len l.counts ≡ l.lane;
+  room : vec_capacity l.counts ≡ l.all;
+}

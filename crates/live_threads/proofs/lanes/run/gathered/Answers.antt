@@ -10,17 +10,20 @@ use Rattle.live_threads.proofs.lanes.run.gathered.Goals as goal
 pub in_order-requires : goal.in_order-requires
 in_order-requires c =
     let k = c.args.ended.control in
-    let merge : IsLaneOrder c.args.job.lines.lanes k.order = led_merge c.args.live c.args.job k c.requires.job.0 c.requires.job.1 c.requires.control c.order.ensures.once c.requires.served in
+    let merge : IsLaneOrder c.args.job.lines.lanes k.order =
+    led_merge c.args.live c.args.job k c.requires.job.0 c.requires.job.1 c.requires.control c.order.ensures.once c.requires.served in
     let copied : c.as_slice.result.now ≡ k.order = c.as_slice.ensures.value ∙ c.in-Ok.ensures ∙ c.order.ensures.order in
     subst (AreAllLed (length c.args.job.ctls)) (sym copied) (all_led c.args.job k.order c.requires.job.0 merge)
 
 pub returns-in-Ok-in_order-clause-ok : goal.returns-in-Ok-in_order-clause-ok
 returns-in-Ok-in_order-clause-ok c =
     let k = c.args.ended.control in
-    let merge : IsLaneOrder c.args.job.lines.lanes k.order = led_merge c.args.live c.args.job k c.requires.job.0 c.requires.job.1 c.requires.control c.order.ensures.once c.requires.served in
+    let merge : IsLaneOrder c.args.job.lines.lanes k.order =
+    led_merge c.args.live c.args.job k c.requires.job.0 c.requires.job.1 c.requires.control c.order.ensures.once c.requires.served in
     let copied : c.as_slice.result.now ≡ k.order = c.as_slice.ensures.value ∙ c.in-Ok.ensures ∙ c.order.ensures.order in
     let job : c.in-Ok-in_order.job ≡ in_order c.args.job k.order = c.in-Ok-in_order.ensures.ok ∙ ap (λ (o : List ℕ). in_order c.args.job o) copied in
-    let led : k.led ≡ c.in-Ok-in_order.job = c.order.ensures.led ∙ ap (λ (j : Job). in_order j k.order) (c.requires.control.1 ∙ c.requires.job.1) ∙ sym job in
+    let led : k.led ≡ c.in-Ok-in_order.job = c.order.ensures.led ∙ ap (λ (j : Job). in_order j k.order) (c.requires.control.1 ∙ c.requires.job.1)
+    ∙ sym job in
     (k.order, merge, job, subst (λ (j : Job). IsWhole j c.in-Ok-gather.history.items) led (c.in-Ok-gather.ensures.whole c.requires.ended))
 
 pub returns-in-Ok-in_order-clause-turns : goal.returns-in-Ok-in_order-clause-turns
@@ -28,5 +31,6 @@ returns-in-Ok-in_order-clause-turns c =
     let k = c.args.ended.control in
     let copied : c.as_slice.result.now ≡ k.order = c.as_slice.ensures.value ∙ c.in-Ok.ensures ∙ c.order.ensures.order in
     let job : c.in-Ok-in_order.job ≡ in_order c.args.job k.order = c.in-Ok-in_order.ensures.ok ∙ ap (λ (o : List ℕ). in_order c.args.job o) copied in
-    let led : k.led ≡ c.in-Ok-in_order.job = c.order.ensures.led ∙ ap (λ (j : Job). in_order j k.order) (c.requires.control.1 ∙ c.requires.job.1) ∙ sym job in
+    let led : k.led ≡ c.in-Ok-in_order.job = c.order.ensures.led ∙ ap (λ (j : Job). in_order j k.order) (c.requires.control.1 ∙ c.requires.job.1)
+    ∙ sym job in
     subst (λ (j : Job). IsMadeByTurns j c.in-Ok-gather.history.items) led c.in-Ok-gather.ensures.turns

@@ -1,7 +1,8 @@
-use Rattle.std.proofs.Common.{◌≡◌, List, [], ◌∷◌, ◌++◌, length, ◌∙◌, ap, arith}
+use Rattle.std.proofs.Common.{◌≡◌, List, [], ◌∷◌, ◌++◌, length, Option, ◌∙◌, ap, subst, arith}
 use Rattle.std.proofs.lemmas.Slice.Zip.{AllZip-long}
-use Rattle.live_threads.specs.AnySeats.{IsSameSeat}
-use Rattle.live_threads.specs.Seatings.{seats_in}
+use Rattle.ring_table.specs.Seats.{Board as RingBoard}
+use Rattle.live_threads.specs.AnySeats.{AreSeatsOf, IsSameSeat, tables}
+use Rattle.live_threads.specs.Seatings.{own_seats, seats_in}
 use Rattle.live_threads.specs.declared.seat.AnySeat.{AnySeat}
 use Rattle.live_threads.specs.declared.seat.AnySeat.TheVariants.{Control}
 use Rattle.live_threads.proofs.Alike.{all_same_then, over_then, same_table}
@@ -13,8 +14,9 @@ conduct_all-control-requires-clause-here g c =
     let l = c.launch_all-places in
     let ps = l.result.places.items in
     let hs = l.result.here.items in
-    let sit = same_table c.args.live.now c.args.seats.items (seats_in ps hs) c.requires.seats l.ensures.same in
-    λ _ _. own_sit c.args.live.now ps hs l.ensures.here sit
+    let sit = same_table (tables c.args.live.now c.args.rings.now) c.args.seats.items (seats_in ps hs) c.requires.seats l.ensures.same in
+    let here = own_sit (tables c.args.live.now c.args.rings.now) ps hs l.ensures.here sit in
+    λ _ _. subst (λ (r : Option RingBoard). AreSeatsOf (tables c.args.live.now r) (own_seats hs)) c.requires.rings here
 
 pub end_all-requires-clause-seats : goal.end_all-requires-clause-seats
 end_all-requires-clause-seats g c =
@@ -23,8 +25,9 @@ end_all-requires-clause-seats g c =
     let hs = l.result.here.items in
     let r = c.conduct_all-control in
     let gs = r.result.1.items in
-    let same = all_same_then c.args.seats.items (seats_in ps hs) (seats_in ps gs) l.ensures.same (stepped_in ps hs gs l.ensures.here r.ensures.here) in
-    λ _ _. same_table c.args.live.now c.args.seats.items (seats_in ps gs) c.requires.seats same
+    let same = all_same_then c.args.seats.items (seats_in ps hs) (seats_in ps gs) l.ensures.same
+    (stepped_in ps hs gs l.ensures.here r.ensures.here) in
+    λ _ _. same_table (tables c.args.live.now c.args.rings.now) c.args.seats.items (seats_in ps gs) c.requires.seats same
 
 pub end_all-requires-clause-here : goal.end_all-requires-clause-here
 end_all-requires-clause-here g c =
@@ -52,12 +55,14 @@ returns g c =
     let hs = l.result.here.items in
     let r = c.conduct_all-control in
     let gs = r.result.1.items in
-    let same = all_same_then c.args.seats.items (seats_in ps hs) (seats_in ps gs) l.ensures.same (stepped_in ps hs gs l.ensures.here r.ensures.here) in
+    let same = all_same_then c.args.seats.items (seats_in ps hs) (seats_in ps gs) l.ensures.same
+    (stepped_in ps hs gs l.ensures.here r.ensures.here) in
     let f = c.end_all.ensures in
     record {
       control = r.result.0;
       cpus = f.0;
-      back' = f.1 ∙ ap (λ (l : List AnySeat). l ++ f.0) (c.push_reserved.ensures.items ∙ ap (λ (l : List AnySeat). l ++ Control r.result.0 ∷ []) c.requires.ended.0);
+      back' = f.1 ∙ ap (λ (l : List AnySeat). l ++ f.0) (c.push_reserved.ensures.items
+          ∙ ap (λ (l : List AnySeat). l ++ Control r.result.0 ∷ []) c.requires.ended.0);
       cpus' = over_then c.args.seats.items (seats_in ps gs) f.0 same f.2;
       sits = r.ensures.control.0;
       over = r.ensures.control.1;

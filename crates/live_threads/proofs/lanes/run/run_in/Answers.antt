@@ -1,10 +1,10 @@
 use Rattle.std.proofs.Common.{ℕ, List, ◌≡◌, ◌+◌, length, rules, sym, ap, subst, ◌∙◌, arith}
 use Rattle.std.proofs.lemmas.List.{length-map}
 use Rattle.live_table.specs.Seats.{CpuPlace}
-use Rattle.live_threads.specs.AnySeats.{AreSeatsOf, cpus_as_any}
+use Rattle.live_threads.specs.AnySeats.{AreSeatsOf, cpus_as_any, without_rings}
 use Rattle.live_threads.specs.Rooms.{HasPlaces}
 use Rattle.live_threads.specs.declared.seat.AnySeat.TheVariants.{Cpu}
-use Rattle.live_threads.proofs.Apart.{cpus_sit}
+use Rattle.live_threads.proofs.Apart.{seats_sit}
 use Rattle.live_threads.proofs.LaneRuns.{back_count, both_kinds, control_back, cpus_back, launched, merge_back}
 use Rattle.live_threads.proofs.lanes.run.run_in.Goals as goal
 
@@ -14,13 +14,15 @@ scoped-ended-requires g c =
     let cpus = c.args.cpus.items in
     let seats = c.add_cpus-seats.result.items in
     let is : seats ≡ cpus_as_any cpus = launched cpus c.args.rooms.seats.items seats e.seats.0 c.add_cpus-seats.ensures in
-    let sit : AreSeatsOf c.args.live.now seats = subst (AreSeatsOf c.args.live.now) (sym is) (cpus_sit c.args.live.now cpus (λ k s at. (c.requires.cpus.each k s at).0)) in
+    let t = without_rings c.args.live.now in
+    let sit : AreSeatsOf t seats = subst (AreSeatsOf t) (sym is) (seats_sit c.args.live.now cpus c.requires.cpus) in
     let n : length seats ≡ length cpus = ap length is ∙ length-map cpus (λ s. Cpu s) in
     let f = c.as_slice-flags.ensures.len in
     let p = e.seating in
     record {
       at = λ a. (
         (
+          search rules,
           c.requires.ready,
           sit,
           omega (arith, n, f, e.flags),
@@ -58,7 +60,10 @@ returns g c =
     let back = c.scoped-ended.result.items in
     let t = c.take_apart in
     record {
-      control = control_back c.args.live.now c.args.lanes.now c.args.counts.now cpus seats back is c.scoped-ended.ensures.1 t.result.control t.result.cpus.items t.ensures;
-      cpus = cpus_back c.args.live.now c.args.lanes.now c.args.counts.now cpus seats back is c.scoped-ended.ensures.1 t.result.control t.result.cpus.items t.ensures;
-      order = merge_back c.args.live.now c.args.lanes.now c.args.counts.now cpus seats back is c.scoped-ended.ensures.1 t.result.control t.result.cpus.items t.ensures;
+      control = control_back c.args.live.now c.args.lanes.now c.args.counts.now cpus seats back is c.scoped-ended.ensures.1 t.result.control
+          t.result.cpus.items t.ensures;
+      cpus = cpus_back c.args.live.now c.args.lanes.now c.args.counts.now cpus seats back is c.scoped-ended.ensures.1 t.result.control
+          t.result.cpus.items t.ensures;
+      order = merge_back c.args.live.now c.args.lanes.now c.args.counts.now cpus seats back is c.scoped-ended.ensures.1 t.result.control
+          t.result.cpus.items t.ensures;
     }

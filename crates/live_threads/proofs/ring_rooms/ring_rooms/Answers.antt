@@ -1,0 +1,81 @@
+-- One more ring has the room of its CPU.
+use Rattle.std.proofs.Common.{rules, ◌≡◌, ℕ, ◌*◌, List, length, slice_get, sym, ap, ap₂, ◌∙◌, arith}
+use Rattle.std.proofs.lemmas.List.{length-map}
+use Rattle.ft_base.specs.declared.limits.Limits.{Limits}
+use Rattle.ft_base.specs.Job.{Job, Spec}
+use Rattle.ft_base.specs.Versions.{levels, limits_of}
+use Rattle.ft_base.proofs.Versions.{few-largest, levels-most}
+use Rattle.user_specs.specs.Bound.{call_bound_in, call_bound_of}
+use Rattle.user_specs.specs.Plain.{cpu_of, spec_of}
+use Rattle.word_machine.specs.Laws.{room_on}
+use Rattle.trace_rings.proofs.Plans.{cpu-count}
+use Rattle.machine_core.proofs.Plans.{push-each, room-most}
+use Rattle.live_threads.proofs.RingRooms.{few-acts, few-tasks, room-is, rooms-are}
+use Rattle.live_threads.proofs.ring_rooms.ring_rooms.Goals.{After-calls_of}
+use Rattle.live_threads.proofs.ring_rooms.ring_rooms.Goals as goal
+
+-- the levels are those of the job
+levels-are : {read version : ℕ} {limits : Limits} (job : Job) → version ≡ job.version → limits ≡ limits_of version → read ≡ limits.levels
+    → read ≡ levels job
+levels-are job is of' read-is = read-is ∙ ap (λ (l : Limits). l.levels) of' ∙ ap (λ v. (limits_of v).levels) is
+
+pub call_bound-bound-requires : goal.call_bound-bound-requires
+call_bound-bound-requires c =
+    let job = c.args.job.now in
+    let few = (few-largest job.version c.users.ensures.limited.counts).few_users in
+    let count = sym (length-map c.specs.result.now spec_of) ∙ ap length c.specs.ensures in
+    let most = levels-most job in
+    let same = levels-are job c.version.ensures c.of.ensures c.from.ensures in
+    record { users = omega (arith, count, few); levels = omega (arith, same, most) }
+
+pub calls_of-requires : goal.calls_of-requires
+calls_of-requires c =
+    let plans = c.cpus-plans.result.now in
+    let limited = c.users.ensures.limited in
+    let p = c.plan-item in
+    record {
+      tasks = few-tasks c.args.job.now limited plans c.cpus-plans.ensures.tasks c.loop-plan.plan-index p.result c.loop-plan-test.true p.is;
+      acts = few-acts c.args.job.now limited plans c.cpus-plans.ensures.tasks c.loop-plan.plan-index p.result c.loop-plan-test.true p.is;
+    }
+
+-- the product is the CPU's room
+is-room : (c : After-calls_of) → c.call_bound-bound.result * c.calls_of.result ≡ room_on c.args.job.now c.loop-plan.plan-index
+is-room c =
+    let job = c.args.job.now in
+    let same = levels-are job c.version.ensures c.of.ensures c.from.ensures in
+    let bound : c.call_bound-bound.result ≡ call_bound_in job =
+    c.call_bound-bound.ensures ∙ ap₂ (λ (us : List Spec) n. call_bound_of us n) c.specs.ensures same in
+    let plans = c.cpus-plans.result.now in
+    let p = c.plan-item in
+    ap₂ (λ a b. a * b) bound c.calls_of.ensures
+    ∙ room-is job c.users.ensures.limited plans c.cpus-plans.ensures.tasks c.loop-plan.plan-index p.result c.loop-plan-test.true p.is
+
+pub overflow_mul-bound : goal.overflow_mul-bound
+overflow_mul-bound c =
+    let same = is-room c in
+    let few = room-most c.args.job.now c.loop-plan.plan-index c.users.ensures.limited in
+    omega (arith, same, few)
+
+pub loop-plan-preserved : goal.loop-plan-preserved
+loop-plan-preserved c = record {
+  rooms = λ k y at.
+      (let job = c.args.job.now in
+      let had = c.loop-plan.invariant in
+      let x = c.call_bound-bound.result * c.calls_of.result in
+      let own : x ≡ room_on job (length c.loop-plan.rooms.items) =
+      is-room (goal.at.loop-plan-preserved c).After-calls_of ∙ ap (room_on job) (sym had.count) in
+      push-each (λ n z. z ≡ room_on job n) c.loop-plan.rooms.items x had.rooms own k y
+      (ap (λ (xs : List ℕ). slice_get xs k) (sym c.push_reserved.ensures.items) ∙ at));
+  count = search rules;
+  room = search rules;
+}
+
+pub returns : goal.returns
+returns c =
+    let job = c.args.job.now in
+    let many = cpu-count cpu_of c.cpus-plans.result.now job.quanta c.cpus-plans.ensures.quanta in
+    let past = c.loop-plan-test.false in
+    let last = c.loop-plan.auto.plan-index-end in
+    let had = c.loop-plan.invariant in
+    let count : length c.loop-plan.rooms.items ≡ length job.quanta = omega (arith, many, past, last, had.count) in
+    rooms-are job c.loop-plan.rooms.items c.users.ensures.limited count had.rooms
