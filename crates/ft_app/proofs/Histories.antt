@@ -1,5 +1,5 @@
 -- The history that an order prints: it is legal, and no call of it reaches a function of a module that isn't loaded.
-use Rattle.std.proofs.Common.{◌≡◌, ℕ, ◌||◌, ◌==◌, Bool, false, List, [], ◌∷◌, reverse, refl, sym, ap, ap₂, ◌∙◌, subst}
+use Rattle.std.proofs.Common.{◌≡◌, ℕ, ◌||◌, ◌==◌, Bool, Option, List, [], ◌∷◌, reverse, refl, sym, ap, ap₂, ◌∙◌, subst}
 use Rattle.std.specs.List.{list_any}
 use Rattle.ft_base.specs.declared.item.Item.{Item}
 use Rattle.ft_base.specs.Job.{Job, ModuleRow}
@@ -9,6 +9,7 @@ use Rattle.module_laws.specs.Apart.{IsApart}
 use Rattle.module_laws.proofs.Still.{there}
 use Rattle.ft_words.specs.declared.order.Order.{Order}
 use Rattle.ft_words.specs.declared.order.Order.TheVariants.{Replay, Run, Bulk}
+use Rattle.ring_rules.specs.Fold.{Rings}
 use Rattle.ft_script.specs.Script.{IsJobOf}
 use Rattle.script_jobs.proofs.Modules.{calls-loaded, bodies-loaded, lanes-name-none}
 use Rattle.ft_app.specs.Reply.{IsMergeOf, IsLedFor, IsCarriedOut, IsHistoryFor, FindsModules}
@@ -48,9 +49,9 @@ module _ (script : List ℕ) (job : Job) (is : IsJobOf script job) (led : Job) (
       let none = lanes-name-none script job is are in
       all-loaded led items (ap (λ (j : Job). j.lines.absent) order.2 ∙ none.0) (ap (λ (j : Job). j.lines.modules) order.2 ∙ none.1)
 
-pub finds-modules : (order : Order) (script : List ℕ) (job led : Job) (items : List Item) (ended : Bool) → IsJobOf script job → IsCarriedOut order job led items ended
+pub finds-modules : (order : Order) (script : List ℕ) (job led : Job) (items : List Item) (kept : Option Rings) (ended : Bool) → IsJobOf script job → IsCarriedOut order job led items kept ended
     → FindsModules led items
-finds-modules order script job led items ended is out = by order out.led' (history-legal order led items ended out.history)
+finds-modules order script job led items kept ended is out = by order out.led' (history-legal order led items ended out.history)
   where
     by : (o : Order) → IsLedFor o job led → IsLegal led items → FindsModules led items
     by (Replay form) e legal = same script job is led items e legal

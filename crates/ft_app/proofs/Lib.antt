@@ -1,4 +1,5 @@
 pub mod Histories
+pub mod KeptRings
 pub mod Replies
 pub mod Orders
 pub mod WrittenLogs

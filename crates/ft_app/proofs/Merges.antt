@@ -21,10 +21,13 @@ module _ (job : Job) (lanes : List ℕ) (empty : Bool) (are : lanes ≡ job.line
   answered : empty ≡ (length job.lines.lanes == 0)
   answered = asked ∙ ap (λ (ls : List ℕ). length ls == 0) are
 
+  pub no-lanes : empty ≡ true → job.lines.lanes ≡ []
+  no-lanes yes' = is-empty job.lines.lanes (sym answered ∙ yes')
+
   pub without-lanes : empty ≡ true → (led : Job) → led ≡ job → IsMergeOf job led
   without-lanes yes' led same = record {
     alone = λ none. same;
-    merged = λ some. absurd (some (is-empty job.lines.lanes (sym answered ∙ yes')));
+    merged = λ some. absurd (some (no-lanes yes'));
   }
 
   pub in-lanes : empty ≡ false → (order : List ℕ) → IsLaneOrder job.lines.lanes order → (led : Job) → led ≡ in_order job order → IsMergeOf job led

@@ -1,6 +1,6 @@
 -- A written log tells its history: the bytes that were read tell the script and with it the job, and those that were written the log. That
 -- tells the order in which the commands were led, too, since it has the lane of each.
-use Rattle.std.proofs.Common.{◌≡◌, ◌≢◌, ℕ, Bool, List, [], ◌∷◌, Some, refl, sym, ap, ◌∙◌, subst, inl, inr}
+use Rattle.std.proofs.Common.{◌≡◌, ◌≢◌, ℕ, Bool, List, [], ◌∷◌, Option, Some, refl, sym, ap, ◌∙◌, subst, inl, inr}
 use Rattle.std.specs.Prelude.{◌⊎◌}
 use Rattle.std.proofs.lemmas.List.{append_cancel_left, append_cancel_right}
 use Rattle.ft_base.specs.declared.item.Item.{Item}
@@ -16,8 +16,10 @@ use Rattle.script_jobs.proofs.Logs.{log_tells}
 use Rattle.script_jobs.proofs.OrderedLogs.{log-tells-order}
 use Rattle.script_jobs.proofs.Texts.{accepted_in_lanes}
 use Rattle.trace_print.specs.Texts.{text_of}
-use Rattle.ft_app.specs.Reply.{IsMergeOf}
+use Rattle.ring_rules.specs.Fold.{Rings}
+use Rattle.ft_app.specs.Reply.{IsKeptFor, IsMergeOf, printed}
 use Rattle.ft_app.specs.Main.{ReadWhole, IsLogged, HasRun}
+use Rattle.ft_app.proofs.KeptRings.{printed-without}
 
 -- scripts that were read from the same bytes have the same job
 same-job : (given left s s' : List ℕ) (j j' : Job) → ReadWhole (Some given) (Some left) s → ReadWhole (Some given) (Some left) s' → IsJobOf s j → IsJobOf s' j' → j ≡ j'
@@ -55,6 +57,11 @@ module _ (s : List ℕ) (job : Job) (is : IsJobOf s job) (led led' : Job) (a b :
       by (inl none) = absurd (let clash : [] ≡ lane ∷ lanes = sym none ∙ is' in cc)
       by (inr has) = same-order_of has (λ none. let clash : [] ≡ lane ∷ lanes = sym none ∙ is' in cc) m m' wa wb
 
+-- of the form log no rings are printed
+log-of : (led : Job) (items : List Item) (kept : Option Rings) (ended : Bool) → IsKeptFor (Run Log) led items kept
+    → printed (Run Log) led items kept ended ≡ text_of Log led items ended
+log-of led items kept ended k = printed-without Log led items kept ended (λ e. absurd cc) k
+
 module _ (given left before after : List ℕ) where
   abbrev Ran : Order → Type 0
   Ran order = HasRun order (Some given) (Some left) (Some before) (Some after)
@@ -82,7 +89,9 @@ module _ (given left before after : List ℕ) where
       let v = p.written in
       let w = q.written in
       let job = same-job given left a.script b.script p.job q.job a.read b.read p.accepted q.accepted in
-      let text = append_cancel_left before (text_of Log v.led v.items v.ended) (text_of Log w.led w.items w.ended) (sym v.written ∙ w.written) in
+      let text = sym (log-of v.led v.items v.kept v.ended v.carried_out.kept')
+      ∙ append_cancel_left before (printed (Run Log) v.led v.items v.kept v.ended) (printed (Run Log) w.led w.items w.kept w.ended) (sym v.written ∙ w.written)
+      ∙ log-of w.led w.items w.kept w.ended w.carried_out.kept' in
       let same =
       same-run_of a.script p.job p.accepted v.led w.led v.items w.items v.ended w.ended text p.job.lines.lanes refl v.carried_out.led'
       (subst (λ j. IsMergeOf j w.led) (sym job) w.carried_out.led') v.carried_out.history.whole w.carried_out.history.whole in

@@ -4,6 +4,7 @@ use Rattle.std.specs.Io.KnownBytes.{Consumes, Appends, IsAtEnd}
 use Rattle.ft_base.specs.declared.limits.TheConstants.{INPUT_BYTES}
 use Rattle.ft_base.specs.declared.item.Item.{Item}
 use Rattle.ft_base.specs.Job.{Job}
+use Rattle.ring_rules.specs.Fold.{Rings}
 use Rattle.ft_io.specs.Causes.{AppendsFront}
 use Rattle.ft_words.specs.declared.order.Form.TheVariants.{Log}
 use Rattle.ft_words.specs.declared.order.Order.{Order}
@@ -46,14 +47,15 @@ IsToGet (Bulk n) remaining script = script ≡ bulk_text n
 
 -- what the order prints of a history of the job was appended: of its replay, or with `Run` of running threads. With lanes it is one of the
 -- job with its commands in the order in which they were led, and so is what is printed. In that history no call reaches a function of a
--- module that isn't loaded
+-- module that isn't loaded. Rings that are printed are legal for it: those that the threads have kept, or those of the history by place
 pub record HasPrinted (order : Order) (job : Job) (holds holds' : Option (List ℕ)) : Type 0 where
   pub led : Job
   pub items : List Item
+  pub kept : Option Rings
   pub ended : Bool
-  pub carried_out : IsCarriedOut order job led items ended
+  pub carried_out : IsCarriedOut order job led items kept ended
   pub there : FindsModules led items
-  pub written : Appends holds holds' (printed order led items ended)
+  pub written : Appends holds holds' (printed order led items kept ended)
 
 -- the text is a script, and what the order prints of a history of its job was appended
 pub record IsPlayed (order : Order) (script : List ℕ) (holds holds' : Option (List ℕ)) : Type 0 where

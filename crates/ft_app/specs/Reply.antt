@@ -1,5 +1,5 @@
 -- What is written for a script.
-use Rattle.std.specs.Prelude.{ℕ, ◌≡◌, ◌≢◌, ◌++◌, Bool, true, List, [], Result, IfOk, codes, reverse}
+use Rattle.std.specs.Prelude.{ℕ, ◌≡◌, ◌≢◌, ◌++◌, Bool, true, List, [], Option, Some, None, Result, IfOk, IfSome, codes, reverse}
 use Rattle.ft_base.specs.declared.item.Item.{Item}
 use Rattle.ft_base.specs.declared.memory.NoMemory.{NoMemory}
 use Rattle.ft_base.specs.Job.{Job}
@@ -8,11 +8,16 @@ use Rattle.led_jobs.specs.Led.{in_order}
 use Rattle.led_jobs.specs.Orders.{IsLaneOrder}
 use Rattle.module_laws.specs.Kept.{KeepsLoaded, RunsLoaded}
 use Rattle.word_machine.specs.Machine.{play, all_end}
+use Rattle.ft_words.specs.declared.order.Form.TheVariants as Form
 use Rattle.ft_words.specs.declared.order.Order.{Order}
 use Rattle.ft_words.specs.declared.order.Order.TheVariants.{Replay, Run, Bulk}
 use Rattle.ft_script.specs.declared.faults.ScriptFault.{ScriptFault}
 use Rattle.ft_script.specs.FaultText.{fault_text}
 use Rattle.ft_script.specs.Script.{IsJobOf, IsRefusalOf}
+use Rattle.ring_rules.specs.Fold.{Rings}
+use Rattle.ring_rules.specs.Legal.{RingsLegal}
+use Rattle.ring_rules.specs.Plan.{plan_of}
+use Rattle.trace_views.specs.RingsText.{rings_text}
 use Rattle.trace_print.specs.Texts.{text_of}
 use Rattle.trace_print.specs.SummaryText.{summary_text}
 use Rattle.ft_app.specs.declared.carried_out.CarriedOut.{CarriedOut}
@@ -23,11 +28,12 @@ use Rattle.ft_app.specs.declared.status.Status.TheVariants.{Done, Refused}
 abbrev pub history_of : Job → List Item
 history_of job = reverse (play job).past
 
--- what an order prints of a history: its text in a form, or its summary
-abbrev pub printed : Order → Job → List Item → Bool → List ℕ
-printed (Replay form) job items ended = text_of form job items ended
-printed (Run form) job items ended = text_of form job items ended
-printed (Bulk n) job items ended = summary_text n items ended
+-- what an order prints of a history: its text in a form, or its summary; if threads have kept rings, the text of these
+abbrev pub printed : Order → Job → List Item → Option Rings → Bool → List ℕ
+printed (Replay form) job items kept ended = text_of form job items ended
+printed (Run form) job items None ended = text_of form job items ended
+printed (Run form) job items (Some rings) ended = rings_text job items rings ended
+printed (Bulk n) job items kept ended = summary_text n items ended
 
 -- the line that says where a script is refused, and why
 abbrev pub refusal_text : ScriptFault → List ℕ
@@ -67,10 +73,20 @@ IsHistoryFor (Replay form) job items ended = IsReplayOf job items ended
 IsHistoryFor (Run form) job items ended = IsRunOf job items ended
 IsHistoryFor (Bulk n) job items ended = IsReplayOf job items ended
 
--- a job was carried out: `led` is the job as the order carries it out, and this is a history of that which the order prints
-pub record IsCarriedOut (order : Order) (job led : Job) (items : List Item) (ended : Bool) : Type 0 where
+-- Rings that threads have kept, if they have. If they have not, the form rings has those of the history gone through by place, which are legal
+-- for it, too.
+--   legal   they are legal for the history
+--   only    threads keep them only if they are to be printed, of a job without lanes
+pub record IsKeptFor (order : Order) (led : Job) (items : List Item) (kept : Option Rings) : Type 0 where
+  pub legal : IfSome kept (λ rings. RingsLegal (plan_of led) items rings)
+  pub only : IfSome kept (λ rings. (order ≡ Run Form.Rings) × (led.lines.lanes ≡ []))
+
+-- a job was carried out: `led` is the job as the order carries it out, this is a history of that which the order prints, and these are rings of
+-- it, if threads have kept some
+pub record IsCarriedOut (order : Order) (job led : Job) (items : List Item) (kept : Option Rings) (ended : Bool) : Type 0 where
   pub led' : IsLedFor order job led
   pub history : IsHistoryFor order led items ended
+  pub kept' : IsKeptFor order led items kept
 
 -- no call reaches code that isn't there: the module of a call's function is loaded at each item of the call, and so is that of each function
 -- whose body runs, after the commands that have returned there and after those that have begun
@@ -80,13 +96,13 @@ FindsModules job items = KeepsLoaded job items × RunsLoaded job items
 -- whatever is made of a job, it was carried out
 abbrev pub Serves : Order → (Job → Result CarriedOut NoMemory → Type 0) → Type 0
 Serves order makes =
-    (job : Job) (made : Result CarriedOut NoMemory) → makes job made → IfOk made (λ c. IsCarriedOut order job c.job c.outcome.history.items c.outcome.ended)
+    (job : Job) (made : Result CarriedOut NoMemory) → makes job made → IfOk made (λ c. IsCarriedOut order job c.job c.outcome.history.items c.rings c.outcome.ended)
 
 -- ## the reply
 
 -- what an order writes for a script, and the status once it is written in full: what it prints of a history of the script's job
 -- as it was carried out, or the line of the refusal
 pub data IsReplyTo (order : Order) (script : List ℕ) : Status → List ℕ → Type 0 where
-  of_history : (job : Job) → IsJobOf script job → (led : Job) (items : List Item) (ended : Bool) → IsCarriedOut order job led items ended
-      → IsReplyTo order script Done (printed order led items ended)
+  of_history : (job : Job) → IsJobOf script job → (led : Job) (items : List Item) (kept : Option Rings) (ended : Bool)
+      → IsCarriedOut order job led items kept ended → IsReplyTo order script Done (printed order led items kept ended)
   of_refusal : (fault : ScriptFault) → IsRefusalOf script fault → IsReplyTo order script Refused (refusal_text fault)

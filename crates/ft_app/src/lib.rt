@@ -17,14 +17,15 @@
 //!   loaded, and it is whole if the text ends with `end`, as it does with threads.
 //! - If the script has lanes, threads lead its commands in some order that is a merge of the lanes, and
 //!   the history and the text are those of the job in that order.
-//! - The rings of the form `rings` are those of the history gone through by place, and legal for it. So
-//!   a trigger with a limit has fired as often as it was hit, but no more often than the limit.
+//! - The rings of the form `rings` are legal for the history: those that running threads have kept, and
+//!   for a replay and for a script with lanes those of the history gone through by place. So a trigger
+//!   with a limit has fired as often as it was hit, but no more often than the limit.
 //! - A log that was written tells its history, and the order of its lanes ([`laws`]).
 //!
 //! With running threads this holds if the call returns: it may wait, and no proof says that it ends.
-//! Only tested, in `ft_app_tests`: that it does in some runs, that the history is that of the
-//! threads, in the order in which the lanes took their turns, that memory is found if there is some,
-//! and that generated scripts are accepted.
+//! Only tested, in `ft_app_tests`: that it does in some runs, that the history and the rings are those
+//! of the threads, in the order in which the lanes took their turns, that memory is found if there is
+//! some, and that generated scripts are accepted.
 #![tactic(auto)]
 
 mod answer;

@@ -1,48 +1,65 @@
 //! What an order prints of a history, written to a sink.
 
-ghost use Rattle.std.specs.Prelude.{◌≡◌, OnOk, Err};
+ghost use Rattle.std.specs.Prelude.{◌≡◌, OnOk, Ok, Err};
 ghost use Rattle.std.specs.Io.KnownBytes.{Appends};
 ghost use Rattle.ft_hist.specs.Rules.{IsLegal};
 ghost use Rattle.ft_io.specs.Causes.{Rose, AppendsFront};
-ghost use Rattle.ft_app.specs.Reply.{printed};
+ghost use Rattle.ft_app.specs.Reply.{IsKeptFor, printed};
 
+use crate::carried_out::CarriedOut;
 use crate::reply::ReplyFail;
 use ft_io::{Sink, write_all};
-use ft_machine::{Job, Outcome};
+use ft_machine::Outcome;
 use ft_words::Order;
 use std::alloc::Global;
-use trace_print::{TextFail, summary, write_text};
+use trace_print::{TextFail, summary, write_rings, write_text};
 
-/// Writes what an order prints of a history of the job. All memory is had before the first byte is
+/// Writes what an order prints of a history of the job: a text in the order's form, of the rings that
+/// threads have kept if there are some, or the summary. All memory is had before the first byte is
 /// written.
 pub(crate) fn write_printed<K: Sink>(
     alloc: Global,
     order: Order,
-    job: &Job,
-    outcome: &Outcome,
+    carried_out: &CarriedOut,
     sink: &mut K,
 ) -> Result<(), ReplyFail>
-    requires { IsLegal job.now outcome.now.history.items }
+    requires legal { IsLegal carried_out.now.job carried_out.now.outcome.history.items }
+    requires kept { IsKeptFor order carried_out.now.job carried_out.now.outcome.history.items carried_out.now.rings }
     ensures all { OnOk result (Appends (K.holds sink.old) (K.holds sink.new)
-        (printed order job.now outcome.now.history.items outcome.now.ended)) }
+        (printed order carried_out.now.job carried_out.now.outcome.history.items carried_out.now.rings carried_out.now.outcome.ended)) }
     ensures front { result ≡ Err ReplyFail.Sink
         → AppendsFront (K.holds sink.old) (K.holds sink.new)
-        (printed order job.now outcome.now.history.items outcome.now.ended) }
+        (printed order carried_out.now.job carried_out.now.outcome.history.items carried_out.now.rings carried_out.now.outcome.ended) }
     ensures fault { result ≡ Err ReplyFail.Sink → Rose (K.faults sink.old) (K.faults sink.new) }
     ensures memory { result ≡ Err ReplyFail.NoMemory → sink.new ≡ sink.old }
 {
-    let Outcome { history, ended } = outcome;
+    let CarriedOut {
+        job,
+        outcome: Outcome { history, ended },
+        rings,
+    } = carried_out;
     match order {
-        Order::Replay(form) | Order::Run(form) => {
-            match write_text(alloc, job, history, *ended, form, sink) {
-                Ok(()) => Ok(()),
-                Err(TextFail::NoMemory) => Err(ReplyFail::NoMemory),
-                Err(TextFail::Sink) => Err(ReplyFail::Sink),
-            }
-        }
+        Order::Replay(form) => replied(write_text(alloc, job, history, *ended, form, sink)),
+        Order::Run(form) => match rings {
+            Some(rings) => replied(write_rings(alloc, job, history, *ended, rings, sink)),
+            None => replied(write_text(alloc, job, history, *ended, form, sink)),
+        },
         Order::Bulk(n) => {
             let text = summary(alloc, n, history, *ended).map_err(|_| ReplyFail::NoMemory)?;
             write_all(sink, text.as_slice()).map_err(|_| ReplyFail::Sink)
         }
+    }
+}
+
+/// What the writing of a text came to, as that of a reply.
+fn replied(written: Result<(), TextFail>) -> Result<(), ReplyFail>
+    ensures all { OnOk result (written ≡ Ok tt) }
+    ensures fault { result ≡ Err ReplyFail.Sink → written ≡ Err TextFail.Sink }
+    ensures memory { result ≡ Err ReplyFail.NoMemory → written ≡ Err TextFail.NoMemory }
+{
+    match written {
+        Ok(()) => Ok(()),
+        Err(TextFail::NoMemory) => Err(ReplyFail::NoMemory),
+        Err(TextFail::Sink) => Err(ReplyFail::Sink),
     }
 }

@@ -52,10 +52,10 @@ pub(crate) fn write_reply<C: FnOnce(Job) -> Result<CarriedOut, NoMemory> + Drop,
 {
     match read_script(alloc, script) {
         Ok(job) => {
-            let Ok(CarriedOut { job, outcome }) = carry_out(job) else {
+            let Ok(carried_out) = carry_out(job) else {
                 return Err(ReplyFail::NoMemory);
             };
-            write_printed(alloc, order, &job, &outcome, sink)?;
+            write_printed(alloc, order, &carried_out, sink)?;
             Ok(Status::Done)
         }
         Err(fault) => {

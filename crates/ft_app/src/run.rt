@@ -1,17 +1,20 @@
 //! A job carried out by running threads.
 
-ghost use Rattle.std.specs.Prelude.{◌≡◌, true, IfOk};
+ghost use Rattle.std.specs.Prelude.{◌≡◌, true, [], IfOk};
 ghost use Rattle.ft_hist.specs.Rules.{IsWhole};
 ghost use Rattle.live_table.specs.Seats.{AreAtEnd, AreSeats, ControlSitsAt};
-ghost use Rattle.ft_app.specs.Reply.{IsMergeOf, IsRunOf};
+ghost use Rattle.ft_words.specs.declared.order.Order.TheVariants.{Run};
+ghost use Rattle.ft_app.specs.Reply.{IsKeptFor, IsMergeOf, IsRunOf};
 
 use crate::carried_out::CarriedOut;
 use ft_base::NoMemory;
 use ft_hist::History;
 use ft_io::Gate;
 use ft_machine::{Job, Outcome};
+use ft_words::Form;
 use live_table::{Live, Started};
-use live_threads::{Ended, LaneRun, run_lanes, run_live};
+use live_threads::{Ended, LaneRun, RingRun, run_lanes, run_live, run_rings};
+use ring_rules::Rings;
 use std::alloc::Global;
 use std::sync::Wait;
 use std::thread::Threads;
@@ -19,31 +22,57 @@ use std::thread::Threads;
 /// Carries a job out by running threads, up to the end of each: one for control and one for each CPU,
 /// or with lanes one for each lane in the place of control's. They pass the gate before each of their
 /// steps. The job's schedule isn't used. The job comes back with its commands in the order in which the
-/// lock of its lanes let them through; without lanes that is the order of their lines.
+/// lock of its lanes let them through; without lanes that is the order of their lines. For the form
+/// rings the threads of a job without lanes keep rings while they run.
 pub(crate) fn run<R: Threads + Wait + Sync, G: Gate>(
     rt: &R,
     alloc: Global,
     job: Job,
+    form: Form,
     gate: &G,
 ) -> Result<CarriedOut, NoMemory>
     ensures led { IfOk result (λ c. IsMergeOf job c.job) }
     ensures run { IfOk result (λ c. IsRunOf c.job c.outcome.history.items c.outcome.ended) }
+    ensures kept { IfOk result (λ c. IsKeptFor (Run form) c.job c.outcome.history.items c.rings) }
 {
     if job.lanes().is_empty() {
-        let history = run_job(rt, alloc, &job, gate)?;
-        return Ok(run_to_end(job, history));
+        let (history, rings) = run_alone(rt, alloc, &job, form, gate)?;
+        return Ok(run_to_end(job, history, rings));
     }
     match run_lanes(rt, alloc, job, gate) {
-        Ok(LaneRun { job, history }) => Ok(run_to_end(job, history)),
+        Ok(LaneRun { job, history }) => Ok(run_to_end(job, history, None)),
         Err(_) => Err(NoMemory),
     }
 }
 
-/// A job that threads have carried out, and their history, each at its end.
-fn run_to_end(job: Job, history: History) -> CarriedOut
+/// The history of threads that carry out a job without lanes, and for the form rings the rings that
+/// they keep.
+fn run_alone<R: Threads + Wait + Sync, G: Gate>(
+    rt: &R,
+    alloc: Global,
+    job: &Job,
+    form: Form,
+    gate: &G,
+) -> Result<(History, Option<Rings>), NoMemory>
+    requires lanes { job.now.lines.lanes ≡ [] }
+    ensures whole { IfOk result (λ r. IsWhole job.now r.0.items) }
+    ensures kept { IfOk result (λ r. IsKeptFor (Run form) job.now r.0.items r.1) }
+{
+    if form == Form::Rings {
+        let RingRun { history, rings } = run_rings(rt, alloc, job, gate)?;
+        return Ok((history, Some(rings)));
+    }
+    let history = run_job(rt, alloc, job, gate)?;
+    Ok((history, None))
+}
+
+/// A job that threads have carried out, their history, each at its end, and the rings that they have
+/// kept.
+fn run_to_end(job: Job, history: History, rings: Option<Rings>) -> CarriedOut
     ensures job { result.job ≡ job }
     ensures items { result.outcome.history.items ≡ history.items }
     ensures ended { result.outcome.ended ≡ true }
+    ensures rings { result.rings ≡ rings }
 {
     CarriedOut {
         job,
@@ -51,6 +80,7 @@ fn run_to_end(job: Job, history: History) -> CarriedOut
             history,
             ended: true,
         },
+        rings,
     }
 }
 

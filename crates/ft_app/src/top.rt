@@ -18,7 +18,8 @@ use std::thread::Threads;
 /// program's name. `Replay` and `Bulk` are carried out by [`ft_plain`]. `Run` reads a script from the
 /// source, carries it out with running threads, and writes their history to the sink, in the order's
 /// form. Each thread passes the gate before each of its steps. Each lane of a script is a thread, and
-/// the commands go in the order in which their lock lets them through.
+/// the commands go in the order in which their lock lets them through. For the form rings the threads
+/// of the CPUs keep rings while they run, unless the script has lanes.
 ///
 /// It gives the number of its [`Status`], and writes nothing elsewhere. The steps come in this
 /// order: words, read, script, memory for the replay or the threads, write. `NoMemory` may come in
@@ -39,7 +40,10 @@ pub fn ft_main<R: Threads + Wait + Sync, S: Source, K: Sink, G: Gate>(
 {
     match read_words(alloc, words) {
         Ok(order) => match order {
-            Order::Run(_) => answer(alloc, &order, |job| run(rt, alloc, job, gate), source, sink),
+            Order::Run(form) => {
+                let carry_out = |job| run(rt, alloc, job, form, gate);
+                answer(alloc, &order, carry_out, source, sink)
+            }
             _ => ft_plain(alloc, &order, source, sink),
         },
         Err(WordsFault::Language) => Status::Language.code(),

@@ -1,6 +1,10 @@
 use Rattle.std.proofs.Common.{◌≡◌, ◌∙◌}
-use Rattle.ft_app.proofs.Merges.{in-lanes, whole-run, without-lanes}
+use Rattle.ft_app.proofs.Merges.{in-lanes, no-lanes, whole-run, without-lanes}
 use Rattle.ft_app.proofs.run.run.Goals as goal
+
+pub run_alone-requires-clause-lanes : goal.run_alone-requires-clause-lanes
+run_alone-requires-clause-lanes g c = λ _ _.
+    no-lanes c.args.job c.lanes.result.now c.is_empty.result c.lanes.ensures.lanes c.is_empty.ensures c.if-is_empty.true
 
 pub returns-then-is_empty-clause-led : goal.returns-then-is_empty-clause-led
 returns-then-is_empty-clause-led g c =

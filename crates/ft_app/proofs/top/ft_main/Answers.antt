@@ -1,4 +1,6 @@
-use Rattle.std.proofs.Common.{ap, Err, ◌∙◌, rules}
+use Rattle.std.proofs.Common.{ap, map, subst, Err, ◌∙◌, rules}
+use Rattle.ft_words.specs.declared.order.Order.TheVariants.{Run}
+use Rattle.ft_words.specs.Language.{Gives}
 use Rattle.ft_app.proofs.Ends.{given, no-memory-for-words, no-order}
 use Rattle.ft_app.proofs.top.ft_main.Goals as goal
 
@@ -20,7 +22,8 @@ answer-requires-clause-serves g c = search rules
 
 pub returns-in-Run : goal.returns-in-Run
 returns-in-Run g c =
-    given g.S.Source.remaining g.S.Source.faults g.K.Sink.holds g.K.Sink.faults _ _ _ _ _ _ c.in-Ok.order c.in-Ok.ensures.gives c.answer.ensures
+    given g.S.Source.remaining g.S.Source.faults g.K.Sink.holds g.K.Sink.faults _ _ _ _ _ _ (Run c.in-Run.form)
+    (subst (Gives (map (λ word. word.now) c.args.words.now)) c.in-Run.is c.in-Ok.ensures.gives) c.answer.ensures
 
 pub returns-in_default : goal.returns-in_default
 returns-in_default g c =
