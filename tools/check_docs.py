@@ -46,7 +46,7 @@ RECIPE = (b"head -n N FILE", b"printf ")
 EXAMPLE = "examples/realistic.ft"  # what recipes are tried on
 TYPED = re.compile(rb"\./ftcore((?: [\w=.-]+)*)(?: < (examples/[\w.]+\.ft))?(?:  .*)?\n")
 IS_COMMAND = re.compile(r"[\s>*+-]*\$\s*\S*ftcore\b")
-PROGRAMS = {"step_by_step": [(b"rust", "src/main.rt"), (b"text", "stdout")]}  # what of them docs/LIBRARY.md has
+PROGRAMS = {"step_by_step": [(b"rust", "src/main.rt"), (b"text", "stdout")], "ring_runs": [(b"text", "stdout")]}  # what of them docs/LIBRARY.md has
 NOT_EMPTY = ("README.md", "TOUR.md")  # the pages that have a script at least
 
 

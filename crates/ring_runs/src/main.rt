@@ -1,0 +1,88 @@
+//! A program that runs a script by threads as `ftcore run --print rings` does, and besides prints at
+//! which places each trigger fired. It prints the log, a line `rings`, the text of the rings, and then
+//! for each trigger a line `# trigger I at P P ..`. By these `tools/check_rings.py` judges whether the
+//! rings are legal for the history.
+//!
+//! Proved: the history is a whole one of the script's job, and the rings are legal for it, as
+//! [`live_threads::run_rings`] promises; the script, the history and the rings are what the calls ask
+//! for. Only tested, by its stored output: what it prints.
+#![tactic(auto)]
+
+ghost use Rattle.std.specs.Prelude.{◌<◌, length};
+ghost use Rattle.ft_hist.specs.Rules.{IsWhole};
+ghost use Rattle.ring_rules.specs.Legal.{RingsLegal};
+ghost use Rattle.ring_rules.specs.Plan.{plan_of};
+
+use ft_base::NoMemory;
+use ft_io::{OpenGate, Sink, Source, StdSink, StdSource, read_all, write_all};
+use ft_machine::Job;
+use ft_script::read_script;
+use live_threads::{RingRun, run_rings};
+use ring_rules::Rings;
+use std::alloc::Global;
+use std::process::ExitCode;
+use std::sync::Wait;
+use std::thread::Threads;
+use trace_print::{print_rings, write_log};
+
+/// Not all was printed: the script couldn't be read or is refused, memory ran out, or the output failed.
+#[derive(Drop)]
+struct Stopped;
+
+/// The text of the rings of a run.
+fn rings_text(alloc: Global, job: &Job, run: &RingRun) -> Result<Vec<u8>, NoMemory>
+    requires whole { IsWhole job.now run.now.history.items }
+    requires legal { RingsLegal (plan_of job.now) run.now.history.items run.now.rings }
+{
+    print_rings(alloc, job, &run.history, true, &run.rings)
+}
+
+/// Writes the places at which a trigger fired, in one line.
+fn write_fired<K: Sink>(
+    alloc: Global,
+    rings: &Rings,
+    trigger: u32,
+    sink: &mut K,
+) -> Result<(), Stopped>
+    requires { trigger < length rings.now.fired }
+{
+    let head = format!(in alloc; "# trigger {trigger} at").map_err(|_| Stopped)?;
+    write_all(sink, head.as_bytes()).map_err(|_| Stopped)?;
+    for i in 0..rings.fired(trigger) {
+        let place = rings.fired_at(trigger, i);
+        let word = format!(in alloc; " {place}").map_err(|_| Stopped)?;
+        write_all(sink, word.as_bytes()).map_err(|_| Stopped)?;
+    }
+    write_all(sink, b"\n").map_err(|_| Stopped)
+}
+
+/// Runs the script that the source gives, and writes all to the sink.
+fn run_script<R: AllocGlobal + Threads + Wait + Sync, S: Source, K: Sink>(
+    rt: &R,
+    source: &mut S,
+    sink: &mut K,
+) -> Result<(), Stopped> {
+    let alloc = rt.alloc();
+    let script = read_all(alloc, source).map_err(|_| Stopped)?;
+    let job = read_script(alloc, script.as_slice()).map_err(|_| Stopped)?;
+    let Ok(run) = run_rings(rt, alloc, &job, &OpenGate) else {
+        return Err(Stopped);
+    };
+    let text = rings_text(alloc, &job, &run).map_err(|_| Stopped)?;
+    write_log(alloc, &job, &run.history, true, sink).map_err(|_| Stopped)?;
+    write_all(sink, b"rings\n").map_err(|_| Stopped)?;
+    write_all(sink, text.as_slice()).map_err(|_| Stopped)?;
+    for trigger in 0..run.rings.triggers() {
+        write_fired(alloc, &run.rings, trigger, sink)?;
+    }
+    Ok(())
+}
+
+fn main(rt: HostRuntime) -> ExitCode {
+    let mut source = StdSource::new(rt.stdin());
+    let mut sink = StdSink::new(rt.stdout());
+    match run_script(&rt, &mut source, &mut sink) {
+        Ok(()) => ExitCode::SUCCESS,
+        Err(_) => ExitCode::FAILURE,
+    }
+}
