@@ -1,10 +1,8 @@
 -- Legality is its parts.
-use Rattle.std.proofs.Common.{◌≡◌, ◌↔◌, List, Some, sym, subst, ◌∙◌}
-use Rattle.std.specs.Prelude.{slice_get}
+use Rattle.std.proofs.Common.{List, sym, subst, ◌∙◌}
 use Rattle.ft_base.specs.declared.item.Item.{Item}
 use Rattle.ft_base.specs.declared.item.Item.TheVariants.{Begin, Return, Enter, Back, BackEnd, Refuse, Miss, Body, Leave, Exit, ExitEnd, Ret}
-use Rattle.ft_base.specs.Job.{Job, Command, commands}
-use Rattle.ft_hist.specs.Past.{done}
+use Rattle.ft_base.specs.Job.{Job}
 use Rattle.ft_hist.specs.Rules.{IsStill, MayFollow, MayStand}
 use Rattle.ft_hist.proofs.RunLaws.{some_inj}
 use Rattle.history_check.specs.declared.verdict.Rule.{Rule}

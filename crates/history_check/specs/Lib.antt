@@ -4,3 +4,7 @@ pub mod Backs
 pub mod KeptBacks
 pub mod Parts
 pub mod Verdicts
+pub mod KeptTold
+pub mod KeptCalls
+pub mod KeptCallbacks
+pub mod KeptPast

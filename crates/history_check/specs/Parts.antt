@@ -1,5 +1,5 @@
 -- The parts of legality, as docs/RULES.md has them: what one item keeps of each, after its past.
-use Rattle.std.specs.Prelude.{ℕ, suc, ◌≡◌, ◌<◌, ◌⊎◌, true, List, [], ◌∷◌, length, take, slice_get, Some, IfSome, IsSome}
+use Rattle.std.specs.Prelude.{ℕ, suc, ◌≡◌, ◌<◌, ◌⊎◌, true, List, [], ◌∷◌, take, slice_get, Some, IsSome}
 use Rattle.std.specs.List.{AllByRecursion as Each}
 use Rattle.ft_base.specs.declared.number.CallNo.{CallNo}
 use Rattle.ft_base.specs.declared.item.Answer.{Answer}
@@ -80,9 +80,13 @@ KeepsCommands job past (Begin k) = MayBegin job past k × HasWaited job past
 KeepsCommands job past (Return k answer) = IsAnswered job past k answer
 KeepsCommands job past _ = Unit {0}
 
--- what an item keeps of a part: of the plain run that each task is still on it
+-- the plain run: each task is still on it
+abbrev pub KeepsPlainRun : Job → List Item → Item → Type 0
+KeepsPlainRun job past item = (t : ℕ) → IsSome (plain job t (item ∷ past))
+
+-- what an item keeps of a part
 abbrev pub Keeps : Rule → Job → List Item → Item → Type 0
-Keeps PlainRun job past item = (t : ℕ) → IsSome (plain job t (item ∷ past))
+Keeps PlainRun job past item = KeepsPlainRun job past item
 Keeps Callbacks job past item = KeepsCallbacks job past item
 Keeps Silence job past item = KeepsSilence job past item
 Keeps Refusals job past item = KeepsRefusals job past item

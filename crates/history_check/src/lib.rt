@@ -2,17 +2,29 @@
 //! items of a history, and nothing of the machine that made them; so it judges the history of a
 //! machine, of threads, or one that was made up.
 //!
-//! Promised: [`backs_legal`] says of any history exactly whether it keeps the rules of callbacks and
-//! of silence; each legal history keeps them. Out of memory is the only fault.
+//! Promised: [`judge`] says of any list of items exactly whether it is a whole history of the job, or a
+//! legal one, or at which item it breaks which part of legality first. [`backs_legal`] says whether it
+//! keeps the rules of callbacks and of silence; each legal history keeps them. Out of memory is the only
+//! fault.
 //!
 //! Only tested, in the crate `ft_machine_tests`: that it tells made up histories from legal ones.
 #![tactic(auto)]
 
 mod backs;
+mod callbacks;
 mod desks;
+mod judging;
 mod laws;
+mod open_call;
+mod past;
+mod rules;
+mod take_in;
+mod task_past;
+mod told;
+mod users;
 mod verdict;
 
 pub use backs::backs_legal;
+pub use judging::judge;
 pub use laws::{a_history_has_one_verdict, legal_histories_keep_backs, legality_is_its_parts};
 pub use verdict::{Rule, Verdict};

@@ -1,5 +1,5 @@
 -- What an item makes of a task on its plain run, by what its top call is.
-use Rattle.std.proofs.Common.{cond, ◌≡◌, ℕ, suc, Bool, true, false, ◌==◌, List, [], ◌∷◌, Option, Some, None, refl, sym, ap, ◌∙◌}
+use Rattle.std.proofs.Common.{cond, ◌≡◌, ℕ, Bool, true, false, ◌==◌, List, [], ◌∷◌, Option, Some, None, refl, sym, ap, ◌∙◌}
 use Rattle.ft_base.specs.declared.number.CallNo.{CallNo}
 use Rattle.ft_base.specs.declared.item.Item.{Item}
 use Rattle.ft_base.specs.declared.item.Item.TheVariants.{Begin, Return, Enter, Back, BackEnd, Refuse, Miss, Body, Leave, Exit, ExitEnd, Ret}
@@ -10,7 +10,7 @@ use Rattle.ft_base.specs.declared.number.UserNo.{UserNo}
 use Rattle.ft_base.specs.Items.{call_of}
 use Rattle.ft_base.specs.Job.{Job}
 use Rattle.ft_base.specs.Same.{same_call}
-use Rattle.ft_hist.specs.Plain.{PlainTask, Frame, Phase, Owed, Dispatch, InBack, Running, Leaving, InExit, on_call, in_phase, after_back, after_back_end, after_miss, after_refusal, after_body, after_exit, after_exit_end, after_item}
+use Rattle.ft_hist.specs.Plain.{PlainTask, Frame, Phase, Dispatch, InBack, Running, Leaving, InExit, on_call, in_phase, after_back, after_back_end, after_miss, after_refusal, after_body, after_exit, after_exit_end, after_item}
 use Rattle.ft_hist.proofs.RunLaws.{some_inj}
 use Rattle.task_runs.specs.Kept.{IsStep, moved, phase_after, top_if}
 

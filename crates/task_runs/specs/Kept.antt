@@ -1,12 +1,11 @@
 -- The plain run of a task as the program keeps it.
-use Rattle.std.specs.Prelude.{ℕ, suc, ◌+◌, Bool, true, false, ◌&&◌, ◌==◌, List, [], ◌∷◌, map, Option, Some, None, option_map, if◌then◌else◌}
+use Rattle.std.specs.Prelude.{ℕ, suc, ◌+◌, Bool, true, false, ◌&&◌, ◌==◌, nat_le, List, [], ◌∷◌, map, Option, Some, None, option_map, if◌then◌else◌}
 use Rattle.ft_base.specs.declared.number.CallNo.{CallNo}
 use Rattle.ft_base.specs.declared.context.Ctx.{Ctx}
 use Rattle.ft_base.specs.declared.item.Item.{Item}
 use Rattle.ft_base.specs.declared.item.Item.TheVariants.{Begin, Return, Enter, Back, BackEnd, Refuse, Miss, Body, Leave, Exit, ExitEnd}
-use Rattle.ft_base.specs.declared.item.Item.TheVariants as Item
 use Rattle.ft_base.specs.declared.task.TaskAct.{TaskAct}
-use Rattle.ft_base.specs.declared.task.TaskAct.TheVariants.{Call, Ret}
+use Rattle.ft_base.specs.declared.task.TaskAct.TheVariants.{After, Call, Ret}
 use Rattle.ft_base.specs.Desk.{spec_at}
 use Rattle.ft_base.specs.Job.{Job}
 use Rattle.ft_base.specs.Same.{same_call, same_ctx, context}
@@ -38,6 +37,14 @@ frame_of t = record { call = t.call; ctx = t.ctx; func = t.func.0; scripted = t.
 abbrev pub stack_of : List Frame → List plain.Frame
 stack_of ts = map frame_of ts
 
+-- whether the script's next act is in a call's body
+abbrev pub runs_script : plain.Frame → Bool
+runs_script t = by_phase t.phase
+  where
+    by_phase : plain.Phase → Bool
+    by_phase Running = t.scripted
+    by_phase _ = false
+
 -- ## acts
 
 -- the acts to come, the raised contexts, and how many acts were done
@@ -60,6 +67,20 @@ returned a = by_acts a.acts
     by_acts : List TaskAct → Option Ahead
     by_acts (Ret ∷ rest) = Some (record { acts = rest; contexts = a.contexts; gone = suc a.gone })
     by_acts _ = None
+
+-- how many acts are done after so many and those to come that give no items
+abbrev pub past_silent : ℕ → List TaskAct → ℕ
+past_silent n [] = n
+past_silent n (Call f ∷ rest) = n
+past_silent n (Ret ∷ rest) = n
+past_silent n (_ ∷ rest) = past_silent (suc n) rest
+
+-- an act that gives no items, and whose wait is met by this many commands that have returned
+abbrev pub is_silent : ℕ → TaskAct → Bool
+is_silent returned (Call f) = false
+is_silent returned Ret = false
+is_silent returned (After n) = nat_le n returned
+is_silent returned _ = true
 
 -- ## items that change no more than how far the top call is
 

@@ -1,9 +1,9 @@
 //! The acts that a task has still to do, and its raised contexts.
 
-ghost use Rattle.std.specs.Prelude.{◌≡◌, ◌+◌, ◌<◌, ◌^◌, [], length, OnOk, Some, None, if◌then◌else◌};
+ghost use Rattle.std.specs.Prelude.{◌≡◌, ◌+◌, ◌<◌, ◌^◌, [], length, OnOk, Some, None, IsTrue, ◌↔◌, if◌then◌else◌};
 ghost use Rattle.ft_hist.specs.Plain.{ahead};
 ghost use Rattle.ft_base.specs.Same.{context};
-ghost use Rattle.task_runs.specs.Kept.{ahead_of, called, returned};
+ghost use Rattle.task_runs.specs.Kept.{ahead_of, called, past_silent, returned};
 
 use ft_base::{Ctx, FuncNo, NoMemory, TaskAct};
 use std::alloc::Global;
@@ -92,5 +92,39 @@ impl<'a> Acts<'a> {
             }
             _ => false,
         }
+    }
+
+    /// How many acts were done.
+    pub(crate) fn gone(&self) -> u32
+        ensures { result ≡ self.now.gone }
+    {
+        self.gone
+    }
+
+    /// How many acts were done, if those to come that give no items count up to the next that does.
+    pub(crate) fn passed(&self) -> u32
+        requires { self.now.gone + length self.now.rest.now < 2 ^ 32 }
+        ensures { result ≡ past_silent self.now.gone self.now.rest.now }
+    {
+        let mut passed = self.gone;
+        for act in self.rest {
+            match act {
+                TaskAct::Call(_) | TaskAct::Ret => return passed,
+                TaskAct::Raise(_) | TaskAct::Lower | TaskAct::After(_) => passed += 1,
+            }
+        }
+        passed
+    }
+
+    /// Whether only acts are left that give no items, and their waits are met by this many commands that
+    /// have returned.
+    pub(crate) fn are_over(&self, returned: u32) -> bool
+        ensures { IsTrue result ↔ ((ahead returned self.now.rest.now self.now.contexts.items self.now.gone).acts ≡ []) }
+    {
+        self.rest.iter().all(|act| match act {
+            TaskAct::Call(_) | TaskAct::Ret => false,
+            TaskAct::After(n) => *n <= returned,
+            TaskAct::Raise(_) | TaskAct::Lower => true,
+        })
     }
 }

@@ -4,7 +4,7 @@ ghost use Rattle.std.specs.Prelude.{◌≡◌, map, option_map};
 ghost use Rattle.ft_base.specs.Desk.{spec_at};
 ghost use Rattle.ft_base.specs.Job.{Job as PlainJob};
 ghost use Rattle.ft_hist.specs.Plain.{owed_by};
-ghost use Rattle.task_runs.specs.Kept.{frame_of, owed_of, phase_after, phase_of};
+ghost use Rattle.task_runs.specs.Kept.{frame_of, owed_of, phase_after, phase_of, runs_script};
 ghost use Rattle.user_specs.specs.Plain.{spec_of};
 
 use ft_base::{Act, CallNo, Ctx, FuncNo, Item, UserNo};
@@ -49,6 +49,16 @@ pub struct Frame {
 }
 
 impl Frame {
+    /// Whether the script's next act is in its body.
+    pub(crate) fn is_running_script(self) -> bool
+        ensures { result ≡ runs_script (frame_of self) }
+    {
+        match self.phase {
+            Phase::Running => self.scripted,
+            _ => false,
+        }
+    }
+
     /// The same call, in another phase.
     pub(crate) fn in_phase(self, phase: Phase) -> Frame
         ensures { result ≡ record self { phase = phase } }

@@ -1,10 +1,11 @@
 //! A task on its plain run.
 
-ghost use Rattle.std.specs.Prelude.{◌≡◌, ◌+◌, ◌<◌, ◌^◌, ◌∷◌, ℕ, drop, length, Some, None, map, option_map, IfOk, OnOk, if◌then◌else◌};
+ghost use Rattle.std.specs.Prelude.{◌≡◌, ◌+◌, ◌<◌, ◌^◌, ◌∷◌, ℕ, drop, length, Some, None, map, option_map, IfOk, OnOk, IsTrue, ◌↔◌, if◌then◌else◌};
 ghost use Rattle.ft_base.specs.declared.item.Item.TheVariants.{Enter, Leave, Ret};
 ghost use Rattle.ft_base.specs.Items.{call_of};
 ghost use Rattle.ft_base.specs.Job.{Job as PlainJob};
 ghost use Rattle.ft_hist.specs.Plain.{after_enter, after_enter_ahead, after_item, after_leave, after_owed_enter, ahead, top_call};
+ghost use Rattle.ft_hist.specs.Rules.{HasEnded, acts_passed};
 ghost use Rattle.task_runs.specs.Kept.{IsStep, frame_of, opened, owed_of, phase_of, returned as returned_ahead, starting, top_if, top_of, with_acts};
 ghost use Rattle.user_specs.specs.Plain.{spec_of};
 
@@ -77,6 +78,24 @@ impl<'a> TaskRun<'a> {
             | Item::Exit { call, .. }
             | Item::ExitEnd { call, .. } => Ok(self.go_on(specs, call, item)),
         }
+    }
+
+    /// How many acts it has done, those without items counted as soon as they are next.
+    pub fn acts_passed(&self) -> u32
+        ensures { result ≡ acts_passed self.now }
+    {
+        match self.front() {
+            Some(top) if !top.is_running_script() => self.acts.gone().saturating_sub(1),
+            _ => self.acts.passed(),
+        }
+    }
+
+    /// Whether it is at its end, after this many commands have returned: only acts without items are left,
+    /// their waits are met, and no call is open.
+    pub fn has_ended(&self, returned: u32) -> bool
+        ensures { IsTrue result ↔ HasEnded returned self.now }
+    {
+        self.stack.is_empty() && self.acts.are_over(returned)
     }
 
     /// A call is entered: the script's next one, or one that the open callback's act owes.

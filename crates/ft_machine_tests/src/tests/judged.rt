@@ -1,11 +1,11 @@
 //! Histories that break one rule of callbacks, each made by hand.
 
-ghost use Rattle.std.specs.Prelude.{◌≡◌, ◌<◌, ◌^◌, length, IfOk};
+ghost use Rattle.std.specs.Prelude.{◌≡◌, ◌+◌, ◌<◌, ◌^◌, length, IfOk};
 
 use super::jobs::job_of;
 use ft_base::{Answer, CallNo, Ctx, FuncNo, Item, NoMemory, Ran, Reason, TaskNo, UserNo};
 use ft_hist::History;
-use history_check::backs_legal;
+use history_check::{Rule, Verdict, backs_legal, judge};
 use std::alloc::Global;
 use std::test::Fail;
 
@@ -400,5 +400,73 @@ fn calls_that_were_not_entered(rt: HostRuntime) -> Result<(), Fail> {
     assert!(rt; keeps_rules(alloc, TRACED, &END_OF_NOBODY)?);
     assert!(rt; keeps_rules(alloc, TRACED, &ENTERED_ELSEWHERE)?);
     assert!(rt; keeps_rules(alloc, UNTRACED, &NOT_ENTERED)?);
+    Ok(())
+}
+
+/// Whether this is the verdict on these items, for the job of a text.
+fn is_judged(alloc: Global, text: &str, items: &[Item], verdict: Verdict) -> Result<bool, Fail>
+    requires { length items.now + 2 < 2 ^ 32 }
+{
+    let job = job_of(alloc, text)?;
+    Ok(judge(alloc, &job, items)? == verdict)
+}
+
+/// The verdict that an item breaks a part of legality.
+fn broken(place: u32, rule: Rule) -> Verdict {
+    Verdict::Broken { place, rule }
+}
+
+static LEFT_OPEN: [Item; 6] = [
+    BEGIN_ONE, RETURN_ONE, ENTER, BACK_FIRST, END_FIRST, BODY_FIRST,
+];
+
+static LEFT_TWICE: [Item; 8] = [
+    BEGIN_ONE, RETURN_ONE, ENTER, BACK_FIRST, END_FIRST, BODY_FIRST, LEAVE, LEAVE,
+];
+
+static TOO_DEEP: [Item; 4] = [
+    BEGIN_ONE,
+    RETURN_ONE,
+    ENTER,
+    Item::Refuse {
+        call: CALL,
+        user: FIRST,
+        reason: Reason::Depth,
+    },
+];
+
+static EXITED: [Item; 8] = [
+    BEGIN_ONE,
+    RETURN_ONE,
+    ENTER,
+    BACK_FIRST,
+    END_FIRST,
+    BODY_FIRST,
+    LEAVE,
+    Item::Exit {
+        call: CALL,
+        user: FIRST,
+        entry: 3,
+    },
+];
+
+static FETCHED_BY_LIST: [Item; 6] = [
+    BEGIN_ONE, RETURN_ONE, ENTER, BACK_FIRST, END_FIRST, BODY_LIST,
+];
+
+static SECOND_COMMAND: [Item; 1] = [BEGIN_TWO];
+
+#[test]
+fn verdicts(rt: HostRuntime) -> Result<(), Fail> {
+    let alloc = rt.alloc();
+    assert!(rt; is_judged(alloc, TRACED, &CALLED_BACK, Verdict::Whole)?);
+    assert!(rt; is_judged(alloc, TRACED, &LEFT_OPEN, Verdict::Legal)?);
+    assert!(rt; is_judged(alloc, TRACED, &LEFT_TWICE, broken(7, Rule::PlainRun))?);
+    assert!(rt; is_judged(alloc, UNTRACED, &UNTRACED_BACK, broken(1, Rule::Callbacks))?);
+    assert!(rt; is_judged(alloc, TRACED, &NOT_CALLED_BACK, broken(3, Rule::Silence))?);
+    assert!(rt; is_judged(alloc, TRACED, &TOO_DEEP, broken(3, Rule::Refusals))?);
+    assert!(rt; is_judged(alloc, TRACED, &EXITED, broken(7, Rule::Exits))?);
+    assert!(rt; is_judged(alloc, TRACED, &FETCHED_BY_LIST, broken(5, Rule::Fetches))?);
+    assert!(rt; is_judged(alloc, TRACED, &SECOND_COMMAND, broken(0, Rule::Commands))?);
     Ok(())
 }

@@ -1,4 +1,4 @@
-use Rattle.std.proofs.Common.{◌≡◌, ◌∙◌, ◌∷◌, sym, ap, drop, Some, option_map}
+use Rattle.std.proofs.Common.{◌∙◌, ◌∷◌, sym, ap, drop, Some, option_map}
 use Rattle.ft_hist.specs.Plain.{PlainTask, in_phase}
 use Rattle.task_runs.specs.Kept.{frame_of, moved, phase_of}
 use Rattle.task_runs.specs.declared.frame.Frame.{Frame}

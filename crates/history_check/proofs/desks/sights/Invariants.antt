@@ -3,7 +3,7 @@ use Rattle.std.specs.Prelude.{slice_get}
 use Rattle.ft_base.specs.Desk.{user_at}
 use Rattle.history_check.specs.declared.desks.Sight.{Sight}
 use Rattle.history_check.specs.KeptDesks.{IsSightOf}
-use Rattle.history_check.proofs.desks.Row.new.Given as goal
+use Rattle.history_check.proofs.desks.sights.Given as goal
 
 -- the users below this one are there
 abbrev pub invariant-loop-u : goal.invariant-loop-u

@@ -1,0 +1,17 @@
+-- A callback and a refusal are visits of the top call.
+use Rattle.std.proofs.Common.{◌∷◌}
+use Rattle.history_check.proofs.FollowPast.{by-none, not-visit, visit-back, visit-refuse}
+use Rattle.history_check.proofs.past.Past.visit_by.Goals as goal
+
+pub returns-in_ok-top_of-in-Back : goal.returns-in_ok-top_of-in-Back
+returns-in_ok-top_of-in-Back c = λ job past k goes.
+    visit-back job past c.args.item.now c.in-Back.call c.in-Back.user c.in-Back.is c.in_ok-top_of-in-Back.field-0.now (c.in_ok-top_of-in-Back.ensures job past k goes) c.visit.result
+    (λ top. c.visit.ensures job past (c.args.item.now ∷ past) k top)
+
+pub returns-in_ok-top_of-in-Refuse : goal.returns-in_ok-top_of-in-Refuse
+returns-in_ok-top_of-in-Refuse c = λ job past k goes.
+    visit-refuse job past c.args.item.now c.in-Refuse.call c.in-Refuse.user c.in-Refuse.reason c.in-Refuse.is c.in_ok-top_of-in-Refuse.field-0.now (c.in_ok-top_of-in-Refuse.ensures job past k goes) c.visit-in-Refuse.result
+    (λ top. c.visit-in-Refuse.ensures job past (c.args.item.now ∷ past) k top)
+
+pub returns-in_default : goal.returns-in_default
+returns-in_default c = λ job past k goes. by-none job past c.args.item.now (not-visit c.args.item.now c.in_default.not-Back c.in_default.not-Refuse)

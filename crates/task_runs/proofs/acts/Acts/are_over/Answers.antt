@@ -1,0 +1,12 @@
+use Rattle.std.proofs.Common.{rules, tests}
+use Rattle.std.proofs.lemmas.Iterator.{YieldsList-from_slice}
+use Rattle.std.proofs.lemmas.Iterator.Search.{all_from_yields_List}
+use Rattle.task_runs.specs.Kept.{is_silent}
+use Rattle.task_runs.proofs.Ends.{over-is}
+use Rattle.task_runs.proofs.acts.Acts.are_over.Goals as goal
+
+pub returns : goal.returns
+returns c =
+    let acts = c.args.self.now.rest.now in
+    over-is c.args.returned acts c.args.self.now.contexts.items c.args.self.now.gone c.all.result
+    (all_from_yields_List (is_silent c.args.returned) _ _ c.all.result c.all.ensures.ran (YieldsList-from_slice acts cc) (λ x b q k. search (rules, tests)))
