@@ -2,6 +2,7 @@
 
 ghost use Rattle.std.specs.Prelude.{◌≤◌};
 
+use ft_base::limits::INPUT_BYTES;
 use ft_io::{
     Failed, Gate, MemSink, MemSource, OpenGate, Pieces, ReadFail, Sink, Source, StdSink, StdSource,
     WriteFail, read_all, write_all,
@@ -95,7 +96,7 @@ fn source(alloc: Global, bytes: &[u8], give: usize, fails: &[u32]) -> Result<Mem
 
 /// Whether a source is read to its end, and gives these bytes.
 fn is_read<S: Source>(alloc: Global, source: &mut S, bytes: &[u8]) -> bool {
-    match read_all(alloc, source) {
+    match read_all(alloc, source, INPUT_BYTES) {
         Ok(read) => read.as_slice() == bytes,
         Err(_) => false,
     }
@@ -103,7 +104,7 @@ fn is_read<S: Source>(alloc: Global, source: &mut S, bytes: &[u8]) -> bool {
 
 /// How many bytes a source gives when it is read to its end.
 fn length_read<S: Source>(alloc: Global, source: &mut S) -> Result<usize, ReadFail> {
-    let read = read_all(alloc, source)?;
+    let read = read_all(alloc, source, INPUT_BYTES)?;
     Ok(read.len())
 }
 

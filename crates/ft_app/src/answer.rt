@@ -60,7 +60,7 @@ fn script_for<S: Source>(alloc: Global, order: &Order, source: &mut S) -> Result
     ensures never_long { (n : ℕ) → order.now ≡ Bulk n → result ≢ Err ReadFail.TooLong }
 {
     match order {
-        Order::Replay(_) | Order::Run(_) => read_all(alloc, source),
+        Order::Replay(_) | Order::Run(_) => read_all(alloc, source, INPUT_BYTES),
         Order::Bulk(n) => match bulk_script(alloc, *n) {
             Ok(script) => Ok(script),
             Err(NoMemory) => Err(ReadFail::NoMemory),

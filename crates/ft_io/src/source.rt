@@ -5,7 +5,6 @@ ghost use Rattle.std.specs.Io.{ReadsAtMost};
 ghost use Rattle.std.specs.Io.KnownBytes.{Consumes, ReadConsumes, IsAtEnd};
 ghost use Rattle.ft_io.specs.Causes.{Rose, HasCause, GaveMore, GaveAtMost};
 
-use ft_base::limits::INPUT_BYTES;
 use std::alloc::Global;
 use thiserror::Error;
 
@@ -40,29 +39,30 @@ pub enum ReadFail {
     /// The source failed: its count of faults rose in this call.
     #[error("the source failed")]
     Fault,
-    /// The source gave more bytes than a script may have, [`INPUT_BYTES`].
-    #[error("the source gave more than {INPUT_BYTES} bytes")]
+    /// The source gave more bytes than it may.
+    #[error("the source gave too many bytes")]
     TooLong,
     /// Out of memory.
     #[error("out of memory")]
     NoMemory,
 }
 
-/// Reads all bytes up to the source's end. Each turn takes at least one byte or ends the loop.
-pub fn read_all<S: Source>(alloc: Global, source: &mut S) -> Result<Vec<u8>, ReadFail>
+/// Reads all bytes up to the source's end, at most so many. Each turn takes at least one byte or ends the
+/// loop.
+pub fn read_all<S: Source>(alloc: Global, source: &mut S, limit: u32) -> Result<Vec<u8>, ReadFail>
     ensures all { IfOk result
         (λ v. Consumes (S.remaining source.old) (S.remaining source.new) v.items
         × IsAtEnd (S.remaining source.new)) }
-    ensures short { IfOk result (λ v. length v.items ≤ INPUT_BYTES) }
+    ensures short { IfOk result (λ v. length v.items ≤ limit) }
     ensures fault { result ≡ Err ReadFail.Fault → Rose (S.faults source.old) (S.faults source.new) }
     // With `short` and `within`: exactly if one byte more than the limit was given.
     ensures too_long { result ≡ Err ReadFail.TooLong
-        → GaveMore INPUT_BYTES (S.remaining source.old) (S.remaining source.new) }
+        → GaveMore limit (S.remaining source.old) (S.remaining source.new) }
     ensures within { IfErr result (λ fail. fail ≢ ReadFail.TooLong
-        → GaveAtMost INPUT_BYTES (S.remaining source.old) (S.remaining source.new)) }
+        → GaveAtMost limit (S.remaining source.old) (S.remaining source.new)) }
     ensures faults { S.faults source.old ≤ S.faults source.new }
 {
-    let limit = INPUT_BYTES as usize;
+    let limit = limit as usize;
     let mut bytes = Vec::new(alloc);
     let mut piece = [0u8; PIECE_BYTES];
     loop {

@@ -14,6 +14,7 @@ ghost use Rattle.ring_rules.specs.Legal.{RingsLegal};
 ghost use Rattle.ring_rules.specs.Plan.{plan_of};
 
 use ft_base::NoMemory;
+use ft_base::limits::INPUT_BYTES;
 use ft_io::{OpenGate, Sink, Source, StdSink, StdSource, read_all, write_all};
 use ft_machine::Job;
 use ft_script::read_script;
@@ -63,7 +64,7 @@ fn run_script<R: AllocGlobal + Threads + Wait + Sync, S: Source, K: Sink>(
     sink: &mut K,
 ) -> Result<(), Stopped> {
     let alloc = rt.alloc();
-    let script = read_all(alloc, source).map_err(|_| Stopped)?;
+    let script = read_all(alloc, source, INPUT_BYTES).map_err(|_| Stopped)?;
     let job = read_script(alloc, script.as_slice()).map_err(|_| Stopped)?;
     let Ok(run) = run_rings(rt, alloc, &job, &OpenGate) else {
         return Err(Stopped);
