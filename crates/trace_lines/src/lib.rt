@@ -22,4 +22,4 @@ mod rings;
 pub use columns::last_line;
 pub use grown::GrownText;
 pub use lines::{Line, put_lines};
-pub use log::put_log;
+pub use log::{put_line, put_log};

@@ -198,7 +198,7 @@ fn put_item<K: Sink, N: Named>(pieces: &mut Pieces, sink: &mut K, names: &N, ite
 }
 
 /// Puts the line of an item at a place.
-fn put_line<K: Sink, N: Named>(
+pub fn put_line<K: Sink, N: Named>(
     pieces: &mut Pieces,
     sink: &mut K,
     names: &N,

@@ -15,7 +15,7 @@
 //! specs define it; [`write_text`] writes it to a sink in pieces, or a beginning of it if the sink
 //! fails, and [`write_log`] does so with the form log of any history; [`print_rings`] and
 //! [`write_rings`] do so with the form rings, of rings that threads have kept; [`summary`] gives exactly
-//! the counts. Only tested, in `trace_print_tests` and `ft_app_tests`: that memory is found.
+//! the counts; [`read_log`] reads the form log back. Only tested, in `trace_print_tests` and `ft_app_tests`: that memory is found.
 //!
 //! A form is worked out line by line, as numbers, which takes memory (`trace_views`). Then the lines
 //! are put, which takes none (`trace_lines`): what was written can't be taken back if memory runs out.
@@ -23,9 +23,12 @@
 
 mod forms;
 mod names;
+mod read;
 mod totals;
 
 pub use forms::{TextFail, print, print_rings, write_log, write_rings, write_text};
 pub use ft_words::Form;
+pub use log_reader::{Log, ReadFail};
+pub use read::read_log;
 pub use totals::summary;
 pub use trace_lines::laws;

@@ -1,0 +1,12 @@
+pub mod Cuts
+pub mod LineBytes
+pub mod NumberWords
+pub mod ItemWords
+pub mod FoundAgain
+pub mod ReadAgain
+pub mod ReadNumbers
+pub mod FirstLines
+pub mod ReadLines
+pub mod Maps
+pub mod WrittenLines
+pub mod NeverRefused

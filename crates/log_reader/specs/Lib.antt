@@ -1,0 +1,5 @@
+pub mod FirstLine
+pub mod Refused
+pub mod Lookups
+pub mod Found
+pub mod Reading
