@@ -18,7 +18,7 @@ import tempfile
 sys.dont_write_bytecode = True
 import runs  # noqa: E402
 
-FILES = ("ftcore", "prove", "tools/prove.py", "tools/crate_list.py", "tools/cost_table.py", "tools/rattle_processes.py")
+FILES = ("ftcore", "prove", "tools/start.sh", "tools/prove.py", "tools/crate_list.py", "tools/cost_table.py", "tools/rattle_processes.py")
 CRATES = "ft_base:\nother_tests: ft_base\nftcore: ft_base\n"
 SCRIPT = b"ftrace 1\n\x00\xff no line feed"
 UNPROVED = b"ftcore: this answer is of an unproved build with run-time checks, which takes a minute or two; ./prove builds the proved program\n"

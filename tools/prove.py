@@ -1,10 +1,10 @@
 #!/usr/bin/env python3
-"""Proves the program's crates and builds the program: ./prove
+"""Proves a program's crates and builds the program: ./prove [PROGRAM], ftcore or ftjudge; ftcore if none is named
 
 The crates that the program stands on, without tests and without must-fail edits, are copied to a folder of their own and
 checked there by `rt ci`: side by side if they don't wait for each other, on all processors, as memory allows. What is proved
 is kept on this machine, so after an interruption the next ./prove goes on where this one was. The program then stands in
-crates/ftcore/out/ftcore, where ./ftcore finds it. While a newer source is there, it counts as not built.
+crates/PROGRAM/out/PROGRAM, where ./PROGRAM finds it. While a newer source is there, it counts as not built.
 
 On a terminal each crate that is proved gives a line, otherwise each half minute does. The status is 0 if the program is
 there, 1 if something isn't proved (which is named, with the log), and 2 if nothing could be tried.
@@ -26,8 +26,6 @@ import cost_table  # noqa: E402
 import crate_list  # noqa: E402
 import rattle_processes  # noqa: E402
 
-OUT = crate_list.TOP / "crates" / crate_list.PROGRAM / "out"
-BUILT, LOG = OUT / crate_list.PROGRAM, OUT / "prove.log"
 EVERY = 30  # seconds between two lines if nobody sits at a terminal
 ENDED = re.compile(r"rt: (\w+) (proved|is kept)\b")
 FAILED = re.compile(r"rt: (\w+)(?:: its tests are)? NOT PROVED")
@@ -35,13 +33,19 @@ FUNCTION = re.compile(r"fn (\S+): not proved")
 PLACE = re.compile(r"(?:note: )?(?:\./)?((?:src|specs|proofs)/\S+?:\d+):\d+:")
 
 
-def is_built():
-    """Whether the program is there, and no source of it is newer."""
-    if not os.access(BUILT, os.X_OK):
+def out_of(program):
+    """Where a program is built."""
+    return crate_list.TOP / "crates" / program / "out"
+
+
+def is_built(program):
+    """Whether a program is there, and no source of it is newer."""
+    path = out_of(program) / program
+    if not os.access(path, os.X_OK):
         return False
-    crates, built = crate_list.read_crates(), BUILT.stat().st_mtime_ns
+    crates, built = crate_list.read_crates(), path.stat().st_mtime_ns
     files = [crate_list.TOP / "crates.txt"]
-    for name in crate_list.with_those_below(crates, [crate_list.PROGRAM]):
+    for name in crate_list.with_those_below(crates, [program]):
         for part in crate_list.PARTS:
             files += (crate_list.TOP / "crates" / name / part).rglob("*")
     return all(it.stat().st_mtime_ns <= built for it in files)
@@ -140,28 +144,30 @@ def fault_of(name, text):
     return ", ".join(said) or "no function is named"
 
 
-def prove(words):
-    """Proves the crates and puts the program in its place; gives the status."""
+def prove(program, words):
+    """Proves the crates of a program and puts it in its place; gives the status."""
     begun, started = time.time_ns(), time.monotonic()
-    OUT.mkdir(parents=True, exist_ok=True)
+    out = out_of(program)
+    log_path = out / "prove.log"
+    out.mkdir(parents=True, exist_ok=True)
     with tempfile.TemporaryDirectory(prefix="prove-") as folder:
         room = pathlib.Path(folder) / "copy"
-        names = crate_list.copy_repository(room, [crate_list.PROGRAM])
+        names = crate_list.copy_repository(room, [program])
         check = Check(room, names, words)
         try:
-            with open(LOG, "w") as log:
+            with open(log_path, "w") as log:
                 status = check.read(log)
         finally:
             check.stop()
         if status:
-            what = f"{check.failed} isn't proved: {fault_of(check.failed, LOG.read_text())}" if check.failed else "nothing was built"
-            print(f"prove: {what}; the whole log is {LOG}", flush=True)
+            what = f"{check.failed} isn't proved: {fault_of(check.failed, log_path.read_text())}" if check.failed else "nothing was built"
+            print(f"prove: {what}; the whole log is {log_path}", flush=True)
             return 1
-        new = OUT / "ftcore.new"
-        shutil.copy(room / "crates" / crate_list.PROGRAM / "out" / crate_list.PROGRAM, new)
+        new = out / f"{program}.new"
+        shutil.copy(room / "crates" / program / "out" / program, new)
     os.utime(new, ns=(begun, begun))  # a source that has changed meanwhile counts as newer
-    new.rename(BUILT)
-    print(f"prove: the proved program is there, after {minutes(time.monotonic() - started)}: ./ftcore runs it", flush=True)
+    new.rename(out / program)
+    print(f"prove: the proved program is there, after {minutes(time.monotonic() - started)}: ./{program} runs it", flush=True)
     return 0
 
 
@@ -170,17 +176,18 @@ def main():
     parser = argparse.ArgumentParser(prog="prove", description=__doc__, formatter_class=argparse.RawDescriptionHelpFormatter)
     parser.add_argument("--anew", action="store_true", help="prove all again, whatever this machine has kept")
     parser.add_argument("--is-built", action="store_true", help="only tell, by the status, whether the proved program is there")
+    parser.add_argument("program", nargs="?", choices=crate_list.PROGRAMS, default=crate_list.PROGRAMS[0], help="the program; ftcore if none is named")
     words = parser.parse_args()
     if words.is_built:
-        return 0 if is_built() else 1
-    if is_built() and not words.anew:
-        print("prove: the proved program is there: ./ftcore runs it")
+        return 0 if is_built(words.program) else 1
+    if is_built(words.program) and not words.anew:
+        print(f"prove: the proved program is there: ./{words.program} runs it")
         return 0
     if not shutil.which("rt"):
         parser.exit(2, "prove: rt, the command of the Rattle kit, isn't on the path\n")
     signal.signal(signal.SIGTERM, lambda number, _: sys.exit(128 + number))
     try:
-        return prove(["--anew"] if words.anew else [])
+        return prove(words.program, ["--anew"] if words.anew else [])
     except KeyboardInterrupt:
         print("prove: broken off; what is proved is kept, and the next ./prove goes on there")
         return 130

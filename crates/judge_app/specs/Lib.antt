@@ -1,0 +1,4 @@
+pub mod Status
+pub mod Cut
+pub mod Reply
+pub mod Ends
