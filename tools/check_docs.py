@@ -17,6 +17,9 @@ A block is lines of a page that begin with four blanks, with no other line betwe
   quotes. It reads the nearest script above it on its page or, if it ends with `< examples/NAME.ft`, that one.
   `bulk` reads none.
 
+- If its first line is `$ ftjudge`, it is a run of the program that judges logs, which reads the nearest script above it with its
+  log, and, from the next line on, what that writes.
+
 Other blocks are left alone: pictures, and commands of other programs. But no command is: a line that begins with
 `$ ftcore` and can't be run counts as failed, wherever on a page it is, and so does a script that nothing runs.
 
@@ -43,6 +46,8 @@ FORMS = {form: ["replay", "--print", form] for form in ("function", "graph", "pr
 FORMS["log"] = ["replay"]
 COMMAND = re.compile(rb"\$ ftcore((?: [\w=.-]+)*)(?: < (examples/[\w.]+\.ft))?\n")
 RECIPE = (b"head -n N FILE", b"printf ")
+JUDGE = runs.TOP / "crates" / "ftjudge" / "out" / "ftjudge"
+VERDICTS = (b"whole\n", b"legal\n")  # with status 0; a line with a rule comes with 1
 EXAMPLE = "examples/realistic.ft"  # what recipes are tried on
 TYPED = re.compile(rb"\./ftcore((?: [\w=.-]+)*)(?: < (examples/[\w.]+\.ft))?(?:  .*)?\n")
 IS_COMMAND = re.compile(r"[\s>*+-]*\$\s*\S*ftcore\b")
@@ -203,6 +208,14 @@ class Page:
         else:
             show(self.rows, self.program, self.name(number), script, wanted, words)
 
+    def judge(self, number, block):
+        """One row: the nearest script, with its log, is judged so."""
+        self.ran.update(self.scripts[-1:])
+        self.ran.add(number)
+        wanted = block.partition(b"\n")[2]
+        came = runs.answer([JUDGE], self.script or b"")
+        self.rows.row(self.name(number), runs.faults(came, 0 if wanted in VERDICTS else 1, wanted))
+
     def type(self, number, block):
         """One row for each command of the block that a reader can type as it is: it ends with 0."""
         for at, line in enumerate(block.splitlines(keepends=True), number):
@@ -231,6 +244,8 @@ class Page:
             elif block.startswith(b"$ ftcore"):
                 for command in commands(number, block):
                     self.run(*command)
+            elif block.startswith(b"$ ftjudge\n"):
+                self.judge(number, block)
             elif block.startswith(b"./ftcore"):
                 self.type(number, block)
             elif block.startswith(RECIPE):
