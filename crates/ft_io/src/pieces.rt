@@ -64,7 +64,7 @@ impl Pieces {
     fn put_after_piece<K: Sink>(&mut self, sink: &mut K, bytes: &[u8])
         ensures { Puts K.holds K.faults bytes.now sink.old self.old sink.new self.new }
     {
-        self.send(sink);
+        self.flush(sink);
         if self.failed {
             return;
         }
@@ -75,8 +75,8 @@ impl Pieces {
         }
     }
 
-    /// Writes the piece that is held, and holds nothing.
-    fn send<K: Sink>(&mut self, sink: &mut K)
+    /// Writes what is held so far, and holds nothing. It takes no memory.
+    pub fn flush<K: Sink>(&mut self, sink: &mut K)
         ensures puts { Puts K.holds K.faults [] sink.old self.old sink.new self.new }
         ensures empty { self.new.held ≡ [] }
     {

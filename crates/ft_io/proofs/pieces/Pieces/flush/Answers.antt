@@ -1,8 +1,8 @@
 use Rattle.std.proofs.Common.{[], sym, ap, ◌∙◌, append-nil}
 use Rattle.ft_io.specs.declared.pieces.Pieces.TheInside.{Inside}
 use Rattle.ft_io.proofs.PieceLaws.{puts-written, puts-dropped}
-use Rattle.ft_io.proofs.pieces.Pieces.send.Goals as goal
-use Rattle.ft_io.proofs.pieces.Pieces.send.Goals.{then-not-self, else-not-self}
+use Rattle.ft_io.proofs.pieces.Pieces.flush.Goals as goal
+use Rattle.ft_io.proofs.pieces.Pieces.flush.Goals.{then-not-self, else-not-self}
 
 pub returns-clause-puts : goal.returns-clause-puts
 returns-clause-puts g c = rw (← c.self.view_is) (elim c.if-not-self.branch [
