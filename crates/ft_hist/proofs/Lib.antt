@@ -21,6 +21,7 @@ pub mod ToldExits
 pub mod FullStack
 pub mod EnteredOnce
 pub mod Carries
+pub mod Named
 pub mod OpenCallbacks
 pub mod OpenBacks
 pub mod Finishing

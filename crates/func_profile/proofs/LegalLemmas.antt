@@ -21,7 +21,7 @@ use Rattle.ft_hist.proofs.RunLaws.{calls_on, Keeps}
 use Rattle.ft_hist.proofs.Told.{legal-to}
 use Rattle.ft_hist.proofs.ToldExits.{exit-of}
 use Rattle.func_profile.specs.Rows.{IsEntered, HasRows}
-use Rattle.func_profile.proofs.Named.{EnterNamed, enter-named}
+use Rattle.ft_hist.proofs.Named.{EnterNamed, enter-named}
 
 -- each call was entered in a function below n
 abbrev EntersNamed : ℕ → List Item → Type 0

@@ -1,7 +1,6 @@
 pub mod Places
 pub mod TallyLemmas
 pub mod NoteLemmas
-pub mod Named
 pub mod LegalLemmas
 pub mod TotalLemmas
 pub mod WrittenOut

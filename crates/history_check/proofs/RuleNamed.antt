@@ -13,7 +13,7 @@ use Rattle.ft_base.proofs.Small.{and_both}
 use Rattle.ft_hist.specs.Past.{Entered, done, entered, is_of}
 use Rattle.ft_hist.specs.Plain.{PlainTask, after_item, after_next, plain}
 use Rattle.ft_hist.proofs.RunLaws.{some_inj}
-use Rattle.func_profile.proofs.Named.{enter-named}
+use Rattle.ft_hist.proofs.Named.{enter-named}
 use Rattle.history_check.specs.declared.open_call.OpenCall.{OpenCall}
 use Rattle.history_check.specs.declared.past.Past.{Past}
 use Rattle.history_check.specs.KeptCalls.{IsTop}
