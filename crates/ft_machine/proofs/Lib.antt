@@ -10,3 +10,4 @@ pub mod Replays
 pub mod FedLaws
 pub mod Ordered
 pub mod Nobody
+pub mod NextLaws

@@ -1,16 +1,18 @@
 //! Laws of replays and of sites.
 
-ghost use Rattle.std.specs.Prelude.{◌≡◌, ◌↔◌, ◌<◌, ℕ, true, List, [], length};
+ghost use Rattle.std.specs.Prelude.{◌≡◌, ◌↔◌, ◌<◌, ℕ, true, List, [], length, None, Some};
 ghost use Rattle.ft_base.specs.declared.item.Item.{Item};
 ghost use Rattle.ft_base.specs.Desk.{desk, sited};
 ghost use Rattle.ft_base.specs.Job.{Job as PlainJob};
 ghost use Rattle.ft_base.specs.Schedule.{IsActor, actors_of};
 ghost use Rattle.ft_base.specs.declared.turn.Actor.{Actor};
 ghost use Rattle.ft_hist.specs.Past.{begun, done};
+ghost use Rattle.word_map.specs.Ops.{WordOp};
+ghost use Rattle.machine_core.specs.Nexts.{next_op};
 ghost use Rattle.machine_core.specs.Sites.{IsWhole as IsWholeSite};
 ghost use Rattle.site_bytes.specs.Bytes.{bytes_of};
 ghost use Rattle.site_bytes.specs.declared.insn.Insn.TheVariants.{Nop};
-ghost use Rattle.word_machine.specs.Machine.{World, all_end, is_at_end, play, run, start};
+ghost use Rattle.word_machine.specs.Machine.{World, all_end, is_at_end, past_after, play, run, start, step, words_after};
 ghost use Rattle.ft_machine.specs.Fed.{control_fed, control_takes, cpu_fed, cpu_takes};
 ghost use Rattle.ft_machine.specs.Replays.{StopsAt};
 
@@ -24,6 +26,16 @@ pub fn every_replay_is_a_run()
 pub fn all_end_if_each_does()
     ensures { (job : PlainJob) (s : World)
         → (all_end job s ≡ true) ↔ ((a : Actor) → IsActor job a → is_at_end job a s ≡ true) }
+{}
+
+/// A step of an actor makes its next operation: on the words, and on the history, to which a mark adds
+/// its item. With none it changes nothing.
+pub fn a_step_makes_the_next_operation()
+    ensures none { (job : PlainJob) (a : Actor) (s : World) → next_op job a s ≡ None → step job a s ≡ s }
+    ensures words { (job : PlainJob) (a : Actor) (s : World) (op : WordOp) → next_op job a s ≡ Some op
+        → (step job a s).words ≡ words_after op s.words }
+    ensures past { (job : PlainJob) (a : Actor) (s : World) (op : WordOp) → next_op job a s ≡ Some op
+        → (step job a s).past ≡ past_after op s.past }
 {}
 
 /// After every list of actors each actor's state is that of the values that its own steps took: it

@@ -25,8 +25,8 @@ pub use filter_commands::Trigger;
 pub use ft_desk::{Command, Ctl};
 pub use job::Job;
 pub use laws::{
-    all_end_if_each_does, each_actor_is_fed_its_values, every_replay_is_a_run,
-    sites_of_nobody_are_nops,
+    a_step_makes_the_next_operation, all_end_if_each_does, each_actor_is_fed_its_values,
+    every_replay_is_a_run, sites_of_nobody_are_nops,
 };
 pub use machine::Machine;
 pub use machine_core::WorldParts;

@@ -1,11 +1,16 @@
 //! The machine of a job.
 
-ghost use Rattle.std.specs.Prelude.{◌≡◌, ◌<◌, true, length, reverse, IfOk};
+ghost use Rattle.std.specs.Prelude.{◌≡◌, ◌<◌, true, get_or, length, option_map, reverse, IfOk};
 ghost use Rattle.ft_base.specs.Job.{Job as PlainJob};
 ghost use Rattle.ft_hist.specs.Rules.{IsLegal, IsWhole};
+ghost use Rattle.word_map.specs.Ops.{placed};
+ghost use Rattle.word_map.specs.Places.{IsThere, len, place};
+ghost use Rattle.word_map.specs.Shapes.{shape_of};
+ghost use Rattle.word_map.specs.Words.{Word, read};
 ghost use Rattle.word_machine.specs.Machine.{all_end, is_at_end, start, step};
 ghost use Rattle.control_core.specs.Seated.{IsOpening, LeadsAll};
 ghost use Rattle.machine_core.specs.declared.cpus.CpuRoom.TheVariants.{ForAll};
+ghost use Rattle.machine_core.specs.Nexts.{next_op};
 ghost use Rattle.machine_core.specs.Starts.{AreFirst};
 ghost use Rattle.machine_core.specs.Sites.{IsWhole as IsWholeSite, site_of};
 ghost use Rattle.ft_machine.specs.Machines.{IsOf, state_of};
@@ -15,6 +20,7 @@ use ft_base::{Actor, FuncNo, NoMemory};
 use ft_hist::History;
 use machine_core::{CpuRoom, World, WorldParts};
 use std::alloc::Global;
+use word_map::{Op, WordMap};
 
 /// The machine of a job, in one of its states. It keeps what it needs of the job. Contracts speak of
 /// each job whose machine it is: that is the one with which it was started.
@@ -57,6 +63,16 @@ impl Machine {
         self.world.step(actor);
     }
 
+    /// The operation that an actor's next step makes: a load, a store or a mark, of the word at a place
+    /// of [`map`](Self::map). None if the actor is at its end, or a CPU that the job doesn't have. The
+    /// law `a_step_makes_the_next_operation` says that [`step`](Self::step) makes this one.
+    pub fn next(&self, actor: Actor) -> Option<Op>
+        ensures { (job : PlainJob) → IsOf job self.now
+            → result ≡ option_map (placed (shape_of job)) (next_op job actor (state_of job self.now)) }
+    {
+        self.world.next(actor)
+    }
+
     /// Whether an actor is at its end. A CPU that the job doesn't have is as one before its first step.
     pub fn at_end(&self, actor: Actor) -> bool
         ensures { (job : PlainJob) → IsOf job self.now → result ≡ is_at_end job actor (state_of job self.now) }
@@ -69,6 +85,23 @@ impl Machine {
         ensures { (job : PlainJob) → IsOf job self.now → result ≡ all_end job (state_of job self.now) }
     {
         self.world.all_end()
+    }
+
+    /// The place of each word that the actors share (docs/PROTOCOL.md, "Who does what").
+    pub fn map(&self) -> WordMap
+        ensures shape { result ≡ self.now.world.shape }
+        ensures job { (job : PlainJob) → IsOf job self.now → result ≡ shape_of job }
+    {
+        self.world.map()
+    }
+
+    /// What each word holds now, by its place: each is 64 bits.
+    pub fn words(&self) -> &[u64]
+        ensures count { (job : PlainJob) → IsOf job self.now → length result.now ≡ len (shape_of job) }
+        ensures each { (job : PlainJob) → IsOf job self.now → (w : Word) → IsThere (shape_of job) w
+            → get_or result.now (place (shape_of job) w) 0 ≡ read w (state_of job self.now).words }
+    {
+        self.world.words()
     }
 
     /// How many functions have call sites: those of the job.

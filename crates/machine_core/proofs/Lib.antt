@@ -12,3 +12,4 @@ pub mod CpuMoves
 pub mod Rooms
 pub mod SiteLaws
 pub mod Ends
+pub mod Nexts

@@ -41,6 +41,13 @@ impl Table {
         words
     }
 
+    /// The words by place.
+    pub(crate) fn words(&self) -> &[u64]
+        ensures { result.now ≡ self.now }
+    {
+        self.words.as_slice()
+    }
+
     /// What the word at a place holds.
     pub(crate) fn word(&self, place: u32) -> u64
         requires { place < length self.now }

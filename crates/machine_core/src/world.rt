@@ -1,18 +1,21 @@
 //! The words, control and the CPUs, one step at a time.
 
-ghost use Rattle.std.specs.Prelude.{◌≡◌, [], ◌++◌, ◌<◌, ◌≤◌, ◌+◌, ◌*◌, length, map, reverse, All, IfOk};
+ghost use Rattle.std.specs.Prelude.{◌≡◌, [], ◌++◌, ◌<◌, ◌≤◌, ◌+◌, ◌*◌, length, map, option_map, reverse, All, IfOk};
 ghost use Rattle.ft_base.specs.declared.turn.Actor.TheVariants as Actor;
 ghost use Rattle.ft_base.specs.Desk.{desk};
 ghost use Rattle.ft_base.specs.Job.{Job, commands};
 ghost use Rattle.history_bound.specs.Bound.{all_calls};
 ghost use Rattle.user_specs.specs.Bound.{call_bound_in};
 ghost use Rattle.word_map.specs.Contents.{mask_of};
+ghost use Rattle.word_map.specs.Ops.{placed};
+ghost use Rattle.word_map.specs.Shapes.{shape_of};
 ghost use Rattle.control_core.specs.Lines.{IsLineIn};
 ghost use Rattle.control_core.specs.Plans.{IsDeclaredIn};
 ghost use Rattle.control_core.specs.Seated.{IsOpening, LeadsAll};
 ghost use Rattle.word_machine.specs.Laws.{Runs};
 ghost use Rattle.word_machine.specs.Limits.{IsLimited};
 ghost use Rattle.word_machine.specs.Machine.{start, step, is_at_end, all_end};
+ghost use Rattle.machine_core.specs.Nexts.{next_op};
 ghost use Rattle.machine_core.specs.Sites.{site_of};
 ghost use Rattle.machine_core.specs.Starts.{AreFirst, AreListsOf};
 ghost use Rattle.machine_core.specs.Worlds.{Declares, IsFor, world_of};
@@ -150,6 +153,21 @@ impl World {
         }
     }
 
+    /// The operation that an actor's next step makes, on words by their places; none if the actor is at
+    /// its end, or a CPU that there is not.
+    pub fn next(&self, actor: Actor) -> Option<Op>
+        ensures { (job : Job) → IsLimited job → IsFor job self.now → Runs job (world_of job self.now)
+            → result ≡ option_map (placed (shape_of job)) (next_op job actor (world_of job self.now)) }
+    {
+        match actor {
+            Actor::Control => self.control.next(),
+            Actor::Cpu(cpu) => match self.cpus.get(cpu.0 as usize) {
+                Some(own) => own.next(),
+                None => None,
+            },
+        }
+    }
+
     /// Whether an actor is at its end. A CPU that there is not is as one before its first step.
     pub fn at_end(&self, actor: Actor) -> bool
         ensures { (job : Job) → IsLimited job → IsFor job self.now → Runs job (world_of job self.now) → result ≡ is_at_end job actor (world_of job self.now) }
@@ -168,6 +186,20 @@ impl World {
         ensures { (job : Job) → IsLimited job → IsFor job self.now → Runs job (world_of job self.now) → result ≡ all_end job (world_of job self.now) }
     {
         self.control.next().is_none() && self.cpus.iter().all(|cpu| has_ended(cpu))
+    }
+
+    /// The place of each word.
+    pub fn map(&self) -> WordMap
+        ensures { result ≡ self.now.shape }
+    {
+        self.map
+    }
+
+    /// What each word holds now, by its place, the clock first (docs/PROTOCOL.md, "Who does what").
+    pub fn words(&self) -> &[u64]
+        ensures { result.now ≡ self.now.words }
+    {
+        self.table.words()
     }
 
     /// How many functions have call sites.
