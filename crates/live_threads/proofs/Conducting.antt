@@ -2,11 +2,12 @@
 use Rattle.std.proofs.Common.{◌≡◌, ℕ, zero, suc, ◌<◌, ◌≤◌, List, [], ◌∷◌, ◌++◌, length, map, Some, None, refl, sym, ap, ◌∙◌, subst, arith}
 use Rattle.std.specs.Prelude.{slice_get, slice_index}
 use Rattle.std.specs.List.{AllByRecursion as Each}
-use Rattle.ft_base.specs.Job.{Command, Ctl, Job, Run, Until, commands_in}
+use Rattle.ft_base.specs.Job.{Command, Ctl, Job, Run, Until}
 use Rattle.desk_lock.specs.Journals.{IsInOrder, done_of}
 use Rattle.led_jobs.specs.Orders.{IsLed, lane_of}
 use Rattle.word_machine.specs.Control.{control_next}
 use Rattle.ft_machine.specs.Plans.{HasLanes, IsCommand}
+use Rattle.ft_machine.proofs.Ordered.{all-commands}
 use Rattle.live_table.specs.Seats.{Board, ControlPlace, ControlSitsAt, control_at}
 use Rattle.live_threads.specs.AnySeats.{AreSameSeats, AreSeatsOf, actor_of, without_rings}
 use Rattle.live_threads.specs.Conducted.{IsConducted, IsReady, actors_of}
@@ -17,11 +18,6 @@ use Rattle.live_threads.proofs.Serving.{not_led, order_more}
 
 -- ## the job's lines are commands
 
-all_commands : (ctls : List Ctl) → Each IsCommand ctls → length (commands_in ctls) ≡ length ctls
-all_commands [] all = refl
-all_commands (Run c ∷ ctls) all = ap suc (all_commands ctls all.1)
-all_commands (Until t n ∷ ctls) all = absurd all.0
-
 command_in : (ctls : List Ctl) (k : ℕ) → Each IsCommand ctls → k < length ctls → (c : Command) × (slice_get ctls k ≡ Some (Run c))
 command_in [] k all lt = absurd (omega arith)
 command_in (Run c ∷ ctls) zero all lt = (c, refl)
@@ -30,7 +26,7 @@ command_in (Until t n ∷ ctls) k all lt = absurd all.0
 
 -- so each line has a lane
 pub lane_each : (job : Job) → HasLanes job → length job.lines.lanes ≡ length job.ctls
-lane_each job planned = planned.each ∙ all_commands job.ctls planned.commands'
+lane_each job planned = planned.each ∙ all-commands job.ctls planned.commands'
 
 pub command_at : (job : Job) (k : ℕ) → HasLanes job → k < length job.lines.lanes → (c : Command) × (slice_get job.ctls k ≡ Some (Run c))
 command_at job k planned lt = command_in job.ctls k planned.commands' (let e = lane_each job planned in omega (arith, lt, e))

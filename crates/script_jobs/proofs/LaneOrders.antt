@@ -1,7 +1,8 @@
 -- An order of lanes is told by the lanes in which its lines come: each lane's lines have their own order.
-use Rattle.std.proofs.Common.{cond, ◌≡◌, ◌<◌, ℕ, zero, suc, Bool, true, false, ◌||◌, ◌==◌, List, [], ◌∷◌, length, Option, Some, refl, sym, ap, ap₂, ◌∙◌, subst, arith}
+use Rattle.std.proofs.Common.{cond, ◌≡◌, ◌≢◌, ◌<◌, ℕ, zero, suc, Bool, true, false, ◌||◌, ◌==◌, List, [], ◌∷◌, length, Option, Some, refl, sym, ap, ap₂, ◌∙◌, subst, eqb-true, arith}
 use Rattle.std.specs.Prelude.{slice_get, eqb}
 use Rattle.std.specs.List.{list_any, AllByRecursion as Each}
+use Rattle.ft_base.specs.Job.{Job}
 use Rattle.ft_base.proofs.Small.{==-refl, or-true}
 use Rattle.led_jobs.specs.Orders.{before_all, picked, IsLed, lane_of, in_lane, IsLaneOrder}
 
@@ -46,14 +47,14 @@ module _ (lanes : List ℕ) where
   abbrev Below : ℕ → Type 0
   Below k = k < length lanes
 
-  picked-first : (k : ℕ) (ks : List ℕ) → Below k → picked lanes (k ∷ ks) ≡ lane_of lanes k ∷ picked lanes ks
+  pub picked-first : (k : ℕ) (ks : List ℕ) → Below k → picked lanes (k ∷ ks) ≡ lane_of lanes k ∷ picked lanes ks
   picked-first k ks lt = ap (λ (lane : Option ℕ). before_all lane (picked lanes ks)) (there lanes k lt)
 
   -- the first line is of this lane, or of another
-  own-lane : (l k : ℕ) (ks : List ℕ) → (lane_of lanes k == l) ≡ true → in_lane lanes l (k ∷ ks) ≡ k ∷ in_lane lanes l ks
+  pub own-lane : (l k : ℕ) (ks : List ℕ) → (lane_of lanes k == l) ≡ true → in_lane lanes l (k ∷ ks) ≡ k ∷ in_lane lanes l ks
   own-lane l k ks e = ap (λ (b : Bool). cond b (k ∷ in_lane lanes l ks) (in_lane lanes l ks)) e
 
-  other-lane : (l k : ℕ) (ks : List ℕ) → (lane_of lanes k == l) ≡ false → in_lane lanes l (k ∷ ks) ≡ in_lane lanes l ks
+  pub other-lane : (l k : ℕ) (ks : List ℕ) → (lane_of lanes k == l) ≡ false → in_lane lanes l (k ∷ ks) ≡ in_lane lanes l ks
   other-lane l k ks e = ap (λ (b : Bool). cond b (k ∷ in_lane lanes l ks) (in_lane lanes l ks)) e
 
   -- if orders have the same lines of each lane and begin with lines of one lane, they begin with one line
@@ -87,3 +88,24 @@ module _ (lanes : List ℕ) where
   pub lanes-tell : (order other : List ℕ) → IsLaneOrder lanes order → IsLaneOrder lanes other → picked lanes order ≡ picked lanes other → order ≡ other
   lanes-tell order other is is' e =
       same-order order other (each-led Below order is.each.led.within) (each-led Below other is'.each.led.within) e (λ l. is.lanes' l ∙ sym (is'.lanes' l))
+
+-- ## whether there are lanes
+
+is-empty : (xs : List ℕ) → (length xs == 0) ≡ true → xs ≡ []
+is-empty [] e = refl
+is-empty (x ∷ xs) e = (let n : length (x ∷ xs) ≡ 0 = eqb-true (length (x ∷ xs)) 0 e in absurd (omega (arith, n)))
+
+is-some : (xs : List ℕ) → (length xs == 0) ≡ false → xs ≢ []
+is-some [] e none = absurd cc
+is-some (x ∷ xs) e none = absurd cc
+
+-- it was asked whether these lanes of a job are none
+module _ (job : Job) (lanes : List ℕ) (empty : Bool) (are : lanes ≡ job.lines.lanes) (asked : empty ≡ (length lanes == 0)) where
+  answered : empty ≡ (length job.lines.lanes == 0)
+  answered = asked ∙ ap (λ (ls : List ℕ). length ls == 0) are
+
+  pub no-lanes : empty ≡ true → job.lines.lanes ≡ []
+  no-lanes yes' = is-empty job.lines.lanes (sym answered ∙ yes')
+
+  pub some-lanes : empty ≡ false → job.lines.lanes ≢ []
+  some-lanes no' = is-some job.lines.lanes (sym answered ∙ no')

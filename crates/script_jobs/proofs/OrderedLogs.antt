@@ -73,7 +73,7 @@ module _ (text : List ℕ) (job : Job) (is : IsJobOf text job) (has : HasLanes j
   limited : (order : List ℕ) → Ordered order → IsLimited (in_order job order)
   limited order lanes = limited_in_order job order (accepted_limited text job is) (led-lines order lanes)
 
-  named : (order : List ℕ) → IsNamedApart (in_order job order)
+  pub named : (order : List ℕ) → IsNamedApart (in_order job order)
   named order =
       let n = accepted_named text job is in
       record {
@@ -89,16 +89,16 @@ module _ (text : List ℕ) (job : Job) (is : IsJobOf text job) (has : HasLanes j
   few : (order : List ℕ) (items : List Item) → Ordered order → IsLegal (in_order job order) items → length items < 2 ^ 64
   few order items lanes legal = short (in_order job order) items (limited order lanes) legal
 
-  are-items : (order : List ℕ) (items : List Item) → Ordered order → IsLegal (in_order job order) items → Each (IsItemOf (in_order job order)) items
+  pub are-items : (order : List ℕ) (items : List Item) → Ordered order → IsLegal (in_order job order) items → Each (IsItemOf (in_order job order)) items
   are-items order items lanes legal =
       let l = limited order lanes in
       legal-items (in_order job order) l.job' (accepted_replaced text job is) items legal (few order items lanes legal)
 
   -- there are as many lanes as before, and as many commands
-  count-lanes : (order : List ℕ) → Ordered order → length (picked job.lines.lanes order) ≡ length job.lines.lanes
+  pub count-lanes : (order : List ℕ) → Ordered order → length (picked job.lines.lanes order) ≡ length job.lines.lanes
   count-lanes order lanes = picked-all job.lines.lanes order (each-led (λ k. k < length job.lines.lanes) order lanes.each.led.within) ∙ lanes.each.all
 
-  count-commands : (order : List ℕ) → Ordered order → length (commands (in_order job order)) ≡ length job.lines.lanes
+  pub count-commands : (order : List ℕ) → Ordered order → length (commands (in_order job order)) ≡ length job.lines.lanes
   count-commands order lanes =
       all-commands (picked job.ctls order) (each_picked IsCommand job.ctls order has.commands')
       ∙ picked-all job.ctls order (each-led (λ k. k < length job.ctls) order (led-lines order lanes).within) ∙ lanes.each.all

@@ -1,5 +1,6 @@
 use Rattle.std.proofs.Common.{◌≡◌, ◌∙◌}
-use Rattle.ft_app.proofs.Merges.{in-lanes, no-lanes, whole-run, without-lanes}
+use Rattle.script_jobs.proofs.LaneOrders.{no-lanes}
+use Rattle.ft_app.proofs.Merges.{in-lanes, whole-run, without-lanes}
 use Rattle.ft_app.proofs.run.run.Goals as goal
 
 pub run_alone-requires-clause-lanes : goal.run_alone-requires-clause-lanes
