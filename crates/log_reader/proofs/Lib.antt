@@ -10,3 +10,4 @@ pub mod ReadLines
 pub mod Maps
 pub mod WrittenLines
 pub mod NeverRefused
+pub mod LanesNamed

@@ -29,18 +29,18 @@ use Rattle.log_reader.proofs.ItemWords.{line-graphic}
 
 -- ## the words of a line
 
-first-word : (w : Word) (ws : List Word) → IsGraphic w → before 32 (joined (w ∷ ws)) ≡ w
+pub first-word : (w : Word) (ws : List Word) → IsGraphic w → before 32 (joined (w ∷ ws)) ≡ w
 first-word w [] h = before-all 32 w (no-space w h)
 first-word w (v ∷ ws) h = before-at 32 w (joined (v ∷ ws)) (no-space w h)
 
-later-words : (w : Word) (ws : List Word) → IsGraphic w → after 32 (joined (w ∷ ws)) ≡ joined ws
+pub later-words : (w : Word) (ws : List Word) → IsGraphic w → after 32 (joined (w ∷ ws)) ≡ joined ws
 later-words w [] h = after-all 32 w (no-space w h)
 later-words w (v ∷ ws) h = after-at 32 w (joined (v ∷ ws)) (no-space w h)
 
-no-words_before : before 32 [] ≡ []
+pub no-words_before : before 32 [] ≡ []
 no-words_before = before-all 32 [] refl
 
-no-words_after : after 32 [] ≡ []
+pub no-words_after : after 32 [] ≡ []
 no-words_after = after-all 32 [] refl
 
 module _ (find : Lookups) where

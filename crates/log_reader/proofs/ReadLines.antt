@@ -20,6 +20,13 @@ line-long : (job : Job) (place : ℕ) (item : Item) → 0 < length (log_line job
 unfolding log_line
 line-long job place item = omega (arith, length-append (bare_line job place item) (codes "\n"))
 
+-- there are no more items than bytes
+pub lines-long : (job : Job) (place : ℕ) (items : List Item) → length items ≤ length (log_lines job place items)
+lines-long job place [] = omega arith
+lines-long job place (x ∷ xs) =
+    let more = lines-long job (suc place) xs in
+    omega (arith, more, length-append (log_line job place x) (log_lines job (suc place) xs), line-long job place x)
+
 -- what a list is after one was put at its end
 pub pushed : {T E A : Type 0} (r : Result T E) (xs more : List A) (now : List A) → now ≡ (if is_ok r then more else xs) → is_err r ≡ false → now ≡ more
 pushed (Ok x) xs more now h e = h

@@ -3,3 +3,4 @@ pub mod Refused
 pub mod Lookups
 pub mod Found
 pub mod Reading
+pub mod Lanes

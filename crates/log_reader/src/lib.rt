@@ -10,10 +10,13 @@
 #![tactic(auto)]
 
 mod item;
+mod lanes;
 pub mod laws;
 mod line;
 mod log;
 mod numbers;
 mod words;
+mod written;
 
+pub use lanes::read_lanes;
 pub use log::{Log, ReadFail, read_log};

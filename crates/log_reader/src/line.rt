@@ -1,6 +1,7 @@
 //! The first line of a text, as an item of a log at its place.
 
 ghost use Rattle.std.specs.Prelude.{◌≡◌, ◌≢◌, ℕ, ◌<◌, ◌^◌, ◌++◌, ◌==◌, List, position, IfSome, IfOk, OnOk, Ok, None, Some};
+ghost use Rattle.ft_io.specs.Pieces.{nothing};
 ghost use Rattle.std.specs.Option.{option_copied};
 ghost use Rattle.ft_base.specs.Job.{Job};
 ghost use Rattle.ft_base.specs.declared.item.Item.{Item as AnItem};
@@ -13,14 +14,12 @@ ghost use Rattle.log_reader.specs.Refused.{IsNumbered};
 
 use crate::item::read_item;
 use crate::numbers::Numbers;
+use crate::written::Written;
 use ft_base::{Item, NoMemory};
-use ft_io::Pieces;
-use std::alloc::Global;
-use trace_lines::{GrownText, put_line};
 use trace_views::Named;
 
 /// Where the first line feed is.
-fn line_end(text: &[u8]) -> Option<usize>
+pub(crate) fn line_end(text: &[u8]) -> Option<usize>
     ensures { result ≡ position (λ b. b == 10) text.now }
 {
     text.iter().position(|byte| *byte == b'\n')
@@ -47,38 +46,18 @@ fn read_first(numbers: &Numbers, text: &[u8]) -> Option<Item>
     read_item(numbers, first_line(text)?)
 }
 
-/// Writes the line of an item into an empty text.
-fn write_line<N: Named>(
-    alloc: Global,
-    names: &N,
-    written: &mut GrownText,
-    place: u32,
-    item: &Item,
-) -> Result<(), NoMemory>
-    ensures { OnOk result (written.new.bytes.items ≡ log_line (N.job names.now) place item.now) }
-{
-    written.bytes.clear();
-    let Ok(mut pieces) = Pieces::new(alloc) else {
-        return Err(NoMemory);
-    };
-    put_line(&mut pieces, written, names, place, item);
-    match pieces.finish(written) {
-        Ok(()) => Ok(()),
-        Err(_) => Err(NoMemory),
-    }
-}
-
 /// The item whose line at this place the text begins with, and what comes after the line. `Ok(None)`
 /// says that there is none.
 pub(crate) fn first_item<'t, N: Named>(
-    alloc: Global,
     names: &N,
     numbers: &Numbers,
-    written: &mut GrownText,
+    written: &mut Written,
     place: u32,
     text: &'t [u8],
 ) -> Result<Option<(Item, &'t [u8])>, NoMemory>
-    requires { AreLookupsOf (N.job names.now) (lookups numbers.now) }
+    requires found { AreLookupsOf (N.job names.now) (lookups numbers.now) }
+    requires ready { written.old.pieces ≡ nothing }
+    ensures ready { OnOk result (written.new.pieces ≡ nothing) }
     ensures taken { IfOk result (λ r. IfSome r (λ x. IsNumbered (N.job names.now) x.0
         × (text.entry.now ≡ log_line (N.job names.now) place x.0 ++ x.1.now))) }
     ensures refused { result ≡ Ok None → IsNamedApart (N.job names.now)
@@ -88,8 +67,8 @@ pub(crate) fn first_item<'t, N: Named>(
     let Some(item) = read_first(numbers, text) else {
         return Ok(None);
     };
-    write_line(alloc, names, written, place, &item)?;
-    match text.strip_prefix(written.bytes.as_slice()) {
+    written.write(names, place, &item)?;
+    match text.strip_prefix(written.line()) {
         Some(rest) => Ok(Some((item, rest))),
         None => Ok(None),
     }

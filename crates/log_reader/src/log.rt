@@ -9,10 +9,11 @@ ghost use Rattle.log_reader.specs.Refused.{IsNumbered, IsRefusedAt};
 
 use crate::line::first_item;
 use crate::numbers::Numbers;
+use crate::written::Written;
 use ft_base::{Item, NoMemory};
 use std::alloc::Global;
 use thiserror::Error;
-use trace_lines::{GrownText, last_line};
+use trace_lines::last_line;
 use trace_views::Named;
 
 /// What was read of a log.
@@ -62,7 +63,9 @@ pub fn read_log<N: Named>(alloc: Global, names: &N, text: &[u8]) -> Result<Log, 
     let Ok(numbers) = Numbers::new(alloc, names) else {
         return Err(ReadFail::NoMemory);
     };
-    let mut written = GrownText::new(alloc);
+    let Ok(mut written) = Written::new(alloc) else {
+        return Err(ReadFail::NoMemory);
+    };
     let mut items = Vec::new(alloc);
     let mut rest = text;
     loop {
@@ -70,7 +73,7 @@ pub fn read_log<N: Named>(alloc: Global, names: &N, text: &[u8]) -> Result<Log, 
             return Ok(Log { items, ended });
         }
         let place = items.len() as u32;
-        match first_item(alloc, names, &numbers, &mut written, place, rest) {
+        match first_item(names, &numbers, &mut written, place, rest) {
             Ok(Some((item, after))) => {
                 if items.push(item).is_err() {
                     return Err(ReadFail::NoMemory);

@@ -6,7 +6,7 @@ use Rattle.log_reader.proofs.log.read_log.Goals as goal
 
 pub returns-in-Some-clause-text : goal.returns-in-Some-clause-text
 returns-in-Some-clause-text g c =
-    read-all (g.N.Named.job c.args.names.now) c.args.text.now c.loop-ended.items.items c.loop-ended.rest.now c.in-Some.ended c.loop-ended.invariant c.in-Some.ensures.some
+    read-all (g.N.Named.job c.args.names.now) c.args.text.now c.loop-ended.items.items c.loop-ended.rest.now c.in-Some.ended c.loop-ended.invariant.0 c.in-Some.ensures.some
 
 -- the item that was taken makes the rest shorter
 pub loop-ended-smaller : goal.loop-ended-smaller
@@ -26,6 +26,11 @@ loop-ended-preserved g c =
     let taken = rw c.in-Ok-Some.field-0-is at c.in-Ok-Some.ensures.taken in
     let begins : rest ≡ log_line job (length items) item ++ left = taken.1 ∙ ap (λ n. log_line job n item ++ left) place in
     let now : c.push.new.self.items ≡ items ++ item ∷ [] =
-    pushed c.push.result items (items ++ item ∷ []) c.push.new.self.items c.push.ensures.items (sym c.is_err.ensures.value ∙ c.if-is_err.false) in
-    subst (λ (xs : List Item). IsReadTo job c.args.text.now xs left) (sym now)
-    (read-more job c.args.text.now items rest item left c.loop-ended.invariant begins taken.0)
+    pushed c.push.result items (items ++ item ∷ []) c.push.new.self.items c.push.ensures.items (sym c.is_err.ensures.value ∙ c.if-is_err.false) in (
+      subst (λ (xs : List Item). IsReadTo job c.args.text.now xs left) (sym now)
+          (read-more job c.args.text.now items rest item left c.loop-ended.invariant.0 begins taken.0),
+      c.in-Ok-Some.ensures.ready,
+    )
+
+pub first_item-requires-clause-ready : goal.first_item-requires-clause-ready
+first_item-requires-clause-ready g c = c.loop-ended.invariant.1
