@@ -1,5 +1,5 @@
 -- The lines of an input gone through from the first on, up to a line `log`.
-use Rattle.std.proofs.Common.{cond, ◌≡◌, ℕ, zero, suc, ◌+◌, ◌-◌, ◌≤◌, ◌<◌, ◌⊎◌, Bool, true, false, List, [], ◌∷◌, ◌++◌, Some, None, take, drop, length, length-append, refl, sym, ap, ◌∙◌, subst, arith, inl, inr, eqb-true, add-one}
+use Rattle.std.proofs.Common.{cond, ◌≡◌, ℕ, zero, suc, ◌+◌, ◌-◌, ◌≤◌, ◌<◌, ◌⊎◌, Bool, true, false, List, [], ◌∷◌, ◌++◌, Some, None, take, drop, length, length-append, append_assoc, refl, sym, ap, ◌∙◌, subst, arith, inl, inr, eqb-true, add-one}
 use Rattle.std.specs.Prelude.{count_by}
 use Rattle.std.specs.List.{position, position_or_len}
 use Rattle.std.specs.Prelude.{get_or, nat_lt}
@@ -18,14 +18,6 @@ pub record Sought (input before rest : List ℕ) (line : ℕ) : Type 0 where
 
 -- ## lists
 
-append-assoc : (a b c : List ℕ) → (a ++ b) ++ c ≡ a ++ (b ++ c)
-append-assoc [] b c = refl
-append-assoc (x ∷ a) b c = ap (λ z. x ∷ z) (append-assoc a b c)
-
-append-nil : (a : List ℕ) → a ++ [] ≡ a
-append-nil [] = refl
-append-nil (x ∷ a) = ap (λ z. x ∷ z) (append-nil a)
-
 head-is : (x y : ℕ) (xs ys : List ℕ) → x ∷ xs ≡ y ∷ ys → x ≡ y
 head-is x y xs ys e = ap (λ zs. first zs) e
   where
@@ -37,12 +29,12 @@ tail-is : (x y : ℕ) (xs ys : List ℕ) → x ∷ xs ≡ y ∷ ys → xs ≡ ys
 tail-is x y xs ys e = ap (λ zs. drop 1 zs) e
 
 -- of two beginnings of a text the shorter is one of the longer
-record Beyond (xs ys front back : List ℕ) : Type 0 where
-  more : List ℕ
-  longer : front ≡ xs ++ more
-  left : ys ≡ more ++ back
+pub record Beyond (xs ys front back : List ℕ) : Type 0 where
+  pub more : List ℕ
+  pub longer : front ≡ xs ++ more
+  pub left : ys ≡ more ++ back
 
-beyond : (xs ys front back : List ℕ) → xs ++ ys ≡ front ++ back → length xs ≤ length front → Beyond xs ys front back
+pub beyond : (xs ys front back : List ℕ) → xs ++ ys ≡ front ++ back → length xs ≤ length front → Beyond xs ys front back
 beyond [] ys front back e le = record { more = front; longer = refl; left = e }
 beyond (x ∷ xs) ys [] back e le = absurd (omega (arith, le))
 beyond (x ∷ xs) ys (z ∷ front) back e le =
@@ -137,7 +129,7 @@ none-at text e = past-all text (subst (λ n. length text ≤ n) (sym (first-is t
 -- ## where a line `log` may stand
 
 -- what ends a text that is put after another, if there is something of it
-ends-more : (before more : List ℕ) → EndsLine (before ++ more) → (more ≡ []) ⊎ ((front : List ℕ) × (more ≡ front ++ 10 ∷ []))
+pub ends-more : (before more : List ℕ) → EndsLine (before ++ more) → (more ≡ []) ⊎ ((front : List ℕ) × (more ≡ front ++ 10 ∷ []))
 ends-more before [] e = inl refl
 ends-more before (x ∷ xs) (inl e) = absurd (omega (arith, sym (length-append before (x ∷ xs)) ∙ ap length e))
 ends-more before (x ∷ xs) (inr (front, e)) =
@@ -157,7 +149,7 @@ module _ (input before rest : List ℕ) (line : ℕ) (s : Sought input before re
     where
       by : (r : Beyond before rest a (log_line ++ b)) → (r.more ≡ []) ⊎ ((front : List ℕ) × (r.more ≡ front ++ 10 ∷ [])) → Later a b
       by r (inl e) = absurd (no_log b (r.left ∙ ap (λ m. m ++ (log_line ++ b)) e))
-      by r (inr (front, e)) = (front, r.longer ∙ ap (λ m. before ++ m) e, r.left ∙ ap (λ m. m ++ (log_line ++ b)) e ∙ append-assoc front (10 ∷ []) (log_line ++ b))
+      by r (inr (front, e)) = (front, r.longer ∙ ap (λ m. before ++ m) e, r.left ∙ ap (λ m. m ++ (log_line ++ b)) e ∙ append_assoc front (10 ∷ []) (log_line ++ b))
 
   -- the text has no line more
   pub none-left : position is_feed rest ≡ None → IsUncut input line
@@ -202,15 +194,15 @@ module _ (input before rest : List ℕ) (line : ℕ) (s : Sought input before re
         by : (front b : List ℕ) → rest ≡ front ++ 10 ∷ (log_line ++ b) → (p ≤ length front) ⊎ (length front < p) → p ≤ length front
         by front b is (inl le) = le
         by front b is (inr lt) =
-            let whole = append-assoc front (10 ∷ []) (log_line ++ b) ∙ sym is ∙ f.is in
+            let whole = append_assoc front (10 ∷ []) (log_line ++ b) ∙ sym is ∙ f.is in
             let r = beyond (front ++ 10 ∷ []) (log_line ++ b) f.front (10 ∷ f.back) whole (omega (arith, lt, f.size, length-append front (10 ∷ []))) in
-            absurd (no-feed f.front f.none front r.more (r.longer ∙ append-assoc front (10 ∷ []) r.more))
+            absurd (no-feed f.front f.none front r.more (r.longer ∙ append_assoc front (10 ∷ []) r.more))
 
     -- the text goes on with it
     pub next : Sought input (before ++ take (p + 1) rest) (drop (p + 1) rest) (line + 1)
     next = record {
-      whole = s.whole ∙ ap (λ z. before ++ z) (sym (take-append-drop (p + 1) rest)) ∙ sym (append-assoc before (take (p + 1) rest) (drop (p + 1) rest));
-      ends = inr (before ++ f.front, ap (λ z. before ++ z) line-is ∙ sym (append-assoc before f.front (10 ∷ [])));
+      whole = s.whole ∙ ap (λ z. before ++ z) (sym (take-append-drop (p + 1) rest)) ∙ sym (append_assoc before (take (p + 1) rest) (drop (p + 1) rest));
+      ends = inr (before ++ f.front, ap (λ z. before ++ z) line-is ∙ sym (append_assoc before f.front (10 ∷ [])));
       number =
           let n = s.number in
           let m = count-append before (take (p + 1) rest) in

@@ -24,17 +24,17 @@ module _ {S K : Type 0} (remaining : S → Option (List ℕ)) (read_faults : S �
   -- the reply was written
   pub replied : (input : List ℕ) → ReadWhole (remaining source) (remaining source') input → (status : Status) (text : List ℕ) → IsReplyTo input status text
       → Appends (holds sink) (holds sink') text → E status
-  replied input read _ _ (of_verdict script log first cut job accepted items ended told verdict is) written =
+  replied input read _ _ (of_verdict script log first cut job led accepted order items ended numbered told verdict is) written =
       by-verdict ended verdict (record {
         input = input;
         read = read;
         text = _;
-        is_reply = of_verdict script log first cut job accepted items ended told verdict is;
+        is_reply = of_verdict script log first cut job led accepted order items ended numbered told verdict is;
         written = written;
       })
   replied input read _ _ (of_refusal script log first cut fault refused) written =
       record { input = input; read = read; text = _; is_reply = of_refusal script log first cut fault refused; written = written }
-  replied input read _ _ (of_log script log first cut job accepted n refused) written =
-      record { input = input; read = read; text = _; is_reply = of_log script log first cut job accepted n refused; written = written }
+  replied input read _ _ (of_log script log first cut job led accepted order n refused) written =
+      record { input = input; read = read; text = _; is_reply = of_log script log first cut job led accepted order n refused; written = written }
   replied input read _ _ (of_missing next uncut) written =
       record { input = input; read = read; text = _; is_reply = of_missing next uncut; written = written }

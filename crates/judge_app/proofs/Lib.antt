@@ -1,3 +1,7 @@
 pub mod CutLaws
 pub mod Replies
 pub mod Ending
+pub mod LaneOrders
+pub mod ToldJobs
+pub mod OneCut
+pub mod Printed

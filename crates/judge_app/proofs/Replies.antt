@@ -1,7 +1,7 @@
 -- Replies, from what they are made of.
-use Rattle.std.proofs.Common.{◌≡◌, ℕ, suc, ◌+◌, ◌-◌, ◌^◌, ◌<◌, ◌≤◌, Bool, List, [], ◌∷◌, ◌++◌, Result, Ok, Err, length, length-append, codes, refl, sym, ap, ◌∙◌, subst, arith, inl, inr}
+use Rattle.std.proofs.Common.{◌≡◌, ℕ, ◌+◌, ◌-◌, ◌^◌, ◌<◌, ◌≤◌, Bool, List, ◌++◌, Result, Ok, Err, length, length-append, refl, sym, ap, ◌∙◌, subst, arith, inl, inr}
 use Rattle.std.specs.Prelude.{IfOk}
-use Rattle.std.specs.Fmt.{decimal}
+use Rattle.std.specs.List.{AllByRecursion as Each}
 use Rattle.std.proofs.lemmas.Option.{slice_get_within}
 use Rattle.std.proofs.lemmas.List.Sums.{count_by-le-length}
 use Rattle.ft_base.specs.declared.item.Item.{Item}
@@ -11,13 +11,15 @@ use Rattle.history_check.specs.declared.verdict.Verdict.TheVariants.{Whole, Lega
 use Rattle.history_check.specs.Verdicts.{IsVerdict}
 use Rattle.ft_script.specs.declared.faults.ScriptFault.{ScriptFault}
 use Rattle.ft_script.specs.Script.{IsFaultOf, IsJobOf, no_memory}
-use Rattle.log_reader.specs.Refused.{IsRefusedAt}
-use Rattle.trace_views.specs.LogText.{item_words, joined, log_line, log_lines, log_text}
+use Rattle.log_reader.specs.Refused.{IsNumbered, IsRefusedAt}
+use Rattle.log_reader.proofs.ReadLines.{lines-long}
+use Rattle.trace_views.specs.LogText.{log_lines, log_text}
 use Rattle.trace_views.specs.Words.{last_line}
 use Rattle.judge_app.specs.declared.status.Status.{Status}
 use Rattle.judge_app.specs.declared.status.Status.TheVariants as ends
 use Rattle.judge_app.specs.Cut.{IsCut, IsUncut, is_feed}
 use Rattle.judge_app.specs.Cut.{log_line as cut_line}
+use Rattle.judge_app.specs.Lanes.{IsToldBy}
 use Rattle.judge_app.specs.Reply.{IsReplyTo, IsWithin, of_log, of_missing, of_refusal, of_verdict, refusal_text, status_of, syntax_at, verdict_text}
 
 -- ## numbers
@@ -32,18 +34,6 @@ fits input script log first cut few =
     omega (arith, size, more, four, small, cut.number, few)
 
 -- a log has no more items than bytes
-lines-long : (job : Job) (p : ℕ) (items : List Item) → length items ≤ length (log_lines job p items)
-unfolding log_line
-lines-long job p [] = omega arith
-lines-long job p (x ∷ xs) =
-    let rest = lines-long job (suc p) xs in
-    let both = length-append (log_line job p x) (log_lines job (suc p) xs) in
-    let line = length-append (joined (decimal p ∷ item_words job x)) (codes "\n") in
-    omega (arith, rest, both, line, feed)
-  where
-    feed : length (codes "\n") ≡ 1
-    feed = refl
-
 pub few-items : (job : Job) (items : List Item) (ended : Bool) (log : List ℕ) → log_text job items ended ≡ log → length items ≤ length log
 unfolding log_text
 few-items job items ended log is =
@@ -73,9 +63,9 @@ ok-then f (Err e) p = tt
 
 module _ (input script log : List ℕ) (first : ℕ) (cut : IsCut input script log first) where
   -- the verdict on a log
-  pub judged : (job : Job) → IsJobOf script job → (items : List Item) (ended : Bool) → log_text job items ended ≡ log → (v : Verdict) → IsVerdict job items v
+  pub judged : (job led : Job) → IsJobOf script job → IsToldBy log job led → (items : List Item) (ended : Bool) → Each (IsNumbered led) items → log_text led items ended ≡ log → (v : Verdict) → IsVerdict led items v
       → (status : Status) (text : List ℕ) → status ≡ status_of ended v → text ≡ verdict_text first (length items) ended v → IsReplyTo input status text
-  judged job accepted items ended read v is status text s t = rw (s, t) (of_verdict script log first cut job accepted items ended read v is)
+  judged job led accepted told items ended numbered read v is status text s t = rw (s, t) (of_verdict script log first cut job led accepted told items ended numbered read v is)
 
   -- the script is refused
   pub script-refused : (fault : ScriptFault) → IsFaultOf script fault → (fault ≡ no_memory → ⊥) → (status : Status) (text : List ℕ) → status ≡ ends.Refused
@@ -84,13 +74,13 @@ module _ (input script log : List ℕ) (first : ℕ) (cut : IsCut input script l
   script-refused fault (inr refused) other status text s t = rw (s, t) (of_refusal script log first cut fault refused)
 
   -- the log is refused
-  pub log-refused : (job : Job) → IsJobOf script job → (line : ℕ) → IsRefusedAt job log line → (status : Status) (text : List ℕ) → status ≡ ends.Refused
+  pub log-refused : (job led : Job) → IsJobOf script job → IsToldBy log job led → (line : ℕ) → IsRefusedAt led log line → (status : Status) (text : List ℕ) → status ≡ ends.Refused
       → text ≡ refusal_text (syntax_at (first + line - 1)) → IsReplyTo input status text
-  log-refused job accepted line refused status text s t =
+  log-refused job led accepted told line refused status text s t =
       let n = length refused.items in
       let is : n + 1 ≡ line = (let c = refused.count in omega (arith, c)) in
       let same : first + line - 1 ≡ first + n = (let c = refused.count in omega (arith, c)) in
-      rw (s, t, same) (of_log script log first cut job accepted n (subst (IsRefusedAt job log) (sym is) refused))
+      rw (s, t, same) (of_log script log first cut job led accepted told n (subst (IsRefusedAt led log) (sym is) refused))
 
 -- the line `log` is missing
 pub missing : (input : List ℕ) (next : ℕ) → IsUncut input next → (status : Status) (text : List ℕ) → status ≡ ends.Refused → text ≡ refusal_text (syntax_at next)

@@ -1,4 +1,5 @@
 pub mod Status
 pub mod Cut
+pub mod Lanes
 pub mod Reply
 pub mod Ends

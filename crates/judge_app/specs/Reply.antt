@@ -1,6 +1,7 @@
 -- What is written for an input.
 use Rattle.std.specs.Prelude.{ℕ, ◌≡◌, ◌<◌, ◌+◌, ◌++◌, Bool, true, false, List, length, codes}
 use Rattle.std.specs.Fmt.{decimal}
+use Rattle.std.specs.List.{AllByRecursion as Each}
 use Rattle.ft_base.specs.declared.limits.TheConstants.{INPUT_BYTES}
 use Rattle.ft_base.specs.declared.item.Item.{Item}
 use Rattle.ft_base.specs.Job.{Job}
@@ -13,11 +14,12 @@ use Rattle.ft_script.specs.declared.faults.ScriptFault.{ScriptFault}
 use Rattle.ft_script.specs.declared.faults.Cause.TheVariants.{Syntax}
 use Rattle.ft_script.specs.FaultText.{fault_text}
 use Rattle.ft_script.specs.Script.{IsJobOf, IsRefusalOf}
-use Rattle.log_reader.specs.Refused.{IsRefusedAt}
+use Rattle.log_reader.specs.Refused.{IsNumbered, IsRefusedAt}
 use Rattle.trace_views.specs.LogText.{log_text}
 use Rattle.judge_app.specs.declared.status.Status.{Status}
 use Rattle.judge_app.specs.declared.status.Status.TheVariants as Ends
 use Rattle.judge_app.specs.Cut.{IsCut, IsUncut}
+use Rattle.judge_app.specs.Lanes.{IsToldBy}
 
 -- ## texts
 
@@ -70,13 +72,14 @@ abbrev pub IsLong : List ℕ → Type 0
 IsLong input = (script log : List ℕ) × (first : ℕ) × IsCut input script log first × (INPUT_BYTES < length script)
 
 -- What is written for an input, and the status once it is written in full: the verdict on the items that the log tells, or why the script is
--- refused, or the line of the log that no item of the script's job has at its place, or that the line `log` is missing
+-- refused, or the line of the log that no item of the script's job has at its place, or that the line `log` is missing. If the script has lanes,
+-- its commands are in the order that the log tells
 pub data IsReplyTo (input : List ℕ) : Status → List ℕ → Type 0 where
   of_verdict : (script log : List ℕ) (first : ℕ) → IsCut input script log first
-      → (job : Job) → IsJobOf script job → (items : List Item) (ended : Bool) → log_text job items ended ≡ log
-      → (verdict : Verdict) → IsVerdict job items verdict → IsReplyTo input (status_of ended verdict) (verdict_text first (length items) ended verdict)
+      → (job led : Job) → IsJobOf script job → IsToldBy log job led → (items : List Item) (ended : Bool) → Each (IsNumbered led) items → log_text led items ended ≡ log
+      → (verdict : Verdict) → IsVerdict led items verdict → IsReplyTo input (status_of ended verdict) (verdict_text first (length items) ended verdict)
   of_refusal : (script log : List ℕ) (first : ℕ) → IsCut input script log first
       → (fault : ScriptFault) → IsRefusalOf script fault → IsReplyTo input Ends.Refused (refusal_text fault)
   of_log : (script log : List ℕ) (first : ℕ) → IsCut input script log first
-      → (job : Job) → IsJobOf script job → (n : ℕ) → IsRefusedAt job log (n + 1) → IsReplyTo input Ends.Refused (refusal_text (syntax_at (first + n)))
+      → (job led : Job) → IsJobOf script job → IsToldBy log job led → (n : ℕ) → IsRefusedAt led log (n + 1) → IsReplyTo input Ends.Refused (refusal_text (syntax_at (first + n)))
   of_missing : (next : ℕ) → IsUncut input next → IsReplyTo input Ends.Refused (refusal_text (syntax_at next))

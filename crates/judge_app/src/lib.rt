@@ -13,6 +13,8 @@
 
 mod app;
 mod cut;
+mod lanes;
+pub mod laws;
 mod program;
 mod reply;
 mod status;

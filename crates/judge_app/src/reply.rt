@@ -2,13 +2,16 @@
 
 ghost use Rattle.std.specs.Prelude.{◌≡◌, ◌≢◌, ℕ, ◌+◌, ◌<◌, ◌≤◌, ◌^◌, List, length, IfOk, Ok, Err};
 ghost use Rattle.ft_base.specs.declared.limits.TheConstants.{INPUT_BYTES};
+ghost use Rattle.ft_base.specs.Job.{Job as PlainJob};
 ghost use Rattle.ft_script.specs.Script.{IsJobOf, no_memory};
 ghost use Rattle.trace_lines.specs.LogItems.{IsNamedApart};
 ghost use Rattle.judge_app.specs.declared.status.Status.TheVariants.{Broken, Legal, Refused};
 ghost use Rattle.judge_app.specs.Cut.{IsCut};
+ghost use Rattle.judge_app.specs.Lanes.{IsToldBy};
 ghost use Rattle.judge_app.specs.Reply.{IsLong, IsReplyTo, IsWithin, line_text, refusal_text, rule_word, status_of, syntax_at, verdict_text};
 
 use crate::cut::{Parts, cut};
+use crate::lanes::led_by;
 use crate::status::Status;
 use ft_base::NoMemory;
 use ft_base::limits::INPUT_BYTES;
@@ -79,17 +82,28 @@ fn reply_to(alloc: Global, parts: &Parts<'_>) -> Result<Reply, NoMemory>
         → IfOk result (λ r. IsReplyTo input r.status r.text.items) }
 {
     match read_script(alloc, parts.script) {
-        Ok(job) => reply_for(alloc, &job, parts),
+        Ok(job) => reply_led(alloc, job, parts),
         Err(fault) => refused(alloc, fault),
     }
 }
 
-/// The reply to a log of a job.
+/// The reply to a log of a script's job, which tells in which order the commands of its lanes went.
+fn reply_led(alloc: Global, job: Job, parts: &Parts<'_>) -> Result<Reply, NoMemory>
+    requires named { IsNamedApart job }
+    requires fits { parts.now.first + length parts.now.log.now + 2 < 2 ^ 32 }
+    ensures { (input : List ℕ) → IsCut input parts.now.script.now parts.now.log.now parts.now.first → IsJobOf parts.now.script.now job
+        → IfOk result (λ r. IsReplyTo input r.status r.text.items) }
+{
+    let led = led_by(alloc, job, parts.log)?;
+    reply_for(alloc, &led, parts)
+}
+
+/// The reply to a log of a job whose commands go in the order that the log tells.
 fn reply_for(alloc: Global, job: &Job, parts: &Parts<'_>) -> Result<Reply, NoMemory>
     requires named { IsNamedApart job.now }
     requires fits { parts.now.first + length parts.now.log.now + 2 < 2 ^ 32 }
-    ensures { (input : List ℕ) → IsCut input parts.now.script.now parts.now.log.now parts.now.first → IsJobOf parts.now.script.now job.now
-        → IfOk result (λ r. IsReplyTo input r.status r.text.items) }
+    ensures { (input : List ℕ) (own : PlainJob) → IsCut input parts.now.script.now parts.now.log.now parts.now.first → IsJobOf parts.now.script.now own
+        → IsToldBy parts.now.log.now own job.now → IfOk result (λ r. IsReplyTo input r.status r.text.items) }
 {
     match read_log(alloc, job, parts.log) {
         Ok(log) => {

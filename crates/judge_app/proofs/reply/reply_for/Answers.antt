@@ -35,13 +35,13 @@ judged-requires-clause-within c =
     (within c.args.job.now c.as_slice.result.now c.in_ok-verdict-in-Ok.verdict c.in_ok-verdict-in-Ok.ensures)
 
 pub returns-in_ok-verdict-in-Ok : goal.returns-in_ok-verdict-in-Ok
-returns-in_ok-verdict-in-Ok c = λ input cut accepted.
+returns-in_ok-verdict-in-Ok c = λ input own cut accepted told.
     let is = subst (λ items. IsVerdict c.args.job.now items c.in_ok-verdict-in-Ok.verdict) c.as_slice.ensures.value c.in_ok-verdict-in-Ok.ensures in
     let count = c.len.ensures in
     let same : c.len.result ≡ length c.in-Ok.log.items.items = omega (arith, count) in
     ok-then
-    (λ r e. judged input c.args.parts.now.script.now c.args.parts.now.log.now c.args.parts.now.first cut c.args.job.now accepted
-    c.in-Ok.log.items.items c.in-Ok.log.ended c.in-Ok.ensures.text c.in_ok-verdict-in-Ok.verdict is r.status r.text.items e.0
+    (λ r e. judged input c.args.parts.now.script.now c.args.parts.now.log.now c.args.parts.now.first cut own c.args.job.now accepted told
+    c.in-Ok.log.items.items c.in-Ok.log.ended c.in-Ok.ensures.numbered c.in-Ok.ensures.text c.in_ok-verdict-in-Ok.verdict is r.status r.text.items e.0
     (e.1 ∙ ap (λ n. verdict_text c.args.parts.now.first n c.in-Ok.log.ended c.in_ok-verdict-in-Ok.verdict) same))
     c.judged.result c.judged.ensures
 
@@ -61,9 +61,9 @@ overflow_sub-parts c =
     omega (arith, few.0)
 
 pub returns-in-Err-Line : goal.returns-in-Err-Line
-returns-in-Err-Line c = λ input cut accepted.
+returns-in-Err-Line c = λ input own cut accepted told.
     let refused = c.read_log.ensures.refused c.in-Err-Line.n (c.in-Err-Line.is ∙ ap (λ f. Err f) c.in-Err-Line.field-0-is) c.requires.named in
     ok-then
-    (λ r e. log-refused input c.args.parts.now.script.now c.args.parts.now.log.now c.args.parts.now.first cut c.args.job.now accepted c.in-Err-Line.n refused
+    (λ r e. log-refused input c.args.parts.now.script.now c.args.parts.now.log.now c.args.parts.now.first cut own c.args.job.now accepted told c.in-Err-Line.n refused
     r.status r.text.items e.0 (e.1 ∙ ap refusal_text c.syntax_at.ensures))
     c.refused.result c.refused.ensures

@@ -2,8 +2,8 @@ use Rattle.script_jobs.proofs.Names.{accepted_named}
 use Rattle.judge_app.proofs.Replies.{ok-then, script-refused}
 use Rattle.judge_app.proofs.reply.reply_to.Goals as goal
 
-pub reply_for-requires-clause-named : goal.reply_for-requires-clause-named
-reply_for-requires-clause-named c = accepted_named c.args.parts.now.script.now c.in-Ok.job c.in-Ok.ensures.job
+pub reply_led-requires-clause-named : goal.reply_led-requires-clause-named
+reply_led-requires-clause-named c = accepted_named c.args.parts.now.script.now c.in-Ok.job c.in-Ok.ensures.job
 
 pub returns-in-Err : goal.returns-in-Err
 returns-in-Err c = λ input cut.
