@@ -7,7 +7,7 @@
 - each limit of the language reached and passed, in at most a hundred times the time that it takes now, and all at once;
 - a long history in each printed form;
 - runs by threads: scripts with one order only print what a replay of them prints, scripts with lanes what a replay of their commands in the
-  order of the lock prints (lane_runs.py), and others come to their ends;
+  order of the lock prints (lane_runs.py), and others come to their ends; ftjudge calls each log of these two whole;
 - random scripts, whose forms have to follow from the log (random_scripts.py).
 
 Each row asks for the status and for what is written; nothing may be written to standard error.
@@ -29,6 +29,7 @@ sys.dont_write_bytecode = True
 import check_docs  # noqa: E402
 import command_words  # noqa: E402
 import full_scripts  # noqa: E402
+import judging  # noqa: E402
 import lane_runs  # noqa: E402
 import long_check  # noqa: E402
 import memory_limits  # noqa: E402
@@ -547,7 +548,8 @@ def check_calls_after_commands(rows, program, path):
     """A run of a script whose calls come after all commands: whoever steps when, the same users are called back in them."""
     came = runs.answer([program, "run"], path.read_bytes(), RUN_SECONDS)
     same = visits(came.out) == visits(path.with_suffix(".log").read_bytes())
-    rows.row(f"runs: {path.name}: callbacks", command_words.run_faults(came, "log") + ["other users are called back"] * (not same), came.seconds)
+    found = command_words.run_faults(came, "log", path.read_bytes())
+    rows.row(f"runs: {path.name}: callbacks", found + ["other users are called back"] * (not same), came.seconds)
     came = runs.answer([program, "run", "--print", "enabled"], path.read_bytes(), RUN_SECONDS)
     rows.row(f"runs: {path.name}: enabled", runs.faults(came, 0, path.with_suffix(".enabled").read_bytes()), came.seconds)
 
@@ -560,16 +562,14 @@ def check_runs(rows, program, top):
             if path.with_suffix(f".{form}").exists():
                 came = runs.answer([program, "run", "--print", form], path.read_bytes(), RUN_SECONDS)
                 rows.row(f"runs: {path.name}: {form}", runs.faults(came, 0, path.with_suffix(f".{form}").read_bytes()), came.seconds)
-    for path in sorted((top / "examples").glob("*.ft")):
-        if path.stem not in ORDERED and path.stem != "refused":
-            came = runs.answer([program, "run"], path.read_bytes(), RUN_SECONDS)
-            rows.row(f"runs: {path.name}", command_words.run_faults(came, "log"), came.seconds)
-    for what, make, most in [("CPUs", cpus, forms.CPUS), ("tasks", tasks, forms.TASKS), ("acts", acts, forms.ACTS), ("commands", commands, forms.COMMANDS)]:
-        came = runs.answer([program, "run"], make(most), RUN_SECONDS)
-        rows.row(f"runs: {what}: {most:,}", command_words.run_faults(came, "log"), came.seconds)
+    most = [("CPUs", cpus, forms.CPUS), ("tasks", tasks, forms.TASKS), ("acts", acts, forms.ACTS), ("commands", commands, forms.COMMANDS)]
+    texts = [(path.name, path.read_bytes()) for path in sorted((top / "examples").glob("*.ft")) if path.stem not in [*ORDERED, "refused"]]
+    for what, text in texts + [(f"{what}: {count:,}", make(count)) for what, make, count in most]:
+        came = runs.answer([program, "run"], text, RUN_SECONDS)
+        rows.row(f"runs: {what}", command_words.run_faults(came, "log", text), came.seconds)
     for form, count in nests_lines().items():
         came = runs.answer([program, "run", "--print", form], nests(), RUN_SECONDS)
-        found, lines = command_words.run_faults(came, form), came.out.count(b"\n")
+        found, lines = command_words.run_faults(came, form, nests()), came.out.count(b"\n")
         rows.row(f"runs: nests of calls: {form}", found + [f"{lines} lines, not {count}"] * (lines != count), came.seconds)
 
 
@@ -579,6 +579,7 @@ def main():
     options = runs.read_options(parser)
     if options.long is not None:
         return long_check.check(options)
+    judging.want_judge(judging.JUDGE, parser.prog)
     rows = runs.Rows("edges", options.verbose)
     command_words.check(rows, options.program, options.top)
     script_texts.check(rows, options.program)

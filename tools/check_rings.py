@@ -16,6 +16,8 @@ The scripts are those of viewed_scripts.py, on one to the most CPUs. RUNS, the p
   CPU is what its last fired hit has made of tracing, and an entry is missing, or is more, only if another CPU has switched tracing off, or on.
 
 The rows are scripts that PROGRAM, the program crates/ftcore, runs with `--print rings`: what they print is the same in each run.
+The history itself is judged by ftjudge, which has to call its log whole.
+
 A script that RUNS refuses, or a run that doesn't end, counts as failed. What is wrong is kept in FOLDER. The last line is
 `rings: N passed, M failed`, and the status is 0 if nothing failed.
 """
@@ -30,6 +32,7 @@ import tempfile
 from typing import NamedTuple
 
 sys.dont_write_bytecode = True
+import judging  # noqa: E402
 import rings_of_log  # noqa: E402
 import runs  # noqa: E402
 import script_texts  # noqa: E402
@@ -197,7 +200,7 @@ def check_random(rows, options):
     for seed in range(options.seed, options.seed + options.count):
         script = viewed_scripts.ringed(seed)
         came = runs.answer([options.runs], script, SECONDS)
-        found = runs.faults(came, 0) or faults_of(script, came.out)
+        found = runs.faults(came, 0) or faults_of(script, came.out) or judging.run_faults(script, parts(came.out)[0])
         if found:
             keep(options, seed, script, came)
         differing += not found and differs(script, came.out)
@@ -256,6 +259,8 @@ def main():
     for path in [options.runs] * bool(options.count) + [options.program] * bool(options.rows):
         if not os.access(path, os.X_OK):
             sys.exit(f"{parser.prog}: there is no program {path}: `rt ci` builds one")
+    if options.count:
+        judging.want_judge(judging.JUDGE, parser.prog)
     rows = runs.Rows("rings", options.verbose)
     if options.judge:
         script, out = options.judge

@@ -1,24 +1,24 @@
 #!/usr/bin/env python3
-"""Runs random scripts with threads, and has each log judged by another program.
+"""Runs random scripts with threads, and has ftjudge judge each log.
 
-REFERENCE is a program that was written from the same rules by other hands, and isn't part of this
-repository. The N scripts of each source have the seeds from S on:
+The N scripts of each source have the seeds from S on:
 
     plain      script_forms.py
     viewed     viewed_scripts.py, scripts that most forms have lines of
     laned      the same with lanes
     ringed     the same with rings and triggers
     loading    the same with modules that come and go
-    generated  `REFERENCE gen`, half of them of version 2, half of them with lanes, half of them with modules, and half of them with rings
+    generated  `REFERENCE gen`, half of them of version 2, half of them with lanes, half of them with modules, and half of them with rings;
+               only if REFERENCE is given
     crowded    script_forms.py, with a task of calls more on each of the most CPUs, up to the most tasks;
                half of those without modules that come and go have lanes
 
 Each script that `PROGRAM replay` accepts goes through `PROGRAM run`, which has to end within SECONDS with
-status 0 and write nothing to standard error; and `REFERENCE check --log LOG` has to call the log whole. A
-log of a script with lanes is judged without them, as one of the script whose commands are in the order that the
-log tells: the other program takes a notrace set of a lane for what the lines above have made of it. So many runs
-of a script are made as --times says. The last line says how many runs there were, how many scripts had more than
-one log, and what was found; the status is 1 if anything was. What is wrong is kept in FOLDER.
+status 0 and write nothing to standard error; and ftjudge has to call each log whole, that of a script with lanes in the order that it
+tells. So many runs of a script are made as --times says. The last line says how many runs there were, how many scripts had more than one
+log, and what was found; the status is 1 if anything was. What is wrong is kept in FOLDER.
+REFERENCE is a program that was written from the same rules by other hands, and isn't part of this repository. If it is given, its `check`
+is asked for a second opinion (second_opinion.py): it has to call each log whole, too.
 Two runs go on at a time, each with threads of its own.
 """
 import argparse
@@ -32,10 +32,10 @@ from typing import NamedTuple
 
 sys.dont_write_bytecode = True
 import control_lines  # noqa: E402
-import lane_orders  # noqa: E402
-import log_reader  # noqa: E402
+import judging  # noqa: E402
 import runs  # noqa: E402
 import script_forms  # noqa: E402
+import second_opinion  # noqa: E402
 import viewed_scripts  # noqa: E402
 
 FOLDER = pathlib.Path(tempfile.gettempdir()) / "run-faults"
@@ -87,41 +87,21 @@ def text_of(source, seed, reference):
     return {"plain": script_forms.script, "crowded": crowded, **viewed_scripts.SOURCES}[source](seed)
 
 
-def judgement(log, text, reference):
-    """What the other program says of a log of this script: `whole`, `legal, stopped`, or what is wrong with it."""
-    with tempfile.NamedTemporaryFile(suffix=".log") as file:
-        file.write(log)
-        file.flush()
-        came = runs.answer([reference, "check", "--log", file.name], text, SECONDS)
-    said = came.out.decode(errors="replace").strip()
-    return said if came.status == 0 else f"status {came.status} of the judgement: {said}"
-
-
-def faults_of(came, text, reference):
-    """What is wrong with a run's answer."""
-    if came.status is None:
-        return [came.err.decode()]
-    found = [f"status {came.status}"] * (came.status != 0) + ["it writes to standard error"] * bool(came.err)
-    if found:
-        return found
-    try:
-        script, log = lane_orders.reading(text, came.out)
-    except log_reader.Fault as fault:
-        return [str(fault)]
-    said = judgement(log, script, reference)
-    return [said] * (said != "whole")
+def opinions(text, logs, reference):
+    """What the other program, if there is one, finds wrong with logs of runs of this script."""
+    return [fault for log in logs if reference for fault in second_opinion.faults(text, log, reference)]
 
 
 def try_script(job):
+    """The script of this source and seed, with its runs, each of whose logs is judged once."""
     options, source, seed = job
     text = text_of(source, seed, options.reference)
     accepted = runs.answer([options.program, "replay"], text, SECONDS).status == 0
-    logs, faults = set(), []
-    for _ in range(options.times if accepted else 0):
-        came = runs.answer([options.program, "run"], text, SECONDS)
-        logs.add(came.out)
-        faults += faults_of(came, text, options.reference)
-    return Ran(source, seed, text, accepted, logs, faults)
+    answers = [runs.answer([options.program, "run"], text, SECONDS) for _ in range(options.times if accepted else 0)]
+    faults = [fault for came in answers for fault in runs.faults(came, 0)]
+    logs = {came.out for came in answers if not runs.faults(came, 0)}
+    faults += judging.faults_of_runs(text, logs, options.judge) + opinions(text, logs, options.reference)
+    return Ran(source, seed, text, accepted, {came.out for came in answers}, faults)
 
 
 def keep(options, done):
@@ -139,16 +119,22 @@ def read_options():
     title = __doc__.split("\n", 1)
     parser = argparse.ArgumentParser(description=title[0], epilog=title[1], formatter_class=argparse.RawDescriptionHelpFormatter)
     parser.add_argument("program", metavar="PROGRAM", help="the program, as crates/ftcore/out/ftcore")
-    parser.add_argument("reference", metavar="REFERENCE", help="the other program")
+    judging.add_option(parser)
+    parser.add_argument("--reference", metavar="REFERENCE", help="the other program, for scripts that it generates and a second opinion; else none")
     parser.add_argument("--count", type=int, required=True, metavar="N", help="scripts of each source")
     parser.add_argument("--times", type=int, default=1, metavar="K", help="runs of each script, else 1")
     parser.add_argument("--seed", type=int, default=0, metavar="S", help="the first seed, else 0")
-    parser.add_argument("--sources", type=runs.names_of(SOURCES), default=SOURCES, metavar="SOURCE,..", help="the sources, else all")
+    parser.add_argument("--sources", type=runs.names_of(SOURCES), metavar="SOURCE,..", help="the sources, else all that there are")
     parser.add_argument("--keep", type=pathlib.Path, default=FOLDER, metavar="FOLDER", help=f"where scripts with faults are kept, else {FOLDER}")
     options = parser.parse_args()
-    for path in (options.program, options.reference):
+    judging.want_judge(options.judge, parser.prog)
+    for path in [options.program] + [options.reference] * (options.reference is not None):
         if not shutil.which(path):
             parser.error(f"there is no program {path}")
+    if options.sources is None:
+        options.sources = [source for source in SOURCES if options.reference or source != "generated"]
+    if "generated" in options.sources and not options.reference:
+        parser.error("for scripts of the source generated say --reference REFERENCE")
     return options
 
 

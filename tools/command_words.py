@@ -12,6 +12,7 @@ from typing import NamedTuple, Optional
 
 import bulk_script
 import check_docs
+import judging
 import runs
 import text_lines
 
@@ -87,9 +88,11 @@ def summary(program, seed):
     return bulk_script.summary(seed, came.out) if came.status == 0 else b""
 
 
-def run_faults(came, form):
-    """What is wrong with the answer to a run. Its threads may go in any order, but they come to their ends."""
+def run_faults(came, form, script):
+    """What is wrong with the answer to a run of a script. Its threads may go in any order, but they come to their ends, and a log is judged whole."""
     found = runs.faults(came, 0) or text_lines.faults(form, came.out)
+    if not found and form == "log":
+        return judging.run_faults(script, came.out)
     return found or ([] if came.out.endswith(b"end\n") else ["the last line isn't end"])
 
 
@@ -104,7 +107,7 @@ def try_words(rows, program, example, name, words, order):
         if order is None:
             found = runs.faults(came, 2, b"")
         elif order.mode == "run":
-            found = run_faults(came, order.form)
+            found = run_faults(came, order.form, example.with_suffix(".ft").read_bytes())
         elif order.mode == "replay":
             found = runs.faults(came, 0, example.with_suffix("." + order.form).read_bytes())
         else:

@@ -88,7 +88,7 @@ def check_full(rows, program):
             rows.row(f"{what}: {form}", runs.faults(came, 0, views_of_log.text(form, text, log.out)), came.seconds)
         form = "log" if make is script_with_modules else "rings"
         came = runs.answer([program, "run", "--print", form], text, RUN_SECONDS)
-        rows.row(f"{what}: run, {form}", command_words.run_faults(came, form), came.seconds)
+        rows.row(f"{what}: run, {form}", command_words.run_faults(came, form, text), came.seconds)
 
 
 def check_memory_of_log(rows, program):

@@ -5,8 +5,6 @@ commands are in that order, but for the lanes that it names.
 """
 import re
 
-import log_reader
-
 LANE = re.compile(rb"[ \t]*lane[ \t]")
 CONTROL = re.compile(rb"[ \t]*ctl[ \t]")
 BEGIN = re.compile(rb"^(\d+ begin (\d+))( lane \d+)?$", re.M)
@@ -46,10 +44,13 @@ def orders(lanes):
             yield [first, *others]
 
 
-def reading(text, log):
-    """The script and the log that are judged for the log of a run of this script: these two or, if it has lanes, both without them, the
-    commands in the order of the log. Raises log_reader.Fault if the log doesn't fit the script, or names a lane that isn't its command's."""
-    if not has_lanes(text):
-        return text, log
-    order = log_reader.read_log(log, log_reader.read_script(text)).order
-    return in_order(text, order), without_lanes(log)
+def told(log, lanes):
+    """The order of these commands that a log tells by the lanes it names: so far as it goes, and then each lane's others in turn; None if a
+    lane has no such command left."""
+    left = {b" lane %d" % lane: list(numbers) for lane, numbers in enumerate(lanes)}
+    order = []
+    for _, _, lane in BEGIN.findall(log):
+        if not left.get(lane):
+            return None
+        order.append(left[lane].pop(0))
+    return order + [number for numbers in left.values() for number in numbers]

@@ -1,7 +1,7 @@
-"""Runs by threads of scripts with lanes: each prints what a replay prints of the commands in the order in which the lock let them through.
+"""Runs by threads of scripts with lanes: ftjudge calls each log whole.
 
-In these scripts nothing but that order is left open: tasks wait for all commands, or make no calls. And a script at all limits comes to
-its end, in an order that the lanes may have.
+In most of these scripts nothing is left open but the order in which the lock lets the commands through: tasks wait for all of them, or
+make no calls. So a run prints what a replay prints of the commands in that order. And a script at all limits comes to its end.
 """
 import random
 
@@ -26,17 +26,18 @@ def of_order(program, text, order):
     return lane_orders.with_lanes(came.out, log_reader.read_script(text).lanes, order)
 
 
+def order_faults(program, text, log):
+    """What is wrong with the log of a run of a script with lanes that is told by its order."""
+    order = lane_orders.told(log, log_reader.read_script(text).lanes)
+    other = None if order is None else runs.other_text(log, of_order(program, text, order))
+    return ["it tells no order of the lanes"] if order is None else [other] * (other is not None)
+
+
 def faults(program, text, seconds=SECONDS, is_told=True):
-    """What is wrong with a run of a script with lanes, and how long it took. If it isn't told by its order, the order alone is asked for."""
+    """What is wrong with a run of a script with lanes, and how long it took; `is_told` if the order of its commands tells its log."""
     came = runs.answer([program, "run"], text, seconds)
-    found = command_words.run_faults(came, "log")
-    if not found:
-        try:
-            order = log_reader.read_log(came.out, log_reader.read_script(text)).order
-            found = runs.faults(came, 0, of_order(program, text, order)) if is_told else []
-        except log_reader.Fault as fault:
-            found = [str(fault)]
-    return found, came.seconds
+    found = command_words.run_faults(came, "log", text)
+    return found or (order_faults(program, text, came.out) if is_told else []), came.seconds
 
 
 def commands_alone(lines):

@@ -11,9 +11,8 @@ Half of them get quanta from 1 to 20. Half get another schedule: one of single s
 actor after some steps, in the midst of a command or a call, while another goes on. Each script is
 
 - replayed in the seven forms by both: status and bytes have to be the same;
-- judged: REFERENCE has to call the log of its replay legal, and whole if it comes to its end;
-- run by threads: REFERENCE has to call the log whole, that of a script with lanes as one of the script without them, whose commands
-  are in the order that the log tells; and a script that is refused has to get the same line.
+- judged: ftjudge has to call the log of its replay legal, and whole if it comes to its end; and so does REFERENCE (second_opinion.py);
+- run by threads: both have to call the log whole; and a script that is refused has to get the same line.
 
 About one in twenty has a number for `bulk`, too, whose summaries have to be the same. Nothing may be written to
 standard error. Two scripts are tried at a time.
@@ -33,8 +32,10 @@ from typing import NamedTuple
 
 import check_runs
 import compare_scripts
+import judging
 import runs
 import script_forms
+import second_opinion
 import text_lines
 
 FOLDER = pathlib.Path(tempfile.gettempdir()) / "long-check"
@@ -111,16 +112,16 @@ def compared(options, words, text, files):
 
 
 def log_faults(options, log, text):
-    """What is wrong with the log of a replay, judged by the other program."""
-    said, wanted = check_runs.judgement(log, text, options.reference), "whole" if log.endswith(b"end\n") else "legal, stopped"
-    return [] if said == wanted else [f"the log is judged {said!r}, not {wanted!r}"]
+    """What is wrong with the log of a replay; one that is stopped may have a whole history."""
+    wanted = "whole" if log.endswith(b"end\n") else "legal, stopped"
+    return judging.faults(text, log) + second_opinion.faults(text, log, options.reference, wanted)
 
 
 def run_faults(options, replayed, text, files):
     """What is wrong with a run by threads of a script whose replay is known; one that is refused has the same answer."""
     came = runs.answer([options.program, "run"], text, RUN_SECONDS)
     if replayed.status == 0:
-        found = check_runs.faults_of(came, text, options.reference)
+        found = runs.faults(came, 0) or judging.run_faults(text, came.out) + second_opinion.faults(text, came.out, options.reference)
     else:
         found = [] if compare_scripts.agree(came, replayed) else [f"{compare_scripts.brief(came)}, not {compare_scripts.brief(replayed)}"]
     if found:
@@ -165,17 +166,18 @@ def add_options(parser):
     parser.add_argument("--keep", type=pathlib.Path, default=FOLDER, metavar="FOLDER", help=f"where it keeps what is wrong, else {FOLDER}")
 
 
-def want_reference(options):
-    """Ends the check if there is no program to compare with."""
+def want_programs(options):
+    """Ends the check if there is no program to compare with, or none that judges."""
     if not options.reference:
         sys.exit("long: say --reference REFERENCE: a program that was written from the same rules, and isn't part of this repository")
     if not shutil.which(options.reference):
         sys.exit(f"long: there is no program {options.reference}")
+    judging.want_judge(judging.JUDGE, "long")
 
 
 def check(options):
     """Tries scripts for so many minutes, tells what became of them, and gives the status."""
-    want_reference(options)
+    want_programs(options)
     end, numbers = time.monotonic() + 60 * options.long, itertools.count()
     counts, causes, wrong = collections.Counter(), collections.Counter(), 0
     with concurrent.futures.ThreadPoolExecutor(compare_scripts.WORKERS) as workers:

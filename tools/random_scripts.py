@@ -50,5 +50,6 @@ def check(rows, program):
         came = runs.answer([program, "replay", "--print", form], broken_scripts.script(seed))
         found = runs.faults(came, 3) if check_docs.REFUSED.fullmatch(came.out) else text_faults(came, form)
         rows.row(f"random: broken_scripts.py --seed {seed}: {form}", found, came.seconds)
-        came = runs.answer([program, "run", "--print", form], forms.script(seed), RUN_SECONDS)
-        rows.row(f"random: script_forms.py --seed {seed}: run, {form}", command_words.run_faults(came, form), came.seconds)
+        script = forms.script(seed)
+        came = runs.answer([program, "run", "--print", form], script, RUN_SECONDS)
+        rows.row(f"random: script_forms.py --seed {seed}: run, {form}", command_words.run_faults(came, form, script), came.seconds)
