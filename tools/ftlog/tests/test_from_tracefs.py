@@ -1,0 +1,477 @@
+"""Tests of tools/ft from-tracefs: worked cases, globs against the kernel's rules and those of the page, a long list, and wrong inputs."""
+import contextlib
+import importlib.machinery
+import importlib.util
+import io
+import os
+import pathlib
+import random
+import sys
+import tempfile
+import time
+import unittest
+
+sys.dont_write_bytecode = True
+import check_docs  # noqa: E402
+import log_desk  # noqa: E402
+import log_reader  # noqa: E402
+import runs  # noqa: E402
+from ftlog import filter_texts, shell_commands, tracefs_script, tracefs_state, tracefs_writes  # noqa: E402
+
+CASES = pathlib.Path(__file__).with_name("from_tracefs.txt")
+LIST = b"ksys_read\nvfs_read\nvfs_write\next4_read [ext4]\next4_write [ext4]\nsched_fork\n"
+
+
+def cases():
+    """Each case: what it is about, the shell's text, the script, and what is told."""
+    for part in CASES.read_text().split("\n= ")[1:]:
+        what, *lines = part.strip("\n").split("\n")
+        of = {mark: [line[2:] for line in lines if line.startswith(mark + " ")] for mark in "$!"}
+        script = [line for line in lines if line[:2] not in ("$ ", "! ")]
+        yield what, "".join(line + "\n" for line in of["$"]), "".join(line + "\n" for line in script), of["!"]
+
+
+def written(shell, functions=LIST, **how):
+    """The script of a shell's text, and what is told of its lines and of the list."""
+    listed = filter_texts.read_list("list", functions)
+    writer = tracefs_script.Writer(tracefs_state.State(listed, tracefs_writes.events(shell)), **how)
+    text = writer.text()
+    told = sorted(dict.fromkeys(writer.told))
+    return text, [f"line {line}: {tracefs_script.one_line(why)}" for line, why in told], writer.kept.told
+
+
+def controls(shell, functions=LIST):
+    """The commands of the script of a shell's text."""
+    return [line[4:] for line in written(shell, functions)[0].split("\n") if line.startswith("ctl ")]
+
+
+def replayed(script, form="log"):
+    """What the program prints for a script; None if there is no program."""
+    if not os.access(runs.PROGRAM, os.X_OK):
+        return None
+    return runs.answer([runs.PROGRAM, "replay", "--print", form], script.encode())
+
+
+def ft(*words):
+    """What tools/ft comes to with these words: its status, and what it writes to both streams."""
+    out, err = io.StringIO(), io.StringIO()
+    loader = importlib.machinery.SourceFileLoader("ft_main", str(runs.TOP / "tools" / "ft"))
+    module = importlib.util.module_from_spec(importlib.util.spec_from_loader(loader.name, loader))
+    loader.exec_module(module)
+    with contextlib.redirect_stdout(out), contextlib.redirect_stderr(err):
+        return module.main(list(words)), out.getvalue(), err.getvalue()
+
+
+def glob_match(glob, name):
+    """Whether a glob matches a name: the steps of glob_match in the kernel's lib/glob.c, without the backslash."""
+    at, place, back = 0, 0, None  # where to go on with one byte more in the last `*`
+    while True:
+        is_matched = False
+        byte = name[place] if place < len(name) else None
+        place += 1
+        sign = glob[at] if at < len(glob) else None
+        at += 1
+        if sign == "*":
+            if at == len(glob):
+                return True
+            back = (at, place - 1)
+            place -= 1
+            continue
+        if sign == "?" and byte is not None:
+            continue
+        if sign == "[":
+            found = in_class(glob, at, byte)
+            if found is not None:
+                is_matched, after = found
+                if is_matched:
+                    at = after
+                    continue
+            else:
+                is_matched = byte == "["
+        else:
+            is_matched = byte == sign
+        if is_matched:
+            if byte is None:
+                return True
+            continue
+        if byte is None or back is None:
+            return False
+        back = (back[0], back[1] + 1)
+        at, place = back
+
+
+def in_class(glob, at, byte):
+    """Whether a class that begins here has a byte, and where it ends; None if no `]` ends it."""
+    is_inverted = glob[at : at + 1] == "!"
+    at += is_inverted
+    is_in, first = False, True
+    while True:
+        if at >= len(glob):
+            return None
+        low = high = glob[at]
+        at += 1
+        if not first and low == "]":
+            return byte is not None and is_in != is_inverted, at
+        first = False
+        if glob[at : at + 1] == "-" and at + 1 < len(glob) and glob[at + 1] != "]":
+            high = glob[at + 1]
+            at += 2
+        is_in = is_in or (byte is not None and low <= byte <= high)
+
+
+class Cases(unittest.TestCase):
+    def test_worked(self):
+        for what, shell, script, told in cases():
+            with self.subTest(what):
+                self.assertEqual(written(shell), (script, told, []))
+
+    def test_there_are_enough(self):
+        found = [shell for _, shell, _, _ in cases()]
+        for tool, least in (("trace-cmd", 2), ("perf", 2), ("echo", 12)):
+            self.assertGreaterEqual(sum(tool + " " in shell for shell in found), least)
+
+    def test_replayed(self):
+        for what, _, script, _ in cases():
+            came = replayed(script)
+            if came is None:
+                self.skipTest("there is no program")
+            with self.subTest(what):
+                self.assertEqual((came.status, came.out.splitlines()[-1:]), (0, [b"end"]))
+
+    def test_users_match_what_the_kernel_traces(self):
+        """In the end each user that is registered has in the script those functions that the lists select in the whole list."""
+        rng = random.Random(5)
+        for _ in range(60):
+            shell = random_shell(rng)
+            state, text = kernel_and_script(shell)
+            script = log_reader.read_script(text.encode())
+            desk = log_desk.Desk(script)
+            for words in script.lines:
+                self.assertEqual(desk.answer(*words), "ok", shell)
+                desk.carry_out(*words)
+            names = [function.name for function in script.functions]
+            matched = {user: {names[number] for number in numbers} for user, numbers in desk.matched.items()}
+            self.assertEqual(matched, {user: own & set(names) for user, own in traced(state).items()}, shell)
+
+    def test_enabled(self):
+        """The same, of the program: how many users there are at each function."""
+        rng = random.Random(6)
+        for _ in range(30):
+            shell = random_shell(rng)
+            state, text = kernel_and_script(shell)
+            came = replayed(text, "enabled")
+            if came is None:
+                self.skipTest("there is no program")
+            users = list(traced(state).values())
+            names = [function.name for function in log_reader.read_script(text.encode()).functions]
+            wanted = {name: sum(name in own for own in users) for name in names if any(name in own for own in users)}
+            lines = [line.split() for line in came.out.decode().splitlines()[:-1]]
+            self.assertEqual({words[0]: int(words[1].strip("()")) for words in lines}, wanted, shell)
+
+
+def kernel_and_script(shell):
+    """What the lists of the kernel are after a shell's text, with the list of NAMES, and the script."""
+    functions = "".join(f"{name}{' [ext4]' if name.startswith('ext4') else ''}\n" for name in NAMES)
+    state = tracefs_state.State(filter_texts.read_list("list", functions.encode()), tracefs_writes.events(shell))
+    return state, tracefs_script.Writer(state).text()
+
+
+def traced(state):
+    """The names of the functions that each user traces that is registered."""
+    found = {}
+    for it in state.instances.values():
+        chosen = (it.sets["filter"] or set(range(len(NAMES)))) - it.sets["notrace"]
+        for kind in [it.tracer] * (it.tracer is not None) + ["pr"] * it.is_profiling:
+            found[it.users[kind]] = {NAMES[number] for number in chosen}
+    return found
+
+
+def random_shell(rng):
+    """Random writes of filters and tracers, of the top and of an instance."""
+    lines = []
+    for _ in range(rng.randint(3, 12)):
+        where, kind = rng.choice(["", "", "instances/a/"]), rng.random()
+        if kind < 0.6:
+            lines.append(f"echo '{text(rng)} {text(rng)}' {rng.choice(['>', '>>'])} {where}set_ftrace_{rng.choice(LISTS)}")
+        elif kind < 0.9:
+            lines.append(f"echo {rng.choice(['function', 'function', 'function_graph', 'nop'])} > {where}current_tracer")
+        else:
+            lines.append(rng.choice(["sleep 1", f"echo {rng.choice('01')} > function_profile_enabled"]))
+    return "\n".join(lines)
+
+
+ENDS = [end + more for end in ("read", "write", "open", "lock") for more in ("", "_a", "_b", ".cold")]
+NAMES = sorted(f"{front}_{end}" for front in ("vfs", "ext4", "do") for end in ENDS)
+LISTS = ["filter", "filter", "notrace"]
+TEXTS = ["vfs_*", "*read*", "*:mod:ext4", "*_[a-l]*", "do_?????", "*:mod:!ext4", "[!v]*lock", "*.cold", "vfs_read", "ext4*_b", "*o*"]
+
+
+def text(rng):
+    """A random filter text."""
+    return rng.choice(["", "", "!"]) + rng.choice(TEXTS)
+
+
+class Globs(unittest.TestCase):
+    def test_page(self):
+        """Those of the page's table, which has what each matches."""
+        page = runs.TOP / "docs" / "LANGUAGE.md"
+        rows = [cells for _, head, cells in check_docs.table_rows(page.read_text()) if head == ["pattern", "name", "matches"]]
+        self.assertGreater(len(rows), 5)
+        for glob, name, answer in rows:
+            self.assertEqual(bool(filter_texts.pattern_of(glob.strip("`")).fullmatch(name.strip("`"))), answer == "yes", glob)
+
+    def test_kernel(self):
+        """Random globs, against the steps of the kernel's glob_match and the items that a script's texts have."""
+        rng = random.Random(1)
+        for _ in range(2500):
+            glob = "".join(rng.choice("ab*?[]!-c") for _ in range(rng.randint(1, 9)))
+            name = "".join(rng.choice("ab-]c!") for _ in range(rng.randint(1, 7)))
+            found = bool(filter_texts.pattern_of(glob).fullmatch(name))
+            self.assertEqual((glob, name, found), (glob, name, glob_match(glob, name)))
+            self.assertEqual((glob, name, found), (glob, name, log_desk.fits(log_desk.items(glob), name)))
+
+    def test_hostile(self):
+        begun = time.process_time()
+        self.assertIsNone(filter_texts.pattern_of("*a" * 120 + "b").fullmatch("a" * 63))
+        self.assertLess(time.process_time() - begun, 2)
+
+    def test_selected(self):
+        """Texts with modules and numbers, against what a script's texts select."""
+        listed = filter_texts.read_list("list", LIST)
+        for text in ["vfs_*", "*:mod:ext4", ":mod:!*", "*_read:mod:!ext4", "*:mod:e?t4", "4", "6"]:
+            self.assertEqual(set(listed.selected(filter_texts.read_text(text))), log_desk.selected(listed.functions, text), text)
+
+    def test_lists_alone(self):
+        """Without a tracer there is a user that isn't registered."""
+        script = written("echo 'vfs_*' > set_ftrace_filter")[0]
+        self.assertIn("# no line sets a tracer, so fn isn't registered\nuser fn function\n", script)
+
+    def test_invalid_addresses(self):
+        """Their lines count, and no text selects them."""
+        functions = b"__ftrace_invalid_address___12\nvfs_read\n"
+        found = controls("echo '*' > set_ftrace_filter; echo 2 >> set_ftrace_filter", functions)
+        self.assertEqual(found, ["filter fn > *", "filter fn >> vfs_read"])
+        self.assertEqual(controls("echo 1 > set_ftrace_filter; echo function > current_tracer", functions), ["register fn"])
+
+
+class Shells(unittest.TestCase):
+    def test_words(self):
+        for shell, wanted in [
+            ("echo a  b", ["a", "b"]),
+            ("echo 'a  b'\"c\"\\ d", ["a  bc d"]),
+            ("A='x y'; echo $A \"$A\"", ["x", "y", "x y"]),
+            ("echo ${A:-d}e", ["de"]),
+            ("echo a#b # c", ["a#b"]),
+            ("echo a\\\nb", ["ab"]),
+            ("echo $'a\\tb'", ["a\tb"]),
+            ("echo \"a$(b \"c\")\"", ["a\0$(b \"c\")\0"]),
+            ("! echo a", ["a"]),
+            ("A= echo ''", [""]),
+        ]:
+            with self.subTest(shell):
+                self.assertEqual(list(shell_commands.commands(shell))[-1].words, ["echo", *wanted])
+
+    def test_printed(self):
+        rows = [("a\\nb", [], "a\nb"), ("%s\\n", ["a", "b"], "a\nb\n"), ("%d%%", [], "%"), ("%b", ["a\\n"], "a\n"), ("--", ["x"], "x")]
+        for form, words, wanted in rows:
+            self.assertEqual(tracefs_writes.printed([form, *words]), wanted)
+        self.assertEqual(tracefs_writes.printed([]), "")
+        self.assertEqual(tracefs_writes.printed(["\\0\\101\\x42\\x00"]), "AB")
+
+    def test_places(self):
+        for shell, wanted in [
+            ("cd /tmp; echo 1 > tracing_on", []), ("echo 1 > /tmp/tracing_on", []), ("cd $X; echo 0 > tracing_on", ["", "tracing_on"]),
+            ("cd instances/a; cd ..; echo 0 > b/tracing_on", ["b", "tracing_on"]),
+            ("echo 0 > $X/instances/a/tracing_on", ["a", "tracing_on"]),
+            ("cd /sys/kernel/debug; cd tracing; cd /; cd -; echo 0 >| tracing_on", ["", "tracing_on"]), ("echo x > out.txt", []),
+        ]:
+            with self.subTest(shell):
+                found = [event for event in tracefs_writes.events(shell) if isinstance(event, tracefs_writes.Write)]
+                self.assertEqual([part for event in found for part in event[1:3]], wanted)
+
+    def test_not_known(self):
+        for shell in [
+            "cat x > set_ftrace_filter",
+            "echo $1 > set_ftrace_filter",
+            "echo $(f) > current_tracer",
+            "f() { echo nop > current_tracer; }",
+            "false || echo nop > current_tracer",
+            "while true; do echo 1 > tracing_on; done",
+            "case $1 in a) echo 0 > tracing_on;; esac",
+            "for i; do echo $i > set_ftrace_filter; done",
+            "echo 0 > /proc/sys/kernel/ftrace_enabled",
+            "rmmod ext4",
+        ]:
+            with self.subTest(shell):
+                self.assertEqual(len(written(shell)[1]), 1)
+
+
+class Tools(unittest.TestCase):
+    def test_begun(self):
+        """perf clears what was there; trace-cmd ends the tracer, and keeps a list that no option names."""
+        before = "echo ext4_read > set_ftrace_filter; echo 1 > max_graph_depth\n"
+        wanted = ["filter fn > ext4_read", "maxdepth 1", "filter fn >", "maxdepth 0", "filter fn > vfs_read", "register fn"]
+        self.assertEqual(controls(before + "perf ftrace -T vfs_read"), wanted)
+        self.assertEqual(controls(before + "trace-cmd start -p function"), ["filter fn > ext4_read", "maxdepth 1", "register fn"])
+
+    def test_options(self):
+        """Options in other writings come to the same."""
+        for one, other in [
+            ("trace-cmd record -p function -l vfs_read -P 10,11", "trace-cmd record -pfunction -qlvfs_read -P 10 -P 11 -o x.dat"),
+            ("trace-cmd record -p function --max-graph-depth 1", "trace-cmd record -p function --max-graph-depth=1 --date"),
+            ("trace-cmd record -p function -l 'v*:mod:e*'", "sudo trace-cmd record -p function --module 'e*' -l 'v*'"),
+            ("perf ftrace -T vfs_read -p 10", "perf ftrace trace --trace-funcs=vfs_read --pid 10 -v"),
+            ("perf ftrace", "perf ftrace -t function_graph -a ls"),
+        ]:
+            with self.subTest(other):
+                self.assertEqual(written(one)[:2], written(other)[:2])
+
+    def test_left(self):
+        """Each option without a counterpart is told; so is one that there isn't."""
+        for line, count in [
+            ("trace-cmd record -e sched -f 'x > 1' -g vfs_read -c -O sym-offset -b 64 -M 3", 7),
+            ("trace-cmd record --none", 1),
+            ("trace-cmd record -C x86-tsc", 1),
+            ("perf ftrace -g vfs_read -m 1M -C 0 -D 5 --inherit", 5),
+            ("perf ftrace latency -T vfs_read", 1),
+        ]:
+            with self.subTest(line):
+                self.assertEqual(len(written(line)[1]), count)
+
+
+class Limits(unittest.TestCase):
+    def test_long_list(self):
+        """A list of 100,000 functions takes a few seconds, and each choice of texts has some in the script."""
+        rng = random.Random(3)
+        fronts, ends = "vfs ext4 tcp sched net blk kvm mm".split(), "read write lock unlock alloc free send recv".split()
+        modules = ["", "", " [ext4]"]
+        functions = "".join(f"{rng.choice(fronts)}_{rng.choice(ends)}_{number}{rng.choice(modules)}\n" for number in range(100000))
+        shell = "echo '*lock*' > set_ftrace_filter; echo '*read*:mod:ext4' >> set_ftrace_filter; echo '!*unlock*' >> set_ftrace_filter\n"
+        shell += "echo 'vfs_[a-m]*' > set_ftrace_notrace; echo 'tcp_*_99999' >> set_ftrace_filter; echo function > current_tracer\n"
+        begun = time.process_time()
+        script, told, left = written(shell, functions.encode())
+        self.assertLess(time.process_time() - begun, 10)
+        self.assertEqual(script.count("func "), 4096)
+        self.assertEqual((script[:9], len(left)), ("ftrace 2\n", 1))
+        self.assertIn("functions are selected, and 4,096 of them are in the script", left[0])
+
+    def test_names(self):
+        """A name of 64 bytes, one that is there twice, and a module whose name a script can't have."""
+        functions = f"{'a' * 63}\n{'a' * 64}\nab\nab [m]\nac [8021q]\nb\n".encode()
+        shell = "echo 'a*' > set_ftrace_filter; echo '*:mod:m' >> set_ftrace_filter; echo function > current_tracer"
+        script, told, left = written(shell, functions)
+        self.assertEqual([line for line in script.split("\n") if line.startswith("func")], [f"func {'a' * 63}", "func ab m"])
+        wanted = ["2 names are left out", "1 name is selected more than once, and in the script once"]
+        self.assertEqual((len(told), [why.split(":")[0] for why in left]), (0, wanted))
+
+    def test_no_name_is_left(self):
+        """A filter of which the script has no function is empty there, which is told; with `>` it is cleared."""
+        functions = f"{'a' * 64}\nb\n".encode()
+        script, told, _ = written("echo b > set_ftrace_filter\necho 'a*' > set_ftrace_filter\necho function > current_tracer", functions)
+        commands = [line for line in script.split("\n") if line.startswith("ctl")]
+        self.assertEqual(commands, ["ctl filter fn > b", "ctl filter fn >", "ctl register fn"])
+        self.assertEqual([line[:7] for line in told], ["line 2:"] * 2)
+        self.assertEqual(len(written("echo 'a* b' > set_ftrace_filter\necho '!b' >> set_ftrace_filter", functions)[1]), 3)
+
+    def test_versions(self):
+        functions = "".join(f"f{number}\n" for number in range(5000)).encode()
+        shell = "echo '*' > set_ftrace_filter; echo function > current_tracer"
+        self.assertTrue(written(shell, functions, most=1024)[0].startswith("ftrace 1\n"))
+        self.assertTrue(written(shell, functions, most=1025)[0].startswith("ftrace 2\n"))
+        many = "".join(f"echo function > instances/i{number}/current_tracer\n" for number in range(70))
+        script, told, _ = written(many)
+        self.assertEqual((script[:9], script.count("user "), len(told)), ("ftrace 2\n", 64, 6))
+
+    def test_other_limits(self):
+        commands = "".join("echo vfs_read >> set_ftrace_filter\n" for _ in range(1100)) + "echo function > current_tracer\n"
+        script, told, _ = written(commands)
+        self.assertEqual((script.count("ctl "), len(told)), (1024, 77))
+        triggers = "".join(f"echo '*{'?' * number}:traceoff' >> set_ftrace_filter\n" for number in range(1, 10))
+        self.assertEqual(written(triggers)[0].count("trigger "), 8)
+        pids = "echo " + " ".join(map(str, range(100, 200))) + " > set_ftrace_pid; echo function > current_tracer"
+        script, told, _ = written(pids)
+        self.assertEqual((script.count("task "), told), (64, ["line 1: pid: a script has at most 64 tasks"]))
+
+    def test_all_replayed(self):
+        """What is at a limit is a script."""
+        functions = "".join(f"f{number}\n" for number in range(5000)).encode()
+        pids = "echo " + " ".join(map(str, range(100, 200))) + " > set_ftrace_pid\n"
+        pids += "echo function > current_tracer; echo '*' > set_ftrace_filter"
+        graph = "echo '*' > set_ftrace_filter; echo function_graph > current_tracer"
+        many = "".join(f"echo function > instances/i{number}/current_tracer\n" for number in range(70))
+        for shell in (pids, graph, many):
+            came = replayed(written(shell, functions)[0])
+            if came is None:
+                self.skipTest("there is no program")
+            self.assertEqual((came.status, came.out.splitlines()[-1:]), (0, [b"end"]))
+
+
+WRONG = [  # the shell's text, the list, more words, and a word of the message
+    (None, LIST, [], "No such file"),
+    (b"echo 1 > tracing_on", None, [], "No such file"),
+    ("folder", LIST, [], "directory"),
+    (b"echo 1 > tracing_on", "folder", [], "directory"),
+    (b"", LIST, [], "nothing is written"),
+    (b"sleep 1\ncat trace\n", LIST, [], "nothing is written"),
+    (b"echo 1 > tracing_on", b"", [], "no functions"),
+    (b"echo 1 > tracing_on", b"\n\n \n", [], "no functions"),
+    (b"echo 1 > tracing_on", b"#### all functions enabled ####\n", [], "line 1"),
+    (b"echo 1 > tracing_on", b"vfs_read\nffffffff81000000 vfs_write\n", [], "line 2"),
+    (b"echo 1 > tracing_on", b"\xff\xfe a b\n", [], "line 1"),
+    (b"echo 1 > tracing_on", b"ftrace 1\nfunc a\n", [], "line 1"),
+    (b"echo 'a > tracing_on\n", LIST, [], "line 1"),
+    (b"echo 1 > tracing_on\nif true; then\n", LIST, [], "`fi`"),
+    (b"for f in a; echo; done", LIST, [], "`do`"),
+    (b"echo 1 > tracing_on; done", LIST, [], "no beginning"),
+    (b"echo 1 >\n", LIST, [], "without a word"),
+    (b"echo 1 > tracing_on | | x", LIST, [], "a command is expected"),
+    (b"(" * 5000, LIST, [], "within each other"),
+    (b"f() " * 5000 + b"x", LIST, [], "within each other"),
+    (b"for a in " + b"x " * 400 + b"; do for b in " + b"x " * 400 + b"; do echo $a; done; done", LIST, [], "to follow"),
+    (b"\x00\xff\xfe(", LIST, [], "line 1"),
+    (b"echo 1 > tracing_on", LIST, ["--functions", "0"], "from 1 to 4,096"),
+    (b"echo 1 > tracing_on", LIST, ["--functions", "99999999999999999999"], "from 1 to 4,096"),
+    (b"echo 1 > tracing_on", LIST, ["--functions", "x"], "from 1 to 4,096"),
+    (b"echo 1 > tracing_on", LIST, ["--call", "vfs_none"], "no such function"),
+    ("-", "-", [], "standard input"),
+]
+
+
+class WrongInputs(unittest.TestCase):
+    def put(self, folder, name, content):
+        """A file with this content, a folder, nothing at all, or a name as it is; gives the word for it."""
+        path = pathlib.Path(folder) / name
+        if content == "-":
+            return content
+        if content == "folder":
+            path.mkdir()
+        elif content is not None:
+            path.write_bytes(content)
+        return str(path)
+
+    def test_each(self):
+        self.assertGreaterEqual(len(WRONG), 20)
+        for number, (shell, functions, words, wanted) in enumerate(WRONG):
+            with self.subTest(number=number), tempfile.TemporaryDirectory() as folder:
+                status, out, err = ft("from-tracefs", self.put(folder, "writes.sh", shell), self.put(folder, "list", functions), *words)
+                self.assertEqual((status, out, err.count("\n")), (2, "", 1), err)
+                self.assertTrue(err.startswith("ft from-tracefs: "))
+                self.assertIn(wanted, err)
+
+    def test_random_texts(self):
+        """Pieces of shells in any order: a script or one fault."""
+        rng = random.Random(7)
+        pieces = (
+            "echo vfs_* > >> set_ftrace_filter current_tracer function ' \" $ $( ) ` if fi ; | && || for in do done << E { } ( "
+            "trace-cmd record -p -l perf ftrace -T ! :mod: 12 \\ ${ # tee sh -c cd instances/a set_ftrace_pid tracing_on rmdir "
+            "case esac printf % \xff ;; 9999999999999999999999"
+        ).split(" ") + ["\n", "case x in", "\0", "$'\\0'", "cd \0", "> \0/x"]
+        for _ in range(600):
+            shell = "".join(rng.choice(pieces) + rng.choice([" ", " ", ""]) for _ in range(rng.randint(1, 25)))
+            with contextlib.suppress(tracefs_writes.Fault), contextlib.redirect_stderr(io.StringIO()):
+                script = written(shell)[0]
+                self.assertTrue(script.startswith("ftrace 1\n") and script.isascii(), shell)
+
+
+if __name__ == "__main__":
+    unittest.main()
