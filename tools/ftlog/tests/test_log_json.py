@@ -1,0 +1,89 @@
+"""log-json: each item of a log with its names, in the same memory however long the log is."""
+import json
+import tracemalloc
+
+from ftlog import given_logs, log_items
+from ftlog.commands import log_json
+from ftlog.tests import wrong_logs
+from ftlog.tests.runs_in_process import EXAMPLES, Case, answer, example, lines
+
+CALL = ["enter {} normal a -", "back {} tr", "back-end {} tr", "body {} a own tr", "leave {}", "ret {} -"]  # the items of a call
+
+
+def objects(name):
+    """The objects of an example's log."""
+    status, out, err = answer("log-json", *example(name))
+    assert status == 0, err
+    return [json.loads(line) for line in out.splitlines()]
+
+
+class LogJson(Case):
+    """Tests of log-json."""
+
+    answer = staticmethod(answer)
+
+    def test_first_and_last_line(self):
+        head, *items, last = objects("first_path")
+        self.assertEqual(("ftcore-log", 1), (head["format"], head["version"]))
+        self.assertEqual([{"name": "tr", "kind": "function"}], head["users"])
+        self.assertEqual([{"pid": 10, "cpu": 0}], head["tasks"])
+        self.assertEqual({"last": "end", "items": 8}, last)
+        self.assertEqual(list(range(8)), [item["place"] for item in items])
+
+    def test_items(self):
+        _, begun, returned, entered, back, _, body, *_ = objects("first_path")
+        self.assertEqual({"place": 0, "item": "begin", "command": 1, "text": "register tr"}, begun)
+        self.assertEqual("ok", returned["answer"])
+        self.assertEqual(("a", None, "normal"), (entered["function"], entered["caller"], entered["context"]))
+        self.assertEqual((10, 0, "tr", "function", "a"), tuple(back[name] for name in ("pid", "cpu", "user", "user_kind", "function")))
+        self.assertEqual(("own", "tr", "a"), (body["ran"], body["user"], body["body"]))
+
+    def test_lane_busy_module_and_replacement(self):
+        self.assertEqual([0, 0, 1, 1], [item["lane"] for item in objects("one_trampoline") if item.get("item") == "begin"])
+        busy = next(item for item in objects("ipmodify") if item.get("answer") == "busy")
+        self.assertEqual(("read", "first"), (busy["function"], busy["user"]))
+        body = next(item for item in objects("ipmodify") if item.get("item") == "body")
+        self.assertEqual(("read", "new_read", "list"), (body["function"], body["body"], body["ran"]))
+        self.assertEqual(["busy ext3_read first", "ok"], [item["line_answer"] for item in objects("module_busy") if "line_answer" in item])
+
+    def test_each_example_and_each_field(self):
+        told = set()
+        for path in sorted(EXAMPLES.glob("*.ft")):
+            if path.stem != "refused":
+                head, *items = objects(path.stem)
+                self.assertEqual(len(items) - 1, items[-1]["items"], path)
+                told.update(*items)
+        self.assertEqual(set(log_json.FIELDS), told)
+
+    def test_the_page_has_each_field(self):
+        page = (EXAMPLES.parent / "docs" / "TOOLS.md").read_text()
+        for name in log_json.FIELDS:
+            self.assertIn(f"| `{name}` |", page)
+
+    def test_stopped(self):
+        script, log = self.write("x.ft", wrong_logs.SCRIPT), self.write("x.log", lines("0 begin 1; stopped"))
+        self.assertEqual({"last": "stopped", "items": 1}, json.loads(answer("log-json", script, log)[1].splitlines()[-1]))
+
+    def test_memory_does_not_grow(self):
+        _, script = given_logs.read_script(self.write("x.ft", wrong_logs.SCRIPT))
+        peaks = []
+        for calls in (200, 4000):
+            tracemalloc.start()
+            for _ in log_items.Items(script).through(self.many(calls)):
+                pass
+            peaks.append(tracemalloc.get_traced_memory()[1])
+            tracemalloc.stop()
+        self.assertLess(peaks[1], peaks[0] * 1.5)
+
+    @staticmethod
+    def many(calls):
+        """The lines of a log with so many calls."""
+        yield from ("0 begin 1", "1 return 1 ok")
+        for call in range(1, calls + 1):
+            first = 6 * call - 4
+            for place, item in enumerate(CALL, first):
+                yield f"{place} " + item.format(f"10.{call}")
+        yield "end"
+
+    def test_wrong_inputs(self):
+        wrong_logs.check(self, "log-json")
