@@ -24,63 +24,124 @@ box of an entry callback that a ring holds in the end has a thick edge. The log 
 they are those of the history gone through by place, as a replay prints them; a run by threads may have
 kept others.
 
+An exit that was lost is a dashed box at the return of its call. A picture that is wider than a window has the headings of its rows
+again every 800 px, and as many place numbers as there is room for. If there are more than 12 functions, those whose call sites are alike
+share a row; with `here` in its heading they are alike in this picture, and not in all of the log.
+
+With --task, which may be given several times, the picture has the rows of these tasks alone, the call sites and modules of what they call, and
+columns for their items and those of control. With --call it is the same of one call, with what is nested in it.
+
 The trace is for https://ui.perfetto.dev or chrome://tracing, which open it as a file. One place of the
 log is a millisecond there. Control and the CPUs are processes; lanes are threads of control, and tasks are
 threads of their CPUs. Arrows go from a command that turns a user on to the user's first callback, and from
-the last one to the command that turns it off. The trace is always of the whole log, and has nothing of rings.
+the last one to the command that turns it off. A lost exit is an instant at the return of its call. There are counters of the users that are
+registered and, for each CPU, of the frames that its tasks' calls hold; and a process with the call sites, a thread for each function or, if
+there are more than 12, for those that are alike. The trace is always of the whole log, and has nothing of rings.
+
+If there are more than 100,000 items, how far it has come is said on standard error. So it is if a picture is larger than 32,767 px in width
+or height, which is more than cairo takes, and so rsvg-convert and what else draws with it.
 """
 import argparse
 import pathlib
 import sys
 
 sys.dont_write_bytecode = True
+import log_choice  # noqa: E402
 import log_reader  # noqa: E402
 import log_svg  # noqa: E402
 import log_trace  # noqa: E402
 
+LARGEST = 32_767  # px of a picture's width or height that cairo takes, by the integers of 16 bits that it counts pixels with
+MANY = 100_000  # items; a longer log is told of, after each one of so many
 
-def options():
-    parser = argparse.ArgumentParser(description=__doc__, formatter_class=argparse.RawDescriptionHelpFormatter)
-    parser.add_argument("script", type=pathlib.Path, metavar="SCRIPT", help="the script")
-    parser.add_argument("log", type=pathlib.Path, metavar="LOG", help="what `ftcore replay` printed of it; `-` reads it from standard input")
-    parser.add_argument("--svg", type=pathlib.Path, metavar="FILE", help="write the picture there")
-    parser.add_argument("--trace", type=pathlib.Path, metavar="FILE", help="write the trace there")
-    parser.add_argument("--from", dest="first", type=int, metavar="P", help="let the picture begin at place P")
-    parser.add_argument("--to", dest="last", type=int, metavar="Q", help="let the picture end with place Q")
+
+def add_words(parser):
+    """Adds the words of the command."""
+    parser.add_argument("script", metavar="SCRIPT", help="the script")
+    parser.add_argument("log", metavar="LOG", help="what `ftcore replay` printed of it; `-` reads it from standard input")
+    parser.add_argument("--svg", metavar="FILE", help="write the picture there")
+    parser.add_argument("--trace", metavar="FILE", help="write the trace there")
+    parser.add_argument("--from", dest="first", metavar="P", help="let the picture begin at place P")
+    parser.add_argument("--to", dest="last", metavar="Q", help="let the picture end with place Q")
+    parser.add_argument("--task", dest="tasks", metavar="PID", action="append", default=[],
+                        help="draw this task alone, or those of several such options")
+    parser.add_argument("--call", metavar="PID.N", help="draw this call alone, with what is nested in it")
     parser.add_argument("--window", metavar="PID.N", help="shade the window of this call: from its `enter` to its `body`")
-    return parser
 
 
-def section(words, history):
-    """The first and the last place of the picture, in which some of the window is to be, if one is asked for."""
-    count = len(history.lines)
-    first, last = words.first or 0, count - 1 if words.last is None else min(words.last, count - 1)
-    if first < 0 or first > last and (first, count) != (0, 0):
-        raise log_reader.Fault(f"there are no items from place {first} to place {last}")
+class Progress:
+    """Says on standard error how far a long log has come; of a short one it says nothing."""
+
+    def __init__(self, name):
+        self.name, self.count = name, 0
+
+    def say(self, words):
+        """Says something."""
+        print(f"{self.name}: {words}", file=sys.stderr, flush=True)
+
+    def read(self, count):
+        """So many items have been read."""
+        self.count = count
+        if count % MANY == 0:
+            self.say(f"{count:,} items are read")
+
+    def begin(self, words):
+        """Something begins that takes long if there are many items."""
+        if self.count > MANY:
+            self.say(f"{words} of {self.count:,} items")
+
+
+def read(words, progress):
+    """The script, and the history of its log."""
+    script = log_reader.read_script(pathlib.Path(words.script).read_bytes())
+    log_reader.check_script(script)
+    log = sys.stdin.buffer.read() if words.log == "-" else pathlib.Path(words.log).read_bytes()
+    return script, log_reader.read_log(log, script, progress.read)
+
+
+def check_window(history, call, choice):
+    """Some of the window of a call is to be in the picture."""
+    begin, end = log_reader.window_places(history, call)
+    if begin > choice.last or end < choice.first:
+        raise log_reader.Fault(f"the window of {call} is from place {begin} to place {end}, outside the picture")
+
+
+def draw_picture(script, history, words, progress):
+    """Writes the picture, and says so if it is too large for some."""
+    choice = log_choice.choice(script, history, words.first, words.last, words.tasks, words.call)
     if words.window:
-        begin, end = log_reader.window_places(history, words.window)
-        if begin > last or end < first:
-            raise log_reader.Fault(f"the window of {words.window} is from place {begin} to place {end}, outside the picture")
-    return first, last
+        check_window(history, words.window, choice)
+    picture = log_svg.Picture(script, history, pathlib.Path(words.script).stem, choice, words.window)
+    with open(words.svg, "w", encoding="utf-8", newline="") as file:
+        width, height = picture.write(file)
+    if max(width, height) > LARGEST:
+        progress.say(f"the picture is {width:,} px wide and {height:,} px high; rsvg-convert, and what else draws with cairo, takes "
+                     f"{LARGEST:,} px at most, and browsers become slow: --from and --to, --task or --call make it smaller")
 
 
-def draw(words):
-    script = log_reader.read_script(words.script.read_bytes())
-    history = log_reader.read_log(sys.stdin.buffer.read() if str(words.log) == "-" else words.log.read_bytes(), script)
-    name = words.script.stem
+def draw(words, progress):
+    """Writes what these words ask for."""
+    if not words.svg and not words.trace:
+        raise log_reader.Fault("say --svg FILE or --trace FILE, or both")
+    script, history = read(words, progress)
     if words.svg:
-        words.svg.write_bytes(log_svg.Picture(script, history, name, *section(words, history), words.window).whole().encode())
+        progress.begin("drawing a picture")
+        draw_picture(script, history, words, progress)
     if words.trace:
-        words.trace.write_bytes(log_trace.trace(script, history, name).encode())
+        progress.begin("writing a trace")
+        with open(words.trace, "w", encoding="utf-8", newline="") as file:
+            log_trace.write(file, script, history, pathlib.Path(words.script).stem)
 
 
 def main():
-    parser = options()
+    """Runs the command; what can't be drawn is said in a line, with status 1."""
+    parser = argparse.ArgumentParser(description=__doc__, formatter_class=argparse.RawDescriptionHelpFormatter)
+    add_words(parser)
     words = parser.parse_args()
     if not words.svg and not words.trace:
         parser.error("say --svg FILE or --trace FILE, or both")
     try:
-        draw(words)
+        draw(words, Progress(parser.prog))
     except (log_reader.Fault, OSError) as fault:
         sys.exit(f"{parser.prog}: {fault}")
 

@@ -4,7 +4,7 @@ The rules are those of docs/RULES.md, "Users and matching" and "Commands and ans
 that come and go". What is drawn goes by the answers of the log.
 """
 import re
-from typing import NamedTuple, Optional
+from typing import List, NamedTuple, Optional, Tuple
 
 CLASS = re.compile(r"\[(!|(?!!))(.[^]]*)\]")  # ends at the first `]` that isn't the first byte in it; any other `[` is itself
 NOP, LIST = "nop", "list"  # besides these, `own U`, as the log has it
@@ -114,6 +114,7 @@ class Desk:
         return "ok" if word == "unregister" or self.users[user].kind == "fprobe" else "invalid"
 
     def answer_of_edit(self, word, user, mode, text=None):
+        """That of a command which edits a set."""
         if text is not None and not self.selected(text):
             return "no-match"
         return self.claim(user, **{word: self.edited(word, user, mode, text)}) if user in self.registered else "ok"
@@ -152,7 +153,16 @@ class Desk:
         return f"own {sited[0]}" if len(sited) == 1 and self.registered[sited[0]] else LIST
 
     def targets(self):
+        """Those of all functions."""
         return [self.target(number) for number in range(len(self.functions))]
+
+
+CHANGES_SITES = ("register", "unregister", "filter", "notrace", HIDE)  # the commands that may
+
+
+def is_carried_out(command):
+    """Whether a command of a log changes what sites are meant to be; one that hasn't returned counts as accepted."""
+    return command.note in (None, "ok") and command.words[0] in CHANGES_SITES
 
 
 def all_targets(script, commands):
@@ -160,12 +170,80 @@ def all_targets(script, commands):
     desk = Desk(script)
     found = [desk.targets()]
     for command in commands:
-        if command.note in (None, "ok") and command.words[0] in ("register", "unregister", "filter", "notrace", HIDE):
+        if is_carried_out(command):
             desk.carry_out(*command.words)
             found.append(desk.targets())
         else:
             found.append(found[-1])
     return found
+
+
+class Sites:
+    """Follows which users are sited at each function, command by command, so that only the sites that change are looked at.
+
+    Functions whose sites were the same so far share a past: the number of the last command that changed them, their target since then,
+    and the past before.
+    """
+
+    def __init__(self, script):
+        self.desk, count = Desk(script), len(script.functions)
+        self.users = list(script.users)
+        self.sited = [0] * count  # how many users are sited at each function
+        self.sums = [0] * count  # and the sum of their numbers, which is the number of the one if there is one
+        self.pasts = [(0, NOP, None)] * count
+
+    def target(self, number):
+        """That of a function, as Desk.target has it."""
+        if not self.sited[number]:
+            return NOP
+        user = self.users[self.sums[number]] if self.sited[number] == 1 else None
+        return f"own {user}" if user is not None and self.desk.registered[user] else LIST
+
+    def carry_out(self, number, words):
+        """The command with this number, counted from 1."""
+        before = self.desk.matched.get(words[1], set())
+        self.desk.carry_out(*words)
+        after, user = self.desk.matched.get(words[1], set()), self.users.index(words[1])
+        for functions, by in ((before - after, -1), (after - before, 1)):
+            for function in functions:
+                self.sited[function] += by
+                self.sums[function] += by * user
+        self.split(number, before ^ after)
+
+    def split(self, number, changed):
+        """These functions have other users now, and maybe other targets. Those that had one past and have one target go on sharing one."""
+        found = {}
+        for function in changed:
+            past, target = self.pasts[function], self.target(function)
+            if target != past[1]:
+                self.pasts[function] = found.setdefault((id(past), target), (number, target, past))
+
+
+class Alike(NamedTuple):
+    """Functions whose sites are alike throughout, and their targets: each with the number of the command that makes it so."""
+
+    numbers: List[int]
+    targets: List[Tuple[int, str]]
+
+
+def alike(script, commands):
+    """All functions of a script, those whose sites are alike together, in the order of their first ones."""
+    sites, found = Sites(script), {}
+    for number, command in enumerate(commands, 1):
+        if is_carried_out(command):
+            sites.carry_out(number, command.words)
+    for number, past in enumerate(sites.pasts):
+        found.setdefault(id(past), ([], past))[0].append(number)
+    return [Alike(numbers, targets_of(past)) for numbers, past in found.values()]
+
+
+def targets_of(past):
+    """The targets of a past, the first one first."""
+    found = []
+    while past is not None:
+        number, target, past = past
+        found.append((number, target))
+    return found[::-1]
 
 
 class Span(NamedTuple):
@@ -180,18 +258,17 @@ class Span(NamedTuple):
     later: Optional[str] = None
 
 
-def spans(commands, targets, number):
-    """The spans of one function's site, in order."""
+def spans(commands, targets):
+    """The spans of a site that has these targets, in order."""
     found, since = [], None
-    for command, before, after in zip(commands, targets, targets[1:]):
-        if before[number] == after[number]:
-            continue
+    for (_, before), (number, after) in zip(targets, targets[1:]):
+        command = commands[number - 1]
         over = None if command.end is None else command.end + 1
-        found.append(Span(since, command.begin, before[number]))
-        found.append(Span(command.begin, over, before[number], after[number]))
+        found.append(Span(since, command.begin, before))
+        found.append(Span(command.begin, over, before, after))
         since = over
     if not found or since is not None:
-        found.append(Span(since, None, targets[-1][number]))
+        found.append(Span(since, None, targets[-1][1]))
     return found
 
 

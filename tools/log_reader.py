@@ -1,9 +1,11 @@
 """Reads a script and its printed log: who there is, and what happened, as boxes that lie in one another.
 
 Both are as docs/LANGUAGE.md has them. A script is taken to be an accepted one, so its lines are read and not judged. What
-the log has to fit is the script (its commands, tasks, users and functions) and itself: each box ends where it began.
+the log has to fit is the script (its commands, tasks, users and functions) and itself: each box ends where it began, and an exit
+names its entry. A log can have millions of items, so what is known of its boxes is kept in arrays (log_boxes.py).
 """
 import dataclasses
+import io
 import re
 import sys
 from typing import Dict, List, NamedTuple, Optional
@@ -11,16 +13,20 @@ from typing import Dict, List, NamedTuple, Optional
 sys.dont_write_bytecode = True
 import control_lines  # noqa: E402
 import limits  # noqa: E402
+import log_boxes  # noqa: E402
 
 REFUSAL = re.compile(r"line [0-9]+: [a-z]+")
+LONGEST_REFUSAL = 100  # bytes of a line that says so, or more
 
 # How many words each item has after its place and its name.
 WORDS = {"begin": (1, 3), "return": (2, 4), "enter": (4,), "back": (2,), "back-end": (2,), "refuse": (3,), "miss": (2,)}
 WORDS.update({"body": (3, 4), "leave": (1,), "exit": (3,), "exit-end": (2,), "ret": (2,)})
-# The items of a task that open a box, those that close it, and those that are one at a single place.
-OPENED = {"enter": "call", "back": "entry", "body": "body", "exit": "exit"}
-CLOSED = {"ret": "call", "back-end": "entry", "leave": "body", "exit-end": "exit"}
-POINTS = {"refuse": "refusal", "miss": "miss"}
+# The kinds of boxes that items of a task begin, those that they end, and the items that are a box at a single place.
+KINDS = {"back": log_boxes.ENTRY, "body": log_boxes.BODY, "exit": log_boxes.EXIT, "refuse": log_boxes.REFUSAL, "miss": log_boxes.MISS}
+CLOSED = {"ret": log_boxes.CALL, "back-end": log_boxes.ENTRY, "leave": log_boxes.BODY, "exit-end": log_boxes.EXIT}
+POINTS = ("refuse", "miss")
+CONTEXTS = ("normal", "softirq", "irq", "nmi")
+REASONS = ("pid", "recursion", "depth")
 
 
 class Fault(Exception):
@@ -38,6 +44,8 @@ class User(NamedTuple):
     has_regs: bool
     is_replacing: bool
     needs: List[str]  # the functions that it puts in the place of others, and that its callbacks call
+    takes_frame: bool = False  # whether an entry callback of it sets up an exit, if there is room
+    cancels: bool = False  # whether it then cancels that exit
 
 
 class Trigger(NamedTuple):
@@ -67,52 +75,45 @@ class Script(NamedTuple):
 
 
 @dataclasses.dataclass(eq=False)
-class Box:
-    """Something that has a beginning and an end in the history; `end` is None if the log ends before it does.
+class CommandBox:
+    """A command of the log. It has what a box of a task has (log_boxes.Box), so that both are drawn alike."""
 
-    what     name             note
-    command  its line         the answer, None before the return; its lane is None if the script has no lanes
-    call     the function     the context
-    entry    the user         -
-    exit     the user         the place of its entry
-    body     whose it is      what was fetched: `nop`, `list` or `own U`
-    refusal  the user         the reason; it begins and ends at one place, as a miss does
-    miss     the user         -
-    """
-
-    what: str
-    key: str  # the number of a command; the call, as 10.1, in which the others are
-    name: str
-    note: Optional[str]
+    key: str  # its number
+    name: str  # its line
     begin: int
-    end: Optional[int] = None
-    parent: Optional["Box"] = None
-    depth: int = 0  # how many boxes it lies in
-    lane: Optional[int] = None
-    words: List[str] = ()  # what a command does
+    note: Optional[str] = None  # the answer, None before the return
+    end: Optional[int] = None  # None if the log ends before it returns
+    lane: Optional[int] = None  # None if the script has no lanes
+    words: List[str] = ()  # what it does
+    what = "command"
+    parent = None
+    depth = 0
 
 
 class History(NamedTuple):
     """What a log tells. The boxes of control and of a task are in the order in which they begin."""
 
-    lines: List[str]  # the items
-    commands: List[Box]
+    lines: log_boxes.Lines  # the items
+    commands: List[CommandBox]
     order: List[int]  # which command of the script each of these is
-    tasks: Dict[int, List[Box]]
-    calls: Dict[str, Box]
-    bodies: Dict[str, Box]  # of the calls whose body began
+    tasks: Dict[int, log_boxes.OfTask]
+    calls: log_boxes.Calls  # by the call, as 10.1
+    bodies: log_boxes.Calls  # of the calls whose body began
     is_ended: bool
+    boxes: log_boxes.Boxes  # those of all tasks
 
 
 def user_of(words):
     """The user of a line."""
-    options = words[3:]
+    options, has_part = words[3:], {}
     for part in ("exit", "cancel"):
-        options = options[options[:1] == [part]:]
+        has_part[part] = options[:1] == [part]
+        options = options[has_part[part]:]
     has_regs = options[:1] == ["regs"]
     is_replacing = options[has_regs:][:1] == ["ipmodify"]
     needs, options = (options[has_regs + 1 :][:1], options[has_regs + 2 :]) if is_replacing else ([], options[has_regs:])
-    return User(words[1], words[2], has_regs, is_replacing, needs + options[options[:1] == ["pid"] :][1:2])
+    takes_frame = words[2] in ("graph", "profile") or has_part["exit"]
+    return User(words[1], words[2], has_regs, is_replacing, needs + options[options[:1] == ["pid"] :][1:2], takes_frame, has_part["cancel"])
 
 
 def trigger_of(text):
@@ -156,8 +157,32 @@ def read_script(text):
                     lane.append(len(script.lines) - 1)
         except (IndexError, ValueError):
             raise Fault(f"line {number} of the script has no form: {line.strip()[:60]!r}") from None
-    commands, module_lines = control_lines.expanded(script)
+    try:
+        commands, module_lines = control_lines.expanded(script)
+    except (LookupError, TypeError, ValueError):
+        raise Fault("a line of control in the script has no form, or names a user that isn't declared") from None
     return script._replace(slots=slots, commands=commands, module_lines=module_lines, cpus=cpus, ring=ring, is_tracing=is_tracing)
+
+
+def check_script(script):
+    """What is asked of a script besides its lines, so that what it does can be worked out: it is to be one that would be accepted."""
+    for words in script.lines:
+        if not is_command(script, *words):
+            raise Fault(f"the script has no command like this, or no such user: {' '.join(words)[:60]!r}")
+    for pid, cpu in script.tasks.items():
+        if not 0 <= cpu < script.cpus:
+            raise Fault(f"the script has no CPU for task {pid}")
+    if not 0 < script.ring <= limits.LIMITS["RING"]:
+        raise Fault("the script has rings of a size that there isn't")
+
+
+def is_command(script, word, *words):
+    """Whether these are the words of a command, and its user is declared."""
+    if word in ("register", "unregister", "enable", "disable"):
+        return len(words) == 1 and words[0] in script.users
+    if word in ("filter", "notrace"):
+        return len(words) in (2, 3) and words[0] in script.users and words[1] in (">", ">>") and words[2:] != ("!",)
+    return word in ("pid", "nopid") or word in ("maxdepth", "load", "unload") and len(words) == 1
 
 
 class Turns:
@@ -178,93 +203,166 @@ class Reader:
     def __init__(self, script):
         self.script = script
         self.turns = Turns(script)
-        self.functions = {function.name for function in script.functions}
-        self.history = History([], [], [], {pid: [] for pid in script.tasks}, {}, {}, True)
-        self.open: Dict[int, List[Box]] = {pid: [] for pid in script.tasks}
+        self.commands, self.order = [], []
+        self.boxes = log_boxes.Boxes([function.name for function in script.functions], list(script.users), list(script.tasks))
+        self.functions, self.users = ({name: number for number, name in enumerate(names)} for names in self.boxes.names)
+        self.tasks = {str(pid): number for number, pid in enumerate(script.tasks)}
+        self.open: List[List[int]] = [[] for _ in script.tasks]  # the boxes of each task that are open, by their numbers
+        self.place, self.line = -1, ""  # of the item that is being read
 
-    def require(self, is_so, what):
-        """What is asked of the item that is being read."""
-        if not is_so:
-            place = len(self.history.lines) - 1
-            raise Fault(f"the log doesn't fit the script: at place {place} {what}: {self.history.lines[-1][:60]!r}")
+    def refuse(self, what):
+        """What is wrong with the item that is being read."""
+        raise Fault(f"the log doesn't fit the script: at place {self.place} {what}: {self.line[:60]!r}")
 
     def item(self, line):
         """One more line of the log."""
-        self.history.lines.append(line)
+        self.place, self.line = self.place + 1, line
         place, _, rest = line.partition(" ")
         kind, *words = rest.split(" ")
-        self.require(len(words) in WORDS.get(kind, ()) and place == str(len(self.history.lines) - 1), "there is no such item")
-        if kind in ("begin", "return"):
-            self.control(kind, *words)
-        else:
-            self.task(kind, *words)
-
-    def control(self, kind, number, *words):
-        commands, place = self.history.commands, len(self.history.lines) - 1
-        is_open = bool(commands) and commands[-1].end is None
+        if len(words) not in WORDS.get(kind, ()) or place != str(self.place):
+            self.refuse("there is no such item")
         if kind == "begin":
-            self.require(not is_open and number == str(len(commands) + 1), "is no command's turn")
-            at = self.turns.next(" ".join(words))
-            self.require(at is not None, "there is no such command")
-            lane = int(words[1]) if words else None
-            command = self.script.commands[at]
-            commands.append(Box("command", number, command.line, None, place, lane=lane, words=command.words))
-            self.history.order.append(at)
+            self.begin_command(*words)
+        elif kind == "return":
+            self.end_command(*words)
         else:
-            self.require(is_open and number == commands[-1].key, "no such command is under way")
-            command = self.script.commands[self.history.order[-1]]
-            commands[-1].end, commands[-1].note = place, command.answer or " ".join(words)
+            self.item_of_task(kind, *words)
 
-    def task(self, kind, call, *words):
-        pid = int(call.split(".")[0]) if re.fullmatch(r"\d+\.\d+", call) else None
-        self.require(pid in self.open, "there is no such task")
+    def begin_command(self, number, *words):
+        """A command begins; in a script with lanes its lane is named."""
+        if self.commands and self.commands[-1].end is None or number != str(len(self.commands) + 1):
+            self.refuse("is no command's turn")
+        at = self.turns.next(" ".join(words))
+        if at is None:
+            self.refuse("there is no such command")
+        command = self.script.commands[at]
+        self.commands.append(CommandBox(number, command.line, self.place, lane=int(words[1]) if words else None, words=command.words))
+        self.order.append(at)
+
+    def end_command(self, number, *words):
+        """The command that is under way returns."""
+        if not self.commands or self.commands[-1].end is not None or number != self.commands[-1].key:
+            self.refuse("no such command is under way")
+        self.commands[-1].end = self.place
+        self.commands[-1].note = self.script.commands[self.order[-1]].answer or " ".join(words)
+
+    def item_of_task(self, kind, call, *words):
+        """A box of a task begins or ends."""
+        pid, point, number = call.partition(".")
+        task = self.tasks.get(pid)
+        if task is None or not point or not is_number(number):
+            self.refuse("there is no such task")
         if kind in CLOSED:
-            self.close(self.open[pid], CLOSED[kind], call, words)
+            self.close(task, CLOSED[kind], number, words)
+        elif kind == "enter":
+            self.enter(task, number, *words)
         else:
-            self.begin(pid, kind, call, words)
+            self.begin(task, kind, number, *words)
 
-    def begin(self, pid, kind, call, words):
-        """A box begins; a refusal and a miss end at once."""
-        name, note = (words[1], words[0]) if kind == "enter" else (words[0], " ".join(words[1:]) or None)
-        declared = self.functions if kind in ("enter", "body") else self.script.users
-        self.require(name in declared, f"{name} isn't declared")
-        stack = self.open[pid]
-        parent = stack[-1] if stack else None
-        caller = words[2] if kind == "enter" else call
-        self.require((parent.key if parent else "-") == caller, "that call isn't the innermost open one")
-        place = len(self.history.lines) - 1
-        box = Box(OPENED.get(kind) or POINTS[kind], call, name, note, place, place if kind in POINTS else None, parent, len(stack))
-        self.history.tasks[pid].append(box)
-        if box.end is None:
+    def enter(self, task, number, context, name, caller):
+        """A call begins: the next one of its task, made in the innermost open one."""
+        if name not in self.functions:
+            self.refuse(f"{name} isn't declared")
+        if context not in CONTEXTS:
+            self.refuse(f"{context} is no context")
+        stack = self.open[task]
+        if caller != (self.boxes.key(stack[-1]) if stack else "-"):
+            self.refuse("that call isn't the innermost open one")
+        if number != str(len(self.boxes.calls[task]) + 1):
+            self.refuse("is no call's turn")
+        parent, note = stack[-1] if stack else None, self.boxes.noted(context)
+        box = self.boxes.add(log_boxes.CALL, task, self.functions[name], parent, self.place, note)
+        self.boxes.calls[task].append(box)
+        self.boxes.bodies[task].append(log_boxes.NONE)
+        stack.append(box)
+
+    def begin(self, task, kind, number, name, *note):
+        """A box begins in a call; a refusal and a miss end at once."""
+        of_all = self.functions if kind == "body" else self.users
+        if name not in of_all:
+            self.refuse(f"{name} isn't declared")
+        stack, boxes = self.open[task], self.boxes
+        if not stack or number != str(boxes.number[stack[-1]]):
+            self.refuse("that call isn't the innermost open one")
+        if kind == "refuse" and note[0] not in REASONS or kind == "body" and not self.is_target(*note):
+            self.refuse(f"{' '.join(note)} is no {'reason' if kind == 'refuse' else 'target'}")
+        note = self.entry(task, stack[-1], name, *note) if kind == "exit" else boxes.noted(" ".join(note) or None)
+        box = boxes.add(KINDS[kind], task, of_all[name], stack[-1], self.place, note)
+        if kind in POINTS:
+            boxes.end[box] = self.place
+        else:
             stack.append(box)
-        self.keep(box)
+        if kind == "miss":
+            boxes.forgive(stack[-1])
+        elif kind == "body":
+            self.begin_body(task, box)
+        elif kind == "back" and self.script.users[name].takes_frame:
+            boxes.owes[box] = not self.script.users[name].cancels
+            boxes.framed[box] = True
 
-    def keep(self, box):
-        """Calls and their bodies are found by the call, too."""
-        kept = {"call": self.history.calls, "body": self.history.bodies}.get(box.what)
-        if kept is not None:
-            self.require(box.key not in kept, "there is one already")
-            kept[box.key] = box
+    def is_target(self, word, user=None):
+        """Whether these words say what a site can call."""
+        return user in self.users if word == "own" else word in ("nop", "list") and user is None
 
-    def close(self, stack, what, call, words):
+    def entry(self, task, inner, name, place):
+        """The box of the entry callback that an exit names by its place."""
+        box = self.boxes.at(place)
+        if box is None or not self.boxes.is_entry_of(box, task, self.boxes.number[inner], self.users[name]):
+            self.refuse("there is no such entry")
+        self.boxes.owes[box] = False
+        return box
+
+    def begin_body(self, task, box):
+        """A call has one body."""
+        call = self.boxes.number[box] - 1
+        if self.boxes.bodies[task][call] != log_boxes.NONE:
+            self.refuse("there is one already")
+        self.boxes.bodies[task][call] = box
+
+    def close(self, task, what, number, words):
         """The innermost box ends; its user is named again."""
-        name = words[0] if what in ("entry", "exit") else None
+        stack, boxes = self.open[task], self.boxes
         top = stack[-1] if stack else None
-        self.require(top and (top.what, top.key) == (what, call) and name in (None, top.name), "ends what isn't the innermost open one")
-        stack.pop().end = len(self.history.lines) - 1
+        is_top = top is not None and (boxes.what[top], str(boxes.number[top])) == (what, number)
+        if not is_top or what in log_boxes.OF_USERS and boxes.name_of(top) != words[0]:
+            self.refuse("ends what isn't the innermost open one")
+        boxes.end[stack.pop()] = self.place
+
+    def history(self, lines, is_ended):
+        """What was read."""
+        tasks = {pid: log_boxes.OfTask(self.boxes, numbers) for pid, numbers in zip(self.boxes.pids, self.boxes.of_tasks)}
+        calls, bodies = (log_boxes.Calls(self.boxes, kept) for kept in (self.boxes.calls, self.boxes.bodies))
+        return History(lines, self.commands, self.order, tasks, calls, bodies, is_ended, self.boxes)
 
 
-def read_log(text, script):
-    """The history that a log with these bytes tells of a script."""
-    lines = text.decode("latin-1").split("\n")
-    if len(lines) == 2 and REFUSAL.fullmatch(lines[0]):
-        raise Fault(f"the script was refused ({lines[0]}), so there is no history to draw")
-    if lines[-1] or lines[-2:-1] not in (["end"], ["stopped"]):
+def is_number(word):
+    """Whether this is a number as a log has it."""
+    return word.isascii() and word.isdigit()
+
+
+def last_line(text):
+    """The last line of a log, and where it begins; it says how the history ended."""
+    first, feed, others = text[:LONGEST_REFUSAL].decode("latin-1").partition("\n")
+    if REFUSAL.fullmatch(first) and feed and not others:
+        raise Fault(f"the script was refused ({first}), so there is no history to draw")
+    begin = text.rfind(b"\n", 0, -1) + 1
+    if text[begin:] not in (b"end\n", b"stopped\n"):
         raise Fault("the log isn't whole: its last line is neither `end` nor `stopped`")
-    reader = Reader(script)
-    for line in lines[:-2]:
-        reader.item(line)
-    return reader.history._replace(is_ended=lines[-2] == "end")
+    return text[begin:-1], begin
+
+
+def read_log(text, script, told=lambda count: None):
+    """The history that a log with these bytes tells of a script. After each item, `told` gets how many there are so far."""
+    last, over = last_line(text)
+    reader, lines, at = Reader(script), log_boxes.Lines(text), 0
+    file = io.BytesIO(text)
+    while at < over:
+        line = file.readline()
+        reader.item(line[:-1].decode("latin-1"))
+        at += len(line)
+        lines.ends_at(at)
+        told(reader.place + 1)
+    return reader.history(lines, last == b"end")
 
 
 def window_places(history, call):

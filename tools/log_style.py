@@ -21,6 +21,16 @@ SHAPES = """
     .changing rect:first-child { fill: url(#hatch) }
     .window rect { fill-opacity: .13; stroke-width: 1.2; stroke-dasharray: 6 3; pointer-events: none }
 """
+# What is said of shapes that few pictures have, by their class.
+MORE = {
+    "ghost": """
+    g.ghost rect { fill: none; stroke-dasharray: 3 3 }
+    g.ghost path.icon { fill: none }
+""",
+    "again": """
+    .again text { font-size: 9px }
+""",
+}
 COLOURS = """
     text, .fetch { fill: %(ink)s }
     .muted { fill: %(muted)s }
@@ -57,8 +67,9 @@ def colours(palette, users, fill):
     return "".join([COLOURS % palette, *hues]).replace("\n\n", "\n")
 
 
-def style(users):
-    """The stylesheet of a picture with this many users."""
+def style(users, uses=()):
+    """The stylesheet of a picture with this many users, which has shapes of these classes."""
     dark = colours(DARK, users, 2).replace("\n    ", "\n      ")
-    text = f"<style>{SHAPES}{colours(LIGHT, users, 0)}    @media (prefers-color-scheme: dark) {{{dark}    }}\n  </style>"
+    more = "".join(rules for kind, rules in MORE.items() if kind in uses)
+    text = f"<style>{SHAPES}{colours(LIGHT, users, 0)}{more}    @media (prefers-color-scheme: dark) {{{dark}    }}\n  </style>"
     return text.replace("\n\n", "\n")
