@@ -3,6 +3,8 @@
 
 - each script of examples/: NAME.ft prints NAME.log, and NAME.function, NAME.graph, NAME.profile, NAME.enabled, NAME.modules
   and NAME.rings with `--print` and that word. The log has to be there, the others may be; there are no other files;
+- each NAME.judge of examples/judged/, a script with a log: the program that judges logs says of it what verdicts.txt there has for
+  NAME. Beside one that isn't legal a legal one of the same script is named, and docs/JUDGE.md has it beside the sentence that it breaks;
 - each row of docs/LANGUAGE.md that has its script, in a table whose first two columns are `script` and `prints`;
 - the blocks of README.md and of each page of docs/ that are scripts or commands.
 
@@ -16,6 +18,10 @@ A block is lines of a page that begin with four blanks, with no other line betwe
   commands may follow in it, each with what it prints. A command is `$ ftcore` and the program's words, without
   quotes. It reads the nearest script above it on its page or, if it ends with `< examples/NAME.ft`, that one.
   `bulk` reads none.
+
+- If its first line begins with `$ ft `, it is a run of tools/ft from the repository's top, with these words as a shell splits them, and, from the next line on, what
+  it writes to both streams. It reads the nearest script above it unless a word names a file. Its status has to be 0 or, if the last
+  line of the block is `status N`, N.
 
 - If its first line is `$ ftjudge`, it is a run of the program that judges logs, which reads the nearest script above it with its
   log, and, from the next line on, what that writes.
@@ -33,10 +39,12 @@ page_names.py looks whether what a page names is there. The last line is `docs: 
 nothing failed.
 """
 import re
+import shlex
 import sys
 import tempfile
 
 sys.dont_write_bytecode = True
+import judging  # noqa: E402
 import page_names  # noqa: E402
 import runs  # noqa: E402
 
@@ -46,8 +54,10 @@ FORMS = {form: ["replay", "--print", form] for form in ("function", "graph", "pr
 FORMS["log"] = ["replay"]
 COMMAND = re.compile(rb"\$ ftcore((?: [\w=.-]+)*)(?: < (examples/[\w.]+\.ft))?\n")
 RECIPE = (b"head -n N FILE", b"printf ")
-JUDGE = runs.TOP / "crates" / "ftjudge" / "out" / "ftjudge"
-VERDICTS = (b"whole\n", b"legal\n")  # with status 0; a line with a rule comes with 1
+TOOL = runs.TOP / "tools" / "ft"
+STATUS = re.compile(rb"status ([0-9]+)\n\Z")  # the last line of what a tool writes, on a page
+JUDGED = "judged"  # the folder of examples/ that has the logs to be judged
+TOLD = re.compile(r"(\w+): (whole|legal|line [0-9]+: (plain run|[a-z]+))(?: \((\w+)\))?")  # a line of verdicts.txt
 EXAMPLE = "examples/realistic.ft"  # what recipes are tried on
 TYPED = re.compile(rb"\./ftcore((?: [\w=.-]+)*)(?: < (examples/[\w.]+\.ft))?(?:  .*)?\n")
 IS_COMMAND = re.compile(r"[\s>*+-]*\$\s*\S*ftcore\b")
@@ -75,7 +85,7 @@ def show(rows, program, name, script, wanted, words=("replay",)):
 
 def show_examples(rows, program, folder):
     """Each text of the folder, beside the script of the same name; a script without a log, and any other file, counts as failed."""
-    paths = sorted(folder.iterdir())
+    paths = sorted(path for path in folder.iterdir() if path.name != JUDGED)
     for path in paths:
         name, script, form = f"examples/{path.name}", path.with_suffix(".ft"), path.suffix[1:]
         if path == script:
@@ -113,6 +123,49 @@ def text_of(cell):
     if not found:
         return None
     return (found[1].replace("; ", "\n") + ("" if found[2] else "\n")).encode()
+
+
+def sentences_of(page):
+    """Of each log that the page names in a table with the columns `sentence`, `broken by` and `told`: what it is told, row by row."""
+    found = {}
+    for _, head, cells in table_rows(page.read_text()):
+        if head == ["sentence", "broken by", "told"]:
+            for name in re.findall(r"`(\w+)`", cells[1]):
+                found.setdefault(name, []).append(cells[2].strip("`"))
+    return found
+
+
+def script_of(text):
+    """The lines of the script in a text for the judge, without comments."""
+    return [line for line in text.partition("\nlog\n")[0].split("\n") if not line.startswith("#")]
+
+
+def judged_faults(texts, told, name, sentences):
+    """What is wrong with one of these texts: it is judged so, its legal log has the same script, and its sentence is on the page."""
+    _, verdict, rule, legal = told[name].groups()
+    text = verdict.encode() + b"\n"
+    said = judging.read_text(text)
+    if said is None:
+        return ["no such verdict"]
+    found = runs.faults(runs.answer([judging.JUDGE], texts[name].encode()), judging.status_of(said), text)
+    if bool(rule) != bool(legal) or legal and (legal not in told or told[legal][3] or script_of(texts[legal]) != script_of(texts[name])):
+        found.append(f"{legal} isn't a legal log of the same script")
+    if sentences != ([rule] if rule else []):
+        found.append("docs/JUDGE.md doesn't have it beside one sentence, with its rule")
+    return found
+
+
+def show_judged(rows, folder, page):
+    """Each log of the folder, which is judged as verdicts.txt says; these, the lines there and the names on the page are the same."""
+    texts, sentences = {path.stem: path.read_text() for path in sorted(folder.glob("*.judge"))}, sentences_of(page)
+    lines = (folder / "verdicts.txt").read_text().splitlines()
+    told = {found[1]: found for found in map(TOLD.fullmatch, lines) if found}
+    files = {path.name for path in folder.iterdir()} - {f"{name}.judge" for name in told} - {"verdicts.txt"}
+    names = sorted(files | (told.keys() - texts.keys()) | (sentences.keys() - told.keys()))
+    rows.row(f"examples/{folder.name}", [f"{name} isn't there, in the folder or in verdicts.txt" for name in names])
+    rows.row(f"examples/{folder.name}/verdicts.txt", [] if len(told) == len(lines) else ["a line is no verdict, or a name comes twice"])
+    for name in sorted(texts.keys() & told.keys()):
+        rows.row(f"examples/{folder.name}/{name}.judge", judged_faults(texts, told, name, sentences.get(name, [])))
 
 
 def show_table_rows(rows, program, page):
@@ -213,8 +266,21 @@ class Page:
         self.ran.update(self.scripts[-1:])
         self.ran.add(number)
         wanted = block.partition(b"\n")[2]
-        came = runs.answer([JUDGE], self.script or b"")
-        self.rows.row(self.name(number), runs.faults(came, 0 if wanted in VERDICTS else 1, wanted))
+        said = judging.read_text(wanted)
+        if said is None:
+            self.fail(number, "it isn't what ftjudge writes")
+            return
+        came = runs.answer([judging.JUDGE], self.script or b"", judging.SECONDS)
+        self.rows.row(self.name(number), runs.faults(came, judging.status_of(said), wanted), came.seconds)
+
+    def use(self, number, line, wanted):
+        """One row: the tool of this line writes this text."""
+        self.ran.update(self.scripts[-1:])
+        self.ran.add(number)
+        status, text = STATUS.search(wanted), STATUS.sub(b"", wanted)
+        came = runs.answer([TOOL, *shlex.split(line.decode())[2:]], self.script or b"", seconds=60, cwd=self.top)
+        both = came._replace(out=came.out + came.err, err=b"")
+        self.rows.row(self.name(number), runs.faults(both, int(status[1]) if status else 0, text), came.seconds)
 
     def type(self, number, block):
         """One row for each command of the block that a reader can type as it is: it ends with 0."""
@@ -244,6 +310,9 @@ class Page:
             elif block.startswith(b"$ ftcore"):
                 for command in commands(number, block):
                     self.run(*command)
+            elif block.startswith(b"$ ft "):
+                for command in commands(number, block):
+                    self.use(*command)
             elif block.startswith(b"$ ftjudge\n"):
                 self.judge(number, block)
             elif block.startswith(b"./ftcore"):
@@ -271,6 +340,7 @@ def main():
     words = runs.read_options(runs.options(__doc__))
     rows = runs.Rows("docs", words.verbose)
     show_examples(rows, words.program, words.top / "examples")
+    show_judged(rows, words.top / "examples" / JUDGED, words.top / "docs" / "JUDGE.md")
     show_table_rows(rows, words.program, words.top / "docs" / "LANGUAGE.md")
     for crate, what in PROGRAMS.items():
         show_library(rows, words.top / "docs" / "LIBRARY.md", words.top / "crates" / crate, what)

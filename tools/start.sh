@@ -1,5 +1,5 @@
 #!/usr/bin/env bash
-# Runs a program of the repository: tools/start.sh NAME WORDS.. is what ./ftcore and ./ftjudge do. Once ./prove has built it,
+# Runs a program of the repository: tools/start.sh NAME WORDS.. is what ./ftcore, ./ftjudge and ./ftsteps do. Once ./prove has built it,
 # that is the proved program, and nothing is said or done besides. Until then, and after a source has changed, the answer is
 # that of an unproved build, made for it by `rt try` with run-time checks; that takes a minute or two, is said in one line on
 # standard error, and builds nothing else.
@@ -26,6 +26,7 @@ trap 'rm -rf "$room"' EXIT
 : >"$room/input"
 case $name:${1-} in
 ftcore:replay | ftcore:run) head -c 64M >"$room/input" 2>/dev/null || exit 4 ;;
+ftsteps:) head -c 64M >"$room/input" 2>/dev/null || exit 4 ;;
 ftjudge:) head -c 1100M >"$room/input" 2>/dev/null || exit 4 ;;
 esac
 
