@@ -1,21 +1,22 @@
 -- All that is kept, after one more item.
-use Rattle.std.proofs.Common.{cond, ◌≡◌, ℕ, zero, suc, ◌+◌, ◌<◌, ◌≤◌, Bool, true, false, ◌&&◌, ◌==◌, nat_lt, List, [], ◌∷◌, length, Some, None, refl, sym, ap, ◌∙◌, subst, arith, eqb-true, length-set, ltb-true, ltb-false, set}
-use Rattle.std.specs.Prelude.{option_map, slice_get}
+use Rattle.std.proofs.Common.{cond, ◌≡◌, ℕ, zero, suc, ◌+◌, ◌<◌, ◌≤◌, Bool, true, false, ◌&&◌, ◌==◌, List, [], ◌∷◌, length, Some, None, refl, sym, ap, ◌∙◌, subst, arith, inl, inr, length-set, set}
+use Rattle.std.specs.Prelude.{Option, option_map, slice_get}
 use Rattle.std.specs.List.{AllByRecursion as Each}
-use Rattle.std.proofs.lemmas.Option.{slice_get_within}
+use Rattle.std.proofs.lemmas.Bool.{cases_lt, ne_eqb}
 use Rattle.ft_base.specs.declared.number.CallNo.{CallNo}
 use Rattle.ft_base.specs.declared.number.UserNo.{UserNo}
 use Rattle.ft_base.specs.declared.item.Reason.{Reason}
 use Rattle.ft_base.specs.declared.item.Item.{Item}
-use Rattle.ft_base.specs.declared.item.Item.TheVariants.{Begin, Return, Back, Refuse}
+use Rattle.ft_base.specs.declared.item.Item.TheVariants.{Begin, Back, Refuse}
 use Rattle.ft_base.specs.Items.{call_of, is_task}
-use Rattle.ft_base.specs.Desk.{desk, is_on, user_at}
+use Rattle.ft_base.specs.Desk.{desk, is_on, spec_at, user_at}
+use Rattle.ft_base.specs.Kinds.{has_exit}
 use Rattle.ft_base.specs.Job.{Ctl as PlainCtl, Job, Run as PlainRun, Until as PlainUntil}
 use Rattle.ft_desk.specs.declared.command.Command.{Command}
 use Rattle.ft_desk.specs.declared.command.Ctl.{Ctl}
 use Rattle.ft_desk.specs.declared.command.Ctl.TheVariants.{Run, Until}
 use Rattle.ft_base.proofs.Small.{false_true, ==-refl}
-use Rattle.ft_hist.specs.Past.{all_visits, begun, callbacks, ctx_of, done, gets_frame, held, is_of, miss_due, registration_at, visit, visits}
+use Rattle.ft_hist.specs.Past.{Callback, all_visits, begun, callbacks, done, gets_frame, held, is_of, miss_due, registration_at, visit, visits}
 use Rattle.ft_hist.specs.Past as told
 use Rattle.ft_hist.specs.Known.{holds}
 use Rattle.ft_hist.specs.Plain.{plain}
@@ -26,6 +27,7 @@ use Rattle.ft_hist.proofs.Since.{misses-other}
 use Rattle.control_core.specs.Lines.{lines_of}
 use Rattle.history_check.specs.declared.open_call.OpenCall.{OpenCall}
 use Rattle.history_check.specs.declared.open_call.Visit.{Visit}
+use Rattle.history_check.specs.declared.task_past.Due.{Due}
 use Rattle.history_check.specs.declared.task_past.TaskPast.{TaskPast}
 use Rattle.history_check.specs.declared.past.Past.{Past}
 use Rattle.history_check.specs.KeptCallbacks.{callbacks_of}
@@ -34,21 +36,19 @@ use Rattle.history_check.specs.KeptPast.{IsMet, IsPast, IsPastAt, IsTopOf, is_en
 use Rattle.history_check.specs.Parts.{KeepsPlainRun}
 use Rattle.history_check.proofs.FollowRuns.{all-met, of-job}
 use Rattle.history_check.proofs.FollowTask.{not-enter, top-of}
-use Rattle.history_check.proofs.OpenStacks.{after-other, few-calls, few-left, of-own}
+use Rattle.history_check.proofs.OpenStacks.{after-other, few-calls, few-left, of-own, of-own-task}
+use Rattle.history_check.proofs.PastLaws.{few-begun, few-done}
 
 -- ## a list with one value changed
 
-get-set : {A : Type 0} (xs : List A) (i : ℕ) (y : A) → i < length xs → slice_get (set xs i y) i ≡ Some y
-get-set [] i y lt = absurd (omega (arith, lt))
-get-set (x ∷ xs) zero y lt = refl
-get-set (x ∷ xs) (suc i) y lt = get-set xs i y (omega (arith, lt))
-
-get-other : {A : Type 0} (xs : List A) (i j : ℕ) (y : A) → (i ≡ j → ⊥) → slice_get (set xs i y) j ≡ slice_get xs j
-get-other [] i j y ne = refl
-get-other (x ∷ xs) zero zero y ne = absurd (ne refl)
-get-other (x ∷ xs) zero (suc j) y ne = refl
-get-other (x ∷ xs) (suc i) zero y ne = refl
-get-other (x ∷ xs) (suc i) (suc j) y ne = get-other xs i j y (λ e. ne (ap suc e))
+pub set-each : {A : Type 0} (P : ℕ → A → Type 0) (xs : List A) (i : ℕ) (y : A) → ((k : ℕ) (z : A) → slice_get xs k ≡ Some z → (i ≡ k → ⊥) → P k z) → P i y
+    → (k : ℕ) (z : A) → slice_get (set xs i y) k ≡ Some z → P k z
+set-each P [] i y all here k z e = absurd cc
+set-each P (x ∷ xs) zero y all here zero z e = subst (P 0) (some_inj y z e) here
+set-each P (x ∷ xs) zero y all here (suc k) z e = all (suc k) z e (λ h. omega (arith, h))
+set-each P (x ∷ xs) (suc i) y all here zero z e = all 0 z e (λ h. omega (arith, h))
+set-each P (x ∷ xs) (suc i) y all here (suc k) z e =
+    set-each (λ n. P (suc n)) xs i y (λ j w at ne. all (suc j) w at (λ h. ne (omega (arith, h)))) here k z e
 
 -- ## a task
 
@@ -68,23 +68,12 @@ task-still job past item t x other k =
 -- the task of an item after it, and the others as they were
 pub tasks-set : (job : Job) (past : List Item) (item : Item) (xs : List TaskPast) → AreTasksOf job past (item ∷ past) xs → (call : CallNo) → call_of item ≡ Some call → (x : TaskPast) → slice_get xs call.task.0 ≡ Some x
     → (new : TaskPast) → new.run ≡ x.run → IsDueBy job past item new.due → AreCallsOf job (item ∷ past) call.task.0 new.calls.items → AreTasksOf job (item ∷ past) (item ∷ past) (set xs call.task.0 new)
-tasks-set job past item xs all call is x at new run due calls' = (length-set xs call.task.0 new ∙ all.0, λ u y here. by u (call.task.0 == u) refl y here)
-  where
-    t : ℕ
-    t = call.task.0
-
-    own : (y : TaskPast) → new ≡ y → IsTaskPast job (item ∷ past) (item ∷ past) t y
-    own y e = subst (λ (z : TaskPast). IsTaskPast job (item ∷ past) (item ∷ past) t z) e (task-after job (item ∷ past) t new ((all.1 t x at).run ∙ ap (λ r. Some r) (sym run)) calls' (due call is))
-
-    by : (u : ℕ) (b : Bool) → (t == u) ≡ b → (y : TaskPast) → slice_get (set xs t new) u ≡ Some y → IsTaskPast job (item ∷ past) (item ∷ past) u y
-    by u true e y here =
-        let same : t ≡ u = eqb-true t u e in
-        let first : slice_get (set xs t new) t ≡ Some y = ap (λ n. slice_get (set xs t new) n) same ∙ here in
-        subst (λ n. IsTaskPast job (item ∷ past) (item ∷ past) n y) same (own y (some_inj new y (sym (get-set xs t new (slice_get_within xs t x at)) ∙ first)))
-    by u false e y here = task-still job past item u y (of-own u item call is ∙ e) (all.1 u y (sym (get-other xs t u new (λ same. false_true (sym e ∙ rw same (==-refl u)))) ∙ here))
-
-pub of-own-task : (item : Item) (call : CallNo) → call_of item ≡ Some call → is_of call.task.0 item ≡ true
-of-own-task item call is = of-own call.task.0 item call is ∙ ==-refl call.task.0
+tasks-set job past item xs all call is x at new run due calls' = (
+  length-set xs call.task.0 new ∙ all.0,
+  set-each (IsTaskPast job (item ∷ past) (item ∷ past)) xs call.task.0 new
+      (λ u y was ne. task-still job past item u y (of-own u item call is ∙ ne_eqb call.task.0 u ne) (all.1 u y was))
+      (task-after job (item ∷ past) call.task.0 new ((all.1 call.task.0 x at).run ∙ ap (λ r. Some r) (sym run)) calls' (due call is)),
+)
 
 pub no-task-there : (job : Job) (past : List Item) (item : Item) (xs : List TaskPast) → AreTasksOf job past (item ∷ past) xs → IsOfJob job item → (call : CallNo) → call_of item ≡ Some call → length xs ≤ call.task.0 → ⊥
 no-task-there job past item xs all within call is over =
@@ -112,7 +101,8 @@ has-room job past now t x k few = λ c first. room x.calls.items (calls-of-task 
 
 -- ## the top call
 
-get-none : {A : Type 0} (xs : List A) (i : ℕ) → slice_get xs i ≡ None → length xs ≤ i
+-- nothing is at a place past the end
+pub get-none : {A : Type 0} (xs : List A) (i : ℕ) → slice_get xs i ≡ None → length xs ≤ i
 get-none [] i e = omega arith
 get-none (x ∷ xs) zero e = absurd cc
 get-none (x ∷ xs) (suc i) e = let le = get-none xs i e in omega (arith, le)
@@ -120,13 +110,10 @@ get-none (x ∷ xs) (suc i) e = let le = get-none xs i e in omega (arith, le)
 module _ (job : Job) (past now : List Item) (p : Past) (k : IsPastAt job past now p) (item : Item) (goes : KeepsPlainRun job past item) where
   -- the task of an item is one of the job
   pub in-job : (call : CallNo) → call_of item ≡ Some call → call.task.0 < length job.tasks
-  in-job call is = by (nat_lt call.task.0 (length job.tasks)) refl
-    where
-      by : (b : Bool) → nat_lt call.task.0 (length job.tasks) ≡ b → call.task.0 < length job.tasks
-      by true e = ltb-true call.task.0 (length job.tasks) e
-      by false e =
-          let over = ltb-false call.task.0 (length job.tasks) e in
-          false_true (sym (of-job job past item call.task.0 over (k.others call.task.0 over) (goes call.task.0)) ∙ of-own-task item call is)
+  in-job call is = elim (cases_lt call.task.0 (length job.tasks)) [
+    | inl lt ↦ lt
+    | inr over ↦ false_true (sym (of-job job past item call.task.0 over (k.others call.task.0 over) (goes call.task.0)) ∙ of-own-task item call is)
+  ]
 
   -- and it is there
   pub top-of-task : (call : CallNo) → call_of item ≡ Some call → (x : TaskPast) → slice_get p.tasks.items call.task.0 ≡ Some x → IsTopOf job past item (slice_get x.calls.items 0)
@@ -201,6 +188,13 @@ visit-refuse job past item call u reason e top is m at =
     let k = top-itself job past (Refuse call u reason) top (subst (λ (i : Item). IsTopOf job past i (Some top)) e is) call refl refl in
     subst (λ (i : Item). IsVisitBy job past i (Some m)) (sym e) (by-refuse job past top.call call k.0 u m reason (at k.1))
 
+-- an item that enters no call has a top call
+pub no-top : (job : Job) (past : List Item) (item : Item) → IsTopOf job past item None → (call : CallNo) → call_of item ≡ Some call → is_enter item ≡ false → ⊥
+no-top job past item is call e out = let w = (is call e).1 out in no-some w.0 w.1
+  where
+    no-some : (c : OpenCall) → None ≡ Some c → ⊥
+    no-some c h = absurd cc
+
 -- an item that is neither
 abbrev pub is_visit : Item → Bool
 is_visit (Back call u) = true
@@ -240,9 +234,30 @@ module _ (job : Job) (past now : List Item) (p : Past) (k : IsPastAt job past no
       framed (back && gets_frame job c.call u past (all_visits job past)) back
       (reg-is ∙ ap (λ m. (user_at (desk job m) u).reg) at) (since-is ∙ ap (λ m. (user_at (desk job m) u).since) at) k.place framed-is
 
+-- ## the miss that is due
+
+module _ (job : Job) (past : List Item) (item : Item) (call : CallNo) (u : UserNo) (e : item ≡ Back call u) (top : OpenCall) (is : IsTopOf job past item (Some top)) where
+  due-by : (due : Option Due) → option_map due_of due ≡ cond (has_exit (spec_at job u.0).kind && (top.held == job.frames)) (Some (record { call = call; user = u.0; ctx = None })) None → IsDueBy job past item due
+  due-by due owed =
+      let k = top-itself job past (Back call u) top (subst (λ (i : Item). IsTopOf job past i (Some top)) e is) call refl refl in
+      let held-is : held job call past ≡ top.held = ap (λ (d : CallNo). held job d past) (sym k.0) ∙ k.1.held' in
+      subst (λ (i : Item). IsDueBy job past i due) (sym e)
+      (λ c of. subst (λ (d : CallNo). option_map due_of due ≡ miss_due job d.task.0 (Back call u ∷ past)) (some_inj call c of) (rw (==-refl call.task.0, held-is) owed))
+
+  -- of a user with an exit, if the call found no frame left
+  pub is-due : has_exit (spec_at job u.0).kind ≡ true → top.held ≡ job.frames → IsDueBy job past item (Some (record { call = call; user = u }))
+  is-due exits full = due-by (Some (record { call = call; user = u })) (rw (exits, full, ==-refl job.frames) refl)
+
+  pub none-due : (has_exit (spec_at job u.0).kind ≡ true → top.held ≡ job.frames → ⊥) → IsDueBy job past item None
+  none-due not-both = due-by None (by (has_exit (spec_at job u.0).kind) refl)
+    where
+      by : (b : Bool) → has_exit (spec_at job u.0).kind ≡ b → ◌≡◌ {A = Option Callback} None (cond (b && (top.held == job.frames)) (Some (record { call = call; user = u.0; ctx = None })) None)
+      by true exits = rw (ne_eqb top.held job.frames (not-both exits)) refl
+      by false exits = refl
+
 -- ## the context
 
-pub in-context : (job : Job) (past : List Item) (item : Item) (c : OpenCall) → IsTopOf job past item (Some c) → IsContextOf past item c.ctx
+pub in-context : (job : Job) (past : List Item) (item : Item) (c : OpenCall) → IsTopOf job past item (Some c) → IsContextOf past item (Some c.ctx)
 in-context job past item c top = λ call e inside.
     let w = (top call e).1 (not-enter item inside) in
     let same : w.0 ≡ c = some_inj w.0 c (sym w.1) in
@@ -282,16 +297,6 @@ waits-now job past (Begin k) may waited = may.rule.1
 waits-now job past _ may waited = waited
 
 -- ## room
-
-few-done : (past : List Item) → done past ≤ length past
-few-done [] = omega arith
-few-done (Return n answer ∷ past) = let h = few-done past in omega (arith, h)
-few-done (_ ∷ past) = let h = few-done past in omega (arith, h)
-
-few-begun : (past : List Item) → begun past ≤ length past
-few-begun [] = omega arith
-few-begun (Begin n ∷ past) = let h = few-begun past in omega (arith, h)
-few-begun (_ ∷ past) = let h = few-begun past in omega (arith, h)
 
 module _ (job : Job) (past now : List Item) (p : Past) (k : IsPastAt job past now p) (few : length past + 2 < 4294967296) (n : ℕ) where
   pub done-fits : n ≡ p.done → n + 1 < 4294967296

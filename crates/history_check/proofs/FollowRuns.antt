@@ -2,6 +2,7 @@
 use Rattle.std.proofs.Common.{cond, ◌≡◌, ℕ, zero, suc, ◌≤◌, Bool, true, false, ◌&&◌, ◌==◌, List, [], ◌∷◌, Option, Some, None, refl, ap, ◌∙◌, subst, arith}
 use Rattle.std.specs.Prelude.{get_or, IfSome, IsSome, length}
 use Rattle.std.specs.List.{AllByRecursion as Each}
+use Rattle.std.proofs.lemmas.List.{get_or_past}
 use Rattle.ft_base.specs.declared.item.Item.{Item}
 use Rattle.ft_base.specs.declared.item.Item.TheVariants.{Begin, Return, Enter, Back, BackEnd, Refuse, Miss, Body, Leave, Exit, ExitEnd, Ret}
 use Rattle.ft_base.specs.declared.task.TaskAct.{TaskAct}
@@ -88,11 +89,6 @@ no-item job returned t (Exit call u entry) s acts stack mine = rw stack refl
 no-item job returned t (ExitEnd call u) s acts stack mine = rw stack refl
 no-item job returned t (Ret call to) s acts stack mine = rw stack refl
 
-beyond : {A : Type 0} (xs : List A) (i : ℕ) (d : A) → length xs ≤ i → get_or xs i d ≡ d
-beyond [] i d le = refl
-beyond (x ∷ xs) zero d le = absurd (omega (arith, le))
-beyond (x ∷ xs) (suc i) d le = beyond xs i d (omega (arith, le))
-
 -- an item is of no task that the job doesn't have
 pub of-job : (job : Job) (past : List Item) (item : Item) (t : ℕ) → length job.tasks ≤ t → plain job t past ≡ Some (at_start job t) → IsSome (plain job t (item ∷ past)) → is_of t item ≡ false
 of-job job past item t over here some = by (is_of t item) refl
@@ -102,5 +98,5 @@ of-job job past item t over here some = by (is_of t item) refl
     by true e =
         let none : plain job t (item ∷ past) ≡ None =
         plain-own job past item t (at_start job t) e here
-        ∙ no-item job (done past) t item (at_start job t) (ap (λ (x : Task). x.acts) (beyond job.tasks t no_task over)) refl e in
+        ∙ no-item job (done past) t item (at_start job t) (ap (λ (x : Task). x.acts) (get_or_past job.tasks t no_task over)) refl e in
         false_true (subst (λ (o : Option PlainTask). IsSome o) none some)

@@ -6,7 +6,7 @@ use Rattle.std.proofs.lemmas.List.{get_or_past, drop_more}
 use Rattle.ft_base.specs.declared.item.Answer.{Answer}
 use Rattle.ft_base.specs.declared.item.Item.{Item}
 use Rattle.ft_base.specs.declared.number.TaskNo.{TaskNo}
-use Rattle.ft_base.specs.Job.{Job, Command, Ctl as PlainCtl, commands, no_task}
+use Rattle.ft_base.specs.Job.{Job, Command, Ctl as PlainCtl, Run as PlainRun, Until as PlainUntil, commands, no_task}
 use Rattle.ft_base.specs.Desk.{answer_at}
 use Rattle.ft_desk.specs.declared.command.Command.{Command as Code}
 use Rattle.ft_desk.specs.declared.command.Ctl.{Ctl}
@@ -17,10 +17,10 @@ use Rattle.ft_hist.specs.Plain.{at_start}
 use Rattle.ft_hist.specs.Rules.{HasWaited, MayBegin, acts_passed, waits_before}
 use Rattle.history_check.specs.declared.past.Past.{Past}
 use Rattle.history_check.specs.declared.task_past.TaskPast.{TaskPast}
-use Rattle.history_check.specs.KeptPast.{IsMet, IsPast, waits_passed}
+use Rattle.history_check.specs.KeptPast.{IsMet, IsPast, lines_after, waits_passed}
 use Rattle.history_check.specs.Parts.{IsAnswered}
 use Rattle.history_check.specs.TakenOff.{answer_of}
-use Rattle.history_check.proofs.Acts.{waits-split}
+use Rattle.history_check.proofs.FollowPast.{get-none}
 
 -- ## lists
 
@@ -32,13 +32,16 @@ each-back : {A : Type 0} (P : A → Type 0) (xs ys : List A) → Each P (xs ++ y
 each-back P [] ys a = a
 each-back P (x ∷ xs) ys a = each-back P xs ys a.1
 
--- nothing is at a place past the end
-none-past : {A : Type 0} (xs : List A) (i : ℕ) → slice_get xs i ≡ None → length xs ≤ i
-none-past [] i e = omega arith
-none-past (x ∷ xs) zero e = absurd cc
-none-past (x ∷ xs) (suc i) e = let h = none-past xs i e in omega (arith, h)
-
 -- ## waits
+
+-- the waits before a command are those before the one before it, and those between the two
+waits-split : (n : ℕ) (ctls : List PlainCtl) → waits_before n ctls ≡ waits_passed n ctls ++ waits_before 0 (lines_after n ctls)
+unfolding lines_after
+waits-split zero ctls = refl
+waits-split (suc n) [] = refl
+waits-split (suc n) (PlainUntil t acts ∷ rest) = ap (λ (ws : List (ℕ × ℕ)). (t, acts) ∷ ws) (waits-split (suc n) rest)
+waits-split (suc zero) (PlainRun c ∷ rest) = refl
+waits-split (suc (suc n)) (PlainRun c ∷ rest) = waits-split (suc n) rest
 
 module _ (job : Job) (items : List Item) where
   -- the waits at the head of these lines are met exactly if all before the next command are
@@ -92,7 +95,7 @@ module _ (job : Job) (items : List Item) where
       → (IsTrue b ↔ (n ≡ 0)) → IsTrue b ↔ IsMet job items (t.0, n)
   met-past p is t at n b tells =
       let size = is.size in
-      let out = none-past p.tasks.items t.0 (sym at) in
+      let out = get-none p.tasks.items t.0 (sym at) in
       let past : length job.tasks ≤ t.0 = omega (arith, size, out) in
       let zero' = none-passed t.0 past in
       rw (is.others t.0 past) (λ h. (let e = tells.0 h in omega (arith, e)), λ le. tells.1 (omega (arith, le, zero')))

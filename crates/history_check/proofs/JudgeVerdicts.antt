@@ -1,11 +1,8 @@
 -- What a judge says of a history.
-use Rattle.std.proofs.Common.{◌≡◌, ℕ, ◌≤◌, List, [], ◌∷◌, length, take, Some, sym, ◌∙◌, subst, arith}
+use Rattle.std.proofs.Common.{◌≡◌, ℕ, ◌≤◌, List, [], ◌∷◌, length, Some, sym, subst}
 use Rattle.std.specs.Prelude.{slice_get}
-use Rattle.std.proofs.lemmas.List.{length-reverse, length-take-le}
 use Rattle.ft_base.specs.declared.item.Item.{Item}
-use Rattle.ft_base.specs.declared.item.Item.TheVariants.{Begin, Return}
 use Rattle.ft_base.specs.Job.{Job}
-use Rattle.ft_hist.specs.Past.{begun, done}
 use Rattle.ft_hist.specs.Rules.{IsLegal, IsLegalPast, IsWhole, MayFollow}
 use Rattle.ft_hist.specs.Telling.{past_at}
 use Rattle.history_check.specs.declared.verdict.Rule.{Rule}
@@ -13,25 +10,6 @@ use Rattle.history_check.specs.KeptPast.{IsAtEnd}
 use Rattle.history_check.specs.Parts.{BreaksFirst}
 use Rattle.history_check.specs.Verdicts.{IsBroken}
 use Rattle.history_check.proofs.PastLaws.{past-all}
-
--- ## counts
-
--- each command that has returned or begun is told by an item
-pub few-done : (past : List Item) → done past ≤ length past
-few-done [] = omega arith
-few-done (Return n answer ∷ past) = let h = few-done past in omega (arith, h)
-few-done (_ ∷ past) = let h = few-done past in omega (arith, h)
-
-pub few-begun : (past : List Item) → begun past ≤ length past
-few-begun [] = omega arith
-few-begun (Begin n ∷ past) = let h = few-begun past in omega (arith, h)
-few-begun (_ ∷ past) = let h = few-begun past in omega (arith, h)
-
--- ## places
-
--- as many items are before a place as its number
-pub length-upto : (items : List Item) (k : ℕ) → k ≤ length items → length (past_at k items) ≡ k
-length-upto items k within = length-reverse (take k items) ∙ length-take-le k items within
 
 module _ (job : Job) where
   pub none-legal : IsLegalPast job []

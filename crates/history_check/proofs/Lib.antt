@@ -1,14 +1,12 @@
 pub mod KeptDesks
 pub mod KeptMaps
 pub mod BacksLaws
-pub mod NoteLaws
 pub mod SilentLaws
-pub mod EndLaws
+pub mod VisitLaws
 pub mod PastLaws
 pub mod PartLaws
 pub mod VerdictLaws
 pub mod ToldLaws
-pub mod Acts
 pub mod JudgeControl
 pub mod JudgeRuns
 pub mod JudgeVerdicts
@@ -16,7 +14,6 @@ pub mod JudgeStart
 pub mod RuleTests
 pub mod RuleCalls
 pub mod RuleNamed
-pub mod RuleSilence
 pub mod RuleCallbacks
 pub mod RuleFetches
 pub mod RuleExits

@@ -1,15 +1,23 @@
 -- The open callbacks that are kept, told one by one.
-use Rattle.std.proofs.Common.{cond, ◌≡◌, ℕ, suc, ◌+◌, ◌<◌, ◌≤◌, Bool, true, false, ◌&&◌, ◌||◌, ◌==◌, List, [], ◌∷◌, ◌++◌, drop, take, get_or, length, map, refl, sym, ap, ◌∙◌, arith, add-one, append_assoc}
-use Rattle.std.specs.Prelude.{count_by}
+use Rattle.std.proofs.Common.{cond, ◌≡◌, ℕ, suc, ◌+◌, ◌<◌, ◌≤◌, Bool, true, false, not, ◌&&◌, ◌||◌, ◌==◌, List, [], ◌∷◌, ◌++◌, drop, take, get_or, length, map, Option, Some, None, refl, sym, ap, ◌∙◌, arith, add-one, append_assoc}
+use Rattle.std.specs.Prelude.{count_by, IfSome, IsTrue, ◌↔◌}
+use Rattle.std.specs.Option.{IsSome, OnSome}
 use Rattle.std.specs.List.{list_any, remove}
+use Rattle.std.proofs.lemmas.Bool.{not-true}
 use Rattle.std.proofs.lemmas.List.{at_drop_all, at_drop_more, append-nil, map-append, take_all, take_more}
 use Rattle.std.proofs.lemmas.List.Sums.{sum_by-cons}
 use Rattle.ft_base.specs.declared.number.CallNo.{CallNo}
+use Rattle.ft_base.specs.declared.item.Item.{Item}
 use Rattle.ft_base.specs.Same.{same_call}
-use Rattle.ft_hist.specs.Past.{ended}
+use Rattle.ft_base.specs.Job.{Job, Command, Unregister, Disable}
+use Rattle.ft_base.proofs.Small.{false_true}
+use Rattle.ft_hist.specs.Past.{callbacks, ended, is_called}
 use Rattle.ft_hist.specs.Past as told
+use Rattle.ft_hist.specs.Rules.{IsStill}
+use Rattle.ft_hist.proofs.RunLaws.{some_inj}
 use Rattle.history_check.specs.declared.callbacks.Callback.{Callback}
 use Rattle.history_check.specs.KeptCallbacks.{callback_of}
+use Rattle.history_check.specs.TakenOff.{command_at, taken_by, taken_off}
 
 pub any-told : (test : told.Callback → Bool) (bs : List Callback) → list_any (λ b. test (callback_of b)) bs ≡ list_any test (map callback_of bs)
 any-told test [] = refl
@@ -72,3 +80,26 @@ module _ (call : CallNo) (u : ℕ) (bs : List Callback) where
 
   pub none-ends : (i : ℕ) → length bs ≤ i → EndsFrom i → map callback_of bs ≡ ended call u (map callback_of bs)
   none-ends i over before = sym (before ∙ ap (λ xs. map callback_of (take i bs) ++ xs) (at_drop_all (λ xs. ended call u (map callback_of xs)) bs i over) ∙ append-nil (map callback_of (take i bs)) ∙ ap (map callback_of) (take_all i bs over))
+
+-- what holds if there is a value, and there is one
+pub at-some : {A P : Type 0} (o : Option A) → IsSome o → OnSome o P → P
+at-some None some h = false_true some
+at-some (Some x) some h = h
+
+-- ## a command that takes a user off
+
+-- it may return exactly if no callback of the user is open
+pub still-some : (job : Job) (past : List Item) (bs : List told.Callback) → bs ≡ callbacks past → (n u : ℕ) → taken_off job n ≡ Some u → (b : Bool) → b ≡ list_any (λ c. c.user == u) bs
+    → IsTrue (not b) ↔ IfSome (command_at job n) (IsStill past)
+still-some job past bs open' n u off b is = by (command_at job n) off
+  where
+    still : (v : ℕ) → Some v ≡ Some u → IsTrue (not b) ↔ (is_called v past ≡ false)
+    still v e =
+        let same : is_called v past ≡ b = ap (λ w. is_called w past) (some_inj v u e) ∙ sym (is ∙ ap (λ (cs : List told.Callback). list_any (λ c. c.user == u) cs) open') in
+        (λ t. same ∙ not-true b t, λ f. ap not (sym same ∙ f))
+
+    by : (o : Option Command) → taken_by o ≡ Some u → IsTrue (not b) ↔ IfSome o (IsStill past)
+    by None e = absurd cc
+    by (Some (Unregister v)) e = still v e
+    by (Some (Disable v)) e = still v e
+    by (Some _) e = absurd cc

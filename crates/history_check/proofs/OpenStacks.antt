@@ -1,13 +1,14 @@
 -- The calls that are kept of a task are those of its plain stack: which of them an item is of, and that it says nothing of the others.
 use Rattle.std.proofs.Common.{cond, ◌≡◌, ℕ, suc, ◌<◌, ◌≤◌, Bool, true, false, ◌&&◌, ◌==◌, List, [], ◌∷◌, length, map, Option, Some, None, refl, sym, ap, ◌∙◌, subst, arith, eqb-true}
 use Rattle.std.specs.Prelude.{IsSome, slice_get}
+use Rattle.std.proofs.lemmas.List.{length-map}
 use Rattle.std.specs.List.{filter, AllByRecursion as Each}
 use Rattle.ft_base.specs.declared.number.CallNo.{CallNo}
 use Rattle.ft_base.specs.declared.item.Item.{Item}
 use Rattle.ft_base.specs.declared.item.Item.TheVariants.{Begin, Return, Enter, Back, BackEnd, Refuse, Miss, Body, Leave, Exit, ExitEnd, Ret}
 use Rattle.ft_base.specs.Items.{call_of, is_task}
 use Rattle.ft_base.specs.Job.{Job}
-use Rattle.ft_base.proofs.Small.{false_true, Each-weaker}
+use Rattle.ft_base.proofs.Small.{false_true, ==-refl, Each-weaker}
 use Rattle.ft_hist.specs.Past.{calls, is_of, is_open}
 use Rattle.ft_hist.specs.Plain.{Frame, PlainTask, plain}
 use Rattle.ft_hist.specs.Telling.{open_calls}
@@ -40,10 +41,6 @@ few-left p (x ∷ xs) = by (p x) (few-left p xs)
     by : (b : Bool) → length (filter p xs) ≤ length xs → length (cond b (x ∷ filter p xs) (filter p xs)) ≤ suc (length xs)
     by true le = omega (arith, le)
     by false le = omega (arith, le)
-
-length-map : {A B : Type 0} (f : A → B) (xs : List A) → length (map f xs) ≡ length xs
-length-map f [] = refl
-length-map f (x ∷ xs) = ap suc (length-map f xs)
 
 abbrev pub call_in : OpenCall → CallNo
 call_in c = c.call
@@ -102,6 +99,9 @@ keeps-of p s (Ret c to) call m is inside = false_true inside
 pub of-own : (t : ℕ) (item : Item) (call : CallNo) → call_of item ≡ Some call → is_of t item ≡ (call.task.0 == t)
 of-own t item call is = ap (is_task t) is
 
+pub of-own-task : (item : Item) (call : CallNo) → call_of item ≡ Some call → is_of call.task.0 item ≡ true
+of-own-task item call is = of-own call.task.0 item call is ∙ ==-refl call.task.0
+
 -- frames are counted by the numbers of the calls
 pub holding-calls : (job : Job) (past : List Item) (cs : List OpenCall) → holding job past cs ≡ holding_on job past (map call_in cs)
 holding-calls job past [] = refl
@@ -144,7 +144,7 @@ module _ (job : Job) (past : List Item) (t : ℕ) (cs : List OpenCall) (k : AreC
       let on = ap length on-stack in
       let all = ap length (opens job t past run k.stack.1).open' in
       let few = few-open past in
-      let same = length-map call_in cs in
+      let same = length-map cs call_in in
       omega (arith, on, all, few, same)
     where
       few-made : (items : List Item) → length (calls items) ≤ length items

@@ -20,32 +20,33 @@ use Rattle.ft_hist.specs.Telling.{past_at}
 pub past-all : (items : List Item) (k : ℕ) → length items ≤ k → past_at k items ≡ reverse items
 past-all items k over = ap reverse (take_all k items over)
 
--- as many items are before a place as its number, or fewer
-length-past : (items : List Item) (k : ℕ) → k ≤ length items → length (past_at k items) ≡ k
+-- as many items are before a place as its number
+pub length-past : (items : List Item) (k : ℕ) → k ≤ length items → length (past_at k items) ≡ k
 length-past items k within = length-reverse (take k items) ∙ length-take-le k items within
 
 -- ## counts
 
-done-bound : (past : List Item) → done past ≤ length past
-done-bound [] = omega arith
-done-bound (Return n answer ∷ past) = let h = done-bound past in omega (arith, h)
-done-bound (_ ∷ past) = let h = done-bound past in omega (arith, h)
+-- each command that has returned or begun is told by an item
+pub few-done : (past : List Item) → done past ≤ length past
+few-done [] = omega arith
+few-done (Return n answer ∷ past) = let h = few-done past in omega (arith, h)
+few-done (_ ∷ past) = let h = few-done past in omega (arith, h)
 
-begun-bound : (past : List Item) → begun past ≤ length past
-begun-bound [] = omega arith
-begun-bound (Begin n ∷ past) = let h = begun-bound past in omega (arith, h)
-begun-bound (_ ∷ past) = let h = begun-bound past in omega (arith, h)
+pub few-begun : (past : List Item) → begun past ≤ length past
+few-begun [] = omega arith
+few-begun (Begin n ∷ past) = let h = few-begun past in omega (arith, h)
+few-begun (_ ∷ past) = let h = few-begun past in omega (arith, h)
 
 -- before a place there are no more returns, and no more beginnings, than its number
 pub done-room : (items : List Item) (k n : ℕ) → n ≡ done (past_at k items) → k < length items → length items < 4294967296 → n + 1 < 4294967296
 done-room items k n is lt fits =
-    let b = done-bound (past_at k items) in
+    let b = few-done (past_at k items) in
     let l = length-past items k (omega (arith, lt)) in
     omega (arith, is, b, l, lt, fits)
 
 pub begun-room : (items : List Item) (k n : ℕ) → n ≡ begun (past_at k items) → k < length items → length items < 4294967296 → n + 1 < 4294967296
 begun-room items k n is lt fits =
-    let b = begun-bound (past_at k items) in
+    let b = few-begun (past_at k items) in
     let l = length-past items k (omega (arith, lt)) in
     omega (arith, is, b, l, lt, fits)
 

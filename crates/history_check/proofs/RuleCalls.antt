@@ -20,6 +20,9 @@ any-visit : (call : CallNo) (u : ℕ) (ms : List Visit) → list_any (λ m. m.us
 any-visit call u [] = refl
 any-visit call u (m ∷ ms) = ap (λ b. (m.user.0 == u) || b) (any-visit call u ms)
 
+abbrev pub has_visit : OpenCall → ℕ → Bool
+has_visit t u = list_any (λ m. m.user.0 == u) t.visits.items
+
 module _ (job : Job) (items : List Item) where
   -- ## the call of the next item
 
@@ -61,7 +64,7 @@ module _ (job : Job) (items : List Item) where
     pub left-is : t.left ≡ done_at_leave call items
     left-is = subst (λ (c : CallNo). t.left ≡ done_at_leave c items) k.call' k.is.left
 
-    pub visited-is : (u : ℕ) → list_any (λ m. m.user.0 == u) t.visits.items ≡ list_any (λ m. m.user == u) (visits job call items)
+    pub visited-is : (u : ℕ) → has_visit t u ≡ list_any (λ m. m.user == u) (visits job call items)
     visited-is u = any-visit call u t.visits.items ∙ ap (λ (ms : List told.Visit). list_any (λ m. m.user == u) ms) visits-are
 
     -- a fact at some command since it was entered

@@ -15,6 +15,7 @@ use Rattle.ft_hist.specs.Rules.{AtReturnedOrBegun, HasExit, LacksOnlyDead, MayEx
 use Rattle.history_check.specs.declared.open_call.OpenCall.{OpenCall}
 use Rattle.history_check.specs.declared.open_call.Visit.{Visit}
 use Rattle.history_check.specs.KeptCalls.{IsTop, visit_of}
+use Rattle.history_check.proofs.OpenStacks.{each-map as map-each}
 use Rattle.history_check.proofs.RuleCalls.{exits-are, left-is, visits-are}
 use Rattle.history_check.proofs.RuleTests.{no, yes}
 
@@ -31,10 +32,6 @@ pub each-at : {A : Type 0} (P : A → Type 0) (xs : List A) (i : ℕ) (x : A) �
 each-at P [] i x lt here h = absurd (omega arith)
 each-at P (y ∷ xs) zero x lt here h = subst P (sym here) h.0
 each-at P (y ∷ xs) (suc i) x lt here h = each-at P xs i x (omega arith) here h.1
-
-map-each : {A B : Type 0} (f : A → B) (P : B → Type 0) (xs : List A) → Each P (map f xs) → Each (λ x. P (f x)) xs
-map-each f P [] h = tt
-map-each f P (x ∷ xs) h = (h.0, map-each f P xs h.1)
 
 each-map : {A B : Type 0} (f : A → B) (P : B → Type 0) (xs : List A) → Each (λ x. P (f x)) xs → Each P (map f xs)
 each-map f P [] h = tt

@@ -1,18 +1,19 @@
 -- What a check of callbacks keeps of the items so far, against what they tell.
-use Rattle.std.specs.Prelude.{ℕ, ◌≡◌, ◌<◌, ◌≤◌, Bool, true, false, ◌||◌, ◌&&◌, ◌==◌, nat_lt, List, [], ◌∷◌, map, Option, Some, None, unwrap_or, if◌then◌else◌, IsTrue, ◌↔◌}
+use Rattle.std.specs.Prelude.{ℕ, ◌≡◌, ◌<◌, Bool, true, ◌||◌, ◌&&◌, ◌==◌, nat_lt, List, ◌∷◌, Option, Some, None, unwrap_or, if◌then◌else◌, IsTrue, ◌↔◌}
 use Rattle.std.specs.List.{list_any, AllByRecursion as Each}
 use Rattle.std.specs.HashMap.{HashMap, get}
 use Rattle.std.specs.HashSet.{HashSet, contains}
 use Rattle.ft_base.specs.declared.number.CallNo.{CallNo}
+use Rattle.ft_base.specs.declared.context.Ctx.{Ctx}
 use Rattle.ft_base.specs.declared.item.Item.{Item}
 use Rattle.ft_base.specs.Same.{same_call}
 use Rattle.ft_base.specs.Job.{Job}
-use Rattle.ft_base.specs.Desk.{desk, is_on, user_at}
-use Rattle.ft_hist.specs.Past.{Callback as OpenCallback, begun, callbacks, done, entry_of, registration_at, visits}
-use Rattle.history_check.specs.declared.backs.Callback.{Callback}
+use Rattle.ft_base.specs.Desk.{desk, user_at}
+use Rattle.ft_hist.specs.Past.{begun, callbacks, ctx_of, done, entry_of, registration_at, visits}
 use Rattle.history_check.specs.declared.backs.Check.{Check}
 use Rattle.history_check.specs.declared.backs.Entry.{Entry}
 use Rattle.history_check.specs.Backs.{KeepsBacks}
+use Rattle.history_check.specs.KeptCallbacks.{callbacks_of}
 use Rattle.history_check.specs.KeptDesks.{AreOf}
 
 -- ## calls
@@ -23,7 +24,7 @@ same_key a b = (a.0 == b.0) && (a.1 == b.1)
 
 -- what is kept of a call of which there is nothing
 abbrev pub no_entry : Entry
-no_entry = record { func = record { 0 = 0 }; from = 0; latest = None }
+no_entry = record { ctx = None; func = record { 0 = 0 }; from = 0; latest = None }
 
 -- what is kept of a call
 abbrev pub entry_in : {S : Type 0} → HashMap (ℕ × ℕ) Entry S → CallNo → Entry
@@ -37,20 +38,17 @@ abbrev pub is_before : ℕ → Option ℕ → Bool
 is_before s None = true
 is_before s (Some latest) = nat_lt s latest
 
--- what is kept of a call is what the items tell: its function, the commands that had returned at its entry, and which user may be visited
+-- what is kept of a call is what the items tell: its context, its function, the commands that had returned at its entry, and which user may be visited
 pub record IsEntry (job : Job) (past : List Item) (call : CallNo) (e : Entry) : Type 0 where
+  pub ctx : e.ctx ≡ ctx_of call past
   pub func : e.func.0 ≡ (entry_of call past).func
   pub from : e.from ≡ (entry_of call past).from
   pub order : (s : ℕ) → IsTrue (is_before s e.latest) ↔ Each (λ m. s < m.since) (visits job call past)
 
--- a call was entered, and all else is as it was
-pub record HasEntered (call : CallNo) (f : ℕ) (old new : Check) : Type 0 where
-  pub desks : new.desks ≡ old.desks
-  pub done : new.done ≡ old.done
-  pub begun : new.begun ≡ old.begun
-  pub callbacks : new.callbacks ≡ old.callbacks
-  pub visited : new.visited ≡ old.visited
-  pub entries : (c : CallNo) → entry_at new c ≡ (if same_call call c then record (entry_at old call) { func = record { 0 = f }; from = old.done } else entry_at old c)
+-- a call was entered, and the others are as they were
+abbrev pub HasEntered : CallNo → Ctx → ℕ → Check → Check → Type 0
+HasEntered call ctx f old new =
+    (c : CallNo) → entry_at new c ≡ (if same_call call c then record (entry_at old call) { ctx = Some ctx; func = record { 0 = f }; from = old.done } else entry_at old c)
 
 -- ## visits
 
@@ -73,45 +71,27 @@ since_at job call u past = (user_at (desk job (registration_at job call u past))
 abbrev pub with_latest : ℕ → Entry → Entry
 with_latest since e = record e { latest = Some since }
 
--- one visit more is kept, and all else as it was
+-- one visit more is kept, and the others as they were
 pub record HasVisited (job : Job) (past : List Item) (call : CallNo) (u : ℕ) (old new : Check) : Type 0 where
-  pub desks : new.desks ≡ old.desks
-  pub done : new.done ≡ old.done
-  pub begun : new.begun ≡ old.begun
-  pub callbacks : new.callbacks ≡ old.callbacks
   pub entries : (c : CallNo) → entry_at new c ≡ (if same_call call c then with_latest (since_at job call u past) (entry_at old call) else entry_at old c)
   pub visited : (c : CallNo) (v : ℕ) → is_visited new c v ≡ (same_call call c && (u == v)) || is_visited old c v
 
--- ## open callbacks
-
--- a callback that is open, by its call and its user
-abbrev pub kept_callback : Callback → CallNo × ℕ
-kept_callback b = (b.call, b.user.0)
-
-abbrev pub told_callback : OpenCallback → CallNo × ℕ
-told_callback b = (b.call, b.user)
-
--- the same without the latest of that call and user
-abbrev pub without : CallNo → ℕ → List Callback → List Callback
-without call u [] = []
-without call u (b ∷ open') = if same_call b.call call && (b.user.0 == u) then open' else b ∷ without call u open'
-
 -- ## all
+
+-- the calls, and who was visited in which, are what the items tell
+pub record AreCalls (job : Job) (past : List Item) (c : Check) : Type 0 where
+  pub entries : (call : CallNo) → IsEntry job past call (entry_at c call)
+  pub visited : (call : CallNo) (u : ℕ) → is_visited c call u ≡ list_any (λ m. m.user == u) (visits job call past)
 
 -- what is kept is what the items tell
 pub record IsCheck (job : Job) (past : List Item) (c : Check) : Type 0 where
   pub desks : AreOf job c.desks
-  pub done : c.done ≡ done past
-  pub begun : c.begun ≡ begun past
-  pub entries : (call : CallNo) → IsEntry job past call (entry_at c call)
-  pub visited : (call : CallNo) (u : ℕ) → is_visited c call u ≡ list_any (λ m. m.user == u) (visits job call past)
-  pub callbacks : map kept_callback c.callbacks.items ≡ map told_callback (callbacks past)
+  pub calls : AreCalls job past c
+  pub callbacks' : callbacks_of c.callbacks ≡ callbacks past
+  pub done' : c.done ≡ done past
+  pub begun' : c.begun ≡ begun past
 
 -- whether an item keeps the rules is told, and if it does it is taken in
 pub record IsNoted (job : Job) (past : List Item) (item : Item) (keeps : Bool) (c : Check) : Type 0 where
   pub told : IsTrue keeps ↔ KeepsBacks job past item
   pub kept : keeps ≡ true → IsCheck job (item ∷ past) c
-
--- a user was off at a function at some command from one on, up to the last that has begun
-abbrev pub WasOff : Job → List Item → ℕ → ℕ → ℕ → Type 0
-WasOff job past from u f = (k : ℕ) × (from ≤ k) × (k ≤ begun past) × (is_on (desk job k) u f ≡ false)

@@ -113,9 +113,9 @@ IsVisitBy job past item visit =
 abbrev pub IsDueBy : Job → List Item → Item → Option Due → Type 0
 IsDueBy job past item due = (call : CallNo) → call_of item ≡ Some call → option_map due_of due ≡ miss_due job call.task.0 (item ∷ past)
 
--- the context of the call that an item is in
-abbrev pub IsContextOf : List Item → Item → Ctx → Type 0
-IsContextOf past item ctx = (call : CallNo) → call_of item ≡ Some call → is_inside item ≡ true → ctx_of call past ≡ Some ctx
+-- the context of the call that an item is in, if that was entered
+abbrev pub IsContextOf : List Item → Item → Option Ctx → Type 0
+IsContextOf past item ctx = (call : CallNo) → call_of item ≡ Some call → is_inside item ≡ true → ctx_of call past ≡ ctx
 
 -- ## the call of an item
 

@@ -1,11 +1,11 @@
 -- The desks of a job as a table keeps them.
-use Rattle.std.specs.Prelude.{◌≡◌, ℕ, suc, ◌<◌, ◌≤◌, ◌&&◌, ◌==◌, List, length, map, Some, slice_get, option_map, sum_by}
+use Rattle.std.specs.Prelude.{◌≡◌, ℕ, suc, false, ◌<◌, ◌≤◌, ◌&&◌, ◌==◌, List, length, map, Some, slice_get, option_map, sum_by}
 use Rattle.std.specs.Int.{bit_at}
 use Rattle.std.specs.List.{range_with_len}
 use Rattle.ft_base.specs.declared.limits.TheConstants.{ACTS, TASKS}
 use Rattle.ft_base.specs.Job.{Job, commands, funcs}
 use Rattle.ft_base.specs.WellFormed.{IsWellFormed}
-use Rattle.ft_base.specs.Desk.{Desk, UserState, desk, is_allowed, target, user_at}
+use Rattle.ft_base.specs.Desk.{Desk, UserState, desk, is_allowed, is_on, target, user_at}
 use Rattle.ft_desk.specs.Seen.{Seen}
 use Rattle.history_check.specs.declared.desks.Sight.{Sight}
 use Rattle.history_check.specs.declared.desks.Row.{Row}
@@ -58,3 +58,7 @@ pub record AreOf (job : Job) (d : Desks) : Type 0 where
   pub acts : sum_by (λ t. length t.acts) job.tasks ≤ ACTS
   pub users : d.users ≡ length job.users
   pub rows : AreRowsOf job d.rows.items
+
+-- a user was off at a function at some command from one on, up to another
+abbrev pub WasOff : Job → ℕ → ℕ → ℕ → ℕ → Type 0
+WasOff job from last u f = (k : ℕ) × (from ≤ k) × (k ≤ last) × (is_on (desk job k) u f ≡ false)

@@ -2,24 +2,25 @@
 //! the items, and nothing of the machine that made them.
 
 ghost use Rattle.std.specs.Prelude.{◌≡◌, ℕ, ◌+◌, ◌<◌, ◌^◌, ◌==◌, ◌||◌, ◌&&◌, true, not, List, [], ◌∷◌, IfOk, OnOk, IfSome, IsTrue, ◌↔◌, if◌then◌else◌};
-ghost use Rattle.std.specs.List.{list_any};
 ghost use Rattle.ft_base.specs.declared.item.Item.{Item};
 ghost use Rattle.ft_base.specs.declared.number.CallNo.{CallNo};
 ghost use Rattle.ft_base.specs.Job.{Job as PlainJob};
-ghost use Rattle.ft_base.specs.Desk.{desk, is_accepted, is_on};
+ghost use Rattle.ft_base.specs.Desk.{is_accepted};
 ghost use Rattle.ft_base.specs.Same.{same_call};
+ghost use Rattle.ft_hist.specs.Past.{begun, done};
 ghost use Rattle.ft_hist.specs.Rules.{IsStill, MayVisit};
 ghost use Rattle.history_check.specs.TakenOff.{command_at};
-ghost use Rattle.history_check.specs.Backs.{AreBacksLegal, IsSilent};
-ghost use Rattle.history_check.specs.KeptBacks.{HasEntered, HasVisited, IsCheck, IsNoted, WasOff, entry_at, entry_in, is_before, is_visit_in, is_visited, without};
-ghost use Rattle.history_check.specs.KeptDesks.{AreOf};
+ghost use Rattle.history_check.specs.Backs.{AreBacksLegal, IsSilent, KeepsBacks};
+ghost use Rattle.history_check.specs.KeptBacks.{AreCalls, HasEntered, HasVisited, IsCheck, IsNoted, entry_at, entry_in, is_before, is_visit_in, is_visited};
+ghost use Rattle.history_check.specs.KeptCalls.{IsContextOf};
 
+use crate::callbacks::Callbacks;
 use crate::desks::Desks;
-use ft_base::{Answer, CallNo, FuncNo, Item, NoMemory, UserNo};
+use ft_base::{Answer, CallNo, Ctx, FuncNo, Item, NoMemory, UserNo};
 use ft_hist::History;
 use ft_machine::Job;
 use std::alloc::Global;
-use std::collections::{HashMap, HashSet, VecDeque};
+use std::collections::{HashMap, HashSet};
 
 /// Whether the callbacks of a history keep the rules of callbacks and of silence. Each callback and
 /// each refusal is of a user that is on at the called function after the commands that have returned,
@@ -45,6 +46,8 @@ pub fn backs_legal(alloc: Global, job: &Job, history: &History) -> Result<bool, 
 /// What the items so far tell of a call.
 #[derive(Clone, Copy, Drop)]
 pub(crate) struct Entry {
+    /// Its context, if it was entered.
+    ctx: Option<Ctx>,
     /// Its function.
     func: FuncNo,
     /// How many commands had returned when it was entered.
@@ -54,14 +57,8 @@ pub(crate) struct Entry {
     latest: Option<u32>,
 }
 
-/// A callback that is open.
-#[derive(Clone, Copy, Drop)]
-pub(crate) struct Callback {
-    call: CallNo,
-    user: UserNo,
-}
-
-/// What is kept of the items so far.
+/// What is kept of the items so far. A history that isn't legal may have items of any call at any place,
+/// so all calls are kept, and not those alone that are open, as a judge keeps them.
 #[derive(Drop)]
 pub(crate) struct Check {
     desks: Desks,
@@ -69,8 +66,8 @@ pub(crate) struct Check {
     entries: HashMap<(u32, u32), Entry>,
     /// Who was visited in which call: called back, or refused.
     visited: HashSet<(u32, u32, u32)>,
-    /// The open callbacks, the latest first.
-    callbacks: VecDeque<Callback>,
+    /// The open callbacks.
+    callbacks: Callbacks,
     /// How many commands have returned.
     done: u32,
     /// How many have begun.
@@ -86,7 +83,7 @@ impl Check {
             desks: Desks::new(alloc, job)?,
             entries: HashMap::new(alloc),
             visited: HashSet::new(alloc),
-            callbacks: VecDeque::new(alloc),
+            callbacks: Callbacks::new(alloc),
             done: 0,
             begun: 0,
         })
@@ -98,42 +95,50 @@ impl Check {
         requires begun { self.old.begun + 1 < 2 ^ 32 }
         ensures { (job : PlainJob) (past : List Item) → IsCheck job past self.old → IfOk result (λ b. IsNoted job past item.now b self.new) }
     {
+        let ctx = self.context_of(item);
+        let keeps = self.keeps(item)?;
+        self.callbacks.follow(ctx, item)?;
+        self.count(item);
+        Ok(keeps)
+    }
+
+    /// Whether the next item keeps the rules. If it does, what it tells of calls and visits is taken in.
+    fn keeps(&mut self, item: &Item) -> Result<bool, NoMemory>
+        requires { self.old.begun + 1 < 2 ^ 32 }
+        ensures told { (job : PlainJob) (past : List Item) → IsCheck job past self.old → IfOk result (λ b. IsTrue b ↔ KeepsBacks job past item.now) }
+        ensures kept { (job : PlainJob) (past : List Item) → IsCheck job past self.old → IfOk result (λ b. b ≡ true → AreCalls job (item.now ∷ past) self.new) }
+        ensures rest { self.new ≡ record self.old { entries = self.new.entries; visited = self.new.visited } }
+    {
+        match *item {
+            Item::Return { k, answer } => Ok(self.may_return(k, answer)),
+            Item::Enter {
+                call,
+                ctx,
+                func,
+                ..
+            } => {
+                self.enter(call, ctx, func)?;
+                Ok(true)
+            }
+            Item::Back { call, user } => self.visit(call, user),
+            Item::Refuse { call, user, .. } => self.visit(call, user),
+            Item::Body { call, .. } => Ok(self.is_silent(call)),
+            _ => Ok(true),
+        }
+    }
+
+    /// How many commands have returned and begun after an item.
+    fn count(&mut self, item: &Item)
+        requires done { self.old.done + 1 < 2 ^ 32 }
+        requires begun { self.old.begun + 1 < 2 ^ 32 }
+        ensures done { (past : List Item) → self.old.done ≡ done past → self.new.done ≡ done (item.now ∷ past) }
+        ensures begun { (past : List Item) → self.old.begun ≡ begun past → self.new.begun ≡ begun (item.now ∷ past) }
+        ensures rest { self.new ≡ record self.old { done = self.new.done; begun = self.new.begun } }
+    {
         match item {
-            Item::Begin { .. } => {
-                self.begun += 1;
-                Ok(true)
-            }
-            Item::Return { k, answer } => {
-                let keeps = self.may_return(*k, *answer);
-                self.done += 1;
-                Ok(keeps)
-            }
-            Item::Enter { call, func, .. } => {
-                self.enter(*call, *func)?;
-                Ok(true)
-            }
-            Item::Back { call, user } => {
-                let keeps = self.visit(*call, *user)?;
-                begin(&mut self.callbacks, *call, *user)?;
-                Ok(keeps)
-            }
-            Item::Refuse { call, user, .. } => self.visit(*call, *user),
-            Item::Body { call, .. } => Ok(self.is_silent(*call)),
-            Item::Exit { call, user, .. } => {
-                begin(&mut self.callbacks, *call, *user)?;
-                Ok(true)
-            }
-            Item::BackEnd { call, user } => {
-                end(&mut self.callbacks, *call, *user);
-                Ok(true)
-            }
-            Item::ExitEnd { call, user } => {
-                end(&mut self.callbacks, *call, *user);
-                Ok(true)
-            }
-            Item::Miss { .. } => Ok(true),
-            Item::Leave { .. } => Ok(true),
-            Item::Ret { .. } => Ok(true),
+            Item::Begin { .. } => self.begun += 1,
+            Item::Return { .. } => self.done += 1,
+            _ => {}
         }
     }
 
@@ -144,6 +149,7 @@ impl Check {
         match self.entries.get(&(call.task.0, call.n)) {
             Some(entry) => *entry,
             None => Entry {
+                ctx: None,
                 func: FuncNo(0),
                 from: 0,
                 latest: None,
@@ -151,9 +157,17 @@ impl Check {
         }
     }
 
+    /// The context of the call that an item is in, if that was entered.
+    fn context_of(&self, item: &Item) -> Option<Ctx>
+        ensures { (job : PlainJob) (past : List Item) → IsCheck job past self.now → IsContextOf past item.now result }
+    {
+        self.entry(item.call()?).ctx
+    }
+
     /// A call is entered.
-    fn enter(&mut self, call: CallNo, func: FuncNo) -> Result<(), NoMemory>
-        ensures { OnOk result (HasEntered call func.0 self.old self.new) }
+    fn enter(&mut self, call: CallNo, ctx: Ctx, func: FuncNo) -> Result<(), NoMemory>
+        ensures entered { OnOk result (HasEntered call ctx func.0 self.old self.new) }
+        ensures rest { self.new ≡ record self.old { entries = self.new.entries } }
     {
         let entry = self.entry(call);
         let from = self.done;
@@ -161,6 +175,7 @@ impl Check {
             &mut self.entries,
             call,
             Entry {
+                ctx: Some(ctx),
                 func,
                 from,
                 ..entry
@@ -174,9 +189,12 @@ impl Check {
             → IfOk result (λ b. IsTrue b ↔ MayVisit job past call user.0) }
         ensures kept { (job : PlainJob) (past : List Item) → IsCheck job past self.old
             → IfOk result (λ b. b ≡ true → HasVisited job past call user.0 self.old self.new) }
+        ensures rest { self.new ≡ record self.old { entries = self.new.entries; visited = self.new.visited } }
     {
         let entry = self.entry(call);
-        let at = self.registration(user, entry.func);
+        let at = self
+            .desks
+            .registered_at(self.done, self.begun, user, entry.func);
         let since = self.desks.since(at, user);
         if !self.desks.is_on(at, user, entry.func) || !is_before(since, entry.latest) {
             return Ok(false);
@@ -187,19 +205,6 @@ impl Check {
         Ok(is_new)
     }
 
-    /// The number of commands after which a user's registration is read: those that have returned if
-    /// it is on then, else those that have begun.
-    fn registration(&self, user: UserNo, func: FuncNo) -> u32
-        ensures { (job : PlainJob) → AreOf job self.now.desks
-            → result ≡ (if is_on (desk job self.now.done) user.0 func.0 then self.now.done else self.now.begun) }
-    {
-        if self.desks.is_on(self.done, user, func) {
-            self.done
-        } else {
-            self.begun
-        }
-    }
-
     /// Whether a command may return with this answer: if it takes a user off, no callback of the user
     /// is open.
     fn may_return(&self, k: u32, answer: Answer) -> bool
@@ -207,23 +212,12 @@ impl Check {
             → IsTrue result ↔ (is_accepted answer ≡ true → IfSome (command_at job k) (IsStill past)) }
     {
         match answer {
-            Answer::Accepted => self.is_still(k),
+            Answer::Accepted => self.callbacks.is_still(&self.desks, k),
             Answer::Already => true,
             Answer::NotThere => true,
             Answer::Invalid => true,
             Answer::NoMatch => true,
             Answer::Busy { .. } => true,
-        }
-    }
-
-    /// Whether no callback is open of the user that this command takes off, if it does.
-    fn is_still(&self, k: u32) -> bool
-        ensures { (job : PlainJob) (past : List Item) → IsCheck job past self.now
-            → IsTrue result ↔ IfSome (command_at job k) (IsStill past) }
-    {
-        match self.desks.taken_off(k) {
-            Some(user) => !is_called(&self.callbacks, user),
-            None => true,
         }
     }
 
@@ -235,7 +229,9 @@ impl Check {
         let entry = self.entry(call);
         for u in 0..self.desks.users() {
             let user = UserNo(u);
-            if !self.was_visited(call, user) && !self.was_off(entry.from, user, entry.func) {
+            if !self.was_visited(call, user)
+                && !self.desks.was_off(entry.from, self.begun, user, entry.func)
+            {
                 return false;
             }
         }
@@ -247,20 +243,6 @@ impl Check {
         ensures { result ≡ is_visited self.now call user.0 }
     {
         self.visited.contains(&(call.task.0, call.n, user.0))
-    }
-
-    /// Whether a user was off at a function after some number of commands, from this one on up to
-    /// those that have begun.
-    fn was_off(&self, from: u32, user: UserNo, func: FuncNo) -> bool
-        requires { self.now.begun + 1 < 2 ^ 32 }
-        ensures { (job : PlainJob) (past : List Item) → IsCheck job past self.now → IsTrue result ↔ WasOff job past from user.0 func.0 }
-    {
-        for k in from..self.begun + 1 {
-            if !self.desks.is_on(k, user, func) {
-                return true;
-            }
-        }
-        false
     }
 }
 
@@ -301,35 +283,5 @@ fn add_visit(
     match visited.insert((call.task.0, call.n, user.0)) {
         Ok(added) => Ok(added),
         Err(_) => Err(NoMemory),
-    }
-}
-
-/// Whether a callback of the user is open.
-fn is_called(callbacks: &VecDeque<Callback>, user: UserNo) -> bool
-    ensures { result ≡ list_any (λ b. b.user.0 == user.0) callbacks.now.items }
-{
-    callbacks.iter().any(|callback| callback.user == user)
-}
-
-/// A callback begins.
-fn begin(callbacks: &mut VecDeque<Callback>, call: CallNo, user: UserNo) -> Result<(), NoMemory>
-    ensures { OnOk result (callbacks.new.items ≡ record { call = call; user = user } ∷ callbacks.old.items) }
-{
-    match callbacks.push_front(Callback { call, user }) {
-        Ok(()) => Ok(()),
-        Err(_) => Err(NoMemory),
-    }
-}
-
-/// The latest open callback of a call and user ends, if there is one.
-fn end(callbacks: &mut VecDeque<Callback>, call: CallNo, user: UserNo)
-    ensures { callbacks.new.items ≡ without call user.0 callbacks.old.items }
-{
-    for at in 0..callbacks.len() {
-        let callback = callbacks[at];
-        if callback.call == call && callback.user == user {
-            callbacks.remove(at);
-            return;
-        }
     }
 }

@@ -1,13 +1,18 @@
 //! Callbacks that are open, the latest first.
 
-ghost use Rattle.std.specs.Prelude.{◌≡◌, ◌==◌, ◌&&◌, List, [], ◌∷◌, OnOk, Some, count_by};
+ghost use Rattle.std.specs.Prelude.{◌≡◌, ◌==◌, ◌&&◌, List, [], ◌∷◌, OnOk, IfSome, IsTrue, ◌↔◌, count_by};
 ghost use Rattle.std.specs.List.{list_any};
 ghost use Rattle.ft_base.specs.declared.item.Item.{Item};
 ghost use Rattle.ft_base.specs.Same.{same_call};
-ghost use Rattle.ft_hist.specs.Past.{callbacks, ended, is_at};
+ghost use Rattle.ft_base.specs.Job.{Job as PlainJob};
+ghost use Rattle.ft_hist.specs.Past.{callbacks, ended, is_at, is_ctx};
+ghost use Rattle.ft_hist.specs.Rules.{IsStill};
 ghost use Rattle.history_check.specs.KeptCallbacks.{callback_of, callbacks_of};
 ghost use Rattle.history_check.specs.KeptCalls.{IsContextOf};
+ghost use Rattle.history_check.specs.KeptDesks.{AreOf};
+ghost use Rattle.history_check.specs.TakenOff.{command_at};
 
+use crate::desks::Desks;
 use ft_base::{CallNo, Ctx, Item, NoMemory, TaskNo, UserNo};
 use std::alloc::Global;
 use std::collections::VecDeque;
@@ -17,8 +22,8 @@ use std::collections::VecDeque;
 struct Callback {
     call: CallNo,
     user: UserNo,
-    /// The context of its call.
-    ctx: Ctx,
+    /// The context of its call, if that was entered.
+    ctx: Option<Ctx>,
 }
 
 /// The callbacks that are open.
@@ -37,9 +42,9 @@ impl Callbacks {
         }
     }
 
-    /// Those that are open after an item, which is in a call of this context. The error says that memory
-    /// ran out.
-    pub(crate) fn follow(&mut self, ctx: Ctx, item: &Item) -> Result<(), NoMemory>
+    /// Those that are open after an item, which is in a call of this context, if that was entered. The
+    /// error says that memory ran out.
+    pub(crate) fn follow(&mut self, ctx: Option<Ctx>, item: &Item) -> Result<(), NoMemory>
         ensures { (past : List Item) → callbacks_of self.old ≡ callbacks past → IsContextOf past item.now ctx
             → OnOk result (callbacks_of self.new ≡ callbacks (item.now ∷ past)) }
     {
@@ -59,8 +64,8 @@ impl Callbacks {
     }
 
     /// A callback begins. The error says that memory ran out.
-    fn begin(&mut self, call: CallNo, ctx: Ctx, user: UserNo) -> Result<(), NoMemory>
-        ensures { OnOk result (callbacks_of self.new ≡ record { call = call; user = user.0; ctx = Some ctx } ∷ callbacks_of self.old) }
+    fn begin(&mut self, call: CallNo, ctx: Option<Ctx>, user: UserNo) -> Result<(), NoMemory>
+        ensures { OnOk result (callbacks_of self.new ≡ record { call = call; user = user.0; ctx = ctx } ∷ callbacks_of self.old) }
     {
         let callback = Callback { call, user, ctx };
         self.open.push_front(callback).map_err(|_| NoMemory)
@@ -83,6 +88,17 @@ impl Callbacks {
         ensures { result ≡ list_any (λ b. b.user == user.0) (callbacks_of self.now) }
     {
         self.open.iter().any(|callback| callback.user == user)
+    }
+
+    /// Whether none is open of the user that this command, from 1, takes off, if it does.
+    pub(crate) fn is_still(&self, desks: &Desks, k: u32) -> bool
+        ensures { (job : PlainJob) (past : List Item) → AreOf job desks.now → callbacks_of self.now ≡ callbacks past
+            → IsTrue result ↔ IfSome (command_at job k) (IsStill past) }
+    {
+        match desks.taken_off(k) {
+            Some(user) => !self.has_user(user),
+            None => true,
+        }
     }
 
     /// How many of a task and context are open.
@@ -111,6 +127,16 @@ impl Callback {
     fn is_at(&self, task: TaskNo, ctx: Ctx) -> bool
         ensures { result ≡ is_at task.0 ctx (callback_of self.now) }
     {
-        self.call.task == task && self.ctx == ctx
+        self.call.task == task && self.is_in(ctx)
+    }
+
+    /// Whether its call is in a context.
+    fn is_in(&self, ctx: Ctx) -> bool
+        ensures { result ≡ is_ctx self.now.ctx ctx }
+    {
+        match self.ctx {
+            Some(own) => own == ctx,
+            None => false,
+        }
     }
 }

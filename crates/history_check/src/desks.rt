@@ -3,14 +3,14 @@
 //! it is asked for.
 
 ghost use Rattle.std.specs.List.{range_with_len};
-ghost use Rattle.std.specs.Prelude.{◌≡◌, ◌^◌, ◌<◌, ◌≤◌, ◌==◌, ◌&&◌, ℕ, length, map, option_map, slice_get, Some, All, IfOk, IfSome, IfNone};
+ghost use Rattle.std.specs.Prelude.{◌≡◌, ◌^◌, ◌<◌, ◌≤◌, ◌==◌, ◌&&◌, ℕ, length, map, option_map, slice_get, Some, All, IfOk, IfSome, IfNone, IsTrue, ◌↔◌, ◌+◌, if◌then◌else◌};
 ghost use Rattle.ft_base.specs.Desk.{Desk as PlainDesk, desk, is_allowed, is_live, is_on, matches_by, target, user_at};
 ghost use Rattle.ft_base.specs.Job.{Job as PlainJob, commands, funcs};
 ghost use Rattle.ft_desk.specs.Declarations.{IsOf};
 ghost use Rattle.ft_desk.specs.Seen.{opened};
 ghost use Rattle.control_core.specs.Lines.{IsLineIn, lines_of};
 ghost use Rattle.history_check.specs.TakenOff.{answer_of, taken_off};
-ghost use Rattle.history_check.specs.KeptDesks.{AreOf, AreRowsOf, IsDeskOf, IsSeenOf, IsSightOf};
+ghost use Rattle.history_check.specs.KeptDesks.{AreOf, AreRowsOf, IsDeskOf, IsSeenOf, IsSightOf, WasOff};
 ghost use Rattle.history_check.specs.KeptTold.{IsTold};
 
 use crate::told::Told;
@@ -100,6 +100,28 @@ impl Desks {
             Some(sight) => sight.reg,
             None => 0,
         }
+    }
+
+    /// The number of commands after which a user's registration is read, where `done` commands have
+    /// returned and `begun` have begun: those that have returned if it is on then, else those that have
+    /// begun.
+    pub(crate) fn registered_at(&self, done: u32, begun: u32, u: UserNo, f: FuncNo) -> u32
+        ensures { (job : PlainJob) → AreOf job self.now → result ≡ (if is_on (desk job done) u.0 f.0 then done else begun) }
+    {
+        if self.is_on(done, u, f) { done } else { begun }
+    }
+
+    /// Whether a user is off at a function after some number of commands, from one on up to another.
+    pub(crate) fn was_off(&self, from: u32, last: u32, u: UserNo, f: FuncNo) -> bool
+        requires { last + 1 < 2 ^ 32 }
+        ensures { (job : PlainJob) → AreOf job self.now → IsTrue result ↔ WasOff job from last u.0 f.0 }
+    {
+        for k in from..last + 1 {
+            if !self.is_on(k, u, f) {
+                return true;
+            }
+        }
+        false
     }
 
     /// Whether a user's registration of this number is in force, and the user enabled, after `k`

@@ -1,11 +1,10 @@
 //! What a judge keeps of the items so far, and what it says of the next one.
 
-ghost use Rattle.std.specs.Prelude.{◌≡◌, ℕ, ◌+◌, ◌<◌, ◌^◌, [], ◌∷◌, List, length, true, slice_get, Some, if◌then◌else◌, IfOk, IsTrue, ◌↔◌, option_map, sum_by, ◌≤◌};
+ghost use Rattle.std.specs.Prelude.{◌≡◌, ℕ, ◌+◌, ◌<◌, ◌^◌, [], ◌∷◌, List, length, true, slice_get, Some, IfOk, IsTrue, ◌↔◌, option_map, sum_by, ◌≤◌};
 ghost use Rattle.ft_base.specs.declared.item.Item.{Item};
 ghost use Rattle.ft_base.specs.declared.limits.TheConstants.{ACTS, TASKS};
 ghost use Rattle.ft_base.specs.Job.{Job as PlainJob};
-ghost use Rattle.ft_base.specs.Desk.{desk, is_on};
-ghost use Rattle.ft_hist.specs.Past.{begun, done, miss_due};
+ghost use Rattle.ft_hist.specs.Past.{miss_due};
 ghost use Rattle.ft_hist.specs.Rules.{HasEnded};
 ghost use Rattle.history_check.specs.declared.task_past.TaskPast.{TaskPast};
 ghost use Rattle.history_check.specs.KeptCalls.{due_of};
@@ -19,7 +18,7 @@ use crate::rules;
 use crate::task_past::{Due, TaskPast};
 use crate::verdict::Rule;
 use ft_base::limits::Limits;
-use ft_base::{FuncNo, Item, NoMemory, TaskNo, UserNo};
+use ft_base::{Item, NoMemory, TaskNo};
 use ft_desk::Ctl;
 use ft_machine::Job;
 use std::alloc::Global;
@@ -151,22 +150,10 @@ impl<'a> Past<'a> {
         true
     }
 
-    /// The number of commands after which a user's registration is read: those that have returned if
-    /// it is on then, else those that have begun.
-    pub(crate) fn registration(&self, user: UserNo, func: FuncNo) -> u32
-        ensures { (job : PlainJob) (past : List Item) → IsPast job past self.now
-            → result ≡ (if is_on (desk job (done past)) user.0 func.0 then done past else begun past) }
-    {
-        if self.desks.is_on(self.done, user, func) {
-            self.done
-        } else {
-            self.begun
-        }
-    }
-
     /// The top call of the item's task.
-    fn top(&self, item: &Item) -> Option<&OpenCall>
-        ensures { (job : PlainJob) (past : List Item) → IsPast job past self.now → KeepsPlainRun job past item.now → IsTopOf job past item.now (option_map (λ c. c.now) result) }
+    pub(crate) fn top(&self, item: &Item) -> Option<&OpenCall>
+        ensures { (job : PlainJob) (past now : List Item) → IsPastAt job past now self.now → KeepsPlainRun job past item.now
+            → IsTopOf job past item.now (option_map (λ c. c.now) result) }
     {
         self.task(item.call()?.task)?.top()
     }

@@ -1,16 +1,14 @@
 //! How an item is taken in: what the next rules will ask of it.
 
-ghost use Rattle.std.specs.Prelude.{◌≡◌, ℕ, ◌+◌, ◌<◌, ◌^◌, List, [], ◌∷◌, length, map, OnOk, Some, slice_get, option_map, if◌then◌else◌};
+ghost use Rattle.std.specs.Prelude.{◌≡◌, ℕ, ◌+◌, ◌<◌, ◌^◌, List, ◌∷◌, length, map, OnOk, Some, slice_get};
 ghost use Rattle.ft_base.specs.declared.item.Item.{Item};
-ghost use Rattle.ft_base.specs.Desk.{desk, is_on};
 ghost use Rattle.ft_base.specs.Job.{Ctl as PlainCtl, Job as PlainJob};
 ghost use Rattle.control_core.specs.Lines.{lines_of};
 ghost use Rattle.ft_hist.specs.Past.{all_visits, begun as begun_in, done as done_in, gets_frame, visit as visit_in};
 ghost use Rattle.ft_hist.specs.Rules.{MayFollow};
 ghost use Rattle.history_check.specs.declared.task_past.TaskPast.{TaskPast};
 ghost use Rattle.history_check.specs.KeptCalls.{AreTasksOf, HasRoom, IsContextOf, IsDueBy, IsOfJob, IsTop, IsVisitBy, visit_of};
-ghost use Rattle.history_check.specs.KeptDesks.{AreOf};
-ghost use Rattle.history_check.specs.KeptPast.{IsPast, IsPastAt, IsTopOf, lines_after};
+ghost use Rattle.history_check.specs.KeptPast.{IsPast, IsPastAt, lines_after};
 ghost use Rattle.history_check.specs.Parts.{KeepsPlainRun};
 ghost use Rattle.user_specs.specs.Plain.{spec_of};
 
@@ -18,7 +16,7 @@ use crate::open_call::{OpenCall, Visit};
 use crate::past::Past;
 use crate::task_past::Due;
 use crate::users::kind_of;
-use ft_base::{Ctx, FuncNo, Item, NoMemory, UserNo};
+use ft_base::{Ctx, Item, NoMemory, UserNo};
 use ft_desk::Ctl;
 use std::alloc::Global;
 
@@ -92,12 +90,12 @@ impl<'a> Past<'a> {
     }
 
     /// The context of the call that an item is in.
-    fn context_of(&self, item: &Item) -> Ctx
+    fn context_of(&self, item: &Item) -> Option<Ctx>
         ensures { (job : PlainJob) (past : List Item) → IsPastAt job past (item.now ∷ past) self.now → KeepsPlainRun job past item.now → IsContextOf past item.now result }
     {
-        match self.top_of(item) {
-            Some(top) => top.ctx,
-            None => Ctx::Normal,
+        match self.top(item) {
+            Some(top) => Some(top.ctx),
+            None => None,
         }
     }
 
@@ -106,8 +104,8 @@ impl<'a> Past<'a> {
         ensures { (job : PlainJob) (past : List Item) → IsPastAt job past (item.now ∷ past) self.now → KeepsPlainRun job past item.now → IsVisitBy job past item.now result }
     {
         match *item {
-            Item::Back { user, .. } => Some(self.visit(self.top_of(item)?, user, true)),
-            Item::Refuse { user, .. } => Some(self.visit(self.top_of(item)?, user, false)),
+            Item::Back { user, .. } => Some(self.visit(self.top(item)?, user, true)),
+            Item::Refuse { user, .. } => Some(self.visit(self.top(item)?, user, false)),
             _ => None,
         }
     }
@@ -119,7 +117,7 @@ impl<'a> Past<'a> {
         let Item::Back { call, user } = *item else {
             return None;
         };
-        let top = self.top_of(item)?;
+        let top = self.top(item)?;
         if kind_of(self.specs, user).has_exit() && top.held == self.frames {
             Some(Due { call, user })
         } else {
@@ -127,22 +125,14 @@ impl<'a> Past<'a> {
         }
     }
 
-    /// The top call of the item's task.
-    fn top_of(&self, item: &Item) -> Option<&OpenCall>
-        ensures { (job : PlainJob) (past : List Item) → IsPastAt job past (item.now ∷ past) self.now → KeepsPlainRun job past item.now
-            → IsTopOf job past item.now (option_map (λ c. c.now) result) }
-    {
-        let call = item.call()?;
-        let task = self.task(call.task)?;
-        task.top()
-    }
-
     /// A callback of a user in its task's top call, or a refusal.
     fn visit(&self, top: &OpenCall, user: UserNo, back: bool) -> Visit
         ensures { (job : PlainJob) (past now : List Item) → IsPastAt job past now self.now → IsTop job past top.now.call top.now
             → visit_of top.now.call result ≡ visit_in job top.now.call user.0 past (all_visits job past) back }
     {
-        let at = self.registered_at(user, top.func);
+        let at = self
+            .desks
+            .registered_at(self.done, self.begun, user, top.func);
         Visit {
             user,
             reg: self.desks.reg(at, user),
@@ -150,18 +140,6 @@ impl<'a> Past<'a> {
             place: self.place,
             back,
             framed: back && self.gets_frame(top, user),
-        }
-    }
-
-    /// The number of commands after which a user's registration is read, as `registration` has it.
-    fn registered_at(&self, user: UserNo, func: FuncNo) -> u32
-        ensures { (job : PlainJob) → AreOf job self.now.desks
-            → result ≡ (if is_on (desk job self.now.done) user.0 func.0 then self.now.done else self.now.begun) }
-    {
-        if self.desks.is_on(self.done, user, func) {
-            self.done
-        } else {
-            self.begun
         }
     }
 

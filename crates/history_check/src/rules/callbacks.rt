@@ -1,10 +1,9 @@
 //! Callbacks: who may be visited in a call, and that none is open of a user that was taken off.
 
-ghost use Rattle.std.specs.Prelude.{◌≡◌, ◌+◌, ◌<◌, ◌^◌, ℕ, true, List, Some, slice_get, option_map, IsTrue, ◌↔◌};
+ghost use Rattle.std.specs.Prelude.{◌≡◌, ◌+◌, ◌<◌, ◌^◌, List, Some, slice_get, option_map, IsTrue, ◌↔◌};
 ghost use Rattle.ft_base.specs.declared.item.Item.{Item};
-ghost use Rattle.ft_base.specs.Desk.{is_accepted};
 ghost use Rattle.ft_base.specs.Job.{Command, Job as PlainJob, commands};
-ghost use Rattle.ft_hist.specs.Past.{done, registration_at};
+ghost use Rattle.ft_hist.specs.Past.{done};
 ghost use Rattle.ft_hist.specs.Rules.{IsStill, MayVisit};
 ghost use Rattle.history_check.specs.KeptCalls.{IsTop};
 ghost use Rattle.history_check.specs.KeptPast.{IsPast, IsTopOf};
@@ -40,7 +39,9 @@ fn may_visit(past: &Past<'_>, top: &OpenCall, user: UserNo) -> bool
     ensures { (job : PlainJob) (items : List Item) → IsPast job items past.now → IsTop job items top.now.call top.now
         → IsTrue result ↔ MayVisit job items top.now.call user.0 }
 {
-    let at = past.registration(user, top.func);
+    let at = past
+        .desks
+        .registered_at(past.done, past.begun, user, top.func);
     past.desks.is_on(at, user, top.func)
         && !top.has_visited(user)
         && top.is_before_all(past.desks.since(at, user))
@@ -52,8 +53,5 @@ fn is_still(past: &Past<'_>) -> bool
     ensures { (job : PlainJob) (items : List Item) → IsPast job items past.now
         → IsTrue result ↔ ((c : Command) → slice_get (commands job) (done items) ≡ Some c → IsStill items c) }
 {
-    match past.desks.taken_off(past.done + 1) {
-        Some(user) => !past.callbacks.has_user(user),
-        None => true,
-    }
+    past.callbacks.is_still(&past.desks, past.done + 1)
 }

@@ -1,7 +1,7 @@
 //! Commands: they begin and return in order, one at a time, with the answers of the desk, after
 //! control's waits.
 
-ghost use Rattle.std.specs.Prelude.{◌≡◌, ◌+◌, ◌<◌, ◌^◌, ℕ, List, length, IsTrue, ◌↔◌};
+ghost use Rattle.std.specs.Prelude.{◌+◌, ◌<◌, ◌^◌, List, IsTrue, ◌↔◌};
 ghost use Rattle.ft_base.specs.declared.item.Item.{Item};
 ghost use Rattle.ft_base.specs.Job.{Job as PlainJob, commands};
 ghost use Rattle.ft_hist.specs.Rules.{HasWaited, MayBegin};

@@ -1,7 +1,7 @@
 //! Fetches: what was fetched at a call site, whom it lets in, and what runs.
 
 ghost use Rattle.std.specs.List.{list_all};
-ghost use Rattle.std.specs.Prelude.{◌≡◌, ◌==◌, ◌+◌, ◌<◌, ◌≤◌, ◌^◌, ℕ, List, None, if◌then◌else◌, option_map, IsTrue, ◌↔◌};
+ghost use Rattle.std.specs.Prelude.{◌≡◌, ◌==◌, ◌+◌, ◌<◌, ◌^◌, List, None, if◌then◌else◌, option_map, IsTrue, ◌↔◌};
 ghost use Rattle.ft_base.specs.declared.item.Item.{Item};
 ghost use Rattle.ft_base.specs.Desk.{desk, spec_at, target};
 ghost use Rattle.ft_base.specs.Job.{Job as PlainJob};

@@ -1,6 +1,6 @@
 //! Refusals: a user is refused for the first reason that holds, and is called back only if none does.
 
-ghost use Rattle.std.specs.Prelude.{◌≡◌, ◌<◌, ◌≤◌, ◌⊎◌, ℕ, List, option_map, IsTrue, ◌↔◌};
+ghost use Rattle.std.specs.Prelude.{◌≡◌, ◌<◌, ◌≤◌, ◌⊎◌, List, option_map, IsTrue, ◌↔◌};
 ghost use Rattle.ft_base.specs.declared.item.Item.{Item};
 ghost use Rattle.ft_base.specs.Desk.{desk, is_allowed};
 ghost use Rattle.ft_base.specs.Job.{Job as PlainJob};

@@ -1,10 +1,9 @@
 //! Silence: whoever was not visited in a call was off at some time of its window.
 
-ghost use Rattle.std.specs.Prelude.{◌≡◌, ◌+◌, ◌<◌, ◌^◌, ℕ, List, option_map, IsTrue, ◌↔◌};
+ghost use Rattle.std.specs.Prelude.{◌+◌, ◌<◌, ◌^◌, List, option_map, IsTrue, ◌↔◌};
 ghost use Rattle.ft_base.specs.declared.item.Item.{Item};
 ghost use Rattle.ft_base.specs.Job.{Job as PlainJob};
 ghost use Rattle.history_check.specs.Backs.{IsSilent};
-ghost use Rattle.history_check.specs.KeptBacks.{WasOff};
 ghost use Rattle.history_check.specs.KeptCalls.{IsTop};
 ghost use Rattle.history_check.specs.KeptPast.{IsPast, IsTopOf};
 ghost use Rattle.history_check.specs.Parts.{KeepsSilence};
@@ -33,24 +32,9 @@ fn is_silent(past: &Past<'_>, top: &OpenCall) -> bool
 {
     for u in 0..past.desks.users() {
         let user = UserNo(u);
-        if !top.has_visited(user) && !was_off(past, top, user) {
+        if !top.has_visited(user) && !past.desks.was_off(top.from, past.begun, user, top.func) {
             return false;
         }
     }
     true
-}
-
-/// Whether a user was off at a call's function after some number of commands, from those that had
-/// returned when the call was entered to those that have begun.
-fn was_off(past: &Past<'_>, top: &OpenCall, user: UserNo) -> bool
-    requires { past.now.begun + 1 < 2 ^ 32 }
-    ensures { (job : PlainJob) (items : List Item) → IsPast job items past.now
-        → IsTrue result ↔ WasOff job items top.now.from user.0 top.now.func.0 }
-{
-    for k in top.from..past.begun + 1 {
-        if !past.desks.is_on(k, user, top.func) {
-            return true;
-        }
-    }
-    false
 }

@@ -12,14 +12,14 @@ note-requires-clause-done c =
     let lt = c.loop-place-test.true in
     let n = c.len-place-end.ensures in
     let fits = c.len-place-end.type_inv in
-    done-room c.args.history.now.items c.loop-place.place c.loop-place.check.done c.loop-place.invariant.kept.done (omega (arith, lt, n)) (omega (arith, n, fits))
+    done-room c.args.history.now.items c.loop-place.place c.loop-place.check.done c.loop-place.invariant.kept.done' (omega (arith, lt, n)) (omega (arith, n, fits))
 
 pub note-requires-clause-begun : goal.note-requires-clause-begun
 note-requires-clause-begun c =
     let lt = c.loop-place-test.true in
     let n = c.len-place-end.ensures in
     let fits = c.len-place-end.type_inv in
-    begun-room c.args.history.now.items c.loop-place.place c.loop-place.check.begun c.loop-place.invariant.kept.begun (omega (arith, lt, n)) (omega (arith, n, fits))
+    begun-room c.args.history.now.items c.loop-place.place c.loop-place.check.begun c.loop-place.invariant.kept.begun' (omega (arith, lt, n)) (omega (arith, n, fits))
 
 pub loop-place-init : goal.loop-place-init
 loop-place-init c = record { so_far = none-breaks c.args.job.now; kept = c.in_ok-check.ensures }

@@ -6,7 +6,8 @@ use Rattle.ft_hist.specs.Telling.{past_at}
 use Rattle.ft_hist.proofs.Splitting.{past-more}
 use Rattle.history_check.specs.KeptPast.{IsPast}
 use Rattle.history_check.specs.Verdicts.{IsBroken}
-use Rattle.history_check.proofs.JudgeVerdicts.{all-legal, all-whole, at-end, broken-there, length-upto, more-legal, none-legal}
+use Rattle.history_check.proofs.JudgeVerdicts.{all-legal, all-whole, at-end, broken-there, more-legal, none-legal}
+use Rattle.history_check.proofs.PastLaws.{length-past}
 use Rattle.history_check.proofs.judging.judge.Goals as goal
 
 pub loop-item-init : goal.loop-item-init
@@ -17,7 +18,7 @@ note-requires c =
     let items = c.args.items.now in
     let i = c.loop-item.item-index in
     let lt = c.loop-item-test.true in
-    let n = length-upto items i (omega (arith, lt)) in
+    let n = length-past items i (omega (arith, lt)) in
     let room = c.requires in
     (c.args.job.now, past_at i items, c.loop-item.invariant.kept, omega (arith, n, lt, room))
 
@@ -31,7 +32,7 @@ returns-in-Some c =
     let kept = c.loop-item.invariant.kept in
     let next = c.in_ok-rule.ensures job past kept in
     let told = (rw c.in-Some.is at next.told') in
-    let place = kept.place ∙ length-upto items i (omega (arith, lt)) in
+    let place = kept.place ∙ length-past items i (omega (arith, lt)) in
     subst (λ n. IsBroken job items n c.in-Some.rule) (sym place)
     (broken-there job items i _ c.in-Some.rule (slice_get-get_or items i _ lt) c.loop-item.invariant.so_far told)
 

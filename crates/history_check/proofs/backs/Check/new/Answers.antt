@@ -4,4 +4,10 @@ use Rattle.history_check.proofs.BacksLaws.{at-start}
 use Rattle.history_check.proofs.backs.Check.new.Goals as goal
 
 pub returns : goal.returns
-returns c = at-start c.args.job.now _ c.in_ok-new.ensures refl refl c.new-2.ensures.empty c.new-3.ensures.empty c.new-4.ensures.items
+returns c = record {
+  desks = c.in_ok-new.ensures;
+  calls = at-start c.args.job.now _ c.new-2.ensures.empty c.new-3.ensures.empty;
+  callbacks' = c.new-4.ensures;
+  done' = refl;
+  begun' = refl;
+}

@@ -17,7 +17,7 @@ returns-then-not-is_on-clause-may c = λ job past k.
     let entry = c.entry-entry.result in
     let before = is_before c.since-since.result entry.latest in
     let fresh = not (is_visited old c.args.call c.args.user.0) in
-    let may = may-is job past old old k c.args.call c.args.user.0 c.registration-at.result entry c.entry-entry.ensures (c.registration-at.ensures job k.desks)
+    let may = may-is job past old k c.args.call entry c.entry-entry.ensures c.args.user.0 c.registered_at-at.result (c.registered_at-at.ensures job k.desks)
     c.since-since.result (c.since-since.ensures job k.desks) c.is_on.result before (c.is_on.ensures job k.desks) refl in
     elim c.then-not-is_on.branch [
       | then-not-is_on-via-then-not-is_on w ↦ same-test (c.is_on.result && before && fresh) false (ap (λ on. on && before && fresh) w.if-not-is_on.true) may
@@ -30,7 +30,7 @@ returns-clause-may c = λ job past k.
     let old = c.args.self.now in
     let entry = c.entry-entry.result in
     let fresh = not (is_visited old c.args.call c.args.user.0) in
-    let may = may-is job past old old k c.args.call c.args.user.0 c.registration-at.result entry c.entry-entry.ensures (c.registration-at.ensures job k.desks)
+    let may = may-is job past old k c.args.call entry c.entry-entry.ensures c.args.user.0 c.registered_at-at.result (c.registered_at-at.ensures job k.desks)
     c.since-since.result (c.since-since.ensures job k.desks) c.is_on.result c.is_before.result (c.is_on.ensures job k.desks) c.is_before.ensures in
     same-test (c.is_on.result && c.is_before.result && fresh) c.in_ok-is_new.is_new
     (ap (λ b. b && c.is_before.result && fresh) c.if-not-is_on.false ∙ ap (λ b. true && b && fresh) c.if-not-is_before.false ∙ sym c.in_ok-is_new.ensures.first) may

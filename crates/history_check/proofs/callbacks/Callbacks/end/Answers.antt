@@ -1,8 +1,7 @@
 -- The callback at this place is the first of its call and user, and is taken out.
 use Rattle.std.proofs.Common.{◌<◌, ◌∙◌, length, map, refl, sym, ap, arith, rules}
 use Rattle.history_check.specs.KeptCallbacks.{callback_of}
-use Rattle.history_check.proofs.EndLaws.{at-some}
-use Rattle.history_check.proofs.OpenCallbacks.{ends-here, ends-later, none-ends}
+use Rattle.history_check.proofs.OpenCallbacks.{at-some, ends-here, ends-later, none-ends}
 use Rattle.history_check.proofs.callbacks.Callbacks.end.Goals as goal
 
 pub returns-then-is_of : goal.returns-then-is_of

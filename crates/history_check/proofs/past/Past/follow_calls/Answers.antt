@@ -5,7 +5,8 @@ use Rattle.history_check.specs.KeptCalls.{due_of}
 use Rattle.std.proofs.lemmas.Option.{slice_get_read}
 use Rattle.std.proofs.lemmas.Result.{on_ok_weaker}
 use Rattle.history_check.specs.declared.task_past.TaskPast.{TaskPast}
-use Rattle.history_check.proofs.FollowPast.{calls-of-task, no-task-there, of-own-task, tasks-set, tasks-still}
+use Rattle.history_check.proofs.FollowPast.{calls-of-task, no-task-there, tasks-set, tasks-still}
+use Rattle.history_check.proofs.OpenStacks.{of-own-task}
 use Rattle.history_check.proofs.past.Past.follow_calls.Goals as goal
 
 pub returns-in_default-clause-told : goal.returns-in_default-clause-told

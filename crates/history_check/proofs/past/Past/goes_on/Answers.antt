@@ -3,7 +3,8 @@ use Rattle.std.specs.Prelude.{IsTrue, ◌↔◌}
 use Rattle.std.proofs.lemmas.Option.{slice_get_past, slice_get_read}
 use Rattle.ft_hist.specs.Plain.{after_item}
 use Rattle.history_check.specs.Parts.{KeepsPlainRun}
-use Rattle.history_check.proofs.JudgeRuns.{few-calls, free-keeps, free-kept, ok-more, out-of, run-kept, run-told}
+use Rattle.history_check.proofs.FollowPast.{no-task}
+use Rattle.history_check.proofs.JudgeRuns.{few-calls, free-keeps, free-kept, ok-more, run-kept, run-told}
 use Rattle.history_check.proofs.past.Past.goes_on.Goals as goal
 
 pub take-requires : goal.take-requires
@@ -60,5 +61,5 @@ returns-in-None-clause-told c = λ job past is.
     let self = c.args.self.now in
     let call = c.in-Some.call in
     let of = sym c.call.ensures ∙ c.in-Some.is in
-    let none = sym (slice_get_past self.tasks.items call.task.0 c.in-None.ensures.item.3) in
-    (λ h. absurd cc, λ keeps. absurd (out-of job past self is c.args.item.now call of none keeps))
+    let none = slice_get_past self.tasks.items call.task.0 c.in-None.ensures.item.3 in
+    (λ h. absurd cc, λ keeps. absurd (no-task job past past self is c.args.item.now keeps call of none))

@@ -1,21 +1,13 @@
-use Rattle.std.proofs.Common.{subst, arith}
+use Rattle.std.proofs.Common.{refl, subst}
 use Rattle.history_check.specs.KeptPast.{IsFirstBroken}
-use Rattle.history_check.proofs.JudgeVerdicts.{few-begun, few-done}
+use Rattle.history_check.proofs.FollowPast.{begun-fits, done-fits}
 use Rattle.history_check.proofs.past.Past.note.Goals as goal
 
 pub first_broken-broken-requires-clause-done : goal.first_broken-broken-requires-clause-done
-first_broken-broken-requires-clause-done c =
-    let (job, past, is, room) = c.requires in
-    let same = is.done' in
-    let few = few-done past in
-    omega (arith, same, few, room)
+first_broken-broken-requires-clause-done c = let r = c.requires in done-fits r.0 r.1 r.1 c.args.self.now r.2 r.3 c.args.self.now.done refl
 
 pub first_broken-broken-requires-clause-begun : goal.first_broken-broken-requires-clause-begun
-first_broken-broken-requires-clause-begun c =
-    let (job, past, is, room) = c.requires in
-    let same = is.begun' in
-    let few = few-begun past in
-    omega (arith, same, few, room)
+first_broken-broken-requires-clause-begun c = let r = c.requires in begun-fits r.0 r.1 r.1 c.args.self.now r.2 r.3 c.args.self.now.begun refl
 
 pub returns-in_ok-take_in : goal.returns-in_ok-take_in
 returns-in_ok-take_in c = λ job past is.

@@ -1,10 +1,9 @@
-use Rattle.std.proofs.Common.{List}
-use Rattle.ft_base.specs.declared.item.Item.{Item}
 use Rattle.ft_base.specs.Job.{Job}
-use Rattle.history_check.specs.KeptPast.{IsPast}
-use Rattle.history_check.proofs.RuleSilence.{SilentBelow}
+use Rattle.history_check.specs.KeptDesks.{AreOf}
+use Rattle.history_check.proofs.RuleCalls.{has_visit}
+use Rattle.history_check.proofs.SilentLaws.{SilentBelow}
 use Rattle.history_check.proofs.rules.silence.is_silent.Given as goal
 
 -- each user so far was visited, or was off
 abbrev pub invariant-loop-u : goal.invariant-loop-u
-invariant-loop-u l = (job : Job) (items : List Item) → IsPast job items l.past → SilentBelow job items l.top l.u
+invariant-loop-u l = (job : Job) → AreOf job l.past.desks → SilentBelow job (has_visit l.top) l.top.from l.past.begun l.top.func.0 l.u
