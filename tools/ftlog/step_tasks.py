@@ -1,0 +1,124 @@
+"""Which task makes each step of a CPU, which a step trace doesn't say.
+
+A mark names its call, and so its task. For the steps between marks it is worked out from the script by the rules of docs/LANGUAGE.md,
+"Switches and the quantum", and each mark is compared with what comes out. If one is another task's, it can't be told from there on which
+tasks that CPU's loads and stores belong to, and only its marks are given to tasks.
+"""
+from typing import List, NamedTuple, Optional
+
+from ftlog import given_logs
+
+INTERRUPTS = ("softirq", "irq", "nmi", "iret")
+ACTS = ("call", "ret", "after", *INTERRUPTS)
+COMMANDS = 2**33  # what one command that has returned adds to the clock: its two items
+
+
+class Task(NamedTuple):
+    """A task of the script: its pid, its CPU, and its acts, each as its words."""
+
+    pid: int
+    cpu: int
+    acts: List[List[str]]
+
+
+def declared(text):
+    """The quantum of each CPU of a script with these bytes, and its tasks in the order of their lines."""
+    quanta, tasks = [], []
+    for _, words in given_logs.lines_of(text):
+        if words[0] == "cpu":
+            quanta.append(int(words[3]))
+        elif words[0] == "task":
+            tasks.append(Task(int(words[1]), int(words[3]), []))
+        elif words[0] in ACTS and tasks:
+            tasks[-1].acts.append(words)
+    return quanta, tasks
+
+
+class Cpu:
+    """Goes along the steps of a CPU, and keeps which of its tasks it runs."""
+
+    def __init__(self, quantum, tasks):
+        self.quantum, self.tasks = quantum, tasks  # the tasks by their numbers in the script
+        self.order = list(tasks)
+        self.done = dict.fromkeys(tasks, 0)  # how many acts each has finished
+        self.callbacks = dict.fromkeys(tasks, 0)  # how many of its entry callbacks are open
+        self.count, self.is_told = 0, True
+        self.present: Optional[int] = next((task for task in self.order if self.is_left(task)), None)
+
+    def is_left(self, task):
+        """Whether a task has an act left."""
+        return self.done[task] < len(self.tasks[task].acts)
+
+    def act(self):
+        """The words of the present task's next act; none if it has ended."""
+        task = self.present
+        return self.tasks[task].acts[self.done[task]] if task is not None and self.is_left(task) else []
+
+    def step(self, word, value, fields, is_polling):
+        """The number of the task that makes this step; None if it is none's, or can't be told.
+
+        The fields are those of the item if the step marks. `is_polling` says of a poll's step whether the CPU's next one belongs to that
+        poll, too, and is None for any other.
+        """
+        if fields is not None and self.is_told and (self.present is None or self.tasks[self.present].pid != fields["pid"]):
+            self.is_told = False
+        if not self.is_told:
+            return next((task for task in self.order if fields and self.tasks[task].pid == fields["pid"]), None)
+        task, must_switch = self.present, False
+        self.count += 1
+        if fields is not None:
+            self.mark(task, fields["item"])
+        elif word == "clock" and self.act()[:1] == ["after"]:
+            is_met = value // COMMANDS >= int(self.act()[1])
+            self.done[task] += is_met
+            must_switch = not is_met
+        elif is_polling is False and self.act() and self.act()[0] in INTERRUPTS:
+            self.done[task] += 1  # it is done with the last step of the poll
+        if not is_polling and not word.startswith("head."):
+            self.switch(must_switch)
+        return task
+
+    def mark(self, task, item):
+        """The task's act is done with the mark of the body or of the return, unless that is of a call in one of its callbacks."""
+        self.callbacks[task] += {"back": 1, "back-end": -1}.get(item, 0)
+        if item in ("body", "ret") and not self.callbacks[task]:
+            self.done[task] += 1
+
+    def switch(self, must_switch):
+        """The CPU goes on to the next task that is left if it has to, or if the present one has ended or its quantum is used up."""
+        if self.present is None or not (must_switch or self.count >= self.quantum or not self.is_left(self.present)):
+            return
+        at = self.order.index(self.present) + 1
+        self.present = next((task for task in self.order[at:] + self.order[:at] if self.is_left(task)), None)
+        self.count = 0
+
+
+def is_answer(word):
+    """Whether a CPU's step on this word belongs to a poll that an earlier step has begun."""
+    return word.startswith(("ack.", "quiet."))
+
+
+def tasks_of(trace, text):
+    """The number of the task of each step, in the order of the script's tasks, and the CPUs of which it can't be told to the end.
+
+    It is None for control, for a CPU's last poll, and for what can't be told.
+    """
+    quanta, tasks = declared(text)
+    cpus = [Cpu(quantum, {at: task for at, task in enumerate(tasks) if task.cpu == number}) for number, quantum in enumerate(quanta)]
+    names, fields = list(trace.words), iter(trace.fields)
+    later = [False] * len(trace.steps)  # whether the next step of the same actor goes on with a poll
+    last = {}
+    for at, step in enumerate(trace.steps):
+        if step.actor in last:
+            later[last[step.actor]] = is_answer(names[step.word])
+        last[step.actor] = at
+    found = []
+    for at, step in enumerate(trace.steps):
+        item = next(fields) if step.op == "m" else None
+        if step.actor == "k":
+            found.append(None)
+            continue
+        word = names[step.word]
+        in_poll = later[at] if word == "want" or is_answer(word) else None
+        found.append(cpus[int(step.actor)].step(word, step.value, item, in_poll))
+    return found, [number for number, cpu in enumerate(cpus) if not cpu.is_told]
