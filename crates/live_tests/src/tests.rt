@@ -1,4 +1,5 @@
-//! Seats that step in turn, from threads of the tests, and from those that `live_threads` starts.
+//! Seats that step in turn, from threads of the tests, and from those that `live_threads` and
+//! `live_lanes` start.
 
 mod histories;
 mod jobs;

@@ -1,14 +1,3 @@
-pub mod Alike
-pub mod Places
-pub mod Apart
-pub mod StartToEnd
-pub mod Offered
 pub mod RingSeats
 pub mod OnCpus
 pub mod RingRooms
-pub mod Sent
-pub mod Orders
-pub mod Counting
-pub mod Serving
-pub mod Conducting
-pub mod LaneRuns

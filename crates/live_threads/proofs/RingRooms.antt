@@ -17,7 +17,7 @@ use Rattle.word_machine.specs.Laws.{room_on}
 use Rattle.word_machine.specs.Limits.{IsLimited}
 use Rattle.machine_core.proofs.Plans.{Stands, own-on, room-most, stands-head, stands-tail}
 use Rattle.ft_machine.specs.Parts.{tasks_on, cpus_with, cpus_from}
-use Rattle.live_threads.specs.Traced.{AreRooms}
+use Rattle.live_seats.specs.Traced.{AreRooms}
 
 -- ## the tasks of a CPU among those from a number on
 

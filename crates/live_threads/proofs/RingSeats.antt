@@ -18,12 +18,12 @@ use Rattle.ring_rules.specs.Legal.{RingsLegal}
 use Rattle.ring_rules.specs.Plan.{TracePlan, plan_of}
 use Rattle.ring_table.specs.Seats.{Board as RingBoard, HaveItems, SeatHas, SeatPlace, AreSeats as AreRings, AreNew as AreNewRings}
 use Rattle.live_table.specs.Seats.{AreNew, AreSeats, Board, ControlPlace, ControlSitsAt, CpuPlace, IsRising, history_of, items_at, lists_at}
-use Rattle.live_threads.specs.AnySeats.{Tables, IsSeatOf, IsEndedSeat, AreSeatsOf, AreEndedSeats, all_traced}
-use Rattle.live_threads.specs.Ends.{IsEndedCpu, IsEndedControl, AreEnded}
-use Rattle.live_threads.specs.Traced.{AreRooms, AreSameRings, AreTraced, IsTraced, TracedPlace, ring_name, traced}
-use Rattle.live_threads.specs.declared.seat.AnySeat.{AnySeat}
-use Rattle.live_threads.specs.declared.seat.AnySeat.TheVariants.{Control, Cpu, Traced}
-use Rattle.live_threads.proofs.Apart.{all_together, ended_control}
+use Rattle.live_seats.specs.AnySeats.{Tables, IsSeatOf, IsEndedSeat, AreSeatsOf, AreEndedSeats, all_traced}
+use Rattle.live_seats.specs.Ends.{IsEndedCpu, IsEndedControl, AreEnded}
+use Rattle.live_seats.specs.Traced.{AreRooms, AreSameRings, AreTraced, IsTraced, TracedPlace, ring_name, traced}
+use Rattle.live_seats.specs.declared.seat.AnySeat.{AnySeat}
+use Rattle.live_seats.specs.declared.seat.AnySeat.TheVariants.{Control, Cpu, Traced}
+use Rattle.live_seats.proofs.Apart.{all_together, ended_control}
 use Rattle.live_threads.proofs.OnCpus.{have-items, of-legal}
 
 -- the two seats of a CPU

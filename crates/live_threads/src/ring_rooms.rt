@@ -4,7 +4,7 @@ ghost use Rattle.std.specs.Prelude.{◌≡◌, ◌≤◌, length, sum_by, All, I
 ghost use Rattle.ft_base.specs.declared.limits.TheConstants.{ACTS, TASKS};
 ghost use Rattle.history_bound.specs.Bound.{calls_in};
 ghost use Rattle.user_specs.specs.declared.plan.TaskPlan.{TaskPlan as DeclaredPlan};
-ghost use Rattle.live_threads.specs.Traced.{AreRooms};
+ghost use Rattle.live_seats.specs.Traced.{AreRooms};
 
 use ft_base::limits::Limits;
 use ft_base::{NoMemory, TaskAct};

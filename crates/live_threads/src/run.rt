@@ -1,15 +1,15 @@
 //! All seats of a table, brought to their ends.
 
-ghost use Rattle.std.specs.Prelude.{List, ◌≡◌, ◌≤◌, ◌+◌, ◌++◌, [], length, vec_len, vec_capacity, IfOk, IfErr};
-ghost use Rattle.live_table.specs.Seats.{AreSeats, ControlPlace, ControlSitsAt, CpuPlace};
-ghost use Rattle.live_threads.specs.AnySeats.{AreEndedSeats, AreSeatsOf, all_of, cpus_as_any, tables};
-ghost use Rattle.live_threads.specs.Ends.{AreEnded, IsEndedControl};
-ghost use Rattle.live_threads.specs.Rooms.{HasPlaces, HasRooms};
+ghost use Rattle.std.specs.Prelude.{◌≡◌, ◌≤◌, [], length, vec_capacity, IfOk, IfErr};
+ghost use Rattle.live_table.specs.Seats.{AreSeats, ControlSitsAt};
+ghost use Rattle.live_seats.specs.AnySeats.{AreEndedSeats, AreSeatsOf, tables};
+ghost use Rattle.live_seats.specs.Ends.{AreEnded, IsEndedControl};
+ghost use Rattle.live_seats.specs.Rooms.{HasPlaces, HasRooms};
 
-use crate::rooms::{Rooms, make_rooms};
-use crate::seat::AnySeat;
-use crate::seating::{Seating, end_all, launch_all};
 use ft_io::Gate;
+use live_seats::{
+    AnySeat, Ended, Rooms, Seating, add_cpus, end_all, launch_all, make_rooms, take_apart,
+};
 use live_table::{ControlSeat, CpuSeat, Live};
 use ring_table::RingTable;
 use std::alloc::Global;
@@ -17,45 +17,6 @@ use std::sync::Wait;
 use std::sync::atomic::AtomicBool;
 use std::thread;
 use std::thread::{Scope, Threads};
-
-/// The seats, each at its end.
-#[derive(Drop)]
-pub struct Ended {
-    /// Control's seat.
-    pub control: ControlSeat,
-    /// The CPUs' seats in the order in which they were given.
-    pub cpus: Vec<CpuSeat>,
-}
-
-/// The CPUs' seats after these, in order.
-pub(crate) fn add_cpus(mut seats: Vec<AnySeat>, cpus: Vec<CpuSeat>) -> Vec<AnySeat>
-    requires { vec_len seats + length cpus.items ≤ vec_capacity seats }
-    ensures { result.items ≡ seats.items ++ cpus_as_any cpus.items }
-{
-    for cpu in cpus {
-        seats.push_reserved(AnySeat::Cpu(cpu));
-    }
-    seats
-}
-
-/// Control's seat and the CPUs' apart again.
-pub(crate) fn take_apart(seats: Vec<AnySeat>, mut cpus: Vec<CpuSeat>) -> Ended
-    requires seats { (control : ControlPlace) × (all : List CpuPlace) × (seats.items ≡ all_of control all) }
-    requires room { (cpus.items ≡ []) × (length seats.items ≤ vec_capacity cpus + 1) }
-    ensures { seats.items ≡ all_of result.control result.cpus.items }
-{
-    let mut seats = seats.into_iter();
-    let Some(AnySeat::Control(control)) = seats.next() else {
-        unreachable!();
-    };
-    for seat in seats {
-        match seat {
-            AnySeat::Cpu(cpu) => cpus.push_reserved(cpu),
-            AnySeat::Control(_) | AnySeat::Traced(_) => unreachable!(),
-        }
-    }
-    Ended { control, cpus }
-}
 
 /// Brings each seat to its end.
 ///

@@ -7,7 +7,7 @@ use super::tally::Tally;
 use ft_base::UserNo;
 use ft_io::{Gate, OpenGate};
 use ft_machine::{Command, Ctl, Job};
-use live_threads::{LaneRun, run_lanes};
+use live_lanes::{LaneRun, run_lanes};
 use std::alloc::Global;
 use std::sync::Wait;
 use std::test::Fail;

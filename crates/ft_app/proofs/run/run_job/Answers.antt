@@ -1,5 +1,5 @@
 use Rattle.std.proofs.Common.{◌∙◌}
-use Rattle.live_threads.proofs.StartToEnd.{all_ended, seats_ended, seats_started}
+use Rattle.live_seats.proofs.StartToEnd.{all_ended, seats_ended, seats_started}
 use Rattle.ft_app.proofs.run.run_job.Goals as goal
 
 pub run_live-requires-clause-cpus : goal.run_live-requires-clause-cpus

@@ -1,8 +1,8 @@
 use Rattle.std.proofs.Common.{◌≡◌, List, ◌++◌, ◌∷◌, [], length, ap, ◌∙◌, arith}
 use Rattle.std.specs.Vec.Iter.{into_iter_items}
 use Rattle.live_table.specs.Seats.{CpuPlace}
-use Rattle.live_threads.specs.Traced.{TracedPlace}
-use Rattle.live_threads.specs.declared.seat.AnySeat.TheVariants.{Traced}
+use Rattle.live_seats.specs.Traced.{TracedPlace}
+use Rattle.live_seats.specs.declared.seat.AnySeat.TheVariants.{Traced}
 use Rattle.live_threads.proofs.RingSeats.{next_traced, one_added, rest_traced}
 use Rattle.live_threads.proofs.rings.add_traced.Goals as goal
 

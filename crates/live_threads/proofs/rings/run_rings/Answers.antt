@@ -5,9 +5,9 @@ use Rattle.std.proofs.lemmas.Option.{same_Some}
 use Rattle.word_machine.specs.Limits.{IsLimited}
 use Rattle.ring_rules.specs.Plan.{TracePlan, plan_of}
 use Rattle.ring_table.specs.Seats.{AreSeats as AreRings, Board as RingBoard}
-use Rattle.live_threads.specs.Traced.{AreRooms}
+use Rattle.live_seats.specs.Traced.{AreRooms}
+use Rattle.live_seats.proofs.StartToEnd.{all_ended, seats_ended, seats_started}
 use Rattle.live_threads.proofs.RingSeats.{all_traced_sit, rings_ended, rings_started, seats_traced}
-use Rattle.live_threads.proofs.StartToEnd.{all_ended, seats_ended, seats_started}
 use Rattle.live_threads.proofs.rings.run_rings.Goals as goal
 
 pub start-requires-clause-rooms : goal.start-requires-clause-rooms

@@ -1,9 +1,9 @@
 use Rattle.std.proofs.Common.{◌≡◌, ◌+◌, List, length, sym, ap, subst, ◌∙◌, arith}
 use Rattle.std.proofs.lemmas.Slice.Zip.{AllZip-long}
-use Rattle.live_threads.specs.AnySeats.{AreEndedSeats, IsEndedSeat, all_traced}
-use Rattle.live_threads.specs.Rooms.{HasPlaces}
-use Rattle.live_threads.specs.Traced.{traced}
-use Rattle.live_threads.specs.declared.seat.AnySeat.{AnySeat}
+use Rattle.live_seats.specs.AnySeats.{AreEndedSeats, IsEndedSeat, all_traced}
+use Rattle.live_seats.specs.Rooms.{HasPlaces}
+use Rattle.live_seats.specs.Traced.{traced}
+use Rattle.live_seats.specs.declared.seat.AnySeat.{AnySeat}
 use Rattle.live_threads.proofs.RingSeats.{all_traced_count, cpus_ended, rings_same, together, together_count, traced_again}
 use Rattle.live_threads.proofs.rings.run_traced.Goals as goal
 

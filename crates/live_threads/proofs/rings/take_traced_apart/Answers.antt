@@ -1,9 +1,9 @@
 use Rattle.std.proofs.Common.{◌≡◌, inl, inr, List, ◌++◌, ◌∷◌, [], length, ap, sym, ◌∙◌, arith, append_assoc, length-append}
 use Rattle.std.specs.Vec.Iter.{into_iter_items}
-use Rattle.live_threads.specs.Traced.{TracedPlace, traced}
-use Rattle.live_threads.specs.declared.seat.AnySeat.{AnySeat}
-use Rattle.live_threads.specs.declared.seat.AnySeat.TheVariants.{Control, Cpu, Traced}
-use Rattle.live_threads.proofs.Apart.{other_after}
+use Rattle.live_seats.specs.Traced.{TracedPlace, traced}
+use Rattle.live_seats.specs.declared.seat.AnySeat.{AnySeat}
+use Rattle.live_seats.specs.declared.seat.AnySeat.TheVariants.{Control, Cpu, Traced}
+use Rattle.live_seats.proofs.Apart.{other_after}
 use Rattle.live_threads.proofs.RingSeats.{made_more, own_more}
 use Rattle.live_threads.proofs.rings.take_traced_apart.Goals as goal
 

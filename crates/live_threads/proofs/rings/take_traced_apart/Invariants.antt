@@ -1,7 +1,7 @@
 use Rattle.std.proofs.Common.{◌≡◌, ◌≤◌, ◌+◌, ◌∷◌, ◌++◌, length, map, vec_len, vec_capacity}
 use Rattle.std.specs.Vec.Iter.{into_iter_items}
-use Rattle.live_threads.specs.Traced.{AreTraced, traced}
-use Rattle.live_threads.specs.declared.seat.AnySeat.TheVariants.{Control, Traced}
+use Rattle.live_seats.specs.Traced.{AreTraced, traced}
+use Rattle.live_seats.specs.declared.seat.AnySeat.TheVariants.{Control, Traced}
 use Rattle.live_threads.proofs.rings.take_traced_apart.Given as goal
 
 abbrev pub invariant-loop-seat : goal.invariant-loop-seat

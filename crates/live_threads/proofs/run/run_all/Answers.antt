@@ -1,10 +1,10 @@
 use Rattle.std.proofs.Common.{◌≡◌, List, ◌++◌, length, ◌∙◌, sym, ap, subst, arith}
 use Rattle.std.proofs.lemmas.Slice.Zip.{AllZip-long}
-use Rattle.live_threads.specs.AnySeats.{AreEndedSeats, IsSameSeat, tables}
-use Rattle.live_threads.specs.Seatings.{seats_in}
-use Rattle.live_threads.specs.declared.seat.AnySeat.{AnySeat}
-use Rattle.live_threads.proofs.Alike.{over_then, same_table}
-use Rattle.live_threads.proofs.Places.{as_many}
+use Rattle.live_seats.specs.AnySeats.{AreEndedSeats, IsSameSeat, tables}
+use Rattle.live_seats.specs.Seatings.{seats_in}
+use Rattle.live_seats.specs.declared.seat.AnySeat.{AnySeat}
+use Rattle.live_seats.proofs.Alike.{over_then, same_table}
+use Rattle.live_seats.proofs.Places.{as_many}
 use Rattle.live_threads.proofs.run.run_all.Goals as goal
 
 pub end_all-requires-clause-seats : goal.end_all-requires-clause-seats

@@ -1,7 +1,7 @@
 use Rattle.std.proofs.Common.{ℕ, ◌≡◌, ◌+◌, length, rules, sym, ap, subst, ◌∙◌, arith}
-use Rattle.live_threads.specs.AnySeats.{all_of, cpus_as_any}
-use Rattle.live_threads.specs.Rooms.{HasPlaces}
-use Rattle.live_threads.proofs.Apart.{all_count, all_over, all_sit, all_together, ended_apart, kinds_again, over_count}
+use Rattle.live_seats.specs.AnySeats.{all_of, cpus_as_any}
+use Rattle.live_seats.specs.Rooms.{HasPlaces}
+use Rattle.live_seats.proofs.Apart.{all_count, all_over, all_sit, all_together, ended_apart, kinds_again, over_count}
 use Rattle.live_threads.proofs.run.run_in.Goals as goal
 
 pub run_scoped-ended-requires-clause-seats : goal.run_scoped-ended-requires-clause-seats

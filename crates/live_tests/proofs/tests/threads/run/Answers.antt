@@ -1,4 +1,4 @@
-use Rattle.live_threads.proofs.StartToEnd.{seats_ended, seats_started}
+use Rattle.live_seats.proofs.StartToEnd.{seats_ended, seats_started}
 use Rattle.live_tests.proofs.tests.threads.run.Goals as goal
 
 pub run_live-requires-clause-cpus : goal.run_live-requires-clause-cpus

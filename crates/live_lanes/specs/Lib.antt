@@ -1,0 +1,3 @@
+pub mod LaneItems
+pub mod Led
+pub mod Conducted

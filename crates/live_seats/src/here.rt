@@ -1,0 +1,96 @@
+//! Seats that are stepped here, in turn.
+
+ghost use Rattle.std.specs.Prelude.{◌≡◌};
+ghost use Rattle.live_seats.specs.AnySeats.{AreSameSeats, AreSeatsOf, IsSameSeat, IsSeatOf, tables};
+ghost use Rattle.live_seats.specs.Seatings.{own_seats};
+
+use crate::passing::Passing;
+use crate::seat::{AnySeat, step_seat};
+use live_table::{Going, Live};
+use ring_table::RingTable;
+use std::sync::Wait;
+use std::thread;
+
+/// A seat that is stepped here, in turn with others.
+#[derive(Drop)]
+pub struct HereSeat {
+    /// The seat.
+    pub seat: AnySeat,
+    /// The number of its steps so far.
+    pub steps: u64,
+    /// Whether it is at its end.
+    pub over: bool,
+}
+
+impl HereSeat {
+    /// A seat that hasn't stepped.
+    pub(crate) fn new(seat: AnySeat) -> HereSeat
+        ensures { result.seat ≡ seat }
+    {
+        HereSeat {
+            seat,
+            steps: 0,
+            over: false,
+        }
+    }
+
+    /// One step, if the seat isn't at its end.
+    pub(crate) fn step<G: Passing>(
+        &mut self,
+        live: &Live,
+        rings: &Option<RingTable>,
+        gate: &G,
+    ) -> Going
+        requires { IsSeatOf (tables live.now rings.now) self.old.seat }
+        ensures { IsSameSeat self.old.seat self.new.seat }
+    {
+        if self.over {
+            return Going::End;
+        }
+        let going = step_seat(live, rings, gate, self.steps, &mut self.seat);
+        match going {
+            Going::More => self.steps = self.steps.saturating_add(1),
+            Going::End => self.over = true,
+        }
+        going
+    }
+}
+
+/// One step of each seat that isn't at its end.
+pub fn step_each<G: Passing>(
+    live: &Live,
+    rings: &Option<RingTable>,
+    gate: &G,
+    here: &mut Vec<HereSeat>,
+) -> Going
+    requires { AreSeatsOf (tables live.now rings.now) (own_seats here.old.items) }
+    ensures { AreSameSeats (own_seats here.old.items) (own_seats here.new.items) }
+{
+    let mut going = Going::End;
+    for i in 0..here.len() {
+        if here[i].step(live, rings, gate) == Going::More {
+            going = Going::More;
+        }
+    }
+    going
+}
+
+/// Steps the seats in turn until all of them are at their ends. One may wait for another, so none is
+/// stepped to its end alone.
+pub(crate) fn step_all<R: Wait, G: Passing>(
+    rt: &R,
+    live: &Live,
+    rings: &Option<RingTable>,
+    gate: &G,
+    here: &mut Vec<HereSeat>,
+)
+    requires { AreSeatsOf (tables live.now rings.now) (own_seats here.old.items) }
+    ensures { AreSameSeats (own_seats here.old.items) (own_seats here.new.items) }
+{
+    for _ in rt.forever() {
+        if step_each(live, rings, gate, here) == Going::End {
+            break;
+        }
+        thread::yield_now();
+    }
+}

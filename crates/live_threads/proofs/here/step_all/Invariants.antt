@@ -1,6 +1,0 @@
-use Rattle.live_threads.specs.AnySeats.{AreSameSeats}
-use Rattle.live_threads.specs.Seatings.{own_seats}
-use Rattle.live_threads.proofs.here.step_all.Given as goal
-
-abbrev pub invariant-loop : goal.invariant-loop
-invariant-loop g l = AreSameSeats (own_seats l.fn.here.items) (own_seats l.here.items)

@@ -1,5 +1,0 @@
-use Rattle.live_threads.specs.AnySeats.{IsSameSeat}
-use Rattle.live_threads.proofs.seat.run_seat.Given as goal
-
-abbrev pub invariant-loop : goal.invariant-loop
-invariant-loop g l = IsSameSeat l.fn.seat l.seat
