@@ -2,4 +2,5 @@ pub mod Fitting
 pub mod GrammarLemmas
 pub mod Ranges
 pub mod Texts
-pub mod SearchLemmas
+pub mod PlaceLemmas
+pub mod WordLemmas

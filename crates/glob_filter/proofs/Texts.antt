@@ -1,8 +1,13 @@
 -- One item more of a text.
-use Rattle.std.proofs.Common.{◌≡◌, ℕ, ◌+◌, List, [], ◌∷◌, ◌++◌, drop, zero, suc, refl, sym, ap, ◌∙◌, append_assoc, add_comm, add-one}
+use Rattle.std.proofs.Common.{◌≡◌, ℕ, ◌+◌, ◌≤◌, ◌==◌, Bool, true, false, true≢false, Some, None, cond, nat_lt, List, [], ◌∷◌, ◌++◌, drop, length, zero, suc, refl, sym, ap, ◌∙◌, inl, inr, arith, append_assoc, add_comm, add-one, length-append, length-drop}
+use Rattle.std.specs.List.{list_any}
+use Rattle.std.proofs.lemmas.Bool.{cases_lt, lt-ltb}
 use Rattle.std.proofs.lemmas.List.{map_push}
 use Rattle.glob_filter.specs.Items.{first_item, items_after, items_of}
 use Rattle.glob_filter.specs.Kept.{item_of, items_kept}
+use Rattle.glob_filter.specs.Causes.{backslash, first_cause}
+use Rattle.glob_filter.specs.declared.faults.PatternFault.TheVariants.{Empty, Backslash, TooLong}
+use Rattle.ft_base.specs.declared.limits.TheConstants.{PATTERN_BYTES}
 use Rattle.glob_filter.specs.declared.token.Token.{Token}
 
 -- the bytes that belong to an item before are dropped
@@ -26,3 +31,22 @@ one_more text tokens token rest b others after rest_is token_is after_is so_far 
     ap (λ item. item ∷ items_of after) token_is
     ∙ ap (λ items. (first_item b others).0 ∷ items) (ap items_of after_is ∙ sym (items_after-drop (first_item b others).1 others)) in
     pushed ∙ ap (λ items. items_kept tokens ++ items) (first ∙ ap items_of (sym rest_is)) ∙ so_far
+
+-- reading an item leaves no more of the text
+pub length_after : (tokens : List Token) (token : Token) (all : ℕ) (rest : List ℕ) (b n : ℕ) (others after : List ℕ) → rest ≡ b ∷ others → after ≡ drop n others
+    → length tokens + length rest ≤ all → length (tokens ++ token ∷ []) + length after ≤ all
+length_after tokens token all rest b n others after rest_is after_is most =
+    omega (arith, length-append tokens (token ∷ []), ap length rest_is, ap length after_is, length-drop n others)
+
+-- a text that no cause refuses is no longer than a pattern may be
+pub length-no_cause : (text : List ℕ) → first_cause text ≡ None → length text ≤ PATTERN_BYTES
+length-no_cause text e = elim (cases_lt PATTERN_BYTES (length text)) [
+  | inl h ↦ absurd (refused (length text == 0) (list_any (λ b. b == backslash) text) (nat_lt PATTERN_BYTES (length text)) (lt-ltb PATTERN_BYTES (length text) h) e)
+  | inr h ↦ h
+]
+  where
+    refused : (x y z : Bool) → z ≡ true → cond x (Some Empty) (cond y (Some Backslash) (cond z (Some TooLong) None)) ≡ None → ⊥
+    refused true y z h f = absurd cc
+    refused false true z h f = absurd cc
+    refused false false true h f = absurd cc
+    refused false false false h f = true≢false (sym h)

@@ -1,4 +1,4 @@
-pub mod Front
+pub mod Places
 pub mod Causes
 pub mod Fits
 pub mod Grammar

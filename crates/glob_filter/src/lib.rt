@@ -7,18 +7,22 @@
 //! pieces that the items match in order. Case counts, and bytes are compared as bytes. In the code
 //! an item is a `Token`.
 //!
+//! A name is matched byte by byte, by steps on words: a pattern has a bit for each *place*, which is
+//! a number of items, stars aside, that are still to be matched, and a byte costs a step for each 64
+//! places, whatever the items are. What the steps need to know of the pattern is worked out once, in
+//! a table of 2 kB for each 64 places.
+//!
 //! Promised: `Pattern::read` gives the items that the grammar gives the text, or the first cause to
 //! refuse it; `Pattern::matches` passes exactly if the name can be cut in this way, and takes no
-//! memory. Only tested, in `sets_tests`: that memory is found, and that a hostile pattern
-//! doesn't take a time that doubles with each `*`.
+//! memory. Only tested, in `sets_tests`: that memory is found, and that no hostile pattern takes long.
 #![tactic(auto)]
 
+mod bits;
 mod faults;
-mod front;
 mod laws;
 mod parse;
 mod pattern;
-mod search;
+mod places;
 mod token;
 
 pub use faults::PatternFault;

@@ -1,6 +1,6 @@
 //! From a text to its items.
 
-ghost use Rattle.std.specs.Prelude.{◌≡◌, map, drop, IfOk};
+ghost use Rattle.std.specs.Prelude.{◌≡◌, ◌≤◌, length, map, drop, IfOk};
 ghost use Rattle.glob_filter.specs.Items.{ranges_of, class_end, class_at, first_item, items_of};
 ghost use Rattle.glob_filter.specs.Kept.{bounds_of, item_of, items_kept};
 
@@ -75,7 +75,8 @@ fn read_token(alloc: Global, first: u8, text: &[u8]) -> Result<(Token, &[u8]), A
 
 /// The items of a text.
 pub fn read_tokens(alloc: Global, text: &[u8]) -> Result<Vec<Token>, AllocError>
-    ensures { IfOk result (λ v. items_kept v.items ≡ items_of text.now) }
+    ensures items { IfOk result (λ v. items_kept v.items ≡ items_of text.now) }
+    ensures most { IfOk result (λ v. length v.items ≤ length text.now) }
 {
     let mut tokens = Vec::new(alloc);
     let mut rest = text;

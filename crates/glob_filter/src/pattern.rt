@@ -7,7 +7,7 @@ ghost use Rattle.glob_filter.specs.Causes.{first_cause, IsCause};
 
 use crate::faults::{PatternFault, find_cause};
 use crate::parse::read_tokens;
-use crate::search::is_fit;
+use crate::places::Places;
 use crate::token::Token;
 use std::alloc::Global;
 use std::marker::Model;
@@ -16,6 +16,7 @@ use std::marker::Model;
 #[derive(Debug, Drop)]
 pub struct Pattern {
     tokens: Vec<Token>,
+    places: Places,
 }
 
 impl Model for Pattern {
@@ -27,6 +28,10 @@ impl Model for Pattern {
     ghost use Rattle.glob_filter.specs.Kept.{items_kept};
 
     ghost view = { λ p. items_kept p.tokens.items };
+
+    ghost use Rattle.glob_filter.specs.Places.{StandsFor};
+
+    ghost invariant = { λ p. StandsFor p.places.takes.items p.places.stars.items p.places.start (items_kept p.tokens.items) };
 }
 
 impl Pattern {
@@ -42,7 +47,8 @@ impl Pattern {
             return Err(cause);
         }
         let tokens = read_tokens(alloc, text.as_bytes()).map_err(|_| PatternFault::NoMemory)?;
-        Ok(Pattern { tokens })
+        let places = Places::new(alloc, tokens.as_slice()).map_err(|_| PatternFault::NoMemory)?;
+        Ok(Pattern { tokens, places })
     }
 
     /// Whether the pattern matches the whole name. It takes no memory.
@@ -50,6 +56,6 @@ impl Pattern {
         ensures test { result ≡ is_fit self.now name.now }
         ensures relation { IsTrue result ↔ Fits self.now name.now }
     {
-        is_fit(self.tokens.as_slice(), name.as_bytes())
+        self.places.matches(name.as_bytes())
     }
 }

@@ -1,4 +1,4 @@
-//! [`glob_filter::Pattern`]: patterns with names, the refusals in their order, and a hostile pattern.
+//! [`glob_filter::Pattern`]: patterns with names, the refusals in their order, lengths about the ends of words, and hostile patterns.
 
 use ft_base::limits::{NAME_BYTES, PATTERN_BYTES};
 use glob_filter::{Pattern, PatternFault};
@@ -15,7 +15,7 @@ fn repeated(alloc: Global, text: &str, count: usize) -> Result<String, AllocErro
 }
 
 /// A pattern, a name, and whether the name fits.
-static MATCHES: [(&str, &str, bool); 18] = [
+static MATCHES: [(&str, &str, bool); 26] = [
     ("sched*", "sched_fork", true),
     ("*lock*", "spin_lock_irq", true),
     ("a*b", "ab", true),
@@ -27,7 +27,7 @@ static MATCHES: [(&str, &str, bool); 18] = [
     ("[a", "[a", true),
     ("[c-a]", "b", false),
     ("*", "", true),
-    // the search after a `*`: a first place that fails, a `?`, a `*` and a class right after it
+    // after a `*`: a first place that fails, a `?`, a `*` and a class right after it
     ("*ab", "aab", true),
     ("*ab*b", "aab", false),
     ("*?b", "ab", true),
@@ -35,6 +35,15 @@ static MATCHES: [(&str, &str, bool); 18] = [
     ("**a", "ba", true),
     ("*[0-9]_*c", "ab1_2_c", true),
     ("*[0-9]x*c", "ab1_2_c", false),
+    // classes that are negated, one with a range and one with a `]`, and bytes of a longer character
+    ("[!]x]*", "ax", true),
+    ("[!]x]*", "]a", false),
+    ("*[!a-y]", "abz", true),
+    ("*[!a-y]", "zzb", false),
+    ("[!a]", "", false),
+    ("??", "é", true),
+    ("[!é]?", "é", false),
+    ("*é*", "aéb", true),
 ];
 
 /// Whether a name fits a pattern.
@@ -89,13 +98,73 @@ fn refuses_in_order(rt: HostRuntime) -> Result<(), Fail> {
     Ok(())
 }
 
-/// A search that goes back to every `*` would make more tries here than there is time for.
+/// Numbers of letters, most of them about those at which a pattern has one word of 64 places more.
+static COUNTS: [usize; 10] = [1, 61, 62, 63, 64, 126, 127, 190, 191, 252];
+
+/// What a pattern has before some letters, the letter, and what it has after them; what a name has
+/// after as many `a`; and whether the name fits.
+static SHAPES: [(&str, &str, &str, &str, bool); 10] = [
+    ("", "a", "", "", true),
+    ("", "a", "", "a", false),
+    ("", "a", "a", "", false),
+    ("", "a", "a", "b", false),
+    ("b", "a", "", "a", false),
+    ("", "?", "?", "b", true),
+    ("*", "a", "a", "aa", true),
+    ("*", "a", "a", "", false),
+    ("*", "a", "b", "a", false),
+    ("", "a", "*b", "b", true),
+];
+
+/// Texts of which a pattern is made, each so many times after a `*` and before a `b`. A search that
+/// goes back to a `*` would make many tries on names of one letter, for some more than there is time
+/// for.
+static HOSTILE: [(&str, usize); 5] = [
+    ("*a", 126),
+    ("a", 253),
+    ("?", 253),
+    ("[!b]", 63),
+    ("[bcdefghijklmnopa]", 14),
+];
+
+/// Whether a pattern matches a name of so many `a` and what comes after them. The pattern is a text
+/// `count` times, with something before and after.
+fn fits_long(
+    alloc: Global,
+    before: &str,
+    text: &str,
+    count: usize,
+    after: &str,
+    letters: usize,
+    more: &str,
+) -> Result<bool, Fail> {
+    let many = repeated(alloc, text, count)?;
+    let pattern = format!(in alloc; "{before}{many}{after}")?;
+    let mut name = repeated(alloc, "a", letters)?;
+    name.push_str(more)?;
+    Ok(fits(alloc, &pattern, &name)?)
+}
+
 #[test]
-fn ends_at_once_on_a_hostile_pattern(rt: HostRuntime) -> Result<(), Fail> {
-    let alloc = rt.alloc();
-    let mut text = repeated(alloc, "*a", 127)?;
-    text.push_str("b")?;
-    let name = repeated(alloc, "a", NAME_BYTES as usize)?;
-    assert!(rt; !fits(alloc, &text, &name)?);
+fn matches_at_the_ends_of_words(rt: HostRuntime) -> Result<(), Fail> {
+    for count in &COUNTS {
+        for (before, letter, after, more, want) in &SHAPES {
+            assert!(rt;
+                fits_long(rt.alloc(), before, letter, *count, after, *count, more)? == *want,
+                "{before}, {count} times {letter}, {after}"
+            );
+        }
+    }
+    Ok(())
+}
+
+#[test]
+fn ends_at_once_on_hostile_patterns(rt: HostRuntime) -> Result<(), Fail> {
+    for (text, count) in &HOSTILE {
+        assert!(rt;
+            !fits_long(rt.alloc(), "*", text, *count, "b", NAME_BYTES as usize, "")?,
+            "{text}"
+        );
+    }
     Ok(())
 }
