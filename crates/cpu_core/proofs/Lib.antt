@@ -7,6 +7,7 @@ pub mod Telling
 pub mod Views
 pub mod Polling
 pub mod TurnLoops
+pub mod Told
 pub mod WordsTold
 pub mod Numbers
 pub mod Turns

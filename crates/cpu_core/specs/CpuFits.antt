@@ -1,6 +1,6 @@
 -- What a CPU's operation asks: that its words are there, that there is room, and that the value fits.
 use Rattle.std.specs.Prelude.{ℕ, suc, ◌≡◌, ◌<◌, ◌^◌, true, false, length, None, IsSome, IsSomeAnd}
-use Rattle.grace_core.specs.Polls.{PhaseFits}
+use Rattle.grace_core.specs.Polls.{PhaseFits, untold}
 use Rattle.grace_core.specs.Views.{AreThere}
 use Rattle.word_map.specs.Contents.{greatest_half}
 use Rattle.cpu_core.specs.declared.parts.Parts.{Parts}
@@ -9,7 +9,7 @@ use Rattle.cpu_core.specs.declared.parts.Phase.TheVariants.{Going, Polling, Over
 use Rattle.cpu_core.specs.CpuOps.{is_running, present_task}
 use Rattle.cpu_core.specs.Marks.{HasRoom}
 use Rattle.task_core.specs.Fits.{CanBegin, HasAct, IsTaskThere, TaskFits}
-use Rattle.cpu_core.specs.PlainPolls.{looked}
+use Rattle.cpu_core.specs.PlainPolls.{looked, over}
 use Rattle.task_core.specs.TaskOps.{item_in, op_of, present}
 use Rattle.cpu_core.specs.Turns.{any_left}
 
@@ -37,11 +37,26 @@ pub record CanBeginAct (c : Parts) : Type 0 where
   pub present' : c.present < length c.tasks
   pub act : IsSomeAnd (present_task c) (λ t. HasAct t × CanBegin t (present t))
 
+-- after a poll the present task's act can begin, if an act is left
+abbrev pub CanGoOn : Parts → Type 0
+CanGoOn c = any_left c.tasks ≡ true → CanBeginAct c
+
+-- A poll that has loaded this request has nothing to store.
+--   ack    the CPU's own word holds it
+--   poll   no poll is under way
+--   tasks  the words of the tasks tell it
+--   left   an act is left
+pub record HasTold (c : Parts) (r : ℕ) : Type 0 where
+  pub ack : c.polls.poll.ack ≡ r
+  pub poll : over c.polls.poll.phase ≡ true
+  pub tasks : untold r (looked c.tasks).tasks ≡ None
+  pub left : any_left c.tasks ≡ true
+
 -- a poll is under way, and after its end the present task's act can begin
 pub record CanEndPoll (c : Parts) : Type 0 where
   pub lent : IsSome c.polls.poll.view
   pub size : length c.tasks ≡ c.polls.size
-  pub act : any_left c.tasks ≡ true → CanBeginAct c
+  pub act : CanGoOn c
 
 -- a poll can begin with this request
 pub record StartFits (c : Parts) (v : ℕ) : Type 0 where
@@ -49,7 +64,7 @@ pub record StartFits (c : Parts) (v : ℕ) : Type 0 where
   pub size : length c.tasks ≡ c.polls.size
   pub there : AreThere c.polls.poll.shape (looked c.tasks).tasks
   pub fits : v < greatest_half
-  pub act : any_left c.tasks ≡ true → CanBeginAct c
+  pub act : CanGoOn c
 
 -- a poll can go on with this value
 pub record PollFits (c : Parts) (v : ℕ) : Type 0 where

@@ -4,7 +4,7 @@ use Rattle.ft_base.specs.declared.limits.TheConstants.{TASKS}
 use Rattle.grace_core.specs.Views.{PlainView}
 use Rattle.grace_core.specs.declared.view.PollView.{PollView}
 use Rattle.cpu_core.specs.declared.polls.Polls.TheInside.{Inside}
-use Rattle.cpu_core.specs.PlainPolls.{PlainPolls}
+use Rattle.cpu_core.specs.PlainPolls.{IsKnown, PlainPolls}
 
 -- what contracts see
 abbrev pub polls_of : Inside → PlainPolls
@@ -20,3 +20,4 @@ IsLent size None None = ⊥
 pub record IsKept (d : Inside) : Type 0 where
   pub few : d.size ≤ TASKS
   pub lent : IsLent d.size d.view d.poller.view
+  pub known : IsKnown d.known d.poller.ack

@@ -1,5 +1,5 @@
 -- The polls of a CPU, as contracts see them.
-use Rattle.std.specs.Prelude.{ℕ, Bool, true, false, not, List, [], map, Option, Some, None}
+use Rattle.std.specs.Prelude.{ℕ, ◌≡◌, Bool, true, false, not, List, [], map, Option, Some, None}
 use Rattle.grace_core.specs.declared.poller.PollPhase.{PollPhase}
 use Rattle.grace_core.specs.declared.poller.PollPhase.TheVariants.{Asking, Acking, Telling, Ended}
 use Rattle.grace_core.specs.declared.view.TaskView.{TaskView}
@@ -29,3 +29,8 @@ over Asking = false
 over (Acking r) = false
 over (Telling r i) = false
 over Ended = true
+
+-- the CPU's own word holds this request, if it is known
+abbrev pub IsKnown : Option ℕ → ℕ → Type 0
+IsKnown None ack = Unit {0}
+IsKnown (Some r) ack = ack ≡ r

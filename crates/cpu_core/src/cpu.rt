@@ -96,6 +96,7 @@ impl Cpu {
     }
 
     /// Its next operation; none at its end.
+    #[inline(always)]
     pub fn next(&self) -> Option<Op>
         ensures { (job : Job) → IsLimited job → IsFor job self.now
             → result ≡ option_map (placed (shape_of job)) (cpu_next job (cpu_of job self.now)) }
@@ -104,6 +105,7 @@ impl Cpu {
     }
 
     /// Takes the value that its next operation gave, and goes on. It takes no memory.
+    #[inline(always)]
     pub fn got(&mut self, value: u64)
         requires { IsTaken self.old value }
         ensures of { (job : Job) → IsLimited job → IsFor job self.old → CpuTakes job (cpu_of job self.old) value → IsFor job self.new }

@@ -1,13 +1,13 @@
 //! The parts of a CPU, and its steps. What [`Cpu`](crate::Cpu) promises of them is proved there.
 
-ghost use Rattle.std.specs.Prelude.{◌≡◌, IsSomeAnd};
+ghost use Rattle.std.specs.Prelude.{◌≡◌, true, IsSomeAnd};
 ghost use Rattle.std.specs.Option.{option_map};
 ghost use Rattle.word_map.specs.Ops.{placed};
 ghost use Rattle.cpu_core.specs.CpuOps.{is_running, cpu_op, present_task};
-ghost use Rattle.cpu_core.specs.CpuSteps.{began_poll, ended_poll, marks_in, polled_on, stepped, switched, went, with_step};
+ghost use Rattle.cpu_core.specs.CpuSteps.{after_poll, began_poll, ended_poll, marks_in, polled_on, stepped, switched, went, with_step};
 ghost use Rattle.task_core.specs.TaskOps.{op_of};
 ghost use Rattle.task_core.specs.TaskSteps.{task_after};
-ghost use Rattle.cpu_core.specs.CpuFits.{CanEndPoll, CanSwitch, CpuFits, GoFits, HasNext, PollFits, StartFits};
+ghost use Rattle.cpu_core.specs.CpuFits.{CanEndPoll, CanGoOn, CanSwitch, CpuFits, GoFits, HasNext, HasTold, PollFits, StartFits};
 
 use crate::marked::Marked;
 use crate::polls::Polls;
@@ -46,6 +46,7 @@ pub(crate) struct Parts {
 
 impl Parts {
     /// Its next operation; none at its end.
+    #[inline(always)]
     pub(crate) fn op(&self) -> Option<Op>
         requires { HasNext self.now }
         ensures { result ≡ option_map (placed self.now.setup.shape) (cpu_op self.now) }
@@ -67,6 +68,7 @@ impl Parts {
     }
 
     /// Takes the value that its next operation gave, and goes on.
+    #[inline(always)]
     pub(crate) fn step(&mut self, value: u64)
         requires { CpuFits self.old value }
         ensures { self.new ≡ stepped self.old value }
@@ -139,9 +141,27 @@ impl Parts {
         requires { StartFits self.old value }
         ensures { self.new ≡ began_poll self.old value }
     {
+        if self.has_told(value) {
+            // Nothing has changed since a poll that stored nothing. With eight tasks that wait, to look
+            // at each of them again is most of what a turn costs.
+            self.go_on_after_poll();
+            return;
+        }
         self.polls.begin(&self.tasks, value);
-        self.phase = Phase::Polling;
-        self.end_if_over();
+        if self.polls.is_over() {
+            self.polls.end(&mut self.tasks);
+            self.tasks.note_told(value);
+            self.go_on_after_poll();
+        } else {
+            self.phase = Phase::Polling;
+        }
+    }
+
+    /// Whether it is known that a poll which has loaded this request has nothing to store.
+    fn has_told(&self, request: u64) -> bool
+        ensures { result ≡ true → HasTold self.now request }
+    {
+        self.polls.has_told(request) && self.tasks.have_told(request) && self.tasks.is_any_left()
     }
 
     /// The poll's next operation gave this value.
@@ -153,8 +173,8 @@ impl Parts {
         self.end_if_over();
     }
 
-    /// At the end of a poll the present task's act begins, or, if every task has ended, the CPU is at
-    /// its end. No act begins earlier: what the poll tells of the task would not be so any more.
+    /// At the end of a poll the CPU goes on. No act begins earlier: what the poll tells of the task
+    /// would not be so any more.
     fn end_if_over(&mut self)
         requires { CanEndPoll self.old }
         ensures { self.new ≡ ended_poll self.old }
@@ -163,6 +183,14 @@ impl Parts {
             return;
         }
         self.polls.end(&mut self.tasks);
+        self.go_on_after_poll();
+    }
+
+    /// After a poll the present task's act begins, or, if every task has ended, the CPU is at its end.
+    fn go_on_after_poll(&mut self)
+        requires { CanGoOn self.old }
+        ensures { self.new ≡ after_poll self.old }
+    {
         if self.tasks.is_any_left() {
             self.phase = Phase::Going;
             self.tasks.begin_act(self.present);

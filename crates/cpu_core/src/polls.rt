@@ -1,15 +1,15 @@
 //! The polls of a CPU: before each act of its tasks, and once after the last act. Control waits for
 //! what they tell. A CPU that ran on without them would let it wait for ever.
 
-ghost use Rattle.std.specs.Prelude.{◌≡◌, ◌<◌, length, IfOk, IsSome, None};
+ghost use Rattle.std.specs.Prelude.{◌≡◌, ◌<◌, true, length, IfOk, IsSome, None};
 ghost use Rattle.std.specs.Option.{option_map};
 ghost use Rattle.grace_core.specs.Pasts.{begun};
-ghost use Rattle.grace_core.specs.Polls.{PhaseFits, poll_got, poll_next, poll_start};
-ghost use Rattle.grace_core.specs.Views.{AreThere};
+ghost use Rattle.grace_core.specs.Polls.{PhaseFits, Poll, poll_got, poll_next, poll_start};
+ghost use Rattle.grace_core.specs.Views.{AreThere, PlainView};
 ghost use Rattle.grace_core.specs.declared.poller.PollPhase.TheVariants.{Ended};
 ghost use Rattle.word_map.specs.Contents.{greatest_half};
 ghost use Rattle.word_map.specs.Ops.{placed};
-ghost use Rattle.cpu_core.specs.PlainPolls.{lent_words, looked, over};
+ghost use Rattle.cpu_core.specs.PlainPolls.{IsKnown, lent_words, looked, over};
 ghost use Rattle.cpu_core.specs.Turns.{with_words};
 
 use crate::tasks::Tasks;
@@ -27,6 +27,8 @@ pub(crate) struct Polls {
     /// What the CPU lends to a poll; none while the poll has it.
     view: Option<PollView>,
     size: u32,
+    /// What the CPU's own word holds, if the last poll has loaded it and stored nothing.
+    known: Option<u64>,
 }
 
 impl Model for Polls {
@@ -57,6 +59,7 @@ impl Polls {
             poller: Poller::new(cpu, words),
             view: Some(view),
             size: tasks.len(),
+            known: None,
         })
     }
 
@@ -71,7 +74,17 @@ impl Polls {
     pub(crate) fn is_over(&self) -> bool
         ensures { result ≡ over self.now.poll.phase }
     {
-        self.poller.next().is_none()
+        is_idle(&self.poller)
+    }
+
+    /// Whether no poll is under way, and it is known that the CPU's own word holds this request.
+    pub(crate) fn has_told(&self, request: u64) -> bool
+        ensures { result ≡ true → (self.now.poll.ack ≡ request) × (over self.now.poll.phase ≡ true) }
+    {
+        match self.known {
+            Some(known) => known == request && is_idle(&self.poller),
+            None => false,
+        }
     }
 
     /// The last request is loaded: a poll begins.
@@ -88,10 +101,12 @@ impl Polls {
         // The poll sees the tasks as they are now. One that was quiet at the last poll may be within
         // a call: told to be quiet, it might call a user back after the user's unregistration has
         // returned.
-        view.all_ended = !tasks.is_any_left();
+        let all_ended = !tasks.is_any_left();
+        view.all_ended = all_ended;
         tasks.look(view.tasks.as_mut_slice());
         self.poller.begin(view);
         self.poller.got(request);
+        self.known = known_after(&self.poller, all_ended, request);
     }
 
     /// The poll's next operation gave this value.
@@ -99,6 +114,7 @@ impl Polls {
         requires { PhaseFits self.old.poll.phase value }
         ensures { self.new ≡ record self.old { poll = poll_got self.old.poll value } }
     {
+        self.known = None;
         self.poller.got(value);
     }
 
@@ -113,6 +129,26 @@ impl Polls {
         let view = self.poller.hand_back();
         tasks.take_words(view.tasks.as_slice());
         self.view = Some(view);
+    }
+}
+
+/// Whether this poll is over, or none has begun.
+fn is_idle(poller: &Poller) -> bool
+    ensures { result ≡ over poller.now.phase }
+{
+    poller.next().is_none()
+}
+
+/// What the CPU's own word holds, if that is known of a poll which has just loaded this request: the
+/// request, if the poll is over at once and a task has an act left.
+fn known_after(poller: &Poller, all_ended: bool, request: u64) -> Option<u64>
+    ensures { (before : Poll) (view : PlainView) → poller.now ≡ poll_got (begun before view) request → view.all_ended ≡ all_ended
+        → IsKnown result poller.now.ack }
+{
+    if is_idle(poller) && !all_ended {
+        Some(request)
+    } else {
+        None
     }
 }
 

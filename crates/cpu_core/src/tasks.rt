@@ -1,8 +1,9 @@
 //! The tasks of a CPU, and which of them runs.
 
-ghost use Rattle.std.specs.Prelude.{◌≡◌, ◌<◌, ◌≤◌, length, map, set, slice_get, Some, All, IfOk, IsSomeAnd};
+ghost use Rattle.std.specs.Prelude.{◌≡◌, ◌<◌, ◌≤◌, true, if◌then◌else◌, length, map, set, slice_get, Some, None, All, IfOk, IsSomeAnd};
 ghost use Rattle.ft_base.specs.declared.limits.TheConstants.{ACTS, FRAMES, GUARD_LEVELS, TASKS};
 ghost use Rattle.user_specs.specs.declared.plan.TaskPlan.{TaskPlan as DeclaredPlan};
+ghost use Rattle.grace_core.specs.Polls.{untold};
 ghost use Rattle.task_core.specs.Fits.{CanBegin, HasAct, TaskFits};
 ghost use Rattle.task_core.specs.Starts.{view_of};
 ghost use Rattle.task_core.specs.TaskOps.{item_in, op_of, present};
@@ -20,6 +21,9 @@ use user_specs::TaskPlan;
 #[derive(Drop)]
 pub(crate) struct Tasks {
     tasks: Vec<Task>,
+    /// A request that each task's word tells, as far as a poll is to tell it; none if that isn't known.
+    /// Most polls of a task that waits load the same request again, and need not go over all tasks.
+    told: Option<u64>,
 }
 
 impl Model for Tasks {
@@ -54,7 +58,7 @@ impl Tasks {
         for plan in plans {
             tasks.push_reserved(Task::new(alloc, plan, frames, levels)?);
         }
-        Ok(Tasks { tasks })
+        Ok(Tasks { tasks, told: None })
     }
 
     /// How many there are.
@@ -118,7 +122,11 @@ impl Tasks {
         ensures tasks { IsSomeAnd (slice_get self.old i) (λ t. self.new ≡ set self.old i (task_after t setup.now value)) }
         ensures item { IsSomeAnd (slice_get self.old i) (λ t. result ≡ item_in (op_of t)) }
     {
-        self.tasks[i as usize].got(setup, value)
+        // A wait that isn't met changes nothing that a poll looks at.
+        let told = known_if(self.tasks[i as usize].is_unmet(value), self.told);
+        let item = self.tasks[i as usize].got(setup, value);
+        self.told = told;
+        item
     }
 
     /// The poll of the present act of the task at this index is over.
@@ -126,7 +134,11 @@ impl Tasks {
         requires { IsSomeAnd (slice_get self.old i) (λ t. HasAct t × CanBegin t (present t)) }
         ensures { IsSomeAnd (slice_get self.old i) (λ t. self.new ≡ set self.old i (begun t (present t))) }
     {
+        // A task is quiet before its act and at the act's first operation. An interrupt that comes or
+        // goes is an act that has ended.
+        let told = known_if(self.tasks[i as usize].is_polling(), self.told);
         self.tasks[i as usize].begin_act();
+        self.told = known_if(!self.tasks[i as usize].is_polling(), told);
     }
 
     /// What a poll has stored for each task is what the task's word holds.
@@ -134,8 +146,27 @@ impl Tasks {
         requires { length views.now ≡ length self.old }
         ensures { self.new ≡ with_words self.old views.now }
     {
+        self.told = None;
         for i in 0..self.tasks.len() {
             self.tasks[i].told(views[i].word);
+        }
+    }
+
+    /// Each task's word tells this request. That is known until one of them changes.
+    pub(crate) fn note_told(&mut self, request: u64)
+        requires { untold request (map view_of self.old) ≡ None }
+        ensures { self.new ≡ self.old }
+    {
+        self.told = Some(request);
+    }
+
+    /// Whether it is known that each task's word tells this request, so that a poll has none to store.
+    pub(crate) fn have_told(&self, request: u64) -> bool
+        ensures { result ≡ true → untold request (map view_of self.now) ≡ None }
+    {
+        match self.told {
+            Some(told) => told == request,
+            None => false,
         }
     }
 
@@ -148,4 +179,11 @@ impl Tasks {
             views[i] = self.tasks[i].view();
         }
     }
+}
+
+/// What was known, if it still holds.
+fn known_if(holds: bool, known: Option<u64>) -> Option<u64>
+    ensures { result ≡ (if holds then known else None) }
+{
+    if holds { known } else { None }
 }
