@@ -1,19 +1,21 @@
 -- The fields of control keep what they should.
-use Rattle.std.proofs.Common.{◌≡◌, suc, ◌+◌, ◌*◌, ◌<◌, ◌≤◌, true, refl, sym, ap, ◌∙◌, subst, arith}
+use Rattle.std.proofs.Common.{◌≡◌, ℕ, suc, ◌+◌, ◌*◌, ◌<◌, ◌≤◌, true, refl, sym, ap, ap₂, ◌∙◌, subst, arith}
+use Rattle.ft_base.proofs.Small.{false_true}
+use Rattle.word_map.specs.declared.shape.Shape.{Shape}
 use Rattle.word_map.specs.Places.{words_for}
 use Rattle.grace_core.specs.declared.waiter.WaitPhase.{WaitPhase}
 use Rattle.grace_core.specs.declared.waiter.WaitPhase.TheVariants.{Asking, Waiting, Ended as WaitEnded}
 use Rattle.hash_pages.specs.Pages.{Page}
-use Rattle.patch_core.specs.Moves.{Batched}
+use Rattle.patch_core.specs.Moves.{Batched, Move, Do, Sync, Done, batch_next, is_store}
 use Rattle.ft_desk.specs.Plans.{PlainPlan}
 use Rattle.control_core.specs.declared.phase.Phase.{Phase}
 use Rattle.control_core.specs.declared.phase.Phase.TheVariants as phase
 use Rattle.control_core.specs.declared.control.Control.TheInside.{Inside}
-use Rattle.control_core.specs.Phases.{batch_to, list_to}
+use Rattle.control_core.specs.Phases.{batch_to, list_to, move_to}
 use Rattle.control_core.specs.Seated.{Seated}
 use Rattle.control_core.specs.Kept.{HasLeft, IsKept, asked, asked_by, busy, moves, seated_of, requests_of_line}
 use Rattle.std.specs.Prelude.{is_some}
-use Rattle.control_core.specs.Steps.{page_after, write_next}
+use Rattle.control_core.specs.Steps.{moved, page_after, write_next}
 use Rattle.control_core.proofs.Pages.{has-left}
 use Rattle.control_core.proofs.Safe.{Goes, in-phase, batch-goes, list-goes, with_made}
 
@@ -62,6 +64,30 @@ batch-go d b p plan k busy-is lt eb ep e =
     let few : d.request ≤ requests_of_line * d.line + d.batch.made + asked d.phase = k.safe.requests in
     let one : asked d.phase ≤ 1 = asked-one d.phase in
     go d b p k busy-is (shape-is ∙ k.batch) (omega arith) goes (omega arith)
+
+-- before a store of the batch
+patching-to : (shape : Shape) (p : PlainPlan) (made request : ℕ) → is_store (batch_next p.sites made) ≡ true → batch_to shape p made request ≡ phase.Patching
+patching-to shape p made request = by (batch_next p.sites made)
+  where
+    by : (m : Move) → is_store m ≡ true → move_to shape p request m ≡ phase.Patching
+    by (Do op) e = refl
+    by Sync e = false_true e
+    by Done e = false_true e
+
+-- after one more store of the batch, if another one follows
+module _ (d : Inside) (b : Batched) (plan : PlainPlan) (at' : d.phase ≡ phase.Patching) (eb : b ≡ record { shape = d.batch.shape; made = suc d.batch.made })
+    (ep : plan ≡ d.desk.plan) (test : is_store (batch_next plan.sites b.made) ≡ true) where
+  pub store-go : IsKept d → IsKept (record d { batch = b })
+  store-go k = batch-go d b d.phase plan k (ap busy at') (subst (HasLeft (seated_of d)) at' k.safe.left) eb ep
+      (at' ∙ sym (patching-to d.map plan b.made d.request test))
+
+  pub store-seen : (s : Seated) → seated_of d ≡ s → seated_of (record d { batch = b }) ≡ moved s (suc s.made)
+  store-seen s v =
+      let made-is : b.made ≡ suc d.batch.made = ap (λ (x : Batched). x.made) eb in
+      let next : is_store (batch_next d.desk.plan.sites (suc d.batch.made)) ≡ true =
+      sym (ap₂ (λ (q : PlainPlan) (n : ℕ). is_store (batch_next q.sites n)) ep made-is) ∙ test in
+      ap₂ (λ (n : ℕ) (p : Phase). record (seated_of d) { made = n; phase = p }) made-is (at' ∙ sym (patching-to d.map d.desk.plan (suc d.batch.made) d.request next))
+      ∙ ap (λ (c : Seated). moved c (suc c.made)) v
 
 -- in another phase, none of whose requests is stored
 pub list-go : (d : Inside) (p : Phase) (plan : PlainPlan) → IsKept d → busy d.phase ≡ 1 → asked d.phase ≡ 0

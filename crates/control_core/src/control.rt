@@ -336,6 +336,10 @@ impl Control {
         ensures { self.new ≡ moved self.old (suc self.old.made) }
     {
         self.batch.did();
+        // A batch is many stores, after most of which another one follows: then the phase stays.
+        if self.batch.is_at_store(self.desk.last().sites.as_slice()) {
+            return;
+        }
         self.phase = batch_phase(&self.map, self.desk.last(), &self.batch, self.request);
     }
 

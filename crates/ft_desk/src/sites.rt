@@ -4,12 +4,13 @@
 //! how many users are sited there, and the *total* of their numbers, each counted from 1. So if one
 //! user alone is sited, the total says which.
 
-ghost use Rattle.std.specs.Prelude.{◌≡◌, ℕ, suc, ◌+◌, ◌-◌, ◌≤◌, ◌<◌, ◌^◌, true, [], length, slice_index, is_some, not, false, ◌∷◌, ◌++◌, vec_len, vec_capacity, if◌then◌else◌};
+ghost use Rattle.std.specs.Prelude.{◌≡◌, ◌≢◌, ℕ, suc, ◌+◌, ◌-◌, ◌≤◌, ◌<◌, ◌^◌, true, [], length, slice_index, is_some, not, List, false, ◌∷◌, ◌++◌, vec_len, vec_capacity, if◌then◌else◌};
 ghost use Rattle.ft_base.specs.declared.item.Ran.TheVariants.{List as ByList, Own};
 ghost use Rattle.ft_base.specs.Marks.{holds, union, difference};
-ghost use Rattle.site_counts.specs.Rows.{row_of};
+ghost use Rattle.site_counts.specs.Rows.{row_of, HasRoom, HasUser};
 ghost use Rattle.ft_desk.specs.Sites.{changed_sites, same_insn};
 ghost use Rattle.ft_desk.specs.Users.{insn_by, ran_by, user_of};
+ghost use Rattle.ft_desk.specs.declared.user.User.{User};
 ghost use Rattle.ft_desk.specs.Moves.{MayMove, TellsOne, moved, moved_row, insn_before, insn_after};
 
 use crate::user::User;
@@ -58,32 +59,6 @@ fn ran_alone(user: UserNo, users: &[User]) -> Ran
     }
 }
 
-/// Adds a user to the totals of the functions of a set.
-pub(crate) fn raise(totals: &mut [u32], set: &SiteSet, user: UserNo)
-    requires size { length set.now ≡ length totals.old }
-    requires room { (f : ℕ) → holds set.now f ≡ true → slice_index totals.old f + suc user.0 < 2 ^ 32 }
-    ensures { (f : ℕ) → slice_index totals.new f ≡ slice_index totals.old f + (if holds set.now f then suc user.0 else 0) }
-{
-    let mut from = 0;
-    while let Some(f) = set.next_member(from) {
-        totals[f as usize] += user.0 + 1;
-        from = f + 1;
-    }
-}
-
-/// Takes a user from the totals of the functions of a set.
-pub(crate) fn lower(totals: &mut [u32], set: &SiteSet, user: UserNo)
-    requires size { length set.now ≡ length totals.old }
-    requires there { (f : ℕ) → holds set.now f ≡ true → suc user.0 ≤ slice_index totals.old f }
-    ensures { (f : ℕ) → slice_index totals.new f ≡ slice_index totals.old f - (if holds set.now f then suc user.0 else 0) }
-{
-    let mut from = 0;
-    while let Some(f) = set.next_member(from) {
-        totals[f as usize] -= user.0 + 1;
-        from = f + 1;
-    }
-}
-
 /// The same after the user has come, or has left.
 fn insn_moved(count: u32, total: u32, users: &[User], user: UserNo, comes: bool) -> Insn
     requires there { comes ≡ false → (1 ≤ count) × (suc user.0 ≤ total) }
@@ -124,38 +99,112 @@ fn is_same(one: Insn, other: Insn) -> bool
     }
 }
 
-/// Writes down the sites that change when the user comes to the functions of one set and leaves those
-/// of another; `touched` has both.
-pub(crate) fn list_changes(
+/// Whether a site calls the list caller before the user comes or leaves, and after it, if this many
+/// users are sited there before. It is so at most sites if many users are registered.
+fn stays_listed(count: u32, comes: bool) -> bool
+    ensures { result ≡ true → (users : List User) (before after : ℕ)
+        → same_insn (insn_by users count before) (insn_by users (moved comes (not comes) 1 count) after) ≡ true }
+{
+    if comes { count >= 2 } else { count >= 3 }
+}
+
+/// Writes a site down if its instruction changes when the user comes there, or leaves it.
+fn list_change(
     sites: &mut Vec<SiteChange>,
-    counts: &Counts,
-    totals: &[u32],
+    f: u32,
+    count: u32,
+    total: u32,
+    users: &[User],
+    user: UserNo,
+    comes: bool,
+)
+    requires before { TellsOne (length users.now) count total }
+    requires there { comes ≡ false → (1 ≤ count) × (suc user.0 ≤ total) }
+    requires room { comes ≡ true → count + 1 < 2 ^ 32 }
+    requires small { total + suc user.0 < 2 ^ 32 }
+    requires after { TellsOne (length users.now) (moved comes (not comes) 1 count) (moved comes (not comes) (suc user.0) total) }
+    requires space { vec_len sites.old < vec_capacity sites.old }
+    ensures items { sites.new.items ≡ (if same_insn (insn_by users.now count total)
+        (insn_by users.now (moved comes (not comes) 1 count) (moved comes (not comes) (suc user.0) total)) then sites.old.items
+        else sites.old.items ++ record {
+          func = record { 0 = f };
+          insn = insn_by users.now (moved comes (not comes) 1 count) (moved comes (not comes) (suc user.0) total);
+        } ∷ []) }
+    ensures len { vec_len sites.new ≤ vec_len sites.old + 1 }
+    ensures capacity { vec_capacity sites.new ≡ vec_capacity sites.old }
+{
+    if stays_listed(count, comes) {
+        return;
+    }
+    let old = insn_by(count, total, users);
+    let new = insn_moved(count, total, users, user, comes);
+    push_change(sites, f, old, new);
+}
+
+/// The user comes to one function, or leaves it: in the counts and the totals.
+fn move_at(counts: &mut Counts, totals: &mut [u32], f: u32, this: &User, user: UserNo, comes: bool)
+    requires within { f < length counts.old }
+    requires totals { length totals.old ≡ length counts.old }
+    requires room { comes ≡ true → HasRoom (row_of counts.old f) }
+    requires there { comes ≡ false → HasUser this.now.regs (is_some this.now.ipmodify) (row_of counts.old f) }
+    requires numbered { comes ≡ false → suc user.0 ≤ slice_index totals.old f }
+    requires small { slice_index totals.old f + suc user.0 < 2 ^ 32 }
+    ensures row { row_of counts.new f
+        ≡ moved_row comes (not comes) this.now.regs (is_some this.now.ipmodify) (row_of counts.old f) }
+    ensures rows { (g : ℕ) → g ≢ f → row_of counts.new g ≡ row_of counts.old g }
+    ensures size { length counts.new ≡ length counts.old }
+    ensures total { slice_index totals.new f ≡ moved comes (not comes) (suc user.0) (slice_index totals.old f) }
+    ensures totals { (g : ℕ) → g ≢ f → slice_index totals.new g ≡ slice_index totals.old g }
+{
+    if comes {
+        counts.add_at(f, this.regs, this.modifies());
+        totals[f as usize] += user.0 + 1;
+    } else {
+        counts.drop_at(f, this.regs, this.modifies());
+        totals[f as usize] -= user.0 + 1;
+    }
+}
+
+/// The user comes to the functions of one set and leaves those of another: in the counts and the
+/// totals. The sites that change are written down. All is done at a function before the next one is
+/// looked at, so that the sets are gone through once.
+fn move_user(
+    sites: &mut Vec<SiteChange>,
+    counts: &mut Counts,
+    totals: &mut [u32],
     users: &[User],
     user: UserNo,
     came: &SiteSet,
     left: &SiteSet,
 )
     requires empty { sites.old.items ≡ [] }
-    requires room { length counts.now ≤ vec_capacity sites.old }
-    requires totals { length totals.now ≡ length counts.now }
-    requires came { length came.now ≡ length counts.now }
-    requires left { length left.now ≡ length counts.now }
+    requires room { length counts.old ≤ vec_capacity sites.old }
+    requires totals { length totals.old ≡ length counts.old }
+    requires came { length came.now ≡ length counts.old }
+    requires left { length left.now ≡ length counts.old }
     requires user { user.0 < length users.now }
-    requires moves { (f : ℕ) → f < length counts.now
+    requires moves { (f : ℕ) → f < length counts.old
         → MayMove (length users.now) user.0 (holds came.now f) (holds left.now f)
         (user_of users.now user.0).regs (is_some (user_of users.now user.0).ipmodify)
-        (row_of counts.now f) (slice_index totals.now f) }
-    ensures sites { sites.new.items ≡ changed_sites (insn_before users.now counts.now totals.now)
-        (insn_after users.now counts.now totals.now user.0 came.now left.now) 0 (length counts.now) }
+        (row_of counts.old f) (slice_index totals.old f) }
+    ensures sites { sites.new.items ≡ changed_sites (insn_before users.now counts.old totals.old)
+        (insn_after users.now counts.old totals.old user.0 came.now left.now) 0 (length counts.old) }
     ensures capacity { vec_capacity sites.new ≡ vec_capacity sites.old }
+    ensures rows { (f : ℕ) → f < length counts.old → row_of counts.new f
+        ≡ moved_row (holds came.now f) (holds left.now f) (user_of users.now user.0).regs
+        (is_some (user_of users.now user.0).ipmodify) (row_of counts.old f) }
+    ensures totals { (f : ℕ) → f < length counts.old → slice_index totals.new f
+        ≡ moved (holds came.now f) (holds left.now f) (suc user.0) (slice_index totals.old f) }
+    ensures size { length counts.new ≡ length counts.old }
 {
+    let this = &users[user.0 as usize];
     let mut from = 0;
     while let Some(f) = SiteSet::next_of_two(came, left, from) {
+        let comes = came.contains(f);
         let count = counts.row(f).count;
         let total = totals[f as usize];
-        let old = insn_by(count, total, users);
-        let new = insn_moved(count, total, users, user, came.contains(f));
-        push_change(sites, f, old, new);
+        list_change(sites, f, count, total, users, user, comes);
+        move_at(counts, totals, f, this, user, comes);
         from = f + 1;
     }
 }
@@ -196,15 +245,8 @@ pub(crate) fn resite(
     ensures on { holder.new.on
         ≡ (if is_some (user_of users.now user.0).ipmodify then union (difference holder.old.on left.now) came.now else holder.old.on) }
 {
-    list_changes(sites, counts, totals, users, user, came, left);
-    let this = &users[user.0 as usize];
-    let regs = this.regs;
-    let modifies = this.modifies();
-    counts.drop_user(left, regs, modifies);
-    counts.add_user(came, regs, modifies);
-    lower(totals, left, user);
-    raise(totals, came, user);
-    hold(holder, modifies, came, left);
+    move_user(sites, counts, totals, users, user, came, left);
+    hold(holder, users[user.0 as usize].modifies(), came, left);
 }
 
 /// What a user holds after it has moved, if it replaces functions.

@@ -1,5 +1,5 @@
 -- Where each move of a batch stands.
-use Rattle.std.proofs.Common.{◌≡◌, ℕ, zero, suc, ◌-◌, ◌+◌, ◌*◌, ◌<◌, ◌≤◌, ◌≢◌, ◌↔◌, List, [], ◌∷◌, ◌++◌, map, length, get_or, refl, ap, ◌∙◌, arith, append_assoc, inl, inr}
+use Rattle.std.proofs.Common.{◌≡◌, ℕ, true, false, zero, suc, ◌-◌, ◌+◌, ◌*◌, ◌<◌, ◌≤◌, ◌≢◌, ◌↔◌, List, [], ◌∷◌, ◌++◌, map, length, get_or, refl, ap, ◌∙◌, arith, append_assoc, inl, inr}
 use Rattle.std.proofs.Math.ListN.{get_or-append}
 use Rattle.std.proofs.lemmas.List.{get_or-append-add, get_or-map, length-map}
 use Rattle.std.proofs.lemmas.Option.{slice_get_within, get_or_from_slice_get}
@@ -10,7 +10,7 @@ use Rattle.site_bytes.specs.declared.insn.SiteChange.{SiteChange}
 use Rattle.word_map.specs.Words.{Word, Head, Tail, Next}
 use Rattle.word_map.specs.Instructions.{number_of}
 use Rattle.word_map.specs.Ops.{Store}
-use Rattle.patch_core.specs.Moves.{Move, Do, Sync, Done, batch, batch_next, next_store, break_store, tail_store, head_store}
+use Rattle.patch_core.specs.Moves.{Move, Do, Sync, Done, is_store, batch, batch_next, next_store, break_store, tail_store, head_store}
 
 -- ## a batch of parts
 
@@ -194,3 +194,38 @@ module _ (sites : List SiteChange) where
     λ done. elim (cases_lt i (4 * length sites + 3)) [ inl lt ↦ absurd (not_done_at i some lt done) | inr le ↦ le ],
     λ le. done_at i some le,
   )
+
+  -- ## which moves are stores, by numbers
+
+  pub store-is : (i : ℕ) → i < 4 * length sites + 3 → i ≢ 2 * length sites → i ≢ 3 * length sites + 1 → i ≢ 4 * length sites + 2
+      → is_store (batch_next sites i) ≡ true
+  store-is i lt n1 n2 n3 = let s = store_at i lt n1 n2 n3 in ap is_store s.2
+
+  -- without sites there is no move
+  none_at : (i : ℕ) → length sites ≡ 0 → is_store (batch_next sites i) ≡ false
+  none_at i e = by sites e
+    where
+      by : (xs : List SiteChange) → length xs ≡ 0 → is_store (batch_next xs i) ≡ false
+      by [] h = refl
+      by (x ∷ xs) h = absurd (omega (arith, h))
+
+  some_or_none : (i : ℕ) → (0 < length sites → is_store (batch_next sites i) ≡ false) → is_store (batch_next sites i) ≡ false
+  some_or_none i some = elim (cases_lt 0 (length sites)) [ inl h ↦ some h | inr h ↦ none_at i (omega arith) ]
+
+  pub done-is : (i : ℕ) → 4 * length sites + 3 ≤ i → is_store (batch_next sites i) ≡ false
+  done-is i le = some_or_none i (λ some. ap is_store (done_at i some le))
+
+  pub first_sync-is : (i : ℕ) → i ≡ 2 * length sites → is_store (batch_next sites i) ≡ false
+  first_sync-is i e = some_or_none i (λ some. ap is_store (first_sync_at i some e))
+
+  pub second_sync-is : (i : ℕ) → i ≡ 3 * length sites + 1 → is_store (batch_next sites i) ≡ false
+  second_sync-is i e = some_or_none i (λ some. ap is_store (second_sync_at i some e))
+
+  pub third_sync-is : (i : ℕ) → i ≡ 4 * length sites + 2 → is_store (batch_next sites i) ≡ false
+  third_sync-is i e = some_or_none i (λ some. ap is_store (third_sync_at i some e))
+
+  pub past_stores-is : (i : ℕ) → 4 * length sites + 2 ≤ i → is_store (batch_next sites i) ≡ false
+  past_stores-is i le = elim (cases_eq i (4 * length sites + 2)) [
+    | inl q ↦ third_sync-is i q
+    | inr ne ↦ done-is i (omega (arith, le, ne))
+  ]

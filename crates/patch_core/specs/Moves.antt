@@ -1,5 +1,5 @@
 -- The moves of a batch, which changes call sites while CPUs run them (the kernel's text patching with breakpoints).
-use Rattle.std.specs.Prelude.{ℕ, ◌<◌, List, [], ◌∷◌, ◌++◌, map, get_or}
+use Rattle.std.specs.Prelude.{ℕ, ◌<◌, Bool, true, false, List, [], ◌∷◌, ◌++◌, map, get_or}
 use Rattle.site_bytes.specs.Bytes.{breakpoint, head_byte, tail_number}
 use Rattle.site_bytes.specs.declared.insn.Insn.{Insn}
 use Rattle.site_bytes.specs.declared.insn.Insn.TheVariants.{Own}
@@ -57,6 +57,12 @@ batch (c ∷ cs) =
 -- the move after so many
 abbrev pub batch_next : List SiteChange → ℕ → Move
 batch_next sites made = get_or (batch sites) made Done
+
+-- a move is a store
+abbrev pub is_store : Move → Bool
+is_store (Do op) = true
+is_store Sync = false
+is_store Done = false
 
 -- an instruction that a site of the shape can have
 abbrev pub IsInsnIn : Shape → Insn → Type 0

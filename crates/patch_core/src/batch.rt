@@ -2,7 +2,7 @@
 
 ghost use Rattle.std.specs.Prelude.{◌≡◌, ◌<◌, ◌≤◌, ◌^◌, ◌+◌, ◌*◌, suc, length, All};
 ghost use Rattle.ft_base.specs.declared.limits.TheConstants.{FUNCS};
-ghost use Rattle.patch_core.specs.Moves.{batch_next, coded, IsChange};
+ghost use Rattle.patch_core.specs.Moves.{batch_next, coded, is_store, IsChange};
 
 use site_bytes::{BREAKPOINT, SiteChange, head_of, tail_of};
 use std::marker::Model;
@@ -75,6 +75,20 @@ impl Batch {
         } else {
             self.change_head(sites, made - heads)
         }
+    }
+
+    /// Whether the next move is a store, if these are the sites to change: `next` without the store.
+    pub fn is_at_store(&self, sites: &[SiteChange]) -> bool
+        requires few { length sites.now ≤ FUNCS }
+        ensures { result ≡ is_store (batch_next sites.now self.now.made) }
+    {
+        let made = self.made as usize;
+        let count = sites.len();
+        // A sync ends the second stage and the third. The stores of the fourth are the last ones.
+        if made == 2 * count || made == 3 * count + 1 || made >= 4 * count + 2 {
+            return false;
+        }
+        true
     }
 
     /// The operation that `next` gave was done.

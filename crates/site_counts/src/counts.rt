@@ -1,10 +1,10 @@
 //! The rows of all functions.
 
-ghost use Rattle.std.specs.Prelude.{◌≡◌, ℕ, ◌<◌, true, length, replicate, IfOk, if◌then◌else◌};
+ghost use Rattle.std.specs.Prelude.{◌≡◌, ◌≢◌, ℕ, ◌<◌, true, length, replicate, IfOk, if◌then◌else◌};
 ghost use Rattle.ft_base.specs.Marks.{holds};
 ghost use Rattle.site_counts.specs.Rows.{no_users, row_of, with_user, without_user, at_members, HasRoom, HasUser};
 
-use crate::members::change_members;
+use crate::members::{change_members, change_one};
 use crate::rows::{Change, Row};
 use ft_base::NoMemory;
 use site_set::SiteSet;
@@ -65,6 +65,28 @@ impl Counts {
             on,
             Change::Drop { regs, ipmodify },
         );
+    }
+
+    /// Adds a user at one function, as `add_user` does at each of a set.
+    pub fn add_at(&mut self, f: u32, regs: bool, ipmodify: bool)
+        requires within { f < length self.old }
+        requires room { HasRoom (row_of self.old f) }
+        ensures row { row_of self.new f ≡ with_user regs ipmodify (row_of self.old f) }
+        ensures others { (g : ℕ) → g ≢ f → row_of self.new g ≡ row_of self.old g }
+        ensures size { length self.new ≡ length self.old }
+    {
+        change_one(self.rows.as_mut_slice(), f, Change::Add { regs, ipmodify });
+    }
+
+    /// Drops a user at one function, as `drop_user` does at each of a set.
+    pub fn drop_at(&mut self, f: u32, regs: bool, ipmodify: bool)
+        requires within { f < length self.old }
+        requires there { HasUser regs ipmodify (row_of self.old f) }
+        ensures row { row_of self.new f ≡ without_user regs ipmodify (row_of self.old f) }
+        ensures others { (g : ℕ) → g ≢ f → row_of self.new g ≡ row_of self.old g }
+        ensures size { length self.new ≡ length self.old }
+    {
+        change_one(self.rows.as_mut_slice(), f, Change::Drop { regs, ipmodify });
     }
 
     /// The row of the function `f`.

@@ -3,8 +3,8 @@
 //! A user is *sited* at the functions that it matches while it is registered, and their call sites are
 //! patched for it. The *row* of a function counts these users, those of them that have the `regs` flag,
 //! and those that replace functions, which have `ipmodify` (`ftrace.rst`, The File System:
-//! `enabled_functions` shows the count, `R` and `I`). A user is added at all its functions at once, and
-//! dropped at all of them.
+//! `enabled_functions` shows the count, `R` and `I`). A user is added at all functions of a set at once,
+//! or at one, and dropped likewise.
 //!
 //! Promised: a user that is added or dropped changes the row of each of its functions, by one in the
 //! count and in the count of each flag that it has, and no other row. So each row is its own sum over
@@ -13,7 +13,8 @@
 //!
 //! The calls go from member to member of a set, and pass over its empty words.
 //!
-//! Its one caller is `ft_desk`, which has none itself.
+//! Its one caller is `ft_desk`, which has none itself; it goes from function to function on its own, so
+//! that it looks at each once, and adds and drops a user at one function at a time.
 #![tactic(auto)]
 
 mod counts;

@@ -47,6 +47,17 @@ fn reaches_the_last_function(rt: HostRuntime) -> Result<(), Fail> {
     Ok(())
 }
 
+#[test]
+fn one_function_alone(rt: HostRuntime) -> Result<(), Fail> {
+    let mut counts = Counts::new(rt.alloc(), 65)?;
+    counts.add_at(64, true, false);
+    assert!(rt; counts.row(64) == row(1, 1, 0));
+    assert!(rt; counts.row(63) == row(0, 0, 0));
+    counts.drop_at(64, true, false);
+    assert!(rt; counts.row(64) == row(0, 0, 0));
+    Ok(())
+}
+
 /// A row of these counts.
 fn row(count: u32, regs: u32, ipmodify: u32) -> Row {
     Row {

@@ -64,16 +64,22 @@ fn changes_three_sites(rt: HostRuntime) {
     for (made, row) in MOVES.iter().enumerate() {
         let next = batch.next(&SITES);
         assert!(rt; next == next_of(*row), "after {made} moves");
+        assert!(rt;
+            batch.is_at_store(&SITES) == row.is_some(),
+            "after {made} moves"
+        );
         match row {
             Some(_) => batch.did(),
             None => batch.synced(),
         }
     }
     assert!(rt; batch.next(&SITES) == BatchNext::Done);
+    assert!(rt; !batch.is_at_store(&SITES));
 }
 
 #[test]
 fn changes_no_site(rt: HostRuntime) {
     let batch = Batch::new(WordMap::new(SHAPE));
     assert!(rt; batch.next(&[]) == BatchNext::Done);
+    assert!(rt; !batch.is_at_store(&[]));
 }
