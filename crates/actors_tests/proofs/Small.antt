@@ -83,5 +83,5 @@ module _ (p : CpuPlan) (quantum : p.quantum ≡ 1) (tasks : p.tasks.items ≡ []
       subst (λ x. Declares small d lines ps [] small_limits x) (sym shape) (subst (λ x. Declares small d lines x [] small_limits small_shape) (sym plans) (declares d e))
 
 -- its machine has a function
-pub has-function : (w : Parts) → IsFor small w → 0 < w.shape.funcs
+pub has-function : (w : Parts) → IsFor small [] w → 0 < w.shape.funcs
 has-function w k = let e = ap (λ (s : Shape). s.funcs) k.shape' in omega (arith, e)

@@ -15,7 +15,7 @@ use Rattle.control_core.specs.Lines.{IsLineIn}
 use Rattle.control_core.specs.Plans.{IsDeclaredIn}
 use Rattle.machine_core.specs.Worlds.{Declares}
 use Rattle.ft_machine.specs.declared.parts.JobParts.{JobParts}
-use Rattle.ft_machine.specs.Parts.{parts_of, declared_of, IsWithin, job_of}
+use Rattle.ft_machine.specs.Parts.{parts_of, declared_of, IsWithin, job_of, task_limits}
 use Rattle.ft_machine.proofs.JobLaws.{seen-functions, seen-users, seen-version, seen-frames, seen-tramps, seen-count, seen-lines, users-count, cpus-count, seen-limited}
 use Rattle.ft_machine.proofs.OnCpu.{own-quantum, own-numbers, own-acts, quick}
 
@@ -60,7 +60,7 @@ module _ (p : JobParts) (j : Job) (e : job_of (parts_of p) ≡ j) where
     pub lines-in : All (IsLineIn (kept p j)) p.ctls.items
     lines-in = All-from_recursion (IsLineIn (kept p j)) p.ctls.items (rw (← kept-is) w.lines)
 
-    pub declares : Declares j (opened (kept p j)) p.ctls.items p.cpus.items p.specs.items (record { frames = p.frames; levels = (limits_of p.version).levels }) (shape_of j)
+    pub declares : Declares j (opened (kept p j)) p.ctls.items p.cpus.items p.specs.items (task_limits p) (shape_of j)
     declares = record {
       limited = seen-limited p j e w;
       desk' = refl;

@@ -5,6 +5,7 @@ pub mod OnCpu
 pub mod Declared
 pub mod DeskLaws
 pub mod MachineLaws
+pub mod Bounds
 pub mod PlayLaws
 pub mod Replays
 pub mod FedLaws

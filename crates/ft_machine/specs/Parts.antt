@@ -2,6 +2,7 @@
 use Rattle.std.specs.Prelude.{ℕ, zero, suc, ◌≡◌, ◌≤◌, ◌==◌, List, [], ◌∷◌, length, map, sum_by, Option, Some, None, if◌then◌else◌}
 use Rattle.std.specs.List.{AllByRecursion as Each}
 use Rattle.ft_base.specs.declared.limits.TheConstants.{CPUS, QUANTUM}
+use Rattle.ft_base.specs.Versions.{limits_of}
 use Rattle.ft_base.specs.declared.turn.Turn.{Turn}
 use Rattle.ft_base.specs.declared.task.TaskAct.{TaskAct}
 use Rattle.ft_base.specs.Job.{Func, Spec, Task, no_task, LinePlan, RingPlan, Job}
@@ -11,6 +12,7 @@ use Rattle.ft_desk.specs.Declarations.{Declared, bare}
 use Rattle.control_core.specs.Lines.{IsLineIn, lines_of}
 use Rattle.word_machine.specs.Limits.{IsLimited}
 use Rattle.filter_commands.specs.Kept.{plain_trigger}
+use Rattle.machine_core.specs.declared.cpus.TaskLimits.{TaskLimits}
 use Rattle.ft_machine.specs.declared.parts.JobParts.{JobParts}
 use Rattle.ft_machine.specs.Plans.{row_of, AreLinesPlanned, AreRingsPlanned}
 
@@ -42,6 +44,10 @@ parts_of p = record {
   lines = record { lanes = p.lanes.items; absent = p.absent.items; modules = map row_of p.modules.items };
   rings = record { ring = p.ring; tracing = p.tracing; triggers = map plain_trigger p.triggers.items };
 }
+
+-- what each task has room for
+abbrev pub task_limits : JobParts → TaskLimits
+task_limits p = record { frames = p.frames; levels = (limits_of p.version).levels }
 
 -- ## tasks by number, and by CPU
 

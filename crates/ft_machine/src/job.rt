@@ -1,6 +1,6 @@
 //! A job: what a script declares.
 
-ghost use Rattle.std.specs.Prelude.{◌≡◌, ◌≤◌, ℕ, map, length, slice_get, option_map, All, IfErr, IfOk};
+ghost use Rattle.std.specs.Prelude.{◌≡◌, ◌≤◌, ℕ, [], map, length, slice_get, option_map, All, IfErr, IfOk};
 ghost use Rattle.ft_base.specs.declared.limits.TheConstants.{CPUS};
 ghost use Rattle.ft_base.specs.Desk.{desk};
 ghost use Rattle.ft_base.specs.Job.{Job as PlainJob, funcs};
@@ -18,7 +18,8 @@ ghost use Rattle.word_machine.specs.Machine.{start};
 ghost use Rattle.machine_core.specs.Starts.{AreFirst};
 ghost use Rattle.machine_core.specs.Worlds.{IsFor, world_of};
 ghost use Rattle.filter_commands.specs.Kept.{plain_trigger};
-ghost use Rattle.ft_machine.specs.Parts.{parts_of, quanta_of, cpus_from, IsWithin, job_of};
+ghost use Rattle.ft_machine.specs.Parts.{parts_of, quanta_of, cpus_from, IsWithin, job_of, task_limits};
+ghost use Rattle.ft_machine.specs.Kept.{most_items};
 ghost use Rattle.ft_machine.specs.Plans.{row_of, AreLinesPlanned, AreRingsPlanned};
 
 use crate::find::{count, find, find_cpu};
@@ -28,9 +29,10 @@ use filter_commands::Trigger;
 use ft_base::limits::Limits;
 use ft_base::{CpuNo, NoMemory, TaskAct, TaskNo};
 use ft_desk::{Ctl, Desk};
+use ft_hist::History;
 use ft_schedule::Schedule;
 use func_table::FuncTable;
-use machine_core::{CpuRoom, TaskLimits, World};
+use machine_core::{CpuRoom, TaskLimits, World, new_history};
 use std::alloc::Global;
 use std::marker::Model;
 use user_specs::{CpuPlan, Spec};
@@ -275,31 +277,53 @@ impl Job {
         }
     }
 
+    /// An empty history with room for all items that the job can make. The error says that memory ran
+    /// out.
+    pub fn new_history(&self, alloc: Global) -> Result<History, NoMemory>
+        ensures empty { IfOk result (λ h. h.items ≡ []) }
+        ensures room { IfOk result (λ h. most_items self.now ≤ h.spare) }
+    {
+        let parts = &self.parts;
+        new_history(
+            alloc,
+            parts.ctls.as_slice(),
+            parts.cpus.as_slice(),
+            parts.specs.as_slice(),
+            task_limits(parts),
+        )
+    }
+
     /// Its machine before the first step, whose CPUs have this room. The error says that memory ran out.
     pub(crate) fn world(&self, alloc: Global, rooms: CpuRoom) -> Result<World, NoMemory>
         ensures limited { IfOk result (λ _. IsLimited self.now) }
-        ensures of { IfOk result (λ w. IsFor self.now w) }
-        ensures opening { IfOk result (λ w. world_of self.now w ≡ start self.now) }
+        ensures of { IfOk result (λ w. IsFor self.now [] w) }
+        ensures opening { IfOk result (λ w. world_of self.now [] w ≡ start self.now) }
         ensures control { IfOk result (λ w. IsOpening w.control × LeadsAll w.control) }
         ensures cpus { IfOk result (λ w. AreFirst rooms self.now w.cpus) }
     {
         let parts = &self.parts;
         let shape = self.shape();
         let desk = Desk::new(alloc, parts.specs.as_slice(), shape)?;
-        let limits = TaskLimits {
-            frames: parts.frames,
-            levels: Limits::of(parts.version).levels,
-        };
         World::new(
             alloc,
             desk,
             parts.ctls.as_slice(),
             parts.cpus.as_slice(),
             parts.specs.as_slice(),
-            limits,
+            task_limits(parts),
             rooms,
             WordMap::new(shape),
         )
+    }
+}
+
+/// What each task has room for in a job of these parts.
+fn task_limits(parts: &JobParts) -> TaskLimits
+    ensures { result ≡ task_limits parts.now }
+{
+    TaskLimits {
+        frames: parts.frames,
+        levels: Limits::of(parts.version).levels,
     }
 }
 

@@ -5,7 +5,8 @@
 //!
 //! Promised: after any steps a machine's state is that of the word machine, which `word_machine`
 //! defines; its history is legal at every moment, and whole once every actor is at its end; each call
-//! site is whole; a step takes no memory. A replay is a run of a beginning of its schedule's actors.
+//! site is whole; a step takes no memory. A replay is a run of a beginning of its schedule's actors, and
+//! a *taker* has taken its items, each when it was marked; a history is one.
 //! An actor's state is a function of the values that its own steps took, so a machine can be taken
 //! apart ([`Machine::into_parts`]) and its actors can step at the same time. [`Job::desk`] is the desk
 //! after the first commands of a job. Out of memory is the only fault.
@@ -20,6 +21,7 @@ mod machine;
 mod order;
 mod parts;
 mod play;
+mod taker;
 
 pub use filter_commands::Trigger;
 pub use ft_desk::{Command, Ctl};
@@ -28,7 +30,7 @@ pub use laws::{
     a_step_makes_the_next_operation, all_end_if_each_does, each_actor_is_fed_its_values,
     every_replay_is_a_run, sites_of_nobody_are_nops,
 };
-pub use machine::Machine;
-pub use machine_core::WorldParts;
+pub use machine::{Machine, MachineParts};
 pub use parts::{JobParts, ModRow};
-pub use play::{Outcome, replay};
+pub use play::{Outcome, replay, replay_into};
+pub use taker::Taker;

@@ -1,21 +1,10 @@
 //! The machine of a job.
 
-ghost use Rattle.std.specs.Prelude.{◌≡◌, ◌<◌, true, get_or, length, option_map, reverse, IfOk};
-ghost use Rattle.ft_base.specs.Job.{Job as PlainJob};
-ghost use Rattle.ft_hist.specs.Rules.{IsLegal, IsWhole};
-ghost use Rattle.word_map.specs.Ops.{placed};
-ghost use Rattle.word_map.specs.Places.{IsThere, len, place};
-ghost use Rattle.word_map.specs.Shapes.{shape_of};
-ghost use Rattle.word_map.specs.Words.{Word, read};
-ghost use Rattle.word_machine.specs.Machine.{all_end, is_at_end, start, step};
-ghost use Rattle.control_core.specs.Seated.{IsOpening, LeadsAll};
-ghost use Rattle.machine_core.specs.declared.cpus.CpuRoom.TheVariants.{ForAll};
-ghost use Rattle.machine_core.specs.Nexts.{next_op};
-ghost use Rattle.machine_core.specs.Starts.{AreFirst};
-ghost use Rattle.machine_core.specs.Sites.{IsWhole as IsWholeSite, site_of};
-ghost use Rattle.ft_machine.specs.Machines.{IsOf, state_of};
+ghost use Rattle.ft_machine.specs.Kept.{IsMachine};
 
 use crate::job::Job;
+use control_core::Control;
+use cpu_core::Cpu;
 use ft_base::{Actor, FuncNo, NoMemory};
 use ft_hist::History;
 use machine_core::{CpuRoom, World, WorldParts};
@@ -27,18 +16,49 @@ use word_map::{Op, WordMap};
 #[derive(Drop)]
 pub struct Machine {
     world: World,
+    /// What has happened so far. All the room is taken at the start, so that a step takes no memory.
+    history: History,
+    ghost kept: { ∥ IsMachine world history ∥₁ },
+}
+
+/// A machine taken apart, for those who let its actors step at the same time.
+#[derive(Drop)]
+pub struct MachineParts {
+    /// The shared words, the clock first.
+    pub words: Vec<u64>,
+    /// Control.
+    pub control: Control,
+    /// The CPUs by number.
+    pub cpus: Vec<Cpu>,
+    /// What has happened, with room for all items that the job can make.
+    pub history: History,
 }
 
 impl Machine {
+    ghost use Rattle.std.specs.Prelude.{◌≡◌, ◌<◌, true, get_or, length, option_map, reverse, IfOk};
+    ghost use Rattle.ft_base.specs.Job.{Job as PlainJob};
+    ghost use Rattle.ft_hist.specs.Rules.{IsLegal, IsWhole};
+    ghost use Rattle.word_map.specs.Ops.{placed};
+    ghost use Rattle.word_map.specs.Places.{IsThere, len, place};
+    ghost use Rattle.word_map.specs.Shapes.{shape_of};
+    ghost use Rattle.word_map.specs.Words.{Word, read};
+    ghost use Rattle.word_machine.specs.Machine.{all_end, is_at_end, start, step};
+    ghost use Rattle.control_core.specs.Seated.{IsOpening, LeadsAll};
+    ghost use Rattle.machine_core.specs.declared.cpus.CpuRoom.TheVariants.{ForAll};
+    ghost use Rattle.machine_core.specs.Nexts.{next_op};
+    ghost use Rattle.machine_core.specs.Starts.{AreFirst};
+    ghost use Rattle.machine_core.specs.Sites.{IsWhole as IsWholeSite, site_of};
+    ghost use Rattle.ft_machine.specs.Machines.{IsOf, state_of};
+
     /// The machine of a job before its first step, with room for all items that the job can make. Its
     /// only fault is out of memory.
     pub fn start(alloc: Global, job: &Job) -> Result<Machine, NoMemory>
         ensures of { IfOk result (λ m. IsOf job.now m) }
         ensures opening { IfOk result (λ m. state_of job.now m ≡ start job.now) }
     {
-        Ok(Machine {
-            world: job.world(alloc, CpuRoom::ForOne)?,
-        })
+        let history = job.new_history(alloc)?;
+        let world = job.world(alloc, CpuRoom::ForOne)?;
+        Ok(Machine { world, history })
     }
 
     /// The same, and each CPU has room of its own for all items that its tasks can mark: for those who
@@ -49,9 +69,9 @@ impl Machine {
         ensures control { IfOk result (λ m. IsOpening m.world.control × LeadsAll m.world.control) }
         ensures cpus { IfOk result (λ m. AreFirst ForAll job.now m.world.cpus) }
     {
-        Ok(Machine {
-            world: job.world(alloc, CpuRoom::ForAll)?,
-        })
+        let history = job.new_history(alloc)?;
+        let world = job.world(alloc, CpuRoom::ForAll)?;
+        Ok(Machine { world, history })
     }
 
     /// One step of an actor; nothing if it is at its end, or a CPU that the job doesn't have. It takes
@@ -60,7 +80,9 @@ impl Machine {
         ensures of { (job : PlainJob) → IsOf job self.old → IsOf job self.new }
         ensures state { (job : PlainJob) → IsOf job self.old → state_of job self.new ≡ step job actor (state_of job self.old) }
     {
-        self.world.step(actor);
+        if let Some(item) = self.world.step(actor) {
+            self.history.push(item);
+        }
     }
 
     /// The operation that an actor's next step makes: a load, a store or a mark, of the word at a place
@@ -129,27 +151,27 @@ impl Machine {
         ensures legal { (job : PlainJob) → IsOf job self.now → IsLegal job result.now.items }
         ensures whole { (job : PlainJob) → IsOf job self.now → all_end job (state_of job self.now) ≡ true → IsWhole job result.now.items }
     {
-        self.world.history()
+        &self.history
     }
 
     /// What it is made of, for those who let the actors step at the same time; the machine is used up.
-    pub fn into_parts(self) -> WorldParts
+    pub fn into_parts(self) -> MachineParts
         ensures words { result.words.items ≡ self.world.words }
         ensures control { result.control ≡ self.world.control }
         ensures cpus { result.cpus.items ≡ self.world.cpus }
-        ensures history { result.history ≡ self.world.history }
+        ensures history { result.history ≡ self.history }
     {
-        let Machine { world } = self;
-        world.into_parts()
-    }
-
-    /// What has happened; the machine is used up.
-    pub(crate) fn finish(self) -> History
-        ensures items { (job : PlainJob) → IsOf job self → result.items ≡ reverse (state_of job self).past }
-        ensures legal { (job : PlainJob) → IsOf job self → IsLegal job result.items }
-        ensures whole { (job : PlainJob) → IsOf job self → all_end job (state_of job self) ≡ true → IsWhole job result.items }
-    {
-        let Machine { world } = self;
-        world.into_history()
+        let Machine { world, history } = self;
+        let WorldParts {
+            words,
+            control,
+            cpus,
+        } = world.into_parts();
+        MachineParts {
+            words,
+            control,
+            cpus,
+            history,
+        }
     }
 }

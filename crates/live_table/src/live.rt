@@ -23,7 +23,7 @@ use control_core::Control;
 use cpu_core::Cpu;
 use ft_base::{CpuNo, NoMemory, Stamped};
 use ft_hist::{History, merge};
-use ft_machine::{Job, Machine, WorldParts};
+use ft_machine::{Job, Machine, MachineParts};
 use std::alloc::Global;
 use std::marker::Model;
 use std::snapshot::Snapshot;
@@ -125,7 +125,7 @@ impl Live {
     {
         let machine = Machine::start_apart(alloc, job)?;
         // A machine that steps as one and actors that step at the same time begin alike.
-        let WorldParts {
+        let MachineParts {
             words,
             mut control,
             cpus,

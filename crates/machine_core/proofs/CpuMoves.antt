@@ -11,8 +11,6 @@ use Rattle.ft_base.specs.declared.number.CpuNo.{CpuNo}
 use Rattle.ft_base.specs.Desk.{desk}
 use Rattle.ft_base.specs.Job.{Job}
 use Rattle.ft_base.proofs.Small.{false_true}
-use Rattle.ft_hist.specs.Rules.{IsLegalPast}
-use Rattle.ft_hist.specs.Shown.{Shown}
 use Rattle.word_map.specs.declared.op.Op.{Op}
 use Rattle.word_map.specs.declared.op.Op.TheVariants.{Mark as CodeMark}
 use Rattle.word_map.specs.Contents.{low, mask_of}
@@ -37,12 +35,12 @@ use Rattle.cpu_core.specs.Taken.{IsTaken}
 use Rattle.task_core.specs.TaskOps.{item_in}
 use Rattle.cpu_core.proofs.Lookups.{get-set}
 use Rattle.machine_core.specs.Tables.{HasRoomAt, IsOn, gives, made}
-use Rattle.machine_core.specs.Worlds.{IsCpuAt, IsFor, Parts, cpu_or, cpus_of, past_of, world_of}
+use Rattle.machine_core.specs.Worlds.{IsCpuAt, IsFor, Parts, cpu_or, cpus_of, marked_on, world_of}
 use Rattle.machine_core.proofs.Chosen.{Chosen, chosen, none-next}
 use Rattle.machine_core.proofs.Made.{IsOpThere, gives-is, made-is, made-length, of-job, on-is, room-is}
 use Rattle.machine_core.proofs.Moved.{HasMoved}
 use Rattle.machine_core.proofs.Plans.{room-most}
-use Rattle.machine_core.proofs.Recording.{IsLeft, IsMarked, IsNoted, has-room, mark-item, noted-past, noted-room}
+use Rattle.machine_core.proofs.Recording.{IsLeft, IsMarked, IsTold, mark-item, told-past}
 
 -- ## the list of CPUs
 
@@ -65,41 +63,41 @@ module _ (job : Job) (cpus : List CpuParts) (i : ℕ) (x y : CpuParts) (at : sli
   pub cpus-put : cpus_of job (set cpus i y) ≡ at_put (cpus_of job cpus) i (cpu_of job y)
   cpus-put = λ j k. put-at k j
 
--- the words, control, CPUs and history after a step of a CPU
-abbrev pub ran : Parts → List ℕ → ℕ → CpuParts → Shown → Parts
-ran w words i y h = record { shape = w.shape; words = words; control = w.control; cpus = set w.cpus i y; history = h }
+-- the words, control and CPUs after a step of a CPU
+abbrev pub ran : Parts → List ℕ → ℕ → CpuParts → Parts
+ran w words i y = record { shape = w.shape; words = words; control = w.control; cpus = set w.cpus i y }
 
-module _ (job : Job) (limited : IsLimited job) (w : Parts) (k : IsFor job w) (r : Runs job (world_of job w))
+module _ (job : Job) (past : List Item) (limited : IsLimited job) (w : Parts) (k : IsFor job past w) (r : Runs job (world_of job past w))
     (i : ℕ) (x : CpuParts) (at : slice_get w.cpus i ≡ Some x) where
   pub inside : i < length job.quanta
   inside = subst (λ n. i < n) k.cpus' (slice_get_within w.cpus i x at)
 
-  same : (world_of job w).cpus i ≡ cpu_of job x
+  same : (world_of job past w).cpus i ≡ cpu_of job x
   same = ap (cpu_or job (cpu_start job i)) at
 
-  step-is : (n : CpuNo) → n.0 ≡ i → step job (actor.Cpu n) (world_of job w) ≡ cpu_moved job (world_of job w) i (cpu_next job (cpu_of job x))
+  step-is : (n : CpuNo) → n.0 ≡ i → step job (actor.Cpu n) (world_of job past w) ≡ cpu_moved job (world_of job past w) i (cpu_next job (cpu_of job x))
   unfolding step
   step-is n e =
-      (λ j. cond (nat_lt (e j) (length job.quanta)) (cpu_moved job (world_of job w) (e j) (cpu_next job ((world_of job w).cpus (e j)))) (world_of job w))
-      ∙ ap (λ b. cond b (cpu_moved job (world_of job w) i (cpu_next job ((world_of job w).cpus i))) (world_of job w)) (lt-ltb i (length job.quanta) inside)
-      ∙ ap (λ me. cpu_moved job (world_of job w) i (cpu_next job me)) same
+      (λ j. cond (nat_lt (e j) (length job.quanta)) (cpu_moved job (world_of job past w) (e j) (cpu_next job ((world_of job past w).cpus (e j)))) (world_of job past w))
+      ∙ ap (λ b. cond b (cpu_moved job (world_of job past w) i (cpu_next job ((world_of job past w).cpus i))) (world_of job past w)) (lt-ltb i (length job.quanta) inside)
+      ∙ ap (λ me. cpu_moved job (world_of job past w) i (cpu_next job me)) same
 
   -- with no operation nothing happens
-  pub cpu-rests : (n : CpuNo) → n.0 ≡ i → cpu_next job (cpu_of job x) ≡ None → world_of job w ≡ step job (actor.Cpu n) (world_of job w)
-  cpu-rests n e none = sym (step-is n e ∙ ap (λ o. cpu_moved job (world_of job w) i o) none)
+  pub cpu-rests : (n : CpuNo) → n.0 ≡ i → cpu_next job (cpu_of job x) ≡ None → world_of job past w ≡ step job (actor.Cpu n) (world_of job past w)
+  cpu-rests n e none = sym (step-is n e ∙ ap (λ o. cpu_moved job (world_of job past w) i o) none)
 
   module _ (op : WordOp) (next : cpu_next job (cpu_of job x) ≡ Some op) where
     abbrev row : World
-    row = cpu_row job (world_of job w) i op
+    row = cpu_row job (world_of job past w) i op
 
-    next-in : cpu_next job ((world_of job w).cpus i) ≡ Some op
+    next-in : cpu_next job ((world_of job past w).cpus i) ≡ Some op
     next-in = ap (cpu_next job) same ∙ next
 
     runs-on : Runs job row
-    runs-on = cpu-row-runs job limited (world_of job w) i op inside r next-in
+    runs-on = cpu-row-runs job limited (world_of job past w) i op inside r next-in
 
     there : IsOpThere (shape_of job) op
-    there = of-job job op (subst (λ o. IsOnWord job o) next-in (cpu-there job (word-job job limited) (world_of job w) i inside r.kept))
+    there = of-job job op (subst (λ o. IsOnWord job o) next-in (cpu-there job (word-job job limited) (world_of job past w) i inside r.kept))
 
     on : IsOn (length w.words) (placed (shape_of job) op)
     on = on-is (shape_of job) (mask_of (desk job 0) (length job.tasks)) w.words k.count op there
@@ -107,33 +105,30 @@ module _ (job : Job) (limited : IsLimited job) (w : Parts) (k : IsFor job w) (r 
     room : HasRoomAt w.words (placed (shape_of job) op)
     room = room-is (shape_of job) (mask_of (desk job 0) (length job.tasks)) w.words k.count op runs-on.fits
 
-    value-is : gives (placed (shape_of job) op) w.words ≡ taken op (world_of job w).words
+    value-is : gives (placed (shape_of job) op) w.words ≡ taken op (world_of job past w).words
     value-is = gives-is (shape_of job) (mask_of (desk job 0) (length job.tasks)) w.words k.count op there
 
     takes : CpuTakes job (cpu_of job x) (gives (placed (shape_of job) op) w.words)
     takes =
         subst (λ v. CpuTakes job (cpu_of job x) v) (sym value-is)
-        (subst (λ me. CpuTakes job me (taken op (world_of job w).words)) same
-        (cpu-takes job (word-job job limited) (world_of job w) r.kept i inside op next-in))
+        (subst (λ me. CpuTakes job me (taken op (world_of job past w).words)) same
+        (cpu-takes job (word-job job limited) (world_of job past w) r.kept i inside op next-in))
 
-    own : IsCpuAt job w i x
+    own : IsCpuAt job past i x
     own = k.each i x at
 
-    -- there is room for what it marks, in the history too
-    mark-fits : (o : WordOp) → cpu_next job ((world_of job w).cpus i) ≡ Some o → IsSome (item_in (Some o)) → HasRoom x.marked
+    -- there is room for what it marks
+    mark-fits : (o : WordOp) → cpu_next job ((world_of job past w).cpus i) ≡ Some o → IsSome (item_in (Some o)) → HasRoom x.marked
     mark-fits (Load y) e some = false_true some
     mark-fits (Store y z) e some = false_true some
     mark-fits (Mark item) e some =
-        let lt = mark-room job (word-job job limited) (world_of job w) r.kept i inside item e in
+        let lt = mark-room job (word-job job limited) (world_of job past w) r.kept i inside item e in
         let none = ap (λ (xs : List Stamped). length xs) own.none in
         let most = room-most job i limited in
         let left = own.left in
         let some : 0 < room_on job i = omega (arith, lt) in
         let room = own.room some in
         record { room = omega (arith, none, room); left = omega (arith, lt, most, none, left) }
-
-    space : (item : Item) → op ≡ Mark item → 0 < w.history.spare
-    space item e = has-room job w.history k.room item (subst (λ o. IsLegalPast job (past_after o (past_of w))) e runs-on.kept.legal)
 
     -- its list was empty
     marked : (o : WordOp) (v : ℕ) (items : List Stamped) → items ≡ x.marked.items ++ marks_in (Some o) v → IsMarked o items
@@ -143,47 +138,50 @@ module _ (job : Job) (limited : IsLimited job) (w : Parts) (k : IsFor job w) (r 
 
     module _ (y : CpuParts) (is_for : IsCpuFor job y) (none : y.marked.items ≡ []) (left : IsLeft op x.marked.left y.marked.left) (stays : y.marked.room ≡ x.marked.room)
         (is : cpu_of job y ≡ cpu_got job (cpu_of job x) (gives (placed (shape_of job) op) w.words))
-        (h : Shown) (noted : IsNoted op w.history h) where
-      abbrev after : Parts
-      after = ran w (made (placed (shape_of job) op) w.words) i y h
+        (o : Option Item) (is-told : IsTold op o) where
+      abbrev told : List Item
+      told = marked_on o past
 
-      got-is : cpu_of job y ≡ cpu_got job ((world_of job w).cpus i) (taken op (world_of job w).words)
+      abbrev after : Parts
+      after = ran w (made (placed (shape_of job) op) w.words) i y
+
+      got-is : cpu_of job y ≡ cpu_got job ((world_of job past w).cpus i) (taken op (world_of job past w).words)
       got-is = is ∙ λ j. cpu_got job (sym same j) (value-is j)
 
-      pub cpu-moves : world_of job after ≡ row
+      pub cpu-moves : world_of job told after ≡ row
       cpu-moves = λ j. record {
         words = made-is (shape_of job) (mask_of (desk job 0) (length job.tasks)) w.words k.count op there j;
-        control = (world_of job w).control;
+        control = (world_of job past w).control;
         cpus = (cpus-put job w.cpus i x y at ∙ ap (λ me. at_put (cpus_of job w.cpus) i me) got-is) j;
-        past = noted-past op w.history h noted j;
+        past = told-past op o is-told past j;
       }
 
       -- what it can still mark
-      own-left : (o : WordOp) → cpu_next job ((world_of job w).cpus i) ≡ Some o → IsLeft o x.marked.left y.marked.left
-          → y.marked.left + items_on job i (past_after o (past_of w)) ≡ ITEMS
-      own-left (Load a) e l = ap (λ n. n + items_on job i (past_of w)) l ∙ own.left
-      own-left (Store a b) e l = ap (λ n. n + items_on job i (past_of w)) l ∙ own.left
+      own-left : (o : WordOp) → cpu_next job ((world_of job past w).cpus i) ≡ Some o → IsLeft o x.marked.left y.marked.left
+          → y.marked.left + items_on job i (past_after o past) ≡ ITEMS
+      own-left (Load a) e l = ap (λ n. n + items_on job i past) l ∙ own.left
+      own-left (Store a b) e l = ap (λ n. n + items_on job i past) l ∙ own.left
       own-left (Mark item) e l =
-          let more = own-mark job (word-job job limited) (world_of job w) r.kept i inside item e in
+          let more = own-mark job (word-job job limited) (world_of job past w) r.kept i inside item e in
           let had = own.left in
           omega (arith, more, l, had)
 
       -- no other CPU has marked anything
-      other-count : (c : ℕ) → c ≢ i → (o : WordOp) → cpu_next job ((world_of job w).cpus i) ≡ Some o
-          → items_on job c (past_after o (past_of w)) ≡ items_on job c (past_of w)
+      other-count : (c : ℕ) → c ≢ i → (o : WordOp) → cpu_next job ((world_of job past w).cpus i) ≡ Some o
+          → items_on job c (past_after o past) ≡ items_on job c past
       other-count c ne (Load a) e = refl
       other-count c ne (Store a b) e = refl
-      other-count c ne (Mark item) e = other-mark job (word-job job limited) (world_of job w) r.kept i inside item e c ne
+      other-count c ne (Mark item) e = other-mark job (word-job job limited) (world_of job past w) r.kept i inside item e c ne
 
       number-is : y.polls.poll.cpu ≡ i
       number-is =
-          ap (λ (me : Cpu). me.number) (got-is ∙ sym (put_same (world_of job w).cpus i (cpu_got job ((world_of job w).cpus i) (taken op (world_of job w).words))))
+          ap (λ (me : Cpu). me.number) (got-is ∙ sym (put_same (world_of job past w).cpus i (cpu_got job ((world_of job past w).cpus i) (taken op (world_of job past w).words))))
           ∙ (runs-on.kept.cpus i inside).number
 
-      on-past : (c : ℕ) → items_on job c (past_of after) ≡ items_on job c (past_after op (past_of w))
-      on-past c = ap (λ (past : List Item). items_on job c past) (noted-past op w.history h noted)
+      on-past : (c : ℕ) → items_on job c told ≡ items_on job c (past_after op past)
+      on-past c = ap (λ (items : List Item). items_on job c items) (told-past op o is-told past)
 
-      this-cpu : IsCpuAt job after i y
+      this-cpu : IsCpuAt job told i y
       this-cpu = record {
         is_for = is_for;
         number = number-is;
@@ -192,7 +190,7 @@ module _ (job : Job) (limited : IsLimited job) (w : Parts) (k : IsFor job w) (r 
         room = λ some. subst (λ n. 0 < n) (sym stays) (own.room some);
       }
 
-      other-cpu : (c : ℕ) → c ≢ i → (z : CpuParts) → slice_get w.cpus c ≡ Some z → IsCpuAt job after c z
+      other-cpu : (c : ℕ) → c ≢ i → (z : CpuParts) → slice_get w.cpus c ≡ Some z → IsCpuAt job told c z
       other-cpu c ne z there-is = let kept = k.each c z there-is in record {
         is_for = kept.is_for;
         number = kept.number;
@@ -201,16 +199,16 @@ module _ (job : Job) (limited : IsLimited job) (w : Parts) (k : IsFor job w) (r 
         room = kept.room;
       }
 
-      each-cpu : (c : ℕ) (z : CpuParts) → slice_get (set w.cpus i y) c ≡ Some z → IsCpuAt job after c z
+      each-cpu : (c : ℕ) (z : CpuParts) → slice_get (set w.cpus i y) c ≡ Some z → IsCpuAt job told c z
       each-cpu c z there-is = elim (cases_eq c i) [
         | inl e ↦
             let now : slice_get (set w.cpus i y) i ≡ Some z = subst (λ n. slice_get (set w.cpus i y) n ≡ Some z) e there-is in
             let one : y ≡ z = same_Some y z (sym (get-set w.cpus i x y at) ∙ now) in
-            subst (λ n. IsCpuAt job after n z) (sym e) (subst (λ u. IsCpuAt job after i u) one this-cpu)
+            subst (λ n. IsCpuAt job told n z) (sym e) (subst (λ u. IsCpuAt job told i u) one this-cpu)
         | inr ne ↦ other-cpu c ne z (sym (get-set-other w.cpus i c y ne) ∙ there-is)
       ]
 
-      pub cpu-keeps : IsFor job after
+      pub cpu-keeps : IsFor job told after
       cpu-keeps = record {
         shape' = k.shape';
         count = made-length (shape_of job) op w.words ∙ k.count;
@@ -218,25 +216,24 @@ module _ (job : Job) (limited : IsLimited job) (w : Parts) (k : IsFor job w) (r 
         none = k.none;
         cpus' = length-set w.cpus i y ∙ k.cpus';
         each = each-cpu;
-        room = noted-room op w.history h noted _ k.room;
       }
 
 -- ## as code has the operation
 
-module _ (job : Job) (limited : IsLimited job) (w : Parts) (k : IsFor job w) (r : Runs job (world_of job w))
+module _ (job : Job) (past : List Item) (limited : IsLimited job) (w : Parts) (k : IsFor job past w) (r : Runs job (world_of job past w))
     (i : ℕ) (x : CpuParts) (at : slice_get w.cpus i ≡ Some x)
     (code : Op) (u : Chosen (shape_of job) (cpu_next job (cpu_of job x)) code) where
   pub cpu-on : IsOn (length w.words) code
-  cpu-on = subst (λ o. IsOn (length w.words) o) u.placed' (on job limited w k r i x at u.op u.is)
+  cpu-on = subst (λ o. IsOn (length w.words) o) u.placed' (on job past limited w k r i x at u.op u.is)
 
   pub cpu-room : HasRoomAt w.words code
-  cpu-room = subst (λ o. HasRoomAt w.words o) u.placed' (room job limited w k r i x at u.op u.is)
+  cpu-room = subst (λ o. HasRoomAt w.words o) u.placed' (room job past limited w k r i x at u.op u.is)
 
   pub cpu-takes-it : (v : ℕ) → v ≡ gives code w.words → CpuTakes job (cpu_of job x) v
-  cpu-takes-it v value = subst (λ n. CpuTakes job (cpu_of job x) n) (sym (value ∙ ap (λ o. gives o w.words) (sym u.placed'))) (takes job limited w k r i x at u.op u.is)
+  cpu-takes-it v value = subst (λ n. CpuTakes job (cpu_of job x) n) (sym (value ∙ ap (λ o. gives o w.words) (sym u.placed'))) (takes job past limited w k r i x at u.op u.is)
 
   pub cpu-fits : IsSome (item_in (cpu_next job (cpu_of job x))) → HasRoom x.marked
-  cpu-fits some = mark-fits job limited w k r i x at u.op u.is u.op (next-in job limited w k r i x at u.op u.is) (subst (λ o. IsSome (item_in o)) u.is some)
+  cpu-fits some = mark-fits job past limited w k r i x at u.op u.is u.op (next-in job past limited w k r i x at u.op u.is) (subst (λ o. IsSome (item_in o)) u.is some)
 
   pub cpu-taken : (v : ℕ) → v ≡ gives code w.words → IsTaken x v
   cpu-taken v value = record {
@@ -250,10 +247,7 @@ module _ (job : Job) (limited : IsLimited job) (w : Parts) (k : IsFor job w) (r 
 
   -- what it has marked, before its list is emptied
   pub cpu-marked : (v : ℕ) (items : List Stamped) → items ≡ x.marked.items ++ marks_in (cpu_next job (cpu_of job x)) v → IsMarked u.op items
-  cpu-marked v items e = marked job limited w k r i x at u.op u.is u.op v items (e ∙ ap (λ o. x.marked.items ++ marks_in o v) u.is)
-
-  pub cpu-space : (command : Bool) → code ≡ CodeMark command → 0 < w.history.spare
-  cpu-space command e = let m = mark-item (shape_of job) command u.op (u.placed' ∙ e) in space job limited w k r i x at u.op u.is m.0 m.1
+  cpu-marked v items e = marked job past limited w k r i x at u.op u.is u.op v items (e ∙ ap (λ o. x.marked.items ++ marks_in o v) u.is)
 
   -- a mark was left to it
   pub cpu-had-left : (command : Bool) → code ≡ CodeMark command → 0 < x.marked.left
@@ -263,30 +257,30 @@ module _ (job : Job) (limited : IsLimited job) (w : Parts) (k : IsFor job w) (r 
       omega (arith, lt)
 
   pub cpu-moved : (words : List ℕ) → words ≡ made code w.words → (v : ℕ) → v ≡ gives code w.words → (y : CpuParts) → IsCpuFor job y → y.marked.items ≡ []
-      → IsLeft u.op x.marked.left y.marked.left → y.marked.room ≡ x.marked.room → cpu_of job y ≡ cpu_got job (cpu_of job x) v → (h : Shown) → IsNoted u.op w.history h
+      → IsLeft u.op x.marked.left y.marked.left → y.marked.room ≡ x.marked.room → cpu_of job y ≡ cpu_got job (cpu_of job x) v → (o : Option Item) → IsTold u.op o
       → (n : CpuNo) → n.0 ≡ i
-      → HasMoved job (ran w words i y h) (step job (actor.Cpu n) (world_of job w))
-  cpu-moved words words-are v value y is_for none left stays is h noted n e =
+      → HasMoved job (marked_on o past) (ran w words i y) (step job (actor.Cpu n) (world_of job past w))
+  cpu-moved words words-are v value y is_for none left stays is o is-told n e =
       let is' : cpu_of job y ≡ cpu_got job (cpu_of job x) (gives (placed (shape_of job) u.op) w.words) =
       is ∙ ap (λ m. cpu_got job (cpu_of job x) m) (value ∙ ap (λ o. gives o w.words) (sym u.placed')) in
       let same-words : made (placed (shape_of job) u.op) w.words ≡ words = ap (λ o. made o w.words) u.placed' ∙ sym words-are in
-      let goes = cpu-moves job limited w k r i x at u.op u.is y is_for none left stays is' h noted in
-      subst (λ ws. HasMoved job (ran w ws i y h) (step job (actor.Cpu n) (world_of job w))) same-words
+      let goes = cpu-moves job past limited w k r i x at u.op u.is y is_for none left stays is' o is-told in
+      subst (λ ws. HasMoved job (marked_on o past) (ran w ws i y) (step job (actor.Cpu n) (world_of job past w))) same-words
       (record {
-        is_for = cpu-keeps job limited w k r i x at u.op u.is y is_for none left stays is' h noted;
-        is = goes ∙ sym (step-is job limited w k r i x at n e ∙ ap (λ o. cpu_moved job (world_of job w) i o) u.is);
-        runs = subst (λ s. Runs job s) (sym goes) (runs-on job limited w k r i x at u.op u.is);
+        is_for = cpu-keeps job past limited w k r i x at u.op u.is y is_for none left stays is' o is-told;
+        is = goes ∙ sym (step-is job past limited w k r i x at n e ∙ ap (λ p. cpu_moved job (world_of job past w) i p) u.is);
+        runs = subst (λ s. Runs job s) (sym goes) (runs-on job past limited w k r i x at u.op u.is);
       })
 
 -- ## from the code's answers
 
 module _ (w : Parts) (i : ℕ) (x : CpuParts) (at : slice_get w.cpus i ≡ Some x) (o : Option Op)
     (answer : (job : Job) → IsLimited job → IsCpuFor job x → o ≡ option_map (placed (shape_of job)) (cpu_next job (cpu_of job x))) where
-  pub cpu-chosen : (job : Job) → IsLimited job → IsFor job w → (code : Op) → o ≡ Some code → Chosen (shape_of job) (cpu_next job (cpu_of job x)) code
-  cpu-chosen job limited k code e = chosen (shape_of job) (cpu_next job (cpu_of job x)) code (sym (answer job limited (k.each i x at).is_for) ∙ e)
+  pub cpu-chosen : (job : Job) (past : List Item) → IsLimited job → IsFor job past w → (code : Op) → o ≡ Some code → Chosen (shape_of job) (cpu_next job (cpu_of job x)) code
+  cpu-chosen job past limited k code e = chosen (shape_of job) (cpu_next job (cpu_of job x)) code (sym (answer job limited (k.each i x at).is_for) ∙ e)
 
-  pub cpu-none : (job : Job) → IsLimited job → IsFor job w → o ≡ None → cpu_next job (cpu_of job x) ≡ None
-  cpu-none job limited k e = none-next (shape_of job) (cpu_next job (cpu_of job x)) (sym (answer job limited (k.each i x at).is_for) ∙ e)
+  pub cpu-none : (job : Job) (past : List Item) → IsLimited job → IsFor job past w → o ≡ None → cpu_next job (cpu_of job x) ≡ None
+  cpu-none job past limited k e = none-next (shape_of job) (cpu_next job (cpu_of job x)) (sym (answer job limited (k.each i x at).is_for) ∙ e)
 
 -- the CPU that is read
 pub found : (v w : Parts) → w ≡ v → (i : ℕ) → i < length v.cpus → (x : CpuParts) → x ≡ get_or w.cpus i x → slice_get w.cpus i ≡ Some x
@@ -295,10 +289,10 @@ found v w e i lt x is = slice_get_read w.cpus (length w.cpus) i x refl (subst (�
 -- a CPU that is read twice makes the operation of the first reading
 pub cpu-again : (v w : Parts) → w ≡ v → (i : ℕ) → i < length v.cpus → (x y : CpuParts) → x ≡ get_or w.cpus i x → y ≡ get_or w.cpus i y → (o : Option Op)
     → ((job : Job) → IsLimited job → IsCpuFor job x → o ≡ option_map (placed (shape_of job)) (cpu_next job (cpu_of job x)))
-    → (code : Op) → o ≡ Some code → (job : Job) → IsLimited job → IsFor job w → Chosen (shape_of job) (cpu_next job (cpu_of job y)) code
-cpu-again v w e i lt x y first second o answer code is job limited k =
+    → (code : Op) → o ≡ Some code → (job : Job) (past : List Item) → IsLimited job → IsFor job past w → Chosen (shape_of job) (cpu_next job (cpu_of job y)) code
+cpu-again v w e i lt x y first second o answer code is job past limited k =
     let at = found v w e i lt y second in
     let one : x ≡ y = same_Some x y (sym (found v w e i lt x first) ∙ at) in
     cpu-chosen w i y at o
     (subst (λ (z : CpuParts). (job : Job) → IsLimited job → IsCpuFor job z → o ≡ option_map (placed (shape_of job)) (cpu_next job (cpu_of job z))) one answer)
-    job limited k code is
+    job past limited k code is

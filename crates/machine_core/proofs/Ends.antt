@@ -1,10 +1,11 @@
 -- Whether actors are at their ends.
-use Rattle.std.proofs.Common.{◌≡◌, ℕ, zero, suc, ◌+◌, ◌<◌, Bool, true, false, not, ◌&&◌, length, get_or, slice_get, Option, Some, None, option_map, inl, inr, refl, sym, ap, ap₂, ◌∙◌, subst, arith}
+use Rattle.std.proofs.Common.{◌≡◌, ℕ, zero, suc, ◌+◌, ◌<◌, Bool, true, false, not, ◌&&◌, List, length, get_or, slice_get, Option, Some, None, option_map, inl, inr, refl, sym, ap, ap₂, ◌∙◌, subst, arith}
 use Rattle.std.specs.Prelude.{◌↔◌}
 use Rattle.std.specs.Bool.{MatchBool}
 use Rattle.std.specs.List.{AllWithin, HoldsAt}
 use Rattle.std.specs.Option.{is_none, is_some}
 use Rattle.std.proofs.lemmas.Option.{slice_get_cases, slice_get_within}
+use Rattle.ft_base.specs.declared.item.Item.{Item}
 use Rattle.ft_base.specs.declared.number.CpuNo.{CpuNo}
 use Rattle.ft_base.specs.declared.turn.Actor.TheVariants as actor
 use Rattle.ft_base.specs.Job.{Job}
@@ -43,42 +44,42 @@ none-mapped f (Some x) = refl
 control-end : (job : Job) (w : Parts) → is_none (control_next job (control_of w.control)) ≡ control_is_done (control_of w.control) (control_of w.control).position
 control-end job w = none-left _ (control_next job (control_of w.control)) (control-ends job (control_of w.control))
 
-module _ (job : Job) (w : Parts) (r : Runs job (world_of job w)) (c : ℕ) (x : CpuParts) (at : slice_get w.cpus c ≡ Some x) where
+module _ (job : Job) (past : List Item) (w : Parts) (r : Runs job (world_of job past w)) (c : ℕ) (x : CpuParts) (at : slice_get w.cpus c ≡ Some x) where
   -- a CPU has none left
-  cpu-end : c < length job.quanta → is_none (cpu_next job (cpu_of job x)) ≡ is_end ((world_of job w).cpus c).phase
+  cpu-end : c < length job.quanta → is_none (cpu_next job (cpu_of job x)) ≡ is_end ((world_of job past w).cpus c).phase
   cpu-end inside =
       ap (λ o. is_none (cpu_next job (cpu_or job (cpu_start job c) o))) (sym at)
-      ∙ none-left _ (cpu_next job ((world_of job w).cpus c)) (cpu-ends job (world_of job w) r.kept c inside)
+      ∙ none-left _ (cpu_next job ((world_of job past w).cpus c)) (cpu-ends job (world_of job past w) r.kept c inside)
 
 -- ## as the machine asks it
 
 -- code's test of control
-pub control-told : (job : Job) (w : Parts) → IsFor job w → (o : Option Op) (b : Bool)
+pub control-told : (job : Job) (past : List Item) (w : Parts) → IsFor job past w → (o : Option Op) (b : Bool)
     → ((job' : Job) → IsControlFor job' w.control → o ≡ option_map (placed w.control.shape) (control_next job' (control_of w.control))) → is_some o ≡ not b
     → b ≡ control_is_done (control_of w.control) (control_of w.control).position
-control-told job w k o b next told =
+control-told job past w k o b next told =
     none-told b o told
     ∙ ap is_none (next job k.control')
     ∙ none-mapped (placed w.control.shape) (control_next job (control_of w.control))
     ∙ control-end job w
 
-pub control-at-end : (job : Job) (w : Parts) (b : Bool) → b ≡ control_is_done (control_of w.control) (control_of w.control).position
-    → b ≡ is_at_end job actor.Control (world_of job w)
+pub control-at-end : (job : Job) (past : List Item) (w : Parts) (b : Bool) → b ≡ control_is_done (control_of w.control) (control_of w.control).position
+    → b ≡ is_at_end job actor.Control (world_of job past w)
 unfolding is_at_end
-control-at-end job w b e = e
+control-at-end job past w b e = e
 
-pub cpu-at-end : (job : Job) → IsLimited job → (w : Parts) → IsFor job w → Runs job (world_of job w) → (n : CpuNo) (x : CpuParts) → slice_get w.cpus n.0 ≡ Some x
-    → is_none (cpu_next job (cpu_of job x)) ≡ is_at_end job (actor.Cpu n) (world_of job w)
+pub cpu-at-end : (job : Job) (past : List Item) → IsLimited job → (w : Parts) → IsFor job past w → Runs job (world_of job past w) → (n : CpuNo) (x : CpuParts) → slice_get w.cpus n.0 ≡ Some x
+    → is_none (cpu_next job (cpu_of job x)) ≡ is_at_end job (actor.Cpu n) (world_of job past w)
 unfolding is_at_end
-cpu-at-end job limited w k r n x at =
+cpu-at-end job past limited w k r n x at =
     let many = k.cpus' in
     let within = slice_get_within w.cpus n.0 x at in
-    cpu-end job w r n.0 x at (omega (arith, many, within))
+    cpu-end job past w r n.0 x at (omega (arith, many, within))
 
 -- a CPU that there is not is not at its end
-pub no-cpu-at-end : (job : Job) (w : Parts) (n : CpuNo) → slice_get w.cpus n.0 ≡ None → false ≡ is_at_end job (actor.Cpu n) (world_of job w)
+pub no-cpu-at-end : (job : Job) (past : List Item) (w : Parts) (n : CpuNo) → slice_get w.cpus n.0 ≡ None → false ≡ is_at_end job (actor.Cpu n) (world_of job past w)
 unfolding is_at_end
-no-cpu-at-end job w n none = sym (ap (λ o. is_end (cpu_or job (cpu_start job n.0) o).phase) none)
+no-cpu-at-end job past w n none = sym (ap (λ o. is_end (cpu_or job (cpu_start job n.0) o).phase) none)
 
 -- ## all CPUs
 
@@ -108,37 +109,37 @@ one-false cpus (suc n) c (suc i) lt e =
 abbrev pub Ended : Job → Bool → CpuParts → Type 0
 Ended job b x = IsCpuFor job x → b ≡ is_none (cpu_next job (cpu_of job x))
 
-module _ (job : Job) (limited : IsLimited job) (w : Parts) (k : IsFor job w) (r : Runs job (world_of job w)) where
-  answer-is : (b : Bool) (i : ℕ) (x : CpuParts) → slice_get w.cpus i ≡ Some x → Ended job b x → is_end ((world_of job w).cpus i).phase ≡ b
+module _ (job : Job) (past : List Item) (limited : IsLimited job) (w : Parts) (k : IsFor job past w) (r : Runs job (world_of job past w)) where
+  answer-is : (b : Bool) (i : ℕ) (x : CpuParts) → slice_get w.cpus i ≡ Some x → Ended job b x → is_end ((world_of job past w).cpus i).phase ≡ b
   answer-is b i x at e =
       let many = k.cpus' in
       let within = slice_get_within w.cpus i x at in
-      sym (e (k.each i x at).is_for ∙ cpu-end job w r i x at (omega (arith, many, within)))
+      sym (e (k.each i x at).is_for ∙ cpu-end job past w r i x at (omega (arith, many, within)))
 
-  answer-at : (b : Bool) (i : ℕ) → i < length w.cpus → ((x : CpuParts) → Ended job b (get_or w.cpus i x)) → is_end ((world_of job w).cpus i).phase ≡ b
+  answer-at : (b : Bool) (i : ℕ) → i < length w.cpus → ((x : CpuParts) → Ended job b (get_or w.cpus i x)) → is_end ((world_of job past w).cpus i).phase ≡ b
   answer-at b i lt e = elim (slice_get_cases w.cpus i).1 [
     | inl f ↦ answer-is b i f.0 f.2 (subst (λ x. Ended job b x) f.3 (e f.0))
     | inr none ↦ (let past = none.0 in absurd (omega (arith, lt, past)))
   ]
 
   pub all-answer : (b : Bool) → MatchBool b (AllWithin (Ended job true) w.cpus 0 (length w.cpus)) ((i : ℕ) × (i < length w.cpus) × HoldsAt (Ended job false) w.cpus i)
-      → b ≡ cpus_end (world_of job w).cpus 0 (length job.quanta)
+      → b ≡ cpus_end (world_of job past w).cpus 0 (length job.quanta)
   all-answer true h =
       let z : (i : ℕ) → i ≡ 0 + i = λ i. omega arith in
       let many = k.cpus' in
-      sym (all-true (world_of job w).cpus (length job.quanta) 0
-      (λ i lt. subst (λ n. is_end ((world_of job w).cpus n).phase ≡ true) (z i)
+      sym (all-true (world_of job past w).cpus (length job.quanta) 0
+      (λ i lt. subst (λ n. is_end ((world_of job past w).cpus n).phase ≡ true) (z i)
       (let within : i < length w.cpus = omega (arith, lt, many) in answer-at true i within (λ x. h i x (omega arith) within))))
   all-answer false h =
       let z : h.0 ≡ 0 + h.0 = omega arith in
       let many = k.cpus' in
       let lt = h.1 in
-      sym (one-false (world_of job w).cpus (length job.quanta) 0 h.0 (omega (arith, lt, many))
-      (subst (λ n. is_end ((world_of job w).cpus n).phase ≡ false) z (answer-at false h.0 h.1 (λ x. h.2 x))))
+      sym (one-false (world_of job past w).cpus (length job.quanta) 0 h.0 (omega (arith, lt, many))
+      (subst (λ n. is_end ((world_of job past w).cpus n).phase ≡ false) z (answer-at false h.0 h.1 (λ x. h.2 x))))
 
 -- ## all actors
 
-pub all-at-end : (job : Job) (w : Parts) (a b : Bool) → a ≡ control_is_done (control_of w.control) (control_of w.control).position
-    → b ≡ cpus_end (world_of job w).cpus 0 (length job.quanta) → (a && b) ≡ all_end job (world_of job w)
+pub all-at-end : (job : Job) (past : List Item) (w : Parts) (a b : Bool) → a ≡ control_is_done (control_of w.control) (control_of w.control).position
+    → b ≡ cpus_end (world_of job past w).cpus 0 (length job.quanta) → (a && b) ≡ all_end job (world_of job past w)
 unfolding all_end
-all-at-end job w a b e f = λ i. e i && f i
+all-at-end job past w a b e f = λ i. e i && f i

@@ -1,15 +1,12 @@
 -- The machine before its first step.
-use Rattle.std.proofs.Common.{◌≡◌, ℕ, ◌+◌, ◌*◌, ◌<◌, ◌≤◌, List, [], ◌∷◌, length, reverse, slice_get, sum_by, Option, Some, None, refl, sym, ap, ◌∙◌, subst, arith}
+use Rattle.std.proofs.Common.{◌≡◌, ℕ, ◌+◌, ◌<◌, ◌≤◌, List, [], ◌∷◌, length, slice_get, sum_by, Option, Some, None, refl, sym, ap, ◌∙◌, subst, arith}
 use Rattle.std.proofs.lemmas.List.{length-map}
 use Rattle.std.proofs.lemmas.Option.{slice_get_within}
-use Rattle.ft_base.specs.declared.item.Item.{Item}
 use Rattle.ft_base.specs.declared.limits.TheConstants.{COMMANDS, UNTILS}
 use Rattle.ft_base.specs.Desk.{desk}
-use Rattle.ft_base.specs.Job.{Job, commands}
+use Rattle.ft_base.specs.Job.{Job}
 use Rattle.user_specs.specs.declared.plan.CpuPlan.{CpuPlan}
 use Rattle.user_specs.specs.declared.spec.Spec.{Spec}
-use Rattle.user_specs.specs.Bound.{call_bound_in}
-use Rattle.history_bound.specs.Bound.{all_calls}
 use Rattle.word_map.specs.declared.shape.Shape.{Shape}
 use Rattle.word_map.specs.Shapes.{shape_of}
 use Rattle.word_map.specs.Places.{IsOpening}
@@ -30,7 +27,7 @@ use Rattle.control_core.specs.Seated as control
 use Rattle.control_core.proofs.StartLaw.{starts}
 use Rattle.cpu_core.specs.declared.parts.Parts.{Parts as CpuParts}
 use Rattle.cpu_core.specs.Marks.{Marks}
-use Rattle.machine_core.specs.Worlds.{Declares, IsCpuAt, IsFor, IsRunning, Parts, cpu_or, past_of, world_of}
+use Rattle.machine_core.specs.Worlds.{Declares, IsCpuAt, IsFor, IsRunning, Parts, cpu_or, world_of}
 use Rattle.machine_core.specs.declared.cpus.TaskLimits.{TaskLimits}
 use Rattle.machine_core.specs.declared.cpus.CpuRoom.{CpuRoom}
 use Rattle.machine_core.specs.declared.cpus.CpuRoom.TheVariants.{ForOne, ForAll}
@@ -80,12 +77,7 @@ module _ (w : Parts) (pids : ℕ) (d : Seen) (ctls : List Ctl) (plans : List Cpu
     (words : IsOpening w.shape pids w.words)
     (seated-shape : w.control.shape ≡ w.shape) (seated-desk : w.control.desk ≡ d) (seated-lines : w.control.lines ≡ lines_of w.shape.tasks ctls)
     (seated : control.IsOpening w.control)
-    (first : (job : Job) → ArePlansOf job plans specs limits w.shape → AreFirst rooms job w.cpus)
-    (blank : w.history.items ≡ [])
-    (room : (job : Job) → AreListsOf job ctls plans specs limits → 2 * length (commands job) + call_bound_in job * all_calls job.tasks ≤ w.history.spare) where
-  no-past : past_of w ≡ []
-  no-past = ap (λ (items : List Item). reverse items) blank
-
+    (first : (job : Job) → ArePlansOf job plans specs limits w.shape → AreFirst rooms job w.cpus) where
   module _ (job : Job) (h : Declares job d ctls plans specs limits w.shape) where
     own : AreFirst rooms job w.cpus
     own = first job (declared-plans job d ctls plans specs limits w.shape h)
@@ -103,25 +95,25 @@ module _ (w : Parts) (pids : ℕ) (d : Seen) (ctls : List Ctl) (plans : List Cpu
     cpu-is c None e = refl
     cpu-is c (Some x) e = (own.each c x e).same
 
-    world-is : world_of job w ≡ start job
+    world-is : world_of job [] w ≡ start job
     unfolding start
     world-is = λ i. record {
       words = opening_is (shape_of job) (mask_of (desk job 0) (length job.tasks)) w.words words-open i;
       control = control-is.1 i;
       cpus = λ c. (cpu-is c (slice_get w.cpus c) refl i);
-      past = no-past i;
+      past = [];
     }
 
-    at : (c : ℕ) (x : CpuParts) → slice_get w.cpus c ≡ Some x → IsCpuAt job w c x
+    at : (c : ℕ) (x : CpuParts) → slice_get w.cpus c ≡ Some x → IsCpuAt job [] c x
     at c x e = let is = own.each c x e in record {
       is_for = is.is_for;
       number = ap (λ (y : Cpu). y.number) is.same;
       none = ap (λ (m : Marks). m.items) is.marked;
-      left = let none = ap (items_on job c) no-past ∙ none-on job c in let left = ap (λ (m : Marks). m.left) is.marked in omega (arith, none, left);
+      left = let none = none-on job c in let left = ap (λ (m : Marks). m.left) is.marked in omega (arith, none, left);
       room = λ some. subst (λ (m : Marks). 0 < m.room) (sym is.marked) (has-room rooms job c some);
     }
 
-    is-for : IsFor job w
+    is-for : IsFor job [] w
     is-for = record {
       shape' = h.shape';
       count = words-open.count;
@@ -129,11 +121,10 @@ module _ (w : Parts) (pids : ℕ) (d : Seen) (ctls : List Ctl) (plans : List Cpu
       none = seated.items;
       cpus' = own.count;
       each = at;
-      room = let e = room job (declared-lists job d ctls plans specs limits w.shape h) in omega (arith, e);
     }
 
-    pub opens : IsFor job w × (world_of job w ≡ start job)
+    pub opens : IsFor job [] w × (world_of job [] w ≡ start job)
     opens = (is-for, world-is)
 
     pub opens-running : IsRunning w
-    opens-running = record { job = job; limited = h.limited; is_for = is-for; runs = subst (Runs job) (sym world-is) (start-runs job h.limited) }
+    opens-running = record { job = job; past = []; limited = h.limited; is_for = is-for; runs = subst (Runs job) (sym world-is) (start-runs job h.limited) }

@@ -1,19 +1,13 @@
--- The machine's history goes on with the world's: it takes in what an operation marks.
-use Rattle.std.proofs.Common.{◌≡◌, ◌≢◌, ℕ, suc, ◌+◌, ◌-◌, ◌*◌, ◌<◌, ◌≤◌, Bool, List, [], ◌∷◌, ◌++◌, length, map, reverse, refl, sym, ap, ◌∙◌, subst, arith}
-use Rattle.std.proofs.lemmas.List.{length-append, length-reverse, reverse-append}
+-- What an operation marks, and what is told of it: the world's items go on with that.
+use Rattle.std.proofs.Common.{◌≡◌, ◌≢◌, ℕ, suc, ◌-◌, ◌<◌, Bool, List, [], ◌∷◌, get_or, length, map, Option, Some, None, refl, sym, ap, ◌∙◌, arith}
 use Rattle.ft_base.specs.declared.item.Item.{Item}
 use Rattle.ft_base.specs.declared.item.Stamped.{Stamped}
-use Rattle.ft_base.specs.Job.{Job, commands}
-use Rattle.ft_hist.specs.Rules.{IsLegalPast}
-use Rattle.ft_hist.specs.Shown.{Shown}
-use Rattle.user_specs.specs.Bound.{call_bound_in}
-use Rattle.history_bound.specs.Bound.{all_calls}
-use Rattle.history_bound.proofs.Bounded.{history-most}
 use Rattle.word_map.specs.declared.op.Op.{Op}
 use Rattle.word_map.specs.declared.op.Op.TheVariants.{Mark as CodeMark}
 use Rattle.word_map.specs.declared.shape.Shape.{Shape}
 use Rattle.word_map.specs.Ops.{WordOp, Load, Store, Mark, placed}
 use Rattle.word_machine.specs.Machine.{past_after}
+use Rattle.machine_core.specs.Worlds.{marked_on}
 
 -- ## what is marked
 
@@ -22,10 +16,10 @@ abbrev pub IsMarked : WordOp → List Stamped → Type 0
 IsMarked (Mark item) items = (s : Stamped) × (items ≡ s ∷ []) × (s.item ≡ item)
 IsMarked _ items = items ≡ []
 
--- a history after an operation: an item that is marked is one more at its end
-abbrev pub IsNoted : WordOp → Shown → Shown → Type 0
-IsNoted (Mark item) h h' = (h'.items ≡ h.items ++ item ∷ []) × (h.spare ≤ h'.spare + 1)
-IsNoted _ h h' = h' ≡ h
+-- what is told of an operation: the item that it has marked
+abbrev pub IsTold : WordOp → Option Item → Type 0
+IsTold (Mark item) o = o ≡ Some item
+IsTold _ o = o ≡ None
 
 -- how many items are left to mark after an operation, once the list was emptied
 abbrev pub IsLeft : WordOp → ℕ → ℕ → Type 0
@@ -47,14 +41,12 @@ module _ (shape : Shape) (command : Bool) (items : List Stamped) where
   mark-one (Store w x) e m = absurd cc
   mark-one (Mark item) e m = ap (λ (xs : List Stamped). length xs) m.1
 
-  pub mark-noted : (op : WordOp) → placed shape op ≡ CodeMark command → IsMarked op items → (h h' : Shown)
-      → h'.items ≡ h.items ++ map (λ (s : Stamped). s.item) items → h.spare ≤ h'.spare + 1 → IsNoted op h h'
-  mark-noted (Load w) e m h h' added spare = absurd cc
-  mark-noted (Store w x) e m h h' added spare = absurd cc
-  mark-noted (Mark item) e m h h' added spare = (
-    added ∙ ap (λ (xs : List Stamped). h.items ++ map (λ (s : Stamped). s.item) xs) m.1 ∙ ap (λ i. h.items ++ i ∷ []) m.2,
-    spare,
-  )
+  pub mark-told : (op : WordOp) → placed shape op ≡ CodeMark command → IsMarked op items → (told : Item)
+      → map (λ (s : Stamped). s.item) items ≡ told ∷ [] → IsTold op (Some told)
+  mark-told (Load w) e m told one = absurd cc
+  mark-told (Store w x) e m told one = absurd cc
+  mark-told (Mark item) e m told one = ap (λ (i : Item). Some i)
+      (ap (λ (xs : List Item). get_or xs 0 told) (sym one ∙ ap (λ (xs : List Stamped). map (λ (s : Stamped). s.item) xs) m.1) ∙ m.2)
 
   pub mark-left : (op : WordOp) → placed shape op ≡ CodeMark command → IsMarked op items → (left left' : ℕ) → 0 < left → left' ≡ left - length items
       → IsLeft op left left'
@@ -69,37 +61,20 @@ module _ (shape : Shape) (code : Op) (other : (command : Bool) → code ≢ Code
   none-marked (Store w x) e items m = m
   none-marked (Mark item) e items m = absurd (other _ (sym e))
 
-  pub none-noted : (op : WordOp) → placed shape op ≡ code → (h : Shown) → IsNoted op h h
-  none-noted (Load w) e h = refl
-  none-noted (Store w x) e h = refl
-  none-noted (Mark item) e h = absurd (other _ (sym e))
+  pub none-told : (op : WordOp) → placed shape op ≡ code → IsTold op None
+  none-told (Load w) e = refl
+  none-told (Store w x) e = refl
+  none-told (Mark item) e = absurd (other _ (sym e))
 
   pub none-left : (op : WordOp) → placed shape op ≡ code → (left : ℕ) → IsLeft op left left
   none-left (Load w) e left = refl
   none-left (Store w x) e left = refl
   none-left (Mark item) e left = absurd (other _ (sym e))
 
--- ## the history
+-- ## the items so far
 
--- its items are the world's, the latest first
-pub noted-past : (op : WordOp) (h h' : Shown) → IsNoted op h h' → reverse h'.items ≡ past_after op (reverse h.items)
-noted-past (Load w) h h' same = ap (λ (x : Shown). reverse x.items) same
-noted-past (Store w x) h h' same = ap (λ (x : Shown). reverse x.items) same
-noted-past (Mark item) h h' more = ap (λ (xs : List Item). reverse xs) more.0 ∙ reverse-append h.items (item ∷ [])
-
--- there is as much room for all of them
-pub noted-room : (op : WordOp) (h h' : Shown) → IsNoted op h h' → (n : ℕ) → n ≤ length h.items + h.spare → n ≤ length h'.items + h'.spare
-noted-room (Load w) h h' same n room = subst (λ (x : Shown). n ≤ length x.items + x.spare) (sym same) room
-noted-room (Store w x) h h' same n room = subst (λ (x : Shown). n ≤ length x.items + x.spare) (sym same) room
-noted-room (Mark item) h h' more n room =
-    let e = ap (λ (xs : List Item). length xs) more.0 ∙ length-append h.items (item ∷ []) in
-    let left = more.1 in
-    omega (arith, e, left, room)
-
--- a legal history has at most the items for which there was room, and a mark adds one
-pub has-room : (job : Job) (h : Shown) → 2 * length (commands job) + call_bound_in job * all_calls job.tasks ≤ length h.items + h.spare
-    → (item : Item) → IsLegalPast job (item ∷ reverse h.items) → 0 < h.spare
-has-room job h room item legal =
-    let most = history-most job (item ∷ reverse h.items) legal in
-    let e = length-reverse h.items in
-    omega (arith, most, e, room)
+-- they go on with the world's
+pub told-past : (op : WordOp) (o : Option Item) → IsTold op o → (past : List Item) → marked_on o past ≡ past_after op past
+told-past (Load w) o same past = ap (λ (x : Option Item). marked_on x past) same
+told-past (Store w x) o same past = ap (λ (x : Option Item). marked_on x past) same
+told-past (Mark item) o same past = ap (λ (x : Option Item). marked_on x past) same

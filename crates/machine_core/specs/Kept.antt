@@ -4,7 +4,7 @@ use Rattle.machine_core.specs.Worlds.{IsRunning, Parts}
 
 -- what contracts see
 abbrev pub parts_of : Inside → Parts
-parts_of d = record { shape = d.map; words = d.table; control = d.control; cpus = d.cpus.items; history = d.history }
+parts_of d = record { shape = d.map; words = d.table; control = d.control; cpus = d.cpus.items }
 
 -- it is the machine of some job
 pub record IsKept (d : Inside) : Type 0 where

@@ -1,14 +1,11 @@
 -- The word machine's world that the words, control and CPUs of code stand for.
-use Rattle.std.specs.Prelude.{ℕ, ◌≡◌, ◌+◌, ◌*◌, ◌<◌, ◌≤◌, List, [], length, reverse, slice_get, Option, Some, None}
+use Rattle.std.specs.Prelude.{ℕ, ◌≡◌, ◌+◌, ◌<◌, ◌≤◌, List, [], ◌∷◌, length, slice_get, Option, Some, None}
 use Rattle.ft_base.specs.declared.item.Item.{Item}
 use Rattle.ft_base.specs.declared.limits.TheConstants.{ITEMS, QUANTUM}
 use Rattle.ft_base.specs.Desk.{desk}
-use Rattle.ft_base.specs.Job.{Job, commands}
-use Rattle.ft_hist.specs.Shown.{Shown}
-use Rattle.history_bound.specs.Bound.{all_calls}
+use Rattle.ft_base.specs.Job.{Job}
 use Rattle.user_specs.specs.declared.plan.CpuPlan.{CpuPlan}
 use Rattle.user_specs.specs.declared.spec.Spec.{Spec}
-use Rattle.user_specs.specs.Bound.{call_bound_in}
 use Rattle.word_map.specs.declared.shape.Shape.{Shape}
 use Rattle.word_map.specs.Shapes.{shape_of}
 use Rattle.word_map.specs.Words.{Words}
@@ -30,19 +27,19 @@ use Rattle.cpu_core.specs.Cpus as cpu
 use Rattle.cpu_core.specs.Taken.{IsCpuOf}
 use Rattle.machine_core.specs.declared.cpus.TaskLimits.{TaskLimits}
 
--- the shape of the words, the words, control, the CPUs, and the history
+-- the shape of the words, the words, control, and the CPUs
 pub record Parts : Type 0 where
   pub shape : Shape
   pub words : List ℕ
   pub control : Seated
   pub cpus : List CpuParts
-  pub history : Shown
 
 -- ## the world
 
--- the items so far, the latest first
-abbrev pub past_of : Parts → List Item
-past_of w = reverse w.history.items
+-- the items so far, the latest first, after a step that has marked this one or none
+abbrev pub marked_on : Option Item → List Item → List Item
+marked_on None past = past
+marked_on (Some item) past = item ∷ past
 
 -- the word machine's words; one that the job doesn't have is as at the start
 abbrev pub words_of : Job → List ℕ → Words
@@ -57,48 +54,47 @@ cpu_or job otherwise (Some c) = cpu_of job c
 abbrev pub cpus_of : Job → List CpuParts → ℕ → Cpu
 cpus_of job cpus c = cpu_or job (cpu_start job c) (slice_get cpus c)
 
--- the world
-abbrev pub world_of : Job → Parts → World
-world_of job w = record {
+-- the world after these items, the latest first: the machine itself keeps none
+abbrev pub world_of : Job → List Item → Parts → World
+world_of job past w = record {
   words = words_of job w.words;
   control = control_of w.control;
   cpus = cpus_of job w.cpus;
-  past = past_of w;
+  past = past;
 }
 
 -- ## of which job it is the machine
 
--- CPU c of a job.
---   none   what it marked is in the history, and not in its list
+-- CPU c of a job after these items.
+--   none   what it marked was handed on, and isn't in its list
 --   left   the items of its tasks so far are those that it can mark no more, of all that a history may have
 --   room   it has room for one, if its tasks can mark any
-pub record IsCpuAt (job : Job) (w : Parts) (c : ℕ) (x : CpuParts) : Type 0 where
+pub record IsCpuAt (job : Job) (past : List Item) (c : ℕ) (x : CpuParts) : Type 0 where
   pub is_for : cpu.IsFor job x
   pub number : x.polls.poll.cpu ≡ c
   pub none : x.marked.items ≡ []
-  pub left : x.marked.left + items_on job c (past_of w) ≡ ITEMS
+  pub left : x.marked.left + items_on job c past ≡ ITEMS
   pub room : 0 < room_on job c → 0 < x.marked.room
 
--- The machine of a job.
---   none   what control marked is in the history, and not in its list
---   room   the history has room for all that the job can make
-pub record IsFor (job : Job) (w : Parts) : Type 0 where
+-- The machine of a job after these items.
+--   none   what control marked was handed on, and isn't in its list
+pub record IsFor (job : Job) (past : List Item) (w : Parts) : Type 0 where
   pub shape' : w.shape ≡ shape_of job
   pub count : length w.words ≡ len (shape_of job)
   pub control' : control.IsFor job w.control
   pub none : w.control.items ≡ []
   pub cpus' : length w.cpus ≡ length job.quanta
-  pub each : (c : ℕ) (x : CpuParts) → slice_get w.cpus c ≡ Some x → IsCpuAt job w c x
-  pub room : 2 * length (commands job) + call_bound_in job * all_calls job.tasks ≤ length w.history.items + w.history.spare
+  pub each : (c : ℕ) (x : CpuParts) → slice_get w.cpus c ≡ Some x → IsCpuAt job past c x
 
 -- ## what it keeps
 
--- the machine of some job, whose world runs
+-- the machine of some job after some items, whose world runs
 pub record IsRunning (w : Parts) : Type 0 where
   pub job : Job
+  pub past : List Item
   pub limited : IsLimited job
-  pub is_for : IsFor job w
-  pub runs : Runs job (world_of job w)
+  pub is_for : IsFor job past w
+  pub runs : Runs job (world_of job past w)
 
 -- ## at the start
 

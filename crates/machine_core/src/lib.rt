@@ -2,15 +2,15 @@
 //! which step one at a time.
 //!
 //! A *step* of an actor makes its next operation on the words: a load, a store, or a *mark*, which
-//! counts one item in the clock. The actor takes the value that the operation gives, and goes on. An
-//! item that it has marked goes into the machine's history at once, and the actor forgets it: each item
-//! is kept once, and between two steps the actors' own lists are empty.
+//! counts one item in the clock. The actor takes the value that the operation gives, and goes on. A step
+//! hands over the item that it has marked, and the actor forgets it: the machine keeps no items, and
+//! between two steps the actors' own lists are empty.
 //!
 //! Promised: for every job of which it is the machine, its start and each step are those of the word
-//! machine; the history has the word machine's items in order; it tells who is at an end, and the five
-//! bytes of each call site. A lemma for the crates above, `whole-site`, says that these bytes are whole.
-//! Only the start takes memory, and with it room for all items that the job can make; that it is found
-//! is only tested, in `actors_tests`.
+//! machine, after any items that came before; a step tells the item that the word machine adds; it tells
+//! who is at an end, and the five bytes of each call site. A lemma for the crates above, `whole-site`,
+//! says that these bytes are whole. Only the start takes memory. Whoever keeps items takes the room for
+//! all that a job can make from [`new_history`]; that it is found is only tested, in `actors_tests`.
 #![tactic(auto)]
 
 mod cpus;
@@ -18,4 +18,4 @@ mod table;
 mod world;
 
 pub use cpus::{CpuRoom, TaskLimits};
-pub use world::{World, WorldParts};
+pub use world::{World, WorldParts, new_history};

@@ -1,6 +1,7 @@
 //! The words, control and the CPUs, one step at a time.
 
-ghost use Rattle.std.specs.Prelude.{◌≡◌, [], ◌++◌, ◌<◌, ◌≤◌, ◌+◌, ◌*◌, length, map, option_map, reverse, All, IfOk};
+ghost use Rattle.std.specs.Prelude.{List, ◌≡◌, [], ◌∷◌, ◌<◌, ◌≤◌, ◌+◌, ◌*◌, length, map, option_map, All, IfOk};
+ghost use Rattle.ft_base.specs.declared.item.Item.{Item};
 ghost use Rattle.ft_base.specs.declared.turn.Actor.TheVariants as Actor;
 ghost use Rattle.ft_base.specs.Desk.{desk};
 ghost use Rattle.ft_base.specs.Job.{Job, commands};
@@ -18,13 +19,13 @@ ghost use Rattle.word_machine.specs.Machine.{start, step, is_at_end, all_end};
 ghost use Rattle.machine_core.specs.Nexts.{next_op};
 ghost use Rattle.machine_core.specs.Sites.{site_of};
 ghost use Rattle.machine_core.specs.Starts.{AreFirst, AreListsOf};
-ghost use Rattle.machine_core.specs.Worlds.{Declares, IsFor, world_of};
+ghost use Rattle.machine_core.specs.Worlds.{Declares, IsFor, marked_on, world_of};
 
 use crate::cpus::{CpuRoom, TaskLimits, all_rooms, has_ended, new_cpus};
 use crate::table::Table;
 use control_core::Control;
 use cpu_core::Cpu;
-use ft_base::{Actor, CpuNo, FuncNo, NoMemory, Stamped};
+use ft_base::{Actor, CpuNo, FuncNo, Item, NoMemory, Stamped};
 use ft_desk::{Ctl, Desk};
 use ft_hist::History;
 use pid_filter::Pids;
@@ -34,16 +35,14 @@ use user_specs::{CpuPlan, Spec};
 use word_map::{Op, WordMap};
 
 /// The words, control and the CPUs. Contracts see them as lists, of which `world_of` makes the word
-/// machine's world. It is always the machine of some job, in a state that keeps the rule.
+/// machine's world, after items that the caller knows: the machine keeps none, and an actor's own list is
+/// empty between two steps. It is always the machine of some job, in a state that keeps the rule.
 #[derive(Drop)]
 pub struct World {
     map: WordMap,
     table: Table,
     control: Control,
     cpus: Vec<Cpu>,
-    /// All items by place; an actor's own list is empty between two steps. All the room is taken at the
-    /// start, so that a step takes no memory.
-    history: History,
 }
 
 /// The words, control and the CPUs apart, for those who let them step at the same time.
@@ -55,8 +54,6 @@ pub struct WorldParts {
     pub control: Control,
     /// The CPUs by number.
     pub cpus: Vec<Cpu>,
-    /// What has happened, with room for all items that the job can make.
-    pub history: History,
 }
 
 impl Model for World {
@@ -88,11 +85,10 @@ impl World {
         requires declared { IsDeclaredIn map desk.declared }
         requires lines { All (IsLineIn desk.declared) ctls.now }
         requires job { (job : Job) × Declares job desk ctls.now plans.now specs.now limits map }
-        ensures opening { IfOk result (λ w. (job : Job) → Declares job desk ctls.now plans.now specs.now limits map → IsFor job w × (world_of job w ≡ start job)) }
+        ensures opening { IfOk result (λ w. (job : Job) → Declares job desk ctls.now plans.now specs.now limits map → IsFor job [] w × (world_of job [] w ≡ start job)) }
         ensures control { IfOk result (λ w. IsOpening w.control × LeadsAll w.control) }
         ensures cpus { IfOk result (λ w. (job : Job) → Declares job desk ctls.now plans.now specs.now limits map → AreFirst rooms job w.cpus) }
     {
-        let history = new_history(alloc, ctls, plans, specs, limits)?;
         let table = Table::new(alloc, &map, all_tasks(&map))?;
         let control = Control::new(alloc, desk, ctls, map)?;
         let cpus = new_cpus(alloc, plans, specs, limits, rooms, map)?;
@@ -101,63 +97,70 @@ impl World {
             table,
             control,
             cpus,
-            history,
         })
     }
 
-    /// One step of an actor; nothing if it is at its end, or a CPU that there is not. It takes no
-    /// memory.
-    pub fn step(&mut self, actor: Actor)
-        ensures { (job : Job) → IsLimited job → IsFor job self.old → Runs job (world_of job self.old)
-            → IsFor job self.new × (world_of job self.new ≡ step job actor (world_of job self.old)) }
+    /// One step of an actor; nothing if it is at its end, or a CPU that there is not. The answer is the
+    /// item that it has marked, if any. It takes no memory.
+    pub fn step(&mut self, actor: Actor) -> Option<Item>
+        ensures { (job : Job) (past : List Item) → IsLimited job → IsFor job past self.old → Runs job (world_of job past self.old)
+            → IsFor job (marked_on result past) self.new × (world_of job (marked_on result past) self.new ≡ step job actor (world_of job past self.old)) }
     {
         match actor {
             Actor::Control => self.step_control(),
             Actor::Cpu(cpu) => {
                 if (cpu.0 as usize) < self.cpus.len() {
-                    self.step_cpu(cpu);
+                    self.step_cpu(cpu)
+                } else {
+                    None
                 }
             }
         }
     }
 
     /// Control makes its next operation, if it has one.
-    fn step_control(&mut self)
-        ensures { (job : Job) → IsLimited job → IsFor job self.old → Runs job (world_of job self.old)
-            → IsFor job self.new × (world_of job self.new ≡ step job Actor.Control (world_of job self.old)) }
+    fn step_control(&mut self) -> Option<Item>
+        ensures { (job : Job) (past : List Item) → IsLimited job → IsFor job past self.old → Runs job (world_of job past self.old)
+            → IsFor job (marked_on result past) self.new
+            × (world_of job (marked_on result past) self.new ≡ step job Actor.Control (world_of job past self.old)) }
     {
         if let Some(op) = self.control.next() {
             let value = self.table.make(op);
             self.control.got(value);
             if let Op::Mark { .. } = op {
-                note(&mut self.history, self.control.items());
+                let item = only(self.control.items());
                 self.control.forget_items();
+                return Some(item);
             }
         }
+        None
     }
 
     /// A CPU makes its next operation, if it has one.
-    fn step_cpu(&mut self, cpu: CpuNo)
+    fn step_cpu(&mut self, cpu: CpuNo) -> Option<Item>
         requires { cpu.0 < length self.old.cpus }
-        ensures { (job : Job) → IsLimited job → IsFor job self.old → Runs job (world_of job self.old)
-            → IsFor job self.new × (world_of job self.new ≡ step job (Actor.Cpu cpu) (world_of job self.old)) }
+        ensures { (job : Job) (past : List Item) → IsLimited job → IsFor job past self.old → Runs job (world_of job past self.old)
+            → IsFor job (marked_on result past) self.new
+            × (world_of job (marked_on result past) self.new ≡ step job (Actor.Cpu cpu) (world_of job past self.old)) }
     {
         if let Some(op) = self.cpus[cpu.0 as usize].next() {
             let value = self.table.make(op);
             let own = &mut self.cpus[cpu.0 as usize];
             own.got(value);
             if let Op::Mark { .. } = op {
-                note(&mut self.history, own.items());
+                let item = only(own.items());
                 own.forget_items();
+                return Some(item);
             }
         }
+        None
     }
 
     /// The operation that an actor's next step makes, on words by their places; none if the actor is at
     /// its end, or a CPU that there is not.
     pub fn next(&self, actor: Actor) -> Option<Op>
-        ensures { (job : Job) → IsLimited job → IsFor job self.now → Runs job (world_of job self.now)
-            → result ≡ option_map (placed (shape_of job)) (next_op job actor (world_of job self.now)) }
+        ensures { (job : Job) (past : List Item) → IsLimited job → IsFor job past self.now → Runs job (world_of job past self.now)
+            → result ≡ option_map (placed (shape_of job)) (next_op job actor (world_of job past self.now)) }
     {
         match actor {
             Actor::Control => self.control.next(),
@@ -170,7 +173,8 @@ impl World {
 
     /// Whether an actor is at its end. A CPU that there is not is as one before its first step.
     pub fn at_end(&self, actor: Actor) -> bool
-        ensures { (job : Job) → IsLimited job → IsFor job self.now → Runs job (world_of job self.now) → result ≡ is_at_end job actor (world_of job self.now) }
+        ensures { (job : Job) (past : List Item) → IsLimited job → IsFor job past self.now → Runs job (world_of job past self.now)
+            → result ≡ is_at_end job actor (world_of job past self.now) }
     {
         match actor {
             Actor::Control => self.control.next().is_none(),
@@ -183,7 +187,8 @@ impl World {
 
     /// Whether every actor is at its end.
     pub fn all_end(&self) -> bool
-        ensures { (job : Job) → IsLimited job → IsFor job self.now → Runs job (world_of job self.now) → result ≡ all_end job (world_of job self.now) }
+        ensures { (job : Job) (past : List Item) → IsLimited job → IsFor job past self.now → Runs job (world_of job past self.now)
+            → result ≡ all_end job (world_of job past self.now) }
     {
         self.control.next().is_none() && self.cpus.iter().all(|cpu| has_ended(cpu))
     }
@@ -213,7 +218,7 @@ impl World {
     /// "dynamic ftrace").
     pub fn site(&self, f: FuncNo) -> [u8; 5]
         requires { f.0 < self.now.shape.funcs }
-        ensures { (job : Job) → IsFor job self.now → result ≡ site_of (world_of job self.now).words f.0 }
+        ensures { (job : Job) (past : List Item) → IsFor job past self.now → result ≡ site_of (world_of job past self.now).words f.0 }
     {
         let head = self.table.word(self.map.head(f));
         let tail = self.table.word(self.map.tail(f));
@@ -222,57 +227,37 @@ impl World {
         [first, second, third, fourth, fifth]
     }
 
-    /// What has happened so far, by place.
-    pub fn history(&self) -> &History
-        ensures { result.now ≡ self.now.history }
-    {
-        &self.history
-    }
-
-    /// What has happened; the machine is used up.
-    pub fn into_history(self) -> History
-        ensures { result ≡ self.history }
-    {
-        let World { history, .. } = self;
-        history
-    }
-
     /// What it is made of; the machine is used up.
     pub fn into_parts(self) -> WorldParts
         ensures words { result.words.items ≡ self.words }
         ensures control { result.control ≡ self.control }
         ensures cpus { result.cpus.items ≡ self.cpus }
-        ensures history { result.history ≡ self.history }
     {
         let World {
             map: _,
             table,
             control,
             cpus,
-            history,
         } = self;
         WorldParts {
             words: table.into_words(),
             control,
             cpus,
-            history,
         }
     }
 }
 
-/// Adds the one item that an actor has marked.
-fn note(history: &mut History, marked: &[Stamped])
-    requires one { length marked.now ≡ 1 }
-    requires room { 0 < history.old.spare }
-    ensures added { history.new.items ≡ history.old.items ++ map (λ s. s.item) marked.now }
-    ensures room { history.old.spare ≤ history.new.spare + 1 }
+/// The one item that an actor has marked.
+fn only(marked: &[Stamped]) -> Item
+    requires { length marked.now ≡ 1 }
+    ensures { map (λ s. s.item) marked.now ≡ result ∷ [] }
 {
-    history.push(marked[0].item);
+    marked[0].item
 }
 
 /// An empty history with room for all items: two for each command, and what the calls of all tasks
 /// can make. The error says that memory ran out.
-fn new_history(
+pub fn new_history(
     alloc: Global,
     ctls: &[Ctl],
     plans: &[CpuPlan],

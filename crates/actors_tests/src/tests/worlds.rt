@@ -3,7 +3,6 @@
 
 use ft_base::{Actor, Answer, CpuNo, FuncNo, Item};
 use ft_desk::{Command, Ctl, Desk};
-use ft_hist::History;
 use machine_core::{CpuRoom, TaskLimits, World};
 use std::test::Fail;
 use user_specs::CpuPlan;
@@ -34,25 +33,14 @@ static ITEMS: [Item; 2] = [
 /// The bytes of a nop.
 const NOP: [u8; 5] = [0x0F, 0x1F, 0x44, 0x00, 0x00];
 
-/// Whether nothing has come, and no actor is at its end.
+/// Whether no actor is at its end.
 fn is_at_its_start(world: &World) -> bool {
-    let is_one = world.at_end(Actor::Control) || world.at_end(CPU) || world.at_end(NO_CPU);
-    world.history().len() == 0 && !is_one
+    !world.at_end(Actor::Control) && !world.at_end(CPU) && !world.at_end(NO_CPU)
 }
 
 /// Whether all actors that there are are at their ends.
 fn is_at_its_end(world: &World) -> bool {
     world.at_end(Actor::Control) && world.at_end(CPU) && !world.at_end(NO_CPU) && world.all_end()
-}
-
-/// Whether a history has what the command marks.
-fn has_items(history: &History) -> bool {
-    for p in 0..history.len() {
-        if Some(history.item(p)) != ITEMS.get(p as usize) {
-            return false;
-        }
-    }
-    history.len() == 2
 }
 
 #[test]
@@ -82,13 +70,15 @@ fn steps_to_its_end(rt: HostRuntime) -> Result<(), Fail> {
     )?;
     assert!(rt; world.site(FuncNo(0)) == NOP);
     assert!(rt; is_at_its_start(&world));
+    let mut items = ITEMS.iter();
     for _ in 0..20 {
-        world.step(Actor::Control);
-        world.step(CPU);
-        world.step(NO_CPU);
+        for actor in [Actor::Control, CPU, NO_CPU] {
+            if let Some(item) = world.step(actor) {
+                assert!(rt; items.next() == Some(&item));
+            }
+        }
     }
     assert!(rt; is_at_its_end(&world));
-    let history = world.into_history();
-    assert!(rt; has_items(&history));
+    assert!(rt; items.next().is_none());
     Ok(())
 }

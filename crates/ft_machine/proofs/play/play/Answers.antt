@@ -1,32 +1,37 @@
-use Rattle.std.proofs.Common.{◌≡◌, sym, refl, ◌∙◌}
-use Rattle.ft_base.specs.Job.{Job}
-use Rattle.word_machine.specs.Machine.{played}
-use Rattle.ft_machine.specs.Machines.{IsOf, state_of}
+use Rattle.std.proofs.Common.{sym, subst, ◌∙◌, refl}
+use Rattle.word_machine.specs.Machine.{World, step}
+use Rattle.ft_machine.specs.Kept.{IsAt}
+use Rattle.ft_machine.proofs.MachineLaws.{at-ends}
 use Rattle.ft_machine.proofs.PlayLaws.{stops_over, stops_used_up, goes_on}
 use Rattle.ft_machine.proofs.play.play.Goals as goal
-use Rattle.ft_machine.proofs.play.play.Goals.{After-step}
 
-module _ (c : After-step) where
-  is-of : (job : Job) → IsOf job c.args.machine.now → IsOf job c.step.new.self
-  is-of job is = c.step.ensures.of job (c.loop-actor.invariant.of' job is)
-
-  -- what is left to play comes to the same
-  same : (job : Job) → IsOf job c.args.machine.now → played job c.next_actor.new.self (state_of job c.step.new.self) ≡ played job c.args.player (state_of job c.args.machine.now)
-  same job is =
-      let here = c.loop-actor.invariant.of' job is in
-      goes_on job c.loop-actor.player c.next_actor.new.self c.in-Some.actor _ _ _ c.in-Some.ensures.value
-      c.next_actor.ensures.rest (c.step.ensures.state job here) (c.loop-actor.invariant.rest job is)
+pub step_into-requires : goal.step_into-requires
+step_into-requires g c =
+    let r = c.requires in
+    let i = c.loop-actor.invariant r.0 r.1 r.2 r.3 in
+    (r.0, i.0, i.1, i.2)
 
 pub loop-actor-preserved : goal.loop-actor-preserved
-loop-actor-preserved c =
-    let p = (goal.at.loop-actor-preserved c).After-step in
-    record { of' = is-of p; rest = same p }
+loop-actor-preserved g c = λ job s at took.
+    (let i = c.loop-actor.invariant job s at took in
+    let n = c.step_into.ensures job i.0 i.1 i.2 in (
+      step job c.in-Some.actor i.0,
+      n.0,
+      n.1,
+      goes_on job c.loop-actor.player c.next_actor.new.self c.in-Some.actor i.0 _ _ c.in-Some.ensures.value c.next_actor.ensures.rest refl i.3,
+    ))
 
-pub returns-then-all_end-clause-state : goal.returns-then-all_end-clause-state
-returns-then-all_end-clause-state c =
-    let p = (goal.at.returns-then-all_end-clause-state c).After-step in
-    λ job is. stops_over job c.next_actor.new.self _ _ (sym (c.all_end.ensures job (is-of p job is)) ∙ c.if-all_end.true) (same p job is)
+pub returns-then-all_end : goal.returns-then-all_end
+returns-then-all_end g c = λ job s at took.
+    (let i = c.loop-actor.invariant job s at took in
+    let n = c.step_into.ensures job i.0 i.1 i.2 in
+    let over = sym (at-ends job _ _ c.all_end.result n.0 c.all_end.ensures) ∙ c.if-all_end.true in
+    let rest = goes_on job c.loop-actor.player c.next_actor.new.self c.in-Some.actor i.0 _ _ c.in-Some.ensures.value c.next_actor.ensures.rest refl i.3 in
+    subst (λ (t : World). IsAt job t c.step_into.new.world × g.T.Taker.took job t.past c.step_into.new.taker)
+    (stops_over job c.next_actor.new.self _ _ over rest) (n.0, n.1))
 
-pub returns-clause-state : goal.returns-clause-state
-returns-clause-state c = λ job is.
-    stops_used_up job c.loop-actor.player _ _ (c.next_actor.ensures.used_up.0 (rw c.in_default.is refl)) (c.loop-actor.invariant.rest job is)
+pub returns : goal.returns
+returns g c = λ job s at took.
+    (let i = c.loop-actor.invariant job s at took in
+    subst (λ (t : World). IsAt job t c.loop-actor.world × g.T.Taker.took job t.past c.loop-actor.taker)
+    (stops_used_up job c.loop-actor.player _ _ (c.next_actor.ensures.used_up.0 (rw c.in_default.is refl)) i.3) (i.1, i.2))

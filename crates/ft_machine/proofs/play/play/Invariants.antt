@@ -1,14 +1,13 @@
 use Rattle.std.proofs.Common.{◌≡◌, length}
 use Rattle.ft_base.specs.Job.{Job}
-use Rattle.word_machine.specs.Machine.{played}
-use Rattle.ft_machine.specs.Machines.{IsOf, state_of}
+use Rattle.word_machine.specs.Machine.{World, played}
+use Rattle.ft_machine.specs.Kept.{IsAt}
 use Rattle.ft_machine.proofs.play.play.Given as goal
 
+-- the world and the taker are at a state from which the rest of the actors come to the same as all from the first one
 abbrev pub invariant-loop-actor : goal.invariant-loop-actor
-invariant-loop-actor l = record {
-  of' : (job : Job) → IsOf job l.fn.machine → IsOf job l.machine;
-  rest : (job : Job) → IsOf job l.fn.machine → played job l.player (state_of job l.machine) ≡ played job l.fn.player (state_of job l.fn.machine);
-}
+invariant-loop-actor g l = (job : Job) (s : World) → IsAt job s l.fn.world → g.T.Taker.took job s.past l.fn.taker
+    → (t : World) × IsAt job t l.world × g.T.Taker.took job t.past l.taker × (played job l.player t ≡ played job l.fn.player s)
 
 abbrev pub decreases-loop-actor : goal.decreases-loop-actor
-decreases-loop-actor l = length l.player
+decreases-loop-actor g l = length l.player

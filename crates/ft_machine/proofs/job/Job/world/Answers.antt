@@ -1,4 +1,4 @@
-use Rattle.std.proofs.Common.{◌≡◌, ◌∙◌}
+use Rattle.std.proofs.Common.{◌≡◌, ◌∙◌, []}
 use Rattle.std.proofs.lemmas.Result.{IfOk-weaker}
 use Rattle.word_map.specs.Shapes.{shape_of}
 use Rattle.ft_desk.specs.Seen.{opened}
@@ -38,9 +38,9 @@ new-requires-3-clause-lines c =
     rw (c.as_slice-2.ensures.value, desk-is p) (lines-in c.self.inside.parts _ c.self.view_is c.self.invariant)
 
 declared : (c : After-new-2)
-    → Declares c.args.self.now c.in_ok-desk.desk c.as_slice-2.result.now c.as_slice-3.result.now c.as_slice-4.result.now (record { frames = c.self.inside.parts.frames; levels = c.of.result.levels }) c.new-2.result
+    → Declares c.args.self.now c.in_ok-desk.desk c.as_slice-2.result.now c.as_slice-3.result.now c.as_slice-4.result.now c.task_limits.result c.new-2.result
 declared c =
-    rw (c.as_slice-2.ensures.value, c.as_slice-3.ensures.value, c.as_slice-4.ensures.value, desk-is c, map-is c, c.of.ensures)
+    rw (c.as_slice-2.ensures.value, c.as_slice-3.ensures.value, c.as_slice-4.ensures.value, desk-is c, map-is c, c.task_limits.ensures)
     (declares c.self.inside.parts _ c.self.view_is c.self.invariant)
 
 pub new-requires-3-clause-job : goal.new-requires-3-clause-job
@@ -54,12 +54,12 @@ returns-clause-limited c =
 pub returns-clause-of : goal.returns-clause-of
 returns-clause-of c =
     let d = declared (goal.at.returns-clause-of c).After-new-2 in
-    IfOk-weaker c.new-3.result _ (λ w. IsFor c.args.self.now w) (λ w h. (h c.args.self.now d).0) c.new-3.ensures.opening
+    IfOk-weaker c.new-3.result _ (λ w. IsFor c.args.self.now [] w) (λ w h. (h c.args.self.now d).0) c.new-3.ensures.opening
 
 pub returns-clause-opening : goal.returns-clause-opening
 returns-clause-opening c =
     let d = declared (goal.at.returns-clause-opening c).After-new-2 in
-    IfOk-weaker c.new-3.result _ (λ w. world_of c.args.self.now w ≡ start c.args.self.now) (λ w h. (h c.args.self.now d).1) c.new-3.ensures.opening
+    IfOk-weaker c.new-3.result _ (λ w. world_of c.args.self.now [] w ≡ start c.args.self.now) (λ w h. (h c.args.self.now d).1) c.new-3.ensures.opening
 
 pub returns-clause-control : goal.returns-clause-control
 returns-clause-control c = c.new-3.ensures.control

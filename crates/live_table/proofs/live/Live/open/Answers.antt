@@ -26,19 +26,19 @@ pub open-requires-clause-opening : goal.open-requires-clause-opening
 open-requires-clause-opening c =
     let m = c.in_ok-machine.ensures in
     subst (λ (job : Job). words_of job c.as_slice.result.now ≡ opening_words job) (sym c.of.ensures)
-    (opens-words c.args.job.now c.in_ok-machine.machine.world m.of.is_for m.opening _ (c.as_slice.ensures.value ∙ c.into_parts-words.ensures.words))
+    (opens-words c.args.job.now c.in_ok-machine.machine.world c.in_ok-machine.machine.history m.of m.opening _ (c.as_slice.ensures.value ∙ c.into_parts-words.ensures.words))
 
 pub invariant_of-live : goal.invariant_of-live
 invariant_of-live c =
     let m = c.in_ok-machine.ensures in
     let t = c.in_ok-table.ensures.table in
-    opens-table c.args.job.now c.in_ok-machine.machine.world m.of.is_for m.opening m.of.limited _ _ (ap (λ key. key.job.value) t.0 ∙ c.of.ensures)
+    opens-table c.args.job.now c.in_ok-machine.machine.world c.in_ok-machine.machine.history m.of m.opening m.of.limited _ _ (ap (λ key. key.job.value) t.0 ∙ c.of.ensures)
     (t.1 ∙ ap (λ (job : Job). len (shape_of job)) c.of.ensures) t.2 _ c.into_parts-words.ensures.history
 
 pub invariant_of-result : goal.invariant_of-result
 invariant_of-result c =
     let m = c.in_ok-machine.ensures in
-    opens-control c.args.job.now c.in_ok-machine.machine.world m.of.is_for m.opening _ c.args.withheld _ m.of.limited c.lanes-lanes.ensures.planned
+    opens-control c.args.job.now c.in_ok-machine.machine.world c.in_ok-machine.machine.history m.of m.opening _ c.args.withheld _ m.of.limited c.lanes-lanes.ensures.planned
     m.control.0 m.control.1 (c.in_ok-table.ensures.seat.1 ∙ ap (λ (job : Job). (control_view job (led_first job c.args.withheld) 0 [], [])) c.of.ensures)
     (c.withhold_if.ensures ∙ ap (withheld_if c.args.withheld) c.into_parts-words.ensures.control)
 
@@ -46,7 +46,7 @@ pub returns-clause-control : goal.returns-clause-control
 returns-clause-control c =
     let m = c.in_ok-machine.ensures in
     let t = c.in_ok-table.ensures in
-    opens-place c.args.job.now c.in_ok-machine.machine.world m.of.is_for m.opening m.control.1 _ c.args.withheld _ _ _ _ _ (ap (λ key. key.job.value) t.table.0 ∙ c.of.ensures)
+    opens-place c.args.job.now c.in_ok-machine.machine.world c.in_ok-machine.machine.history m.of m.opening m.control.1 _ c.args.withheld _ _ _ _ _ (ap (λ key. key.job.value) t.table.0 ∙ c.of.ensures)
     t.seat.0 (t.seat.1 ∙ ap (λ (job : Job). (control_view job (led_first job c.args.withheld) 0 [], [])) c.of.ensures)
     (c.withhold_if.ensures ∙ ap (withheld_if c.args.withheld) c.into_parts-words.ensures.control)
 

@@ -1,13 +1,7 @@
 -- Each part is that of the machine before its first step.
 use Rattle.machine_core.specs.Worlds.{Parts}
-use Rattle.machine_core.proofs.Opening.{declared-lists, declared-plans, few-lines, opens, opens-running}
+use Rattle.machine_core.proofs.Opening.{declared-plans, few-lines, opens, opens-running}
 use Rattle.machine_core.proofs.world.World.new.Goals as goal
-
-pub new_history-requires : goal.new_history-requires
-new_history-requires c = (
-  c.requires.job.0,
-  declared-lists c.requires.job.0 c.args.desk c.args.ctls.now c.args.plans.now c.args.specs.now c.args.limits c.args.map c.requires.job.1,
-)
 
 pub new-requires-2 : goal.new-requires-2
 new-requires-2 c = record {
@@ -30,14 +24,13 @@ module _ (c : goal.In_ok-cpus) where
     words = c.in_ok-table.table;
     control = c.in_ok-control.control;
     cpus = c.in_ok-cpus.cpus.items;
-    history = c.in_ok-history.history;
   }
 
 pub returns-clause-opening : goal.returns-clause-opening
 returns-clause-opening c =
     opens (made c) c.all_tasks.result c.args.desk c.args.ctls.now c.args.plans.now c.args.specs.now c.args.limits c.args.rooms c.all_tasks.ensures
     (c.in_ok-table.ensures {u = tt}) c.in_ok-control.ensures.shape c.in_ok-control.ensures.desk c.in_ok-control.ensures.lines
-    c.in_ok-control.ensures.opening (c.in_ok-cpus.ensures {u = tt}) c.in_ok-history.ensures.empty c.in_ok-history.ensures.room
+    c.in_ok-control.ensures.opening (c.in_ok-cpus.ensures {u = tt})
 
 pub returns-clause-control : goal.returns-clause-control
 returns-clause-control c = (c.in_ok-control.ensures.opening, c.in_ok-control.ensures.all)
@@ -50,5 +43,5 @@ pub invariant_of-result : goal.invariant_of-result
 invariant_of-result c = record {
   running = opens-running (made c) c.all_tasks.result c.args.desk c.args.ctls.now c.args.plans.now c.args.specs.now c.args.limits c.args.rooms c.all_tasks.ensures
       (c.in_ok-table.ensures {u = tt}) c.in_ok-control.ensures.shape c.in_ok-control.ensures.desk c.in_ok-control.ensures.lines
-      c.in_ok-control.ensures.opening (c.in_ok-cpus.ensures {u = tt}) c.in_ok-history.ensures.empty c.in_ok-history.ensures.room c.requires.job.0 c.requires.job.1;
+      c.in_ok-control.ensures.opening (c.in_ok-cpus.ensures {u = tt}) c.requires.job.0 c.requires.job.1;
 }

@@ -7,14 +7,14 @@ use Rattle.machine_core.proofs.Moved.{no-cpu}
 use Rattle.machine_core.proofs.world.World.step.Goals as goal
 
 pub returns-else-cpu-len : goal.returns-else-cpu-len
-returns-else-cpu-len c = λ job limited k r.
+returns-else-cpu-len c = λ job past limited k r.
     (let w : Parts = parts_of c.self.inside in
     let none = c.if-cpu-len.false in
     let many = c.len.ensures in
-    let past : length w.cpus ≤ c.in-Cpu.cpu.0 = omega (arith, none, many) in
-    let own : IsFor job w = subst (λ p. IsFor job p) (sym c.self.view_is) k in
-    let rests = no-cpu job w own c.in-Cpu.cpu past in (
+    let above : length w.cpus ≤ c.in-Cpu.cpu.0 = omega (arith, none, many) in
+    let own : IsFor job past w = subst (λ p. IsFor job past p) (sym c.self.view_is) k in
+    let rests = no-cpu job past w own c.in-Cpu.cpu above in (
       k,
-      subst (λ p. world_of job p ≡ step job (actor.Cpu c.in-Cpu.cpu) (world_of job p)) c.self.view_is rests
-          ∙ ap (λ a. step job a (world_of job c.args.self.now)) (sym c.in-Cpu.is),
+      subst (λ p. world_of job past p ≡ step job (actor.Cpu c.in-Cpu.cpu) (world_of job past p)) c.self.view_is rests
+          ∙ ap (λ a. step job a (world_of job past c.args.self.now)) (sym c.in-Cpu.is),
     ))

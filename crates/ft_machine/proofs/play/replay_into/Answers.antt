@@ -1,0 +1,69 @@
+-- The state after the replay, from what each call says.
+use Rattle.std.proofs.Common.{◌≡◌, ◌∙◌, List, [], ap, subst, sym, refl}
+use Rattle.ft_base.specs.declared.item.Item.{Item}
+use Rattle.ft_base.specs.declared.turn.Actor.{Actor}
+use Rattle.ft_base.specs.Job.{Job}
+use Rattle.ft_base.specs.Schedule.{actors_of}
+use Rattle.word_machine.specs.Machine.{World, play, played, start}
+use Rattle.machine_core.specs.Worlds.{Parts}
+use Rattle.ft_machine.specs.Kept.{IsAt}
+use Rattle.ft_machine.proofs.MachineLaws.{at-ends, starts-at, whole}
+use Rattle.ft_machine.proofs.PlayLaws.{all-actors, play-is}
+use Rattle.ft_machine.proofs.play.replay_into.Goals as goal
+
+-- a taker of no items
+none-taken : {T : Type 0} (took : Job → List Item → T → Type 0) (job : Job) (taker : T) → took job [] taker → [] ≡ (start job).past
+    → took job (start job).past taker
+none-taken took job taker none past = subst (λ (items : List Item). took job items taker) past none
+
+-- what it has taken after the replay
+plays : {T : Type 0} (took : Job → List Item → T → Type 0) (job : Job) (actors : List Actor) (w : Parts) (taker : T) → actors ≡ actors_of job
+    → IsAt job (played job actors (start job)) w × took job (played job actors (start job)).past taker
+    → IsAt job (play job) w × took job (play job).past taker
+plays took job actors w taker all here =
+    subst (λ (s : World). IsAt job s w × took job s.past taker) (play-is job actors (start job) (played job actors (start job)) all refl refl) here
+
+pub play-requires : goal.play-requires
+play-requires g c =
+    let w = c.in_ok-world.ensures in (
+      c.args.job.now,
+      start c.args.job.now,
+      starts-at c.args.job.now c.in_ok-world.world w.limited w.of w.opening,
+      none-taken g.T.Taker.took c.args.job.now c.args.taker.now c.requires (ap (λ (s : World). s.past) w.opening),
+    )
+
+pub returns-clause-taken : goal.returns-clause-taken
+returns-clause-taken g c =
+    let w = c.in_ok-world.ensures in
+    (plays g.T.Taker.took c.args.job.now _ c.play.new.world c.play.new.taker
+    (c.new-player.ensures ∙ all-actors c.args.job.now _ c.shape.result c.schedule.ensures c.shape.ensures)
+    (c.play.ensures c.args.job.now (start c.args.job.now) (starts-at c.args.job.now c.in_ok-world.world w.limited w.of w.opening)
+    (none-taken g.T.Taker.took c.args.job.now c.args.taker.now c.requires (ap (λ (s : World). s.past) w.opening)))).1
+
+pub returns-clause-ended : goal.returns-clause-ended
+returns-clause-ended g c =
+    let w = c.in_ok-world.ensures in
+    let at = (plays g.T.Taker.took c.args.job.now _ c.play.new.world c.play.new.taker
+        (c.new-player.ensures ∙ all-actors c.args.job.now _ c.shape.result c.schedule.ensures c.shape.ensures)
+        (c.play.ensures c.args.job.now (start c.args.job.now) (starts-at c.args.job.now c.in_ok-world.world w.limited w.of w.opening)
+        (none-taken g.T.Taker.took c.args.job.now c.args.taker.now c.requires (ap (λ (s : World). s.past) w.opening)))).0 in
+    at-ends c.args.job.now (play c.args.job.now) _ c.all_end.result at c.all_end.ensures
+
+pub returns-clause-legal : goal.returns-clause-legal
+returns-clause-legal g c =
+    let w = c.in_ok-world.ensures in
+    let at = (plays g.T.Taker.took c.args.job.now _ c.play.new.world c.play.new.taker
+        (c.new-player.ensures ∙ all-actors c.args.job.now _ c.shape.result c.schedule.ensures c.shape.ensures)
+        (c.play.ensures c.args.job.now (start c.args.job.now) (starts-at c.args.job.now c.in_ok-world.world w.limited w.of w.opening)
+        (none-taken g.T.Taker.took c.args.job.now c.args.taker.now c.requires (ap (λ (s : World). s.past) w.opening)))).0 in
+    at.runs.kept.legal
+
+pub returns-clause-whole : goal.returns-clause-whole
+returns-clause-whole g c = λ over.
+    (let w = c.in_ok-world.ensures in
+    let at = (plays g.T.Taker.took c.args.job.now _ c.play.new.world c.play.new.taker
+        (c.new-player.ensures ∙ all-actors c.args.job.now _ c.shape.result c.schedule.ensures c.shape.ensures)
+        (c.play.ensures c.args.job.now (start c.args.job.now) (starts-at c.args.job.now c.in_ok-world.world w.limited w.of w.opening)
+        (none-taken g.T.Taker.took c.args.job.now c.args.taker.now c.requires (ap (λ (s : World). s.past) w.opening)))).0 in
+    whole c.args.job.now (play c.args.job.now) at.limited at.runs _ refl
+    (sym (at-ends c.args.job.now (play c.args.job.now) _ c.all_end.result at c.all_end.ensures) ∙ over))

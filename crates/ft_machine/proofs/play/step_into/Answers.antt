@@ -1,0 +1,41 @@
+use Rattle.std.proofs.Common.{◌≡◌, List, Option, Some, None, sym, subst}
+use Rattle.ft_base.specs.declared.item.Item.{Item}
+use Rattle.ft_base.specs.Job.{Job}
+use Rattle.word_machine.specs.Laws.{Runs}
+use Rattle.word_machine.specs.Limits.{IsLimited}
+use Rattle.word_machine.specs.Machine.{World, step}
+use Rattle.machine_core.specs.Worlds.{IsFor, Parts, marked_on, world_of}
+use Rattle.ft_machine.specs.Kept.{IsAt}
+use Rattle.ft_machine.proofs.MachineLaws.{step-legal, step-past, steps-at}
+use Rattle.ft_machine.proofs.play.step_into.Goals as goal
+use Rattle.ft_base.specs.declared.turn.Actor.{Actor}
+
+-- the world has stepped, and has marked this or nothing
+moved : (job : Job) (s : World) (w w' : Parts) (a : Actor) (at : IsAt job s w) (result o : Option Item) → result ≡ o
+    → ((j : Job) (past : List Item) → IsLimited j → IsFor j past w → Runs j (world_of j past w)
+    → IsFor j (marked_on result past) w' × (world_of j (marked_on result past) w' ≡ step j a (world_of j past w)))
+    → IsFor job (marked_on o s.past) w' × (world_of job (marked_on o s.past) w' ≡ step job a (world_of job s.past w))
+moved job s w w' a at result o is h =
+    subst (λ (x : Option Item). IsFor job (marked_on x s.past) w' × (world_of job (marked_on x s.past) w' ≡ step job a (world_of job s.past w))) is
+    (h job s.past at.limited at.is_for (subst (λ t. Runs job t) (sym at.is) at.runs))
+
+pub take-requires : goal.take-requires
+take-requires g c =
+    let r = c.requires in
+    let m = moved r.0 r.1 _ c.step.new.self c.args.actor r.2 c.step.result (Some c.in-Some.item) c.in-Some.is c.step.ensures in
+    (r.0, r.1.past, r.2.limited, r.3, step-legal r.0 r.1 _ _ c.args.actor (Some c.in-Some.item) r.2 m)
+
+pub returns-in-Some : goal.returns-in-Some
+returns-in-Some g c = λ job s at took.
+    (let m = moved job s _ c.step.new.self c.args.actor at c.step.result (Some c.in-Some.item) c.in-Some.is c.step.ensures in (
+      steps-at job s _ _ c.args.actor (Some c.in-Some.item) at m,
+      subst (λ (past : List Item). g.T.Taker.took job past c.take.new.self) (step-past job s _ _ c.args.actor (Some c.in-Some.item) at m)
+          (c.take.ensures job s.past at.limited took (step-legal job s _ _ c.args.actor (Some c.in-Some.item) at m)),
+    ))
+
+pub returns-in_default : goal.returns-in_default
+returns-in_default g c = λ job s at took.
+    (let m = moved job s _ c.step.new.self c.args.actor at c.step.result None c.in_default.is c.step.ensures in (
+      steps-at job s _ _ c.args.actor None at m,
+      subst (λ (past : List Item). g.T.Taker.took job past c.args.taker.now) (step-past job s _ _ c.args.actor None at m) took,
+    ))
