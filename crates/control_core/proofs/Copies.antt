@@ -14,7 +14,7 @@ use Rattle.word_machine.specs.Commands.{command, edits_or, effect, effect_by, su
 use Rattle.word_machine.specs.Control.{copy_after}
 use Rattle.word_machine.specs.Values.{copies_in}
 use Rattle.word_machine_laws.proofs.ValueLaws.{copies-put}
-use Rattle.control_core.proofs.Desks.{if_accepted, if_refused}
+use Rattle.ft_desk.proofs.NextDesk.{if_accepted, if_refused}
 use Rattle.control_core.proofs.Plans.{effect_if_accepted, effect_if_refused, subject-is}
 
 -- a function that gets what it has is the same

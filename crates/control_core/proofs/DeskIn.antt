@@ -272,9 +272,3 @@ module _ (shape : Shape) where
 
     pub copies-after : length (after_command s c).copies ≡ shape.users
     copies-after = desk-after.copies
-
-  pub commands-after : (s : Seen) (c : Command) → (after_command s c).commands ≡ suc s.commands
-  commands-after s c = elim (is_accepted (answer s c)) as (λ b. (cond b (carried_out s c) (turned_down s)).commands ≡ suc s.commands) [ true ↦ refl | false ↦ refl ]
-
-  pub declared-after : (s : Seen) (c : Command) → (after_command s c).declared ≡ s.declared
-  declared-after s c = elim (is_accepted (answer s c)) as (λ b. (cond b (carried_out s c) (turned_down s)).declared ≡ s.declared) [ true ↦ refl | false ↦ refl ]

@@ -13,7 +13,7 @@ use Rattle.led_jobs.proofs.Lists.{picked_append}
 use Rattle.control_core.specs.declared.phase.Phase.{Phase}
 use Rattle.control_core.specs.declared.phase.Phase.TheVariants as phase
 use Rattle.control_core.specs.declared.control.Control.TheInside.{Inside}
-use Rattle.control_core.specs.Lines.{lines_of}
+use Rattle.ft_desk.specs.Lines.{lines_of}
 use Rattle.control_core.specs.Seated.{Seated, IsFor, IsOpening, control_of}
 use Rattle.control_core.specs.Kept.{HasLeft, IsKept, busy, seated_of}
 use Rattle.control_core.proofs.LeadLaw.{of-lines}

@@ -13,11 +13,12 @@ use Rattle.control_core.specs.Positions.{begun_by}
 use Rattle.control_core.specs.Seated.{Seated, Fits, IsDeskOf, IsFor, IsUnder, control_in}
 use Rattle.control_core.specs.Kept.{IsSafe}
 use Rattle.control_core.specs.Steps.{begun, closed, line_after, stepped_in}
-use Rattle.control_core.proofs.DeskIn.{commands-after, declared-after}
+use Rattle.ft_desk.proofs.LineLaws.{commands-after, declared-after}
 use Rattle.control_core.proofs.GotLaw.{went}
 use Rattle.control_core.proofs.Leads.{On, Went, begin-leads, lead-on, machine_at}
 use Rattle.control_core.proofs.PositionsGoes.{begin-goes}
-use Rattle.control_core.proofs.Under.{Base, base-of, command-at, count-run, count-until, drop-at, drop-past, plan-is, state-is}
+use Rattle.ft_desk.proofs.LineLaws.{command-at, count-run, count-until}
+use Rattle.control_core.proofs.Under.{Base, base-of, drop-at, drop-past, plan-is, state-is}
 
 -- ## after the Return
 
@@ -29,9 +30,9 @@ module _ (job : Job) (c : Seated) (safe : IsSafe c) (is : IsFor job c) (u : IsUn
         is_for = record {
           shape = is.shape;
           lines = is.lines;
-          declared = subst (IsOf job) (sym (ap (λ (t : Seen). t.declared) u.4 ∙ declared-after c.shape c.before u.0)) is.declared;
+          declared = subst (IsOf job) (sym (ap (λ (t : Seen). t.declared) u.4 ∙ declared-after c.before u.0)) is.declared;
           before = state-is job c (base-of job c safe is) u;
-          numbered = ap (λ (t : Seen). t.commands) u.4 ∙ commands-after c.shape c.before u.0 ∙ ap suc is.numbered;
+          numbered = ap (λ (t : Seen). t.commands) u.4 ∙ commands-after c.before u.0 ∙ ap suc is.numbered;
           counted = ap suc is.counted ∙ sym (count-run c.lines c.line u.0 u.2);
           now = refl;
           fits = refl;

@@ -24,22 +24,18 @@ use Rattle.led_jobs.specs.Orders.{picked}
 use Rattle.control_core.specs.declared.phase.Phase.{Phase}
 use Rattle.control_core.specs.declared.phase.Phase.TheVariants as phase
 use Rattle.control_core.specs.declared.control.Control.TheInside.{Inside}
-use Rattle.control_core.specs.Lines.{IsLineIn}
+use Rattle.ft_desk.specs.Lines.{IsLineIn}
 use Rattle.control_core.specs.Plans.{IsDeskIn, IsPlanIn}
 use Rattle.control_core.specs.Phases.{begin_to}
 use Rattle.control_core.specs.Seated.{Seated}
 use Rattle.control_core.specs.Kept.{IsKept, asked, busy, seated_of, requests_of_line}
 use Rattle.control_core.specs.Steps.{line_after, marked}
 use Rattle.control_core.proofs.Picked.{picked-count, picked-each}
-use Rattle.control_core.proofs.DeskIn.{commands-after, declared-after, desk-after, plan-after}
+use Rattle.ft_desk.proofs.LineLaws.{commands-after, declared-after}
+use Rattle.control_core.proofs.DeskIn.{desk-after, plan-after}
 use Rattle.control_core.proofs.Safe.{Goes, begin-goes}
 
 -- ## the present line
-
--- a line of a script, for those who go through all of them
-pub line-at : (xs items : List Ctl) (i : ℕ) (x y : Ctl) → xs ≡ items → i < length xs → x ≡ get_or xs i x → x ≡ y → slice_get items i ≡ Some y
-line-at xs items i x y same lt at' is =
-    ap (λ (zs : List Ctl). slice_get zs i) (sym same) ∙ slice_get-get_or xs i x lt ∙ ap Some (sym at' ∙ is)
 
 -- the line that is led there
 pub present-is : (xs items : List Ctl) (ks order : List ℕ) (i : ℕ) (o : Option Ctl) → xs ≡ items → ks ≡ order → o ≡ slice_get (picked xs ks) i
@@ -49,16 +45,6 @@ present-is xs items ks order i o lines numbers is = (λ j. slice_get (picked (sy
 pub present-at : (xs items : List Ctl) (ks order : List ℕ) (i : ℕ) (x y : Ctl) → xs ≡ items → ks ≡ order → Some x ≡ slice_get (picked xs ks) i → x ≡ y
     → slice_get (picked items order) i ≡ Some y
 present-at xs items ks order i x y lines numbers at' is = present-is xs items ks order i (Some y) lines numbers (ap Some (sym is) ∙ at')
-
--- the answer tells what the desk is after a command
-pub planned : (a : Answer) (s next : Seen) (x : Command) → a ≡ answer s x → (a ≡ Accepted → next ≡ carried_out s x)
-    → (a ≢ Accepted → next ≡ turned_down s) → next ≡ after_command s x
-planned Accepted s next x e ok refused = ok refl ∙ ap (λ a. cond (is_accepted a) (carried_out s x) (turned_down s)) e
-planned Already s next x e ok refused = refused (λ h. cc) ∙ ap (λ a. cond (is_accepted a) (carried_out s x) (turned_down s)) e
-planned NotThere s next x e ok refused = refused (λ h. cc) ∙ ap (λ a. cond (is_accepted a) (carried_out s x) (turned_down s)) e
-planned Invalid s next x e ok refused = refused (λ h. cc) ∙ ap (λ a. cond (is_accepted a) (carried_out s x) (turned_down s)) e
-planned NoMatch s next x e ok refused = refused (λ h. cc) ∙ ap (λ a. cond (is_accepted a) (carried_out s x) (turned_down s)) e
-planned (Busy f u) s next x e ok refused = refused (λ h. cc) ∙ ap (λ a. cond (is_accepted a) (carried_out s x) (turned_down s)) e
 
 module _ (d : Inside) (k : IsKept d) where
   abbrev lines : List Ctl
@@ -94,7 +80,7 @@ module _ (d : Inside) (k : IsKept d) where
         let none : asked d.phase ≡ 0 = ap asked line in
         let count : length lines ≡ length d.order.items = picked-count d.lines.items d.order.items k.led.within in
         let within : d.line < length lines = slice_get_within lines d.line (Run x) e in
-        let numbered : next.commands ≡ suc d.desk.commands = ap (λ (t : Seen). t.commands) n ∙ commands-after d.map d.desk (command_of d.desk.declared.tasks x) in
+        let numbered : next.commands ≡ suc d.desk.commands = ap (λ (t : Seen). t.commands) n ∙ commands-after d.desk (command_of d.desk.declared.tasks x) in
         let old-numbered : d.desk.commands ≡ d.commands_done + busy d.phase = k.safe.numbered in
         let few : d.request ≤ requests_of_line * d.line + d.batch.made + asked d.phase = k.safe.requests in
         let room : vec_len d.items + 2 * vec_len d.lines ≤ vec_capacity d.items + 2 * d.line + busy d.phase = k.room in
@@ -116,7 +102,7 @@ module _ (d : Inside) (k : IsKept d) where
             left = g.left;
           };
           lines = subst (λ (t : Declared). All (IsLineIn t) d.lines.items)
-              (sym (ap (λ (t : Seen). t.declared) n ∙ declared-after d.map d.desk (command_of d.desk.declared.tasks x))) k.lines;
+              (sym (ap (λ (t : Seen). t.declared) n ∙ declared-after d.desk (command_of d.desk.declared.tasks x))) k.lines;
           led = k.led;
           space = k.space;
           batch = k.batch;

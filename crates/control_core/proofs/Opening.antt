@@ -21,7 +21,7 @@ use Rattle.control_core.specs.declared.phase.Phase.TheVariants as phase
 use Rattle.control_core.specs.declared.control.Control.TheInside.{Inside}
 use Rattle.led_jobs.specs.Orders.{AreLed, picked}
 use Rattle.led_jobs.proofs.Lists.{picked_all as picked-whole}
-use Rattle.control_core.specs.Lines.{IsLineIn, lines_of}
+use Rattle.ft_desk.specs.Lines.{IsLineIn, lines_of}
 use Rattle.control_core.specs.Plans.{IsDeclaredIn, IsDeskIn, IsPlanIn}
 use Rattle.control_core.specs.Kept.{HasLeft, IsKept, asked, busy, seated_of}
 use Rattle.control_core.proofs.DeskIn.{none-in}

@@ -9,7 +9,7 @@ use Rattle.ft_desk.specs.Seen.{Seen, after_command}
 use Rattle.word_machine.specs.Commands.{Nothing, edits_or, command, effect, effect_by, subject, subject_of}
 use Rattle.word_machine.specs.Values.{copies_in}
 use Rattle.control_core.specs.Followed.{order_followed, plan_followed}
-use Rattle.control_core.proofs.Desks.{if_accepted, if_refused, next-same}
+use Rattle.ft_desk.proofs.NextDesk.{if_accepted, if_refused, next-same}
 
 -- ## the command of the job
 

@@ -20,7 +20,8 @@ use Rattle.control_core.specs.Seated.{Seated, IsFor, IsUnder}
 use Rattle.control_core.specs.Kept.{IsSafe}
 use Rattle.control_core.specs.Steps.{line_next}
 use Rattle.control_core.proofs.Copies.{copies-named}
-use Rattle.control_core.proofs.Desks.{answer-same, state-same}
+use Rattle.ft_desk.proofs.NextDesk.{state-same}
+use Rattle.control_core.proofs.Desks.{answer-same}
 use Rattle.control_core.proofs.Plans.{order-same, plan-same}
 
 -- ## lines and commands
@@ -44,32 +45,6 @@ line-next done [] (suc i) = refl
 line-next done (Run x ∷ xs) zero = refl
 line-next done (Until t n ∷ xs) zero = refl
 line-next done (x ∷ xs) (suc i) = line-next done xs i
-
--- the command at a line, by the commands before it
-pub command-at : (xs : List Ctl) (i : ℕ) (x : Command) → slice_get xs i ≡ Some (Run x)
-    → slice_get (commands_in xs) (length (commands_in (take i xs))) ≡ Some x
-command-at [] i x e = absurd cc
-command-at (Run y ∷ xs) zero x e = cc
-command-at (Until t n ∷ xs) zero x e = absurd cc
-command-at (Run y ∷ xs) (suc i) x e = command-at xs i x e
-command-at (Until t n ∷ xs) (suc i) x e = command-at xs i x e
-
--- one more command, or none
-pub count-run : (xs : List Ctl) (i : ℕ) (x : Command) → slice_get xs i ≡ Some (Run x)
-    → length (commands_in (take (suc i) xs)) ≡ suc (length (commands_in (take i xs)))
-count-run [] i x e = absurd cc
-count-run (Run y ∷ xs) zero x e = refl
-count-run (Until t n ∷ xs) zero x e = absurd cc
-count-run (Run y ∷ xs) (suc i) x e = ap suc (count-run xs i x e)
-count-run (Until t n ∷ xs) (suc i) x e = count-run xs i x e
-
-pub count-until : (xs : List Ctl) (i t n : ℕ) → slice_get xs i ≡ Some (Until t n)
-    → length (commands_in (take (suc i) xs)) ≡ length (commands_in (take i xs))
-count-until [] i t n e = absurd cc
-count-until (Run y ∷ xs) zero t n e = absurd cc
-count-until (Until u m ∷ xs) zero t n e = refl
-count-until (Run y ∷ xs) (suc i) t n e = ap suc (count-until xs i t n e)
-count-until (Until u m ∷ xs) (suc i) t n e = count-until xs i t n e
 
 -- the user of a command is one of the job's
 named-by : (job : Job) (users : ℕ) → users ≡ length job.users → (x : Command) → IsNamedIn users x → IsNamed job x

@@ -6,7 +6,8 @@ use Rattle.word_map.specs.Places.{words_for}
 use Rattle.grace_core.specs.declared.waiter.WaitPhase.{WaitPhase}
 use Rattle.grace_core.specs.declared.waiter.WaitPhase.TheVariants.{Asking, Waiting, Ended as WaitEnded}
 use Rattle.led_jobs.specs.Orders.{AreLed, picked}
-use Rattle.control_core.specs.Lines.{IsLineIn, IsNamedLine, lines_of}
+use Rattle.ft_desk.specs.Lines.{IsLineIn, lines_of}
+use Rattle.control_core.specs.Lines.{IsNamedLine}
 use Rattle.control_core.specs.Plans.{IsDeskIn, IsPlanIn}
 use Rattle.control_core.specs.declared.phase.Phase.{Phase}
 use Rattle.control_core.specs.declared.phase.Phase.TheVariants as phase

@@ -7,7 +7,7 @@ ghost use Rattle.word_map.specs.Ops.{placed};
 ghost use Rattle.grace_core.specs.Waits.{wait_got};
 ghost use Rattle.ft_desk.specs.Seen.{opened};
 ghost use Rattle.led_jobs.specs.Orders.{AreLed, IsLed, picked};
-ghost use Rattle.control_core.specs.Lines.{IsLineIn, lines_of};
+ghost use Rattle.ft_desk.specs.Lines.{IsLineIn, lines_of};
 ghost use Rattle.control_core.specs.Plans.{IsDeclaredIn};
 ghost use Rattle.control_core.specs.Phases.{is_asking as asks, is_over as over, is_linked_up, quiet_to, release_in, store_to};
 

@@ -7,7 +7,7 @@ use Rattle.ft_base.specs.declared.item.Item.{Item}
 use Rattle.ft_base.specs.Job.{Job}
 use Rattle.ft_hist.specs.Rules.{IsLegal, IsWhole}
 use Rattle.led_jobs.specs.Led.{in_order}
-use Rattle.ft_machine.specs.Plans.{HasLanes}
+use Rattle.ft_job.specs.Plans.{HasLanes}
 use Rattle.ft_words.specs.declared.order.Form.TheVariants.{Log}
 use Rattle.ft_words.specs.declared.order.Order.{Order}
 use Rattle.ft_words.specs.declared.order.Order.TheVariants.{Replay, Run}

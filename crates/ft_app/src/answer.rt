@@ -14,7 +14,7 @@ use crate::status::Status;
 use ft_base::NoMemory;
 use ft_base::limits::INPUT_BYTES;
 use ft_io::{ReadFail, Sink, Source, read_all};
-use ft_machine::Job;
+use ft_job::Job;
 use ft_schedule::bulk_script;
 use ft_words::Order;
 use std::alloc::Global;

@@ -4,7 +4,8 @@ ghost use Rattle.std.specs.Prelude.{◌≡◌, None, IfOk};
 ghost use Rattle.ft_app.specs.Reply.{IsReplayOf};
 
 use ft_base::NoMemory;
-use ft_machine::{Job, Outcome, replay};
+use ft_job::Job;
+use ft_machine::{Outcome, replay};
 use ring_rules::Rings;
 use std::alloc::Global;
 

@@ -15,7 +15,7 @@ use crate::status::Status;
 use ft_base::NoMemory;
 use ft_base::limits::INPUT_BYTES;
 use ft_io::{Sink, write_all};
-use ft_machine::Job;
+use ft_job::Job;
 use ft_script::{Cause, ScriptFault, read_script};
 use ft_words::Order;
 use std::alloc::Global;

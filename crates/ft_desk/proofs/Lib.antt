@@ -17,3 +17,5 @@ pub mod ListLaws
 pub mod EnrollSeen
 pub mod DeskMoves
 pub mod JobLaws
+pub mod NextDesk
+pub mod LineLaws

@@ -8,3 +8,4 @@ pub mod Moves
 pub mod Rosters
 pub mod KeptRosters
 pub mod KeptDesks
+pub mod Lines

@@ -1,83 +1,56 @@
--- What a job declares for its desk, its control and its CPUs.
-use Rattle.std.proofs.Common.{◌≡◌, ℕ, List, length, map, All, refl, sym, ap, ◌∙◌, arith}
+-- What a job declares for its machine.
+use Rattle.std.proofs.Common.{◌≡◌, ℕ, ◌≤◌, List, length, map, refl, sym, ap, ◌∙◌}
+use Rattle.std.specs.List.{AllByRecursion as Each}
 use Rattle.std.proofs.lemmas.List.{length-map}
-use Rattle.std.proofs.lemmas.List.Elements.{All-from_recursion}
-use Rattle.std.proofs.lemmas.Simd.{map-map}
+use Rattle.ft_base.specs.declared.limits.TheConstants.{QUANTUM}
 use Rattle.ft_base.specs.Job.{Job, Spec as PlainSpec}
-use Rattle.ft_base.specs.Versions.{limits_of}
-use Rattle.ft_base.proofs.Versions.{few-largest}
+use Rattle.ft_base.specs.Versions.{levels as levels_of}
+use Rattle.user_specs.specs.declared.plan.CpuPlan.{CpuPlan}
 use Rattle.user_specs.specs.declared.spec.Spec.{Spec}
-use Rattle.user_specs.specs.Plain.{spec_of, cpu_of}
-use Rattle.word_map.specs.Shapes.{IsShape, shape_of}
-use Rattle.ft_desk.specs.Declarations.{Declared, bare, declared_by}
-use Rattle.ft_desk.specs.Seen.{opened}
-use Rattle.control_core.specs.Lines.{IsLineIn}
+use Rattle.user_specs.specs.Plain.{DeclaredCpu, cpu_of, spec_of}
+use Rattle.word_map.specs.Shapes.{shape_of}
+use Rattle.ft_desk.specs.declared.command.Ctl.{Ctl}
+use Rattle.ft_desk.specs.Declarations.{Declared, IsOf, bare}
+use Rattle.ft_desk.specs.Lines.{lines_of}
+use Rattle.ft_desk.specs.Seen.{Seen, opened}
+use Rattle.word_machine.specs.Limits.{IsLimited}
 use Rattle.control_core.specs.Plans.{IsDeclaredIn}
+use Rattle.machine_core.specs.declared.cpus.TaskLimits.{TaskLimits}
 use Rattle.machine_core.specs.Worlds.{Declares}
-use Rattle.ft_machine.specs.declared.parts.JobParts.{JobParts}
-use Rattle.ft_machine.specs.Parts.{parts_of, declared_of, IsWithin, job_of, task_limits}
-use Rattle.ft_machine.proofs.JobLaws.{seen-functions, seen-users, seen-version, seen-frames, seen-tramps, seen-count, seen-lines, users-count, cpus-count, seen-limited}
+use Rattle.ft_job.specs.Parts.{quanta_of, cpus_from}
 use Rattle.ft_machine.proofs.OnCpu.{own-quantum, own-numbers, own-acts, quick}
 
--- what a desk keeps of a job
-abbrev pub kept : JobParts → Job → Declared
-kept p j = declared_by p.specs.items (shape_of j)
+-- a desk that declares what the job does has the job's shape
+pub declared-in : (j : Job) (d : Declared) → IsOf j d → IsDeclaredIn (shape_of j) d
+declared-in j d is = record {
+  users = ap (λ (ss : List PlainSpec). length ss) is.specs ∙ length-map j.users bare;
+  funcs = is.funcs;
+  tasks = is.tasks;
+  tramps = is.tramps;
+}
 
-module _ (p : JobParts) (j : Job) (e : job_of (parts_of p) ≡ j) where
-  -- its shape
-  pub shape-is : shape_of j
-      ≡ record { funcs = length p.table.functions; users = length p.specs.items; cpus = length p.cpus.items; tasks = length j.tasks; tramps = p.tramps }
-  shape-is = λ i. record {
-    funcs = length (sym (seen-functions p j e) i);
-    users = sym (users-count p j e) i;
-    cpus = sym (cpus-count p j e) i;
-    tasks = length j.tasks;
-    tramps = sym (seen-tramps p j e) i;
+module _ (j : Job) (d : Seen) (ctls : List Ctl) (cpus : List CpuPlan) (specs : List Spec) (limits : TaskLimits) where
+  pub declares : IsLimited j → d ≡ opened d.declared → IsOf j d.declared → lines_of d.declared.tasks ctls ≡ j.ctls
+      → quanta_of (map cpu_of cpus) ≡ j.quanta → map cpu_of cpus ≡ cpus_from 0 j.quanta j.tasks → Each (λ q. q ≤ QUANTUM) j.quanta
+      → map spec_of specs ≡ j.users → limits.frames ≡ j.frames → limits.levels ≡ levels_of j
+      → Declares j d ctls cpus specs limits (shape_of j)
+  declares limited new is lines quanta all within users frames levels = record {
+    limited = limited;
+    desk' = new;
+    of' = is;
+    shape' = refl;
+    lines = ap (λ (n : ℕ). lines_of n ctls) (sym is.tasks) ∙ lines;
+    cpus = sym (length-map cpus cpu_of) ∙ sym (length-map (map cpu_of cpus) (λ (x : DeclaredCpu). x.quantum)) ∙ ap (λ (qs : List ℕ). length qs) quanta;
+    each = λ c x at. (
+      record {
+        shape' = refl;
+        users = users;
+        frames' = frames;
+        levels' = levels;
+        quantum = own-quantum cpus j quanta all c x at;
+        numbers = own-numbers cpus j quanta all c x at;
+        acts = own-acts cpus j quanta all c x at;
+      },
+      quick cpus j quanta all c x at within,
+    );
   }
-
-  kept-specs : (kept p j).specs ≡ map bare j.users
-  kept-specs = sym (map-map bare spec_of p.specs.items) ∙ ap (λ (us : List PlainSpec). map bare us) (seen-users p j e)
-
-  kept-is : declared_of (parts_of p) ≡ kept p j
-  kept-is = λ i. record {
-    specs = map-map bare spec_of p.specs.items i;
-    funcs = length (seen-functions p j e i);
-    tasks = seen-count p j e i;
-    tramps = seen-tramps p j e i;
-  }
-
-  pub declared-in : IsDeclaredIn (shape_of j) (kept p j)
-  declared-in = record { users = length-map p.specs.items (λ (s : Spec). bare (spec_of s)) ∙ users-count p j e; funcs = refl; tasks = refl; tramps = refl }
-
-  module _ (w : IsWithin (parts_of p)) where
-    pub shape-within : IsShape (shape_of j)
-    shape-within =
-        record {
-          counts = few-largest j.version (seen-limited p j e w).counts;
-          few_cpus = let few = w.cpus in let same = cpus-count p j e in let n = length-map p.cpus.items cpu_of in omega (arith, few, same, n);
-        }
-
-    pub lines-in : All (IsLineIn (kept p j)) p.ctls.items
-    lines-in = All-from_recursion (IsLineIn (kept p j)) p.ctls.items (rw (← kept-is) w.lines)
-
-    pub declares : Declares j (opened (kept p j)) p.ctls.items p.cpus.items p.specs.items (task_limits p) (shape_of j)
-    declares = record {
-      limited = seen-limited p j e w;
-      desk' = refl;
-      of' = record { specs = kept-specs; funcs = refl; tasks = refl; tramps = refl };
-      shape' = refl;
-      lines = seen-lines p j e;
-      cpus = cpus-count p j e;
-      each = λ c x at. (
-        record {
-          shape' = refl;
-          users = seen-users p j e;
-          frames' = seen-frames p j e;
-          levels' = ap (λ (v : ℕ). (limits_of v).levels) (seen-version p j e);
-          quantum = own-quantum p j e w c x at;
-          numbers = own-numbers p j e w c x at;
-          acts = own-acts p j e w c x at;
-        },
-        quick p j e w c x at,
-      );
-    }

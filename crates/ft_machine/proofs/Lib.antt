@@ -1,14 +1,9 @@
-pub mod Numbered
-pub mod FindLaws
-pub mod JobLaws
 pub mod OnCpu
 pub mod Declared
-pub mod DeskLaws
 pub mod MachineLaws
 pub mod Bounds
 pub mod PlayLaws
 pub mod Replays
 pub mod FedLaws
-pub mod Ordered
 pub mod Nobody
 pub mod NextLaws

@@ -12,9 +12,7 @@ use Rattle.plain_machine.specs.State.{tasks_of as numbers_on, tasks_from}
 use Rattle.user_specs.specs.Plain.{DeclaredTask, DeclaredCpu, task_of, cpu_of}
 use Rattle.user_specs.specs.declared.plan.TaskPlan.{TaskPlan}
 use Rattle.user_specs.specs.declared.plan.CpuPlan.{CpuPlan}
-use Rattle.ft_machine.specs.declared.parts.JobParts.{JobParts}
-use Rattle.ft_machine.specs.Parts.{parts_of, quanta_of, tasks_on, cpus_with, IsWithin, job_of}
-use Rattle.ft_machine.proofs.JobLaws.{seen-quanta, seen-cpus}
+use Rattle.ft_job.specs.Parts.{quanta_of, tasks_on, cpus_with, cpus_from}
 
 -- ## the tasks of a CPU among those from a number on
 
@@ -67,20 +65,21 @@ with-at c n (suc i) (q ∷ qs) ts x e = let s : c + suc i ≡ suc c + i = omega 
 
 -- ## a CPU's plan, of which it is CPU c
 
-module _ (p : JobParts) (j : Job) (e : job_of (parts_of p) ≡ j) (w : IsWithin (parts_of p)) (c : ℕ) (x : CpuPlan) (at : slice_get p.cpus.items c ≡ Some x) where
-  declared-at : slice_get (map cpu_of p.cpus.items) c ≡ Some (cpu_of x)
-  declared-at = slice_get-map cpu_of p.cpus.items c ∙ ap (λ (o : Option CpuPlan). option_map cpu_of o) at
+module _ (cpus : List CpuPlan) (j : Job) (quanta : quanta_of (map cpu_of cpus) ≡ j.quanta) (all : map cpu_of cpus ≡ cpus_from 0 j.quanta j.tasks)
+    (c : ℕ) (x : CpuPlan) (at : slice_get cpus c ≡ Some x) where
+  declared-at : slice_get (map cpu_of cpus) c ≡ Some (cpu_of x)
+  declared-at = slice_get-map cpu_of cpus c ∙ ap (λ (o : Option CpuPlan). option_map cpu_of o) at
 
   own-tasks : map task_of x.tasks.items ≡ tasks_on c 0 j.tasks
   own-tasks =
-      let made : slice_get (cpus_with 0 j.quanta 0 j.tasks) c ≡ Some (cpu_of x) = rw (seen-cpus p j e w) at declared-at in
+      let made : slice_get (cpus_with 0 j.quanta 0 j.tasks) c ≡ Some (cpu_of x) = rw all at declared-at in
       let z : 0 + c ≡ c = omega arith in rw z at (with-at 0 0 c j.quanta j.tasks (cpu_of x) made)
 
-  quantum-at : slice_get (quanta_of (map cpu_of p.cpus.items)) c ≡ Some x.quantum
-  quantum-at = slice_get-map (λ (y : DeclaredCpu). y.quantum) (map cpu_of p.cpus.items) c ∙ ap (λ (o : Option DeclaredCpu). option_map (λ y. y.quantum) o) declared-at
+  quantum-at : slice_get (quanta_of (map cpu_of cpus)) c ≡ Some x.quantum
+  quantum-at = slice_get-map (λ (y : DeclaredCpu). y.quantum) (map cpu_of cpus) c ∙ ap (λ (o : Option DeclaredCpu). option_map (λ y. y.quantum) o) declared-at
 
   pub own-quantum : x.quantum ≡ get_or j.quanta c 1
-  own-quantum = rw (← seen-quanta p j e) (sym (get_or_from_slice_get (quanta_of (map cpu_of p.cpus.items)) c x.quantum 1 quantum-at))
+  own-quantum = rw (← quanta) (sym (get_or_from_slice_get (quanta_of (map cpu_of cpus)) c x.quantum 1 quantum-at))
 
   pub own-numbers : map (λ (t : TaskPlan). t.task.0) x.tasks.items ≡ numbers_on j c
   own-numbers = sym (map-map (λ (t : DeclaredTask). t.task) task_of x.tasks.items) ∙ ap (λ (ts : List DeclaredTask). map (λ t. t.task) ts) own-tasks ∙ numbers c 0 j.tasks
@@ -89,5 +88,5 @@ module _ (p : JobParts) (j : Job) (e : job_of (parts_of p) ≡ j) (w : IsWithin 
   own-acts = Each-planned (λ t. t.acts ≡ (get_or j.tasks t.task no_task).acts) x.tasks.items (rw own-tasks (acts-on c j.tasks))
 
   -- its quantum is within its limit
-  pub quick : x.quantum ≤ QUANTUM
-  quick = named-at (λ q. q ≤ QUANTUM) (quanta_of (map cpu_of p.cpus.items)) c x.quantum quantum-at w.quanta
+  pub quick : Each (λ q. q ≤ QUANTUM) j.quanta → x.quantum ≤ QUANTUM
+  quick within = named-at (λ q. q ≤ QUANTUM) (quanta_of (map cpu_of cpus)) c x.quantum quantum-at (rw quanta within)

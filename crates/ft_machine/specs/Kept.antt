@@ -2,17 +2,23 @@
 use Rattle.std.specs.Prelude.{ℕ, ◌≡◌, ◌+◌, ◌*◌, ◌≤◌, List, length, reverse}
 use Rattle.ft_base.specs.declared.item.Item.{Item}
 use Rattle.ft_base.specs.Job.{Job, commands}
+use Rattle.ft_base.specs.Versions.{levels as levels_of}
 use Rattle.ft_hist.specs.Shown.{Shown}
 use Rattle.history_bound.specs.Bound.{all_calls}
 use Rattle.user_specs.specs.Bound.{call_bound_in}
 use Rattle.word_machine.specs.Laws.{Runs}
 use Rattle.word_machine.specs.Limits.{IsLimited}
 use Rattle.word_machine.specs.Machine.{World}
+use Rattle.machine_core.specs.declared.cpus.TaskLimits.{TaskLimits}
 use Rattle.machine_core.specs.Worlds.{IsFor, Parts, world_of}
 
 -- how many items the job can make
 abbrev pub most_items : Job → ℕ
 most_items job = 2 * length (commands job) + call_bound_in job * all_calls job.tasks
+
+-- what each task of a job has room for
+abbrev pub limits_for : Job → TaskLimits
+limits_for job = record { frames = job.frames; levels = levels_of job }
 
 -- the items of a history, the latest first
 abbrev pub past_in : Shown → List Item

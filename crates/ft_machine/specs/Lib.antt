@@ -1,5 +1,3 @@
-pub mod Plans
-pub mod Parts
 pub mod Kept
 pub mod Machines
 pub mod Replays

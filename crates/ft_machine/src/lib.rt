@@ -1,36 +1,29 @@
-//! The machine that runs a job. A *job* is what a script declares; a *machine* is a job in a state;
-//! an *actor* is control or a CPU, and a *step* is what one actor does at one time: a single load,
-//! store or mark of one of the words that all share. A *replay* lets the actors of the job's schedule
-//! step one after the other. The *history* tells in order what happened.
+//! The machine that runs a job (`ft_job`). A *machine* is a job in a state; an *actor* is control or a
+//! CPU, and a *step* is what one actor does at one time: a single load, store or mark of one of the
+//! words that all share. A *replay* lets the actors of the job's schedule step one after the other. The
+//! *history* tells in order what happened.
 //!
 //! Promised: after any steps a machine's state is that of the word machine, which `word_machine`
 //! defines; its history is legal at every moment, and whole once every actor is at its end; each call
 //! site is whole; a step takes no memory. A replay is a run of a beginning of its schedule's actors, and
-//! a *taker* has taken its items, each when it was marked; a history is one.
-//! An actor's state is a function of the values that its own steps took, so a machine can be taken
-//! apart ([`Machine::into_parts`]) and its actors can step at the same time. [`Job::desk`] is the desk
-//! after the first commands of a job. Out of memory is the only fault.
+//! a *taker* has taken its items, each when it was marked; a history is one. An actor's state is a
+//! function of the values that its own steps took, so a machine can be taken apart
+//! ([`Machine::into_parts`]) and its actors can step at the same time. Out of memory is the only fault.
 //!
 //! Only tested, in the crate `ft_machine_tests`: that a job isn't refused for its size.
 #![tactic(auto)]
 
-mod find;
-mod job;
 mod laws;
 mod machine;
-mod order;
-mod parts;
 mod play;
 mod taker;
+mod world;
 
-pub use filter_commands::Trigger;
-pub use ft_desk::{Command, Ctl};
-pub use job::Job;
 pub use laws::{
     a_step_makes_the_next_operation, all_end_if_each_does, each_actor_is_fed_its_values,
     every_replay_is_a_run, sites_of_nobody_are_nops,
 };
 pub use machine::{Machine, MachineParts};
-pub use parts::{JobParts, ModRow};
 pub use play::{Outcome, replay, replay_into};
 pub use taker::Taker;
+pub use world::new_history;

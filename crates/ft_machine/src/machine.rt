@@ -2,11 +2,12 @@
 
 ghost use Rattle.ft_machine.specs.Kept.{IsMachine};
 
-use crate::job::Job;
+use crate::world::{new_history, new_world};
 use control_core::Control;
 use cpu_core::Cpu;
 use ft_base::{Actor, FuncNo, NoMemory};
 use ft_hist::History;
+use ft_job::Job;
 use machine_core::{CpuRoom, World, WorldParts};
 use std::alloc::Global;
 use word_map::{Op, WordMap};
@@ -56,8 +57,8 @@ impl Machine {
         ensures of { IfOk result (λ m. IsOf job.now m) }
         ensures opening { IfOk result (λ m. state_of job.now m ≡ start job.now) }
     {
-        let history = job.new_history(alloc)?;
-        let world = job.world(alloc, CpuRoom::ForOne)?;
+        let history = new_history(alloc, job)?;
+        let world = new_world(alloc, job, CpuRoom::ForOne)?;
         Ok(Machine { world, history })
     }
 
@@ -69,8 +70,8 @@ impl Machine {
         ensures control { IfOk result (λ m. IsOpening m.world.control × LeadsAll m.world.control) }
         ensures cpus { IfOk result (λ m. AreFirst ForAll job.now m.world.cpus) }
     {
-        let history = job.new_history(alloc)?;
-        let world = job.world(alloc, CpuRoom::ForAll)?;
+        let history = new_history(alloc, job)?;
+        let world = new_world(alloc, job, CpuRoom::ForAll)?;
         Ok(Machine { world, history })
     }
 

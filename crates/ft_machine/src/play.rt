@@ -6,10 +6,11 @@ ghost use Rattle.ft_base.specs.Job.{Job as PlainJob};
 ghost use Rattle.word_machine.specs.Machine.{World as State, all_end, play, played, step};
 ghost use Rattle.ft_machine.specs.Kept.{IsAt};
 
-use crate::job::Job;
 use crate::taker::Taker;
+use crate::world::{new_history, new_world};
 use ft_base::{Actor, NoMemory};
 use ft_hist::History;
+use ft_job::Job;
 use ft_schedule::Player;
 use machine_core::{CpuRoom, World};
 use std::alloc::Global;
@@ -66,7 +67,7 @@ pub fn replay_into<T: Taker>(alloc: Global, job: &Job, taker: &mut T) -> Result<
     ensures whole { IfOk result (λ ended. ended ≡ true → IsWhole job.now (reverse (play job.now).past)) }
     ensures fault { IfErr result (λ _. taker.new ≡ taker.old) }
 {
-    let mut world = job.world(alloc, CpuRoom::ForOne)?;
+    let mut world = new_world(alloc, job, CpuRoom::ForOne)?;
     let player = Player::new(job.schedule(), job.shape().cpus);
     play(&mut world, player, taker);
     Ok(world.all_end())
@@ -79,7 +80,7 @@ pub fn replay(alloc: Global, job: &Job) -> Result<Outcome, NoMemory>
     ensures legal { IfOk result (λ o. IsLegal job.now o.history.items) }
     ensures whole { IfOk result (λ o. o.ended ≡ true → IsWhole job.now o.history.items) }
 {
-    let mut history = job.new_history(alloc)?;
+    let mut history = new_history(alloc, job)?;
     let ended = replay_into(alloc, job, &mut history)?;
     Ok(Outcome { history, ended })
 }

@@ -8,7 +8,8 @@ mod ordered;
 
 use ft_base::{Actor, CpuNo, Item, NoMemory, TaskNo};
 use ft_hist::History;
-use ft_machine::{Job, Machine, Outcome, replay};
+use ft_job::Job;
+use ft_machine::{Machine, Outcome, replay};
 use histories::{THIRD_FIRST, WHOLE};
 use jobs::{D, busy_job, empty_job};
 use std::alloc::Global;

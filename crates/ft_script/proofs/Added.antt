@@ -7,7 +7,7 @@ use Rattle.ft_desk.specs.declared.command.Ctl.{Ctl}
 use Rattle.ft_desk.specs.declared.command.Ctl.TheVariants.{Run}
 use Rattle.ft_desk.specs.Commands.{command_of, ctl_of}
 use Rattle.ft_desk.specs.Declarations.{Declared}
-use Rattle.control_core.specs.Lines.{lines_of}
+use Rattle.ft_desk.specs.Lines.{lines_of}
 use Rattle.module_table.specs.declared.line.ModLine.{ModLine}
 use Rattle.module_table.specs.declared.line.ModLine.TheVariants.{Plain, Load, Unload}
 use Rattle.module_table.specs.Lines.{Between, answer_to, commands_for}

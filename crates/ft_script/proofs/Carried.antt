@@ -13,7 +13,7 @@ use Rattle.site_set.proofs.MarksLemmas.{length-empty, length-union}
 use Rattle.filter_hash.proofs.EditLaws.{length-edited}
 use Rattle.word_machine.specs.Limits.{IsLevel}
 use Rattle.ft_desk.specs.Declarations.{Declared, bare, job_of}
-use Rattle.ft_machine.specs.Plans.{IsModule, IsCommand}
+use Rattle.ft_job.specs.Plans.{IsModule, IsCommand}
 use Rattle.func_table.specs.Modules.{modules_in}
 use Rattle.module_table.specs.Lines.{Between, Line as ModuleLine, Plain, Load, Unload, own_of, hidden, hidden_now, mask, masks_from, masks_for, selects, command_for, answer_to, loaded_after, commands_for, desk_after, after_line, opening_of}
 use Rattle.module_table.specs.Reached.{IsReached, IsLineIn}

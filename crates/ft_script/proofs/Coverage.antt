@@ -18,9 +18,9 @@ use Rattle.ft_base.specs.Job.{Job, Func, Spec, Task, LinePlan, ModuleRow, no_fun
 use Rattle.ft_desk.specs.declared.command.Ctl.{Ctl as KeptCtl}
 use Rattle.ft_desk.specs.declared.command.Ctl.TheVariants.{Run as KeptRun, Until as KeptUntil}
 use Rattle.ft_desk.specs.Commands.{ctl_of}
-use Rattle.control_core.specs.Lines.{lines_of}
-use Rattle.ft_machine.specs.declared.parts.ModRow.{ModRow}
-use Rattle.ft_machine.specs.Plans.{row_of}
+use Rattle.ft_desk.specs.Lines.{lines_of}
+use Rattle.ft_job.specs.declared.parts.ModRow.{ModRow}
+use Rattle.ft_job.specs.Plans.{row_of}
 use Rattle.script_waits.specs.declared.script.LinedAct.{LinedAct}
 use Rattle.script_waits.specs.declared.script.ControlLine.{ControlLine}
 use Rattle.script_waits.specs.declared.script.Wait.{Wait}

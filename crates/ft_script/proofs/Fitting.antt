@@ -26,7 +26,7 @@ use Rattle.filter_commands.specs.Edits.{selected_by, edit_of}
 use Rattle.filter_commands.specs.Triggers.{trigger_of, trigger_cause}
 use Rattle.ft_schedule.specs.Causes.{has_bad_count, steps_of, is_past_limit as is_past_sched_limit, has_unknown}
 use Rattle.user_specs.specs.Bound.{call_bound_of}
-use Rattle.ft_machine.specs.Plans.{IsModule}
+use Rattle.ft_job.specs.Plans.{IsModule}
 use Rattle.func_table.specs.Modules.{modules_in}
 use Rattle.module_table.specs.Lines.{Line as ModuleLine, Plain, Load, Unload}
 use Rattle.script_text.specs.Lines.{Word, Line}

@@ -14,15 +14,15 @@ use Rattle.ft_desk.specs.declared.command.Ctl.{Ctl}
 use Rattle.ft_desk.specs.declared.command.Ctl.TheVariants.{Run, Until}
 use Rattle.ft_desk.specs.Commands.{ctl_of}
 use Rattle.ft_desk.specs.Declarations.{Declared, bare}
-use Rattle.control_core.specs.Lines.{IsLineIn, lines_of}
+use Rattle.ft_desk.specs.Lines.{IsLineIn, lines_of}
 use Rattle.user_specs.specs.Plain.{DeclaredCpu}
 use Rattle.user_specs.specs.Bound.{call_bound_of}
 use Rattle.history_bound.specs.Bound.{calls_in, all_calls}
 use Rattle.word_machine.specs.Limits.{WaitsFor, IsLevel, IsLimited}
-use Rattle.ft_machine.specs.Parts.{Parts, quanta_of, cpus_with, tasks_of, task_count, declared_of, job_of as parts_job, IsWithin}
-use Rattle.ft_machine.specs.Plans.{HasLanes, AreLinesPlanned, AreRingsPlanned}
-use Rattle.ft_machine.proofs.Numbered.{tasks_of-from, length-tasks}
-use Rattle.ft_machine.proofs.Ordered.{all-commands}
+use Rattle.ft_job.specs.Parts.{Parts, quanta_of, cpus_with, tasks_of, task_count, declared_of, job_of as parts_job, IsWithin}
+use Rattle.ft_job.specs.Plans.{HasLanes, AreLinesPlanned, AreRingsPlanned}
+use Rattle.ft_job.proofs.Numbered.{tasks_of-from, length-tasks}
+use Rattle.ft_job.proofs.Ordered.{all-commands}
 use Rattle.script_waits.specs.declared.script.LinedAct.{LinedAct}
 use Rattle.script_waits.specs.Tasks.{LinedTask}
 use Rattle.ft_script.specs.Above.{Above}

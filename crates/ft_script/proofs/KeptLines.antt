@@ -2,9 +2,9 @@
 use Rattle.std.proofs.Common.{◌≡◌, ℕ, List, [], ◌∷◌, length, map, Some, None, refl, sym, ap, ap₂, ◌∙◌, subst}
 use Rattle.std.specs.Prelude.{IfSome}
 use Rattle.ft_desk.specs.declared.command.Ctl.{Ctl}
-use Rattle.control_core.specs.Lines.{lines_of}
-use Rattle.ft_machine.specs.declared.parts.ModRow.{ModRow}
-use Rattle.ft_machine.specs.Plans.{row_of}
+use Rattle.ft_desk.specs.Lines.{lines_of}
+use Rattle.ft_job.specs.declared.parts.ModRow.{ModRow}
+use Rattle.ft_job.specs.Plans.{row_of}
 use Rattle.script_waits.specs.declared.script.ControlLine.{ControlLine}
 use Rattle.script_waits.specs.declared.script.Wait.{Wait}
 use Rattle.ft_script.specs.declared.reader.Reader.{Reader}

@@ -12,8 +12,8 @@ use Rattle.word_map.specs.declared.shape.Shape.{Shape}
 use Rattle.word_map.specs.Shapes.{IsShape}
 use Rattle.user_specs.specs.Plain.{spec_of}
 use Rattle.ft_desk.specs.Declarations.{Declared, bare, declared_by}
-use Rattle.control_core.specs.Lines.{lines_of}
-use Rattle.ft_machine.specs.Plans.{row_of, IsModule}
+use Rattle.ft_desk.specs.Lines.{lines_of}
+use Rattle.ft_job.specs.Plans.{row_of, IsModule}
 use Rattle.func_table.specs.Modules.{modules_in}
 use Rattle.module_table.specs.Lines.{Between, Plain, Load, Unload, Line as ModuleLine, at_first, opening_of}
 use Rattle.module_table.specs.Made.{line_of}

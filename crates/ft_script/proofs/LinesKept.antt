@@ -10,7 +10,7 @@ use Rattle.ft_base.specs.declared.user.Act.{Act}
 use Rattle.ft_base.specs.declared.user.Act.TheVariants.{CallIn, IrqIn}
 use Rattle.ft_base.specs.Job.{Func, Spec}
 use Rattle.ft_base.specs.WellFormed.{IsNamedIn, IsSetIn, IsActIn}
-use Rattle.ft_machine.specs.Plans.{IsModule}
+use Rattle.ft_job.specs.Plans.{IsModule}
 use Rattle.module_table.specs.Lines.{Plain, Load, Unload}
 use Rattle.script_waits.specs.Tasks.{LinedTask}
 use Rattle.ft_script.specs.Above.{Above, ScriptCtl, Run, Until, LinedCtl, Declaration, a_function, some_frames, an_absence, a_user, a_cpu, a_task, an_act, a_lane, a_ctl, lanes_with, waits_with, with_ctl, with_what}

@@ -12,7 +12,7 @@ use Rattle.site_set.proofs.MarksLemmas.{length-empty}
 use Rattle.filter_commands.specs.Forms.{Text, is_outside}
 use Rattle.filter_commands.specs.Triggers.{TriggerForm, HasTrigger, unlimited, limited, is_limit, trigger_form, trigger_by, trigger_of}
 use Rattle.filter_commands.proofs.TriggerLemmas.{HasTrigger-form}
-use Rattle.ft_machine.specs.Plans.{IsTriggerOf}
+use Rattle.ft_job.specs.Plans.{IsTriggerOf}
 use Rattle.ft_script.specs.Above.{Above, Declaration, a_function, some_entries, a_trigger, with_what}
 use Rattle.ft_script.specs.Holds.{IsRing, RingsHold, Holds}
 use Rattle.ft_script.specs.Fits.{FitsAs}

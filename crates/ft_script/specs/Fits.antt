@@ -10,7 +10,7 @@ use Rattle.ft_base.specs.WellFormed.{IsActIn}
 use Rattle.func_table.specs.Rows.{is_name_or_none}
 use Rattle.user_specs.specs.Bound.{call_bound_of}
 use Rattle.func_table.specs.Modules.{modules_in}
-use Rattle.ft_machine.specs.Plans.{IsTriggerOf}
+use Rattle.ft_job.specs.Plans.{IsTriggerOf}
 use Rattle.module_table.specs.Lines.{Plain}
 use Rattle.ft_script.specs.Levels.{open_calls}
 use Rattle.ft_script.specs.Above.{Above, ScriptCtl, Run, Until, Declaration, nothing, a_version, a_function, some_frames, some_slots, an_absence, some_entries, no_tracing, a_trigger, a_user, a_cpu, a_task, an_act, a_lane, a_ctl, more_turns, Resolved}

@@ -12,7 +12,7 @@ use Rattle.ft_base.specs.WellFormed.{IsNamedIn, IsSetIn, IsActIn}
 use Rattle.history_bound.specs.Bound.{calls_in}
 use Rattle.user_specs.specs.Bound.{call_bound_of}
 use Rattle.word_machine.specs.Limits.{IsLevel}
-use Rattle.ft_machine.specs.Plans.{IsModule, IsTriggerOf}
+use Rattle.ft_job.specs.Plans.{IsModule, IsTriggerOf}
 use Rattle.module_table.specs.Lines.{Plain, Load, Unload}
 use Rattle.script_waits.specs.declared.script.LinedAct.{LinedAct}
 use Rattle.script_waits.specs.Tasks.{LinedTask}

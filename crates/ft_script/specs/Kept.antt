@@ -5,9 +5,9 @@ use Rattle.std.specs.Option.{option_copied}
 use Rattle.ft_base.specs.declared.limits.TheConstants.{USUAL_FRAMES}
 use Rattle.ft_base.specs.Job.{Job}
 use Rattle.filter_commands.specs.Kept.{plain_trigger}
-use Rattle.control_core.specs.Lines.{lines_of}
-use Rattle.ft_machine.specs.Parts.{Parts, cpus_from}
-use Rattle.ft_machine.specs.Plans.{row_of, IsModule}
+use Rattle.ft_desk.specs.Lines.{lines_of}
+use Rattle.ft_job.specs.Parts.{Parts, cpus_from}
+use Rattle.ft_job.specs.Plans.{row_of, IsModule}
 use Rattle.module_table.specs.Lines.{owners_of}
 use Rattle.module_table.specs.Made.{line_of}
 use Rattle.func_table.specs.Modules.{modules_in}

@@ -2,15 +2,15 @@
 
 ghost use Rattle.std.specs.Prelude.{◌≡◌, ◌++◌, ℕ, [], length, map, OnOk, IfOk};
 ghost use Rattle.ft_desk.specs.Commands.{command_of};
-ghost use Rattle.control_core.specs.Lines.{lines_of};
-ghost use Rattle.ft_machine.specs.Plans.{row_of};
+ghost use Rattle.ft_desk.specs.Lines.{lines_of};
+ghost use Rattle.ft_job.specs.Plans.{row_of};
 ghost use Rattle.module_table.specs.Lines.{opening_of};
 ghost use Rattle.ft_script.specs.Expansion.{runs_of};
 
 use crate::declaration::ScriptCtl;
 use ft_base::Answer;
 use ft_desk::Command;
-use ft_machine::{Ctl, ModRow};
+use ft_job::{Ctl, ModRow};
 use func_table::FuncTable;
 use module_table::{ModLine, Modules};
 use std::alloc::{AllocError, Global};

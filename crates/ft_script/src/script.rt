@@ -2,7 +2,7 @@
 
 ghost use Rattle.std.specs.Prelude.{◌≡◌, ◌≤◌, ◌⊎◌, ℕ, map, length, OnOk, IfOk, IfErr, Some, None};
 ghost use Rattle.user_specs.specs.Plain.{cpu_of};
-ghost use Rattle.ft_machine.specs.Parts.{cpus_from};
+ghost use Rattle.ft_job.specs.Parts.{cpus_from};
 ghost use Rattle.script_waits.specs.Tasks.{lined_task, tracks_of};
 ghost use Rattle.script_waits.specs.Greedy.{IsLeast, IsDeadlock};
 ghost use Rattle.script_text.specs.Lines.{lines_of};
@@ -16,7 +16,7 @@ ghost use Rattle.ft_script.specs.Kept.{above_of, IsKept, IsOpen};
 use crate::faults::{Cause, ScriptFault};
 use crate::reader::Reader;
 use ft_base::limits::INPUT_BYTES;
-use ft_machine::Job;
+use ft_job::Job;
 use script_text::first_line;
 use script_waits::LinedTask;
 use std::alloc::{AllocError, Global};

@@ -3,7 +3,7 @@
 ghost use Rattle.std.specs.Prelude.{◌<◌};
 
 use ft_base::{CpuNo, FuncNo, Half, NoMemory, TaskNo, UserNo};
-use ft_machine::Job;
+use ft_job::Job;
 use std::alloc::{AllocError, Global};
 use word_map::WordMap;
 

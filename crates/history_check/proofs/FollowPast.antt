@@ -24,7 +24,7 @@ use Rattle.ft_hist.specs.Rules.{MayFollow}
 use Rattle.ft_hist.proofs.Laws.{plain-other, same_call-refl}
 use Rattle.ft_hist.proofs.RunLaws.{some_inj}
 use Rattle.ft_hist.proofs.Since.{misses-other}
-use Rattle.control_core.specs.Lines.{lines_of}
+use Rattle.ft_desk.specs.Lines.{lines_of}
 use Rattle.history_check.specs.declared.open_call.OpenCall.{OpenCall}
 use Rattle.history_check.specs.declared.open_call.Visit.{Visit}
 use Rattle.history_check.specs.declared.task_past.Due.{Due}

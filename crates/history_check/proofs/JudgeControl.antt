@@ -11,7 +11,7 @@ use Rattle.ft_base.specs.Desk.{answer_at}
 use Rattle.ft_desk.specs.declared.command.Command.{Command as Code}
 use Rattle.ft_desk.specs.declared.command.Ctl.{Ctl}
 use Rattle.ft_desk.specs.declared.command.Ctl.TheVariants.{Run, Until}
-use Rattle.control_core.specs.Lines.{lines_of}
+use Rattle.ft_desk.specs.Lines.{lines_of}
 use Rattle.ft_hist.specs.Past.{begun, done}
 use Rattle.ft_hist.specs.Plain.{at_start}
 use Rattle.ft_hist.specs.Rules.{HasWaited, MayBegin, acts_passed, waits_before}

@@ -18,7 +18,7 @@ use Rattle.ft_desk.specs.Seen.{Seen, opened}
 use Rattle.history_check.specs.declared.desks.Row.{Row}
 use Rattle.history_check.specs.TakenOff.{answer_of, taken_off, taken_by}
 use Rattle.history_check.specs.KeptDesks.{AreRowsOf, IsDeskOf, IsRowOf, IsSeenOf, IsSightOf}
-use Rattle.ft_machine.proofs.DeskLaws.{desk-past, new-commands, new-state}
+use Rattle.ft_job.proofs.DeskLaws.{desk-past, new-commands, new-state}
 
 -- ## lists that grow
 

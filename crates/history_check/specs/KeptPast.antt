@@ -8,7 +8,7 @@ use Rattle.ft_base.specs.Items.{call_of}
 use Rattle.ft_base.specs.Job.{Job, Ctl, Run, Until, commands}
 use Rattle.ft_base.specs.Versions.{levels}
 use Rattle.user_specs.specs.Plain.{spec_of}
-use Rattle.control_core.specs.Lines.{lines_of}
+use Rattle.ft_desk.specs.Lines.{lines_of}
 use Rattle.ft_hist.specs.Past.{begun, callbacks, done}
 use Rattle.ft_hist.specs.Plain.{at_start, plain}
 use Rattle.ft_hist.specs.Rules.{HasEnded, MayFollow, acts_passed, waits_before}

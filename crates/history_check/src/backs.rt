@@ -18,7 +18,7 @@ use crate::callbacks::Callbacks;
 use crate::desks::Desks;
 use ft_base::{Answer, CallNo, Ctx, FuncNo, Item, NoMemory, UserNo};
 use ft_hist::History;
-use ft_machine::Job;
+use ft_job::Job;
 use std::alloc::Global;
 use std::collections::{HashMap, HashSet};
 

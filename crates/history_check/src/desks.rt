@@ -8,7 +8,7 @@ ghost use Rattle.ft_base.specs.Desk.{Desk as PlainDesk, desk, is_allowed, is_liv
 ghost use Rattle.ft_base.specs.Job.{Job as PlainJob, commands, funcs};
 ghost use Rattle.ft_desk.specs.Declarations.{IsOf};
 ghost use Rattle.ft_desk.specs.Seen.{opened};
-ghost use Rattle.control_core.specs.Lines.{IsLineIn, lines_of};
+ghost use Rattle.ft_desk.specs.Lines.{IsLineIn, lines_of};
 ghost use Rattle.history_check.specs.TakenOff.{answer_of, taken_off};
 ghost use Rattle.history_check.specs.KeptDesks.{AreOf, AreRowsOf, IsDeskOf, IsSeenOf, IsSightOf, WasOff};
 ghost use Rattle.history_check.specs.KeptTold.{IsTold};
@@ -18,7 +18,7 @@ use filter_hash::HashPair;
 use ft_base::limits::TASKS;
 use ft_base::{Answer, FuncNo, NoMemory, Ran, TaskNo, UserNo};
 use ft_desk::{Ctl, Desk};
-use ft_machine::Job;
+use ft_job::Job;
 use pid_filter::allowed;
 use std::alloc::Global;
 

@@ -6,7 +6,7 @@ ghost use Rattle.history_check.specs.Verdicts.{IsVerdict};
 use crate::past::Past;
 use crate::verdict::Verdict;
 use ft_base::{Item, NoMemory};
-use ft_machine::Job;
+use ft_job::Job;
 use std::alloc::Global;
 
 /// What a history of a job is: whole, or legal and not whole, or broken, at which of its items, counted

@@ -20,7 +20,7 @@ use crate::verdict::Rule;
 use ft_base::limits::Limits;
 use ft_base::{Item, NoMemory, TaskNo};
 use ft_desk::Ctl;
-use ft_machine::Job;
+use ft_job::Job;
 use std::alloc::Global;
 use std::collections::VecDeque;
 use task_runs::TaskRun;

@@ -3,7 +3,7 @@
 ghost use Rattle.std.specs.Prelude.{◌≡◌, ℕ, ◌+◌, ◌<◌, ◌^◌, List, ◌∷◌, length, map, OnOk, Some, slice_get};
 ghost use Rattle.ft_base.specs.declared.item.Item.{Item};
 ghost use Rattle.ft_base.specs.Job.{Ctl as PlainCtl, Job as PlainJob};
-ghost use Rattle.control_core.specs.Lines.{lines_of};
+ghost use Rattle.ft_desk.specs.Lines.{lines_of};
 ghost use Rattle.ft_hist.specs.Past.{all_visits, begun as begun_in, done as done_in, gets_frame, visit as visit_in};
 ghost use Rattle.ft_hist.specs.Rules.{MayFollow};
 ghost use Rattle.history_check.specs.declared.task_past.TaskPast.{TaskPast};

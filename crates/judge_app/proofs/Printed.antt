@@ -15,8 +15,8 @@ use Rattle.led_jobs.specs.Led.{in_order}
 use Rattle.led_jobs.specs.Orders.{IsLaneOrder, picked}
 use Rattle.led_jobs.proofs.Limits.{each_picked}
 use Rattle.led_jobs.proofs.Orders.{whole as all-in-order}
-use Rattle.ft_machine.specs.Plans.{HasLanes}
-use Rattle.ft_machine.proofs.Ordered.{all-commands}
+use Rattle.ft_job.specs.Plans.{HasLanes}
+use Rattle.ft_job.proofs.Ordered.{all-commands}
 use Rattle.history_check.specs.declared.verdict.Rule.{Rule}
 use Rattle.history_check.specs.declared.verdict.Verdict.{Verdict}
 use Rattle.history_check.specs.declared.verdict.Verdict.TheVariants.{Whole, Legal, Broken}

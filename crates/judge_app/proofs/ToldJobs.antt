@@ -1,8 +1,8 @@
 -- The job of which a log is read.
 use Rattle.std.proofs.Common.{◌≡◌, ◌≢◌, ◌<◌, ◌^◌, ℕ, List, [], ◌∷◌, length, refl, sym, ap, ◌∙◌, subst, inl, inr, arith}
 use Rattle.ft_base.specs.Job.{Job}
-use Rattle.ft_machine.specs.Plans.{AreLinesPlanned}
-use Rattle.ft_machine.proofs.Ordered.{all-commands}
+use Rattle.ft_job.specs.Plans.{AreLinesPlanned}
+use Rattle.ft_job.proofs.Ordered.{all-commands}
 use Rattle.led_jobs.specs.Led.{in_order}
 use Rattle.led_jobs.specs.Orders.{AreAllLed}
 use Rattle.led_jobs.proofs.Limits.{each_picked}

@@ -6,7 +6,7 @@ ghost use Rattle.led_jobs.specs.Orders.{lane_of};
 ghost use Rattle.judge_app.specs.Lanes.{IsToldBy, first_of, told_order};
 
 use ft_base::NoMemory;
-use ft_machine::Job;
+use ft_job::Job;
 use log_reader::read_lanes;
 use std::alloc::Global;
 

@@ -5,7 +5,7 @@ ghost use Rattle.std.specs.List.{AllByRecursion as Each};
 ghost use Rattle.ft_base.specs.Job.{Job as PlainJob};
 ghost use Rattle.ft_base.specs.declared.item.Item.{Item};
 ghost use Rattle.ft_hist.specs.Rules.{IsLegal, IsWhole};
-ghost use Rattle.ft_machine.specs.Plans.{HasLanes};
+ghost use Rattle.ft_job.specs.Plans.{HasLanes};
 ghost use Rattle.ft_script.specs.Script.{IsJobOf};
 ghost use Rattle.led_jobs.specs.Led.{in_order};
 ghost use Rattle.led_jobs.specs.Orders.{IsLaneOrder};

@@ -15,7 +15,7 @@ use crate::lanes::led_by;
 use crate::status::Status;
 use ft_base::NoMemory;
 use ft_base::limits::INPUT_BYTES;
-use ft_machine::Job;
+use ft_job::Job;
 use ft_script::{Cause, ScriptFault, read_script};
 use history_check::{Rule, Verdict, judge};
 use log_reader::ReadFail;

@@ -6,8 +6,8 @@ use Rattle.ft_base.specs.Job.{Command, Ctl, Job, Run, Until}
 use Rattle.desk_lock.specs.Journals.{IsInOrder, done_of}
 use Rattle.led_jobs.specs.Orders.{IsLed, lane_of}
 use Rattle.word_machine.specs.Control.{control_next}
-use Rattle.ft_machine.specs.Plans.{HasLanes, IsCommand}
-use Rattle.ft_machine.proofs.Ordered.{all-commands}
+use Rattle.ft_job.specs.Plans.{HasLanes, IsCommand}
+use Rattle.ft_job.proofs.Ordered.{all-commands}
 use Rattle.live_table.specs.Seats.{Board, ControlPlace, ControlSitsAt, control_at}
 use Rattle.live_seats.specs.AnySeats.{AreSameSeats, AreSeatsOf, actor_of, without_rings}
 use Rattle.live_seats.specs.declared.seat.AnySeat.{AnySeat}

@@ -8,7 +8,7 @@ use Rattle.desk_lock.specs.Journals.{IsMerge}
 use Rattle.led_jobs.specs.Orders.{AreAllLed, AreLed, IsLaneOrder}
 use Rattle.word_machine.specs.Control.{control_next}
 use Rattle.word_machine.specs.Limits.{IsLimited}
-use Rattle.ft_machine.specs.Plans.{HasLanes}
+use Rattle.ft_job.specs.Plans.{HasLanes}
 use Rattle.live_table.specs.Seats.{Board, ControlPlace, ControlSitsAt, CpuPlace, IsOpen, control_at}
 use Rattle.live_seats.specs.AnySeats.{AreEndedSeats, IsEndedSeat, all_of, cpus_as_any}
 use Rattle.live_seats.specs.Ends.{AreEnded}

@@ -4,7 +4,7 @@ use Rattle.atomic_table.specs.Seated.{TableId}
 use Rattle.ft_base.specs.declared.limits.TheConstants.{COMMANDS, LANES, UNTILS}
 use Rattle.desk_lock.specs.Journals.{IsInOrder, IsMerge}
 use Rattle.word_machine.specs.Control.{control_next}
-use Rattle.ft_machine.specs.Plans.{HasLanes}
+use Rattle.ft_job.specs.Plans.{HasLanes}
 use Rattle.live_table.specs.Seats.{Board, ControlPlace, ControlSitsAt, control_at}
 use Rattle.live_table.specs.Views.{no_job}
 use Rattle.live_seats.specs.AnySeats.{AreEndedSeats, AreSameSeats, AreSeatsOf, actor_of, without_rings}

@@ -6,7 +6,7 @@ ghost use Rattle.desk_lock.specs.Journals.{IsMerge};
 ghost use Rattle.led_jobs.specs.Led.{in_order};
 ghost use Rattle.led_jobs.specs.Orders.{IsLaneOrder};
 ghost use Rattle.word_machine.specs.Control.{control_next};
-ghost use Rattle.ft_machine.specs.Plans.{HasLanes};
+ghost use Rattle.ft_job.specs.Plans.{HasLanes};
 ghost use Rattle.live_table.specs.Seats.{AreAtEnd, AreSeats, ControlSitsAt, IsMadeByTurns, control_at};
 ghost use Rattle.live_seats.specs.AnySeats.{AreSeatsOf, tables};
 ghost use Rattle.live_seats.specs.Ends.{AreEnded};
@@ -18,7 +18,7 @@ use crate::conduct::conduct_all;
 use crate::counts::counts_of;
 use ft_hist::History;
 use ft_io::Gate;
-use ft_machine::Job;
+use ft_job::Job;
 use live_seats::{
     AnySeat, Ended, Rooms, Seating, add_cpus, end_all, launch_all, make_rooms, take_apart,
 };

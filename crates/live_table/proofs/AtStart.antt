@@ -34,7 +34,7 @@ use Rattle.machine_core.specs.Starts.{IsFirst}
 use Rattle.machine_core.specs.Worlds.{Parts, words_of, world_of}
 use Rattle.ft_machine.specs.Fed.{control_fed}
 use Rattle.ft_machine.specs.Kept.{IsMachineOf, past_in}
-use Rattle.ft_machine.specs.Plans.{AreLinesPlanned}
+use Rattle.ft_job.specs.Plans.{AreLinesPlanned}
 use Rattle.live_table.specs.declared.view.View.{View}
 use Rattle.live_table.specs.Seats.{Board, ControlPlace, ControlSits, CpuSits, IsOpen, IsRising, IsTable, control_at, withheld_if}
 use Rattle.live_table.specs.Views.{control_view, cpu_view, led_first, order_first, values_of}

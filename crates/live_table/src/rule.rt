@@ -2,7 +2,7 @@
 
 use crate::view::View;
 use atomic_table::{Join, Play, Split, TableRule};
-use ft_machine::Job;
+use ft_job::Job;
 use std::marker::{Brand, PhantomData};
 use std::snapshot::Snapshot;
 

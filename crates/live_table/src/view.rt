@@ -1,7 +1,7 @@
 //! What a seat knows. No value of these types is ever made: contracts alone speak of them.
 
 use ft_base::Actor;
-use ft_machine::Job;
+use ft_job::Job;
 use std::collections::LinkedList;
 
 /// An actor, and the values that its operations have given.

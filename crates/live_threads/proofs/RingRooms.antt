@@ -16,7 +16,7 @@ use Rattle.history_bound.specs.Bound.{calls_in, calls_of}
 use Rattle.word_machine.specs.Laws.{room_on}
 use Rattle.word_machine.specs.Limits.{IsLimited}
 use Rattle.machine_core.proofs.Plans.{Stands, own-on, room-most, stands-head, stands-tail}
-use Rattle.ft_machine.specs.Parts.{tasks_on, cpus_with, cpus_from}
+use Rattle.ft_job.specs.Parts.{tasks_on, cpus_with, cpus_from}
 use Rattle.live_seats.specs.Traced.{AreRooms}
 
 -- ## the tasks of a CPU among those from a number on

@@ -8,7 +8,7 @@ ghost use Rattle.live_seats.specs.Traced.{AreRooms};
 
 use ft_base::limits::Limits;
 use ft_base::{NoMemory, TaskAct};
-use ft_machine::Job;
+use ft_job::Job;
 use std::alloc::Global;
 use user_specs::{CpuPlan, call_bound};
 

@@ -18,7 +18,7 @@ use crate::run::run_scoped;
 use ft_base::NoMemory;
 use ft_hist::History;
 use ft_io::Gate;
-use ft_machine::Job;
+use ft_job::Job;
 use live_seats::{AnySeat, Rooms, TracedSeat, make_rooms};
 use live_table::{ControlSeat, CpuSeat, Live, Started};
 use ring_rules::Rings;

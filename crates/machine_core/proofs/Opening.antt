@@ -21,7 +21,7 @@ use Rattle.word_machine.specs.Cpu.{Cpu, cpu_start}
 use Rattle.word_machine.specs.Laws.{Runs, items_on, room_on, tasks_on}
 use Rattle.word_machine.specs.Machine.{start}
 use Rattle.word_machine_laws.proofs.WordsFit.{start-runs}
-use Rattle.control_core.specs.Lines.{lines_of}
+use Rattle.ft_desk.specs.Lines.{lines_of}
 use Rattle.control_core.specs.Seated.{control_of}
 use Rattle.control_core.specs.Seated as control
 use Rattle.control_core.proofs.StartLaw.{starts}

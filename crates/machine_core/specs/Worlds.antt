@@ -18,7 +18,7 @@ use Rattle.word_machine.specs.Cpu.{Cpu, cpu_start}
 use Rattle.word_machine.specs.Laws.{Runs, items_on, room_on}
 use Rattle.word_machine.specs.Limits.{IsLimited}
 use Rattle.word_machine.specs.Machine.{World}
-use Rattle.control_core.specs.Lines.{lines_of}
+use Rattle.ft_desk.specs.Lines.{lines_of}
 use Rattle.control_core.specs.Seated.{Seated, control_of}
 use Rattle.control_core.specs.Seated as control
 use Rattle.cpu_core.specs.declared.parts.Parts.{Parts as CpuParts}

@@ -10,7 +10,7 @@ ghost use Rattle.user_specs.specs.Bound.{call_bound_in};
 ghost use Rattle.word_map.specs.Contents.{mask_of};
 ghost use Rattle.word_map.specs.Ops.{placed};
 ghost use Rattle.word_map.specs.Shapes.{shape_of};
-ghost use Rattle.control_core.specs.Lines.{IsLineIn};
+ghost use Rattle.ft_desk.specs.Lines.{IsLineIn};
 ghost use Rattle.control_core.specs.Plans.{IsDeclaredIn};
 ghost use Rattle.control_core.specs.Seated.{IsOpening, LeadsAll};
 ghost use Rattle.word_machine.specs.Laws.{Runs};

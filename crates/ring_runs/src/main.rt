@@ -16,7 +16,7 @@ ghost use Rattle.ring_rules.specs.Plan.{plan_of};
 use ft_base::NoMemory;
 use ft_base::limits::INPUT_BYTES;
 use ft_io::{OpenGate, Sink, Source, StdSink, StdSource, read_all, write_all};
-use ft_machine::Job;
+use ft_job::Job;
 use ft_script::read_script;
 use live_threads::{RingRun, run_rings};
 use ring_rules::Rings;

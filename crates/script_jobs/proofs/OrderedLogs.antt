@@ -15,8 +15,8 @@ use Rattle.ft_hist.proofs.WindowLaws.{legal-counts}
 use Rattle.led_jobs.specs.Led.{in_order}
 use Rattle.led_jobs.specs.Orders.{picked, AreLed, IsLaneOrder}
 use Rattle.led_jobs.proofs.Limits.{each_picked, limited_in_order}
-use Rattle.ft_machine.specs.Plans.{IsCommand, HasLanes}
-use Rattle.ft_machine.proofs.Ordered.{all-commands}
+use Rattle.ft_job.specs.Plans.{IsCommand, HasLanes}
+use Rattle.ft_job.proofs.Ordered.{all-commands}
 use Rattle.ft_script.specs.Script.{IsJobOf}
 use Rattle.trace_views.specs.LogText.{log_text}
 use Rattle.trace_views.proofs.GraphUsers.{each-turned}

@@ -6,7 +6,7 @@ use Rattle.std.specs.List.{AllByRecursion as Each}
 use Rattle.ft_base.proofs.Small.{Each-weaker}
 use Rattle.ft_base.specs.declared.limits.TheConstants.{LANES}
 use Rattle.ft_base.specs.Job.{Job}
-use Rattle.ft_machine.specs.Plans.{HasLanes}
+use Rattle.ft_job.specs.Plans.{HasLanes}
 use Rattle.script_text.specs.Lines.{Line, lines_of}
 use Rattle.word_machine.specs.Limits.{IsLimited}
 use Rattle.ft_script.specs.Above.{Above, none_above}

@@ -18,7 +18,7 @@ ghost use Rattle.ft_base.specs.declared.turn.Actor.{Actor};
 ghost use Rattle.ft_base.specs.Job.{Job};
 ghost use Rattle.ft_hist.specs.Past.{begun, done};
 ghost use Rattle.ft_hist.specs.Rules.{IsLegal, IsWhole};
-ghost use Rattle.ft_machine.specs.Plans.{HasLanes};
+ghost use Rattle.ft_job.specs.Plans.{HasLanes};
 ghost use Rattle.ft_script.specs.Hidden.{known_after, is_there};
 ghost use Rattle.ft_script.specs.Script.{declared_in, IsJobOf};
 ghost use Rattle.machine_core.specs.Sites.{IsWhole as IsWholeSite};

@@ -5,7 +5,7 @@ use Rattle.ft_base.specs.WellFormed.{IsWellFormed}
 use Rattle.ft_desk.specs.declared.command.Ctl.TheVariants.{Run, Until}
 use Rattle.ft_desk.specs.declared.command.Command.TheVariants.{Register, Unregister}
 use Rattle.word_machine.specs.Limits.{IsLimited}
-use Rattle.ft_machine.specs.Parts.{Parts, IsWithin, job_of}
+use Rattle.ft_job.specs.Parts.{Parts, IsWithin, job_of}
 use Rattle.step_by_step.specs.TheJob.{the_functions, the_user, the_task, the_job}
 
 -- the parts that the program gives

@@ -4,7 +4,7 @@ ghost use Rattle.std.specs.Prelude.{◌≡◌, IfOk};
 ghost use Rattle.trace_print.specs.TaskNames.{name_at};
 
 use ft_base::{FuncNo, Kind, NoMemory, TaskNo, UserNo};
-use ft_machine::Job;
+use ft_job::Job;
 use module_table::ModuleNames;
 use std::alloc::Global;
 use std::marker::Model;

@@ -7,7 +7,7 @@ ghost use Rattle.trace_lines.specs.LogItems.{IsNamedApart};
 ghost use Rattle.trace_views.specs.LogText.{log_text};
 
 use crate::names::Names;
-use ft_machine::Job;
+use ft_job::Job;
 use log_reader::{Log, ReadFail};
 use std::alloc::Global;
 

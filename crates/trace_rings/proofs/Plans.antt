@@ -7,8 +7,8 @@ use Rattle.ft_base.specs.Job.{Job, Task, Trigger, no_task}
 use Rattle.ft_base.specs.declared.limits.TheConstants.{CPUS}
 use Rattle.user_specs.specs.Plain.{DeclaredCpu}
 use Rattle.word_machine.specs.Limits.{IsLimited}
-use Rattle.ft_machine.specs.Parts.{quanta_of}
-use Rattle.ft_machine.specs.Plans.{AreRingsPlanned}
+use Rattle.ft_job.specs.Parts.{quanta_of}
+use Rattle.ft_job.specs.Plans.{AreRingsPlanned}
 use Rattle.ring_rules.specs.Plan.{IsPlan, TracePlan, plan_of}
 use Rattle.ft_base.specs.Kinds.{is_function}
 use Rattle.ring_rules.proofs.Lists.{get-some}

@@ -8,7 +8,7 @@ use crate::plan::trace_plan;
 use crate::tracer::Tracer;
 use ft_base::NoMemory;
 use ft_hist::History;
-use ft_machine::Job;
+use ft_job::Job;
 use ring_rules::{Rings, TracePlan};
 use std::alloc::Global;
 

@@ -9,7 +9,7 @@ ghost use Rattle.ft_base.specs.Kinds.{is_function};
 
 use filter_commands::Trigger;
 use ft_base::{NoMemory, TaskNo};
-use ft_machine::Job;
+use ft_job::Job;
 use ring_rules::TracePlan;
 use std::alloc::Global;
 use user_specs::Spec;

@@ -2,7 +2,7 @@
 //! task tell each request at once. What it stores is compared with what was worked out by hand.
 
 ghost use Rattle.std.specs.Prelude.{◌≡◌, length, IfOk};
-ghost use Rattle.control_core.specs.Lines.{IsLineIn};
+ghost use Rattle.ft_desk.specs.Lines.{IsLineIn};
 ghost use Rattle.control_core.specs.Seated.{IsOpening};
 
 use super::user;

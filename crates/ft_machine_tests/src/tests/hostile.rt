@@ -3,7 +3,8 @@
 
 use super::jobs::{job_of, most_users};
 use ft_base::{CpuNo, NoMemory, Who};
-use ft_machine::{Job, Machine, replay};
+use ft_job::Job;
+use ft_machine::{Machine, replay};
 use ft_schedule::{Player, Schedule, held};
 use history_check::backs_legal;
 use std::alloc::{AllocError, Global};

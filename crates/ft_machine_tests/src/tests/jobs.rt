@@ -2,7 +2,7 @@
 
 use ft_base::FuncNo;
 use ft_base::limits::{INPUT_BYTES, USERS};
-use ft_machine::Job;
+use ft_job::Job;
 use ft_script::read_script;
 use std::alloc::{AllocError, Global};
 use std::test::Fail;

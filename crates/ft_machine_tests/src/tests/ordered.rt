@@ -3,7 +3,7 @@
 ghost use Rattle.std.specs.Prelude.{◌≡◌, length};
 
 use super::jobs::job_of;
-use ft_machine::{Command, Ctl, Job};
+use ft_job::{Command, Ctl, Job};
 use std::alloc::Global;
 use std::test::Fail;
 

@@ -4,14 +4,14 @@ ghost use Rattle.std.specs.Option.{option_to_list};
 ghost use Rattle.std.specs.List.{list_any};
 ghost use Rattle.std.specs.Prelude.{◌≡◌, ◌==◌, [], ◌∷◌, map, length, IfOk};
 ghost use Rattle.ft_desk.specs.Commands.{ctl_of};
-ghost use Rattle.ft_machine.specs.Plans.{row_of};
+ghost use Rattle.ft_job.specs.Plans.{row_of};
 ghost use Rattle.module_coverage.specs.Reading.{wait_of, changes_of};
 ghost use Rattle.ft_script.specs.Script.{called_by};
 
 use crate::expansion::Expansion;
 use crate::reader::Reader;
 use ft_base::{Act, Answer, FuncNo};
-use ft_machine::{Ctl, ModRow};
+use ft_job::{Ctl, ModRow};
 use func_table::FuncTable;
 use module_coverage::{Change, lowest_uncovered};
 use module_table::{ModuleNames, owners_of};

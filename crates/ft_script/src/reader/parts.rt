@@ -3,10 +3,10 @@
 ghost use Rattle.std.specs.Prelude.{◌≡◌, ◌≤◌, ◌++◌, ℕ, [], map, length, unwrap_or, None, IfOk, IfSome, OnOk};
 ghost use Rattle.ft_base.specs.Versions.{limits_of};
 ghost use Rattle.user_specs.specs.Plain.{cpu_of, task_of as plan_seen};
-ghost use Rattle.ft_machine.specs.Parts.{tasks_on, cpus_from};
+ghost use Rattle.ft_job.specs.Parts.{tasks_on, cpus_from};
 ghost use Rattle.script_waits.specs.declared.script.LinedAct.{LinedAct};
 ghost use Rattle.script_waits.specs.Tasks.{lined_task};
-ghost use Rattle.control_core.specs.Lines.{lines_of};
+ghost use Rattle.ft_desk.specs.Lines.{lines_of};
 ghost use Rattle.ft_script.specs.Expansion.{commands_by, act_in_job, line_as_it_is, lines_as_they_are};
 ghost use Rattle.ft_script.specs.Kept.{control_line, lined_ctl};
 ghost use Rattle.ft_script.specs.Holds.{IsAtMost};
@@ -17,7 +17,7 @@ use crate::expansion::Expansion;
 use crate::reader::{LinedCtl, Reader};
 use ft_base::limits::{CPUS, Limits, TASKS, USUAL_FRAMES, USUAL_RING, USUAL_TURNS};
 use ft_base::{TaskAct, TaskNo, Turn, Who};
-use ft_machine::{Ctl, JobParts, ModRow};
+use ft_job::{Ctl, JobParts, ModRow};
 use ft_schedule::Schedule;
 use module_table::ModLine;
 use script_waits::{ControlLine, LinedAct, LinedTask, Wait, deadlock};
@@ -253,7 +253,7 @@ fn course_of(
 // ## what a reader gives
 
 impl Reader {
-    ghost use Rattle.ft_machine.specs.Parts.{parts_of};
+    ghost use Rattle.ft_job.specs.Parts.{parts_of};
     ghost use Rattle.script_waits.specs.Tasks.{tracks_of};
     ghost use Rattle.script_waits.specs.Greedy.{IsDeadlock};
     ghost use Rattle.ft_script.specs.Expansion.{expansion_of};

@@ -15,7 +15,7 @@ use crate::reader::find::{pid_mask, task_number, user_number};
 use filter_commands::{EditFault, Trigger, TriggerFault, read_edit, read_trigger};
 use ft_base::limits::{TASKS, USERS};
 use ft_base::{Act, FuncNo, Half, TaskAct, TaskNo, Turn, UserNo};
-use ft_machine::Command;
+use ft_job::Command;
 use ft_schedule::{SchedItem, has_unknown, push_turns, steps_with};
 use module_table::ModLine;
 use script_form::{LineForm, UserAct, UserLine};

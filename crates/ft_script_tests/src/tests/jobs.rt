@@ -2,7 +2,7 @@
 
 use super::counts::numbered;
 use ft_base::{Act, Ctx, FuncNo, Kind, TaskAct, TaskNo, Turn, UserNo, Who};
-use ft_machine::{Command, Ctl, Job};
+use ft_job::{Command, Ctl, Job};
 use ft_script::read_script;
 use site_set::Edit;
 use std::alloc::{AllocError, Global};

@@ -2,7 +2,7 @@
 
 use super::refuses;
 use ft_base::{Answer, TaskAct, UserNo};
-use ft_machine::{Command, Ctl, Job, ModRow};
+use ft_job::{Command, Ctl, Job, ModRow};
 use ft_script::{Cause, read_script};
 use site_set::SiteSet;
 use std::alloc::Global;

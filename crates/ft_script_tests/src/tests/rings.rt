@@ -2,7 +2,7 @@
 
 use super::jobs::job_of;
 use super::{is_answered, refuses};
-use ft_machine::{Job, Trigger};
+use ft_job::{Job, Trigger};
 use ft_script::Cause;
 use std::process::Abort;
 use std::test::Fail;

@@ -2,7 +2,8 @@
 
 use ft_base::{Answer, CallNo, Ctx, FuncNo, Item, Ran, TaskNo, UserNo};
 use ft_hist::History;
-use ft_machine::{Job, Outcome, replay};
+use ft_job::Job;
+use ft_machine::{Outcome, replay};
 use std::alloc::Global;
 use std::test::Fail;
 

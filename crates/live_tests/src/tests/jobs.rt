@@ -1,7 +1,7 @@
 //! The jobs of the tests, which are read from scripts.
 
 use ft_base::limits::INPUT_BYTES;
-use ft_machine::Job;
+use ft_job::Job;
 use ft_script::read_script;
 use std::alloc::{AllocError, Global};
 use std::test::Fail;

@@ -6,7 +6,7 @@ use super::order::Order;
 use super::tally::Tally;
 use ft_base::UserNo;
 use ft_io::{Gate, OpenGate};
-use ft_machine::{Command, Ctl, Job};
+use ft_job::{Command, Ctl, Job};
 use live_lanes::{LaneRun, run_lanes};
 use std::alloc::Global;
 use std::sync::Wait;

@@ -5,7 +5,7 @@ ghost use Rattle.std.specs.Thread.{IsSync};
 ghost use Rattle.live_table.specs.Seats.{ControlSitsAt, SitsAt};
 
 use ft_hist::History;
-use ft_machine::Job;
+use ft_job::Job;
 use live_table::{ControlSeat, CpuSeat, Going, Live, Started};
 use std::alloc::Global;
 use std::sync::Wait;

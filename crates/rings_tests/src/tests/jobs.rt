@@ -2,7 +2,8 @@
 
 use super::is_ring;
 use ft_base::limits::INPUT_BYTES;
-use ft_machine::{Job, replay};
+use ft_job::Job;
+use ft_machine::replay;
 use ft_script::read_script;
 use std::alloc::Global;
 use std::test::Fail;

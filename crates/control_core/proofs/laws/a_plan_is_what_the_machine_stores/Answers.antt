@@ -1,5 +1,6 @@
 use Rattle.control_core.proofs.Copies.{copies-same}
-use Rattle.control_core.proofs.Desks.{answer-same, state-same}
+use Rattle.ft_desk.proofs.NextDesk.{state-same}
+use Rattle.control_core.proofs.Desks.{answer-same}
 use Rattle.control_core.proofs.Plans.{order-same, plan-same}
 use Rattle.control_core.proofs.laws.a_plan_is_what_the_machine_stores.Goals as goal
 

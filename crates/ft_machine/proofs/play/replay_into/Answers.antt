@@ -36,7 +36,7 @@ pub returns-clause-taken : goal.returns-clause-taken
 returns-clause-taken g c =
     let w = c.in_ok-world.ensures in
     (plays g.T.Taker.took c.args.job.now _ c.play.new.world c.play.new.taker
-    (c.new-player.ensures ∙ all-actors c.args.job.now _ c.shape.result c.schedule.ensures c.shape.ensures)
+    (c.new-player.ensures ∙ all-actors c.args.job.now _ c.shape.result c.schedule.ensures c.shape.ensures.counts)
     (c.play.ensures c.args.job.now (start c.args.job.now) (starts-at c.args.job.now c.in_ok-world.world w.limited w.of w.opening)
     (none-taken g.T.Taker.took c.args.job.now c.args.taker.now c.requires (ap (λ (s : World). s.past) w.opening)))).1
 
@@ -44,26 +44,26 @@ pub returns-clause-ended : goal.returns-clause-ended
 returns-clause-ended g c =
     let w = c.in_ok-world.ensures in
     let at = (plays g.T.Taker.took c.args.job.now _ c.play.new.world c.play.new.taker
-        (c.new-player.ensures ∙ all-actors c.args.job.now _ c.shape.result c.schedule.ensures c.shape.ensures)
-        (c.play.ensures c.args.job.now (start c.args.job.now) (starts-at c.args.job.now c.in_ok-world.world w.limited w.of w.opening)
-        (none-taken g.T.Taker.took c.args.job.now c.args.taker.now c.requires (ap (λ (s : World). s.past) w.opening)))).0 in
+    (c.new-player.ensures ∙ all-actors c.args.job.now _ c.shape.result c.schedule.ensures c.shape.ensures.counts)
+    (c.play.ensures c.args.job.now (start c.args.job.now) (starts-at c.args.job.now c.in_ok-world.world w.limited w.of w.opening)
+    (none-taken g.T.Taker.took c.args.job.now c.args.taker.now c.requires (ap (λ (s : World). s.past) w.opening)))).0 in
     at-ends c.args.job.now (play c.args.job.now) _ c.all_end.result at c.all_end.ensures
 
 pub returns-clause-legal : goal.returns-clause-legal
 returns-clause-legal g c =
     let w = c.in_ok-world.ensures in
     let at = (plays g.T.Taker.took c.args.job.now _ c.play.new.world c.play.new.taker
-        (c.new-player.ensures ∙ all-actors c.args.job.now _ c.shape.result c.schedule.ensures c.shape.ensures)
-        (c.play.ensures c.args.job.now (start c.args.job.now) (starts-at c.args.job.now c.in_ok-world.world w.limited w.of w.opening)
-        (none-taken g.T.Taker.took c.args.job.now c.args.taker.now c.requires (ap (λ (s : World). s.past) w.opening)))).0 in
+    (c.new-player.ensures ∙ all-actors c.args.job.now _ c.shape.result c.schedule.ensures c.shape.ensures.counts)
+    (c.play.ensures c.args.job.now (start c.args.job.now) (starts-at c.args.job.now c.in_ok-world.world w.limited w.of w.opening)
+    (none-taken g.T.Taker.took c.args.job.now c.args.taker.now c.requires (ap (λ (s : World). s.past) w.opening)))).0 in
     at.runs.kept.legal
 
 pub returns-clause-whole : goal.returns-clause-whole
 returns-clause-whole g c = λ over.
     (let w = c.in_ok-world.ensures in
     let at = (plays g.T.Taker.took c.args.job.now _ c.play.new.world c.play.new.taker
-        (c.new-player.ensures ∙ all-actors c.args.job.now _ c.shape.result c.schedule.ensures c.shape.ensures)
-        (c.play.ensures c.args.job.now (start c.args.job.now) (starts-at c.args.job.now c.in_ok-world.world w.limited w.of w.opening)
-        (none-taken g.T.Taker.took c.args.job.now c.args.taker.now c.requires (ap (λ (s : World). s.past) w.opening)))).0 in
+    (c.new-player.ensures ∙ all-actors c.args.job.now _ c.shape.result c.schedule.ensures c.shape.ensures.counts)
+    (c.play.ensures c.args.job.now (start c.args.job.now) (starts-at c.args.job.now c.in_ok-world.world w.limited w.of w.opening)
+    (none-taken g.T.Taker.took c.args.job.now c.args.taker.now c.requires (ap (λ (s : World). s.past) w.opening)))).0 in
     whole c.args.job.now (play c.args.job.now) at.limited at.runs _ refl
     (sym (at-ends c.args.job.now (play c.args.job.now) _ c.all_end.result at c.all_end.ensures) ∙ over))

@@ -1,5 +1,5 @@
 use Rattle.std.proofs.Common.{rules, [], ◌++◌, refl, ap, ◌∙◌}
-use Rattle.control_core.specs.Lines.{lines_of}
+use Rattle.ft_desk.specs.Lines.{lines_of}
 use Rattle.module_table.specs.Lines.{Between, opening_of}
 use Rattle.module_table.specs.Made.{Appends}
 use Rattle.ft_script.specs.Expansion.{runs_of}

@@ -3,7 +3,7 @@ use Rattle.std.proofs.lemmas.Grind.{common_steps}
 use Rattle.std.specs.Vec.Iter.{into_iter_items}
 use Rattle.ft_desk.specs.declared.command.Command.{Command}
 use Rattle.ft_desk.specs.declared.command.Ctl.TheVariants.{Run}
-use Rattle.control_core.specs.Lines.{lines_of}
+use Rattle.ft_desk.specs.Lines.{lines_of}
 use Rattle.ft_script.proofs.Added.{lines-runs}
 use Rattle.ft_script.proofs.expansion.push_runs.Goals as goal
 

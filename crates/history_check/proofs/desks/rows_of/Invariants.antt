@@ -3,7 +3,7 @@ use Rattle.std.specs.Prelude.{slice_get}
 use Rattle.ft_base.specs.Job.{Job, commands_in}
 use Rattle.ft_base.specs.Desk.{desk}
 use Rattle.ft_desk.specs.Declarations.{IsOf}
-use Rattle.control_core.specs.Lines.{lines_of}
+use Rattle.ft_desk.specs.Lines.{lines_of}
 use Rattle.history_check.specs.declared.desks.Row.{Row}
 use Rattle.history_check.specs.KeptDesks.{IsRowOf}
 use Rattle.history_check.specs.KeptTold.{IsTold}

@@ -1,5 +1,5 @@
 use Rattle.std.proofs.Common.{◌≡◌, ℕ, length}
-use Rattle.control_core.specs.Lines.{lines_of}
+use Rattle.ft_desk.specs.Lines.{lines_of}
 use Rattle.history_check.specs.KeptPast.{lines_after}
 use Rattle.history_check.proofs.take_in.after_command.Given as goal
 

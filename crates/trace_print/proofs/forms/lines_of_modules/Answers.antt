@@ -3,7 +3,7 @@ use Rattle.std.specs.Prelude.{IfOk}
 use Rattle.std.proofs.lemmas.Iterator.{YieldsList-from_slice, YieldsList-from_map_by}
 use Rattle.std.proofs.lemmas.Iterator.Consumers.{map_from_collect}
 use Rattle.ft_base.specs.Job.{Job}
-use Rattle.ft_machine.specs.Plans.{row_of}
+use Rattle.ft_job.specs.Plans.{row_of}
 use Rattle.trace_views.specs.ModulesText.{row_of_line}
 use Rattle.trace_print.proofs.forms.lines_of_modules.Goals as goal
 

@@ -5,7 +5,7 @@ use Rattle.std.proofs.lemmas.List.FromFn.{length-range_with_len}
 use Rattle.word_map.specs.Shapes.{IsShape}
 use Rattle.ft_base.specs.declared.item.Answer.TheVariants.{Accepted}
 use Rattle.ft_desk.specs.Commands.{ctl_of}
-use Rattle.control_core.specs.Lines.{lines_of}
+use Rattle.ft_desk.specs.Lines.{lines_of}
 use Rattle.control_core.specs.declared.phase.Phase.TheVariants as phase
 use Rattle.control_core.proofs.Opening.{opening-kept, opening-lines}
 use Rattle.control_core.proofs.control.Control.new.Goals as goal

@@ -1,7 +1,7 @@
 use Rattle.std.proofs.Common.{rules, ◌≡◌, ℕ, suc, ◌+◌, List, [], ◌∷◌, ◌++◌, map, ap, ◌∙◌, arith}
 use Rattle.ft_base.specs.Job.{ModuleRow}
-use Rattle.control_core.specs.Lines.{lines_of}
-use Rattle.ft_machine.specs.Plans.{row_of}
+use Rattle.ft_desk.specs.Lines.{lines_of}
+use Rattle.ft_job.specs.Plans.{row_of}
 use Rattle.module_table.specs.Lines.{Between, Line, answer_to, commands_for, after_line}
 use Rattle.module_table.specs.Made.{line_of, Appends}
 use Rattle.ft_script.specs.declared.expansion.Expansion.{Expansion}

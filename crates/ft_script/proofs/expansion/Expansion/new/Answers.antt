@@ -1,5 +1,5 @@
 use Rattle.std.proofs.Common.{rules, ◌≡◌, ℕ, ap, subst}
-use Rattle.control_core.specs.Lines.{lines_of}
+use Rattle.ft_desk.specs.Lines.{lines_of}
 use Rattle.ft_desk.specs.Declarations.{declared_by}
 use Rattle.module_table.specs.Lines.{Between, at_first, opening_of}
 use Rattle.ft_script.specs.Expansion.{runs_of}

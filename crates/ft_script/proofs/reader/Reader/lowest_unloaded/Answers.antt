@@ -2,8 +2,8 @@ use Rattle.std.proofs.Common.{◌≡◌, ℕ, List, true≢false, map, Result, O
 use Rattle.std.specs.List.Sorted.{IsNonDecreasingBy}
 use Rattle.std.specs.Result.{MatchResult, IfOk, is_ok}
 use Rattle.ft_base.specs.Job.{Func}
-use Rattle.ft_machine.specs.declared.parts.ModRow.{ModRow}
-use Rattle.ft_machine.specs.Plans.{row_of}
+use Rattle.ft_job.specs.declared.parts.ModRow.{ModRow}
+use Rattle.ft_job.specs.Plans.{row_of}
 use Rattle.func_table.specs.Modules.{modules_in, number_among}
 use Rattle.module_table.specs.Lines.{owners_of}
 use Rattle.module_coverage.specs.declared.change.Change.{Change}

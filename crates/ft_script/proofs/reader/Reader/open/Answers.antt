@@ -2,7 +2,7 @@ use Rattle.std.proofs.Common.{◌≡◌, ℕ, List, refl, sym, ap, ap₂, ◌∙
 use Rattle.user_specs.specs.declared.spec.Spec.{Spec}
 use Rattle.word_map.specs.declared.shape.Shape.{Shape}
 use Rattle.ft_desk.specs.Declarations.{declared_by}
-use Rattle.control_core.specs.Lines.{lines_of}
+use Rattle.ft_desk.specs.Lines.{lines_of}
 use Rattle.module_table.specs.Lines.{at_first}
 use Rattle.ft_script.specs.declared.reader.Reader.{Reader}
 use Rattle.ft_script.specs.Kept.{above_of}

@@ -1,5 +1,5 @@
 use Rattle.std.proofs.Common.{◌≡◌, ◌++◌, map, drop}
-use Rattle.ft_machine.specs.Plans.{row_of}
+use Rattle.ft_job.specs.Plans.{row_of}
 use Rattle.module_coverage.specs.Reading.{changes_of}
 use Rattle.ft_script.proofs.reader.coverage.changes.Given as goal
 

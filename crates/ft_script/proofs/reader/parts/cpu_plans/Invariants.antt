@@ -1,6 +1,6 @@
 use Rattle.std.proofs.Common.{◌≡◌, ◌++◌, map, drop}
 use Rattle.user_specs.specs.Plain.{cpu_of}
-use Rattle.ft_machine.specs.Parts.{cpus_with}
+use Rattle.ft_job.specs.Parts.{cpus_with}
 use Rattle.script_waits.specs.Tasks.{lined_task}
 use Rattle.ft_script.specs.Script.{task_of}
 use Rattle.ft_script.proofs.reader.parts.cpu_plans.Given as goal

@@ -1,6 +1,6 @@
 use Rattle.std.proofs.Common.{◌≡◌, ◌++◌, map, drop}
 use Rattle.user_specs.specs.Plain.{task_of as plan_seen}
-use Rattle.ft_machine.specs.Parts.{tasks_on}
+use Rattle.ft_job.specs.Parts.{tasks_on}
 use Rattle.script_waits.specs.Tasks.{lined_task}
 use Rattle.ft_script.specs.Script.{task_of}
 use Rattle.ft_script.proofs.reader.parts.task_plans.Given as goal

@@ -1,6 +1,6 @@
 -- Each part follows the item, and the others stay.
 use Rattle.std.proofs.Common.{◌∙◌, ◌+◌, ◌∷◌, length, sym, ap, subst}
-use Rattle.control_core.specs.Lines.{lines_of}
+use Rattle.ft_desk.specs.Lines.{lines_of}
 use Rattle.history_check.specs.declared.past.Past.{Past}
 use Rattle.history_check.specs.KeptCallbacks.{callbacks_of}
 use Rattle.history_check.specs.KeptCalls.{AreTasksOf}

@@ -1,7 +1,0 @@
-use Rattle.std.proofs.Common.{◌≡◌, drop, map}
-use Rattle.user_specs.specs.Plain.{task_of}
-use Rattle.ft_machine.specs.Parts.{found_on}
-use Rattle.ft_machine.proofs.find.find_on.Given as goal
-
-abbrev pub invariant-loop-plan : goal.invariant-loop-plan
-invariant-loop-plan l = found_on l.task.0 0 (map task_of (drop l.plan-index l.tasks)) ≡ found_on l.task.0 0 (map task_of l.tasks)

@@ -1,5 +1,0 @@
-use Rattle.ft_machine.proofs.JobLaws.{seen-rings-plan}
-use Rattle.ft_machine.proofs.job.Job.ring.Goals as goal
-
-pub returns-clause-planned : goal.returns-clause-planned
-returns-clause-planned c = seen-rings-plan c.self.inside.parts _ c.self.view_is c.self.invariant
