@@ -22,9 +22,7 @@ import threading
 import time
 
 sys.dont_write_bytecode = True
-import cost_table  # noqa: E402
-import crate_list  # noqa: E402
-import rattle_processes  # noqa: E402
+from ftlog.proving import cost_table, crate_list, rattle_processes  # noqa: E402
 
 EVERY = 30  # seconds between two lines if nobody sits at a terminal
 ENDED = re.compile(r"rt: (\w+) (proved|is kept)\b")

@@ -3,16 +3,11 @@
 Lines that are refused count as what they were meant to be, as far as that can be seen, so that one mistake isn't told again at each line
 that goes by it. As long as no line is refused, this is what docs/LANGUAGE.md has.
 """
-import sys
 from typing import Dict, List, NamedTuple, Optional, Set
 
-sys.dont_write_bytecode = True
-import control_lines  # noqa: E402
-import limits  # noqa: E402
-import log_reader  # noqa: E402
-import script_forms  # noqa: E402
-from ftlog.script_lines import ACTS, CONTEXTS, Line  # noqa: E402
-from limits import LIMITS  # noqa: E402
+from ftlog import control_lines, limits, script_reader
+from ftlog.limits import LIMITS
+from ftlog.script_lines import ACTS, CONTEXTS, Line
 
 
 class Act(NamedTuple):
@@ -104,7 +99,7 @@ class Above:
         self.absent: Dict[str, Line] = {}
         self.triggers: List[Line] = []
         self.users: Dict[str, Line] = {}
-        self.user_words: List[List[str]] = []
+        self.accepted_users: List[Dict] = []  # what the lines of these say
         self.cpus: Dict[int, Line] = {}
         self.next_cpus = {0}
         self.tasks: List[Task] = []
@@ -130,8 +125,9 @@ class Above:
 
     def call_bound(self):
         """The most items that a call can make."""
-        if self.bound[0] != len(self.user_words):
-            self.bound = (len(self.user_words), script_forms.call_bound(self.user_words, self.version))
+        count = len(self.accepted_users)
+        if self.bound[0] != count:
+            self.bound = (count, limits.call_bound(count, sum("act" in said for said in self.accepted_users), self.version))
         return self.bound[1]
 
     def command_lines(self):
@@ -143,11 +139,11 @@ class Above:
         return min((line for other, line in self.first_of_rank.items() if other > rank), key=lambda line: line.number)
 
     def script(self):
-        """What is declared, as the older tools have it: without tasks, and without lines of control."""
-        functions = [log_reader.Function(name, self.owners[name]) for name in self.functions]
-        users = {words[1]: log_reader.user_of(words) for words in self.user_words}
+        """What is declared, but for tasks and lines of control."""
+        functions = [script_reader.Function(name, self.owners[name]) for name in self.functions]
+        users = {said["NAME"]: script_reader.user_of(said) for said in self.accepted_users}
         slots = self.version.tramps if self.slots is None else self.slots
-        return log_reader.Script(functions, slots, list(self.absent), users, {}, [], [])
+        return script_reader.Script(functions, slots, list(self.absent), users, {}, [], [])
 
 
 class Commands:
@@ -218,7 +214,7 @@ def declare_user(above, line, said, is_refused):
     """A user."""
     above.users.setdefault(said["NAME"], line)
     if not is_refused:
-        above.user_words.append(line.words)
+        above.accepted_users.append(said)
 
 
 def declare_cpu(above, line, said, is_refused):

@@ -7,13 +7,10 @@ import itertools
 import re
 from typing import List, NamedTuple
 
-import control_lines
-import log_desk
-from ftlog import given_logs
+from ftlog import control_lines, filters, given_logs, script_lines, script_reader
 from ftlog.fault import Fault
 
-ON_GRAPH = ("graph", "profile")
-USUAL_DEPTH = 50  # frames, if the script doesn't say
+ON_GRAPH = script_reader.WITH_FRAMES
 LONGEST_GLOB = 255
 DIGITS = re.compile("[0-9]+")
 END = "\0"  # of a name in the kernel
@@ -28,32 +25,12 @@ class Note(NamedTuple):
     name: str
 
 
-class User(NamedTuple):
-    """What a `user` line says besides what log_reader.py reads."""
-
-    has_exit: bool
-    cancels: bool
-    follows_pids: bool
-    calls: str  # `call` or `irq`, if its callbacks make calls
-
-
-def user_of(words):
-    """That of a line."""
-    options = words[3:]
-    has_exit, options = options[:1] == ["exit"], options[options[:1] == ["exit"]:]
-    cancels, options = options[:1] == ["cancel"], options[options[:1] == ["cancel"]:]
-    options = options[options[:1] == ["regs"]:]
-    options = options[2:] if options[:1] == ["ipmodify"] else options
-    follows, options = options[:1] == ["pid"], options[options[:1] == ["pid"]:]
-    return User(has_exit or words[2] in ON_GRAPH, cancels, follows, options[0] if options else "")
-
-
 def wrong(functions, text):
     """What is wrong with a filter text, as the name of a difference; None if nothing is, and "text" if it is something else."""
     text = text.removeprefix("!")
     name, mark, module = text.partition(":mod:")
     if DIGITS.fullmatch(text):
-        return None if 0 < int(text) <= len(functions) else "no number"
+        return None if 0 < filters.number_of(text) <= len(functions) else "no number"
     if mark and module in ("", "!"):
         return "no module"
     if mark and ":" in module and ":" not in name:
@@ -64,20 +41,20 @@ def wrong(functions, text):
 
 def besides(names, glob):
     """The names that a glob doesn't match here, but may match if a class with `!` matches the end of a name, as in 6.1."""
-    items = log_desk.items(glob)
+    items = filters.items(glob)
     to_the_end = [(True, [(END, END)]) if item == (True, []) else item for item in items]  # `?` matches no end
-    return [name for name in names if not log_desk.fits(items, name) and log_desk.fits(to_the_end, name + END)]
+    later = filters.pattern_of(to_the_end)
+    return [name for name in names if not filters.fits(glob, name) and later.fullmatch(name + END)]
 
 
 class Finder:
     """Goes through the lines of a script, and notes those that differ."""
 
-    def __init__(self, text, script):
-        self.script, self.lines = script, given_logs.lines_of(text)
-        self.version = int(self.lines[0][1][1])
+    def __init__(self, script):
+        self.script, self.lines = script, [(line.number, line.words) for line in script.said]
+        self.version, self.users = script.version, script.users
         self.control = control_lines.Control(script)
         self.desk = self.control.desk
-        self.users = {words[1]: user_of(words) for _, words in self.lines if words[0] == "user"}
         self.triggers = iter(script.triggers)
         self.sharing = set()  # the pairs of users that were noted for the order of their callbacks
         self.notes, self.number, self.words = [], 0, []
@@ -112,17 +89,13 @@ class Finder:
         if told.calls == "call" and (self.version == 1 or self.has_interrupts()):
             which = "the first recursion in a context is" if self.version == 1 else "in each context the second recursion is"
             self.note("recursion", f"{which} refused")
-        if kind == "fprobe" and told.has_exit and max(self.nesting(), default=0) > self.frames():
+        if kind == "fprobe" and told.takes_frame and max(self.nesting(), default=0) > self.script.frames:
             self.note("missed entry", "if no frame is free the entry handler runs, and then there is a miss")
 
     def has_interrupts(self):
         """Whether something happens in other contexts than the normal one."""
         is_raised = any(words[0] in ("softirq", "irq", "nmi") for _, words in self.lines)
         return is_raised or any(user.calls == "irq" for user in self.users.values())
-
-    def frames(self):
-        """How many frames a task's shadow stack has here."""
-        return next((int(words[1]) for _, words in self.lines if words[0] == "depth"), USUAL_DEPTH)
 
     def nesting(self):
         """How many calls of its task are open at each act `call`, with the one that a callback in it may make."""
@@ -134,13 +107,13 @@ class Finder:
 
     def fprobes(self):
         """The fprobes with an exit handler."""
-        return [name for name in self.kinds("fprobe") if self.users[name].has_exit]
+        return [name for name in self.kinds("fprobe") if self.users[name].takes_frame]
 
     def depth(self, frames):
         """How many frames there are."""
         here = f"each task has {int(frames)} frame{'s' * (int(frames) != 1)}"
         if self.kinds(*ON_GRAPH):
-            if int(frames) != USUAL_DEPTH:
+            if int(frames) != script_reader.USUAL_DEPTH:
                 self.note("frames", here)
             self.note("page of frames", here)
         if self.fprobes():
@@ -154,8 +127,8 @@ class Finder:
         for self.number, self.words in self.lines:
             is_noted = is_noted and self.words[0] != "task"
             calls = {"task": 0, "call": calls + 1, "ret": calls - 1}.get(self.words[0], calls)
-            if calls > USUAL_DEPTH and not is_noted:
-                self.note("page of frames", f"the call has no frame if the {USUAL_DEPTH} around it have one each")
+            if calls > script_reader.USUAL_DEPTH and not is_noted:
+                self.note("page of frames", f"the call has no frame if the {script_reader.USUAL_DEPTH} around it have one each")
                 is_noted = True
 
     def ring(self, size):
@@ -167,7 +140,7 @@ class Finder:
         """A trigger: what it counts, and when it is hit."""
         told = next(self.triggers)
         names = [function.name for function in self.script.functions]
-        matched = {name for name in names if log_desk.fits(log_desk.items(told.glob), name)}
+        matched = {name for name in names if filters.fits(told.glob, name)}
         if text.startswith("!"):
             self.note("removal", "`!` is a byte of the glob")
         self.note("probe", "it patches nothing, and counts nowhere")
@@ -201,10 +174,10 @@ class Finder:
         """A line of control that isn't a wait."""
         if word in control_lines.LOADS:
             self.module(word, *words)
-        elif word in given_logs.LIST_WORDS:
+        elif word in script_lines.LIST_WORDS:
             self.lists(word, words)
             self.control.command([word, *words])
-        elif word not in given_logs.SET_WORDS or len(words) < 3 or self.is_readable(words[2]):
+        elif word not in script_lines.SET_WORDS or len(words) < 3 or self.is_readable(words[2]):
             answer = self.desk.answer(word, *words)
             self.sets_or_user(word, answer, *words)
             self.control.command([word, *words])
@@ -245,13 +218,13 @@ class Finder:
         others = [pid for pid in words if pid.lstrip("0") not in map(str, self.script.tasks)]
         if others:
             self.note("any pid", f"the script is refused (`unknown`): no task is {given_logs.shown(others[0])}")
-        if any(self.users[name].follows_pids for name in self.desk.registered):
+        if any(self.users[name].has_pid for name in self.desk.registered):
             self.note("pids' wait", "it holds for all callbacks when the command returns")
 
     def sets_or_user(self, word, answer, user, *words):
         """A command on a user, with the answer that the program gives."""
         is_fprobe, here = self.script.users[user].kind == "fprobe", f"the answer is `{answer}`"
-        if word in given_logs.SET_WORDS:
+        if word in script_lines.SET_WORDS:
             self.edit(word, answer, here, user, *words)
         elif answer == "already" or (word, answer) == ("unregister", "not-there"):
             self.note("fprobe twice" if is_fprobe and answer == "already" else "twice", here)
@@ -290,7 +263,7 @@ class Finder:
         text = text.removeprefix("!")
         if DIGITS.fullmatch(text):
             if text.startswith("0"):
-                self.note("octal", f"the number is {int(text)}")
+                self.note("octal", f"the number is {filters.number_of(text)}")
         else:
             name, _, module = text.partition(":mod:")
             self.no_class(name, [function.name for function in self.script.functions])
@@ -299,9 +272,8 @@ class Finder:
     def names_missing(self, text):
         """Whether a text names a module, and no function of the script lies in one that matches."""
         _, mark, module = text.removeprefix("!").partition(":mod:")
-        glob = log_desk.items(module)
         return bool(mark) and not module.startswith("!") and not any(
-            function.module and log_desk.fits(glob, function.module) for function in self.script.functions)
+            function.module and filters.fits(module, function.module) for function in self.script.functions)
 
     def replaces(self, word, answer, here, user, *words):
         """A command on a user that replaces functions."""

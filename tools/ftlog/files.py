@@ -20,3 +20,9 @@ def read(name):
 def add_script(parser):
     """Adds the word that names the script."""
     parser.add_argument("script", nargs="?", default=STANDARD, metavar="FILE", help="the script; - or none: standard input")
+
+
+def write(text):
+    """Writes these bytes to standard output."""
+    sys.stdout.buffer.write(text)
+    sys.stdout.flush()

@@ -12,7 +12,7 @@ A STEP is `load` or `store` and the name of a word, as docs/PROTOCOL.md has them
 import re
 from typing import List, NamedTuple, Optional
 
-import log_reader
+from ftlog import log_items
 from ftlog.fault import Fault
 from ftlog.script_lines import NoForm, Words, quoted
 
@@ -85,8 +85,8 @@ def pattern_of(words, names):
 
 def item_of(words):
     """The item of a mark, by its first words."""
-    if words.peek() is not None and words.peek() not in log_reader.WORDS:
-        words.stop(f"{quoted(words.peek())} is no item of a log: there are {', '.join(log_reader.WORDS)}", "")
+    if words.peek() is not None and words.peek() not in log_items.WORDS:
+        words.stop(f"{quoted(words.peek())} is no item of a log: there are {', '.join(log_items.WORDS)}", "")
     item = words.words[words.at :]
     words.at = len(words.words)
     return Pattern("mark", item, False)

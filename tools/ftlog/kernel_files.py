@@ -3,11 +3,7 @@
 A place of the history is a microsecond. Each user is taken for a tracer of its own, as that of an instance is: its entries alone are in its
 buffers. views_of_log.py and rings_of_log.py say which entries there are, and log_desk.py who is called at a site.
 """
-import log_desk
-import log_reader
-import rings_of_log
-import views_of_log
-from ftlog import given_logs, kernel_columns, log_items
+from ftlog import given_logs, kernel_columns, log_desk, log_items, rings_of_log, views_of_log
 from ftlog.fault import Fault
 
 RAISED = ("softirq", "irq", "nmi")
@@ -15,15 +11,6 @@ ON_GRAPH = ("graph", "profile")  # the kinds that are one ops in 6.12, and of wh
 GRAPH_CALLBACK = "ftrace_graph_func"  # of that ops: graph_ops of kernel/trace/fgraph.c
 MATCHED_DEPTH = 50  # below which the kernel keeps the function of an open entry (FTRACE_RETFUNC_DEPTH)
 NANOSECONDS = 1000  # of a place
-
-
-def read(script_name, log_name):
-    """The bytes of a script, and what it and its log tell; the log is gone through first, so it fits."""
-    text, script = given_logs.read_script(script_name)
-    lines = list(given_logs.log_lines(log_name))
-    for _ in log_items.Items(script).through(lines):
-        pass
-    return text, views_of_log.Told(text, "".join(line + "\n" for line in lines).encode("latin-1"))
 
 
 def user_of(told, name, kinds, what):
@@ -40,45 +27,44 @@ def user_of(told, name, kinds, what):
 
 # The file trace.
 
-def trace(text, told, name):
+def trace(told, name):
     """The lines of trace."""
     user = user_of(told, name, ("function", "graph"), "trace")
     if user is None:
         return kernel_columns.function_head("nop", 0, 0, told.script.cpus)
-    return graph_trace(told, user.name) if user.kind == "graph" else function_trace(text, told, user)
+    return graph_trace(told, user.name) if user.kind == "graph" else function_trace(told, user)
 
 
-def function_trace(text, told, user):
+def function_trace(told, user):
     """The function tracer's: the entries that the rings of all CPUs hold, in the order of time."""
     rings = rings_of_log.by_place(told.script._replace(users={user.name: user}), told.items)
     places = sorted(place for ring in rings.held for place in ring)
     yield from kernel_columns.function_head("function", len(places), sum(rings.written), told.script.cpus)
-    entries, contexts = views_of_log.entry_lines(told), raised(text, told)
+    entries, contexts = views_of_log.entry_lines(told), raised(told)
     for place in places:
         pid, _, _, _, func, parent, _ = entries[place].split()
         letter = letter_of(contexts[told.items[place][1]])
         yield kernel_columns.function_line(int(pid), told.script.tasks[int(pid)], letter, place, func, parent.removeprefix("<-"))
 
 
-def raised_at_acts(text):
+def raised_at_acts(script):
     """The contexts that are raised at each act `call` of each task, in the order of the acts."""
-    found, now = {}, []
-    for _, words in given_logs.lines_of(text):
-        if words[0] == "task":
-            found[int(words[1])] = calls = []
-            now = []
-        elif words[0] in RAISED:
-            now.append(words[0])
-        elif words[0] == "iret":
-            now = now[:-1]
-        elif words[0] == "call" and found:
-            calls.append(set(now))
+    found = {}
+    for task in script.acts:
+        found[task.pid], now = [], []
+        for word, *_ in task.acts:
+            if word in RAISED:
+                now.append(word)
+            elif word == "iret":
+                now = now[:-1]
+            elif word == "call":
+                found[task.pid].append(set(now))
     return found
 
 
-def raised(text, told):
+def raised(told):
     """The contexts that are raised in each call: those of its act, or of the call whose callback makes it, and its own."""
-    left = {pid: iter(calls) for pid, calls in raised_at_acts(text).items()}
+    left = {pid: iter(calls) for pid, calls in raised_at_acts(told.script).items()}
     found, called_back = {}, set()
     for words in told.items:
         if words[0] == "back":
@@ -197,7 +183,7 @@ def callbacks_of(users):
 def desk_after(told):
     """The desk after the commands that have returned, and the functions that a user which replaces functions was sited at since they
     were loaded: a kernel forgets those of a module at its unload."""
-    desk, turns, modified = log_desk.Desk(told.script), log_reader.Turns(told.script), set()
+    desk, turns, modified = log_desk.Desk(told.script), log_items.Turns(told.script), set()
     for words in told.items:
         if words[0] == "begin":
             command = told.script.commands[turns.next(" ".join(words[2:]))]

@@ -4,18 +4,33 @@ Only what is open is kept: the calls and callbacks that haven't ended. So a log 
 """
 import re
 
-import log_reader
 from ftlog.fault import Fault
 from ftlog.given_logs import shown
+from ftlog.script_lines import CONTEXTS
 
 ENDS = ("end", "stopped")
-CONTEXTS = ("normal", "softirq", "irq", "nmi")
+REFUSAL = re.compile(r"line [0-9]+: [a-z]+")
+# How many words each item has after its place and its name.
+WORDS = {"begin": (1, 3), "return": (2, 4), "enter": (4,), "back": (2,), "back-end": (2,), "refuse": (3,), "miss": (2,)}
+WORDS.update({"body": (3, 4), "leave": (1,), "exit": (3,), "exit-end": (2,), "ret": (2,)})
 REASONS = ("pid", "recursion", "depth")
 ANSWERS = ("ok", "already", "not-there", "invalid", "no-match", "busy")
 OPENS = {"back": "entry", "body": "body", "exit": "exit"}  # what these items open in a call
 ENDED_BY = {"ret": "call", "back-end": "entry", "leave": "body", "exit-end": "exit"}
 WITH_USER = ("back", "back-end", "refuse", "miss", "exit", "exit-end")  # whose first word after the call is a user
 NUMBER = re.compile("0|[1-9][0-9]*")
+
+
+class Turns:
+    """Which command of a script begins next: the next one or, in a script with lanes, the next one of the lane that the log names."""
+
+    def __init__(self, script):
+        lists = {f"lane {lane}": numbers for lane, numbers in enumerate(script.lanes)} or {"": range(len(script.commands))}
+        self.left = {named: iter(numbers) for named, numbers in lists.items()}
+
+    def next(self, named):
+        """The number, from 0, of the command whose item `begin` ends with this after its own number; None if there is no such command."""
+        return next(self.left.get(named, iter([])), None)
 
 
 class Task:
@@ -30,11 +45,12 @@ class Items:
     """Goes through the lines of a log, and gives the fields of each item. A line that doesn't fit ends it by a fault."""
 
     def __init__(self, script):
-        self.script, self.turns = script, log_reader.Turns(script)
+        self.script, self.turns = script, Turns(script)
         self.functions = {function.name for function in script.functions}
         self.kinds = {user.name: user.kind for user in script.users.values()}
         self.tasks = {str(pid): Task(pid, cpu) for pid, cpu in script.tasks.items()}
         self.begun, self.command = 0, None  # how many commands have begun, and the fields of the one that is under way
+        self.number = None  # of the latest command that has begun, from 0, in the order of the script
         self.place, self.line = 0, ""
 
     def through(self, lines):
@@ -53,7 +69,7 @@ class Items:
     def require(self, is_so, what):
         """What is asked of the line that is being read."""
         if not is_so:
-            if log_reader.REFUSAL.fullmatch(self.line):
+            if REFUSAL.fullmatch(self.line):
                 raise Fault(f"the script was refused ({self.line}), so there is no history")
             raise Fault(f"the log doesn't fit the script: at place {self.place} {what}: {shown(self.line)}")
 
@@ -61,7 +77,7 @@ class Items:
         """The fields of the item that the line is."""
         place, _, rest = self.line.partition(" ")
         item, *words = rest.split(" ")
-        self.require(place == str(self.place) and len(words) in log_reader.WORDS.get(item, ()), "there is no such item")
+        self.require(place == str(self.place) and len(words) in WORDS.get(item, ()), "there is no such item")
         fields = {"place": self.place, "item": item}
         if item == "begin":
             self.begin(fields, words)
@@ -78,7 +94,7 @@ class Items:
         self.require(self.command is None and words[0] == str(self.begun), "it is no command's turn")
         at = self.turns.next(" ".join(words[1:]))
         self.require(at is not None, "there is no such command")
-        self.command = {"command": self.begun, "text": self.script.commands[at].line}
+        self.number, self.command = at, {"command": self.begun, "text": self.script.commands[at].line}
         if len(words) == 3:
             self.command["lane"] = int(words[2])
         self.answer = self.script.commands[at].answer
@@ -160,3 +176,26 @@ class Items:
         fields["body"], fields["ran"] = runs, ran
         if own:
             fields["user"], fields["user_kind"] = own[0], self.kinds[own[0]]
+
+
+def line_of(fields):
+    """The line of a log that an item is, by its fields.
+
+    >>> line_of({"place": 4, "item": "refuse", "pid": 10, "call": "10.1", "user": "t", "reason": "pid"})
+    '4 refuse 10.1 t pid'
+    """
+    item = fields["item"]
+    words = [fields["place"], item]
+    if item == "begin":
+        words += [fields["command"], *(["lane", fields["lane"]] if "lane" in fields else [])]
+    elif item == "return":
+        words += [fields["command"], fields["answer"], *(fields[name] for name in ("function", "user") if name in fields)]
+    elif item == "enter":
+        words += [fields["call"], fields["context"], fields["function"], fields["caller"] or "-"]
+    elif item == "body":
+        words += [fields["call"], fields["body"], fields["ran"], *([fields["user"]] if "user" in fields else [])]
+    elif item == "ret":
+        words += [fields["call"], fields["caller"] or "-"]
+    else:
+        words += [fields["call"], *(fields[name] for name in ("user", "reason", "entry") if name in fields)]
+    return " ".join(map(str, words))

@@ -1,8 +1,7 @@
 """Which lines of a script may find a module unloaded when they need it. The rule is that of docs/LANGUAGE.md, "unloaded"."""
 from typing import List, NamedTuple
 
-import control_lines
-import covered_calls
+from ftlog import control_lines, covered_calls
 from ftlog.declared import Wait
 from ftlog.script_lines import Line, here
 

@@ -1,8 +1,8 @@
 """The schedule that parts of holds come to, found by asking for the steps of a script under longer and longer schedules."""
 from ftlog.fault import Fault
 from ftlog.holds import ALL
+from ftlog.limits import LIMITS
 from ftlog.script_lines import Item
-from limits import LIMITS
 
 BOUNDS = (1_000, 10_000, 100_000)  # turns that are tried, one bound after the other
 WAITING = 100  # loads of one word after each other that nobody makes but who waits for it

@@ -7,12 +7,11 @@ import dataclasses
 import difflib
 from typing import Iterable, List
 
-import limits
-from ftlog import module_needs, script_limits, text_faults, waits
+from ftlog import limits, module_needs, script_limits, text_faults, waits
 from ftlog.declared import Above, declare, declare_too_many, declare_unread
+from ftlog.limits import LIMITS
 from ftlog.script_limits import first
 from ftlog.script_lines import ACTS, ODD_BYTE, SKIP, WRITTEN, Line, here, last_acts, lines_of, quoted, shown
-from limits import LIMITS
 
 
 NOT_ENDED, NO_FORM, WRONG_PLACE = "the last line isn't ended", "no such form", "in the wrong place"

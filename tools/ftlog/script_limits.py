@@ -2,10 +2,10 @@
 
 Each answer is a fact and a fix and, if there is one line too many, what there are too many of; it is None if all is within the limits.
 """
-import limits
+from ftlog import limits
 from ftlog.declared import steps_of
+from ftlog.limits import LIMITS
 from ftlog.script_lines import ACTS, NUMBER, SKIP, quoted
-from limits import LIMITS
 
 
 def between(what, value, least, most, fix=""):
@@ -85,7 +85,7 @@ def too_many_items(above):
     bound, most = above.call_bound(), LIMITS["ITEMS"]
     if bound * (above.calls + 1) <= most:
         return None
-    each = f"each of which can make {bound:,} items with {len(above.user_words)} users"
+    each = f"each of which can make {bound:,} items with {len(above.accepted_users)} users"
     why = f"it is call {above.calls + 1:,}, {each}; {bound * (above.calls + 1):,} are more than {most:,}"
     return why, f"make at most {most // bound:,} calls, or declare fewer users with `call` or `irq`", "calls"
 

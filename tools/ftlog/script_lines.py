@@ -6,7 +6,7 @@ import difflib
 import re
 from typing import Callable, Dict, List, NamedTuple, Optional
 
-from limits import LIMITS
+from ftlog.limits import LIMITS
 
 NUMBER = 2**32 - 1  # the greatest number that may be written
 DIGITS = len(str(NUMBER))
@@ -44,6 +44,7 @@ WRITTEN.update({word: [word] for word in ACTS if word not in WRITTEN})
 WRITTEN.update({f"ctl {word}": [f"ctl {word} U"] for word in ("register", "unregister", "enable", "disable")})
 WRITTEN.update({f"ctl {word}": [f"ctl {word} M"] for word in ("load", "unload")})
 WRITTEN.update({f"ctl {word}": [f"ctl {word} U > TEXT", f"ctl {word} U >> TEXT", f"ctl {word} U >"] for word in ("filter", "notrace")})
+SET_WORDS, LIST_WORDS = ("filter", "notrace"), ("pid", "nopid", "maxdepth")  # the commands that change a set, and those that no user is named in
 COMMANDS = [key.split()[1] for key in WRITTEN if key.startswith("ctl ")]
 
 # The rank of each form but those of control, which have the rank 6; a line that is skipped has none.

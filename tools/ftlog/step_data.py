@@ -5,17 +5,13 @@ import os
 import pathlib
 import re
 
-import log_reader
-import runs
-from ftlog import step_kinds, step_tasks
-from ftlog.given_logs import lines_of
+from ftlog import limits, log_items, runs, step_kinds, step_tasks
 
 FORMAT, VERSION = "ftcore-step-page", 1
 FOLDER = pathlib.Path(__file__).resolve().parent / "page"
 SCRIPTS = ("state.js", "words.js", "strip.js", "view.js", "main.js")
 # Where code stands in memory, as crates/ft_base/src/address.rt and crates/site_bytes/src/codec.rt have it.
 ADDRESSES = {"function": 0x1000, "function_step": 64, "site_bytes": 5, "list": 0x0F_0000, "trampoline": 0x10_0000, "trampoline_step": 256}
-USUAL_DEPTH = 50  # frames of a shadow stack, if the script doesn't say
 
 
 def column(values):
@@ -34,36 +30,33 @@ def steps_of(trace, tasks, kinds, values, names):
             "kind": [names.get(kind, -1) for kind in kinds], "task": [-1 if task is None else task for task in tasks]}
 
 
-def declarations(text, script):
+def declarations(script):
     """What the page needs of a script's lines besides its text."""
-    lines = lines_of(text)
-    words = {line[1]: " ".join(line[2:]) for _, line in lines if line[0] == "user"}
-    quanta, tasks = step_tasks.declared(text)
-    depth = next((int(line[1]) for _, line in lines if line[0] == "depth"), USUAL_DEPTH)
-    control = [number for number, line in lines if line[0] == "ctl" and line[1] != "until"]
+    words = {line.form.said["NAME"]: " ".join(line.words[2:]) for line in script.said if line.form.key == "user"}
+    control = [line.number for line in script.said if line.words[0] == "ctl" and line.form.key != "ctl until"]
     own_lines = len(script.commands) == len(script.lines)  # no modules come and go, so each line is one command
     commands = [[command.line, control[at] if own_lines else 0] for at, command in enumerate(script.commands)]
     functions = [[function.name, function.module] for function in script.functions]
-    return {"functions": functions, "users": [[name, words[name]] for name in script.users], "quanta": quanta,
-            "tasks": [[task.pid, task.cpu, [" ".join(act) for act in task.acts]] for task in tasks], "depth": depth,
-            "slots": script.slots, "levels": 2 if text.split(None, 2)[1] == b"2" else 1, "commands": commands}
+    return {"functions": functions, "users": [[name, words[name]] for name in script.users], "quanta": script.quanta,
+            "tasks": [[task.pid, task.cpu, [" ".join(act) for act in task.acts]] for task in script.acts], "depth": script.frames,
+            "slots": script.slots, "levels": limits.VERSIONS[script.version - 1].levels, "commands": commands}
 
 
 def order_of(script, trace):
     """Which command of the script each `begin` is, from 0: with lanes the log's order may be another."""
-    turns = log_reader.Turns(script)
+    turns = log_items.Turns(script)
     begun = [item.split() for item in trace.items if item.startswith("begin ")]
     return [turns.next(" ".join(words[2:])) for words in begun]
 
 
 def data_of(title, docs, text, script, trace):
     """The data of a page. `docs` is where the pages of docs/ are, as the page is going to reach them."""
-    tasks, untold = step_tasks.tasks_of(trace, text)
+    tasks, untold = step_tasks.tasks_of(trace, script)
     kinds = step_kinds.kinds_of(trace, tasks)
     used = column(kind for kind in kinds if kind)
     values = column([*trace.opening, *(step.value for step in trace.steps)])
     return {"format": FORMAT, "version": VERSION, "title": title, "docs": docs, "script": text.decode("utf-8", "replace").splitlines(),
-            **declarations(text, script), "order": order_of(script, trace), "addresses": ADDRESSES, "untold": untold,
+            **declarations(script), "order": order_of(script, trace), "addresses": ADDRESSES, "untold": untold,
             "words": [[name, values[trace.opening[at]]] for name, at in trace.words.items()], "values": [hex(value) for value in values],
             "steps": steps_of(trace, tasks, kinds, values, used), "items": trace.items,
             "kinds": [[kind, *step_kinds.KINDS[kind]] for kind in used],

@@ -4,34 +4,10 @@ A mark names its call, and so its task. For the steps between marks it is worked
 "Switches and the quantum", and each mark is compared with what comes out. If one is another task's, it can't be told from there on which
 tasks that CPU's loads and stores belong to, and only its marks are given to tasks.
 """
-from typing import List, NamedTuple, Optional
-
-from ftlog import given_logs
+from typing import Optional
 
 INTERRUPTS = ("softirq", "irq", "nmi", "iret")
-ACTS = ("call", "ret", "after", *INTERRUPTS)
 COMMANDS = 2**33  # what one command that has returned adds to the clock: its two items
-
-
-class Task(NamedTuple):
-    """A task of the script: its pid, its CPU, and its acts, each as its words."""
-
-    pid: int
-    cpu: int
-    acts: List[List[str]]
-
-
-def declared(text):
-    """The quantum of each CPU of a script with these bytes, and its tasks in the order of their lines."""
-    quanta, tasks = [], []
-    for _, words in given_logs.lines_of(text):
-        if words[0] == "cpu":
-            quanta.append(int(words[3]))
-        elif words[0] == "task":
-            tasks.append(Task(int(words[1]), int(words[3]), []))
-        elif words[0] in ACTS and tasks:
-            tasks[-1].acts.append(words)
-    return quanta, tasks
 
 
 class Cpu:
@@ -98,12 +74,12 @@ def is_answer(word):
     return word.startswith(("ack.", "quiet."))
 
 
-def tasks_of(trace, text):
+def tasks_of(trace, script):
     """The number of the task of each step, in the order of the script's tasks, and the CPUs of which it can't be told to the end.
 
     It is None for control, for a CPU's last poll, and for what can't be told.
     """
-    quanta, tasks = declared(text)
+    quanta, tasks = script.quanta, script.acts
     cpus = [Cpu(quantum, {at: task for at, task in enumerate(tasks) if task.cpu == number}) for number, quantum in enumerate(quanta)]
     names, fields = list(trace.words), iter(trace.fields)
     later = [False] * len(trace.steps)  # whether the next step of the same actor goes on with a poll

@@ -7,7 +7,6 @@ import io
 import re
 from typing import Dict, List, NamedTuple
 
-import log_reader
 from ftlog import given_logs, log_items
 from ftlog.fault import Fault
 from ftlog.given_logs import shown
@@ -111,7 +110,7 @@ class Reader:
         last = None
         for self.number, self.line in enumerate(lines, 1):
             self.require(last is None, "it comes after the last line")
-            if log_reader.REFUSAL.fullmatch(self.line) and self.number == 1:
+            if log_items.REFUSAL.fullmatch(self.line) and self.number == 1:
                 raise Fault(f"the script was refused ({self.line}), so there are no steps")
             if self.line in log_items.ENDS:
                 last = self.line

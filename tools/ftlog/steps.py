@@ -3,7 +3,7 @@ import os
 import re
 from typing import List, NamedTuple
 
-import runs
+from ftlog import runs
 from ftlog.fault import Fault
 from ftlog.script_lines import quoted
 

@@ -2,8 +2,8 @@
 import re
 from typing import NamedTuple, Optional
 
+from ftlog.limits import LIMITS
 from ftlog.script_lines import quoted
-from limits import LIMITS
 
 LONGEST = LIMITS["PATTERN_BYTES"]
 MOST = LIMITS["TRIGGER_LIMIT"]

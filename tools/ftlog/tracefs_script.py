@@ -3,7 +3,7 @@ import itertools
 import re
 from typing import NamedTuple
 
-import limits
+from ftlog import limits
 from ftlog.filter_texts import INVALID
 from ftlog.tool_options import UNKNOWN
 

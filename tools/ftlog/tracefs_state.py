@@ -6,8 +6,9 @@ becomes a command for each user of the instance. The desk of each instance is ke
 import re
 from typing import NamedTuple, Optional
 
-import limits
-from ftlog.filter_texts import c_number, read_text
+from ftlog import limits
+from ftlog.filter_texts import c_number
+from ftlog.filters import read_text
 from ftlog.tool_options import UNKNOWN, Begun, Left, Pause, Undo, Write
 
 TRACERS = {"function": "fn", "function_graph": "gr"}
@@ -352,7 +353,7 @@ class State:
                 return False, None
             return False, "it selects no function of the list, so the kernel refuses it"
         mark = "!" if text.is_removing else ""
-        shown = self.functions.functions[min(chosen)].name if text.is_number else text.word
+        shown = self.functions.functions[min(chosen)].name if self.functions.is_number(text) else text.word
         self.edit(write.line, it, name, mode, mark + shown, chosen)
         return True, None
 

@@ -1,4 +1,4 @@
--- Written by tools/plain_samples.py REFERENCE more FILE
+-- Written by tools/ft samples plain REFERENCE more FILE
 -- The plain machine at examples of what the worked ones don't show, beside the histories that another program printed, which was written from the same rules.
 use Rattle.std.proofs.Common.{true, false, List, [], ◌∷◌, Some, None, codes, refl}
 use Rattle.ft_base.specs.declared.context.Ctx.TheVariants.{Normal}

@@ -1,4 +1,4 @@
--- Written by tools/plain_samples.py REFERENCE random 1000 50 FILE
+-- Written by tools/ft samples plain REFERENCE random 1000 50 FILE
 -- The plain machine at random jobs, beside the histories that another program printed, which was written from the same rules.
 use Rattle.std.proofs.Common.{true, false, List, [], ◌∷◌, Some, None, codes, refl}
 use Rattle.ft_base.specs.declared.context.Ctx.TheVariants.{Normal, Softirq, Irq, Nmi}

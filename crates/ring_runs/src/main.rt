@@ -1,6 +1,6 @@
 //! A program that runs a script by threads as `ftcore run --print rings` does, and besides prints at
 //! which places each trigger fired. It prints the log, a line `rings`, the text of the rings, and then
-//! for each trigger a line `# trigger I at P P ..`. By these `tools/check_rings.py` judges whether the
+//! for each trigger a line `# trigger I at P P ..`. By these `tools/ft check rings` judges whether the
 //! rings are legal for the history.
 //!
 //! Proved: the history is a whole one of the script's job, and the rings are legal for it, as

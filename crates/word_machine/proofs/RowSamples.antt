@@ -1,4 +1,4 @@
--- Written by tools/word_samples.py REFERENCE rows FILE
+-- Written by tools/ft samples word REFERENCE rows FILE
 -- The word machine at worked examples, beside the histories that another program printed,
 -- which was written from the same rules.
 use Rattle.std.proofs.Common.{true, false, List, [], ◌∷◌, Some, None, codes, refl}

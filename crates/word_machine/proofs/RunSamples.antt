@@ -1,4 +1,4 @@
--- Written by tools/word_samples.py REFERENCE runs FILE
+-- Written by tools/ft samples word REFERENCE runs FILE
 -- The word machine at runs in which a machine goes wrong that leaves something out, beside the histories that another program printed,
 -- which was written from the same rules.
 use Rattle.std.proofs.Common.{true, false, List, [], ◌∷◌, Some, None, codes, refl}

@@ -1,4 +1,4 @@
--- Written by tools/word_samples.py REFERENCE random 1000 50 FILE
+-- Written by tools/ft samples word REFERENCE random 1000 50 FILE
 -- The word machine at random jobs under schedules of single steps, beside the histories that another program printed,
 -- which was written from the same rules.
 use Rattle.std.proofs.Common.{true, false, List, [], ◌∷◌, Some, None, codes, refl}

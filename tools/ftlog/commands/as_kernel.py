@@ -6,7 +6,7 @@ say isn't guessed: tasks have no names (`<...>`), and addresses and sizes are 0x
 """
 import sys
 
-from ftlog import given_logs, kernel_columns, kernel_files
+from ftlog import given_logs, kernel_columns, kernel_files, views_of_log
 from ftlog.fault import Fault
 
 FILES = ("trace", "enabled_functions", "trace_stat")
@@ -27,9 +27,9 @@ def run(options):
         raise Fault("--cpu goes with --file trace_stat alone")
     if options.user is not None and options.file == "enabled_functions":
         raise Fault("--user doesn't go with --file enabled_functions, which tells of all users")
-    text, told = kernel_files.read(options.script, options.log)
+    told = views_of_log.read(options.script, options.log)
     if options.file == "trace":
-        lines = kernel_files.trace(text, told, options.user)
+        lines = kernel_files.trace(told, options.user)
     elif options.file == "trace_stat":
         lines = kernel_files.trace_stat(told, options.user, options.cpu)
     else:

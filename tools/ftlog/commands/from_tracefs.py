@@ -7,8 +7,7 @@ calls each function once. What a script can't have is told on standard error, li
 import re
 import sys
 
-import limits
-from ftlog import files, tracefs_writes
+from ftlog import files, limits, tracefs_writes
 from ftlog.fault import Fault
 from ftlog.filter_texts import read_list
 from ftlog.tool_options import Begun, Pause

@@ -10,9 +10,9 @@ import sys
 
 from ftlog import files, holds, refusals, steps
 from ftlog.fault import Fault
+from ftlog.limits import LIMITS
 from ftlog.planner import Planner, text_of
 from ftlog.script_lines import SKIP, here, line_of, texts_of
-from limits import LIMITS
 
 
 def add_words(parser):

@@ -3,24 +3,22 @@
 The programs go into PREFIX/bin, as far as ./prove has built them; without ftcore nothing is installed. With --remove exactly what earlier
 installs have put there is taken away. Nothing that isn't of an earlier install is overwritten.
 """
-import ast
 import os
 import pathlib
 import sys
 
-import runs
-from ftlog import installed_files
+from ftlog import installed_files, runs
 from ftlog.fault import Fault
 from ftlog.installed_files import FILE, LINK, Entry
 
 PROGRAMS = ("ftcore", "ftjudge", "ftsteps")  # the first one has to be there
 TOOLS = runs.TOP / "tools"
 SHARE = "share/ftcore"
-LIMITS = "crates/ft_base/src/limits.rt"  # from which tools/limits.py takes the limits
+LIMITS = "crates/ft_base/src/limits.rt"  # from which ftlog/limits.py takes the limits
 EDITORS = {"editors/vim/syntax/ftcore.vim": "share/vim/vimfiles/syntax/ftcore.vim",
            "editors/vim/ftdetect/ftcore.vim": "share/vim/vimfiles/ftdetect/ftcore.vim",
            "editors/ftcore.tmLanguage.json": f"{SHARE}/ftcore.tmLanguage.json"}
-NOT_NEEDED = {"tests", "__pycache__"}  # folders of the package
+NOT_NEEDED = {"checks", "make", "proving", "samples", "tests", "upkeep", "__pycache__"}  # folders of the package
 SECONDS = 120  # that prove.py may take to tell whether a program is built
 
 
@@ -40,26 +38,10 @@ def is_built(name):
     return runs.answer([sys.executable, "-B", str(TOOLS / "prove.py"), "--is-built", name], seconds=SECONDS).status == 0
 
 
-def imported(path):
-    """The modules that a module imports, by the first part of their names."""
-    for node in ast.walk(ast.parse(path.read_bytes())):
-        if isinstance(node, ast.Import):
-            yield from (name.name.split(".")[0] for name in node.names)
-        elif isinstance(node, ast.ImportFrom) and node.module:
-            yield node.module.split(".")[0]
-
-
 def tool_files():
-    """The files that tools/ft needs: itself, the package without its tests, and the older modules that these import."""
+    """The files that tools/ft needs: itself, and the package without what is for who works on the repository."""
     package = [path for path in (TOOLS / "ftlog").rglob("*") if path.is_file() and not NOT_NEEDED & set(path.relative_to(TOOLS).parts)]
-    files = {TOOLS / "ft", *package}
-    left = [path for path in files if path.suffix in ("", ".py")]
-    while left:
-        for path in {TOOLS / f"{name}.py" for name in imported(left.pop())}:
-            if path.is_file() and path not in files:
-                files.add(path)
-                left.append(path)
-    return sorted(files)
+    return sorted([TOOLS / "ft", *package])
 
 
 def copies(programs):

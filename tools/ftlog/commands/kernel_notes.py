@@ -24,7 +24,7 @@ def told(note, kernel):
 def run(options):
     """Prints the notes, and gives the status."""
     text, script = given_logs.read_script(options.script)
-    notes = [note for note in differing_lines.Finder(text, script).found() if options.kernel in DIFFERENCES[note.name].kernels]
+    notes = [note for note in differing_lines.Finder(script).found() if options.kernel in DIFFERENCES[note.name].kernels]
     for note in notes:
         print(told(note, options.kernel))
     if not notes:

@@ -40,21 +40,20 @@ def add_words(parser):
     given_logs.add_words(parser)
 
 
-def head(text, script):
+def head(script):
     """The fields of the first line."""
-    version = int(text.split(None, 2)[1])
     functions = [{"name": function.name, "module": function.module} for function in script.functions]
     users = [{"name": user.name, "kind": user.kind} for user in script.users.values()]
     tasks = [{"pid": pid, "cpu": cpu} for pid, cpu in script.tasks.items()]
-    return {"format": FORMAT, "version": VERSION, "script_version": version, "fields": FIELDS, "functions": functions, "users": users,
+    return {"format": FORMAT, "version": VERSION, "script_version": script.version, "fields": FIELDS, "functions": functions, "users": users,
             "tasks": tasks, "cpus": script.cpus, "lanes": len(script.lanes), "commands": len(script.commands)}
 
 
 def run(options):
     """Writes the objects, and gives the status."""
-    text, script = given_logs.read_script(options.script)
+    _, script = given_logs.read_script(options.script)
     items, encode, write = log_items.Items(script), json.JSONEncoder().encode, sys.stdout.write
-    write(encode(head(text, script)) + "\n")
+    write(encode(head(script)) + "\n")
     for fields in items.through(given_logs.log_lines(options.log)):
         if fields in log_items.ENDS:
             fields = {"last": fields, "items": items.place}

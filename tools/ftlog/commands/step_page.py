@@ -8,8 +8,7 @@ import os
 import pathlib
 import sys
 
-import runs
-from ftlog import files, given_logs, step_data, step_trace
+from ftlog import files, given_logs, runs, step_data, step_trace
 from ftlog.fault import Fault
 
 STEPS = runs.TOP / "crates" / "ftsteps" / "out" / "ftsteps"

@@ -9,11 +9,10 @@ import pathlib
 import re
 import sys
 
-import runs
-from ftlog import files, refusals
+from ftlog import files, refusals, runs
 from ftlog.fault import Fault
+from ftlog.limits import LIMITS
 from ftlog.script_lines import quoted
-from limits import LIMITS
 
 SECONDS = 60  # that the program may take
 MOST = 100  # refusals that are told if nothing else is said

@@ -7,13 +7,9 @@ import types
 import unittest
 import xml.etree.ElementTree as ElementTree
 
-import draw_log
-import log_choice
-import log_desk
-import log_reader
-import log_svg
-import log_trace
+from ftlog import log_desk, log_reader, script_reader
 from ftlog.commands import draw
+from ftlog.draw import log_choice, log_svg, log_trace
 from ftlog.fault import Fault
 
 SVG = "{http://www.w3.org/2000/svg}"
@@ -40,7 +36,7 @@ def log_of(items, last="end"):
 
 def read(script=SCRIPT, log=None):
     """A script and the history of a log."""
-    read_script = log_reader.read_script(script.encode())
+    read_script = script_reader.read_script(script.encode())
     return read_script, log_reader.read_log((log or log_of(ITEMS)).encode(), read_script)
 
 
@@ -139,7 +135,7 @@ class Progress(unittest.TestCase):
     def test_said(self):
         said = io.StringIO()
         with contextlib.redirect_stderr(said):
-            progress = draw_log.Progress("x")
+            progress = draw.Progress("x")
             for count in range(1, 250_001):
                 progress.read(count)
             progress.begin("drawing")
@@ -148,7 +144,7 @@ class Progress(unittest.TestCase):
     def test_nothing_is_said_of_short_ones(self):
         said = io.StringIO()
         with contextlib.redirect_stderr(said):
-            progress = draw_log.Progress("x")
+            progress = draw.Progress("x")
             progress.read(99_999)
             progress.begin("drawing")
         self.assertEqual(said.getvalue(), "")
@@ -177,20 +173,21 @@ class Wrong(unittest.TestCase):
         return str(caught.exception)
 
     def test_scripts(self):
-        for script, said in [("", "no such task|no command's turn|doesn't fit|no such command"), (b"\xff\xfe\x00", "no such command"), ("func\n", "has no form"),
-                             ("ftrace 1\ntask x cpu y\n", "has no form"), ("ftrace 1\nring 99999999999999999999999\n", "rings of a size"),
-                             ("ftrace 1\ntask 10 cpu 7\n", "no CPU for task 10"), ("ftrace 1\nctl register nobody\n", "no command like this"),
-                             ("ftrace 1\nuser t function\nctl filter t\n", "no command like this"), ("ftrace 1\nabsent m\nctl load\n", "no form"),
-                             ("ftrace 1\nctl\n", "has no form"), (SCRIPT.replace("func b\n", ""), "b isn't declared"), ("task " + "9" * 5000, "has no form")]:
+        for script, said in [("", "isn't a script"), (b"\xff\xfe\x00", "isn't a script"), ("func a\n", "isn't a script"), ("ftrace 1\nfunc\n", "has no form"),
+                             ("ftrace 1\ntask x cpu y\n", "has no form"), ("ftrace 1\nring 99999999999999999999999\n", "has no form"),
+                             ("ftrace 1\nring 4000000000\n", "rings of a size"), ("ftrace 1\ntask 10 cpu 7\n", "no CPU for task 10"),
+                             ("ftrace 1\nctl register nobody\n", "no such user"), ("ftrace 1\nuser t function\nctl filter t\n", "has no form"),
+                             ("ftrace 1\nabsent m\nctl load\n", "no form"), ("ftrace 1\nctl\n", "has no form"),
+                             (SCRIPT.replace("func b\n", ""), "isn't declared"), ("ftrace 1\ntask " + "9" * 5000 + "\n", "has no form")]:
             self.assertRegex(self.told(script=script), said)
 
     def test_logs(self):
-        for log, said in [("", "isn't whole"), ("end", "isn't whole"), ("\n\n\n", "isn't whole"), (b"\xff\xfe\nend\n", "no such item"),
+        for log, said in [("", "nothing in it"), ("end", "may have been cut"), ("\n\n\n", "no such item"), (b"\xff\xfe\nend\n", "no such item"),
                           (log_of(ITEMS)[:-4], "isn't whole"), (log_of(ITEMS[1:]), "no such command"), ("line 3: syntax\n", "was refused"),
                           (log_of(ITEMS[:2] + ["enter 99999999999999999999.1 normal a -"]), "no such task"),
-                          (log_of(ITEMS[:2] + ["enter 10.2 normal a -"]), "no call's turn"), (log_of(ITEMS[:2] + ["enter 10.1 often a -"]), "no context"),
-                          (log_of(ITEMS[:3] + ["exit 10.1 gr " + "9" * 5000]), "no such entry"), (log_of(ITEMS[:3] + ["exit 10.1 gr 2"]), "no such entry"),
-                          (log_of(ITEMS[:3] + ["body 10.1 a own x"]), "no target"), (log_of(ITEMS[:3] + ["refuse 10.1 gr luck"]), "no reason"),
+                          (log_of(ITEMS[:2] + ["enter 10.2 normal a -"]), "next call"), (log_of(ITEMS[:2] + ["enter 10.1 often a -"]), "no such context"),
+                          (log_of(ITEMS[:3] + ["exit 10.1 gr " + "9" * 5000]), "may have been cut"), (log_of(ITEMS[:3] + ["exit 10.1 gr 2"]), "no such entry"),
+                          (log_of(ITEMS[:3] + ["body 10.1 a own x"]), "no site calls that"), (log_of(ITEMS[:3] + ["refuse 10.1 gr luck"]), "no such reason"),
                           (log_of(ITEMS[:3] + ["ret 10.2 -"]), "innermost"), ("0 begin 1 lane 0\nend\n", "no such command"), ("0\nend\n", "no such item")]:
             self.assertRegex(self.told(log=log), said)
 

@@ -7,9 +7,9 @@ import subprocess
 import tempfile
 import unittest
 
-import check_docs
-import runs
-import script_forms
+from ftlog import runs
+from ftlog.checks import check_docs
+from ftlog.make import script_forms
 
 EDITORS = runs.TOP / "editors"
 SYNTAX = EDITORS / "vim" / "syntax" / "ftcore.vim"

@@ -6,17 +6,13 @@ import io
 import os
 import pathlib
 import random
-import sys
 import tempfile
 import time
 import unittest
 
-sys.dont_write_bytecode = True
-import check_docs  # noqa: E402
-import log_desk  # noqa: E402
-import log_reader  # noqa: E402
-import runs  # noqa: E402
-from ftlog import filter_texts, shell_commands, tracefs_script, tracefs_state, tracefs_writes  # noqa: E402
+from ftlog import filter_texts, filters, log_desk, runs, script_reader, shell_commands, tracefs_script, tracefs_state, tracefs_writes
+from ftlog.checks import check_docs
+from ftlog.tests.test_filters import plainly_fits
 
 CASES = pathlib.Path(__file__).with_name("from_tracefs.txt")
 LIST = b"ksys_read\nvfs_read\nvfs_write\next4_read [ext4]\next4_write [ext4]\nsched_fork\n"
@@ -144,7 +140,7 @@ class Cases(unittest.TestCase):
         for _ in range(60):
             shell = random_shell(rng)
             state, text = kernel_and_script(shell)
-            script = log_reader.read_script(text.encode())
+            script = script_reader.read_script(text.encode())
             desk = log_desk.Desk(script)
             for words in script.lines:
                 self.assertEqual(desk.answer(*words), "ok", shell)
@@ -163,7 +159,7 @@ class Cases(unittest.TestCase):
             if came is None:
                 self.skipTest("there is no program")
             users = list(traced(state).values())
-            names = [function.name for function in log_reader.read_script(text.encode()).functions]
+            names = [function.name for function in script_reader.read_script(text.encode()).functions]
             wanted = {name: sum(name in own for own in users) for name in names if any(name in own for own in users)}
             lines = [line.split() for line in came.out.decode().splitlines()[:-1]]
             self.assertEqual({words[0]: int(words[1].strip("()")) for words in lines}, wanted, shell)
@@ -218,7 +214,7 @@ class Globs(unittest.TestCase):
         rows = [cells for _, head, cells in check_docs.table_rows(page.read_text()) if head == ["pattern", "name", "matches"]]
         self.assertGreater(len(rows), 5)
         for glob, name, answer in rows:
-            self.assertEqual(bool(filter_texts.pattern_of(glob.strip("`")).fullmatch(name.strip("`"))), answer == "yes", glob)
+            self.assertEqual(bool(filters.pattern(glob.strip("`")).fullmatch(name.strip("`"))), answer == "yes", glob)
 
     def test_kernel(self):
         """Random globs, against the steps of the kernel's glob_match and the items that a script's texts have."""
@@ -226,20 +222,20 @@ class Globs(unittest.TestCase):
         for _ in range(2500):
             glob = "".join(rng.choice("ab*?[]!-c") for _ in range(rng.randint(1, 9)))
             name = "".join(rng.choice("ab-]c!") for _ in range(rng.randint(1, 7)))
-            found = bool(filter_texts.pattern_of(glob).fullmatch(name))
+            found = bool(filters.pattern(glob).fullmatch(name))
             self.assertEqual((glob, name, found), (glob, name, glob_match(glob, name)))
-            self.assertEqual((glob, name, found), (glob, name, log_desk.fits(log_desk.items(glob), name)))
+            self.assertEqual((glob, name, found), (glob, name, plainly_fits(filters.items(glob), name)))
 
     def test_hostile(self):
         begun = time.process_time()
-        self.assertIsNone(filter_texts.pattern_of("*a" * 120 + "b").fullmatch("a" * 63))
+        self.assertIsNone(filters.pattern("*a" * 120 + "b").fullmatch("a" * 63))
         self.assertLess(time.process_time() - begun, 2)
 
     def test_selected(self):
         """Texts with modules and numbers, against what a script's texts select."""
         listed = filter_texts.read_list("list", LIST)
         for text in ["vfs_*", "*:mod:ext4", ":mod:!*", "*_read:mod:!ext4", "*:mod:e?t4", "4", "6"]:
-            self.assertEqual(set(listed.selected(filter_texts.read_text(text))), log_desk.selected(listed.functions, text), text)
+            self.assertEqual(set(listed.selected(filters.read_text(text))), filters.FunctionList(listed.functions).selected(filters.read_text(text)), text)
 
     def test_lists_alone(self):
         """Without a tracer there is a user that isn't registered."""

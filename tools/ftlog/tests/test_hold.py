@@ -4,8 +4,7 @@ import tempfile
 import unittest
 from unittest import mock
 
-import runs
-from ftlog import holds, steps
+from ftlog import holds, runs, steps
 from ftlog.fault import Fault
 from ftlog.tests import one_site_steps
 from ftlog.tests.called import ft, program

@@ -6,13 +6,12 @@ import tempfile
 import unittest
 from unittest import mock
 
-import runs
-from ftlog import installed_files
+from ftlog import installed_files, runs
 from ftlog.commands import install
 from ftlog.tests import test_manual_page
 from ftlog.tests.called import ft, program
 
-FILES = install.tool_files()  # looked for once: each time takes a while
+FILES = install.tool_files()
 SCRIPT = b"ftrace 1\nfunc a\n"
 OTHERS = "of others\n"
 
@@ -199,7 +198,7 @@ class InstallTest(unittest.TestCase):
         self.refused(self.prefix, why="ftcore.1 is there")
         (self.prefix / "share/man/man1/ftcore.1").rmdir()
         self.install()
-        self.others("share/ftcore/tools/limits.py")
+        self.others("share/ftcore/tools/ftlog/limits.py")
         self.refused(self.prefix, why="limits.py is there and isn't of an earlier install")
 
     def test_wrong_prefixes(self):

@@ -1,8 +1,8 @@
 """kernel-notes: each row of the table of differences is a row of docs/KERNEL.md, and each is found in a script that has it."""
 import re
 
-from ftlog.kernel_differences import BOTH, DIFFERENCES, GLOBS
 from ftlog import differing_lines, given_logs
+from ftlog.kernel_differences import BOTH, DIFFERENCES, GLOBS
 from ftlog.tests import wrong_logs
 from ftlog.tests.runs_in_process import EXAMPLES, Case, answer, lines
 
@@ -90,7 +90,7 @@ class KernelNotes(Case):
         self.assertEqual(set(DIFFERENCES), set(FOUND))
         for name, (script, wanted) in FOUND.items():
             text, read = given_logs.read_script(self.write("x.ft", lines("ftrace 1; " + script)))
-            found = [note.number for note in differing_lines.Finder(text, read).found() if note.name == name]
+            found = [note.number for note in differing_lines.Finder(read).found() if note.name == name]
             self.assertEqual(wanted, found, name)
 
     def test_a_kernel_has_its_own_differences(self):
@@ -101,6 +101,10 @@ class KernelNotes(Case):
 
     def test_nothing(self):
         self.assertTrue(self.notes("func a; user t function; ctl register t", "6.1").startswith("nothing: 6.1 "))
+
+    def test_many_zeros(self):
+        """A number in a filter text may have any number of digits."""
+        self.assertIn("the number is 1;", self.notes("func a; user t function; ctl filter t > " + "0" * 5000 + "1", "6.1"))
 
     def test_answers_are_those_of_the_example(self):
         out = answer("kernel-notes", EXAMPLES / "answers.ft", "--kernel", "6.12")[1]
@@ -116,7 +120,7 @@ class KernelNotes(Case):
         wrong = {what: script for what, script, _ in wrong_logs.WRONG if script not in (wrong_logs.SCRIPT,)}
         more = ["ctl filter t > a:b", "ctl filter t > !", "ctl filter t > a\\b", "ctl filter t > " + "a" * 300, "ctl filter t a",
                 "ctl filter t >>", "ctl pid x", "ctl maxdepth", "ctl maxdepth 1 2", "ctl unregister", "ctl frob t", "depth x", "depth",
-                "call", "trigger a", "ring x", "user t", "func", "ctl filter t > " + "0" * 5000 + "1"]
+                "call", "trigger a", "ring x", "user t", "func", "ctl until 10"]
         wrong.update({line[:30]: lines("ftrace 1; func a; user t function; " + line) for line in more})
         for number, (what, script) in enumerate(wrong.items()):
             if what not in ("another task's log", "the log of another script"):

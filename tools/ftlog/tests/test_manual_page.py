@@ -4,8 +4,8 @@ import shutil
 import subprocess
 import unittest
 
-import check_docs
-import runs
+from ftlog import runs
+from ftlog.checks import check_docs
 
 PAGE = runs.TOP / "docs" / "ftcore.1"
 TABLES = list(check_docs.table_rows((runs.TOP / "docs" / "LANGUAGE.md").read_text()))

@@ -7,9 +7,8 @@ import shutil
 import unittest
 from unittest import mock
 
-import page_names
-import runs
-from ftlog import given_logs, step_data, step_kinds, step_tasks, step_trace
+from ftlog import given_logs, runs, step_data, step_kinds, step_tasks, step_trace
+from ftlog.checks import page_names
 from ftlog.commands import step_page
 from ftlog.tests import browser
 from ftlog.tests.runs_in_process import EXAMPLES, Case, answer, lines
@@ -118,9 +117,9 @@ class Pages(Case):
         return json.loads(DATA.search(page.read_text("ascii"))[1])
 
     def read(self, name):
-        """The bytes of an example's script, and its trace."""
-        text, script = given_logs.read_script(str(self.files(name)[0]))
-        return text, step_trace.read(str(self.files(name)[1]), script)
+        """An example's script, and its trace."""
+        _, script = given_logs.read_script(str(self.files(name)[0]))
+        return script, step_trace.read(str(self.files(name)[1]), script)
 
 
 class StepPage(Pages):
@@ -151,8 +150,8 @@ class StepPage(Pages):
 
     def test_each_step_has_a_kind_and_a_task(self):
         for name in NAMES:
-            text, trace = self.read(name)
-            tasks, untold = step_tasks.tasks_of(trace, text)
+            script, trace = self.read(name)
+            tasks, untold = step_tasks.tasks_of(trace, script)
             self.assertEqual([], untold)
             self.assertNotIn(None, step_kinds.kinds_of(trace, tasks))
             alone = [step for step, task in zip(trace.steps, tasks) if task is None and step.actor != "k"]
@@ -161,13 +160,13 @@ class StepPage(Pages):
     def test_nearly_all_kinds_come(self):
         seen = set()
         for name in NAMES:
-            text, trace = self.read(name)
-            seen.update(step_kinds.kinds_of(trace, step_tasks.tasks_of(trace, text)[0]))
+            script, trace = self.read(name)
+            seen.update(step_kinds.kinds_of(trace, step_tasks.tasks_of(trace, script)[0]))
         self.assertEqual(set(), set(step_kinds.KINDS) - seen - NOT_IN_FIXTURES)
 
     def test_kinds_of_a_patched_site(self):
-        text, trace = self.read("first_path")
-        kinds = step_kinds.kinds_of(trace, step_tasks.tasks_of(trace, text)[0])
+        script, trace = self.read("first_path")
+        kinds = step_kinds.kinds_of(trace, step_tasks.tasks_of(trace, script)[0])
         control = [kind for kind, step in zip(kinds, trace.steps) if step.actor == "k"]
         again = [kind for at, kind in enumerate(control) if at == 0 or control[at - 1] != kind]
         self.assertEqual(["begin", "tramp-take", "bits", "sel-register", "link", "first", "next-store", "breakpoint", "want-first",

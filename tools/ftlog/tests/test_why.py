@@ -4,14 +4,13 @@ import pathlib
 import tempfile
 import unittest
 
-import broken_scripts
-import check_docs
-import runs
-from ftlog import refusals
+from ftlog import refusals, runs
+from ftlog.checks import check_docs
 from ftlog.commands import why
+from ftlog.limits import LIMITS, VERSION_1, VERSION_2
+from ftlog.make import broken_scripts
 from ftlog.script_lines import NUMBER
 from ftlog.tests.called import ft, lines, program
-from limits import LIMITS, VERSION_1, VERSION_2
 
 PAGE = runs.TOP / "docs" / "LANGUAGE.md"
 TASK = "ftrace 1; func a; user t function; cpu 0 quantum 5; task 10 cpu 0"  # 5 lines

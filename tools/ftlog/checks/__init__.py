@@ -1,0 +1,1 @@
+"""Checks of the repository: its programs, pages, pictures and tools."""

@@ -1,0 +1,123 @@
+"""Words of the command line, in its language and not, each run by the program.
+
+They are those of the tables of docs/LANGUAGE.md, those of the tests of ft_words, and those of the tables below, which
+have bytes and sizes that the former haven't. Words that aren't in the language give None in place of an order.
+"""
+import functools
+import os
+import re
+import shlex
+import tempfile
+from typing import NamedTuple, Optional
+
+from ftlog import runs
+from ftlog.checks import check_docs, judging, text_lines
+from ftlog.make import bulk_script
+
+EXAMPLE = "realistic"  # of examples/: it has a text in each form, and these differ
+BAD_WORDS = ["''", "replay ''", "'' replay", "bulk ''", "'' bulk", "replay 'replay '", "replay --print ' log'", "replay '--print log'"]
+BAD_WORDS += ["run ''", "'run '", "replay '--print= log'", "bulk --seed '1\n'", "bulk '--seed 1'", "replay \u00e9", "r\u00e9play", "bulk --seed \u0661", "bulk --seed 1.0"]
+NOT_TEXT = [[b"\xff"], [b"replay\xff"], [b"\xff", b"replay"], [b"replay", b"\xff"], [b"replay", b"--print", b"log\x80"]]
+NOT_TEXT += [[b"--print=log", b"--", b"replay", b"\xc3"], [b"replay", b"\xc0\xaf"], [b"replay", b"\xed\xa0\x80"], [b"bulk", b"--seed", b"1\xff"]]
+HUGE = [["replay"] * 1000, ["bulk", *["--seed", "1"] * 1000], ["replay", "x" * 100_000], ["bulk", "--seed", "0" * 100_000]]
+LISTS = re.compile(r"static (GOOD|BAD)\w*: [^\n]*?; (\d+)\] = \[\n(.*?)\n\];", re.S)
+LIST = re.compile(r'&\[((?:\s*"[^"]*",?)*)\s*\]')
+ORDER = re.compile(r"Order::(Replay|Run|Bulk)\((?:Form::)?(\w+)\)")
+
+
+class Order(NamedTuple):
+    """What words order: a mode, with a form or a seed."""
+
+    mode: str
+    form: Optional[str] = None
+    seed: Optional[int] = None
+
+
+def order_of(words):
+    """The order of words that are in the language."""
+    said = dict(re.findall(r"--(print|seed)[ =](\S+)", " ".join(words)))
+    mode = next(word for word in words if word in ("replay", "run", "bulk"))
+    return Order(mode, seed=int(said.get("seed", 1))) if mode == "bulk" else Order(mode, form=said.get("print", "log"))
+
+
+def test_order(mode, value):
+    """The order of a test, by its mode and by the name of its form, or by its seed."""
+    return Order("bulk", seed=int(value)) if mode == "Bulk" else Order(mode.lower(), form=value.lower())
+
+
+def page_words(rows, page):
+    """The words of the page's tables with the columns `words` and `in the language`."""
+    found = [row for row in check_docs.table_rows(page.read_text()) if row[1][:2] == ["words", "in the language"]]
+    if {cells[1].startswith("yes") for _, _, cells in found} != {True, False}:
+        rows.row(page.name, ["no table has the words that are in the language and those that aren't"])
+    for number, _, cells in found:
+        for words, _ in re.findall(r"`([^`]*)`|(no words)", cells[0]):
+            words = shlex.split(words)
+            yield f"{page.name}, line {number}", words, order_of(words) if cells[1].startswith("yes") else None
+
+
+def test_words(rows, path):
+    """The words of the lists in the tests; each list says how many it has, and each good one which order it gives."""
+    found = LISTS.findall(path.read_text())
+    if {kind for kind, _, _ in found} != {"GOOD", "BAD"}:
+        rows.row(path.name, ["it hasn't the words that are in the language and those that aren't"])
+    for kind, count, text in found:
+        lists = [re.findall(r'"([^"]*)"', words) for words in LIST.findall(text)]
+        orders = [test_order(*found) for found in ORDER.findall(text)] if kind == "GOOD" else [None] * len(lists)
+        if not len(lists) == len(orders) == int(count):
+            rows.row(path.name, [f"of {count} lists of words {len(lists)} were found, and {len(orders)} orders"])
+        for words, order in zip(lists, orders):
+            yield path.name, words, order
+
+
+def other_words():
+    for words in BAD_WORDS:
+        yield "text", shlex.split(words), None
+    for words in NOT_TEXT:
+        yield "not text", words, None
+    for words in HUGE:
+        yield "many or long", words, None
+
+
+@functools.cache
+def summary(program, seed):
+    """The summary of the script of this seed, as counted in the log that the program prints of that script."""
+    came = runs.answer([program, "replay"], bulk_script.script(seed))
+    return bulk_script.summary(seed, came.out) if came.status == 0 else b""
+
+
+def run_faults(came, form, script):
+    """What is wrong with the answer to a run of a script. Its threads may go in any order, but they come to their ends, and a log is judged whole."""
+    found = runs.faults(came, 0) or text_lines.faults(form, came.out)
+    if not found and form == "log":
+        return judging.run_faults(script, came.out)
+    return found or ([] if came.out.endswith(b"end\n") else ["the last line isn't end"])
+
+
+def try_words(rows, program, example, name, words, order):
+    """Words that order a replay have the script replayed in that form, and those that order a run have it run; with others nothing is
+    read, and `bulk` prints its summary."""
+    with tempfile.TemporaryFile() as source:
+        source.write(example.with_suffix(".ft").read_bytes())
+        source.flush()
+        source.seek(0)
+        came = runs.answer([program, *words], stdin=source)
+        if order is None:
+            found = runs.faults(came, 2, b"")
+        elif order.mode == "run":
+            found = run_faults(came, order.form, example.with_suffix(".ft").read_bytes())
+        elif order.mode == "replay":
+            found = runs.faults(came, 0, example.with_suffix("." + order.form).read_bytes())
+        else:
+            found = runs.faults(came, 0, summary(program, order.seed))
+        if (order is None or order.mode == "bulk") and os.lseek(source.fileno(), 0, os.SEEK_CUR):
+            found.append("the input was read")
+    rows.row(name, found, came.seconds)
+
+
+def check(rows, program, top):
+    """A row for each list of words."""
+    lists = [*page_words(rows, top / "docs" / "LANGUAGE.md"), *test_words(rows, top / "crates" / "ends_tests" / "src" / "words.rt"), *other_words()]
+    for where, words, order in lists:
+        said = " ".join(words) if where != "not text" else repr(b" ".join(words))
+        try_words(rows, program, top / "examples" / EXAMPLE, f"words: {said[:80] or 'none'} ({where})", words, order)

@@ -1,0 +1,1 @@
+"""Random scripts, and changed logs, for checks."""

@@ -1,0 +1,1 @@
+"""The crates of the repository, and what their proofs cost."""

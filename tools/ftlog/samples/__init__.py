@@ -1,0 +1,1 @@
+"""Samples of the two machines, written as proof files."""

@@ -1,0 +1,101 @@
+"""Tests of the tools for who works on the repository: their words, what they can't do, and what runs without programs."""
+import re
+import sys
+import unittest
+
+from ftlog import runs
+from ftlog.make import bulk_script, script_forms, viewed_scripts
+from ftlog.tests import wrong_logs
+from ftlog.tests.called import FT, ft
+from ftlog.tests.runs_in_process import EXAMPLES, Case
+
+PARTS = [[name, part] for name in ("check", "compare", "judge", "make", "samples") for part in FT.importlib.import_module(f"ftlog.upkeep.{name}").PARTS]
+TOOLS = [[name] for name in ("cost", "definitions", "further", "long", "views")] + PARTS
+NOTHING = "/nowhere/program"
+# Words that none of these tools can do anything for.
+WRONG = [
+    ["check", "docs", "--program", NOTHING], ["check", "program", "--program", NOTHING], ["check", "allocations", "--program", NOTHING],
+    ["check", "docs", "--program", "/"], ["check", "docs", "more"], ["check", "rings", "--count", "1", "--runs", NOTHING],
+    ["check", "rings", "--rows", "1", "--program", NOTHING], ["check", "rings", "--count", "x"], ["check", "rings", "--judge", NOTHING, NOTHING],
+    ["check", "pages"], ["compare", "scripts"], ["compare", "scripts", NOTHING, NOTHING, "--count", "1"],
+    ["compare", "scripts", sys.executable, sys.executable, "--count", "1", "--sources", "others"],
+    ["compare", "verdicts", NOTHING, "--count", "1"], ["compare", "verdicts", sys.executable, "--count", "1", "--judge", NOTHING],
+    ["judge", "runs", NOTHING, "--count", "1"], ["judge", "hostile", "--count", "1", "--judge", NOTHING], ["judge", "hostile"], ["judge", "other"],
+    ["long", NOTHING, "--minutes", "1"], ["long", sys.executable], ["long", sys.executable, "--minutes", "1", "--program", NOTHING],
+    ["make", "plain"], ["make", "plain", "--seed", "x"], ["make", "viewed", "--seed", "1", "--lanes", "--rings"], ["make", "others"],
+    ["samples", "plain", NOTHING, "rows", "FILE"], ["samples", "word", sys.executable, "more", "FILE"], ["samples", "plain", sys.executable],
+    ["further", "nothing"], ["cost", NOTHING], ["definitions", "--all"], ["definitions", "nothing"], ["views", "x.ft", "x.log", "log"], ["nothing"],
+]
+
+
+class Words(unittest.TestCase):
+    def test_help(self):
+        """Each tool and each part says what it does."""
+        for words in TOOLS:
+            came = ft(*words, "--help")
+            self.assertEqual((came.status, came.err), (0, ""), words)
+            self.assertTrue(came.out.startswith(f"usage: tools/ft {' '.join(words)} "), words)
+        for name in ("check", "compare", "judge", "make", "samples"):
+            told = ft(name).out
+            for part in FT.importlib.import_module(f"ftlog.upkeep.{name}").PARTS:
+                self.assertIn(f"\n    {part} ", told)
+
+    def test_help_of_the_others(self):
+        """So does each tool for users."""
+        for name in FT.modules("commands"):
+            came = ft(name, "--help")
+            self.assertEqual((came.status, came.err), (0, ""), name)
+            self.assertTrue(came.out.startswith(f"usage: tools/ft {name} "), name)
+
+    def test_all_are_told(self):
+        told = ft().out
+        for name in [*FT.modules("commands"), *FT.modules("upkeep")]:
+            self.assertIn(f"\n    {name} ", told)
+
+    def test_page(self):
+        """docs/TOOLS.md has a line for each tool and each part."""
+        map_of_all = re.search("^## The package$(.*?)^## ", (runs.TOP / "docs" / "TOOLS.md").read_text(), re.DOTALL | re.MULTILINE)[1]
+        rows = [line.split(" | ")[0] for line in map_of_all.splitlines() if line.startswith("| ")]
+        for words in [[name] for name in FT.modules("commands")] + TOOLS:
+            self.assertTrue(any(f"`{words[0]}" in row and f"{words[-1]}`" in row for row in rows), words)
+
+    def test_wrong(self):
+        """Each is answered by one line and status 2."""
+        for words in WRONG:
+            with self.subTest(words):
+                came = ft(*words)
+                self.assertEqual((came.status, came.out), (2, ""), came.err)
+                self.assertEqual(came.err.count("\n"), 1, came.err)
+
+
+class Makers(unittest.TestCase):
+    def test_scripts(self):
+        """What is written is the script of the seed."""
+        for words, wanted in [(["plain", "--seed", "7"], script_forms.script(7)), (["viewed", "--seed", "7", "--rings"], viewed_scripts.ringed(7)),
+                              (["bulk"], bulk_script.script(1))]:
+            self.assertEqual(ft("make", *words).out.encode("latin-1"), wanted)
+
+    def test_steps(self):
+        """A script of standard input gets another schedule."""
+        text = (EXAMPLES / "first_path.ft").read_bytes()
+        self.assertEqual(ft("make", "plain", "--seed", "3", "--step", text=text).out.encode(), script_forms.stepped(text, 3))
+
+
+class Views(Case):
+    def test_examples(self):
+        """The forms that the examples have."""
+        count = 0
+        for path in EXAMPLES.glob("*.*"):
+            if path.suffix[1:] in ("function", "graph", "profile", "enabled", "modules", "rings"):
+                came = ft("views", path.with_suffix(".ft"), path.with_suffix(".log"), path.suffix[1:])
+                self.assertEqual((came.status, came.out), (0, path.read_text()), path.name)
+                count += 1
+        self.assertGreater(count, 20)
+
+    def test_wrong_inputs(self):
+        for number, (what, script, log) in enumerate(wrong_logs.WRONG):
+            self.assert_told(what, ft("views", self.write(f"{number}.ft", script), self.write(f"{number}.log", log), "function"))
+
+
+if __name__ == "__main__":
+    unittest.main()

@@ -1,0 +1,91 @@
+"""Tries changed definitions, each of which has to make a proof fail.
+
+If none did, nothing would notice the change. The changes are in definitions.txt, beside this file. A line `# FILE` names a file of definitions
+for the changes below it. A change is a line with the definition's name and, after a colon, where the
+prover refuses the change; then `old: ` with a text that comes once in that file; then `new: ` with what
+is put in its place. Both texts may go on over several lines. A definition that decides nothing by itself
+says why after `not refused`.
+
+Each change is made in a copy of the repository, and `rt check` is run in the file's crate and in the
+crates above it that CRATES names, until one isn't proved. That takes some minutes a change, on one
+processor. NAMES are names of definitions; without any, all are tried.
+"""
+import pathlib
+import re
+import shutil
+import subprocess
+import tempfile
+
+from ftlog import runs
+from ftlog.fault import Fault
+
+CHANGES = pathlib.Path(__file__).with_suffix(".txt")
+CRATES = {
+    "ft_base": ["ft_base", "ft_hist", "plain_machine", "plain_samples", "word_machine", "word_machine_laws"],
+    "ft_hist": ["ft_hist", "plain_machine", "plain_samples"],
+    "plain_machine": ["plain_machine", "plain_samples"],
+}
+FIRST_FAULT = re.compile(r"(?:proofs|specs|src)/[\w/]*\.(?:antt|rt)(?=:\d+:\d+: error)")
+
+
+def read_changes(text):
+    """The changes of a text: file, name, where it is refused, the old text and the new one."""
+    found, file, part = [], None, None
+    for line in text.splitlines():
+        if line.startswith("# "):
+            file, part = line[2:], None
+        elif line.startswith(("old: ", "new: ")):
+            part = line[:3]
+            found[-1][part] = line[5:]
+        elif line == "":
+            part = None
+        elif part:
+            found[-1][part] += "\n" + line
+        else:
+            name, _, place = line.partition(": ")
+            found.append({"file": file, "name": name, "place": place})
+    return found
+
+
+def refused_in(room, change):
+    """Where the prover refuses a change that is made in this copy, or None. The copy is then as before."""
+    path = room / change["file"]
+    text = path.read_text()
+    if text.count(change["old"]) != 1:
+        raise Fault(f"{change['name']}: its old text doesn't come exactly once in {change['file']}")
+    path.write_text(text.replace(change["old"], change["new"]))
+    try:
+        for crate in CRATES[change["file"].split("/")[1]]:
+            done = subprocess.run(["rt", "check", "--jobs", "1"], cwd=room / "crates" / crate, capture_output=True, text=True)
+            if done.returncode:
+                fault = FIRST_FAULT.search(done.stdout + done.stderr)
+                return f"{crate}/{fault.group(0).rsplit('.', 1)[0]}" if fault else crate
+        return None
+    finally:
+        path.write_text(text)
+
+
+def add_words(parser):
+    """Adds the words of the command."""
+    parser.add_argument("names", nargs="*", metavar="NAME", help="a definition, as definitions.txt names it")
+
+
+def run(words):
+    """Tries the changes, and prints a line for each."""
+    names, known = words.names, {it["name"].split(",")[0] for it in read_changes(CHANGES.read_text())}
+    for name in names:
+        if name not in known:
+            raise Fault(f"no change of {name[:40]} is in {CHANGES.name}")
+    changes = [it for it in read_changes(CHANGES.read_text()) if not names or it["name"].split(",")[0] in names]
+    runs.want_words("rt")
+    other = 0
+    with tempfile.TemporaryDirectory() as folder:
+        room = pathlib.Path(folder) / "copy"
+        shutil.copytree(runs.TOP, room, ignore=shutil.ignore_patterns("out", ".git"))
+        for change in changes:
+            place = refused_in(room, change) or "not refused"
+            as_said = change["place"].startswith(place)
+            other += not as_said
+            print(f"{change['name']}: {place}" + ("" if as_said else f", which should be: {change['place']}"), flush=True)
+    print(f"{len(changes) - other} as said, {other} otherwise")
+    return 1 if other else 0

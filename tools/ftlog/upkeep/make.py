@@ -1,0 +1,8 @@
+"""Writes a random script to standard output."""
+
+PARTS = {
+    "plain": "ftlog.make.script_forms",
+    "broken": "ftlog.make.broken_scripts",
+    "viewed": "ftlog.make.viewed_scripts",
+    "bulk": "ftlog.make.bulk_script",
+}
