@@ -1,8 +1,8 @@
 #!/usr/bin/env bash
-# Runs a program of the repository: tools/start.sh NAME WORDS.. is what ./ftcore, ./ftjudge and ./ftsteps do. Once ./prove has built it,
-# that is the proved program, and nothing is said or done besides. Until then, and after a source has changed, the answer is
-# that of an unproved build, made for it by `rt try` with run-time checks; that takes a minute or two, is said in one line on
-# standard error, and builds nothing else.
+# Runs a program of the repository: tools/start.sh NAME WORDS.. is what ./ftcore, ./ftjudge, ./ftsteps and ./ftoutcomes do. Once
+# ./prove has built it, that is the proved program, and nothing is said or done besides. Until then, and after a source has
+# changed, the answer is that of an unproved build, made for it by `rt try` with run-time checks; that takes a minute or two, is
+# said in one line on standard error, and builds nothing else.
 set -u
 top=$(cd "$(dirname "$0")/.." && pwd) || exit 1
 name=$1
@@ -28,6 +28,7 @@ case $name:${1-} in
 ftcore:replay | ftcore:run) head -c 64M >"$room/input" 2>/dev/null || exit 4 ;;
 ftsteps:) head -c 64M >"$room/input" 2>/dev/null || exit 4 ;;
 ftjudge:) head -c 1100M >"$room/input" 2>/dev/null || exit 4 ;;
+ftoutcomes:random | ftoutcomes:search) head -c 64M >"$room/input" 2>/dev/null || exit 4 ;;
 esac
 
 (cd "$crate" && rt try -- "$@") <"$room/input" >"$room/output" 2>"$room/log"

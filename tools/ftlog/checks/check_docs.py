@@ -4,6 +4,7 @@
   and NAME.rings with `--print` and that word. The log has to be there, the others may be; there are no other files;
 - each NAME.judge of examples/judged/, a script with a log: the program that judges logs says of it what verdicts.txt there has for
   NAME. Beside one that isn't legal a legal one of the same script is named, and docs/JUDGE.md has it beside the sentence that it breaks;
+- each script of examples/litmus/ is replayed, and docs/OUTCOMES.md names it;
 - each row of docs/LANGUAGE.md that has its script, in a table whose first two columns are `script` and `prints`;
 - the blocks of README.md and of each page of docs/ that are scripts or commands.
 
@@ -21,6 +22,8 @@ A block is lines of a page that begin with four blanks, with no other line betwe
 - If its first line begins with `$ ft `, it is a run of tools/ft from the repository's top, with these words as a shell splits them, and, from the next line on, what
   it writes to both streams. It reads the nearest script above it unless a word names a file. Its status has to be 0 or, if the last
   line of the block is `status N`, N.
+
+  Runs of `$ ft outcomes` are left out as long as the program ftoutcomes isn't built.
 
 - If its first line is `$ ftjudge`, it is a run of the program that judges logs, which reads the nearest script above it with its
   log, and, from the next line on, what that writes.
@@ -51,6 +54,8 @@ FORMS["log"] = ["replay"]
 COMMAND = re.compile(rb"\$ ftcore((?: [\w=.-]+)*)(?: < (examples/[\w.]+\.ft))?\n")
 RECIPE = (b"head -n N FILE", b"printf ")
 TOOL = runs.TOP / "tools" / "ft"
+LITMUS = "litmus"  # the folder of examples/ whose scripts docs/OUTCOMES.md is about
+OUTCOMES = runs.TOP / "crates" / "ftoutcomes" / "out" / "ftoutcomes"
 STATUS = re.compile(rb"status ([0-9]+)\n\Z")  # the last line of what a tool writes, on a page
 JUDGED = "judged"  # the folder of examples/ that has the logs to be judged
 TOLD = re.compile(r"(\w+): (whole|legal|line [0-9]+: (plain run|[a-z]+))(?: \((\w+)\))?")  # a line of verdicts.txt
@@ -81,7 +86,7 @@ def show(rows, program, name, script, wanted, words=("replay",)):
 
 def show_examples(rows, program, folder):
     """Each text of the folder, beside the script of the same name; a script without a log, and any other file, counts as failed."""
-    paths = sorted(path for path in folder.iterdir() if path.name != JUDGED)
+    paths = sorted(path for path in folder.iterdir() if path.name not in (JUDGED, LITMUS))
     for path in paths:
         name, script, form = f"examples/{path.name}", path.with_suffix(".ft"), path.suffix[1:]
         if path == script:
@@ -95,6 +100,16 @@ def show_examples(rows, program, folder):
             show(rows, program, name, script.read_bytes(), path.read_bytes(), FORMS[form])
     if not any(path.suffix == ".ft" for path in paths):
         rows.row("examples", ["there are no scripts"])
+
+
+def show_litmus(rows, program, folder, page):
+    """A row for each file of the folder: it is a script that is accepted and comes to its end, and the page names it."""
+    text = page.read_text()
+    for path in sorted(folder.iterdir()):
+        name = f"examples/{LITMUS}/{path.name}"
+        came = runs.answer([program, "replay"], path.read_bytes())
+        found = runs.faults(came, 0) + ([] if came.out.endswith(b"end\n") else ["it doesn't come to its end"])
+        rows.row(name, found + ([] if f"../{name})" in text else [f"{page.name} doesn't name it"]), came.seconds)
 
 
 def table_rows(text):
@@ -273,6 +288,8 @@ class Page:
         """One row: the tool of this line writes this text."""
         self.ran.update(self.scripts[-1:])
         self.ran.add(number)
+        if line.startswith(b"$ ft outcomes ") and not OUTCOMES.exists():
+            return
         status, text = STATUS.search(wanted), STATUS.sub(b"", wanted)
         came = runs.answer([TOOL, *shlex.split(line.decode())[2:]], self.script or b"", seconds=60, cwd=self.top)
         both = came._replace(out=came.out + came.err, err=b"")
@@ -344,6 +361,7 @@ def run(words):
     rows = runs.Rows("docs", words.verbose)
     show_examples(rows, words.program, words.top / "examples")
     show_judged(rows, words.top / "examples" / JUDGED, words.top / "docs" / "JUDGE.md")
+    show_litmus(rows, words.program, words.top / "examples" / LITMUS, words.top / "docs" / "OUTCOMES.md")
     show_table_rows(rows, words.program, words.top / "docs" / "LANGUAGE.md")
     for crate, what in PROGRAMS.items():
         show_library(rows, words.top / "docs" / "LIBRARY.md", words.top / "crates" / crate, what)

@@ -11,7 +11,7 @@ from ftlog import installed_files, runs
 from ftlog.fault import Fault
 from ftlog.installed_files import FILE, LINK, Entry
 
-PROGRAMS = ("ftcore", "ftjudge", "ftsteps")  # the first one has to be there
+PROGRAMS = ("ftcore", "ftjudge", "ftsteps", "ftoutcomes")  # the first one has to be there
 TOOLS = runs.TOP / "tools"
 SHARE = "share/ftcore"
 LIMITS = "crates/ft_base/src/limits.rt"  # from which ftlog/limits.py takes the limits

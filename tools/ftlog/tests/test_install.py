@@ -68,7 +68,7 @@ class InstallTest(unittest.TestCase):
     def test_what_is_there(self):
         """All is there, said, in the list, and nothing else is."""
         said = self.install().splitlines()
-        self.assertEqual(said[:3], ["bin/ftcore", "bin/ftjudge", "bin/ftsteps"])
+        self.assertEqual(said[:4], ["bin/ftcore", "bin/ftjudge", "bin/ftsteps", "bin/ftoutcomes"])
         self.assertEqual(said[-1], "bin/ft, with share/ftcore/tools")
         there = tree(self.prefix)
         for path in said[:-1]:
@@ -120,7 +120,7 @@ class InstallTest(unittest.TestCase):
 
     def test_some_programs(self):
         """What isn't built is left out and said; without ftcore nothing is done."""
-        self.built = {"ftcore", "ftsteps"}
+        self.built = {"ftcore", "ftsteps", "ftoutcomes"}
         self.assertIn("left out: ftjudge, which isn't built", self.install())
         self.assertNotIn("bin/ftjudge", tree(self.prefix))
         self.install("--remove")
@@ -133,7 +133,7 @@ class InstallTest(unittest.TestCase):
         first = tree(self.prefix)
         self.install()
         self.assertEqual(tree(self.prefix), first)
-        self.built = {"ftcore", "ftsteps"}
+        self.built = {"ftcore", "ftsteps", "ftoutcomes"}
         program(self.room / "built", "echo newer", "ftcore")
         self.install()
         gone = {path for path in first if path not in tree(self.prefix)}

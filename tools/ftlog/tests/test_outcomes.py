@@ -1,0 +1,331 @@
+"""Tests of tools/ft outcomes: the litmus tests against a full search, the tables of docs/OUTCOMES.md, patterns, and wrong inputs.
+
+Those that replay are left out as long as the programs aren't built."""
+import contextlib
+import importlib.machinery
+import importlib.util
+import io
+import os
+import pathlib
+import random
+import re
+import stat
+import sys
+import tempfile
+import unittest
+
+sys.dont_write_bytecode = True
+from ftlog import outcome_runs, runs  # noqa: E402
+from ftlog.commands import outcomes  # noqa: E402
+from ftlog.tests import plain_outcomes, small_scripts  # noqa: E402
+
+PAGE = runs.TOP / "docs" / "OUTCOMES.md"
+LITMUS = runs.TOP / "examples" / "litmus"
+PROGRAM = str(outcomes.PROGRAM)
+IS_BUILT = os.access(PROGRAM, os.X_OK)
+HAS_REPLAY = os.access(runs.PROGRAM, os.X_OK)
+MANY = 1_000_000
+ROW = re.compile(r"\| `([^`]+)` \| (yes|no) \| \S.* \|")
+EXAMPLES = ("ipmodify", "contexts", "refused_pid", "missed_exit", "until")
+HEAD = b"ftrace 1\nfunc a\nuser t function\ncpu 0 quantum 100\n"
+TINY = HEAD + b"task 10 cpu 0\ncall a\nret\nctl register t\n"
+TWO_CPUS = HEAD + b"cpu 1 quantum 100\ntask 10 cpu 0\ncall a\nret\ntask 11 cpu 1\ncall a\nret\nctl register t\n"
+ON_AND_OFF = b"ctl register t\nctl unregister t\n"
+TWO_CALLS = b"task 10 cpu 0\ncall a\nret\ncall a\nret\n"
+SMALL = {
+    "one call": TINY,
+    "two CPUs": TWO_CPUS,
+    "waits apart": HEAD + b"task 10 cpu 0\nafter 1\ncall a\nret\nafter 1\ncall a\nret\nafter 2\ncall a\nret\n" + ON_AND_OFF,
+    "waits in a row": HEAD + b"task 10 cpu 0\nafter 1\nafter 1\nafter 2\nafter 1\ncall a\nret\n" + ON_AND_OFF,
+    "an interrupt": HEAD + b"task 10 cpu 0\nirq\nafter 1\ncall a\nret\nnmi\niret\niret\ncall a\nret\n" + ON_AND_OFF,
+    "control waits": HEAD + TWO_CALLS + b"ctl until 10 1\nctl register t\nctl until 10 3\nctl unregister t\n",
+    "a refusal": HEAD + b"task 10 cpu 0\ncall a\nret\nctl unregister t\nctl register t\nctl register t\n",
+}
+LARGE = {  # that have too many schedules to try them all
+    "control waits twice": HEAD + TWO_CALLS + b"ctl until 10 1\nctl until 10 2\nctl until 10 2\nctl register t\n",
+    "two tasks": HEAD + b"task 10 cpu 0\nafter 1\ncall a\nret\ntask 11 cpu 0\nirq\ncall a\nret\niret\nctl register t\n",
+}
+FAKE = "#!/bin/sh\ncat >/dev/null\n"
+
+
+def ft(*words, given=b""):
+    """What tools/ft comes to with these words: its status, and what it writes to both streams."""
+    out, err = io.TextIOWrapper(io.BytesIO(), encoding="utf-8", write_through=True), io.StringIO()
+    loader = importlib.machinery.SourceFileLoader("ft_main", str(runs.TOP / "tools" / "ft"))
+    module = importlib.util.module_from_spec(importlib.util.spec_from_loader(loader.name, loader))
+    loader.exec_module(module)
+    before = sys.stdin
+    sys.stdin = io.TextIOWrapper(io.BytesIO(given))
+    try:
+        with contextlib.redirect_stdout(out), contextlib.redirect_stderr(err):
+            status = module.main(list(words))
+    finally:
+        sys.stdin = before
+    return status, out.buffer.getvalue().decode(), err.getvalue()
+
+
+def full_search(script):
+    """The outcomes of all schedules of a script."""
+    found = outcome_runs.find(PROGRAM, script, 1, 0, outcome_runs.ALL_SWITCHES, MANY)
+    assert found.is_whole
+    return {it.text for it in found.outcomes}
+
+
+def random_outcomes(script):
+    """The outcomes of some schedules at random."""
+    return {it.text for it in outcome_runs.find(PROGRAM, script, 5, 8_000, None, 0).outcomes}
+
+
+def sections():
+    """Each litmus test of the page: the script's file, and the outcomes that may be and those that may not."""
+    for part in PAGE.read_text().split("\n## ")[1:]:
+        rows = ROW.findall(part)
+        if rows:
+            name = re.search(r"\]\(\.\./examples/litmus/(\w+\.ft)\)", part)[1]
+            yield LITMUS / name, {text for text, may in rows if may == "yes"}, {text for text, may in rows if may == "no"}
+
+
+def fake(room, text, status=0):
+    """A program in the place of ftoutcomes that writes this text whatever it is given."""
+    path = pathlib.Path(room) / "fake"
+    (pathlib.Path(room) / "text").write_text(text)
+    path.write_text(f"{FAKE}cat {room}/text\nexit {status}\n")
+    path.chmod(path.stat().st_mode | stat.S_IXUSR)
+    return str(path)
+
+
+class Merging(unittest.TestCase):
+    """What the runs find is put together, without the program."""
+
+    def test_parts(self):
+        words = outcome_runs.orders(1, 20_000, 3, 500)
+        self.assertEqual(sum(int(it[2]) for it in words if it[0] == "random"), 20_000)
+        self.assertEqual(len({it[1] for it in words if it[0] == "random"}), outcome_runs.PARTS)
+        self.assertEqual(words[-1], ["search", "3", "500"])
+        self.assertEqual(outcome_runs.orders(0, 0, None, 0), [])
+        self.assertEqual(sum(int(it[2]) for it in outcome_runs.orders(0, 3, None, 0)), 3)
+
+    def test_merge(self):
+        one = "2 10.1 a: body nop\nsched k*3 0 all*9\n1 no calls\nsched all*9\n2 outcomes in 3 replays\n"
+        other = "5 10.1 a: body nop\nsched 0*4 all*9\n1 outcomes in 5 replays, and there are no more to try\n"
+        found = outcome_runs.merged("p", [["random"], ["search"]], [one, other])
+        self.assertEqual([(it.times, it.text, it.shown.line) for it in found.outcomes],
+                         [(2, "10.1 a: body nop", "sched 0*4 all*9"), (1, "no calls", "sched all*9")])
+        self.assertEqual((found.tries, found.searched, found.is_whole), (3, 5, True))
+
+    def test_cut_off(self):
+        found = outcome_runs.merged("p", [["search"]], ["0 outcomes in 7 replays, and there are more to try\n"])
+        self.assertEqual((found.is_whole, found.searched), (False, 7))
+        self.assertEqual(outcomes.heading(found, 2), "0 outcomes by a search with 2 switches, cut off after 7 replays")
+
+    def test_patterns(self):
+        wanted = outcomes.patterns("--never", ["body nop"]) + outcomes.patterns("--always", ["10.1"])
+        short, long = outcome_runs.shown("sched all*9"), outcome_runs.shown("sched k*2 all*9")
+        made = [outcome_runs.Outcome(1, "10.1 a: body nop", long), outcome_runs.Outcome(1, "10.1 a: body own t", short)]
+        self.assertEqual(outcomes.breaks(wanted, made)[1:], ("10.1 a: body nop", "--never", "body nop"))
+        self.assertIsNone(outcomes.breaks(wanted, made[1:]))
+        made.append(outcome_runs.Outcome(1, "no calls", short))
+        self.assertEqual(outcomes.breaks(wanted, made)[1:], ("no calls", "--always", "10.1"))
+
+    def test_script(self):
+        script = b"ftrace 1\n# sched k\r sched 0\n sched k*2\nctl maxdepth 1\nsched 0\n"
+        wanted = b"ftrace 1\n# sched k\r sched 0\nctl maxdepth 1\n# why\nsched all*9\n"
+        self.assertEqual(outcomes.with_schedule(script, "sched all*9", ["why"]), wanted)
+
+    def test_plain_outcome(self):
+        log = (
+            "0 begin 1\n1 return 1 busy a t\n2 enter 11.1 normal a -\n3 refuse 11.1 t pid\n4 enter 10.1 normal a -\n5 back 10.1 t\n"
+            "6 back-end 10.1 t\n7 body 10.1 b own t\n8 body 11.1 a nop\n9 leave 10.1\n10 exit 10.1 t 5\n11 exit-end 10.1 t\n"
+            "12 ret 10.1 -\nstopped\n"
+        )
+        wanted = "10.1 a: back t, body of b own t, exit t; 11.1 a: refuse t pid, body nop; command 1: busy a t; stopped"
+        self.assertEqual(plain_outcomes.outcome_of(log, [10, 11]), wanted)
+        self.assertEqual(plain_outcomes.outcome_of("end\n", []), "no calls")
+
+
+class Page(unittest.TestCase):
+    """The tables of the page."""
+
+    def test_each_litmus_test_has_a_table(self):
+        names = [path.name for path, _, _ in sections()]
+        self.assertEqual(len(names), 5)
+        self.assertEqual(set(names) | {"two_users_swapped_with_a_gap.ft"}, {path.name for path in LITMUS.iterdir()})
+        for path, may, may_not in sections():
+            self.assertTrue(may and may_not and not may & may_not, path.name)
+
+    @unittest.skipUnless(IS_BUILT, "ftoutcomes isn't built")
+    def test_tables_have_every_outcome(self):
+        for path, may, may_not in sections():
+            self.assertEqual(full_search(path.read_bytes()), may, path.name)
+
+
+@unittest.skipUnless(IS_BUILT, "ftoutcomes isn't built")
+class Searches(unittest.TestCase):
+    """What is found, against a full search."""
+
+    def test_all_outcomes_are_found(self):
+        """With what the tool tries if nothing else is said."""
+        for path in sorted(LITMUS.iterdir()):
+            script = path.read_bytes()
+            found = outcome_runs.find(PROGRAM, script, 1, outcomes.TRIES, outcomes.SWITCHES, outcomes.TRIES)
+            self.assertEqual({it.text for it in found.outcomes}, full_search(script), path.name)
+
+    def test_full_search_has_every_random_outcome_of_a_small_script(self):
+        for name, script in SMALL.items():
+            self.assertLessEqual(random_outcomes(script), full_search(script), name)
+
+    def test_full_search_has_every_random_outcome_of_random_scripts(self):
+        whole = 0
+        for seed in range(1, 41):
+            script = small_scripts.script(seed)
+            if runs.answer([PROGRAM, "random", "1", "0"], script).status == 0:
+                found = outcome_runs.find(PROGRAM, script, 1, 0, outcome_runs.ALL_SWITCHES, 20_000)
+                if found.is_whole:
+                    whole += 1
+                    self.assertLessEqual(random_outcomes(script), {it.text for it in found.outcomes}, script)
+        self.assertGreaterEqual(whole, 20)
+
+    def test_search_with_some_switches_has_every_random_outcome(self):
+        for name, script in LARGE.items():
+            found = outcome_runs.find(PROGRAM, script, 1, 0, 3, MANY)
+            self.assertLessEqual(random_outcomes(script), {it.text for it in found.outcomes}, name)
+
+    def test_more_switches_find_no_less(self):
+        for script in (TINY, TWO_CPUS):
+            before = set()
+            for switches in range(4):
+                found = {it.text for it in outcome_runs.find(PROGRAM, script, 1, 0, switches, MANY).outcomes}
+                self.assertLessEqual(before, found)
+                before = found
+            self.assertLessEqual(before, full_search(script))
+
+    def test_one_seed_gives_one_output(self):
+        with tempfile.TemporaryDirectory() as room:
+            path = pathlib.Path(room) / "x.ft"
+            path.write_bytes(TINY)
+            first = ft("outcomes", str(path), "--tries", "300", "--seed", "7")
+            processors, os.cpu_count = os.cpu_count, lambda: 1
+            try:
+                self.assertEqual(ft("outcomes", str(path), "--tries", "300", "--seed", "7"), first)
+            finally:
+                os.cpu_count = processors
+            self.assertEqual(first[0], 0)
+            self.assertNotEqual(ft("outcomes", str(path), "--tries", "300", "--seed", "8")[1], first[1])
+
+    def test_standard_input(self):
+        status, out, err = ft("outcomes", "--tries", "10", "--switches", "none", given=TINY)
+        self.assertEqual((status, err, out.partition("\n")[0].endswith("by 10 replays at random")), (0, "", True))
+
+    def test_refused_script(self):
+        self.assertEqual(ft("outcomes", given=b"ftrace 1\nfrob\n"), (2, "", "ft outcomes: the script is refused: line 2: syntax\n"))
+
+    def test_words_of_the_program(self):
+        for words in ("", "random", "random 1", "random x 1", "random 1 -1", "find 1 1", "search 1 12345678901", "random 1 1 1", "--help"):
+            self.assertEqual(runs.answer([PROGRAM, *words.split()], TINY)[:3], (2, b"", b""), words)
+
+    def test_statuses_of_the_program(self):
+        self.assertEqual(runs.answer([PROGRAM, "random", "1", "1"], b"x\n")[:3], (3, b"line 1: version\n", b""))
+        self.assertEqual(runs.answer([PROGRAM, "random", "1", "1"], b"x" * 16_777_217)[:3], (7, b"", b""))
+        self.assertEqual(runs.answer(["sh", "-c", f"{PROGRAM} random 1 1 < /"])[:2], (4, b""))
+        self.assertEqual(runs.answer(["sh", "-c", f"{PROGRAM} random 1 1 > /dev/full"], TINY)[0], 5)
+
+
+@unittest.skipUnless(IS_BUILT and HAS_REPLAY, "ftoutcomes or ftcore isn't built")
+class Replays(unittest.TestCase):
+    """The schedules, by the program ftcore, which prints logs."""
+
+    def test_schedules_show_their_outcomes(self):
+        scripts = [path.read_bytes() for path in sorted(LITMUS.iterdir())] + [*SMALL.values(), *LARGE.values()]
+        scripts += [(runs.TOP / "examples" / f"{name}.ft").read_bytes() for name in EXAMPLES]
+        for script in scripts:
+            for it in outcome_runs.find(PROGRAM, script, 1, 64, 1, 100).outcomes:
+                self.assertEqual(plain_outcomes.replayed(runs.PROGRAM, script, it.shown.line), it.text)
+
+    def test_full_search_has_every_plain_outcome(self):
+        """All schedules of two segments, and then each actor in turn, one process each."""
+        for script in (TINY, TWO_CPUS):
+            self.assertLessEqual(set(plain_outcomes.plain_search(runs.PROGRAM, script, 2, range(1, 26, 2))), full_search(script))
+
+    def test_full_search_has_every_random_outcome(self):
+        chance = random.Random(3)
+        for path in sorted(LITMUS.iterdir()):
+            script, found = path.read_bytes(), full_search(path.read_bytes())
+            for _ in range(60):
+                items = [f"{chance.choice('k0')}*{chance.randint(1, chance.choice((3, 12, 48)))}" for _ in range(chance.randint(1, 12))]
+                self.assertIn(plain_outcomes.replayed(runs.PROGRAM, script, f"sched {' '.join(items)} all*40000"), found, path.name)
+
+    def test_broken_pattern_gives_a_script(self):
+        with tempfile.TemporaryDirectory() as room:
+            path, out = pathlib.Path(room) / "x.ft", pathlib.Path(room) / "broken.ft"
+            path.write_bytes(TINY)
+            words = ["outcomes", str(path), "--tries", "200", "--never", "body own t"]
+            status, text, _ = ft(*words, "--out", str(out))
+            self.assertEqual((status, text.splitlines()[-1]), (1, f"--never 'body own t' is broken; {out} has a script that shows it"))
+            came = runs.answer([runs.PROGRAM, "replay"], out.read_bytes())
+            self.assertIn("body own t", plain_outcomes.outcome_of(came.out.decode(), [10]))
+            status, text, _ = ft(*words)
+            self.assertEqual(text.partition("this script shows it:\n")[2].encode(), out.read_bytes())
+            self.assertEqual(ft(*words[:4], "--never", "back t, back t", "--always", "10.1 a: ")[0], 0)
+            self.assertEqual(ft(*words[:4], "--always", "body nop")[0], 1)
+
+
+class WrongInputs(unittest.TestCase):
+    """Each is answered by one line and status 2."""
+
+    def check(self, *words, given=b"", told=None):
+        quick = [] if any(word.startswith("--tries") for word in words) else ["--tries", "1"]
+        status, out, err = ft("outcomes", *quick, *words, given=given)
+        self.assertEqual((status, out), (2, ""), words)
+        self.assertRegex(err, r"\Aft outcomes: [^\n]+\n\Z", words)
+        if told:
+            self.assertIn(told, err)
+
+    def test_words(self):
+        with tempfile.TemporaryDirectory() as room:
+            program = ["--program", fake(room, "0 outcomes in 0 replays\n")]
+            for word in ("x", "-1", "", "1.5", "12345678901", "1000000001"):
+                self.check("--tries=" + word, *program)
+                self.check("--seed=" + word, *program)
+                self.check("--switches=" + word + "x", *program)
+            for word in ("(", "[", "*", "(?P<", "\\", "a{2,1}", "a\nb", "\udcff"):
+                self.check("--never", word, *program)
+                self.check("--always", word, *program)
+
+    def test_files(self):
+        with tempfile.TemporaryDirectory() as room:
+            program = ["--program", fake(room, "1 no calls\nsched all*9\n1 outcomes in 1 replays, and there are no more to try\n")]
+            self.check(room + "/none.ft", *program, told="none.ft")
+            self.check(room, *program)
+            self.check("--program", room + "/none", told="it isn't a program")
+            self.check("--program", room)
+            path = pathlib.Path(room) / "not_a_program"
+            path.write_text("x")
+            self.check("--program", str(path))
+            path.chmod(0o755)
+            self.check("--program", str(path))
+
+    def test_out(self):
+        with tempfile.TemporaryDirectory() as room:
+            program = ["--program", fake(room, "1 no calls\nsched all*9\n1 outcomes in 1 replays, and there are no more to try\n")]
+            status, _, err = ft("outcomes", *program, "--never", "no", "--out", room, given=TINY)
+            self.assertEqual((status, err.count("\n")), (2, 1))
+
+    def test_what_the_program_writes(self):
+        texts = ["", "x\n", "1 a\n", "1 a\nsched k\n", "1 outcomes in x replays\n", "1 a\nsched frob\n1 outcomes in 1 replays\n"]
+        for text in [*texts, "1 outcomes in 1 replays"]:
+            with tempfile.TemporaryDirectory() as room:
+                self.check("--program", fake(room, text), given=TINY, told="isn't what ftoutcomes writes")
+
+    def test_how_the_program_ends(self):
+        ends = {3: "refused: line 2: syntax", 4: "couldn't read", 5: "couldn't write", 6: "out of memory", 7: "too long", 9: "status 9"}
+        for status, told in ends.items():
+            with tempfile.TemporaryDirectory() as room:
+                self.check("--program", fake(room, "line 2: syntax\n", status), given=b"\xff\0", told=told)
+
+    @unittest.skipIf(IS_BUILT, "ftoutcomes is built")
+    def test_program_that_isnt_built(self):
+        self.check(given=TINY, told="./prove ftoutcomes builds it")
+
+
+if __name__ == "__main__":
+    unittest.main()
