@@ -10,10 +10,9 @@ ghost use Rattle.live_seats.specs.Ends.{IsEndedControl, IsSameControl};
 ghost use Rattle.live_seats.specs.Seatings.{own_seats};
 ghost use Rattle.live_lanes.specs.Led.{IsLedOn};
 
-use live_seats::{CONTROL, HereSeat, Passing, step_each};
+use live_seats::{CONTROL, HereSeat, Pace, Passing, step_each};
 use live_table::{ControlSeat, Going, Live};
 use std::sync::Wait;
-use std::thread;
 
 /// Control's seat, with the number of its steps so far.
 #[derive(Drop)]
@@ -68,13 +67,13 @@ impl LedControl {
         ensures here { AreSameSeats (own_seats here.old.items) (own_seats here.new.items) }
     {
         let rings = None;
+        let mut pace = Pace::new();
         for _ in rt.forever() {
             if self.step(live, gate) == Going::End {
                 break;
             }
             step_each(live, &rings, gate, here);
-            // What control waits for may need the processor.
-            thread::yield_now();
+            pace.stepped(self.seat.items().len());
         }
     }
 }

@@ -4,12 +4,12 @@ ghost use Rattle.std.specs.Prelude.{◌≡◌};
 ghost use Rattle.live_seats.specs.AnySeats.{AreSameSeats, AreSeatsOf, IsSameSeat, IsSeatOf, tables};
 ghost use Rattle.live_seats.specs.Seatings.{own_seats};
 
+use crate::pace::Pace;
 use crate::passing::Passing;
 use crate::seat::{AnySeat, step_seat};
 use live_table::{Going, Live};
 use ring_table::RingTable;
 use std::sync::Wait;
-use std::thread;
 
 /// A seat that is stepped here, in turn with others.
 #[derive(Drop)]
@@ -75,6 +75,15 @@ pub fn step_each<G: Passing>(
     going
 }
 
+/// How many items the actors of these seats have marked.
+fn marked(here: &[HereSeat]) -> usize {
+    let mut all: usize = 0;
+    for own in here {
+        all = all.saturating_add(own.seat.marked());
+    }
+    all
+}
+
 /// Steps the seats in turn until all of them are at their ends. One may wait for another, so none is
 /// stepped to its end alone.
 pub(crate) fn step_all<R: Wait, G: Passing>(
@@ -87,10 +96,11 @@ pub(crate) fn step_all<R: Wait, G: Passing>(
     requires { AreSeatsOf (tables live.now rings.now) (own_seats here.old.items) }
     ensures { AreSameSeats (own_seats here.old.items) (own_seats here.new.items) }
 {
+    let mut pace = Pace::new();
     for _ in rt.forever() {
         if step_each(live, rings, gate, here) == Going::End {
             break;
         }
-        thread::yield_now();
+        pace.stepped(marked(here.as_slice()));
     }
 }

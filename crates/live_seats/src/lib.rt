@@ -15,6 +15,7 @@
 
 mod ended;
 mod here;
+mod pace;
 mod passing;
 mod rooms;
 mod seat;
@@ -24,6 +25,7 @@ mod traced;
 
 pub use ended::{Ended, add_cpus, take_apart};
 pub use here::{HereSeat, step_each};
+pub use pace::Pace;
 pub use passing::Passing;
 pub use rooms::{Rooms, make_flags, make_rooms};
 pub use seat::{AnySeat, CONTROL};

@@ -3,12 +3,12 @@
 ghost use Rattle.std.specs.Prelude.{◌≡◌, ◌≤◌, None};
 ghost use Rattle.live_seats.specs.AnySeats.{IsEndedSeat, IsSameSeat, IsSeatOf, actor_of, next_of, tables};
 
+use crate::pace::Pace;
 use crate::passing::Passing;
 use crate::traced::TracedSeat;
 use live_table::{ControlSeat, CpuSeat, Going, Live};
 use ring_table::RingTable;
 use std::sync::Wait;
-use std::thread;
 
 /// Control's number, as gates number actors. That of CPU c is c + 1.
 pub const CONTROL: u32 = 0;
@@ -33,6 +33,15 @@ impl AnySeat {
             AnySeat::Control(_) => CONTROL,
             AnySeat::Cpu(seat) => seat.number().0.saturating_add(1),
             AnySeat::Traced(seat) => seat.number().0.saturating_add(1),
+        }
+    }
+
+    /// How many items its actor has marked.
+    pub(crate) fn marked(&self) -> usize {
+        match self {
+            AnySeat::Control(seat) => seat.items().len(),
+            AnySeat::Cpu(seat) => seat.items().len(),
+            AnySeat::Traced(seat) => seat.marked(),
         }
     }
 }
@@ -72,13 +81,13 @@ pub(crate) fn run_seat<R: Wait, G: Passing>(
     ensures { IsEndedSeat seat result }
 {
     let mut steps: u64 = 0;
+    let mut pace = Pace::new();
     for _ in rt.forever() {
         if step_seat(live, rings, gate, steps, &mut seat) == Going::End {
             break;
         }
         steps = steps.saturating_add(1);
-        // What this seat waits for may need the processor.
-        thread::yield_now();
+        pace.stepped(seat.marked());
     }
     seat
 }

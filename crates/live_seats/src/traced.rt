@@ -45,6 +45,11 @@ impl TracedSeat {
         self.cpu.number()
     }
 
+    /// How many items the CPU has marked.
+    pub(crate) fn marked(&self) -> usize {
+        self.cpu.items().len()
+    }
+
     /// One step of the CPU, and then its item, if it marked one, is offered to the ring. Another CPU's
     /// item may have a later place and be offered before it. The call that finds no step left offers
     /// nothing: the last item was offered when it was marked.
