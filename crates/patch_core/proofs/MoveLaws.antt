@@ -9,8 +9,7 @@ use Rattle.site_bytes.specs.Bytes.{breakpoint, head_byte, tail_number}
 use Rattle.site_bytes.specs.declared.insn.SiteChange.{SiteChange}
 use Rattle.word_map.specs.Words.{Word, Head, Tail, Next}
 use Rattle.word_map.specs.Instructions.{number_of}
-use Rattle.word_map.specs.Ops.{Store}
-use Rattle.patch_core.specs.Moves.{Move, Do, Sync, Done, is_store, batch, batch_next, next_store, break_store, tail_store, head_store}
+use Rattle.patch_core.specs.Moves.{Move, Put, Sync, Done, is_store, batch, batch_next, next_store, break_store, tail_store, head_store}
 
 -- ## a batch of parts
 
@@ -141,7 +140,7 @@ module _ (sites : List SiteChange) where
 
   -- the move of this number is a store
   abbrev pub IsStoreAt : ℕ → Type 0
-  IsStoreAt i = (w : Word) × (x : ℕ) × (batch_next sites i ≡ Do (Store w x))
+  IsStoreAt i = (w : Word) × (x : ℕ) × (batch_next sites i ≡ Put w x)
 
   next_store_at : (i k : ℕ) → k < length sites → i ≡ k → IsStoreAt i
   next_store_at i k h e =

@@ -5,21 +5,21 @@ use Rattle.site_bytes.specs.declared.insn.Insn.{Insn}
 use Rattle.site_bytes.specs.declared.insn.Insn.TheVariants.{Own}
 use Rattle.site_bytes.specs.declared.insn.SiteChange.{SiteChange}
 use Rattle.word_map.specs.declared.shape.Shape.{Shape}
-use Rattle.word_map.specs.Words.{Head, Tail, Next}
+use Rattle.word_map.specs.Words.{Word, Head, Tail, Next}
 use Rattle.word_map.specs.Instructions.{number_of}
-use Rattle.word_map.specs.Ops.{WordOp, Store, placed}
+use Rattle.word_map.specs.Ops.{Store, placed}
 use Rattle.patch_core.specs.declared.batch.BatchNext.{BatchNext}
 use Rattle.patch_core.specs.declared.batch.BatchNext.TheVariants as code
 
--- a move: a store, a wait until each CPU has acknowledged a request, or none any more
+-- a move: a store into a word, a wait until each CPU has acknowledged a request, or none any more
 pub data Move : Type 0 where
-  Do : (op : WordOp) → Move
+  Put : (w : Word) (x : ℕ) → Move
   Sync : Move
   Done : Move
 
 -- a move as code has it
 abbrev pub coded : Shape → Move → BatchNext
-coded shape (Do op) = code.Do (placed shape op)
+coded shape (Put w x) = code.Do (placed shape (Store w x))
 coded shape Sync = code.Sync
 coded shape Done = code.Done
 
@@ -27,19 +27,19 @@ coded shape Done = code.Done
 
 -- what the site is to become, for a CPU that meets the breakpoint
 abbrev pub next_store : SiteChange → Move
-next_store c = Do (Store (Next c.func.0) (number_of c.insn))
+next_store c = Put (Next c.func.0) (number_of c.insn)
 
 -- the breakpoint
 abbrev pub break_store : SiteChange → Move
-break_store c = Do (Store (Head c.func.0) breakpoint)
+break_store c = Put (Head c.func.0) breakpoint
 
 -- the new tail, behind the breakpoint
 abbrev pub tail_store : SiteChange → Move
-tail_store c = Do (Store (Tail c.func.0) (tail_number c.func.0 c.insn))
+tail_store c = Put (Tail c.func.0) (tail_number c.func.0 c.insn)
 
 -- the new first byte, in the place of the breakpoint
 abbrev pub head_store : SiteChange → Move
-head_store c = Do (Store (Head c.func.0) (head_byte c.insn))
+head_store c = Put (Head c.func.0) (head_byte c.insn)
 
 -- ## the batch
 
@@ -60,7 +60,7 @@ batch_next sites made = get_or (batch sites) made Done
 
 -- a move is a store
 abbrev pub is_store : Move → Bool
-is_store (Do op) = true
+is_store (Put w x) = true
 is_store Sync = false
 is_store Done = false
 

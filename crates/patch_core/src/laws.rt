@@ -4,8 +4,7 @@
 ghost use Rattle.std.specs.Prelude.{◌≡◌, ◌≢◌, ◌<◌, ◌≤◌, ◌+◌, ◌*◌, ◌↔◌, ℕ, List, [], length, slice_get, Some};
 ghost use Rattle.site_bytes.specs.declared.insn.SiteChange.{SiteChange};
 ghost use Rattle.word_map.specs.Words.{Word};
-ghost use Rattle.word_map.specs.Ops.{Store};
-ghost use Rattle.patch_core.specs.Moves.{Do, Sync, Done, batch, batch_next, next_store, break_store, tail_store, head_store};
+ghost use Rattle.patch_core.specs.Moves.{Put, Sync, Done, batch, batch_next, next_store, break_store, tail_store, head_store};
 
 /// If no site is to change, there is no move: no store, and no CPU that is waited for.
 pub fn no_site_no_move()
@@ -31,7 +30,7 @@ pub fn syncs_part_the_stages()
         → batch_next sites (4 * length sites + 2) ≡ Sync }
     ensures others { (sites : List SiteChange) (made : ℕ) → made < 4 * length sites + 3
         → made ≢ 2 * length sites → made ≢ 3 * length sites + 1 → made ≢ 4 * length sites + 2
-        → (w : Word) × (x : ℕ) × (batch_next sites made ≡ Do (Store w x)) }
+        → (w : Word) × (x : ℕ) × (batch_next sites made ≡ Put w x) }
 {}
 
 /// Each site gets its four stores at its own place in the four stages. So its breakpoint comes before
