@@ -6,11 +6,12 @@ use Rattle.ft_base.specs.Desk.{desk, answer_on}
 use Rattle.word_map.specs.Contents.{high}
 use Rattle.word_map.specs.Words.{at_put}
 use Rattle.word_map.specs.Ops.{WordOp, Mark}
-use Rattle.word_machine.specs.Commands.{Effect, Adds, Removes, Edits, Enables, Disables, Lists, Levels, Nothing, command, effect, site_from, subject}
-use Rattle.word_machine.specs.Control.{Control, Position, Line, Take, Copy, Select, Push, Relink, StorePids, StoreDepth, NextAt, BreakAt, Ask1, Wait1, TailAt, Ask2, Wait2, HeadAt, Ask3, Wait3, AskQuiet, WaitQuiet, Release, Close, next_in, got_in, control_next, control_got, answer_in, line_op, line_got, rest_lines, begin_in, batch, selected_in, released_in, released, at_position, copy_after, relinked, relink_op}
+use Rattle.patch_core.specs.Moves.{Move, Put, Sync, Done}
+use Rattle.word_machine.specs.Commands.{Effect, Adds, Removes, Edits, Enables, Disables, Lists, Levels, Nothing, command, effect, moves, subject}
+use Rattle.word_machine.specs.Control.{Control, Position, Line, Take, Copy, Select, Push, Relink, StorePids, StoreDepth, Patch, AskSync, WaitSync, AskQuiet, WaitQuiet, Release, Close, next_in, got_in, control_next, control_got, answer_in, line_op, line_got, rest_lines, begin_in, before_moves, batch_first, selected_in, released_in, released, at_position, copy_after, relinked, relink_op}
 use Rattle.word_machine.specs.Rule.{ControlLines, UnderAt}
 use Rattle.led_jobs.specs.Led.{later, more_to_come}
-use Rattle.led_jobs.proofs.Desks.{same_command, same_desk, same_effect, same_insn, same_site}
+use Rattle.led_jobs.proofs.Desks.{same_command, same_desk, same_effect, same_moves}
 use Rattle.led_jobs.proofs.Lists.{get_within}
 
 -- ## where control stands
@@ -71,16 +72,9 @@ module _ (job : Job) (more : List Ctl) (plan : LinePlan) (s : Control) (under : 
   next_same Relink = let f = now in let g = does in cc
   next_same StorePids = let e = after in cc
   next_same StoreDepth = let e = after in cc
-  next_same (NextAt f) = let e = same_insn job more plan (suc d) (omega (arith, under)) f in cc
-  next_same (BreakAt f) = refl
-  next_same Ask1 = refl
-  next_same (Wait1 c) = refl
-  next_same (TailAt f) = let e = same_insn job more plan (suc d) (omega (arith, under)) f in cc
-  next_same Ask2 = refl
-  next_same (Wait2 c) = refl
-  next_same (HeadAt f) = let e = same_insn job more plan (suc d) (omega (arith, under)) f in cc
-  next_same Ask3 = refl
-  next_same (Wait3 c) = refl
+  next_same (Patch w x rest) = refl
+  next_same (AskSync rest) = refl
+  next_same (WaitSync rest c) = refl
   next_same AskQuiet = refl
   next_same (WaitQuiet t) = refl
   next_same Release = let e = before in let f = now in cc
@@ -92,9 +86,6 @@ module _ (job : Job) (more : List Ctl) (plan : LinePlan) (s : Control) (under : 
 
   -- ## what a value makes of it
 
-  first_site : site_from longer d 0 ≡ site_from job d 0
-  first_site = same_site job more plan d 0 under
-
   begin_same : (e : Effect) → begin_in longer d e ≡ begin_in job d e
   begin_same Adds = let e = after in let f = now in cc
   begin_same Removes = refl
@@ -105,13 +96,19 @@ module _ (job : Job) (more : List Ctl) (plan : LinePlan) (s : Control) (under : 
   begin_same Levels = refl
   begin_same Nothing = refl
 
-  batch_same : batch longer d ≡ batch job d
-  batch_same = let e = first_site in let f = does in cc
+  before_same : (rest : List Move) → before_moves longer d rest ≡ before_moves job d rest
+  before_same [] = let e = does in cc
+  before_same (Put w x ∷ rest) = refl
+  before_same (Sync ∷ rest) = refl
+  before_same (Done ∷ rest) = let e = does in cc
+
+  first_same : batch_first longer d ≡ batch_first job d
+  first_same = ap (before_moves longer d) (same_moves job more plan d under) ∙ before_same (moves job d)
 
   selected_same : (e : Effect) → selected_in longer d e ≡ selected_in job d e
   selected_same Adds = refl
   selected_same Removes = refl
-  selected_same Edits = batch_same
+  selected_same Edits = first_same
   selected_same Enables = refl
   selected_same Disables = refl
   selected_same Lists = refl
@@ -166,19 +163,14 @@ module _ (job : Job) (more : List Ctl) (plan : LinePlan) (s : Control) (under : 
       ∙ ap (selected_at (subject job d) (effect job d)) (selected_same (effect longer d) ∙ ap (selected_in job d) does)
   got_same Push v = refl
   got_same Relink v =
-      ap (λ u. relinked_at u (effect longer d) (batch longer d)) subject_same ∙ ap (λ e. relinked_at (subject job d) e (batch longer d)) does ∙ ap (relinked_at (subject job d) (effect job d)) batch_same
+      ap (λ u. relinked_at u (effect longer d) (batch_first longer d)) subject_same
+      ∙ ap (λ e. relinked_at (subject job d) e (batch_first longer d)) does
+      ∙ ap (relinked_at (subject job d) (effect job d)) first_same
   got_same StorePids v = refl
   got_same StoreDepth v = refl
-  got_same (NextAt f) v = let e = first_site in let g = same_site job more plan d (suc f) under in cc
-  got_same (BreakAt f) v = let g = same_site job more plan d (suc f) under in cc
-  got_same Ask1 v = let e = first_site in cc
-  got_same (Wait1 c) v = let e = first_site in cc
-  got_same (TailAt f) v = let g = same_site job more plan d (suc f) under in cc
-  got_same Ask2 v = let e = first_site in cc
-  got_same (Wait2 c) v = let e = first_site in cc
-  got_same (HeadAt f) v = let g = same_site job more plan d (suc f) under in cc
-  got_same Ask3 v = let e = does in cc
-  got_same (Wait3 c) v = let e = does in cc
+  got_same (Patch w x rest) v = ap at (before_same rest)
+  got_same (AskSync rest) v = let e = before_same rest in cc
+  got_same (WaitSync rest c) v = let e = before_same rest in cc
   got_same AskQuiet v = let e = released_all in cc
   got_same (WaitQuiet t) v = let e = released_all in cc
   got_same Release v = refl
@@ -263,16 +255,9 @@ ended_in job s Relink e = absurd (relinks (effect job s.commands_done) e)
     relinks x e = cc
 ended_in job s StorePids e = absurd (cc)
 ended_in job s StoreDepth e = absurd (cc)
-ended_in job s (NextAt f) e = absurd (cc)
-ended_in job s (BreakAt f) e = absurd (cc)
-ended_in job s Ask1 e = absurd (cc)
-ended_in job s (Wait1 c) e = absurd (cc)
-ended_in job s (TailAt f) e = absurd (cc)
-ended_in job s Ask2 e = absurd (cc)
-ended_in job s (Wait2 c) e = absurd (cc)
-ended_in job s (HeadAt f) e = absurd (cc)
-ended_in job s Ask3 e = absurd (cc)
-ended_in job s (Wait3 c) e = absurd (cc)
+ended_in job s (Patch w x rest) e = absurd (cc)
+ended_in job s (AskSync rest) e = absurd (cc)
+ended_in job s (WaitSync rest c) e = absurd (cc)
 ended_in job s AskQuiet e = absurd (cc)
 ended_in job s (WaitQuiet t) e = absurd (cc)
 ended_in job s Release e = absurd (cc)

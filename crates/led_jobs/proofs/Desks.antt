@@ -1,9 +1,10 @@
 -- The desk after commands that were led, and all that is read from it, is the same whatever lines come after them.
-use Rattle.std.proofs.Common.{◌≡◌, ℕ, zero, suc, ◌<◌, ◌≤◌, List, length, slice_get, not, ◌==◌, ◌-◌, if◌then◌else◌, Some, None, Option, refl, ap, ◌∙◌, arith}
+use Rattle.std.proofs.Common.{◌≡◌, ℕ, zero, suc, ◌<◌, ◌≤◌, List, length, slice_get, if◌then◌else◌, Some, None, Option, refl, ap, ◌∙◌, arith}
 use Rattle.ft_base.specs.Job.{Job, Command, Ctl, LinePlan, commands, commands_in, funcs}
-use Rattle.ft_base.specs.Desk.{Desk, desk, after, answer_on, lowest, target, is_accepted}
+use Rattle.ft_base.specs.Desk.{Desk, desk, after, answer_on, target, is_accepted}
 use Rattle.word_map.specs.Instructions.{code_by}
-use Rattle.word_machine.specs.Commands.{Nothing, effect_by, changes, command, effect, effect_in, insn, site_from}
+use Rattle.patch_core.specs.Moves.{batch}
+use Rattle.word_machine.specs.Commands.{Nothing, effect_by, changed_from, command, effect, effect_in, insn, moves}
 use Rattle.led_jobs.specs.Led.{later}
 use Rattle.led_jobs.proofs.Lists.{commands_append, get_front}
 
@@ -27,7 +28,7 @@ module _ (job : Job) (more : List Ctl) (plan : LinePlan) where
       ∙ ap (λ c. after job (desk longer k) (suc k) c) (same_command k (omega arith))
       ∙ ap (λ d. after job d (suc k) (command job k)) (same_desk k (omega arith))
 
-  pub same_insn : (k : ℕ) → k ≤ length (commands job) → (f : ℕ) → insn longer k f ≡ insn job k f
+  same_insn : (k : ℕ) → k ≤ length (commands job) → (f : ℕ) → insn longer k f ≡ insn job k f
   unfolding insn
   same_insn k le f = ap (λ d. code_by d (target d f)) (same_desk k le)
 
@@ -38,9 +39,11 @@ module _ (job : Job) (more : List Ctl) (plan : LinePlan) where
   pub same_effect : (d : ℕ) → d < length (commands job) → effect longer d ≡ effect job d
   same_effect d lt = same_effect_in d (command longer d) (omega arith) ∙ ap (λ c. effect_in job d c) (same_command d lt)
 
-  same_changes : (d : ℕ) → d < length (commands job) → (f : ℕ) → changes longer d f ≡ changes job d f
-  same_changes d lt f =
-      ap (λ n. not (n == insn longer (suc d) f)) (same_insn d (omega arith) f) ∙ ap (λ n. not (insn job d f == n)) (same_insn (suc d) (omega arith) f)
+  same_changed : (d : ℕ) → d < length (commands job) → (from n : ℕ) → changed_from longer d from n ≡ changed_from job d from n
+  same_changed d lt from zero = refl
+  same_changed d lt from (suc n) =
+      let before = same_insn d (omega arith) from in let after = same_insn (suc d) (omega arith) from in let rest = same_changed d lt (suc from) n in cc
 
-  pub same_site : (d from : ℕ) → d < length (commands job) → site_from longer d from ≡ site_from job d from
-  same_site d from lt = ap (λ p. lowest p from (funcs job - from)) (λ i f. (same_changes d lt f) i)
+  pub same_moves : (d : ℕ) → d < length (commands job) → moves longer d ≡ moves job d
+  unfolding moves
+  same_moves d lt = ap batch (same_changed d lt 0 (funcs job))

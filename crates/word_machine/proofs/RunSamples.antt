@@ -16,7 +16,7 @@ use Rattle.ft_base.specs.Job.{usual_lines, usual_rings, Job, Register, Unregiste
 use Rattle.ft_base.specs.Desk.{desk}
 use Rattle.ft_base.specs.Schedule.{actors_of, repeated}
 use Rattle.plain_machine.proofs.Plays.{named, call_in}
-use Rattle.word_machine.specs.Commands.{insn}
+use Rattle.word_machine.specs.Commands.{insn, moves}
 use Rattle.word_machine.specs.Control.{control_next, control_got}
 use Rattle.word_machine.specs.Cpu.{cpu_next, cpu_got}
 use Rattle.word_machine.specs.Machine.{start, step, run, played, play, all_end}
@@ -29,7 +29,7 @@ abbrev pub no_next-items : List Item
 no_next-items = Begin 1 ∷ Return 1 Accepted ∷ Begin 2 ∷ Enter (call_in 0 1) Normal (record { 0 = 0 }) None ∷ Back (call_in 0 1) (record { 0 = 1 }) ∷ BackEnd (call_in 0 1) (record { 0 = 1 }) ∷ Back (call_in 0 1) (record { 0 = 0 }) ∷ BackEnd (call_in 0 1) (record { 0 = 0 }) ∷ Body (call_in 0 1) (record { 0 = 0 }) ByList ∷ Leave (call_in 0 1) ∷ Ret (call_in 0 1) None ∷ Return 2 Accepted ∷ []
 
 pub no_next-plays : Plays no_next no_next-items true
-unfolding actors_of repeated start step run played play all_end control_next control_got cpu_next cpu_got insn desk
+unfolding actors_of repeated start step run played play all_end control_next control_got cpu_next cpu_got insn moves desk
 no_next-plays = (refl, refl)
 
 abbrev pub no_breakpoint : Job
@@ -39,7 +39,7 @@ abbrev pub no_breakpoint-items : List Item
 no_breakpoint-items = Begin 1 ∷ Enter (call_in 0 1) Normal (record { 0 = 0 }) None ∷ Back (call_in 0 1) (record { 0 = 0 }) ∷ BackEnd (call_in 0 1) (record { 0 = 0 }) ∷ Body (call_in 0 1) (record { 0 = 0 }) (Own (record { 0 = 0 })) ∷ Leave (call_in 0 1) ∷ Ret (call_in 0 1) None ∷ Return 1 Accepted ∷ []
 
 pub no_breakpoint-plays : Plays no_breakpoint no_breakpoint-items true
-unfolding actors_of repeated start step run played play all_end control_next control_got cpu_next cpu_got insn desk
+unfolding actors_of repeated start step run played play all_end control_next control_got cpu_next cpu_got insn moves desk
 no_breakpoint-plays = (refl, refl)
 
 abbrev pub displacement_before_breakpoint : Job
@@ -49,7 +49,7 @@ abbrev pub displacement_before_breakpoint-items : List Item
 displacement_before_breakpoint-items = Begin 1 ∷ Enter (call_in 0 1) Normal (record { 0 = 0 }) None ∷ Body (call_in 0 1) (record { 0 = 0 }) Nop ∷ Leave (call_in 0 1) ∷ Ret (call_in 0 1) None ∷ Return 1 Accepted ∷ []
 
 pub displacement_before_breakpoint-plays : Plays displacement_before_breakpoint displacement_before_breakpoint-items true
-unfolding actors_of repeated start step run played play all_end control_next control_got cpu_next cpu_got insn desk
+unfolding actors_of repeated start step run played play all_end control_next control_got cpu_next cpu_got insn moves desk
 displacement_before_breakpoint-plays = (refl, refl)
 
 abbrev pub no_first_sync : Job
@@ -59,7 +59,7 @@ abbrev pub no_first_sync-items : List Item
 no_first_sync-items = Enter (call_in 0 1) Normal (record { 0 = 0 }) None ∷ Begin 1 ∷ Body (call_in 0 1) (record { 0 = 0 }) Nop ∷ Leave (call_in 0 1) ∷ Ret (call_in 0 1) None ∷ Return 1 Accepted ∷ []
 
 pub no_first_sync-plays : Plays no_first_sync no_first_sync-items true
-unfolding actors_of repeated start step run played play all_end control_next control_got cpu_next cpu_got insn desk
+unfolding actors_of repeated start step run played play all_end control_next control_got cpu_next cpu_got insn moves desk
 no_first_sync-plays = (refl, refl)
 
 abbrev pub acknowledged_too_early : Job
@@ -69,7 +69,7 @@ abbrev pub acknowledged_too_early-items : List Item
 acknowledged_too_early-items = Enter (call_in 0 1) Normal (record { 0 = 0 }) None ∷ Begin 1 ∷ Body (call_in 0 1) (record { 0 = 0 }) Nop ∷ Leave (call_in 0 1) ∷ Ret (call_in 0 1) None ∷ Return 1 Accepted ∷ []
 
 pub acknowledged_too_early-plays : Plays acknowledged_too_early acknowledged_too_early-items true
-unfolding actors_of repeated start step run played play all_end control_next control_got cpu_next cpu_got insn desk
+unfolding actors_of repeated start step run played play all_end control_next control_got cpu_next cpu_got insn moves desk
 acknowledged_too_early-plays = (refl, refl)
 
 abbrev pub switched_in_a_fetch : Job
@@ -79,7 +79,7 @@ abbrev pub switched_in_a_fetch-items : List Item
 switched_in_a_fetch-items = Begin 1 ∷ Enter (call_in 0 1) Normal (record { 0 = 0 }) None ∷ Body (call_in 0 1) (record { 0 = 0 }) Nop ∷ Return 1 Accepted ∷ Leave (call_in 0 1) ∷ Ret (call_in 0 1) None ∷ []
 
 pub switched_in_a_fetch-plays : Plays switched_in_a_fetch switched_in_a_fetch-items true
-unfolding actors_of repeated start step run played play all_end control_next control_got cpu_next cpu_got insn desk
+unfolding actors_of repeated start step run played play all_end control_next control_got cpu_next cpu_got insn moves desk
 switched_in_a_fetch-plays = (refl, refl)
 
 abbrev pub no_quiet_for_a_walker : Job
@@ -89,7 +89,7 @@ abbrev pub no_quiet_for_a_walker-items : List Item
 no_quiet_for_a_walker-items = Begin 1 ∷ Return 1 Accepted ∷ Begin 2 ∷ Return 2 Accepted ∷ Begin 3 ∷ Return 3 Accepted ∷ Enter (call_in 0 1) Normal (record { 0 = 0 }) None ∷ Back (call_in 0 1) (record { 0 = 2 }) ∷ BackEnd (call_in 0 1) (record { 0 = 2 }) ∷ Back (call_in 0 1) (record { 0 = 1 }) ∷ BackEnd (call_in 0 1) (record { 0 = 1 }) ∷ Begin 4 ∷ Back (call_in 0 1) (record { 0 = 0 }) ∷ BackEnd (call_in 0 1) (record { 0 = 0 }) ∷ Body (call_in 0 1) (record { 0 = 0 }) ByList ∷ Leave (call_in 0 1) ∷ Ret (call_in 0 1) None ∷ Return 4 Accepted ∷ []
 
 pub no_quiet_for_a_walker-plays : Plays no_quiet_for_a_walker no_quiet_for_a_walker-items true
-unfolding actors_of repeated start step run played play all_end control_next control_got cpu_next cpu_got insn desk
+unfolding actors_of repeated start step run played play all_end control_next control_got cpu_next cpu_got insn moves desk
 no_quiet_for_a_walker-plays = (refl, refl)
 
 abbrev pub no_quiet_for_a_trampoline : Job
@@ -99,7 +99,7 @@ abbrev pub no_quiet_for_a_trampoline-items : List Item
 no_quiet_for_a_trampoline-items = Begin 1 ∷ Return 1 Accepted ∷ Enter (call_in 1 1) Normal (record { 0 = 0 }) None ∷ Begin 2 ∷ Body (call_in 1 1) (record { 0 = 0 }) (Own (record { 0 = 0 })) ∷ Leave (call_in 1 1) ∷ Ret (call_in 1 1) None ∷ Return 2 Accepted ∷ []
 
 pub no_quiet_for_a_trampoline-plays : Plays no_quiet_for_a_trampoline no_quiet_for_a_trampoline-items true
-unfolding actors_of repeated start step run played play all_end control_next control_got cpu_next cpu_got insn desk
+unfolding actors_of repeated start step run played play all_end control_next control_got cpu_next cpu_got insn moves desk
 no_quiet_for_a_trampoline-plays = (refl, refl)
 
 abbrev pub quiet_within_a_call : Job
@@ -109,7 +109,7 @@ abbrev pub quiet_within_a_call-items : List Item
 quiet_within_a_call-items = Begin 1 ∷ Return 1 Accepted ∷ Enter (call_in 1 1) Normal (record { 0 = 0 }) None ∷ Begin 2 ∷ Back (call_in 1 1) (record { 0 = 0 }) ∷ BackEnd (call_in 1 1) (record { 0 = 0 }) ∷ Body (call_in 1 1) (record { 0 = 0 }) (Own (record { 0 = 0 })) ∷ Leave (call_in 1 1) ∷ Ret (call_in 1 1) None ∷ Return 2 Accepted ∷ []
 
 pub quiet_within_a_call-plays : Plays quiet_within_a_call quiet_within_a_call-items true
-unfolding actors_of repeated start step run played play all_end control_next control_got cpu_next cpu_got insn desk
+unfolding actors_of repeated start step run played play all_end control_next control_got cpu_next cpu_got insn moves desk
 quiet_within_a_call-plays = (refl, refl)
 
 abbrev pub no_quiet_for_a_filter : Job
@@ -119,7 +119,7 @@ abbrev pub no_quiet_for_a_filter-items : List Item
 no_quiet_for_a_filter-items = Begin 1 ∷ Return 1 Accepted ∷ Begin 2 ∷ Return 2 Accepted ∷ Begin 3 ∷ Return 3 Accepted ∷ Begin 4 ∷ Return 4 Accepted ∷ Enter (call_in 0 1) Normal (record { 0 = 0 }) None ∷ Back (call_in 0 1) (record { 0 = 2 }) ∷ BackEnd (call_in 0 1) (record { 0 = 2 }) ∷ Back (call_in 0 1) (record { 0 = 1 }) ∷ BackEnd (call_in 0 1) (record { 0 = 1 }) ∷ Begin 5 ∷ Back (call_in 0 1) (record { 0 = 0 }) ∷ BackEnd (call_in 0 1) (record { 0 = 0 }) ∷ Body (call_in 0 1) (record { 0 = 0 }) ByList ∷ Leave (call_in 0 1) ∷ Return 5 Accepted ∷ Ret (call_in 0 1) None ∷ Begin 6 ∷ Return 6 Accepted ∷ []
 
 pub no_quiet_for_a_filter-plays : Plays no_quiet_for_a_filter no_quiet_for_a_filter-items true
-unfolding actors_of repeated start step run played play all_end control_next control_got cpu_next cpu_got insn desk
+unfolding actors_of repeated start step run played play all_end control_next control_got cpu_next cpu_got insn moves desk
 no_quiet_for_a_filter-plays = (refl, refl)
 
 abbrev pub no_quiet_for_a_disabled_user : Job
@@ -129,7 +129,7 @@ abbrev pub no_quiet_for_a_disabled_user-items : List Item
 no_quiet_for_a_disabled_user-items = Begin 1 ∷ Return 1 Accepted ∷ Enter (call_in 0 1) Normal (record { 0 = 0 }) None ∷ Begin 2 ∷ Back (call_in 0 1) (record { 0 = 0 }) ∷ BackEnd (call_in 0 1) (record { 0 = 0 }) ∷ Body (call_in 0 1) (record { 0 = 0 }) (Own (record { 0 = 0 })) ∷ Leave (call_in 0 1) ∷ Return 2 Accepted ∷ Ret (call_in 0 1) None ∷ []
 
 pub no_quiet_for_a_disabled_user-plays : Plays no_quiet_for_a_disabled_user no_quiet_for_a_disabled_user-items true
-unfolding actors_of repeated start step run played play all_end control_next control_got cpu_next cpu_got insn desk
+unfolding actors_of repeated start step run played play all_end control_next control_got cpu_next cpu_got insn moves desk
 no_quiet_for_a_disabled_user-plays = (refl, refl)
 
 abbrev pub no_quiet_for_a_pid : Job
@@ -139,7 +139,7 @@ abbrev pub no_quiet_for_a_pid-items : List Item
 no_quiet_for_a_pid-items = Begin 1 ∷ Return 1 Accepted ∷ Enter (call_in 0 1) Normal (record { 0 = 0 }) None ∷ Begin 2 ∷ Back (call_in 0 1) (record { 0 = 0 }) ∷ BackEnd (call_in 0 1) (record { 0 = 0 }) ∷ Body (call_in 0 1) (record { 0 = 0 }) (Own (record { 0 = 0 })) ∷ Leave (call_in 0 1) ∷ Return 2 Accepted ∷ Ret (call_in 0 1) None ∷ []
 
 pub no_quiet_for_a_pid-plays : Plays no_quiet_for_a_pid no_quiet_for_a_pid-items true
-unfolding actors_of repeated start step run played play all_end control_next control_got cpu_next cpu_got insn desk
+unfolding actors_of repeated start step run played play all_end control_next control_got cpu_next cpu_got insn moves desk
 no_quiet_for_a_pid-plays = (refl, refl)
 
 abbrev pub no_quiet_for_a_depth : Job
@@ -149,7 +149,7 @@ abbrev pub no_quiet_for_a_depth-items : List Item
 no_quiet_for_a_depth-items = Begin 1 ∷ Return 1 Accepted ∷ Enter (call_in 0 1) Normal (record { 0 = 0 }) None ∷ Back (call_in 0 1) (record { 0 = 0 }) ∷ BackEnd (call_in 0 1) (record { 0 = 0 }) ∷ Body (call_in 0 1) (record { 0 = 0 }) (Own (record { 0 = 0 })) ∷ Enter (call_in 0 2) Normal (record { 0 = 0 }) (Some (call_in 0 1)) ∷ Begin 2 ∷ Back (call_in 0 2) (record { 0 = 0 }) ∷ BackEnd (call_in 0 2) (record { 0 = 0 }) ∷ Body (call_in 0 2) (record { 0 = 0 }) (Own (record { 0 = 0 })) ∷ Leave (call_in 0 2) ∷ Return 2 Accepted ∷ Exit (call_in 0 2) (record { 0 = 0 }) 8 ∷ ExitEnd (call_in 0 2) (record { 0 = 0 }) ∷ Ret (call_in 0 2) (Some (call_in 0 1)) ∷ Leave (call_in 0 1) ∷ Exit (call_in 0 1) (record { 0 = 0 }) 3 ∷ ExitEnd (call_in 0 1) (record { 0 = 0 }) ∷ Ret (call_in 0 1) None ∷ []
 
 pub no_quiet_for_a_depth-plays : Plays no_quiet_for_a_depth no_quiet_for_a_depth-items true
-unfolding actors_of repeated start step run played play all_end control_next control_got cpu_next cpu_got insn desk
+unfolding actors_of repeated start step run played play all_end control_next control_got cpu_next cpu_got insn moves desk
 no_quiet_for_a_depth-plays = (refl, refl)
 
 abbrev pub present_copy_written : Job
@@ -159,7 +159,7 @@ abbrev pub present_copy_written-items : List Item
 present_copy_written-items = Begin 1 ∷ Return 1 Accepted ∷ Begin 2 ∷ Return 2 Accepted ∷ Begin 3 ∷ Return 3 Accepted ∷ Begin 4 ∷ Return 4 Accepted ∷ Enter (call_in 0 1) Normal (record { 0 = 0 }) None ∷ Back (call_in 0 1) (record { 0 = 2 }) ∷ BackEnd (call_in 0 1) (record { 0 = 2 }) ∷ Back (call_in 0 1) (record { 0 = 1 }) ∷ Begin 5 ∷ BackEnd (call_in 0 1) (record { 0 = 1 }) ∷ Back (call_in 0 1) (record { 0 = 0 }) ∷ BackEnd (call_in 0 1) (record { 0 = 0 }) ∷ Body (call_in 0 1) (record { 0 = 0 }) ByList ∷ Leave (call_in 0 1) ∷ Return 5 Accepted ∷ Ret (call_in 0 1) None ∷ []
 
 pub present_copy_written-plays : Plays present_copy_written present_copy_written-items true
-unfolding actors_of repeated start step run played play all_end control_next control_got cpu_next cpu_got insn desk
+unfolding actors_of repeated start step run played play all_end control_next control_got cpu_next cpu_got insn moves desk
 present_copy_written-plays = (refl, refl)
 
 abbrev pub selected_before_the_words : Job
@@ -169,7 +169,7 @@ abbrev pub selected_before_the_words-items : List Item
 selected_before_the_words-items = Begin 1 ∷ Return 1 Accepted ∷ Begin 2 ∷ Return 2 Accepted ∷ Begin 3 ∷ Return 3 Accepted ∷ Begin 4 ∷ Enter (call_in 0 1) Normal (record { 0 = 0 }) None ∷ Back (call_in 0 1) (record { 0 = 2 }) ∷ BackEnd (call_in 0 1) (record { 0 = 2 }) ∷ Back (call_in 0 1) (record { 0 = 1 }) ∷ BackEnd (call_in 0 1) (record { 0 = 1 }) ∷ Back (call_in 0 1) (record { 0 = 0 }) ∷ BackEnd (call_in 0 1) (record { 0 = 0 }) ∷ Body (call_in 0 1) (record { 0 = 0 }) ByList ∷ Leave (call_in 0 1) ∷ Return 4 Accepted ∷ Ret (call_in 0 1) None ∷ []
 
 pub selected_before_the_words-plays : Plays selected_before_the_words selected_before_the_words-items true
-unfolding actors_of repeated start step run played play all_end control_next control_got cpu_next cpu_got insn desk
+unfolding actors_of repeated start step run played play all_end control_next control_got cpu_next cpu_got insn moves desk
 selected_before_the_words-plays = (refl, refl)
 
 abbrev pub no_notrace_word : Job
@@ -179,7 +179,7 @@ abbrev pub no_notrace_word-items : List Item
 no_notrace_word-items = Begin 1 ∷ Return 1 Accepted ∷ Begin 2 ∷ Return 2 Accepted ∷ Begin 3 ∷ Return 3 Accepted ∷ Begin 4 ∷ Return 4 Accepted ∷ Enter (call_in 0 1) Normal (record { 0 = 0 }) None ∷ Back (call_in 0 1) (record { 0 = 2 }) ∷ BackEnd (call_in 0 1) (record { 0 = 2 }) ∷ Back (call_in 0 1) (record { 0 = 1 }) ∷ BackEnd (call_in 0 1) (record { 0 = 1 }) ∷ Body (call_in 0 1) (record { 0 = 0 }) ByList ∷ Leave (call_in 0 1) ∷ Ret (call_in 0 1) None ∷ []
 
 pub no_notrace_word-plays : Plays no_notrace_word no_notrace_word-items true
-unfolding actors_of repeated start step run played play all_end control_next control_got cpu_next cpu_got insn desk
+unfolding actors_of repeated start step run played play all_end control_next control_got cpu_next cpu_got insn moves desk
 no_notrace_word-plays = (refl, refl)
 
 abbrev pub filter_of_the_other_copy : Job
@@ -189,7 +189,7 @@ abbrev pub filter_of_the_other_copy-items : List Item
 filter_of_the_other_copy-items = Begin 1 ∷ Return 1 Accepted ∷ Begin 2 ∷ Return 2 Accepted ∷ Begin 3 ∷ Return 3 Accepted ∷ Enter (call_in 0 1) Normal (record { 0 = 0 }) None ∷ Back (call_in 0 1) (record { 0 = 1 }) ∷ BackEnd (call_in 0 1) (record { 0 = 1 }) ∷ Back (call_in 0 1) (record { 0 = 0 }) ∷ BackEnd (call_in 0 1) (record { 0 = 0 }) ∷ Body (call_in 0 1) (record { 0 = 0 }) ByList ∷ Leave (call_in 0 1) ∷ Ret (call_in 0 1) None ∷ []
 
 pub filter_of_the_other_copy-plays : Plays filter_of_the_other_copy filter_of_the_other_copy-items true
-unfolding actors_of repeated start step run played play all_end control_next control_got cpu_next cpu_got insn desk
+unfolding actors_of repeated start step run played play all_end control_next control_got cpu_next cpu_got insn moves desk
 filter_of_the_other_copy-plays = (refl, refl)
 
 abbrev pub no_unlinking : Job
@@ -199,7 +199,7 @@ abbrev pub no_unlinking-items : List Item
 no_unlinking-items = Begin 1 ∷ Return 1 Accepted ∷ Begin 2 ∷ Return 2 Accepted ∷ Begin 3 ∷ Return 3 Accepted ∷ Begin 4 ∷ Return 4 Accepted ∷ Enter (call_in 0 1) Normal (record { 0 = 0 }) None ∷ Back (call_in 0 1) (record { 0 = 0 }) ∷ BackEnd (call_in 0 1) (record { 0 = 0 }) ∷ Back (call_in 0 1) (record { 0 = 1 }) ∷ BackEnd (call_in 0 1) (record { 0 = 1 }) ∷ Body (call_in 0 1) (record { 0 = 0 }) ByList ∷ Leave (call_in 0 1) ∷ Ret (call_in 0 1) None ∷ []
 
 pub no_unlinking-plays : Plays no_unlinking no_unlinking-items true
-unfolding actors_of repeated start step run played play all_end control_next control_got cpu_next cpu_got insn desk
+unfolding actors_of repeated start step run played play all_end control_next control_got cpu_next cpu_got insn moves desk
 no_unlinking-plays = (refl, refl)
 
 abbrev pub no_state_at_unregistration : Job
@@ -209,7 +209,7 @@ abbrev pub no_state_at_unregistration-items : List Item
 no_state_at_unregistration-items = Begin 1 ∷ Return 1 Accepted ∷ Enter (call_in 0 1) Normal (record { 0 = 0 }) None ∷ Back (call_in 0 1) (record { 0 = 0 }) ∷ BackEnd (call_in 0 1) (record { 0 = 0 }) ∷ Body (call_in 0 1) (record { 0 = 0 }) (Own (record { 0 = 0 })) ∷ Begin 2 ∷ Return 2 Accepted ∷ Leave (call_in 0 1) ∷ Ret (call_in 0 1) None ∷ []
 
 pub no_state_at_unregistration-plays : Plays no_state_at_unregistration no_state_at_unregistration-items true
-unfolding actors_of repeated start step run played play all_end control_next control_got cpu_next cpu_got insn desk
+unfolding actors_of repeated start step run played play all_end control_next control_got cpu_next cpu_got insn moves desk
 no_state_at_unregistration-plays = (refl, refl)
 
 abbrev pub link_cleared : Job
@@ -219,7 +219,7 @@ abbrev pub link_cleared-items : List Item
 link_cleared-items = Begin 1 ∷ Return 1 Accepted ∷ Begin 2 ∷ Return 2 Accepted ∷ Begin 3 ∷ Return 3 Accepted ∷ Enter (call_in 0 1) Normal (record { 0 = 0 }) None ∷ Back (call_in 0 1) (record { 0 = 2 }) ∷ Begin 4 ∷ BackEnd (call_in 0 1) (record { 0 = 2 }) ∷ Back (call_in 0 1) (record { 0 = 0 }) ∷ BackEnd (call_in 0 1) (record { 0 = 0 }) ∷ Body (call_in 0 1) (record { 0 = 0 }) ByList ∷ Leave (call_in 0 1) ∷ Ret (call_in 0 1) None ∷ Return 4 Accepted ∷ []
 
 pub link_cleared-plays : Plays link_cleared link_cleared-items true
-unfolding actors_of repeated start step run played play all_end control_next control_got cpu_next cpu_got insn desk
+unfolding actors_of repeated start step run played play all_end control_next control_got cpu_next cpu_got insn moves desk
 link_cleared-plays = (refl, refl)
 
 abbrev pub link_after_first : Job
@@ -229,7 +229,7 @@ abbrev pub link_after_first-items : List Item
 link_after_first-items = Begin 1 ∷ Return 1 Accepted ∷ Begin 2 ∷ Return 2 Accepted ∷ Begin 3 ∷ Enter (call_in 0 1) Normal (record { 0 = 0 }) None ∷ Back (call_in 0 1) (record { 0 = 1 }) ∷ BackEnd (call_in 0 1) (record { 0 = 1 }) ∷ Return 3 Accepted ∷ Back (call_in 0 1) (record { 0 = 0 }) ∷ BackEnd (call_in 0 1) (record { 0 = 0 }) ∷ Body (call_in 0 1) (record { 0 = 0 }) ByList ∷ Leave (call_in 0 1) ∷ Ret (call_in 0 1) None ∷ []
 
 pub link_after_first-plays : Plays link_after_first link_after_first-items true
-unfolding actors_of repeated start step run played play all_end control_next control_got cpu_next cpu_got insn desk
+unfolding actors_of repeated start step run played play all_end control_next control_got cpu_next cpu_got insn moves desk
 link_after_first-plays = (refl, refl)
 
 abbrev pub walk_begun_again : Job
@@ -239,7 +239,7 @@ abbrev pub walk_begun_again-items : List Item
 walk_begun_again-items = Begin 1 ∷ Return 1 Accepted ∷ Begin 2 ∷ Return 2 Accepted ∷ Enter (call_in 0 1) Normal (record { 0 = 0 }) None ∷ Back (call_in 0 1) (record { 0 = 1 }) ∷ BackEnd (call_in 0 1) (record { 0 = 1 }) ∷ Back (call_in 0 1) (record { 0 = 0 }) ∷ BackEnd (call_in 0 1) (record { 0 = 0 }) ∷ Body (call_in 0 1) (record { 0 = 0 }) ByList ∷ Leave (call_in 0 1) ∷ Ret (call_in 0 1) None ∷ []
 
 pub walk_begun_again-plays : Plays walk_begun_again walk_begun_again-items true
-unfolding actors_of repeated start step run played play all_end control_next control_got cpu_next cpu_got insn desk
+unfolding actors_of repeated start step run played play all_end control_next control_got cpu_next cpu_got insn moves desk
 walk_begun_again-plays = (refl, refl)
 
 abbrev pub guard_before_pid : Job
@@ -249,7 +249,7 @@ abbrev pub guard_before_pid-items : List Item
 guard_before_pid-items = Begin 1 ∷ Return 1 Accepted ∷ Begin 2 ∷ Return 2 Accepted ∷ Begin 3 ∷ Return 3 Accepted ∷ Enter (call_in 0 1) Normal (record { 0 = 0 }) None ∷ Refuse (call_in 0 1) (record { 0 = 1 }) ByPid ∷ Back (call_in 0 1) (record { 0 = 0 }) ∷ Enter (call_in 0 2) Normal (record { 0 = 1 }) (Some (call_in 0 1)) ∷ Refuse (call_in 0 2) (record { 0 = 1 }) ByPid ∷ Refuse (call_in 0 2) (record { 0 = 0 }) Recursion ∷ Body (call_in 0 2) (record { 0 = 1 }) ByList ∷ Leave (call_in 0 2) ∷ Ret (call_in 0 2) (Some (call_in 0 1)) ∷ BackEnd (call_in 0 1) (record { 0 = 0 }) ∷ Body (call_in 0 1) (record { 0 = 0 }) ByList ∷ Leave (call_in 0 1) ∷ Ret (call_in 0 1) None ∷ []
 
 pub guard_before_pid-plays : Plays guard_before_pid guard_before_pid-items true
-unfolding actors_of repeated start step run played play all_end control_next control_got cpu_next cpu_got insn desk
+unfolding actors_of repeated start step run played play all_end control_next control_got cpu_next cpu_got insn moves desk
 guard_before_pid-plays = (refl, refl)
 
 abbrev pub exit_by_registration_bit : Job
@@ -259,5 +259,5 @@ abbrev pub exit_by_registration_bit-items : List Item
 exit_by_registration_bit-items = Begin 1 ∷ Return 1 Accepted ∷ Enter (call_in 0 1) Normal (record { 0 = 0 }) None ∷ Back (call_in 0 1) (record { 0 = 0 }) ∷ BackEnd (call_in 0 1) (record { 0 = 0 }) ∷ Body (call_in 0 1) (record { 0 = 0 }) (Own (record { 0 = 0 })) ∷ Begin 2 ∷ Return 2 Accepted ∷ Begin 3 ∷ Return 3 Accepted ∷ Leave (call_in 0 1) ∷ Ret (call_in 0 1) None ∷ []
 
 pub exit_by_registration_bit-plays : Plays exit_by_registration_bit exit_by_registration_bit-items true
-unfolding actors_of repeated start step run played play all_end control_next control_got cpu_next cpu_got insn desk
+unfolding actors_of repeated start step run played play all_end control_next control_got cpu_next cpu_got insn moves desk
 exit_by_registration_bit-plays = (refl, refl)

@@ -7,12 +7,11 @@ use Rattle.ft_base.specs.declared.item.Item.TheVariants.{Begin, Return}
 use Rattle.ft_base.specs.Job.{Job, Command, Unregister, Ctl, Run, Until}
 use Rattle.ft_base.specs.Order.{order_after}
 use Rattle.ft_base.specs.Desk.{desk, answer_on}
-use Rattle.site_bytes.specs.Bytes.{breakpoint}
-use Rattle.word_map.specs.Words.{Word, Want, First, Pids, Depth, Head, Tail, Next, Ack, Quiet, Tramp, Link, Sel, Bits, at_put}
+use Rattle.word_map.specs.Words.{Word, Want, First, Pids, Depth, Ack, Quiet, Tramp, Link, Sel, Bits, at_put}
 use Rattle.word_map.specs.Contents.{low, high, sel_of, tramp_word, set_word, mask_of, other_copy}
-use Rattle.word_map.specs.Instructions.{head_of, tail_of}
 use Rattle.word_map.specs.Ops.{WordOp, Load, Store, Mark}
-use Rattle.word_machine.specs.Commands.{insn, site_from, command, subject, state_of, has_slot_at, set_words, Effect, Adds, Removes, Edits, Enables, Disables, Lists, Levels, Nothing, effect}
+use Rattle.patch_core.specs.Moves.{Move, Put, Sync}
+use Rattle.word_machine.specs.Commands.{moves, command, subject, state_of, has_slot_at, set_words, Effect, Adds, Removes, Edits, Enables, Disables, Lists, Levels, Nothing, effect}
 
 -- Where control stands: at a line, or in a command before this operation.
 --   Take, Release      store a trampoline's word: its user, or 0
@@ -20,8 +19,9 @@ use Rattle.word_machine.specs.Commands.{insn, site_from, command, subject, state
 --   Select             stores the user's state
 --   Push               stores the link of a user that is added
 --   Relink             stores the word that names the user, or that named it
---   NextAt, BreakAt, TailAt, HeadAt f     store the words of a site that changes
---   Ask1 to Ask3, Wait1 to Wait3 c        the three syncs: store a request, and wait for CPU c
+--   Patch w x rest     makes this store of the batch; these moves come after it
+--   AskSync rest       a sync of the batch: stores a request
+--   WaitSync rest c    and waits for CPU c
 --   AskQuiet, WaitQuiet t                 the wait for quiet points: store a request, and wait for task t
 --   Close              marks the Return
 pub data Position : Type 0 where
@@ -33,16 +33,9 @@ pub data Position : Type 0 where
   Relink : Position
   StorePids : Position
   StoreDepth : Position
-  NextAt : (f : ℕ) → Position
-  BreakAt : (f : ℕ) → Position
-  Ask1 : Position
-  Wait1 : (c : ℕ) → Position
-  TailAt : (f : ℕ) → Position
-  Ask2 : Position
-  Wait2 : (c : ℕ) → Position
-  HeadAt : (f : ℕ) → Position
-  Ask3 : Position
-  Wait3 : (c : ℕ) → Position
+  Patch : (w : Word) (x : ℕ) (rest : List Move) → Position
+  AskSync : (rest : List Move) → Position
+  WaitSync : (rest : List Move) (c : ℕ) → Position
   AskQuiet : Position
   WaitQuiet : (t : ℕ) → Position
   Release : Position
@@ -59,11 +52,6 @@ pub record Control : Type 0 where
   pub position : Position
 
 -- ## which position follows
-
--- a site, or what follows if there is none
-abbrev pub position_or : Option ℕ → (ℕ → Position) → Position → Position
-position_or None at' otherwise = otherwise
-position_or (Some f) at' otherwise = at' f
 
 -- the next CPU or task to wait for, or what follows once all of this many have answered
 abbrev pub after_wait : ℕ → Position → ℕ → (ℕ → Position) → Position
@@ -107,23 +95,21 @@ after_batch_in _ = Close
 abbrev pub after_batch : Job → ℕ → Position
 after_batch job d = after_batch_in (effect job d)
 
+-- before the first of these moves of the batch; what follows if there is none
+abbrev pub before_moves : Job → ℕ → List Move → Position
+before_moves job d (Put w x ∷ rest) = Patch w x rest
+before_moves job d (Sync ∷ rest) = AskSync rest
+before_moves job d _ = after_batch job d
+
 -- the first step of the batch, which changes the sites; what follows if no site changes
-abbrev pub batch : Job → ℕ → Position
-batch job d = position_or (site_from job d 0) NextAt (after_batch job d)
-
--- the first tail
-abbrev pub tails : Job → ℕ → Position
-tails job d = position_or (site_from job d 0) TailAt Ask2
-
--- the first of the new first bytes
-abbrev pub heads : Job → ℕ → Position
-heads job d = position_or (site_from job d 0) HeadAt Ask3
+abbrev pub batch_first : Job → ℕ → Position
+batch_first job d = before_moves job d (moves job d)
 
 -- after the store of the user's state
 abbrev pub selected_in : Job → ℕ → Effect → Position
 selected_in job d Adds = Push
 selected_in job d Removes = Relink
-selected_in job d Edits = batch job d
+selected_in job d Edits = batch_first job d
 selected_in job d Disables = AskQuiet
 selected_in job d _ = Close
 
@@ -205,16 +191,9 @@ next_in job s Push = Some (Store (Link (subject job s.commands_done)) (name_of s
 next_in job s Relink = Some (relink_op (effect job s.commands_done) (subject job s.commands_done) s.order)
 next_in job s StorePids = Some (Store Pids (mask_of (desk job (suc s.commands_done)) (length job.tasks)))
 next_in job s StoreDepth = Some (Store Depth (desk job (suc s.commands_done)).depth)
-next_in job s (NextAt f) = Some (Store (Next f) (insn job (suc s.commands_done) f))
-next_in job s (BreakAt f) = Some (Store (Head f) breakpoint)
-next_in job s Ask1 = Some (Store Want (suc s.request))
-next_in job s (Wait1 c) = Some (Load (Ack c))
-next_in job s (TailAt f) = Some (Store (Tail f) (tail_of f (insn job (suc s.commands_done) f)))
-next_in job s Ask2 = Some (Store Want (suc s.request))
-next_in job s (Wait2 c) = Some (Load (Ack c))
-next_in job s (HeadAt f) = Some (Store (Head f) (head_of (insn job (suc s.commands_done) f)))
-next_in job s Ask3 = Some (Store Want (suc s.request))
-next_in job s (Wait3 c) = Some (Load (Ack c))
+next_in job s (Patch w x rest) = Some (Store w x)
+next_in job s (AskSync rest) = Some (Store Want (suc s.request))
+next_in job s (WaitSync rest c) = Some (Load (Ack c))
 next_in job s AskQuiet = Some (Store Want (suc s.request))
 next_in job s (WaitQuiet t) = Some (Load (Quiet t))
 next_in job s Release = Some (Store (Tramp (slot_of (state_of job s.commands_done (subject job s.commands_done)).slot)) 0)
@@ -254,23 +233,13 @@ got_in job s Select v =
     }
 got_in job s Push v = at_position s Relink
 got_in job s Relink v =
-    record s { order = relinked (effect job s.commands_done) (subject job s.commands_done) s.order; position = batch job s.commands_done }
+    record s { order = relinked (effect job s.commands_done) (subject job s.commands_done) s.order; position = batch_first job s.commands_done }
 got_in job s StorePids v = at_position s AskQuiet
 got_in job s StoreDepth v = at_position s AskQuiet
-got_in job s (NextAt f) v =
-    at_position s (position_or (site_from job s.commands_done (suc f)) NextAt (position_or (site_from job s.commands_done 0) BreakAt Ask1))
-got_in job s (BreakAt f) v = at_position s (position_or (site_from job s.commands_done (suc f)) BreakAt Ask1)
-got_in job s Ask1 v = asked s (after_wait (length job.quanta) (tails job s.commands_done) 0 Wait1)
-got_in job s (Wait1 c) v =
-    at_position s (waited (nat_le s.request v) (after_wait (length job.quanta) (tails job s.commands_done) (suc c) Wait1) (Wait1 c))
-got_in job s (TailAt f) v = at_position s (position_or (site_from job s.commands_done (suc f)) TailAt Ask2)
-got_in job s Ask2 v = asked s (after_wait (length job.quanta) (heads job s.commands_done) 0 Wait2)
-got_in job s (Wait2 c) v =
-    at_position s (waited (nat_le s.request v) (after_wait (length job.quanta) (heads job s.commands_done) (suc c) Wait2) (Wait2 c))
-got_in job s (HeadAt f) v = at_position s (position_or (site_from job s.commands_done (suc f)) HeadAt Ask3)
-got_in job s Ask3 v = asked s (after_wait (length job.quanta) (after_batch job s.commands_done) 0 Wait3)
-got_in job s (Wait3 c) v =
-    at_position s (waited (nat_le s.request v) (after_wait (length job.quanta) (after_batch job s.commands_done) (suc c) Wait3) (Wait3 c))
+got_in job s (Patch w x rest) v = at_position s (before_moves job s.commands_done rest)
+got_in job s (AskSync rest) v = asked s (after_wait (length job.quanta) (before_moves job s.commands_done rest) 0 (WaitSync rest))
+got_in job s (WaitSync rest c) v =
+    at_position s (waited (nat_le s.request v) (after_wait (length job.quanta) (before_moves job s.commands_done rest) (suc c) (WaitSync rest)) (WaitSync rest c))
 got_in job s AskQuiet v = asked s (after_wait (length job.tasks) (released job s.commands_done) 0 WaitQuiet)
 got_in job s (WaitQuiet t) v =
     at_position s (waited (nat_le s.request (low v)) (after_wait (length job.tasks) (released job s.commands_done) (suc t) WaitQuiet) (WaitQuiet t))

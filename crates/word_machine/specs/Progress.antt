@@ -1,8 +1,9 @@
 -- How far the command under way is: which of control's stores are made, which tasks may still use what they loaded before, and what
 -- a task may therefore have loaded. The rest of the rule reads control through these words alone.
-use Rattle.std.specs.Prelude.{ℕ, suc, ◌≡◌, ◌<◌, ◌⊎◌, Bool, true, false, nat_lt, if◌then◌else◌}
+use Rattle.std.specs.Prelude.{ℕ, suc, ◌≡◌, ◌-◌, ◌<◌, ◌⊎◌, Bool, true, false, nat_lt, List, sum_by, if◌then◌else◌}
+use Rattle.patch_core.specs.Moves.{Move, Sync}
 use Rattle.word_machine.specs.Commands.{Effect, Adds, Removes, Edits, Disables, Lists, Levels, Nothing}
-use Rattle.word_machine.specs.Control.{Position, Line, Take, Copy, Select, Push, Relink, StorePids, StoreDepth, Wait1, TailAt, Ask2, Wait2, HeadAt, Ask3, Wait3, AskQuiet, WaitQuiet, Release, Close}
+use Rattle.word_machine.specs.Control.{Position, Line, Take, Copy, Select, Push, Relink, StorePids, StoreDepth, Patch, AskSync, WaitSync, AskQuiet, WaitQuiet, Release, Close}
 
 -- whether a command waits for quiet points
 abbrev pub waits : Effect → Bool
@@ -161,15 +162,22 @@ comes_to z Release = is_removes z
 comes_to z Close = true
 comes_to z _ = patches z
 
+-- ## requests
+
+-- a sync of a batch stores one request
+abbrev pub syncs_by : Move → ℕ
+syncs_by Sync = 1
+syncs_by _ = 0
+
+-- how many syncs are among these moves
+abbrev pub syncs_in : List Move → ℕ
+syncs_in rest = sum_by syncs_by rest
+
 -- how many requests a command has stored at most
 abbrev pub asked_in : Position → ℕ
-asked_in (Wait1 c) = 1
-asked_in (TailAt f) = 1
-asked_in Ask2 = 1
-asked_in (Wait2 c) = 2
-asked_in (HeadAt f) = 2
-asked_in Ask3 = 2
-asked_in (Wait3 c) = 3
+asked_in (Patch w x rest) = 3 - syncs_in rest
+asked_in (AskSync rest) = 2 - syncs_in rest
+asked_in (WaitSync rest c) = 3 - syncs_in rest
 asked_in AskQuiet = 3
 asked_in (WaitQuiet t) = 4
 asked_in Release = 4

@@ -1,27 +1,41 @@
 -- The rule of call sites: how far each changed one is, which requests a CPU has acknowledged, and what a fetch under way has loaded.
-use Rattle.std.specs.Prelude.{ℕ, suc, ◌≡◌, ◌+◌, ◌*◌, ◌<◌, ◌≤◌, ◌⊎◌, Bool, true, nat_lt, if◌then◌else◌}
+use Rattle.std.specs.Prelude.{ℕ, zero, suc, ◌≡◌, ◌+◌, ◌-◌, ◌*◌, ◌<◌, ◌≤◌, ◌==◌, ◌⊎◌, Bool, true, false, nat_lt, List, ◌∷◌, ◌++◌, sum_by, if◌then◌else◌}
 use Rattle.ft_base.specs.Job.{Job, funcs}
 use Rattle.site_bytes.specs.Bytes.{breakpoint}
+use Rattle.word_map.specs.Words.{Word, Head, Tail, Next}
 use Rattle.word_map.specs.Instructions.{head_of, tail_of}
-use Rattle.word_machine.specs.Commands.{insn, changes, effect, subject, set_words, has_slot_at}
-use Rattle.word_machine.specs.Control.{Position, Copy, NextAt, BreakAt, Ask1, Wait1, TailAt, Ask2, Wait2, HeadAt, Ask3, Wait3, AskQuiet, WaitQuiet, Release, Close, Take}
+use Rattle.patch_core.specs.Moves.{Move, Put, Sync, Done}
+use Rattle.word_machine.specs.Commands.{insn, changes, moves, effect, subject, set_words, has_slot_at}
+use Rattle.word_machine.specs.Control.{Position, Copy, Patch, AskSync, WaitSync, AskQuiet, WaitQuiet, Release, Close, Take}
 use Rattle.word_machine.specs.Task.{Moment, GotHead, GotBreak}
-use Rattle.word_machine.specs.Progress.{comes_to, asked_in}
+use Rattle.word_machine.specs.Progress.{comes_to, asked_in, syncs_in}
 
--- how far a changed site is when control is at a position: 0 not begun, 1 the third word is stored, 2 the breakpoint, 3 the first
+-- ## how far a batch is: by the moves that are left of it
+
+-- one of the three words of a site
+abbrev pub is_of_site : ℕ → Word → Bool
+is_of_site f (Head g) = g == f
+is_of_site f (Tail g) = g == f
+is_of_site f (Next g) = g == f
+is_of_site f _ = false
+
+-- how many stages a move takes a site that changes: a store into one of its words one, and a sync two, by its request and by its end
+abbrev pub stages_by : ℕ → Move → ℕ
+stages_by f (Put w x) = if is_of_site f w then 1 else 0
+stages_by f Sync = 2
+stages_by f Done = 0
+
+-- how many stages such a site has before it
+abbrev pub stages_left : ℕ → List Move → ℕ
+stages_left f rest = sum_by (stages_by f) rest
+
+-- how far a site that changes is when control is at a position: 0 not begun, 1 the third word is stored, 2 the breakpoint, 3 the first
 -- request, 4 the first sync is over, 5 the tail is stored, 6 the second request, 7 the second sync is over, 8 the new first byte is
 -- stored, 9 the third request, 10 the third sync is over
 abbrev pub stage_in : Position → ℕ → ℕ
-stage_in (NextAt i) f = if nat_lt f i then 1 else 0
-stage_in (BreakAt i) f = if nat_lt f i then 2 else 1
-stage_in Ask1 f = 2
-stage_in (Wait1 c) f = 3
-stage_in (TailAt i) f = if nat_lt f i then 5 else 4
-stage_in Ask2 f = 5
-stage_in (Wait2 c) f = 6
-stage_in (HeadAt i) f = if nat_lt f i then 8 else 7
-stage_in Ask3 f = 8
-stage_in (Wait3 c) f = 9
+stage_in (Patch w x rest) f = 10 - (stages_by f (Put w x) + stages_left f rest)
+stage_in (AskSync rest) f = 8 - stages_left f rest
+stage_in (WaitSync rest c) f = 9 - stages_left f rest
 stage_in AskQuiet f = 10
 stage_in (WaitQuiet t) f = 10
 stage_in Release f = 10
@@ -36,38 +50,40 @@ stage_by b n = if b then n else 0
 abbrev pub stage : Job → ℕ → Position → ℕ → ℕ
 stage job d p f = stage_by (changes job d f) (stage_in p f)
 
--- how many of the batch's requests are stored
+-- how many of the batch's three requests are stored
 abbrev pub asks : Position → ℕ
-asks (Wait1 c) = 1
-asks (TailAt i) = 1
-asks Ask2 = 1
-asks (Wait2 c) = 2
-asks (HeadAt i) = 2
-asks Ask3 = 2
-asks (Wait3 c) = 3
+asks (Patch w x rest) = 3 - syncs_in rest
+asks (AskSync rest) = 2 - syncs_in rest
+asks (WaitSync rest c) = 3 - syncs_in rest
 asks _ = 0
 
--- what CPU c has acknowledged, as far as control knows; `base` is the number of requests before the batch
+-- what each CPU has acknowledged after so many syncs of the batch; `base` is the number of requests before it
+abbrev pub synced : ℕ → ℕ → ℕ
+synced base zero = 0
+synced base (suc k) = base + suc k
+
+-- what CPU c has acknowledged, as far as control knows
 abbrev pub reached : ℕ → Position → ℕ → ℕ
-reached base (Wait1 k) c = if nat_lt c k then base + 1 else 0
-reached base (TailAt i) c = base + 1
-reached base Ask2 c = base + 1
-reached base (Wait2 k) c = if nat_lt c k then base + 2 else base + 1
-reached base (HeadAt i) c = base + 2
-reached base Ask3 c = base + 2
-reached base (Wait3 k) c = if nat_lt c k then base + 3 else base + 2
+reached base (Patch w x rest) c = synced base (3 - syncs_in rest)
+reached base (AskSync rest) c = synced base (2 - syncs_in rest)
+reached base (WaitSync rest k) c = if nat_lt c k then synced base (3 - syncs_in rest) else synced base (2 - syncs_in rest)
 reached base _ c = 0
 
--- what control's position names is there: a site that the command changes, a word of a set, a trampoline that the user has
+-- the batch of the command after the first d has this move, and these after it
+abbrev pub IsMove : Job → ℕ → Move → List Move → Type 0
+IsMove job d m rest = (before : List Move) × (moves job d ≡ before ++ m ∷ rest)
+
+-- what control's position names is there: a move of the batch, a word of a set, a trampoline that the user has
 abbrev pub PositionAt : Job → ℕ → Position → Type 0
-PositionAt job d (NextAt i) = (changes job d i ≡ true) × (i < funcs job)
-PositionAt job d (BreakAt i) = (changes job d i ≡ true) × (i < funcs job)
-PositionAt job d (TailAt i) = (changes job d i ≡ true) × (i < funcs job)
-PositionAt job d (HeadAt i) = (changes job d i ≡ true) × (i < funcs job)
+PositionAt job d (Patch w x rest) = IsMove job d (Put w x) rest
+PositionAt job d (AskSync rest) = IsMove job d Sync rest
+PositionAt job d (WaitSync rest c) = IsMove job d Sync rest
 PositionAt job d (Copy half w) = (half < 2) × (w < set_words job)
 PositionAt job d Take = has_slot_at job (suc d) (subject job d) ≡ true
 PositionAt job d Release = has_slot_at job d (subject job d) ≡ true
 PositionAt job d _ = Unit {0}
+
+-- ## the words of a site
 
 -- The words of a site, by its stage n, with the numbers of its old and its new instruction.
 --   before, broken, after   the first byte. Without `broken` a CPU could load the old first byte and then the new tail

@@ -55,14 +55,10 @@ module _ (job : Job) (ok : IsWellFormed job) (d : ℕ) where
           → ((state_of job d (subject job d)).registered ≡ true → state_of job (suc d) (subject job d) ≡ state_of job d (subject job d))
           × ((state_of job (suc d) (subject job d)).registered ≡ (state_of job d (subject job d)).registered)
           × ((state_of job (suc d) (subject job d)).reg ≡ (state_of job d (subject job d)).reg)
-      by_effect Adds c x = false_true (sym x)
-      by_effect Removes c x = false_true (sym x)
-      by_effect Edits c x = false_true (sym x)
-      by_effect Enables c x = false_true (sym x)
-      by_effect Disables c x = false_true (sym x)
       by_effect Lists c x = ((λ r. c), ap (λ (s : UserState). s.registered) c, ap (λ (s : UserState). s.reg) c)
       by_effect Levels c x = ((λ r. c), ap (λ (s : UserState). s.registered) c, ap (λ (s : UserState). s.reg) c)
       by_effect Nothing c x = (c.1, c.0.registered, c.0.reg)
+      by_effect _ c x = false_true (sym x)
 
   -- a trampoline that a user has afterwards it had before, but for a new user
   slot_back : (effect job d ≡ Adds → has_slot_at job (suc d) (subject job d) ≡ false) → (u t : ℕ) → HasSlot (state_of job (suc d) u) t
@@ -83,11 +79,10 @@ module _ (job : Job) (ok : IsWellFormed job) (d : ℕ) where
       by_effect Adds e c x = false_true (sym (none e) ∙ slot_there (state_of job (suc d) (subject job d)).slot x.1)
       by_effect Removes e c x = false_true (sym (ap (λ (s : UserState). s.registered) c.1) ∙ x.0)
       by_effect Edits e c x = ((sym c.1.registered ∙ x.0, sym c.1.slot ∙ x.1), c.1.reg)
-      by_effect Enables e c x = (subst (λ (s : UserState). HasSlot s t) c.1 x, ap (λ (s : UserState). s.reg) c.1)
-      by_effect Disables e c x = (subst (λ (s : UserState). HasSlot s t) c.1 x, ap (λ (s : UserState). s.reg) c.1)
       by_effect Lists e c x = (subst (λ (s : UserState). HasSlot s t) c x, ap (λ (s : UserState). s.reg) c)
       by_effect Levels e c x = (subst (λ (s : UserState). HasSlot s t) c x, ap (λ (s : UserState). s.reg) c)
       by_effect Nothing e c x = ((sym c.0.registered ∙ x.0, sym c.0.slot ∙ x.1), c.0.reg)
+      by_effect _ e c x = (subst (λ (s : UserState). HasSlot s t) c.1 x, ap (λ (s : UserState). s.reg) c.1)
 
   pids_same : is_lists (effect job d) ≡ false → (t : ℕ) → is_allowed (desk job (suc d)) t ≡ is_allowed (desk job d) t
   pids_same none t = let e = (between job ok d).lists none in λ i. ((is_empty (e.0 i) || holds (e.0 i) t) && not (holds (e.1 i) t))
@@ -148,13 +143,7 @@ module _ (job : Job) (ok : IsWellFormed job) (d : ℕ) where
       where
         none_line : (z : Effect) → gave z Line ≡ true → ⊥
         none_line Removes e = false_true e
-        none_line Adds e = false_true e
-        none_line Edits e = false_true e
-        none_line Enables e = false_true e
-        none_line Disables e = false_true e
-        none_line Lists e = false_true e
-        none_line Levels e = false_true e
-        none_line Nothing e = false_true e
+        none_line _ e = false_true e
 
     limits_begin : (pids depth : ℕ) → PidsAndDepth job d Line pids depth → PidsAndDepth job d p' pids depth
     limits_begin pids depth k = record { tasks = by_pids (pids_stored p') refl; level = by_depth (depth_stored p') refl }

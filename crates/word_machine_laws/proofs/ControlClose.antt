@@ -14,7 +14,7 @@ use Rattle.ft_hist.specs.Rules.{IsLegalPast, MayReturn, IsStill, waits_before}
 use Rattle.ft_hist.proofs.Laws.{plain-other}
 use Rattle.word_map.specs.Words.{Words}
 use Rattle.word_map.specs.Contents.{low}
-use Rattle.word_machine.specs.Commands.{Effect, Adds, Removes, Edits, Enables, Disables, Lists, Levels, Nothing, effect, effect_in, effect_by, subject, subject_in, state_of, command}
+use Rattle.word_machine.specs.Commands.{Effect, Adds, Removes, Edits, Disables, Lists, Levels, Nothing, effect, effect_in, effect_by, subject, subject_in, state_of, command}
 use Rattle.word_map.specs.Ops.{Mark}
 use Rattle.word_machine.specs.Control.{Position, Line, Close, answer_in, rest_lines, control_got}
 use Rattle.word_machine.specs.Cpu.{Cpu}
@@ -77,24 +77,17 @@ tramps_close job ok d tramp k = record {
   where
     none : (z : Effect) → gave z Line ≡ true → ⊥
     none Removes e = false_true e
-    none Adds e = false_true e
-    none Edits e = false_true e
-    none Enables e = false_true e
-    none Disables e = false_true e
-    none Lists e = false_true e
-    none Levels e = false_true e
-    none Nothing e = false_true e
+    none _ e = false_true e
 
     by_effect : (t : ℕ) (z : Effect) → SubjectBy job (desk job d) (suc d) z (state_of job d (subject job d)) (state_of job (suc d) (subject job d))
         → HasSlot (state_of job d (subject job d)) t → (HasSlot (state_of job (suc d) (subject job d)) t → ⊥) → gave z Close ≡ true
     by_effect t Removes c h out = refl
     by_effect t Adds c h out = false_true (sym c.0 ∙ h.0)
     by_effect t Edits c h out = absurd (out (c.1.registered ∙ h.0, c.1.slot ∙ h.1))
-    by_effect t Enables c h out = absurd (out (subst (λ (s : UserState). HasSlot s t) (sym c.1) h))
-    by_effect t Disables c h out = absurd (out (subst (λ (s : UserState). HasSlot s t) (sym c.1) h))
     by_effect t Lists c h out = absurd (out (subst (λ (s : UserState). HasSlot s t) (sym c) h))
     by_effect t Levels c h out = absurd (out (subst (λ (s : UserState). HasSlot s t) (sym c) h))
     by_effect t Nothing c h out = absurd (out (subst (λ (s : UserState). HasSlot s t) (sym (c.1 h.0)) h))
+    by_effect t _ c h out = absurd (out (subst (λ (s : UserState). HasSlot s t) (sym c.1) h))
 
     gone : (t u : ℕ) → HasSlot (state_of job d u) t → ((v : ℕ) → HasSlot (state_of job (suc d) v) t → ⊥)
         → (gave (effect job d) Close ≡ true) × (u ≡ subject job d)

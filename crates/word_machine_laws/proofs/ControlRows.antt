@@ -8,19 +8,17 @@ use Rattle.ft_base.specs.Job.{Job, no_task, Ctl, Run, Until}
 use Rattle.ft_base.specs.Desk.{desk}
 use Rattle.ft_hist.specs.Plain.{plain, PlainTask}
 use Rattle.ft_hist.specs.Rules.{acts_passed}
-use Rattle.site_bytes.specs.Bytes.{breakpoint}
-use Rattle.word_map.specs.Words.{Words, Want, Pids, Depth, Head, Tail, Next, Ack, Quiet, Tramp, Link, Sel, Bits}
+use Rattle.word_map.specs.Words.{Words, Want, Pids, Depth, Ack, Quiet, Tramp, Link, Sel, Bits}
 use Rattle.word_map.specs.Contents.{sel_of, tramp_word, set_word, mask_of, other_copy}
-use Rattle.word_map.specs.Instructions.{head_of, tail_of}
-use Rattle.word_machine.specs.Commands.{effect, subject, state_of, command, insn}
+use Rattle.word_machine.specs.Commands.{effect, subject, state_of, command}
 use Rattle.word_map.specs.Ops.{WordOp, Load, Store, Mark}
-use Rattle.word_machine.specs.Control.{Position, Line, Take, Copy, Select, Push, Relink, StorePids, StoreDepth, NextAt, BreakAt, Ask1, Wait1, TailAt, Ask2, Wait2, HeadAt, Ask3, Wait3, AskQuiet, WaitQuiet, Release, Close, copy_after, slot_of, name_of, relink_op, answer_in, line_op, next_in, control_next}
+use Rattle.word_machine.specs.Control.{Position, Line, Take, Copy, Select, Push, Relink, StorePids, StoreDepth, Patch, AskSync, WaitSync, AskQuiet, WaitQuiet, Release, Close, copy_after, slot_of, name_of, relink_op, answer_in, line_op, next_in, control_next}
 use Rattle.word_machine.specs.Cpu.{Cpu}
 use Rattle.word_machine.specs.Machine.{World, control_row}
 use Rattle.word_machine.specs.Tasks.{TaskRule}
 use Rattle.word_machine.specs.Rule.{MachineRule, IsWordJob, task_in}
 use Rattle.word_machine_laws.proofs.NoSwitch.{world, hereby}
-use Rattle.word_machine_laws.proofs.SiteRows.{next_keeps, break_keeps, ask1_keeps, wait1_keeps, tail_keeps, ask2_keeps, wait2_keeps, head_keeps, ask3_keeps, wait3_keeps}
+use Rattle.word_machine_laws.proofs.SiteRows.{patch_keeps, ask_keeps, wait_keeps}
 use Rattle.word_machine_laws.proofs.QuietRows.{ask_quiet_keeps, wait_quiet_keeps}
 use Rattle.word_machine_laws.proofs.SetCopy.{copy_keeps}
 use Rattle.word_machine_laws.proofs.SetSelect.{select_keeps}
@@ -82,19 +80,9 @@ module _ (job : Job) (ok : IsWordJob job) (ws : Words) (d : ℕ) (request : ℕ)
         (pids_keeps job ok.job' ws d remaining request copies order cpus past k)
     by_place StoreDepth op k is = row StoreDepth (Store Depth (desk job (suc d)).depth) op is
         (depth_keeps job ok.job' ws d remaining request copies order cpus past k)
-    by_place (NextAt f) op k is = row (NextAt f) (Store (Next f) (insn job (suc d) f)) op is
-        (next_keeps job d remaining copies order cpus past ws request f k)
-    by_place (BreakAt f) op k is = row (BreakAt f) (Store (Head f) breakpoint) op is (break_keeps job d remaining copies order cpus past ws request f k)
-    by_place Ask1 op k is = row Ask1 (Store Want (suc request)) op is (ask1_keeps job d remaining copies order cpus past ws request k)
-    by_place (Wait1 c) op k is = row (Wait1 c) (Load (Ack c)) op is (wait1_keeps job d remaining copies order cpus past ws request c k)
-    by_place (TailAt f) op k is = row (TailAt f) (Store (Tail f) (tail_of f (insn job (suc d) f))) op is
-        (tail_keeps job d remaining copies order cpus past ws request f k)
-    by_place Ask2 op k is = row Ask2 (Store Want (suc request)) op is (ask2_keeps job d remaining copies order cpus past ws request k)
-    by_place (Wait2 c) op k is = row (Wait2 c) (Load (Ack c)) op is (wait2_keeps job d remaining copies order cpus past ws request c k)
-    by_place (HeadAt f) op k is = row (HeadAt f) (Store (Head f) (head_of (insn job (suc d) f))) op is
-        (head_keeps job d remaining copies order cpus past ws request f k)
-    by_place Ask3 op k is = row Ask3 (Store Want (suc request)) op is (ask3_keeps job d remaining copies order cpus past ws request k)
-    by_place (Wait3 c) op k is = row (Wait3 c) (Load (Ack c)) op is (wait3_keeps job d remaining copies order cpus past ws request c k)
+    by_place (Patch w x rest) op k is = row (Patch w x rest) (Store w x) op is (patch_keeps job d remaining copies order cpus past ws request w x rest k)
+    by_place (AskSync rest) op k is = row (AskSync rest) (Store Want (suc request)) op is (ask_keeps job d remaining copies order cpus past ws request rest k)
+    by_place (WaitSync rest c) op k is = row (WaitSync rest c) (Load (Ack c)) op is (wait_keeps job d remaining copies order cpus past ws request rest c k)
     by_place AskQuiet op k is = row AskQuiet (Store Want (suc request)) op is (ask_quiet_keeps job d remaining copies order cpus past ws request k)
     by_place (WaitQuiet t) op k is = row (WaitQuiet t) (Load (Quiet t)) op is (wait_quiet_keeps job d remaining copies order cpus past ws request t k)
     by_place Release op k is = row Release (Store (Tramp (slot_of (state_of job d (subject job d)).slot)) 0) op is

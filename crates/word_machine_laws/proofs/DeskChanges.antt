@@ -127,13 +127,11 @@ module _ (job : Job) (ok : IsWellFormed job) where
           ⊎ (((state_of job (suc k) (subject job k)).since ≡ suc k) × ((state_of job k (subject job k)).registered ≡ false)
           × (subject job k ≡ subject job k) × (effect job k ≡ Adds))
       by_effect Adds z s = inr (ap (λ (x : UserState). x.since) s.1, s.0, refl, z)
-      by_effect Removes z s = inl (ap (λ (x : UserState). x.since) s.1)
       by_effect Edits z s = inl s.1.since
-      by_effect Enables z s = inl (ap (λ (x : UserState). x.since) s.1)
-      by_effect Disables z s = inl (ap (λ (x : UserState). x.since) s.1)
       by_effect Lists z s = inl (ap (λ (x : UserState). x.since) s)
       by_effect Levels z s = inl (ap (λ (x : UserState). x.since) s)
       by_effect Nothing z s = inl s.0.since
+      by_effect _ z s = inl (ap (λ (x : UserState). x.since) s.1)
 
   -- it never falls, and is at most the command's number
   pub since-more : (k u : ℕ) → (state_of job k u).since ≤ k → (state_of job k u).since ≤ (state_of job (suc k) u).since
@@ -178,13 +176,11 @@ module _ (job : Job) (ok : IsWellFormed job) where
           → ((state_of job (suc k) (subject job k)).since ≡ (state_of job k (subject job k)).since)
           × ((state_of job (suc k) (subject job k)).reg ≡ (state_of job k (subject job k)).reg)
       by_effect Adds s r = false_true (sym s.0 ∙ r)
-      by_effect Removes s r = (ap (λ (x : UserState). x.since) s.1, ap (λ (x : UserState). x.reg) s.1)
       by_effect Edits s r = (s.1.since, s.1.reg)
-      by_effect Enables s r = (ap (λ (x : UserState). x.since) s.1, ap (λ (x : UserState). x.reg) s.1)
-      by_effect Disables s r = (ap (λ (x : UserState). x.since) s.1, ap (λ (x : UserState). x.reg) s.1)
       by_effect Lists s r = (ap (λ (x : UserState). x.since) s, ap (λ (x : UserState). x.reg) s)
       by_effect Levels s r = (ap (λ (x : UserState). x.since) s, ap (λ (x : UserState). x.reg) s)
       by_effect Nothing s r = (s.0.since, s.0.reg)
+      by_effect _ s r = (ap (λ (x : UserState). x.since) s.1, ap (λ (x : UserState). x.reg) s.1)
 
   -- the numbers of registrations tell users apart
   pub since-unique : (k v u : ℕ) → 0 < (state_of job k v).since → (state_of job k v).since ≡ (state_of job k u).since → v ≡ u
@@ -221,13 +217,10 @@ module _ (job : Job) (ok : IsWellFormed job) where
           → (state_of job (suc k) (subject job k)).registered ≡ true
           → ((state_of job k (subject job k)).registered ≡ true) ⊎ ((state_of job (suc k) (subject job k)).since ≡ suc k)
       by_effect Adds s r = inr (ap (λ (x : UserState). x.since) s.1)
-      by_effect Removes s r = inl s.0
-      by_effect Edits s r = inl s.0
-      by_effect Enables s r = inl s.0
-      by_effect Disables s r = inl s.0
       by_effect Lists s r = inl (sym (ap (λ (x : UserState). x.registered) s) ∙ r)
       by_effect Levels s r = inl (sym (ap (λ (x : UserState). x.registered) s) ∙ r)
       by_effect Nothing s r = inl (sym s.0.registered ∙ r)
+      by_effect _ s r = inl s.0
 
   pub since-positive : (k u : ℕ) → (state_of job k u).registered ≡ true → 0 < (state_of job k u).since
   unfolding desk

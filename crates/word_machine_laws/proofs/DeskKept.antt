@@ -86,13 +86,9 @@ module _ (job : Job) (ok : IsWellFormed job) (d : ℕ) where
           → R (state_of job d (subject job d))
           → (waits z ≡ true) ⊎ R (state_of job (suc d) (subject job d))
       by_effect Adds c x = false_true (sym c.0 ∙ (steady (state_of job d (subject job d)) x).0)
-      by_effect Removes c x = inl refl
-      by_effect Edits c x = inl refl
       by_effect Enables c x = inr (subst R (sym c.1) (steady (state_of job d (subject job d)) x).1)
-      by_effect Disables c x = inl refl
-      by_effect Lists c x = inl refl
-      by_effect Levels c x = inl refl
       by_effect Nothing c x = inr (subst R (sym (c.1 (steady (state_of job d (subject job d)) x).0)) x)
+      by_effect _ c x = inl refl
 
   alike_by : patches (effect job d) ≡ false → (u : ℕ) → Alike (state_of job d u) (state_of job (suc d) u)
   alike_by none u = elim (cases_eq u (subject job d)) [
@@ -140,14 +136,13 @@ module _ (job : Job) (ok : IsWellFormed job) (d : ℕ) where
           → relinks z ≡ false
           → ((state_of job (suc d) (subject job d)).registered ≡ (state_of job d (subject job d)).registered)
           × ((state_of job (suc d) (subject job d)).since ≡ (state_of job d (subject job d)).since)
-      by_effect Adds c x = false_true (sym x)
-      by_effect Removes c x = false_true (sym x)
       by_effect Edits c x = (c.1.registered, c.1.since)
       by_effect Enables c x = (ap (λ (y : UserState). y.registered) c.1, ap (λ (y : UserState). y.since) c.1)
       by_effect Disables c x = (ap (λ (y : UserState). y.registered) c.1, ap (λ (y : UserState). y.since) c.1)
       by_effect Lists c x = (ap (λ (y : UserState). y.registered) c, ap (λ (y : UserState). y.since) c)
       by_effect Levels c x = (ap (λ (y : UserState). y.registered) c, ap (λ (y : UserState). y.since) c)
       by_effect Nothing c x = (c.0.registered, c.0.since)
+      by_effect _ c x = false_true (sym x)
 
   -- its list is then the list of the desk that is begun
   pub order_flips : relinks (effect job d) ≡ false → (order : List ℕ) → IsOrder (desk job d) d order → IsOrder (desk job (suc d)) (suc d) order

@@ -10,7 +10,7 @@ use Rattle.ft_base.specs.WellFormed.{IsWellFormed}
 use Rattle.ft_base.specs.Desk.{Desk, UserState, desk, user_at, unseen, is_sited, is_matching, sited, sited_from, target, target_by}
 use Rattle.ft_base.proofs.Small.{false_true, and_both}
 use Rattle.word_map.specs.Instructions.{code_by}
-use Rattle.word_machine.specs.Commands.{Effect, Adds, Removes, Edits, Enables, Disables, Lists, Levels, Nothing, effect, subject, state_of, insn, changes}
+use Rattle.word_machine.specs.Commands.{Effect, Adds, Enables, Nothing, effect, subject, state_of, insn, changes}
 use Rattle.word_machine.specs.Progress.{waits}
 use Rattle.word_machine.specs.Trampolines.{HasSlot}
 use Rattle.word_machine_laws.proofs.DeskChanges.{SubjectBy, between}
@@ -93,14 +93,10 @@ module _ (job : Job) (ok : IsWellFormed job) where
           → (state_of job d (subject job d)).registered ≡ true
           → P (state_of job d (subject job d)) → u ≡ subject job d
           → (waits z ≡ true) ⊎ ((is_sited (desk job (suc d)) u f ≡ true) × HasSlot (state_of job (suc d) u) t)
-      by_effect Removes x r o e = inl refl
-      by_effect Edits x r o e = inl refl
-      by_effect Disables x r o e = inl refl
-      by_effect Lists x r o e = inl refl
-      by_effect Levels x r o e = inl refl
       by_effect Adds x r o e = false_true (sym x.0 ∙ r)
       by_effect Enables x r o e = inr (subst (λ y. P (state_of job (suc d) y)) (sym e) (subst P (sym x.1) o))
       by_effect Nothing x r o e = inr (subst (λ y. P (state_of job (suc d) y)) (sym e) (subst P (sym (x.1 r)) o))
+      by_effect _ x r o e = inl refl
 
 pub unchanged : (job : Job) (d f : ℕ) → changes job d f ≡ false → insn job d f ≡ insn job (suc d) f
 unchanged job d f e = elim (cases_eq (insn job d f) (insn job (suc d) f))

@@ -93,11 +93,10 @@ module _ (job : Job) (ok : IsWellFormed job) where
       by_effect Adds s h old = lowest-small (is_free (desk job k)) job.tramps t (sym (ap (λ (x : UserState). x.slot) s.1) ∙ h.1)
       by_effect Removes s h old = false_true (sym (ap (λ (x : UserState). x.registered) s.1) ∙ h.0)
       by_effect Edits s h old = old (s.0, sym s.1.slot ∙ h.1)
-      by_effect Enables s h old = old (s.0, sym (ap (λ (x : UserState). x.slot) s.1) ∙ h.1)
-      by_effect Disables s h old = old (s.0, sym (ap (λ (x : UserState). x.slot) s.1) ∙ h.1)
       by_effect Lists s h old = old (subst (λ (x : UserState). HasSlot x t) s h)
       by_effect Levels s h old = old (subst (λ (x : UserState). HasSlot x t) s h)
       by_effect Nothing s h old = old (sym s.0.registered ∙ h.0, sym s.0.slot ∙ h.1)
+      by_effect _ s h old = old (s.0, sym (ap (λ (x : UserState). x.slot) s.1) ∙ h.1)
 
   pub insn-small : (k f : ℕ) → insn job k f < 2 + job.tramps
   insn-small k f = by (insn job k f) (insn-says job k f)

@@ -12,14 +12,15 @@ pub mod DeskSlots
 pub mod Room
 pub mod TasksOf
 pub mod Start
--- what a row does to what tasks know: a store, an item, a stage of a site, a row of control
+-- what a row does to what tasks know: a store, an item, a move of a batch, a stage of a site, a row of control
 pub mod Seen
 pub mod Carried
+pub mod Batches
 pub mod Sites
 pub mod Goes
 pub mod NoSwitch
 -- control's rows in a command: sites, list, copies, trampolines, traced tasks and depth
-pub mod SiteSweeps
+pub mod SiteSyncs
 pub mod SiteRows
 pub mod UserList
 pub mod ListRows

@@ -18,7 +18,7 @@ use Rattle.word_machine_laws.proofs.Sites.{Fetches, Passed, passed_same}
 use Rattle.word_machine_laws.proofs.Goes.{Goes, cpu_goes}
 use Rattle.word_machine_laws.proofs.NoSwitch.{world, hereby, seen_on, read_still, walk_still, tramps_on, listed_on, sets_on, counts_on, lines_on, begun_more}
 use Rattle.word_machine_laws.proofs.DeskKept.{none_changes}
-use Rattle.word_machine_laws.proofs.Effects.{none_ask, none_pids, what_waits_pids, none_depth, what_waits_depth}
+use Rattle.word_machine_laws.proofs.Effects.{what_waits_pids, what_waits_depth, none_gave}
 
 goes_pids : (job : Job) (d base request : ℕ) (order : List ℕ) (copies link : ℕ → ℕ) (bits : ℕ → ℕ → ℕ → ℕ → ℕ) → is_lists (effect job d) ≡ true → (ack q : ℕ)
     → Fetches job ack d StorePids base d AskQuiet base
@@ -56,7 +56,7 @@ pids_keeps job ok ws d remaining request copies order cpus past k =
       sites = pass.sites;
       list = listed_on job d StorePids AskQuiet order ws.first ws.link refl tt k.list;
       sets = sets_on job d StorePids AskQuiet copies ws.sel ws.bits refl tt k.sets;
-      tramps = tramps_on job d StorePids AskQuiet refl (none_ask (effect job d) ∙ sym (none_pids (effect job d))) ws.tramp k.tramps;
+      tramps = tramps_on job d StorePids AskQuiet refl (none_gave (effect job d) AskQuiet refl ∙ sym (none_gave (effect job d) StorePids refl)) ws.tramp k.tramps;
       limits = record { tasks = refl; level = k.limits.level };
       cpus = λ c within.
           cpu_goes job past (hereby d StorePids k.base request order copies ws.link ws.bits) (hereby d AskQuiet k.base request order copies ws.link ws.bits)
@@ -103,7 +103,7 @@ depth_keeps job ok ws d remaining request copies order cpus past k =
       sites = pass.sites;
       list = listed_on job d StoreDepth AskQuiet order ws.first ws.link refl tt k.list;
       sets = sets_on job d StoreDepth AskQuiet copies ws.sel ws.bits refl tt k.sets;
-      tramps = tramps_on job d StoreDepth AskQuiet refl (none_ask (effect job d) ∙ sym (none_depth (effect job d))) ws.tramp k.tramps;
+      tramps = tramps_on job d StoreDepth AskQuiet refl (none_gave (effect job d) AskQuiet refl ∙ sym (none_gave (effect job d) StoreDepth refl)) ws.tramp k.tramps;
       limits = record { tasks = k.limits.tasks; level = refl };
       cpus = λ c within.
           cpu_goes job past (hereby d StoreDepth k.base request order copies ws.link ws.bits) (hereby d AskQuiet k.base request order copies ws.link ws.bits)

@@ -12,7 +12,7 @@ use Rattle.word_map.specs.Words.{Words, put, at_put, First, Link}
 use Rattle.word_map.specs.Contents.{low}
 use Rattle.word_machine.specs.Commands.{Effect, Adds, Removes, Edits, Enables, Disables, Lists, Levels, Nothing, effect, subject, state_of}
 use Rattle.word_map.specs.Ops.{Store}
-use Rattle.word_machine.specs.Control.{Position, Push, Relink, batch, name_of, follower, namer_from, relink_op, relinked, control_got}
+use Rattle.word_machine.specs.Control.{Position, Push, Relink, batch_first, name_of, follower, namer_from, relink_op, relinked, control_got}
 use Rattle.word_machine.specs.Cpu.{Cpu}
 use Rattle.word_machine.specs.Machine.{control_row, words_after, past_after}
 use Rattle.word_machine.specs.Progress.{selected, pids_stored, depth_stored, desk_by, is_adds, relinks, patches}
@@ -21,13 +21,13 @@ use Rattle.word_machine.specs.Rule.{MachineRule}
 use Rattle.word_machine_laws.proofs.DeskChanges.{SubjectBy, between, since-step, numbers-kept}
 use Rattle.word_machine.proofs.Small.{put_same, each_of}
 use Rattle.word_machine_laws.proofs.Sites.{Fetches, Passed, passed_same}
-use Rattle.word_machine_laws.proofs.SiteSweeps.{enter_row}
+use Rattle.word_machine_laws.proofs.SiteSyncs.{enter_row}
 use Rattle.word_machine_laws.proofs.Goes.{Goes, cpu_goes}
 use Rattle.word_machine_laws.proofs.NoSwitch.{world, hereby, Flags, seen_on, read_still, goes_still, tramps_on, sets_on, limits_on, counts_on, lines_on, begun_more}
 use Rattle.word_machine_laws.proofs.SiteRows.{InBatch, in_batch}
 use Rattle.word_machine_laws.proofs.DeskKept.{order_next, sort_adds, sort_removes}
 use Rattle.word_machine_laws.proofs.UserList.{Among, among_of, has_of, Falls, falls_of, without_user, WalkOn, reads_name, reads_other, reads_older, push_reads, namer, namer_word, namer_later, unlink_reads, without_older, unlink_walker, without_filter}
-use Rattle.word_machine_laws.proofs.Effects.{adds_of, relinks_patches, none_push, none_relink}
+use Rattle.word_machine_laws.proofs.Effects.{adds_of, relinks_patches, none_gave}
 
 module _ (job : Job) (ok : IsWellFormed job) (ws : Words) (d : ℕ) (remaining : List Ctl) (request : ℕ) (copies : ℕ → ℕ) (cpus : ℕ
     → Cpu) (past : List Item) where
@@ -73,7 +73,7 @@ module _ (job : Job) (ok : IsWellFormed job) (ws : Words) (d : ℕ) (remaining :
           pushed = λ e. put_same ws.link (subject job d) (name_of order);
         };
         sets = sets_on job d Push Relink copies ws.sel ws.bits refl tt k.sets;
-        tramps = tramps_on job d Push Relink refl (none_relink (effect job d) ∙ sym (none_push (effect job d))) ws.tramp k.tramps;
+        tramps = tramps_on job d Push Relink refl (none_gave (effect job d) Relink refl ∙ sym (none_gave (effect job d) Push refl)) ws.tramp k.tramps;
         limits = limits_on job d Push Relink ws.pids ws.depth refl refl k.limits;
         cpus = λ c within.
             cpu_goes job past (hereby d Push k.base request order copies ws.link ws.bits)
@@ -102,47 +102,47 @@ module _ (job : Job) (ok : IsWellFormed job) (ws : Words) (d : ℕ) (remaining :
 
   relink_to : (order order' : List ℕ) (first' : ℕ) (link' : ℕ → ℕ) → (k : At order Relink) → IsOrder (desk job (suc d)) (suc d) order'
       → Leads link' first' order'
-      → ((q u : ℕ) → has u order ≡ true → ListWalk link' (since_of job (suc d)) order' (Unlinked job d (batch job d) request q u) u)
-      → MachineRule job (world (record ws { first = first'; link = link' }) d remaining request copies order' cpus past (batch job d))
+      → ((q u : ℕ) → has u order ≡ true → ListWalk link' (since_of job (suc d)) order' (Unlinked job d (batch_first job d) request q u) u)
+      → MachineRule job (world (record ws { first = first'; link = link' }) d remaining request copies order' cpus past (batch_first job d))
   relink_to order order' first' link' k orders reads walks =
       let fit : patches (effect job d) ≡ true = relinks_patches (effect job d) k.sites.fit in
-      let b : InBatch job d (batch job d) = in_batch job d fit in
-      let pass : Passed job ws.ack d Relink k.base request d (batch job d) k.base request ws.want ws.head ws.tail ws.next =
+      let b : InBatch job d (batch_first job d) = in_batch job d fit in
+      let pass : Passed job ws.ack d Relink k.base request d (batch_first job d) k.base request ws.want ws.head ws.tail ws.next =
       enter_row job d ws.ack k.base request ws.want ws.head ws.tail ws.next Relink fit (λ f. refl) refl refl k.sites in
       record {
         base = k.base;
-        counts = counts_on d Relink (batch job d) ws.clock past b.begun k.counts;
+        counts = counts_on d Relink (batch_first job d) ws.clock past b.stored.begun k.counts;
         legal = k.legal;
         runs = k.runs;
-        lines = lines_on job d Relink (batch job d) remaining _ (b.to remaining) k.lines;
+        lines = lines_on job d Relink (batch_first job d) remaining _ (b.stored.to remaining) k.lines;
         sites = pass.sites;
         list = record {
           order' = subst (λ y. IsOrder (desk job (desk_by y d)) (desk_by y d) order') (sym b.list) orders;
           leads = reads;
           pushed = b.pushed link' order';
         };
-        sets = sets_on job d Relink (batch job d) copies ws.sel ws.bits b.select (b.written (state_of job (suc d) (subject job d)) _) k.sets;
-        tramps = tramps_on job d Relink (batch job d) b.take (b.give ∙ sym (none_relink (effect job d))) ws.tramp k.tramps;
-        limits = limits_on job d Relink (batch job d) ws.pids ws.depth b.pids b.depth k.limits;
+        sets = sets_on job d Relink (batch_first job d) copies ws.sel ws.bits b.stored.select (b.stored.written (state_of job (suc d) (subject job d)) _) k.sets;
+        tramps = tramps_on job d Relink (batch_first job d) b.stored.take (b.stored.give ∙ sym (none_gave (effect job d) Relink refl)) ws.tramp k.tramps;
+        limits = limits_on job d Relink (batch_first job d) ws.pids ws.depth b.stored.pids b.stored.depth k.limits;
         cpus = λ c within.
             cpu_goes job past (hereby d Relink k.base request order copies ws.link ws.bits)
-            (hereby d (batch job d) k.base request order' copies link' ws.bits) (ws.ack c) ws.quiet c (cpus c)
+            (hereby d (batch_first job d) k.base request order' copies link' ws.bits) (ws.ack c) ws.quiet c (cpus c)
             (begun_more d Relink ws.clock past k.counts) (omega arith)
-            (pass.reach c within) (λ t there r. rw (b.quiet request t) (omega arith))
+            (pass.reach c within) (λ t there r. rw (b.stored.quiet request t) (omega arith))
             (λ t there r a qr small. goes b k (ws.ack c) (low (ws.quiet t)) (pass.fetch c within r a))
             (k.cpus c within);
       }
     where
-      goes : (b : InBatch job d (batch job d)) (k : At order Relink) (ack q : ℕ) → Fetches job ack d Relink k.base d (batch job d) k.base
-          → Goes job (hereby d Relink k.base request order copies ws.link ws.bits) (hereby d (batch job d) k.base request order' copies link' ws.bits) ack q
+      goes : (b : InBatch job d (batch_first job d)) (k : At order Relink) (ack q : ℕ) → Fetches job ack d Relink k.base d (batch_first job d) k.base
+          → Goes job (hereby d Relink k.base request order copies ws.link ws.bits) (hereby d (batch_first job d) k.base request order' copies link' ws.bits) ack q
       goes b k ack q fetch = record {
         later = omega arith;
         fetch = fetch;
-        user = λ u R steady s. seen_on (effect job d) Relink (batch job d) request request q true (selected (batch job d)) (R (state_of job d u))
-            (R (state_of job (suc d) u)) b.select (λ h. b.hold request q) s;
-        reads = λ u copy R steady s. read_still job d Relink (batch job d) request request q (λ h. b.hold request q) copies ws.bits u copy R b.select s;
+        user = λ u R steady s. seen_on (effect job d) Relink (batch_first job d) request request q true (selected (batch_first job d)) (R (state_of job d u))
+            (R (state_of job (suc d) u)) b.stored.select (λ h. b.stored.hold request q) s;
+        reads = λ u copy R steady s. read_still job d Relink (batch_first job d) request request q (λ h. b.stored.hold request q) copies ws.bits u copy R b.stored.select s;
         walks = λ u w. elim w [
-          | inl x ↦ subst (λ y. ListWalk link' (since_of job (desk_by y d)) order' (Unlinked job d (batch job d) request q u) u) (sym b.list) (walks q u x)
+          | inl x ↦ subst (λ y. ListWalk link' (since_of job (desk_by y d)) order' (Unlinked job d (batch_first job d) request q u) u) (sym b.list) (walks q u x)
           | inr x ↦ false_true x.0.0
         ];
         walked = λ u w. elim w [
@@ -151,15 +151,15 @@ module _ (job : Job) (ok : IsWellFormed job) (ws : Words) (d : ℕ) (remaining :
         ];
         since = λ u. subst (λ y. (since_of job (desk_by y d) u ≡ since_of job d u) ⊎ ((state_of job d u).registered ≡ false)) (sym b.list)
             (elim (since-step job ok d u) [ inl x ↦ inl x | inr x ↦ inr x.1 ]);
-        pids = λ t x s. seen_on (effect job d) Relink (batch job d) request request q true (pids_stored (batch job d)) (is_allowed (desk job d) t ≡ x)
-            (is_allowed (desk job (suc d)) t ≡ x) b.pids (λ h. b.hold request q) s;
-        depth = λ Q s. seen_on (effect job d) Relink (batch job d) request request q true (depth_stored (batch job d)) (Q (desk job d).depth)
-            (Q (desk job (suc d)).depth) b.depth (λ h. b.hold request q) s;
+        pids = λ t x s. seen_on (effect job d) Relink (batch_first job d) request request q true (pids_stored (batch_first job d)) (is_allowed (desk job d) t ≡ x)
+            (is_allowed (desk job (suc d)) t ≡ x) b.stored.pids (λ h. b.stored.hold request q) s;
+        depth = λ Q s. seen_on (effect job d) Relink (batch_first job d) request request q true (depth_stored (batch_first job d)) (Q (desk job d).depth)
+            (Q (desk job (suc d)).depth) b.stored.depth (λ h. b.stored.hold request q) s;
       }
 
   -- the list begins with the new user
   link_keeps : (order : List ℕ) → effect job d ≡ Adds → At order Relink
-      → MachineRule job (world (put First (suc (subject job d)) ws) d remaining request copies (subject job d ∷ order) cpus past (batch job d))
+      → MachineRule job (world (put First (suc (subject job d)) ws) d remaining request copies (subject job d ∷ order) cpus past (batch_first job d))
   link_keeps order adds k =
       let s = sort_adds job ok d adds in
       relink_to order (subject job d ∷ order) (suc (subject job d)) ws.link k
@@ -180,25 +180,25 @@ module _ (job : Job) (ok : IsWellFormed job) (ws : Words) (d : ℕ) (remaining :
       → ((G : ℕ → Type 0) (x : ℕ) → ((y : ℕ) → G y → y ≡ subject job d) → G (subject job d) → Among x (v ∷ vs)
       → WalkOn link' (since_of job d) (without_user (subject job d) (v ∷ vs)) G x)
       → MachineRule job (world (record ws { first = first'; link = link' }) d remaining request copies
-      (order_after (v ∷ vs) (Unregister (subject job d))) cpus past (batch job d))
+      (order_after (v ∷ vs) (Unregister (subject job d))) cpus past (batch_first job d))
   unlinked v vs first' link' removes k reads walk =
       let s = sort_removes job ok d removes in
       let same : order_after (v ∷ vs) (Unregister (subject job d)) ≡ without_user (subject job d) (v ∷ vs) =
       without_filter (since_of job d) (suc d) (subject job d) (v ∷ vs) (falls (v ∷ vs) k.list.order') in
-      let b : InBatch job d (batch job d) = in_batch job d (relinks_patches (effect job d) k.sites.fit) in
+      let b : InBatch job d (batch_first job d) = in_batch job d (relinks_patches (effect job d) k.sites.fit) in
       relink_to (v ∷ vs) (order_after (v ∷ vs) (Unregister (subject job d))) first' link' k
       (order_next job ok d (Unregister (subject job d)) (v ∷ vs) s.0 s.1 k.list.order')
       (subst (λ (l : List ℕ). Leads link' first' l) (sym same) reads)
-      (λ q u x. subst (λ (l : List ℕ). ListWalk link' (since_of job (suc d)) l (Unlinked job d (batch job d) request q u) u) (sym same)
-      (subst (λ f. ListWalk link' f (without_user (subject job d) (v ∷ vs)) (Unlinked job d (batch job d) request q u) u) (since_same removes)
-      (elim (walk (λ y. Unlinked job d (batch job d) request q y) u (λ y g. g.2) (b.list, removes, refl, b.hold request q) (among_of u (v ∷ vs) x)) [
+      (λ q u x. subst (λ (l : List ℕ). ListWalk link' (since_of job (suc d)) l (Unlinked job d (batch_first job d) request q u) u) (sym same)
+      (subst (λ f. ListWalk link' f (without_user (subject job d) (v ∷ vs)) (Unlinked job d (batch_first job d) request q u) u) (since_same removes)
+      (elim (walk (λ y. Unlinked job d (batch_first job d) request q y) u (λ y g. g.2) (b.list, removes, refl, b.stored.hold request q) (among_of u (v ∷ vs) x)) [
         | inl a ↦ inl (has_of u (without_user (subject job d) (v ∷ vs)) a)
         | inr g ↦ inr g
       ])))
 
   unlink_keeps : (order : List ℕ) → effect job d ≡ Removes → At order Relink
       → MachineRule job (world (put (namer_from First (subject job d) order) (follower (subject job d) order) ws) d remaining request copies
-      (order_after order (Unregister (subject job d))) cpus past (batch job d))
+      (order_after order (Unregister (subject job d))) cpus past (batch_first job d))
   unlink_keeps [] removes k = false_true (k.list.order'.members (subject job d) ∙ registered)
     where
       registered : (state_of job d (subject job d)).registered ≡ true
@@ -251,7 +251,7 @@ module _ (job : Job) (ok : IsWellFormed job) (ws : Words) (d : ℕ) (remaining :
       by_test : (t : Bool) → (v == subject job d) ≡ t
           → MachineRule job (world (put (cond t First (namer_from (Link v) (subject job d) vs))
           (cond t (name_of vs) (follower (subject job d) vs)) ws) d remaining request copies (order_after (v ∷ vs) (Unregister (subject job d))) cpus past
-          (batch job d))
+          (batch_first job d))
       by_test true t =
           unlinked v vs (name_of vs) ws.link removes k
           (subst (λ (l : List ℕ). Leads ws.link (name_of vs) l) (sym (ap (λ (b : Bool). cond b vs (v ∷ without_user (subject job d) vs)) t))
@@ -259,7 +259,7 @@ module _ (job : Job) (ok : IsWellFormed job) (ws : Words) (d : ℕ) (remaining :
           (walk_first t)
       by_test false t =
           subst (λ w. MachineRule job (world (put w (follower (subject job d) vs) ws) d remaining request copies
-          (order_after (v ∷ vs) (Unregister (subject job d))) cpus past (batch job d))) (sym (namer_word v (subject job d) vs))
+          (order_after (v ∷ vs) (Unregister (subject job d))) cpus past (batch_first job d))) (sym (namer_word v (subject job d) vs))
           (unlinked v vs ws.first (at_put ws.link (namer v (subject job d) vs) (follower (subject job d) vs)) removes k
           (subst (λ (l : List ℕ). Leads (at_put ws.link (namer v (subject job d) vs) (follower (subject job d) vs)) ws.first l)
           (sym (ap (λ (b : Bool). cond b vs (v ∷ without_user (subject job d) vs)) t))
@@ -281,7 +281,7 @@ module _ (job : Job) (ok : IsWellFormed job) (ws : Words) (d : ℕ) (remaining :
               request = request;
               copies = copies;
               order = relinked z (subject job d) order;
-              position = batch job d;
+              position = batch_first job d;
             };
             cpus = cpus;
             past = past_after (relink_op z (subject job d) order) past;

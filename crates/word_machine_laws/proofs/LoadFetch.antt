@@ -12,16 +12,18 @@ use Rattle.ft_hist.specs.Past.{begun, visits, entry_of}
 use Rattle.ft_hist.specs.Rules.{InWindow}
 use Rattle.site_bytes.specs.Bytes.{breakpoint}
 use Rattle.word_map.specs.Instructions.{head_of, decode}
+use Rattle.patch_core.specs.Moves.{Put, Sync}
 use Rattle.word_machine.specs.Commands.{insn, changes, effect, state_of}
-use Rattle.word_machine.specs.Control.{Position, Wait3}
+use Rattle.word_machine.specs.Control.{Position, Patch, WaitSync}
 use Rattle.word_machine.specs.Task.{OpenCall, Moment, Fetch, GotHead, GotBreak, InTramp, AtFirst, Closing, head_in, fetched, fetched_ran}
 use Rattle.word_machine.specs.Progress.{SeenAt, selected, underway, begun_at}
-use Rattle.word_machine.specs.Sites.{stage, stage_in, stage_by, asks, SiteAt, FetchAt, SitesInPatching}
+use Rattle.word_machine.specs.Sites.{stage, stage_in, stage_by, asks, SiteAt, FetchAt, PositionAt, SitesInPatching}
 use Rattle.word_machine.specs.Trampolines.{IsOwned}
 use Rattle.word_machine.specs.Verdicts.{Here, Dispatches, TrampSeen}
 use Rattle.word_machine.specs.Rule.{Counts, IsWordJob}
 use Rattle.word_machine_laws.proofs.Seen.{selected-underway}
 use Rattle.word_machine.proofs.Small.{if_case}
+use Rattle.word_machine_laws.proofs.Batches.{is-move, sweep-syncs}
 use Rattle.word_machine_laws.proofs.Contents.{decode_own}
 use Rattle.word_machine_laws.proofs.DeskChanges.{numbers-kept}
 use Rattle.word_machine_laws.proofs.DeskNumbers.{InsnSays, insn-says, sites_kept, unchanged}
@@ -29,9 +31,11 @@ use Rattle.word_machine_laws.proofs.LoadMoments.{running, dispatch_goes, entry-f
 use Rattle.word_machine_laws.proofs.Effects.{early, late}
 
 -- a stage before the third request
-asks_low : (p : Position) (f : ℕ) → stage_in p f < 9 → asks p ≤ 2
-asks_low (Wait3 c) f low = absurd (omega (arith, low))
-asks_low _ f low = omega arith
+asks_low : (job : Job) (d : ℕ) (p : Position) (f : ℕ) → PositionAt job d p → f < funcs job → changes job d f ≡ true → stage_in p f < 9 → asks p ≤ 2
+asks_low job d (Patch w x rest) f a inside ch low =
+    let s = is-move job d (Put w x) rest a in let k = s.syncs in let y = (sweep-syncs s.sweep).0 in omega (arith, k, y)
+asks_low job d (WaitSync rest c) f a inside ch low = let e = (is-move job d Sync rest a).left f inside ch in omega (arith, e, low)
+asks_low job d _ f a inside ch low = omega arith
 
 not_break : (i h : ℕ) → h ≡ 204 → h ≡ head_of i → ⊥
 not_break zero h is e = omega (arith, is, e)
@@ -176,11 +180,11 @@ module _ (job : Job) (ok : IsWordJob job) (h : Here) (past : List Item) (clock :
           (λ two low. let z : asks h.p ≤ 2 = small two low in let a = sites.asked in omega (arith, acked, a, z)))
         where
           small : 2 ≤ stage job h.d h.p c.func → stage job h.d h.p c.func < 9 → asks h.p ≤ 2
-          small = by_change (changes job h.d c.func)
+          small = by_change (changes job h.d c.func) refl
             where
-              by_change : (b : Bool) → 2 ≤ stage_by b (stage_in h.p c.func) → stage_by b (stage_in h.p c.func) < 9 → asks h.p ≤ 2
-              by_change true g l = asks_low h.p c.func l
-              by_change false g l = absurd (omega (arith, g))
+              by_change : (b : Bool) → changes job h.d c.func ≡ b → 2 ≤ stage_by b (stage_in h.p c.func) → stage_by b (stage_in h.p c.func) < 9 → asks h.p ≤ 2
+              by_change true e g l = asks_low job h.d h.p c.func sites.position inside e l
+              by_change false e g l = absurd (omega (arith, g))
 
           by : (b : Bool) → FetchAt (stage job h.d h.p c.func) (insn job h.d c.func) (insn job (suc h.d) c.func) h.base ack (head_in b (head c.func))
               → Dispatches job h past ack q c below (head_in b (head c.func))

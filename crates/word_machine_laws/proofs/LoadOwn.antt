@@ -11,7 +11,7 @@ use Rattle.ft_hist.specs.Past.{visits, Visit}
 use Rattle.ft_hist.specs.Rules.{OnlyThose}
 use Rattle.ft_hist.specs.Known.{WasOff}
 use Rattle.word_map.specs.Contents.{high, sel_on, stands, tramp_user}
-use Rattle.word_machine.specs.Commands.{Effect, Adds, Removes, Edits, Enables, Disables, Lists, Levels, Nothing, effect, subject, state_of}
+use Rattle.word_machine.specs.Commands.{Effect, Adds, Removes, Edits, Enables, Disables, Nothing, effect, subject, state_of}
 use Rattle.word_machine.specs.Task.{OpenCall, InTramp, OwnSel, Closing, own_in, begin_call}
 use Rattle.word_machine.specs.Progress.{SeenAt, HoldsAt, waits, selected, desk_by, quiet_reached}
 use Rattle.word_machine.specs.HashCopies.{HashCopies, Reader}
@@ -111,15 +111,12 @@ module _ (job : Job) (ok : IsWordJob job) (h : Here) (past : List Item) (clock :
                   let same : (state_of job (suc h.d) u).enabled ≡ (state_of job h.d u).enabled =
                   subst (λ v. (state_of job (suc h.d) v).enabled ≡ (state_of job h.d v).enabled) (sym e) ch.1.enabled in
                   inr (y.0, y.1, both h.d y.2 (sym same ∙ rd.enabled))
-              by_effect Lists ch w e =
-                  let same : state_of job (suc h.d) u ≡ state_of job h.d u = subst (λ v. state_of job (suc h.d) v ≡ state_of job h.d v) (sym e) ch in
-                  inl (both (suc h.d) (subst (λ (z : UserState). ((z.registered && is_matching z c.func) ≡ true) × (z.reg ≡ reg)) (sym same) y.2) rd.enabled)
-              by_effect Levels ch w e =
-                  let same : state_of job (suc h.d) u ≡ state_of job h.d u = subst (λ v. state_of job (suc h.d) v ≡ state_of job h.d v) (sym e) ch in
-                  inl (both (suc h.d) (subst (λ (z : UserState). ((z.registered && is_matching z c.func) ≡ true) × (z.reg ≡ reg)) (sym same) y.2) rd.enabled)
               by_effect Adds ch w e = false_true w
               by_effect Enables ch w e = false_true w
               by_effect Nothing ch w e = false_true w
+              by_effect _ ch w e =
+                  let same : state_of job (suc h.d) u ≡ state_of job h.d u = subst (λ v. state_of job (suc h.d) v ≡ state_of job h.d v) (sym e) ch in
+                  inl (both (suc h.d) (subst (λ (z : UserState). ((z.registered && is_matching z c.func) ≡ true) × (z.reg ≡ reg)) (sym same) y.2) rd.enabled)
 
       is : c.ran ≡ Own (record { 0 = u })
       is = x.at.2

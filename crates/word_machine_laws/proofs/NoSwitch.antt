@@ -1,4 +1,4 @@
--- One law for the twelve rows of control that change no word of users and let no command return.
+-- One law for the five rows of control that change no word of users and let no command return.
 use Rattle.std.proofs.Common.{cond, ◌≡◌, ℕ, suc, ◌<◌, ◌≤◌, Bool, true, false, List, length, inl, inr, sym, ap, ◌∙◌, subst, arith}
 use Rattle.ft_base.specs.declared.item.Item.{Item}
 use Rattle.ft_base.specs.Job.{Job, Ctl}

@@ -18,9 +18,9 @@ use Rattle.word_machine.specs.Trampolines.{TrampolinesHeld, HasSlot}
 use Rattle.word_machine.specs.Rule.{MachineRule}
 use Rattle.word_machine.proofs.Small.{if_case}
 use Rattle.word_machine_laws.proofs.Sites.{passed_same}
-use Rattle.word_machine_laws.proofs.SiteSweeps.{passed_more, passed_all}
+use Rattle.word_machine_laws.proofs.SiteSyncs.{passed_more, passed_all}
 use Rattle.word_machine_laws.proofs.NoSwitch.{world, tramps_on, kept_on}
-use Rattle.word_machine_laws.proofs.Effects.{none_release, none_ask, none_wait, closing}
+use Rattle.word_machine_laws.proofs.Effects.{closing, none_gave}
 
 slot_there : (o : Option ℕ) (t : ℕ) → o ≡ Some t → is_some o ≡ true
 slot_there o t e = rw e refl
@@ -35,7 +35,7 @@ module _ (job : Job) (d : ℕ) (remaining : List Ctl) (copies : ℕ → ℕ) (or
       kept_on job ws d remaining request copies order cpus past (WaitQuiet i) (WaitQuiet (suc i)) k.base request ws.want ws.head ws.tail ws.next
       (record { list = refl; select = refl; pids = refl; depth = refl; hold = λ q small h. h; grows = omega arith })
       (record {
-        tramps = tramps_on job d (WaitQuiet i) (WaitQuiet (suc i)) refl (none_wait (suc i) (effect job d) ∙ sym (none_wait i (effect job d)));
+        tramps = tramps_on job d (WaitQuiet i) (WaitQuiet (suc i)) refl (none_gave (effect job d) (WaitQuiet (suc i)) refl ∙ sym (none_gave (effect job d) (WaitQuiet i) refl));
         pushed = λ l o. tt;
         written = λ s c. tt;
         lines = λ l u. u;
@@ -65,7 +65,7 @@ module _ (job : Job) (d : ℕ) (remaining : List Ctl) (copies : ℕ → ℕ) (or
         where
           given : (tramp : ℕ → ℕ) → TrampolinesHeld job d (WaitQuiet i) tramp → TrampolinesHeld job d Close tramp
           given tramp x = record {
-            before = λ u t h free. x.before u t h (λ g. false_true (sym (none_wait i (effect job d)) ∙ g));
+            before = λ u t h free. x.before u t h (λ g. false_true (sym (none_gave (effect job d) (WaitQuiet i) refl) ∙ g));
             after = x.after;
             free = λ t within old new. x.free t within (λ u h. absurd (none u t h (old u h).0 (old u h).1)) new;
           }
@@ -75,7 +75,7 @@ module _ (job : Job) (d : ℕ) (remaining : List Ctl) (copies : ℕ → ℕ) (or
           kept_on job ws d remaining request copies order cpus past (WaitQuiet i) Release k.base request ws.want ws.head ws.tail ws.next
           (record { list = refl; select = refl; pids = refl; depth = refl; hold = λ q small h. h; grows = omega arith })
           (record {
-            tramps = tramps_on job d (WaitQuiet i) Release refl (none_release (effect job d) ∙ sym (none_wait i (effect job d)));
+            tramps = tramps_on job d (WaitQuiet i) Release refl (none_gave (effect job d) Release refl ∙ sym (none_gave (effect job d) (WaitQuiet i) refl));
             pushed = λ l o. tt;
             written = λ s c. tt;
             lines = λ l u. u;
@@ -123,7 +123,7 @@ module _ (job : Job) (d : ℕ) (remaining : List Ctl) (copies : ℕ → ℕ) (or
       (kept_on job ws d remaining request copies order cpus past AskQuiet (WaitQuiet 0) (suc request) (suc request) (suc request) ws.head ws.tail ws.next
       (record { list = refl; select = refl; pids = refl; depth = refl; hold = λ q small h. omega (arith, small); grows = omega arith })
       (record {
-        tramps = tramps_on job d AskQuiet (WaitQuiet 0) refl (none_wait 0 (effect job d) ∙ sym (none_ask (effect job d)));
+        tramps = tramps_on job d AskQuiet (WaitQuiet 0) refl (none_gave (effect job d) (WaitQuiet 0) refl ∙ sym (none_gave (effect job d) AskQuiet refl));
         pushed = λ l o. tt;
         written = λ s c. tt;
         lines = λ l u. u;

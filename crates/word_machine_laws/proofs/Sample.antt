@@ -5,7 +5,7 @@ use Rattle.ft_base.specs.declared.context.Ctx.TheVariants.{Softirq, Irq}
 use Rattle.ft_base.specs.declared.task.TaskAct.TheVariants.{Call, Ret, Raise, Lower, After}
 use Rattle.ft_base.specs.Desk.{desk}
 use Rattle.ft_hist.specs.Rules.{IsLegal, IsWhole}
-use Rattle.word_machine.specs.Commands.{insn}
+use Rattle.word_machine.specs.Commands.{insn, moves}
 use Rattle.word_machine.specs.Control.{control_next, control_got}
 use Rattle.word_machine.specs.Cpu.{cpu_next, cpu_got}
 use Rattle.word_machine.specs.Machine.{start, step, run, played, play, all_end}
@@ -36,7 +36,7 @@ unfolding actors_of repeated
 legal = every_play_is_legal breakpoint_is_read (limited breakpoint_is_read is_limited)
 
 whole : IsWhole breakpoint_is_read (reverse (play breakpoint_is_read).past)
-unfolding actors_of repeated start step run played play all_end control_next control_got cpu_next cpu_got insn desk
+unfolding actors_of repeated start step run played play all_end control_next control_got cpu_next cpu_got insn moves desk
 whole = every_ended_play_is_whole breakpoint_is_read (limited breakpoint_is_read is_limited) breakpoint_is_read-plays.1
 
 -- ## what the limits say of interrupts

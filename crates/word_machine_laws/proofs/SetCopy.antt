@@ -22,7 +22,7 @@ use Rattle.word_machine.proofs.Small.{if_case, flip_other}
 use Rattle.word_machine_laws.proofs.Sites.{Fetches, Passed, passed_same}
 use Rattle.word_machine_laws.proofs.Goes.{Goes, cpu_goes}
 use Rattle.word_machine_laws.proofs.NoSwitch.{world, hereby, Flags, goes_still, tramps_on, listed_on, limits_on, counts_on, lines_on, begun_more}
-use Rattle.word_machine_laws.proofs.Effects.{none_copy, none_select, writes_selects}
+use Rattle.word_machine_laws.proofs.Effects.{writes_selects, none_gave}
 
 -- a store into another copy
 pub bits_other : (bits : ℕ → ℕ → ℕ → ℕ → ℕ) (u c h w x v e : ℕ) → (v ≡ u → e ≢ c) → bits_put bits u c h w x v e ≡ bits v e
@@ -136,7 +136,7 @@ module _ (job : Job) (ws : Words) (d : ℕ) (remaining : List Ctl) (request : �
         sites = pass.sites;
         list = listed_on job d (Copy h w) p' order ws.first ws.link flags.list pushed k.list;
         sets = sets_copy job d h w copies ws.bits p' ws.sel out written k.sets;
-        tramps = tramps_on job d (Copy h w) p' take (give ∙ sym (none_copy h w (effect job d))) ws.tramp k.tramps;
+        tramps = tramps_on job d (Copy h w) p' take (give ∙ sym (none_gave (effect job d) (Copy h w) refl)) ws.tramp k.tramps;
         limits = limits_on job d (Copy h w) p' ws.pids ws.depth flags.pids flags.depth k.limits;
         cpus = λ c within.
             cpu_goes job past (hereby d (Copy h w) k.base request order copies ws.link ws.bits)
@@ -159,13 +159,13 @@ module _ (job : Job) (ws : Words) (d : ℕ) (remaining : List Ctl) (request : �
           (effect job d) (Copy i v) → After h w (Copy i v)
       to_copy i v ti tv written =
           copy_to h w (Copy i v) (record { list = refl; select = refl; pids = refl; depth = refl; hold = λ q small x. tt; grows = omega arith }) refl refl
-          (none_copy i v (effect job d)) refl (λ u. u) tt (ti, tv) k.sites.fit (λ f. refl) refl (λ b c. refl) (λ t. refl) written k
+          (none_gave (effect job d) (Copy i v) refl) refl (λ u. u) tt (ti, tv) k.sites.fit (λ f. refl) refl (λ b c. refl) (λ t. refl) written k
 
       to_select : WrittenAt job (state_of job (suc d) (subject job d)) (bits' job d h w copies ws.bits (subject job d) (other_copy (copies (subject job d))))
           (effect job d) Select → After h w Select
       to_select written =
           copy_to h w Select (record { list = refl; select = refl; pids = refl; depth = refl; hold = λ q small x. tt; grows = omega arith }) refl refl
-          (none_select (effect job d)) refl (λ u. u) tt tt (writes_selects (effect job d) k.sites.fit) (λ f. refl) refl (λ b c. refl) (λ t. refl) written k
+          (none_gave (effect job d) Select refl) refl (λ u. u) tt tt (writes_selects (effect job d) k.sites.fit) (λ f. refl) refl (λ b c. refl) (λ t. refl) written k
 
       now : (i v : ℕ) → i < 2 → v < set_words job → (i < h) ⊎ ((i ≡ h) × (v < suc w))
           → bits' job d h w copies ws.bits (subject job d) (other_copy (copies (subject job d))) i v ≡ set_word (state_of job (suc d) (subject job d)) i v

@@ -12,23 +12,23 @@ use Rattle.word_map.specs.Words.{Words, put, at_put, Sel}
 use Rattle.word_map.specs.Contents.{sel_of, sel_word, high, low, other_copy}
 use Rattle.word_machine.specs.Commands.{Effect, Adds, Removes, Edits, Enables, Disables, Lists, Levels, Nothing, effect, subject, state_of}
 use Rattle.word_map.specs.Ops.{Store}
-use Rattle.word_machine.specs.Control.{Position, Select, Push, Relink, AskQuiet, Close, batch, copy_after, selected_in, control_got}
+use Rattle.word_machine.specs.Control.{Position, Select, Push, Relink, AskQuiet, Close, batch_first, copy_after, selected_in, control_got}
 use Rattle.word_machine.specs.Cpu.{Cpu}
 use Rattle.word_machine.specs.Machine.{control_row}
-use Rattle.word_machine.specs.Progress.{SeenAt, HoldsAt, selected, listed, took, gave, pids_stored, depth_stored, desk_by, underway, quiet_reached, waits, writes_copy, selects, relinks, patches, is_adds, comes_to}
+use Rattle.word_machine.specs.Progress.{SeenAt, selected, listed, pids_stored, depth_stored, desk_by, waits, writes_copy, selects, relinks, patches, is_adds, comes_to}
 use Rattle.word_machine.specs.UserList.{since_of, list_desk, PushedAt, UserList}
 use Rattle.word_machine.specs.HashCopies.{HasSets, SelIs, WrittenAt, HashCopies}
 use Rattle.word_machine.specs.Sites.{PositionAt, stage_in, asks, reached}
-use Rattle.word_machine.specs.Rule.{MachineRule, UnderAt}
+use Rattle.word_machine.specs.Rule.{MachineRule}
 use Rattle.word_machine_laws.proofs.DeskChanges.{SubjectBy, between}
 use Rattle.word_machine.proofs.Small.{put_case, put_same, put_other}
 use Rattle.word_machine_laws.proofs.Sites.{Fetches, Passed, passed_same}
-use Rattle.word_machine_laws.proofs.SiteSweeps.{enter_row}
+use Rattle.word_machine_laws.proofs.SiteSyncs.{enter_row}
 use Rattle.word_machine_laws.proofs.Goes.{Goes, cpu_goes}
 use Rattle.word_machine_laws.proofs.NoSwitch.{world, hereby, seen_on, tramps_on, listed_on, limits_on, counts_on, lines_on, begun_more}
-use Rattle.word_machine_laws.proofs.SiteRows.{InBatch, in_batch, in_AskQuiet}
+use Rattle.word_machine_laws.proofs.SiteRows.{InBatch, Stored, stored_at, stored_Close, in_batch, in_AskQuiet}
 use Rattle.word_machine_laws.proofs.DeskKept.{others_same, user_kept, none_changes, rest_same, order_flips}
-use Rattle.word_machine_laws.proofs.Effects.{none_select, after_small}
+use Rattle.word_machine_laws.proofs.Effects.{after_small, none_gave}
 
 -- the state of a user that is not registered
 sel_off : (reg copy : ℕ) (e b : Bool) → copy < 2 → (high (sel_word reg false e copy b) ≡ reg) × (sel_word reg false e copy b % 2 ≡ 0)
@@ -38,17 +38,8 @@ sel_off reg copy false true h = (omega arith, omega arith)
 sel_off reg copy false false h = (omega arith, omega arith)
 
 -- a position after the store of the state
-pub record Selected (job : Job) (d : ℕ) (p : Position) (request : ℕ) (order : List ℕ) (first : ℕ) (link : ℕ → ℕ) : Type 0 where
-  pub select : selected p ≡ true
-  pub take : took p ≡ true
-  pub pids : pids_stored p ≡ true
-  pub depth : depth_stored p ≡ true
-  pub give : gave (effect job d) p ≡ false
-  pub hold : (q : ℕ) → HoldsAt (effect job d) p request q
-  pub quiet : (t : ℕ) → quiet_reached (effect job d) p request t ≡ 0
-  pub written : (s : UserState) (copy : ℕ → ℕ → ℕ) → WrittenAt job s copy (effect job d) p
-  pub begun : underway p ≡ true
-  pub to : (remaining : List Ctl) → UnderAt Close remaining → UnderAt p remaining
+pub record Selected (job : Job) (d : ℕ) (p : Position) (order : List ℕ) (first : ℕ) (link : ℕ → ℕ) : Type 0 where
+  pub stored : Stored job d p
   pub list : UserList job d p order first link
   pub same : (v : ℕ) → since_of job (list_desk p d) v ≡ since_of job d v
 
@@ -70,31 +61,27 @@ module _ (job : Job) (ok : IsWellFormed job) (d : ℕ) (copies : ℕ → ℕ) wh
           → (state_of job d (subject job d)).registered ≡ true
           → (waits z ≡ true) ⊎ (copy_after z (copies (subject job d)) ≡ copies (subject job d))
       by_effect Adds c r = false_true (sym c.0 ∙ r)
-      by_effect Removes c r = inl refl
-      by_effect Edits c r = inl refl
       by_effect Enables c r = inr refl
-      by_effect Disables c r = inl refl
-      by_effect Lists c r = inl refl
-      by_effect Levels c r = inl refl
       by_effect Nothing c r = inr refl
+      by_effect _ c r = inl refl
 
   module _ (p' : Position) (base base' request : ℕ) (order : List ℕ) (first : ℕ) (link : ℕ → ℕ) (bits : ℕ → ℕ → ℕ → ℕ
-      → ℕ) (b : Selected job d p' request order first link) where
+      → ℕ) (b : Selected job d p' order first link) where
     goes_select : (ack q : ℕ) → Fetches job ack d Select base d p' base'
         → Goes job (hereby d Select base request order copies link bits) (hereby d p' base' request order Copies link bits) ack q
     goes_select ack q fetch = record {
       later = omega arith;
       fetch = fetch;
       user = λ u R steady s.
-          subst (λ x. SeenAt x (effect job d) p' request q (R (state_of job d u)) (R (state_of job (suc d) u))) (sym b.select)
-          (elim (user_kept job ok d R u steady s) [ inl w ↦ inr (w, b.hold q, s) | inr n ↦ inl n ]);
+          subst (λ x. SeenAt x (effect job d) p' request q (R (state_of job d u)) (R (state_of job (suc d) u))) (sym b.stored.select)
+          (elim (user_kept job ok d R u steady s) [ inl w ↦ inr (w, b.stored.hold request q, s) | inr n ↦ inl n ]);
       reads = λ u copy R steady s.
           subst (λ x. SeenAt x (effect job d) p' request q ((selected p' ≡ false → copy ≡ Copies u) × R (state_of job d u) (bits u copy))
-          ((copy ≡ Copies u) × R (state_of job (suc d) u) (bits u copy))) (sym b.select)
+          ((copy ≡ Copies u) × R (state_of job (suc d) u) (bits u copy))) (sym b.stored.select)
           (elim (copy_kept u (steady (bits u copy) (state_of job d u) s.1).0) [
-            | inl w ↦ inr (w, b.hold q, ((λ h. false_true (sym h ∙ b.select)), s.1))
+            | inl w ↦ inr (w, b.stored.hold request q, ((λ h. false_true (sym h ∙ b.stored.select)), s.1))
             | inr same ↦ elim (user_kept job ok d (λ y. R y (bits u copy)) u (steady (bits u copy)) s.1) [
-              | inl w ↦ inr (w, b.hold q, ((λ h. false_true (sym h ∙ b.select)), s.1))
+              | inl w ↦ inr (w, b.stored.hold request q, ((λ h. false_true (sym h ∙ b.stored.select)), s.1))
               | inr n ↦ inl (s.0 refl ∙ sym same, n)
             ]
           ]);
@@ -102,9 +89,9 @@ module _ (job : Job) (ok : IsWellFormed job) (d : ℕ) (copies : ℕ → ℕ) wh
       walked = λ u w. b.same u;
       since = λ u. inl (b.same u);
       pids = λ t x s. seen_on (effect job d) Select p' request request q true (pids_stored p') (is_allowed (desk job d) t ≡ x)
-          (is_allowed (desk job (suc d)) t ≡ x) b.pids (λ h. b.hold q) s;
-      depth = λ Q s. seen_on (effect job d) Select p' request request q true (depth_stored p') (Q (desk job d).depth) (Q (desk job (suc d)).depth) b.depth
-          (λ h. b.hold q) s;
+          (is_allowed (desk job (suc d)) t ≡ x) b.stored.pids (λ h. b.stored.hold request q) s;
+      depth = λ Q s. seen_on (effect job d) Select p' request request q true (depth_stored p') (Q (desk job d).depth) (Q (desk job (suc d)).depth) b.stored.depth
+          (λ h. b.stored.hold request q) s;
     }
 
   abbrev s0 : ℕ
@@ -142,13 +129,11 @@ module _ (job : Job) (ok : IsWellFormed job) (d : ℕ) (copies : ℕ → ℕ) wh
       copied Adds e t c r = subst (λ y. HasSets job new (bits s0 (copy_after y (copies s0)))) (sym e) (k.written (ap writes_copy e))
       copied Edits e t c r = subst (λ y. HasSets job new (bits s0 (copy_after y (copies s0)))) (sym e) (k.written (ap writes_copy e))
       copied Removes e t c r = false_true (sym (ap (λ (y : UserState). y.registered) c.1) ∙ r)
-      copied Enables e t c r = subst (λ y. HasSets job new (bits s0 (copy_after y (copies s0)))) (sym e)
-          (subst (λ y. HasSets job y (bits s0 (copies s0))) (sym c.1) ((k.sels s0).0 c.0).1)
-      copied Disables e t c r = subst (λ y. HasSets job new (bits s0 (copy_after y (copies s0)))) (sym e)
-          (subst (λ y. HasSets job y (bits s0 (copies s0))) (sym c.1) ((k.sels s0).0 c.0).1)
       copied Lists e t c r = false_true t
       copied Levels e t c r = false_true t
       copied Nothing e t c r = false_true t
+      copied _ e t c r = subst (λ y. HasSets job new (bits s0 (copy_after y (copies s0)))) (sym e)
+          (subst (λ y. HasSets job y (bits s0 (copies s0))) (sym c.1) ((k.sels s0).0 c.0).1)
 
       own : SelIs job new (sel_of new x) x (bits s0)
       own = (
@@ -169,24 +154,24 @@ module _ (job : Job) (ok : IsWellFormed job) (ws : Words) (d : ℕ) (remaining :
   abbrev After : Position → Type 0
   After p = MachineRule job (world (put (Sel (subject job d)) stored ws) d remaining request (Copies job ok d copies) order cpus past p)
 
-  select_to : (p' : Position) (base' : ℕ) → (k : At Select) → Selected job d p' request order ws.first ws.link
+  select_to : (p' : Position) (base' : ℕ) → (k : At Select) → Selected job d p' order ws.first ws.link
       → Passed job ws.ack d Select k.base request d p' base' request ws.want ws.head ws.tail ws.next → After p'
   select_to p' base' k b pass = record {
     base = base';
-    counts = counts_on d Select p' ws.clock past b.begun k.counts;
+    counts = counts_on d Select p' ws.clock past b.stored.begun k.counts;
     legal = k.legal;
     runs = k.runs;
-    lines = lines_on job d Select p' remaining _ (b.to remaining) k.lines;
+    lines = lines_on job d Select p' remaining _ (b.stored.to remaining) k.lines;
     sites = pass.sites;
     list = b.list;
-    sets = sets_select job ok d copies p' ws.sel ws.bits b.select b.written k.sites.fit k.sets;
-    tramps = tramps_on job d Select p' b.take (b.give ∙ sym (none_select (effect job d))) ws.tramp k.tramps;
-    limits = limits_on job d Select p' ws.pids ws.depth b.pids b.depth k.limits;
+    sets = sets_select job ok d copies p' ws.sel ws.bits b.stored.select b.stored.written k.sites.fit k.sets;
+    tramps = tramps_on job d Select p' b.stored.take (b.stored.give ∙ sym (none_gave (effect job d) Select refl)) ws.tramp k.tramps;
+    limits = limits_on job d Select p' ws.pids ws.depth b.stored.pids b.stored.depth k.limits;
     cpus = λ c within.
         cpu_goes job past (hereby d Select k.base request order copies ws.link ws.bits)
         (hereby d p' base' request order (Copies job ok d copies) ws.link ws.bits) (ws.ack c) ws.quiet c (cpus c)
         (begun_more d Select ws.clock past k.counts) (omega arith)
-        (pass.reach c within) (λ t there r. rw (b.quiet t) (omega arith))
+        (pass.reach c within) (λ t there r. rw (b.stored.quiet request t) (omega arith))
         (λ t there r a qr small. goes_select job ok d copies p' k.base base' request order ws.first ws.link ws.bits b (ws.ack c) (low (ws.quiet t))
         (pass.fetch c within r a))
         (k.cpus c within);
@@ -205,18 +190,9 @@ module _ (job : Job) (ok : IsWellFormed job) (ws : Words) (d : ℕ) (remaining :
   flipped_since p' on none v = subst (λ y. since_of job (desk_by y d) v ≡ since_of job d v) (sym on) (rest_same job ok d none v).1
 
   from_batch : (p' : Position) → relinks (effect job d) ≡ false → InBatch job d p' → UserList job d Select order ws.first ws.link
-      → Selected job d p' request order ws.first ws.link
+      → Selected job d p' order ws.first ws.link
   from_batch p' none b k = record {
-    select = b.select;
-    take = b.take;
-    pids = b.pids;
-    depth = b.depth;
-    give = b.give;
-    hold = λ q. b.hold request q;
-    quiet = λ t. b.quiet request t;
-    written = b.written;
-    begun = b.begun;
-    to = b.to;
+    stored = b.stored;
     list = flipped p' b.list none (b.pushed ws.link order) k;
     same = flipped_since p' b.list none;
   }
@@ -244,52 +220,27 @@ module _ (job : Job) (ok : IsWellFormed job) (ws : Words) (d : ℕ) (remaining :
       by_effect : (z : Effect) → effect job d ≡ z → selects z ≡ true → After (selected_in job d z)
       by_effect Adds e t = select_to Push k.base k
           (record {
-            select = refl;
-            take = refl;
-            pids = refl;
-            depth = refl;
-            give = ap (λ z. gave z Push) e;
-            hold = λ q. tt;
-            quiet = λ r. refl;
-            written = λ s c. tt;
-            begun = refl;
-            to = λ l u. u;
+            stored = stored_at job d Push (refl, refl, refl, refl, refl) (none_gave (effect job d) Push refl) (λ r q. tt) (λ r t. refl) (λ s c. tt) (λ l u. u)
+                (λ l u. u);
             list = listed_on job d Select Push order ws.first ws.link refl tt k.list;
             same = λ v. refl;
           })
           (same Push (λ f. refl) refl tt (ap is_adds e) (λ c. refl))
       by_effect Removes e t = select_to Relink k.base k
           (record {
-            select = refl;
-            take = refl;
-            pids = refl;
-            depth = refl;
-            give = ap (λ z. gave z Relink) e;
-            hold = λ q. tt;
-            quiet = λ r. refl;
-            written = λ s c. tt;
-            begun = refl;
-            to = λ l u. u;
+            stored = stored_at job d Relink (refl, refl, refl, refl, refl) (none_gave (effect job d) Relink refl) (λ r q. tt) (λ r t. refl) (λ s c. tt) (λ l u. u)
+                (λ l u. u);
             list = listed_on job d Select Relink order ws.first ws.link refl (λ a. false_true (sym (ap is_adds e) ∙ a)) k.list;
             same = λ v. refl;
           })
           (same Relink (λ f. refl) refl tt (ap relinks e) (λ c. refl))
-      by_effect Edits e t = select_to (batch job d) k.base k (from_batch (batch job d) (ap relinks e) (in_batch job d (ap patches e)) k.list)
+      by_effect Edits e t = select_to (batch_first job d) k.base k (from_batch (batch_first job d) (ap relinks e) (in_batch job d (ap patches e)) k.list)
           (enter_row job d ws.ack k.base request ws.want ws.head ws.tail ws.next Select (ap patches e) (λ f. refl) refl refl k.sites)
       by_effect Disables e t = select_to AskQuiet k.base k (from_batch AskQuiet (ap relinks e) (in_AskQuiet job d) k.list)
           (no_site AskQuiet (ap patches e) refl tt (ap waits e) (λ c. refl))
       by_effect Enables e t = select_to Close k.base k
           (record {
-            select = refl;
-            take = refl;
-            pids = refl;
-            depth = refl;
-            give = ap (λ z. gave z Close) e;
-            hold = subst (λ z. (q : ℕ) → HoldsAt z Close request q) (sym e) (λ q. tt);
-            quiet = subst (λ z. (t : ℕ) → quiet_reached z Close request t ≡ 0) (sym e) (λ t. refl);
-            written = λ s c. tt;
-            begun = refl;
-            to = λ l u. u;
+            stored = stored_Close job d Enables e refl refl;
             list = flipped Close refl (ap relinks e) tt k.list;
             same = flipped_since Close refl (ap relinks e);
           })

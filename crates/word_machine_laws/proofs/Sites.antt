@@ -1,33 +1,22 @@
 -- A call site goes on by a stage, and so does what a fetch has loaded of it.
-use Rattle.std.proofs.Common.{◌≡◌, ◌≢◌, ◌⊎◌, ℕ, suc, ◌+◌, ◌*◌, ◌-◌, ◌<◌, ◌≤◌, Bool, true, false, cond, inl, inr, refl, sym, ap, ◌∙◌, subst, arith, length}
-use Rattle.std.specs.Prelude.{nat_lt}
+use Rattle.std.proofs.Common.{◌≡◌, ◌≢◌, ◌⊎◌, ℕ, suc, ◌+◌, ◌*◌, ◌-◌, ◌<◌, ◌≤◌, Bool, true, false, cond, List, [], ◌∷◌, inl, inr, refl, sym, ap, ◌∙◌, subst, arith, length}
 use Rattle.std.proofs.lemmas.Bool.{cases_lt, cases_eq}
-use Rattle.std.proofs.lemmas.Bool.Decides.{nat_tests}
 use Rattle.ft_base.specs.Job.{Job, funcs}
 use Rattle.ft_base.proofs.Small.{false_true}
-use Rattle.site_bytes.specs.Bytes.{breakpoint}
+use Rattle.word_map.specs.Words.{Word, Words}
 use Rattle.word_map.specs.Instructions.{head_of, tail_of}
-use Rattle.word_machine.specs.Commands.{insn, changes, site_from, effect}
-use Rattle.word_machine.specs.Control.{Position, Close, position_or}
+use Rattle.patch_core.specs.Moves.{Move, Put, Sync, Done}
+use Rattle.word_machine.specs.Commands.{insn, changes, effect, Effect, Adds, Removes, Edits}
+use Rattle.word_machine.specs.Control.{Position, Patch, AskQuiet, Close, before_moves, after_batch_in}
 use Rattle.word_machine.specs.Task.{Moment, GotHead, GotBreak}
-use Rattle.word_machine.specs.Progress.{comes_to, asked_in}
-use Rattle.word_machine.specs.Sites.{SiteAt, FetchAt, SitesInPatching, PositionAt, stage, stage_in, asks, reached}
-use Rattle.word_machine.proofs.Small.{lowest_case}
+use Rattle.word_machine.specs.Machine.{words_after}
+use Rattle.word_machine.specs.Progress.{comes_to, asked_in, syncs_in, patches, waits}
+use Rattle.word_machine.specs.Sites.{SiteAt, FetchAt, SitesInPatching, PositionAt, stage, stage_in, stages_by, stages_left, asks, reached, synced}
+use Rattle.word_machine.proofs.Small.{put_same, put_other}
+use Rattle.word_machine_laws.proofs.Batches.{Sweep, Nexts, Breaks, Tails, Heads, store_at, stage_from, StoreAt, AreLeft, own-stage, other-stage, is-move, left-cons, syncs-cons, syncs-put, asked_before, asked-more, sweep-syncs}
 use Rattle.word_machine_laws.proofs.DeskNumbers.{unchanged}
 
 -- ## one site
-
-pub site_next : (f old new head tail next : ℕ) → SiteAt 0 f old new head tail next → SiteAt 1 f old new head tail new
-site_next f old new head tail next a = grind arith
-
-pub site_break : (f old new head tail next : ℕ) → SiteAt 1 f old new head tail next → SiteAt 2 f old new breakpoint tail next
-site_break f old new head tail next a = grind arith
-
-pub site_tail : (f old new head tail next : ℕ) → SiteAt 4 f old new head tail next → SiteAt 5 f old new head (tail_of f new) next
-site_tail f old new head tail next a = grind arith
-
-pub site_head : (f old new head tail next : ℕ) → SiteAt 7 f old new head tail next → SiteAt 8 f old new (head_of new) tail next
-site_head f old new head tail next a = grind arith
 
 -- no word is stored: from 2 to 3, 3 to 4, 5 to 6, 6 to 7, 8 to 9 and 9 to 10
 pub site_still : (n f old new head tail next : ℕ) → n ≢ 0 → n ≢ 1 → n ≢ 4 → n ≢ 7 → SiteAt n f old new head tail next → SiteAt (suc n) f old new head tail next
@@ -105,111 +94,149 @@ pub record Passed (job : Job) (ack : ℕ → ℕ) (d : ℕ) (p : Position) (base
   pub reach : (c : ℕ) → c < length job.quanta → reached base p c ≤ ack c → reached base' p' c ≤ ack c
   pub fetch : (c : ℕ) → c < length job.quanta → reached base p c ≤ ack c → ack c ≤ request → Fetches job (ack c) d p base d' p' base'
 
--- from one position to another, the changed site i goes on from stage a, and the other changed sites stay
-pub record Moves (job : Job) (d : ℕ) (p p' : Position) (i a : ℕ) : Type 0 where
-  pub changed : changes job d i ≡ true
-  pub others : (f : ℕ) → f < funcs job → changes job d f ≡ true → f ≢ i → stage_in p' f ≡ stage_in p f
-  pub here : stage_in p i ≡ a
-  pub there : stage_in p' i ≡ suc a
+-- a row, site by site
+module _ (job : Job) (d : ℕ) (ack : ℕ → ℕ) (p p' : Position) (base base' request request' wanted wanted' : ℕ) (head tail next head' tail' next' : ℕ → ℕ) where
+  -- what it makes of a site, and of a fetch under way there, from one stage to another
+  abbrev SiteGoes : ℕ → ℕ → ℕ → Type 0
+  SiteGoes f n n' =
+      (SiteAt n f (insn job d f) (insn job (suc d) f) (head f) (tail f) (next f)
+      → SiteAt n' f (insn job d f) (insn job (suc d) f) (head' f) (tail' f) (next' f))
+      × ((c : ℕ) (m : Moment) → c < length job.quanta → reached base p c ≤ ack c → ack c ≤ request
+      → FetchAt n (insn job d f) (insn job (suc d) f) base (ack c) m → FetchAt n' (insn job d f) (insn job (suc d) f) base' (ack c) m)
+
+  -- from the stage at one position to that at the other
+  abbrev Staged : ℕ → Type 0
+  Staged f = (n : ℕ) × (n' : ℕ) × (stage_in p f ≡ n) × (stage_in p' f ≡ n') × SiteGoes f n n'
+
+  passed_on : ((f : ℕ) → f < funcs job → changes job d f ≡ true → Staged f) → ((f : ℕ) → changes job d f ≡ false → SiteGoes f 0 0)
+      → request' ≡ base' + asks p' → request' ≤ 4 * d + asked_in p' → wanted' ≡ request' → PositionAt job d p' → comes_to (effect job d) p' ≡ true
+      → ((c : ℕ) → c < length job.quanta → reached base p c ≤ ack c → reached base' p' c ≤ ack c)
+      → SitesInPatching job d p base request wanted head tail next → Passed job ack d p base request d p' base' request' wanted' head' tail' next'
+  passed_on goes stays asked few want position fit reach k = record {
+    sites = record { asked = asked; few = few; want = want; position = position; fit = fit; sites = λ f inside. (each f inside).0 (k.sites f inside) };
+    reach = reach;
+    fetch = λ c within r le f m inside. (each f inside).1 c m within r le;
+  }
+    where
+      each : (f : ℕ) → f < funcs job → SiteGoes f (stage job d p f) (stage job d p' f)
+      each f inside = by_change (changes job d f) refl
+        where
+          by_change : (b : Bool) → changes job d f ≡ b → SiteGoes f (cond b (stage_in p f) 0) (cond b (stage_in p' f) 0)
+          by_change false e = stays f e
+          by_change true e = let x = goes f inside e in subst (λ (q : ℕ × ℕ). SiteGoes f q.0 q.1) (λ j. (sym x.2 j, sym x.3 j)) x.4
+
+-- Control before the first of these moves of the batch, or after the batch, by what is left of it.
+--   stages            each site that changes is as far as it was after the move before
+--   position, fit     the next move is one of the batch, and its command comes to it
+--   few, asked, reaches   requests are counted on, and what the CPUs have acknowledged stays; after the batch its requests are none any more
+pub record Before (job : Job) (d : ℕ) (rest : List Move) (p : Position) : Type 0 where
+  pub stages : (f : ℕ) → stage_in p f ≡ 10 - stages_left f rest
+  pub position : PositionAt job d p
+  pub fit : comes_to (effect job d) p ≡ true
+  pub few : 3 - syncs_in rest ≤ asked_in p
+  pub asked : asks p ≡ asked_before rest
+  pub reaches : (base c : ℕ) → reached base p c ≡ synced base (asked_before rest)
 
 module _ (job : Job) (d : ℕ) where
-  -- a sweep over the changed sites goes on to the next one, or to what follows the sweep
-  pub sweep : (at' : ℕ → Position) (rest : Position) (a : ℕ)
-      → ((k f : ℕ) → stage_in (at' k) f ≡ cond (nat_lt f k) (suc a) a)
-      → ((f : ℕ) → f < funcs job → changes job d f ≡ true → stage_in rest f ≡ suc a)
-      → (i : ℕ) → i < funcs job → changes job d i ≡ true
-      → Moves job d (at' i) (position_or (site_from job d (suc i)) at' rest) i a
-  sweep at' rest a stages ends i inside changed =
-      lowest_case (λ o. Moves job d (at' i) (position_or o at' rest) i a) (changes job d) (suc i) (funcs job - suc i)
-      (λ g is low high between. record {
-        changed = changed;
-        others = λ f fin ch ne. stages g f ∙ same f g ch ne low between ∙ sym (stages i f);
-        here = stages i i ∙ (let e : nat_lt i i ≡ false = grind (arith, nat_tests) in rw e refl);
-        there = stages g i ∙ (let e : nat_lt i g ≡ true = grind (arith, nat_tests) in rw e refl);
-      })
-      (λ all. record {
-        changed = changed;
-        others = λ f fin ch ne. ends f fin ch ∙ last f fin ch ne all ∙ sym (stages i f);
-        here = stages i i ∙ (let e : nat_lt i i ≡ false = grind (arith, nat_tests) in rw e refl);
-        there = ends i inside changed;
-      })
+  pub before_rest : (rest : List Move) → AreLeft job d rest → patches (effect job d) ≡ true → Before job d rest (before_moves job d rest)
+  before_rest (Put w x ∷ rest) left fit = record {
+    stages = λ f. ap (λ n. 10 - n) (sym (left-cons f (Put w x) rest));
+    position = left;
+    fit = fit;
+    few = (let e = syncs-put w x rest in omega (arith, e));
+    asked = ap (λ n. 3 - n) (sym (syncs-put w x rest));
+    reaches = λ base c. ap (λ n. synced base (3 - n)) (sym (syncs-put w x rest));
+  }
+  before_rest (Sync ∷ rest) left fit = record {
+    stages = λ f. (let e = left-cons f Sync rest in omega (arith, e));
+    position = left;
+    fit = fit;
+    few = (let e = syncs-cons Sync rest in omega (arith, e));
+    asked = one_less;
+    reaches = λ base c. ap (λ n. synced base n) one_less;
+  }
     where
-      same : (f g : ℕ) → changes job d f ≡ true → f ≢ i → suc i ≤ g → ((h : ℕ) → suc i ≤ h → h < g → changes job d h ≡ false)
-          → cond (nat_lt f g) (suc a) a ≡ cond (nat_lt f i) (suc a) a
-      same f g ch ne low between = elim (cases_lt f i) [
-        | inl h ↦ (let e : nat_lt f i ≡ true = grind (arith, nat_tests) in let e' : nat_lt f g ≡ true = grind (arith, nat_tests) in rw (e, e') refl)
-        | inr h ↦ elim (cases_lt f g) [
-          | inl k ↦ false_true (sym (between f (omega arith) k) ∙ ch)
-          | inr k ↦ (let e : nat_lt f i ≡ false = grind (arith, nat_tests) in let e' : nat_lt f g ≡ false = grind (arith, nat_tests) in rw (e, e') refl)
-        ]
-      ]
+      one_less : 2 - syncs_in rest ≡ 3 - syncs_in (Sync ∷ rest)
+      one_less = let e = syncs-cons Sync rest in omega (arith, e)
+  before_rest (Done ∷ rest) left fit = absurd (is-move job d Done rest left)
+  before_rest [] left fit = by_effect (effect job d) refl fit
+    where
+      quiet : waits (effect job d) ≡ true → Before job d [] AskQuiet
+      quiet w = record { stages = λ f. refl; position = tt; fit = w; few = omega arith; asked = refl; reaches = λ base c. refl }
 
-      last : (f : ℕ) → f < funcs job → changes job d f ≡ true → f ≢ i → ((h : ℕ) → suc i ≤ h → h < suc i + (funcs job - suc i) → changes job d h ≡ false)
-          → suc a ≡ cond (nat_lt f i) (suc a) a
-      last f fin ch ne all = elim (cases_lt f i) [
-        | inl h ↦ (let e : nat_lt f i ≡ true = grind (arith, nat_tests) in rw e refl)
-        | inr h ↦ false_true (sym (all f (omega arith) (omega arith)) ∙ ch)
-      ]
+      by_effect : (z : Effect) → effect job d ≡ z → patches z ≡ true → Before job d [] (after_batch_in z)
+      by_effect Removes e t = quiet (ap waits e)
+      by_effect Edits e t = quiet (ap waits e)
+      by_effect Adds e t = record { stages = λ f. refl; position = tt; fit = refl; few = omega arith; asked = refl; reaches = λ base c. refl }
+      by_effect _ e t = false_true t
 
-  -- the first site of a sweep: no changed site is passed
-  pub sweep_in : (at' : ℕ → Position) (rest : Position) (a b : ℕ)
-      → ((k f : ℕ) → stage_in (at' k) f ≡ cond (nat_lt f k) b a)
-      → (f : ℕ) → f < funcs job → changes job d f ≡ true → stage_in (position_or (site_from job d 0) at' rest) f ≡ a
-  sweep_in at' rest a b stages f inside ch =
-      lowest_case (λ o. stage_in (position_or o at' rest) f ≡ a) (changes job d) 0 (funcs job - 0)
-      (λ g is low high between. stages g f ∙ elim (cases_lt f g) [
-        | inl k ↦ false_true (sym (between f (omega arith) k) ∙ ch)
-        | inr k ↦ (let e : nat_lt f g ≡ false = grind (arith, nat_tests) in rw e refl)
-      ])
-      (λ all. false_true (sym (all f (omega arith) (omega arith)) ∙ ch))
+  -- the words after a store of the batch: those of other sites stay, its own site goes on by a stage
+  other_site : (z : Sweep) (i f n old new : ℕ) (ws : Words) → f ≢ i → SiteAt n f old new (ws.head f) (ws.tail f) (ws.next f)
+      → SiteAt n f old new ((words_after (store_at job d z i) ws).head f) ((words_after (store_at job d z i) ws).tail f)
+      ((words_after (store_at job d z i) ws).next f)
+  other_site Nexts i f n old new ws ne s = subst (λ y. SiteAt n f old new (ws.head f) (ws.tail f) y) (sym (put_other ws.next i _ f ne)) s
+  other_site Breaks i f n old new ws ne s = subst (λ y. SiteAt n f old new y (ws.tail f) (ws.next f)) (sym (put_other ws.head i _ f ne)) s
+  other_site Tails i f n old new ws ne s = subst (λ y. SiteAt n f old new (ws.head f) y (ws.next f)) (sym (put_other ws.tail i _ f ne)) s
+  other_site Heads i f n old new ws ne s = subst (λ y. SiteAt n f old new y (ws.tail f) (ws.next f)) (sym (put_other ws.head i _ f ne)) s
 
-  -- the site of a position that was found is changed
-  pub position_case : (P : Position → Type 0) (at' : ℕ → Position) (rest : Position) (from : ℕ) → from ≤ funcs job
-      → ((g : ℕ) → changes job d g ≡ true → g < funcs job → P (at' g)) → P rest → P (position_or (site_from job d from) at' rest)
-  position_case P at' rest from le some none =
-      lowest_case (λ o. P (position_or o at' rest)) (changes job d) from (funcs job - from) (λ g is low high between. some g is (omega arith)) (λ all. none)
+  own_site : (z : Sweep) (i old : ℕ) (ws : Words) → SiteAt (stage_from z) i old (insn job (suc d) i) (ws.head i) (ws.tail i) (ws.next i)
+      → SiteAt (suc (stage_from z)) i old (insn job (suc d) i) ((words_after (store_at job d z i) ws).head i)
+      ((words_after (store_at job d z i) ws).tail i) ((words_after (store_at job d z i) ws).next i)
+  own_site Nexts i old ws s =
+      subst (λ y. SiteAt 1 i old (insn job (suc d) i) (ws.head i) (ws.tail i) y) (sym (put_same ws.next i _)) (grind arith)
+  own_site Breaks i old ws s =
+      subst (λ y. SiteAt 2 i old (insn job (suc d) i) y (ws.tail i) (ws.next i)) (sym (put_same ws.head i _)) (grind arith)
+  own_site Tails i old ws s =
+      subst (λ y. SiteAt 5 i old (insn job (suc d) i) (ws.head i) y (ws.next i)) (sym (put_same ws.tail i _)) (grind arith)
+  own_site Heads i old ws s =
+      subst (λ y. SiteAt 8 i old (insn job (suc d) i) y (ws.tail i) (ws.next i)) (sym (put_same ws.head i _)) (grind arith)
 
-  module _ (p p' : Position) (i a : ℕ) (moves : Moves job d p p' i a) where
-    -- the stage of a site, before and after
-    pub stage_moves : (P : ℕ → ℕ → Type 0) (f : ℕ) → f < funcs job → ((n : ℕ) → f ≢ i → P n n) → (f ≡ i → P a (suc a)) → P (stage job d p f) (stage job d p' f)
-    stage_moves P f inside other here = by_change (changes job d f) refl
-      where
-        by_change : (b : Bool) → changes job d f ≡ b → P (cond b (stage_in p f) 0) (cond b (stage_in p' f) 0)
-        by_change false e = other 0 (λ s. false_true (sym e ∙ ap (changes job d) s ∙ moves.changed))
-        by_change true e = elim (cases_eq f i) [
-          | inl s ↦ subst (λ (q : ℕ × ℕ). P q.0 q.1) (λ j. (sym (ap (stage_in p) s ∙ moves.here) j, sym (ap (stage_in p') s ∙ moves.there) j)) (here s)
-          | inr ne ↦ subst (λ y. P (stage_in p f) y) (sym (moves.others f inside e ne)) (other (stage_in p f) ne)
-        ]
+  -- a store of the batch: its own site goes on by a stage, the others stay
+  module _ (w : Word) (x : ℕ) (rest : List Move) (s : StoreAt job d w x rest) (p' : Position) (b : Before job d rest p') where
+    from : stage_in (Patch w x rest) s.site ≡ stage_from s.sweep
+    from = let o = ap (λ v. stages_by s.site (Put v x)) s.word ∙ own-stage job d s.sweep s.site x in let l = s.left in omega (arith, o, l)
 
-    -- a store at one site
-    pub passed_moves : (ack : ℕ → ℕ) (base request wanted : ℕ) (head head' tail tail' next next' : ℕ → ℕ)
-        → a ≢ 3 → a ≢ 9 → (a ≡ 1 → asks p ≡ 0) → asks p' ≡ asks p → asked_in p ≤ asked_in p' → ((c : ℕ) → reached base p' c ≤ reached base p c)
-        → PositionAt job d p' → comes_to (effect job d) p' ≡ true
-        → ((f n old new : ℕ) → f ≢ i → SiteAt n f old new (head f) (tail f) (next f) → SiteAt n f old new (head' f) (tail' f) (next' f))
-        → (SiteAt a i (insn job d i) (insn job (suc d) i) (head i) (tail i) (next i)
-        → SiteAt (suc a) i (insn job d i) (insn job (suc d) i) (head' i) (tail' i) (next' i))
-        → SitesInPatching job d p base request wanted head tail next → Passed job ack d p base request d p' base request wanted head' tail' next'
-    passed_moves ack base request wanted head head' tail tail' next next' a3 a9 low asks_same few reach position fit others here k = record {
-      sites = record {
-        asked = k.asked ∙ ap (λ n. base + n) (sym asks_same);
-        few = (let z = k.few in omega (arith, z, few));
-        want = k.want;
-        position = position;
-        fit = fit;
-        sites = λ f inside. stage_moves (λ n n'. SiteAt n f (insn job d f) (insn job (suc d) f) (head f) (tail f) (next f)
-            → SiteAt n' f (insn job d f) (insn job (suc d) f) (head' f) (tail' f) (next' f)) f inside
-            (λ n ne. others f n (insn job d f) (insn job (suc d) f) ne)
-            (λ e. subst (λ g. SiteAt a g (insn job d g) (insn job (suc d) g) (head g) (tail g) (next g)
-            → SiteAt (suc a) g (insn job d g) (insn job (suc d) g) (head' g) (tail' g) (next' g)) (sym e) here)
-            (k.sites f inside);
-      };
-      reach = λ c within s. (let r = reach c in omega (arith, r, s));
-      fetch = λ c within s le f m inside. stage_moves (λ n n'. FetchAt n (insn job d f) (insn job (suc d) f) base (ack c) m
-          → FetchAt n' (insn job d f) (insn job (suc d) f) base (ack c) m) f inside
-          (λ n ne x. x)
-          (λ e. fetch_on a (insn job d f) (insn job (suc d) f) base (ack c) m (λ one. (let q = k.asked in let z = low one in omega (arith, q, z, le)))
-          (λ t. absurd (a3 t)) (λ t. absurd (a9 t)));
-    }
+    to : stage_in p' s.site ≡ suc (stage_from s.sweep)
+    to = let e = b.stages s.site in let l = s.left in omega (arith, e, l)
+
+    still : (f : ℕ) → f ≢ s.site → stage_in p' f ≡ stage_in (Patch w x rest) f
+    still f ne =
+        let e = b.stages f in let o = ap (λ v. stages_by f (Put v x)) s.word ∙ other-stage job d s.sweep s.site x f ne in
+        omega (arith, e, o)
+
+    more : asked_before rest ≡ 3 - syncs_in rest
+    more = asked-more rest (let k = (sweep-syncs s.sweep).0 in let y = s.syncs in omega (arith, k, y))
+
+    module _ (ack : ℕ → ℕ) (base request wanted : ℕ) (ws : Words)
+        (k : SitesInPatching job d (Patch w x rest) base request wanted ws.head ws.tail ws.next) where
+      abbrev ws' : Words
+      ws' = words_after (store_at job d s.sweep s.site) ws
+
+      abbrev Goes : ℕ → ℕ → ℕ → Type 0
+      Goes = SiteGoes job d ack (Patch w x rest) p' base base request request wanted wanted ws.head ws.tail ws.next ws'.head ws'.tail ws'.next
+
+      own : Goes s.site (stage_from s.sweep) (suc (stage_from s.sweep))
+      own = (
+        own_site s.sweep s.site (insn job d s.site) ws,
+        λ c m within r le. fetch_on (stage_from s.sweep) (insn job d s.site) (insn job (suc d) s.site) base (ack c) m
+            (λ one. (let a = k.asked in let n = (sweep-syncs s.sweep).1 one in let y = s.syncs in omega (arith, a, n, y, le)))
+            (λ t. absurd ((sweep-syncs s.sweep).2 t)) (λ t. absurd ((sweep-syncs s.sweep).3 t)),
+      )
+
+      other : (f n : ℕ) → f ≢ s.site → Goes f n n
+      other f n ne = (other_site s.sweep s.site f n (insn job d f) (insn job (suc d) f) ws ne, λ c m within r le x. x)
+
+      pub passed_store : Passed job ack d (Patch w x rest) base request d p' base request wanted ws'.head ws'.tail ws'.next
+      passed_store =
+          passed_on job d ack (Patch w x rest) p' base base request request wanted wanted ws.head ws.tail ws.next ws'.head ws'.tail ws'.next
+          (λ f inside ch. elim (cases_eq f s.site) [
+            | inl same ↦ subst (λ g. (n : ℕ) × (n' : ℕ) × (stage_in (Patch w x rest) g ≡ n) × (stage_in p' g ≡ n') × Goes g n n') (sym same)
+                (stage_from s.sweep, suc (stage_from s.sweep), from, to, own)
+            | inr ne ↦ (stage_in (Patch w x rest) f, stage_in (Patch w x rest) f, refl, still f ne, other f (stage_in (Patch w x rest) f) ne)
+          ])
+          (λ f e. other f 0 (λ same. false_true (sym e ∙ ap (changes job d) same ∙ s.changed')))
+          (let a = k.asked in let e = b.asked in let m = more in omega (arith, a, e, m)) (let a = k.few in let e = b.few in omega (arith, a, e))
+          k.want b.position b.fit (λ c within r. subst (λ n. n ≤ ack c) (sym (b.reaches base c ∙ ap (λ n. synced base n) more)) r) k
 
   -- all changed sites go on by one stage, and nothing of them is stored
   pub passed_lifts : (ack : ℕ → ℕ) (p p' : Position) (n base base' request request' wanted wanted' : ℕ) (head tail next : ℕ → ℕ)
@@ -219,36 +246,28 @@ module _ (job : Job) (d : ℕ) where
       → (base' ≡ base) ⊎ (n ≡ 9)
       → ((c : ℕ) → c < length job.quanta → reached base p c ≤ ack c → (reached base' p' c ≤ ack c) × (n ≡ 3 → base + 1 ≤ ack c) × (n ≡ 9 → base + 3 ≤ ack c))
       → SitesInPatching job d p base request wanted head tail next → Passed job ack d p base request d p' base' request' wanted' head tail next
-  passed_lifts ack p p' n base base' request request' wanted wanted' head tail next lift n0 n1 n4 n7 asked few want position fit bases reach k = record {
-    sites = record {
-      asked = asked;
-      few = few;
-      want = want;
-      position = position;
-      fit = fit;
-      sites = λ f inside. lifted (λ a b. SiteAt a f (insn job d f) (insn job (suc d) f) (head f) (tail f) (next f)
-          → SiteAt b f (insn job d f) (insn job (suc d) f) (head f) (tail f) (next f)) f inside
-          (λ s. s)
-          (λ s. site_still n f (insn job d f) (insn job (suc d) f) (head f) (tail f) (next f) n0 n1 n4 n7 s)
-          (k.sites f inside);
-    };
-    reach = λ c within s. (reach c within s).0;
-    fetch = λ c within r le f m inside. lifted (λ a b. FetchAt a (insn job d f) (insn job (suc d) f) base (ack c) m
-        → FetchAt b (insn job d f) (insn job (suc d) f) base' (ack c) m) f inside
-        (λ s. fetch_base 0 (insn job d f) (insn job (suc d) f) base base' (ack c) m (inl refl) s)
-        (λ s. let s' = fetch_on n (insn job d f) (insn job (suc d) f) base (ack c) m (λ e. absurd (n1 e)) (reach c within r).1 (reach c within r).2 s in
-        elim bases [
-          | inl e ↦ subst (λ v. FetchAt (suc n) (insn job d f) (insn job (suc d) f) v (ack c) m) (sym e) s'
-          | inr e ↦ fetch_base (suc n) (insn job d f) (insn job (suc d) f) base base' (ack c) m (inr (omega arith)) s'
-        ]);
-  }
+  passed_lifts ack p p' n base base' request request' wanted wanted' head tail next lift n0 n1 n4 n7 asked few want position fit bases reach k =
+      passed_on job d ack p p' base base' request request' wanted wanted' head tail next head tail next
+      (λ f inside ch. let l = lift f inside ch in (
+        n,
+        suc n,
+        l.0,
+        l.1,
+        (
+          site_still n f (insn job d f) (insn job (suc d) f) (head f) (tail f) (next f) n0 n1 n4 n7,
+          λ c m within r le x. rebased f c m
+              (fetch_on n (insn job d f) (insn job (suc d) f) base (ack c) m (λ e. absurd (n1 e)) (reach c within r).1 (reach c within r).2 x),
+        ),
+      ))
+      (λ f e. (λ x. x, λ c m within r le x. fetch_base 0 (insn job d f) (insn job (suc d) f) base base' (ack c) m (inl refl) x))
+      asked few want position fit (λ c within r. (reach c within r).0) k
     where
-      lifted : (P : ℕ → ℕ → Type 0) (f : ℕ) → f < funcs job → P 0 0 → P n (suc n) → P (stage job d p f) (stage job d p' f)
-      lifted P f inside still on = by_change (changes job d f) refl
-        where
-          by_change : (b : Bool) → changes job d f ≡ b → P (cond b (stage_in p f) 0) (cond b (stage_in p' f) 0)
-          by_change false e = still
-          by_change true e = let l = lift f inside e in subst (λ (q : ℕ × ℕ). P q.0 q.1) (λ j. (sym l.0 j, sym l.1 j)) on
+      rebased : (f c : ℕ) (m : Moment) → FetchAt (suc n) (insn job d f) (insn job (suc d) f) base (ack c) m
+          → FetchAt (suc n) (insn job d f) (insn job (suc d) f) base' (ack c) m
+      rebased f c m x = elim bases [
+        | inl e ↦ subst (λ v. FetchAt (suc n) (insn job d f) (insn job (suc d) f) v (ack c) m) (sym e) x
+        | inr e ↦ fetch_base (suc n) (insn job d f) (insn job (suc d) f) base base' (ack c) m (inr (omega arith)) x
+      ]
 
   -- no stage changes; the first request of the batch matters only within a batch
   pub passed_same : (ack : ℕ → ℕ) (p p' : Position) (base base' request request' wanted wanted' : ℕ) (head tail next : ℕ → ℕ)
@@ -257,38 +276,17 @@ module _ (job : Job) (d : ℕ) where
       → (base' ≡ base) ⊎ ((f : ℕ) → (stage_in p f ≡ 0) ⊎ (stage_in p f ≡ 10))
       → ((c : ℕ) → c < length job.quanta → reached base p c ≤ ack c → reached base' p' c ≤ ack c)
       → SitesInPatching job d p base request wanted head tail next → Passed job ack d p base request d p' base' request' wanted' head tail next
-  passed_same ack p p' base base' request request' wanted wanted' head tail next same asked few want position fit bases reach k = record {
-    sites = record {
-      asked = asked;
-      few = few;
-      want = want;
-      position = position;
-      fit = fit;
-      sites = λ f inside. subst (λ n. SiteAt n f (insn job d f) (insn job (suc d) f) (head f) (tail f) (next f)) (stays f inside) (k.sites f inside);
-    };
-    reach = reach;
-    fetch = λ c within r le f m inside s. subst (λ n. FetchAt n (insn job d f) (insn job (suc d) f) base' (ack c) m) (stays f inside) (rebased f m c s);
-  }
+  passed_same ack p p' base base' request request' wanted wanted' head tail next same asked few want position fit bases reach k =
+      passed_on job d ack p p' base base' request request' wanted wanted' head tail next head tail next
+      (λ f inside ch. (stage_in p f, stage_in p f, refl, same f inside ch, (λ x. x, λ c m within r le x. rebased f c m x)))
+      (λ f e. (λ x. x, λ c m within r le x. fetch_base 0 (insn job d f) (insn job (suc d) f) base base' (ack c) m (inl refl) x))
+      asked few want position fit reach k
     where
-      stays : (f : ℕ) → f < funcs job → stage job d p f ≡ stage job d p' f
-      stays f inside = by_change (changes job d f) refl
-        where
-          by_change : (b : Bool) → changes job d f ≡ b → cond b (stage_in p f) 0 ≡ cond b (stage_in p' f) 0
-          by_change false e = refl
-          by_change true e = sym (same f inside e)
-
-      ends : ((f : ℕ) → (stage_in p f ≡ 0) ⊎ (stage_in p f ≡ 10)) → (f : ℕ) → (stage job d p f ≡ 0) ⊎ (stage job d p f ≡ 10)
-      ends x f = by_change (changes job d f)
-        where
-          by_change : (b : Bool) → (cond b (stage_in p f) 0 ≡ 0) ⊎ (cond b (stage_in p f) 0 ≡ 10)
-          by_change false = inl refl
-          by_change true = x f
-
-      rebased : (f : ℕ) (m : Moment) (c : ℕ) → FetchAt (stage job d p f) (insn job d f) (insn job (suc d) f) base (ack c) m
-          → FetchAt (stage job d p f) (insn job d f) (insn job (suc d) f) base' (ack c) m
-      rebased f m c s = elim bases [
-        | inl e ↦ subst (λ v. FetchAt (stage job d p f) (insn job d f) (insn job (suc d) f) v (ack c) m) (sym e) s
-        | inr e ↦ fetch_base (stage job d p f) (insn job d f) (insn job (suc d) f) base base' (ack c) m (ends e f) s
+      rebased : (f c : ℕ) (m : Moment) → FetchAt (stage_in p f) (insn job d f) (insn job (suc d) f) base (ack c) m
+          → FetchAt (stage_in p f) (insn job d f) (insn job (suc d) f) base' (ack c) m
+      rebased f c m x = elim bases [
+        | inl e ↦ subst (λ v. FetchAt (stage_in p f) (insn job d f) (insn job (suc d) f) v (ack c) m) (sym e) x
+        | inr e ↦ fetch_base (stage_in p f) (insn job d f) (insn job (suc d) f) base base' (ack c) m (e f) x
       ]
 
 -- the return: the desk that was begun is the desk that has returned

@@ -20,7 +20,7 @@ use Rattle.word_map.specs.Words.{Word, Want, First as ListHead, Link}
 use Rattle.word_map.specs.Contents.{low}
 use Rattle.word_machine.specs.Commands.{Effect, Adds, Removes, Edits, Enables, Disables, Lists, Levels, Nothing, effect, subject, state_of, set_words}
 use Rattle.word_map.specs.Ops.{Load}
-use Rattle.word_machine.specs.Control.{Position, Line, Take, Copy, Select, Push, Relink, StorePids, StoreDepth, NextAt, BreakAt, Ask1, Wait1, TailAt, Ask2, Wait2, HeadAt, Ask3, Wait3, AskQuiet, WaitQuiet, Release, Close, slot_of, namer_from, relink_op, line_op, next_in, control_next}
+use Rattle.word_machine.specs.Control.{Position, Line, Take, Copy, Select, Push, Relink, Patch, WaitSync, WaitQuiet, Release, slot_of, namer_from, relink_op, line_op, next_in, control_next}
 use Rattle.word_machine.specs.Task.{OpenCall, TaskState, Moment, Polling, First, Fetch, GotHead, GotBreak, InTramp, OwnSel, AtFirst, TestSel, TestFilter, TestNotrace, AtPids, AtDepth, Refusing, Calling, Missing, Acting, Ending, AtLink, Closing, Leaving, AtExit, Exiting, EndingExit, Returning, first_op, call_op, stack_op, task_op}
 use Rattle.word_machine.specs.Cpu.{Cpu, Phase, Going, StoringAck, StoringQuiet, Over, any_has_more, present_op, phase_op, cpu_next}
 use Rattle.word_machine.specs.Machine.{World}
@@ -33,6 +33,7 @@ use Rattle.word_machine.specs.Rule.{MachineRule, here, CpuRule, PollAt, IsWordJo
 use Rattle.word_map.specs.Shapes.{shape_of}
 use Rattle.word_map.specs.Places.{IsThere}
 use Rattle.word_machine.specs.Laws.{IsOnWord, WaitsAt}
+use Rattle.word_machine_laws.proofs.Batches.{Sweep, Nexts, store_at, store_case}
 use Rattle.word_machine_laws.proofs.DeskChanges.{SubjectBy, between}
 use Rattle.word_machine_laws.proofs.DeskNumbers.{registered-inside}
 use Rattle.word_machine_laws.proofs.DeskSlots.{slot-small}
@@ -210,12 +211,7 @@ module _ (job : Job) (ok : IsWordJob job) (s : World) (k : MachineRule job s) wh
       namer-there ListHead (subject job d) s.control.order tt
       (λ v h. registered-inside job (list_desk s.control.position d) v (sym (k.list.order'.members v) ∙ h))
   relink-there Adds e r = tt
-  relink-there Edits e r = false_true r
-  relink-there Enables e r = false_true r
-  relink-there Disables e r = false_true r
-  relink-there Lists e r = false_true r
-  relink-there Levels e r = false_true r
-  relink-there Nothing e r = false_true r
+  relink-there _ e r = false_true r
 
   slot-there : (n u : ℕ) (o : Option ℕ) → (state_of job n u).slot ≡ o → is_some o ≡ true → (state_of job n u).registered ≡ true → slot_of o < job.tramps
   slot-there n u None e i r = false_true i
@@ -246,6 +242,10 @@ module _ (job : Job) (ok : IsWordJob job) (s : World) (k : MachineRule job s) wh
   adds-selects Adds e = refl
   adds-selects _ e = false_true e
 
+  store-there : (z : Sweep) (i : ℕ) → i < funcs job → IsOnWord job (Some (store_at job d z i))
+  store-there Nexts i lt = lt
+  store-there _ i lt = lt
+
   position-there : (p : Position) → PositionAt job d p → comes_to (effect job d) p ≡ true → WaitsAt job p → IsOnWord job (next_in job s.control p)
   position-there Line a f n = line-there s.control.remaining refl
   position-there Take a f n = slot-there (suc d) (subject job d) (state_of job (suc d) (subject job d)).slot refl a (added f)
@@ -254,22 +254,11 @@ module _ (job : Job) (ok : IsWordJob job) (s : World) (k : MachineRule job s) wh
   position-there Select a f n = subject-inside job ok.job' d (effect job d) refl f
   position-there Push a f n = subject-inside job ok.job' d (effect job d) refl (adds-selects (effect job d) f)
   position-there Relink a f n = relink-there (effect job d) refl f
-  position-there StorePids a f n = tt
-  position-there StoreDepth a f n = tt
-  position-there (NextAt g) a f n = a.1
-  position-there (BreakAt g) a f n = a.1
-  position-there Ask1 a f n = tt
-  position-there (Wait1 c) a f n = n
-  position-there (TailAt g) a f n = a.1
-  position-there Ask2 a f n = tt
-  position-there (Wait2 c) a f n = n
-  position-there (HeadAt g) a f n = a.1
-  position-there Ask3 a f n = tt
-  position-there (Wait3 c) a f n = n
-  position-there AskQuiet a f n = tt
+  position-there (Patch w x rest) a f n = store_case job d (λ o. IsOnWord job (Some o)) w x rest a store-there
+  position-there (WaitSync rest c) a f n = n
   position-there (WaitQuiet t) a f n = n
   position-there Release a f n = slot-there d (subject job d) (state_of job d (subject job d)).slot refl a (removed f)
-  position-there Close a f n = tt
+  position-there _ a f n = tt
 
 pub control-there : (job : Job) → IsWordJob job → (s : World) → MachineRule job s → WaitsAt job s.control.position → IsOnWord job (control_next job s.control)
 unfolding control_next

@@ -29,7 +29,7 @@ use Rattle.word_machine_laws.proofs.Goes.{cpu_goes}
 use Rattle.word_machine_laws.proofs.NoSwitch.{world, hereby, Flags, goes_still, listed_on, sets_on, limits_on, counts_on, lines_on, begun_more}
 use Rattle.word_machine_laws.proofs.DeskKept.{others_same}
 use Rattle.word_machine_laws.proofs.DeskSlots.{added_free, slots_apart}
-use Rattle.word_machine_laws.proofs.Effects.{adds_of, none_take, removes_of, none_copy, none_select, none_release}
+use Rattle.word_machine_laws.proofs.Effects.{adds_of, removes_of, none_gave}
 
 -- the first word of the copy, or the store of the state if a set has no words
 pub first_copy : (job : Job) (P : Position → Type 0) → (0 < set_words job → P (Copy 0 0)) → (set_words job ≡ 0 → P Select) → P (copy_from job 0 0)
@@ -44,7 +44,7 @@ module _ (job : Job) (ok : IsWellFormed job) (d : ℕ) (tramp : ℕ → ℕ) whe
       → (state_of job (suc d) (subject job d)).registered ≡ true → gave (effect job d) p' ≡ false → took p' ≡ true
       → TrampolinesHeld job d Take tramp → TrampolinesHeld job d p' (at_put tramp t0 (tramp_word (state_of job (suc d) (subject job d)).reg (subject job d)))
   tramps_take t0 p' adds slot registered give take k = record {
-    before = λ u t h free. put_other tramp t0 x t (apart u t h) ∙ k.before u t h (λ g. false_true (sym (none_take (effect job d)) ∙ g));
+    before = λ u t h free. put_other tramp t0 x t (apart u t h) ∙ k.before u t h (λ g. false_true (sym (none_gave (effect job d) Take refl) ∙ g));
     after = λ e u t h. elim (cases_eq u (subject job d)) [
       | inl s ↦
           let same : t ≡ t0 = same_Some t t0 (sym (subst (λ v. (state_of job (suc d) v).slot ≡ Some t) s h.1) ∙ slot) in
@@ -53,7 +53,7 @@ module _ (job : Job) (ok : IsWellFormed job) (d : ℕ) (tramp : ℕ → ℕ) whe
       | inr ne ↦
           let old : HasSlot (state_of job d u) t = subst (λ (s : UserState). HasSlot s t) (others_same job ok d u ne) h in
           subst (λ (s : UserState). at_put tramp t0 x t ≡ tramp_word s.reg u) (sym (others_same job ok d u ne)) (put_other tramp t0 x t (apart u t old)
-          ∙ k.before u t old (λ g. false_true (sym (none_take (effect job d)) ∙ g)))
+          ∙ k.before u t old (λ g. false_true (sym (none_gave (effect job d) Take refl) ∙ g)))
     ];
     free = λ t within old new.
         put_other tramp t0 x t (λ e. new take (subject job d) (registered, (subst (λ y. (state_of job (suc d) (subject job d)).slot ≡ Some y) (sym e) slot)))
@@ -72,7 +72,7 @@ module _ (job : Job) (ok : IsWellFormed job) (d : ℕ) (tramp : ℕ → ℕ) whe
   tramps_release t0 removes slot k = record {
     before = λ u t h free.
         let ne : u ≢ subject job d = free (ap (λ z. gave z Close) removes) in
-        put_other tramp t0 0 t (apart u t ne h) ∙ k.before u t h (λ g. false_true (sym (none_release (effect job d)) ∙ g));
+        put_other tramp t0 0 t (apart u t ne h) ∙ k.before u t h (λ g. false_true (sym (none_gave (effect job d) Release refl) ∙ g));
     after = λ e u t h. elim (cases_eq u (subject job d)) [
       | inl s ↦ false_true (sym (ap (λ (y : UserState). y.registered) c.1) ∙ subst (λ v. (state_of job (suc d) v).registered ≡ true) s h.0)
       | inr ne ↦ put_other tramp t0 0 t (apart u t ne (subst (λ (y : UserState). HasSlot y t) (others_same job ok d u ne) h)) ∙ k.after refl u t h
@@ -131,13 +131,13 @@ module _ (job : Job) (ok : IsWellFormed job) (ws : Words) (d : ℕ) (remaining :
       (world (put (Tramp (slot_of (state_of job (suc d) (subject job d)).slot))
       (tramp_word (state_of job (suc d) (subject job d)).reg (subject job d)) ws) d remaining request copies order cpus past q))
       (λ some. to (Copy 0 0) (record { list = refl; select = refl; pids = refl; depth = refl; hold = λ q small h. tt; grows = omega arith })
-      (none_copy 0 0 (effect job d)) refl refl (λ u. u) tt
+      (none_gave (effect job d) (Copy 0 0) refl) refl refl (λ u. u) tt
       (λ i v ti tv b. absurd (elim b [ inl x ↦ omega (arith, x) | inr x ↦ (let y = x.1 in omega (arith, y)) ])) (λ f. refl) refl (
         omega arith,
         some,
       ) (ap writes_copy adds) (λ b c. refl) (λ t. refl))
       (λ none. to Select (record { list = refl; select = refl; pids = refl; depth = refl; hold = λ q small h. tt; grows = omega arith })
-      (none_select (effect job d)) refl refl (λ u. u) tt
+      (none_gave (effect job d) Select refl) refl refl (λ u. u) tt
       (λ w i v ti tv. absurd (omega (arith, none, tv))) (λ f. refl) refl tt (ap selects adds) (λ b c. refl) (λ t. refl))
     where
       adds : effect job d ≡ Adds

@@ -13,7 +13,7 @@ use Rattle.ft_base.specs.declared.item.Item.{Item}
 use Rattle.ft_base.specs.declared.item.Item.TheVariants.{Begin, Return}
 use Rattle.ft_base.specs.declared.turn.Actor.{Actor}
 use Rattle.ft_base.specs.declared.turn.Actor.TheVariants.{Control as ByControl, Cpu as ByCpu}
-use Rattle.ft_base.specs.Job.{Job, Task, no_task, Command, Register, Unregister, Filter, Notrace, Enable, Disable, MaxDepth, Run, Until, Ctl, commands}
+use Rattle.ft_base.specs.Job.{Job, Task, no_task, Command, Register, Unregister, Filter, Notrace, Enable, Disable, MaxDepth, Run, Until, Ctl, commands, funcs}
 use Rattle.ft_base.specs.Desk.{UserState, Desk, desk, is_accepted, answer_on, changed, is_allowed}
 use Rattle.ft_base.specs.Order.{has}
 use Rattle.ft_base.specs.WellFormed.{IsNamed}
@@ -25,17 +25,19 @@ use Rattle.plain_machine.specs.State.{has_acts}
 use Rattle.word_map.specs.Words.{Word, Words, Clock, Want, First as ListHead, Pids, Depth, Head, Tail, Next, Ack, Quiet, Tramp, Link, Sel, Bits, put, bits_put}
 use Rattle.word_map.specs.Contents.{low, halves, half_size, greatest_half, all_ones, sel_of, set_word, mask_of}
 use Rattle.word_map.specs.Instructions.{head_of, tail_of}
-use Rattle.word_machine.specs.Commands.{Effect, Adds, Removes, Edits, Enables, Disables, Lists, Levels, Nothing, effect, subject, subject_in, command, state_of, insn}
+use Rattle.word_machine.specs.Commands.{Effect, Removes, Edits, Lists, Levels, Nothing, effect, subject, subject_in, command, state_of, insn}
 use Rattle.word_map.specs.Ops.{WordOp, Load, Store, Mark}
-use Rattle.word_machine.specs.Control.{Position, Line, Take, Copy, Select, Push, Relink, StorePids, StoreDepth, NextAt, BreakAt, Ask1, TailAt, Ask2, HeadAt, Ask3, AskQuiet, Release, next_in, line_op, relink_op, control_next, copy_after, name_of, follower}
+use Rattle.word_machine.specs.Control.{Position, Line, Take, Copy, Select, Push, Relink, StorePids, StoreDepth, Patch, AskSync, AskQuiet, Release, next_in, line_op, relink_op, control_next, copy_after, name_of, follower}
 use Rattle.word_machine.specs.Task.{TaskState, is_quiet, quiet_word, OpenCall, Moment, Polling, First, call_op, first_op, stack_op}
 use Rattle.word_machine.specs.Cpu.{Cpu, Phase, Going, StoringAck, StoringQuiet, Over, any_has_more, ack_value, phase_op, going_op, present_op, cpu_next}
 use Rattle.word_machine.specs.Machine.{World, words_after, weight, control_moved, cpu_moved, step, run, start, taken, control_row, cpu_row}
+use Rattle.word_machine.specs.Sites.{PositionAt}
 use Rattle.word_machine.specs.UserList.{list_desk}
 use Rattle.word_machine.specs.Rule.{MachineRule, PollAt, task_in}
 use Rattle.word_machine.specs.Limits.{IsLimited, IsLevel}
 use Rattle.word_machine.specs.Laws.{Runs, AllFit, WaitsAt}
 use Rattle.word_machine.proofs.Small.{if_case, put_case, has-more}
+use Rattle.word_machine_laws.proofs.Batches.{Sweep, Nexts, Breaks, Tails, Heads, store_at, store_case}
 use Rattle.word_machine_laws.proofs.Effects.{after_small}
 use Rattle.word_machine_laws.proofs.DeskStart.{reg_at_start}
 use Rattle.word_machine_laws.proofs.DeskChanges.{between, SubjectBy}
@@ -156,14 +158,11 @@ module _ (job : Job) (l : IsLimited job) where
     where
       by_effect : (z : Effect) → SubjectBy job (desk job k) (suc k) z (state_of job k (subject job k)) (state_of job (suc k) (subject job k))
           → (state_of job k (subject job k)).reg ≤ k → (state_of job (suc k) (subject job k)).reg ≤ suc k
-      by_effect Adds s old = (let e = ap (λ (x : UserState). x.reg) s.1 in omega (arith, e, old))
-      by_effect Removes s old = (let e = ap (λ (x : UserState). x.reg) s.1 in omega (arith, e, old))
       by_effect Edits s old = (let e = s.1.reg in omega (arith, e, old))
-      by_effect Enables s old = (let e = ap (λ (x : UserState). x.reg) s.1 in omega (arith, e, old))
-      by_effect Disables s old = (let e = ap (λ (x : UserState). x.reg) s.1 in omega (arith, e, old))
       by_effect Lists s old = (let e = ap (λ (x : UserState). x.reg) s in omega (arith, e, old))
       by_effect Levels s old = (let e = ap (λ (x : UserState). x.reg) s in omega (arith, e, old))
       by_effect Nothing s old = (let e = s.0.reg in omega (arith, e, old))
+      by_effect _ s old = (let e = ap (λ (x : UserState). x.reg) s.1 in omega (arith, e, old))
 
   subject-small : (k : ℕ) → subject job k ≤ USERS
   subject-small k = by (command job k) refl
@@ -272,34 +271,35 @@ module _ (job : Job) (l : IsLimited job) (s : World) (k : MachineRule job s) whe
   insn-few f = (let i = insn-small job l.job' (suc s.control.commands_done) f in let t = (few-largest job.version l.counts).few_tramps in
       omega (arith, i, t))
 
-  control-fit : (p : Position) (op : WordOp) → next_in job s.control p ≡ Some op → FitsIn op
-  control-fit Line op is = lines-fit s.control.commands_done s.control.remaining op is
-  control-fit Take op is = subst (λ o. FitsIn o) (same_Some _ op is)
+  stores-fit : (z : Sweep) (i : ℕ) → i < funcs job → FitsIn (store_at job s.control.commands_done z i)
+  stores-fit Nexts i lt = (let h = insn-few i in omega (arith, h))
+  stores-fit Breaks i lt = omega arith
+  stores-fit Tails i lt = tail-small i (insn job (suc s.control.commands_done) i) (insn-few i)
+  stores-fit Heads i lt = head-small (insn job (suc s.control.commands_done) i)
+
+  control-fit : (p : Position) (op : WordOp) → PositionAt job s.control.commands_done p → next_in job s.control p ≡ Some op → FitsIn op
+  control-fit Line op a is = lines-fit s.control.commands_done s.control.remaining op is
+  control-fit Take op a is = subst (λ o. FitsIn o) (same_Some _ op is)
       (let r = reg-small job l (suc s.control.commands_done) (subject job s.control.commands_done) in let u = subject-small job l s.control.commands_done in
       let n = few in omega (arith, r, u, n))
-  control-fit (Copy h w) op is = subst (λ o. FitsIn o) (same_Some _ op is)
+  control-fit (Copy h w) op a is = subst (λ o. FitsIn o) (same_Some _ op is)
       (set-small (state_of job (suc s.control.commands_done) (subject job s.control.commands_done)) h w)
-  control-fit Select op is = subst (λ o. FitsIn o) (same_Some _ op is)
+  control-fit Select op a is = subst (λ o. FitsIn o) (same_Some _ op is)
       (sel-small (state_of job (suc s.control.commands_done) (subject job s.control.commands_done))
       (copy_after (effect job s.control.commands_done) (s.control.copies (subject job s.control.commands_done)))
       (let r = reg-small job l (suc s.control.commands_done) (subject job s.control.commands_done) in let n = few in omega (arith, r, n))
       (after_small (effect job s.control.commands_done) (s.control.copies (subject job s.control.commands_done))
       (k.sets.small (subject job s.control.commands_done))))
-  control-fit Push op is = subst (λ o. FitsIn o) (same_Some _ op is) (let h = name-small s.control.order (length job.users) (few-users job l) in-order in
+  control-fit Push op a is = subst (λ o. FitsIn o) (same_Some _ op is) (let h = name-small s.control.order (length job.users) (few-users job l) in-order in
       omega (arith, h))
-  control-fit Relink op is = subst (λ o. FitsIn o) (same_Some _ op is) (relinks-fit (effect job s.control.commands_done))
-  control-fit StorePids op is = subst (λ o. FitsIn o) (same_Some _ op is) (mask-small (desk job (suc s.control.commands_done)) (length job.tasks) l.counts.few_tasks)
-  control-fit StoreDepth op is = subst (λ o. FitsIn o) (same_Some _ op is) (let h = depth-small job l (suc s.control.commands_done) in omega (arith, h))
-  control-fit (NextAt i) op is = subst (λ o. FitsIn o) (same_Some _ op is) (let h = insn-few i in omega (arith, h))
-  control-fit (BreakAt i) op is = subst (λ o. FitsIn o) (same_Some _ op is) (omega arith)
-  control-fit (TailAt i) op is = subst (λ o. FitsIn o) (same_Some _ op is) (tail-small i (insn job (suc s.control.commands_done) i) (insn-few i))
-  control-fit (HeadAt i) op is = subst (λ o. FitsIn o) (same_Some _ op is) (head-small (insn job (suc s.control.commands_done) i))
-  control-fit Ask1 op is = subst (λ o. FitsIn o) (same_Some _ op is) asks-fit
-  control-fit Ask2 op is = subst (λ o. FitsIn o) (same_Some _ op is) asks-fit
-  control-fit Ask3 op is = subst (λ o. FitsIn o) (same_Some _ op is) asks-fit
-  control-fit AskQuiet op is = subst (λ o. FitsIn o) (same_Some _ op is) asks-fit
-  control-fit Release op is = subst (λ o. FitsIn o) (same_Some _ op is) (omega arith)
-  control-fit _ op is = subst (λ o. FitsIn o) (same_Some _ op is) tt
+  control-fit Relink op a is = subst (λ o. FitsIn o) (same_Some _ op is) (relinks-fit (effect job s.control.commands_done))
+  control-fit StorePids op a is = subst (λ o. FitsIn o) (same_Some _ op is) (mask-small (desk job (suc s.control.commands_done)) (length job.tasks) l.counts.few_tasks)
+  control-fit StoreDepth op a is = subst (λ o. FitsIn o) (same_Some _ op is) (let h = depth-small job l (suc s.control.commands_done) in omega (arith, h))
+  control-fit (Patch w x rest) op a is = subst (λ o. FitsIn o) (same_Some (Store w x) op is) (store_case job s.control.commands_done FitsIn w x rest a stores-fit)
+  control-fit (AskSync rest) op a is = subst (λ o. FitsIn o) (same_Some _ op is) asks-fit
+  control-fit AskQuiet op a is = subst (λ o. FitsIn o) (same_Some _ op is) asks-fit
+  control-fit Release op a is = subst (λ o. FitsIn o) (same_Some _ op is) (omega arith)
+  control-fit _ op a is = subst (λ o. FitsIn o) (same_Some _ op is) tt
 
   -- ## the words of CPUs and tasks
 
@@ -361,7 +361,7 @@ step-fits job l ByControl s k all = by (control_next job s.control) refl
   where
     by : (o : Option WordOp) → control_next job s.control ≡ o → AllFit (control_moved job s o).words
     by None e = all
-    by (Some op) e = after-fits job l s k op (control-fit job l s k s.control.position op e) all
+    by (Some op) e = after-fits job l s k op (control-fit job l s k s.control.position op k.sites.position e) all
 step-fits job l (ByCpu c) s k all = by_there (nat_lt c.0 (length job.quanta)) refl (cpu_next job (s.cpus c.0)) refl
   where
     by_there : (b : Bool) → nat_lt c.0 (length job.quanta) ≡ b → (o : Option WordOp) → cpu_next job (s.cpus c.0) ≡ o

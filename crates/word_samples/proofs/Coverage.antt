@@ -8,23 +8,36 @@ use Rattle.ft_base.specs.declared.turn.Actor.TheVariants.{Control as ByControl, 
 use Rattle.ft_base.specs.Job.{Job}
 use Rattle.ft_base.specs.Schedule.{actors_of, repeated}
 use Rattle.ft_base.specs.Desk.{desk}
-use Rattle.word_machine.specs.Commands.{insn}
-use Rattle.word_machine.specs.Control.{Position, Line, Take, Copy, Select, Push, Relink, StorePids, StoreDepth, NextAt, BreakAt, Ask1, Wait1, TailAt, Ask2, Wait2, HeadAt, Ask3, Wait3, AskQuiet, WaitQuiet, Release, Close, control_next, control_got}
+use Rattle.word_map.specs.Words.{Head, Tail, Next}
+use Rattle.word_map.specs.Instructions.{tail_of}
+use Rattle.word_map.specs.Ops.{WordOp, Store}
+use Rattle.word_machine.specs.Commands.{insn, moves}
+use Rattle.word_machine.specs.Control.{Position, Line, Take, Copy, Select, Push, Relink, StorePids, StoreDepth, Patch, AskSync, WaitSync, AskQuiet, WaitQuiet, Release, Close, control_next, control_got}
 use Rattle.word_machine.specs.Task.{Moment, Polling, First, Fetch, GotHead, GotBreak, InTramp, OwnSel, AtFirst, TestSel, TestFilter, TestNotrace, AtPids, AtDepth, Refusing, Calling, Missing, Acting, Ending, AtLink, Closing, Leaving, AtExit, Exiting, EndingExit, Returning}
 use Rattle.word_machine.specs.Cpu.{Phase, Going, StoringAck, StoringQuiet, Over, cpu_next, cpu_got}
 use Rattle.word_machine.specs.Machine.{World, start, step, run}
 use Rattle.word_machine.proofs.RowSamples.{breakpoint_is_read, cleared_set, disabled_fprobe, enabled_again, excluded_pids, fetch_held_between_loads, fprobe_misses, full_shadow_stack, further_words, hash_changed_in_walk_new, hash_changed_in_walk_old, invalid_commands, list_then_own, max_depth, no_match, no_trampolines, pids, preempted_in_callback, profile_user, recursion, recursion_in_irq, registered_again, repeated_commands, silent_acts, task_without_acts, two_ipmodify_users, unregistered_in_call}
 use Rattle.word_machine.proofs.RunSamples.{link_cleared, no_next, no_quiet_for_a_walker, no_state_at_unregistration, present_copy_written, switched_in_a_fetch}
-use Rattle.word_samples.proofs.RandomSamples1.{job_82, job_93}
+use Rattle.word_samples.proofs.RandomSamples1.{job_3, job_82, job_93}
 use Rattle.word_samples.proofs.RandomSamples4.{job_3010, job_3053}
 
--- where an actor stands: control, with its lines left; or a CPU, with its present task, and how many acts that has finished
+-- where an actor stands: control, with its lines left, and in a batch with how many moves come after this one; or a CPU, with its present
+-- task, and how many acts that has finished
 data Stand : Type 0 where
   OfControl : (lines : ℕ) → Position → Stand
+  AtPatch : (lines : ℕ) → WordOp → (moves : ℕ) → Stand
+  AtAsk : (lines moves : ℕ) → Stand
+  AtWait : (lines moves cpu : ℕ) → Stand
   OfCpu : Phase → (task acts : ℕ) → Moment → Stand
 
+abbrev stand_at : ℕ → Position → Stand
+stand_at lines (Patch w x rest) = AtPatch lines (Store w x) (length rest)
+stand_at lines (AskSync rest) = AtAsk lines (length rest)
+stand_at lines (WaitSync rest c) = AtWait lines (length rest) c
+stand_at lines p = OfControl lines p
+
 abbrev stand : World → Actor → Stand
-stand s ByControl = OfControl (length s.control.remaining) s.control.position
+stand s ByControl = stand_at (length s.control.remaining) s.control.position
 stand s (ByCpu c) = let me = s.cpus c.0 in let x = me.tasks me.present in OfCpu me.phase me.present x.gone x.moment
 
 -- a turn of the replay of a job, counted from 0: whose it is, and what it takes from where to where
@@ -72,35 +85,37 @@ control_rows =
     row further_words 26 ByControl (OfControl 3 (Copy 1 1)) (OfControl 3 Select) ∷  -- Copy: a second notrace word
     row breakpoint_is_read 4 ByControl (OfControl 1 Select) (OfControl 1 Push) ∷  -- Select: adds
     row repeated_commands 18 ByControl (OfControl 2 Select) (OfControl 2 Relink) ∷  -- Select: removes
-    row cleared_set 54 ByControl (OfControl 5 Select) (OfControl 5 (NextAt 1)) ∷  -- Select: edits
+    row cleared_set 54 ByControl (OfControl 5 Select) (AtPatch 5 (Store (Next 1) 2) 6) ∷  -- Select: edits
     row present_copy_written 90 ByControl (OfControl 1 Select) (OfControl 1 AskQuiet) ∷  -- Select: edits, and no site changes
     row enabled_again 92 ByControl (OfControl 5 Select) (OfControl 5 Close) ∷  -- Select: enables
     row enabled_again 46 ByControl (OfControl 7 Select) (OfControl 7 AskQuiet) ∷  -- Select: disables
     row breakpoint_is_read 5 ByControl (OfControl 1 Push) (OfControl 1 Relink) ∷  -- Push: no other user
     row invalid_commands 30 ByControl (OfControl 2 Push) (OfControl 2 Relink) ∷  -- Push: others
-    row breakpoint_is_read 6 ByControl (OfControl 1 Relink) (OfControl 1 (NextAt 0)) ∷  -- Relink: adds
+    row breakpoint_is_read 6 ByControl (OfControl 1 Relink) (AtPatch 1 (Store (Next 0) 2) 6) ∷  -- Relink: adds
     row no_quiet_for_a_walker 64 ByControl (OfControl 2 Relink) (OfControl 2 Close) ∷  -- Relink: adds, and no site changes
-    row repeated_commands 19 ByControl (OfControl 2 Relink) (OfControl 2 (NextAt 0)) ∷  -- Relink: removes the first
-    row list_then_own 140 ByControl (OfControl 1 Relink) (OfControl 1 (NextAt 0)) ∷  -- Relink: removes another
+    row repeated_commands 19 ByControl (OfControl 2 Relink) (AtPatch 2 (Store (Next 0) 0) 6) ∷  -- Relink: removes the first
+    row list_then_own 140 ByControl (OfControl 1 Relink) (AtPatch 1 (Store (Next 0) 3) 6) ∷  -- Relink: removes another
     row link_cleared 81 ByControl (OfControl 1 Relink) (OfControl 1 AskQuiet) ∷  -- Relink: removes, and no site changes
     row silent_acts 3 ByControl (OfControl 3 StorePids) (OfControl 3 AskQuiet) ∷  -- StorePids: pid
     row excluded_pids 50 ByControl (OfControl 3 StorePids) (OfControl 3 AskQuiet) ∷  -- StorePids: nopid
     row silent_acts 57 ByControl (OfControl 1 StoreDepth) (OfControl 1 AskQuiet) ∷  -- StoreDepth
-    row repeated_commands 20 ByControl (OfControl 2 (NextAt 0)) (OfControl 2 (BreakAt 0)) ∷  -- NextAt: the nop
-    row no_trampolines 12 ByControl (OfControl 1 (NextAt 0)) (OfControl 1 (BreakAt 0)) ∷  -- NextAt: the list caller
-    row breakpoint_is_read 7 ByControl (OfControl 1 (NextAt 0)) (OfControl 1 (BreakAt 0)) ∷  -- NextAt: a trampoline
-    row breakpoint_is_read 8 ByControl (OfControl 1 (BreakAt 0)) (OfControl 1 Ask1) ∷  -- BreakAt, TailAt, HeadAt
-    row repeated_commands 10 ByControl (OfControl 4 (TailAt 0)) (OfControl 4 Ask2) ∷  -- BreakAt, TailAt, HeadAt
-    row repeated_commands 12 ByControl (OfControl 4 (HeadAt 0)) (OfControl 4 Ask3) ∷  -- BreakAt, TailAt, HeadAt
-    row preempted_in_callback 9 ByControl (OfControl 2 Ask1) (OfControl 2 (Wait1 0)) ∷  -- Ask1, Ask2, Ask3
-    row repeated_commands 11 ByControl (OfControl 4 Ask2) (OfControl 4 (HeadAt 0)) ∷  -- Ask1, Ask2, Ask3
-    row repeated_commands 13 ByControl (OfControl 4 Ask3) (OfControl 4 Close) ∷  -- Ask1, Ask2, Ask3
-    row hash_changed_in_walk_old 10 ByControl (OfControl 4 (Wait1 0)) (OfControl 4 (Wait1 0)) ∷  -- Wait1: not met
-    row preempted_in_callback 15 ByControl (OfControl 2 (Wait1 0)) (OfControl 2 (TailAt 0)) ∷  -- Wait1: met
-    row no_trampolines 26 ByControl (OfControl 1 (Wait2 0)) (OfControl 1 (Wait2 0)) ∷  -- Wait2: not met
-    row preempted_in_callback 23 ByControl (OfControl 2 (Wait2 0)) (OfControl 2 (HeadAt 0)) ∷  -- Wait2: met
-    row no_trampolines 34 ByControl (OfControl 1 (Wait3 0)) (OfControl 1 (Wait3 0)) ∷  -- Wait3: not met
-    row preempted_in_callback 31 ByControl (OfControl 2 (Wait3 0)) (OfControl 2 Close) ∷  -- Wait3: met
+    row repeated_commands 20 ByControl (AtPatch 2 (Store (Next 0) 0) 6) (AtPatch 2 (Store (Head 0) 204) 5) ∷  -- Patch: a next, the nop
+    row no_trampolines 12 ByControl (AtPatch 1 (Store (Next 0) 1) 6) (AtPatch 1 (Store (Head 0) 204) 5) ∷  -- Patch: a next, the list caller
+    row breakpoint_is_read 7 ByControl (AtPatch 1 (Store (Next 0) 2) 6) (AtPatch 1 (Store (Head 0) 204) 5) ∷  -- Patch: a next, a trampoline
+    row breakpoint_is_read 8 ByControl (AtPatch 1 (Store (Head 0) 204) 5) (AtAsk 1 4) ∷  -- Patch: a breakpoint
+    row repeated_commands 10 ByControl (AtPatch 4 (Store (Tail 0) (tail_of 0 2)) 3) (AtAsk 4 2) ∷  -- Patch: a tail
+    row job_3 69 ByControl (AtPatch 7 (Store (Tail 0) (tail_of 0 2)) 5) (AtPatch 7 (Store (Tail 1) (tail_of 1 2)) 4) ∷  -- Patch: a tail, before another site's
+    row repeated_commands 12 ByControl (AtPatch 4 (Store (Head 0) 232) 1) (AtAsk 4 0) ∷  -- Patch: a head
+    row preempted_in_callback 9 ByControl (AtAsk 2 4) (AtWait 2 4 0) ∷  -- AskSync: the first
+    row repeated_commands 11 ByControl (AtAsk 4 2) (AtPatch 4 (Store (Head 0) 232) 1) ∷  -- AskSync: the second
+    row repeated_commands 13 ByControl (AtAsk 4 0) (OfControl 4 Close) ∷  -- AskSync: the third
+    row hash_changed_in_walk_old 10 ByControl (AtWait 4 4 0) (AtWait 4 4 0) ∷  -- WaitSync: the first, not met
+    row preempted_in_callback 15 ByControl (AtWait 2 4 0) (AtPatch 2 (Store (Tail 0) (tail_of 0 2)) 3) ∷  -- WaitSync: the first, met
+    row job_3 63 ByControl (AtWait 7 6 0) (AtWait 7 6 1) ∷  -- WaitSync: the first, met, before another CPU's
+    row no_trampolines 26 ByControl (AtWait 1 2 0) (AtWait 1 2 0) ∷  -- WaitSync: the second, not met
+    row preempted_in_callback 23 ByControl (AtWait 2 2 0) (AtPatch 2 (Store (Head 0) 232) 1) ∷  -- WaitSync: the second, met
+    row no_trampolines 34 ByControl (AtWait 1 0 0) (AtWait 1 0 0) ∷  -- WaitSync: the third, not met
+    row preempted_in_callback 31 ByControl (AtWait 2 0 0) (OfControl 2 Close) ∷  -- WaitSync: the third, met
     row silent_acts 6 ByControl (OfControl 3 AskQuiet) (OfControl 3 (WaitQuiet 0)) ∷  -- AskQuiet
     row silent_acts 9 ByControl (OfControl 3 (WaitQuiet 0)) (OfControl 3 (WaitQuiet 0)) ∷  -- WaitQuiet: not met
     row silent_acts 18 ByControl (OfControl 3 (WaitQuiet 0)) (OfControl 3 (WaitQuiet 1)) ∷  -- WaitQuiet: met
@@ -115,7 +130,7 @@ control_rows =
     []
 
 control_passes : map found control_rows ≡ map said control_rows
-unfolding actors_of repeated start step run control_next control_got cpu_next cpu_got insn desk
+unfolding actors_of repeated start step run control_next control_got cpu_next cpu_got insn moves desk
 control_passes = refl
 
 abbrev cpu_rows : List Turn
@@ -199,5 +214,5 @@ cpu_rows =
     []
 
 cpu_passes : map found cpu_rows ≡ map said cpu_rows
-unfolding actors_of repeated start step run control_next control_got cpu_next cpu_got insn desk
+unfolding actors_of repeated start step run control_next control_got cpu_next cpu_got insn moves desk
 cpu_passes = refl

@@ -16,7 +16,7 @@ use Rattle.ft_base.specs.Job.{usual_lines, usual_rings, Job, Register, Unregiste
 use Rattle.ft_base.specs.Desk.{desk}
 use Rattle.ft_base.specs.Schedule.{actors_of, repeated}
 use Rattle.plain_machine.proofs.Plays.{named, call_in}
-use Rattle.word_machine.specs.Commands.{insn}
+use Rattle.word_machine.specs.Commands.{insn, moves}
 use Rattle.word_machine.specs.Control.{control_next, control_got}
 use Rattle.word_machine.specs.Cpu.{cpu_next, cpu_got}
 use Rattle.word_machine.specs.Machine.{start, step, run, played, play, all_end}
@@ -29,7 +29,7 @@ abbrev pub job_1-items : List Item
 job_1-items = Enter (call_in 0 1) Normal (record { 0 = 1 }) None ∷ Body (call_in 0 1) (record { 0 = 1 }) Nop ∷ Enter (call_in 0 2) Normal (record { 0 = 1 }) (Some (call_in 0 1)) ∷ Body (call_in 0 2) (record { 0 = 1 }) Nop ∷ Begin 1 ∷ Return 1 NotThere ∷ Begin 2 ∷ Return 2 NotThere ∷ Begin 3 ∷ Return 3 Invalid ∷ Begin 4 ∷ Return 4 Accepted ∷ Leave (call_in 0 2) ∷ Ret (call_in 0 2) (Some (call_in 0 1)) ∷ Leave (call_in 0 1) ∷ Ret (call_in 0 1) None ∷ []
 
 pub job_1-plays : Plays job_1 job_1-items true
-unfolding actors_of repeated start step run played play all_end control_next control_got cpu_next cpu_got insn desk
+unfolding actors_of repeated start step run played play all_end control_next control_got cpu_next cpu_got insn moves desk
 job_1-plays = (refl, refl)
 
 abbrev pub job_2 : Job
@@ -39,7 +39,7 @@ abbrev pub job_2-items : List Item
 job_2-items = Begin 1 ∷ Enter (call_in 1 1) Normal (record { 0 = 0 }) None ∷ Back (call_in 1 1) (record { 0 = 1 }) ∷ BackEnd (call_in 1 1) (record { 0 = 1 }) ∷ Body (call_in 1 1) (record { 0 = 0 }) (Own (record { 0 = 1 })) ∷ Return 1 Accepted ∷ Begin 2 ∷ Leave (call_in 1 1) ∷ Ret (call_in 1 1) None ∷ Return 2 Accepted ∷ Begin 3 ∷ Return 3 Invalid ∷ Begin 4 ∷ Return 4 Accepted ∷ Begin 5 ∷ Return 5 NotThere ∷ Enter (call_in 0 1) Softirq (record { 0 = 0 }) None ∷ Body (call_in 0 1) (record { 0 = 0 }) Nop ∷ Enter (call_in 0 2) Softirq (record { 0 = 0 }) (Some (call_in 0 1)) ∷ Body (call_in 0 2) (record { 0 = 0 }) Nop ∷ Leave (call_in 0 2) ∷ Ret (call_in 0 2) (Some (call_in 0 1)) ∷ Leave (call_in 0 1) ∷ Ret (call_in 0 1) None ∷ []
 
 pub job_2-plays : Plays job_2 job_2-items true
-unfolding actors_of repeated start step run played play all_end control_next control_got cpu_next cpu_got insn desk
+unfolding actors_of repeated start step run played play all_end control_next control_got cpu_next cpu_got insn moves desk
 job_2-plays = (refl, refl)
 
 abbrev pub job_3 : Job
@@ -49,7 +49,7 @@ abbrev pub job_3-items : List Item
 job_3-items = Begin 1 ∷ Enter (call_in 0 1) Nmi (record { 0 = 0 }) None ∷ Body (call_in 0 1) (record { 0 = 0 }) Nop ∷ Enter (call_in 0 2) Nmi (record { 0 = 0 }) (Some (call_in 0 1)) ∷ Back (call_in 0 2) (record { 0 = 0 }) ∷ BackEnd (call_in 0 2) (record { 0 = 0 }) ∷ Body (call_in 0 2) (record { 0 = 0 }) (Own (record { 0 = 0 })) ∷ Leave (call_in 0 2) ∷ Ret (call_in 0 2) (Some (call_in 0 1)) ∷ Leave (call_in 0 1) ∷ Ret (call_in 0 1) None ∷ Enter (call_in 0 3) Normal (record { 0 = 1 }) None ∷ Back (call_in 0 3) (record { 0 = 0 }) ∷ BackEnd (call_in 0 3) (record { 0 = 0 }) ∷ Body (call_in 0 3) (record { 0 = 1 }) (Own (record { 0 = 0 })) ∷ Return 1 Accepted ∷ Begin 2 ∷ Enter (call_in 0 4) Irq (record { 0 = 1 }) (Some (call_in 0 3)) ∷ Body (call_in 0 4) (record { 0 = 1 }) (Own (record { 0 = 0 })) ∷ Leave (call_in 0 4) ∷ Return 2 Accepted ∷ Ret (call_in 0 4) (Some (call_in 0 3)) ∷ Begin 3 ∷ Leave (call_in 0 3) ∷ Ret (call_in 0 3) None ∷ Return 3 Accepted ∷ Begin 4 ∷ Return 4 Accepted ∷ Begin 5 ∷ Return 5 Already ∷ Begin 6 ∷ Return 6 Already ∷ Begin 7 ∷ Return 7 Already ∷ []
 
 pub job_3-plays : Plays job_3 job_3-items true
-unfolding actors_of repeated start step run played play all_end control_next control_got cpu_next cpu_got insn desk
+unfolding actors_of repeated start step run played play all_end control_next control_got cpu_next cpu_got insn moves desk
 job_3-plays = (refl, refl)
 
 abbrev pub job_4 : Job
@@ -59,7 +59,7 @@ abbrev pub job_4-items : List Item
 job_4-items = Begin 1 ∷ Return 1 Accepted ∷ Begin 2 ∷ Return 2 Accepted ∷ Begin 3 ∷ Return 3 Accepted ∷ Begin 4 ∷ Return 4 NotThere ∷ Enter (call_in 0 1) Nmi (record { 0 = 0 }) None ∷ Body (call_in 0 1) (record { 0 = 0 }) Nop ∷ Leave (call_in 0 1) ∷ Ret (call_in 0 1) None ∷ []
 
 pub job_4-plays : Plays job_4 job_4-items true
-unfolding actors_of repeated start step run played play all_end control_next control_got cpu_next cpu_got insn desk
+unfolding actors_of repeated start step run played play all_end control_next control_got cpu_next cpu_got insn moves desk
 job_4-plays = (refl, refl)
 
 abbrev pub job_6 : Job
@@ -69,7 +69,7 @@ abbrev pub job_6-items : List Item
 job_6-items = Enter (call_in 1 1) Normal (record { 0 = 0 }) None ∷ Body (call_in 1 1) (record { 0 = 0 }) Nop ∷ Leave (call_in 1 1) ∷ Ret (call_in 1 1) None ∷ Enter (call_in 1 2) Normal (record { 0 = 0 }) None ∷ Body (call_in 1 2) (record { 0 = 0 }) Nop ∷ Leave (call_in 1 2) ∷ Ret (call_in 1 2) None ∷ Enter (call_in 2 1) Irq (record { 0 = 0 }) None ∷ Body (call_in 2 1) (record { 0 = 0 }) Nop ∷ Enter (call_in 2 2) Irq (record { 0 = 0 }) (Some (call_in 2 1)) ∷ Body (call_in 2 2) (record { 0 = 0 }) Nop ∷ Enter (call_in 2 3) Irq (record { 0 = 0 }) (Some (call_in 2 2)) ∷ Body (call_in 2 3) (record { 0 = 0 }) Nop ∷ Enter (call_in 2 4) Irq (record { 0 = 0 }) (Some (call_in 2 3)) ∷ Body (call_in 2 4) (record { 0 = 0 }) Nop ∷ Leave (call_in 2 4) ∷ Ret (call_in 2 4) (Some (call_in 2 3)) ∷ Leave (call_in 2 3) ∷ Ret (call_in 2 3) (Some (call_in 2 2)) ∷ Leave (call_in 2 2) ∷ Ret (call_in 2 2) (Some (call_in 2 1)) ∷ Leave (call_in 2 1) ∷ Ret (call_in 2 1) None ∷ Begin 1 ∷ Return 1 Accepted ∷ Begin 2 ∷ Return 2 Accepted ∷ Begin 3 ∷ Return 3 Accepted ∷ Begin 4 ∷ Return 4 Invalid ∷ Begin 5 ∷ Return 5 Accepted ∷ Begin 6 ∷ Return 6 NotThere ∷ Enter (call_in 0 1) Normal (record { 0 = 0 }) None ∷ Body (call_in 0 1) (record { 0 = 0 }) Nop ∷ Enter (call_in 0 2) Normal (record { 0 = 0 }) (Some (call_in 0 1)) ∷ Body (call_in 0 2) (record { 0 = 0 }) Nop ∷ Leave (call_in 0 2) ∷ Ret (call_in 0 2) (Some (call_in 0 1)) ∷ Leave (call_in 0 1) ∷ Ret (call_in 0 1) None ∷ []
 
 pub job_6-plays : Plays job_6 job_6-items true
-unfolding actors_of repeated start step run played play all_end control_next control_got cpu_next cpu_got insn desk
+unfolding actors_of repeated start step run played play all_end control_next control_got cpu_next cpu_got insn moves desk
 job_6-plays = (refl, refl)
 
 abbrev pub job_7 : Job
@@ -79,7 +79,7 @@ abbrev pub job_7-items : List Item
 job_7-items = Enter (call_in 1 1) Softirq (record { 0 = 0 }) None ∷ Body (call_in 1 1) (record { 0 = 0 }) Nop ∷ Leave (call_in 1 1) ∷ Ret (call_in 1 1) None ∷ Begin 1 ∷ Return 1 Accepted ∷ Begin 2 ∷ Return 2 Accepted ∷ Begin 3 ∷ Return 3 Already ∷ Begin 4 ∷ Return 4 Already ∷ Begin 5 ∷ Return 5 Accepted ∷ Begin 6 ∷ Return 6 Accepted ∷ []
 
 pub job_7-plays : Plays job_7 job_7-items true
-unfolding actors_of repeated start step run played play all_end control_next control_got cpu_next cpu_got insn desk
+unfolding actors_of repeated start step run played play all_end control_next control_got cpu_next cpu_got insn moves desk
 job_7-plays = (refl, refl)
 
 abbrev pub job_8 : Job
@@ -89,7 +89,7 @@ abbrev pub job_8-items : List Item
 job_8-items = Begin 1 ∷ Return 1 NotThere ∷ Begin 2 ∷ Return 2 Accepted ∷ Begin 3 ∷ Return 3 Accepted ∷ Begin 4 ∷ Return 4 Already ∷ Begin 5 ∷ Enter (call_in 0 1) Nmi (record { 0 = 0 }) None ∷ Return 5 Accepted ∷ Back (call_in 0 1) (record { 0 = 0 }) ∷ Enter (call_in 0 2) Nmi (record { 0 = 1 }) (Some (call_in 0 1)) ∷ Body (call_in 0 2) (record { 0 = 1 }) Nop ∷ Leave (call_in 0 2) ∷ Ret (call_in 0 2) (Some (call_in 0 1)) ∷ BackEnd (call_in 0 1) (record { 0 = 0 }) ∷ Body (call_in 0 1) (record { 0 = 0 }) ByList ∷ Enter (call_in 0 3) Nmi (record { 0 = 1 }) (Some (call_in 0 1)) ∷ Body (call_in 0 3) (record { 0 = 1 }) Nop ∷ Enter (call_in 0 4) Nmi (record { 0 = 0 }) (Some (call_in 0 3)) ∷ Back (call_in 0 4) (record { 0 = 0 }) ∷ Enter (call_in 0 5) Nmi (record { 0 = 1 }) (Some (call_in 0 4)) ∷ Body (call_in 0 5) (record { 0 = 1 }) Nop ∷ Leave (call_in 0 5) ∷ Ret (call_in 0 5) (Some (call_in 0 4)) ∷ BackEnd (call_in 0 4) (record { 0 = 0 }) ∷ Body (call_in 0 4) (record { 0 = 0 }) ByList ∷ Leave (call_in 0 4) ∷ Ret (call_in 0 4) (Some (call_in 0 3)) ∷ Leave (call_in 0 3) ∷ Ret (call_in 0 3) (Some (call_in 0 1)) ∷ Leave (call_in 0 1) ∷ Ret (call_in 0 1) None ∷ []
 
 pub job_8-plays : Plays job_8 job_8-items true
-unfolding actors_of repeated start step run played play all_end control_next control_got cpu_next cpu_got insn desk
+unfolding actors_of repeated start step run played play all_end control_next control_got cpu_next cpu_got insn moves desk
 job_8-plays = (refl, refl)
 
 abbrev pub job_10 : Job
@@ -99,7 +99,7 @@ abbrev pub job_10-items : List Item
 job_10-items = Begin 1 ∷ Enter (call_in 1 1) Softirq (record { 0 = 0 }) None ∷ Back (call_in 1 1) (record { 0 = 0 }) ∷ BackEnd (call_in 1 1) (record { 0 = 0 }) ∷ Body (call_in 1 1) (record { 0 = 0 }) (Own (record { 0 = 0 })) ∷ Leave (call_in 1 1) ∷ Ret (call_in 1 1) None ∷ Return 1 Accepted ∷ Begin 2 ∷ Return 2 Accepted ∷ Begin 3 ∷ Enter (call_in 0 1) Normal (record { 0 = 0 }) None ∷ Body (call_in 0 1) (record { 0 = 0 }) Nop ∷ Return 3 Accepted ∷ Begin 4 ∷ Leave (call_in 0 1) ∷ Ret (call_in 0 1) None ∷ Enter (call_in 0 2) Nmi (record { 0 = 0 }) None ∷ Back (call_in 0 2) (record { 0 = 0 }) ∷ BackEnd (call_in 0 2) (record { 0 = 0 }) ∷ Body (call_in 0 2) (record { 0 = 0 }) (Own (record { 0 = 0 })) ∷ Leave (call_in 0 2) ∷ Ret (call_in 0 2) None ∷ Return 4 Accepted ∷ Begin 5 ∷ Return 5 Accepted ∷ Begin 6 ∷ Return 6 Accepted ∷ Begin 7 ∷ Return 7 Accepted ∷ []
 
 pub job_10-plays : Plays job_10 job_10-items true
-unfolding actors_of repeated start step run played play all_end control_next control_got cpu_next cpu_got insn desk
+unfolding actors_of repeated start step run played play all_end control_next control_got cpu_next cpu_got insn moves desk
 job_10-plays = (refl, refl)
 
 abbrev pub job_11 : Job
@@ -109,7 +109,7 @@ abbrev pub job_11-items : List Item
 job_11-items = Begin 1 ∷ Return 1 NotThere ∷ Begin 2 ∷ Return 2 NotThere ∷ Enter (call_in 0 1) Irq (record { 0 = 0 }) None ∷ Enter (call_in 1 1) Softirq (record { 0 = 2 }) None ∷ Body (call_in 0 1) (record { 0 = 0 }) Nop ∷ Leave (call_in 0 1) ∷ Ret (call_in 0 1) None ∷ Body (call_in 1 1) (record { 0 = 2 }) Nop ∷ Enter (call_in 1 2) Softirq (record { 0 = 0 }) (Some (call_in 1 1)) ∷ Begin 3 ∷ Enter (call_in 0 2) Irq (record { 0 = 0 }) None ∷ Body (call_in 0 2) (record { 0 = 0 }) Nop ∷ Body (call_in 1 2) (record { 0 = 0 }) Nop ∷ Leave (call_in 1 2) ∷ Return 3 Accepted ∷ Begin 4 ∷ Leave (call_in 0 2) ∷ Ret (call_in 0 2) None ∷ Ret (call_in 1 2) (Some (call_in 1 1)) ∷ Leave (call_in 1 1) ∷ Ret (call_in 1 1) None ∷ Return 4 Accepted ∷ Begin 5 ∷ Return 5 Accepted ∷ []
 
 pub job_11-plays : Plays job_11 job_11-items true
-unfolding actors_of repeated start step run played play all_end control_next control_got cpu_next cpu_got insn desk
+unfolding actors_of repeated start step run played play all_end control_next control_got cpu_next cpu_got insn moves desk
 job_11-plays = (refl, refl)
 
 abbrev pub job_14 : Job
@@ -119,7 +119,7 @@ abbrev pub job_14-items : List Item
 job_14-items = Begin 1 ∷ Return 1 Accepted ∷ Begin 2 ∷ Return 2 Accepted ∷ Begin 3 ∷ Enter (call_in 0 1) Normal (record { 0 = 0 }) None ∷ Body (call_in 0 1) (record { 0 = 0 }) Nop ∷ Return 3 Accepted ∷ Begin 4 ∷ Return 4 Accepted ∷ Begin 5 ∷ Return 5 Accepted ∷ Begin 6 ∷ Enter (call_in 1 1) Nmi (record { 0 = 0 }) None ∷ Return 6 Accepted ∷ Refuse (call_in 1 1) (record { 0 = 2 }) ByPid ∷ Leave (call_in 0 1) ∷ Body (call_in 1 1) (record { 0 = 0 }) (Own (record { 0 = 2 })) ∷ Ret (call_in 0 1) None ∷ Enter (call_in 1 2) Nmi (record { 0 = 0 }) (Some (call_in 1 1)) ∷ Refuse (call_in 1 2) (record { 0 = 2 }) ByPid ∷ Body (call_in 1 2) (record { 0 = 0 }) (Own (record { 0 = 2 })) ∷ Enter (call_in 1 3) Nmi (record { 0 = 0 }) (Some (call_in 1 2)) ∷ Refuse (call_in 1 3) (record { 0 = 2 }) ByPid ∷ Body (call_in 1 3) (record { 0 = 0 }) (Own (record { 0 = 2 })) ∷ Leave (call_in 1 3) ∷ Ret (call_in 1 3) (Some (call_in 1 2)) ∷ Leave (call_in 1 2) ∷ Ret (call_in 1 2) (Some (call_in 1 1)) ∷ Leave (call_in 1 1) ∷ Ret (call_in 1 1) None ∷ []
 
 pub job_14-plays : Plays job_14 job_14-items true
-unfolding actors_of repeated start step run played play all_end control_next control_got cpu_next cpu_got insn desk
+unfolding actors_of repeated start step run played play all_end control_next control_got cpu_next cpu_got insn moves desk
 job_14-plays = (refl, refl)
 
 abbrev pub job_15 : Job
@@ -129,7 +129,7 @@ abbrev pub job_15-items : List Item
 job_15-items = Enter (call_in 0 1) Normal (record { 0 = 1 }) None ∷ Body (call_in 0 1) (record { 0 = 1 }) Nop ∷ Enter (call_in 0 2) Normal (record { 0 = 1 }) (Some (call_in 0 1)) ∷ Body (call_in 0 2) (record { 0 = 1 }) Nop ∷ Begin 1 ∷ Return 1 Accepted ∷ Begin 2 ∷ Return 2 Already ∷ Begin 3 ∷ Return 3 Already ∷ Begin 4 ∷ Return 4 Accepted ∷ Enter (call_in 0 3) Normal (record { 0 = 1 }) (Some (call_in 0 2)) ∷ Body (call_in 0 3) (record { 0 = 1 }) Nop ∷ Enter (call_in 0 4) Normal (record { 0 = 1 }) (Some (call_in 0 3)) ∷ Body (call_in 0 4) (record { 0 = 1 }) Nop ∷ Enter (call_in 0 5) Normal (record { 0 = 0 }) (Some (call_in 0 4)) ∷ Body (call_in 0 5) (record { 0 = 0 }) Nop ∷ Leave (call_in 0 5) ∷ Ret (call_in 0 5) (Some (call_in 0 4)) ∷ Leave (call_in 0 4) ∷ Ret (call_in 0 4) (Some (call_in 0 3)) ∷ Leave (call_in 0 3) ∷ Ret (call_in 0 3) (Some (call_in 0 2)) ∷ Leave (call_in 0 2) ∷ Ret (call_in 0 2) (Some (call_in 0 1)) ∷ Leave (call_in 0 1) ∷ Ret (call_in 0 1) None ∷ []
 
 pub job_15-plays : Plays job_15 job_15-items true
-unfolding actors_of repeated start step run played play all_end control_next control_got cpu_next cpu_got insn desk
+unfolding actors_of repeated start step run played play all_end control_next control_got cpu_next cpu_got insn moves desk
 job_15-plays = (refl, refl)
 
 abbrev pub job_16 : Job
@@ -139,7 +139,7 @@ abbrev pub job_16-items : List Item
 job_16-items = Begin 1 ∷ Return 1 NotThere ∷ Begin 2 ∷ Enter (call_in 0 1) Nmi (record { 0 = 1 }) None ∷ Enter (call_in 1 1) Normal (record { 0 = 1 }) None ∷ Body (call_in 0 1) (record { 0 = 1 }) Nop ∷ Body (call_in 1 1) (record { 0 = 1 }) Nop ∷ Enter (call_in 0 2) Nmi (record { 0 = 1 }) (Some (call_in 0 1)) ∷ Body (call_in 0 2) (record { 0 = 1 }) Nop ∷ Enter (call_in 1 2) Normal (record { 0 = 1 }) (Some (call_in 1 1)) ∷ Return 2 Accepted ∷ Begin 3 ∷ Leave (call_in 0 2) ∷ Return 3 Accepted ∷ Ret (call_in 0 2) (Some (call_in 0 1)) ∷ Begin 4 ∷ Body (call_in 1 2) (record { 0 = 1 }) Nop ∷ Leave (call_in 0 1) ∷ Ret (call_in 0 1) None ∷ Leave (call_in 1 2) ∷ Ret (call_in 1 2) (Some (call_in 1 1)) ∷ Leave (call_in 1 1) ∷ Ret (call_in 1 1) None ∷ Return 4 Accepted ∷ Begin 5 ∷ Return 5 Accepted ∷ []
 
 pub job_16-plays : Plays job_16 job_16-items true
-unfolding actors_of repeated start step run played play all_end control_next control_got cpu_next cpu_got insn desk
+unfolding actors_of repeated start step run played play all_end control_next control_got cpu_next cpu_got insn moves desk
 job_16-plays = (refl, refl)
 
 abbrev pub job_21 : Job
@@ -149,7 +149,7 @@ abbrev pub job_21-items : List Item
 job_21-items = Enter (call_in 0 1) Normal (record { 0 = 0 }) None ∷ Body (call_in 0 1) (record { 0 = 0 }) Nop ∷ Enter (call_in 0 2) Normal (record { 0 = 0 }) (Some (call_in 0 1)) ∷ Body (call_in 0 2) (record { 0 = 0 }) Nop ∷ Leave (call_in 0 2) ∷ Ret (call_in 0 2) (Some (call_in 0 1)) ∷ Leave (call_in 0 1) ∷ Ret (call_in 0 1) None ∷ Enter (call_in 0 3) Normal (record { 0 = 1 }) None ∷ Body (call_in 0 3) (record { 0 = 1 }) Nop ∷ Enter (call_in 0 4) Normal (record { 0 = 0 }) (Some (call_in 0 3)) ∷ Body (call_in 0 4) (record { 0 = 0 }) Nop ∷ Leave (call_in 0 4) ∷ Ret (call_in 0 4) (Some (call_in 0 3)) ∷ Leave (call_in 0 3) ∷ Ret (call_in 0 3) None ∷ Begin 1 ∷ Return 1 Accepted ∷ Begin 2 ∷ Return 2 Already ∷ []
 
 pub job_21-plays : Plays job_21 job_21-items true
-unfolding actors_of repeated start step run played play all_end control_next control_got cpu_next cpu_got insn desk
+unfolding actors_of repeated start step run played play all_end control_next control_got cpu_next cpu_got insn moves desk
 job_21-plays = (refl, refl)
 
 abbrev pub job_22 : Job
@@ -159,7 +159,7 @@ abbrev pub job_22-items : List Item
 job_22-items = Begin 1 ∷ Return 1 Accepted ∷ Begin 2 ∷ Return 2 Accepted ∷ Begin 3 ∷ Return 3 Accepted ∷ Begin 4 ∷ Return 4 NotThere ∷ Begin 5 ∷ Return 5 Accepted ∷ Begin 6 ∷ Return 6 Already ∷ []
 
 pub job_22-plays : Plays job_22 job_22-items true
-unfolding actors_of repeated start step run played play all_end control_next control_got cpu_next cpu_got insn desk
+unfolding actors_of repeated start step run played play all_end control_next control_got cpu_next cpu_got insn moves desk
 job_22-plays = (refl, refl)
 
 abbrev pub job_24 : Job
@@ -169,7 +169,7 @@ abbrev pub job_24-items : List Item
 job_24-items = Begin 1 ∷ Enter (call_in 0 1) Irq (record { 0 = 2 }) None ∷ Back (call_in 0 1) (record { 0 = 0 }) ∷ BackEnd (call_in 0 1) (record { 0 = 0 }) ∷ Body (call_in 0 1) (record { 0 = 2 }) (Own (record { 0 = 0 })) ∷ Leave (call_in 0 1) ∷ Exit (call_in 0 1) (record { 0 = 0 }) 2 ∷ ExitEnd (call_in 0 1) (record { 0 = 0 }) ∷ Ret (call_in 0 1) None ∷ Enter (call_in 0 2) Normal (record { 0 = 2 }) None ∷ Back (call_in 0 2) (record { 0 = 0 }) ∷ Enter (call_in 0 3) Irq (record { 0 = 0 }) (Some (call_in 0 2)) ∷ Back (call_in 0 3) (record { 0 = 0 }) ∷ BackEnd (call_in 0 3) (record { 0 = 0 }) ∷ Body (call_in 0 3) (record { 0 = 0 }) (Own (record { 0 = 0 })) ∷ Leave (call_in 0 3) ∷ Exit (call_in 0 3) (record { 0 = 0 }) 12 ∷ ExitEnd (call_in 0 3) (record { 0 = 0 }) ∷ Ret (call_in 0 3) (Some (call_in 0 2)) ∷ BackEnd (call_in 0 2) (record { 0 = 0 }) ∷ Body (call_in 0 2) (record { 0 = 2 }) (Own (record { 0 = 0 })) ∷ Enter (call_in 0 4) Normal (record { 0 = 2 }) (Some (call_in 0 2)) ∷ Back (call_in 0 4) (record { 0 = 0 }) ∷ Enter (call_in 0 5) Irq (record { 0 = 0 }) (Some (call_in 0 4)) ∷ Back (call_in 0 5) (record { 0 = 0 }) ∷ Miss (call_in 0 5) (record { 0 = 0 }) ∷ BackEnd (call_in 0 5) (record { 0 = 0 }) ∷ Body (call_in 0 5) (record { 0 = 0 }) (Own (record { 0 = 0 })) ∷ Leave (call_in 0 5) ∷ Ret (call_in 0 5) (Some (call_in 0 4)) ∷ BackEnd (call_in 0 4) (record { 0 = 0 }) ∷ Body (call_in 0 4) (record { 0 = 2 }) (Own (record { 0 = 0 })) ∷ Leave (call_in 0 4) ∷ Exit (call_in 0 4) (record { 0 = 0 }) 22 ∷ ExitEnd (call_in 0 4) (record { 0 = 0 }) ∷ Ret (call_in 0 4) (Some (call_in 0 2)) ∷ Enter (call_in 0 6) Normal (record { 0 = 1 }) (Some (call_in 0 2)) ∷ Back (call_in 0 6) (record { 0 = 0 }) ∷ Enter (call_in 0 7) Irq (record { 0 = 0 }) (Some (call_in 0 6)) ∷ Back (call_in 0 7) (record { 0 = 0 }) ∷ Miss (call_in 0 7) (record { 0 = 0 }) ∷ BackEnd (call_in 0 7) (record { 0 = 0 }) ∷ Body (call_in 0 7) (record { 0 = 0 }) (Own (record { 0 = 0 })) ∷ Leave (call_in 0 7) ∷ Ret (call_in 0 7) (Some (call_in 0 6)) ∷ BackEnd (call_in 0 6) (record { 0 = 0 }) ∷ Body (call_in 0 6) (record { 0 = 1 }) (Own (record { 0 = 0 })) ∷ Leave (call_in 0 6) ∷ Exit (call_in 0 6) (record { 0 = 0 }) 37 ∷ ExitEnd (call_in 0 6) (record { 0 = 0 }) ∷ Ret (call_in 0 6) (Some (call_in 0 2)) ∷ Return 1 Accepted ∷ Leave (call_in 0 2) ∷ Begin 2 ∷ Exit (call_in 0 2) (record { 0 = 0 }) 10 ∷ ExitEnd (call_in 0 2) (record { 0 = 0 }) ∷ Ret (call_in 0 2) None ∷ Return 2 Accepted ∷ Begin 3 ∷ Return 3 Accepted ∷ Begin 4 ∷ Return 4 Accepted ∷ Begin 5 ∷ Return 5 Accepted ∷ Begin 6 ∷ Return 6 Accepted ∷ []
 
 pub job_24-plays : Plays job_24 job_24-items true
-unfolding actors_of repeated start step run played play all_end control_next control_got cpu_next cpu_got insn desk
+unfolding actors_of repeated start step run played play all_end control_next control_got cpu_next cpu_got insn moves desk
 job_24-plays = (refl, refl)
 
 abbrev pub job_26 : Job
@@ -179,7 +179,7 @@ abbrev pub job_26-items : List Item
 job_26-items = Begin 1 ∷ Enter (call_in 2 1) Normal (record { 0 = 1 }) None ∷ Back (call_in 2 1) (record { 0 = 3 }) ∷ BackEnd (call_in 2 1) (record { 0 = 3 }) ∷ Body (call_in 2 1) (record { 0 = 1 }) ByList ∷ Enter (call_in 2 2) Normal (record { 0 = 1 }) (Some (call_in 2 1)) ∷ Refuse (call_in 2 2) (record { 0 = 3 }) Depth ∷ Body (call_in 2 2) (record { 0 = 1 }) ByList ∷ Return 1 Accepted ∷ Begin 2 ∷ Return 2 Accepted ∷ Leave (call_in 2 2) ∷ Begin 3 ∷ Ret (call_in 2 2) (Some (call_in 2 1)) ∷ Enter (call_in 2 3) Softirq (record { 0 = 0 }) (Some (call_in 2 1)) ∷ Return 3 Accepted ∷ Begin 4 ∷ Back (call_in 2 3) (record { 0 = 0 }) ∷ BackEnd (call_in 2 3) (record { 0 = 0 }) ∷ Enter (call_in 1 1) Normal (record { 0 = 1 }) None ∷ Back (call_in 1 1) (record { 0 = 0 }) ∷ Refuse (call_in 2 3) (record { 0 = 3 }) Depth ∷ Body (call_in 2 3) (record { 0 = 0 }) ByList ∷ Leave (call_in 2 3) ∷ Return 4 Accepted ∷ Ret (call_in 2 3) (Some (call_in 2 1)) ∷ Leave (call_in 2 1) ∷ Begin 5 ∷ BackEnd (call_in 1 1) (record { 0 = 0 }) ∷ Return 5 Already ∷ Body (call_in 1 1) (record { 0 = 1 }) ByList ∷ Enter (call_in 1 2) Nmi (record { 0 = 0 }) (Some (call_in 1 1)) ∷ Exit (call_in 2 1) (record { 0 = 3 }) 2 ∷ ExitEnd (call_in 2 1) (record { 0 = 3 }) ∷ Ret (call_in 2 1) None ∷ Enter (call_in 0 1) Softirq (record { 0 = 0 }) None ∷ Back (call_in 0 1) (record { 0 = 0 }) ∷ BackEnd (call_in 0 1) (record { 0 = 0 }) ∷ Back (call_in 1 2) (record { 0 = 0 }) ∷ BackEnd (call_in 1 2) (record { 0 = 0 }) ∷ Back (call_in 1 2) (record { 0 = 3 }) ∷ BackEnd (call_in 1 2) (record { 0 = 3 }) ∷ Body (call_in 1 2) (record { 0 = 0 }) ByList ∷ Back (call_in 0 1) (record { 0 = 3 }) ∷ BackEnd (call_in 0 1) (record { 0 = 3 }) ∷ Body (call_in 0 1) (record { 0 = 0 }) ByList ∷ Leave (call_in 0 1) ∷ Exit (call_in 0 1) (record { 0 = 3 }) 43 ∷ ExitEnd (call_in 0 1) (record { 0 = 3 }) ∷ Ret (call_in 0 1) None ∷ Leave (call_in 1 2) ∷ Exit (call_in 1 2) (record { 0 = 3 }) 40 ∷ ExitEnd (call_in 1 2) (record { 0 = 3 }) ∷ Ret (call_in 1 2) (Some (call_in 1 1)) ∷ Leave (call_in 1 1) ∷ Ret (call_in 1 1) None ∷ []
 
 pub job_26-plays : Plays job_26 job_26-items true
-unfolding actors_of repeated start step run played play all_end control_next control_got cpu_next cpu_got insn desk
+unfolding actors_of repeated start step run played play all_end control_next control_got cpu_next cpu_got insn moves desk
 job_26-plays = (refl, refl)
 
 abbrev pub job_30 : Job
@@ -189,7 +189,7 @@ abbrev pub job_30-items : List Item
 job_30-items = Begin 1 ∷ Return 1 Accepted ∷ Begin 2 ∷ Return 2 Accepted ∷ Begin 3 ∷ Return 3 NotThere ∷ Enter (call_in 0 1) Normal (record { 0 = 2 }) None ∷ Back (call_in 0 1) (record { 0 = 3 }) ∷ BackEnd (call_in 0 1) (record { 0 = 3 }) ∷ Body (call_in 0 1) (record { 0 = 2 }) (Own (record { 0 = 3 })) ∷ Leave (call_in 0 1) ∷ Exit (call_in 0 1) (record { 0 = 3 }) 7 ∷ ExitEnd (call_in 0 1) (record { 0 = 3 }) ∷ Ret (call_in 0 1) None ∷ Enter (call_in 0 2) Nmi (record { 0 = 2 }) None ∷ Back (call_in 0 2) (record { 0 = 3 }) ∷ BackEnd (call_in 0 2) (record { 0 = 3 }) ∷ Body (call_in 0 2) (record { 0 = 2 }) (Own (record { 0 = 3 })) ∷ Leave (call_in 0 2) ∷ Exit (call_in 0 2) (record { 0 = 3 }) 15 ∷ ExitEnd (call_in 0 2) (record { 0 = 3 }) ∷ Ret (call_in 0 2) None ∷ []
 
 pub job_30-plays : Plays job_30 job_30-items true
-unfolding actors_of repeated start step run played play all_end control_next control_got cpu_next cpu_got insn desk
+unfolding actors_of repeated start step run played play all_end control_next control_got cpu_next cpu_got insn moves desk
 job_30-plays = (refl, refl)
 
 abbrev pub job_31 : Job
@@ -199,7 +199,7 @@ abbrev pub job_31-items : List Item
 job_31-items = Begin 1 ∷ Enter (call_in 1 1) Normal (record { 0 = 0 }) None ∷ Return 1 Accepted ∷ Begin 2 ∷ Return 2 NotThere ∷ Body (call_in 1 1) (record { 0 = 0 }) Nop ∷ Begin 3 ∷ Leave (call_in 1 1) ∷ Ret (call_in 1 1) None ∷ Enter (call_in 1 2) Normal (record { 0 = 0 }) None ∷ Enter (call_in 0 1) Irq (record { 0 = 0 }) None ∷ Return 3 Accepted ∷ Body (call_in 1 2) (record { 0 = 0 }) Nop ∷ Body (call_in 0 1) (record { 0 = 0 }) Nop ∷ Leave (call_in 0 1) ∷ Ret (call_in 0 1) None ∷ Enter (call_in 1 3) Softirq (record { 0 = 0 }) (Some (call_in 1 2)) ∷ Body (call_in 1 3) (record { 0 = 0 }) Nop ∷ Leave (call_in 1 3) ∷ Ret (call_in 1 3) (Some (call_in 1 2)) ∷ Enter (call_in 1 4) Softirq (record { 0 = 0 }) (Some (call_in 1 2)) ∷ Body (call_in 1 4) (record { 0 = 0 }) Nop ∷ Enter (call_in 1 5) Softirq (record { 0 = 0 }) (Some (call_in 1 4)) ∷ Body (call_in 1 5) (record { 0 = 0 }) Nop ∷ Leave (call_in 1 5) ∷ Ret (call_in 1 5) (Some (call_in 1 4)) ∷ Leave (call_in 1 4) ∷ Ret (call_in 1 4) (Some (call_in 1 2)) ∷ Leave (call_in 1 2) ∷ Ret (call_in 1 2) None ∷ []
 
 pub job_31-plays : Plays job_31 job_31-items true
-unfolding actors_of repeated start step run played play all_end control_next control_got cpu_next cpu_got insn desk
+unfolding actors_of repeated start step run played play all_end control_next control_got cpu_next cpu_got insn moves desk
 job_31-plays = (refl, refl)
 
 abbrev pub job_32 : Job
@@ -209,7 +209,7 @@ abbrev pub job_32-items : List Item
 job_32-items = Begin 1 ∷ Return 1 NotThere ∷ Begin 2 ∷ Enter (call_in 0 1) Irq (record { 0 = 0 }) None ∷ Body (call_in 0 1) (record { 0 = 0 }) Nop ∷ Return 2 Accepted ∷ Begin 3 ∷ Return 3 NotThere ∷ Enter (call_in 1 1) Irq (record { 0 = 0 }) None ∷ Back (call_in 1 1) (record { 0 = 1 }) ∷ Enter (call_in 1 2) Irq (record { 0 = 0 }) (Some (call_in 1 1)) ∷ Refuse (call_in 1 2) (record { 0 = 1 }) Recursion ∷ Body (call_in 1 2) (record { 0 = 0 }) (Own (record { 0 = 1 })) ∷ Leave (call_in 1 2) ∷ Ret (call_in 1 2) (Some (call_in 1 1)) ∷ BackEnd (call_in 1 1) (record { 0 = 1 }) ∷ Body (call_in 1 1) (record { 0 = 0 }) (Own (record { 0 = 1 })) ∷ Leave (call_in 1 1) ∷ Exit (call_in 1 1) (record { 0 = 1 }) 9 ∷ ExitEnd (call_in 1 1) (record { 0 = 1 }) ∷ Ret (call_in 1 1) None ∷ Enter (call_in 1 3) Nmi (record { 0 = 0 }) None ∷ Leave (call_in 0 1) ∷ Ret (call_in 0 1) None ∷ Back (call_in 1 3) (record { 0 = 1 }) ∷ Enter (call_in 1 4) Nmi (record { 0 = 0 }) (Some (call_in 1 3)) ∷ Refuse (call_in 1 4) (record { 0 = 1 }) Recursion ∷ Body (call_in 1 4) (record { 0 = 0 }) (Own (record { 0 = 1 })) ∷ Leave (call_in 1 4) ∷ Ret (call_in 1 4) (Some (call_in 1 3)) ∷ BackEnd (call_in 1 3) (record { 0 = 1 }) ∷ Body (call_in 1 3) (record { 0 = 0 }) (Own (record { 0 = 1 })) ∷ Leave (call_in 1 3) ∷ Exit (call_in 1 3) (record { 0 = 1 }) 24 ∷ ExitEnd (call_in 1 3) (record { 0 = 1 }) ∷ Ret (call_in 1 3) None ∷ []
 
 pub job_32-plays : Plays job_32 job_32-items true
-unfolding actors_of repeated start step run played play all_end control_next control_got cpu_next cpu_got insn desk
+unfolding actors_of repeated start step run played play all_end control_next control_got cpu_next cpu_got insn moves desk
 job_32-plays = (refl, refl)
 
 abbrev pub job_33 : Job
@@ -219,7 +219,7 @@ abbrev pub job_33-items : List Item
 job_33-items = Begin 1 ∷ Return 1 Accepted ∷ Begin 2 ∷ Return 2 NotThere ∷ Begin 3 ∷ Enter (call_in 0 1) Normal (record { 0 = 0 }) None ∷ Body (call_in 0 1) (record { 0 = 0 }) Nop ∷ Enter (call_in 0 2) Normal (record { 0 = 1 }) (Some (call_in 0 1)) ∷ Body (call_in 0 2) (record { 0 = 1 }) Nop ∷ Enter (call_in 0 3) Normal (record { 0 = 1 }) (Some (call_in 0 2)) ∷ Enter (call_in 2 1) Nmi (record { 0 = 0 }) None ∷ Back (call_in 0 3) (record { 0 = 1 }) ∷ BackEnd (call_in 0 3) (record { 0 = 1 }) ∷ Body (call_in 0 3) (record { 0 = 1 }) (Own (record { 0 = 1 })) ∷ Enter (call_in 0 4) Nmi (record { 0 = 0 }) (Some (call_in 0 3)) ∷ Back (call_in 2 1) (record { 0 = 1 }) ∷ BackEnd (call_in 2 1) (record { 0 = 1 }) ∷ Back (call_in 0 4) (record { 0 = 1 }) ∷ BackEnd (call_in 0 4) (record { 0 = 1 }) ∷ Body (call_in 2 1) (record { 0 = 0 }) (Own (record { 0 = 1 })) ∷ Body (call_in 0 4) (record { 0 = 0 }) (Own (record { 0 = 1 })) ∷ Leave (call_in 0 4) ∷ Enter (call_in 2 2) Nmi (record { 0 = 1 }) (Some (call_in 2 1)) ∷ Exit (call_in 0 4) (record { 0 = 1 }) 17 ∷ ExitEnd (call_in 0 4) (record { 0 = 1 }) ∷ Ret (call_in 0 4) (Some (call_in 0 3)) ∷ Return 3 Accepted ∷ Begin 4 ∷ Leave (call_in 0 3) ∷ Return 4 Already ∷ Back (call_in 2 2) (record { 0 = 1 }) ∷ Begin 5 ∷ Exit (call_in 0 3) (record { 0 = 1 }) 11 ∷ Return 5 Already ∷ ExitEnd (call_in 0 3) (record { 0 = 1 }) ∷ Begin 6 ∷ Ret (call_in 0 3) (Some (call_in 0 2)) ∷ BackEnd (call_in 2 2) (record { 0 = 1 }) ∷ Enter (call_in 1 1) Normal (record { 0 = 0 }) None ∷ Body (call_in 2 2) (record { 0 = 1 }) (Own (record { 0 = 1 })) ∷ Leave (call_in 0 2) ∷ Ret (call_in 0 2) (Some (call_in 0 1)) ∷ Leave (call_in 0 1) ∷ Ret (call_in 0 1) None ∷ Enter (call_in 2 3) Nmi (record { 0 = 1 }) (Some (call_in 2 2)) ∷ Back (call_in 1 1) (record { 0 = 1 }) ∷ BackEnd (call_in 1 1) (record { 0 = 1 }) ∷ Body (call_in 1 1) (record { 0 = 0 }) (Own (record { 0 = 1 })) ∷ Back (call_in 2 3) (record { 0 = 1 }) ∷ BackEnd (call_in 2 3) (record { 0 = 1 }) ∷ Return 6 Accepted ∷ Body (call_in 2 3) (record { 0 = 1 }) (Own (record { 0 = 1 })) ∷ Enter (call_in 2 4) Nmi (record { 0 = 0 }) (Some (call_in 2 3)) ∷ Leave (call_in 1 1) ∷ Exit (call_in 1 1) (record { 0 = 1 }) 45 ∷ Back (call_in 2 4) (record { 0 = 1 }) ∷ ExitEnd (call_in 1 1) (record { 0 = 1 }) ∷ BackEnd (call_in 2 4) (record { 0 = 1 }) ∷ Ret (call_in 1 1) None ∷ Body (call_in 2 4) (record { 0 = 0 }) (Own (record { 0 = 1 })) ∷ Enter (call_in 2 5) Nmi (record { 0 = 1 }) (Some (call_in 2 4)) ∷ Enter (call_in 1 2) Normal (record { 0 = 0 }) None ∷ Back (call_in 2 5) (record { 0 = 1 }) ∷ BackEnd (call_in 2 5) (record { 0 = 1 }) ∷ Back (call_in 1 2) (record { 0 = 1 }) ∷ Body (call_in 2 5) (record { 0 = 1 }) (Own (record { 0 = 1 })) ∷ BackEnd (call_in 1 2) (record { 0 = 1 }) ∷ Body (call_in 1 2) (record { 0 = 0 }) (Own (record { 0 = 1 })) ∷ Leave (call_in 2 5) ∷ Exit (call_in 2 5) (record { 0 = 1 }) 62 ∷ ExitEnd (call_in 2 5) (record { 0 = 1 }) ∷ Enter (call_in 1 3) Normal (record { 0 = 1 }) (Some (call_in 1 2)) ∷ Ret (call_in 2 5) (Some (call_in 2 4)) ∷ Leave (call_in 2 4) ∷ Back (call_in 1 3) (record { 0 = 1 }) ∷ Exit (call_in 2 4) (record { 0 = 1 }) 55 ∷ BackEnd (call_in 1 3) (record { 0 = 1 }) ∷ ExitEnd (call_in 2 4) (record { 0 = 1 }) ∷ Body (call_in 1 3) (record { 0 = 1 }) (Own (record { 0 = 1 })) ∷ Ret (call_in 2 4) (Some (call_in 2 3)) ∷ Leave (call_in 1 3) ∷ Leave (call_in 2 3) ∷ Exit (call_in 1 3) (record { 0 = 1 }) 74 ∷ Exit (call_in 2 3) (record { 0 = 1 }) 48 ∷ ExitEnd (call_in 1 3) (record { 0 = 1 }) ∷ ExitEnd (call_in 2 3) (record { 0 = 1 }) ∷ Ret (call_in 1 3) (Some (call_in 1 2)) ∷ Ret (call_in 2 3) (Some (call_in 2 2)) ∷ Leave (call_in 1 2) ∷ Leave (call_in 2 2) ∷ Exit (call_in 1 2) (record { 0 = 1 }) 64 ∷ Exit (call_in 2 2) (record { 0 = 1 }) 30 ∷ ExitEnd (call_in 1 2) (record { 0 = 1 }) ∷ ExitEnd (call_in 2 2) (record { 0 = 1 }) ∷ Ret (call_in 1 2) None ∷ Ret (call_in 2 2) (Some (call_in 2 1)) ∷ Leave (call_in 2 1) ∷ Exit (call_in 2 1) (record { 0 = 1 }) 15 ∷ ExitEnd (call_in 2 1) (record { 0 = 1 }) ∷ Ret (call_in 2 1) None ∷ []
 
 pub job_33-plays : Plays job_33 job_33-items true
-unfolding actors_of repeated start step run played play all_end control_next control_got cpu_next cpu_got insn desk
+unfolding actors_of repeated start step run played play all_end control_next control_got cpu_next cpu_got insn moves desk
 job_33-plays = (refl, refl)
 
 abbrev pub job_34 : Job
@@ -229,7 +229,7 @@ abbrev pub job_34-items : List Item
 job_34-items = Begin 1 ∷ Return 1 Accepted ∷ Begin 2 ∷ Return 2 Accepted ∷ Begin 3 ∷ Return 3 Accepted ∷ Begin 4 ∷ Return 4 Invalid ∷ Begin 5 ∷ Return 5 Accepted ∷ Begin 6 ∷ Return 6 Already ∷ []
 
 pub job_34-plays : Plays job_34 job_34-items true
-unfolding actors_of repeated start step run played play all_end control_next control_got cpu_next cpu_got insn desk
+unfolding actors_of repeated start step run played play all_end control_next control_got cpu_next cpu_got insn moves desk
 job_34-plays = (refl, refl)
 
 abbrev pub job_37 : Job
@@ -239,7 +239,7 @@ abbrev pub job_37-items : List Item
 job_37-items = Begin 1 ∷ Return 1 NotThere ∷ Begin 2 ∷ Return 2 Accepted ∷ Begin 3 ∷ Return 3 Accepted ∷ Begin 4 ∷ Return 4 Accepted ∷ Begin 5 ∷ Return 5 Accepted ∷ Enter (call_in 0 1) Normal (record { 0 = 0 }) None ∷ Refuse (call_in 0 1) (record { 0 = 0 }) ByPid ∷ Body (call_in 0 1) (record { 0 = 0 }) (Own (record { 0 = 0 })) ∷ Enter (call_in 0 2) Normal (record { 0 = 0 }) (Some (call_in 0 1)) ∷ Refuse (call_in 0 2) (record { 0 = 0 }) ByPid ∷ Body (call_in 0 2) (record { 0 = 0 }) (Own (record { 0 = 0 })) ∷ Enter (call_in 0 3) Normal (record { 0 = 0 }) (Some (call_in 0 2)) ∷ Refuse (call_in 0 3) (record { 0 = 0 }) ByPid ∷ Body (call_in 0 3) (record { 0 = 0 }) (Own (record { 0 = 0 })) ∷ Leave (call_in 0 3) ∷ Ret (call_in 0 3) (Some (call_in 0 2)) ∷ Leave (call_in 0 2) ∷ Ret (call_in 0 2) (Some (call_in 0 1)) ∷ Leave (call_in 0 1) ∷ Ret (call_in 0 1) None ∷ []
 
 pub job_37-plays : Plays job_37 job_37-items true
-unfolding actors_of repeated start step run played play all_end control_next control_got cpu_next cpu_got insn desk
+unfolding actors_of repeated start step run played play all_end control_next control_got cpu_next cpu_got insn moves desk
 job_37-plays = (refl, refl)
 
 abbrev pub job_38 : Job
@@ -249,7 +249,7 @@ abbrev pub job_38-items : List Item
 job_38-items = Begin 1 ∷ Return 1 Accepted ∷ Begin 2 ∷ Return 2 NotThere ∷ Begin 3 ∷ Return 3 NotThere ∷ Begin 4 ∷ Enter (call_in 0 1) Normal (record { 0 = 0 }) None ∷ Body (call_in 0 1) (record { 0 = 0 }) Nop ∷ Enter (call_in 0 2) Normal (record { 0 = 0 }) (Some (call_in 0 1)) ∷ Body (call_in 0 2) (record { 0 = 0 }) Nop ∷ Leave (call_in 0 2) ∷ Ret (call_in 0 2) (Some (call_in 0 1)) ∷ Leave (call_in 0 1) ∷ Ret (call_in 0 1) None ∷ Enter (call_in 1 1) Normal (record { 0 = 3 }) None ∷ Body (call_in 1 1) (record { 0 = 3 }) Nop ∷ Enter (call_in 1 2) Normal (record { 0 = 1 }) (Some (call_in 1 1)) ∷ Body (call_in 1 2) (record { 0 = 1 }) Nop ∷ Enter (call_in 1 3) Normal (record { 0 = 3 }) (Some (call_in 1 2)) ∷ Body (call_in 1 3) (record { 0 = 3 }) Nop ∷ Leave (call_in 1 3) ∷ Ret (call_in 1 3) (Some (call_in 1 2)) ∷ Leave (call_in 1 2) ∷ Ret (call_in 1 2) (Some (call_in 1 1)) ∷ Enter (call_in 1 4) Normal (record { 0 = 2 }) (Some (call_in 1 1)) ∷ Body (call_in 1 4) (record { 0 = 2 }) Nop ∷ Leave (call_in 1 4) ∷ Ret (call_in 1 4) (Some (call_in 1 1)) ∷ Enter (call_in 1 5) Normal (record { 0 = 2 }) (Some (call_in 1 1)) ∷ Body (call_in 1 5) (record { 0 = 2 }) Nop ∷ Enter (call_in 1 6) Normal (record { 0 = 1 }) (Some (call_in 1 5)) ∷ Body (call_in 1 6) (record { 0 = 1 }) Nop ∷ Leave (call_in 1 6) ∷ Ret (call_in 1 6) (Some (call_in 1 5)) ∷ Leave (call_in 1 5) ∷ Ret (call_in 1 5) (Some (call_in 1 1)) ∷ Leave (call_in 1 1) ∷ Ret (call_in 1 1) None ∷ Return 4 Accepted ∷ Begin 5 ∷ Return 5 Accepted ∷ Begin 6 ∷ Return 6 Accepted ∷ []
 
 pub job_38-plays : Plays job_38 job_38-items true
-unfolding actors_of repeated start step run played play all_end control_next control_got cpu_next cpu_got insn desk
+unfolding actors_of repeated start step run played play all_end control_next control_got cpu_next cpu_got insn moves desk
 job_38-plays = (refl, refl)
 
 abbrev pub job_39 : Job
@@ -259,7 +259,7 @@ abbrev pub job_39-items : List Item
 job_39-items = Begin 1 ∷ Return 1 Accepted ∷ Begin 2 ∷ Enter (call_in 2 1) Normal (record { 0 = 1 }) None ∷ Return 2 Accepted ∷ Begin 3 ∷ Return 3 NotThere ∷ Body (call_in 2 1) (record { 0 = 1 }) Nop ∷ Leave (call_in 2 1) ∷ Begin 4 ∷ Ret (call_in 2 1) None ∷ Enter (call_in 2 2) Nmi (record { 0 = 1 }) None ∷ Body (call_in 2 2) (record { 0 = 1 }) Nop ∷ Leave (call_in 2 2) ∷ Ret (call_in 2 2) None ∷ Return 4 Accepted ∷ Enter (call_in 0 1) Normal (record { 0 = 1 }) None ∷ Refuse (call_in 0 1) (record { 0 = 1 }) ByPid ∷ Body (call_in 0 1) (record { 0 = 1 }) ByList ∷ Leave (call_in 0 1) ∷ Ret (call_in 0 1) None ∷ Begin 5 ∷ Return 5 NotThere ∷ Begin 6 ∷ Enter (call_in 0 2) Softirq (record { 0 = 1 }) None ∷ Return 6 Accepted ∷ Enter (call_in 1 1) Normal (record { 0 = 1 }) None ∷ Back (call_in 1 1) (record { 0 = 1 }) ∷ Enter (call_in 1 2) Normal (record { 0 = 1 }) (Some (call_in 1 1)) ∷ Refuse (call_in 1 2) (record { 0 = 1 }) Recursion ∷ Body (call_in 1 2) (record { 0 = 1 }) ByList ∷ Leave (call_in 1 2) ∷ Ret (call_in 1 2) (Some (call_in 1 1)) ∷ BackEnd (call_in 1 1) (record { 0 = 1 }) ∷ Body (call_in 1 1) (record { 0 = 1 }) ByList ∷ Enter (call_in 1 3) Normal (record { 0 = 0 }) (Some (call_in 1 1)) ∷ Back (call_in 1 3) (record { 0 = 1 }) ∷ Enter (call_in 1 4) Normal (record { 0 = 1 }) (Some (call_in 1 3)) ∷ Refuse (call_in 0 2) (record { 0 = 1 }) ByPid ∷ Body (call_in 0 2) (record { 0 = 1 }) ByList ∷ Leave (call_in 0 2) ∷ Ret (call_in 0 2) None ∷ Refuse (call_in 1 4) (record { 0 = 1 }) Recursion ∷ Body (call_in 1 4) (record { 0 = 1 }) ByList ∷ Leave (call_in 1 4) ∷ Ret (call_in 1 4) (Some (call_in 1 3)) ∷ BackEnd (call_in 1 3) (record { 0 = 1 }) ∷ Body (call_in 1 3) (record { 0 = 0 }) ByList ∷ Enter (call_in 1 5) Normal (record { 0 = 1 }) (Some (call_in 1 3)) ∷ Back (call_in 1 5) (record { 0 = 1 }) ∷ Enter (call_in 1 6) Normal (record { 0 = 1 }) (Some (call_in 1 5)) ∷ Refuse (call_in 1 6) (record { 0 = 1 }) Recursion ∷ Body (call_in 1 6) (record { 0 = 1 }) ByList ∷ Leave (call_in 1 6) ∷ Ret (call_in 1 6) (Some (call_in 1 5)) ∷ BackEnd (call_in 1 5) (record { 0 = 1 }) ∷ Body (call_in 1 5) (record { 0 = 1 }) ByList ∷ Leave (call_in 1 5) ∷ Ret (call_in 1 5) (Some (call_in 1 3)) ∷ Leave (call_in 1 3) ∷ Ret (call_in 1 3) (Some (call_in 1 1)) ∷ Leave (call_in 1 1) ∷ Ret (call_in 1 1) None ∷ []
 
 pub job_39-plays : Plays job_39 job_39-items true
-unfolding actors_of repeated start step run played play all_end control_next control_got cpu_next cpu_got insn desk
+unfolding actors_of repeated start step run played play all_end control_next control_got cpu_next cpu_got insn moves desk
 job_39-plays = (refl, refl)
 
 abbrev pub job_40 : Job
@@ -269,7 +269,7 @@ abbrev pub job_40-items : List Item
 job_40-items = Enter (call_in 0 1) Normal (record { 0 = 3 }) None ∷ Body (call_in 0 1) (record { 0 = 3 }) Nop ∷ Leave (call_in 0 1) ∷ Ret (call_in 0 1) None ∷ Enter (call_in 0 2) Normal (record { 0 = 1 }) None ∷ Body (call_in 0 2) (record { 0 = 1 }) Nop ∷ Leave (call_in 0 2) ∷ Begin 1 ∷ Ret (call_in 0 2) None ∷ Return 1 Accepted ∷ Begin 2 ∷ Return 2 NotThere ∷ Begin 3 ∷ Return 3 Already ∷ Begin 4 ∷ Return 4 Accepted ∷ []
 
 pub job_40-plays : Plays job_40 job_40-items true
-unfolding actors_of repeated start step run played play all_end control_next control_got cpu_next cpu_got insn desk
+unfolding actors_of repeated start step run played play all_end control_next control_got cpu_next cpu_got insn moves desk
 job_40-plays = (refl, refl)
 
 abbrev pub job_42 : Job
@@ -279,7 +279,7 @@ abbrev pub job_42-items : List Item
 job_42-items = Begin 1 ∷ Return 1 Accepted ∷ Begin 2 ∷ Return 2 Accepted ∷ Begin 3 ∷ Return 3 Accepted ∷ Enter (call_in 0 1) Normal (record { 0 = 0 }) None ∷ Begin 4 ∷ Body (call_in 0 1) (record { 0 = 0 }) Nop ∷ Return 4 Accepted ∷ Begin 5 ∷ Return 5 Already ∷ Begin 6 ∷ Enter (call_in 0 2) Normal (record { 0 = 0 }) (Some (call_in 0 1)) ∷ Return 6 Already ∷ Begin 7 ∷ Return 7 Invalid ∷ Body (call_in 0 2) (record { 0 = 0 }) Nop ∷ Enter (call_in 1 1) Normal (record { 0 = 0 }) None ∷ Leave (call_in 0 2) ∷ Ret (call_in 0 2) (Some (call_in 0 1)) ∷ Body (call_in 1 1) (record { 0 = 0 }) Nop ∷ Leave (call_in 0 1) ∷ Ret (call_in 0 1) None ∷ Leave (call_in 1 1) ∷ Ret (call_in 1 1) None ∷ Enter (call_in 0 3) Normal (record { 0 = 0 }) None ∷ Body (call_in 0 3) (record { 0 = 0 }) Nop ∷ Enter (call_in 0 4) Normal (record { 0 = 0 }) (Some (call_in 0 3)) ∷ Body (call_in 0 4) (record { 0 = 0 }) Nop ∷ Leave (call_in 0 4) ∷ Ret (call_in 0 4) (Some (call_in 0 3)) ∷ Leave (call_in 0 3) ∷ Ret (call_in 0 3) None ∷ []
 
 pub job_42-plays : Plays job_42 job_42-items true
-unfolding actors_of repeated start step run played play all_end control_next control_got cpu_next cpu_got insn desk
+unfolding actors_of repeated start step run played play all_end control_next control_got cpu_next cpu_got insn moves desk
 job_42-plays = (refl, refl)
 
 abbrev pub job_43 : Job
@@ -289,7 +289,7 @@ abbrev pub job_43-items : List Item
 job_43-items = Begin 1 ∷ Return 1 Accepted ∷ Enter (call_in 0 1) Normal (record { 0 = 0 }) None ∷ Body (call_in 0 1) (record { 0 = 0 }) Nop ∷ Leave (call_in 0 1) ∷ Ret (call_in 0 1) None ∷ Enter (call_in 0 2) Normal (record { 0 = 0 }) None ∷ Body (call_in 0 2) (record { 0 = 0 }) Nop ∷ Enter (call_in 0 3) Normal (record { 0 = 0 }) (Some (call_in 0 2)) ∷ Body (call_in 0 3) (record { 0 = 0 }) Nop ∷ Begin 2 ∷ Leave (call_in 0 3) ∷ Ret (call_in 0 3) (Some (call_in 0 2)) ∷ Leave (call_in 0 2) ∷ Ret (call_in 0 2) None ∷ Return 2 Accepted ∷ []
 
 pub job_43-plays : Plays job_43 job_43-items true
-unfolding actors_of repeated start step run played play all_end control_next control_got cpu_next cpu_got insn desk
+unfolding actors_of repeated start step run played play all_end control_next control_got cpu_next cpu_got insn moves desk
 job_43-plays = (refl, refl)
 
 abbrev pub job_44 : Job
@@ -299,7 +299,7 @@ abbrev pub job_44-items : List Item
 job_44-items = Begin 1 ∷ Enter (call_in 0 1) Normal (record { 0 = 3 }) None ∷ Enter (call_in 1 1) Normal (record { 0 = 3 }) None ∷ Body (call_in 0 1) (record { 0 = 3 }) Nop ∷ Body (call_in 1 1) (record { 0 = 3 }) Nop ∷ Enter (call_in 0 2) Normal (record { 0 = 3 }) (Some (call_in 0 1)) ∷ Leave (call_in 1 1) ∷ Return 1 Accepted ∷ Begin 2 ∷ Return 2 Accepted ∷ Ret (call_in 1 1) None ∷ Begin 3 ∷ Body (call_in 0 2) (record { 0 = 3 }) Nop ∷ Return 3 NotThere ∷ Begin 4 ∷ Enter (call_in 1 2) Nmi (record { 0 = 3 }) None ∷ Enter (call_in 0 3) Normal (record { 0 = 1 }) (Some (call_in 0 2)) ∷ Body (call_in 1 2) (record { 0 = 3 }) Nop ∷ Leave (call_in 1 2) ∷ Ret (call_in 1 2) None ∷ Refuse (call_in 0 3) (record { 0 = 1 }) ByPid ∷ Body (call_in 0 3) (record { 0 = 1 }) ByList ∷ Return 4 Accepted ∷ Leave (call_in 0 3) ∷ Ret (call_in 0 3) (Some (call_in 0 2)) ∷ Leave (call_in 0 2) ∷ Ret (call_in 0 2) (Some (call_in 0 1)) ∷ Leave (call_in 0 1) ∷ Ret (call_in 0 1) None ∷ []
 
 pub job_44-plays : Plays job_44 job_44-items true
-unfolding actors_of repeated start step run played play all_end control_next control_got cpu_next cpu_got insn desk
+unfolding actors_of repeated start step run played play all_end control_next control_got cpu_next cpu_got insn moves desk
 job_44-plays = (refl, refl)
 
 abbrev pub job_47 : Job
@@ -309,7 +309,7 @@ abbrev pub job_47-items : List Item
 job_47-items = Begin 1 ∷ Return 1 Accepted ∷ Begin 2 ∷ Return 2 NotThere ∷ Begin 3 ∷ Return 3 Accepted ∷ Begin 4 ∷ Return 4 Accepted ∷ Enter (call_in 0 1) Softirq (record { 0 = 2 }) None ∷ Body (call_in 0 1) (record { 0 = 2 }) Nop ∷ Leave (call_in 0 1) ∷ Ret (call_in 0 1) None ∷ []
 
 pub job_47-plays : Plays job_47 job_47-items true
-unfolding actors_of repeated start step run played play all_end control_next control_got cpu_next cpu_got insn desk
+unfolding actors_of repeated start step run played play all_end control_next control_got cpu_next cpu_got insn moves desk
 job_47-plays = (refl, refl)
 
 abbrev pub job_49 : Job
@@ -319,7 +319,7 @@ abbrev pub job_49-items : List Item
 job_49-items = Begin 1 ∷ Return 1 NotThere ∷ Begin 2 ∷ Enter (call_in 0 1) Nmi (record { 0 = 0 }) None ∷ Body (call_in 0 1) (record { 0 = 0 }) Nop ∷ Leave (call_in 0 1) ∷ Ret (call_in 0 1) None ∷ Return 2 Accepted ∷ Begin 3 ∷ Return 3 NotThere ∷ Begin 4 ∷ Return 4 Accepted ∷ Begin 5 ∷ Return 5 Accepted ∷ Begin 6 ∷ Return 6 Invalid ∷ Enter (call_in 1 1) Nmi (record { 0 = 0 }) None ∷ Enter (call_in 2 1) Softirq (record { 0 = 0 }) None ∷ Body (call_in 1 1) (record { 0 = 0 }) Nop ∷ Leave (call_in 1 1) ∷ Ret (call_in 1 1) None ∷ Body (call_in 2 1) (record { 0 = 0 }) Nop ∷ Leave (call_in 2 1) ∷ Enter (call_in 1 2) Nmi (record { 0 = 0 }) None ∷ Body (call_in 1 2) (record { 0 = 0 }) Nop ∷ Ret (call_in 2 1) None ∷ Enter (call_in 2 2) Irq (record { 0 = 0 }) None ∷ Body (call_in 2 2) (record { 0 = 0 }) Nop ∷ Enter (call_in 2 3) Irq (record { 0 = 0 }) (Some (call_in 2 2)) ∷ Body (call_in 2 3) (record { 0 = 0 }) Nop ∷ Enter (call_in 2 4) Irq (record { 0 = 0 }) (Some (call_in 2 3)) ∷ Body (call_in 2 4) (record { 0 = 0 }) Nop ∷ Leave (call_in 2 4) ∷ Ret (call_in 2 4) (Some (call_in 2 3)) ∷ Begin 7 ∷ Leave (call_in 2 3) ∷ Ret (call_in 2 3) (Some (call_in 2 2)) ∷ Leave (call_in 2 2) ∷ Return 7 Accepted ∷ Ret (call_in 2 2) None ∷ Leave (call_in 1 2) ∷ Ret (call_in 1 2) None ∷ []
 
 pub job_49-plays : Plays job_49 job_49-items true
-unfolding actors_of repeated start step run played play all_end control_next control_got cpu_next cpu_got insn desk
+unfolding actors_of repeated start step run played play all_end control_next control_got cpu_next cpu_got insn moves desk
 job_49-plays = (refl, refl)
 
 abbrev pub job_51 : Job
@@ -329,7 +329,7 @@ abbrev pub job_51-items : List Item
 job_51-items = Begin 1 ∷ Return 1 Accepted ∷ Begin 2 ∷ Return 2 Accepted ∷ Begin 3 ∷ Return 3 NotThere ∷ Begin 4 ∷ Return 4 NotThere ∷ Begin 5 ∷ Return 5 NotThere ∷ Enter (call_in 0 1) Normal (record { 0 = 1 }) None ∷ Body (call_in 0 1) (record { 0 = 1 }) Nop ∷ Leave (call_in 0 1) ∷ Ret (call_in 0 1) None ∷ []
 
 pub job_51-plays : Plays job_51 job_51-items true
-unfolding actors_of repeated start step run played play all_end control_next control_got cpu_next cpu_got insn desk
+unfolding actors_of repeated start step run played play all_end control_next control_got cpu_next cpu_got insn moves desk
 job_51-plays = (refl, refl)
 
 abbrev pub job_59 : Job
@@ -339,7 +339,7 @@ abbrev pub job_59-items : List Item
 job_59-items = Begin 1 ∷ Return 1 Accepted ∷ Begin 2 ∷ Return 2 Accepted ∷ Begin 3 ∷ Return 3 Already ∷ Begin 4 ∷ Return 4 Already ∷ Begin 5 ∷ Return 5 Accepted ∷ Begin 6 ∷ Return 6 Accepted ∷ Begin 7 ∷ Return 7 Already ∷ Enter (call_in 0 1) Normal (record { 0 = 1 }) None ∷ Back (call_in 0 1) (record { 0 = 1 }) ∷ BackEnd (call_in 0 1) (record { 0 = 1 }) ∷ Back (call_in 0 1) (record { 0 = 2 }) ∷ Enter (call_in 0 2) Normal (record { 0 = 1 }) (Some (call_in 0 1)) ∷ Refuse (call_in 0 2) (record { 0 = 1 }) Recursion ∷ Refuse (call_in 0 2) (record { 0 = 2 }) Recursion ∷ Body (call_in 0 2) (record { 0 = 1 }) ByList ∷ Leave (call_in 0 2) ∷ Ret (call_in 0 2) (Some (call_in 0 1)) ∷ BackEnd (call_in 0 1) (record { 0 = 2 }) ∷ Body (call_in 0 1) (record { 0 = 1 }) ByList ∷ Enter (call_in 0 3) Normal (record { 0 = 0 }) (Some (call_in 0 1)) ∷ Back (call_in 0 3) (record { 0 = 1 }) ∷ BackEnd (call_in 0 3) (record { 0 = 1 }) ∷ Body (call_in 0 3) (record { 0 = 0 }) ByList ∷ Leave (call_in 0 3) ∷ Ret (call_in 0 3) (Some (call_in 0 1)) ∷ Leave (call_in 0 1) ∷ Ret (call_in 0 1) None ∷ []
 
 pub job_59-plays : Plays job_59 job_59-items true
-unfolding actors_of repeated start step run played play all_end control_next control_got cpu_next cpu_got insn desk
+unfolding actors_of repeated start step run played play all_end control_next control_got cpu_next cpu_got insn moves desk
 job_59-plays = (refl, refl)
 
 abbrev pub job_61 : Job
@@ -349,7 +349,7 @@ abbrev pub job_61-items : List Item
 job_61-items = Begin 1 ∷ Return 1 NotThere ∷ Begin 2 ∷ Return 2 Accepted ∷ Begin 3 ∷ Return 3 Already ∷ Begin 4 ∷ Return 4 Already ∷ Begin 5 ∷ Return 5 Already ∷ Begin 6 ∷ Return 6 Already ∷ Begin 7 ∷ Return 7 Already ∷ Enter (call_in 0 1) Normal (record { 0 = 3 }) None ∷ Back (call_in 0 1) (record { 0 = 0 }) ∷ Enter (call_in 0 2) Irq (record { 0 = 1 }) (Some (call_in 0 1)) ∷ Back (call_in 0 2) (record { 0 = 0 }) ∷ BackEnd (call_in 0 2) (record { 0 = 0 }) ∷ Body (call_in 0 2) (record { 0 = 1 }) (Own (record { 0 = 0 })) ∷ Leave (call_in 0 2) ∷ Exit (call_in 0 2) (record { 0 = 0 }) 17 ∷ ExitEnd (call_in 0 2) (record { 0 = 0 }) ∷ Ret (call_in 0 2) (Some (call_in 0 1)) ∷ BackEnd (call_in 0 1) (record { 0 = 0 }) ∷ Body (call_in 0 1) (record { 0 = 3 }) (Own (record { 0 = 0 })) ∷ Enter (call_in 0 3) Normal (record { 0 = 2 }) (Some (call_in 0 1)) ∷ Back (call_in 0 3) (record { 0 = 0 }) ∷ Enter (call_in 0 4) Irq (record { 0 = 1 }) (Some (call_in 0 3)) ∷ Back (call_in 0 4) (record { 0 = 0 }) ∷ BackEnd (call_in 0 4) (record { 0 = 0 }) ∷ Body (call_in 0 4) (record { 0 = 1 }) (Own (record { 0 = 0 })) ∷ Leave (call_in 0 4) ∷ Exit (call_in 0 4) (record { 0 = 0 }) 29 ∷ ExitEnd (call_in 0 4) (record { 0 = 0 }) ∷ Ret (call_in 0 4) (Some (call_in 0 3)) ∷ BackEnd (call_in 0 3) (record { 0 = 0 }) ∷ Body (call_in 0 3) (record { 0 = 2 }) (Own (record { 0 = 0 })) ∷ Enter (call_in 0 5) Irq (record { 0 = 2 }) (Some (call_in 0 3)) ∷ Back (call_in 0 5) (record { 0 = 0 }) ∷ BackEnd (call_in 0 5) (record { 0 = 0 }) ∷ Body (call_in 0 5) (record { 0 = 2 }) (Own (record { 0 = 0 })) ∷ Leave (call_in 0 5) ∷ Exit (call_in 0 5) (record { 0 = 0 }) 39 ∷ ExitEnd (call_in 0 5) (record { 0 = 0 }) ∷ Ret (call_in 0 5) (Some (call_in 0 3)) ∷ Leave (call_in 0 3) ∷ Exit (call_in 0 3) (record { 0 = 0 }) 27 ∷ ExitEnd (call_in 0 3) (record { 0 = 0 }) ∷ Ret (call_in 0 3) (Some (call_in 0 1)) ∷ Leave (call_in 0 1) ∷ Exit (call_in 0 1) (record { 0 = 0 }) 15 ∷ ExitEnd (call_in 0 1) (record { 0 = 0 }) ∷ Ret (call_in 0 1) None ∷ []
 
 pub job_61-plays : Plays job_61 job_61-items true
-unfolding actors_of repeated start step run played play all_end control_next control_got cpu_next cpu_got insn desk
+unfolding actors_of repeated start step run played play all_end control_next control_got cpu_next cpu_got insn moves desk
 job_61-plays = (refl, refl)
 
 abbrev pub job_65 : Job
@@ -359,7 +359,7 @@ abbrev pub job_65-items : List Item
 job_65-items = Begin 1 ∷ Enter (call_in 0 1) Normal (record { 0 = 0 }) None ∷ Body (call_in 0 1) (record { 0 = 0 }) Nop ∷ Return 1 NotThere ∷ Begin 2 ∷ Enter (call_in 0 2) Normal (record { 0 = 1 }) (Some (call_in 0 1)) ∷ Body (call_in 0 2) (record { 0 = 1 }) Nop ∷ Leave (call_in 0 2) ∷ Ret (call_in 0 2) (Some (call_in 0 1)) ∷ Leave (call_in 0 1) ∷ Ret (call_in 0 1) None ∷ Return 2 Accepted ∷ Begin 3 ∷ Return 3 Accepted ∷ Begin 4 ∷ Return 4 NotThere ∷ []
 
 pub job_65-plays : Plays job_65 job_65-items true
-unfolding actors_of repeated start step run played play all_end control_next control_got cpu_next cpu_got insn desk
+unfolding actors_of repeated start step run played play all_end control_next control_got cpu_next cpu_got insn moves desk
 job_65-plays = (refl, refl)
 
 abbrev pub job_67 : Job
@@ -369,7 +369,7 @@ abbrev pub job_67-items : List Item
 job_67-items = Begin 1 ∷ Return 1 Accepted ∷ Begin 2 ∷ Return 2 Accepted ∷ Enter (call_in 1 1) Normal (record { 0 = 0 }) None ∷ Back (call_in 1 1) (record { 0 = 1 }) ∷ BackEnd (call_in 1 1) (record { 0 = 1 }) ∷ Body (call_in 1 1) (record { 0 = 0 }) (Own (record { 0 = 1 })) ∷ Enter (call_in 1 2) Normal (record { 0 = 0 }) (Some (call_in 1 1)) ∷ Back (call_in 1 2) (record { 0 = 1 }) ∷ BackEnd (call_in 1 2) (record { 0 = 1 }) ∷ Body (call_in 1 2) (record { 0 = 0 }) (Own (record { 0 = 1 })) ∷ Leave (call_in 1 2) ∷ Exit (call_in 1 2) (record { 0 = 1 }) 9 ∷ ExitEnd (call_in 1 2) (record { 0 = 1 }) ∷ Ret (call_in 1 2) (Some (call_in 1 1)) ∷ Leave (call_in 1 1) ∷ Exit (call_in 1 1) (record { 0 = 1 }) 5 ∷ ExitEnd (call_in 1 1) (record { 0 = 1 }) ∷ Enter (call_in 0 1) Normal (record { 0 = 0 }) None ∷ Back (call_in 0 1) (record { 0 = 1 }) ∷ BackEnd (call_in 0 1) (record { 0 = 1 }) ∷ Body (call_in 0 1) (record { 0 = 0 }) (Own (record { 0 = 1 })) ∷ Enter (call_in 0 2) Normal (record { 0 = 0 }) (Some (call_in 0 1)) ∷ Back (call_in 0 2) (record { 0 = 1 }) ∷ BackEnd (call_in 0 2) (record { 0 = 1 }) ∷ Body (call_in 0 2) (record { 0 = 0 }) (Own (record { 0 = 1 })) ∷ Enter (call_in 0 3) Irq (record { 0 = 0 }) (Some (call_in 0 2)) ∷ Back (call_in 0 3) (record { 0 = 1 }) ∷ BackEnd (call_in 0 3) (record { 0 = 1 }) ∷ Body (call_in 0 3) (record { 0 = 0 }) (Own (record { 0 = 1 })) ∷ Ret (call_in 1 1) None ∷ Enter (call_in 0 4) Irq (record { 0 = 0 }) (Some (call_in 0 3)) ∷ Back (call_in 0 4) (record { 0 = 1 }) ∷ BackEnd (call_in 0 4) (record { 0 = 1 }) ∷ Body (call_in 0 4) (record { 0 = 0 }) (Own (record { 0 = 1 })) ∷ Enter (call_in 0 5) Irq (record { 0 = 0 }) (Some (call_in 0 4)) ∷ Back (call_in 0 5) (record { 0 = 1 }) ∷ BackEnd (call_in 0 5) (record { 0 = 1 }) ∷ Body (call_in 0 5) (record { 0 = 0 }) (Own (record { 0 = 1 })) ∷ Leave (call_in 0 5) ∷ Exit (call_in 0 5) (record { 0 = 1 }) 37 ∷ ExitEnd (call_in 0 5) (record { 0 = 1 }) ∷ Ret (call_in 0 5) (Some (call_in 0 4)) ∷ Enter (call_in 0 6) Irq (record { 0 = 0 }) (Some (call_in 0 4)) ∷ Back (call_in 0 6) (record { 0 = 1 }) ∷ BackEnd (call_in 0 6) (record { 0 = 1 }) ∷ Body (call_in 0 6) (record { 0 = 0 }) (Own (record { 0 = 1 })) ∷ Leave (call_in 0 6) ∷ Exit (call_in 0 6) (record { 0 = 1 }) 45 ∷ ExitEnd (call_in 0 6) (record { 0 = 1 }) ∷ Ret (call_in 0 6) (Some (call_in 0 4)) ∷ Leave (call_in 0 4) ∷ Exit (call_in 0 4) (record { 0 = 1 }) 33 ∷ ExitEnd (call_in 0 4) (record { 0 = 1 }) ∷ Ret (call_in 0 4) (Some (call_in 0 3)) ∷ Leave (call_in 0 3) ∷ Exit (call_in 0 3) (record { 0 = 1 }) 28 ∷ ExitEnd (call_in 0 3) (record { 0 = 1 }) ∷ Ret (call_in 0 3) (Some (call_in 0 2)) ∷ Leave (call_in 0 2) ∷ Exit (call_in 0 2) (record { 0 = 1 }) 24 ∷ ExitEnd (call_in 0 2) (record { 0 = 1 }) ∷ Ret (call_in 0 2) (Some (call_in 0 1)) ∷ Leave (call_in 0 1) ∷ Exit (call_in 0 1) (record { 0 = 1 }) 20 ∷ ExitEnd (call_in 0 1) (record { 0 = 1 }) ∷ Ret (call_in 0 1) None ∷ []
 
 pub job_67-plays : Plays job_67 job_67-items true
-unfolding actors_of repeated start step run played play all_end control_next control_got cpu_next cpu_got insn desk
+unfolding actors_of repeated start step run played play all_end control_next control_got cpu_next cpu_got insn moves desk
 job_67-plays = (refl, refl)
 
 abbrev pub job_68 : Job
@@ -379,7 +379,7 @@ abbrev pub job_68-items : List Item
 job_68-items = Begin 1 ∷ Return 1 NotThere ∷ Begin 2 ∷ Enter (call_in 0 1) Normal (record { 0 = 3 }) None ∷ Body (call_in 0 1) (record { 0 = 3 }) Nop ∷ Enter (call_in 0 2) Normal (record { 0 = 3 }) (Some (call_in 0 1)) ∷ Body (call_in 0 2) (record { 0 = 3 }) Nop ∷ Enter (call_in 0 3) Normal (record { 0 = 2 }) (Some (call_in 0 2)) ∷ Body (call_in 0 3) (record { 0 = 2 }) Nop ∷ Enter (call_in 0 4) Normal (record { 0 = 0 }) (Some (call_in 0 3)) ∷ Body (call_in 0 4) (record { 0 = 0 }) Nop ∷ Enter (call_in 0 5) Normal (record { 0 = 3 }) (Some (call_in 0 4)) ∷ Body (call_in 0 5) (record { 0 = 3 }) Nop ∷ Enter (call_in 0 6) Normal (record { 0 = 1 }) (Some (call_in 0 5)) ∷ Body (call_in 0 6) (record { 0 = 1 }) Nop ∷ Leave (call_in 0 6) ∷ Ret (call_in 0 6) (Some (call_in 0 5)) ∷ Leave (call_in 0 5) ∷ Ret (call_in 0 5) (Some (call_in 0 4)) ∷ Leave (call_in 0 4) ∷ Ret (call_in 0 4) (Some (call_in 0 3)) ∷ Return 2 Accepted ∷ Enter (call_in 1 1) Nmi (record { 0 = 2 }) None ∷ Body (call_in 1 1) (record { 0 = 2 }) Nop ∷ Leave (call_in 1 1) ∷ Ret (call_in 1 1) None ∷ Enter (call_in 1 2) Irq (record { 0 = 0 }) None ∷ Body (call_in 1 2) (record { 0 = 0 }) Nop ∷ Leave (call_in 1 2) ∷ Ret (call_in 1 2) None ∷ Leave (call_in 0 3) ∷ Ret (call_in 0 3) (Some (call_in 0 2)) ∷ Leave (call_in 0 2) ∷ Ret (call_in 0 2) (Some (call_in 0 1)) ∷ Leave (call_in 0 1) ∷ Ret (call_in 0 1) None ∷ []
 
 pub job_68-plays : Plays job_68 job_68-items true
-unfolding actors_of repeated start step run played play all_end control_next control_got cpu_next cpu_got insn desk
+unfolding actors_of repeated start step run played play all_end control_next control_got cpu_next cpu_got insn moves desk
 job_68-plays = (refl, refl)
 
 abbrev pub job_69 : Job
@@ -389,7 +389,7 @@ abbrev pub job_69-items : List Item
 job_69-items = Begin 1 ∷ Return 1 Accepted ∷ Begin 2 ∷ Enter (call_in 0 1) Normal (record { 0 = 62 }) None ∷ Body (call_in 0 1) (record { 0 = 62 }) Nop ∷ Return 2 Accepted ∷ Enter (call_in 0 2) Normal (record { 0 = 62 }) (Some (call_in 0 1)) ∷ Begin 3 ∷ Return 3 Accepted ∷ Begin 4 ∷ Return 4 NotThere ∷ Begin 5 ∷ Body (call_in 0 2) (record { 0 = 62 }) Nop ∷ Return 5 Accepted ∷ Begin 6 ∷ Enter (call_in 0 3) Normal (record { 0 = 62 }) (Some (call_in 0 2)) ∷ Enter (call_in 1 1) Normal (record { 0 = 62 }) None ∷ Back (call_in 0 3) (record { 0 = 0 }) ∷ Back (call_in 1 1) (record { 0 = 0 }) ∷ BackEnd (call_in 0 3) (record { 0 = 0 }) ∷ Body (call_in 0 3) (record { 0 = 62 }) ByList ∷ BackEnd (call_in 1 1) (record { 0 = 0 }) ∷ Body (call_in 1 1) (record { 0 = 62 }) ByList ∷ Return 6 Accepted ∷ Begin 7 ∷ Return 7 Invalid ∷ Enter (call_in 1 2) Normal (record { 0 = 62 }) (Some (call_in 1 1)) ∷ Leave (call_in 0 3) ∷ Exit (call_in 0 3) (record { 0 = 0 }) 17 ∷ ExitEnd (call_in 0 3) (record { 0 = 0 }) ∷ Ret (call_in 0 3) (Some (call_in 0 2)) ∷ Back (call_in 1 2) (record { 0 = 0 }) ∷ Leave (call_in 0 2) ∷ Ret (call_in 0 2) (Some (call_in 0 1)) ∷ BackEnd (call_in 1 2) (record { 0 = 0 }) ∷ Body (call_in 1 2) (record { 0 = 62 }) ByList ∷ Leave (call_in 0 1) ∷ Ret (call_in 0 1) None ∷ Enter (call_in 1 3) Normal (record { 0 = 62 }) (Some (call_in 1 2)) ∷ Refuse (call_in 1 3) (record { 0 = 0 }) Depth ∷ Body (call_in 1 3) (record { 0 = 62 }) ByList ∷ Enter (call_in 1 4) Normal (record { 0 = 62 }) (Some (call_in 1 3)) ∷ Refuse (call_in 1 4) (record { 0 = 0 }) Depth ∷ Body (call_in 1 4) (record { 0 = 62 }) ByList ∷ Leave (call_in 1 4) ∷ Ret (call_in 1 4) (Some (call_in 1 3)) ∷ Leave (call_in 1 3) ∷ Ret (call_in 1 3) (Some (call_in 1 2)) ∷ Leave (call_in 1 2) ∷ Exit (call_in 1 2) (record { 0 = 0 }) 31 ∷ ExitEnd (call_in 1 2) (record { 0 = 0 }) ∷ Ret (call_in 1 2) (Some (call_in 1 1)) ∷ Leave (call_in 1 1) ∷ Exit (call_in 1 1) (record { 0 = 0 }) 18 ∷ ExitEnd (call_in 1 1) (record { 0 = 0 }) ∷ Ret (call_in 1 1) None ∷ []
 
 pub job_69-plays : Plays job_69 job_69-items true
-unfolding actors_of repeated start step run played play all_end control_next control_got cpu_next cpu_got insn desk
+unfolding actors_of repeated start step run played play all_end control_next control_got cpu_next cpu_got insn moves desk
 job_69-plays = (refl, refl)
 
 abbrev pub job_71 : Job
@@ -399,7 +399,7 @@ abbrev pub job_71-items : List Item
 job_71-items = Enter (call_in 1 1) Normal (record { 0 = 2 }) None ∷ Body (call_in 1 1) (record { 0 = 2 }) Nop ∷ Begin 1 ∷ Return 1 Accepted ∷ Begin 2 ∷ Enter (call_in 2 1) Normal (record { 0 = 0 }) None ∷ Back (call_in 2 1) (record { 0 = 0 }) ∷ BackEnd (call_in 2 1) (record { 0 = 0 }) ∷ Body (call_in 2 1) (record { 0 = 0 }) (Own (record { 0 = 0 })) ∷ Enter (call_in 2 2) Normal (record { 0 = 1 }) (Some (call_in 2 1)) ∷ Return 2 Accepted ∷ Begin 3 ∷ Enter (call_in 0 1) Normal (record { 0 = 1 }) None ∷ Refuse (call_in 2 2) (record { 0 = 0 }) ByPid ∷ Body (call_in 2 2) (record { 0 = 1 }) (Own (record { 0 = 0 })) ∷ Back (call_in 0 1) (record { 0 = 0 }) ∷ BackEnd (call_in 0 1) (record { 0 = 0 }) ∷ Body (call_in 0 1) (record { 0 = 1 }) (Own (record { 0 = 0 })) ∷ Enter (call_in 2 3) Normal (record { 0 = 0 }) (Some (call_in 2 2)) ∷ Enter (call_in 0 2) Normal (record { 0 = 0 }) (Some (call_in 0 1)) ∷ Return 3 Accepted ∷ Begin 4 ∷ Refuse (call_in 2 3) (record { 0 = 0 }) ByPid ∷ Body (call_in 2 3) (record { 0 = 0 }) (Own (record { 0 = 0 })) ∷ Back (call_in 0 2) (record { 0 = 0 }) ∷ BackEnd (call_in 0 2) (record { 0 = 0 }) ∷ Body (call_in 0 2) (record { 0 = 0 }) (Own (record { 0 = 0 })) ∷ Leave (call_in 2 3) ∷ Ret (call_in 2 3) (Some (call_in 2 2)) ∷ Leave (call_in 2 2) ∷ Leave (call_in 0 2) ∷ Ret (call_in 2 2) (Some (call_in 2 1)) ∷ Ret (call_in 0 2) (Some (call_in 0 1)) ∷ Return 4 Accepted ∷ Leave (call_in 2 1) ∷ Leave (call_in 0 1) ∷ Ret (call_in 2 1) None ∷ Ret (call_in 0 1) None ∷ Enter (call_in 1 2) Normal (record { 0 = 0 }) (Some (call_in 1 1)) ∷ Refuse (call_in 1 2) (record { 0 = 0 }) ByPid ∷ Body (call_in 1 2) (record { 0 = 0 }) (Own (record { 0 = 0 })) ∷ Enter (call_in 1 3) Normal (record { 0 = 0 }) (Some (call_in 1 2)) ∷ Refuse (call_in 1 3) (record { 0 = 0 }) ByPid ∷ Body (call_in 1 3) (record { 0 = 0 }) (Own (record { 0 = 0 })) ∷ Leave (call_in 1 3) ∷ Ret (call_in 1 3) (Some (call_in 1 2)) ∷ Leave (call_in 1 2) ∷ Ret (call_in 1 2) (Some (call_in 1 1)) ∷ Leave (call_in 1 1) ∷ Ret (call_in 1 1) None ∷ []
 
 pub job_71-plays : Plays job_71 job_71-items true
-unfolding actors_of repeated start step run played play all_end control_next control_got cpu_next cpu_got insn desk
+unfolding actors_of repeated start step run played play all_end control_next control_got cpu_next cpu_got insn moves desk
 job_71-plays = (refl, refl)
 
 abbrev pub job_73 : Job
@@ -409,7 +409,7 @@ abbrev pub job_73-items : List Item
 job_73-items = Begin 1 ∷ Return 1 NotThere ∷ Begin 2 ∷ Return 2 NotThere ∷ Begin 3 ∷ Return 3 NotThere ∷ Begin 4 ∷ Enter (call_in 1 1) Normal (record { 0 = 1 }) None ∷ Enter (call_in 2 1) Normal (record { 0 = 0 }) None ∷ Back (call_in 1 1) (record { 0 = 0 }) ∷ Enter (call_in 1 2) Normal (record { 0 = 0 }) (Some (call_in 1 1)) ∷ Back (call_in 2 1) (record { 0 = 0 }) ∷ Enter (call_in 2 2) Normal (record { 0 = 0 }) (Some (call_in 2 1)) ∷ Refuse (call_in 1 2) (record { 0 = 0 }) Recursion ∷ Body (call_in 1 2) (record { 0 = 0 }) (Own (record { 0 = 0 })) ∷ Leave (call_in 1 2) ∷ Refuse (call_in 2 2) (record { 0 = 0 }) Recursion ∷ Ret (call_in 1 2) (Some (call_in 1 1)) ∷ Body (call_in 2 2) (record { 0 = 0 }) (Own (record { 0 = 0 })) ∷ Return 4 Accepted ∷ BackEnd (call_in 1 1) (record { 0 = 0 }) ∷ Leave (call_in 2 2) ∷ Body (call_in 1 1) (record { 0 = 1 }) (Own (record { 0 = 0 })) ∷ Ret (call_in 2 2) (Some (call_in 2 1)) ∷ BackEnd (call_in 2 1) (record { 0 = 0 }) ∷ Body (call_in 2 1) (record { 0 = 0 }) (Own (record { 0 = 0 })) ∷ Enter (call_in 2 3) Normal (record { 0 = 1 }) (Some (call_in 2 1)) ∷ Leave (call_in 1 1) ∷ Exit (call_in 1 1) (record { 0 = 0 }) 9 ∷ ExitEnd (call_in 1 1) (record { 0 = 0 }) ∷ Ret (call_in 1 1) None ∷ Back (call_in 2 3) (record { 0 = 0 }) ∷ Enter (call_in 2 4) Normal (record { 0 = 0 }) (Some (call_in 2 3)) ∷ Refuse (call_in 2 4) (record { 0 = 0 }) Recursion ∷ Body (call_in 2 4) (record { 0 = 0 }) (Own (record { 0 = 0 })) ∷ Leave (call_in 2 4) ∷ Ret (call_in 2 4) (Some (call_in 2 3)) ∷ BackEnd (call_in 2 3) (record { 0 = 0 }) ∷ Body (call_in 2 3) (record { 0 = 1 }) (Own (record { 0 = 0 })) ∷ Enter (call_in 2 5) Normal (record { 0 = 1 }) (Some (call_in 2 3)) ∷ Back (call_in 2 5) (record { 0 = 0 }) ∷ Enter (call_in 2 6) Normal (record { 0 = 0 }) (Some (call_in 2 5)) ∷ Refuse (call_in 2 6) (record { 0 = 0 }) Recursion ∷ Body (call_in 2 6) (record { 0 = 0 }) (Own (record { 0 = 0 })) ∷ Leave (call_in 2 6) ∷ Ret (call_in 2 6) (Some (call_in 2 5)) ∷ BackEnd (call_in 2 5) (record { 0 = 0 }) ∷ Body (call_in 2 5) (record { 0 = 1 }) (Own (record { 0 = 0 })) ∷ Enter (call_in 2 7) Normal (record { 0 = 1 }) (Some (call_in 2 5)) ∷ Back (call_in 2 7) (record { 0 = 0 }) ∷ Enter (call_in 2 8) Normal (record { 0 = 0 }) (Some (call_in 2 7)) ∷ Refuse (call_in 2 8) (record { 0 = 0 }) Recursion ∷ Body (call_in 2 8) (record { 0 = 0 }) (Own (record { 0 = 0 })) ∷ Leave (call_in 2 8) ∷ Ret (call_in 2 8) (Some (call_in 2 7)) ∷ BackEnd (call_in 2 7) (record { 0 = 0 }) ∷ Body (call_in 2 7) (record { 0 = 1 }) (Own (record { 0 = 0 })) ∷ Leave (call_in 2 7) ∷ Exit (call_in 2 7) (record { 0 = 0 }) 49 ∷ ExitEnd (call_in 2 7) (record { 0 = 0 }) ∷ Ret (call_in 2 7) (Some (call_in 2 5)) ∷ Leave (call_in 2 5) ∷ Exit (call_in 2 5) (record { 0 = 0 }) 40 ∷ ExitEnd (call_in 2 5) (record { 0 = 0 }) ∷ Ret (call_in 2 5) (Some (call_in 2 3)) ∷ Leave (call_in 2 3) ∷ Exit (call_in 2 3) (record { 0 = 0 }) 31 ∷ ExitEnd (call_in 2 3) (record { 0 = 0 }) ∷ Ret (call_in 2 3) (Some (call_in 2 1)) ∷ Leave (call_in 2 1) ∷ Exit (call_in 2 1) (record { 0 = 0 }) 11 ∷ ExitEnd (call_in 2 1) (record { 0 = 0 }) ∷ Ret (call_in 2 1) None ∷ []
 
 pub job_73-plays : Plays job_73 job_73-items true
-unfolding actors_of repeated start step run played play all_end control_next control_got cpu_next cpu_got insn desk
+unfolding actors_of repeated start step run played play all_end control_next control_got cpu_next cpu_got insn moves desk
 job_73-plays = (refl, refl)
 
 abbrev pub job_74 : Job
@@ -419,7 +419,7 @@ abbrev pub job_74-items : List Item
 job_74-items = Enter (call_in 1 1) Nmi (record { 0 = 0 }) None ∷ Begin 1 ∷ Back (call_in 1 1) (record { 0 = 1 }) ∷ BackEnd (call_in 1 1) (record { 0 = 1 }) ∷ Body (call_in 1 1) (record { 0 = 0 }) (Own (record { 0 = 1 })) ∷ Return 1 Accepted ∷ Begin 2 ∷ Return 2 Accepted ∷ Begin 3 ∷ Return 3 Already ∷ Enter (call_in 0 1) Normal (record { 0 = 0 }) None ∷ Back (call_in 0 1) (record { 0 = 1 }) ∷ BackEnd (call_in 0 1) (record { 0 = 1 }) ∷ Body (call_in 0 1) (record { 0 = 0 }) (Own (record { 0 = 1 })) ∷ Leave (call_in 1 1) ∷ Exit (call_in 1 1) (record { 0 = 1 }) 2 ∷ ExitEnd (call_in 1 1) (record { 0 = 1 }) ∷ Ret (call_in 1 1) None ∷ Leave (call_in 0 1) ∷ Exit (call_in 0 1) (record { 0 = 1 }) 11 ∷ ExitEnd (call_in 0 1) (record { 0 = 1 }) ∷ Ret (call_in 0 1) None ∷ Enter (call_in 0 2) Nmi (record { 0 = 0 }) None ∷ Back (call_in 0 2) (record { 0 = 1 }) ∷ BackEnd (call_in 0 2) (record { 0 = 1 }) ∷ Body (call_in 0 2) (record { 0 = 0 }) (Own (record { 0 = 1 })) ∷ Enter (call_in 0 3) Nmi (record { 0 = 0 }) (Some (call_in 0 2)) ∷ Refuse (call_in 0 3) (record { 0 = 1 }) Depth ∷ Body (call_in 0 3) (record { 0 = 0 }) (Own (record { 0 = 1 })) ∷ Leave (call_in 0 3) ∷ Ret (call_in 0 3) (Some (call_in 0 2)) ∷ Leave (call_in 0 2) ∷ Exit (call_in 0 2) (record { 0 = 1 }) 23 ∷ ExitEnd (call_in 0 2) (record { 0 = 1 }) ∷ Ret (call_in 0 2) None ∷ []
 
 pub job_74-plays : Plays job_74 job_74-items true
-unfolding actors_of repeated start step run played play all_end control_next control_got cpu_next cpu_got insn desk
+unfolding actors_of repeated start step run played play all_end control_next control_got cpu_next cpu_got insn moves desk
 job_74-plays = (refl, refl)
 
 abbrev pub job_75 : Job
@@ -429,7 +429,7 @@ abbrev pub job_75-items : List Item
 job_75-items = Begin 1 ∷ Enter (call_in 1 1) Normal (record { 0 = 1 }) None ∷ Body (call_in 1 1) (record { 0 = 1 }) Nop ∷ Return 1 Accepted ∷ Begin 2 ∷ Enter (call_in 1 2) Nmi (record { 0 = 2 }) (Some (call_in 1 1)) ∷ Body (call_in 1 2) (record { 0 = 2 }) Nop ∷ Enter (call_in 0 1) Normal (record { 0 = 2 }) None ∷ Body (call_in 0 1) (record { 0 = 2 }) Nop ∷ Enter (call_in 0 2) Normal (record { 0 = 0 }) (Some (call_in 0 1)) ∷ Body (call_in 0 2) (record { 0 = 0 }) Nop ∷ Leave (call_in 1 2) ∷ Ret (call_in 1 2) (Some (call_in 1 1)) ∷ Enter (call_in 1 3) Nmi (record { 0 = 2 }) (Some (call_in 1 1)) ∷ Body (call_in 1 3) (record { 0 = 2 }) Nop ∷ Enter (call_in 1 4) Nmi (record { 0 = 3 }) (Some (call_in 1 3)) ∷ Body (call_in 1 4) (record { 0 = 3 }) Nop ∷ Leave (call_in 0 2) ∷ Ret (call_in 0 2) (Some (call_in 0 1)) ∷ Leave (call_in 0 1) ∷ Ret (call_in 0 1) None ∷ Enter (call_in 0 3) Normal (record { 0 = 1 }) None ∷ Leave (call_in 1 4) ∷ Ret (call_in 1 4) (Some (call_in 1 3)) ∷ Leave (call_in 1 3) ∷ Ret (call_in 1 3) (Some (call_in 1 1)) ∷ Leave (call_in 1 1) ∷ Ret (call_in 1 1) None ∷ Back (call_in 0 3) (record { 0 = 1 }) ∷ Enter (call_in 0 4) Normal (record { 0 = 1 }) (Some (call_in 0 3)) ∷ Refuse (call_in 0 4) (record { 0 = 1 }) Recursion ∷ Body (call_in 0 4) (record { 0 = 1 }) ByList ∷ Leave (call_in 0 4) ∷ Ret (call_in 0 4) (Some (call_in 0 3)) ∷ BackEnd (call_in 0 3) (record { 0 = 1 }) ∷ Body (call_in 0 3) (record { 0 = 1 }) ByList ∷ Return 2 Accepted ∷ Leave (call_in 0 3) ∷ Exit (call_in 0 3) (record { 0 = 1 }) 28 ∷ ExitEnd (call_in 0 3) (record { 0 = 1 }) ∷ Ret (call_in 0 3) None ∷ []
 
 pub job_75-plays : Plays job_75 job_75-items true
-unfolding actors_of repeated start step run played play all_end control_next control_got cpu_next cpu_got insn desk
+unfolding actors_of repeated start step run played play all_end control_next control_got cpu_next cpu_got insn moves desk
 job_75-plays = (refl, refl)
 
 abbrev pub job_76 : Job
@@ -439,7 +439,7 @@ abbrev pub job_76-items : List Item
 job_76-items = Begin 1 ∷ Return 1 Accepted ∷ Begin 2 ∷ Return 2 NotThere ∷ Enter (call_in 0 1) Normal (record { 0 = 1 }) None ∷ Body (call_in 0 1) (record { 0 = 1 }) Nop ∷ Enter (call_in 0 2) Normal (record { 0 = 0 }) (Some (call_in 0 1)) ∷ Body (call_in 0 2) (record { 0 = 0 }) Nop ∷ Leave (call_in 0 2) ∷ Ret (call_in 0 2) (Some (call_in 0 1)) ∷ Leave (call_in 0 1) ∷ Ret (call_in 0 1) None ∷ []
 
 pub job_76-plays : Plays job_76 job_76-items true
-unfolding actors_of repeated start step run played play all_end control_next control_got cpu_next cpu_got insn desk
+unfolding actors_of repeated start step run played play all_end control_next control_got cpu_next cpu_got insn moves desk
 job_76-plays = (refl, refl)
 
 abbrev pub job_80 : Job
@@ -449,7 +449,7 @@ abbrev pub job_80-items : List Item
 job_80-items = Begin 1 ∷ Return 1 NotThere ∷ Begin 2 ∷ Return 2 NotThere ∷ Begin 3 ∷ Enter (call_in 1 1) Normal (record { 0 = 2 }) None ∷ Return 3 Invalid ∷ Begin 4 ∷ Return 4 NotThere ∷ Body (call_in 1 1) (record { 0 = 2 }) Nop ∷ Enter (call_in 1 2) Normal (record { 0 = 0 }) (Some (call_in 1 1)) ∷ Enter (call_in 0 1) Nmi (record { 0 = 1 }) None ∷ Body (call_in 1 2) (record { 0 = 0 }) Nop ∷ Body (call_in 0 1) (record { 0 = 1 }) Nop ∷ Enter (call_in 0 2) Nmi (record { 0 = 2 }) (Some (call_in 0 1)) ∷ Enter (call_in 1 3) Normal (record { 0 = 0 }) (Some (call_in 1 2)) ∷ Body (call_in 0 2) (record { 0 = 2 }) Nop ∷ Body (call_in 1 3) (record { 0 = 0 }) Nop ∷ Enter (call_in 0 3) Nmi (record { 0 = 0 }) (Some (call_in 0 2)) ∷ Leave (call_in 1 3) ∷ Ret (call_in 1 3) (Some (call_in 1 2)) ∷ Body (call_in 0 3) (record { 0 = 0 }) Nop ∷ Leave (call_in 1 2) ∷ Enter (call_in 0 4) Nmi (record { 0 = 0 }) (Some (call_in 0 3)) ∷ Ret (call_in 1 2) (Some (call_in 1 1)) ∷ Body (call_in 0 4) (record { 0 = 0 }) Nop ∷ Leave (call_in 1 1) ∷ Ret (call_in 1 1) None ∷ Leave (call_in 0 4) ∷ Ret (call_in 0 4) (Some (call_in 0 3)) ∷ Leave (call_in 0 3) ∷ Ret (call_in 0 3) (Some (call_in 0 2)) ∷ Leave (call_in 0 2) ∷ Ret (call_in 0 2) (Some (call_in 0 1)) ∷ Leave (call_in 0 1) ∷ Ret (call_in 0 1) None ∷ []
 
 pub job_80-plays : Plays job_80 job_80-items true
-unfolding actors_of repeated start step run played play all_end control_next control_got cpu_next cpu_got insn desk
+unfolding actors_of repeated start step run played play all_end control_next control_got cpu_next cpu_got insn moves desk
 job_80-plays = (refl, refl)
 
 abbrev pub job_81 : Job
@@ -459,7 +459,7 @@ abbrev pub job_81-items : List Item
 job_81-items = Begin 1 ∷ Return 1 NotThere ∷ Begin 2 ∷ Return 2 NotThere ∷ Enter (call_in 1 1) Normal (record { 0 = 1 }) None ∷ Body (call_in 1 1) (record { 0 = 1 }) Nop ∷ Enter (call_in 0 1) Softirq (record { 0 = 1 }) None ∷ Enter (call_in 1 2) Normal (record { 0 = 3 }) (Some (call_in 1 1)) ∷ Body (call_in 0 1) (record { 0 = 1 }) Nop ∷ Body (call_in 1 2) (record { 0 = 3 }) Nop ∷ Leave (call_in 0 1) ∷ Ret (call_in 0 1) None ∷ Leave (call_in 1 2) ∷ Ret (call_in 1 2) (Some (call_in 1 1)) ∷ Leave (call_in 1 1) ∷ Ret (call_in 1 1) None ∷ []
 
 pub job_81-plays : Plays job_81 job_81-items true
-unfolding actors_of repeated start step run played play all_end control_next control_got cpu_next cpu_got insn desk
+unfolding actors_of repeated start step run played play all_end control_next control_got cpu_next cpu_got insn moves desk
 job_81-plays = (refl, refl)
 
 abbrev pub job_82 : Job
@@ -469,7 +469,7 @@ abbrev pub job_82-items : List Item
 job_82-items = Enter (call_in 0 1) Normal (record { 0 = 1 }) None ∷ Body (call_in 0 1) (record { 0 = 1 }) Nop ∷ Enter (call_in 0 2) Normal (record { 0 = 0 }) (Some (call_in 0 1)) ∷ Body (call_in 0 2) (record { 0 = 0 }) Nop ∷ Enter (call_in 0 3) Normal (record { 0 = 0 }) (Some (call_in 0 2)) ∷ Begin 1 ∷ Body (call_in 0 3) (record { 0 = 0 }) Nop ∷ Return 1 Accepted ∷ Begin 2 ∷ Return 2 Already ∷ Begin 3 ∷ Enter (call_in 2 1) Normal (record { 0 = 1 }) None ∷ Body (call_in 2 1) (record { 0 = 1 }) ByList ∷ Return 3 Accepted ∷ Begin 4 ∷ Return 4 Invalid ∷ Enter (call_in 0 4) Normal (record { 0 = 0 }) (Some (call_in 0 3)) ∷ Back (call_in 0 4) (record { 0 = 0 }) ∷ Enter (call_in 0 5) Normal (record { 0 = 0 }) (Some (call_in 0 4)) ∷ Refuse (call_in 0 5) (record { 0 = 0 }) Recursion ∷ Body (call_in 0 5) (record { 0 = 0 }) ByList ∷ Leave (call_in 0 5) ∷ Ret (call_in 0 5) (Some (call_in 0 4)) ∷ BackEnd (call_in 0 4) (record { 0 = 0 }) ∷ Body (call_in 0 4) (record { 0 = 0 }) ByList ∷ Leave (call_in 0 4) ∷ Ret (call_in 0 4) (Some (call_in 0 3)) ∷ Leave (call_in 0 3) ∷ Ret (call_in 0 3) (Some (call_in 0 2)) ∷ Leave (call_in 0 2) ∷ Enter (call_in 1 1) Normal (record { 0 = 0 }) None ∷ Back (call_in 1 1) (record { 0 = 0 }) ∷ Enter (call_in 1 2) Normal (record { 0 = 0 }) (Some (call_in 1 1)) ∷ Refuse (call_in 1 2) (record { 0 = 0 }) Recursion ∷ Body (call_in 1 2) (record { 0 = 0 }) ByList ∷ Leave (call_in 1 2) ∷ Ret (call_in 1 2) (Some (call_in 1 1)) ∷ BackEnd (call_in 1 1) (record { 0 = 0 }) ∷ Body (call_in 1 1) (record { 0 = 0 }) ByList ∷ Leave (call_in 1 1) ∷ Ret (call_in 1 1) None ∷ Enter (call_in 2 2) Normal (record { 0 = 0 }) (Some (call_in 2 1)) ∷ Back (call_in 2 2) (record { 0 = 0 }) ∷ Enter (call_in 2 3) Normal (record { 0 = 0 }) (Some (call_in 2 2)) ∷ Refuse (call_in 2 3) (record { 0 = 0 }) Recursion ∷ Body (call_in 2 3) (record { 0 = 0 }) ByList ∷ Leave (call_in 2 3) ∷ Ret (call_in 2 3) (Some (call_in 2 2)) ∷ BackEnd (call_in 2 2) (record { 0 = 0 }) ∷ Body (call_in 2 2) (record { 0 = 0 }) ByList ∷ Leave (call_in 2 2) ∷ Ret (call_in 2 2) (Some (call_in 2 1)) ∷ Leave (call_in 2 1) ∷ Ret (call_in 2 1) None ∷ Ret (call_in 0 2) (Some (call_in 0 1)) ∷ Leave (call_in 0 1) ∷ Ret (call_in 0 1) None ∷ Enter (call_in 1 3) Normal (record { 0 = 0 }) None ∷ Back (call_in 1 3) (record { 0 = 0 }) ∷ Enter (call_in 1 4) Normal (record { 0 = 0 }) (Some (call_in 1 3)) ∷ Refuse (call_in 1 4) (record { 0 = 0 }) Recursion ∷ Body (call_in 1 4) (record { 0 = 0 }) ByList ∷ Leave (call_in 1 4) ∷ Ret (call_in 1 4) (Some (call_in 1 3)) ∷ BackEnd (call_in 1 3) (record { 0 = 0 }) ∷ Body (call_in 1 3) (record { 0 = 0 }) ByList ∷ Enter (call_in 1 5) Normal (record { 0 = 1 }) (Some (call_in 1 3)) ∷ Body (call_in 1 5) (record { 0 = 1 }) Nop ∷ Leave (call_in 1 5) ∷ Ret (call_in 1 5) (Some (call_in 1 3)) ∷ Leave (call_in 1 3) ∷ Ret (call_in 1 3) None ∷ []
 
 pub job_82-plays : Plays job_82 job_82-items true
-unfolding actors_of repeated start step run played play all_end control_next control_got cpu_next cpu_got insn desk
+unfolding actors_of repeated start step run played play all_end control_next control_got cpu_next cpu_got insn moves desk
 job_82-plays = (refl, refl)
 
 abbrev pub job_83 : Job
@@ -479,7 +479,7 @@ abbrev pub job_83-items : List Item
 job_83-items = Begin 1 ∷ Return 1 NotThere ∷ Begin 2 ∷ Return 2 Accepted ∷ Enter (call_in 1 1) Nmi (record { 0 = 3 }) None ∷ Body (call_in 1 1) (record { 0 = 3 }) Nop ∷ Enter (call_in 1 2) Nmi (record { 0 = 1 }) (Some (call_in 1 1)) ∷ Enter (call_in 0 1) Normal (record { 0 = 1 }) None ∷ Body (call_in 1 2) (record { 0 = 1 }) Nop ∷ Body (call_in 0 1) (record { 0 = 1 }) Nop ∷ Enter (call_in 1 3) Nmi (record { 0 = 2 }) (Some (call_in 1 2)) ∷ Body (call_in 1 3) (record { 0 = 2 }) Nop ∷ Leave (call_in 0 1) ∷ Ret (call_in 0 1) None ∷ Enter (call_in 1 4) Nmi (record { 0 = 0 }) (Some (call_in 1 3)) ∷ Body (call_in 1 4) (record { 0 = 0 }) Nop ∷ Enter (call_in 0 2) Nmi (record { 0 = 2 }) None ∷ Enter (call_in 1 5) Nmi (record { 0 = 3 }) (Some (call_in 1 4)) ∷ Body (call_in 0 2) (record { 0 = 2 }) Nop ∷ Body (call_in 1 5) (record { 0 = 3 }) Nop ∷ Leave (call_in 0 2) ∷ Ret (call_in 0 2) None ∷ Leave (call_in 1 5) ∷ Ret (call_in 1 5) (Some (call_in 1 4)) ∷ Enter (call_in 1 6) Nmi (record { 0 = 2 }) (Some (call_in 1 4)) ∷ Body (call_in 1 6) (record { 0 = 2 }) Nop ∷ Leave (call_in 1 6) ∷ Ret (call_in 1 6) (Some (call_in 1 4)) ∷ Leave (call_in 1 4) ∷ Ret (call_in 1 4) (Some (call_in 1 3)) ∷ Leave (call_in 1 3) ∷ Ret (call_in 1 3) (Some (call_in 1 2)) ∷ Leave (call_in 1 2) ∷ Ret (call_in 1 2) (Some (call_in 1 1)) ∷ Leave (call_in 1 1) ∷ Ret (call_in 1 1) None ∷ []
 
 pub job_83-plays : Plays job_83 job_83-items true
-unfolding actors_of repeated start step run played play all_end control_next control_got cpu_next cpu_got insn desk
+unfolding actors_of repeated start step run played play all_end control_next control_got cpu_next cpu_got insn moves desk
 job_83-plays = (refl, refl)
 
 abbrev pub job_85 : Job
@@ -489,7 +489,7 @@ abbrev pub job_85-items : List Item
 job_85-items = Begin 1 ∷ Enter (call_in 0 1) Normal (record { 0 = 0 }) None ∷ Body (call_in 0 1) (record { 0 = 0 }) Nop ∷ Enter (call_in 0 2) Normal (record { 0 = 0 }) (Some (call_in 0 1)) ∷ Body (call_in 0 2) (record { 0 = 0 }) Nop ∷ Enter (call_in 0 3) Normal (record { 0 = 0 }) (Some (call_in 0 2)) ∷ Body (call_in 0 3) (record { 0 = 0 }) Nop ∷ Leave (call_in 0 3) ∷ Ret (call_in 0 3) (Some (call_in 0 2)) ∷ Leave (call_in 0 2) ∷ Ret (call_in 0 2) (Some (call_in 0 1)) ∷ Leave (call_in 0 1) ∷ Ret (call_in 0 1) None ∷ Return 1 Accepted ∷ Begin 2 ∷ Enter (call_in 1 1) Normal (record { 0 = 1 }) None ∷ Return 2 Accepted ∷ Back (call_in 1 1) (record { 0 = 1 }) ∷ BackEnd (call_in 1 1) (record { 0 = 1 }) ∷ Body (call_in 1 1) (record { 0 = 1 }) ByList ∷ Enter (call_in 1 2) Normal (record { 0 = 0 }) (Some (call_in 1 1)) ∷ Back (call_in 1 2) (record { 0 = 2 }) ∷ BackEnd (call_in 1 2) (record { 0 = 2 }) ∷ Back (call_in 1 2) (record { 0 = 1 }) ∷ BackEnd (call_in 1 2) (record { 0 = 1 }) ∷ Body (call_in 1 2) (record { 0 = 0 }) ByList ∷ Enter (call_in 1 3) Irq (record { 0 = 0 }) (Some (call_in 1 2)) ∷ Back (call_in 1 3) (record { 0 = 2 }) ∷ BackEnd (call_in 1 3) (record { 0 = 2 }) ∷ Back (call_in 1 3) (record { 0 = 1 }) ∷ BackEnd (call_in 1 3) (record { 0 = 1 }) ∷ Body (call_in 1 3) (record { 0 = 0 }) ByList ∷ Leave (call_in 1 3) ∷ Ret (call_in 1 3) (Some (call_in 1 2)) ∷ Leave (call_in 1 2) ∷ Ret (call_in 1 2) (Some (call_in 1 1)) ∷ Leave (call_in 1 1) ∷ Ret (call_in 1 1) None ∷ []
 
 pub job_85-plays : Plays job_85 job_85-items true
-unfolding actors_of repeated start step run played play all_end control_next control_got cpu_next cpu_got insn desk
+unfolding actors_of repeated start step run played play all_end control_next control_got cpu_next cpu_got insn moves desk
 job_85-plays = (refl, refl)
 
 abbrev pub job_87 : Job
@@ -499,7 +499,7 @@ abbrev pub job_87-items : List Item
 job_87-items = Enter (call_in 1 1) Irq (record { 0 = 63 }) None ∷ Body (call_in 1 1) (record { 0 = 63 }) Nop ∷ Enter (call_in 2 1) Softirq (record { 0 = 63 }) None ∷ Body (call_in 2 1) (record { 0 = 63 }) Nop ∷ Enter (call_in 2 2) Softirq (record { 0 = 63 }) (Some (call_in 2 1)) ∷ Body (call_in 2 2) (record { 0 = 63 }) Nop ∷ Enter (call_in 2 3) Softirq (record { 0 = 63 }) (Some (call_in 2 2)) ∷ Body (call_in 2 3) (record { 0 = 63 }) Nop ∷ Leave (call_in 2 3) ∷ Ret (call_in 2 3) (Some (call_in 2 2)) ∷ Leave (call_in 2 2) ∷ Ret (call_in 2 2) (Some (call_in 2 1)) ∷ Leave (call_in 2 1) ∷ Ret (call_in 2 1) None ∷ Enter (call_in 1 2) Nmi (record { 0 = 63 }) (Some (call_in 1 1)) ∷ Body (call_in 1 2) (record { 0 = 63 }) Nop ∷ Enter (call_in 1 3) Nmi (record { 0 = 62 }) (Some (call_in 1 2)) ∷ Body (call_in 1 3) (record { 0 = 62 }) Nop ∷ Leave (call_in 1 3) ∷ Ret (call_in 1 3) (Some (call_in 1 2)) ∷ Leave (call_in 1 2) ∷ Ret (call_in 1 2) (Some (call_in 1 1)) ∷ Leave (call_in 1 1) ∷ Ret (call_in 1 1) None ∷ Begin 1 ∷ Return 1 Accepted ∷ Begin 2 ∷ Return 2 NotThere ∷ Begin 3 ∷ Return 3 Accepted ∷ Enter (call_in 0 1) Normal (record { 0 = 63 }) None ∷ Back (call_in 0 1) (record { 0 = 2 }) ∷ BackEnd (call_in 0 1) (record { 0 = 2 }) ∷ Body (call_in 0 1) (record { 0 = 63 }) (Own (record { 0 = 2 })) ∷ Enter (call_in 0 2) Normal (record { 0 = 63 }) (Some (call_in 0 1)) ∷ []
 
 pub job_87-plays : Plays job_87 job_87-items false
-unfolding actors_of repeated start step run played play all_end control_next control_got cpu_next cpu_got insn desk
+unfolding actors_of repeated start step run played play all_end control_next control_got cpu_next cpu_got insn moves desk
 job_87-plays = (refl, refl)
 
 abbrev pub job_91 : Job
@@ -509,7 +509,7 @@ abbrev pub job_91-items : List Item
 job_91-items = Enter (call_in 0 1) Normal (record { 0 = 0 }) None ∷ Body (call_in 0 1) (record { 0 = 0 }) Nop ∷ Enter (call_in 1 1) Nmi (record { 0 = 0 }) None ∷ Enter (call_in 0 2) Normal (record { 0 = 0 }) (Some (call_in 0 1)) ∷ Body (call_in 1 1) (record { 0 = 0 }) Nop ∷ Begin 1 ∷ Return 1 NotThere ∷ Begin 2 ∷ Body (call_in 0 2) (record { 0 = 0 }) Nop ∷ Enter (call_in 1 2) Nmi (record { 0 = 0 }) (Some (call_in 1 1)) ∷ Enter (call_in 0 3) Normal (record { 0 = 0 }) (Some (call_in 0 2)) ∷ Enter (call_in 2 1) Normal (record { 0 = 0 }) None ∷ Back (call_in 1 2) (record { 0 = 1 }) ∷ BackEnd (call_in 1 2) (record { 0 = 1 }) ∷ Body (call_in 1 2) (record { 0 = 0 }) (Own (record { 0 = 1 })) ∷ Back (call_in 0 3) (record { 0 = 1 }) ∷ BackEnd (call_in 0 3) (record { 0 = 1 }) ∷ Body (call_in 0 3) (record { 0 = 0 }) (Own (record { 0 = 1 })) ∷ Back (call_in 2 1) (record { 0 = 1 }) ∷ BackEnd (call_in 2 1) (record { 0 = 1 }) ∷ Body (call_in 2 1) (record { 0 = 0 }) (Own (record { 0 = 1 })) ∷ Return 2 Accepted ∷ Leave (call_in 1 2) ∷ Ret (call_in 1 2) (Some (call_in 1 1)) ∷ Enter (call_in 2 2) Normal (record { 0 = 0 }) (Some (call_in 2 1)) ∷ Leave (call_in 0 3) ∷ Ret (call_in 0 3) (Some (call_in 0 2)) ∷ Leave (call_in 1 1) ∷ Ret (call_in 1 1) None ∷ Back (call_in 2 2) (record { 0 = 1 }) ∷ BackEnd (call_in 2 2) (record { 0 = 1 }) ∷ Body (call_in 2 2) (record { 0 = 0 }) (Own (record { 0 = 1 })) ∷ Leave (call_in 0 2) ∷ Ret (call_in 0 2) (Some (call_in 0 1)) ∷ Enter (call_in 2 3) Normal (record { 0 = 0 }) (Some (call_in 2 2)) ∷ Leave (call_in 0 1) ∷ Ret (call_in 0 1) None ∷ Back (call_in 2 3) (record { 0 = 1 }) ∷ BackEnd (call_in 2 3) (record { 0 = 1 }) ∷ Body (call_in 2 3) (record { 0 = 0 }) (Own (record { 0 = 1 })) ∷ Enter (call_in 2 4) Normal (record { 0 = 0 }) (Some (call_in 2 3)) ∷ Back (call_in 2 4) (record { 0 = 1 }) ∷ BackEnd (call_in 2 4) (record { 0 = 1 }) ∷ Body (call_in 2 4) (record { 0 = 0 }) (Own (record { 0 = 1 })) ∷ Enter (call_in 2 5) Normal (record { 0 = 0 }) (Some (call_in 2 4)) ∷ Back (call_in 2 5) (record { 0 = 1 }) ∷ BackEnd (call_in 2 5) (record { 0 = 1 }) ∷ Body (call_in 2 5) (record { 0 = 0 }) (Own (record { 0 = 1 })) ∷ Leave (call_in 2 5) ∷ Ret (call_in 2 5) (Some (call_in 2 4)) ∷ Leave (call_in 2 4) ∷ Ret (call_in 2 4) (Some (call_in 2 3)) ∷ Leave (call_in 2 3) ∷ Ret (call_in 2 3) (Some (call_in 2 2)) ∷ Leave (call_in 2 2) ∷ Ret (call_in 2 2) (Some (call_in 2 1)) ∷ Leave (call_in 2 1) ∷ Ret (call_in 2 1) None ∷ []
 
 pub job_91-plays : Plays job_91 job_91-items true
-unfolding actors_of repeated start step run played play all_end control_next control_got cpu_next cpu_got insn desk
+unfolding actors_of repeated start step run played play all_end control_next control_got cpu_next cpu_got insn moves desk
 job_91-plays = (refl, refl)
 
 abbrev pub job_93 : Job
@@ -519,5 +519,5 @@ abbrev pub job_93-items : List Item
 job_93-items = Begin 1 ∷ Enter (call_in 1 1) Nmi (record { 0 = 0 }) None ∷ Back (call_in 1 1) (record { 0 = 1 }) ∷ BackEnd (call_in 1 1) (record { 0 = 1 }) ∷ Body (call_in 1 1) (record { 0 = 0 }) ByList ∷ Return 1 Accepted ∷ Enter (call_in 1 2) Nmi (record { 0 = 0 }) (Some (call_in 1 1)) ∷ Begin 2 ∷ Back (call_in 1 2) (record { 0 = 1 }) ∷ BackEnd (call_in 1 2) (record { 0 = 1 }) ∷ Body (call_in 1 2) (record { 0 = 0 }) ByList ∷ Enter (call_in 1 3) Nmi (record { 0 = 3 }) (Some (call_in 1 2)) ∷ Return 2 Accepted ∷ Begin 3 ∷ Body (call_in 1 3) (record { 0 = 3 }) ByList ∷ Enter (call_in 1 4) Nmi (record { 0 = 3 }) (Some (call_in 1 3)) ∷ Body (call_in 1 4) (record { 0 = 3 }) ByList ∷ Leave (call_in 1 4) ∷ Ret (call_in 1 4) (Some (call_in 1 3)) ∷ Leave (call_in 1 3) ∷ Ret (call_in 1 3) (Some (call_in 1 2)) ∷ Leave (call_in 1 2) ∷ Ret (call_in 1 2) (Some (call_in 1 1)) ∷ Leave (call_in 1 1) ∷ Ret (call_in 1 1) None ∷ Return 3 Accepted ∷ []
 
 pub job_93-plays : Plays job_93 job_93-items true
-unfolding actors_of repeated start step run played play all_end control_next control_got cpu_next cpu_got insn desk
+unfolding actors_of repeated start step run played play all_end control_next control_got cpu_next cpu_got insn moves desk
 job_93-plays = (refl, refl)

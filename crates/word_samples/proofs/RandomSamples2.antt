@@ -16,7 +16,7 @@ use Rattle.ft_base.specs.Job.{usual_lines, usual_rings, Job, Register, Unregiste
 use Rattle.ft_base.specs.Desk.{desk}
 use Rattle.ft_base.specs.Schedule.{actors_of, repeated}
 use Rattle.plain_machine.proofs.Plays.{named, call_in}
-use Rattle.word_machine.specs.Commands.{insn}
+use Rattle.word_machine.specs.Commands.{insn, moves}
 use Rattle.word_machine.specs.Control.{control_next, control_got}
 use Rattle.word_machine.specs.Cpu.{cpu_next, cpu_got}
 use Rattle.word_machine.specs.Machine.{start, step, run, played, play, all_end}
@@ -29,7 +29,7 @@ abbrev pub job_1000-items : List Item
 job_1000-items = Begin 1 ∷ Return 1 NotThere ∷ Begin 2 ∷ Return 2 Invalid ∷ Begin 3 ∷ Enter (call_in 1 1) Normal (record { 0 = 1 }) None ∷ Enter (call_in 2 1) Normal (record { 0 = 2 }) None ∷ Body (call_in 2 1) (record { 0 = 2 }) Nop ∷ Body (call_in 1 1) (record { 0 = 1 }) Nop ∷ Leave (call_in 1 1) ∷ Ret (call_in 1 1) None ∷ Enter (call_in 2 2) Normal (record { 0 = 1 }) (Some (call_in 2 1)) ∷ Body (call_in 2 2) (record { 0 = 1 }) Nop ∷ Enter (call_in 2 3) Normal (record { 0 = 3 }) (Some (call_in 2 2)) ∷ Back (call_in 2 3) (record { 0 = 2 }) ∷ BackEnd (call_in 2 3) (record { 0 = 2 }) ∷ Body (call_in 2 3) (record { 0 = 3 }) ByList ∷ Leave (call_in 2 3) ∷ Exit (call_in 2 3) (record { 0 = 2 }) 14 ∷ ExitEnd (call_in 2 3) (record { 0 = 2 }) ∷ Ret (call_in 2 3) (Some (call_in 2 2)) ∷ Leave (call_in 2 2) ∷ Ret (call_in 2 2) (Some (call_in 2 1)) ∷ Leave (call_in 2 1) ∷ Ret (call_in 2 1) None ∷ Return 3 Accepted ∷ Enter (call_in 0 1) Normal (record { 0 = 1 }) None ∷ Enter (call_in 1 2) Irq (record { 0 = 3 }) None ∷ Back (call_in 0 1) (record { 0 = 2 }) ∷ BackEnd (call_in 0 1) (record { 0 = 2 }) ∷ Back (call_in 1 2) (record { 0 = 2 }) ∷ BackEnd (call_in 1 2) (record { 0 = 2 }) ∷ Body (call_in 1 2) (record { 0 = 3 }) ByList ∷ Leave (call_in 1 2) ∷ Body (call_in 0 1) (record { 0 = 1 }) ByList ∷ Enter (call_in 0 2) Normal (record { 0 = 3 }) (Some (call_in 0 1)) ∷ Exit (call_in 1 2) (record { 0 = 2 }) 30 ∷ ExitEnd (call_in 1 2) (record { 0 = 2 }) ∷ Ret (call_in 1 2) None ∷ Back (call_in 0 2) (record { 0 = 2 }) ∷ BackEnd (call_in 0 2) (record { 0 = 2 }) ∷ Body (call_in 0 2) (record { 0 = 3 }) ByList ∷ Begin 4 ∷ Enter (call_in 0 3) Normal (record { 0 = 3 }) (Some (call_in 0 2)) ∷ Return 4 Accepted ∷ Back (call_in 0 3) (record { 0 = 2 }) ∷ BackEnd (call_in 0 3) (record { 0 = 2 }) ∷ Body (call_in 0 3) (record { 0 = 3 }) ByList ∷ Enter (call_in 0 4) Normal (record { 0 = 2 }) (Some (call_in 0 3)) ∷ Back (call_in 0 4) (record { 0 = 2 }) ∷ BackEnd (call_in 0 4) (record { 0 = 2 }) ∷ Body (call_in 0 4) (record { 0 = 2 }) ByList ∷ Leave (call_in 0 4) ∷ Exit (call_in 0 4) (record { 0 = 2 }) 49 ∷ ExitEnd (call_in 0 4) (record { 0 = 2 }) ∷ Ret (call_in 0 4) (Some (call_in 0 3)) ∷ Enter (call_in 0 5) Normal (record { 0 = 3 }) (Some (call_in 0 3)) ∷ Back (call_in 0 5) (record { 0 = 2 }) ∷ BackEnd (call_in 0 5) (record { 0 = 2 }) ∷ Body (call_in 0 5) (record { 0 = 3 }) ByList ∷ Leave (call_in 0 5) ∷ Exit (call_in 0 5) (record { 0 = 2 }) 57 ∷ ExitEnd (call_in 0 5) (record { 0 = 2 }) ∷ Ret (call_in 0 5) (Some (call_in 0 3)) ∷ Leave (call_in 0 3) ∷ Exit (call_in 0 3) (record { 0 = 2 }) 45 ∷ ExitEnd (call_in 0 3) (record { 0 = 2 }) ∷ Ret (call_in 0 3) (Some (call_in 0 2)) ∷ Leave (call_in 0 2) ∷ Exit (call_in 0 2) (record { 0 = 2 }) 39 ∷ ExitEnd (call_in 0 2) (record { 0 = 2 }) ∷ Ret (call_in 0 2) (Some (call_in 0 1)) ∷ Leave (call_in 0 1) ∷ Exit (call_in 0 1) (record { 0 = 2 }) 28 ∷ ExitEnd (call_in 0 1) (record { 0 = 2 }) ∷ Ret (call_in 0 1) None ∷ []
 
 pub job_1000-plays : Plays job_1000 job_1000-items true
-unfolding actors_of repeated start step run played play all_end control_next control_got cpu_next cpu_got insn desk
+unfolding actors_of repeated start step run played play all_end control_next control_got cpu_next cpu_got insn moves desk
 job_1000-plays = (refl, refl)
 
 abbrev pub job_1003 : Job
@@ -39,7 +39,7 @@ abbrev pub job_1003-items : List Item
 job_1003-items = Begin 1 ∷ Return 1 Accepted ∷ Begin 2 ∷ Return 2 NotThere ∷ Begin 3 ∷ Return 3 NotThere ∷ Begin 4 ∷ Return 4 NotThere ∷ Begin 5 ∷ Return 5 Accepted ∷ Enter (call_in 1 1) Normal (record { 0 = 63 }) None ∷ Body (call_in 1 1) (record { 0 = 63 }) Nop ∷ Enter (call_in 1 2) Normal (record { 0 = 64 }) (Some (call_in 1 1)) ∷ Body (call_in 1 2) (record { 0 = 64 }) Nop ∷ Leave (call_in 1 2) ∷ Ret (call_in 1 2) (Some (call_in 1 1)) ∷ Leave (call_in 1 1) ∷ Ret (call_in 1 1) None ∷ Enter (call_in 2 1) Irq (record { 0 = 65 }) None ∷ Body (call_in 2 1) (record { 0 = 65 }) Nop ∷ Enter (call_in 2 2) Irq (record { 0 = 64 }) (Some (call_in 2 1)) ∷ Body (call_in 2 2) (record { 0 = 64 }) Nop ∷ Leave (call_in 2 2) ∷ Begin 6 ∷ Ret (call_in 2 2) (Some (call_in 2 1)) ∷ Return 6 NotThere ∷ Begin 7 ∷ Leave (call_in 2 1) ∷ Ret (call_in 2 1) None ∷ Enter (call_in 0 1) Normal (record { 0 = 64 }) None ∷ Body (call_in 0 1) (record { 0 = 64 }) Nop ∷ Enter (call_in 0 2) Normal (record { 0 = 63 }) (Some (call_in 0 1)) ∷ Back (call_in 0 2) (record { 0 = 0 }) ∷ BackEnd (call_in 0 2) (record { 0 = 0 }) ∷ Body (call_in 0 2) (record { 0 = 63 }) (Own (record { 0 = 0 })) ∷ Leave (call_in 0 2) ∷ Exit (call_in 0 2) (record { 0 = 0 }) 32 ∷ ExitEnd (call_in 0 2) (record { 0 = 0 }) ∷ Ret (call_in 0 2) (Some (call_in 0 1)) ∷ Return 7 Accepted ∷ Leave (call_in 0 1) ∷ Ret (call_in 0 1) None ∷ []
 
 pub job_1003-plays : Plays job_1003 job_1003-items true
-unfolding actors_of repeated start step run played play all_end control_next control_got cpu_next cpu_got insn desk
+unfolding actors_of repeated start step run played play all_end control_next control_got cpu_next cpu_got insn moves desk
 job_1003-plays = (refl, refl)
 
 abbrev pub job_1004 : Job
@@ -49,7 +49,7 @@ abbrev pub job_1004-items : List Item
 job_1004-items = Enter (call_in 0 1) Normal (record { 0 = 3 }) None ∷ Body (call_in 0 1) (record { 0 = 3 }) Nop ∷ Enter (call_in 0 2) Normal (record { 0 = 1 }) (Some (call_in 0 1)) ∷ Body (call_in 0 2) (record { 0 = 1 }) Nop ∷ Leave (call_in 0 2) ∷ Ret (call_in 0 2) (Some (call_in 0 1)) ∷ Begin 1 ∷ Return 1 Accepted ∷ Begin 2 ∷ Return 2 NotThere ∷ Begin 3 ∷ Return 3 Accepted ∷ Begin 4 ∷ Return 4 NotThere ∷ Begin 5 ∷ Enter (call_in 0 3) Normal (record { 0 = 1 }) (Some (call_in 0 1)) ∷ Back (call_in 0 3) (record { 0 = 0 }) ∷ BackEnd (call_in 0 3) (record { 0 = 0 }) ∷ Body (call_in 0 3) (record { 0 = 1 }) (Own (record { 0 = 0 })) ∷ Leave (call_in 0 3) ∷ Ret (call_in 0 3) (Some (call_in 0 1)) ∷ Enter (call_in 0 4) Normal (record { 0 = 1 }) (Some (call_in 0 1)) ∷ Back (call_in 0 4) (record { 0 = 0 }) ∷ BackEnd (call_in 0 4) (record { 0 = 0 }) ∷ Body (call_in 0 4) (record { 0 = 1 }) (Own (record { 0 = 0 })) ∷ Leave (call_in 0 4) ∷ Return 5 Accepted ∷ Ret (call_in 0 4) (Some (call_in 0 1)) ∷ Begin 6 ∷ Return 6 Already ∷ Leave (call_in 0 1) ∷ Ret (call_in 0 1) None ∷ []
 
 pub job_1004-plays : Plays job_1004 job_1004-items true
-unfolding actors_of repeated start step run played play all_end control_next control_got cpu_next cpu_got insn desk
+unfolding actors_of repeated start step run played play all_end control_next control_got cpu_next cpu_got insn moves desk
 job_1004-plays = (refl, refl)
 
 abbrev pub job_1008 : Job
@@ -59,7 +59,7 @@ abbrev pub job_1008-items : List Item
 job_1008-items = Begin 1 ∷ Return 1 Accepted ∷ Enter (call_in 0 1) Normal (record { 0 = 0 }) None ∷ Body (call_in 0 1) (record { 0 = 0 }) Nop ∷ Begin 2 ∷ Return 2 NotThere ∷ Begin 3 ∷ Return 3 NotThere ∷ Enter (call_in 0 2) Normal (record { 0 = 1 }) (Some (call_in 0 1)) ∷ Body (call_in 0 2) (record { 0 = 1 }) Nop ∷ Enter (call_in 0 3) Normal (record { 0 = 1 }) (Some (call_in 0 2)) ∷ Body (call_in 0 3) (record { 0 = 1 }) Nop ∷ Enter (call_in 0 4) Normal (record { 0 = 3 }) (Some (call_in 0 3)) ∷ Body (call_in 0 4) (record { 0 = 3 }) Nop ∷ Enter (call_in 0 5) Normal (record { 0 = 1 }) (Some (call_in 0 4)) ∷ Body (call_in 0 5) (record { 0 = 1 }) Nop ∷ Enter (call_in 0 6) Normal (record { 0 = 3 }) (Some (call_in 0 5)) ∷ Body (call_in 0 6) (record { 0 = 3 }) Nop ∷ Leave (call_in 0 6) ∷ Ret (call_in 0 6) (Some (call_in 0 5)) ∷ Leave (call_in 0 5) ∷ Ret (call_in 0 5) (Some (call_in 0 4)) ∷ Leave (call_in 0 4) ∷ Ret (call_in 0 4) (Some (call_in 0 3)) ∷ Leave (call_in 0 3) ∷ Ret (call_in 0 3) (Some (call_in 0 2)) ∷ Leave (call_in 0 2) ∷ Ret (call_in 0 2) (Some (call_in 0 1)) ∷ Leave (call_in 0 1) ∷ Ret (call_in 0 1) None ∷ []
 
 pub job_1008-plays : Plays job_1008 job_1008-items true
-unfolding actors_of repeated start step run played play all_end control_next control_got cpu_next cpu_got insn desk
+unfolding actors_of repeated start step run played play all_end control_next control_got cpu_next cpu_got insn moves desk
 job_1008-plays = (refl, refl)
 
 abbrev pub job_1011 : Job
@@ -69,7 +69,7 @@ abbrev pub job_1011-items : List Item
 job_1011-items = Begin 1 ∷ Return 1 Accepted ∷ Begin 2 ∷ Return 2 NotThere ∷ Begin 3 ∷ Enter (call_in 1 1) Normal (record { 0 = 0 }) None ∷ Back (call_in 1 1) (record { 0 = 3 }) ∷ BackEnd (call_in 1 1) (record { 0 = 3 }) ∷ Back (call_in 1 1) (record { 0 = 1 }) ∷ Enter (call_in 1 2) Normal (record { 0 = 1 }) (Some (call_in 1 1)) ∷ Refuse (call_in 1 2) (record { 0 = 3 }) Recursion ∷ Refuse (call_in 1 2) (record { 0 = 1 }) Recursion ∷ Body (call_in 1 2) (record { 0 = 1 }) ByList ∷ Leave (call_in 1 2) ∷ Ret (call_in 1 2) (Some (call_in 1 1)) ∷ BackEnd (call_in 1 1) (record { 0 = 1 }) ∷ Body (call_in 1 1) (record { 0 = 0 }) ByList ∷ Enter (call_in 1 3) Normal (record { 0 = 0 }) (Some (call_in 1 1)) ∷ Enter (call_in 0 1) Normal (record { 0 = 1 }) None ∷ Back (call_in 1 3) (record { 0 = 3 }) ∷ BackEnd (call_in 1 3) (record { 0 = 3 }) ∷ Back (call_in 0 1) (record { 0 = 3 }) ∷ BackEnd (call_in 0 1) (record { 0 = 3 }) ∷ Back (call_in 1 3) (record { 0 = 1 }) ∷ Enter (call_in 1 4) Normal (record { 0 = 1 }) (Some (call_in 1 3)) ∷ Back (call_in 0 1) (record { 0 = 1 }) ∷ Enter (call_in 0 2) Normal (record { 0 = 1 }) (Some (call_in 0 1)) ∷ Refuse (call_in 1 4) (record { 0 = 3 }) Recursion ∷ Refuse (call_in 0 2) (record { 0 = 3 }) Recursion ∷ Refuse (call_in 1 4) (record { 0 = 1 }) Recursion ∷ Body (call_in 1 4) (record { 0 = 1 }) ByList ∷ Refuse (call_in 0 2) (record { 0 = 1 }) Recursion ∷ Leave (call_in 1 4) ∷ Ret (call_in 1 4) (Some (call_in 1 3)) ∷ Body (call_in 0 2) (record { 0 = 1 }) ByList ∷ BackEnd (call_in 1 3) (record { 0 = 1 }) ∷ Leave (call_in 0 2) ∷ Ret (call_in 0 2) (Some (call_in 0 1)) ∷ Body (call_in 1 3) (record { 0 = 0 }) ByList ∷ BackEnd (call_in 0 1) (record { 0 = 1 }) ∷ Body (call_in 0 1) (record { 0 = 1 }) ByList ∷ Enter (call_in 1 5) Normal (record { 0 = 2 }) (Some (call_in 1 3)) ∷ Enter (call_in 0 3) Normal (record { 0 = 0 }) (Some (call_in 0 1)) ∷ Back (call_in 1 5) (record { 0 = 3 }) ∷ Miss (call_in 1 5) (record { 0 = 3 }) ∷ BackEnd (call_in 1 5) (record { 0 = 3 }) ∷ Back (call_in 0 3) (record { 0 = 3 }) ∷ BackEnd (call_in 0 3) (record { 0 = 3 }) ∷ Back (call_in 1 5) (record { 0 = 1 }) ∷ Miss (call_in 1 5) (record { 0 = 1 }) ∷ Back (call_in 0 3) (record { 0 = 1 }) ∷ Enter (call_in 1 6) Normal (record { 0 = 1 }) (Some (call_in 1 5)) ∷ Enter (call_in 0 4) Normal (record { 0 = 1 }) (Some (call_in 0 3)) ∷ Refuse (call_in 1 6) (record { 0 = 3 }) Recursion ∷ Refuse (call_in 0 4) (record { 0 = 3 }) Recursion ∷ Refuse (call_in 1 6) (record { 0 = 1 }) Recursion ∷ Refuse (call_in 0 4) (record { 0 = 1 }) Recursion ∷ Body (call_in 1 6) (record { 0 = 1 }) ByList ∷ Body (call_in 0 4) (record { 0 = 1 }) ByList ∷ Leave (call_in 1 6) ∷ Leave (call_in 0 4) ∷ Ret (call_in 1 6) (Some (call_in 1 5)) ∷ Ret (call_in 0 4) (Some (call_in 0 3)) ∷ BackEnd (call_in 1 5) (record { 0 = 1 }) ∷ BackEnd (call_in 0 3) (record { 0 = 1 }) ∷ Body (call_in 1 5) (record { 0 = 2 }) ByList ∷ Body (call_in 0 3) (record { 0 = 0 }) ByList ∷ Leave (call_in 0 3) ∷ Return 3 Accepted ∷ Exit (call_in 0 3) (record { 0 = 1 }) 50 ∷ Enter (call_in 1 7) Normal (record { 0 = 2 }) (Some (call_in 1 5)) ∷ Begin 4 ∷ ExitEnd (call_in 0 3) (record { 0 = 1 }) ∷ Return 4 Accepted ∷ Ret (call_in 0 3) (Some (call_in 0 1)) ∷ Back (call_in 1 7) (record { 0 = 3 }) ∷ Miss (call_in 1 7) (record { 0 = 3 }) ∷ Leave (call_in 0 1) ∷ BackEnd (call_in 1 7) (record { 0 = 3 }) ∷ Exit (call_in 0 1) (record { 0 = 1 }) 25 ∷ ExitEnd (call_in 0 1) (record { 0 = 1 }) ∷ Ret (call_in 0 1) None ∷ Back (call_in 1 7) (record { 0 = 1 }) ∷ Miss (call_in 1 7) (record { 0 = 1 }) ∷ Enter (call_in 1 8) Normal (record { 0 = 1 }) (Some (call_in 1 7)) ∷ Refuse (call_in 1 8) (record { 0 = 3 }) Recursion ∷ Refuse (call_in 1 8) (record { 0 = 1 }) Recursion ∷ Body (call_in 1 8) (record { 0 = 1 }) ByList ∷ Leave (call_in 1 8) ∷ Ret (call_in 1 8) (Some (call_in 1 7)) ∷ BackEnd (call_in 1 7) (record { 0 = 1 }) ∷ Body (call_in 1 7) (record { 0 = 2 }) ByList ∷ Enter (call_in 1 9) Normal (record { 0 = 1 }) (Some (call_in 1 7)) ∷ Back (call_in 1 9) (record { 0 = 3 }) ∷ Miss (call_in 1 9) (record { 0 = 3 }) ∷ BackEnd (call_in 1 9) (record { 0 = 3 }) ∷ Back (call_in 1 9) (record { 0 = 1 }) ∷ Miss (call_in 1 9) (record { 0 = 1 }) ∷ Enter (call_in 1 10) Normal (record { 0 = 1 }) (Some (call_in 1 9)) ∷ Refuse (call_in 1 10) (record { 0 = 3 }) Recursion ∷ Refuse (call_in 1 10) (record { 0 = 1 }) Recursion ∷ Body (call_in 1 10) (record { 0 = 1 }) ByList ∷ Leave (call_in 1 10) ∷ Ret (call_in 1 10) (Some (call_in 1 9)) ∷ BackEnd (call_in 1 9) (record { 0 = 1 }) ∷ Body (call_in 1 9) (record { 0 = 1 }) ByList ∷ Leave (call_in 1 9) ∷ Ret (call_in 1 9) (Some (call_in 1 7)) ∷ Leave (call_in 1 7) ∷ Ret (call_in 1 7) (Some (call_in 1 5)) ∷ Leave (call_in 1 5) ∷ Ret (call_in 1 5) (Some (call_in 1 3)) ∷ Leave (call_in 1 3) ∷ Exit (call_in 1 3) (record { 0 = 1 }) 23 ∷ ExitEnd (call_in 1 3) (record { 0 = 1 }) ∷ Ret (call_in 1 3) (Some (call_in 1 1)) ∷ Leave (call_in 1 1) ∷ Exit (call_in 1 1) (record { 0 = 1 }) 8 ∷ ExitEnd (call_in 1 1) (record { 0 = 1 }) ∷ Ret (call_in 1 1) None ∷ []
 
 pub job_1011-plays : Plays job_1011 job_1011-items true
-unfolding actors_of repeated start step run played play all_end control_next control_got cpu_next cpu_got insn desk
+unfolding actors_of repeated start step run played play all_end control_next control_got cpu_next cpu_got insn moves desk
 job_1011-plays = (refl, refl)
 
 abbrev pub job_1012 : Job
@@ -79,7 +79,7 @@ abbrev pub job_1012-items : List Item
 job_1012-items = Enter (call_in 0 1) Normal (record { 0 = 1 }) None ∷ Body (call_in 0 1) (record { 0 = 1 }) Nop ∷ Begin 1 ∷ Return 1 Accepted ∷ Begin 2 ∷ Return 2 Accepted ∷ Begin 3 ∷ Return 3 Already ∷ Begin 4 ∷ Return 4 Invalid ∷ Begin 5 ∷ Return 5 Accepted ∷ Leave (call_in 0 1) ∷ Ret (call_in 0 1) None ∷ []
 
 pub job_1012-plays : Plays job_1012 job_1012-items true
-unfolding actors_of repeated start step run played play all_end control_next control_got cpu_next cpu_got insn desk
+unfolding actors_of repeated start step run played play all_end control_next control_got cpu_next cpu_got insn moves desk
 job_1012-plays = (refl, refl)
 
 abbrev pub job_1013 : Job
@@ -89,7 +89,7 @@ abbrev pub job_1013-items : List Item
 job_1013-items = Begin 1 ∷ Return 1 NotThere ∷ Begin 2 ∷ Enter (call_in 0 1) Nmi (record { 0 = 2 }) None ∷ Back (call_in 0 1) (record { 0 = 1 }) ∷ BackEnd (call_in 0 1) (record { 0 = 1 }) ∷ Body (call_in 0 1) (record { 0 = 2 }) (Own (record { 0 = 1 })) ∷ Enter (call_in 0 2) Nmi (record { 0 = 1 }) (Some (call_in 0 1)) ∷ Refuse (call_in 0 2) (record { 0 = 1 }) Depth ∷ Body (call_in 0 2) (record { 0 = 1 }) (Own (record { 0 = 1 })) ∷ Leave (call_in 0 2) ∷ Ret (call_in 0 2) (Some (call_in 0 1)) ∷ Leave (call_in 0 1) ∷ Exit (call_in 0 1) (record { 0 = 1 }) 4 ∷ ExitEnd (call_in 0 1) (record { 0 = 1 }) ∷ Ret (call_in 0 1) None ∷ Return 2 Accepted ∷ Enter (call_in 0 3) Normal (record { 0 = 2 }) None ∷ Back (call_in 0 3) (record { 0 = 1 }) ∷ BackEnd (call_in 0 3) (record { 0 = 1 }) ∷ Body (call_in 0 3) (record { 0 = 2 }) (Own (record { 0 = 1 })) ∷ Leave (call_in 0 3) ∷ Exit (call_in 0 3) (record { 0 = 1 }) 18 ∷ ExitEnd (call_in 0 3) (record { 0 = 1 }) ∷ Ret (call_in 0 3) None ∷ Enter (call_in 0 4) Normal (record { 0 = 0 }) None ∷ Begin 3 ∷ Return 3 Already ∷ Begin 4 ∷ Return 4 Already ∷ Begin 5 ∷ Back (call_in 0 4) (record { 0 = 1 }) ∷ BackEnd (call_in 0 4) (record { 0 = 1 }) ∷ Body (call_in 0 4) (record { 0 = 0 }) (Own (record { 0 = 1 })) ∷ Enter (call_in 0 5) Normal (record { 0 = 2 }) (Some (call_in 0 4)) ∷ Refuse (call_in 0 5) (record { 0 = 1 }) Depth ∷ Body (call_in 0 5) (record { 0 = 2 }) (Own (record { 0 = 1 })) ∷ Leave (call_in 0 5) ∷ Ret (call_in 0 5) (Some (call_in 0 4)) ∷ Leave (call_in 0 4) ∷ Exit (call_in 0 4) (record { 0 = 1 }) 31 ∷ ExitEnd (call_in 0 4) (record { 0 = 1 }) ∷ Ret (call_in 0 4) None ∷ Return 5 Accepted ∷ Begin 6 ∷ Return 6 Accepted ∷ Begin 7 ∷ Return 7 Already ∷ []
 
 pub job_1013-plays : Plays job_1013 job_1013-items true
-unfolding actors_of repeated start step run played play all_end control_next control_got cpu_next cpu_got insn desk
+unfolding actors_of repeated start step run played play all_end control_next control_got cpu_next cpu_got insn moves desk
 job_1013-plays = (refl, refl)
 
 abbrev pub job_1014 : Job
@@ -99,7 +99,7 @@ abbrev pub job_1014-items : List Item
 job_1014-items = Enter (call_in 0 1) Normal (record { 0 = 0 }) None ∷ Body (call_in 0 1) (record { 0 = 0 }) Nop ∷ Enter (call_in 0 2) Normal (record { 0 = 0 }) (Some (call_in 0 1)) ∷ Body (call_in 0 2) (record { 0 = 0 }) Nop ∷ Leave (call_in 0 2) ∷ Ret (call_in 0 2) (Some (call_in 0 1)) ∷ Leave (call_in 0 1) ∷ Ret (call_in 0 1) None ∷ Enter (call_in 2 1) Normal (record { 0 = 0 }) None ∷ Body (call_in 2 1) (record { 0 = 0 }) Nop ∷ Enter (call_in 2 2) Normal (record { 0 = 0 }) (Some (call_in 2 1)) ∷ Body (call_in 2 2) (record { 0 = 0 }) Nop ∷ Enter (call_in 2 3) Normal (record { 0 = 0 }) (Some (call_in 2 2)) ∷ Body (call_in 2 3) (record { 0 = 0 }) Nop ∷ Enter (call_in 2 4) Normal (record { 0 = 0 }) (Some (call_in 2 3)) ∷ Body (call_in 2 4) (record { 0 = 0 }) Nop ∷ Enter (call_in 2 5) Normal (record { 0 = 0 }) (Some (call_in 2 4)) ∷ Body (call_in 2 5) (record { 0 = 0 }) Nop ∷ Leave (call_in 2 5) ∷ Ret (call_in 2 5) (Some (call_in 2 4)) ∷ Leave (call_in 2 4) ∷ Ret (call_in 2 4) (Some (call_in 2 3)) ∷ Leave (call_in 2 3) ∷ Ret (call_in 2 3) (Some (call_in 2 2)) ∷ Leave (call_in 2 2) ∷ Ret (call_in 2 2) (Some (call_in 2 1)) ∷ Leave (call_in 2 1) ∷ Begin 1 ∷ Ret (call_in 2 1) None ∷ Return 1 Accepted ∷ Begin 2 ∷ Return 2 Accepted ∷ Begin 3 ∷ Return 3 Accepted ∷ Begin 4 ∷ Return 4 NotThere ∷ Begin 5 ∷ Return 5 Invalid ∷ []
 
 pub job_1014-plays : Plays job_1014 job_1014-items true
-unfolding actors_of repeated start step run played play all_end control_next control_got cpu_next cpu_got insn desk
+unfolding actors_of repeated start step run played play all_end control_next control_got cpu_next cpu_got insn moves desk
 job_1014-plays = (refl, refl)
 
 abbrev pub job_1016 : Job
@@ -109,7 +109,7 @@ abbrev pub job_1016-items : List Item
 job_1016-items = Enter (call_in 1 1) Normal (record { 0 = 62 }) None ∷ Body (call_in 1 1) (record { 0 = 62 }) Nop ∷ Leave (call_in 1 1) ∷ Ret (call_in 1 1) None ∷ Begin 1 ∷ Return 1 NotThere ∷ Begin 2 ∷ Return 2 Accepted ∷ Begin 3 ∷ Enter (call_in 0 1) Softirq (record { 0 = 64 }) None ∷ Back (call_in 0 1) (record { 0 = 1 }) ∷ Enter (call_in 0 2) Irq (record { 0 = 63 }) (Some (call_in 0 1)) ∷ Refuse (call_in 0 2) (record { 0 = 1 }) Depth ∷ Body (call_in 0 2) (record { 0 = 63 }) (Own (record { 0 = 1 })) ∷ Leave (call_in 0 2) ∷ Ret (call_in 0 2) (Some (call_in 0 1)) ∷ BackEnd (call_in 0 1) (record { 0 = 1 }) ∷ Body (call_in 0 1) (record { 0 = 64 }) (Own (record { 0 = 1 })) ∷ Enter (call_in 0 3) Softirq (record { 0 = 62 }) (Some (call_in 0 1)) ∷ Refuse (call_in 0 3) (record { 0 = 1 }) Depth ∷ Body (call_in 0 3) (record { 0 = 62 }) (Own (record { 0 = 1 })) ∷ Enter (call_in 0 4) Softirq (record { 0 = 63 }) (Some (call_in 0 3)) ∷ Refuse (call_in 0 4) (record { 0 = 1 }) Depth ∷ Body (call_in 0 4) (record { 0 = 63 }) (Own (record { 0 = 1 })) ∷ Enter (call_in 0 5) Softirq (record { 0 = 63 }) (Some (call_in 0 4)) ∷ Refuse (call_in 0 5) (record { 0 = 1 }) Depth ∷ Body (call_in 0 5) (record { 0 = 63 }) (Own (record { 0 = 1 })) ∷ Enter (call_in 0 6) Softirq (record { 0 = 62 }) (Some (call_in 0 5)) ∷ Refuse (call_in 0 6) (record { 0 = 1 }) Depth ∷ Body (call_in 0 6) (record { 0 = 62 }) (Own (record { 0 = 1 })) ∷ Leave (call_in 0 6) ∷ Ret (call_in 0 6) (Some (call_in 0 5)) ∷ Leave (call_in 0 5) ∷ Ret (call_in 0 5) (Some (call_in 0 4)) ∷ Leave (call_in 0 4) ∷ Ret (call_in 0 4) (Some (call_in 0 3)) ∷ Leave (call_in 0 3) ∷ Ret (call_in 0 3) (Some (call_in 0 1)) ∷ Leave (call_in 0 1) ∷ Exit (call_in 0 1) (record { 0 = 1 }) 10 ∷ ExitEnd (call_in 0 1) (record { 0 = 1 }) ∷ Ret (call_in 0 1) None ∷ []
 
 pub job_1016-plays : Plays job_1016 job_1016-items false
-unfolding actors_of repeated start step run played play all_end control_next control_got cpu_next cpu_got insn desk
+unfolding actors_of repeated start step run played play all_end control_next control_got cpu_next cpu_got insn moves desk
 job_1016-plays = (refl, refl)
 
 abbrev pub job_1020 : Job
@@ -119,7 +119,7 @@ abbrev pub job_1020-items : List Item
 job_1020-items = Begin 1 ∷ Return 1 Accepted ∷ Begin 2 ∷ Return 2 Accepted ∷ Enter (call_in 1 1) Normal (record { 0 = 0 }) None ∷ Back (call_in 1 1) (record { 0 = 1 }) ∷ Enter (call_in 1 2) Normal (record { 0 = 0 }) (Some (call_in 1 1)) ∷ Refuse (call_in 1 2) (record { 0 = 1 }) Recursion ∷ Body (call_in 1 2) (record { 0 = 0 }) (Own (record { 0 = 1 })) ∷ Leave (call_in 1 2) ∷ Ret (call_in 1 2) (Some (call_in 1 1)) ∷ BackEnd (call_in 1 1) (record { 0 = 1 }) ∷ Body (call_in 1 1) (record { 0 = 0 }) (Own (record { 0 = 1 })) ∷ Enter (call_in 1 3) Normal (record { 0 = 0 }) (Some (call_in 1 1)) ∷ Back (call_in 1 3) (record { 0 = 1 }) ∷ Enter (call_in 1 4) Normal (record { 0 = 0 }) (Some (call_in 1 3)) ∷ Refuse (call_in 1 4) (record { 0 = 1 }) Recursion ∷ Body (call_in 1 4) (record { 0 = 0 }) (Own (record { 0 = 1 })) ∷ Leave (call_in 1 4) ∷ Ret (call_in 1 4) (Some (call_in 1 3)) ∷ BackEnd (call_in 1 3) (record { 0 = 1 }) ∷ Body (call_in 1 3) (record { 0 = 0 }) (Own (record { 0 = 1 })) ∷ Leave (call_in 1 3) ∷ Ret (call_in 1 3) (Some (call_in 1 1)) ∷ Enter (call_in 1 5) Normal (record { 0 = 0 }) (Some (call_in 1 1)) ∷ Back (call_in 1 5) (record { 0 = 1 }) ∷ Enter (call_in 1 6) Normal (record { 0 = 0 }) (Some (call_in 1 5)) ∷ Refuse (call_in 1 6) (record { 0 = 1 }) Recursion ∷ Body (call_in 1 6) (record { 0 = 0 }) (Own (record { 0 = 1 })) ∷ Leave (call_in 1 6) ∷ Ret (call_in 1 6) (Some (call_in 1 5)) ∷ BackEnd (call_in 1 5) (record { 0 = 1 }) ∷ Body (call_in 1 5) (record { 0 = 0 }) (Own (record { 0 = 1 })) ∷ Enter (call_in 1 7) Normal (record { 0 = 0 }) (Some (call_in 1 5)) ∷ Back (call_in 1 7) (record { 0 = 1 }) ∷ Enter (call_in 1 8) Normal (record { 0 = 0 }) (Some (call_in 1 7)) ∷ Refuse (call_in 1 8) (record { 0 = 1 }) Recursion ∷ Body (call_in 1 8) (record { 0 = 0 }) (Own (record { 0 = 1 })) ∷ Leave (call_in 1 8) ∷ Ret (call_in 1 8) (Some (call_in 1 7)) ∷ BackEnd (call_in 1 7) (record { 0 = 1 }) ∷ Body (call_in 1 7) (record { 0 = 0 }) (Own (record { 0 = 1 })) ∷ Leave (call_in 1 7) ∷ Ret (call_in 1 7) (Some (call_in 1 5)) ∷ Leave (call_in 1 5) ∷ Ret (call_in 1 5) (Some (call_in 1 1)) ∷ Leave (call_in 1 1) ∷ Ret (call_in 1 1) None ∷ []
 
 pub job_1020-plays : Plays job_1020 job_1020-items true
-unfolding actors_of repeated start step run played play all_end control_next control_got cpu_next cpu_got insn desk
+unfolding actors_of repeated start step run played play all_end control_next control_got cpu_next cpu_got insn moves desk
 job_1020-plays = (refl, refl)
 
 abbrev pub job_1022 : Job
@@ -129,7 +129,7 @@ abbrev pub job_1022-items : List Item
 job_1022-items = Begin 1 ∷ Return 1 Accepted ∷ Enter (call_in 0 1) Normal (record { 0 = 63 }) None ∷ Body (call_in 0 1) (record { 0 = 63 }) Nop ∷ Leave (call_in 0 1) ∷ Ret (call_in 0 1) None ∷ Enter (call_in 0 2) Nmi (record { 0 = 62 }) None ∷ Body (call_in 0 2) (record { 0 = 62 }) Nop ∷ Leave (call_in 0 2) ∷ Ret (call_in 0 2) None ∷ Begin 2 ∷ Return 2 Accepted ∷ []
 
 pub job_1022-plays : Plays job_1022 job_1022-items true
-unfolding actors_of repeated start step run played play all_end control_next control_got cpu_next cpu_got insn desk
+unfolding actors_of repeated start step run played play all_end control_next control_got cpu_next cpu_got insn moves desk
 job_1022-plays = (refl, refl)
 
 abbrev pub job_1023 : Job
@@ -139,7 +139,7 @@ abbrev pub job_1023-items : List Item
 job_1023-items = Begin 1 ∷ Return 1 Accepted ∷ Enter (call_in 1 1) Normal (record { 0 = 3 }) None ∷ Body (call_in 1 1) (record { 0 = 3 }) Nop ∷ Enter (call_in 1 2) Normal (record { 0 = 3 }) (Some (call_in 1 1)) ∷ Body (call_in 1 2) (record { 0 = 3 }) Nop ∷ Enter (call_in 1 3) Normal (record { 0 = 2 }) (Some (call_in 1 2)) ∷ Body (call_in 1 3) (record { 0 = 2 }) Nop ∷ Begin 2 ∷ Enter (call_in 1 4) Nmi (record { 0 = 2 }) (Some (call_in 1 3)) ∷ Body (call_in 1 4) (record { 0 = 2 }) Nop ∷ Return 2 Accepted ∷ Begin 3 ∷ Return 3 NotThere ∷ Begin 4 ∷ Leave (call_in 1 4) ∷ Return 4 Accepted ∷ Ret (call_in 1 4) (Some (call_in 1 3)) ∷ Begin 5 ∷ Return 5 NotThere ∷ Enter (call_in 1 5) Nmi (record { 0 = 0 }) (Some (call_in 1 3)) ∷ Body (call_in 1 5) (record { 0 = 0 }) Nop ∷ Leave (call_in 1 5) ∷ Ret (call_in 1 5) (Some (call_in 1 3)) ∷ Enter (call_in 2 1) Normal (record { 0 = 3 }) None ∷ Body (call_in 2 1) (record { 0 = 3 }) Nop ∷ Enter (call_in 2 2) Normal (record { 0 = 3 }) (Some (call_in 2 1)) ∷ Leave (call_in 1 3) ∷ Ret (call_in 1 3) (Some (call_in 1 2)) ∷ Leave (call_in 1 2) ∷ Ret (call_in 1 2) (Some (call_in 1 1)) ∷ Leave (call_in 1 1) ∷ Ret (call_in 1 1) None ∷ Body (call_in 2 2) (record { 0 = 3 }) Nop ∷ Enter (call_in 2 3) Normal (record { 0 = 2 }) (Some (call_in 2 2)) ∷ Body (call_in 2 3) (record { 0 = 2 }) Nop ∷ Enter (call_in 2 4) Normal (record { 0 = 0 }) (Some (call_in 2 3)) ∷ Body (call_in 2 4) (record { 0 = 0 }) Nop ∷ Leave (call_in 2 4) ∷ Ret (call_in 2 4) (Some (call_in 2 3)) ∷ Enter (call_in 2 5) Normal (record { 0 = 0 }) (Some (call_in 2 3)) ∷ Body (call_in 2 5) (record { 0 = 0 }) Nop ∷ Leave (call_in 2 5) ∷ Ret (call_in 2 5) (Some (call_in 2 3)) ∷ Leave (call_in 2 3) ∷ Ret (call_in 2 3) (Some (call_in 2 2)) ∷ Leave (call_in 2 2) ∷ Ret (call_in 2 2) (Some (call_in 2 1)) ∷ Leave (call_in 2 1) ∷ Ret (call_in 2 1) None ∷ []
 
 pub job_1023-plays : Plays job_1023 job_1023-items true
-unfolding actors_of repeated start step run played play all_end control_next control_got cpu_next cpu_got insn desk
+unfolding actors_of repeated start step run played play all_end control_next control_got cpu_next cpu_got insn moves desk
 job_1023-plays = (refl, refl)
 
 abbrev pub job_1024 : Job
@@ -149,7 +149,7 @@ abbrev pub job_1024-items : List Item
 job_1024-items = Begin 1 ∷ Return 1 NotThere ∷ Begin 2 ∷ Return 2 Accepted ∷ Enter (call_in 1 1) Normal (record { 0 = 0 }) None ∷ Begin 3 ∷ Body (call_in 1 1) (record { 0 = 0 }) Nop ∷ Enter (call_in 1 2) Normal (record { 0 = 0 }) (Some (call_in 1 1)) ∷ Body (call_in 1 2) (record { 0 = 0 }) Nop ∷ Leave (call_in 1 2) ∷ Ret (call_in 1 2) (Some (call_in 1 1)) ∷ Return 3 Accepted ∷ Leave (call_in 1 1) ∷ Ret (call_in 1 1) None ∷ Enter (call_in 0 1) Nmi (record { 0 = 0 }) None ∷ Enter (call_in 1 3) Normal (record { 0 = 0 }) None ∷ Back (call_in 1 3) (record { 0 = 0 }) ∷ Back (call_in 0 1) (record { 0 = 0 }) ∷ BackEnd (call_in 0 1) (record { 0 = 0 }) ∷ Body (call_in 0 1) (record { 0 = 0 }) (Own (record { 0 = 0 })) ∷ Leave (call_in 0 1) ∷ BackEnd (call_in 1 3) (record { 0 = 0 }) ∷ Body (call_in 1 3) (record { 0 = 0 }) (Own (record { 0 = 0 })) ∷ Leave (call_in 1 3) ∷ Exit (call_in 1 3) (record { 0 = 0 }) 16 ∷ Exit (call_in 0 1) (record { 0 = 0 }) 17 ∷ ExitEnd (call_in 0 1) (record { 0 = 0 }) ∷ Ret (call_in 0 1) None ∷ Enter (call_in 0 2) Nmi (record { 0 = 0 }) None ∷ ExitEnd (call_in 1 3) (record { 0 = 0 }) ∷ Ret (call_in 1 3) None ∷ Back (call_in 0 2) (record { 0 = 0 }) ∷ BackEnd (call_in 0 2) (record { 0 = 0 }) ∷ Body (call_in 0 2) (record { 0 = 0 }) (Own (record { 0 = 0 })) ∷ Enter (call_in 0 3) Nmi (record { 0 = 0 }) (Some (call_in 0 2)) ∷ Back (call_in 0 3) (record { 0 = 0 }) ∷ BackEnd (call_in 0 3) (record { 0 = 0 }) ∷ Body (call_in 0 3) (record { 0 = 0 }) (Own (record { 0 = 0 })) ∷ Leave (call_in 0 3) ∷ Exit (call_in 0 3) (record { 0 = 0 }) 35 ∷ ExitEnd (call_in 0 3) (record { 0 = 0 }) ∷ Ret (call_in 0 3) (Some (call_in 0 2)) ∷ Leave (call_in 0 2) ∷ Exit (call_in 0 2) (record { 0 = 0 }) 31 ∷ ExitEnd (call_in 0 2) (record { 0 = 0 }) ∷ Ret (call_in 0 2) None ∷ []
 
 pub job_1024-plays : Plays job_1024 job_1024-items true
-unfolding actors_of repeated start step run played play all_end control_next control_got cpu_next cpu_got insn desk
+unfolding actors_of repeated start step run played play all_end control_next control_got cpu_next cpu_got insn moves desk
 job_1024-plays = (refl, refl)
 
 abbrev pub job_1025 : Job
@@ -159,7 +159,7 @@ abbrev pub job_1025-items : List Item
 job_1025-items = Begin 1 ∷ Return 1 Accepted ∷ Enter (call_in 0 1) Normal (record { 0 = 1 }) None ∷ Begin 2 ∷ Return 2 NotThere ∷ Begin 3 ∷ Body (call_in 0 1) (record { 0 = 1 }) Nop ∷ Leave (call_in 0 1) ∷ Ret (call_in 0 1) None ∷ Return 3 Accepted ∷ Begin 4 ∷ Return 4 NotThere ∷ Begin 5 ∷ Return 5 NotThere ∷ Begin 6 ∷ Return 6 Accepted ∷ []
 
 pub job_1025-plays : Plays job_1025 job_1025-items true
-unfolding actors_of repeated start step run played play all_end control_next control_got cpu_next cpu_got insn desk
+unfolding actors_of repeated start step run played play all_end control_next control_got cpu_next cpu_got insn moves desk
 job_1025-plays = (refl, refl)
 
 abbrev pub job_1026 : Job
@@ -169,7 +169,7 @@ abbrev pub job_1026-items : List Item
 job_1026-items = Enter (call_in 0 1) Normal (record { 0 = 0 }) None ∷ Body (call_in 0 1) (record { 0 = 0 }) Nop ∷ Enter (call_in 0 2) Normal (record { 0 = 0 }) (Some (call_in 0 1)) ∷ Body (call_in 0 2) (record { 0 = 0 }) Nop ∷ Leave (call_in 0 2) ∷ Ret (call_in 0 2) (Some (call_in 0 1)) ∷ Enter (call_in 0 3) Normal (record { 0 = 0 }) (Some (call_in 0 1)) ∷ Body (call_in 0 3) (record { 0 = 0 }) Nop ∷ Enter (call_in 0 4) Normal (record { 0 = 0 }) (Some (call_in 0 3)) ∷ Body (call_in 0 4) (record { 0 = 0 }) Nop ∷ Enter (call_in 0 5) Normal (record { 0 = 0 }) (Some (call_in 0 4)) ∷ Body (call_in 0 5) (record { 0 = 0 }) Nop ∷ Leave (call_in 0 5) ∷ Ret (call_in 0 5) (Some (call_in 0 4)) ∷ Begin 1 ∷ Leave (call_in 0 4) ∷ Ret (call_in 0 4) (Some (call_in 0 3)) ∷ Leave (call_in 0 3) ∷ Ret (call_in 0 3) (Some (call_in 0 1)) ∷ Leave (call_in 0 1) ∷ Ret (call_in 0 1) None ∷ Return 1 Accepted ∷ Begin 2 ∷ Return 2 NotThere ∷ Begin 3 ∷ Return 3 Accepted ∷ Begin 4 ∷ Return 4 Accepted ∷ []
 
 pub job_1026-plays : Plays job_1026 job_1026-items true
-unfolding actors_of repeated start step run played play all_end control_next control_got cpu_next cpu_got insn desk
+unfolding actors_of repeated start step run played play all_end control_next control_got cpu_next cpu_got insn moves desk
 job_1026-plays = (refl, refl)
 
 abbrev pub job_1027 : Job
@@ -179,7 +179,7 @@ abbrev pub job_1027-items : List Item
 job_1027-items = Enter (call_in 0 1) Nmi (record { 0 = 0 }) None ∷ Body (call_in 0 1) (record { 0 = 0 }) Nop ∷ Leave (call_in 0 1) ∷ Ret (call_in 0 1) None ∷ Begin 1 ∷ Return 1 Accepted ∷ Begin 2 ∷ Return 2 NotThere ∷ Begin 3 ∷ Return 3 Accepted ∷ Begin 4 ∷ Return 4 Accepted ∷ Begin 5 ∷ Return 5 Accepted ∷ Begin 6 ∷ Return 6 Accepted ∷ Begin 7 ∷ Return 7 Accepted ∷ []
 
 pub job_1027-plays : Plays job_1027 job_1027-items true
-unfolding actors_of repeated start step run played play all_end control_next control_got cpu_next cpu_got insn desk
+unfolding actors_of repeated start step run played play all_end control_next control_got cpu_next cpu_got insn moves desk
 job_1027-plays = (refl, refl)
 
 abbrev pub job_1028 : Job
@@ -189,7 +189,7 @@ abbrev pub job_1028-items : List Item
 job_1028-items = Enter (call_in 1 1) Normal (record { 0 = 2 }) None ∷ Enter (call_in 2 1) Normal (record { 0 = 0 }) None ∷ Body (call_in 1 1) (record { 0 = 2 }) Nop ∷ Body (call_in 2 1) (record { 0 = 0 }) Nop ∷ Enter (call_in 1 2) Normal (record { 0 = 1 }) (Some (call_in 1 1)) ∷ Enter (call_in 2 2) Normal (record { 0 = 0 }) (Some (call_in 2 1)) ∷ Body (call_in 1 2) (record { 0 = 1 }) Nop ∷ Body (call_in 2 2) (record { 0 = 0 }) Nop ∷ Begin 1 ∷ Return 1 NotThere ∷ Begin 2 ∷ Return 2 Accepted ∷ Begin 3 ∷ Return 3 NotThere ∷ Leave (call_in 1 2) ∷ Enter (call_in 2 3) Normal (record { 0 = 3 }) (Some (call_in 2 2)) ∷ Ret (call_in 1 2) (Some (call_in 1 1)) ∷ Enter (call_in 0 1) Normal (record { 0 = 0 }) None ∷ Body (call_in 2 3) (record { 0 = 3 }) Nop ∷ Leave (call_in 1 1) ∷ Body (call_in 0 1) (record { 0 = 0 }) Nop ∷ Ret (call_in 1 1) None ∷ Leave (call_in 2 3) ∷ Ret (call_in 2 3) (Some (call_in 2 2)) ∷ Enter (call_in 2 4) Normal (record { 0 = 1 }) (Some (call_in 2 2)) ∷ Enter (call_in 0 2) Normal (record { 0 = 2 }) (Some (call_in 0 1)) ∷ Body (call_in 2 4) (record { 0 = 1 }) Nop ∷ Body (call_in 0 2) (record { 0 = 2 }) Nop ∷ Leave (call_in 2 4) ∷ Leave (call_in 0 2) ∷ Ret (call_in 2 4) (Some (call_in 2 2)) ∷ Ret (call_in 0 2) (Some (call_in 0 1)) ∷ Leave (call_in 0 1) ∷ Ret (call_in 0 1) None ∷ Leave (call_in 2 2) ∷ Ret (call_in 2 2) (Some (call_in 2 1)) ∷ Enter (call_in 0 3) Normal (record { 0 = 1 }) None ∷ Leave (call_in 2 1) ∷ Body (call_in 0 3) (record { 0 = 1 }) Nop ∷ Ret (call_in 2 1) None ∷ Leave (call_in 0 3) ∷ Ret (call_in 0 3) None ∷ []
 
 pub job_1028-plays : Plays job_1028 job_1028-items true
-unfolding actors_of repeated start step run played play all_end control_next control_got cpu_next cpu_got insn desk
+unfolding actors_of repeated start step run played play all_end control_next control_got cpu_next cpu_got insn moves desk
 job_1028-plays = (refl, refl)
 
 abbrev pub job_1029 : Job
@@ -199,7 +199,7 @@ abbrev pub job_1029-items : List Item
 job_1029-items = Begin 1 ∷ Enter (call_in 0 1) Normal (record { 0 = 0 }) None ∷ Back (call_in 0 1) (record { 0 = 0 }) ∷ BackEnd (call_in 0 1) (record { 0 = 0 }) ∷ Body (call_in 0 1) (record { 0 = 0 }) (Own (record { 0 = 0 })) ∷ Return 1 Accepted ∷ Begin 2 ∷ Return 2 Accepted ∷ Begin 3 ∷ Return 3 Already ∷ Leave (call_in 0 1) ∷ Exit (call_in 0 1) (record { 0 = 0 }) 2 ∷ ExitEnd (call_in 0 1) (record { 0 = 0 }) ∷ Ret (call_in 0 1) None ∷ []
 
 pub job_1029-plays : Plays job_1029 job_1029-items true
-unfolding actors_of repeated start step run played play all_end control_next control_got cpu_next cpu_got insn desk
+unfolding actors_of repeated start step run played play all_end control_next control_got cpu_next cpu_got insn moves desk
 job_1029-plays = (refl, refl)
 
 abbrev pub job_1030 : Job
@@ -209,7 +209,7 @@ abbrev pub job_1030-items : List Item
 job_1030-items = Begin 1 ∷ Enter (call_in 0 1) Normal (record { 0 = 0 }) None ∷ Back (call_in 0 1) (record { 0 = 1 }) ∷ Enter (call_in 0 2) Irq (record { 0 = 0 }) (Some (call_in 0 1)) ∷ Back (call_in 0 2) (record { 0 = 1 }) ∷ BackEnd (call_in 0 2) (record { 0 = 1 }) ∷ Body (call_in 0 2) (record { 0 = 0 }) (Own (record { 0 = 1 })) ∷ Leave (call_in 0 2) ∷ Ret (call_in 0 2) (Some (call_in 0 1)) ∷ BackEnd (call_in 0 1) (record { 0 = 1 }) ∷ Body (call_in 0 1) (record { 0 = 0 }) (Own (record { 0 = 1 })) ∷ Enter (call_in 0 3) Normal (record { 0 = 0 }) (Some (call_in 0 1)) ∷ Back (call_in 0 3) (record { 0 = 1 }) ∷ Enter (call_in 0 4) Irq (record { 0 = 0 }) (Some (call_in 0 3)) ∷ Back (call_in 0 4) (record { 0 = 1 }) ∷ BackEnd (call_in 0 4) (record { 0 = 1 }) ∷ Body (call_in 0 4) (record { 0 = 0 }) (Own (record { 0 = 1 })) ∷ Leave (call_in 0 4) ∷ Ret (call_in 0 4) (Some (call_in 0 3)) ∷ BackEnd (call_in 0 3) (record { 0 = 1 }) ∷ Body (call_in 0 3) (record { 0 = 0 }) (Own (record { 0 = 1 })) ∷ Leave (call_in 0 3) ∷ Ret (call_in 0 3) (Some (call_in 0 1)) ∷ Return 1 Accepted ∷ Enter (call_in 0 5) Normal (record { 0 = 0 }) (Some (call_in 0 1)) ∷ Begin 2 ∷ Return 2 NotThere ∷ Begin 3 ∷ Return 3 Invalid ∷ Begin 4 ∷ Return 4 Already ∷ Back (call_in 0 5) (record { 0 = 1 }) ∷ Begin 5 ∷ Enter (call_in 0 6) Irq (record { 0 = 0 }) (Some (call_in 0 5)) ∷ Enter (call_in 1 1) Normal (record { 0 = 0 }) None ∷ Back (call_in 0 6) (record { 0 = 1 }) ∷ Back (call_in 1 1) (record { 0 = 1 }) ∷ BackEnd (call_in 0 6) (record { 0 = 1 }) ∷ Enter (call_in 1 2) Irq (record { 0 = 0 }) (Some (call_in 1 1)) ∷ Body (call_in 0 6) (record { 0 = 0 }) (Own (record { 0 = 1 })) ∷ Leave (call_in 0 6) ∷ Ret (call_in 0 6) (Some (call_in 0 5)) ∷ BackEnd (call_in 0 5) (record { 0 = 1 }) ∷ Body (call_in 0 5) (record { 0 = 0 }) (Own (record { 0 = 1 })) ∷ Back (call_in 1 2) (record { 0 = 0 }) ∷ Enter (call_in 0 7) Normal (record { 0 = 0 }) (Some (call_in 0 5)) ∷ BackEnd (call_in 1 2) (record { 0 = 0 }) ∷ Back (call_in 1 2) (record { 0 = 1 }) ∷ BackEnd (call_in 1 2) (record { 0 = 1 }) ∷ Back (call_in 0 7) (record { 0 = 0 }) ∷ Body (call_in 1 2) (record { 0 = 0 }) ByList ∷ BackEnd (call_in 0 7) (record { 0 = 0 }) ∷ Leave (call_in 1 2) ∷ Exit (call_in 1 2) (record { 0 = 0 }) 44 ∷ ExitEnd (call_in 1 2) (record { 0 = 0 }) ∷ Ret (call_in 1 2) (Some (call_in 1 1)) ∷ Back (call_in 0 7) (record { 0 = 1 }) ∷ BackEnd (call_in 1 1) (record { 0 = 1 }) ∷ Enter (call_in 0 8) Irq (record { 0 = 0 }) (Some (call_in 0 7)) ∷ Body (call_in 1 1) (record { 0 = 0 }) (Own (record { 0 = 1 })) ∷ Enter (call_in 1 3) Normal (record { 0 = 0 }) (Some (call_in 1 1)) ∷ Back (call_in 0 8) (record { 0 = 0 }) ∷ BackEnd (call_in 0 8) (record { 0 = 0 }) ∷ Back (call_in 1 3) (record { 0 = 0 }) ∷ BackEnd (call_in 1 3) (record { 0 = 0 }) ∷ Back (call_in 0 8) (record { 0 = 1 }) ∷ BackEnd (call_in 0 8) (record { 0 = 1 }) ∷ Body (call_in 0 8) (record { 0 = 0 }) ByList ∷ Leave (call_in 0 8) ∷ Back (call_in 1 3) (record { 0 = 1 }) ∷ Enter (call_in 1 4) Irq (record { 0 = 0 }) (Some (call_in 1 3)) ∷ Exit (call_in 0 8) (record { 0 = 0 }) 61 ∷ ExitEnd (call_in 0 8) (record { 0 = 0 }) ∷ Ret (call_in 0 8) (Some (call_in 0 7)) ∷ BackEnd (call_in 0 7) (record { 0 = 1 }) ∷ Body (call_in 0 7) (record { 0 = 0 }) ByList ∷ Back (call_in 1 4) (record { 0 = 0 }) ∷ BackEnd (call_in 1 4) (record { 0 = 0 }) ∷ Leave (call_in 0 7) ∷ Exit (call_in 0 7) (record { 0 = 0 }) 49 ∷ ExitEnd (call_in 0 7) (record { 0 = 0 }) ∷ Ret (call_in 0 7) (Some (call_in 0 5)) ∷ Back (call_in 1 4) (record { 0 = 1 }) ∷ BackEnd (call_in 1 4) (record { 0 = 1 }) ∷ Leave (call_in 0 5) ∷ Body (call_in 1 4) (record { 0 = 0 }) ByList ∷ Ret (call_in 0 5) (Some (call_in 0 1)) ∷ Leave (call_in 1 4) ∷ Exit (call_in 1 4) (record { 0 = 0 }) 76 ∷ Leave (call_in 0 1) ∷ ExitEnd (call_in 1 4) (record { 0 = 0 }) ∷ Ret (call_in 0 1) None ∷ Ret (call_in 1 4) (Some (call_in 1 3)) ∷ BackEnd (call_in 1 3) (record { 0 = 1 }) ∷ Body (call_in 1 3) (record { 0 = 0 }) ByList ∷ Enter (call_in 1 5) Normal (record { 0 = 0 }) (Some (call_in 1 3)) ∷ Back (call_in 1 5) (record { 0 = 0 }) ∷ BackEnd (call_in 1 5) (record { 0 = 0 }) ∷ Back (call_in 1 5) (record { 0 = 1 }) ∷ Enter (call_in 1 6) Irq (record { 0 = 0 }) (Some (call_in 1 5)) ∷ Refuse (call_in 1 6) (record { 0 = 0 }) Depth ∷ Back (call_in 1 6) (record { 0 = 1 }) ∷ BackEnd (call_in 1 6) (record { 0 = 1 }) ∷ Body (call_in 1 6) (record { 0 = 0 }) ByList ∷ Leave (call_in 1 6) ∷ Ret (call_in 1 6) (Some (call_in 1 5)) ∷ BackEnd (call_in 1 5) (record { 0 = 1 }) ∷ Body (call_in 1 5) (record { 0 = 0 }) ByList ∷ Leave (call_in 1 5) ∷ Return 5 Accepted ∷ Begin 6 ∷ Exit (call_in 1 5) (record { 0 = 0 }) 96 ∷ ExitEnd (call_in 1 5) (record { 0 = 0 }) ∷ Ret (call_in 1 5) (Some (call_in 1 3)) ∷ Leave (call_in 1 3) ∷ Exit (call_in 1 3) (record { 0 = 0 }) 63 ∷ ExitEnd (call_in 1 3) (record { 0 = 0 }) ∷ Ret (call_in 1 3) (Some (call_in 1 1)) ∷ Leave (call_in 1 1) ∷ Ret (call_in 1 1) None ∷ Return 6 Accepted ∷ Begin 7 ∷ Return 7 Already ∷ []
 
 pub job_1030-plays : Plays job_1030 job_1030-items true
-unfolding actors_of repeated start step run played play all_end control_next control_got cpu_next cpu_got insn desk
+unfolding actors_of repeated start step run played play all_end control_next control_got cpu_next cpu_got insn moves desk
 job_1030-plays = (refl, refl)
 
 abbrev pub job_1031 : Job
@@ -219,7 +219,7 @@ abbrev pub job_1031-items : List Item
 job_1031-items = Enter (call_in 0 1) Normal (record { 0 = 0 }) None ∷ Body (call_in 0 1) (record { 0 = 0 }) Nop ∷ Leave (call_in 0 1) ∷ Ret (call_in 0 1) None ∷ Begin 1 ∷ Return 1 Accepted ∷ Begin 2 ∷ Return 2 Accepted ∷ Begin 3 ∷ Return 3 Accepted ∷ Begin 4 ∷ Return 4 NotThere ∷ Begin 5 ∷ Return 5 Accepted ∷ []
 
 pub job_1031-plays : Plays job_1031 job_1031-items true
-unfolding actors_of repeated start step run played play all_end control_next control_got cpu_next cpu_got insn desk
+unfolding actors_of repeated start step run played play all_end control_next control_got cpu_next cpu_got insn moves desk
 job_1031-plays = (refl, refl)
 
 abbrev pub job_1032 : Job
@@ -229,7 +229,7 @@ abbrev pub job_1032-items : List Item
 job_1032-items = Begin 1 ∷ Return 1 Accepted ∷ Begin 2 ∷ Return 2 Accepted ∷ Enter (call_in 0 1) Normal (record { 0 = 2 }) None ∷ Enter (call_in 1 1) Normal (record { 0 = 3 }) None ∷ Back (call_in 0 1) (record { 0 = 1 }) ∷ Back (call_in 1 1) (record { 0 = 1 }) ∷ BackEnd (call_in 0 1) (record { 0 = 1 }) ∷ BackEnd (call_in 1 1) (record { 0 = 1 }) ∷ Body (call_in 0 1) (record { 0 = 2 }) (Own (record { 0 = 1 })) ∷ Body (call_in 1 1) (record { 0 = 3 }) (Own (record { 0 = 1 })) ∷ Leave (call_in 0 1) ∷ Enter (call_in 1 2) Normal (record { 0 = 2 }) (Some (call_in 1 1)) ∷ Ret (call_in 0 1) None ∷ Back (call_in 1 2) (record { 0 = 1 }) ∷ BackEnd (call_in 1 2) (record { 0 = 1 }) ∷ Body (call_in 1 2) (record { 0 = 2 }) (Own (record { 0 = 1 })) ∷ Enter (call_in 1 3) Normal (record { 0 = 0 }) (Some (call_in 1 2)) ∷ Back (call_in 1 3) (record { 0 = 1 }) ∷ BackEnd (call_in 1 3) (record { 0 = 1 }) ∷ Body (call_in 1 3) (record { 0 = 0 }) (Own (record { 0 = 1 })) ∷ Leave (call_in 1 3) ∷ Ret (call_in 1 3) (Some (call_in 1 2)) ∷ Leave (call_in 1 2) ∷ Ret (call_in 1 2) (Some (call_in 1 1)) ∷ Leave (call_in 1 1) ∷ Ret (call_in 1 1) None ∷ []
 
 pub job_1032-plays : Plays job_1032 job_1032-items true
-unfolding actors_of repeated start step run played play all_end control_next control_got cpu_next cpu_got insn desk
+unfolding actors_of repeated start step run played play all_end control_next control_got cpu_next cpu_got insn moves desk
 job_1032-plays = (refl, refl)
 
 abbrev pub job_1035 : Job
@@ -239,7 +239,7 @@ abbrev pub job_1035-items : List Item
 job_1035-items = Enter (call_in 0 1) Nmi (record { 0 = 1 }) None ∷ Begin 1 ∷ Body (call_in 0 1) (record { 0 = 1 }) Nop ∷ Enter (call_in 0 2) Nmi (record { 0 = 0 }) (Some (call_in 0 1)) ∷ Body (call_in 0 2) (record { 0 = 0 }) Nop ∷ Return 1 Accepted ∷ Enter (call_in 1 1) Normal (record { 0 = 2 }) None ∷ Begin 2 ∷ Return 2 NotThere ∷ Begin 3 ∷ Body (call_in 1 1) (record { 0 = 2 }) Nop ∷ Return 3 NotThere ∷ Begin 4 ∷ Enter (call_in 1 2) Normal (record { 0 = 0 }) (Some (call_in 1 1)) ∷ Body (call_in 1 2) (record { 0 = 0 }) Nop ∷ Return 4 Accepted ∷ Leave (call_in 0 2) ∷ Ret (call_in 0 2) (Some (call_in 0 1)) ∷ Leave (call_in 0 1) ∷ Ret (call_in 0 1) None ∷ Enter (call_in 1 3) Normal (record { 0 = 2 }) (Some (call_in 1 2)) ∷ Body (call_in 1 3) (record { 0 = 2 }) Nop ∷ Enter (call_in 1 4) Normal (record { 0 = 3 }) (Some (call_in 1 3)) ∷ Begin 5 ∷ Return 5 NotThere ∷ Body (call_in 1 4) (record { 0 = 3 }) Nop ∷ Enter (call_in 1 5) Normal (record { 0 = 3 }) (Some (call_in 1 4)) ∷ Body (call_in 1 5) (record { 0 = 3 }) Nop ∷ Enter (call_in 1 6) Normal (record { 0 = 1 }) (Some (call_in 1 5)) ∷ Body (call_in 1 6) (record { 0 = 1 }) Nop ∷ Leave (call_in 1 6) ∷ Ret (call_in 1 6) (Some (call_in 1 5)) ∷ Leave (call_in 1 5) ∷ Ret (call_in 1 5) (Some (call_in 1 4)) ∷ Leave (call_in 1 4) ∷ Ret (call_in 1 4) (Some (call_in 1 3)) ∷ Leave (call_in 1 3) ∷ Ret (call_in 1 3) (Some (call_in 1 2)) ∷ Leave (call_in 1 2) ∷ Ret (call_in 1 2) (Some (call_in 1 1)) ∷ Leave (call_in 1 1) ∷ Ret (call_in 1 1) None ∷ []
 
 pub job_1035-plays : Plays job_1035 job_1035-items true
-unfolding actors_of repeated start step run played play all_end control_next control_got cpu_next cpu_got insn desk
+unfolding actors_of repeated start step run played play all_end control_next control_got cpu_next cpu_got insn moves desk
 job_1035-plays = (refl, refl)
 
 abbrev pub job_1036 : Job
@@ -249,7 +249,7 @@ abbrev pub job_1036-items : List Item
 job_1036-items = Begin 1 ∷ Return 1 Accepted ∷ Enter (call_in 0 1) Normal (record { 0 = 64 }) None ∷ Back (call_in 0 1) (record { 0 = 1 }) ∷ Enter (call_in 0 2) Normal (record { 0 = 63 }) (Some (call_in 0 1)) ∷ Refuse (call_in 0 2) (record { 0 = 1 }) Recursion ∷ Body (call_in 0 2) (record { 0 = 63 }) (Own (record { 0 = 1 })) ∷ Leave (call_in 0 2) ∷ Ret (call_in 0 2) (Some (call_in 0 1)) ∷ BackEnd (call_in 0 1) (record { 0 = 1 }) ∷ Body (call_in 0 1) (record { 0 = 64 }) (Own (record { 0 = 1 })) ∷ []
 
 pub job_1036-plays : Plays job_1036 job_1036-items false
-unfolding actors_of repeated start step run played play all_end control_next control_got cpu_next cpu_got insn desk
+unfolding actors_of repeated start step run played play all_end control_next control_got cpu_next cpu_got insn moves desk
 job_1036-plays = (refl, refl)
 
 abbrev pub job_1038 : Job
@@ -259,7 +259,7 @@ abbrev pub job_1038-items : List Item
 job_1038-items = Begin 1 ∷ Enter (call_in 0 1) Normal (record { 0 = 0 }) None ∷ Body (call_in 0 1) (record { 0 = 0 }) Nop ∷ Return 1 Accepted ∷ Begin 2 ∷ Enter (call_in 0 2) Normal (record { 0 = 0 }) (Some (call_in 0 1)) ∷ Back (call_in 0 2) (record { 0 = 0 }) ∷ Enter (call_in 0 3) Normal (record { 0 = 0 }) (Some (call_in 0 2)) ∷ Return 2 Accepted ∷ Begin 3 ∷ Refuse (call_in 0 3) (record { 0 = 0 }) Recursion ∷ Return 3 Already ∷ Begin 4 ∷ Body (call_in 0 3) (record { 0 = 0 }) ByList ∷ Leave (call_in 0 3) ∷ Ret (call_in 0 3) (Some (call_in 0 2)) ∷ BackEnd (call_in 0 2) (record { 0 = 0 }) ∷ Body (call_in 0 2) (record { 0 = 0 }) ByList ∷ Enter (call_in 0 4) Normal (record { 0 = 0 }) (Some (call_in 0 2)) ∷ Body (call_in 0 4) (record { 0 = 0 }) Nop ∷ Leave (call_in 0 4) ∷ Ret (call_in 0 4) (Some (call_in 0 2)) ∷ Return 4 Accepted ∷ Begin 5 ∷ Enter (call_in 0 5) Softirq (record { 0 = 0 }) (Some (call_in 0 2)) ∷ Body (call_in 0 5) (record { 0 = 0 }) Nop ∷ Leave (call_in 0 5) ∷ Return 5 Accepted ∷ Ret (call_in 0 5) (Some (call_in 0 2)) ∷ Begin 6 ∷ Return 6 Invalid ∷ Leave (call_in 0 2) ∷ Exit (call_in 0 2) (record { 0 = 0 }) 6 ∷ ExitEnd (call_in 0 2) (record { 0 = 0 }) ∷ Ret (call_in 0 2) (Some (call_in 0 1)) ∷ Leave (call_in 0 1) ∷ Ret (call_in 0 1) None ∷ []
 
 pub job_1038-plays : Plays job_1038 job_1038-items true
-unfolding actors_of repeated start step run played play all_end control_next control_got cpu_next cpu_got insn desk
+unfolding actors_of repeated start step run played play all_end control_next control_got cpu_next cpu_got insn moves desk
 job_1038-plays = (refl, refl)
 
 abbrev pub job_1040 : Job
@@ -269,7 +269,7 @@ abbrev pub job_1040-items : List Item
 job_1040-items = Enter (call_in 2 1) Nmi (record { 0 = 0 }) None ∷ Body (call_in 2 1) (record { 0 = 0 }) Nop ∷ Leave (call_in 2 1) ∷ Ret (call_in 2 1) None ∷ Begin 1 ∷ Return 1 Accepted ∷ Begin 2 ∷ Return 2 NotThere ∷ Begin 3 ∷ Return 3 Accepted ∷ Begin 4 ∷ Return 4 Accepted ∷ Begin 5 ∷ Return 5 NotThere ∷ Begin 6 ∷ Enter (call_in 1 1) Nmi (record { 0 = 0 }) None ∷ Back (call_in 1 1) (record { 0 = 2 }) ∷ BackEnd (call_in 1 1) (record { 0 = 2 }) ∷ Body (call_in 1 1) (record { 0 = 0 }) ByList ∷ Leave (call_in 1 1) ∷ Ret (call_in 1 1) None ∷ Enter (call_in 1 2) Nmi (record { 0 = 2 }) None ∷ Back (call_in 1 2) (record { 0 = 2 }) ∷ BackEnd (call_in 1 2) (record { 0 = 2 }) ∷ Body (call_in 1 2) (record { 0 = 2 }) ByList ∷ Leave (call_in 1 2) ∷ Ret (call_in 1 2) None ∷ Enter (call_in 1 3) Nmi (record { 0 = 0 }) None ∷ Back (call_in 1 3) (record { 0 = 2 }) ∷ BackEnd (call_in 1 3) (record { 0 = 2 }) ∷ Body (call_in 1 3) (record { 0 = 0 }) ByList ∷ Leave (call_in 1 3) ∷ Ret (call_in 1 3) None ∷ Return 6 Accepted ∷ Begin 7 ∷ Return 7 Invalid ∷ []
 
 pub job_1040-plays : Plays job_1040 job_1040-items true
-unfolding actors_of repeated start step run played play all_end control_next control_got cpu_next cpu_got insn desk
+unfolding actors_of repeated start step run played play all_end control_next control_got cpu_next cpu_got insn moves desk
 job_1040-plays = (refl, refl)
 
 abbrev pub job_1042 : Job
@@ -279,7 +279,7 @@ abbrev pub job_1042-items : List Item
 job_1042-items = Begin 1 ∷ Enter (call_in 2 1) Nmi (record { 0 = 0 }) None ∷ Back (call_in 2 1) (record { 0 = 1 }) ∷ Enter (call_in 2 2) Nmi (record { 0 = 1 }) (Some (call_in 2 1)) ∷ Refuse (call_in 2 2) (record { 0 = 1 }) Recursion ∷ Body (call_in 2 2) (record { 0 = 1 }) (Own (record { 0 = 1 })) ∷ Leave (call_in 2 2) ∷ Ret (call_in 2 2) (Some (call_in 2 1)) ∷ BackEnd (call_in 2 1) (record { 0 = 1 }) ∷ Body (call_in 2 1) (record { 0 = 0 }) (Own (record { 0 = 1 })) ∷ Leave (call_in 2 1) ∷ Exit (call_in 2 1) (record { 0 = 1 }) 2 ∷ ExitEnd (call_in 2 1) (record { 0 = 1 }) ∷ Ret (call_in 2 1) None ∷ Return 1 Accepted ∷ Begin 2 ∷ Return 2 Accepted ∷ Enter (call_in 1 1) Nmi (record { 0 = 0 }) None ∷ Back (call_in 1 1) (record { 0 = 0 }) ∷ BackEnd (call_in 1 1) (record { 0 = 0 }) ∷ Back (call_in 1 1) (record { 0 = 1 }) ∷ Enter (call_in 1 2) Nmi (record { 0 = 1 }) (Some (call_in 1 1)) ∷ Refuse (call_in 1 2) (record { 0 = 0 }) Recursion ∷ Refuse (call_in 1 2) (record { 0 = 1 }) Recursion ∷ Body (call_in 1 2) (record { 0 = 1 }) ByList ∷ Leave (call_in 1 2) ∷ Ret (call_in 1 2) (Some (call_in 1 1)) ∷ BackEnd (call_in 1 1) (record { 0 = 1 }) ∷ Body (call_in 1 1) (record { 0 = 0 }) ByList ∷ Begin 3 ∷ Return 3 NotThere ∷ Enter (call_in 1 3) Nmi (record { 0 = 0 }) (Some (call_in 1 1)) ∷ Begin 4 ∷ Refuse (call_in 1 3) (record { 0 = 0 }) Depth ∷ Back (call_in 1 3) (record { 0 = 1 }) ∷ Miss (call_in 1 3) (record { 0 = 1 }) ∷ Enter (call_in 1 4) Nmi (record { 0 = 1 }) (Some (call_in 1 3)) ∷ Refuse (call_in 1 4) (record { 0 = 0 }) Recursion ∷ Refuse (call_in 1 4) (record { 0 = 1 }) Recursion ∷ Body (call_in 1 4) (record { 0 = 1 }) ByList ∷ Leave (call_in 1 4) ∷ Ret (call_in 1 4) (Some (call_in 1 3)) ∷ BackEnd (call_in 1 3) (record { 0 = 1 }) ∷ Body (call_in 1 3) (record { 0 = 0 }) ByList ∷ Return 4 Accepted ∷ Enter (call_in 1 5) Nmi (record { 0 = 0 }) (Some (call_in 1 3)) ∷ Refuse (call_in 1 5) (record { 0 = 0 }) Depth ∷ Enter (call_in 0 1) Nmi (record { 0 = 0 }) None ∷ Back (call_in 1 5) (record { 0 = 1 }) ∷ Miss (call_in 1 5) (record { 0 = 1 }) ∷ Enter (call_in 1 6) Nmi (record { 0 = 1 }) (Some (call_in 1 5)) ∷ Back (call_in 0 1) (record { 0 = 0 }) ∷ BackEnd (call_in 0 1) (record { 0 = 0 }) ∷ Refuse (call_in 1 6) (record { 0 = 0 }) Recursion ∷ Back (call_in 0 1) (record { 0 = 1 }) ∷ Enter (call_in 0 2) Nmi (record { 0 = 1 }) (Some (call_in 0 1)) ∷ Refuse (call_in 1 6) (record { 0 = 1 }) Recursion ∷ Body (call_in 1 6) (record { 0 = 1 }) ByList ∷ Leave (call_in 1 6) ∷ Ret (call_in 1 6) (Some (call_in 1 5)) ∷ Refuse (call_in 0 2) (record { 0 = 0 }) Recursion ∷ BackEnd (call_in 1 5) (record { 0 = 1 }) ∷ Body (call_in 1 5) (record { 0 = 0 }) ByList ∷ Leave (call_in 1 5) ∷ Refuse (call_in 0 2) (record { 0 = 1 }) Recursion ∷ Ret (call_in 1 5) (Some (call_in 1 3)) ∷ Body (call_in 0 2) (record { 0 = 1 }) ByList ∷ Leave (call_in 0 2) ∷ Ret (call_in 0 2) (Some (call_in 0 1)) ∷ Leave (call_in 1 3) ∷ Ret (call_in 1 3) (Some (call_in 1 1)) ∷ BackEnd (call_in 0 1) (record { 0 = 1 }) ∷ Body (call_in 0 1) (record { 0 = 0 }) ByList ∷ Leave (call_in 1 1) ∷ Exit (call_in 1 1) (record { 0 = 0 }) 18 ∷ Enter (call_in 0 3) Nmi (record { 0 = 0 }) (Some (call_in 0 1)) ∷ ExitEnd (call_in 1 1) (record { 0 = 0 }) ∷ Exit (call_in 1 1) (record { 0 = 1 }) 20 ∷ ExitEnd (call_in 1 1) (record { 0 = 1 }) ∷ Ret (call_in 1 1) None ∷ Refuse (call_in 0 3) (record { 0 = 0 }) Depth ∷ Back (call_in 0 3) (record { 0 = 1 }) ∷ Miss (call_in 0 3) (record { 0 = 1 }) ∷ Enter (call_in 0 4) Nmi (record { 0 = 1 }) (Some (call_in 0 3)) ∷ Refuse (call_in 0 4) (record { 0 = 0 }) Recursion ∷ Refuse (call_in 0 4) (record { 0 = 1 }) Recursion ∷ Body (call_in 0 4) (record { 0 = 1 }) ByList ∷ Leave (call_in 0 4) ∷ Ret (call_in 0 4) (Some (call_in 0 3)) ∷ BackEnd (call_in 0 3) (record { 0 = 1 }) ∷ Body (call_in 0 3) (record { 0 = 0 }) ByList ∷ Enter (call_in 0 5) Nmi (record { 0 = 0 }) (Some (call_in 0 3)) ∷ Refuse (call_in 0 5) (record { 0 = 0 }) Depth ∷ Back (call_in 0 5) (record { 0 = 1 }) ∷ Miss (call_in 0 5) (record { 0 = 1 }) ∷ Enter (call_in 0 6) Nmi (record { 0 = 1 }) (Some (call_in 0 5)) ∷ Refuse (call_in 0 6) (record { 0 = 0 }) Recursion ∷ []
 
 pub job_1042-plays : Plays job_1042 job_1042-items false
-unfolding actors_of repeated start step run played play all_end control_next control_got cpu_next cpu_got insn desk
+unfolding actors_of repeated start step run played play all_end control_next control_got cpu_next cpu_got insn moves desk
 job_1042-plays = (refl, refl)
 
 abbrev pub job_1044 : Job
@@ -289,7 +289,7 @@ abbrev pub job_1044-items : List Item
 job_1044-items = Begin 1 ∷ Return 1 NotThere ∷ Begin 2 ∷ Enter (call_in 1 1) Normal (record { 0 = 62 }) None ∷ Body (call_in 1 1) (record { 0 = 62 }) Nop ∷ Leave (call_in 1 1) ∷ Ret (call_in 1 1) None ∷ Return 2 NotThere ∷ Enter (call_in 0 1) Nmi (record { 0 = 62 }) None ∷ Body (call_in 0 1) (record { 0 = 62 }) Nop ∷ Leave (call_in 0 1) ∷ Ret (call_in 0 1) None ∷ Enter (call_in 2 1) Normal (record { 0 = 63 }) None ∷ Body (call_in 2 1) (record { 0 = 63 }) Nop ∷ Enter (call_in 2 2) Normal (record { 0 = 62 }) (Some (call_in 2 1)) ∷ Body (call_in 2 2) (record { 0 = 62 }) Nop ∷ Leave (call_in 2 2) ∷ Ret (call_in 2 2) (Some (call_in 2 1)) ∷ Enter (call_in 2 3) Softirq (record { 0 = 62 }) (Some (call_in 2 1)) ∷ Body (call_in 2 3) (record { 0 = 62 }) Nop ∷ Enter (call_in 2 4) Softirq (record { 0 = 62 }) (Some (call_in 2 3)) ∷ Body (call_in 2 4) (record { 0 = 62 }) Nop ∷ Leave (call_in 2 4) ∷ Ret (call_in 2 4) (Some (call_in 2 3)) ∷ Enter (call_in 2 5) Irq (record { 0 = 63 }) (Some (call_in 2 3)) ∷ Body (call_in 2 5) (record { 0 = 63 }) Nop ∷ Leave (call_in 2 5) ∷ Ret (call_in 2 5) (Some (call_in 2 3)) ∷ Leave (call_in 2 3) ∷ Ret (call_in 2 3) (Some (call_in 2 1)) ∷ Leave (call_in 2 1) ∷ Ret (call_in 2 1) None ∷ []
 
 pub job_1044-plays : Plays job_1044 job_1044-items true
-unfolding actors_of repeated start step run played play all_end control_next control_got cpu_next cpu_got insn desk
+unfolding actors_of repeated start step run played play all_end control_next control_got cpu_next cpu_got insn moves desk
 job_1044-plays = (refl, refl)
 
 abbrev pub job_1045 : Job
@@ -299,7 +299,7 @@ abbrev pub job_1045-items : List Item
 job_1045-items = Begin 1 ∷ Enter (call_in 0 1) Normal (record { 0 = 0 }) None ∷ Enter (call_in 2 1) Normal (record { 0 = 0 }) None ∷ Body (call_in 2 1) (record { 0 = 0 }) Nop ∷ Body (call_in 0 1) (record { 0 = 0 }) Nop ∷ Leave (call_in 0 1) ∷ Ret (call_in 0 1) None ∷ Leave (call_in 2 1) ∷ Ret (call_in 2 1) None ∷ Enter (call_in 2 2) Irq (record { 0 = 0 }) None ∷ Enter (call_in 0 2) Normal (record { 0 = 0 }) None ∷ Body (call_in 0 2) (record { 0 = 0 }) Nop ∷ Enter (call_in 0 3) Normal (record { 0 = 0 }) (Some (call_in 0 2)) ∷ Return 1 Accepted ∷ Body (call_in 2 2) (record { 0 = 0 }) Nop ∷ Body (call_in 0 3) (record { 0 = 0 }) Nop ∷ Leave (call_in 0 3) ∷ Ret (call_in 0 3) (Some (call_in 0 2)) ∷ Enter (call_in 2 3) Nmi (record { 0 = 0 }) (Some (call_in 2 2)) ∷ Body (call_in 2 3) (record { 0 = 0 }) Nop ∷ Leave (call_in 2 3) ∷ Enter (call_in 0 4) Normal (record { 0 = 0 }) (Some (call_in 0 2)) ∷ Body (call_in 0 4) (record { 0 = 0 }) Nop ∷ Ret (call_in 2 3) (Some (call_in 2 2)) ∷ Leave (call_in 2 2) ∷ Ret (call_in 2 2) None ∷ Leave (call_in 0 4) ∷ Ret (call_in 0 4) (Some (call_in 0 2)) ∷ Leave (call_in 0 2) ∷ Ret (call_in 0 2) None ∷ Begin 2 ∷ Return 2 NotThere ∷ Begin 3 ∷ Return 3 NotThere ∷ Begin 4 ∷ Return 4 Accepted ∷ Begin 5 ∷ Return 5 Already ∷ Begin 6 ∷ Return 6 Already ∷ Enter (call_in 1 1) Irq (record { 0 = 0 }) None ∷ Back (call_in 1 1) (record { 0 = 0 }) ∷ BackEnd (call_in 1 1) (record { 0 = 0 }) ∷ Body (call_in 1 1) (record { 0 = 0 }) (Own (record { 0 = 0 })) ∷ Enter (call_in 1 2) Irq (record { 0 = 0 }) (Some (call_in 1 1)) ∷ Back (call_in 1 2) (record { 0 = 0 }) ∷ BackEnd (call_in 1 2) (record { 0 = 0 }) ∷ Body (call_in 1 2) (record { 0 = 0 }) (Own (record { 0 = 0 })) ∷ Enter (call_in 1 3) Irq (record { 0 = 0 }) (Some (call_in 1 2)) ∷ Back (call_in 1 3) (record { 0 = 0 }) ∷ BackEnd (call_in 1 3) (record { 0 = 0 }) ∷ Body (call_in 1 3) (record { 0 = 0 }) (Own (record { 0 = 0 })) ∷ Leave (call_in 1 3) ∷ Exit (call_in 1 3) (record { 0 = 0 }) 49 ∷ ExitEnd (call_in 1 3) (record { 0 = 0 }) ∷ Ret (call_in 1 3) (Some (call_in 1 2)) ∷ Leave (call_in 1 2) ∷ Exit (call_in 1 2) (record { 0 = 0 }) 45 ∷ ExitEnd (call_in 1 2) (record { 0 = 0 }) ∷ Ret (call_in 1 2) (Some (call_in 1 1)) ∷ Leave (call_in 1 1) ∷ Exit (call_in 1 1) (record { 0 = 0 }) 41 ∷ ExitEnd (call_in 1 1) (record { 0 = 0 }) ∷ Ret (call_in 1 1) None ∷ []
 
 pub job_1045-plays : Plays job_1045 job_1045-items true
-unfolding actors_of repeated start step run played play all_end control_next control_got cpu_next cpu_got insn desk
+unfolding actors_of repeated start step run played play all_end control_next control_got cpu_next cpu_got insn moves desk
 job_1045-plays = (refl, refl)
 
 abbrev pub job_1047 : Job
@@ -309,7 +309,7 @@ abbrev pub job_1047-items : List Item
 job_1047-items = Begin 1 ∷ Return 1 Accepted ∷ Begin 2 ∷ Return 2 Accepted ∷ Begin 3 ∷ Return 3 Accepted ∷ Enter (call_in 0 1) Irq (record { 0 = 0 }) None ∷ Back (call_in 0 1) (record { 0 = 3 }) ∷ Enter (call_in 0 2) Irq (record { 0 = 0 }) (Some (call_in 0 1)) ∷ Refuse (call_in 0 2) (record { 0 = 3 }) Recursion ∷ Refuse (call_in 0 2) (record { 0 = 0 }) Recursion ∷ Body (call_in 0 2) (record { 0 = 0 }) ByList ∷ Leave (call_in 0 2) ∷ Ret (call_in 0 2) (Some (call_in 0 1)) ∷ BackEnd (call_in 0 1) (record { 0 = 3 }) ∷ Back (call_in 0 1) (record { 0 = 0 }) ∷ Enter (call_in 0 3) Irq (record { 0 = 0 }) (Some (call_in 0 1)) ∷ Refuse (call_in 0 3) (record { 0 = 3 }) Recursion ∷ Refuse (call_in 0 3) (record { 0 = 0 }) Recursion ∷ Body (call_in 0 3) (record { 0 = 0 }) ByList ∷ Leave (call_in 0 3) ∷ Ret (call_in 0 3) (Some (call_in 0 1)) ∷ BackEnd (call_in 0 1) (record { 0 = 0 }) ∷ Body (call_in 0 1) (record { 0 = 0 }) ByList ∷ Enter (call_in 0 4) Irq (record { 0 = 0 }) (Some (call_in 0 1)) ∷ Back (call_in 0 4) (record { 0 = 3 }) ∷ Enter (call_in 0 5) Irq (record { 0 = 0 }) (Some (call_in 0 4)) ∷ Refuse (call_in 0 5) (record { 0 = 3 }) Recursion ∷ Refuse (call_in 0 5) (record { 0 = 0 }) Recursion ∷ Body (call_in 0 5) (record { 0 = 0 }) ByList ∷ Leave (call_in 0 5) ∷ Ret (call_in 0 5) (Some (call_in 0 4)) ∷ BackEnd (call_in 0 4) (record { 0 = 3 }) ∷ Back (call_in 0 4) (record { 0 = 0 }) ∷ Enter (call_in 0 6) Irq (record { 0 = 0 }) (Some (call_in 0 4)) ∷ Refuse (call_in 0 6) (record { 0 = 3 }) Recursion ∷ Refuse (call_in 0 6) (record { 0 = 0 }) Recursion ∷ Body (call_in 0 6) (record { 0 = 0 }) ByList ∷ Leave (call_in 0 6) ∷ Ret (call_in 0 6) (Some (call_in 0 4)) ∷ BackEnd (call_in 0 4) (record { 0 = 0 }) ∷ Body (call_in 0 4) (record { 0 = 0 }) ByList ∷ Enter (call_in 0 7) Irq (record { 0 = 0 }) (Some (call_in 0 4)) ∷ Back (call_in 0 7) (record { 0 = 3 }) ∷ Enter (call_in 0 8) Irq (record { 0 = 0 }) (Some (call_in 0 7)) ∷ Refuse (call_in 0 8) (record { 0 = 3 }) Recursion ∷ Refuse (call_in 0 8) (record { 0 = 0 }) Recursion ∷ Body (call_in 0 8) (record { 0 = 0 }) ByList ∷ Leave (call_in 0 8) ∷ Ret (call_in 0 8) (Some (call_in 0 7)) ∷ BackEnd (call_in 0 7) (record { 0 = 3 }) ∷ Back (call_in 0 7) (record { 0 = 0 }) ∷ Enter (call_in 0 9) Irq (record { 0 = 0 }) (Some (call_in 0 7)) ∷ Refuse (call_in 0 9) (record { 0 = 3 }) Recursion ∷ Refuse (call_in 0 9) (record { 0 = 0 }) Recursion ∷ Body (call_in 0 9) (record { 0 = 0 }) ByList ∷ Leave (call_in 0 9) ∷ Ret (call_in 0 9) (Some (call_in 0 7)) ∷ BackEnd (call_in 0 7) (record { 0 = 0 }) ∷ Body (call_in 0 7) (record { 0 = 0 }) ByList ∷ Leave (call_in 0 7) ∷ Exit (call_in 0 7) (record { 0 = 0 }) 51 ∷ ExitEnd (call_in 0 7) (record { 0 = 0 }) ∷ Ret (call_in 0 7) (Some (call_in 0 4)) ∷ Leave (call_in 0 4) ∷ Exit (call_in 0 4) (record { 0 = 0 }) 33 ∷ ExitEnd (call_in 0 4) (record { 0 = 0 }) ∷ Ret (call_in 0 4) (Some (call_in 0 1)) ∷ Leave (call_in 0 1) ∷ Exit (call_in 0 1) (record { 0 = 0 }) 15 ∷ ExitEnd (call_in 0 1) (record { 0 = 0 }) ∷ Ret (call_in 0 1) None ∷ []
 
 pub job_1047-plays : Plays job_1047 job_1047-items true
-unfolding actors_of repeated start step run played play all_end control_next control_got cpu_next cpu_got insn desk
+unfolding actors_of repeated start step run played play all_end control_next control_got cpu_next cpu_got insn moves desk
 job_1047-plays = (refl, refl)
 
 abbrev pub job_1049 : Job
@@ -319,7 +319,7 @@ abbrev pub job_1049-items : List Item
 job_1049-items = Enter (call_in 0 1) Normal (record { 0 = 3 }) None ∷ Body (call_in 0 1) (record { 0 = 3 }) Nop ∷ Leave (call_in 0 1) ∷ Ret (call_in 0 1) None ∷ Begin 1 ∷ Return 1 Accepted ∷ Begin 2 ∷ Return 2 Invalid ∷ Begin 3 ∷ Return 3 Accepted ∷ Enter (call_in 0 2) Normal (record { 0 = 1 }) None ∷ Body (call_in 0 2) (record { 0 = 1 }) Nop ∷ Leave (call_in 0 2) ∷ Ret (call_in 0 2) None ∷ []
 
 pub job_1049-plays : Plays job_1049 job_1049-items true
-unfolding actors_of repeated start step run played play all_end control_next control_got cpu_next cpu_got insn desk
+unfolding actors_of repeated start step run played play all_end control_next control_got cpu_next cpu_got insn moves desk
 job_1049-plays = (refl, refl)
 
 abbrev pub job_1051 : Job
@@ -329,7 +329,7 @@ abbrev pub job_1051-items : List Item
 job_1051-items = Begin 1 ∷ Return 1 NotThere ∷ Begin 2 ∷ Enter (call_in 0 1) Normal (record { 0 = 0 }) None ∷ Enter (call_in 2 1) Nmi (record { 0 = 0 }) None ∷ Back (call_in 2 1) (record { 0 = 0 }) ∷ Back (call_in 0 1) (record { 0 = 0 }) ∷ BackEnd (call_in 0 1) (record { 0 = 0 }) ∷ Body (call_in 0 1) (record { 0 = 0 }) (Own (record { 0 = 0 })) ∷ Return 2 Accepted ∷ Leave (call_in 0 1) ∷ Begin 3 ∷ Return 3 Already ∷ Exit (call_in 0 1) (record { 0 = 0 }) 6 ∷ ExitEnd (call_in 0 1) (record { 0 = 0 }) ∷ Ret (call_in 0 1) None ∷ BackEnd (call_in 2 1) (record { 0 = 0 }) ∷ Body (call_in 2 1) (record { 0 = 0 }) (Own (record { 0 = 0 })) ∷ Leave (call_in 2 1) ∷ Exit (call_in 2 1) (record { 0 = 0 }) 5 ∷ ExitEnd (call_in 2 1) (record { 0 = 0 }) ∷ Ret (call_in 2 1) None ∷ Enter (call_in 0 2) Nmi (record { 0 = 0 }) None ∷ Back (call_in 0 2) (record { 0 = 0 }) ∷ BackEnd (call_in 0 2) (record { 0 = 0 }) ∷ Body (call_in 0 2) (record { 0 = 0 }) (Own (record { 0 = 0 })) ∷ Leave (call_in 0 2) ∷ Exit (call_in 0 2) (record { 0 = 0 }) 23 ∷ ExitEnd (call_in 0 2) (record { 0 = 0 }) ∷ Ret (call_in 0 2) None ∷ []
 
 pub job_1051-plays : Plays job_1051 job_1051-items true
-unfolding actors_of repeated start step run played play all_end control_next control_got cpu_next cpu_got insn desk
+unfolding actors_of repeated start step run played play all_end control_next control_got cpu_next cpu_got insn moves desk
 job_1051-plays = (refl, refl)
 
 abbrev pub job_1052 : Job
@@ -339,7 +339,7 @@ abbrev pub job_1052-items : List Item
 job_1052-items = Begin 1 ∷ Return 1 Invalid ∷ Begin 2 ∷ Return 2 NotThere ∷ Begin 3 ∷ Return 3 NotThere ∷ Begin 4 ∷ Enter (call_in 0 1) Normal (record { 0 = 1 }) None ∷ Return 4 Invalid ∷ Enter (call_in 1 1) Normal (record { 0 = 1 }) None ∷ Body (call_in 0 1) (record { 0 = 1 }) Nop ∷ Body (call_in 1 1) (record { 0 = 1 }) Nop ∷ Leave (call_in 1 1) ∷ Enter (call_in 0 2) Softirq (record { 0 = 1 }) (Some (call_in 0 1)) ∷ Ret (call_in 1 1) None ∷ Body (call_in 0 2) (record { 0 = 1 }) Nop ∷ Enter (call_in 1 2) Normal (record { 0 = 1 }) None ∷ Leave (call_in 0 2) ∷ Body (call_in 1 2) (record { 0 = 1 }) Nop ∷ Ret (call_in 0 2) (Some (call_in 0 1)) ∷ Enter (call_in 1 3) Normal (record { 0 = 1 }) (Some (call_in 1 2)) ∷ Enter (call_in 0 3) Normal (record { 0 = 1 }) (Some (call_in 0 1)) ∷ Body (call_in 1 3) (record { 0 = 1 }) Nop ∷ Body (call_in 0 3) (record { 0 = 1 }) Nop ∷ Leave (call_in 1 3) ∷ Ret (call_in 1 3) (Some (call_in 1 2)) ∷ Leave (call_in 0 3) ∷ Ret (call_in 0 3) (Some (call_in 0 1)) ∷ Leave (call_in 1 2) ∷ Ret (call_in 1 2) None ∷ Leave (call_in 0 1) ∷ Ret (call_in 0 1) None ∷ []
 
 pub job_1052-plays : Plays job_1052 job_1052-items true
-unfolding actors_of repeated start step run played play all_end control_next control_got cpu_next cpu_got insn desk
+unfolding actors_of repeated start step run played play all_end control_next control_got cpu_next cpu_got insn moves desk
 job_1052-plays = (refl, refl)
 
 abbrev pub job_1053 : Job
@@ -349,7 +349,7 @@ abbrev pub job_1053-items : List Item
 job_1053-items = Begin 1 ∷ Return 1 NotThere ∷ Begin 2 ∷ Return 2 Accepted ∷ Begin 3 ∷ Return 3 Accepted ∷ Enter (call_in 0 1) Nmi (record { 0 = 1 }) None ∷ Back (call_in 0 1) (record { 0 = 1 }) ∷ BackEnd (call_in 0 1) (record { 0 = 1 }) ∷ Body (call_in 0 1) (record { 0 = 1 }) (Own (record { 0 = 1 })) ∷ Leave (call_in 0 1) ∷ Ret (call_in 0 1) None ∷ []
 
 pub job_1053-plays : Plays job_1053 job_1053-items true
-unfolding actors_of repeated start step run played play all_end control_next control_got cpu_next cpu_got insn desk
+unfolding actors_of repeated start step run played play all_end control_next control_got cpu_next cpu_got insn moves desk
 job_1053-plays = (refl, refl)
 
 abbrev pub job_1054 : Job
@@ -359,7 +359,7 @@ abbrev pub job_1054-items : List Item
 job_1054-items = Enter (call_in 1 1) Normal (record { 0 = 62 }) None ∷ Enter (call_in 0 1) Nmi (record { 0 = 62 }) None ∷ Begin 1 ∷ Body (call_in 1 1) (record { 0 = 62 }) Nop ∷ Body (call_in 0 1) (record { 0 = 62 }) Nop ∷ Leave (call_in 1 1) ∷ Ret (call_in 1 1) None ∷ Return 1 Accepted ∷ Begin 2 ∷ Return 2 Accepted ∷ Begin 3 ∷ Return 3 Accepted ∷ Leave (call_in 0 1) ∷ Begin 4 ∷ Return 4 Invalid ∷ Ret (call_in 0 1) None ∷ []
 
 pub job_1054-plays : Plays job_1054 job_1054-items true
-unfolding actors_of repeated start step run played play all_end control_next control_got cpu_next cpu_got insn desk
+unfolding actors_of repeated start step run played play all_end control_next control_got cpu_next cpu_got insn moves desk
 job_1054-plays = (refl, refl)
 
 abbrev pub job_1056 : Job
@@ -369,7 +369,7 @@ abbrev pub job_1056-items : List Item
 job_1056-items = Begin 1 ∷ Return 1 NotThere ∷ Begin 2 ∷ Return 2 Accepted ∷ Enter (call_in 0 1) Softirq (record { 0 = 0 }) None ∷ Body (call_in 0 1) (record { 0 = 0 }) Nop ∷ Enter (call_in 0 2) Softirq (record { 0 = 0 }) (Some (call_in 0 1)) ∷ Begin 3 ∷ Body (call_in 0 2) (record { 0 = 0 }) Nop ∷ Enter (call_in 0 3) Softirq (record { 0 = 0 }) (Some (call_in 0 2)) ∷ Body (call_in 0 3) (record { 0 = 0 }) Nop ∷ Leave (call_in 0 3) ∷ Ret (call_in 0 3) (Some (call_in 0 2)) ∷ Leave (call_in 0 2) ∷ Ret (call_in 0 2) (Some (call_in 0 1)) ∷ Return 3 Accepted ∷ Leave (call_in 0 1) ∷ Begin 4 ∷ Ret (call_in 0 1) None ∷ Return 4 Accepted ∷ Begin 5 ∷ Return 5 Accepted ∷ []
 
 pub job_1056-plays : Plays job_1056 job_1056-items true
-unfolding actors_of repeated start step run played play all_end control_next control_got cpu_next cpu_got insn desk
+unfolding actors_of repeated start step run played play all_end control_next control_got cpu_next cpu_got insn moves desk
 job_1056-plays = (refl, refl)
 
 abbrev pub job_1058 : Job
@@ -379,7 +379,7 @@ abbrev pub job_1058-items : List Item
 job_1058-items = Enter (call_in 2 1) Normal (record { 0 = 1 }) None ∷ Body (call_in 2 1) (record { 0 = 1 }) Nop ∷ Begin 1 ∷ Return 1 Accepted ∷ Begin 2 ∷ Return 2 NotThere ∷ Begin 3 ∷ Return 3 NotThere ∷ Begin 4 ∷ Enter (call_in 0 1) Nmi (record { 0 = 0 }) None ∷ Leave (call_in 2 1) ∷ Ret (call_in 2 1) None ∷ Back (call_in 0 1) (record { 0 = 1 }) ∷ BackEnd (call_in 0 1) (record { 0 = 1 }) ∷ Body (call_in 0 1) (record { 0 = 0 }) ByList ∷ Return 4 Accepted ∷ Begin 5 ∷ Enter (call_in 0 2) Nmi (record { 0 = 1 }) (Some (call_in 0 1)) ∷ Body (call_in 0 2) (record { 0 = 1 }) ByList ∷ Enter (call_in 0 3) Nmi (record { 0 = 0 }) (Some (call_in 0 2)) ∷ Body (call_in 0 3) (record { 0 = 0 }) Nop ∷ Leave (call_in 0 3) ∷ Ret (call_in 0 3) (Some (call_in 0 2)) ∷ Leave (call_in 0 2) ∷ Ret (call_in 0 2) (Some (call_in 0 1)) ∷ Return 5 Accepted ∷ Begin 6 ∷ Leave (call_in 0 1) ∷ Ret (call_in 0 1) None ∷ Return 6 Accepted ∷ []
 
 pub job_1058-plays : Plays job_1058 job_1058-items true
-unfolding actors_of repeated start step run played play all_end control_next control_got cpu_next cpu_got insn desk
+unfolding actors_of repeated start step run played play all_end control_next control_got cpu_next cpu_got insn moves desk
 job_1058-plays = (refl, refl)
 
 abbrev pub job_1059 : Job
@@ -389,7 +389,7 @@ abbrev pub job_1059-items : List Item
 job_1059-items = Enter (call_in 1 1) Irq (record { 0 = 0 }) None ∷ Body (call_in 1 1) (record { 0 = 0 }) Nop ∷ Leave (call_in 1 1) ∷ Ret (call_in 1 1) None ∷ Begin 1 ∷ Enter (call_in 1 2) Irq (record { 0 = 0 }) None ∷ Back (call_in 1 2) (record { 0 = 0 }) ∷ BackEnd (call_in 1 2) (record { 0 = 0 }) ∷ Body (call_in 1 2) (record { 0 = 0 }) ByList ∷ Return 1 Accepted ∷ Enter (call_in 1 3) Nmi (record { 0 = 0 }) (Some (call_in 1 2)) ∷ Enter (call_in 0 1) Nmi (record { 0 = 0 }) None ∷ Refuse (call_in 1 3) (record { 0 = 0 }) Depth ∷ Begin 2 ∷ Return 2 Invalid ∷ Body (call_in 1 3) (record { 0 = 0 }) ByList ∷ Back (call_in 0 1) (record { 0 = 0 }) ∷ Enter (call_in 1 4) Nmi (record { 0 = 0 }) (Some (call_in 1 3)) ∷ BackEnd (call_in 0 1) (record { 0 = 0 }) ∷ Body (call_in 0 1) (record { 0 = 0 }) ByList ∷ Begin 3 ∷ Enter (call_in 0 2) Nmi (record { 0 = 0 }) (Some (call_in 0 1)) ∷ Return 3 Invalid ∷ Begin 4 ∷ Refuse (call_in 1 4) (record { 0 = 0 }) Depth ∷ Body (call_in 0 2) (record { 0 = 0 }) ByList ∷ Body (call_in 1 4) (record { 0 = 0 }) ByList ∷ Leave (call_in 1 4) ∷ Enter (call_in 0 3) Nmi (record { 0 = 0 }) (Some (call_in 0 2)) ∷ Ret (call_in 1 4) (Some (call_in 1 3)) ∷ Body (call_in 0 3) (record { 0 = 0 }) Nop ∷ Leave (call_in 1 3) ∷ Ret (call_in 1 3) (Some (call_in 1 2)) ∷ Leave (call_in 0 3) ∷ Return 4 Accepted ∷ Begin 5 ∷ Return 5 Accepted ∷ Ret (call_in 0 3) (Some (call_in 0 2)) ∷ Leave (call_in 1 2) ∷ Leave (call_in 0 2) ∷ Ret (call_in 0 2) (Some (call_in 0 1)) ∷ Ret (call_in 1 2) None ∷ Leave (call_in 0 1) ∷ Ret (call_in 0 1) None ∷ []
 
 pub job_1059-plays : Plays job_1059 job_1059-items true
-unfolding actors_of repeated start step run played play all_end control_next control_got cpu_next cpu_got insn desk
+unfolding actors_of repeated start step run played play all_end control_next control_got cpu_next cpu_got insn moves desk
 job_1059-plays = (refl, refl)
 
 abbrev pub job_1060 : Job
@@ -399,7 +399,7 @@ abbrev pub job_1060-items : List Item
 job_1060-items = Enter (call_in 0 1) Normal (record { 0 = 1 }) None ∷ Body (call_in 0 1) (record { 0 = 1 }) Nop ∷ Enter (call_in 0 2) Normal (record { 0 = 0 }) (Some (call_in 0 1)) ∷ Body (call_in 0 2) (record { 0 = 0 }) Nop ∷ Enter (call_in 0 3) Nmi (record { 0 = 1 }) (Some (call_in 0 2)) ∷ Body (call_in 0 3) (record { 0 = 1 }) Nop ∷ Leave (call_in 0 3) ∷ Ret (call_in 0 3) (Some (call_in 0 2)) ∷ Leave (call_in 0 2) ∷ Ret (call_in 0 2) (Some (call_in 0 1)) ∷ Leave (call_in 0 1) ∷ Ret (call_in 0 1) None ∷ Begin 1 ∷ Return 1 Accepted ∷ Begin 2 ∷ Return 2 NotThere ∷ Begin 3 ∷ Return 3 NotThere ∷ Begin 4 ∷ Return 4 Accepted ∷ Begin 5 ∷ Return 5 NotThere ∷ []
 
 pub job_1060-plays : Plays job_1060 job_1060-items true
-unfolding actors_of repeated start step run played play all_end control_next control_got cpu_next cpu_got insn desk
+unfolding actors_of repeated start step run played play all_end control_next control_got cpu_next cpu_got insn moves desk
 job_1060-plays = (refl, refl)
 
 abbrev pub job_1061 : Job
@@ -409,7 +409,7 @@ abbrev pub job_1061-items : List Item
 job_1061-items = Begin 1 ∷ Return 1 Invalid ∷ Begin 2 ∷ Enter (call_in 0 1) Irq (record { 0 = 1 }) None ∷ Body (call_in 0 1) (record { 0 = 1 }) Nop ∷ Enter (call_in 0 2) Irq (record { 0 = 1 }) (Some (call_in 0 1)) ∷ Body (call_in 0 2) (record { 0 = 1 }) Nop ∷ Leave (call_in 0 2) ∷ Ret (call_in 0 2) (Some (call_in 0 1)) ∷ Leave (call_in 0 1) ∷ Ret (call_in 0 1) None ∷ Return 2 Accepted ∷ Begin 3 ∷ Return 3 NotThere ∷ Begin 4 ∷ Return 4 Accepted ∷ Begin 5 ∷ Return 5 NotThere ∷ Begin 6 ∷ Return 6 Accepted ∷ Enter (call_in 1 1) Nmi (record { 0 = 1 }) None ∷ Body (call_in 1 1) (record { 0 = 1 }) Nop ∷ Leave (call_in 1 1) ∷ Ret (call_in 1 1) None ∷ []
 
 pub job_1061-plays : Plays job_1061 job_1061-items true
-unfolding actors_of repeated start step run played play all_end control_next control_got cpu_next cpu_got insn desk
+unfolding actors_of repeated start step run played play all_end control_next control_got cpu_next cpu_got insn moves desk
 job_1061-plays = (refl, refl)
 
 abbrev pub job_1062 : Job
@@ -419,7 +419,7 @@ abbrev pub job_1062-items : List Item
 job_1062-items = Begin 1 ∷ Enter (call_in 2 1) Normal (record { 0 = 0 }) None ∷ Back (call_in 2 1) (record { 0 = 0 }) ∷ Return 1 Accepted ∷ BackEnd (call_in 2 1) (record { 0 = 0 }) ∷ Body (call_in 2 1) (record { 0 = 0 }) (Own (record { 0 = 0 })) ∷ Enter (call_in 2 2) Normal (record { 0 = 0 }) (Some (call_in 2 1)) ∷ Enter (call_in 0 1) Normal (record { 0 = 0 }) None ∷ Back (call_in 2 2) (record { 0 = 0 }) ∷ Back (call_in 0 1) (record { 0 = 0 }) ∷ BackEnd (call_in 2 2) (record { 0 = 0 }) ∷ Body (call_in 2 2) (record { 0 = 0 }) (Own (record { 0 = 0 })) ∷ BackEnd (call_in 0 1) (record { 0 = 0 }) ∷ Body (call_in 0 1) (record { 0 = 0 }) (Own (record { 0 = 0 })) ∷ Begin 2 ∷ Return 2 Already ∷ Begin 3 ∷ Enter (call_in 2 3) Irq (record { 0 = 0 }) (Some (call_in 2 2)) ∷ Enter (call_in 0 2) Normal (record { 0 = 0 }) (Some (call_in 0 1)) ∷ Back (call_in 2 3) (record { 0 = 0 }) ∷ Back (call_in 0 2) (record { 0 = 0 }) ∷ BackEnd (call_in 2 3) (record { 0 = 0 }) ∷ Body (call_in 2 3) (record { 0 = 0 }) (Own (record { 0 = 0 })) ∷ BackEnd (call_in 0 2) (record { 0 = 0 }) ∷ Body (call_in 0 2) (record { 0 = 0 }) (Own (record { 0 = 0 })) ∷ Leave (call_in 2 3) ∷ Return 3 Accepted ∷ Ret (call_in 2 3) (Some (call_in 2 2)) ∷ Begin 4 ∷ Return 4 Already ∷ Begin 5 ∷ Leave (call_in 0 2) ∷ Return 5 Already ∷ Ret (call_in 0 2) (Some (call_in 0 1)) ∷ Enter (call_in 2 4) Irq (record { 0 = 0 }) (Some (call_in 2 2)) ∷ Leave (call_in 0 1) ∷ Ret (call_in 0 1) None ∷ Back (call_in 2 4) (record { 0 = 0 }) ∷ Enter (call_in 1 1) Normal (record { 0 = 0 }) None ∷ BackEnd (call_in 2 4) (record { 0 = 0 }) ∷ Body (call_in 2 4) (record { 0 = 0 }) (Own (record { 0 = 0 })) ∷ Enter (call_in 2 5) Irq (record { 0 = 0 }) (Some (call_in 2 4)) ∷ Back (call_in 1 1) (record { 0 = 0 }) ∷ BackEnd (call_in 1 1) (record { 0 = 0 }) ∷ Back (call_in 2 5) (record { 0 = 0 }) ∷ Body (call_in 1 1) (record { 0 = 0 }) (Own (record { 0 = 0 })) ∷ BackEnd (call_in 2 5) (record { 0 = 0 }) ∷ Body (call_in 2 5) (record { 0 = 0 }) (Own (record { 0 = 0 })) ∷ Leave (call_in 1 1) ∷ Ret (call_in 1 1) None ∷ Leave (call_in 2 5) ∷ Ret (call_in 2 5) (Some (call_in 2 4)) ∷ Leave (call_in 2 4) ∷ Ret (call_in 2 4) (Some (call_in 2 2)) ∷ Enter (call_in 1 2) Nmi (record { 0 = 0 }) None ∷ Leave (call_in 2 2) ∷ Ret (call_in 2 2) (Some (call_in 2 1)) ∷ Leave (call_in 2 1) ∷ Back (call_in 1 2) (record { 0 = 0 }) ∷ BackEnd (call_in 1 2) (record { 0 = 0 }) ∷ Ret (call_in 2 1) None ∷ Body (call_in 1 2) (record { 0 = 0 }) (Own (record { 0 = 0 })) ∷ Leave (call_in 1 2) ∷ Ret (call_in 1 2) None ∷ []
 
 pub job_1062-plays : Plays job_1062 job_1062-items true
-unfolding actors_of repeated start step run played play all_end control_next control_got cpu_next cpu_got insn desk
+unfolding actors_of repeated start step run played play all_end control_next control_got cpu_next cpu_got insn moves desk
 job_1062-plays = (refl, refl)
 
 abbrev pub job_1063 : Job
@@ -429,7 +429,7 @@ abbrev pub job_1063-items : List Item
 job_1063-items = Begin 1 ∷ Enter (call_in 0 1) Normal (record { 0 = 0 }) None ∷ Back (call_in 0 1) (record { 0 = 1 }) ∷ Enter (call_in 0 2) Irq (record { 0 = 1 }) (Some (call_in 0 1)) ∷ Back (call_in 0 2) (record { 0 = 1 }) ∷ BackEnd (call_in 0 2) (record { 0 = 1 }) ∷ Body (call_in 0 2) (record { 0 = 1 }) (Own (record { 0 = 1 })) ∷ Leave (call_in 0 2) ∷ Exit (call_in 0 2) (record { 0 = 1 }) 4 ∷ ExitEnd (call_in 0 2) (record { 0 = 1 }) ∷ Ret (call_in 0 2) (Some (call_in 0 1)) ∷ BackEnd (call_in 0 1) (record { 0 = 1 }) ∷ Body (call_in 0 1) (record { 0 = 0 }) (Own (record { 0 = 1 })) ∷ Return 1 Accepted ∷ Begin 2 ∷ Return 2 NotThere ∷ Begin 3 ∷ Return 3 Accepted ∷ Begin 4 ∷ Return 4 Accepted ∷ Begin 5 ∷ Return 5 Invalid ∷ Begin 6 ∷ Return 6 NotThere ∷ Begin 7 ∷ Return 7 NotThere ∷ Leave (call_in 0 1) ∷ Exit (call_in 0 1) (record { 0 = 1 }) 2 ∷ ExitEnd (call_in 0 1) (record { 0 = 1 }) ∷ Ret (call_in 0 1) None ∷ []
 
 pub job_1063-plays : Plays job_1063 job_1063-items true
-unfolding actors_of repeated start step run played play all_end control_next control_got cpu_next cpu_got insn desk
+unfolding actors_of repeated start step run played play all_end control_next control_got cpu_next cpu_got insn moves desk
 job_1063-plays = (refl, refl)
 
 abbrev pub job_1064 : Job
@@ -439,7 +439,7 @@ abbrev pub job_1064-items : List Item
 job_1064-items = Begin 1 ∷ Return 1 Accepted ∷ Begin 2 ∷ Return 2 Accepted ∷ Begin 3 ∷ Return 3 NotThere ∷ Begin 4 ∷ Return 4 Invalid ∷ Begin 5 ∷ Enter (call_in 2 1) Nmi (record { 0 = 0 }) None ∷ Return 5 Accepted ∷ Body (call_in 2 1) (record { 0 = 0 }) Nop ∷ Begin 6 ∷ Leave (call_in 2 1) ∷ Ret (call_in 2 1) None ∷ Enter (call_in 1 1) Normal (record { 0 = 0 }) None ∷ Return 6 Accepted ∷ Body (call_in 1 1) (record { 0 = 0 }) Nop ∷ Enter (call_in 2 2) Nmi (record { 0 = 0 }) None ∷ Body (call_in 2 2) (record { 0 = 0 }) Nop ∷ Leave (call_in 1 1) ∷ Enter (call_in 2 3) Nmi (record { 0 = 0 }) (Some (call_in 2 2)) ∷ Ret (call_in 1 1) None ∷ Body (call_in 2 3) (record { 0 = 0 }) Nop ∷ Enter (call_in 0 1) Nmi (record { 0 = 1 }) None ∷ Leave (call_in 2 3) ∷ Ret (call_in 2 3) (Some (call_in 2 2)) ∷ Leave (call_in 2 2) ∷ Body (call_in 0 1) (record { 0 = 1 }) Nop ∷ Ret (call_in 2 2) None ∷ Enter (call_in 0 2) Nmi (record { 0 = 0 }) (Some (call_in 0 1)) ∷ Body (call_in 0 2) (record { 0 = 0 }) Nop ∷ Leave (call_in 0 2) ∷ Ret (call_in 0 2) (Some (call_in 0 1)) ∷ Leave (call_in 0 1) ∷ Ret (call_in 0 1) None ∷ Enter (call_in 0 3) Nmi (record { 0 = 1 }) None ∷ Body (call_in 0 3) (record { 0 = 1 }) Nop ∷ Leave (call_in 0 3) ∷ Ret (call_in 0 3) None ∷ []
 
 pub job_1064-plays : Plays job_1064 job_1064-items true
-unfolding actors_of repeated start step run played play all_end control_next control_got cpu_next cpu_got insn desk
+unfolding actors_of repeated start step run played play all_end control_next control_got cpu_next cpu_got insn moves desk
 job_1064-plays = (refl, refl)
 
 abbrev pub job_1065 : Job
@@ -449,7 +449,7 @@ abbrev pub job_1065-items : List Item
 job_1065-items = Begin 1 ∷ Return 1 Accepted ∷ Begin 2 ∷ Return 2 Accepted ∷ Begin 3 ∷ Return 3 Already ∷ Enter (call_in 0 1) Normal (record { 0 = 0 }) None ∷ Back (call_in 0 1) (record { 0 = 0 }) ∷ BackEnd (call_in 0 1) (record { 0 = 0 }) ∷ Body (call_in 0 1) (record { 0 = 0 }) (Own (record { 0 = 0 })) ∷ Leave (call_in 0 1) ∷ Ret (call_in 0 1) None ∷ []
 
 pub job_1065-plays : Plays job_1065 job_1065-items true
-unfolding actors_of repeated start step run played play all_end control_next control_got cpu_next cpu_got insn desk
+unfolding actors_of repeated start step run played play all_end control_next control_got cpu_next cpu_got insn moves desk
 job_1065-plays = (refl, refl)
 
 abbrev pub job_1066 : Job
@@ -459,7 +459,7 @@ abbrev pub job_1066-items : List Item
 job_1066-items = Begin 1 ∷ Return 1 Accepted ∷ Begin 2 ∷ Return 2 NotThere ∷ Enter (call_in 1 1) Nmi (record { 0 = 65 }) None ∷ Enter (call_in 0 1) Softirq (record { 0 = 64 }) None ∷ Back (call_in 1 1) (record { 0 = 0 }) ∷ Back (call_in 0 1) (record { 0 = 0 }) ∷ BackEnd (call_in 0 1) (record { 0 = 0 }) ∷ Body (call_in 0 1) (record { 0 = 64 }) (Own (record { 0 = 0 })) ∷ BackEnd (call_in 1 1) (record { 0 = 0 }) ∷ Body (call_in 1 1) (record { 0 = 65 }) (Own (record { 0 = 0 })) ∷ Leave (call_in 0 1) ∷ Enter (call_in 1 2) Nmi (record { 0 = 62 }) (Some (call_in 1 1)) ∷ Exit (call_in 0 1) (record { 0 = 0 }) 7 ∷ ExitEnd (call_in 0 1) (record { 0 = 0 }) ∷ Ret (call_in 0 1) None ∷ Refuse (call_in 1 2) (record { 0 = 0 }) Depth ∷ Body (call_in 1 2) (record { 0 = 62 }) (Own (record { 0 = 0 })) ∷ Enter (call_in 1 3) Nmi (record { 0 = 65 }) (Some (call_in 1 2)) ∷ Enter (call_in 0 2) Nmi (record { 0 = 64 }) None ∷ Refuse (call_in 1 3) (record { 0 = 0 }) Depth ∷ Body (call_in 1 3) (record { 0 = 65 }) (Own (record { 0 = 0 })) ∷ Back (call_in 0 2) (record { 0 = 0 }) ∷ BackEnd (call_in 0 2) (record { 0 = 0 }) ∷ Body (call_in 0 2) (record { 0 = 64 }) (Own (record { 0 = 0 })) ∷ Leave (call_in 1 3) ∷ Ret (call_in 1 3) (Some (call_in 1 2)) ∷ Leave (call_in 0 2) ∷ []
 
 pub job_1066-plays : Plays job_1066 job_1066-items false
-unfolding actors_of repeated start step run played play all_end control_next control_got cpu_next cpu_got insn desk
+unfolding actors_of repeated start step run played play all_end control_next control_got cpu_next cpu_got insn moves desk
 job_1066-plays = (refl, refl)
 
 abbrev pub job_1067 : Job
@@ -469,7 +469,7 @@ abbrev pub job_1067-items : List Item
 job_1067-items = Enter (call_in 0 1) Normal (record { 0 = 0 }) None ∷ Body (call_in 0 1) (record { 0 = 0 }) Nop ∷ Enter (call_in 0 2) Normal (record { 0 = 0 }) (Some (call_in 0 1)) ∷ Body (call_in 0 2) (record { 0 = 0 }) Nop ∷ Enter (call_in 0 3) Normal (record { 0 = 0 }) (Some (call_in 0 2)) ∷ Body (call_in 0 3) (record { 0 = 0 }) Nop ∷ Enter (call_in 0 4) Normal (record { 0 = 0 }) (Some (call_in 0 3)) ∷ Body (call_in 0 4) (record { 0 = 0 }) Nop ∷ Leave (call_in 0 4) ∷ Ret (call_in 0 4) (Some (call_in 0 3)) ∷ Leave (call_in 0 3) ∷ Ret (call_in 0 3) (Some (call_in 0 2)) ∷ Leave (call_in 0 2) ∷ Ret (call_in 0 2) (Some (call_in 0 1)) ∷ Leave (call_in 0 1) ∷ Ret (call_in 0 1) None ∷ Begin 1 ∷ Return 1 NotThere ∷ Begin 2 ∷ Return 2 Accepted ∷ Begin 3 ∷ Return 3 Accepted ∷ []
 
 pub job_1067-plays : Plays job_1067 job_1067-items true
-unfolding actors_of repeated start step run played play all_end control_next control_got cpu_next cpu_got insn desk
+unfolding actors_of repeated start step run played play all_end control_next control_got cpu_next cpu_got insn moves desk
 job_1067-plays = (refl, refl)
 
 abbrev pub job_1068 : Job
@@ -479,7 +479,7 @@ abbrev pub job_1068-items : List Item
 job_1068-items = Begin 1 ∷ Return 1 Accepted ∷ Begin 2 ∷ Return 2 NotThere ∷ Begin 3 ∷ Return 3 Invalid ∷ Begin 4 ∷ Return 4 NotThere ∷ Enter (call_in 0 1) Nmi (record { 0 = 62 }) None ∷ Body (call_in 0 1) (record { 0 = 62 }) Nop ∷ Enter (call_in 0 2) Nmi (record { 0 = 64 }) (Some (call_in 0 1)) ∷ Body (call_in 0 2) (record { 0 = 64 }) Nop ∷ Leave (call_in 0 2) ∷ Ret (call_in 0 2) (Some (call_in 0 1)) ∷ Leave (call_in 0 1) ∷ Ret (call_in 0 1) None ∷ []
 
 pub job_1068-plays : Plays job_1068 job_1068-items true
-unfolding actors_of repeated start step run played play all_end control_next control_got cpu_next cpu_got insn desk
+unfolding actors_of repeated start step run played play all_end control_next control_got cpu_next cpu_got insn moves desk
 job_1068-plays = (refl, refl)
 
 abbrev pub job_1069 : Job
@@ -489,7 +489,7 @@ abbrev pub job_1069-items : List Item
 job_1069-items = Begin 1 ∷ Return 1 Accepted ∷ Begin 2 ∷ Enter (call_in 0 1) Normal (record { 0 = 0 }) None ∷ Body (call_in 0 1) (record { 0 = 0 }) Nop ∷ Enter (call_in 0 2) Normal (record { 0 = 1 }) (Some (call_in 0 1)) ∷ Body (call_in 0 2) (record { 0 = 1 }) Nop ∷ Enter (call_in 0 3) Irq (record { 0 = 1 }) (Some (call_in 0 2)) ∷ Body (call_in 0 3) (record { 0 = 1 }) Nop ∷ Leave (call_in 0 3) ∷ Ret (call_in 0 3) (Some (call_in 0 2)) ∷ Enter (call_in 0 4) Irq (record { 0 = 2 }) (Some (call_in 0 2)) ∷ Back (call_in 0 4) (record { 0 = 0 }) ∷ BackEnd (call_in 0 4) (record { 0 = 0 }) ∷ Body (call_in 0 4) (record { 0 = 2 }) (Own (record { 0 = 0 })) ∷ Enter (call_in 0 5) Irq (record { 0 = 0 }) (Some (call_in 0 4)) ∷ Refuse (call_in 0 5) (record { 0 = 0 }) Depth ∷ Body (call_in 0 5) (record { 0 = 0 }) (Own (record { 0 = 0 })) ∷ Leave (call_in 0 5) ∷ Return 2 Accepted ∷ Ret (call_in 0 5) (Some (call_in 0 4)) ∷ Leave (call_in 0 4) ∷ Exit (call_in 0 4) (record { 0 = 0 }) 12 ∷ ExitEnd (call_in 0 4) (record { 0 = 0 }) ∷ Ret (call_in 0 4) (Some (call_in 0 2)) ∷ Leave (call_in 0 2) ∷ Ret (call_in 0 2) (Some (call_in 0 1)) ∷ Leave (call_in 0 1) ∷ Ret (call_in 0 1) None ∷ []
 
 pub job_1069-plays : Plays job_1069 job_1069-items true
-unfolding actors_of repeated start step run played play all_end control_next control_got cpu_next cpu_got insn desk
+unfolding actors_of repeated start step run played play all_end control_next control_got cpu_next cpu_got insn moves desk
 job_1069-plays = (refl, refl)
 
 abbrev pub job_1070 : Job
@@ -499,7 +499,7 @@ abbrev pub job_1070-items : List Item
 job_1070-items = Enter (call_in 0 1) Irq (record { 0 = 1 }) None ∷ Begin 1 ∷ Body (call_in 0 1) (record { 0 = 1 }) Nop ∷ Return 1 Accepted ∷ Begin 2 ∷ Return 2 Accepted ∷ Enter (call_in 2 1) Irq (record { 0 = 1 }) None ∷ Leave (call_in 0 1) ∷ Ret (call_in 0 1) None ∷ Body (call_in 2 1) (record { 0 = 1 }) Nop ∷ Enter (call_in 2 2) Irq (record { 0 = 0 }) (Some (call_in 2 1)) ∷ Body (call_in 2 2) (record { 0 = 0 }) Nop ∷ Enter (call_in 2 3) Irq (record { 0 = 1 }) (Some (call_in 2 2)) ∷ Body (call_in 2 3) (record { 0 = 1 }) Nop ∷ Enter (call_in 2 4) Irq (record { 0 = 1 }) (Some (call_in 2 3)) ∷ Body (call_in 2 4) (record { 0 = 1 }) Nop ∷ Leave (call_in 2 4) ∷ Ret (call_in 2 4) (Some (call_in 2 3)) ∷ Leave (call_in 2 3) ∷ Ret (call_in 2 3) (Some (call_in 2 2)) ∷ Leave (call_in 2 2) ∷ Ret (call_in 2 2) (Some (call_in 2 1)) ∷ Leave (call_in 2 1) ∷ Ret (call_in 2 1) None ∷ []
 
 pub job_1070-plays : Plays job_1070 job_1070-items true
-unfolding actors_of repeated start step run played play all_end control_next control_got cpu_next cpu_got insn desk
+unfolding actors_of repeated start step run played play all_end control_next control_got cpu_next cpu_got insn moves desk
 job_1070-plays = (refl, refl)
 
 abbrev pub job_1072 : Job
@@ -509,7 +509,7 @@ abbrev pub job_1072-items : List Item
 job_1072-items = Begin 1 ∷ Return 1 Accepted ∷ Begin 2 ∷ Return 2 NotThere ∷ Begin 3 ∷ Enter (call_in 0 1) Nmi (record { 0 = 0 }) None ∷ Enter (call_in 2 1) Softirq (record { 0 = 0 }) None ∷ Return 3 Accepted ∷ Begin 4 ∷ Body (call_in 0 1) (record { 0 = 0 }) Nop ∷ Body (call_in 2 1) (record { 0 = 0 }) Nop ∷ Leave (call_in 0 1) ∷ Return 4 Accepted ∷ Ret (call_in 0 1) None ∷ Leave (call_in 2 1) ∷ Ret (call_in 2 1) None ∷ Enter (call_in 1 1) Normal (record { 0 = 0 }) None ∷ Enter (call_in 0 2) Nmi (record { 0 = 0 }) None ∷ Body (call_in 1 1) (record { 0 = 0 }) Nop ∷ Body (call_in 0 2) (record { 0 = 0 }) Nop ∷ Enter (call_in 1 2) Normal (record { 0 = 1 }) (Some (call_in 1 1)) ∷ Leave (call_in 0 2) ∷ Ret (call_in 0 2) None ∷ Body (call_in 1 2) (record { 0 = 1 }) Nop ∷ Enter (call_in 0 3) Nmi (record { 0 = 0 }) None ∷ Enter (call_in 1 3) Normal (record { 0 = 2 }) (Some (call_in 1 2)) ∷ Body (call_in 0 3) (record { 0 = 0 }) Nop ∷ Body (call_in 1 3) (record { 0 = 2 }) Nop ∷ Leave (call_in 0 3) ∷ Ret (call_in 0 3) None ∷ Enter (call_in 1 4) Irq (record { 0 = 0 }) (Some (call_in 1 3)) ∷ Body (call_in 1 4) (record { 0 = 0 }) Nop ∷ Leave (call_in 1 4) ∷ Ret (call_in 1 4) (Some (call_in 1 3)) ∷ Enter (call_in 1 5) Irq (record { 0 = 0 }) (Some (call_in 1 3)) ∷ Body (call_in 1 5) (record { 0 = 0 }) Nop ∷ Enter (call_in 1 6) Irq (record { 0 = 3 }) (Some (call_in 1 5)) ∷ Body (call_in 1 6) (record { 0 = 3 }) Nop ∷ Leave (call_in 1 6) ∷ Ret (call_in 1 6) (Some (call_in 1 5)) ∷ Leave (call_in 1 5) ∷ Ret (call_in 1 5) (Some (call_in 1 3)) ∷ Leave (call_in 1 3) ∷ Ret (call_in 1 3) (Some (call_in 1 2)) ∷ Leave (call_in 1 2) ∷ Ret (call_in 1 2) (Some (call_in 1 1)) ∷ Leave (call_in 1 1) ∷ Ret (call_in 1 1) None ∷ []
 
 pub job_1072-plays : Plays job_1072 job_1072-items true
-unfolding actors_of repeated start step run played play all_end control_next control_got cpu_next cpu_got insn desk
+unfolding actors_of repeated start step run played play all_end control_next control_got cpu_next cpu_got insn moves desk
 job_1072-plays = (refl, refl)
 
 abbrev pub job_1073 : Job
@@ -519,5 +519,5 @@ abbrev pub job_1073-items : List Item
 job_1073-items = Begin 1 ∷ Return 1 NotThere ∷ Begin 2 ∷ Return 2 Accepted ∷ Begin 3 ∷ Return 3 Accepted ∷ Begin 4 ∷ Return 4 NotThere ∷ Begin 5 ∷ Return 5 Invalid ∷ Enter (call_in 0 1) Normal (record { 0 = 0 }) None ∷ Enter (call_in 1 1) Normal (record { 0 = 1 }) None ∷ Refuse (call_in 0 1) (record { 0 = 2 }) ByPid ∷ Back (call_in 1 1) (record { 0 = 2 }) ∷ Body (call_in 0 1) (record { 0 = 0 }) (Own (record { 0 = 2 })) ∷ Enter (call_in 1 2) Normal (record { 0 = 0 }) (Some (call_in 1 1)) ∷ Enter (call_in 0 2) Normal (record { 0 = 1 }) (Some (call_in 0 1)) ∷ Refuse (call_in 1 2) (record { 0 = 2 }) Recursion ∷ Body (call_in 1 2) (record { 0 = 0 }) (Own (record { 0 = 2 })) ∷ Leave (call_in 1 2) ∷ Ret (call_in 1 2) (Some (call_in 1 1)) ∷ Refuse (call_in 0 2) (record { 0 = 2 }) ByPid ∷ BackEnd (call_in 1 1) (record { 0 = 2 }) ∷ Body (call_in 0 2) (record { 0 = 1 }) (Own (record { 0 = 2 })) ∷ Body (call_in 1 1) (record { 0 = 1 }) (Own (record { 0 = 2 })) ∷ Leave (call_in 0 2) ∷ Ret (call_in 0 2) (Some (call_in 0 1)) ∷ Enter (call_in 1 3) Normal (record { 0 = 2 }) (Some (call_in 1 1)) ∷ Leave (call_in 0 1) ∷ Ret (call_in 0 1) None ∷ Back (call_in 1 3) (record { 0 = 2 }) ∷ Enter (call_in 1 4) Normal (record { 0 = 0 }) (Some (call_in 1 3)) ∷ Refuse (call_in 1 4) (record { 0 = 2 }) Recursion ∷ Body (call_in 1 4) (record { 0 = 0 }) (Own (record { 0 = 2 })) ∷ Leave (call_in 1 4) ∷ Ret (call_in 1 4) (Some (call_in 1 3)) ∷ BackEnd (call_in 1 3) (record { 0 = 2 }) ∷ Body (call_in 1 3) (record { 0 = 2 }) (Own (record { 0 = 2 })) ∷ Leave (call_in 1 3) ∷ Ret (call_in 1 3) (Some (call_in 1 1)) ∷ Leave (call_in 1 1) ∷ Ret (call_in 1 1) None ∷ []
 
 pub job_1073-plays : Plays job_1073 job_1073-items true
-unfolding actors_of repeated start step run played play all_end control_next control_got cpu_next cpu_got insn desk
+unfolding actors_of repeated start step run played play all_end control_next control_got cpu_next cpu_got insn moves desk
 job_1073-plays = (refl, refl)

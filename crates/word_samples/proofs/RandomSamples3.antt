@@ -16,7 +16,7 @@ use Rattle.ft_base.specs.Job.{usual_lines, usual_rings, Job, Register, Unregiste
 use Rattle.ft_base.specs.Desk.{desk}
 use Rattle.ft_base.specs.Schedule.{actors_of, repeated}
 use Rattle.plain_machine.proofs.Plays.{named, call_in}
-use Rattle.word_machine.specs.Commands.{insn}
+use Rattle.word_machine.specs.Commands.{insn, moves}
 use Rattle.word_machine.specs.Control.{control_next, control_got}
 use Rattle.word_machine.specs.Cpu.{cpu_next, cpu_got}
 use Rattle.word_machine.specs.Machine.{start, step, run, played, play, all_end}
@@ -29,7 +29,7 @@ abbrev pub job_2002-items : List Item
 job_2002-items = Begin 1 ∷ Return 1 Accepted ∷ Begin 2 ∷ Enter (call_in 0 1) Normal (record { 0 = 0 }) None ∷ Body (call_in 0 1) (record { 0 = 0 }) Nop ∷ Enter (call_in 1 1) Normal (record { 0 = 0 }) None ∷ Return 2 Accepted ∷ Begin 3 ∷ Return 3 Accepted ∷ Begin 4 ∷ Enter (call_in 0 2) Normal (record { 0 = 0 }) (Some (call_in 0 1)) ∷ Body (call_in 1 1) (record { 0 = 0 }) Nop ∷ Leave (call_in 1 1) ∷ Ret (call_in 1 1) None ∷ Body (call_in 0 2) (record { 0 = 0 }) Nop ∷ Leave (call_in 0 2) ∷ Ret (call_in 0 2) (Some (call_in 0 1)) ∷ Leave (call_in 0 1) ∷ Ret (call_in 0 1) None ∷ Return 4 Accepted ∷ Enter (call_in 1 2) Irq (record { 0 = 0 }) None ∷ Body (call_in 1 2) (record { 0 = 0 }) Nop ∷ Enter (call_in 1 3) Irq (record { 0 = 0 }) (Some (call_in 1 2)) ∷ Body (call_in 1 3) (record { 0 = 0 }) Nop ∷ Enter (call_in 1 4) Irq (record { 0 = 0 }) (Some (call_in 1 3)) ∷ Body (call_in 1 4) (record { 0 = 0 }) Nop ∷ Leave (call_in 1 4) ∷ Ret (call_in 1 4) (Some (call_in 1 3)) ∷ Leave (call_in 1 3) ∷ Ret (call_in 1 3) (Some (call_in 1 2)) ∷ Leave (call_in 1 2) ∷ Ret (call_in 1 2) None ∷ []
 
 pub job_2002-plays : Plays job_2002 job_2002-items true
-unfolding actors_of repeated start step run played play all_end control_next control_got cpu_next cpu_got insn desk
+unfolding actors_of repeated start step run played play all_end control_next control_got cpu_next cpu_got insn moves desk
 job_2002-plays = (refl, refl)
 
 abbrev pub job_2003 : Job
@@ -39,7 +39,7 @@ abbrev pub job_2003-items : List Item
 job_2003-items = Enter (call_in 1 1) Softirq (record { 0 = 0 }) None ∷ Body (call_in 1 1) (record { 0 = 0 }) Nop ∷ Enter (call_in 1 2) Softirq (record { 0 = 0 }) (Some (call_in 1 1)) ∷ Body (call_in 1 2) (record { 0 = 0 }) Nop ∷ Enter (call_in 1 3) Softirq (record { 0 = 0 }) (Some (call_in 1 2)) ∷ Body (call_in 1 3) (record { 0 = 0 }) Nop ∷ Enter (call_in 1 4) Softirq (record { 0 = 0 }) (Some (call_in 1 3)) ∷ Body (call_in 1 4) (record { 0 = 0 }) Nop ∷ Enter (call_in 1 5) Softirq (record { 0 = 0 }) (Some (call_in 1 4)) ∷ Begin 1 ∷ Body (call_in 1 5) (record { 0 = 0 }) Nop ∷ Leave (call_in 1 5) ∷ Ret (call_in 1 5) (Some (call_in 1 4)) ∷ Leave (call_in 1 4) ∷ Ret (call_in 1 4) (Some (call_in 1 3)) ∷ Leave (call_in 1 3) ∷ Ret (call_in 1 3) (Some (call_in 1 2)) ∷ Leave (call_in 1 2) ∷ Ret (call_in 1 2) (Some (call_in 1 1)) ∷ Leave (call_in 1 1) ∷ Ret (call_in 1 1) None ∷ Return 1 Accepted ∷ Begin 2 ∷ Enter (call_in 0 1) Nmi (record { 0 = 0 }) None ∷ Back (call_in 0 1) (record { 0 = 1 }) ∷ BackEnd (call_in 0 1) (record { 0 = 1 }) ∷ Body (call_in 0 1) (record { 0 = 0 }) (Own (record { 0 = 1 })) ∷ Enter (call_in 0 2) Nmi (record { 0 = 0 }) (Some (call_in 0 1)) ∷ Back (call_in 0 2) (record { 0 = 1 }) ∷ BackEnd (call_in 0 2) (record { 0 = 1 }) ∷ Body (call_in 0 2) (record { 0 = 0 }) (Own (record { 0 = 1 })) ∷ Leave (call_in 0 2) ∷ Exit (call_in 0 2) (record { 0 = 1 }) 28 ∷ ExitEnd (call_in 0 2) (record { 0 = 1 }) ∷ Ret (call_in 0 2) (Some (call_in 0 1)) ∷ Leave (call_in 0 1) ∷ Exit (call_in 0 1) (record { 0 = 1 }) 24 ∷ ExitEnd (call_in 0 1) (record { 0 = 1 }) ∷ Ret (call_in 0 1) None ∷ Return 2 Accepted ∷ []
 
 pub job_2003-plays : Plays job_2003 job_2003-items true
-unfolding actors_of repeated start step run played play all_end control_next control_got cpu_next cpu_got insn desk
+unfolding actors_of repeated start step run played play all_end control_next control_got cpu_next cpu_got insn moves desk
 job_2003-plays = (refl, refl)
 
 abbrev pub job_2005 : Job
@@ -49,7 +49,7 @@ abbrev pub job_2005-items : List Item
 job_2005-items = Begin 1 ∷ Return 1 Invalid ∷ Enter (call_in 1 1) Normal (record { 0 = 2 }) None ∷ Body (call_in 1 1) (record { 0 = 2 }) Nop ∷ Enter (call_in 1 2) Normal (record { 0 = 3 }) (Some (call_in 1 1)) ∷ Body (call_in 1 2) (record { 0 = 3 }) Nop ∷ Enter (call_in 1 3) Normal (record { 0 = 0 }) (Some (call_in 1 2)) ∷ Body (call_in 1 3) (record { 0 = 0 }) Nop ∷ Enter (call_in 0 1) Normal (record { 0 = 1 }) None ∷ Body (call_in 0 1) (record { 0 = 1 }) Nop ∷ Leave (call_in 0 1) ∷ Ret (call_in 0 1) None ∷ Begin 2 ∷ Enter (call_in 1 4) Normal (record { 0 = 0 }) (Some (call_in 1 3)) ∷ Body (call_in 1 4) (record { 0 = 0 }) Nop ∷ Leave (call_in 1 4) ∷ Ret (call_in 1 4) (Some (call_in 1 3)) ∷ Leave (call_in 1 3) ∷ Ret (call_in 1 3) (Some (call_in 1 2)) ∷ Leave (call_in 1 2) ∷ Ret (call_in 1 2) (Some (call_in 1 1)) ∷ Leave (call_in 1 1) ∷ Ret (call_in 1 1) None ∷ Return 2 Accepted ∷ Begin 3 ∷ Return 3 NotThere ∷ []
 
 pub job_2005-plays : Plays job_2005 job_2005-items true
-unfolding actors_of repeated start step run played play all_end control_next control_got cpu_next cpu_got insn desk
+unfolding actors_of repeated start step run played play all_end control_next control_got cpu_next cpu_got insn moves desk
 job_2005-plays = (refl, refl)
 
 abbrev pub job_2007 : Job
@@ -59,7 +59,7 @@ abbrev pub job_2007-items : List Item
 job_2007-items = Begin 1 ∷ Enter (call_in 0 1) Normal (record { 0 = 1 }) None ∷ Body (call_in 0 1) (record { 0 = 1 }) Nop ∷ Enter (call_in 0 2) Normal (record { 0 = 0 }) (Some (call_in 0 1)) ∷ Body (call_in 0 2) (record { 0 = 0 }) Nop ∷ Enter (call_in 0 3) Normal (record { 0 = 0 }) (Some (call_in 0 2)) ∷ Return 1 Accepted ∷ Begin 2 ∷ Return 2 NotThere ∷ Body (call_in 0 3) (record { 0 = 0 }) Nop ∷ Leave (call_in 0 3) ∷ Ret (call_in 0 3) (Some (call_in 0 2)) ∷ Leave (call_in 0 2) ∷ Ret (call_in 0 2) (Some (call_in 0 1)) ∷ Leave (call_in 0 1) ∷ Ret (call_in 0 1) None ∷ []
 
 pub job_2007-plays : Plays job_2007 job_2007-items true
-unfolding actors_of repeated start step run played play all_end control_next control_got cpu_next cpu_got insn desk
+unfolding actors_of repeated start step run played play all_end control_next control_got cpu_next cpu_got insn moves desk
 job_2007-plays = (refl, refl)
 
 abbrev pub job_2010 : Job
@@ -69,7 +69,7 @@ abbrev pub job_2010-items : List Item
 job_2010-items = Begin 1 ∷ Return 1 Accepted ∷ Enter (call_in 0 1) Normal (record { 0 = 1 }) None ∷ Back (call_in 0 1) (record { 0 = 0 }) ∷ BackEnd (call_in 0 1) (record { 0 = 0 }) ∷ Body (call_in 0 1) (record { 0 = 1 }) (Own (record { 0 = 0 })) ∷ Enter (call_in 0 2) Normal (record { 0 = 1 }) (Some (call_in 0 1)) ∷ Back (call_in 0 2) (record { 0 = 0 }) ∷ BackEnd (call_in 0 2) (record { 0 = 0 }) ∷ Body (call_in 0 2) (record { 0 = 1 }) (Own (record { 0 = 0 })) ∷ Enter (call_in 0 3) Normal (record { 0 = 1 }) (Some (call_in 0 2)) ∷ Refuse (call_in 0 3) (record { 0 = 0 }) Depth ∷ Body (call_in 0 3) (record { 0 = 1 }) (Own (record { 0 = 0 })) ∷ Enter (call_in 0 4) Normal (record { 0 = 0 }) (Some (call_in 0 3)) ∷ Refuse (call_in 0 4) (record { 0 = 0 }) Depth ∷ Body (call_in 0 4) (record { 0 = 0 }) (Own (record { 0 = 0 })) ∷ Enter (call_in 0 5) Normal (record { 0 = 0 }) (Some (call_in 0 4)) ∷ Refuse (call_in 0 5) (record { 0 = 0 }) Depth ∷ Body (call_in 0 5) (record { 0 = 0 }) (Own (record { 0 = 0 })) ∷ Leave (call_in 0 5) ∷ Ret (call_in 0 5) (Some (call_in 0 4)) ∷ Leave (call_in 0 4) ∷ Ret (call_in 0 4) (Some (call_in 0 3)) ∷ Leave (call_in 0 3) ∷ Ret (call_in 0 3) (Some (call_in 0 2)) ∷ Leave (call_in 0 2) ∷ Begin 2 ∷ Return 2 Invalid ∷ Exit (call_in 0 2) (record { 0 = 0 }) 7 ∷ ExitEnd (call_in 0 2) (record { 0 = 0 }) ∷ Ret (call_in 0 2) (Some (call_in 0 1)) ∷ Leave (call_in 0 1) ∷ Exit (call_in 0 1) (record { 0 = 0 }) 3 ∷ ExitEnd (call_in 0 1) (record { 0 = 0 }) ∷ Ret (call_in 0 1) None ∷ []
 
 pub job_2010-plays : Plays job_2010 job_2010-items true
-unfolding actors_of repeated start step run played play all_end control_next control_got cpu_next cpu_got insn desk
+unfolding actors_of repeated start step run played play all_end control_next control_got cpu_next cpu_got insn moves desk
 job_2010-plays = (refl, refl)
 
 abbrev pub job_2011 : Job
@@ -79,7 +79,7 @@ abbrev pub job_2011-items : List Item
 job_2011-items = Begin 1 ∷ Return 1 Invalid ∷ Begin 2 ∷ Return 2 Invalid ∷ Begin 3 ∷ Return 3 NotThere ∷ Begin 4 ∷ Return 4 NotThere ∷ Begin 5 ∷ Return 5 Accepted ∷ Begin 6 ∷ Return 6 Accepted ∷ Enter (call_in 0 1) Normal (record { 0 = 1 }) None ∷ Body (call_in 0 1) (record { 0 = 1 }) Nop ∷ Enter (call_in 1 1) Softirq (record { 0 = 1 }) None ∷ Body (call_in 1 1) (record { 0 = 1 }) Nop ∷ Enter (call_in 2 1) Nmi (record { 0 = 0 }) None ∷ Body (call_in 2 1) (record { 0 = 0 }) Nop ∷ Leave (call_in 1 1) ∷ Ret (call_in 1 1) None ∷ Enter (call_in 2 2) Nmi (record { 0 = 1 }) (Some (call_in 2 1)) ∷ Body (call_in 2 2) (record { 0 = 1 }) Nop ∷ Leave (call_in 0 1) ∷ Ret (call_in 0 1) None ∷ Leave (call_in 2 2) ∷ Ret (call_in 2 2) (Some (call_in 2 1)) ∷ Leave (call_in 2 1) ∷ Ret (call_in 2 1) None ∷ Enter (call_in 0 2) Normal (record { 0 = 0 }) None ∷ Body (call_in 0 2) (record { 0 = 0 }) Nop ∷ Leave (call_in 0 2) ∷ Ret (call_in 0 2) None ∷ []
 
 pub job_2011-plays : Plays job_2011 job_2011-items true
-unfolding actors_of repeated start step run played play all_end control_next control_got cpu_next cpu_got insn desk
+unfolding actors_of repeated start step run played play all_end control_next control_got cpu_next cpu_got insn moves desk
 job_2011-plays = (refl, refl)
 
 abbrev pub job_2014 : Job
@@ -89,7 +89,7 @@ abbrev pub job_2014-items : List Item
 job_2014-items = Begin 1 ∷ Return 1 Accepted ∷ Begin 2 ∷ Return 2 Accepted ∷ Begin 3 ∷ Return 3 Invalid ∷ Begin 4 ∷ Return 4 Invalid ∷ Begin 5 ∷ Return 5 Accepted ∷ Begin 6 ∷ Enter (call_in 0 1) Irq (record { 0 = 0 }) None ∷ Body (call_in 0 1) (record { 0 = 0 }) Nop ∷ Leave (call_in 0 1) ∷ Ret (call_in 0 1) None ∷ Enter (call_in 0 2) Irq (record { 0 = 0 }) None ∷ Back (call_in 0 2) (record { 0 = 1 }) ∷ Enter (call_in 0 3) Irq (record { 0 = 0 }) (Some (call_in 0 2)) ∷ Refuse (call_in 0 3) (record { 0 = 1 }) Recursion ∷ Body (call_in 0 3) (record { 0 = 0 }) (Own (record { 0 = 1 })) ∷ Leave (call_in 0 3) ∷ Ret (call_in 0 3) (Some (call_in 0 2)) ∷ BackEnd (call_in 0 2) (record { 0 = 1 }) ∷ Body (call_in 0 2) (record { 0 = 0 }) (Own (record { 0 = 1 })) ∷ Enter (call_in 0 4) Irq (record { 0 = 0 }) (Some (call_in 0 2)) ∷ Back (call_in 0 4) (record { 0 = 1 }) ∷ Enter (call_in 0 5) Irq (record { 0 = 0 }) (Some (call_in 0 4)) ∷ Refuse (call_in 0 5) (record { 0 = 1 }) Recursion ∷ Body (call_in 0 5) (record { 0 = 0 }) (Own (record { 0 = 1 })) ∷ Leave (call_in 0 5) ∷ Ret (call_in 0 5) (Some (call_in 0 4)) ∷ BackEnd (call_in 0 4) (record { 0 = 1 }) ∷ Body (call_in 0 4) (record { 0 = 0 }) (Own (record { 0 = 1 })) ∷ Leave (call_in 0 4) ∷ Return 6 Accepted ∷ Ret (call_in 0 4) (Some (call_in 0 2)) ∷ Leave (call_in 0 2) ∷ Ret (call_in 0 2) None ∷ []
 
 pub job_2014-plays : Plays job_2014 job_2014-items true
-unfolding actors_of repeated start step run played play all_end control_next control_got cpu_next cpu_got insn desk
+unfolding actors_of repeated start step run played play all_end control_next control_got cpu_next cpu_got insn moves desk
 job_2014-plays = (refl, refl)
 
 abbrev pub job_2015 : Job
@@ -99,7 +99,7 @@ abbrev pub job_2015-items : List Item
 job_2015-items = Enter (call_in 0 1) Normal (record { 0 = 0 }) None ∷ Body (call_in 0 1) (record { 0 = 0 }) Nop ∷ Begin 1 ∷ Return 1 Accepted ∷ Begin 2 ∷ Return 2 Accepted ∷ Begin 3 ∷ Enter (call_in 0 2) Normal (record { 0 = 0 }) (Some (call_in 0 1)) ∷ Back (call_in 0 2) (record { 0 = 0 }) ∷ BackEnd (call_in 0 2) (record { 0 = 0 }) ∷ Body (call_in 0 2) (record { 0 = 0 }) (Own (record { 0 = 0 })) ∷ Leave (call_in 0 2) ∷ Return 3 Accepted ∷ Ret (call_in 0 2) (Some (call_in 0 1)) ∷ Begin 4 ∷ Return 4 Already ∷ Leave (call_in 0 1) ∷ Ret (call_in 0 1) None ∷ []
 
 pub job_2015-plays : Plays job_2015 job_2015-items true
-unfolding actors_of repeated start step run played play all_end control_next control_got cpu_next cpu_got insn desk
+unfolding actors_of repeated start step run played play all_end control_next control_got cpu_next cpu_got insn moves desk
 job_2015-plays = (refl, refl)
 
 abbrev pub job_2016 : Job
@@ -109,7 +109,7 @@ abbrev pub job_2016-items : List Item
 job_2016-items = Begin 1 ∷ Return 1 Accepted ∷ Begin 2 ∷ Return 2 Accepted ∷ Begin 3 ∷ Return 3 NotThere ∷ Begin 4 ∷ Return 4 Accepted ∷ Enter (call_in 0 1) Normal (record { 0 = 3 }) None ∷ Body (call_in 0 1) (record { 0 = 3 }) Nop ∷ Enter (call_in 0 2) Normal (record { 0 = 3 }) (Some (call_in 0 1)) ∷ Body (call_in 0 2) (record { 0 = 3 }) Nop ∷ Leave (call_in 0 2) ∷ Ret (call_in 0 2) (Some (call_in 0 1)) ∷ Leave (call_in 0 1) ∷ Ret (call_in 0 1) None ∷ Begin 5 ∷ Return 5 Accepted ∷ Begin 6 ∷ Return 6 Accepted ∷ []
 
 pub job_2016-plays : Plays job_2016 job_2016-items true
-unfolding actors_of repeated start step run played play all_end control_next control_got cpu_next cpu_got insn desk
+unfolding actors_of repeated start step run played play all_end control_next control_got cpu_next cpu_got insn moves desk
 job_2016-plays = (refl, refl)
 
 abbrev pub job_2017 : Job
@@ -119,7 +119,7 @@ abbrev pub job_2017-items : List Item
 job_2017-items = Enter (call_in 0 1) Nmi (record { 0 = 1 }) None ∷ Body (call_in 0 1) (record { 0 = 1 }) Nop ∷ Enter (call_in 0 2) Nmi (record { 0 = 1 }) (Some (call_in 0 1)) ∷ Body (call_in 0 2) (record { 0 = 1 }) Nop ∷ Begin 1 ∷ Leave (call_in 0 2) ∷ Ret (call_in 0 2) (Some (call_in 0 1)) ∷ Enter (call_in 0 3) Nmi (record { 0 = 1 }) (Some (call_in 0 1)) ∷ Body (call_in 0 3) (record { 0 = 1 }) Nop ∷ Enter (call_in 0 4) Nmi (record { 0 = 0 }) (Some (call_in 0 3)) ∷ Body (call_in 0 4) (record { 0 = 0 }) Nop ∷ Leave (call_in 0 4) ∷ Ret (call_in 0 4) (Some (call_in 0 3)) ∷ Leave (call_in 0 3) ∷ Ret (call_in 0 3) (Some (call_in 0 1)) ∷ Leave (call_in 0 1) ∷ Ret (call_in 0 1) None ∷ Return 1 Accepted ∷ Begin 2 ∷ Return 2 Accepted ∷ Begin 3 ∷ Return 3 Accepted ∷ []
 
 pub job_2017-plays : Plays job_2017 job_2017-items true
-unfolding actors_of repeated start step run played play all_end control_next control_got cpu_next cpu_got insn desk
+unfolding actors_of repeated start step run played play all_end control_next control_got cpu_next cpu_got insn moves desk
 job_2017-plays = (refl, refl)
 
 abbrev pub job_2026 : Job
@@ -129,7 +129,7 @@ abbrev pub job_2026-items : List Item
 job_2026-items = Begin 1 ∷ Return 1 Accepted ∷ Begin 2 ∷ Return 2 Accepted ∷ Begin 3 ∷ Return 3 Accepted ∷ Begin 4 ∷ Return 4 Accepted ∷ Begin 5 ∷ Return 5 Accepted ∷ Enter (call_in 0 1) Normal (record { 0 = 0 }) None ∷ Back (call_in 0 1) (record { 0 = 3 }) ∷ BackEnd (call_in 0 1) (record { 0 = 3 }) ∷ Back (call_in 0 1) (record { 0 = 0 }) ∷ Enter (call_in 0 2) Irq (record { 0 = 0 }) (Some (call_in 0 1)) ∷ Back (call_in 0 2) (record { 0 = 3 }) ∷ BackEnd (call_in 0 2) (record { 0 = 3 }) ∷ Back (call_in 0 2) (record { 0 = 0 }) ∷ Miss (call_in 0 2) (record { 0 = 0 }) ∷ BackEnd (call_in 0 2) (record { 0 = 0 }) ∷ Body (call_in 0 2) (record { 0 = 0 }) ByList ∷ Leave (call_in 0 2) ∷ Ret (call_in 0 2) (Some (call_in 0 1)) ∷ BackEnd (call_in 0 1) (record { 0 = 0 }) ∷ Body (call_in 0 1) (record { 0 = 0 }) ByList ∷ Leave (call_in 0 1) ∷ Ret (call_in 0 1) None ∷ Enter (call_in 0 3) Normal (record { 0 = 0 }) None ∷ Back (call_in 0 3) (record { 0 = 3 }) ∷ BackEnd (call_in 0 3) (record { 0 = 3 }) ∷ Back (call_in 0 3) (record { 0 = 0 }) ∷ Enter (call_in 0 4) Irq (record { 0 = 0 }) (Some (call_in 0 3)) ∷ Back (call_in 0 4) (record { 0 = 3 }) ∷ BackEnd (call_in 0 4) (record { 0 = 3 }) ∷ Back (call_in 0 4) (record { 0 = 0 }) ∷ Miss (call_in 0 4) (record { 0 = 0 }) ∷ BackEnd (call_in 0 4) (record { 0 = 0 }) ∷ Body (call_in 0 4) (record { 0 = 0 }) ByList ∷ Leave (call_in 0 4) ∷ Ret (call_in 0 4) (Some (call_in 0 3)) ∷ BackEnd (call_in 0 3) (record { 0 = 0 }) ∷ Body (call_in 0 3) (record { 0 = 0 }) ByList ∷ Leave (call_in 0 3) ∷ Ret (call_in 0 3) None ∷ []
 
 pub job_2026-plays : Plays job_2026 job_2026-items true
-unfolding actors_of repeated start step run played play all_end control_next control_got cpu_next cpu_got insn desk
+unfolding actors_of repeated start step run played play all_end control_next control_got cpu_next cpu_got insn moves desk
 job_2026-plays = (refl, refl)
 
 abbrev pub job_2027 : Job
@@ -139,7 +139,7 @@ abbrev pub job_2027-items : List Item
 job_2027-items = Enter (call_in 0 1) Normal (record { 0 = 0 }) None ∷ Body (call_in 0 1) (record { 0 = 0 }) Nop ∷ Leave (call_in 0 1) ∷ Ret (call_in 0 1) None ∷ Begin 1 ∷ Return 1 NotThere ∷ Begin 2 ∷ Return 2 NotThere ∷ Begin 3 ∷ Enter (call_in 2 1) Normal (record { 0 = 0 }) None ∷ Body (call_in 2 1) (record { 0 = 0 }) Nop ∷ Enter (call_in 2 2) Normal (record { 0 = 0 }) (Some (call_in 2 1)) ∷ Return 3 Accepted ∷ Begin 4 ∷ Body (call_in 2 2) (record { 0 = 0 }) Nop ∷ Leave (call_in 2 2) ∷ Ret (call_in 2 2) (Some (call_in 2 1)) ∷ Leave (call_in 2 1) ∷ Ret (call_in 2 1) None ∷ Enter (call_in 1 1) Normal (record { 0 = 0 }) None ∷ Body (call_in 1 1) (record { 0 = 0 }) Nop ∷ Enter (call_in 1 2) Nmi (record { 0 = 0 }) (Some (call_in 1 1)) ∷ Body (call_in 1 2) (record { 0 = 0 }) Nop ∷ Enter (call_in 1 3) Nmi (record { 0 = 0 }) (Some (call_in 1 2)) ∷ Return 4 Accepted ∷ Body (call_in 1 3) (record { 0 = 0 }) Nop ∷ Enter (call_in 1 4) Nmi (record { 0 = 0 }) (Some (call_in 1 3)) ∷ Body (call_in 1 4) (record { 0 = 0 }) Nop ∷ Leave (call_in 1 4) ∷ Ret (call_in 1 4) (Some (call_in 1 3)) ∷ Leave (call_in 1 3) ∷ Ret (call_in 1 3) (Some (call_in 1 2)) ∷ Leave (call_in 1 2) ∷ Ret (call_in 1 2) (Some (call_in 1 1)) ∷ Leave (call_in 1 1) ∷ Ret (call_in 1 1) None ∷ []
 
 pub job_2027-plays : Plays job_2027 job_2027-items true
-unfolding actors_of repeated start step run played play all_end control_next control_got cpu_next cpu_got insn desk
+unfolding actors_of repeated start step run played play all_end control_next control_got cpu_next cpu_got insn moves desk
 job_2027-plays = (refl, refl)
 
 abbrev pub job_2028 : Job
@@ -149,7 +149,7 @@ abbrev pub job_2028-items : List Item
 job_2028-items = Enter (call_in 0 1) Softirq (record { 0 = 1 }) None ∷ Body (call_in 0 1) (record { 0 = 1 }) Nop ∷ Begin 1 ∷ Enter (call_in 0 2) Irq (record { 0 = 0 }) (Some (call_in 0 1)) ∷ Back (call_in 0 2) (record { 0 = 1 }) ∷ Enter (call_in 0 3) Irq (record { 0 = 0 }) (Some (call_in 0 2)) ∷ Refuse (call_in 0 3) (record { 0 = 1 }) Recursion ∷ Body (call_in 0 3) (record { 0 = 0 }) (Own (record { 0 = 1 })) ∷ Leave (call_in 0 3) ∷ Ret (call_in 0 3) (Some (call_in 0 2)) ∷ BackEnd (call_in 0 2) (record { 0 = 1 }) ∷ Body (call_in 0 2) (record { 0 = 0 }) (Own (record { 0 = 1 })) ∷ Leave (call_in 0 2) ∷ Ret (call_in 0 2) (Some (call_in 0 1)) ∷ Enter (call_in 0 4) Irq (record { 0 = 1 }) (Some (call_in 0 1)) ∷ Back (call_in 0 4) (record { 0 = 1 }) ∷ Enter (call_in 0 5) Irq (record { 0 = 0 }) (Some (call_in 0 4)) ∷ Refuse (call_in 0 5) (record { 0 = 1 }) Recursion ∷ Body (call_in 0 5) (record { 0 = 0 }) (Own (record { 0 = 1 })) ∷ Leave (call_in 0 5) ∷ Ret (call_in 0 5) (Some (call_in 0 4)) ∷ BackEnd (call_in 0 4) (record { 0 = 1 }) ∷ Body (call_in 0 4) (record { 0 = 1 }) (Own (record { 0 = 1 })) ∷ Return 1 Accepted ∷ Leave (call_in 0 4) ∷ Begin 2 ∷ Ret (call_in 0 4) (Some (call_in 0 1)) ∷ Return 2 Already ∷ Begin 3 ∷ Leave (call_in 0 1) ∷ Ret (call_in 0 1) None ∷ Return 3 Accepted ∷ Begin 4 ∷ Return 4 Accepted ∷ Begin 5 ∷ Return 5 Accepted ∷ Begin 6 ∷ Return 6 Accepted ∷ Begin 7 ∷ Return 7 NotThere ∷ []
 
 pub job_2028-plays : Plays job_2028 job_2028-items true
-unfolding actors_of repeated start step run played play all_end control_next control_got cpu_next cpu_got insn desk
+unfolding actors_of repeated start step run played play all_end control_next control_got cpu_next cpu_got insn moves desk
 job_2028-plays = (refl, refl)
 
 abbrev pub job_2030 : Job
@@ -159,7 +159,7 @@ abbrev pub job_2030-items : List Item
 job_2030-items = Enter (call_in 1 1) Normal (record { 0 = 0 }) None ∷ Body (call_in 1 1) (record { 0 = 0 }) Nop ∷ Enter (call_in 1 2) Normal (record { 0 = 0 }) (Some (call_in 1 1)) ∷ Body (call_in 1 2) (record { 0 = 0 }) Nop ∷ Leave (call_in 1 2) ∷ Ret (call_in 1 2) (Some (call_in 1 1)) ∷ Begin 1 ∷ Return 1 NotThere ∷ Leave (call_in 1 1) ∷ Begin 2 ∷ Ret (call_in 1 1) None ∷ Return 2 Accepted ∷ Begin 3 ∷ Return 3 NotThere ∷ Begin 4 ∷ Return 4 Accepted ∷ Begin 5 ∷ Enter (call_in 0 1) Softirq (record { 0 = 0 }) None ∷ Return 5 Accepted ∷ Body (call_in 0 1) (record { 0 = 0 }) Nop ∷ Begin 6 ∷ Return 6 NotThere ∷ Begin 7 ∷ Leave (call_in 0 1) ∷ Ret (call_in 0 1) None ∷ Enter (call_in 2 1) Irq (record { 0 = 2 }) None ∷ Body (call_in 2 1) (record { 0 = 2 }) Nop ∷ Enter (call_in 0 2) Normal (record { 0 = 0 }) None ∷ Body (call_in 0 2) (record { 0 = 0 }) Nop ∷ Enter (call_in 2 2) Nmi (record { 0 = 1 }) (Some (call_in 2 1)) ∷ Leave (call_in 0 2) ∷ Ret (call_in 0 2) None ∷ Back (call_in 2 2) (record { 0 = 3 }) ∷ BackEnd (call_in 2 2) (record { 0 = 3 }) ∷ Body (call_in 2 2) (record { 0 = 1 }) (Own (record { 0 = 3 })) ∷ Enter (call_in 2 3) Nmi (record { 0 = 0 }) (Some (call_in 2 2)) ∷ Back (call_in 2 3) (record { 0 = 3 }) ∷ BackEnd (call_in 2 3) (record { 0 = 3 }) ∷ Body (call_in 2 3) (record { 0 = 0 }) (Own (record { 0 = 3 })) ∷ Leave (call_in 2 3) ∷ Ret (call_in 2 3) (Some (call_in 2 2)) ∷ Leave (call_in 2 2) ∷ Ret (call_in 2 2) (Some (call_in 2 1)) ∷ Return 7 Accepted ∷ Leave (call_in 2 1) ∷ Ret (call_in 2 1) None ∷ []
 
 pub job_2030-plays : Plays job_2030 job_2030-items true
-unfolding actors_of repeated start step run played play all_end control_next control_got cpu_next cpu_got insn desk
+unfolding actors_of repeated start step run played play all_end control_next control_got cpu_next cpu_got insn moves desk
 job_2030-plays = (refl, refl)
 
 abbrev pub job_2033 : Job
@@ -169,7 +169,7 @@ abbrev pub job_2033-items : List Item
 job_2033-items = Begin 1 ∷ Return 1 NotThere ∷ Begin 2 ∷ Return 2 Accepted ∷ Begin 3 ∷ Enter (call_in 0 1) Nmi (record { 0 = 62 }) None ∷ Enter (call_in 1 1) Nmi (record { 0 = 64 }) None ∷ Body (call_in 1 1) (record { 0 = 64 }) Nop ∷ Enter (call_in 1 2) Nmi (record { 0 = 65 }) (Some (call_in 1 1)) ∷ Body (call_in 0 1) (record { 0 = 62 }) Nop ∷ Leave (call_in 0 1) ∷ Ret (call_in 0 1) None ∷ Body (call_in 1 2) (record { 0 = 65 }) Nop ∷ Leave (call_in 1 2) ∷ Ret (call_in 1 2) (Some (call_in 1 1)) ∷ Leave (call_in 1 1) ∷ Ret (call_in 1 1) None ∷ Return 3 Accepted ∷ []
 
 pub job_2033-plays : Plays job_2033 job_2033-items true
-unfolding actors_of repeated start step run played play all_end control_next control_got cpu_next cpu_got insn desk
+unfolding actors_of repeated start step run played play all_end control_next control_got cpu_next cpu_got insn moves desk
 job_2033-plays = (refl, refl)
 
 abbrev pub job_2034 : Job
@@ -179,7 +179,7 @@ abbrev pub job_2034-items : List Item
 job_2034-items = Begin 1 ∷ Return 1 Accepted ∷ Begin 2 ∷ Return 2 NotThere ∷ Enter (call_in 0 1) Irq (record { 0 = 0 }) None ∷ Enter (call_in 1 1) Irq (record { 0 = 0 }) None ∷ Body (call_in 0 1) (record { 0 = 0 }) Nop ∷ Leave (call_in 0 1) ∷ Ret (call_in 0 1) None ∷ Body (call_in 1 1) (record { 0 = 0 }) Nop ∷ Leave (call_in 1 1) ∷ Enter (call_in 0 2) Normal (record { 0 = 0 }) None ∷ Body (call_in 0 2) (record { 0 = 0 }) Nop ∷ Ret (call_in 1 1) None ∷ Enter (call_in 1 2) Irq (record { 0 = 0 }) None ∷ Enter (call_in 0 3) Normal (record { 0 = 0 }) (Some (call_in 0 2)) ∷ Body (call_in 0 3) (record { 0 = 0 }) Nop ∷ Body (call_in 1 2) (record { 0 = 0 }) Nop ∷ Enter (call_in 1 3) Irq (record { 0 = 0 }) (Some (call_in 1 2)) ∷ Body (call_in 1 3) (record { 0 = 0 }) Nop ∷ Enter (call_in 0 4) Normal (record { 0 = 0 }) (Some (call_in 0 3)) ∷ Body (call_in 0 4) (record { 0 = 0 }) Nop ∷ Leave (call_in 1 3) ∷ Ret (call_in 1 3) (Some (call_in 1 2)) ∷ Leave (call_in 1 2) ∷ Ret (call_in 1 2) None ∷ Enter (call_in 0 5) Normal (record { 0 = 0 }) (Some (call_in 0 4)) ∷ Body (call_in 0 5) (record { 0 = 0 }) Nop ∷ Begin 3 ∷ Enter (call_in 0 6) Normal (record { 0 = 0 }) (Some (call_in 0 5)) ∷ Body (call_in 0 6) (record { 0 = 0 }) Nop ∷ Leave (call_in 0 6) ∷ Ret (call_in 0 6) (Some (call_in 0 5)) ∷ Leave (call_in 0 5) ∷ Ret (call_in 0 5) (Some (call_in 0 4)) ∷ Leave (call_in 0 4) ∷ Ret (call_in 0 4) (Some (call_in 0 3)) ∷ Leave (call_in 0 3) ∷ Ret (call_in 0 3) (Some (call_in 0 2)) ∷ Leave (call_in 0 2) ∷ Ret (call_in 0 2) None ∷ Return 3 Accepted ∷ []
 
 pub job_2034-plays : Plays job_2034 job_2034-items true
-unfolding actors_of repeated start step run played play all_end control_next control_got cpu_next cpu_got insn desk
+unfolding actors_of repeated start step run played play all_end control_next control_got cpu_next cpu_got insn moves desk
 job_2034-plays = (refl, refl)
 
 abbrev pub job_2035 : Job
@@ -189,7 +189,7 @@ abbrev pub job_2035-items : List Item
 job_2035-items = Begin 1 ∷ Return 1 NotThere ∷ Begin 2 ∷ Return 2 Accepted ∷ Begin 3 ∷ Return 3 NotThere ∷ Enter (call_in 0 1) Nmi (record { 0 = 62 }) None ∷ Back (call_in 0 1) (record { 0 = 1 }) ∷ BackEnd (call_in 0 1) (record { 0 = 1 }) ∷ Body (call_in 0 1) (record { 0 = 62 }) (Own (record { 0 = 1 })) ∷ Enter (call_in 0 2) Nmi (record { 0 = 63 }) (Some (call_in 0 1)) ∷ Back (call_in 0 2) (record { 0 = 1 }) ∷ BackEnd (call_in 0 2) (record { 0 = 1 }) ∷ Body (call_in 0 2) (record { 0 = 63 }) (Own (record { 0 = 1 })) ∷ Leave (call_in 0 2) ∷ Ret (call_in 0 2) (Some (call_in 0 1)) ∷ Enter (call_in 0 3) Nmi (record { 0 = 64 }) (Some (call_in 0 1)) ∷ Back (call_in 0 3) (record { 0 = 1 }) ∷ BackEnd (call_in 0 3) (record { 0 = 1 }) ∷ Body (call_in 0 3) (record { 0 = 64 }) (Own (record { 0 = 1 })) ∷ []
 
 pub job_2035-plays : Plays job_2035 job_2035-items false
-unfolding actors_of repeated start step run played play all_end control_next control_got cpu_next cpu_got insn desk
+unfolding actors_of repeated start step run played play all_end control_next control_got cpu_next cpu_got insn moves desk
 job_2035-plays = (refl, refl)
 
 abbrev pub job_2037 : Job
@@ -199,7 +199,7 @@ abbrev pub job_2037-items : List Item
 job_2037-items = Begin 1 ∷ Enter (call_in 0 1) Normal (record { 0 = 62 }) None ∷ Return 1 Accepted ∷ Body (call_in 0 1) (record { 0 = 62 }) Nop ∷ Leave (call_in 0 1) ∷ Ret (call_in 0 1) None ∷ Enter (call_in 1 1) Softirq (record { 0 = 62 }) None ∷ Body (call_in 1 1) (record { 0 = 62 }) Nop ∷ Enter (call_in 1 2) Softirq (record { 0 = 62 }) (Some (call_in 1 1)) ∷ Body (call_in 1 2) (record { 0 = 62 }) Nop ∷ Enter (call_in 1 3) Softirq (record { 0 = 62 }) (Some (call_in 1 2)) ∷ Body (call_in 1 3) (record { 0 = 62 }) Nop ∷ Leave (call_in 1 3) ∷ Ret (call_in 1 3) (Some (call_in 1 2)) ∷ Leave (call_in 1 2) ∷ Ret (call_in 1 2) (Some (call_in 1 1)) ∷ Leave (call_in 1 1) ∷ Ret (call_in 1 1) None ∷ Begin 2 ∷ Return 2 Accepted ∷ Begin 3 ∷ Return 3 NotThere ∷ Begin 4 ∷ Return 4 Accepted ∷ []
 
 pub job_2037-plays : Plays job_2037 job_2037-items true
-unfolding actors_of repeated start step run played play all_end control_next control_got cpu_next cpu_got insn desk
+unfolding actors_of repeated start step run played play all_end control_next control_got cpu_next cpu_got insn moves desk
 job_2037-plays = (refl, refl)
 
 abbrev pub job_2038 : Job
@@ -209,7 +209,7 @@ abbrev pub job_2038-items : List Item
 job_2038-items = Begin 1 ∷ Return 1 Accepted ∷ Begin 2 ∷ Return 2 Accepted ∷ Begin 3 ∷ Return 3 Accepted ∷ Begin 4 ∷ Enter (call_in 0 1) Irq (record { 0 = 0 }) None ∷ Body (call_in 0 1) (record { 0 = 0 }) Nop ∷ Leave (call_in 0 1) ∷ Ret (call_in 0 1) None ∷ Return 4 Accepted ∷ Begin 5 ∷ Return 5 Accepted ∷ []
 
 pub job_2038-plays : Plays job_2038 job_2038-items true
-unfolding actors_of repeated start step run played play all_end control_next control_got cpu_next cpu_got insn desk
+unfolding actors_of repeated start step run played play all_end control_next control_got cpu_next cpu_got insn moves desk
 job_2038-plays = (refl, refl)
 
 abbrev pub job_2039 : Job
@@ -219,7 +219,7 @@ abbrev pub job_2039-items : List Item
 job_2039-items = Begin 1 ∷ Return 1 NotThere ∷ Begin 2 ∷ Return 2 Accepted ∷ Begin 3 ∷ Return 3 Invalid ∷ Begin 4 ∷ Return 4 NotThere ∷ Begin 5 ∷ Return 5 Accepted ∷ Begin 6 ∷ Return 6 Accepted ∷ Begin 7 ∷ Return 7 Accepted ∷ Enter (call_in 0 1) Irq (record { 0 = 1 }) None ∷ Enter (call_in 1 1) Nmi (record { 0 = 3 }) None ∷ Back (call_in 0 1) (record { 0 = 1 }) ∷ Enter (call_in 0 2) Irq (record { 0 = 3 }) (Some (call_in 0 1)) ∷ Refuse (call_in 0 2) (record { 0 = 1 }) Recursion ∷ Back (call_in 1 1) (record { 0 = 1 }) ∷ Enter (call_in 1 2) Nmi (record { 0 = 3 }) (Some (call_in 1 1)) ∷ Body (call_in 0 2) (record { 0 = 3 }) (Own (record { 0 = 1 })) ∷ Leave (call_in 0 2) ∷ Ret (call_in 0 2) (Some (call_in 0 1)) ∷ BackEnd (call_in 0 1) (record { 0 = 1 }) ∷ Body (call_in 0 1) (record { 0 = 1 }) (Own (record { 0 = 1 })) ∷ Refuse (call_in 1 2) (record { 0 = 1 }) Recursion ∷ Body (call_in 1 2) (record { 0 = 3 }) (Own (record { 0 = 1 })) ∷ Leave (call_in 1 2) ∷ Leave (call_in 0 1) ∷ Exit (call_in 0 1) (record { 0 = 1 }) 16 ∷ Ret (call_in 1 2) (Some (call_in 1 1)) ∷ BackEnd (call_in 1 1) (record { 0 = 1 }) ∷ Body (call_in 1 1) (record { 0 = 3 }) (Own (record { 0 = 1 })) ∷ ExitEnd (call_in 0 1) (record { 0 = 1 }) ∷ Ret (call_in 0 1) None ∷ Enter (call_in 1 3) Nmi (record { 0 = 2 }) (Some (call_in 1 1)) ∷ Enter (call_in 0 3) Irq (record { 0 = 3 }) None ∷ Refuse (call_in 1 3) (record { 0 = 1 }) Depth ∷ Body (call_in 1 3) (record { 0 = 2 }) (Own (record { 0 = 1 })) ∷ Back (call_in 0 3) (record { 0 = 1 }) ∷ Enter (call_in 0 4) Irq (record { 0 = 3 }) (Some (call_in 0 3)) ∷ Enter (call_in 1 4) Nmi (record { 0 = 1 }) (Some (call_in 1 3)) ∷ Refuse (call_in 0 4) (record { 0 = 1 }) Recursion ∷ Body (call_in 0 4) (record { 0 = 3 }) (Own (record { 0 = 1 })) ∷ Leave (call_in 0 4) ∷ Ret (call_in 0 4) (Some (call_in 0 3)) ∷ Refuse (call_in 1 4) (record { 0 = 1 }) Depth ∷ Body (call_in 1 4) (record { 0 = 1 }) (Own (record { 0 = 1 })) ∷ BackEnd (call_in 0 3) (record { 0 = 1 }) ∷ Body (call_in 0 3) (record { 0 = 3 }) (Own (record { 0 = 1 })) ∷ Leave (call_in 1 4) ∷ Ret (call_in 1 4) (Some (call_in 1 3)) ∷ Leave (call_in 0 3) ∷ Exit (call_in 0 3) (record { 0 = 1 }) 40 ∷ Leave (call_in 1 3) ∷ Ret (call_in 1 3) (Some (call_in 1 1)) ∷ ExitEnd (call_in 0 3) (record { 0 = 1 }) ∷ Ret (call_in 0 3) None ∷ Leave (call_in 1 1) ∷ Exit (call_in 1 1) (record { 0 = 1 }) 19 ∷ ExitEnd (call_in 1 1) (record { 0 = 1 }) ∷ Ret (call_in 1 1) None ∷ []
 
 pub job_2039-plays : Plays job_2039 job_2039-items true
-unfolding actors_of repeated start step run played play all_end control_next control_got cpu_next cpu_got insn desk
+unfolding actors_of repeated start step run played play all_end control_next control_got cpu_next cpu_got insn moves desk
 job_2039-plays = (refl, refl)
 
 abbrev pub job_2041 : Job
@@ -229,7 +229,7 @@ abbrev pub job_2041-items : List Item
 job_2041-items = Begin 1 ∷ Return 1 Accepted ∷ Begin 2 ∷ Return 2 NotThere ∷ Begin 3 ∷ Return 3 NotThere ∷ Begin 4 ∷ Enter (call_in 0 1) Normal (record { 0 = 0 }) None ∷ Body (call_in 0 1) (record { 0 = 0 }) Nop ∷ Enter (call_in 0 2) Nmi (record { 0 = 0 }) (Some (call_in 0 1)) ∷ Return 4 Accepted ∷ Body (call_in 0 2) (record { 0 = 0 }) Nop ∷ Leave (call_in 0 2) ∷ Ret (call_in 0 2) (Some (call_in 0 1)) ∷ Leave (call_in 0 1) ∷ Ret (call_in 0 1) None ∷ []
 
 pub job_2041-plays : Plays job_2041 job_2041-items true
-unfolding actors_of repeated start step run played play all_end control_next control_got cpu_next cpu_got insn desk
+unfolding actors_of repeated start step run played play all_end control_next control_got cpu_next cpu_got insn moves desk
 job_2041-plays = (refl, refl)
 
 abbrev pub job_2042 : Job
@@ -239,7 +239,7 @@ abbrev pub job_2042-items : List Item
 job_2042-items = Begin 1 ∷ Return 1 NotThere ∷ Begin 2 ∷ Return 2 Accepted ∷ Begin 3 ∷ Return 3 NotThere ∷ Begin 4 ∷ Return 4 Accepted ∷ Begin 5 ∷ Return 5 NotThere ∷ Begin 6 ∷ Return 6 NotThere ∷ Enter (call_in 0 1) Normal (record { 0 = 1 }) None ∷ Body (call_in 0 1) (record { 0 = 1 }) Nop ∷ Enter (call_in 0 2) Normal (record { 0 = 2 }) (Some (call_in 0 1)) ∷ Enter (call_in 1 1) Softirq (record { 0 = 1 }) None ∷ Body (call_in 1 1) (record { 0 = 1 }) Nop ∷ Body (call_in 0 2) (record { 0 = 2 }) Nop ∷ Leave (call_in 0 2) ∷ Enter (call_in 1 2) Softirq (record { 0 = 2 }) (Some (call_in 1 1)) ∷ Body (call_in 1 2) (record { 0 = 2 }) Nop ∷ Leave (call_in 1 2) ∷ Ret (call_in 0 2) (Some (call_in 0 1)) ∷ Leave (call_in 0 1) ∷ Ret (call_in 0 1) None ∷ Ret (call_in 1 2) (Some (call_in 1 1)) ∷ Enter (call_in 1 3) Softirq (record { 0 = 1 }) (Some (call_in 1 1)) ∷ Body (call_in 1 3) (record { 0 = 1 }) Nop ∷ Leave (call_in 1 3) ∷ Ret (call_in 1 3) (Some (call_in 1 1)) ∷ Enter (call_in 1 4) Irq (record { 0 = 2 }) (Some (call_in 1 1)) ∷ Body (call_in 1 4) (record { 0 = 2 }) Nop ∷ Leave (call_in 1 4) ∷ Ret (call_in 1 4) (Some (call_in 1 1)) ∷ Leave (call_in 1 1) ∷ Ret (call_in 1 1) None ∷ []
 
 pub job_2042-plays : Plays job_2042 job_2042-items true
-unfolding actors_of repeated start step run played play all_end control_next control_got cpu_next cpu_got insn desk
+unfolding actors_of repeated start step run played play all_end control_next control_got cpu_next cpu_got insn moves desk
 job_2042-plays = (refl, refl)
 
 abbrev pub job_2043 : Job
@@ -249,7 +249,7 @@ abbrev pub job_2043-items : List Item
 job_2043-items = Begin 1 ∷ Return 1 Accepted ∷ Begin 2 ∷ Return 2 Accepted ∷ Begin 3 ∷ Return 3 NotThere ∷ Begin 4 ∷ Enter (call_in 2 1) Normal (record { 0 = 3 }) None ∷ Body (call_in 2 1) (record { 0 = 3 }) (Own (record { 0 = 1 })) ∷ Leave (call_in 2 1) ∷ Ret (call_in 2 1) None ∷ Return 4 Accepted ∷ Enter (call_in 2 2) Normal (record { 0 = 1 }) None ∷ Body (call_in 2 2) (record { 0 = 1 }) Nop ∷ Enter (call_in 2 3) Normal (record { 0 = 1 }) (Some (call_in 2 2)) ∷ Enter (call_in 0 1) Softirq (record { 0 = 2 }) None ∷ Body (call_in 2 3) (record { 0 = 1 }) Nop ∷ Body (call_in 0 1) (record { 0 = 2 }) Nop ∷ Leave (call_in 2 3) ∷ Ret (call_in 2 3) (Some (call_in 2 2)) ∷ Leave (call_in 2 2) ∷ Ret (call_in 2 2) None ∷ Enter (call_in 0 2) Nmi (record { 0 = 2 }) (Some (call_in 0 1)) ∷ Body (call_in 0 2) (record { 0 = 2 }) Nop ∷ Enter (call_in 0 3) Nmi (record { 0 = 0 }) (Some (call_in 0 2)) ∷ Body (call_in 0 3) (record { 0 = 0 }) Nop ∷ Leave (call_in 0 3) ∷ Ret (call_in 0 3) (Some (call_in 0 2)) ∷ Leave (call_in 0 2) ∷ Ret (call_in 0 2) (Some (call_in 0 1)) ∷ Leave (call_in 0 1) ∷ Ret (call_in 0 1) None ∷ []
 
 pub job_2043-plays : Plays job_2043 job_2043-items true
-unfolding actors_of repeated start step run played play all_end control_next control_got cpu_next cpu_got insn desk
+unfolding actors_of repeated start step run played play all_end control_next control_got cpu_next cpu_got insn moves desk
 job_2043-plays = (refl, refl)
 
 abbrev pub job_2045 : Job
@@ -259,7 +259,7 @@ abbrev pub job_2045-items : List Item
 job_2045-items = Begin 1 ∷ Return 1 Accepted ∷ Begin 2 ∷ Return 2 Accepted ∷ Begin 3 ∷ Return 3 Accepted ∷ Begin 4 ∷ Enter (call_in 0 1) Normal (record { 0 = 63 }) None ∷ Body (call_in 0 1) (record { 0 = 63 }) Nop ∷ Enter (call_in 1 1) Normal (record { 0 = 62 }) None ∷ Enter (call_in 0 2) Normal (record { 0 = 63 }) (Some (call_in 0 1)) ∷ Body (call_in 1 1) (record { 0 = 62 }) Nop ∷ Body (call_in 0 2) (record { 0 = 63 }) Nop ∷ Leave (call_in 1 1) ∷ Ret (call_in 1 1) None ∷ Enter (call_in 0 3) Normal (record { 0 = 62 }) (Some (call_in 0 2)) ∷ Body (call_in 0 3) (record { 0 = 62 }) Nop ∷ Enter (call_in 0 4) Normal (record { 0 = 62 }) (Some (call_in 0 3)) ∷ Body (call_in 0 4) (record { 0 = 62 }) Nop ∷ Leave (call_in 0 4) ∷ Ret (call_in 0 4) (Some (call_in 0 3)) ∷ Leave (call_in 0 3) ∷ Ret (call_in 0 3) (Some (call_in 0 2)) ∷ Leave (call_in 0 2) ∷ Ret (call_in 0 2) (Some (call_in 0 1)) ∷ Leave (call_in 0 1) ∷ Ret (call_in 0 1) None ∷ Return 4 Accepted ∷ Enter (call_in 1 2) Normal (record { 0 = 62 }) None ∷ Back (call_in 1 2) (record { 0 = 2 }) ∷ BackEnd (call_in 1 2) (record { 0 = 2 }) ∷ Body (call_in 1 2) (record { 0 = 62 }) ByList ∷ Enter (call_in 1 3) Normal (record { 0 = 62 }) (Some (call_in 1 2)) ∷ Refuse (call_in 1 3) (record { 0 = 2 }) Depth ∷ Body (call_in 1 3) (record { 0 = 62 }) ByList ∷ Enter (call_in 1 4) Irq (record { 0 = 63 }) (Some (call_in 1 3)) ∷ Refuse (call_in 1 4) (record { 0 = 2 }) Depth ∷ Body (call_in 1 4) (record { 0 = 63 }) ByList ∷ Leave (call_in 1 4) ∷ []
 
 pub job_2045-plays : Plays job_2045 job_2045-items false
-unfolding actors_of repeated start step run played play all_end control_next control_got cpu_next cpu_got insn desk
+unfolding actors_of repeated start step run played play all_end control_next control_got cpu_next cpu_got insn moves desk
 job_2045-plays = (refl, refl)
 
 abbrev pub job_2048 : Job
@@ -269,7 +269,7 @@ abbrev pub job_2048-items : List Item
 job_2048-items = Enter (call_in 0 1) Normal (record { 0 = 1 }) None ∷ Body (call_in 0 1) (record { 0 = 1 }) Nop ∷ Leave (call_in 0 1) ∷ Ret (call_in 0 1) None ∷ Enter (call_in 0 2) Normal (record { 0 = 0 }) None ∷ Begin 1 ∷ Body (call_in 0 2) (record { 0 = 0 }) Nop ∷ Enter (call_in 0 3) Normal (record { 0 = 0 }) (Some (call_in 0 2)) ∷ Back (call_in 0 3) (record { 0 = 0 }) ∷ BackEnd (call_in 0 3) (record { 0 = 0 }) ∷ Body (call_in 0 3) (record { 0 = 0 }) (Own (record { 0 = 0 })) ∷ Enter (call_in 0 4) Normal (record { 0 = 2 }) (Some (call_in 0 3)) ∷ Back (call_in 0 4) (record { 0 = 0 }) ∷ BackEnd (call_in 0 4) (record { 0 = 0 }) ∷ Body (call_in 0 4) (record { 0 = 2 }) (Own (record { 0 = 0 })) ∷ Leave (call_in 0 4) ∷ Ret (call_in 0 4) (Some (call_in 0 3)) ∷ Return 1 Accepted ∷ Begin 2 ∷ Return 2 Accepted ∷ Begin 3 ∷ Return 3 Accepted ∷ Leave (call_in 0 3) ∷ Ret (call_in 0 3) (Some (call_in 0 2)) ∷ Leave (call_in 0 2) ∷ Ret (call_in 0 2) None ∷ Enter (call_in 1 1) Irq (record { 0 = 0 }) None ∷ Enter (call_in 2 1) Normal (record { 0 = 1 }) None ∷ Body (call_in 2 1) (record { 0 = 1 }) (Own (record { 0 = 0 })) ∷ Body (call_in 1 1) (record { 0 = 0 }) (Own (record { 0 = 0 })) ∷ Enter (call_in 1 2) Irq (record { 0 = 2 }) (Some (call_in 1 1)) ∷ Enter (call_in 2 2) Normal (record { 0 = 0 }) (Some (call_in 2 1)) ∷ Body (call_in 2 2) (record { 0 = 0 }) (Own (record { 0 = 0 })) ∷ Body (call_in 1 2) (record { 0 = 2 }) (Own (record { 0 = 0 })) ∷ Enter (call_in 1 3) Irq (record { 0 = 0 }) (Some (call_in 1 2)) ∷ Enter (call_in 2 3) Normal (record { 0 = 0 }) (Some (call_in 2 2)) ∷ Body (call_in 1 3) (record { 0 = 0 }) (Own (record { 0 = 0 })) ∷ Leave (call_in 1 3) ∷ Ret (call_in 1 3) (Some (call_in 1 2)) ∷ Body (call_in 2 3) (record { 0 = 0 }) (Own (record { 0 = 0 })) ∷ Leave (call_in 1 2) ∷ Ret (call_in 1 2) (Some (call_in 1 1)) ∷ Leave (call_in 1 1) ∷ Ret (call_in 1 1) None ∷ Enter (call_in 2 4) Softirq (record { 0 = 2 }) (Some (call_in 2 3)) ∷ Body (call_in 2 4) (record { 0 = 2 }) (Own (record { 0 = 0 })) ∷ Enter (call_in 2 5) Softirq (record { 0 = 0 }) (Some (call_in 2 4)) ∷ Body (call_in 2 5) (record { 0 = 0 }) (Own (record { 0 = 0 })) ∷ Leave (call_in 2 5) ∷ Ret (call_in 2 5) (Some (call_in 2 4)) ∷ Leave (call_in 2 4) ∷ Ret (call_in 2 4) (Some (call_in 2 3)) ∷ Leave (call_in 2 3) ∷ Ret (call_in 2 3) (Some (call_in 2 2)) ∷ Leave (call_in 2 2) ∷ Ret (call_in 2 2) (Some (call_in 2 1)) ∷ Leave (call_in 2 1) ∷ Ret (call_in 2 1) None ∷ []
 
 pub job_2048-plays : Plays job_2048 job_2048-items true
-unfolding actors_of repeated start step run played play all_end control_next control_got cpu_next cpu_got insn desk
+unfolding actors_of repeated start step run played play all_end control_next control_got cpu_next cpu_got insn moves desk
 job_2048-plays = (refl, refl)
 
 abbrev pub job_2049 : Job
@@ -279,7 +279,7 @@ abbrev pub job_2049-items : List Item
 job_2049-items = Begin 1 ∷ Enter (call_in 1 1) Nmi (record { 0 = 62 }) None ∷ Back (call_in 1 1) (record { 0 = 1 }) ∷ Enter (call_in 1 2) Nmi (record { 0 = 63 }) (Some (call_in 1 1)) ∷ Refuse (call_in 1 2) (record { 0 = 1 }) Recursion ∷ Body (call_in 1 2) (record { 0 = 63 }) ByList ∷ Leave (call_in 1 2) ∷ Ret (call_in 1 2) (Some (call_in 1 1)) ∷ BackEnd (call_in 1 1) (record { 0 = 1 }) ∷ Body (call_in 1 1) (record { 0 = 62 }) ByList ∷ Enter (call_in 1 3) Nmi (record { 0 = 62 }) (Some (call_in 1 1)) ∷ Back (call_in 1 3) (record { 0 = 1 }) ∷ Enter (call_in 1 4) Nmi (record { 0 = 63 }) (Some (call_in 1 3)) ∷ Refuse (call_in 1 4) (record { 0 = 1 }) Recursion ∷ Body (call_in 1 4) (record { 0 = 63 }) ByList ∷ Leave (call_in 1 4) ∷ Ret (call_in 1 4) (Some (call_in 1 3)) ∷ BackEnd (call_in 1 3) (record { 0 = 1 }) ∷ Body (call_in 1 3) (record { 0 = 62 }) ByList ∷ Enter (call_in 1 5) Nmi (record { 0 = 63 }) (Some (call_in 1 3)) ∷ Back (call_in 1 5) (record { 0 = 1 }) ∷ Enter (call_in 1 6) Nmi (record { 0 = 63 }) (Some (call_in 1 5)) ∷ Refuse (call_in 1 6) (record { 0 = 1 }) Recursion ∷ Body (call_in 1 6) (record { 0 = 63 }) ByList ∷ Leave (call_in 1 6) ∷ Ret (call_in 1 6) (Some (call_in 1 5)) ∷ BackEnd (call_in 1 5) (record { 0 = 1 }) ∷ Body (call_in 1 5) (record { 0 = 63 }) ByList ∷ Leave (call_in 1 5) ∷ Ret (call_in 1 5) (Some (call_in 1 3)) ∷ Leave (call_in 1 3) ∷ Ret (call_in 1 3) (Some (call_in 1 1)) ∷ Return 1 Accepted ∷ Begin 2 ∷ Return 2 Invalid ∷ Leave (call_in 1 1) ∷ Begin 3 ∷ Ret (call_in 1 1) None ∷ Return 3 NotThere ∷ Begin 4 ∷ Return 4 NotThere ∷ Begin 5 ∷ Return 5 NotThere ∷ Begin 6 ∷ Return 6 NotThere ∷ Begin 7 ∷ Enter (call_in 0 1) Normal (record { 0 = 62 }) None ∷ Back (call_in 0 1) (record { 0 = 1 }) ∷ Return 7 Accepted ∷ Enter (call_in 0 2) Normal (record { 0 = 63 }) (Some (call_in 0 1)) ∷ Refuse (call_in 0 2) (record { 0 = 0 }) Recursion ∷ Refuse (call_in 0 2) (record { 0 = 1 }) Recursion ∷ Body (call_in 0 2) (record { 0 = 63 }) ByList ∷ Leave (call_in 0 2) ∷ Ret (call_in 0 2) (Some (call_in 0 1)) ∷ BackEnd (call_in 0 1) (record { 0 = 1 }) ∷ Body (call_in 0 1) (record { 0 = 62 }) ByList ∷ Enter (call_in 0 3) Normal (record { 0 = 64 }) (Some (call_in 0 1)) ∷ Back (call_in 0 3) (record { 0 = 0 }) ∷ Enter (call_in 0 4) Irq (record { 0 = 62 }) (Some (call_in 0 3)) ∷ Refuse (call_in 0 4) (record { 0 = 0 }) Depth ∷ Back (call_in 0 4) (record { 0 = 1 }) ∷ Enter (call_in 0 5) Irq (record { 0 = 63 }) (Some (call_in 0 4)) ∷ Refuse (call_in 0 5) (record { 0 = 0 }) Recursion ∷ Refuse (call_in 0 5) (record { 0 = 1 }) Recursion ∷ Body (call_in 0 5) (record { 0 = 63 }) ByList ∷ Leave (call_in 0 5) ∷ Ret (call_in 0 5) (Some (call_in 0 4)) ∷ BackEnd (call_in 0 4) (record { 0 = 1 }) ∷ Body (call_in 0 4) (record { 0 = 62 }) ByList ∷ Leave (call_in 0 4) ∷ Ret (call_in 0 4) (Some (call_in 0 3)) ∷ BackEnd (call_in 0 3) (record { 0 = 0 }) ∷ Back (call_in 0 3) (record { 0 = 1 }) ∷ Enter (call_in 0 6) Normal (record { 0 = 63 }) (Some (call_in 0 3)) ∷ Refuse (call_in 0 6) (record { 0 = 0 }) Recursion ∷ Refuse (call_in 0 6) (record { 0 = 1 }) Recursion ∷ Body (call_in 0 6) (record { 0 = 63 }) ByList ∷ Leave (call_in 0 6) ∷ Ret (call_in 0 6) (Some (call_in 0 3)) ∷ BackEnd (call_in 0 3) (record { 0 = 1 }) ∷ Body (call_in 0 3) (record { 0 = 64 }) ByList ∷ Enter (call_in 0 7) Normal (record { 0 = 63 }) (Some (call_in 0 3)) ∷ Refuse (call_in 0 7) (record { 0 = 0 }) Depth ∷ Back (call_in 0 7) (record { 0 = 1 }) ∷ Enter (call_in 0 8) Normal (record { 0 = 63 }) (Some (call_in 0 7)) ∷ Refuse (call_in 0 8) (record { 0 = 0 }) Recursion ∷ Refuse (call_in 0 8) (record { 0 = 1 }) Recursion ∷ Body (call_in 0 8) (record { 0 = 63 }) ByList ∷ Leave (call_in 0 8) ∷ Ret (call_in 0 8) (Some (call_in 0 7)) ∷ BackEnd (call_in 0 7) (record { 0 = 1 }) ∷ Body (call_in 0 7) (record { 0 = 63 }) ByList ∷ Leave (call_in 0 7) ∷ Ret (call_in 0 7) (Some (call_in 0 3)) ∷ Leave (call_in 0 3) ∷ Exit (call_in 0 3) (record { 0 = 0 }) 58 ∷ ExitEnd (call_in 0 3) (record { 0 = 0 }) ∷ Ret (call_in 0 3) (Some (call_in 0 1)) ∷ Leave (call_in 0 1) ∷ Ret (call_in 0 1) None ∷ []
 
 pub job_2049-plays : Plays job_2049 job_2049-items true
-unfolding actors_of repeated start step run played play all_end control_next control_got cpu_next cpu_got insn desk
+unfolding actors_of repeated start step run played play all_end control_next control_got cpu_next cpu_got insn moves desk
 job_2049-plays = (refl, refl)
 
 abbrev pub job_2050 : Job
@@ -289,7 +289,7 @@ abbrev pub job_2050-items : List Item
 job_2050-items = Enter (call_in 0 1) Irq (record { 0 = 2 }) None ∷ Enter (call_in 1 1) Nmi (record { 0 = 2 }) None ∷ Body (call_in 0 1) (record { 0 = 2 }) Nop ∷ Body (call_in 1 1) (record { 0 = 2 }) Nop ∷ Enter (call_in 0 2) Irq (record { 0 = 0 }) (Some (call_in 0 1)) ∷ Enter (call_in 1 2) Nmi (record { 0 = 2 }) (Some (call_in 1 1)) ∷ Body (call_in 0 2) (record { 0 = 0 }) Nop ∷ Body (call_in 1 2) (record { 0 = 2 }) Nop ∷ Leave (call_in 0 2) ∷ Leave (call_in 1 2) ∷ Ret (call_in 0 2) (Some (call_in 0 1)) ∷ Ret (call_in 1 2) (Some (call_in 1 1)) ∷ Leave (call_in 0 1) ∷ Enter (call_in 1 3) Nmi (record { 0 = 0 }) (Some (call_in 1 1)) ∷ Ret (call_in 0 1) None ∷ Body (call_in 1 3) (record { 0 = 0 }) Nop ∷ Enter (call_in 1 4) Nmi (record { 0 = 2 }) (Some (call_in 1 3)) ∷ Body (call_in 1 4) (record { 0 = 2 }) Nop ∷ Leave (call_in 1 4) ∷ Ret (call_in 1 4) (Some (call_in 1 3)) ∷ Leave (call_in 1 3) ∷ Ret (call_in 1 3) (Some (call_in 1 1)) ∷ Leave (call_in 1 1) ∷ Ret (call_in 1 1) None ∷ Begin 1 ∷ Return 1 Accepted ∷ Begin 2 ∷ Return 2 Accepted ∷ Begin 3 ∷ Return 3 Already ∷ Begin 4 ∷ Return 4 Accepted ∷ Begin 5 ∷ Return 5 Accepted ∷ []
 
 pub job_2050-plays : Plays job_2050 job_2050-items true
-unfolding actors_of repeated start step run played play all_end control_next control_got cpu_next cpu_got insn desk
+unfolding actors_of repeated start step run played play all_end control_next control_got cpu_next cpu_got insn moves desk
 job_2050-plays = (refl, refl)
 
 abbrev pub job_2051 : Job
@@ -299,7 +299,7 @@ abbrev pub job_2051-items : List Item
 job_2051-items = Begin 1 ∷ Return 1 NotThere ∷ Begin 2 ∷ Enter (call_in 2 1) Nmi (record { 0 = 0 }) None ∷ Body (call_in 2 1) (record { 0 = 0 }) Nop ∷ Leave (call_in 2 1) ∷ Ret (call_in 2 1) None ∷ Return 2 Accepted ∷ Begin 3 ∷ Return 3 Accepted ∷ Begin 4 ∷ Return 4 Already ∷ Begin 5 ∷ Enter (call_in 1 1) Normal (record { 0 = 1 }) None ∷ Back (call_in 1 1) (record { 0 = 0 }) ∷ BackEnd (call_in 1 1) (record { 0 = 0 }) ∷ Body (call_in 1 1) (record { 0 = 1 }) ByList ∷ Return 5 Accepted ∷ Enter (call_in 1 2) Normal (record { 0 = 0 }) (Some (call_in 1 1)) ∷ Back (call_in 1 2) (record { 0 = 0 }) ∷ BackEnd (call_in 1 2) (record { 0 = 0 }) ∷ Body (call_in 1 2) (record { 0 = 0 }) ByList ∷ Enter (call_in 1 3) Normal (record { 0 = 1 }) (Some (call_in 1 2)) ∷ Back (call_in 1 3) (record { 0 = 0 }) ∷ BackEnd (call_in 1 3) (record { 0 = 0 }) ∷ Body (call_in 1 3) (record { 0 = 1 }) ByList ∷ Leave (call_in 1 3) ∷ Ret (call_in 1 3) (Some (call_in 1 2)) ∷ Enter (call_in 1 4) Normal (record { 0 = 1 }) (Some (call_in 1 2)) ∷ Back (call_in 1 4) (record { 0 = 0 }) ∷ BackEnd (call_in 1 4) (record { 0 = 0 }) ∷ Body (call_in 1 4) (record { 0 = 1 }) ByList ∷ Leave (call_in 1 4) ∷ Ret (call_in 1 4) (Some (call_in 1 2)) ∷ Leave (call_in 1 2) ∷ Ret (call_in 1 2) (Some (call_in 1 1)) ∷ Leave (call_in 1 1) ∷ Ret (call_in 1 1) None ∷ []
 
 pub job_2051-plays : Plays job_2051 job_2051-items true
-unfolding actors_of repeated start step run played play all_end control_next control_got cpu_next cpu_got insn desk
+unfolding actors_of repeated start step run played play all_end control_next control_got cpu_next cpu_got insn moves desk
 job_2051-plays = (refl, refl)
 
 abbrev pub job_2052 : Job
@@ -309,7 +309,7 @@ abbrev pub job_2052-items : List Item
 job_2052-items = Begin 1 ∷ Return 1 NotThere ∷ Begin 2 ∷ Return 2 NotThere ∷ Begin 3 ∷ Enter (call_in 0 1) Normal (record { 0 = 1 }) None ∷ Body (call_in 0 1) (record { 0 = 1 }) Nop ∷ Enter (call_in 0 2) Normal (record { 0 = 2 }) (Some (call_in 0 1)) ∷ Body (call_in 0 2) (record { 0 = 2 }) Nop ∷ Leave (call_in 0 2) ∷ Ret (call_in 0 2) (Some (call_in 0 1)) ∷ Leave (call_in 0 1) ∷ Ret (call_in 0 1) None ∷ Return 3 Accepted ∷ Begin 4 ∷ Return 4 Accepted ∷ []
 
 pub job_2052-plays : Plays job_2052 job_2052-items true
-unfolding actors_of repeated start step run played play all_end control_next control_got cpu_next cpu_got insn desk
+unfolding actors_of repeated start step run played play all_end control_next control_got cpu_next cpu_got insn moves desk
 job_2052-plays = (refl, refl)
 
 abbrev pub job_2053 : Job
@@ -319,7 +319,7 @@ abbrev pub job_2053-items : List Item
 job_2053-items = Begin 1 ∷ Return 1 NotThere ∷ Begin 2 ∷ Return 2 Invalid ∷ Begin 3 ∷ Return 3 NotThere ∷ Begin 4 ∷ Return 4 NotThere ∷ Begin 5 ∷ Return 5 Accepted ∷ Begin 6 ∷ Return 6 Invalid ∷ Begin 7 ∷ Return 7 Accepted ∷ Enter (call_in 0 1) Nmi (record { 0 = 1 }) None ∷ Back (call_in 0 1) (record { 0 = 3 }) ∷ Enter (call_in 0 2) Nmi (record { 0 = 1 }) (Some (call_in 0 1)) ∷ Refuse (call_in 0 2) (record { 0 = 3 }) Recursion ∷ Body (call_in 0 2) (record { 0 = 1 }) (Own (record { 0 = 3 })) ∷ Leave (call_in 0 2) ∷ Ret (call_in 0 2) (Some (call_in 0 1)) ∷ BackEnd (call_in 0 1) (record { 0 = 3 }) ∷ Body (call_in 0 1) (record { 0 = 1 }) (Own (record { 0 = 3 })) ∷ Enter (call_in 0 3) Nmi (record { 0 = 1 }) (Some (call_in 0 1)) ∷ Back (call_in 0 3) (record { 0 = 3 }) ∷ Enter (call_in 0 4) Nmi (record { 0 = 1 }) (Some (call_in 0 3)) ∷ Refuse (call_in 0 4) (record { 0 = 3 }) Recursion ∷ Body (call_in 0 4) (record { 0 = 1 }) (Own (record { 0 = 3 })) ∷ Leave (call_in 0 4) ∷ Ret (call_in 0 4) (Some (call_in 0 3)) ∷ BackEnd (call_in 0 3) (record { 0 = 3 }) ∷ Body (call_in 0 3) (record { 0 = 1 }) (Own (record { 0 = 3 })) ∷ Leave (call_in 0 3) ∷ Exit (call_in 0 3) (record { 0 = 3 }) 24 ∷ ExitEnd (call_in 0 3) (record { 0 = 3 }) ∷ Ret (call_in 0 3) (Some (call_in 0 1)) ∷ Leave (call_in 0 1) ∷ Exit (call_in 0 1) (record { 0 = 3 }) 15 ∷ ExitEnd (call_in 0 1) (record { 0 = 3 }) ∷ Ret (call_in 0 1) None ∷ []
 
 pub job_2053-plays : Plays job_2053 job_2053-items true
-unfolding actors_of repeated start step run played play all_end control_next control_got cpu_next cpu_got insn desk
+unfolding actors_of repeated start step run played play all_end control_next control_got cpu_next cpu_got insn moves desk
 job_2053-plays = (refl, refl)
 
 abbrev pub job_2056 : Job
@@ -329,7 +329,7 @@ abbrev pub job_2056-items : List Item
 job_2056-items = Begin 1 ∷ Return 1 Accepted ∷ Begin 2 ∷ Enter (call_in 1 1) Normal (record { 0 = 0 }) None ∷ Return 2 Accepted ∷ Begin 3 ∷ Return 3 Accepted ∷ Begin 4 ∷ Body (call_in 1 1) (record { 0 = 0 }) Nop ∷ Enter (call_in 1 2) Normal (record { 0 = 2 }) (Some (call_in 1 1)) ∷ Body (call_in 1 2) (record { 0 = 2 }) Nop ∷ Enter (call_in 1 3) Normal (record { 0 = 1 }) (Some (call_in 1 2)) ∷ Back (call_in 1 3) (record { 0 = 3 }) ∷ Enter (call_in 1 4) Normal (record { 0 = 2 }) (Some (call_in 1 3)) ∷ Body (call_in 1 4) (record { 0 = 2 }) Nop ∷ Leave (call_in 1 4) ∷ Ret (call_in 1 4) (Some (call_in 1 3)) ∷ BackEnd (call_in 1 3) (record { 0 = 3 }) ∷ Body (call_in 1 3) (record { 0 = 1 }) ByList ∷ Leave (call_in 1 3) ∷ Ret (call_in 1 3) (Some (call_in 1 2)) ∷ Enter (call_in 1 5) Normal (record { 0 = 0 }) (Some (call_in 1 2)) ∷ Return 4 Accepted ∷ Begin 5 ∷ Back (call_in 1 5) (record { 0 = 3 }) ∷ Enter (call_in 1 6) Normal (record { 0 = 2 }) (Some (call_in 1 5)) ∷ Body (call_in 1 6) (record { 0 = 2 }) Nop ∷ Leave (call_in 1 6) ∷ Ret (call_in 1 6) (Some (call_in 1 5)) ∷ BackEnd (call_in 1 5) (record { 0 = 3 }) ∷ Body (call_in 1 5) (record { 0 = 0 }) ByList ∷ Leave (call_in 1 5) ∷ Ret (call_in 1 5) (Some (call_in 1 2)) ∷ Leave (call_in 1 2) ∷ Ret (call_in 1 2) (Some (call_in 1 1)) ∷ Leave (call_in 1 1) ∷ Return 5 Accepted ∷ Ret (call_in 1 1) None ∷ Begin 6 ∷ Return 6 NotThere ∷ Enter (call_in 0 1) Normal (record { 0 = 0 }) None ∷ Back (call_in 0 1) (record { 0 = 1 }) ∷ BackEnd (call_in 0 1) (record { 0 = 1 }) ∷ Back (call_in 0 1) (record { 0 = 3 }) ∷ Enter (call_in 0 2) Normal (record { 0 = 2 }) (Some (call_in 0 1)) ∷ Refuse (call_in 0 2) (record { 0 = 1 }) Recursion ∷ Body (call_in 0 2) (record { 0 = 2 }) ByList ∷ Leave (call_in 0 2) ∷ Ret (call_in 0 2) (Some (call_in 0 1)) ∷ BackEnd (call_in 0 1) (record { 0 = 3 }) ∷ Body (call_in 0 1) (record { 0 = 0 }) ByList ∷ Enter (call_in 0 3) Normal (record { 0 = 2 }) (Some (call_in 0 1)) ∷ Refuse (call_in 0 3) (record { 0 = 1 }) Depth ∷ Body (call_in 0 3) (record { 0 = 2 }) ByList ∷ Enter (call_in 0 4) Normal (record { 0 = 2 }) (Some (call_in 0 3)) ∷ Refuse (call_in 0 4) (record { 0 = 1 }) Depth ∷ Body (call_in 0 4) (record { 0 = 2 }) ByList ∷ Leave (call_in 0 4) ∷ Ret (call_in 0 4) (Some (call_in 0 3)) ∷ Leave (call_in 0 3) ∷ Ret (call_in 0 3) (Some (call_in 0 1)) ∷ Leave (call_in 0 1) ∷ Exit (call_in 0 1) (record { 0 = 1 }) 41 ∷ ExitEnd (call_in 0 1) (record { 0 = 1 }) ∷ Ret (call_in 0 1) None ∷ []
 
 pub job_2056-plays : Plays job_2056 job_2056-items true
-unfolding actors_of repeated start step run played play all_end control_next control_got cpu_next cpu_got insn desk
+unfolding actors_of repeated start step run played play all_end control_next control_got cpu_next cpu_got insn moves desk
 job_2056-plays = (refl, refl)
 
 abbrev pub job_2057 : Job
@@ -339,7 +339,7 @@ abbrev pub job_2057-items : List Item
 job_2057-items = Begin 1 ∷ Return 1 Accepted ∷ Begin 2 ∷ Return 2 Accepted ∷ Begin 3 ∷ Return 3 Invalid ∷ Begin 4 ∷ Return 4 Accepted ∷ Begin 5 ∷ Enter (call_in 0 1) Normal (record { 0 = 0 }) None ∷ Return 5 NotThere ∷ Begin 6 ∷ Return 6 NotThere ∷ Body (call_in 0 1) (record { 0 = 0 }) Nop ∷ Begin 7 ∷ Return 7 Invalid ∷ Enter (call_in 0 2) Normal (record { 0 = 0 }) (Some (call_in 0 1)) ∷ Enter (call_in 1 1) Nmi (record { 0 = 3 }) None ∷ Body (call_in 0 2) (record { 0 = 0 }) Nop ∷ Body (call_in 1 1) (record { 0 = 3 }) Nop ∷ Leave (call_in 0 2) ∷ Enter (call_in 1 2) Nmi (record { 0 = 3 }) (Some (call_in 1 1)) ∷ Ret (call_in 0 2) (Some (call_in 0 1)) ∷ Body (call_in 1 2) (record { 0 = 3 }) Nop ∷ Enter (call_in 0 3) Normal (record { 0 = 2 }) (Some (call_in 0 1)) ∷ Leave (call_in 1 2) ∷ Body (call_in 0 3) (record { 0 = 2 }) Nop ∷ Ret (call_in 1 2) (Some (call_in 1 1)) ∷ Leave (call_in 0 3) ∷ Leave (call_in 1 1) ∷ Ret (call_in 0 3) (Some (call_in 0 1)) ∷ Ret (call_in 1 1) None ∷ Enter (call_in 1 3) Softirq (record { 0 = 3 }) None ∷ Leave (call_in 0 1) ∷ Ret (call_in 0 1) None ∷ Body (call_in 1 3) (record { 0 = 3 }) Nop ∷ Leave (call_in 1 3) ∷ Ret (call_in 1 3) None ∷ []
 
 pub job_2057-plays : Plays job_2057 job_2057-items true
-unfolding actors_of repeated start step run played play all_end control_next control_got cpu_next cpu_got insn desk
+unfolding actors_of repeated start step run played play all_end control_next control_got cpu_next cpu_got insn moves desk
 job_2057-plays = (refl, refl)
 
 abbrev pub job_2058 : Job
@@ -349,7 +349,7 @@ abbrev pub job_2058-items : List Item
 job_2058-items = Begin 1 ∷ Return 1 Accepted ∷ Begin 2 ∷ Enter (call_in 0 1) Nmi (record { 0 = 63 }) None ∷ Body (call_in 0 1) (record { 0 = 63 }) Nop ∷ Enter (call_in 0 2) Nmi (record { 0 = 62 }) (Some (call_in 0 1)) ∷ Body (call_in 0 2) (record { 0 = 62 }) Nop ∷ Enter (call_in 0 3) Nmi (record { 0 = 63 }) (Some (call_in 0 2)) ∷ Body (call_in 0 3) (record { 0 = 63 }) Nop ∷ Leave (call_in 0 3) ∷ Ret (call_in 0 3) (Some (call_in 0 2)) ∷ Leave (call_in 0 2) ∷ Ret (call_in 0 2) (Some (call_in 0 1)) ∷ Leave (call_in 0 1) ∷ Return 2 Accepted ∷ Ret (call_in 0 1) None ∷ Begin 3 ∷ Enter (call_in 2 1) Nmi (record { 0 = 63 }) None ∷ Body (call_in 2 1) (record { 0 = 63 }) Nop ∷ Enter (call_in 2 2) Nmi (record { 0 = 63 }) (Some (call_in 2 1)) ∷ Body (call_in 2 2) (record { 0 = 63 }) Nop ∷ Enter (call_in 2 3) Nmi (record { 0 = 62 }) (Some (call_in 2 2)) ∷ Body (call_in 2 3) (record { 0 = 62 }) Nop ∷ Enter (call_in 2 4) Nmi (record { 0 = 63 }) (Some (call_in 2 3)) ∷ Body (call_in 2 4) (record { 0 = 63 }) Nop ∷ Enter (call_in 2 5) Nmi (record { 0 = 62 }) (Some (call_in 2 4)) ∷ Body (call_in 2 5) (record { 0 = 62 }) Nop ∷ Enter (call_in 2 6) Nmi (record { 0 = 63 }) (Some (call_in 2 5)) ∷ Body (call_in 2 6) (record { 0 = 63 }) Nop ∷ Leave (call_in 2 6) ∷ Ret (call_in 2 6) (Some (call_in 2 5)) ∷ Leave (call_in 2 5) ∷ Ret (call_in 2 5) (Some (call_in 2 4)) ∷ Leave (call_in 2 4) ∷ Ret (call_in 2 4) (Some (call_in 2 3)) ∷ Leave (call_in 2 3) ∷ Ret (call_in 2 3) (Some (call_in 2 2)) ∷ Leave (call_in 2 2) ∷ Ret (call_in 2 2) (Some (call_in 2 1)) ∷ Leave (call_in 2 1) ∷ Ret (call_in 2 1) None ∷ Return 3 Accepted ∷ Enter (call_in 1 1) Normal (record { 0 = 62 }) None ∷ Back (call_in 1 1) (record { 0 = 1 }) ∷ BackEnd (call_in 1 1) (record { 0 = 1 }) ∷ Body (call_in 1 1) (record { 0 = 62 }) (Own (record { 0 = 1 })) ∷ []
 
 pub job_2058-plays : Plays job_2058 job_2058-items false
-unfolding actors_of repeated start step run played play all_end control_next control_got cpu_next cpu_got insn desk
+unfolding actors_of repeated start step run played play all_end control_next control_got cpu_next cpu_got insn moves desk
 job_2058-plays = (refl, refl)
 
 abbrev pub job_2060 : Job
@@ -359,7 +359,7 @@ abbrev pub job_2060-items : List Item
 job_2060-items = Begin 1 ∷ Return 1 NotThere ∷ Begin 2 ∷ Enter (call_in 0 1) Normal (record { 0 = 2 }) None ∷ Enter (call_in 2 1) Nmi (record { 0 = 2 }) None ∷ Body (call_in 0 1) (record { 0 = 2 }) Nop ∷ Enter (call_in 0 2) Normal (record { 0 = 2 }) (Some (call_in 0 1)) ∷ Body (call_in 0 2) (record { 0 = 2 }) Nop ∷ Enter (call_in 0 3) Normal (record { 0 = 0 }) (Some (call_in 0 2)) ∷ Body (call_in 0 3) (record { 0 = 0 }) Nop ∷ Back (call_in 2 1) (record { 0 = 0 }) ∷ Enter (call_in 2 2) Nmi (record { 0 = 2 }) (Some (call_in 2 1)) ∷ Refuse (call_in 2 2) (record { 0 = 0 }) Recursion ∷ Body (call_in 2 2) (record { 0 = 2 }) (Own (record { 0 = 0 })) ∷ Leave (call_in 2 2) ∷ Ret (call_in 2 2) (Some (call_in 2 1)) ∷ BackEnd (call_in 2 1) (record { 0 = 0 }) ∷ Return 2 Accepted ∷ Body (call_in 2 1) (record { 0 = 2 }) (Own (record { 0 = 0 })) ∷ Begin 3 ∷ Return 3 Already ∷ Begin 4 ∷ Enter (call_in 2 3) Nmi (record { 0 = 1 }) (Some (call_in 2 1)) ∷ Back (call_in 2 3) (record { 0 = 0 }) ∷ Enter (call_in 2 4) Nmi (record { 0 = 2 }) (Some (call_in 2 3)) ∷ Refuse (call_in 2 4) (record { 0 = 0 }) Recursion ∷ Body (call_in 2 4) (record { 0 = 2 }) (Own (record { 0 = 0 })) ∷ Leave (call_in 2 4) ∷ Ret (call_in 2 4) (Some (call_in 2 3)) ∷ BackEnd (call_in 2 3) (record { 0 = 0 }) ∷ Body (call_in 2 3) (record { 0 = 1 }) (Own (record { 0 = 0 })) ∷ Return 4 Accepted ∷ Enter (call_in 2 5) Nmi (record { 0 = 0 }) (Some (call_in 2 3)) ∷ Begin 5 ∷ Leave (call_in 0 3) ∷ Ret (call_in 0 3) (Some (call_in 0 2)) ∷ Body (call_in 2 5) (record { 0 = 0 }) Nop ∷ Enter (call_in 0 4) Normal (record { 0 = 1 }) (Some (call_in 0 2)) ∷ Enter (call_in 1 1) Normal (record { 0 = 1 }) None ∷ Body (call_in 0 4) (record { 0 = 1 }) Nop ∷ Return 5 Accepted ∷ Begin 6 ∷ Enter (call_in 2 6) Nmi (record { 0 = 1 }) (Some (call_in 2 5)) ∷ Return 6 Already ∷ Enter (call_in 0 5) Normal (record { 0 = 2 }) (Some (call_in 0 4)) ∷ Body (call_in 1 1) (record { 0 = 1 }) Nop ∷ Body (call_in 2 6) (record { 0 = 1 }) Nop ∷ Back (call_in 0 5) (record { 0 = 0 }) ∷ Enter (call_in 1 2) Normal (record { 0 = 2 }) (Some (call_in 1 1)) ∷ Enter (call_in 0 6) Normal (record { 0 = 2 }) (Some (call_in 0 5)) ∷ Leave (call_in 2 6) ∷ Refuse (call_in 0 6) (record { 0 = 0 }) Recursion ∷ Ret (call_in 2 6) (Some (call_in 2 5)) ∷ Body (call_in 0 6) (record { 0 = 2 }) (Own (record { 0 = 0 })) ∷ Leave (call_in 0 6) ∷ Ret (call_in 0 6) (Some (call_in 0 5)) ∷ BackEnd (call_in 0 5) (record { 0 = 0 }) ∷ Body (call_in 0 5) (record { 0 = 2 }) (Own (record { 0 = 0 })) ∷ Leave (call_in 2 5) ∷ Back (call_in 1 2) (record { 0 = 0 }) ∷ Ret (call_in 2 5) (Some (call_in 2 3)) ∷ Leave (call_in 0 5) ∷ Enter (call_in 1 3) Normal (record { 0 = 2 }) (Some (call_in 1 2)) ∷ Ret (call_in 0 5) (Some (call_in 0 4)) ∷ Leave (call_in 0 4) ∷ Ret (call_in 0 4) (Some (call_in 0 2)) ∷ Leave (call_in 2 3) ∷ Ret (call_in 2 3) (Some (call_in 2 1)) ∷ Leave (call_in 0 2) ∷ Ret (call_in 0 2) (Some (call_in 0 1)) ∷ Leave (call_in 0 1) ∷ Leave (call_in 2 1) ∷ Ret (call_in 0 1) None ∷ Refuse (call_in 1 3) (record { 0 = 0 }) Recursion ∷ Ret (call_in 2 1) None ∷ Body (call_in 1 3) (record { 0 = 2 }) (Own (record { 0 = 0 })) ∷ Leave (call_in 1 3) ∷ Ret (call_in 1 3) (Some (call_in 1 2)) ∷ BackEnd (call_in 1 2) (record { 0 = 0 }) ∷ Body (call_in 1 2) (record { 0 = 2 }) (Own (record { 0 = 0 })) ∷ Leave (call_in 1 2) ∷ Ret (call_in 1 2) (Some (call_in 1 1)) ∷ Leave (call_in 1 1) ∷ Ret (call_in 1 1) None ∷ []
 
 pub job_2060-plays : Plays job_2060 job_2060-items true
-unfolding actors_of repeated start step run played play all_end control_next control_got cpu_next cpu_got insn desk
+unfolding actors_of repeated start step run played play all_end control_next control_got cpu_next cpu_got insn moves desk
 job_2060-plays = (refl, refl)
 
 abbrev pub job_2061 : Job
@@ -369,7 +369,7 @@ abbrev pub job_2061-items : List Item
 job_2061-items = Enter (call_in 0 1) Normal (record { 0 = 62 }) None ∷ Begin 1 ∷ Body (call_in 0 1) (record { 0 = 62 }) Nop ∷ Enter (call_in 0 2) Normal (record { 0 = 62 }) (Some (call_in 0 1)) ∷ Return 1 Accepted ∷ Begin 2 ∷ Return 2 NotThere ∷ Body (call_in 0 2) (record { 0 = 62 }) Nop ∷ Begin 3 ∷ Enter (call_in 0 3) Normal (record { 0 = 64 }) (Some (call_in 0 2)) ∷ Body (call_in 0 3) (record { 0 = 64 }) Nop ∷ Leave (call_in 0 3) ∷ Ret (call_in 0 3) (Some (call_in 0 2)) ∷ Leave (call_in 0 2) ∷ Ret (call_in 0 2) (Some (call_in 0 1)) ∷ Leave (call_in 0 1) ∷ Ret (call_in 0 1) None ∷ Return 3 Accepted ∷ []
 
 pub job_2061-plays : Plays job_2061 job_2061-items true
-unfolding actors_of repeated start step run played play all_end control_next control_got cpu_next cpu_got insn desk
+unfolding actors_of repeated start step run played play all_end control_next control_got cpu_next cpu_got insn moves desk
 job_2061-plays = (refl, refl)
 
 abbrev pub job_2063 : Job
@@ -379,7 +379,7 @@ abbrev pub job_2063-items : List Item
 job_2063-items = Begin 1 ∷ Enter (call_in 0 1) Normal (record { 0 = 1 }) None ∷ Body (call_in 0 1) (record { 0 = 1 }) Nop ∷ Leave (call_in 0 1) ∷ Ret (call_in 0 1) None ∷ Enter (call_in 0 2) Normal (record { 0 = 1 }) None ∷ Body (call_in 0 2) (record { 0 = 1 }) Nop ∷ Return 1 Accepted ∷ Begin 2 ∷ Enter (call_in 0 3) Normal (record { 0 = 1 }) (Some (call_in 0 2)) ∷ Back (call_in 0 3) (record { 0 = 0 }) ∷ Enter (call_in 0 4) Irq (record { 0 = 1 }) (Some (call_in 0 3)) ∷ Back (call_in 0 4) (record { 0 = 0 }) ∷ BackEnd (call_in 0 4) (record { 0 = 0 }) ∷ Body (call_in 0 4) (record { 0 = 1 }) ByList ∷ Leave (call_in 0 4) ∷ Ret (call_in 0 4) (Some (call_in 0 3)) ∷ BackEnd (call_in 0 3) (record { 0 = 0 }) ∷ Body (call_in 0 3) (record { 0 = 1 }) ByList ∷ Enter (call_in 0 5) Normal (record { 0 = 1 }) (Some (call_in 0 3)) ∷ Back (call_in 0 5) (record { 0 = 0 }) ∷ Enter (call_in 0 6) Irq (record { 0 = 1 }) (Some (call_in 0 5)) ∷ Back (call_in 0 6) (record { 0 = 0 }) ∷ Return 2 Accepted ∷ Begin 3 ∷ BackEnd (call_in 0 6) (record { 0 = 0 }) ∷ Body (call_in 0 6) (record { 0 = 1 }) ByList ∷ Leave (call_in 0 6) ∷ Ret (call_in 0 6) (Some (call_in 0 5)) ∷ BackEnd (call_in 0 5) (record { 0 = 0 }) ∷ Body (call_in 0 5) (record { 0 = 1 }) ByList ∷ Leave (call_in 0 5) ∷ Ret (call_in 0 5) (Some (call_in 0 3)) ∷ Enter (call_in 1 1) Irq (record { 0 = 1 }) None ∷ Body (call_in 1 1) (record { 0 = 1 }) Nop ∷ Leave (call_in 0 3) ∷ Return 3 Accepted ∷ Ret (call_in 0 3) (Some (call_in 0 2)) ∷ Begin 4 ∷ Return 4 NotThere ∷ Enter (call_in 1 2) Irq (record { 0 = 0 }) (Some (call_in 1 1)) ∷ Begin 5 ∷ Return 5 NotThere ∷ Leave (call_in 0 2) ∷ Ret (call_in 0 2) None ∷ Body (call_in 1 2) (record { 0 = 0 }) Nop ∷ Enter (call_in 1 3) Irq (record { 0 = 0 }) (Some (call_in 1 2)) ∷ Body (call_in 1 3) (record { 0 = 0 }) Nop ∷ Enter (call_in 1 4) Irq (record { 0 = 0 }) (Some (call_in 1 3)) ∷ Body (call_in 1 4) (record { 0 = 0 }) Nop ∷ Leave (call_in 1 4) ∷ Ret (call_in 1 4) (Some (call_in 1 3)) ∷ Leave (call_in 1 3) ∷ Ret (call_in 1 3) (Some (call_in 1 2)) ∷ Leave (call_in 1 2) ∷ Ret (call_in 1 2) (Some (call_in 1 1)) ∷ Leave (call_in 1 1) ∷ Ret (call_in 1 1) None ∷ []
 
 pub job_2063-plays : Plays job_2063 job_2063-items true
-unfolding actors_of repeated start step run played play all_end control_next control_got cpu_next cpu_got insn desk
+unfolding actors_of repeated start step run played play all_end control_next control_got cpu_next cpu_got insn moves desk
 job_2063-plays = (refl, refl)
 
 abbrev pub job_2066 : Job
@@ -389,7 +389,7 @@ abbrev pub job_2066-items : List Item
 job_2066-items = Enter (call_in 2 1) Normal (record { 0 = 0 }) None ∷ Body (call_in 2 1) (record { 0 = 0 }) Nop ∷ Leave (call_in 2 1) ∷ Ret (call_in 2 1) None ∷ Begin 1 ∷ Return 1 NotThere ∷ Begin 2 ∷ Return 2 NotThere ∷ Begin 3 ∷ Enter (call_in 2 2) Irq (record { 0 = 0 }) None ∷ Body (call_in 2 2) (record { 0 = 0 }) Nop ∷ Leave (call_in 2 2) ∷ Ret (call_in 2 2) None ∷ Enter (call_in 2 3) Irq (record { 0 = 0 }) None ∷ Enter (call_in 0 1) Irq (record { 0 = 0 }) None ∷ Body (call_in 2 3) (record { 0 = 0 }) Nop ∷ Leave (call_in 2 3) ∷ Enter (call_in 1 1) Normal (record { 0 = 0 }) None ∷ Ret (call_in 2 3) None ∷ Body (call_in 0 1) (record { 0 = 0 }) Nop ∷ Enter (call_in 2 4) Normal (record { 0 = 0 }) None ∷ Enter (call_in 0 2) Irq (record { 0 = 0 }) (Some (call_in 0 1)) ∷ Back (call_in 2 4) (record { 0 = 0 }) ∷ Back (call_in 1 1) (record { 0 = 0 }) ∷ BackEnd (call_in 2 4) (record { 0 = 0 }) ∷ BackEnd (call_in 1 1) (record { 0 = 0 }) ∷ Body (call_in 2 4) (record { 0 = 0 }) (Own (record { 0 = 0 })) ∷ Body (call_in 1 1) (record { 0 = 0 }) (Own (record { 0 = 0 })) ∷ Leave (call_in 2 4) ∷ Exit (call_in 2 4) (record { 0 = 0 }) 22 ∷ ExitEnd (call_in 2 4) (record { 0 = 0 }) ∷ Ret (call_in 2 4) None ∷ Back (call_in 0 2) (record { 0 = 0 }) ∷ BackEnd (call_in 0 2) (record { 0 = 0 }) ∷ Body (call_in 0 2) (record { 0 = 0 }) (Own (record { 0 = 0 })) ∷ Enter (call_in 1 2) Normal (record { 0 = 0 }) (Some (call_in 1 1)) ∷ Return 3 Accepted ∷ Enter (call_in 0 3) Irq (record { 0 = 0 }) (Some (call_in 0 2)) ∷ Begin 4 ∷ Back (call_in 1 2) (record { 0 = 0 }) ∷ BackEnd (call_in 1 2) (record { 0 = 0 }) ∷ Body (call_in 1 2) (record { 0 = 0 }) (Own (record { 0 = 0 })) ∷ Leave (call_in 1 2) ∷ Back (call_in 0 3) (record { 0 = 0 }) ∷ BackEnd (call_in 0 3) (record { 0 = 0 }) ∷ Body (call_in 0 3) (record { 0 = 0 }) (Own (record { 0 = 0 })) ∷ Exit (call_in 1 2) (record { 0 = 0 }) 39 ∷ ExitEnd (call_in 1 2) (record { 0 = 0 }) ∷ Return 4 Accepted ∷ Ret (call_in 1 2) (Some (call_in 1 1)) ∷ Begin 5 ∷ Return 5 Invalid ∷ Begin 6 ∷ Leave (call_in 1 1) ∷ Leave (call_in 0 3) ∷ Exit (call_in 0 3) (record { 0 = 0 }) 43 ∷ ExitEnd (call_in 0 3) (record { 0 = 0 }) ∷ Ret (call_in 0 3) (Some (call_in 0 2)) ∷ Exit (call_in 1 1) (record { 0 = 0 }) 23 ∷ ExitEnd (call_in 1 1) (record { 0 = 0 }) ∷ Ret (call_in 1 1) None ∷ Leave (call_in 0 2) ∷ Exit (call_in 0 2) (record { 0 = 0 }) 32 ∷ ExitEnd (call_in 0 2) (record { 0 = 0 }) ∷ Ret (call_in 0 2) (Some (call_in 0 1)) ∷ Leave (call_in 0 1) ∷ Ret (call_in 0 1) None ∷ Return 6 Accepted ∷ []
 
 pub job_2066-plays : Plays job_2066 job_2066-items true
-unfolding actors_of repeated start step run played play all_end control_next control_got cpu_next cpu_got insn desk
+unfolding actors_of repeated start step run played play all_end control_next control_got cpu_next cpu_got insn moves desk
 job_2066-plays = (refl, refl)
 
 abbrev pub job_2067 : Job
@@ -399,7 +399,7 @@ abbrev pub job_2067-items : List Item
 job_2067-items = Begin 1 ∷ Return 1 NotThere ∷ Begin 2 ∷ Enter (call_in 0 1) Softirq (record { 0 = 0 }) None ∷ Body (call_in 0 1) (record { 0 = 0 }) Nop ∷ Enter (call_in 0 2) Softirq (record { 0 = 0 }) (Some (call_in 0 1)) ∷ Body (call_in 0 2) (record { 0 = 0 }) Nop ∷ Leave (call_in 0 2) ∷ Ret (call_in 0 2) (Some (call_in 0 1)) ∷ Enter (call_in 0 3) Softirq (record { 0 = 0 }) (Some (call_in 0 1)) ∷ Body (call_in 0 3) (record { 0 = 0 }) Nop ∷ Leave (call_in 0 3) ∷ Ret (call_in 0 3) (Some (call_in 0 1)) ∷ Leave (call_in 0 1) ∷ Ret (call_in 0 1) None ∷ Return 2 Accepted ∷ Begin 3 ∷ Return 3 Already ∷ Begin 4 ∷ Return 4 Accepted ∷ Begin 5 ∷ Return 5 Accepted ∷ Begin 6 ∷ Return 6 NotThere ∷ Begin 7 ∷ Return 7 Already ∷ []
 
 pub job_2067-plays : Plays job_2067 job_2067-items true
-unfolding actors_of repeated start step run played play all_end control_next control_got cpu_next cpu_got insn desk
+unfolding actors_of repeated start step run played play all_end control_next control_got cpu_next cpu_got insn moves desk
 job_2067-plays = (refl, refl)
 
 abbrev pub job_2068 : Job
@@ -409,7 +409,7 @@ abbrev pub job_2068-items : List Item
 job_2068-items = Begin 1 ∷ Return 1 Accepted ∷ Enter (call_in 0 1) Normal (record { 0 = 0 }) None ∷ Body (call_in 0 1) (record { 0 = 0 }) Nop ∷ Leave (call_in 0 1) ∷ Ret (call_in 0 1) None ∷ Enter (call_in 0 2) Normal (record { 0 = 0 }) None ∷ Body (call_in 0 2) (record { 0 = 0 }) Nop ∷ Leave (call_in 0 2) ∷ Ret (call_in 0 2) None ∷ Begin 2 ∷ Return 2 Accepted ∷ Begin 3 ∷ Return 3 Accepted ∷ Begin 4 ∷ Return 4 NotThere ∷ []
 
 pub job_2068-plays : Plays job_2068 job_2068-items true
-unfolding actors_of repeated start step run played play all_end control_next control_got cpu_next cpu_got insn desk
+unfolding actors_of repeated start step run played play all_end control_next control_got cpu_next cpu_got insn moves desk
 job_2068-plays = (refl, refl)
 
 abbrev pub job_2073 : Job
@@ -419,7 +419,7 @@ abbrev pub job_2073-items : List Item
 job_2073-items = Enter (call_in 0 1) Normal (record { 0 = 0 }) None ∷ Begin 1 ∷ Body (call_in 0 1) (record { 0 = 0 }) Nop ∷ Leave (call_in 0 1) ∷ Ret (call_in 0 1) None ∷ Return 1 Accepted ∷ Begin 2 ∷ Return 2 Already ∷ Begin 3 ∷ Return 3 Already ∷ Begin 4 ∷ Enter (call_in 1 1) Normal (record { 0 = 0 }) None ∷ Body (call_in 1 1) (record { 0 = 0 }) ByList ∷ Leave (call_in 1 1) ∷ Ret (call_in 1 1) None ∷ Enter (call_in 1 2) Nmi (record { 0 = 0 }) None ∷ Body (call_in 1 2) (record { 0 = 0 }) Nop ∷ Leave (call_in 1 2) ∷ Ret (call_in 1 2) None ∷ Enter (call_in 1 3) Nmi (record { 0 = 1 }) None ∷ Return 4 Accepted ∷ Back (call_in 1 3) (record { 0 = 0 }) ∷ BackEnd (call_in 1 3) (record { 0 = 0 }) ∷ Body (call_in 1 3) (record { 0 = 1 }) ByList ∷ Leave (call_in 1 3) ∷ Exit (call_in 1 3) (record { 0 = 0 }) 21 ∷ ExitEnd (call_in 1 3) (record { 0 = 0 }) ∷ Ret (call_in 1 3) None ∷ []
 
 pub job_2073-plays : Plays job_2073 job_2073-items true
-unfolding actors_of repeated start step run played play all_end control_next control_got cpu_next cpu_got insn desk
+unfolding actors_of repeated start step run played play all_end control_next control_got cpu_next cpu_got insn moves desk
 job_2073-plays = (refl, refl)
 
 abbrev pub job_2074 : Job
@@ -429,7 +429,7 @@ abbrev pub job_2074-items : List Item
 job_2074-items = Begin 1 ∷ Return 1 NotThere ∷ Begin 2 ∷ Return 2 NotThere ∷ Begin 3 ∷ Return 3 Accepted ∷ Begin 4 ∷ Return 4 NotThere ∷ Enter (call_in 0 1) Irq (record { 0 = 0 }) None ∷ Back (call_in 0 1) (record { 0 = 1 }) ∷ BackEnd (call_in 0 1) (record { 0 = 1 }) ∷ Body (call_in 0 1) (record { 0 = 0 }) ByList ∷ Enter (call_in 0 2) Irq (record { 0 = 1 }) (Some (call_in 0 1)) ∷ Back (call_in 0 2) (record { 0 = 1 }) ∷ BackEnd (call_in 0 2) (record { 0 = 1 }) ∷ Body (call_in 0 2) (record { 0 = 1 }) ByList ∷ Enter (call_in 0 3) Irq (record { 0 = 0 }) (Some (call_in 0 2)) ∷ Back (call_in 0 3) (record { 0 = 1 }) ∷ BackEnd (call_in 0 3) (record { 0 = 1 }) ∷ Body (call_in 0 3) (record { 0 = 0 }) ByList ∷ Leave (call_in 0 3) ∷ Ret (call_in 0 3) (Some (call_in 0 2)) ∷ Leave (call_in 0 2) ∷ Ret (call_in 0 2) (Some (call_in 0 1)) ∷ Leave (call_in 0 1) ∷ Ret (call_in 0 1) None ∷ []
 
 pub job_2074-plays : Plays job_2074 job_2074-items true
-unfolding actors_of repeated start step run played play all_end control_next control_got cpu_next cpu_got insn desk
+unfolding actors_of repeated start step run played play all_end control_next control_got cpu_next cpu_got insn moves desk
 job_2074-plays = (refl, refl)
 
 abbrev pub job_2076 : Job
@@ -439,7 +439,7 @@ abbrev pub job_2076-items : List Item
 job_2076-items = Begin 1 ∷ Return 1 Accepted ∷ Begin 2 ∷ Return 2 Accepted ∷ Begin 3 ∷ Return 3 NotThere ∷ Enter (call_in 0 1) Softirq (record { 0 = 63 }) None ∷ Back (call_in 0 1) (record { 0 = 1 }) ∷ BackEnd (call_in 0 1) (record { 0 = 1 }) ∷ Body (call_in 0 1) (record { 0 = 63 }) (Own (record { 0 = 1 })) ∷ Leave (call_in 0 1) ∷ Ret (call_in 0 1) None ∷ Begin 4 ∷ Return 4 Accepted ∷ Begin 5 ∷ []
 
 pub job_2076-plays : Plays job_2076 job_2076-items false
-unfolding actors_of repeated start step run played play all_end control_next control_got cpu_next cpu_got insn desk
+unfolding actors_of repeated start step run played play all_end control_next control_got cpu_next cpu_got insn moves desk
 job_2076-plays = (refl, refl)
 
 abbrev pub job_2078 : Job
@@ -449,7 +449,7 @@ abbrev pub job_2078-items : List Item
 job_2078-items = Begin 1 ∷ Return 1 NotThere ∷ Begin 2 ∷ Enter (call_in 1 1) Normal (record { 0 = 0 }) None ∷ Enter (call_in 0 1) Normal (record { 0 = 0 }) None ∷ Body (call_in 0 1) (record { 0 = 0 }) Nop ∷ Body (call_in 1 1) (record { 0 = 0 }) Nop ∷ Leave (call_in 1 1) ∷ Ret (call_in 1 1) None ∷ Return 2 Accepted ∷ Enter (call_in 2 1) Normal (record { 0 = 0 }) None ∷ Enter (call_in 1 2) Softirq (record { 0 = 0 }) None ∷ Back (call_in 2 1) (record { 0 = 0 }) ∷ BackEnd (call_in 2 1) (record { 0 = 0 }) ∷ Body (call_in 2 1) (record { 0 = 0 }) (Own (record { 0 = 0 })) ∷ Back (call_in 1 2) (record { 0 = 0 }) ∷ BackEnd (call_in 1 2) (record { 0 = 0 }) ∷ Body (call_in 1 2) (record { 0 = 0 }) (Own (record { 0 = 0 })) ∷ Leave (call_in 1 2) ∷ Exit (call_in 1 2) (record { 0 = 0 }) 15 ∷ ExitEnd (call_in 1 2) (record { 0 = 0 }) ∷ Ret (call_in 1 2) None ∷ Leave (call_in 0 1) ∷ Ret (call_in 0 1) None ∷ Enter (call_in 2 2) Normal (record { 0 = 0 }) (Some (call_in 2 1)) ∷ Back (call_in 2 2) (record { 0 = 0 }) ∷ Miss (call_in 2 2) (record { 0 = 0 }) ∷ BackEnd (call_in 2 2) (record { 0 = 0 }) ∷ Body (call_in 2 2) (record { 0 = 0 }) (Own (record { 0 = 0 })) ∷ Enter (call_in 2 3) Normal (record { 0 = 0 }) (Some (call_in 2 2)) ∷ Back (call_in 2 3) (record { 0 = 0 }) ∷ Miss (call_in 2 3) (record { 0 = 0 }) ∷ BackEnd (call_in 2 3) (record { 0 = 0 }) ∷ Body (call_in 2 3) (record { 0 = 0 }) (Own (record { 0 = 0 })) ∷ Leave (call_in 2 3) ∷ Ret (call_in 2 3) (Some (call_in 2 2)) ∷ Leave (call_in 2 2) ∷ Ret (call_in 2 2) (Some (call_in 2 1)) ∷ Leave (call_in 2 1) ∷ Exit (call_in 2 1) (record { 0 = 0 }) 12 ∷ ExitEnd (call_in 2 1) (record { 0 = 0 }) ∷ Ret (call_in 2 1) None ∷ []
 
 pub job_2078-plays : Plays job_2078 job_2078-items true
-unfolding actors_of repeated start step run played play all_end control_next control_got cpu_next cpu_got insn desk
+unfolding actors_of repeated start step run played play all_end control_next control_got cpu_next cpu_got insn moves desk
 job_2078-plays = (refl, refl)
 
 abbrev pub job_2079 : Job
@@ -459,7 +459,7 @@ abbrev pub job_2079-items : List Item
 job_2079-items = Begin 1 ∷ Enter (call_in 0 1) Normal (record { 0 = 2 }) None ∷ Body (call_in 0 1) (record { 0 = 2 }) Nop ∷ Enter (call_in 0 2) Normal (record { 0 = 3 }) (Some (call_in 0 1)) ∷ Body (call_in 0 2) (record { 0 = 3 }) Nop ∷ Enter (call_in 0 3) Normal (record { 0 = 3 }) (Some (call_in 0 2)) ∷ Return 1 Accepted ∷ Begin 2 ∷ Body (call_in 0 3) (record { 0 = 3 }) Nop ∷ Leave (call_in 0 3) ∷ Return 2 Accepted ∷ Ret (call_in 0 3) (Some (call_in 0 2)) ∷ Begin 3 ∷ Leave (call_in 0 2) ∷ Ret (call_in 0 2) (Some (call_in 0 1)) ∷ Leave (call_in 0 1) ∷ Return 3 Accepted ∷ Ret (call_in 0 1) None ∷ []
 
 pub job_2079-plays : Plays job_2079 job_2079-items true
-unfolding actors_of repeated start step run played play all_end control_next control_got cpu_next cpu_got insn desk
+unfolding actors_of repeated start step run played play all_end control_next control_got cpu_next cpu_got insn moves desk
 job_2079-plays = (refl, refl)
 
 abbrev pub job_2080 : Job
@@ -469,7 +469,7 @@ abbrev pub job_2080-items : List Item
 job_2080-items = Begin 1 ∷ Return 1 NotThere ∷ Begin 2 ∷ Enter (call_in 0 1) Normal (record { 0 = 0 }) None ∷ Body (call_in 0 1) (record { 0 = 0 }) Nop ∷ Enter (call_in 0 2) Normal (record { 0 = 0 }) (Some (call_in 0 1)) ∷ Body (call_in 0 2) (record { 0 = 0 }) Nop ∷ Enter (call_in 0 3) Normal (record { 0 = 0 }) (Some (call_in 0 2)) ∷ Body (call_in 0 3) (record { 0 = 0 }) Nop ∷ Leave (call_in 0 3) ∷ Ret (call_in 0 3) (Some (call_in 0 2)) ∷ Leave (call_in 0 2) ∷ Ret (call_in 0 2) (Some (call_in 0 1)) ∷ Enter (call_in 0 4) Normal (record { 0 = 0 }) (Some (call_in 0 1)) ∷ Body (call_in 0 4) (record { 0 = 0 }) Nop ∷ Enter (call_in 0 5) Normal (record { 0 = 0 }) (Some (call_in 0 4)) ∷ Body (call_in 0 5) (record { 0 = 0 }) Nop ∷ Leave (call_in 0 5) ∷ Ret (call_in 0 5) (Some (call_in 0 4)) ∷ Leave (call_in 0 4) ∷ Ret (call_in 0 4) (Some (call_in 0 1)) ∷ Leave (call_in 0 1) ∷ Ret (call_in 0 1) None ∷ Return 2 Accepted ∷ Begin 3 ∷ Return 3 Accepted ∷ Begin 4 ∷ Return 4 Accepted ∷ Begin 5 ∷ Return 5 NotThere ∷ Enter (call_in 1 1) Softirq (record { 0 = 0 }) None ∷ Back (call_in 1 1) (record { 0 = 3 }) ∷ Enter (call_in 1 2) Softirq (record { 0 = 0 }) (Some (call_in 1 1)) ∷ Refuse (call_in 1 2) (record { 0 = 3 }) Recursion ∷ Body (call_in 1 2) (record { 0 = 0 }) (Own (record { 0 = 3 })) ∷ Leave (call_in 1 2) ∷ Ret (call_in 1 2) (Some (call_in 1 1)) ∷ BackEnd (call_in 1 1) (record { 0 = 3 }) ∷ Body (call_in 1 1) (record { 0 = 0 }) (Own (record { 0 = 3 })) ∷ Enter (call_in 1 3) Softirq (record { 0 = 0 }) (Some (call_in 1 1)) ∷ Back (call_in 1 3) (record { 0 = 3 }) ∷ Enter (call_in 1 4) Softirq (record { 0 = 0 }) (Some (call_in 1 3)) ∷ Refuse (call_in 1 4) (record { 0 = 3 }) Recursion ∷ Body (call_in 1 4) (record { 0 = 0 }) (Own (record { 0 = 3 })) ∷ Leave (call_in 1 4) ∷ Ret (call_in 1 4) (Some (call_in 1 3)) ∷ BackEnd (call_in 1 3) (record { 0 = 3 }) ∷ Body (call_in 1 3) (record { 0 = 0 }) (Own (record { 0 = 3 })) ∷ Leave (call_in 1 3) ∷ Exit (call_in 1 3) (record { 0 = 3 }) 40 ∷ ExitEnd (call_in 1 3) (record { 0 = 3 }) ∷ Ret (call_in 1 3) (Some (call_in 1 1)) ∷ Leave (call_in 1 1) ∷ Exit (call_in 1 1) (record { 0 = 3 }) 31 ∷ ExitEnd (call_in 1 1) (record { 0 = 3 }) ∷ Ret (call_in 1 1) None ∷ []
 
 pub job_2080-plays : Plays job_2080 job_2080-items true
-unfolding actors_of repeated start step run played play all_end control_next control_got cpu_next cpu_got insn desk
+unfolding actors_of repeated start step run played play all_end control_next control_got cpu_next cpu_got insn moves desk
 job_2080-plays = (refl, refl)
 
 abbrev pub job_2081 : Job
@@ -479,7 +479,7 @@ abbrev pub job_2081-items : List Item
 job_2081-items = Begin 1 ∷ Enter (call_in 1 1) Nmi (record { 0 = 65 }) None ∷ Enter (call_in 2 1) Nmi (record { 0 = 63 }) None ∷ Body (call_in 2 1) (record { 0 = 63 }) Nop ∷ Body (call_in 1 1) (record { 0 = 65 }) Nop ∷ Enter (call_in 1 2) Nmi (record { 0 = 65 }) (Some (call_in 1 1)) ∷ Body (call_in 1 2) (record { 0 = 65 }) Nop ∷ Leave (call_in 2 1) ∷ Ret (call_in 2 1) None ∷ Enter (call_in 2 2) Nmi (record { 0 = 63 }) None ∷ Enter (call_in 1 3) Nmi (record { 0 = 64 }) (Some (call_in 1 2)) ∷ Body (call_in 1 3) (record { 0 = 64 }) Nop ∷ Body (call_in 2 2) (record { 0 = 63 }) Nop ∷ Enter (call_in 2 3) Nmi (record { 0 = 63 }) (Some (call_in 2 2)) ∷ Leave (call_in 1 3) ∷ Ret (call_in 1 3) (Some (call_in 1 2)) ∷ Enter (call_in 1 4) Nmi (record { 0 = 63 }) (Some (call_in 1 2)) ∷ Body (call_in 2 3) (record { 0 = 63 }) Nop ∷ Enter (call_in 2 4) Nmi (record { 0 = 62 }) (Some (call_in 2 3)) ∷ Body (call_in 2 4) (record { 0 = 62 }) Nop ∷ Body (call_in 1 4) (record { 0 = 63 }) Nop ∷ Leave (call_in 1 4) ∷ Ret (call_in 1 4) (Some (call_in 1 2)) ∷ Leave (call_in 2 4) ∷ Ret (call_in 2 4) (Some (call_in 2 3)) ∷ Leave (call_in 2 3) ∷ Ret (call_in 2 3) (Some (call_in 2 2)) ∷ Leave (call_in 1 2) ∷ Ret (call_in 1 2) (Some (call_in 1 1)) ∷ Leave (call_in 1 1) ∷ Ret (call_in 1 1) None ∷ Leave (call_in 2 2) ∷ Ret (call_in 2 2) None ∷ Enter (call_in 2 5) Normal (record { 0 = 63 }) None ∷ Body (call_in 2 5) (record { 0 = 63 }) Nop ∷ Leave (call_in 2 5) ∷ Ret (call_in 2 5) None ∷ Return 1 Accepted ∷ Begin 2 ∷ Return 2 Accepted ∷ Begin 3 ∷ Return 3 Accepted ∷ Begin 4 ∷ Enter (call_in 0 1) Normal (record { 0 = 62 }) None ∷ Refuse (call_in 0 1) (record { 0 = 3 }) ByPid ∷ Body (call_in 0 1) (record { 0 = 62 }) ByList ∷ Return 4 Accepted ∷ Begin 5 ∷ Leave (call_in 0 1) ∷ Return 5 NotThere ∷ Ret (call_in 0 1) None ∷ []
 
 pub job_2081-plays : Plays job_2081 job_2081-items false
-unfolding actors_of repeated start step run played play all_end control_next control_got cpu_next cpu_got insn desk
+unfolding actors_of repeated start step run played play all_end control_next control_got cpu_next cpu_got insn moves desk
 job_2081-plays = (refl, refl)
 
 abbrev pub job_2085 : Job
@@ -489,7 +489,7 @@ abbrev pub job_2085-items : List Item
 job_2085-items = Begin 1 ∷ Return 1 Invalid ∷ Begin 2 ∷ Return 2 NotThere ∷ Begin 3 ∷ Return 3 Invalid ∷ Begin 4 ∷ Return 4 NotThere ∷ Begin 5 ∷ Return 5 Accepted ∷ Begin 6 ∷ Return 6 Invalid ∷ Enter (call_in 0 1) Normal (record { 0 = 0 }) None ∷ Enter (call_in 1 1) Normal (record { 0 = 0 }) None ∷ Body (call_in 0 1) (record { 0 = 0 }) Nop ∷ Enter (call_in 0 2) Normal (record { 0 = 0 }) (Some (call_in 0 1)) ∷ Body (call_in 1 1) (record { 0 = 0 }) Nop ∷ Enter (call_in 1 2) Normal (record { 0 = 0 }) (Some (call_in 1 1)) ∷ Body (call_in 1 2) (record { 0 = 0 }) Nop ∷ Body (call_in 0 2) (record { 0 = 0 }) Nop ∷ Leave (call_in 0 2) ∷ Ret (call_in 0 2) (Some (call_in 0 1)) ∷ Enter (call_in 1 3) Nmi (record { 0 = 0 }) (Some (call_in 1 2)) ∷ Leave (call_in 0 1) ∷ Ret (call_in 0 1) None ∷ Body (call_in 1 3) (record { 0 = 0 }) Nop ∷ Enter (call_in 1 4) Nmi (record { 0 = 0 }) (Some (call_in 1 3)) ∷ Body (call_in 1 4) (record { 0 = 0 }) Nop ∷ Enter (call_in 1 5) Nmi (record { 0 = 0 }) (Some (call_in 1 4)) ∷ Body (call_in 1 5) (record { 0 = 0 }) Nop ∷ Leave (call_in 1 5) ∷ Ret (call_in 1 5) (Some (call_in 1 4)) ∷ Leave (call_in 1 4) ∷ Ret (call_in 1 4) (Some (call_in 1 3)) ∷ Leave (call_in 1 3) ∷ Ret (call_in 1 3) (Some (call_in 1 2)) ∷ Leave (call_in 1 2) ∷ Ret (call_in 1 2) (Some (call_in 1 1)) ∷ Leave (call_in 1 1) ∷ Ret (call_in 1 1) None ∷ []
 
 pub job_2085-plays : Plays job_2085 job_2085-items true
-unfolding actors_of repeated start step run played play all_end control_next control_got cpu_next cpu_got insn desk
+unfolding actors_of repeated start step run played play all_end control_next control_got cpu_next cpu_got insn moves desk
 job_2085-plays = (refl, refl)
 
 abbrev pub job_2087 : Job
@@ -499,7 +499,7 @@ abbrev pub job_2087-items : List Item
 job_2087-items = Begin 1 ∷ Return 1 Accepted ∷ Begin 2 ∷ Return 2 Accepted ∷ Enter (call_in 1 1) Normal (record { 0 = 62 }) None ∷ Begin 3 ∷ Body (call_in 1 1) (record { 0 = 62 }) Nop ∷ Enter (call_in 1 2) Normal (record { 0 = 63 }) (Some (call_in 1 1)) ∷ Body (call_in 1 2) (record { 0 = 63 }) Nop ∷ Leave (call_in 1 2) ∷ Ret (call_in 1 2) (Some (call_in 1 1)) ∷ Leave (call_in 1 1) ∷ Ret (call_in 1 1) None ∷ Enter (call_in 1 3) Normal (record { 0 = 63 }) None ∷ Body (call_in 1 3) (record { 0 = 63 }) Nop ∷ Leave (call_in 1 3) ∷ Ret (call_in 1 3) None ∷ Return 3 Accepted ∷ Begin 4 ∷ Return 4 Already ∷ Begin 5 ∷ []
 
 pub job_2087-plays : Plays job_2087 job_2087-items false
-unfolding actors_of repeated start step run played play all_end control_next control_got cpu_next cpu_got insn desk
+unfolding actors_of repeated start step run played play all_end control_next control_got cpu_next cpu_got insn moves desk
 job_2087-plays = (refl, refl)
 
 abbrev pub job_2088 : Job
@@ -509,7 +509,7 @@ abbrev pub job_2088-items : List Item
 job_2088-items = Enter (call_in 1 1) Normal (record { 0 = 64 }) None ∷ Body (call_in 1 1) (record { 0 = 64 }) Nop ∷ Begin 1 ∷ Leave (call_in 1 1) ∷ Ret (call_in 1 1) None ∷ Enter (call_in 1 2) Normal (record { 0 = 63 }) None ∷ Return 1 Accepted ∷ Begin 2 ∷ Body (call_in 1 2) (record { 0 = 63 }) Nop ∷ Return 2 Accepted ∷ Begin 3 ∷ []
 
 pub job_2088-plays : Plays job_2088 job_2088-items false
-unfolding actors_of repeated start step run played play all_end control_next control_got cpu_next cpu_got insn desk
+unfolding actors_of repeated start step run played play all_end control_next control_got cpu_next cpu_got insn moves desk
 job_2088-plays = (refl, refl)
 
 abbrev pub job_2090 : Job
@@ -519,5 +519,5 @@ abbrev pub job_2090-items : List Item
 job_2090-items = Begin 1 ∷ Return 1 NotThere ∷ Begin 2 ∷ Return 2 NotThere ∷ Begin 3 ∷ Enter (call_in 0 1) Nmi (record { 0 = 1 }) None ∷ Body (call_in 0 1) (record { 0 = 1 }) Nop ∷ Enter (call_in 2 1) Softirq (record { 0 = 1 }) None ∷ Enter (call_in 1 1) Normal (record { 0 = 1 }) None ∷ Leave (call_in 0 1) ∷ Body (call_in 2 1) (record { 0 = 1 }) Nop ∷ Ret (call_in 0 1) None ∷ Body (call_in 1 1) (record { 0 = 1 }) Nop ∷ Enter (call_in 2 2) Softirq (record { 0 = 0 }) (Some (call_in 2 1)) ∷ Enter (call_in 0 2) Nmi (record { 0 = 0 }) None ∷ Leave (call_in 1 1) ∷ Return 3 Accepted ∷ Ret (call_in 1 1) None ∷ Body (call_in 2 2) (record { 0 = 0 }) Nop ∷ Body (call_in 0 2) (record { 0 = 0 }) Nop ∷ Enter (call_in 1 2) Normal (record { 0 = 1 }) None ∷ Leave (call_in 2 2) ∷ Leave (call_in 0 2) ∷ Ret (call_in 2 2) (Some (call_in 2 1)) ∷ Ret (call_in 0 2) None ∷ Body (call_in 1 2) (record { 0 = 1 }) Nop ∷ Leave (call_in 2 1) ∷ Leave (call_in 1 2) ∷ Ret (call_in 2 1) None ∷ Ret (call_in 1 2) None ∷ Enter (call_in 2 3) Softirq (record { 0 = 1 }) None ∷ Body (call_in 2 3) (record { 0 = 1 }) Nop ∷ Enter (call_in 1 3) Normal (record { 0 = 0 }) None ∷ Enter (call_in 2 4) Softirq (record { 0 = 0 }) (Some (call_in 2 3)) ∷ Body (call_in 1 3) (record { 0 = 0 }) Nop ∷ Body (call_in 2 4) (record { 0 = 0 }) Nop ∷ Leave (call_in 1 3) ∷ Ret (call_in 1 3) None ∷ Enter (call_in 2 5) Softirq (record { 0 = 0 }) (Some (call_in 2 4)) ∷ Body (call_in 2 5) (record { 0 = 0 }) Nop ∷ Enter (call_in 2 6) Softirq (record { 0 = 1 }) (Some (call_in 2 5)) ∷ Body (call_in 2 6) (record { 0 = 1 }) Nop ∷ Leave (call_in 2 6) ∷ Ret (call_in 2 6) (Some (call_in 2 5)) ∷ Leave (call_in 2 5) ∷ Ret (call_in 2 5) (Some (call_in 2 4)) ∷ Leave (call_in 2 4) ∷ Ret (call_in 2 4) (Some (call_in 2 3)) ∷ Leave (call_in 2 3) ∷ Ret (call_in 2 3) None ∷ []
 
 pub job_2090-plays : Plays job_2090 job_2090-items true
-unfolding actors_of repeated start step run played play all_end control_next control_got cpu_next cpu_got insn desk
+unfolding actors_of repeated start step run played play all_end control_next control_got cpu_next cpu_got insn moves desk
 job_2090-plays = (refl, refl)

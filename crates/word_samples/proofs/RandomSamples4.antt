@@ -16,7 +16,7 @@ use Rattle.ft_base.specs.Job.{usual_lines, usual_rings, Job, Register, Unregiste
 use Rattle.ft_base.specs.Desk.{desk}
 use Rattle.ft_base.specs.Schedule.{actors_of, repeated}
 use Rattle.plain_machine.proofs.Plays.{named, call_in}
-use Rattle.word_machine.specs.Commands.{insn}
+use Rattle.word_machine.specs.Commands.{insn, moves}
 use Rattle.word_machine.specs.Control.{control_next, control_got}
 use Rattle.word_machine.specs.Cpu.{cpu_next, cpu_got}
 use Rattle.word_machine.specs.Machine.{start, step, run, played, play, all_end}
@@ -29,7 +29,7 @@ abbrev pub job_3001-items : List Item
 job_3001-items = Enter (call_in 0 1) Normal (record { 0 = 2 }) None ∷ Begin 1 ∷ Return 1 NotThere ∷ Begin 2 ∷ Return 2 Accepted ∷ Begin 3 ∷ Return 3 Accepted ∷ Body (call_in 0 1) (record { 0 = 2 }) Nop ∷ Enter (call_in 0 2) Normal (record { 0 = 0 }) (Some (call_in 0 1)) ∷ Enter (call_in 2 1) Normal (record { 0 = 1 }) None ∷ Body (call_in 0 2) (record { 0 = 0 }) Nop ∷ Leave (call_in 0 2) ∷ Ret (call_in 0 2) (Some (call_in 0 1)) ∷ Body (call_in 2 1) (record { 0 = 1 }) Nop ∷ Enter (call_in 0 3) Normal (record { 0 = 1 }) (Some (call_in 0 1)) ∷ Enter (call_in 1 1) Irq (record { 0 = 2 }) None ∷ Body (call_in 0 3) (record { 0 = 1 }) Nop ∷ Enter (call_in 2 2) Normal (record { 0 = 1 }) (Some (call_in 2 1)) ∷ Leave (call_in 0 3) ∷ Body (call_in 1 1) (record { 0 = 2 }) Nop ∷ Ret (call_in 0 3) (Some (call_in 0 1)) ∷ Leave (call_in 0 1) ∷ Ret (call_in 0 1) None ∷ Body (call_in 2 2) (record { 0 = 1 }) Nop ∷ Enter (call_in 1 2) Nmi (record { 0 = 0 }) (Some (call_in 1 1)) ∷ Enter (call_in 2 3) Irq (record { 0 = 1 }) (Some (call_in 2 2)) ∷ Body (call_in 1 2) (record { 0 = 0 }) Nop ∷ Body (call_in 2 3) (record { 0 = 1 }) Nop ∷ Leave (call_in 1 2) ∷ Ret (call_in 1 2) (Some (call_in 1 1)) ∷ Enter (call_in 2 4) Irq (record { 0 = 1 }) (Some (call_in 2 3)) ∷ Body (call_in 2 4) (record { 0 = 1 }) Nop ∷ Leave (call_in 1 1) ∷ Ret (call_in 1 1) None ∷ Leave (call_in 2 4) ∷ Ret (call_in 2 4) (Some (call_in 2 3)) ∷ Leave (call_in 2 3) ∷ Ret (call_in 2 3) (Some (call_in 2 2)) ∷ Leave (call_in 2 2) ∷ Ret (call_in 2 2) (Some (call_in 2 1)) ∷ Leave (call_in 2 1) ∷ Ret (call_in 2 1) None ∷ Begin 4 ∷ Return 4 Accepted ∷ []
 
 pub job_3001-plays : Plays job_3001 job_3001-items true
-unfolding actors_of repeated start step run played play all_end control_next control_got cpu_next cpu_got insn desk
+unfolding actors_of repeated start step run played play all_end control_next control_got cpu_next cpu_got insn moves desk
 job_3001-plays = (refl, refl)
 
 abbrev pub job_3003 : Job
@@ -39,7 +39,7 @@ abbrev pub job_3003-items : List Item
 job_3003-items = Enter (call_in 1 1) Nmi (record { 0 = 3 }) None ∷ Body (call_in 1 1) (record { 0 = 3 }) Nop ∷ Enter (call_in 1 2) Nmi (record { 0 = 1 }) (Some (call_in 1 1)) ∷ Begin 1 ∷ Return 1 Invalid ∷ Body (call_in 1 2) (record { 0 = 1 }) Nop ∷ Enter (call_in 0 1) Normal (record { 0 = 1 }) None ∷ Body (call_in 0 1) (record { 0 = 1 }) Nop ∷ Leave (call_in 1 2) ∷ Ret (call_in 1 2) (Some (call_in 1 1)) ∷ Leave (call_in 1 1) ∷ Ret (call_in 1 1) None ∷ Begin 2 ∷ Return 2 Accepted ∷ Begin 3 ∷ Return 3 Accepted ∷ Begin 4 ∷ Return 4 Accepted ∷ Begin 5 ∷ Return 5 Accepted ∷ Begin 6 ∷ Leave (call_in 0 1) ∷ Ret (call_in 0 1) None ∷ Enter (call_in 0 2) Normal (record { 0 = 1 }) None ∷ Return 6 Accepted ∷ Begin 7 ∷ Body (call_in 0 2) (record { 0 = 1 }) Nop ∷ Return 7 NotThere ∷ Enter (call_in 0 3) Normal (record { 0 = 1 }) (Some (call_in 0 2)) ∷ Body (call_in 0 3) (record { 0 = 1 }) Nop ∷ Enter (call_in 0 4) Normal (record { 0 = 2 }) (Some (call_in 0 3)) ∷ Body (call_in 0 4) (record { 0 = 2 }) Nop ∷ Enter (call_in 0 5) Normal (record { 0 = 0 }) (Some (call_in 0 4)) ∷ Body (call_in 0 5) (record { 0 = 0 }) Nop ∷ Leave (call_in 0 5) ∷ Ret (call_in 0 5) (Some (call_in 0 4)) ∷ Leave (call_in 0 4) ∷ Ret (call_in 0 4) (Some (call_in 0 3)) ∷ Leave (call_in 0 3) ∷ Ret (call_in 0 3) (Some (call_in 0 2)) ∷ Leave (call_in 0 2) ∷ Ret (call_in 0 2) None ∷ []
 
 pub job_3003-plays : Plays job_3003 job_3003-items true
-unfolding actors_of repeated start step run played play all_end control_next control_got cpu_next cpu_got insn desk
+unfolding actors_of repeated start step run played play all_end control_next control_got cpu_next cpu_got insn moves desk
 job_3003-plays = (refl, refl)
 
 abbrev pub job_3004 : Job
@@ -49,7 +49,7 @@ abbrev pub job_3004-items : List Item
 job_3004-items = Enter (call_in 0 1) Normal (record { 0 = 0 }) None ∷ Body (call_in 0 1) (record { 0 = 0 }) Nop ∷ Leave (call_in 0 1) ∷ Ret (call_in 0 1) None ∷ Enter (call_in 0 2) Normal (record { 0 = 2 }) None ∷ Body (call_in 0 2) (record { 0 = 2 }) Nop ∷ Leave (call_in 0 2) ∷ Ret (call_in 0 2) None ∷ Enter (call_in 0 3) Normal (record { 0 = 2 }) None ∷ Body (call_in 0 3) (record { 0 = 2 }) Nop ∷ Begin 1 ∷ Return 1 Accepted ∷ Begin 2 ∷ Return 2 NotThere ∷ Begin 3 ∷ Return 3 NotThere ∷ Begin 4 ∷ Return 4 NotThere ∷ Begin 5 ∷ Return 5 Accepted ∷ Begin 6 ∷ Return 6 NotThere ∷ Begin 7 ∷ Return 7 NotThere ∷ Enter (call_in 0 4) Normal (record { 0 = 3 }) (Some (call_in 0 3)) ∷ Body (call_in 0 4) (record { 0 = 3 }) Nop ∷ Leave (call_in 0 4) ∷ Ret (call_in 0 4) (Some (call_in 0 3)) ∷ Leave (call_in 0 3) ∷ Ret (call_in 0 3) None ∷ []
 
 pub job_3004-plays : Plays job_3004 job_3004-items true
-unfolding actors_of repeated start step run played play all_end control_next control_got cpu_next cpu_got insn desk
+unfolding actors_of repeated start step run played play all_end control_next control_got cpu_next cpu_got insn moves desk
 job_3004-plays = (refl, refl)
 
 abbrev pub job_3005 : Job
@@ -59,7 +59,7 @@ abbrev pub job_3005-items : List Item
 job_3005-items = Begin 1 ∷ Return 1 NotThere ∷ Begin 2 ∷ Return 2 NotThere ∷ Begin 3 ∷ Return 3 Invalid ∷ Enter (call_in 0 1) Nmi (record { 0 = 62 }) None ∷ Body (call_in 0 1) (record { 0 = 62 }) Nop ∷ Enter (call_in 0 2) Nmi (record { 0 = 62 }) (Some (call_in 0 1)) ∷ Enter (call_in 1 1) Normal (record { 0 = 62 }) None ∷ Body (call_in 1 1) (record { 0 = 62 }) Nop ∷ Enter (call_in 1 2) Softirq (record { 0 = 62 }) (Some (call_in 1 1)) ∷ Body (call_in 0 2) (record { 0 = 62 }) Nop ∷ Enter (call_in 0 3) Nmi (record { 0 = 62 }) (Some (call_in 0 2)) ∷ Body (call_in 0 3) (record { 0 = 62 }) Nop ∷ Enter (call_in 0 4) Nmi (record { 0 = 62 }) (Some (call_in 0 3)) ∷ Body (call_in 0 4) (record { 0 = 62 }) Nop ∷ Body (call_in 1 2) (record { 0 = 62 }) Nop ∷ Leave (call_in 1 2) ∷ Ret (call_in 1 2) (Some (call_in 1 1)) ∷ Enter (call_in 1 3) Normal (record { 0 = 62 }) (Some (call_in 1 1)) ∷ Body (call_in 1 3) (record { 0 = 62 }) Nop ∷ Leave (call_in 0 4) ∷ Begin 4 ∷ Ret (call_in 0 4) (Some (call_in 0 3)) ∷ Leave (call_in 0 3) ∷ Ret (call_in 0 3) (Some (call_in 0 2)) ∷ Leave (call_in 0 2) ∷ Return 4 Accepted ∷ Ret (call_in 0 2) (Some (call_in 0 1)) ∷ Leave (call_in 0 1) ∷ Enter (call_in 1 4) Normal (record { 0 = 62 }) (Some (call_in 1 3)) ∷ Body (call_in 1 4) (record { 0 = 62 }) Nop ∷ Enter (call_in 1 5) Normal (record { 0 = 62 }) (Some (call_in 1 4)) ∷ Body (call_in 1 5) (record { 0 = 62 }) Nop ∷ Enter (call_in 1 6) Normal (record { 0 = 62 }) (Some (call_in 1 5)) ∷ Ret (call_in 0 1) None ∷ Body (call_in 1 6) (record { 0 = 62 }) Nop ∷ Leave (call_in 1 6) ∷ Ret (call_in 1 6) (Some (call_in 1 5)) ∷ Leave (call_in 1 5) ∷ Ret (call_in 1 5) (Some (call_in 1 4)) ∷ Leave (call_in 1 4) ∷ Ret (call_in 1 4) (Some (call_in 1 3)) ∷ Leave (call_in 1 3) ∷ Ret (call_in 1 3) (Some (call_in 1 1)) ∷ Leave (call_in 1 1) ∷ Ret (call_in 1 1) None ∷ []
 
 pub job_3005-plays : Plays job_3005 job_3005-items true
-unfolding actors_of repeated start step run played play all_end control_next control_got cpu_next cpu_got insn desk
+unfolding actors_of repeated start step run played play all_end control_next control_got cpu_next cpu_got insn moves desk
 job_3005-plays = (refl, refl)
 
 abbrev pub job_3006 : Job
@@ -69,7 +69,7 @@ abbrev pub job_3006-items : List Item
 job_3006-items = Begin 1 ∷ Return 1 NotThere ∷ Enter (call_in 0 1) Normal (record { 0 = 0 }) None ∷ Body (call_in 0 1) (record { 0 = 0 }) Nop ∷ Enter (call_in 0 2) Normal (record { 0 = 0 }) (Some (call_in 0 1)) ∷ Body (call_in 0 2) (record { 0 = 0 }) Nop ∷ Enter (call_in 0 3) Normal (record { 0 = 0 }) (Some (call_in 0 2)) ∷ Body (call_in 0 3) (record { 0 = 0 }) Nop ∷ Leave (call_in 0 3) ∷ Ret (call_in 0 3) (Some (call_in 0 2)) ∷ Leave (call_in 0 2) ∷ Ret (call_in 0 2) (Some (call_in 0 1)) ∷ Leave (call_in 0 1) ∷ Ret (call_in 0 1) None ∷ Begin 2 ∷ Return 2 Accepted ∷ Begin 3 ∷ Return 3 Accepted ∷ Begin 4 ∷ Return 4 Accepted ∷ []
 
 pub job_3006-plays : Plays job_3006 job_3006-items true
-unfolding actors_of repeated start step run played play all_end control_next control_got cpu_next cpu_got insn desk
+unfolding actors_of repeated start step run played play all_end control_next control_got cpu_next cpu_got insn moves desk
 job_3006-plays = (refl, refl)
 
 abbrev pub job_3009 : Job
@@ -79,7 +79,7 @@ abbrev pub job_3009-items : List Item
 job_3009-items = Enter (call_in 0 1) Normal (record { 0 = 0 }) None ∷ Body (call_in 0 1) (record { 0 = 0 }) Nop ∷ Begin 1 ∷ Enter (call_in 0 2) Irq (record { 0 = 3 }) (Some (call_in 0 1)) ∷ Back (call_in 0 2) (record { 0 = 0 }) ∷ BackEnd (call_in 0 2) (record { 0 = 0 }) ∷ Body (call_in 0 2) (record { 0 = 3 }) (Own (record { 0 = 0 })) ∷ Enter (call_in 0 3) Irq (record { 0 = 1 }) (Some (call_in 0 2)) ∷ Back (call_in 0 3) (record { 0 = 0 }) ∷ BackEnd (call_in 0 3) (record { 0 = 0 }) ∷ Body (call_in 0 3) (record { 0 = 1 }) (Own (record { 0 = 0 })) ∷ Enter (call_in 0 4) Irq (record { 0 = 2 }) (Some (call_in 0 3)) ∷ Back (call_in 0 4) (record { 0 = 0 }) ∷ BackEnd (call_in 0 4) (record { 0 = 0 }) ∷ Body (call_in 0 4) (record { 0 = 2 }) (Own (record { 0 = 0 })) ∷ Return 1 Accepted ∷ Begin 2 ∷ Enter (call_in 0 5) Nmi (record { 0 = 3 }) (Some (call_in 0 4)) ∷ Body (call_in 0 5) (record { 0 = 3 }) (Own (record { 0 = 0 })) ∷ Leave (call_in 0 5) ∷ Ret (call_in 0 5) (Some (call_in 0 4)) ∷ Leave (call_in 0 4) ∷ Ret (call_in 0 4) (Some (call_in 0 3)) ∷ Leave (call_in 0 3) ∷ Ret (call_in 0 3) (Some (call_in 0 2)) ∷ Leave (call_in 0 2) ∷ Ret (call_in 0 2) (Some (call_in 0 1)) ∷ Leave (call_in 0 1) ∷ Ret (call_in 0 1) None ∷ Return 2 Accepted ∷ Begin 3 ∷ Return 3 NotThere ∷ Begin 4 ∷ Return 4 Accepted ∷ Begin 5 ∷ Return 5 Invalid ∷ Begin 6 ∷ Return 6 Accepted ∷ Begin 7 ∷ Return 7 Accepted ∷ []
 
 pub job_3009-plays : Plays job_3009 job_3009-items true
-unfolding actors_of repeated start step run played play all_end control_next control_got cpu_next cpu_got insn desk
+unfolding actors_of repeated start step run played play all_end control_next control_got cpu_next cpu_got insn moves desk
 job_3009-plays = (refl, refl)
 
 abbrev pub job_3010 : Job
@@ -89,7 +89,7 @@ abbrev pub job_3010-items : List Item
 job_3010-items = Begin 1 ∷ Return 1 NotThere ∷ Begin 2 ∷ Enter (call_in 0 1) Nmi (record { 0 = 0 }) None ∷ Back (call_in 0 1) (record { 0 = 1 }) ∷ Enter (call_in 0 2) Nmi (record { 0 = 0 }) (Some (call_in 0 1)) ∷ Enter (call_in 1 1) Normal (record { 0 = 1 }) None ∷ Back (call_in 1 1) (record { 0 = 1 }) ∷ Enter (call_in 1 2) Normal (record { 0 = 0 }) (Some (call_in 1 1)) ∷ Refuse (call_in 0 2) (record { 0 = 1 }) Recursion ∷ Body (call_in 0 2) (record { 0 = 0 }) (Own (record { 0 = 1 })) ∷ Leave (call_in 0 2) ∷ Ret (call_in 0 2) (Some (call_in 0 1)) ∷ BackEnd (call_in 0 1) (record { 0 = 1 }) ∷ Body (call_in 0 1) (record { 0 = 0 }) (Own (record { 0 = 1 })) ∷ Leave (call_in 0 1) ∷ Exit (call_in 0 1) (record { 0 = 1 }) 4 ∷ ExitEnd (call_in 0 1) (record { 0 = 1 }) ∷ Refuse (call_in 1 2) (record { 0 = 1 }) Recursion ∷ Body (call_in 1 2) (record { 0 = 0 }) (Own (record { 0 = 1 })) ∷ Leave (call_in 1 2) ∷ Ret (call_in 1 2) (Some (call_in 1 1)) ∷ BackEnd (call_in 1 1) (record { 0 = 1 }) ∷ Body (call_in 1 1) (record { 0 = 1 }) (Own (record { 0 = 1 })) ∷ Return 2 Accepted ∷ Enter (call_in 1 3) Normal (record { 0 = 1 }) (Some (call_in 1 1)) ∷ Begin 3 ∷ Ret (call_in 0 1) None ∷ Body (call_in 1 3) (record { 0 = 1 }) (Own (record { 0 = 1 })) ∷ Leave (call_in 1 3) ∷ Ret (call_in 1 3) (Some (call_in 1 1)) ∷ Enter (call_in 1 4) Normal (record { 0 = 2 }) (Some (call_in 1 1)) ∷ Body (call_in 1 4) (record { 0 = 2 }) Nop ∷ Enter (call_in 1 5) Normal (record { 0 = 2 }) (Some (call_in 1 4)) ∷ Body (call_in 1 5) (record { 0 = 2 }) Nop ∷ Leave (call_in 1 5) ∷ Ret (call_in 1 5) (Some (call_in 1 4)) ∷ Leave (call_in 1 4) ∷ Ret (call_in 1 4) (Some (call_in 1 1)) ∷ Return 3 Accepted ∷ Begin 4 ∷ Return 4 NotThere ∷ Leave (call_in 1 1) ∷ Ret (call_in 1 1) None ∷ []
 
 pub job_3010-plays : Plays job_3010 job_3010-items true
-unfolding actors_of repeated start step run played play all_end control_next control_got cpu_next cpu_got insn desk
+unfolding actors_of repeated start step run played play all_end control_next control_got cpu_next cpu_got insn moves desk
 job_3010-plays = (refl, refl)
 
 abbrev pub job_3012 : Job
@@ -99,7 +99,7 @@ abbrev pub job_3012-items : List Item
 job_3012-items = Begin 1 ∷ Return 1 NotThere ∷ Begin 2 ∷ Return 2 NotThere ∷ Begin 3 ∷ Return 3 NotThere ∷ Begin 4 ∷ Enter (call_in 0 1) Normal (record { 0 = 1 }) None ∷ Body (call_in 0 1) (record { 0 = 1 }) Nop ∷ Enter (call_in 0 2) Normal (record { 0 = 0 }) (Some (call_in 0 1)) ∷ Return 4 Accepted ∷ Body (call_in 0 2) (record { 0 = 0 }) Nop ∷ Leave (call_in 0 2) ∷ Ret (call_in 0 2) (Some (call_in 0 1)) ∷ Leave (call_in 0 1) ∷ Ret (call_in 0 1) None ∷ []
 
 pub job_3012-plays : Plays job_3012 job_3012-items true
-unfolding actors_of repeated start step run played play all_end control_next control_got cpu_next cpu_got insn desk
+unfolding actors_of repeated start step run played play all_end control_next control_got cpu_next cpu_got insn moves desk
 job_3012-plays = (refl, refl)
 
 abbrev pub job_3015 : Job
@@ -109,7 +109,7 @@ abbrev pub job_3015-items : List Item
 job_3015-items = Begin 1 ∷ Return 1 Accepted ∷ Begin 2 ∷ Return 2 NotThere ∷ Enter (call_in 0 1) Softirq (record { 0 = 1 }) None ∷ Body (call_in 0 1) (record { 0 = 1 }) Nop ∷ Enter (call_in 0 2) Softirq (record { 0 = 0 }) (Some (call_in 0 1)) ∷ Body (call_in 0 2) (record { 0 = 0 }) Nop ∷ Enter (call_in 0 3) Softirq (record { 0 = 0 }) (Some (call_in 0 2)) ∷ Body (call_in 0 3) (record { 0 = 0 }) Nop ∷ Leave (call_in 0 3) ∷ Ret (call_in 0 3) (Some (call_in 0 2)) ∷ Leave (call_in 0 2) ∷ Ret (call_in 0 2) (Some (call_in 0 1)) ∷ Leave (call_in 0 1) ∷ Ret (call_in 0 1) None ∷ []
 
 pub job_3015-plays : Plays job_3015 job_3015-items true
-unfolding actors_of repeated start step run played play all_end control_next control_got cpu_next cpu_got insn desk
+unfolding actors_of repeated start step run played play all_end control_next control_got cpu_next cpu_got insn moves desk
 job_3015-plays = (refl, refl)
 
 abbrev pub job_3018 : Job
@@ -119,7 +119,7 @@ abbrev pub job_3018-items : List Item
 job_3018-items = Begin 1 ∷ Enter (call_in 0 1) Normal (record { 0 = 2 }) None ∷ Back (call_in 0 1) (record { 0 = 0 }) ∷ Enter (call_in 0 2) Normal (record { 0 = 0 }) (Some (call_in 0 1)) ∷ Refuse (call_in 0 2) (record { 0 = 0 }) Recursion ∷ Body (call_in 0 2) (record { 0 = 0 }) ByList ∷ Leave (call_in 0 2) ∷ Ret (call_in 0 2) (Some (call_in 0 1)) ∷ BackEnd (call_in 0 1) (record { 0 = 0 }) ∷ Body (call_in 0 1) (record { 0 = 2 }) ByList ∷ Return 1 Accepted ∷ Begin 2 ∷ Return 2 Already ∷ Begin 3 ∷ Enter (call_in 0 3) Nmi (record { 0 = 1 }) (Some (call_in 0 1)) ∷ Return 3 Accepted ∷ Begin 4 ∷ Enter (call_in 1 1) Nmi (record { 0 = 2 }) None ∷ Back (call_in 0 3) (record { 0 = 0 }) ∷ Enter (call_in 0 4) Nmi (record { 0 = 0 }) (Some (call_in 0 3)) ∷ Refuse (call_in 1 1) (record { 0 = 0 }) ByPid ∷ Body (call_in 1 1) (record { 0 = 2 }) ByList ∷ Enter (call_in 1 2) Nmi (record { 0 = 2 }) (Some (call_in 1 1)) ∷ Refuse (call_in 0 4) (record { 0 = 0 }) Recursion ∷ Body (call_in 0 4) (record { 0 = 0 }) ByList ∷ Leave (call_in 0 4) ∷ Ret (call_in 0 4) (Some (call_in 0 3)) ∷ BackEnd (call_in 0 3) (record { 0 = 0 }) ∷ Refuse (call_in 1 2) (record { 0 = 0 }) ByPid ∷ Body (call_in 0 3) (record { 0 = 1 }) ByList ∷ Body (call_in 1 2) (record { 0 = 2 }) ByList ∷ Return 4 Accepted ∷ Leave (call_in 0 3) ∷ Begin 5 ∷ Leave (call_in 1 2) ∷ Return 5 Already ∷ Ret (call_in 0 3) (Some (call_in 0 1)) ∷ Begin 6 ∷ Ret (call_in 1 2) (Some (call_in 1 1)) ∷ Return 6 Already ∷ Begin 7 ∷ Return 7 Already ∷ Leave (call_in 1 1) ∷ Ret (call_in 1 1) None ∷ Leave (call_in 0 1) ∷ Ret (call_in 0 1) None ∷ []
 
 pub job_3018-plays : Plays job_3018 job_3018-items true
-unfolding actors_of repeated start step run played play all_end control_next control_got cpu_next cpu_got insn desk
+unfolding actors_of repeated start step run played play all_end control_next control_got cpu_next cpu_got insn moves desk
 job_3018-plays = (refl, refl)
 
 abbrev pub job_3020 : Job
@@ -129,7 +129,7 @@ abbrev pub job_3020-items : List Item
 job_3020-items = Begin 1 ∷ Return 1 NotThere ∷ Begin 2 ∷ Enter (call_in 0 1) Normal (record { 0 = 1 }) None ∷ Body (call_in 0 1) (record { 0 = 1 }) Nop ∷ Return 2 NotThere ∷ Enter (call_in 0 2) Normal (record { 0 = 0 }) (Some (call_in 0 1)) ∷ Body (call_in 0 2) (record { 0 = 0 }) Nop ∷ Enter (call_in 0 3) Normal (record { 0 = 3 }) (Some (call_in 0 2)) ∷ Body (call_in 0 3) (record { 0 = 3 }) Nop ∷ Leave (call_in 0 3) ∷ Ret (call_in 0 3) (Some (call_in 0 2)) ∷ Leave (call_in 0 2) ∷ Ret (call_in 0 2) (Some (call_in 0 1)) ∷ Leave (call_in 0 1) ∷ Ret (call_in 0 1) None ∷ []
 
 pub job_3020-plays : Plays job_3020 job_3020-items true
-unfolding actors_of repeated start step run played play all_end control_next control_got cpu_next cpu_got insn desk
+unfolding actors_of repeated start step run played play all_end control_next control_got cpu_next cpu_got insn moves desk
 job_3020-plays = (refl, refl)
 
 abbrev pub job_3022 : Job
@@ -139,7 +139,7 @@ abbrev pub job_3022-items : List Item
 job_3022-items = Begin 1 ∷ Return 1 Accepted ∷ Begin 2 ∷ Return 2 Accepted ∷ Begin 3 ∷ Enter (call_in 2 1) Normal (record { 0 = 1 }) None ∷ Return 3 Accepted ∷ Begin 4 ∷ Back (call_in 2 1) (record { 0 = 2 }) ∷ BackEnd (call_in 2 1) (record { 0 = 2 }) ∷ Return 4 Accepted ∷ Begin 5 ∷ Return 5 NotThere ∷ Enter (call_in 1 1) Normal (record { 0 = 0 }) None ∷ Refuse (call_in 1 1) (record { 0 = 3 }) ByPid ∷ Body (call_in 2 1) (record { 0 = 1 }) ByList ∷ Enter (call_in 2 2) Normal (record { 0 = 2 }) (Some (call_in 2 1)) ∷ Refuse (call_in 2 2) (record { 0 = 3 }) ByPid ∷ Enter (call_in 0 1) Nmi (record { 0 = 1 }) None ∷ Refuse (call_in 0 1) (record { 0 = 3 }) ByPid ∷ Back (call_in 0 1) (record { 0 = 2 }) ∷ BackEnd (call_in 0 1) (record { 0 = 2 }) ∷ Body (call_in 0 1) (record { 0 = 1 }) ByList ∷ Back (call_in 1 1) (record { 0 = 2 }) ∷ BackEnd (call_in 1 1) (record { 0 = 2 }) ∷ Body (call_in 1 1) (record { 0 = 0 }) ByList ∷ Leave (call_in 1 1) ∷ Exit (call_in 1 1) (record { 0 = 2 }) 23 ∷ ExitEnd (call_in 1 1) (record { 0 = 2 }) ∷ Ret (call_in 1 1) None ∷ Back (call_in 2 2) (record { 0 = 2 }) ∷ BackEnd (call_in 2 2) (record { 0 = 2 }) ∷ Body (call_in 2 2) (record { 0 = 2 }) ByList ∷ Begin 6 ∷ Return 6 Accepted ∷ Begin 7 ∷ Enter (call_in 2 3) Normal (record { 0 = 1 }) (Some (call_in 2 2)) ∷ Leave (call_in 0 1) ∷ Ret (call_in 0 1) None ∷ Refuse (call_in 2 3) (record { 0 = 3 }) ByPid ∷ Body (call_in 2 3) (record { 0 = 1 }) ByList ∷ Enter (call_in 2 4) Normal (record { 0 = 1 }) (Some (call_in 2 3)) ∷ Return 7 Accepted ∷ Refuse (call_in 2 4) (record { 0 = 3 }) ByPid ∷ Body (call_in 2 4) (record { 0 = 1 }) ByList ∷ Enter (call_in 2 5) Normal (record { 0 = 2 }) (Some (call_in 2 4)) ∷ Refuse (call_in 2 5) (record { 0 = 3 }) ByPid ∷ Body (call_in 2 5) (record { 0 = 2 }) ByList ∷ Leave (call_in 2 5) ∷ Ret (call_in 2 5) (Some (call_in 2 4)) ∷ Leave (call_in 2 4) ∷ Ret (call_in 2 4) (Some (call_in 2 3)) ∷ Leave (call_in 2 3) ∷ Ret (call_in 2 3) (Some (call_in 2 2)) ∷ Leave (call_in 2 2) ∷ Ret (call_in 2 2) (Some (call_in 2 1)) ∷ Leave (call_in 2 1) ∷ Ret (call_in 2 1) None ∷ []
 
 pub job_3022-plays : Plays job_3022 job_3022-items true
-unfolding actors_of repeated start step run played play all_end control_next control_got cpu_next cpu_got insn desk
+unfolding actors_of repeated start step run played play all_end control_next control_got cpu_next cpu_got insn moves desk
 job_3022-plays = (refl, refl)
 
 abbrev pub job_3023 : Job
@@ -149,7 +149,7 @@ abbrev pub job_3023-items : List Item
 job_3023-items = Begin 1 ∷ Return 1 NotThere ∷ Begin 2 ∷ Enter (call_in 1 1) Normal (record { 0 = 2 }) None ∷ Body (call_in 1 1) (record { 0 = 2 }) Nop ∷ Leave (call_in 1 1) ∷ Ret (call_in 1 1) None ∷ Enter (call_in 1 2) Normal (record { 0 = 0 }) None ∷ Body (call_in 1 2) (record { 0 = 0 }) Nop ∷ Return 2 Accepted ∷ Begin 3 ∷ Leave (call_in 1 2) ∷ Ret (call_in 1 2) None ∷ Return 3 Accepted ∷ Begin 4 ∷ Return 4 NotThere ∷ Enter (call_in 2 1) Normal (record { 0 = 3 }) None ∷ Enter (call_in 0 1) Irq (record { 0 = 0 }) None ∷ Body (call_in 2 1) (record { 0 = 3 }) Nop ∷ Body (call_in 0 1) (record { 0 = 0 }) Nop ∷ Enter (call_in 2 2) Normal (record { 0 = 3 }) (Some (call_in 2 1)) ∷ Enter (call_in 0 2) Irq (record { 0 = 1 }) (Some (call_in 0 1)) ∷ Body (call_in 2 2) (record { 0 = 3 }) Nop ∷ Body (call_in 0 2) (record { 0 = 1 }) Nop ∷ Enter (call_in 2 3) Normal (record { 0 = 3 }) (Some (call_in 2 2)) ∷ Leave (call_in 0 2) ∷ Ret (call_in 0 2) (Some (call_in 0 1)) ∷ Body (call_in 2 3) (record { 0 = 3 }) Nop ∷ Leave (call_in 0 1) ∷ Enter (call_in 2 4) Normal (record { 0 = 1 }) (Some (call_in 2 3)) ∷ Ret (call_in 0 1) None ∷ Body (call_in 2 4) (record { 0 = 1 }) Nop ∷ Leave (call_in 2 4) ∷ Ret (call_in 2 4) (Some (call_in 2 3)) ∷ Leave (call_in 2 3) ∷ Ret (call_in 2 3) (Some (call_in 2 2)) ∷ Leave (call_in 2 2) ∷ Ret (call_in 2 2) (Some (call_in 2 1)) ∷ Leave (call_in 2 1) ∷ Ret (call_in 2 1) None ∷ []
 
 pub job_3023-plays : Plays job_3023 job_3023-items true
-unfolding actors_of repeated start step run played play all_end control_next control_got cpu_next cpu_got insn desk
+unfolding actors_of repeated start step run played play all_end control_next control_got cpu_next cpu_got insn moves desk
 job_3023-plays = (refl, refl)
 
 abbrev pub job_3024 : Job
@@ -159,7 +159,7 @@ abbrev pub job_3024-items : List Item
 job_3024-items = Begin 1 ∷ Return 1 Accepted ∷ Begin 2 ∷ Return 2 Accepted ∷ Begin 3 ∷ Return 3 NotThere ∷ Enter (call_in 0 1) Normal (record { 0 = 63 }) None ∷ Back (call_in 0 1) (record { 0 = 3 }) ∷ Enter (call_in 0 2) Normal (record { 0 = 62 }) (Some (call_in 0 1)) ∷ Refuse (call_in 0 2) (record { 0 = 3 }) Recursion ∷ Body (call_in 0 2) (record { 0 = 62 }) ByList ∷ Leave (call_in 0 2) ∷ Ret (call_in 0 2) (Some (call_in 0 1)) ∷ BackEnd (call_in 0 1) (record { 0 = 3 }) ∷ Body (call_in 0 1) (record { 0 = 63 }) ByList ∷ Leave (call_in 0 1) ∷ Ret (call_in 0 1) None ∷ Enter (call_in 0 3) Normal (record { 0 = 63 }) None ∷ Back (call_in 0 3) (record { 0 = 3 }) ∷ Enter (call_in 0 4) Normal (record { 0 = 62 }) (Some (call_in 0 3)) ∷ Refuse (call_in 0 4) (record { 0 = 3 }) Recursion ∷ Body (call_in 0 4) (record { 0 = 62 }) ByList ∷ Leave (call_in 0 4) ∷ Ret (call_in 0 4) (Some (call_in 0 3)) ∷ BackEnd (call_in 0 3) (record { 0 = 3 }) ∷ Body (call_in 0 3) (record { 0 = 63 }) ByList ∷ Begin 4 ∷ Enter (call_in 0 5) Normal (record { 0 = 62 }) (Some (call_in 0 3)) ∷ Back (call_in 0 5) (record { 0 = 3 }) ∷ Enter (call_in 0 6) Normal (record { 0 = 62 }) (Some (call_in 0 5)) ∷ Refuse (call_in 0 6) (record { 0 = 3 }) Recursion ∷ Body (call_in 0 6) (record { 0 = 62 }) ByList ∷ Leave (call_in 0 6) ∷ Ret (call_in 0 6) (Some (call_in 0 5)) ∷ BackEnd (call_in 0 5) (record { 0 = 3 }) ∷ Body (call_in 0 5) (record { 0 = 62 }) ByList ∷ Return 4 Accepted ∷ Leave (call_in 0 5) ∷ Ret (call_in 0 5) (Some (call_in 0 3)) ∷ Leave (call_in 0 3) ∷ Ret (call_in 0 3) None ∷ Enter (call_in 1 1) Nmi (record { 0 = 63 }) None ∷ Back (call_in 1 1) (record { 0 = 3 }) ∷ Enter (call_in 1 2) Nmi (record { 0 = 62 }) (Some (call_in 1 1)) ∷ Refuse (call_in 1 2) (record { 0 = 3 }) Recursion ∷ Body (call_in 1 2) (record { 0 = 62 }) ByList ∷ Leave (call_in 1 2) ∷ Ret (call_in 1 2) (Some (call_in 1 1)) ∷ BackEnd (call_in 1 1) (record { 0 = 3 }) ∷ Body (call_in 1 1) (record { 0 = 63 }) ByList ∷ Enter (call_in 1 3) Nmi (record { 0 = 63 }) (Some (call_in 1 1)) ∷ Back (call_in 1 3) (record { 0 = 3 }) ∷ Enter (call_in 1 4) Nmi (record { 0 = 62 }) (Some (call_in 1 3)) ∷ Refuse (call_in 1 4) (record { 0 = 3 }) Recursion ∷ Body (call_in 1 4) (record { 0 = 62 }) ByList ∷ Leave (call_in 1 4) ∷ Ret (call_in 1 4) (Some (call_in 1 3)) ∷ BackEnd (call_in 1 3) (record { 0 = 3 }) ∷ Body (call_in 1 3) (record { 0 = 63 }) ByList ∷ Leave (call_in 1 3) ∷ Ret (call_in 1 3) (Some (call_in 1 1)) ∷ Leave (call_in 1 1) ∷ Ret (call_in 1 1) None ∷ []
 
 pub job_3024-plays : Plays job_3024 job_3024-items true
-unfolding actors_of repeated start step run played play all_end control_next control_got cpu_next cpu_got insn desk
+unfolding actors_of repeated start step run played play all_end control_next control_got cpu_next cpu_got insn moves desk
 job_3024-plays = (refl, refl)
 
 abbrev pub job_3025 : Job
@@ -169,7 +169,7 @@ abbrev pub job_3025-items : List Item
 job_3025-items = Begin 1 ∷ Return 1 Accepted ∷ Begin 2 ∷ Return 2 Accepted ∷ Begin 3 ∷ Return 3 Invalid ∷ Enter (call_in 0 1) Nmi (record { 0 = 0 }) None ∷ Body (call_in 0 1) (record { 0 = 0 }) Nop ∷ Enter (call_in 1 1) Nmi (record { 0 = 0 }) None ∷ Body (call_in 1 1) (record { 0 = 0 }) Nop ∷ Leave (call_in 1 1) ∷ Ret (call_in 1 1) None ∷ Enter (call_in 2 1) Normal (record { 0 = 0 }) None ∷ Body (call_in 2 1) (record { 0 = 0 }) Nop ∷ Enter (call_in 2 2) Normal (record { 0 = 0 }) (Some (call_in 2 1)) ∷ Body (call_in 2 2) (record { 0 = 0 }) Nop ∷ Leave (call_in 0 1) ∷ Ret (call_in 0 1) None ∷ Enter (call_in 0 2) Softirq (record { 0 = 0 }) None ∷ Body (call_in 0 2) (record { 0 = 0 }) Nop ∷ Leave (call_in 0 2) ∷ Enter (call_in 1 2) Nmi (record { 0 = 0 }) None ∷ Body (call_in 1 2) (record { 0 = 0 }) Nop ∷ Enter (call_in 1 3) Nmi (record { 0 = 0 }) (Some (call_in 1 2)) ∷ Body (call_in 1 3) (record { 0 = 0 }) Nop ∷ Leave (call_in 1 3) ∷ Ret (call_in 1 3) (Some (call_in 1 2)) ∷ Enter (call_in 2 3) Softirq (record { 0 = 0 }) (Some (call_in 2 2)) ∷ Body (call_in 2 3) (record { 0 = 0 }) Nop ∷ Leave (call_in 2 3) ∷ Ret (call_in 2 3) (Some (call_in 2 2)) ∷ Ret (call_in 0 2) None ∷ Leave (call_in 1 2) ∷ Ret (call_in 1 2) None ∷ Leave (call_in 2 2) ∷ Ret (call_in 2 2) (Some (call_in 2 1)) ∷ Leave (call_in 2 1) ∷ Ret (call_in 2 1) None ∷ []
 
 pub job_3025-plays : Plays job_3025 job_3025-items true
-unfolding actors_of repeated start step run played play all_end control_next control_got cpu_next cpu_got insn desk
+unfolding actors_of repeated start step run played play all_end control_next control_got cpu_next cpu_got insn moves desk
 job_3025-plays = (refl, refl)
 
 abbrev pub job_3029 : Job
@@ -179,7 +179,7 @@ abbrev pub job_3029-items : List Item
 job_3029-items = Begin 1 ∷ Return 1 Accepted ∷ Begin 2 ∷ Return 2 Accepted ∷ Begin 3 ∷ Return 3 Accepted ∷ Begin 4 ∷ Enter (call_in 2 1) Normal (record { 0 = 0 }) None ∷ Enter (call_in 0 1) Nmi (record { 0 = 1 }) None ∷ Body (call_in 2 1) (record { 0 = 0 }) Nop ∷ Body (call_in 0 1) (record { 0 = 1 }) Nop ∷ Return 4 Accepted ∷ Begin 5 ∷ Enter (call_in 2 2) Normal (record { 0 = 1 }) (Some (call_in 2 1)) ∷ Leave (call_in 0 1) ∷ Ret (call_in 0 1) None ∷ Body (call_in 2 2) (record { 0 = 1 }) Nop ∷ Enter (call_in 1 1) Irq (record { 0 = 1 }) None ∷ Return 5 Accepted ∷ Enter (call_in 2 3) Normal (record { 0 = 1 }) (Some (call_in 2 2)) ∷ Body (call_in 1 1) (record { 0 = 1 }) Nop ∷ Body (call_in 2 3) (record { 0 = 1 }) Nop ∷ Leave (call_in 2 3) ∷ Ret (call_in 2 3) (Some (call_in 2 2)) ∷ Enter (call_in 1 2) Irq (record { 0 = 1 }) (Some (call_in 1 1)) ∷ Leave (call_in 2 2) ∷ Ret (call_in 2 2) (Some (call_in 2 1)) ∷ Body (call_in 1 2) (record { 0 = 1 }) Nop ∷ Leave (call_in 2 1) ∷ Ret (call_in 2 1) None ∷ Leave (call_in 1 2) ∷ Ret (call_in 1 2) (Some (call_in 1 1)) ∷ Leave (call_in 1 1) ∷ Ret (call_in 1 1) None ∷ []
 
 pub job_3029-plays : Plays job_3029 job_3029-items true
-unfolding actors_of repeated start step run played play all_end control_next control_got cpu_next cpu_got insn desk
+unfolding actors_of repeated start step run played play all_end control_next control_got cpu_next cpu_got insn moves desk
 job_3029-plays = (refl, refl)
 
 abbrev pub job_3030 : Job
@@ -189,7 +189,7 @@ abbrev pub job_3030-items : List Item
 job_3030-items = Begin 1 ∷ Enter (call_in 0 1) Nmi (record { 0 = 1 }) None ∷ Return 1 Accepted ∷ Begin 2 ∷ Body (call_in 0 1) (record { 0 = 1 }) Nop ∷ Enter (call_in 0 2) Nmi (record { 0 = 1 }) (Some (call_in 0 1)) ∷ Back (call_in 0 2) (record { 0 = 0 }) ∷ BackEnd (call_in 0 2) (record { 0 = 0 }) ∷ Body (call_in 0 2) (record { 0 = 1 }) (Own (record { 0 = 0 })) ∷ Leave (call_in 0 2) ∷ Ret (call_in 0 2) (Some (call_in 0 1)) ∷ Leave (call_in 0 1) ∷ Ret (call_in 0 1) None ∷ Return 2 Accepted ∷ Begin 3 ∷ Enter (call_in 0 3) Irq (record { 0 = 1 }) None ∷ Back (call_in 0 3) (record { 0 = 0 }) ∷ BackEnd (call_in 0 3) (record { 0 = 0 }) ∷ Body (call_in 0 3) (record { 0 = 1 }) (Own (record { 0 = 0 })) ∷ Leave (call_in 0 3) ∷ Ret (call_in 0 3) None ∷ Return 3 Accepted ∷ []
 
 pub job_3030-plays : Plays job_3030 job_3030-items true
-unfolding actors_of repeated start step run played play all_end control_next control_got cpu_next cpu_got insn desk
+unfolding actors_of repeated start step run played play all_end control_next control_got cpu_next cpu_got insn moves desk
 job_3030-plays = (refl, refl)
 
 abbrev pub job_3031 : Job
@@ -199,7 +199,7 @@ abbrev pub job_3031-items : List Item
 job_3031-items = Enter (call_in 0 1) Irq (record { 0 = 1 }) None ∷ Body (call_in 0 1) (record { 0 = 1 }) Nop ∷ Leave (call_in 0 1) ∷ Ret (call_in 0 1) None ∷ Enter (call_in 0 2) Irq (record { 0 = 0 }) None ∷ Body (call_in 0 2) (record { 0 = 0 }) Nop ∷ Enter (call_in 0 3) Irq (record { 0 = 1 }) (Some (call_in 0 2)) ∷ Body (call_in 0 3) (record { 0 = 1 }) Nop ∷ Leave (call_in 0 3) ∷ Ret (call_in 0 3) (Some (call_in 0 2)) ∷ Enter (call_in 2 1) Nmi (record { 0 = 2 }) None ∷ Body (call_in 2 1) (record { 0 = 2 }) Nop ∷ Leave (call_in 2 1) ∷ Ret (call_in 2 1) None ∷ Begin 1 ∷ Leave (call_in 0 2) ∷ Ret (call_in 0 2) None ∷ Return 1 Accepted ∷ Begin 2 ∷ Return 2 Already ∷ Begin 3 ∷ Return 3 Accepted ∷ Begin 4 ∷ Return 4 Accepted ∷ Enter (call_in 1 1) Irq (record { 0 = 0 }) None ∷ Body (call_in 1 1) (record { 0 = 0 }) ByList ∷ Enter (call_in 1 2) Irq (record { 0 = 3 }) (Some (call_in 1 1)) ∷ Body (call_in 1 2) (record { 0 = 3 }) ByList ∷ Leave (call_in 1 2) ∷ Ret (call_in 1 2) (Some (call_in 1 1)) ∷ Leave (call_in 1 1) ∷ Ret (call_in 1 1) None ∷ Enter (call_in 1 3) Normal (record { 0 = 2 }) None ∷ Body (call_in 1 3) (record { 0 = 2 }) ByList ∷ Enter (call_in 1 4) Softirq (record { 0 = 2 }) (Some (call_in 1 3)) ∷ Body (call_in 1 4) (record { 0 = 2 }) ByList ∷ Leave (call_in 1 4) ∷ Ret (call_in 1 4) (Some (call_in 1 3)) ∷ Leave (call_in 1 3) ∷ Ret (call_in 1 3) None ∷ []
 
 pub job_3031-plays : Plays job_3031 job_3031-items true
-unfolding actors_of repeated start step run played play all_end control_next control_got cpu_next cpu_got insn desk
+unfolding actors_of repeated start step run played play all_end control_next control_got cpu_next cpu_got insn moves desk
 job_3031-plays = (refl, refl)
 
 abbrev pub job_3032 : Job
@@ -209,7 +209,7 @@ abbrev pub job_3032-items : List Item
 job_3032-items = Begin 1 ∷ Enter (call_in 2 1) Normal (record { 0 = 1 }) None ∷ Body (call_in 2 1) (record { 0 = 1 }) Nop ∷ Enter (call_in 2 2) Normal (record { 0 = 0 }) (Some (call_in 2 1)) ∷ Back (call_in 2 2) (record { 0 = 0 }) ∷ BackEnd (call_in 2 2) (record { 0 = 0 }) ∷ Body (call_in 2 2) (record { 0 = 0 }) (Own (record { 0 = 0 })) ∷ Return 1 Accepted ∷ Begin 2 ∷ Enter (call_in 1 1) Softirq (record { 0 = 0 }) None ∷ Return 2 Accepted ∷ Back (call_in 1 1) (record { 0 = 0 }) ∷ BackEnd (call_in 1 1) (record { 0 = 0 }) ∷ Body (call_in 1 1) (record { 0 = 0 }) (Own (record { 0 = 0 })) ∷ Leave (call_in 1 1) ∷ Ret (call_in 1 1) None ∷ Enter (call_in 1 2) Normal (record { 0 = 0 }) None ∷ Back (call_in 1 2) (record { 0 = 0 }) ∷ BackEnd (call_in 1 2) (record { 0 = 0 }) ∷ Body (call_in 1 2) (record { 0 = 0 }) (Own (record { 0 = 0 })) ∷ Enter (call_in 1 3) Normal (record { 0 = 0 }) (Some (call_in 1 2)) ∷ Enter (call_in 2 3) Normal (record { 0 = 0 }) (Some (call_in 2 2)) ∷ Back (call_in 2 3) (record { 0 = 0 }) ∷ BackEnd (call_in 2 3) (record { 0 = 0 }) ∷ Body (call_in 2 3) (record { 0 = 0 }) (Own (record { 0 = 0 })) ∷ Enter (call_in 2 4) Normal (record { 0 = 1 }) (Some (call_in 2 3)) ∷ Back (call_in 2 4) (record { 0 = 0 }) ∷ BackEnd (call_in 2 4) (record { 0 = 0 }) ∷ Body (call_in 2 4) (record { 0 = 1 }) (Own (record { 0 = 0 })) ∷ Leave (call_in 2 4) ∷ Ret (call_in 2 4) (Some (call_in 2 3)) ∷ Leave (call_in 2 3) ∷ Ret (call_in 2 3) (Some (call_in 2 2)) ∷ Leave (call_in 2 2) ∷ Ret (call_in 2 2) (Some (call_in 2 1)) ∷ Enter (call_in 0 1) Normal (record { 0 = 0 }) None ∷ Back (call_in 0 1) (record { 0 = 0 }) ∷ BackEnd (call_in 0 1) (record { 0 = 0 }) ∷ Body (call_in 0 1) (record { 0 = 0 }) (Own (record { 0 = 0 })) ∷ Leave (call_in 0 1) ∷ Ret (call_in 0 1) None ∷ Back (call_in 1 3) (record { 0 = 0 }) ∷ BackEnd (call_in 1 3) (record { 0 = 0 }) ∷ Body (call_in 1 3) (record { 0 = 0 }) (Own (record { 0 = 0 })) ∷ Leave (call_in 1 3) ∷ Ret (call_in 1 3) (Some (call_in 1 2)) ∷ Leave (call_in 1 2) ∷ Ret (call_in 1 2) None ∷ Leave (call_in 2 1) ∷ Ret (call_in 2 1) None ∷ []
 
 pub job_3032-plays : Plays job_3032 job_3032-items true
-unfolding actors_of repeated start step run played play all_end control_next control_got cpu_next cpu_got insn desk
+unfolding actors_of repeated start step run played play all_end control_next control_got cpu_next cpu_got insn moves desk
 job_3032-plays = (refl, refl)
 
 abbrev pub job_3034 : Job
@@ -219,7 +219,7 @@ abbrev pub job_3034-items : List Item
 job_3034-items = Enter (call_in 0 1) Normal (record { 0 = 2 }) None ∷ Body (call_in 0 1) (record { 0 = 2 }) Nop ∷ Enter (call_in 0 2) Nmi (record { 0 = 0 }) (Some (call_in 0 1)) ∷ Body (call_in 0 2) (record { 0 = 0 }) Nop ∷ Begin 1 ∷ Return 1 Accepted ∷ Begin 2 ∷ Leave (call_in 0 2) ∷ Ret (call_in 0 2) (Some (call_in 0 1)) ∷ Leave (call_in 0 1) ∷ Ret (call_in 0 1) None ∷ Return 2 Accepted ∷ Begin 3 ∷ Return 3 Accepted ∷ Begin 4 ∷ Return 4 Accepted ∷ Begin 5 ∷ Return 5 Accepted ∷ Begin 6 ∷ Return 6 Accepted ∷ []
 
 pub job_3034-plays : Plays job_3034 job_3034-items true
-unfolding actors_of repeated start step run played play all_end control_next control_got cpu_next cpu_got insn desk
+unfolding actors_of repeated start step run played play all_end control_next control_got cpu_next cpu_got insn moves desk
 job_3034-plays = (refl, refl)
 
 abbrev pub job_3038 : Job
@@ -229,7 +229,7 @@ abbrev pub job_3038-items : List Item
 job_3038-items = Begin 1 ∷ Return 1 NotThere ∷ Begin 2 ∷ Enter (call_in 0 1) Normal (record { 0 = 62 }) None ∷ Body (call_in 0 1) (record { 0 = 62 }) Nop ∷ Enter (call_in 0 2) Normal (record { 0 = 63 }) (Some (call_in 0 1)) ∷ Body (call_in 0 2) (record { 0 = 63 }) Nop ∷ Leave (call_in 0 2) ∷ Ret (call_in 0 2) (Some (call_in 0 1)) ∷ Leave (call_in 0 1) ∷ Ret (call_in 0 1) None ∷ Return 2 Accepted ∷ []
 
 pub job_3038-plays : Plays job_3038 job_3038-items true
-unfolding actors_of repeated start step run played play all_end control_next control_got cpu_next cpu_got insn desk
+unfolding actors_of repeated start step run played play all_end control_next control_got cpu_next cpu_got insn moves desk
 job_3038-plays = (refl, refl)
 
 abbrev pub job_3039 : Job
@@ -239,7 +239,7 @@ abbrev pub job_3039-items : List Item
 job_3039-items = Begin 1 ∷ Return 1 Accepted ∷ Begin 2 ∷ Return 2 Already ∷ Begin 3 ∷ Return 3 Already ∷ Enter (call_in 0 1) Normal (record { 0 = 0 }) None ∷ Back (call_in 0 1) (record { 0 = 0 }) ∷ Enter (call_in 0 2) Normal (record { 0 = 0 }) (Some (call_in 0 1)) ∷ Refuse (call_in 0 2) (record { 0 = 0 }) Recursion ∷ Body (call_in 0 2) (record { 0 = 0 }) ByList ∷ Leave (call_in 0 2) ∷ Ret (call_in 0 2) (Some (call_in 0 1)) ∷ BackEnd (call_in 0 1) (record { 0 = 0 }) ∷ Body (call_in 0 1) (record { 0 = 0 }) ByList ∷ Enter (call_in 0 3) Normal (record { 0 = 0 }) (Some (call_in 0 1)) ∷ Back (call_in 0 3) (record { 0 = 0 }) ∷ Enter (call_in 0 4) Normal (record { 0 = 0 }) (Some (call_in 0 3)) ∷ Refuse (call_in 0 4) (record { 0 = 0 }) Recursion ∷ Body (call_in 0 4) (record { 0 = 0 }) ByList ∷ Leave (call_in 0 4) ∷ Ret (call_in 0 4) (Some (call_in 0 3)) ∷ BackEnd (call_in 0 3) (record { 0 = 0 }) ∷ Body (call_in 0 3) (record { 0 = 0 }) ByList ∷ Leave (call_in 0 3) ∷ Begin 4 ∷ Return 4 Invalid ∷ Exit (call_in 0 3) (record { 0 = 0 }) 16 ∷ Begin 5 ∷ ExitEnd (call_in 0 3) (record { 0 = 0 }) ∷ Ret (call_in 0 3) (Some (call_in 0 1)) ∷ Enter (call_in 0 5) Normal (record { 0 = 0 }) (Some (call_in 0 1)) ∷ Return 5 Accepted ∷ Back (call_in 0 5) (record { 0 = 0 }) ∷ Enter (call_in 0 6) Normal (record { 0 = 0 }) (Some (call_in 0 5)) ∷ Refuse (call_in 0 6) (record { 0 = 0 }) Recursion ∷ Body (call_in 0 6) (record { 0 = 0 }) ByList ∷ Leave (call_in 0 6) ∷ Ret (call_in 0 6) (Some (call_in 0 5)) ∷ BackEnd (call_in 0 5) (record { 0 = 0 }) ∷ Body (call_in 0 5) (record { 0 = 0 }) ByList ∷ Enter (call_in 0 7) Normal (record { 0 = 0 }) (Some (call_in 0 5)) ∷ Refuse (call_in 0 7) (record { 0 = 0 }) Depth ∷ Body (call_in 0 7) (record { 0 = 0 }) ByList ∷ Leave (call_in 0 7) ∷ Ret (call_in 0 7) (Some (call_in 0 5)) ∷ Leave (call_in 0 5) ∷ Exit (call_in 0 5) (record { 0 = 0 }) 33 ∷ ExitEnd (call_in 0 5) (record { 0 = 0 }) ∷ Ret (call_in 0 5) (Some (call_in 0 1)) ∷ Leave (call_in 0 1) ∷ Exit (call_in 0 1) (record { 0 = 0 }) 7 ∷ ExitEnd (call_in 0 1) (record { 0 = 0 }) ∷ Ret (call_in 0 1) None ∷ []
 
 pub job_3039-plays : Plays job_3039 job_3039-items true
-unfolding actors_of repeated start step run played play all_end control_next control_got cpu_next cpu_got insn desk
+unfolding actors_of repeated start step run played play all_end control_next control_got cpu_next cpu_got insn moves desk
 job_3039-plays = (refl, refl)
 
 abbrev pub job_3041 : Job
@@ -249,7 +249,7 @@ abbrev pub job_3041-items : List Item
 job_3041-items = Begin 1 ∷ Enter (call_in 1 1) Normal (record { 0 = 0 }) None ∷ Enter (call_in 2 1) Normal (record { 0 = 0 }) None ∷ Body (call_in 2 1) (record { 0 = 0 }) Nop ∷ Body (call_in 1 1) (record { 0 = 0 }) Nop ∷ Enter (call_in 2 2) Normal (record { 0 = 0 }) (Some (call_in 2 1)) ∷ Body (call_in 2 2) (record { 0 = 0 }) Nop ∷ Enter (call_in 2 3) Normal (record { 0 = 0 }) (Some (call_in 2 2)) ∷ Enter (call_in 1 2) Normal (record { 0 = 0 }) (Some (call_in 1 1)) ∷ Body (call_in 2 3) (record { 0 = 0 }) Nop ∷ Leave (call_in 2 3) ∷ Ret (call_in 2 3) (Some (call_in 2 2)) ∷ Body (call_in 1 2) (record { 0 = 0 }) Nop ∷ Leave (call_in 2 2) ∷ Ret (call_in 2 2) (Some (call_in 2 1)) ∷ Leave (call_in 2 1) ∷ Ret (call_in 2 1) None ∷ Leave (call_in 1 2) ∷ Ret (call_in 1 2) (Some (call_in 1 1)) ∷ Return 1 Accepted ∷ Begin 2 ∷ Return 2 Already ∷ Enter (call_in 1 3) Normal (record { 0 = 0 }) (Some (call_in 1 1)) ∷ Begin 3 ∷ Return 3 Already ∷ Enter (call_in 0 1) Normal (record { 0 = 0 }) None ∷ Back (call_in 1 3) (record { 0 = 0 }) ∷ Enter (call_in 1 4) Normal (record { 0 = 0 }) (Some (call_in 1 3)) ∷ Back (call_in 0 1) (record { 0 = 0 }) ∷ Enter (call_in 0 2) Normal (record { 0 = 0 }) (Some (call_in 0 1)) ∷ Refuse (call_in 1 4) (record { 0 = 0 }) Recursion ∷ Body (call_in 1 4) (record { 0 = 0 }) (Own (record { 0 = 0 })) ∷ Leave (call_in 1 4) ∷ Refuse (call_in 0 2) (record { 0 = 0 }) Recursion ∷ Ret (call_in 1 4) (Some (call_in 1 3)) ∷ Body (call_in 0 2) (record { 0 = 0 }) (Own (record { 0 = 0 })) ∷ BackEnd (call_in 1 3) (record { 0 = 0 }) ∷ Leave (call_in 0 2) ∷ Body (call_in 1 3) (record { 0 = 0 }) (Own (record { 0 = 0 })) ∷ Ret (call_in 0 2) (Some (call_in 0 1)) ∷ BackEnd (call_in 0 1) (record { 0 = 0 }) ∷ Leave (call_in 1 3) ∷ Body (call_in 0 1) (record { 0 = 0 }) (Own (record { 0 = 0 })) ∷ Exit (call_in 1 3) (record { 0 = 0 }) 26 ∷ Enter (call_in 0 3) Normal (record { 0 = 0 }) (Some (call_in 0 1)) ∷ ExitEnd (call_in 1 3) (record { 0 = 0 }) ∷ Ret (call_in 1 3) (Some (call_in 1 1)) ∷ Back (call_in 0 3) (record { 0 = 0 }) ∷ Enter (call_in 1 5) Normal (record { 0 = 0 }) (Some (call_in 1 1)) ∷ Enter (call_in 0 4) Normal (record { 0 = 0 }) (Some (call_in 0 3)) ∷ Back (call_in 1 5) (record { 0 = 0 }) ∷ Refuse (call_in 0 4) (record { 0 = 0 }) Recursion ∷ Enter (call_in 1 6) Normal (record { 0 = 0 }) (Some (call_in 1 5)) ∷ Body (call_in 0 4) (record { 0 = 0 }) (Own (record { 0 = 0 })) ∷ Leave (call_in 0 4) ∷ Ret (call_in 0 4) (Some (call_in 0 3)) ∷ BackEnd (call_in 0 3) (record { 0 = 0 }) ∷ Body (call_in 0 3) (record { 0 = 0 }) (Own (record { 0 = 0 })) ∷ Refuse (call_in 1 6) (record { 0 = 0 }) Recursion ∷ Body (call_in 1 6) (record { 0 = 0 }) (Own (record { 0 = 0 })) ∷ Enter (call_in 0 5) Normal (record { 0 = 0 }) (Some (call_in 0 3)) ∷ Leave (call_in 1 6) ∷ Ret (call_in 1 6) (Some (call_in 1 5)) ∷ BackEnd (call_in 1 5) (record { 0 = 0 }) ∷ Body (call_in 1 5) (record { 0 = 0 }) (Own (record { 0 = 0 })) ∷ Back (call_in 0 5) (record { 0 = 0 }) ∷ Leave (call_in 1 5) ∷ Enter (call_in 0 6) Normal (record { 0 = 0 }) (Some (call_in 0 5)) ∷ Exit (call_in 1 5) (record { 0 = 0 }) 50 ∷ ExitEnd (call_in 1 5) (record { 0 = 0 }) ∷ Ret (call_in 1 5) (Some (call_in 1 1)) ∷ Refuse (call_in 0 6) (record { 0 = 0 }) Recursion ∷ Enter (call_in 1 7) Normal (record { 0 = 0 }) (Some (call_in 1 1)) ∷ Body (call_in 0 6) (record { 0 = 0 }) (Own (record { 0 = 0 })) ∷ Leave (call_in 0 6) ∷ Ret (call_in 0 6) (Some (call_in 0 5)) ∷ BackEnd (call_in 0 5) (record { 0 = 0 }) ∷ Body (call_in 0 5) (record { 0 = 0 }) (Own (record { 0 = 0 })) ∷ Back (call_in 1 7) (record { 0 = 0 }) ∷ Enter (call_in 1 8) Normal (record { 0 = 0 }) (Some (call_in 1 7)) ∷ Enter (call_in 0 7) Normal (record { 0 = 0 }) (Some (call_in 0 5)) ∷ Refuse (call_in 1 8) (record { 0 = 0 }) Recursion ∷ Back (call_in 0 7) (record { 0 = 0 }) ∷ Body (call_in 1 8) (record { 0 = 0 }) (Own (record { 0 = 0 })) ∷ Enter (call_in 0 8) Normal (record { 0 = 0 }) (Some (call_in 0 7)) ∷ Leave (call_in 1 8) ∷ Ret (call_in 1 8) (Some (call_in 1 7)) ∷ BackEnd (call_in 1 7) (record { 0 = 0 }) ∷ Body (call_in 1 7) (record { 0 = 0 }) (Own (record { 0 = 0 })) ∷ Refuse (call_in 0 8) (record { 0 = 0 }) Recursion ∷ Leave (call_in 1 7) ∷ Body (call_in 0 8) (record { 0 = 0 }) (Own (record { 0 = 0 })) ∷ Leave (call_in 0 8) ∷ Exit (call_in 1 7) (record { 0 = 0 }) 78 ∷ Ret (call_in 0 8) (Some (call_in 0 7)) ∷ ExitEnd (call_in 1 7) (record { 0 = 0 }) ∷ BackEnd (call_in 0 7) (record { 0 = 0 }) ∷ Ret (call_in 1 7) (Some (call_in 1 1)) ∷ Body (call_in 0 7) (record { 0 = 0 }) (Own (record { 0 = 0 })) ∷ Leave (call_in 1 1) ∷ Leave (call_in 0 7) ∷ Ret (call_in 1 1) None ∷ Exit (call_in 0 7) (record { 0 = 0 }) 82 ∷ ExitEnd (call_in 0 7) (record { 0 = 0 }) ∷ Ret (call_in 0 7) (Some (call_in 0 5)) ∷ Leave (call_in 0 5) ∷ Exit (call_in 0 5) (record { 0 = 0 }) 65 ∷ ExitEnd (call_in 0 5) (record { 0 = 0 }) ∷ Ret (call_in 0 5) (Some (call_in 0 3)) ∷ Leave (call_in 0 3) ∷ Exit (call_in 0 3) (record { 0 = 0 }) 47 ∷ ExitEnd (call_in 0 3) (record { 0 = 0 }) ∷ Ret (call_in 0 3) (Some (call_in 0 1)) ∷ Leave (call_in 0 1) ∷ Exit (call_in 0 1) (record { 0 = 0 }) 28 ∷ ExitEnd (call_in 0 1) (record { 0 = 0 }) ∷ Ret (call_in 0 1) None ∷ []
 
 pub job_3041-plays : Plays job_3041 job_3041-items true
-unfolding actors_of repeated start step run played play all_end control_next control_got cpu_next cpu_got insn desk
+unfolding actors_of repeated start step run played play all_end control_next control_got cpu_next cpu_got insn moves desk
 job_3041-plays = (refl, refl)
 
 abbrev pub job_3043 : Job
@@ -259,7 +259,7 @@ abbrev pub job_3043-items : List Item
 job_3043-items = Enter (call_in 0 1) Normal (record { 0 = 1 }) None ∷ Body (call_in 0 1) (record { 0 = 1 }) Nop ∷ Begin 1 ∷ Return 1 Accepted ∷ Begin 2 ∷ Return 2 Accepted ∷ Begin 3 ∷ Return 3 Accepted ∷ Begin 4 ∷ Return 4 Accepted ∷ Begin 5 ∷ Return 5 Accepted ∷ Begin 6 ∷ Return 6 Accepted ∷ Begin 7 ∷ Leave (call_in 0 1) ∷ Ret (call_in 0 1) None ∷ Return 7 Accepted ∷ Enter (call_in 1 1) Normal (record { 0 = 1 }) None ∷ Back (call_in 1 1) (record { 0 = 1 }) ∷ BackEnd (call_in 1 1) (record { 0 = 1 }) ∷ Body (call_in 1 1) (record { 0 = 1 }) ByList ∷ Leave (call_in 1 1) ∷ Exit (call_in 1 1) (record { 0 = 1 }) 19 ∷ ExitEnd (call_in 1 1) (record { 0 = 1 }) ∷ Ret (call_in 1 1) None ∷ []
 
 pub job_3043-plays : Plays job_3043 job_3043-items true
-unfolding actors_of repeated start step run played play all_end control_next control_got cpu_next cpu_got insn desk
+unfolding actors_of repeated start step run played play all_end control_next control_got cpu_next cpu_got insn moves desk
 job_3043-plays = (refl, refl)
 
 abbrev pub job_3044 : Job
@@ -269,7 +269,7 @@ abbrev pub job_3044-items : List Item
 job_3044-items = Enter (call_in 0 1) Normal (record { 0 = 2 }) None ∷ Enter (call_in 1 1) Normal (record { 0 = 0 }) None ∷ Body (call_in 0 1) (record { 0 = 2 }) Nop ∷ Body (call_in 1 1) (record { 0 = 0 }) Nop ∷ Enter (call_in 0 2) Normal (record { 0 = 2 }) (Some (call_in 0 1)) ∷ Enter (call_in 1 2) Normal (record { 0 = 1 }) (Some (call_in 1 1)) ∷ Body (call_in 0 2) (record { 0 = 2 }) Nop ∷ Body (call_in 1 2) (record { 0 = 1 }) Nop ∷ Enter (call_in 0 3) Normal (record { 0 = 1 }) (Some (call_in 0 2)) ∷ Enter (call_in 1 3) Nmi (record { 0 = 0 }) (Some (call_in 1 2)) ∷ Body (call_in 0 3) (record { 0 = 1 }) Nop ∷ Body (call_in 1 3) (record { 0 = 0 }) Nop ∷ Leave (call_in 0 3) ∷ Ret (call_in 0 3) (Some (call_in 0 2)) ∷ Leave (call_in 1 3) ∷ Ret (call_in 1 3) (Some (call_in 1 2)) ∷ Leave (call_in 0 2) ∷ Ret (call_in 0 2) (Some (call_in 0 1)) ∷ Leave (call_in 1 2) ∷ Ret (call_in 1 2) (Some (call_in 1 1)) ∷ Leave (call_in 0 1) ∷ Ret (call_in 0 1) None ∷ Leave (call_in 1 1) ∷ Begin 1 ∷ Return 1 Invalid ∷ Begin 2 ∷ Return 2 Invalid ∷ Ret (call_in 1 1) None ∷ Enter (call_in 2 1) Normal (record { 0 = 0 }) None ∷ Body (call_in 2 1) (record { 0 = 0 }) Nop ∷ Enter (call_in 2 2) Normal (record { 0 = 0 }) (Some (call_in 2 1)) ∷ Body (call_in 2 2) (record { 0 = 0 }) Nop ∷ Leave (call_in 2 2) ∷ Ret (call_in 2 2) (Some (call_in 2 1)) ∷ Enter (call_in 2 3) Normal (record { 0 = 0 }) (Some (call_in 2 1)) ∷ Begin 3 ∷ Body (call_in 2 3) (record { 0 = 0 }) Nop ∷ Enter (call_in 2 4) Normal (record { 0 = 2 }) (Some (call_in 2 3)) ∷ Body (call_in 2 4) (record { 0 = 2 }) Nop ∷ Leave (call_in 2 4) ∷ Ret (call_in 2 4) (Some (call_in 2 3)) ∷ Leave (call_in 2 3) ∷ Ret (call_in 2 3) (Some (call_in 2 1)) ∷ Leave (call_in 2 1) ∷ Ret (call_in 2 1) None ∷ Return 3 Accepted ∷ []
 
 pub job_3044-plays : Plays job_3044 job_3044-items true
-unfolding actors_of repeated start step run played play all_end control_next control_got cpu_next cpu_got insn desk
+unfolding actors_of repeated start step run played play all_end control_next control_got cpu_next cpu_got insn moves desk
 job_3044-plays = (refl, refl)
 
 abbrev pub job_3046 : Job
@@ -279,7 +279,7 @@ abbrev pub job_3046-items : List Item
 job_3046-items = Enter (call_in 0 1) Normal (record { 0 = 0 }) None ∷ Body (call_in 0 1) (record { 0 = 0 }) Nop ∷ Leave (call_in 0 1) ∷ Ret (call_in 0 1) None ∷ Begin 1 ∷ Return 1 Accepted ∷ Begin 2 ∷ Return 2 Accepted ∷ Begin 3 ∷ Return 3 Accepted ∷ Begin 4 ∷ Return 4 Already ∷ Begin 5 ∷ Return 5 Accepted ∷ Begin 6 ∷ Return 6 Already ∷ []
 
 pub job_3046-plays : Plays job_3046 job_3046-items true
-unfolding actors_of repeated start step run played play all_end control_next control_got cpu_next cpu_got insn desk
+unfolding actors_of repeated start step run played play all_end control_next control_got cpu_next cpu_got insn moves desk
 job_3046-plays = (refl, refl)
 
 abbrev pub job_3047 : Job
@@ -289,7 +289,7 @@ abbrev pub job_3047-items : List Item
 job_3047-items = Begin 1 ∷ Return 1 Accepted ∷ Begin 2 ∷ Enter (call_in 0 1) Irq (record { 0 = 1 }) None ∷ Back (call_in 0 1) (record { 0 = 0 }) ∷ BackEnd (call_in 0 1) (record { 0 = 0 }) ∷ Body (call_in 0 1) (record { 0 = 1 }) (Own (record { 0 = 0 })) ∷ Enter (call_in 0 2) Irq (record { 0 = 0 }) (Some (call_in 0 1)) ∷ Body (call_in 0 2) (record { 0 = 0 }) Nop ∷ Leave (call_in 0 2) ∷ Ret (call_in 0 2) (Some (call_in 0 1)) ∷ Leave (call_in 0 1) ∷ Ret (call_in 0 1) None ∷ Return 2 Accepted ∷ Begin 3 ∷ Return 3 Accepted ∷ Begin 4 ∷ Return 4 Accepted ∷ Begin 5 ∷ Return 5 Accepted ∷ Begin 6 ∷ Return 6 Already ∷ Begin 7 ∷ Return 7 Already ∷ []
 
 pub job_3047-plays : Plays job_3047 job_3047-items true
-unfolding actors_of repeated start step run played play all_end control_next control_got cpu_next cpu_got insn desk
+unfolding actors_of repeated start step run played play all_end control_next control_got cpu_next cpu_got insn moves desk
 job_3047-plays = (refl, refl)
 
 abbrev pub job_3048 : Job
@@ -299,7 +299,7 @@ abbrev pub job_3048-items : List Item
 job_3048-items = Enter (call_in 0 1) Normal (record { 0 = 1 }) None ∷ Body (call_in 0 1) (record { 0 = 1 }) Nop ∷ Leave (call_in 0 1) ∷ Ret (call_in 0 1) None ∷ Enter (call_in 0 2) Nmi (record { 0 = 0 }) None ∷ Begin 1 ∷ Body (call_in 0 2) (record { 0 = 0 }) Nop ∷ Leave (call_in 0 2) ∷ Ret (call_in 0 2) None ∷ Return 1 Accepted ∷ Begin 2 ∷ Return 2 Already ∷ Begin 3 ∷ Return 3 Accepted ∷ Begin 4 ∷ Return 4 Accepted ∷ Begin 5 ∷ Return 5 Accepted ∷ []
 
 pub job_3048-plays : Plays job_3048 job_3048-items true
-unfolding actors_of repeated start step run played play all_end control_next control_got cpu_next cpu_got insn desk
+unfolding actors_of repeated start step run played play all_end control_next control_got cpu_next cpu_got insn moves desk
 job_3048-plays = (refl, refl)
 
 abbrev pub job_3049 : Job
@@ -309,7 +309,7 @@ abbrev pub job_3049-items : List Item
 job_3049-items = Begin 1 ∷ Enter (call_in 0 1) Normal (record { 0 = 0 }) None ∷ Back (call_in 0 1) (record { 0 = 2 }) ∷ BackEnd (call_in 0 1) (record { 0 = 2 }) ∷ Body (call_in 0 1) (record { 0 = 0 }) ByList ∷ Leave (call_in 0 1) ∷ Ret (call_in 0 1) None ∷ Return 1 Accepted ∷ Begin 2 ∷ Return 2 Accepted ∷ Begin 3 ∷ Return 3 Already ∷ Enter (call_in 1 1) Irq (record { 0 = 0 }) None ∷ Back (call_in 1 1) (record { 0 = 2 }) ∷ BackEnd (call_in 1 1) (record { 0 = 2 }) ∷ Body (call_in 1 1) (record { 0 = 0 }) ByList ∷ Enter (call_in 1 2) Nmi (record { 0 = 1 }) (Some (call_in 1 1)) ∷ Back (call_in 1 2) (record { 0 = 2 }) ∷ BackEnd (call_in 1 2) (record { 0 = 2 }) ∷ Body (call_in 1 2) (record { 0 = 1 }) ByList ∷ Leave (call_in 1 2) ∷ Ret (call_in 1 2) (Some (call_in 1 1)) ∷ Leave (call_in 1 1) ∷ Ret (call_in 1 1) None ∷ []
 
 pub job_3049-plays : Plays job_3049 job_3049-items true
-unfolding actors_of repeated start step run played play all_end control_next control_got cpu_next cpu_got insn desk
+unfolding actors_of repeated start step run played play all_end control_next control_got cpu_next cpu_got insn moves desk
 job_3049-plays = (refl, refl)
 
 abbrev pub job_3052 : Job
@@ -319,7 +319,7 @@ abbrev pub job_3052-items : List Item
 job_3052-items = Begin 1 ∷ Return 1 Accepted ∷ Begin 2 ∷ Return 2 Invalid ∷ Begin 3 ∷ Enter (call_in 0 1) Nmi (record { 0 = 0 }) None ∷ Back (call_in 0 1) (record { 0 = 3 }) ∷ BackEnd (call_in 0 1) (record { 0 = 3 }) ∷ Body (call_in 0 1) (record { 0 = 0 }) ByList ∷ Leave (call_in 0 1) ∷ Ret (call_in 0 1) None ∷ Return 3 Accepted ∷ []
 
 pub job_3052-plays : Plays job_3052 job_3052-items true
-unfolding actors_of repeated start step run played play all_end control_next control_got cpu_next cpu_got insn desk
+unfolding actors_of repeated start step run played play all_end control_next control_got cpu_next cpu_got insn moves desk
 job_3052-plays = (refl, refl)
 
 abbrev pub job_3053 : Job
@@ -329,7 +329,7 @@ abbrev pub job_3053-items : List Item
 job_3053-items = Enter (call_in 2 1) Normal (record { 0 = 0 }) None ∷ Begin 1 ∷ Body (call_in 2 1) (record { 0 = 0 }) Nop ∷ Enter (call_in 2 2) Normal (record { 0 = 1 }) (Some (call_in 2 1)) ∷ Back (call_in 2 2) (record { 0 = 0 }) ∷ Return 1 Accepted ∷ BackEnd (call_in 2 2) (record { 0 = 0 }) ∷ Begin 2 ∷ Body (call_in 2 2) (record { 0 = 1 }) (Own (record { 0 = 0 })) ∷ Enter (call_in 0 1) Normal (record { 0 = 1 }) None ∷ Enter (call_in 2 3) Normal (record { 0 = 2 }) (Some (call_in 2 2)) ∷ Back (call_in 0 1) (record { 0 = 0 }) ∷ Back (call_in 2 3) (record { 0 = 0 }) ∷ BackEnd (call_in 0 1) (record { 0 = 0 }) ∷ BackEnd (call_in 2 3) (record { 0 = 0 }) ∷ Body (call_in 0 1) (record { 0 = 1 }) (Own (record { 0 = 0 })) ∷ Body (call_in 2 3) (record { 0 = 2 }) (Own (record { 0 = 0 })) ∷ Enter (call_in 0 2) Normal (record { 0 = 2 }) (Some (call_in 0 1)) ∷ Enter (call_in 2 4) Normal (record { 0 = 0 }) (Some (call_in 2 3)) ∷ Back (call_in 0 2) (record { 0 = 1 }) ∷ Refuse (call_in 2 4) (record { 0 = 1 }) Depth ∷ Enter (call_in 0 3) Normal (record { 0 = 3 }) (Some (call_in 0 2)) ∷ Refuse (call_in 0 3) (record { 0 = 1 }) Recursion ∷ Refuse (call_in 2 4) (record { 0 = 0 }) Depth ∷ Body (call_in 2 4) (record { 0 = 0 }) ByList ∷ Enter (call_in 2 5) Normal (record { 0 = 1 }) (Some (call_in 2 4)) ∷ Refuse (call_in 0 3) (record { 0 = 0 }) Recursion ∷ Body (call_in 0 3) (record { 0 = 3 }) ByList ∷ Leave (call_in 0 3) ∷ Ret (call_in 0 3) (Some (call_in 0 2)) ∷ BackEnd (call_in 0 2) (record { 0 = 1 }) ∷ Refuse (call_in 2 5) (record { 0 = 1 }) Depth ∷ Back (call_in 0 2) (record { 0 = 0 }) ∷ Refuse (call_in 2 5) (record { 0 = 0 }) Depth ∷ BackEnd (call_in 0 2) (record { 0 = 0 }) ∷ Body (call_in 2 5) (record { 0 = 1 }) ByList ∷ Body (call_in 0 2) (record { 0 = 2 }) ByList ∷ Return 2 Accepted ∷ Begin 3 ∷ Return 3 Already ∷ Begin 4 ∷ Return 4 Invalid ∷ Enter (call_in 0 4) Normal (record { 0 = 0 }) (Some (call_in 0 2)) ∷ Leave (call_in 2 5) ∷ Ret (call_in 2 5) (Some (call_in 2 4)) ∷ Refuse (call_in 0 4) (record { 0 = 1 }) Depth ∷ Leave (call_in 2 4) ∷ Ret (call_in 2 4) (Some (call_in 2 3)) ∷ Leave (call_in 2 3) ∷ Exit (call_in 2 3) (record { 0 = 0 }) 12 ∷ Refuse (call_in 0 4) (record { 0 = 0 }) Depth ∷ ExitEnd (call_in 2 3) (record { 0 = 0 }) ∷ Ret (call_in 2 3) (Some (call_in 2 2)) ∷ Body (call_in 0 4) (record { 0 = 0 }) ByList ∷ Leave (call_in 2 2) ∷ Leave (call_in 0 4) ∷ Ret (call_in 0 4) (Some (call_in 0 2)) ∷ Exit (call_in 2 2) (record { 0 = 0 }) 4 ∷ ExitEnd (call_in 2 2) (record { 0 = 0 }) ∷ Leave (call_in 0 2) ∷ Ret (call_in 2 2) (Some (call_in 2 1)) ∷ Exit (call_in 0 2) (record { 0 = 1 }) 19 ∷ Leave (call_in 2 1) ∷ ExitEnd (call_in 0 2) (record { 0 = 1 }) ∷ Ret (call_in 2 1) None ∷ Exit (call_in 0 2) (record { 0 = 0 }) 32 ∷ ExitEnd (call_in 0 2) (record { 0 = 0 }) ∷ Ret (call_in 0 2) (Some (call_in 0 1)) ∷ Leave (call_in 0 1) ∷ Exit (call_in 0 1) (record { 0 = 0 }) 11 ∷ ExitEnd (call_in 0 1) (record { 0 = 0 }) ∷ Ret (call_in 0 1) None ∷ []
 
 pub job_3053-plays : Plays job_3053 job_3053-items true
-unfolding actors_of repeated start step run played play all_end control_next control_got cpu_next cpu_got insn desk
+unfolding actors_of repeated start step run played play all_end control_next control_got cpu_next cpu_got insn moves desk
 job_3053-plays = (refl, refl)
 
 abbrev pub job_3054 : Job
@@ -339,7 +339,7 @@ abbrev pub job_3054-items : List Item
 job_3054-items = Begin 1 ∷ Enter (call_in 1 1) Normal (record { 0 = 62 }) None ∷ Body (call_in 1 1) (record { 0 = 62 }) Nop ∷ Return 1 Accepted ∷ Enter (call_in 1 2) Normal (record { 0 = 62 }) (Some (call_in 1 1)) ∷ Body (call_in 1 2) (record { 0 = 62 }) Nop ∷ Leave (call_in 1 2) ∷ Ret (call_in 1 2) (Some (call_in 1 1)) ∷ Enter (call_in 1 3) Normal (record { 0 = 62 }) (Some (call_in 1 1)) ∷ Body (call_in 1 3) (record { 0 = 62 }) Nop ∷ Leave (call_in 1 3) ∷ Begin 2 ∷ Ret (call_in 1 3) (Some (call_in 1 1)) ∷ Return 2 Accepted ∷ Begin 3 ∷ Leave (call_in 1 1) ∷ Ret (call_in 1 1) None ∷ Return 3 Accepted ∷ Begin 4 ∷ Enter (call_in 0 1) Normal (record { 0 = 62 }) None ∷ Back (call_in 0 1) (record { 0 = 0 }) ∷ Enter (call_in 0 2) Irq (record { 0 = 62 }) (Some (call_in 0 1)) ∷ Back (call_in 0 2) (record { 0 = 0 }) ∷ BackEnd (call_in 0 2) (record { 0 = 0 }) ∷ Body (call_in 0 2) (record { 0 = 62 }) ByList ∷ Leave (call_in 0 2) ∷ Exit (call_in 0 2) (record { 0 = 0 }) 22 ∷ ExitEnd (call_in 0 2) (record { 0 = 0 }) ∷ Ret (call_in 0 2) (Some (call_in 0 1)) ∷ BackEnd (call_in 0 1) (record { 0 = 0 }) ∷ Body (call_in 0 1) (record { 0 = 62 }) ByList ∷ Leave (call_in 0 1) ∷ Return 4 Accepted ∷ Exit (call_in 0 1) (record { 0 = 0 }) 20 ∷ ExitEnd (call_in 0 1) (record { 0 = 0 }) ∷ Ret (call_in 0 1) None ∷ Enter (call_in 0 3) Normal (record { 0 = 62 }) None ∷ Back (call_in 0 3) (record { 0 = 0 }) ∷ Enter (call_in 0 4) Irq (record { 0 = 62 }) (Some (call_in 0 3)) ∷ Back (call_in 0 4) (record { 0 = 0 }) ∷ BackEnd (call_in 0 4) (record { 0 = 0 }) ∷ Body (call_in 0 4) (record { 0 = 62 }) ByList ∷ Leave (call_in 0 4) ∷ Exit (call_in 0 4) (record { 0 = 0 }) 39 ∷ ExitEnd (call_in 0 4) (record { 0 = 0 }) ∷ Ret (call_in 0 4) (Some (call_in 0 3)) ∷ BackEnd (call_in 0 3) (record { 0 = 0 }) ∷ Body (call_in 0 3) (record { 0 = 62 }) ByList ∷ Leave (call_in 0 3) ∷ Exit (call_in 0 3) (record { 0 = 0 }) 37 ∷ ExitEnd (call_in 0 3) (record { 0 = 0 }) ∷ Ret (call_in 0 3) None ∷ []
 
 pub job_3054-plays : Plays job_3054 job_3054-items true
-unfolding actors_of repeated start step run played play all_end control_next control_got cpu_next cpu_got insn desk
+unfolding actors_of repeated start step run played play all_end control_next control_got cpu_next cpu_got insn moves desk
 job_3054-plays = (refl, refl)
 
 abbrev pub job_3055 : Job
@@ -349,7 +349,7 @@ abbrev pub job_3055-items : List Item
 job_3055-items = Enter (call_in 1 1) Softirq (record { 0 = 1 }) None ∷ Body (call_in 1 1) (record { 0 = 1 }) Nop ∷ Leave (call_in 1 1) ∷ Ret (call_in 1 1) None ∷ Begin 1 ∷ Return 1 Accepted ∷ Begin 2 ∷ Return 2 NotThere ∷ Begin 3 ∷ Return 3 Invalid ∷ Begin 4 ∷ Return 4 NotThere ∷ Begin 5 ∷ Enter (call_in 0 1) Softirq (record { 0 = 0 }) None ∷ Body (call_in 0 1) (record { 0 = 0 }) Nop ∷ Leave (call_in 0 1) ∷ Ret (call_in 0 1) None ∷ Return 5 Accepted ∷ Begin 6 ∷ Return 6 Accepted ∷ Begin 7 ∷ Return 7 Invalid ∷ []
 
 pub job_3055-plays : Plays job_3055 job_3055-items true
-unfolding actors_of repeated start step run played play all_end control_next control_got cpu_next cpu_got insn desk
+unfolding actors_of repeated start step run played play all_end control_next control_got cpu_next cpu_got insn moves desk
 job_3055-plays = (refl, refl)
 
 abbrev pub job_3057 : Job
@@ -359,7 +359,7 @@ abbrev pub job_3057-items : List Item
 job_3057-items = Begin 1 ∷ Enter (call_in 0 1) Normal (record { 0 = 1 }) None ∷ Return 1 Accepted ∷ Body (call_in 0 1) (record { 0 = 1 }) Nop ∷ Leave (call_in 0 1) ∷ Begin 2 ∷ Ret (call_in 0 1) None ∷ Enter (call_in 0 2) Normal (record { 0 = 3 }) None ∷ Body (call_in 0 2) (record { 0 = 3 }) Nop ∷ Leave (call_in 0 2) ∷ Ret (call_in 0 2) None ∷ Enter (call_in 0 3) Normal (record { 0 = 2 }) None ∷ Back (call_in 0 3) (record { 0 = 0 }) ∷ Enter (call_in 0 4) Normal (record { 0 = 0 }) (Some (call_in 0 3)) ∷ Refuse (call_in 0 4) (record { 0 = 0 }) Recursion ∷ Body (call_in 0 4) (record { 0 = 0 }) (Own (record { 0 = 0 })) ∷ Leave (call_in 0 4) ∷ Ret (call_in 0 4) (Some (call_in 0 3)) ∷ BackEnd (call_in 0 3) (record { 0 = 0 }) ∷ Body (call_in 0 3) (record { 0 = 2 }) (Own (record { 0 = 0 })) ∷ Leave (call_in 0 3) ∷ Exit (call_in 0 3) (record { 0 = 0 }) 12 ∷ ExitEnd (call_in 0 3) (record { 0 = 0 }) ∷ Ret (call_in 0 3) None ∷ Return 2 Accepted ∷ []
 
 pub job_3057-plays : Plays job_3057 job_3057-items true
-unfolding actors_of repeated start step run played play all_end control_next control_got cpu_next cpu_got insn desk
+unfolding actors_of repeated start step run played play all_end control_next control_got cpu_next cpu_got insn moves desk
 job_3057-plays = (refl, refl)
 
 abbrev pub job_3060 : Job
@@ -369,7 +369,7 @@ abbrev pub job_3060-items : List Item
 job_3060-items = Begin 1 ∷ Return 1 Accepted ∷ Begin 2 ∷ Return 2 Accepted ∷ Begin 3 ∷ Return 3 NotThere ∷ Begin 4 ∷ Return 4 Already ∷ Begin 5 ∷ Return 5 Accepted ∷ Enter (call_in 0 1) Nmi (record { 0 = 1 }) None ∷ Back (call_in 0 1) (record { 0 = 2 }) ∷ Enter (call_in 0 2) Nmi (record { 0 = 1 }) (Some (call_in 0 1)) ∷ Refuse (call_in 0 2) (record { 0 = 2 }) Recursion ∷ Body (call_in 0 2) (record { 0 = 1 }) ByList ∷ Leave (call_in 0 2) ∷ Ret (call_in 0 2) (Some (call_in 0 1)) ∷ BackEnd (call_in 0 1) (record { 0 = 2 }) ∷ Body (call_in 0 1) (record { 0 = 1 }) ByList ∷ Leave (call_in 0 1) ∷ Exit (call_in 0 1) (record { 0 = 2 }) 11 ∷ ExitEnd (call_in 0 1) (record { 0 = 2 }) ∷ Ret (call_in 0 1) None ∷ []
 
 pub job_3060-plays : Plays job_3060 job_3060-items true
-unfolding actors_of repeated start step run played play all_end control_next control_got cpu_next cpu_got insn desk
+unfolding actors_of repeated start step run played play all_end control_next control_got cpu_next cpu_got insn moves desk
 job_3060-plays = (refl, refl)
 
 abbrev pub job_3062 : Job
@@ -379,7 +379,7 @@ abbrev pub job_3062-items : List Item
 job_3062-items = Begin 1 ∷ Return 1 Invalid ∷ Begin 2 ∷ Return 2 NotThere ∷ Begin 3 ∷ Return 3 NotThere ∷ Begin 4 ∷ Enter (call_in 0 1) Normal (record { 0 = 2 }) None ∷ Body (call_in 0 1) (record { 0 = 2 }) Nop ∷ Enter (call_in 0 2) Normal (record { 0 = 1 }) (Some (call_in 0 1)) ∷ Return 4 Accepted ∷ Begin 5 ∷ Return 5 Invalid ∷ Body (call_in 0 2) (record { 0 = 1 }) Nop ∷ Leave (call_in 0 2) ∷ Ret (call_in 0 2) (Some (call_in 0 1)) ∷ Leave (call_in 0 1) ∷ Ret (call_in 0 1) None ∷ Enter (call_in 1 1) Irq (record { 0 = 2 }) None ∷ Body (call_in 1 1) (record { 0 = 2 }) Nop ∷ Enter (call_in 1 2) Irq (record { 0 = 0 }) (Some (call_in 1 1)) ∷ Body (call_in 1 2) (record { 0 = 0 }) Nop ∷ Leave (call_in 1 2) ∷ Ret (call_in 1 2) (Some (call_in 1 1)) ∷ Leave (call_in 1 1) ∷ Ret (call_in 1 1) None ∷ []
 
 pub job_3062-plays : Plays job_3062 job_3062-items true
-unfolding actors_of repeated start step run played play all_end control_next control_got cpu_next cpu_got insn desk
+unfolding actors_of repeated start step run played play all_end control_next control_got cpu_next cpu_got insn moves desk
 job_3062-plays = (refl, refl)
 
 abbrev pub job_3063 : Job
@@ -389,7 +389,7 @@ abbrev pub job_3063-items : List Item
 job_3063-items = Enter (call_in 0 1) Normal (record { 0 = 2 }) None ∷ Body (call_in 0 1) (record { 0 = 2 }) Nop ∷ Begin 1 ∷ Return 1 Accepted ∷ Begin 2 ∷ Return 2 NotThere ∷ Begin 3 ∷ Return 3 Invalid ∷ Enter (call_in 1 1) Nmi (record { 0 = 2 }) None ∷ Body (call_in 1 1) (record { 0 = 2 }) Nop ∷ Leave (call_in 1 1) ∷ Ret (call_in 1 1) None ∷ Enter (call_in 1 2) Nmi (record { 0 = 0 }) None ∷ Enter (call_in 2 1) Normal (record { 0 = 1 }) None ∷ Body (call_in 2 1) (record { 0 = 1 }) Nop ∷ Enter (call_in 2 2) Normal (record { 0 = 0 }) (Some (call_in 2 1)) ∷ Body (call_in 2 2) (record { 0 = 0 }) Nop ∷ Enter (call_in 2 3) Normal (record { 0 = 2 }) (Some (call_in 2 2)) ∷ Body (call_in 2 3) (record { 0 = 2 }) Nop ∷ Body (call_in 1 2) (record { 0 = 0 }) Nop ∷ Enter (call_in 2 4) Normal (record { 0 = 1 }) (Some (call_in 2 3)) ∷ Body (call_in 2 4) (record { 0 = 1 }) Nop ∷ Enter (call_in 2 5) Normal (record { 0 = 0 }) (Some (call_in 2 4)) ∷ Body (call_in 2 5) (record { 0 = 0 }) Nop ∷ Leave (call_in 2 5) ∷ Ret (call_in 2 5) (Some (call_in 2 4)) ∷ Leave (call_in 1 2) ∷ Ret (call_in 1 2) None ∷ Leave (call_in 0 1) ∷ Ret (call_in 0 1) None ∷ Leave (call_in 2 4) ∷ Ret (call_in 2 4) (Some (call_in 2 3)) ∷ Leave (call_in 2 3) ∷ Ret (call_in 2 3) (Some (call_in 2 2)) ∷ Leave (call_in 2 2) ∷ Ret (call_in 2 2) (Some (call_in 2 1)) ∷ Leave (call_in 2 1) ∷ Ret (call_in 2 1) None ∷ []
 
 pub job_3063-plays : Plays job_3063 job_3063-items true
-unfolding actors_of repeated start step run played play all_end control_next control_got cpu_next cpu_got insn desk
+unfolding actors_of repeated start step run played play all_end control_next control_got cpu_next cpu_got insn moves desk
 job_3063-plays = (refl, refl)
 
 abbrev pub job_3064 : Job
@@ -399,7 +399,7 @@ abbrev pub job_3064-items : List Item
 job_3064-items = Begin 1 ∷ Return 1 NotThere ∷ Begin 2 ∷ Enter (call_in 1 1) Normal (record { 0 = 1 }) None ∷ Back (call_in 1 1) (record { 0 = 1 }) ∷ Enter (call_in 1 2) Normal (record { 0 = 0 }) (Some (call_in 1 1)) ∷ Refuse (call_in 1 2) (record { 0 = 1 }) Recursion ∷ Body (call_in 1 2) (record { 0 = 0 }) (Own (record { 0 = 1 })) ∷ Leave (call_in 1 2) ∷ Ret (call_in 1 2) (Some (call_in 1 1)) ∷ BackEnd (call_in 1 1) (record { 0 = 1 }) ∷ Body (call_in 1 1) (record { 0 = 1 }) (Own (record { 0 = 1 })) ∷ Enter (call_in 1 3) Normal (record { 0 = 0 }) (Some (call_in 1 1)) ∷ Back (call_in 1 3) (record { 0 = 1 }) ∷ Enter (call_in 1 4) Normal (record { 0 = 0 }) (Some (call_in 1 3)) ∷ Refuse (call_in 1 4) (record { 0 = 1 }) Recursion ∷ Body (call_in 1 4) (record { 0 = 0 }) (Own (record { 0 = 1 })) ∷ Leave (call_in 1 4) ∷ Ret (call_in 1 4) (Some (call_in 1 3)) ∷ BackEnd (call_in 1 3) (record { 0 = 1 }) ∷ Body (call_in 1 3) (record { 0 = 0 }) (Own (record { 0 = 1 })) ∷ Enter (call_in 1 5) Normal (record { 0 = 1 }) (Some (call_in 1 3)) ∷ Refuse (call_in 1 5) (record { 0 = 1 }) Depth ∷ Body (call_in 1 5) (record { 0 = 1 }) (Own (record { 0 = 1 })) ∷ Return 2 Accepted ∷ Leave (call_in 1 5) ∷ Begin 3 ∷ Ret (call_in 1 5) (Some (call_in 1 3)) ∷ Leave (call_in 1 3) ∷ Exit (call_in 1 3) (record { 0 = 1 }) 13 ∷ ExitEnd (call_in 1 3) (record { 0 = 1 }) ∷ Ret (call_in 1 3) (Some (call_in 1 1)) ∷ Leave (call_in 1 1) ∷ Return 3 Accepted ∷ Exit (call_in 1 1) (record { 0 = 1 }) 4 ∷ Begin 4 ∷ ExitEnd (call_in 1 1) (record { 0 = 1 }) ∷ Ret (call_in 1 1) None ∷ Return 4 Accepted ∷ []
 
 pub job_3064-plays : Plays job_3064 job_3064-items true
-unfolding actors_of repeated start step run played play all_end control_next control_got cpu_next cpu_got insn desk
+unfolding actors_of repeated start step run played play all_end control_next control_got cpu_next cpu_got insn moves desk
 job_3064-plays = (refl, refl)
 
 abbrev pub job_3066 : Job
@@ -409,7 +409,7 @@ abbrev pub job_3066-items : List Item
 job_3066-items = Enter (call_in 2 1) Normal (record { 0 = 1 }) None ∷ Body (call_in 2 1) (record { 0 = 1 }) Nop ∷ Enter (call_in 2 2) Normal (record { 0 = 1 }) (Some (call_in 2 1)) ∷ Body (call_in 2 2) (record { 0 = 1 }) Nop ∷ Begin 1 ∷ Leave (call_in 2 2) ∷ Return 1 Accepted ∷ Ret (call_in 2 2) (Some (call_in 2 1)) ∷ Begin 2 ∷ Enter (call_in 1 1) Normal (record { 0 = 1 }) None ∷ Return 2 NotThere ∷ Leave (call_in 2 1) ∷ Ret (call_in 2 1) None ∷ Body (call_in 1 1) (record { 0 = 1 }) Nop ∷ Enter (call_in 1 2) Normal (record { 0 = 0 }) (Some (call_in 1 1)) ∷ Body (call_in 1 2) (record { 0 = 0 }) Nop ∷ Leave (call_in 1 2) ∷ Ret (call_in 1 2) (Some (call_in 1 1)) ∷ Leave (call_in 1 1) ∷ Ret (call_in 1 1) None ∷ Enter (call_in 0 1) Normal (record { 0 = 0 }) None ∷ Body (call_in 0 1) (record { 0 = 0 }) Nop ∷ Enter (call_in 0 2) Normal (record { 0 = 0 }) (Some (call_in 0 1)) ∷ Body (call_in 0 2) (record { 0 = 0 }) Nop ∷ Enter (call_in 0 3) Normal (record { 0 = 0 }) (Some (call_in 0 2)) ∷ Body (call_in 0 3) (record { 0 = 0 }) Nop ∷ Enter (call_in 0 4) Normal (record { 0 = 0 }) (Some (call_in 0 3)) ∷ Body (call_in 0 4) (record { 0 = 0 }) Nop ∷ Leave (call_in 0 4) ∷ Ret (call_in 0 4) (Some (call_in 0 3)) ∷ Leave (call_in 0 3) ∷ Ret (call_in 0 3) (Some (call_in 0 2)) ∷ Leave (call_in 0 2) ∷ Ret (call_in 0 2) (Some (call_in 0 1)) ∷ Leave (call_in 0 1) ∷ Ret (call_in 0 1) None ∷ []
 
 pub job_3066-plays : Plays job_3066 job_3066-items true
-unfolding actors_of repeated start step run played play all_end control_next control_got cpu_next cpu_got insn desk
+unfolding actors_of repeated start step run played play all_end control_next control_got cpu_next cpu_got insn moves desk
 job_3066-plays = (refl, refl)
 
 abbrev pub job_3067 : Job
@@ -419,7 +419,7 @@ abbrev pub job_3067-items : List Item
 job_3067-items = Begin 1 ∷ Return 1 Accepted ∷ Begin 2 ∷ Enter (call_in 0 1) Nmi (record { 0 = 1 }) None ∷ Back (call_in 0 1) (record { 0 = 1 }) ∷ BackEnd (call_in 0 1) (record { 0 = 1 }) ∷ Body (call_in 0 1) (record { 0 = 1 }) ByList ∷ Enter (call_in 0 2) Nmi (record { 0 = 1 }) (Some (call_in 0 1)) ∷ Back (call_in 0 2) (record { 0 = 1 }) ∷ BackEnd (call_in 0 2) (record { 0 = 1 }) ∷ Body (call_in 0 2) (record { 0 = 1 }) ByList ∷ Leave (call_in 0 2) ∷ Ret (call_in 0 2) (Some (call_in 0 1)) ∷ Enter (call_in 0 3) Nmi (record { 0 = 0 }) (Some (call_in 0 1)) ∷ Body (call_in 0 3) (record { 0 = 0 }) Nop ∷ Leave (call_in 0 3) ∷ Ret (call_in 0 3) (Some (call_in 0 1)) ∷ Leave (call_in 0 1) ∷ Ret (call_in 0 1) None ∷ Enter (call_in 0 4) Normal (record { 0 = 1 }) None ∷ Back (call_in 0 4) (record { 0 = 1 }) ∷ BackEnd (call_in 0 4) (record { 0 = 1 }) ∷ Body (call_in 0 4) (record { 0 = 1 }) ByList ∷ Leave (call_in 0 4) ∷ Ret (call_in 0 4) None ∷ Return 2 Accepted ∷ Begin 3 ∷ Enter (call_in 2 1) Irq (record { 0 = 0 }) None ∷ Body (call_in 2 1) (record { 0 = 0 }) Nop ∷ Leave (call_in 2 1) ∷ Ret (call_in 2 1) None ∷ Enter (call_in 2 2) Normal (record { 0 = 1 }) None ∷ Back (call_in 2 2) (record { 0 = 1 }) ∷ BackEnd (call_in 2 2) (record { 0 = 1 }) ∷ Body (call_in 2 2) (record { 0 = 1 }) ByList ∷ Leave (call_in 2 2) ∷ Ret (call_in 2 2) None ∷ Return 3 Accepted ∷ Enter (call_in 1 1) Normal (record { 0 = 0 }) None ∷ Body (call_in 1 1) (record { 0 = 0 }) Nop ∷ Leave (call_in 1 1) ∷ Ret (call_in 1 1) None ∷ Enter (call_in 1 2) Normal (record { 0 = 0 }) None ∷ Body (call_in 1 2) (record { 0 = 0 }) Nop ∷ Enter (call_in 1 3) Normal (record { 0 = 0 }) (Some (call_in 1 2)) ∷ Body (call_in 1 3) (record { 0 = 0 }) Nop ∷ Leave (call_in 1 3) ∷ Ret (call_in 1 3) (Some (call_in 1 2)) ∷ Leave (call_in 1 2) ∷ Ret (call_in 1 2) None ∷ []
 
 pub job_3067-plays : Plays job_3067 job_3067-items true
-unfolding actors_of repeated start step run played play all_end control_next control_got cpu_next cpu_got insn desk
+unfolding actors_of repeated start step run played play all_end control_next control_got cpu_next cpu_got insn moves desk
 job_3067-plays = (refl, refl)
 
 abbrev pub job_3068 : Job
@@ -429,7 +429,7 @@ abbrev pub job_3068-items : List Item
 job_3068-items = Enter (call_in 0 1) Normal (record { 0 = 1 }) None ∷ Begin 1 ∷ Body (call_in 0 1) (record { 0 = 1 }) Nop ∷ Return 1 Accepted ∷ Begin 2 ∷ Return 2 Accepted ∷ Begin 3 ∷ Leave (call_in 0 1) ∷ Ret (call_in 0 1) None ∷ Return 3 Accepted ∷ Begin 4 ∷ Return 4 NotThere ∷ Begin 5 ∷ Return 5 Accepted ∷ Begin 6 ∷ Return 6 NotThere ∷ Begin 7 ∷ Return 7 Accepted ∷ []
 
 pub job_3068-plays : Plays job_3068 job_3068-items true
-unfolding actors_of repeated start step run played play all_end control_next control_got cpu_next cpu_got insn desk
+unfolding actors_of repeated start step run played play all_end control_next control_got cpu_next cpu_got insn moves desk
 job_3068-plays = (refl, refl)
 
 abbrev pub job_3070 : Job
@@ -439,7 +439,7 @@ abbrev pub job_3070-items : List Item
 job_3070-items = Begin 1 ∷ Return 1 Accepted ∷ Begin 2 ∷ Return 2 Accepted ∷ Enter (call_in 0 1) Normal (record { 0 = 0 }) None ∷ Body (call_in 0 1) (record { 0 = 0 }) Nop ∷ Enter (call_in 0 2) Normal (record { 0 = 0 }) (Some (call_in 0 1)) ∷ Body (call_in 0 2) (record { 0 = 0 }) Nop ∷ Leave (call_in 0 2) ∷ Ret (call_in 0 2) (Some (call_in 0 1)) ∷ Leave (call_in 0 1) ∷ Ret (call_in 0 1) None ∷ []
 
 pub job_3070-plays : Plays job_3070 job_3070-items true
-unfolding actors_of repeated start step run played play all_end control_next control_got cpu_next cpu_got insn desk
+unfolding actors_of repeated start step run played play all_end control_next control_got cpu_next cpu_got insn moves desk
 job_3070-plays = (refl, refl)
 
 abbrev pub job_3072 : Job
@@ -449,7 +449,7 @@ abbrev pub job_3072-items : List Item
 job_3072-items = Begin 1 ∷ Return 1 Invalid ∷ Begin 2 ∷ Enter (call_in 0 1) Nmi (record { 0 = 1 }) None ∷ Body (call_in 0 1) (record { 0 = 1 }) Nop ∷ Enter (call_in 0 2) Nmi (record { 0 = 0 }) (Some (call_in 0 1)) ∷ Body (call_in 0 2) (record { 0 = 0 }) Nop ∷ Return 2 Accepted ∷ Begin 3 ∷ Return 3 NotThere ∷ Begin 4 ∷ Return 4 Invalid ∷ Enter (call_in 2 1) Irq (record { 0 = 0 }) None ∷ Leave (call_in 0 2) ∷ Ret (call_in 0 2) (Some (call_in 0 1)) ∷ Leave (call_in 0 1) ∷ Ret (call_in 0 1) None ∷ Enter (call_in 0 3) Normal (record { 0 = 0 }) None ∷ Body (call_in 0 3) (record { 0 = 0 }) Nop ∷ Body (call_in 2 1) (record { 0 = 0 }) Nop ∷ Leave (call_in 2 1) ∷ Ret (call_in 2 1) None ∷ Enter (call_in 0 4) Normal (record { 0 = 0 }) (Some (call_in 0 3)) ∷ Body (call_in 0 4) (record { 0 = 0 }) Nop ∷ Leave (call_in 0 4) ∷ Ret (call_in 0 4) (Some (call_in 0 3)) ∷ Leave (call_in 0 3) ∷ Ret (call_in 0 3) None ∷ []
 
 pub job_3072-plays : Plays job_3072 job_3072-items true
-unfolding actors_of repeated start step run played play all_end control_next control_got cpu_next cpu_got insn desk
+unfolding actors_of repeated start step run played play all_end control_next control_got cpu_next cpu_got insn moves desk
 job_3072-plays = (refl, refl)
 
 abbrev pub job_3073 : Job
@@ -459,7 +459,7 @@ abbrev pub job_3073-items : List Item
 job_3073-items = Begin 1 ∷ Return 1 NotThere ∷ Begin 2 ∷ Return 2 Accepted ∷ Enter (call_in 0 1) Nmi (record { 0 = 1 }) None ∷ Body (call_in 0 1) (record { 0 = 1 }) Nop ∷ Enter (call_in 0 2) Nmi (record { 0 = 0 }) (Some (call_in 0 1)) ∷ Body (call_in 0 2) (record { 0 = 0 }) Nop ∷ Leave (call_in 0 2) ∷ Ret (call_in 0 2) (Some (call_in 0 1)) ∷ Leave (call_in 0 1) ∷ Ret (call_in 0 1) None ∷ Begin 3 ∷ Return 3 Accepted ∷ Begin 4 ∷ Return 4 Already ∷ Begin 5 ∷ Return 5 NotThere ∷ []
 
 pub job_3073-plays : Plays job_3073 job_3073-items true
-unfolding actors_of repeated start step run played play all_end control_next control_got cpu_next cpu_got insn desk
+unfolding actors_of repeated start step run played play all_end control_next control_got cpu_next cpu_got insn moves desk
 job_3073-plays = (refl, refl)
 
 abbrev pub job_3074 : Job
@@ -469,7 +469,7 @@ abbrev pub job_3074-items : List Item
 job_3074-items = Enter (call_in 2 1) Irq (record { 0 = 2 }) None ∷ Body (call_in 2 1) (record { 0 = 2 }) Nop ∷ Begin 1 ∷ Leave (call_in 2 1) ∷ Ret (call_in 2 1) None ∷ Enter (call_in 0 1) Normal (record { 0 = 0 }) None ∷ Body (call_in 0 1) (record { 0 = 0 }) Nop ∷ Enter (call_in 2 2) Irq (record { 0 = 0 }) None ∷ Enter (call_in 0 2) Normal (record { 0 = 1 }) (Some (call_in 0 1)) ∷ Body (call_in 0 2) (record { 0 = 1 }) Nop ∷ Body (call_in 2 2) (record { 0 = 0 }) Nop ∷ Return 1 Accepted ∷ Begin 2 ∷ Return 2 Invalid ∷ Enter (call_in 2 3) Irq (record { 0 = 2 }) (Some (call_in 2 2)) ∷ Body (call_in 2 3) (record { 0 = 2 }) Nop ∷ Leave (call_in 0 2) ∷ Ret (call_in 0 2) (Some (call_in 0 1)) ∷ Enter (call_in 2 4) Irq (record { 0 = 1 }) (Some (call_in 2 3)) ∷ Leave (call_in 0 1) ∷ Ret (call_in 0 1) None ∷ Body (call_in 2 4) (record { 0 = 1 }) Nop ∷ Begin 3 ∷ Enter (call_in 2 5) Irq (record { 0 = 1 }) (Some (call_in 2 4)) ∷ Return 3 Accepted ∷ Begin 4 ∷ Return 4 Accepted ∷ Body (call_in 2 5) (record { 0 = 1 }) Nop ∷ Begin 5 ∷ Enter (call_in 1 1) Normal (record { 0 = 2 }) None ∷ Return 5 Invalid ∷ Begin 6 ∷ Leave (call_in 2 5) ∷ Ret (call_in 2 5) (Some (call_in 2 4)) ∷ Body (call_in 1 1) (record { 0 = 2 }) Nop ∷ Leave (call_in 2 4) ∷ Ret (call_in 2 4) (Some (call_in 2 3)) ∷ Return 6 Accepted ∷ Enter (call_in 1 2) Irq (record { 0 = 1 }) (Some (call_in 1 1)) ∷ Leave (call_in 2 3) ∷ Ret (call_in 2 3) (Some (call_in 2 2)) ∷ Body (call_in 1 2) (record { 0 = 1 }) Nop ∷ Leave (call_in 2 2) ∷ Enter (call_in 1 3) Irq (record { 0 = 2 }) (Some (call_in 1 2)) ∷ Ret (call_in 2 2) None ∷ Body (call_in 1 3) (record { 0 = 2 }) Nop ∷ Leave (call_in 1 3) ∷ Ret (call_in 1 3) (Some (call_in 1 2)) ∷ Leave (call_in 1 2) ∷ Ret (call_in 1 2) (Some (call_in 1 1)) ∷ Leave (call_in 1 1) ∷ Ret (call_in 1 1) None ∷ []
 
 pub job_3074-plays : Plays job_3074 job_3074-items true
-unfolding actors_of repeated start step run played play all_end control_next control_got cpu_next cpu_got insn desk
+unfolding actors_of repeated start step run played play all_end control_next control_got cpu_next cpu_got insn moves desk
 job_3074-plays = (refl, refl)
 
 abbrev pub job_3075 : Job
@@ -479,7 +479,7 @@ abbrev pub job_3075-items : List Item
 job_3075-items = Begin 1 ∷ Return 1 Accepted ∷ Begin 2 ∷ Return 2 NotThere ∷ Begin 3 ∷ Return 3 NotThere ∷ Begin 4 ∷ Return 4 Accepted ∷ Begin 5 ∷ Enter (call_in 0 1) Normal (record { 0 = 1 }) None ∷ Return 5 Accepted ∷ Begin 6 ∷ Return 6 NotThere ∷ Begin 7 ∷ Refuse (call_in 0 1) (record { 0 = 0 }) ByPid ∷ Enter (call_in 1 1) Nmi (record { 0 = 2 }) None ∷ Body (call_in 0 1) (record { 0 = 1 }) (Own (record { 0 = 0 })) ∷ Leave (call_in 0 1) ∷ Ret (call_in 0 1) None ∷ Refuse (call_in 1 1) (record { 0 = 0 }) ByPid ∷ Body (call_in 1 1) (record { 0 = 2 }) (Own (record { 0 = 0 })) ∷ Enter (call_in 0 2) Normal (record { 0 = 1 }) None ∷ Refuse (call_in 0 2) (record { 0 = 0 }) ByPid ∷ Leave (call_in 1 1) ∷ Ret (call_in 1 1) None ∷ Enter (call_in 1 2) Nmi (record { 0 = 0 }) None ∷ Body (call_in 0 2) (record { 0 = 1 }) (Own (record { 0 = 0 })) ∷ Return 7 Accepted ∷ Leave (call_in 0 2) ∷ Ret (call_in 0 2) None ∷ Refuse (call_in 1 2) (record { 0 = 0 }) ByPid ∷ Body (call_in 1 2) (record { 0 = 0 }) (Own (record { 0 = 0 })) ∷ Enter (call_in 0 3) Softirq (record { 0 = 1 }) None ∷ Enter (call_in 1 3) Nmi (record { 0 = 1 }) (Some (call_in 1 2)) ∷ Refuse (call_in 1 3) (record { 0 = 0 }) ByPid ∷ Refuse (call_in 0 3) (record { 0 = 0 }) ByPid ∷ Body (call_in 0 3) (record { 0 = 1 }) (Own (record { 0 = 0 })) ∷ Body (call_in 1 3) (record { 0 = 1 }) (Own (record { 0 = 0 })) ∷ Leave (call_in 1 3) ∷ Ret (call_in 1 3) (Some (call_in 1 2)) ∷ Leave (call_in 0 3) ∷ Ret (call_in 0 3) None ∷ Leave (call_in 1 2) ∷ Ret (call_in 1 2) None ∷ []
 
 pub job_3075-plays : Plays job_3075 job_3075-items true
-unfolding actors_of repeated start step run played play all_end control_next control_got cpu_next cpu_got insn desk
+unfolding actors_of repeated start step run played play all_end control_next control_got cpu_next cpu_got insn moves desk
 job_3075-plays = (refl, refl)
 
 abbrev pub job_3076 : Job
@@ -489,7 +489,7 @@ abbrev pub job_3076-items : List Item
 job_3076-items = Begin 1 ∷ Return 1 Accepted ∷ Begin 2 ∷ Enter (call_in 1 1) Normal (record { 0 = 64 }) None ∷ Body (call_in 1 1) (record { 0 = 64 }) Nop ∷ Leave (call_in 1 1) ∷ Ret (call_in 1 1) None ∷ Enter (call_in 1 2) Normal (record { 0 = 64 }) None ∷ Body (call_in 1 2) (record { 0 = 64 }) Nop ∷ Enter (call_in 2 1) Normal (record { 0 = 62 }) None ∷ Body (call_in 2 1) (record { 0 = 62 }) Nop ∷ Return 2 Accepted ∷ Begin 3 ∷ Return 3 Accepted ∷ Leave (call_in 1 2) ∷ Ret (call_in 1 2) None ∷ []
 
 pub job_3076-plays : Plays job_3076 job_3076-items false
-unfolding actors_of repeated start step run played play all_end control_next control_got cpu_next cpu_got insn desk
+unfolding actors_of repeated start step run played play all_end control_next control_got cpu_next cpu_got insn moves desk
 job_3076-plays = (refl, refl)
 
 abbrev pub job_3077 : Job
@@ -499,7 +499,7 @@ abbrev pub job_3077-items : List Item
 job_3077-items = Begin 1 ∷ Return 1 Accepted ∷ Begin 2 ∷ Return 2 Accepted ∷ Begin 3 ∷ Return 3 NotThere ∷ Begin 4 ∷ Enter (call_in 0 1) Normal (record { 0 = 1 }) None ∷ Body (call_in 0 1) (record { 0 = 1 }) Nop ∷ Enter (call_in 0 2) Normal (record { 0 = 1 }) (Some (call_in 0 1)) ∷ Back (call_in 0 2) (record { 0 = 2 }) ∷ Enter (call_in 0 3) Normal (record { 0 = 0 }) (Some (call_in 0 2)) ∷ Refuse (call_in 0 3) (record { 0 = 2 }) Recursion ∷ Return 4 Accepted ∷ Body (call_in 0 3) (record { 0 = 0 }) (Own (record { 0 = 2 })) ∷ Begin 5 ∷ Leave (call_in 0 3) ∷ Ret (call_in 0 3) (Some (call_in 0 2)) ∷ BackEnd (call_in 0 2) (record { 0 = 2 }) ∷ Body (call_in 0 2) (record { 0 = 1 }) (Own (record { 0 = 2 })) ∷ Return 5 Accepted ∷ Begin 6 ∷ Leave (call_in 0 2) ∷ Return 6 Accepted ∷ Exit (call_in 0 2) (record { 0 = 2 }) 10 ∷ ExitEnd (call_in 0 2) (record { 0 = 2 }) ∷ Ret (call_in 0 2) (Some (call_in 0 1)) ∷ Enter (call_in 0 4) Normal (record { 0 = 0 }) (Some (call_in 0 1)) ∷ Back (call_in 0 4) (record { 0 = 2 }) ∷ Enter (call_in 0 5) Normal (record { 0 = 0 }) (Some (call_in 0 4)) ∷ Refuse (call_in 0 5) (record { 0 = 2 }) Recursion ∷ Body (call_in 0 5) (record { 0 = 0 }) (Own (record { 0 = 2 })) ∷ Leave (call_in 0 5) ∷ Ret (call_in 0 5) (Some (call_in 0 4)) ∷ BackEnd (call_in 0 4) (record { 0 = 2 }) ∷ Body (call_in 0 4) (record { 0 = 0 }) (Own (record { 0 = 2 })) ∷ Leave (call_in 0 4) ∷ Exit (call_in 0 4) (record { 0 = 2 }) 28 ∷ ExitEnd (call_in 0 4) (record { 0 = 2 }) ∷ Ret (call_in 0 4) (Some (call_in 0 1)) ∷ Leave (call_in 0 1) ∷ Ret (call_in 0 1) None ∷ []
 
 pub job_3077-plays : Plays job_3077 job_3077-items true
-unfolding actors_of repeated start step run played play all_end control_next control_got cpu_next cpu_got insn desk
+unfolding actors_of repeated start step run played play all_end control_next control_got cpu_next cpu_got insn moves desk
 job_3077-plays = (refl, refl)
 
 abbrev pub job_3079 : Job
@@ -509,7 +509,7 @@ abbrev pub job_3079-items : List Item
 job_3079-items = Begin 1 ∷ Return 1 NotThere ∷ Begin 2 ∷ Enter (call_in 1 1) Nmi (record { 0 = 2 }) None ∷ Back (call_in 1 1) (record { 0 = 1 }) ∷ BackEnd (call_in 1 1) (record { 0 = 1 }) ∷ Body (call_in 1 1) (record { 0 = 2 }) (Own (record { 0 = 1 })) ∷ Enter (call_in 1 2) Nmi (record { 0 = 1 }) (Some (call_in 1 1)) ∷ Back (call_in 1 2) (record { 0 = 1 }) ∷ BackEnd (call_in 1 2) (record { 0 = 1 }) ∷ Body (call_in 1 2) (record { 0 = 1 }) (Own (record { 0 = 1 })) ∷ Return 2 Accepted ∷ Begin 3 ∷ Return 3 NotThere ∷ Begin 4 ∷ Leave (call_in 1 2) ∷ Ret (call_in 1 2) (Some (call_in 1 1)) ∷ Leave (call_in 1 1) ∷ Ret (call_in 1 1) None ∷ Return 4 Accepted ∷ Begin 5 ∷ Enter (call_in 0 1) Normal (record { 0 = 0 }) None ∷ Back (call_in 0 1) (record { 0 = 0 }) ∷ Enter (call_in 0 2) Irq (record { 0 = 2 }) (Some (call_in 0 1)) ∷ Return 5 Accepted ∷ Begin 6 ∷ Back (call_in 0 2) (record { 0 = 0 }) ∷ Return 6 NotThere ∷ Miss (call_in 0 2) (record { 0 = 0 }) ∷ BackEnd (call_in 0 2) (record { 0 = 0 }) ∷ Back (call_in 0 2) (record { 0 = 1 }) ∷ Miss (call_in 0 2) (record { 0 = 1 }) ∷ BackEnd (call_in 0 2) (record { 0 = 1 }) ∷ Body (call_in 0 2) (record { 0 = 2 }) ByList ∷ Leave (call_in 0 2) ∷ Ret (call_in 0 2) (Some (call_in 0 1)) ∷ BackEnd (call_in 0 1) (record { 0 = 0 }) ∷ Back (call_in 0 1) (record { 0 = 1 }) ∷ BackEnd (call_in 0 1) (record { 0 = 1 }) ∷ Body (call_in 0 1) (record { 0 = 0 }) ByList ∷ Enter (call_in 0 3) Normal (record { 0 = 2 }) (Some (call_in 0 1)) ∷ Back (call_in 0 3) (record { 0 = 0 }) ∷ Miss (call_in 0 3) (record { 0 = 0 }) ∷ Enter (call_in 0 4) Irq (record { 0 = 2 }) (Some (call_in 0 3)) ∷ Back (call_in 0 4) (record { 0 = 0 }) ∷ Miss (call_in 0 4) (record { 0 = 0 }) ∷ BackEnd (call_in 0 4) (record { 0 = 0 }) ∷ Back (call_in 0 4) (record { 0 = 1 }) ∷ Miss (call_in 0 4) (record { 0 = 1 }) ∷ BackEnd (call_in 0 4) (record { 0 = 1 }) ∷ Body (call_in 0 4) (record { 0 = 2 }) ByList ∷ Leave (call_in 0 4) ∷ Ret (call_in 0 4) (Some (call_in 0 3)) ∷ BackEnd (call_in 0 3) (record { 0 = 0 }) ∷ Back (call_in 0 3) (record { 0 = 1 }) ∷ Miss (call_in 0 3) (record { 0 = 1 }) ∷ BackEnd (call_in 0 3) (record { 0 = 1 }) ∷ Body (call_in 0 3) (record { 0 = 2 }) ByList ∷ Begin 7 ∷ Return 7 NotThere ∷ Enter (call_in 0 5) Normal (record { 0 = 1 }) (Some (call_in 0 3)) ∷ Back (call_in 0 5) (record { 0 = 0 }) ∷ Miss (call_in 0 5) (record { 0 = 0 }) ∷ Enter (call_in 0 6) Irq (record { 0 = 2 }) (Some (call_in 0 5)) ∷ Back (call_in 0 6) (record { 0 = 0 }) ∷ Miss (call_in 0 6) (record { 0 = 0 }) ∷ BackEnd (call_in 0 6) (record { 0 = 0 }) ∷ Back (call_in 0 6) (record { 0 = 1 }) ∷ Miss (call_in 0 6) (record { 0 = 1 }) ∷ BackEnd (call_in 0 6) (record { 0 = 1 }) ∷ Body (call_in 0 6) (record { 0 = 2 }) ByList ∷ Leave (call_in 0 6) ∷ Ret (call_in 0 6) (Some (call_in 0 5)) ∷ BackEnd (call_in 0 5) (record { 0 = 0 }) ∷ Back (call_in 0 5) (record { 0 = 1 }) ∷ Miss (call_in 0 5) (record { 0 = 1 }) ∷ BackEnd (call_in 0 5) (record { 0 = 1 }) ∷ Body (call_in 0 5) (record { 0 = 1 }) ByList ∷ Leave (call_in 0 5) ∷ Ret (call_in 0 5) (Some (call_in 0 3)) ∷ Leave (call_in 0 3) ∷ Ret (call_in 0 3) (Some (call_in 0 1)) ∷ Leave (call_in 0 1) ∷ Exit (call_in 0 1) (record { 0 = 0 }) 22 ∷ ExitEnd (call_in 0 1) (record { 0 = 0 }) ∷ Ret (call_in 0 1) None ∷ []
 
 pub job_3079-plays : Plays job_3079 job_3079-items true
-unfolding actors_of repeated start step run played play all_end control_next control_got cpu_next cpu_got insn desk
+unfolding actors_of repeated start step run played play all_end control_next control_got cpu_next cpu_got insn moves desk
 job_3079-plays = (refl, refl)
 
 abbrev pub job_3080 : Job
@@ -519,5 +519,5 @@ abbrev pub job_3080-items : List Item
 job_3080-items = Begin 1 ∷ Return 1 NotThere ∷ Begin 2 ∷ Enter (call_in 0 1) Normal (record { 0 = 2 }) None ∷ Body (call_in 0 1) (record { 0 = 2 }) Nop ∷ Enter (call_in 0 2) Softirq (record { 0 = 3 }) (Some (call_in 0 1)) ∷ Body (call_in 0 2) (record { 0 = 3 }) Nop ∷ Enter (call_in 0 3) Softirq (record { 0 = 2 }) (Some (call_in 0 2)) ∷ Body (call_in 0 3) (record { 0 = 2 }) Nop ∷ Enter (call_in 0 4) Softirq (record { 0 = 2 }) (Some (call_in 0 3)) ∷ Return 2 Accepted ∷ Body (call_in 0 4) (record { 0 = 2 }) Nop ∷ Enter (call_in 0 5) Softirq (record { 0 = 3 }) (Some (call_in 0 4)) ∷ Body (call_in 0 5) (record { 0 = 3 }) Nop ∷ Leave (call_in 0 5) ∷ Ret (call_in 0 5) (Some (call_in 0 4)) ∷ Enter (call_in 0 6) Softirq (record { 0 = 1 }) (Some (call_in 0 4)) ∷ Body (call_in 0 6) (record { 0 = 1 }) Nop ∷ Leave (call_in 0 6) ∷ Ret (call_in 0 6) (Some (call_in 0 4)) ∷ Leave (call_in 0 4) ∷ Ret (call_in 0 4) (Some (call_in 0 3)) ∷ Leave (call_in 0 3) ∷ Ret (call_in 0 3) (Some (call_in 0 2)) ∷ Leave (call_in 0 2) ∷ Ret (call_in 0 2) (Some (call_in 0 1)) ∷ Begin 3 ∷ Leave (call_in 0 1) ∷ Ret (call_in 0 1) None ∷ Return 3 Accepted ∷ Begin 4 ∷ Enter (call_in 1 1) Softirq (record { 0 = 2 }) None ∷ Return 4 Accepted ∷ Begin 5 ∷ Body (call_in 1 1) (record { 0 = 2 }) Nop ∷ Leave (call_in 1 1) ∷ Ret (call_in 1 1) None ∷ Return 5 Accepted ∷ Begin 6 ∷ Return 6 Accepted ∷ []
 
 pub job_3080-plays : Plays job_3080 job_3080-items true
-unfolding actors_of repeated start step run played play all_end control_next control_got cpu_next cpu_got insn desk
+unfolding actors_of repeated start step run played play all_end control_next control_got cpu_next cpu_got insn moves desk
 job_3080-plays = (refl, refl)
