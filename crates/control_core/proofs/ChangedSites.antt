@@ -1,17 +1,16 @@
 -- The sites of a plan are those that the word machine finds: two typed instructions are the same if their numbers are.
-use Rattle.std.proofs.Common.{cond, ◌≡◌, ◌≢◌, ℕ, zero, suc, ◌+◌, ◌-◌, ◌==◌, Bool, true, false, not, List, [], ◌∷◌, Some, None, refl, sym, ap, ap₂, ◌∙◌, arith, inl, inr}
+use Rattle.std.proofs.Common.{cond, ◌≡◌, ◌≢◌, ℕ, zero, suc, ◌+◌, ◌==◌, Bool, true, false, not, List, ◌∷◌, refl, sym, ap, ap₂, ◌∙◌, arith, inl, inr}
 use Rattle.std.proofs.lemmas.Bool.{eq-eqb}
 use Rattle.std.proofs.lemmas.Bool.Decides.{eqb_tells}
 use Rattle.ft_base.specs.Job.{Job, funcs}
-use Rattle.ft_base.specs.Desk.{desk, lowest}
+use Rattle.ft_base.specs.Desk.{desk}
 use Rattle.site_bytes.specs.declared.insn.Insn.{Insn}
 use Rattle.site_bytes.specs.declared.insn.Insn.TheVariants.{Nop, List as CallList, Own}
 use Rattle.site_bytes.specs.declared.insn.SiteChange.{SiteChange}
 use Rattle.word_map.specs.Instructions.{insn_at, insn_numbered, number_of}
 use Rattle.ft_desk.specs.Plans.{sites_between}
 use Rattle.ft_desk.specs.Sites.{changed_sites, same_insn}
-use Rattle.word_machine.specs.Commands.{changes, insn, site_from}
-use Rattle.control_core.specs.ChangedSites.{AreChangesFrom}
+use Rattle.word_machine.specs.Commands.{changed, changed_from, changes, insn}
 
 -- ## instructions and their numbers
 
@@ -51,50 +50,28 @@ insn-is : (job : Job) (k f : ℕ) → insn job k f ≡ number_of (insn_at (desk 
 unfolding insn insn_at
 insn-is job k f = refl
 
+-- a choice, the other way round
+unless : (b : Bool) (xs ys : List SiteChange) → cond b xs ys ≡ cond (not b) ys xs
+unless true xs ys = refl
+unless false xs ys = refl
+
 module _ (job : Job) (d : ℕ) where
   -- a site changes if its typed instruction does
-  changes-is : (f : ℕ) → changes job d f ≡ not (same_insn (insn_at (desk job d) f) (insn_at (desk job (suc d)) f))
-  changes-is f = ap₂ (λ a b. not (a == b)) (insn-is job d f) (insn-is job (suc d) f)
-      ∙ ap not (sym (same-number (insn_at (desk job d) f) (insn_at (desk job (suc d)) f)))
+  changes-is : (f : ℕ) → not (same_insn (insn_at (desk job d) f) (insn_at (desk job (suc d)) f)) ≡ changes job d f
+  changes-is f = ap not (same-number (insn_at (desk job d) f) (insn_at (desk job (suc d)) f))
+      ∙ sym (ap₂ (λ a b. not (a == b)) (insn-is job d f) (insn-is job (suc d) f))
 
-  -- of the sites from this one on there is none, or this one is the first that changes, or the next ones have the first
-  module _ (from : ℕ) where
-    none-left : funcs job - from ≡ 0 → site_from job d from ≡ None
-    none-left left = ap (lowest (changes job d) from) left
+  -- and then has the desk's
+  becomes-is : (f : ℕ) → insn_at (desk job (suc d)) f ≡ insn_numbered (insn job (suc d) f)
+  becomes-is f = sym (ap insn_numbered (insn-is job (suc d) f) ∙ insn-numbered_back (insn_at (desk job (suc d)) f))
 
-    module _ (n : ℕ) (left : funcs job - from ≡ suc n) where
-      this-first : changes job d from ≡ true → site_from job d from ≡ Some from
-      this-first e = ap (lowest (changes job d) from) left ∙ ap (λ b. cond b (Some from) (lowest (changes job d) (suc from) n)) e
-
-      next-first : changes job d from ≡ false → site_from job d from ≡ site_from job d (suc from)
-      next-first e =
-          let rest : n ≡ funcs job - suc from = omega arith in
-          ap (lowest (changes job d) from) left
-          ∙ ap (λ b. cond b (Some from) (lowest (changes job d) (suc from) n)) e
-          ∙ ap (lowest (changes job d) (suc from)) rest
-
-    passed : site_from job d from ≡ site_from job d (suc from) → (cs : List SiteChange)
-        → AreChangesFrom job d (suc from) cs → AreChangesFrom job d from cs
-    passed e [] h = e ∙ h
-    passed e (c ∷ cs) h = (e ∙ h.0, h.1, h.2)
-
-  -- the list of the sites from one on, of which there are `n`
-  found : (n from : ℕ) → funcs job - from ≡ n
-      → AreChangesFrom job d from (changed_sites (insn_at (desk job d)) (insn_at (desk job (suc d))) from n)
+  -- the sites from one on, of which there are `n`
+  found : (n from : ℕ) → changed_sites (insn_at (desk job d)) (insn_at (desk job (suc d))) from n ≡ changed_from job d from n
   unfolding changed_sites
-  found zero from left = none-left from left
-  found (suc n) from left =
-      by (same_insn (insn_at (desk job d) from) (insn_at (desk job (suc d)) from)) refl (found n (suc from) (omega arith))
-    where
-      rest : List SiteChange
-      rest = changed_sites (insn_at (desk job d)) (insn_at (desk job (suc d))) (suc from) n
+  found zero from = refl
+  found (suc n) from =
+      unless (same_insn (insn_at (desk job d) from) (insn_at (desk job (suc d)) from)) _ _
+      ∙ (λ i. cond (changes-is from i) (record { func = record { 0 = from }; insn = becomes-is from i } ∷ found n (suc from) i) (found n (suc from) i))
 
-      by : (b : Bool) → same_insn (insn_at (desk job d) from) (insn_at (desk job (suc d)) from) ≡ b → AreChangesFrom job d (suc from) rest
-          → AreChangesFrom job d from (changed_sites (insn_at (desk job d)) (insn_at (desk job (suc d))) from (suc n))
-      by true e h = rw e (passed from (next-first from n left (changes-is from ∙ ap not e)) rest h)
-      by false e h =
-          let new = ap insn_numbered (insn-is job (suc d) from) ∙ insn-numbered_back (insn_at (desk job (suc d)) from) in
-          rw e (this-first from n left (changes-is from ∙ ap not e), sym new, h)
-
-pub sites-found : (job : Job) (d : ℕ) → AreChangesFrom job d 0 (sites_between (desk job d) (desk job (suc d)) (funcs job))
-sites-found job d = found job d (funcs job) 0 (omega arith)
+  pub sites-found : sites_between (desk job d) (desk job (suc d)) (funcs job) ≡ changed job d
+  sites-found = found (funcs job) 0

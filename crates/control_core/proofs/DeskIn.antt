@@ -269,6 +269,3 @@ module _ (shape : Shape) where
       | true ↦ carried-plan
       | false ↦ none-in
     ]
-
-    pub copies-after : length (after_command s c).copies ≡ shape.users
-    copies-after = desk-after.copies

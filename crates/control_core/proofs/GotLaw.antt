@@ -7,30 +7,30 @@ use Rattle.ft_base.specs.declared.number.UserNo.{UserNo}
 use Rattle.ft_base.specs.Job.{Job}
 use Rattle.ft_base.specs.Desk.{Desk}
 use Rattle.control_core.specs.Phases.{quiet_to}
-use Rattle.site_bytes.specs.declared.insn.SiteChange.{SiteChange}
 use Rattle.word_map.specs.declared.shape.Shape.{Shape}
-use Rattle.word_map.specs.Words.{Clock}
+use Rattle.word_map.specs.Words.{Word, Clock}
 use Rattle.word_map.specs.Places.{words_for}
-use Rattle.word_map.specs.Ops.{WordOp, Load}
+use Rattle.word_map.specs.Ops.{Load}
 use Rattle.hash_pages.specs.Pages.{Page, page_stores}
 use Rattle.hash_pages.proofs.PageLaws.{count-stores, none_after}
 use Rattle.ops_list.specs.Links.{Linked, link_after}
 use Rattle.ops_list.specs.declared.linker.LinkPhase.{LinkPhase}
 use Rattle.ops_list.specs.declared.linker.LinkPhase.TheVariants.{Linking as LinkingUser, Heading, Unlinking, Ended as LinkEnded}
-use Rattle.patch_core.specs.Moves.{Do, batch_next}
+use Rattle.patch_core.specs.Moves.{Move, Put, batch_next}
 use Rattle.ft_desk.specs.declared.plan.TrampChange.TheVariants.{Set}
 use Rattle.ft_desk.specs.Plans.{PlainPlan}
 use Rattle.word_machine.specs.Commands.{effect, set_words, subject}
-use Rattle.word_machine.specs.Control.{Control, AskQuiet, Position, Relink, Select, batch, got_in, relinked}
+use Rattle.word_machine.specs.Control.{Control, AskQuiet, Position, Relink, Select, batch_first, got_in, relinked}
 use Rattle.word_machine.specs.Values.{copies_in}
 use Rattle.control_core.specs.declared.phase.Phase.{Phase}
 use Rattle.control_core.specs.declared.phase.Phase.TheVariants as phase
-use Rattle.control_core.specs.Positions.{linking_at, listed_by, moving_by, patching_at, plan_at, quiet_by, stored_by, writing_at}
+use Rattle.control_core.specs.Positions.{linking_at, listed_by, moves_left, moving_by, moving_to, plan_at, quiet_by, stored_by, writing_at}
 use Rattle.control_core.specs.Seated.{Seated, IsFor, IsLinkOf, IsPageOf, IsUnder, control_in, position_of}
 use Rattle.control_core.specs.Kept.{HasLeft, IsSafe}
 use Rattle.control_core.specs.Steps.{at_phase, linked, listed, moved, page_after, pair_at, stepped_in, write_next, wrote}
 use Rattle.control_core.proofs.Leads.{Leads, Went, batch-leads, lead-to, list-leads, machine_at, quiet-leads, store-leads}
-use Rattle.control_core.proofs.PositionsGoes.{push-goes, push-order, select-goes, store-goes, take-goes, unlink-goes, unlink-order}
+use Rattle.control_core.proofs.PositionsBatch.{batch-goes_on}
+use Rattle.control_core.proofs.PositionsGoes.{push-goes, push-order, select-goes, take-goes, unlink-goes, unlink-order}
 use Rattle.control_core.proofs.PositionsWriting.{writing-got, writing-state}
 use Rattle.control_core.proofs.Under.{base-of, copies-is, order-is, plan-is}
 
@@ -123,11 +123,11 @@ module _ (job : Job) (c : Seated) (safe : IsSafe c) (is : IsFor job c) (u : IsUn
 
   -- a word of the list is stored
   relinking : (linker : Linked) → c.made ≡ 0
-      → batch job c.commands_done ≡ moving_by plan 0
+      → batch_first job c.commands_done ≡ moving_by plan 0
       → relinked (effect job c.commands_done) (subject job c.commands_done) c.before.order ≡ c.desk.order
       → Went job (moved c c.made) (record (control_in c (phase.Linking linker)) {
         order = relinked (effect job c.commands_done) (subject job c.commands_done) c.before.order;
-        position = batch job c.commands_done;
+        position = batch_first job c.commands_done;
       })
   relinking linker none goes order =
       went job _ _ _ (lead-to job c c.made c.request _ _ _ _ is u (batch-leads job c))
@@ -161,15 +161,12 @@ module _ (job : Job) (c : Seated) (safe : IsSafe c) (is : IsFor job c) (u : IsUn
       (ap (λ (at' : Position). machine_at c at' (copies_in c.desk.copies) c.desk.order) (ap quiet_by at-plan ∙ sym goes))
 
   -- a store of the batch
-  pub patching : (op : WordOp) → batch_next c.desk.plan.sites c.made ≡ Do op → Goes phase.Patching
-  patching op e =
-      let sites : c.desk.plan.sites ≡ plan.sites = ap (λ (p : PlainPlan). p.sites) at-plan in
-      let got = (store-goes job (control_in c phase.Patching) (copies_in c.before.copies) c.before.order v c.made op
-      (ap (λ (s : List SiteChange). batch_next s c.made) (sym sites) ∙ e)).1 in
+  pub patching : (w : Word) (x : ℕ) → batch_next c.desk.plan.sites c.made ≡ Put w x → Goes phase.Patching
+  patching w x e =
+      let goes = batch-goes_on job c.commands_done (copies_in c.before.copies) c.before.order c.desk.plan at-plan c.made (λ none. cc) (suc c.made) in
       went job _ _ _ (lead-to job c (suc c.made) c.request _ _ _ _ is u (batch-leads job (record c { made = suc c.made })))
-      (ap (λ (p : PlainPlan). machine_at c (moving_by p (suc c.made)) (copies_in c.desk.copies) c.desk.order) at-plan
-      ∙ sym got
-      ∙ ap (λ (s : List SiteChange). got_in job (control_in c phase.Patching) (patching_at s c.made) v) (sym sites))
+      (ap (λ (at' : Position). machine_at c at' (copies_in c.desk.copies) c.desk.order) (sym goes)
+      ∙ ap (λ (m : Move). got_in job (control_in c phase.Patching) (moving_to c.desk.plan (moves_left c.desk.plan (suc c.made)) m) v) (sym e))
 
   pub releasing : Goes phase.Releasing
   releasing = lead-to job c c.made c.request _ _ _ _ is u (record { stands = refl; copies_are = refl; order_is = refl; fits = tt; under = λ u. u })

@@ -6,7 +6,7 @@ use Rattle.word_map.specs.Places.{words_for}
 use Rattle.grace_core.specs.declared.waiter.WaitPhase.{WaitPhase}
 use Rattle.grace_core.specs.declared.waiter.WaitPhase.TheVariants.{Asking, Waiting, Ended as WaitEnded}
 use Rattle.hash_pages.specs.Pages.{Page}
-use Rattle.patch_core.specs.Moves.{Batched, Move, Do, Sync, Done, batch_next, is_store}
+use Rattle.patch_core.specs.Moves.{Batched, Move, Put, Sync, Done, batch_next, is_store}
 use Rattle.ft_desk.specs.Plans.{PlainPlan}
 use Rattle.control_core.specs.declared.phase.Phase.{Phase}
 use Rattle.control_core.specs.declared.phase.Phase.TheVariants as phase
@@ -70,7 +70,7 @@ patching-to : (shape : Shape) (p : PlainPlan) (made request : ℕ) → is_store 
 patching-to shape p made request = by (batch_next p.sites made)
   where
     by : (m : Move) → is_store m ≡ true → move_to shape p request m ≡ phase.Patching
-    by (Do op) e = refl
+    by (Put w x) e = refl
     by Sync e = false_true e
     by Done e = false_true e
 
@@ -111,11 +111,6 @@ patch-go d p plan k busy-is asked-is ep e =
 -- the fields of control that is seen so
 pub phase-seen : (d : Inside) (s : Seated) (p : Phase) → seated_of d ≡ s → s.phase ≡ p → d.phase ≡ p
 phase-seen d s p v e = ap (λ (c : Seated). c.phase) v ∙ e
-
--- a page has a store left
-pub page-left : (d : Inside) (s : Seated) (page : Page) → IsKept d → seated_of d ≡ s → s.phase ≡ phase.Writing page
-    → (page.shape ≡ d.map) × (page.stored ≤ 2 * words_for page.shape.funcs)
-page-left d s page k v e = subst (HasLeft (seated_of d)) (phase-seen d s (phase.Writing page) v e) k.safe.left
 
 -- in a command, as it is seen
 pub busy-seen : (d : Inside) (s : Seated) → seated_of d ≡ s → busy s.phase ≡ 1 → busy d.phase ≡ 1

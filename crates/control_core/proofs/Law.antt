@@ -32,7 +32,7 @@ module _ (job : Job) (c : Seated) (safe : IsSafe c) (is : IsFor job c) (v : ℕ)
       quieting job c safe is u v phase.StoringDepth
       (depth-goes job c.commands_done (copies_in c.before.copies) c.before.order f.0
       (sym (ap (λ (p : PlainPlan). p.depth) (plan-is job c (base-of job c safe is) u)) ∙ f.1))
-  got-in phase.Patching e u f h = patching job c safe is u v f.0 f.1
+  got-in phase.Patching e u f h = patching job c safe is u v f.0 f.1 f.2
   got-in (phase.Syncing w) e u f h = syncing job c safe is u v w h f
   got-in (phase.Quieting w) e u f h = quiet-waits job c safe is u v w h f
   got-in phase.Releasing e u f h = releasing job c safe is u v

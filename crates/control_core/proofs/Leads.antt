@@ -9,20 +9,20 @@ use Rattle.ft_desk.specs.Declarations.{IsOf}
 use Rattle.word_map.specs.declared.shape.Shape.{Shape}
 use Rattle.word_map.specs.Places.{words_for}
 use Rattle.grace_core.specs.declared.waiter.WaitPhase.TheVariants.{Asking}
-use Rattle.patch_core.specs.Moves.{Move, Do, Sync, Done, batch_next}
+use Rattle.patch_core.specs.Moves.{Move, Put, Sync, Done, batch_next}
 use Rattle.ft_desk.specs.declared.plan.TrampChange.{TrampChange}
 use Rattle.ft_desk.specs.declared.plan.TrampChange.TheVariants.{Keep as KeepTramp, Set, Clear}
 use Rattle.ft_desk.specs.declared.plan.ListChange.{ListChange}
 use Rattle.ft_desk.specs.declared.plan.ListChange.TheVariants.{Keep as KeepList, Push, Unlink}
 use Rattle.ft_desk.specs.Plans.{PlainPlan}
-use Rattle.word_machine.specs.Commands.{Effect, Adds, Removes, Edits, Enables, Disables, Lists, Levels, Nothing, effect}
+use Rattle.word_machine.specs.Commands.{Effect, Adds, Removes, effect}
 use Rattle.word_machine.specs.Control.{Control, Position, AskQuiet, Close, Select, StoreDepth, StorePids, copy_from}
 use Rattle.word_machine.specs.Values.{copies_in}
 use Rattle.control_core.specs.declared.phase.Phase.{Phase}
 use Rattle.control_core.specs.declared.phase.Phase.TheVariants as phase
 use Rattle.control_core.specs.Phases.{batch_to, begin_in, begin_to, list_in, list_to, move_to, number_to, quiet_to, release_in, store_in, store_to, write_to}
 use Rattle.control_core.specs.Followed.{plan_followed}
-use Rattle.control_core.specs.Positions.{begun_by, begun_to, listed_by, listed_to, moving_by, moving_to, plan_at, quiet_by, released_to, stored_by, writing_at}
+use Rattle.control_core.specs.Positions.{begun_by, begun_to, listed_by, listed_to, moves_left, moving_by, moving_to, plan_at, quiet_by, released_to, stored_by, writing_at}
 use Rattle.control_core.specs.Seated.{Seated, Fits, IsDeskOf, IsFor, IsUnder, control_of, desk_by, is_linked, is_selected, position_of}
 use Rattle.control_core.specs.Steps.{at_phase}
 use Rattle.control_core.proofs.PositionsEffects.{no-pair, no-sel, push-user}
@@ -106,8 +106,10 @@ module _ (job : Job) (c : Seated) where
   quiet-leads = quiet-by c.desk.plan.quiet refl
 
   batch-by : (m : Move) → batch_next c.desk.plan.sites c.made ≡ m
-      → now (move_to c.shape c.desk.plan c.request m) (moving_to c.desk.plan c.made m)
-  batch-by (Do op) e = record { stands = refl; copies_are = refl; order_is = refl; fits = (op, e); under = λ u. u }
+      → now (move_to c.shape c.desk.plan c.request m) (moving_to c.desk.plan (moves_left c.desk.plan (suc c.made)) m)
+  batch-by (Put w x) e =
+      let stands = ap (moving_to c.desk.plan (moves_left c.desk.plan (suc c.made))) e in
+      record { stands = stands; copies_are = refl; order_is = refl; fits = (w, x, e); under = λ u. u }
   batch-by Sync e = record { stands = refl; copies_are = refl; order_is = refl; fits = (e, record { quiet_is = refl; way = refl }); under = λ u. u }
   batch-by Done e = quiet-leads
 
@@ -142,12 +144,7 @@ module _ (job : Job) (c : Seated) where
         → (plan_followed job c.commands_done (copies_in c.before.copies) c.before.order e).list ≡ KeepList
     list-kept_by Adds h = absurd cc
     list-kept_by Removes h = absurd cc
-    list-kept_by Edits h = refl
-    list-kept_by Enables h = refl
-    list-kept_by Disables h = refl
-    list-kept_by Lists h = refl
-    list-kept_by Levels h = refl
-    list-kept_by Nothing h = refl
+    list-kept_by _ h = refl
 
     list-kept : c.desk.plan.sel ≡ None → c.desk.plan.list ≡ KeepList
     list-kept e =

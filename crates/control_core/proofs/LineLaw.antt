@@ -16,7 +16,7 @@ use Rattle.control_core.specs.Steps.{begun, closed, line_after, stepped_in}
 use Rattle.ft_desk.proofs.LineLaws.{commands-after, declared-after}
 use Rattle.control_core.proofs.GotLaw.{went}
 use Rattle.control_core.proofs.Leads.{On, Went, begin-leads, lead-on, machine_at}
-use Rattle.control_core.proofs.PositionsGoes.{begin-goes}
+use Rattle.control_core.proofs.PositionsPlans.{begin-is}
 use Rattle.ft_desk.proofs.LineLaws.{command-at, count-run, count-until}
 use Rattle.control_core.proofs.Under.{Base, base-of, drop-at, drop-past, plan-is, state-is}
 
@@ -111,7 +111,7 @@ module _ (job : Job) (c : Seated) (safe : IsSafe c) (is : IsFor job c) (at-line 
         went job _ _ _ (lead-on job begins c.made c.request _ _ _ _ on under (begin-leads job begins base under none))
         (ap (λ (at' : Position). machine_at c at' (copies_in c.before.copies) c.before.order)
         (ap (begun_by job) (plan-is job begins base under)
-        ∙ sym (begin-goes job c.commands_done (copies_in c.before.copies) c.before.order))
+        ∙ sym (begin-is job c.commands_done (copies_in c.before.copies) c.before.order (effect job c.commands_done)))
         ∙ ap (λ (t : Seen). machine_at c (begin_in job c.commands_done (effect job c.commands_done)) (copies_in t.copies) t.order) (sym same))
 
   line-by : (o : Option Ctl) → slice_get c.lines c.line ≡ o → Went job (line_after c o v) (line_got job now (drop c.line c.lines) v)

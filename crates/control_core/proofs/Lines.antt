@@ -1,17 +1,14 @@
 -- A line of control: nothing is left, a wait goes on or is over, or a command begins.
-use Rattle.std.proofs.Common.{cond, ◌≡◌, ◌≢◌, ℕ, suc, ◌+◌, ◌*◌, ◌<◌, ◌≤◌, List, [], ◌∷◌, ◌++◌, length, get_or, Option, Some, None, refl, sym, ap, ◌∙◌, subst, arith, vec_len, vec_capacity}
+use Rattle.std.proofs.Common.{cond, ◌≡◌, ℕ, suc, ◌+◌, ◌*◌, ◌<◌, ◌≤◌, List, [], ◌∷◌, ◌++◌, length, Option, Some, None, refl, sym, ap, ◌∙◌, subst, arith, vec_len, vec_capacity}
 use Rattle.std.specs.Prelude.{All, option_map, slice_get}
-use Rattle.std.proofs.lemmas.Option.{slice_get-get_or, slice_get-map, slice_get_within}
+use Rattle.std.proofs.lemmas.Option.{slice_get-map, slice_get_within}
 use Rattle.std.proofs.lemmas.Bool.{le-leb, lt-leb}
 use Rattle.std.specs.Global.{Vec}
 use Rattle.ft_base.specs.declared.item.Answer.{Answer}
-use Rattle.ft_base.specs.declared.item.Answer.TheVariants.{Accepted, Already, NotThere, Invalid, NoMatch, Busy}
 use Rattle.ft_base.specs.declared.item.Item.TheVariants.{Begin}
 use Rattle.ft_base.specs.declared.number.TaskNo.{TaskNo}
-use Rattle.ft_base.specs.Job.{Command}
 use Rattle.ft_base.specs.declared.item.Stamped.{Stamped}
 use Rattle.ft_base.specs.WellFormed.{IsNamed}
-use Rattle.ft_base.specs.Desk.{is_accepted}
 use Rattle.word_map.specs.Contents.{high, low}
 use Rattle.ft_desk.specs.declared.command.Command.{Command as Code}
 use Rattle.ft_desk.specs.declared.command.Ctl.{Ctl}
@@ -19,7 +16,7 @@ use Rattle.ft_desk.specs.declared.command.Ctl.TheVariants.{Run, Until}
 use Rattle.ft_desk.specs.Commands.{IsInShape, command_of, ctl_of}
 use Rattle.ft_desk.specs.Declarations.{Declared, job_of}
 use Rattle.ft_desk.specs.Plans.{PlainPlan}
-use Rattle.ft_desk.specs.Seen.{Seen, after_command, answer, carried_out, turned_down}
+use Rattle.ft_desk.specs.Seen.{Seen, after_command, answer}
 use Rattle.led_jobs.specs.Orders.{picked}
 use Rattle.control_core.specs.declared.phase.Phase.{Phase}
 use Rattle.control_core.specs.declared.phase.Phase.TheVariants as phase

@@ -1,20 +1,19 @@
 -- Control's next operation is the word machine's.
-use Rattle.std.proofs.Common.{◌≡◌, ℕ, suc, List, length, Some, refl, sym, ap, ap₂, ◌∙◌, arith}
+use Rattle.std.proofs.Common.{◌≡◌, ℕ, suc, Some, refl, sym, ap, ap₂, ◌∙◌, arith}
 use Rattle.ft_base.specs.declared.item.Answer.{Answer}
 use Rattle.ft_base.specs.declared.item.Item.TheVariants.{Return}
 use Rattle.ft_base.specs.declared.number.UserNo.{UserNo}
 use Rattle.ft_base.specs.Job.{Job, funcs}
 use Rattle.ft_base.specs.Desk.{desk, user_at}
-use Rattle.site_bytes.specs.declared.insn.SiteChange.{SiteChange}
 use Rattle.word_map.specs.declared.shape.Shape.{Shape}
 use Rattle.word_map.specs.Places.{words_for}
-use Rattle.word_map.specs.Ops.{WordOp, Mark}
-use Rattle.grace_core.specs.Waits.{Wait}
+use Rattle.word_map.specs.Words.{Word}
+use Rattle.word_map.specs.Ops.{Mark}
 use Rattle.hash_pages.specs.Pages.{Page}
 use Rattle.ops_list.specs.Links.{Linked, link_op}
 use Rattle.ops_list.specs.declared.linker.LinkPhase.{LinkPhase}
 use Rattle.ops_list.specs.declared.linker.LinkPhase.TheVariants.{Linking as LinkingUser, Heading, Unlinking, Ended as LinkEnded}
-use Rattle.patch_core.specs.Moves.{Do, batch_next}
+use Rattle.patch_core.specs.Moves.{Move, Put, batch_next}
 use Rattle.ft_desk.specs.declared.plan.TrampChange.TheVariants.{Set, Clear}
 use Rattle.ft_desk.specs.Plans.{PlainPlan, user_no}
 use Rattle.word_machine.specs.Commands.{effect, set_words, subject}
@@ -22,14 +21,13 @@ use Rattle.word_machine.specs.Control.{control_next, next_in}
 use Rattle.word_machine.specs.Values.{copies_in}
 use Rattle.control_core.specs.declared.phase.Phase.{Phase}
 use Rattle.control_core.specs.declared.phase.Phase.TheVariants as phase
-use Rattle.control_core.specs.Positions.{linking_at, patching_at, plan_at, syncing_at, writing_at}
+use Rattle.control_core.specs.Positions.{linking_at, moves_left, moving_to, plan_at, writing_at}
 use Rattle.control_core.specs.Seated.{Seated, Fits, IsDeskOf, IsFor, IsLinkOf, IsPageOf, IsUnder, control_in, control_of, position_of}
 use Rattle.control_core.specs.Kept.{HasLeft, IsSafe}
 use Rattle.control_core.specs.Steps.{depth_next, op_in, op_of, pair_at, patch_next, pids_next, release_next, select_next, take_next, write_next}
 use Rattle.control_core.proofs.PositionsEffects.{sel-user, set-user}
-use Rattle.control_core.proofs.PositionsGoes.{store-goes, sync-goes}
 use Rattle.control_core.proofs.PositionsStores.{copy-is, depth-op, head-op, pids-op, push-op, release-op, sel-is, select-op, take-op, unlink-op, user-is}
-use Rattle.control_core.proofs.PositionsWaits.{quiet-op}
+use Rattle.control_core.proofs.PositionsWaits.{quiet-op, sync-op}
 use Rattle.control_core.proofs.PositionsWriting.{page-is-next}
 use Rattle.control_core.proofs.Under.{answer-is, base-of, line-next, plan-is, state-is}
 
@@ -109,16 +107,11 @@ module _ (job : Job) (c : Seated) (safe : IsSafe c) (is : IsFor job c) where
         ap depth_next e
         ∙ sym (depth-op job (control_in c phase.StoringDepth) (copies_in c.before.copies) c.before.order x (sym (ap (λ (p : PlainPlan). p.depth) at-plan) ∙ e))
 
-    sites-is : c.desk.plan.sites ≡ plan.sites
-    sites-is = ap (λ (p : PlainPlan). p.sites) at-plan
-
-    patching : (op : WordOp) → batch_next c.desk.plan.sites c.made ≡ Do op
+    patching : (w : Word) (x : ℕ) → batch_next c.desk.plan.sites c.made ≡ Put w x
         → op_in c phase.Patching ≡ next_in job (control_in c phase.Patching) (position_of c phase.Patching)
-    patching op e =
+    patching w x e =
         ap patch_next e
-        ∙ sym ((store-goes job (control_in c phase.Patching) (copies_in c.before.copies) c.before.order 0 c.made op
-        (ap (λ (s : List SiteChange). batch_next s c.made) (sym sites-is) ∙ e)).0)
-        ∙ ap (λ (s : List SiteChange). next_in job (control_in c phase.Patching) (patching_at s c.made)) (sym sites-is)
+        ∙ ap (λ (m : Move). next_in job (control_in c phase.Patching) (moving_to c.desk.plan (moves_left c.desk.plan (suc c.made)) m)) (sym e)
 
     releasing : (slot : ℕ) → c.desk.plan.tramp ≡ Clear slot
         → op_in c phase.Releasing ≡ next_in job (control_in c phase.Releasing) (position_of c phase.Releasing)
@@ -126,14 +119,6 @@ module _ (job : Job) (c : Seated) (safe : IsSafe c) (is : IsFor job c) where
         ap release_next e
         ∙ sym (release-op job (control_in c phase.Releasing) (copies_in c.before.copies) c.before.order slot
         (sym (ap (λ (p : PlainPlan). p.tramp) at-plan) ∙ e))
-
-    syncing : (w : Wait) → HasLeft c (phase.Syncing w) → Fits c (phase.Syncing w)
-        → op_in c (phase.Syncing w) ≡ next_in job (control_in c (phase.Syncing w)) (position_of c (phase.Syncing w))
-    syncing w left f =
-        let cpus : w.shape.cpus ≡ length job.quanta = ap (λ (s : Shape). s.cpus) (left.0 ∙ is.shape) in
-        sym ((sync-goes job (control_in c (phase.Syncing w)) (copies_in c.before.copies) c.before.order 0 c.made w f.1.quiet_is cpus f.1.way
-        (ap (λ (s : List SiteChange). batch_next s c.made) (sym sites-is) ∙ f.0)).0)
-        ∙ ap (λ (s : List SiteChange). next_in job (control_in c (phase.Syncing w)) (syncing_at s c.made w.phase)) (sym sites-is)
 
   -- in each phase
   next-in : (p : Phase) → IsDeskOf job c p → Fits c p → HasLeft c p → op_in c p ≡ next_in job (control_in c p) (position_of c p)
@@ -144,8 +129,9 @@ module _ (job : Job) (c : Seated) (safe : IsSafe c) (is : IsFor job c) where
   next-in (phase.Linking linker) u f h = linking u linker linker.phase refl f.1
   next-in phase.StoringPids u f h = pids u f.0 f.1
   next-in phase.StoringDepth u f h = depth u f.0 f.1
-  next-in phase.Patching u f h = patching u f.0 f.1
-  next-in (phase.Syncing w) u f h = syncing u w h f
+  next-in phase.Patching u f h = patching u f.0 f.1 f.2
+  next-in (phase.Syncing w) u f h =
+      sym (sync-op job (control_in c (phase.Syncing w)) w f.1.quiet_is f.1.way (moves_left c.desk.plan (suc c.made)))
   next-in (phase.Quieting w) u f h = sym (quiet-op job (control_in c (phase.Quieting w)) w f.1.quiet_is f.1.way)
   next-in phase.Releasing u f h = releasing u f.0 f.1
   next-in phase.Closing u f h = ap (λ (a : Answer). Some (Mark (Return (suc c.commands_done) a))) (answer-is job c (base-of job c safe is) u)

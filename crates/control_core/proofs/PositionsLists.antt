@@ -4,11 +4,11 @@ use Rattle.ft_base.specs.declared.number.UserNo.{UserNo}
 use Rattle.word_map.specs.Words.{Word, Link}
 use Rattle.word_map.specs.Ops.{Store}
 use Rattle.ft_desk.specs.Plans.{first_of, user_after, user_before, user_no}
-use Rattle.ops_list.specs.declared.linker.LinkPhase.TheVariants.{Linking, Heading, Unlinking}
+use Rattle.ops_list.specs.declared.linker.LinkPhase.TheVariants.{Linking, Unlinking}
 use Rattle.word_map.specs.Contents.{name_of as option_name}
 use Rattle.ops_list.specs.Names.{namer}
 use Rattle.ops_list.specs.Links.{link_op}
-use Rattle.word_machine.specs.Commands.{Adds, Removes}
+use Rattle.word_machine.specs.Commands.{Removes}
 use Rattle.word_machine.specs.Control.{follower, name_of, namer_from, relink_op}
 
 -- the name of the first user
@@ -44,6 +44,3 @@ module _ (u : ℕ) where
     -- a user is linked, and then put at the head
     pub link-is : link_op (Linking (user_no u) (first_of order)) ≡ Some (Store (Link u) (name_of order))
     link-is = ap (λ x. Some (Store (Link u) x)) (name-first order)
-
-    pub head-is : link_op (Heading (user_no u)) ≡ Some (relink_op Adds u order)
-    head-is = refl

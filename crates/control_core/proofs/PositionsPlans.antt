@@ -1,14 +1,13 @@
--- What a plan leads to: after the Begin, after the user's state, after the batch and after the wait, the word machine goes on as the
--- plan says.
+-- What a plan leads to: after the Begin, after the batch and after the wait, the word machine goes on as the plan says.
 use Rattle.std.proofs.Common.{◌≡◌, ℕ, suc, true, List, Option, Some, None, refl}
 use Rattle.std.specs.Prelude.{is_some}
 use Rattle.ft_base.specs.Job.{Job}
 use Rattle.ft_desk.specs.declared.plan.TrampChange.TheVariants.{Keep as KeepTramp}
 use Rattle.ft_desk.specs.Plans.{PlainPlan, given_by, taken_by}
-use Rattle.word_machine.specs.Commands.{Effect, Adds, Removes, Edits, Enables, Disables, Lists, Levels, Nothing, state_of, subject}
-use Rattle.word_machine.specs.Control.{after_batch_in, begin_in, release_or, released_in, selected_in, take_or}
-use Rattle.control_core.specs.Followed.{is_of_user, patches, plan_followed}
-use Rattle.control_core.specs.Positions.{begun_by, begun_to, quiet_by, released_by, released_to, selected_by}
+use Rattle.word_machine.specs.Commands.{Effect, Adds, Removes, Edits, state_of, subject}
+use Rattle.word_machine.specs.Control.{after_batch_in, begin_in, release_or, released_in, take_or}
+use Rattle.control_core.specs.Followed.{patches, plan_followed}
+use Rattle.control_core.specs.Positions.{begun_by, begun_to, quiet_by, released_by, released_to}
 
 -- a user takes the trampoline that it has got
 take-is : (job : Job) (plan : PlainPlan) (slot : Option ℕ) (reg : ℕ) → plan.pair ≡ true
@@ -29,43 +28,18 @@ module _ (job : Job) (d : ℕ) (copies : ℕ → ℕ) (order : List ℕ) where
       (state_of job (suc d) (subject job d)).reg refl
   begin-is Removes = elim (state_of job d (subject job d)).slot as (λ slot. begin_in job d Removes
       ≡ begun_to job (plan_followed job d copies order Removes) (given_by slot KeepTramp)) [ None ↦ refl | Some s ↦ refl ]
-  begin-is Edits = refl
-  begin-is Enables = refl
-  begin-is Disables = refl
-  begin-is Lists = refl
-  begin-is Levels = refl
-  begin-is Nothing = refl
-
-  -- after the store of a user's state
-  pub selected-is : (e : Effect) → is_of_user e ≡ true → selected_in job d e ≡ selected_by job d (plan_followed job d copies order e)
-  selected-is Adds is = refl
-  selected-is Removes is = refl
-  selected-is Edits is = refl
-  selected-is Enables is = refl
-  selected-is Disables is = refl
-  selected-is Lists is = absurd cc
-  selected-is Levels is = absurd cc
-  selected-is Nothing is = absurd cc
+  begin-is _ = refl
 
   -- after a batch
   pub after_batch-is : (e : Effect) → patches e ≡ true → after_batch_in e ≡ quiet_by (plan_followed job d copies order e)
   after_batch-is Adds is = refl
   after_batch-is Removes is = refl
   after_batch-is Edits is = refl
-  after_batch-is Enables is = absurd cc
-  after_batch-is Disables is = absurd cc
-  after_batch-is Lists is = absurd cc
-  after_batch-is Levels is = absurd cc
-  after_batch-is Nothing is = absurd cc
+  after_batch-is _ is = absurd cc
 
   -- after the wait for quiet points
   pub released-is : (e : Effect) → released_in job d e ≡ released_by (plan_followed job d copies order e)
   released-is Adds = elim (state_of job (suc d) (subject job d)).slot as (λ slot. released_in job d Adds
       ≡ released_to (taken_by slot (state_of job (suc d) (subject job d)).reg KeepTramp)) [ None ↦ refl | Some s ↦ refl ]
   released-is Removes = release-is (state_of job d (subject job d)).slot
-  released-is Edits = refl
-  released-is Enables = refl
-  released-is Disables = refl
-  released-is Lists = refl
-  released-is Levels = refl
-  released-is Nothing = refl
+  released-is _ = refl

@@ -1,13 +1,14 @@
 -- Waits: a wait of code stores and loads what the word machine does in one, and is over when the machine goes on.
-use Rattle.std.proofs.Common.{cond, ◌≡◌, ℕ, suc, Bool, true, false, nat_le, nat_lt, length, Some, refl, sym, ap, ap₂, ◌∙◌}
+use Rattle.std.proofs.Common.{cond, ◌≡◌, ◌⊎◌, ℕ, suc, Bool, true, false, nat_le, nat_lt, List, length, Some, refl, sym, ap, ap₂, ◌∙◌, inl, inr}
 use Rattle.ft_base.specs.Job.{Job}
 use Rattle.grace_core.specs.declared.waiter.WaitPhase.{WaitPhase}
 use Rattle.grace_core.specs.declared.waiter.WaitPhase.TheVariants.{Asking, Waiting, Ended}
 use Rattle.grace_core.specs.Waits.{Wait, awaited, awaited_word, reached, wait_after, wait_op}
 use Rattle.word_map.specs.Words.{Want}
 use Rattle.word_map.specs.Ops.{Load, Store}
-use Rattle.word_machine.specs.Control.{Control, Position, AskQuiet, WaitQuiet, after_wait, asked, at_position, got_in, next_in, released, waited}
-use Rattle.control_core.specs.Positions.{IsUnderWay, wait_or, waiting_at}
+use Rattle.patch_core.specs.Moves.{Move}
+use Rattle.word_machine.specs.Control.{Control, Position, AskQuiet, AskSync, WaitQuiet, WaitSync, after_wait, asked, at_position, before_moves, got_in, next_in, released, waited}
+use Rattle.control_core.specs.Positions.{IsUnderWay, syncing_at, wait_or, waiting_at}
 
 -- ## any wait of the machine
 
@@ -55,6 +56,22 @@ module _ (job : Job) (s : Control) (v : ℕ) (quiet : Bool) (many : ℕ) (ask : 
           (position-waited n (nat_le w.request (reached w.quiet v)) (nat_lt (suc n) (awaited w)))
       wait-got Ended e = absurd e
 
+-- ## a sync of the batch, which has these moves after it
+
+module _ (job : Job) (s : Control) (w : Wait) (kind : w.quiet ≡ false) (way : IsUnderWay s.request w.request w.phase) (rest : List Move) where
+  pub sync-op : next_in job s (syncing_at rest w.phase) ≡ wait_op w w.phase
+  sync-op =
+      wait-op job s 0 false (length job.quanta) (AskSync rest) (WaitSync rest) (before_moves job s.commands_done rest)
+      refl (λ c. refl) refl (λ c. refl) w kind w.phase way
+
+  pub sync-got : (v : ℕ) → w.shape.cpus ≡ length job.quanta → (otherwise : Position) → before_moves job s.commands_done rest ≡ otherwise
+      → got_in job s (syncing_at rest w.phase) v
+      ≡ record s { request = w.request; position = wait_or (syncing_at rest) otherwise (wait_after w w.phase v) }
+  sync-got v size otherwise next =
+      wait-got job s v false (length job.quanta) (AskSync rest) (WaitSync rest) (before_moves job s.commands_done rest)
+      refl (λ c. refl) refl (λ c. refl) w kind (rw kind size) w.phase way
+      ∙ ap (λ (o : Position). record s { request = w.request; position = wait_or (syncing_at rest) o (wait_after w w.phase v) }) next
+
 -- ## the wait for quiet points
 
 module _ (job : Job) (s : Control) (w : Wait) (kind : w.quiet ≡ true) (way : IsUnderWay s.request w.request w.phase) where
@@ -73,3 +90,21 @@ module _ (job : Job) (s : Control) (w : Wait) (kind : w.quiet ≡ true) (way : I
         request = w.request;
         position = wait_or (waiting_at AskQuiet WaitQuiet) o (wait_after w w.phase v);
       }) next
+
+-- ## a wait goes on
+
+-- once its request is stored it is under way until it is over
+module _ (w : Wait) where
+  way-for : (n : ℕ) (b : Bool) → (cond b (Waiting n) Ended ≡ Ended) ⊎ IsUnderWay w.request w.request (cond b (Waiting n) Ended)
+  way-for n true = inr refl
+  way-for n false = inl refl
+
+  way-waited : (n : ℕ) (b c : Bool) → (cond b (cond c (Waiting (suc n)) Ended) (Waiting n) ≡ Ended)
+      ⊎ IsUnderWay w.request w.request (cond b (cond c (Waiting (suc n)) Ended) (Waiting n))
+  way-waited n true c = way-for (suc n) c
+  way-waited n false c = inr refl
+
+  pub way-after : (phase : WaitPhase) (v : ℕ) → (wait_after w phase v ≡ Ended) ⊎ IsUnderWay w.request w.request (wait_after w phase v)
+  way-after Asking v = way-for 0 (nat_lt 0 (awaited w))
+  way-after (Waiting n) v = way-waited n (nat_le w.request (reached w.quiet v)) (nat_lt (suc n) (awaited w))
+  way-after Ended v = inl refl

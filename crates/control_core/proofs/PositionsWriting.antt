@@ -1,5 +1,5 @@
 -- Writing a user's sets: where control stands after so many stores of a page, and which store is the next.
-use Rattle.std.proofs.Common.{◌≡◌, ℕ, suc, ◌+◌, ◌-◌, ◌<◌, ◌≤◌, Some, None, refl, sym, ap, ◌∙◌, arith, inl, inr, lt-ltb, le-ltb}
+use Rattle.std.proofs.Common.{◌≡◌, ℕ, suc, ◌+◌, ◌-◌, ◌<◌, ◌≤◌, Some, refl, sym, ap, ◌∙◌, arith, inl, inr, lt-ltb, le-ltb}
 use Rattle.std.proofs.lemmas.Bool.{cases_lt}
 use Rattle.ft_base.specs.Job.{Job, funcs}
 use Rattle.site_set.specs.Marks.{word_of}
@@ -9,7 +9,7 @@ use Rattle.word_map.specs.Contents.{sel_of, other_copy}
 use Rattle.word_map.specs.Places.{words_for}
 use Rattle.word_map.specs.Ops.{Store}
 use Rattle.hash_pages.specs.Pages.{Page, page_next}
-use Rattle.hash_pages.proofs.PageLaws.{filter_at, notrace_at, state_at, none_after}
+use Rattle.hash_pages.proofs.PageLaws.{filter_at, notrace_at, state_at}
 use Rattle.word_machine.specs.Commands.{set_words, subject, state_of, effect}
 use Rattle.word_machine.specs.Control.{Control, Copy, Select, at_position, copy_after, copy_from, got_in, next_in}
 use Rattle.control_core.specs.Positions.{writing_at}
@@ -90,9 +90,6 @@ module _ (job : Job) (p : Page) (pair : Pair) (shape : p.shape.funcs ≡ funcs j
 
   pub page-state : p.stored ≡ set_words job + set_words job → page_next p pair ≡ Some (Store (Sel p.user) p.sel)
   page-state e = state_at p pair p.stored (omega (arith, many, e))
-
-  pub page-ended : set_words job + set_words job < p.stored → page_next p pair ≡ None
-  page-ended h = none_after p pair p.stored (omega (arith, many))
 
   -- they are the machine's stores of the new state of the user, if the page and the pair have that
   module _ (s : Control) (u : ℕ) (is : u ≡ subject job s.commands_done) (user : p.user ≡ u) (copy : p.copy ≡ other_copy (s.copies u))

@@ -4,7 +4,7 @@ use Rattle.std.proofs.lemmas.Bool.{cases_lt}
 use Rattle.ft_base.specs.declared.limits.TheConstants.{FUNCS}
 use Rattle.ft_base.specs.declared.number.UserNo.{UserNo}
 use Rattle.site_bytes.specs.declared.insn.SiteChange.{SiteChange}
-use Rattle.patch_core.specs.Moves.{Move, Do, Sync, Done, batch_next}
+use Rattle.patch_core.specs.Moves.{Move, Put, Sync, Done, batch_next}
 use Rattle.patch_core.proofs.MoveLaws.{done_at}
 use Rattle.ft_desk.specs.declared.plan.TrampChange.{TrampChange}
 use Rattle.ft_desk.specs.declared.plan.TrampChange.TheVariants.{Keep as KeepTramp, Set, Clear}
@@ -12,7 +12,7 @@ use Rattle.ft_desk.specs.declared.plan.ListChange.{ListChange}
 use Rattle.ft_desk.specs.declared.plan.ListChange.TheVariants.{Keep as KeepList, Push, Unlink}
 use Rattle.ft_desk.specs.Plans.{PlainPlan}
 use Rattle.control_core.specs.declared.phase.Phase.{Phase}
-use Rattle.control_core.specs.Phases.{batch_to, begin_in, begin_to, list_in, list_to, move_to, number_to, quiet_to, release_in, store_in, store_to, write_to}
+use Rattle.control_core.specs.Phases.{batch_to, begin_in, begin_to, list_in, list_to, move_to, number_to, quiet_to, store_in, store_to, write_to}
 use Rattle.control_core.specs.Seated.{Seated}
 use Rattle.control_core.specs.Kept.{HasLeft, IsSafe, asked, busy, moves, requests_of_line}
 use Rattle.control_core.specs.Steps.{at_phase}
@@ -66,7 +66,7 @@ quiet-goes c request = quiet-by c request c.desk.plan.quiet refl
 
 batch-by : (c : Seated) (request : ℕ) (m : Move) → batch_next c.desk.plan.sites c.made ≡ m → length c.desk.plan.sites ≤ FUNCS
     → Goes c (move_to c.shape c.desk.plan request m)
-batch-by c request (Do op) e few = record { begun = refl; left = move-left c.desk.plan.sites c.made few (λ d. cc) }
+batch-by c request (Put w x) e few = record { begun = refl; left = move-left c.desk.plan.sites c.made few (λ d. cc) }
 batch-by c request Sync e few = record { begun = refl; left = (refl, move-left c.desk.plan.sites c.made few (λ d. cc)) }
 batch-by c request Done e few = quiet-goes c request
 
@@ -107,8 +107,3 @@ begin-by c p (Clear slot) = store-goes c p
 
 pub begin-goes : (c : Seated) (p : PlainPlan) → Goes c (begin_to c.shape p)
 begin-goes c p = begin-by c p p.tramp
-
-pub release-goes : (c : Seated) (t : TrampChange) → Goes c (release_in t)
-release-goes c KeepTramp = record { begun = refl; left = tt }
-release-goes c (Set slot reg) = record { begun = refl; left = tt }
-release-goes c (Clear slot) = record { begun = refl; left = tt }

@@ -1,8 +1,8 @@
 -- In a command of the job: the plan, the desk, the list and the copies are the word machine's.
-use Rattle.std.proofs.Common.{◌≡◌, ℕ, zero, suc, List, [], ◌∷◌, length, drop, take, Some, None, refl, ap, ◌∙◌, subst}
+use Rattle.std.proofs.Common.{◌≡◌, ℕ, zero, suc, List, [], ◌∷◌, length, drop, Some, None, refl, ap, ◌∙◌, subst}
 use Rattle.std.specs.Prelude.{All, slice_get}
 use Rattle.std.proofs.lemmas.Option.{get_or_from_slice_get, slice_get_within}
-use Rattle.ft_base.specs.Job.{Job, Command, Ctl, Run, Until, commands_in}
+use Rattle.ft_base.specs.Job.{Job, Command, Ctl, Run, Until}
 use Rattle.ft_base.specs.Desk.{desk}
 use Rattle.ft_base.specs.WellFormed.{IsNamed, IsNamedIn}
 use Rattle.word_map.specs.declared.shape.Shape.{Shape}

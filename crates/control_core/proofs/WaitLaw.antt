@@ -1,26 +1,26 @@
 -- Control after the operation of a wait is the word machine's.
 use Rattle.std.proofs.Common.{cond, ◌≡◌, ℕ, suc, true, false, List, length, refl, sym, ap, ◌∙◌, subst, inl, inr}
 use Rattle.ft_base.specs.Job.{Job}
-use Rattle.site_bytes.specs.declared.insn.SiteChange.{SiteChange}
 use Rattle.word_map.specs.declared.shape.Shape.{Shape}
 use Rattle.grace_core.specs.declared.waiter.WaitPhase.{WaitPhase}
 use Rattle.grace_core.specs.declared.waiter.WaitPhase.TheVariants.{Asking, Waiting, Ended}
 use Rattle.grace_core.specs.Waits.{Wait, wait_after, wait_got}
-use Rattle.patch_core.specs.Moves.{Sync, batch_next}
+use Rattle.patch_core.specs.Moves.{Move, Sync, batch_next}
 use Rattle.ft_desk.specs.Plans.{PlainPlan}
+use Rattle.word_machine.specs.Commands.{effect}
 use Rattle.word_machine.specs.Control.{AskQuiet, WaitQuiet, got_in}
 use Rattle.word_machine.specs.Values.{copies_in}
 use Rattle.control_core.specs.declared.phase.Phase.TheVariants as phase
 use Rattle.control_core.specs.Phases.{is_asking, is_over, release_in}
-use Rattle.control_core.specs.Positions.{IsUnderWay, moving_by, plan_at, released_by, syncing_at, wait_or, waiting_at}
+use Rattle.control_core.specs.Positions.{IsUnderWay, moves_left, moving_by, plan_at, released_by, syncing_at, wait_or, waiting_at}
 use Rattle.control_core.specs.Seated.{Seated, Fits, IsFor, IsUnder, control_in, position_of}
 use Rattle.control_core.specs.Kept.{HasLeft, IsSafe}
 use Rattle.control_core.specs.Steps.{at_phase, moved, quieted, requests_after, stepped_in, synced, with_request}
 use Rattle.control_core.proofs.GotLaw.{went}
 use Rattle.control_core.proofs.Leads.{Leads, Went, batch-leads, lead-to, machine_at, release-leads}
-use Rattle.control_core.proofs.PositionsCoded.{way-after}
-use Rattle.control_core.proofs.PositionsGoes.{quiet-goes, sync-goes}
-use Rattle.control_core.proofs.PositionsWaits.{quiet-got}
+use Rattle.control_core.proofs.PositionsBatch.{batch-goes_on}
+use Rattle.control_core.proofs.PositionsPlans.{released-is}
+use Rattle.control_core.proofs.PositionsWaits.{quiet-got, sync-got, way-after}
 use Rattle.control_core.proofs.Under.{base-of, plan-is}
 
 -- the last request that was stored is the wait's
@@ -43,26 +43,27 @@ module _ (job : Job) (c : Seated) (safe : IsSafe c) (is : IsFor job c) (u : IsUn
   at-plan : c.desk.plan ≡ plan
   at-plan = plan-is job c (base-of job c safe is) u
 
-  sites : c.desk.plan.sites ≡ plan.sites
-  sites = ap (λ (p : PlainPlan). p.sites) at-plan
-
   -- with the wait's request
   abbrev own : Seated
   own = with_request c w.request
 
   -- ## a sync of the batch
 
+  -- the moves after it
+  abbrev rest : List Move
+  rest = moves_left c.desk.plan (suc c.made)
+
   sync-goes_on : (p : WaitPhase) → batch_next c.desk.plan.sites c.made ≡ Sync → w.quiet ≡ false → IsUnderWay w.request w.request p
       → Went job (at_phase own (phase.Syncing (record w { phase = p })))
-      (machine_at own (syncing_at c.desk.plan.sites c.made p) (copies_in c.desk.copies) c.desk.order)
+      (machine_at own (syncing_at rest p) (copies_in c.desk.copies) c.desk.order)
   sync-goes_on p e kind way =
       lead-to job c c.made w.request _ _ _ _ is u
-      (let l : Leads job own (phase.Syncing (record w { phase = p })) (syncing_at c.desk.plan.sites c.made p) (copies_in c.desk.copies) c.desk.order =
+      (let l : Leads job own (phase.Syncing (record w { phase = p })) (syncing_at rest p) (copies_in c.desk.copies) c.desk.order =
       record { stands = refl; copies_are = refl; order_is = refl; fits = (e, record { quiet_is = kind; way = way }); under = λ u. u } in l)
 
   sync-by : (p : WaitPhase) → wait_after w w.phase v ≡ p → batch_next c.desk.plan.sites c.made ≡ Sync → w.quiet ≡ false
       → Went job (cond (is_over p) (moved own (suc c.made)) (at_phase own (phase.Syncing (record w { phase = p }))))
-      (machine_at own (wait_or (syncing_at c.desk.plan.sites c.made) (moving_by c.desk.plan (suc c.made)) p) (copies_in c.desk.copies) c.desk.order)
+      (machine_at own (wait_or (syncing_at rest) (moving_by c.desk.plan (suc c.made)) p) (copies_in c.desk.copies) c.desk.order)
   sync-by Asking after e kind = sync-goes_on Asking e kind (on-way w v Asking after refl)
   sync-by (Waiting n) after e kind = sync-goes_on (Waiting n) e kind (on-way w v (Waiting n) after refl)
   sync-by Ended after e kind =
@@ -72,14 +73,12 @@ module _ (job : Job) (c : Seated) (safe : IsSafe c) (is : IsFor job c) (u : IsUn
       → Went job (stepped_in c (phase.Syncing w) v) (got_in job (control_in c (phase.Syncing w)) (position_of c (phase.Syncing w)) v)
   syncing left f =
       let cpus : w.shape.cpus ≡ length job.quanta = ap (λ (s : Shape). s.cpus) (left.0 ∙ is.shape) in
-      let got = (sync-goes job (control_in c (phase.Syncing w)) (copies_in c.before.copies) c.before.order v c.made w f.1.quiet_is cpus f.1.way
-      (ap (λ (s : List SiteChange). batch_next s c.made) (sym sites) ∙ f.0)).1 in
+      let goes = batch-goes_on job c.commands_done (copies_in c.before.copies) c.before.order c.desk.plan at-plan c.made
+      (λ none. let sync = f.0 in cc) (suc c.made) in
+      let got = sync-got job (control_in c (phase.Syncing w)) w f.1.quiet_is f.1.way rest v cpus (moving_by c.desk.plan (suc c.made)) goes in
       let req : w.request ≡ requests_after c.request w = sym (requests-by w.phase c.request w.request f.1.way) in
       subst (λ (r : ℕ). Went job (synced (with_request c r) (wait_got w v)) (got_in job (control_in c (phase.Syncing w)) (position_of c (phase.Syncing w)) v)) req
-      (went job _ _ _ (sync-by (wait_after w w.phase v) refl f.0 f.1.quiet_is)
-      (ap (λ (p : PlainPlan). machine_at own (wait_or (syncing_at p.sites c.made) (moving_by p (suc c.made)) (wait_after w w.phase v)) (copies_in c.desk.copies) c.desk.order) at-plan
-      ∙ sym got
-      ∙ ap (λ (s : List SiteChange). got_in job (control_in c (phase.Syncing w)) (syncing_at s c.made w.phase) v) (sym sites)))
+      (went job _ _ _ (sync-by (wait_after w w.phase v) refl f.0 f.1.quiet_is) (sym got))
 
   -- ## the wait for quiet points
 
@@ -102,10 +101,8 @@ module _ (job : Job) (c : Seated) (safe : IsSafe c) (is : IsFor job c) (u : IsUn
       → Went job (stepped_in c (phase.Quieting w) v) (got_in job (control_in c (phase.Quieting w)) (position_of c (phase.Quieting w)) v)
   quieting left f =
       let tasks : w.shape.tasks ≡ length job.tasks = ap (λ (s : Shape). s.tasks) (left ∙ is.shape) in
-      let got = quiet-got job (control_in c (phase.Quieting w)) w f.1.quiet_is f.1.way v tasks (released_by plan)
-      (quiet-goes job c.commands_done (copies_in c.before.copies) c.before.order) in
+      let got = quiet-got job (control_in c (phase.Quieting w)) w f.1.quiet_is f.1.way v tasks (released_by c.desk.plan)
+      (released-is job c.commands_done (copies_in c.before.copies) c.before.order (effect job c.commands_done) ∙ ap released_by (sym at-plan)) in
       let req : w.request ≡ requests_after c.request w = sym (requests-by w.phase c.request w.request f.1.way) in
       subst (λ (r : ℕ). Went job (quieted (with_request c r) (wait_got w v)) (got_in job (control_in c (phase.Quieting w)) (position_of c (phase.Quieting w)) v)) req
-      (went job _ _ _ (quiet-by (wait_after w w.phase v) refl f.0 f.1.quiet_is)
-      (ap (λ (p : PlainPlan). machine_at own (wait_or (waiting_at AskQuiet WaitQuiet) (released_by p) (wait_after w w.phase v)) (copies_in c.desk.copies) c.desk.order) at-plan
-      ∙ sym got))
+      (went job _ _ _ (quiet-by (wait_after w w.phase v) refl f.0 f.1.quiet_is) (sym got))

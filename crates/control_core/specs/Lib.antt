@@ -1,5 +1,4 @@
 pub mod Followed
-pub mod ChangedSites
 pub mod Positions
 pub mod Plans
 pub mod Lines

@@ -9,7 +9,7 @@ use Rattle.grace_core.specs.declared.waiter.WaitPhase.TheVariants.{Asking, Waiti
 use Rattle.hash_pages.specs.Pages.{Page}
 use Rattle.ops_list.specs.declared.linker.LinkPhase.{LinkPhase}
 use Rattle.ops_list.specs.declared.linker.LinkPhase.TheVariants.{Linking as LinkingUser, Heading, Unlinking, Ended as LinkEnded}
-use Rattle.patch_core.specs.Moves.{Move, Do, Sync, Done, batch_next}
+use Rattle.patch_core.specs.Moves.{Move, Put, Sync, Done, batch_next}
 use Rattle.ft_desk.specs.declared.plan.TrampChange.{TrampChange}
 use Rattle.ft_desk.specs.declared.plan.TrampChange.TheVariants.{Keep as KeepTramp, Set, Clear}
 use Rattle.ft_desk.specs.declared.plan.ListChange.{ListChange}
@@ -56,7 +56,7 @@ quiet_to shape p request = if p.quiet then phase.Quieting (wait_start shape true
 
 -- before a move of the batch
 abbrev pub move_to : Shape → PlainPlan → ℕ → Move → Phase
-move_to shape p request (Do op) = phase.Patching
+move_to shape p request (Put w x) = phase.Patching
 move_to shape p request Sync = phase.Syncing (wait_start shape false (suc request))
 move_to shape p request Done = quiet_to shape p request
 

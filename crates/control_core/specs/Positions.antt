@@ -1,13 +1,11 @@
 -- Where control stands in the parts of a command, by what its steppers have done: the word machine's positions.
-use Rattle.std.specs.Prelude.{ℕ, suc, ◌≡◌, ◌+◌, ◌-◌, ◌*◌, ◌==◌, nat_lt, List, get_or, length, is_some, if◌then◌else◌}
+use Rattle.std.specs.Prelude.{ℕ, suc, ◌≡◌, ◌+◌, ◌-◌, nat_lt, List, drop, is_some, if◌then◌else◌}
 use Rattle.ft_base.specs.Job.{Job}
-use Rattle.site_bytes.specs.declared.insn.Insn.TheVariants.{Nop}
-use Rattle.site_bytes.specs.declared.insn.SiteChange.{SiteChange}
 use Rattle.grace_core.specs.declared.waiter.WaitPhase.{WaitPhase}
 use Rattle.grace_core.specs.declared.waiter.WaitPhase.TheVariants.{Asking, Waiting, Ended as WaitEnded}
 use Rattle.ops_list.specs.declared.linker.LinkPhase.{LinkPhase}
 use Rattle.ops_list.specs.declared.linker.LinkPhase.TheVariants.{Linking as LinkingUser}
-use Rattle.patch_core.specs.Moves.{Move, Do, Sync, Done, batch_next}
+use Rattle.patch_core.specs.Moves.{Move, Put, Sync, Done, batch, batch_next}
 use Rattle.ft_desk.specs.declared.plan.TrampChange.{TrampChange}
 use Rattle.ft_desk.specs.declared.plan.TrampChange.TheVariants.{Set, Clear}
 use Rattle.ft_desk.specs.declared.plan.ListChange.{ListChange}
@@ -15,7 +13,7 @@ use Rattle.ft_desk.specs.declared.plan.ListChange.TheVariants.{Keep as KeepList,
 use Rattle.ft_desk.specs.Plans.{PlainPlan}
 use Rattle.control_core.specs.Followed.{plan_followed}
 use Rattle.word_machine.specs.Commands.{effect}
-use Rattle.word_machine.specs.Control.{Position, Take, Copy, Select, Push, Relink, StorePids, StoreDepth, NextAt, BreakAt, Ask1, Wait1, TailAt, Ask2, Wait2, HeadAt, Ask3, Wait3, AskQuiet, Release, Close, batch, copy_from}
+use Rattle.word_machine.specs.Control.{Position, Take, Copy, Select, Push, Relink, StorePids, StoreDepth, Patch, AskSync, WaitSync, AskQuiet, Release, Close, copy_from}
 
 -- before a word of the copy, or, after the last of them, before the user's state
 abbrev pub writing_at : ℕ → ℕ → Position
@@ -25,23 +23,6 @@ writing_at words k = if nat_lt k words then Copy 0 k else (if nat_lt k (words + 
 abbrev pub linking_at : LinkPhase → Position
 linking_at (LinkingUser u first) = Push
 linking_at _ = Relink
-
--- a change that there is not
-abbrev pub no_change : SiteChange
-no_change = record { func = record { 0 = 0 }; insn = Nop }
-
--- the function of one of the sites
-abbrev pub func_at : List SiteChange → ℕ → ℕ
-func_at sites k = (get_or sites k no_change).func.0
-
--- before a store of a batch, after this many moves
-abbrev pub patching_at : List SiteChange → ℕ → Position
-patching_at sites made =
-    let n = length sites in
-    if nat_lt made n then NextAt (func_at sites made)
-    else (if nat_lt made (2 * n) then BreakAt (func_at sites (made - n))
-    else (if nat_lt made (3 * n + 1) then TailAt (func_at sites (made - (2 * n + 1)))
-    else HeadAt (func_at sites (made - (3 * n + 2)))))
 
 -- in a wait
 abbrev pub waiting_at : Position → (ℕ → Position) → WaitPhase → Position
@@ -60,11 +41,9 @@ IsUnderWay requests own Asking = own ≡ suc requests
 IsUnderWay requests own (Waiting c) = own ≡ requests
 IsUnderWay requests own WaitEnded = ⊥
 
--- in one of the syncs of a batch
-abbrev pub syncing_at : List SiteChange → ℕ → WaitPhase → Position
-syncing_at sites made w =
-    let n = length sites in
-    if made == 2 * n then waiting_at Ask1 Wait1 w else (if made == 3 * n + 1 then waiting_at Ask2 Wait2 w else waiting_at Ask3 Wait3 w)
+-- in a sync of a batch, which has these moves after it
+abbrev pub syncing_at : List Move → WaitPhase → Position
+syncing_at rest w = waiting_at (AskSync rest) (WaitSync rest) w
 
 -- ## where a plan leads
 
@@ -94,15 +73,19 @@ begun_by job plan = begun_to job plan plan.tramp
 abbrev pub quiet_by : PlainPlan → Position
 quiet_by plan = if plan.quiet then AskQuiet else Close
 
--- before the next move of the batch, after this many; a batch that is done leads on
-abbrev pub moving_to : PlainPlan → ℕ → Move → Position
-moving_to plan made (Do op) = patching_at plan.sites made
-moving_to plan made Sync = syncing_at plan.sites made Asking
-moving_to plan made Done = quiet_by plan
+-- the moves of the plan's batch that are left after this many
+abbrev pub moves_left : PlainPlan → ℕ → List Move
+moves_left plan made = drop made (batch plan.sites)
 
--- the same, by the moves of the plan's sites
+-- before this move of the batch, which has these after it; a batch that is done leads on
+abbrev pub moving_to : PlainPlan → List Move → Move → Position
+moving_to plan rest (Put w x) = Patch w x rest
+moving_to plan rest Sync = AskSync rest
+moving_to plan rest Done = quiet_by plan
+
+-- before the next move of the batch, after this many
 abbrev pub moving_by : PlainPlan → ℕ → Position
-moving_by plan made = moving_to plan made (batch_next plan.sites made)
+moving_by plan made = moving_to plan (moves_left plan (suc made)) (batch_next plan.sites made)
 
 -- after the user's state is stored, by what happens to the list; a list that stays is followed by this
 abbrev pub listed_to : Position → ListChange → Position
@@ -110,11 +93,7 @@ listed_to otherwise KeepList = otherwise
 listed_to otherwise (PushUser first) = Push
 listed_to otherwise (Unlink before after) = Relink
 
--- the same of a plan; only a command that writes sets may change call sites without a change of the list
-abbrev pub selected_by : Job → ℕ → PlainPlan → Position
-selected_by job d plan = listed_to (if plan.pair then batch job d else quiet_by plan) plan.list
-
--- the same by the plan alone
+-- the same of a plan
 abbrev pub listed_by : PlainPlan → Position
 listed_by plan = listed_to (moving_by plan 0) plan.list
 

@@ -1,5 +1,5 @@
 -- What contracts see of control, and the control of the word machine that it stands for.
-use Rattle.std.specs.Prelude.{ℕ, ◌≡◌, Bool, true, false, List, [], drop, take, length, slice_get, Option, Some, if◌then◌else◌}
+use Rattle.std.specs.Prelude.{ℕ, suc, ◌≡◌, Bool, true, false, List, [], drop, take, length, slice_get, Option, Some, if◌then◌else◌}
 use Rattle.std.specs.List.{range_with_len}
 use Rattle.ft_base.specs.declared.item.Answer.{Answer}
 use Rattle.ft_base.specs.declared.item.Stamped.{Stamped}
@@ -17,14 +17,14 @@ use Rattle.grace_core.specs.Waits.{Wait}
 use Rattle.hash_pages.specs.Pages.{Page}
 use Rattle.ops_list.specs.declared.linker.LinkPhase.{LinkPhase}
 use Rattle.ops_list.specs.declared.linker.LinkPhase.TheVariants.{Linking as LinkingUser, Heading, Unlinking, Ended as LinkEnded}
-use Rattle.patch_core.specs.Moves.{Do, Sync, batch_next}
+use Rattle.patch_core.specs.Moves.{Put, Sync, batch_next}
 use Rattle.ft_base.specs.declared.number.UserNo.{UserNo}
 use Rattle.word_map.specs.Contents.{sel_copy}
-use Rattle.word_map.specs.Ops.{WordOp}
+use Rattle.word_map.specs.Words.{Word}
 use Rattle.word_machine.specs.Commands.{command}
 use Rattle.word_machine.specs.Control.{Control, Position, Line, Take, Select, StorePids, StoreDepth, AskQuiet, WaitQuiet, Release, Close}
 use Rattle.word_machine.specs.Values.{copies_in}
-use Rattle.control_core.specs.Positions.{IsUnderWay, linking_at, patching_at, syncing_at, waiting_at, writing_at}
+use Rattle.control_core.specs.Positions.{IsUnderWay, linking_at, moves_left, moving_by, syncing_at, waiting_at, writing_at}
 use Rattle.control_core.specs.declared.phase.Phase.{Phase}
 use Rattle.control_core.specs.declared.phase.Phase.TheVariants as phase
 
@@ -55,8 +55,8 @@ position_of c phase.Selecting = Select
 position_of c (phase.Linking linker) = linking_at linker.phase
 position_of c phase.StoringPids = StorePids
 position_of c phase.StoringDepth = StoreDepth
-position_of c phase.Patching = patching_at c.desk.plan.sites c.made
-position_of c (phase.Syncing wait) = syncing_at c.desk.plan.sites c.made wait.phase
+position_of c phase.Patching = moving_by c.desk.plan c.made
+position_of c (phase.Syncing wait) = syncing_at (moves_left c.desk.plan (suc c.made)) wait.phase
 position_of c (phase.Quieting wait) = waiting_at AskQuiet WaitQuiet wait.phase
 position_of c phase.Releasing = Release
 position_of c phase.Closing = Close
@@ -134,7 +134,7 @@ Fits c phase.Selecting = (c.made ≡ 0) × ((sel : ℕ) × (c.desk.plan.sel ≡ 
 Fits c (phase.Linking linker) = (c.made ≡ 0) × IsLinkOf c.desk.plan linker.phase
 Fits c phase.StoringPids = (mask : ℕ) × (c.desk.plan.pids ≡ Some mask)
 Fits c phase.StoringDepth = (depth : ℕ) × (c.desk.plan.depth ≡ Some depth)
-Fits c phase.Patching = (op : WordOp) × (batch_next c.desk.plan.sites c.made ≡ Do op)
+Fits c phase.Patching = (w : Word) × (x : ℕ) × (batch_next c.desk.plan.sites c.made ≡ Put w x)
 Fits c (phase.Syncing wait) = (batch_next c.desk.plan.sites c.made ≡ Sync) × IsWaitOf c false wait
 Fits c (phase.Quieting wait) = (c.desk.plan.quiet ≡ true) × IsWaitOf c true wait
 Fits c phase.Releasing = (slot : ℕ) × (c.desk.plan.tramp ≡ Clear slot)

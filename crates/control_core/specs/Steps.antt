@@ -13,7 +13,7 @@ use Rattle.word_map.specs.Ops.{WordOp, Load, Store, Mark}
 use Rattle.grace_core.specs.Waits.{Wait, wait_got, wait_next}
 use Rattle.hash_pages.specs.Pages.{Page, page_next}
 use Rattle.ops_list.specs.Links.{Linked, link_after, link_op}
-use Rattle.patch_core.specs.Moves.{Move, Do, Sync, Done, batch_next}
+use Rattle.patch_core.specs.Moves.{Move, Put, Sync, Done, batch_next}
 use Rattle.ft_desk.specs.declared.plan.TrampChange.{TrampChange}
 use Rattle.ft_desk.specs.declared.plan.TrampChange.TheVariants.{Keep as KeepTramp, Set, Clear}
 use Rattle.ft_desk.specs.Seen.{after_command, answer}
@@ -64,7 +64,7 @@ depth_next None = None
 
 -- a store of the batch
 abbrev pub patch_next : Move → Option WordOp
-patch_next (Do op) = Some op
+patch_next (Put w x) = Some (Store w x)
 patch_next Sync = None
 patch_next Done = None
 

@@ -10,11 +10,10 @@ ghost use Rattle.word_map.specs.Words.{at_put};
 ghost use Rattle.ft_desk.specs.Declarations.{IsOf};
 ghost use Rattle.ft_desk.specs.Plans.{sites_between};
 ghost use Rattle.ft_desk.specs.Seen.{Seen, after_command, answer};
-ghost use Rattle.word_machine.specs.Commands.{command, effect, subject};
+ghost use Rattle.word_machine.specs.Commands.{changed, command, effect, subject};
 ghost use Rattle.word_machine.specs.Control.{answer_in, control_start, copy_after};
 ghost use Rattle.word_machine.specs.Values.{copies_in};
 ghost use Rattle.control_core.specs.Followed.{order_followed, plan_followed};
-ghost use Rattle.control_core.specs.ChangedSites.{AreChangesFrom};
 ghost use Rattle.control_core.specs.Seated.{Seated, IsFor, IsOpening, control_of};
 
 /// A desk that is that of the job after its first d commands answers the next one as the job's desk
@@ -38,8 +37,7 @@ pub fn a_plan_is_what_the_machine_stores()
 
 /// The sites of a plan are those that the word machine finds, the lowest first.
 pub fn the_sites_of_a_plan_are_those_that_change()
-    ensures { (job : Job) (d : ℕ)
-        → AreChangesFrom job d 0 (sites_between (desk job d) (desk job (suc d)) (funcs job)) }
+    ensures { (job : Job) (d : ℕ) → sites_between (desk job d) (desk job (suc d)) (funcs job) ≡ changed job d }
 {}
 
 /// Control before the first line of a job is control of this job, and the word machine's control at its
