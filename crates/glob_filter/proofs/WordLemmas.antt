@@ -1,11 +1,12 @@
 -- The bits of words: one that is set, and a step of all places.
-use Rattle.std.proofs.Common.{◌≡◌, ◌≢◌, ℕ, zero, suc, ◌+◌, ◌*◌, ◌/◌, ◌%◌, ◌^◌, ◌<◌, ◌≤◌, ◌==◌, ◌&&◌, ◌||◌, min, max, Bool, true, false, List, [], ◌∷◌, length, get_or, set, bit_or, bit_and, w64, refl, sym, ap, ap₂, ◌∙◌, inl, inr, arith, get_or-set_same, get_or-set_other, length-set, replicate}
+use Rattle.std.proofs.Common.{◌≡◌, ◌≢◌, ℕ, zero, suc, ◌+◌, ◌*◌, ◌/◌, ◌%◌, ◌^◌, ◌<◌, ◌≤◌, ◌==◌, ◌&&◌, ◌||◌, Bool, true, false, List, [], ◌∷◌, length, get_or, set, bit_or, bit_and, w64, refl, sym, ap, ap₂, ◌∙◌, inl, inr, arith, get_or-set_same, get_or-set_other, length-set}
 use Rattle.std.specs.Int.{bit_at}
 use Rattle.std.specs.List.{list_all}
 use Rattle.std.proofs.lemmas.Bool.{cases_eq, cases_lt, and_parts, and_from, eq-eqb, ne_eqb, eqb-true}
 use Rattle.std.proofs.lemmas.Nat.{and_le_l}
-use Rattle.std.proofs.lemmas.List.{get_or_past, get_or-replicate, length-replicate}
-use Rattle.std.proofs.lemmas.Nat.Bits.{shr_and_one, bit_at_set_same, bit_at_set_other, bit_at-zero, bit_at-suc, bit_at-lt, bit_at_and, bit_at_or, bit_at_above, bit_at_cat_low}
+use Rattle.std.proofs.lemmas.List.{get_or_past}
+use Rattle.std.proofs.lemmas.Nat.Bits.{shr_and_one, bit_at_set_same, bit_at_set_other, bit_at-zero, bit_at-suc, bit_at_above, bit_at_cat_low}
+use Rattle.ft_base.proofs.Bits.{or_test, and_test, past_test}
 use Rattle.glob_filter.specs.Places.{has_place, has_byte}
 
 -- bit i of the word w
@@ -74,12 +75,6 @@ has_byte-set ws q c y hc room was p b hb =
 
 -- ---- words of which none has a bit
 
-pub has_bit-zeros : (n w i : ℕ) → has_bit (replicate n 0) w i ≡ false
-has_bit-zeros n w i = elim (cases_lt w n) [
-  | inl h ↦ ap (λ y. bit_at y i == 1) (get_or-replicate n w 0 0 h) ∙ ap (λ b. b == 1) (bit_at-zero i)
-  | inr h ↦ ap (λ y. bit_at y i == 1) (get_or_past (replicate n 0) w 0 (omega (arith, length-replicate {A = ℕ} n 0))) ∙ ap (λ b. b == 1) (bit_at-zero i)
-]
-
 zero_at : (xs : List ℕ) → list_all (λ word. word == 0) xs ≡ true → (k : ℕ) → get_or xs k 0 ≡ 0
 zero_at [] h k = refl
 zero_at (x ∷ xs) h zero = eqb-true x 0 (and_parts (x == 0) (list_all (λ word. word == 0) xs) h).0
@@ -90,33 +85,9 @@ has_place-none ws h p = ap (λ y. bit_at y (p % 64) == 1) (zero_at ws h (p / 64)
 
 -- no bit is past the last word
 has_place_past : (ws : List ℕ) (p : ℕ) → length ws ≤ p / 64 → has_place ws p ≡ false
-has_place_past ws p h = ap (λ y. bit_at y (p % 64) == 1) (get_or_past ws (p / 64) 0 h) ∙ ap (λ b. b == 1) (bit_at-zero (p % 64))
+has_place_past ws p h = past_test ws (p / 64) (p % 64) h
 
 -- ---- a step of all places
-
-tests_or : (a b : ℕ) → a < 2 → b < 2 → (max a b == 1) ≡ ((a == 1) || (b == 1))
-tests_or zero zero h k = refl
-tests_or zero (suc zero) h k = refl
-tests_or (suc zero) zero h k = refl
-tests_or (suc zero) (suc zero) h k = refl
-tests_or zero (suc (suc b)) h k = absurd (omega arith)
-tests_or (suc zero) (suc (suc b)) h k = absurd (omega arith)
-tests_or (suc (suc a)) b h k = absurd (omega arith)
-
-tests_and : (a b : ℕ) → a < 2 → b < 2 → (min a b == 1) ≡ ((a == 1) && (b == 1))
-tests_and zero zero h k = refl
-tests_and zero (suc zero) h k = refl
-tests_and (suc zero) zero h k = refl
-tests_and (suc zero) (suc zero) h k = refl
-tests_and zero (suc (suc b)) h k = absurd (omega arith)
-tests_and (suc zero) (suc (suc b)) h k = absurd (omega arith)
-tests_and (suc (suc a)) b h k = absurd (omega arith)
-
-or_test : (a b i : ℕ) → (bit_at (bit_or a b) i == 1) ≡ ((bit_at a i == 1) || (bit_at b i == 1))
-or_test a b i = ap (λ n. n == 1) (bit_at_or a b i) ∙ tests_or _ _ (bit_at-lt a i) (bit_at-lt b i)
-
-and_test : (a b i : ℕ) → (bit_at (bit_and a b) i == 1) ≡ ((bit_at a i == 1) && (bit_at b i == 1))
-and_test a b i = ap (λ n. n == 1) (bit_at_and a b i) ∙ tests_and _ _ (bit_at-lt a i) (bit_at-lt b i)
 
 -- `n << 63` has the lowest bit of n as its highest, and no other
 top_bit : (n : ℕ) → bit_at (n * 2 ^ 63 % 2 ^ 64) 63 ≡ bit_at n 0

@@ -25,26 +25,26 @@ module _ (set : Marks) (from w word : ℕ) (bits : (i : ℕ) → i < 64 → (bit
       let same : 64 * w + (g - 64 * w) ≡ g = omega arith in
       ap (holds set) (sym same) ∙ sym (bits (g - 64 * w) (omega arith)) ∙ ap (λ b. b == 1) none
 
-  -- the next bit is that of the next member
-  pub next_member-some : (bit : ℕ) → from < 64 * w + 64 → IsNextBit word (from - w * 64) bit → IsNextMember set from (w * 64 + bit)
-  next_member-some bit near next =
+  -- the next bit from a place on is that of the next member
+  pub next_member-some : (place bit : ℕ) → place ≡ from - w * 64 → from < 64 * w + 64 → IsNextBit word place bit → IsNextMember set from (w * 64 + bit)
+  next_member-some place bit is-at near next =
       let high = next.high in
       let low = next.low in
       let same : w * 64 + bit ≡ 64 * w + bit = omega arith in
       let is : holds set (w * 64 + bit) ≡ true = ap (holds set) same ∙ sym (bits bit high) ∙ ap (λ b. b == 1) next.set in
       record {
-        low = omega arith;
+        low = omega (arith, is-at, low, near);
         high = holds-within set (w * 64 + bit) is;
         member = is;
         least = λ g l h. elim (cases_lt g (64 * w)) [
           | inl b ↦ below g l b
-          | inr a ↦ no_member g a (omega arith) (next.clear (g - 64 * w) (omega arith) (omega arith))
+          | inr a ↦ no_member g a (omega arith) (next.clear (g - 64 * w) (omega (arith, is-at)) (omega arith))
         ];
       }
 
   -- no bit, no member
-  pub no_member-word : ((i : ℕ) → from - w * 64 ≤ i → bit_at word i ≡ 0) → (g : ℕ) → from ≤ g → g < 64 * (w + 1) → holds set g ≡ false
-  no_member-word none g l h = elim (cases_lt g (64 * w)) [
+  pub no_member-word : (place : ℕ) → place ≡ from - w * 64 → ((i : ℕ) → place ≤ i → bit_at word i ≡ 0) → (g : ℕ) → from ≤ g → g < 64 * (w + 1) → holds set g ≡ false
+  no_member-word place is-at none g l h = elim (cases_lt g (64 * w)) [
     | inl b ↦ below g l b
-    | inr a ↦ no_member g a (omega arith) (none (g - 64 * w) (omega arith))
+    | inr a ↦ no_member g a (omega arith) (none (g - 64 * w) (omega (arith, is-at)))
   ]

@@ -1,5 +1,5 @@
 -- Two sets word by word, against their marks.
-use Rattle.std.proofs.Common.{Vec, ◌≡◌, ℕ, ◌+◌, ◌-◌, ◌*◌, ◌/◌, ◌%◌, ◌^◌, ◌<◌, ◌≤◌, ◌==◌, ◌&&◌, ◌||◌, not, min, max, zero, suc, Bool, true, false, List, length, get_or, map, bit_or, bit_and, w64, refl, sym, ap, ap₂, subst, ◌∙◌, inl, inr, arith, ext_get_or}
+use Rattle.std.proofs.Common.{Vec, ◌≡◌, ℕ, ◌+◌, ◌-◌, ◌*◌, ◌/◌, ◌%◌, ◌^◌, ◌<◌, ◌≤◌, ◌==◌, ◌&&◌, ◌||◌, not, min, zero, suc, Bool, true, false, List, length, get_or, map, bit_or, bit_and, w64, refl, sym, ap, ap₂, subst, ◌∙◌, inl, inr, arith, ext_get_or}
 use Rattle.std.specs.List.{zip}
 use Rattle.std.specs.Vec.{with_items}
 use Rattle.std.proofs.lemmas.List.{with_items_is}
@@ -7,7 +7,8 @@ use Rattle.std.specs.Int.{bit_at}
 use Rattle.std.proofs.lemmas.Bool.{cases_lt}
 use Rattle.std.proofs.lemmas.List.{get_or_read, get_or-map, length-map}
 use Rattle.std.proofs.lemmas.Slice.Zip.{length-zip, get_or-zip}
-use Rattle.std.proofs.lemmas.Nat.Bits.{bit_at-lt, bit_at-zero, bit_at_or, bit_at_and, bit_at_not}
+use Rattle.std.proofs.lemmas.Nat.Bits.{bit_at-lt, bit_at-zero, bit_at_and, bit_at_not}
+use Rattle.ft_base.proofs.Bits.{or_test, and_test}
 use Rattle.site_set.specs.Packed.{has_bit, marks_of, IsPacked, IsLowestBit}
 use Rattle.ft_base.specs.Marks.{Marks, holds, union, difference}
 use Rattle.site_set.specs.Marks.{AreDisjoint, IsLeastCommon}
@@ -15,15 +16,6 @@ use Rattle.site_set.proofs.PackedLemmas.{length-marks_of, holds-marks_of, holds-
 use Rattle.site_set.proofs.MarksLemmas.{and_first, and_second, length-union, holds-union, length-difference, holds-difference}
 
 -- ---- a bit of `|` and of `& !`
-
-tests_or : (a b : ℕ) → a < 2 → b < 2 → (max a b == 1) ≡ ((a == 1) || (b == 1))
-tests_or zero zero h k = refl
-tests_or zero (suc zero) h k = refl
-tests_or (suc zero) zero h k = refl
-tests_or (suc zero) (suc zero) h k = refl
-tests_or zero (suc (suc b)) h k = absurd (omega arith)
-tests_or (suc zero) (suc (suc b)) h k = absurd (omega arith)
-tests_or (suc (suc a)) b h k = absurd (omega arith)
 
 tests_and_not : (a b : ℕ) → a < 2 → b < 2 → (min a (1 - b) == 1) ≡ ((a == 1) && not (b == 1))
 tests_and_not zero zero h k = refl
@@ -35,19 +27,10 @@ tests_and_not (suc zero) (suc (suc b)) h k = absurd (omega arith)
 tests_and_not (suc (suc a)) b h k = absurd (omega arith)
 
 pub bit_or_test : (a b k : ℕ) → b < 2 ^ 64 → k < 64 → (bit_at (bit_or a b) k == 1) ≡ ((bit_at a k == 1) || (bit_at b k == 1))
-bit_or_test a b k fits h = ap (λ n. n == 1) (bit_at_or a b k) ∙ tests_or _ _ (bit_at-lt a k) (bit_at-lt b k)
+bit_or_test a b k fits h = or_test a b k
 
 pub and_not_test : (a b k : ℕ) → b < 2 ^ 64 → k < 64 → (bit_at (bit_and a (2 ^ 64 - 1 - b)) k == 1) ≡ ((bit_at a k == 1) && not (bit_at b k == 1))
 and_not_test a b k fits h = ap (λ n. n == 1) (bit_at_and a (2 ^ 64 - 1 - b) k ∙ ap (min (bit_at a k)) (bit_at_not w64 b k fits h)) ∙ tests_and_not _ _ (bit_at-lt a k) (bit_at-lt b k)
-
-tests_and : (a b : ℕ) → a < 2 → b < 2 → (min a b == 1) ≡ ((a == 1) && (b == 1))
-tests_and zero zero h k = refl
-tests_and zero (suc zero) h k = refl
-tests_and (suc zero) zero h k = refl
-tests_and (suc zero) (suc zero) h k = refl
-tests_and zero (suc (suc b)) h k = absurd (omega arith)
-tests_and (suc zero) (suc (suc b)) h k = absurd (omega arith)
-tests_and (suc (suc a)) b h k = absurd (omega arith)
 
 -- ---- two sets of one size
 
@@ -156,8 +139,7 @@ module _ (size : ℕ) (ws vs : List ℕ) (p : IsPacked size ws) (q : IsPacked si
   -- a number is in both if its bit is in both words
   both_at : (f : ℕ) → (holds (marks_of size ws) f && holds (marks_of size vs) f) ≡ (bit_at (common (f / 64)) (f % 64) == 1)
   both_at f = ap₂ (λ a b. a && b) (holds-marks_of_any size ws f p) (holds-marks_of_any size vs f q)
-      ∙ sym (tests_and _ _ (bit_at-lt (get_or ws (f / 64) 0) (f % 64)) (bit_at-lt (get_or vs (f / 64) 0) (f % 64)))
-      ∙ sym (ap (λ n. n == 1) (bit_at_and (get_or ws (f / 64) 0) (get_or vs (f / 64) 0) (f % 64)))
+      ∙ sym (and_test (get_or ws (f / 64) 0) (get_or vs (f / 64) 0) (f % 64))
 
   off_where_apart : (f : ℕ) → common (f / 64) ≡ 0 → (holds (marks_of size ws) f && holds (marks_of size vs) f) ≡ false
   off_where_apart f e = both_at f ∙ ap (λ n. bit_at n (f % 64) == 1) e ∙ ap (λ n. n == 1) (bit_at-zero (f % 64))

@@ -6,6 +6,7 @@ use Rattle.std.proofs.lemmas.List.{length-replicate, get_or_read, get_or_past, g
 use Rattle.std.proofs.lemmas.Nat.Bits.{bit_at_set_same, bit_at_set_other, bit_at_clear_same, bit_at_clear_other, bit_at-zero, shr_and_one}
 use Rattle.std.proofs.lemmas.List.FromFn.{length-map-range_with_len, get_or-map-range_with_len}
 use Rattle.ft_base.specs.Marks.{empty}
+use Rattle.ft_base.proofs.Bits.{past_test}
 use Rattle.site_set.proofs.MarksLemmas.{length-empty, holds-empty}
 use Rattle.site_set.specs.Packed.{has_bit, marks_of, IsPacked}
 
@@ -28,7 +29,7 @@ word_within size f n e h = omega arith
 
 -- no bit is set past the last word
 pub has_bit_past : (ws : List ℕ) (f : ℕ) → length ws ≤ f / 64 → has_bit ws f ≡ false
-has_bit_past ws f h = ap (λ y. bit_at y (f % 64) == 1) (get_or_past ws (f / 64) 0 h) ∙ ap (λ b. b == 1) (bit_at-zero (f % 64))
+has_bit_past ws f h = past_test ws (f / 64) (f % 64) h
 
 pub has_bit-set_same : (ws : List ℕ) (f x : ℕ) → f / 64 < length ws → has_bit (set ws (f / 64) x) f ≡ (bit_at x (f % 64) == 1)
 has_bit-set_same ws f x h = ap (λ y. bit_at y (f % 64) == 1) (get_or-set_same ws (f / 64) x 0 h)
@@ -111,7 +112,7 @@ module _ (size f : ℕ) (ws : List ℕ) (y : ℕ) (packed : IsPacked size ws) (b
 bit_of_zeros : (n w k : ℕ) → (bit_at (get_or (replicate n 0) w 0) k == 1) ≡ false
 bit_of_zeros n w k = elim (cases_lt w n) [
   | inl h ↦ ap (λ y. bit_at y k == 1) (get_or-replicate n w 0 0 h) ∙ ap (λ b. b == 1) (bit_at-zero k)
-  | inr h ↦ ap (λ y. bit_at y k == 1) (get_or_past (replicate n 0) w 0 (omega (arith, length-replicate {A = ℕ} n 0))) ∙ ap (λ b. b == 1) (bit_at-zero k)
+  | inr h ↦ past_test (replicate n 0) w k (omega (arith, length-replicate {A = ℕ} n 0))
 ]
 
 pub IsPacked-zeros : (size n : ℕ) → size < 2 ^ 32 → n ≡ (size + 63) / 64 → IsPacked size (replicate n 0)

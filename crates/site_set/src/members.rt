@@ -15,9 +15,16 @@ impl SiteSet {
         ensures none { IfNone result ((f : ℕ) → from ≤ f → holds self.now f ≡ false) }
         ensures size { length self.now < 2 ^ 32 }
     {
-        // In the first word, the bits below `from` are passed over.
-        for w in from / 64..self.size().div_ceil(64) {
-            if let Some(bit) = next_bit(self.word(w), from.saturating_sub(w * 64)) {
+        if from >= self.size() {
+            return None;
+        }
+        // Mostly it is in the same word as `from`.
+        let first = from / 64;
+        if let Some(bit) = next_bit(self.word(first), from % 64) {
+            return Some(first * 64 + bit);
+        }
+        for w in first + 1..self.size().div_ceil(64) {
+            if let Some(bit) = next_bit(self.word(w), 0) {
                 return Some(w * 64 + bit);
             }
         }
@@ -33,8 +40,16 @@ impl SiteSet {
         ensures none { IfNone result ((f : ℕ) → from ≤ f → (holds one.now f || holds other.now f) ≡ false) }
         ensures size { length one.now < 2 ^ 32 }
     {
-        for w in from / 64..one.size().div_ceil(64) {
-            if let Some(bit) = next_bit(one.word(w) | other.word(w), from.saturating_sub(w * 64)) {
+        if from >= one.size() {
+            return None;
+        }
+        // Mostly it is in the same word as `from`.
+        let first = from / 64;
+        if let Some(bit) = next_bit(one.word(first) | other.word(first), from % 64) {
+            return Some(first * 64 + bit);
+        }
+        for w in first + 1..one.size().div_ceil(64) {
+            if let Some(bit) = next_bit(one.word(w) | other.word(w), 0) {
                 return Some(w * 64 + bit);
             }
         }
