@@ -1,5 +1,5 @@
 -- What is added to the lines of control that the program holds.
-use Rattle.std.proofs.Common.{◌≡◌, ℕ, suc, ◌+◌, List, [], ◌∷◌, ◌++◌, length, map, refl, ap, ap₂, ◌∙◌}
+use Rattle.std.proofs.Common.{◌≡◌, ℕ, suc, ◌+◌, List, [], ◌∷◌, ◌++◌, length, map, Option, Some, None, refl, ap, ap₂, ◌∙◌}
 use Rattle.ft_base.specs.declared.item.Answer.{Answer}
 use Rattle.ft_base.specs.Job.{Command as PlainCommand, Ctl as PlainCtl, Run as PlainRun, ModuleRow}
 use Rattle.ft_desk.specs.declared.command.Command.{Command}
@@ -13,6 +13,7 @@ use Rattle.module_table.specs.declared.line.ModLine.TheVariants.{Plain, Load, Un
 use Rattle.module_table.specs.Lines.{Between, answer_to, commands_for}
 use Rattle.module_table.specs.Made.{line_of, Appends}
 use Rattle.ft_script.specs.Expansion.{Expansion, runs_of, rows_with, rows_for}
+use Rattle.ft_script.specs.Late.{rows_told, IsTold}
 
 -- commands that are added as lines
 pub lines-runs : (tasks : ℕ) (old : List Ctl) (cs : List Command) → lines_of tasks (old ++ map Run cs) ≡ lines_of tasks old ++ runs_of (map (command_of tasks) cs)
@@ -33,12 +34,15 @@ rows-tasks tasks (Plain c) answer first last = refl
 rows-tasks tasks (Load m) answer first last = refl
 rows-tasks tasks (Unload m) answer first last = refl
 
+told-tasks : (tasks : ℕ) (line : ModLine) (answer : Option Answer) (first last : ℕ) → rows_told (line_of 0 line) answer first last ≡ rows_told (line_of tasks line) answer first last
+told-tasks tasks line None first last = refl
+told-tasks tasks line (Some answer) first last = rows-tasks tasks line answer first last
+
 -- the row that is added is the line's
-pub row-is : (known : Between) (tasks : ℕ) (line : ModLine) (answer : Answer) (first last : ℕ) → answer ≡ answer_to known (line_of tasks line) → first ≡ suc known.commands
-    → last ≡ known.commands + length (commands_for known (line_of tasks line)) → rows_with (line_of 0 line) answer first last ≡ rows_for known (line_of tasks line)
-row-is known tasks line answer first last e1 e2 e3 =
-    rows-tasks tasks line answer first last ∙ ap (λ (a : Answer). rows_with (line_of tasks line) a first last) e1
-    ∙ ap₂ (rows_with (line_of tasks line) (answer_to known (line_of tasks line))) e2 e3
+pub row-told : (known : Between) (tasks : ℕ) (line : ModLine) (answer : Option Answer) (first last : ℕ) → IsTold known (line_of tasks line) answer → first ≡ suc known.commands
+    → last ≡ known.commands + length (commands_for known (line_of tasks line)) → rows_told (line_of 0 line) answer first last ≡ rows_for known (line_of tasks line)
+row-told known tasks line answer first last told e1 e2 =
+    told-tasks tasks line answer first last ∙ told first last ∙ ap₂ (rows_with (line_of tasks line) (answer_to known (line_of tasks line))) e1 e2
 
 -- what lines come to, by its parts
 abbrev expansion : Between → List PlainCtl → List ModuleRow → List ℕ → Expansion

@@ -25,5 +25,6 @@ pub mod DeskOfJob
 pub mod Expanding
 pub mod HiddenModules
 pub mod KeptReader
+pub mod Later
 pub mod LoadedLaws
 pub mod ReadForms

@@ -2,6 +2,7 @@ pub mod FaultText
 pub mod Levels
 pub mod Above
 pub mod Expansion
+pub mod Late
 pub mod Causes
 pub mod Script
 pub mod Hidden

@@ -8,6 +8,7 @@ ghost use Rattle.module_table.specs.Lines.{opening_of};
 ghost use Rattle.ft_script.specs.Expansion.{runs_of};
 
 use crate::declaration::ScriptCtl;
+use crate::late::LateModules;
 use ft_base::Answer;
 use ft_desk::Command;
 use ft_job::{Ctl, ModRow};
@@ -21,7 +22,7 @@ use word_map::Shape;
 #[derive(Drop)]
 pub struct Expansion {
     /// What is known after them: which modules are loaded, and the desk.
-    modules: Modules,
+    modules: LateModules,
     /// The lines of control that they come to.
     ctls: Vec<Ctl>,
     /// The loads and unloads.
@@ -59,6 +60,7 @@ impl Expansion {
     ghost use Rattle.func_table.specs.Modules.{modules_in};
     ghost use Rattle.module_table.specs.Reached.{IsLineIn};
     ghost use Rattle.ft_script.specs.Expansion.{rows_with, with_line, expanded};
+    ghost use Rattle.ft_script.specs.Late.{rows_told};
     ghost use Rattle.ft_script.specs.Kept.{expansion_in, script_ctl_of, IsCtlIn};
 
     /// What there is before the first line, with these modules absent.
@@ -81,7 +83,7 @@ impl Expansion {
         let modules = Modules::new(alloc, table, specs, shape, absent).map_err(|_| AllocError)?;
         let ctls = opening_lines(alloc, &modules)?;
         Ok(Expansion {
-            modules,
+            modules: LateModules::new(alloc, modules),
             ctls,
             rows: Vec::new(alloc),
             ends: Vec::new(alloc),
@@ -151,6 +153,24 @@ impl Expansion {
         Ok(())
     }
 
+    /// Adds the row of a line whose answer is told, if it loads or unloads a module.
+    fn add_row_told(
+        &mut self,
+        line: &ModLine,
+        answer: Option<Answer>,
+        first: u32,
+        last: u32,
+    ) -> Result<(), AllocError>
+        ensures rows { OnOk result (map row_of self.new.rows.items ≡ map row_of self.old.rows.items
+            ++ rows_told (line_of 0 line.now) answer first last) }
+        ensures rest { OnOk result (self.new ≡ record self.old { rows = self.new.rows }) }
+    {
+        match answer {
+            Some(answer) => self.add_row(line, answer, first, last),
+            None => Ok(()),
+        }
+    }
+
     /// Adds a command, a load or an unload.
     fn add_line(&mut self, alloc: Global, line: &ModLine) -> Result<(), AllocError>
         requires line { IsLineIn self.old.modules.declared (length self.old.modules.loaded) (line_of self.old.modules.declared.tasks line.now) }
@@ -160,13 +180,10 @@ impl Expansion {
     {
         let first = self.modules.commands() + 1;
         let mut commands = Vec::new(alloc);
-        let answer = self
-            .modules
-            .expand(line, &mut commands)
-            .map_err(|_| AllocError)?;
+        let answer = self.modules.expand(line, &mut commands)?;
         let last = self.modules.commands();
         push_runs(&mut self.ctls, commands)?;
-        self.add_row(line, answer, first, last)?;
+        self.add_row_told(line, answer, first, last)?;
         self.ends.push(last)?;
         Ok(())
     }

@@ -7,7 +7,7 @@
 //! from the lines below. A text is a script if no line has a cause and its tasks and control can all
 //! come to their ends (`script_waits`), and no function of a module is needed when that may be unloaded (`module_coverage`).
 //! Then its job is the list of what its lines mean; lines of control come to the commands that carry
-//! them out (`module_table`).
+//! them out (`module_table`), and are planned on a desk for that only if it makes a difference (`late`).
 //!
 //! Proved: [`read_script`] gives exactly the job of each script, and of each other text the lowest
 //! line that has a cause and the first of its causes; out of memory is the one other answer. A text
@@ -16,7 +16,7 @@
 //! trampoline slots there are has the same job in each version that accepts it
 //! ([`a_version_changes_no_more_than_limits`]). Only tested, in
 //! `ft_script_tests`: that the largest scripts are read when there is memory, and that reading takes
-//! time in proportion to the bytes and to what each line of control plans.
+//! time in proportion to the bytes and to what the lines of control plan.
 #![tactic(auto)]
 
 mod declaration;
@@ -24,6 +24,7 @@ mod expansion;
 mod faults;
 mod form;
 mod last_act;
+mod late;
 mod laws;
 mod levels;
 mod reader;

@@ -149,9 +149,10 @@ fn make_job(alloc: Global, reader: Reader, cpus: Vec<CpuPlan>) -> Result<Job, Al
 /// its acts and control through its lines as far as they can, and the lowest line that is left
 /// waiting is refused. `Unloaded` comes only if there is no such line either: the module of a
 /// function may be unloaded when a call of the script or a user needs it. `NoMemory`, with the line
-/// 0, says that the program is out of memory. Reading takes time in proportion to the bytes; but
-/// each line of control is planned on a desk besides, unless it is in a lane, which takes time in
-/// proportion to the functions and the users.
+/// 0, says that the program is out of memory. Reading takes time in proportion to the bytes. But a
+/// line that is in no lane and loads or unloads a module or edits a notrace set is planned on a desk
+/// besides, with all commands above it, which takes for each of them time in proportion to the
+/// functions and the users.
 pub fn read_script(alloc: Global, text: &[u8]) -> Result<Job, ScriptFault>
     requires { length text.now ≤ INPUT_BYTES }
     ensures job { IfOk result (IsJobOf text.now) }
