@@ -3,3 +3,4 @@ pub mod Guarded
 pub mod Inversions
 pub mod Paid
 pub mod Bounded
+pub mod Stacks
