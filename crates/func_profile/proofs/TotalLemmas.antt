@@ -105,7 +105,7 @@ hits-rows u past (suc n) =
 
 -- ## histories
 
-filter-long : (p : Item → Bool) (items : List Item) → length (filter p (reverse items)) ≡ length (filter p items)
+pub filter-long : (p : Item → Bool) (items : List Item) → length (filter p (reverse items)) ≡ length (filter p items)
 filter-long p [] = refl
 filter-long p (item ∷ items) =
     ap (λ xs. length (filter p xs)) (reverse-append (item ∷ []) items)

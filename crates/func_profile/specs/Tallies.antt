@@ -8,6 +8,7 @@ use Rattle.ft_base.specs.declared.number.FuncNo.{FuncNo}
 use Rattle.ft_base.specs.declared.item.Item.{Item}
 use Rattle.ft_hist.specs.Past.{entered}
 use Rattle.func_profile.specs.declared.profile.ProfileRow.{ProfileRow}
+use Rattle.func_profile.specs.declared.table.Table.{Table}
 use Rattle.func_profile.specs.declared.tally.Tally.{Tally}
 use Rattle.func_profile.specs.Rows.{row_of}
 
@@ -31,7 +32,11 @@ with_hit row = record row { hits = row.hits + 1 }
 abbrev pub with_time : ℕ → ProfileRow → ProfileRow
 with_time more row = record row { time = row.time + more }
 
+-- a table has the row of each of the first functions
+abbrev pub IsTable : ℕ → ℕ → List Item → Table → Type 0
+IsTable u funcs past table = table.rows.items ≡ map (row_of u past) (range_with_len 0 funcs)
+
 -- the functions of the calls that were entered, and the row of each function
 pub record IsTally (u funcs : ℕ) (past : List Item) (t : Tally) : Type 0 where
   pub functions : (call : CallNo) → option_map (λ f. f.0) (function_at t call) ≡ option_map (λ e. e.func) (entered call past)
-  pub rows : t.rows.items ≡ map (row_of u past) (range_with_len 0 funcs)
+  pub table : IsTable u funcs past t.table

@@ -12,12 +12,15 @@
 //! hits add up to all the user's entry callbacks. Only tested, in `history_tests`: that memory
 //! is found.
 //!
-//! A history is gone through once. A map has the functions of the calls so far, and a table the row
-//! of each function.
+//! A history is gone through once. A map has the functions of the calls so far, and a [`Table`] the row
+//! of each function. What takes the items one by one, and knows the function of each call, keeps a table
+//! itself.
 #![tactic(auto)]
 
 pub mod laws;
 mod profile;
+mod table;
 mod tally;
 
 pub use profile::{ProfileRow, rows};
+pub use table::Table;

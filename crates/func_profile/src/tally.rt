@@ -7,6 +7,7 @@ ghost use Rattle.ft_base.specs.declared.number.CallNo.{CallNo};
 ghost use Rattle.func_profile.specs.Rows.{row_of, has_hit, HasRows};
 
 use crate::profile::ProfileRow;
+use crate::table::Table;
 use ft_base::{CallNo, FuncNo, Item, NoMemory, UserNo};
 use ft_hist::History;
 use std::alloc::{AllocError, Global};
@@ -17,7 +18,7 @@ use std::collections::HashMap;
 #[derive(Drop)]
 pub(crate) struct Tally {
     functions: HashMap<(u32, u32), FuncNo>,
-    rows: Vec<ProfileRow>,
+    table: Table,
 }
 
 impl Tally {
@@ -28,13 +29,11 @@ impl Tally {
     pub(crate) fn new(alloc: Global, funcs: u32) -> Result<Tally, NoMemory>
         ensures { IfOk result (λ t. (u : ℕ) → IsTally u funcs [] t) }
     {
-        match no_hits(alloc, funcs) {
-            Ok(rows) => Ok(Tally {
-                functions: HashMap::new(alloc),
-                rows,
-            }),
-            Err(_) => Err(NoMemory),
-        }
+        let table = Table::new(alloc, funcs)?;
+        Ok(Tally {
+            functions: HashMap::new(alloc),
+            table,
+        })
     }
 
     /// Takes in the item at a place, after those before it.
@@ -46,16 +45,16 @@ impl Tally {
     ) -> Result<(), NoMemory>
         requires place { place < length history.now.items }
         requires size { length history.now.items < 2 ^ 32 }
-        requires calls { HasRows (length self.old.rows.items) history.now.items }
-        requires so_far { IsTally user.0 (length self.old.rows.items) (past_at place history.now.items) self.old }
-        ensures { OnOk result (IsTally user.0 (length self.old.rows.items) (past_at (place + 1) history.now.items) self.new) }
+        requires calls { HasRows (length self.old.table.rows.items) history.now.items }
+        requires so_far { IsTally user.0 (length self.old.table.rows.items) (past_at place history.now.items) self.old }
+        ensures { OnOk result (IsTally user.0 (length self.old.table.rows.items) (past_at (place + 1) history.now.items) self.new) }
     {
         match history.item(place) {
             Item::Enter { call, func, .. } => self.enter(*call, *func),
             Item::Back { call, user: whose } => {
                 if *whose == user {
                     let func = self.function(*call);
-                    self.add_hit(func);
+                    self.table.add_hit(func);
                 }
                 Ok(())
             }
@@ -66,7 +65,7 @@ impl Tally {
             } => {
                 if *whose == user {
                     let func = self.function(*call);
-                    self.add_time(func, place - *entry);
+                    self.table.add_time(func, place - *entry);
                 }
                 Ok(())
             }
@@ -76,18 +75,16 @@ impl Tally {
 
     /// The rows with a hit.
     pub(crate) fn into_rows(self) -> Vec<ProfileRow>
-        ensures { result.items ≡ filter has_hit self.rows.items }
+        ensures { result.items ≡ filter has_hit self.table.rows.items }
     {
-        let mut rows = self.rows;
-        rows.retain(|row| row.hits > 0);
-        rows
+        self.table.into_rows()
     }
 
     /// Keeps the function of a call.
     fn enter(&mut self, call: CallNo, func: FuncNo) -> Result<(), NoMemory>
         ensures functions { OnOk result ((c : CallNo) → function_at self.new c
             ≡ (if same_call call c then Some func else function_at self.old c)) }
-        ensures rows { self.new.rows ≡ self.old.rows }
+        ensures table { self.new.table ≡ self.old.table }
     {
         match self.functions.insert((call.task.0, call.n), func) {
             Ok(_) => Ok(()),
@@ -105,37 +102,4 @@ impl Tally {
             None => unreachable!(),
         }
     }
-
-    /// Counts a hit of a function.
-    fn add_hit(&mut self, func: FuncNo)
-        requires func { func.0 < length self.old.rows.items }
-        requires room { (row_at self.old.rows.items func.0).hits + 1 < 2 ^ 32 }
-        ensures functions { self.new.functions ≡ self.old.functions }
-        ensures rows { self.new.rows.items ≡ slice_set self.old.rows.items func.0 (with_hit (row_at self.old.rows.items func.0)) }
-    {
-        self.rows[func.0 as usize].hits += 1;
-    }
-
-    /// Adds to the time of a function.
-    fn add_time(&mut self, func: FuncNo, time: u32)
-        requires func { func.0 < length self.old.rows.items }
-        requires room { (row_at self.old.rows.items func.0).time + time < 2 ^ 64 }
-        ensures functions { self.new.functions ≡ self.old.functions }
-        ensures rows { self.new.rows.items ≡ slice_set self.old.rows.items func.0 (with_time time (row_at self.old.rows.items func.0)) }
-    {
-        self.rows[func.0 as usize].time += u64::from(time);
-    }
-}
-
-/// Rows without hits for the functions below `funcs`.
-fn no_hits(alloc: Global, funcs: u32) -> Result<Vec<ProfileRow>, AllocError>
-    ensures { IfOk result (λ rows. rows.items ≡ map (row_of 0 []) (range_with_len 0 funcs)) }
-{
-    (0..funcs)
-        .map(|f| ProfileRow {
-            func: FuncNo(f),
-            hits: 0,
-            time: 0,
-        })
-        .collect(alloc)
 }

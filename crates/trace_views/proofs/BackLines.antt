@@ -1,6 +1,6 @@
 -- The lines of all entry callbacks by place, and how that of a place is found among them.
-use Rattle.std.proofs.Common.{◌≡◌, ℕ, zero, suc, ◌+◌, ◌-◌, ◌<◌, ◌≤◌, true, false, List, [], ◌∷◌, ◌++◌, length, get_or, nat_lt, refl, sym, ap, ◌∙◌, subst, arith, inl, inr}
-use Rattle.std.specs.Prelude.{◌⊎◌, Contains}
+use Rattle.std.proofs.Common.{◌≡◌, ℕ, zero, suc, ◌+◌, ◌-◌, ◌<◌, ◌≤◌, true, false, List, [], ◌∷◌, ◌++◌, length, get_or, nat_lt, refl, sym, ap, ◌∙◌, arith, inl, inr}
+use Rattle.std.specs.Prelude.{◌⊎◌, Contains, slice_get, Some}
 use Rattle.std.specs.List.{AllByRecursion as Each}
 use Rattle.std.specs.List.Sorted.{IsNonDecreasingBy, IsPartitionPoint}
 use Rattle.std.proofs.lemmas.Bool.{cases_lt}
@@ -8,13 +8,18 @@ use Rattle.std.proofs.lemmas.Bool.Decides.{nat_tests}
 use Rattle.std.proofs.lemmas.List.{get_or_append_left, length-append}
 use Rattle.std.proofs.lemmas.List.Sorted.{IsNonDecreasingBy-push}
 use Rattle.std.proofs.Math.Seq.{get_or-append_seam}
+use Rattle.ft_base.specs.declared.number.CallNo.{CallNo}
+use Rattle.ft_base.specs.declared.number.UserNo.{UserNo}
 use Rattle.ft_base.specs.declared.item.Item.{Item}
+use Rattle.ft_base.specs.declared.item.Item.TheVariants.{Back}
+use Rattle.ft_base.specs.Items.{kind_of}
 use Rattle.ft_base.specs.Job.{Job}
 use Rattle.ft_base.proofs.Small.{Each-weaker, Each-snoc, false_true}
 use Rattle.ft_hist.proofs.ToldExits.{each-of}
 use Rattle.ring_rules.specs.Fold.{Rings}
 use Rattle.ring_rules.proofs.Lists.{get-some}
 use Rattle.trace_views.specs.declared.function.FunctionLine.{FunctionLine}
+use Rattle.trace_views.specs.ItemCounts.{is_back}
 use Rattle.trace_views.specs.KeptCalls.{function_line_text}
 use Rattle.trace_views.specs.RingLines.{AreBackLines, HasEntries, HasLine, HaveTexts, IsLineAt, is_back_at}
 use Rattle.trace_views.specs.RingsText.{entry_text}
@@ -70,6 +75,14 @@ module _ (job : Job) (items : List Item) (p : ℕ) (lines : List FunctionLine) (
       by q entry (inr le) below =
           let same : p ≡ q = omega (arith, le, below) in
           false_true (sym other ∙ ap (is_back_at items) same ∙ entry)
+
+-- another item is no entry callback
+pub no-back : (items : List Item) (p : ℕ) (item : Item) → slice_get items p ≡ Some item → ((call : CallNo) (u : UserNo) → item ≡ Back call u → ⊥) → is_back_at items p ≡ false
+no-back items p item here other = rw here (by item other)
+  where
+    by : (x : Item) → ((call : CallNo) (u : UserNo) → x ≡ Back call u → ⊥) → is_back (kind_of x) ≡ false
+    by (Back call u) h = absurd (h call u refl)
+    by _ h = refl
 
 -- below the first place there are none
 pub at-first : (job : Job) (items : List Item) → AreBackLines job items 0 []

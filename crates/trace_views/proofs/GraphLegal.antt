@@ -15,7 +15,7 @@ use Rattle.trace_views.proofs.TopCalls.{named, fresh, taken, top-back, top-exit}
 
 module _ (job : Job) where
   -- an exit comes after its entry callback
-  exit-later : (call : CallNo) (v : UserNo) (entry : ℕ) (past : List Item) → IsLegalPast job (Exit call v entry ∷ past) → entry < length past
+  pub exit-later : (call : CallNo) (v : UserNo) (entry : ℕ) (past : List Item) → IsLegalPast job (Exit call v entry ∷ past) → entry < length past
   unfolding IsLegal
   exit-later call v entry past l =
       let items : List Item = reverse past ++ Exit call v entry ∷ [] in

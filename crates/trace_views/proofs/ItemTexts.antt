@@ -1,7 +1,7 @@
 -- The texts of the items of a history, one after the other.
 use Rattle.std.proofs.Common.{◌≡◌, ℕ, zero, suc, ◌+◌, ◌≤◌, List, [], ◌∷◌, ◌++◌, Some, length, take, drop, refl, sym, ap, ◌∙◌, subst, append_assoc, append-nil, add-one}
 use Rattle.std.specs.Prelude.{slice_get, reverse}
-use Rattle.std.proofs.lemmas.List.{drop_all, reverse-append, take-append-drop}
+use Rattle.std.proofs.lemmas.List.{drop_all, reverse-append, reverse-reverse, take-append-drop}
 use Rattle.ft_base.specs.declared.item.Item.{Item}
 use Rattle.ft_base.specs.Job.{Job}
 use Rattle.ft_hist.specs.Rules.{IsLegal, IsLegalPast}
@@ -47,3 +47,20 @@ module _ (items : List Item) (p : ℕ) (x : Item) (here : slice_get items p ≡ 
 pub texts-all : (part : List Item → Item → List Item → List ℕ) (items : List Item) (p : ℕ) (t all : List ℕ) → length items ≤ p
     → t ++ item_texts part (past_at p items) (drop p items) ≡ all → t ≡ all
 texts-all part items p t all past so_far = let a : t ++ [] ≡ all = rw (drop_all p items past) at so_far in sym (append-nil t) ∙ a
+
+-- one more text, of items the latest first, where what an item prints is not told what comes after it
+pub texts-next : (part : List Item → Item → List Item → List ℕ) → ((past : List Item) (item : Item) (a b : List Item) → part past item a ≡ part past item b)
+    → (past : List Item) (item : Item) → item_texts part [] (reverse (item ∷ past)) ≡ item_texts part [] (reverse past) ++ part past item []
+texts-next part alike past item =
+    ap (λ (xs : List Item). item_texts part [] xs) (reverse-append (item ∷ []) past)
+    ∙ last [] (reverse past)
+    ∙ ap (λ (xs : List Item). item_texts part [] (reverse past) ++ part xs item []) (append-nil (reverse (reverse past)) ∙ reverse-reverse past)
+  where
+    last : (before xs : List Item) → item_texts part before (xs ++ item ∷ []) ≡ item_texts part before xs ++ part (reverse xs ++ before) item []
+    last before [] = append-nil (part before item [])
+    last before (x ∷ xs) =
+        ap (λ (t : List ℕ). t ++ item_texts part (x ∷ before) (xs ++ item ∷ [])) (alike before x (xs ++ item ∷ []) xs)
+        ∙ ap (λ (t : List ℕ). part before x xs ++ t) (last (x ∷ before) xs)
+        ∙ sym (append_assoc (part before x xs) (item_texts part (x ∷ before) xs) (part (reverse xs ++ x ∷ before) item []))
+        ∙ ap (λ (ys : List Item). (part before x xs ++ item_texts part (x ∷ before) xs) ++ part ys item [])
+        (sym (ap (λ (zs : List Item). zs ++ before) (reverse-append (x ∷ []) xs) ∙ append_assoc (reverse xs) (x ∷ []) before))

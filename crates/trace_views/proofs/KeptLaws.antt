@@ -9,7 +9,7 @@ use Rattle.ft_base.specs.declared.number.UserNo.{UserNo}
 use Rattle.ft_base.specs.declared.context.Ctx.{Ctx}
 use Rattle.ft_base.specs.declared.item.Ran.{Ran}
 use Rattle.ft_base.specs.declared.item.Item.{Item}
-use Rattle.ft_base.specs.declared.item.Item.TheVariants.{Enter, Back, Body, Ret}
+use Rattle.ft_base.specs.declared.item.Item.TheVariants.{Enter, Back, Body, Exit, Ret}
 use Rattle.ft_base.specs.Same.{same_call}
 use Rattle.ft_base.specs.Job.{Job}
 use Rattle.ft_base.proofs.Small.{==-refl, and_both, or-false_both, Each-weaker}
@@ -21,12 +21,12 @@ use Rattle.ft_hist.proofs.Nesting.{top_of}
 use Rattle.ft_hist.proofs.Numbers.{moved, some-run}
 use Rattle.ft_hist.proofs.RunLaws.{some_inj, sound}
 use Rattle.ft_hist.proofs.WindowLaws.{entry_of-more}
-use Rattle.trace_views.specs.declared.function.OpenCall.{OpenCall}
+use Rattle.trace_views.specs.declared.open_calls.OpenCall.{OpenCall}
 use Rattle.trace_views.specs.FunctionText.{body_of, running, parent_word}
 use Rattle.trace_views.specs.KeptCalls.{func_no, kept_call, HasOpenCalls, runs, parent_name}
 use Rattle.trace_views.specs.Words.{function_word}
 use Rattle.trace_views.specs.TaskStacks.{stack_at, with_top}
-use Rattle.trace_views.proofs.TopCalls.{put, fresh-open, taken, top-body, IsTop, others, of-task, below-other, named, top-back, Linked, linked}
+use Rattle.trace_views.proofs.TopCalls.{put, fresh-open, taken, top-body, IsTop, others, of-task, below-other, named, top-back, top-exit, Linked, linked}
 
 map-ext : {A B : Type 0} (f g : A → B) (xs : List A) → Each (λ x. f x ≡ g x) xs → map f xs ≡ map g xs
 map-ext f g [] h = refl
@@ -129,6 +129,9 @@ module _ (job : Job) (past : List Item) (stacks : List (List OpenCall)) (told : 
 
   pub top-at-back : (call : CallNo) (u : UserNo) → IsLegalPast job (Back call u ∷ past) → slice_get (stack_at stacks call.task.0) 0 ≡ Some (kept_call past call)
   top-at-back call u l = ap (λ (os : List OpenCall). slice_get os 0) (stack-top call (Back call u ∷ past) (top-back job call u past l))
+
+  pub top-at-exit : (call : CallNo) (u : UserNo) (entry : ℕ) → IsLegalPast job (Exit call u entry ∷ past) → slice_get (stack_at stacks call.task.0) 0 ≡ Some (kept_call past call)
+  top-at-exit call u entry l = ap (λ (os : List OpenCall). slice_get os 0) (stack-top call (Exit call u entry ∷ past) (top-exit job call u entry past l))
 
   pub below-at-back : (call : CallNo) (u : UserNo) → IsLegalPast job (Back call u ∷ past) → slice_get (stack_at stacks call.task.0) 1 ≡ option_map (kept_call past) (entry_of call past).caller
   unfolding IsLegalPast

@@ -1,12 +1,12 @@
 pub mod StackSteps
 pub mod CountLaws
 pub mod NumberedTexts
-pub mod ProfileLines
 pub mod EnabledLines
 pub mod ReturnedLaws
 pub mod TopCalls
 pub mod ItemTexts
 pub mod KeptLaws
+pub mod FollowLaws
 pub mod FunctionLines
 pub mod Results
 pub mod LeafLaws
@@ -19,6 +19,10 @@ pub mod PartLaws
 pub mod GraphUsers
 pub mod TaskLists
 pub mod LineTexts
+pub mod FunctionTakes
+pub mod ProfileTakes
+pub mod ProfileCounts
+pub mod ProfileLines
 pub mod LineLaws
 pub mod BackLines
 pub mod RingEntries

@@ -1,13 +1,13 @@
 -- The places that legal rings hold are those of entry callbacks.
-use Rattle.std.proofs.Common.{◌≡◌, ◌⊎◌, ℕ, zero, suc, ◌+◌, ◌-◌, ◌<◌, ◌≤◌, Bool, true, false, List, [], ◌∷◌, ◌++◌, length, drop, cond, Some, refl, sym, ap, ◌∙◌, subst, arith, inl, inr}
-use Rattle.std.specs.Prelude.{slice_get, if◌then◌else◌}
+use Rattle.std.proofs.Common.{◌≡◌, ℕ, zero, suc, ◌-◌, Bool, true, false, List, [], ◌∷◌, length, drop, cond, Some, refl, sym, ap, ◌∙◌, subst, arith, inl, inr}
+use Rattle.std.specs.Prelude.{slice_get}
 use Rattle.std.specs.List.{AllByRecursion as Each}
 use Rattle.std.proofs.lemmas.Option.{same_Some}
 use Rattle.ft_base.specs.declared.item.Item.{Item}
 use Rattle.ft_base.specs.declared.item.Item.TheVariants.{Back}
 use Rattle.ft_base.specs.declared.item.Stamped.{Stamped}
 use Rattle.ft_base.specs.Items.{kind_of}
-use Rattle.ft_base.proofs.Small.{Each-weaker, false_true}
+use Rattle.ft_base.proofs.Small.{false_true}
 use Rattle.ring_rules.specs.Plan.{TracePlan}
 use Rattle.ring_rules.specs.Hits.{is_traced}
 use Rattle.ring_rules.specs.Fold.{Ring, Rings}

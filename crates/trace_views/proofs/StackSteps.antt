@@ -1,14 +1,14 @@
 -- A list of stacks after one of them has changed. Each is kept with its top at the end.
-use Rattle.std.proofs.Common.{◌≡◌, ℕ, ◌<◌, ◌-◌, Bool, true, List, [], ◌∷◌, ◌++◌, Option, Some, None, get_or, length, drop, refl, sym, ap, ◌∙◌, subst, arith}
-use Rattle.std.specs.Prelude.{map, set, reverse, if◌then◌else◌}
+use Rattle.std.proofs.Common.{◌≡◌, ℕ, zero, suc, ◌<◌, ◌≤◌, ◌-◌, Bool, true, List, [], ◌∷◌, ◌++◌, Option, Some, None, get_or, length, drop, refl, sym, ap, ◌∙◌, subst, arith}
+use Rattle.std.specs.Prelude.{map, set, reverse, slice_get, if◌then◌else◌}
 use Rattle.std.specs.Option.{option_to_list}
-use Rattle.std.proofs.lemmas.List.{map-set, get_or-map, reverse-append, length-map, length-append}
+use Rattle.std.proofs.lemmas.List.{map-set, get_or-map, get_or-reverse, reverse-append, length-map, length-append, length-reverse}
 use Rattle.std.proofs.Math.Seq.{set-append_seam}
 use Rattle.trace_views.specs.TaskStacks.{with_top}
 
 module _ {A : Type 0} where
   -- the top is put
-  reverse-push : (xs : List A) (x : A) → reverse (xs ++ x ∷ []) ≡ x ∷ reverse xs
+  pub reverse-push : (xs : List A) (x : A) → reverse (xs ++ x ∷ []) ≡ x ∷ reverse xs
   reverse-push xs x = reverse-append xs (x ∷ [])
 
   pub reverse-pushed : (xs ys : List A) (x : A) (b : Bool) → b ≡ true → ys ≡ (if b then xs ++ x ∷ [] else xs) → reverse ys ≡ x ∷ reverse xs
@@ -40,9 +40,35 @@ module _ {A : Type 0} where
   empty-top [] x e = refl
   empty-top (y ∷ ys) x e = absurd (e (omega arith))
 
+  pub some-at : (ys : List A) (k : ℕ) (y : A) → k < length ys → get_or ys k y ≡ y → slice_get ys k ≡ Some y
+  some-at [] k y lt h = absurd (omega (arith, lt))
+  some-at (z ∷ ys) zero y lt h = ap (λ (w : A). Some w) h
+  some-at (z ∷ ys) (suc k) y lt h = some-at ys k y (omega (arith, lt)) h
+
+  pub none-at : (ys : List A) (k : ℕ) → (k < length ys → ⊥) → slice_get ys k ≡ None
+  none-at [] k h = refl
+  none-at (z ∷ ys) zero h = absurd (h (omega arith))
+  none-at (z ∷ ys) (suc k) h = none-at ys k (λ lt. h (omega (arith, lt)))
+
+  pub item-at : (ys : List A) (k : ℕ) (d : A) → k < length ys → slice_get ys k ≡ Some (get_or ys k d)
+  item-at [] k d lt = absurd (omega (arith, lt))
+  item-at (z ∷ ys) zero d lt = refl
+  item-at (z ∷ ys) (suc k) d lt = item-at ys k d (omega (arith, lt))
+
+  -- which of the elements the first ones of the reversed list are
+  pub first-is : (xs : List A) (n : ℕ) (x : A) → n ≡ length xs - 1 → 0 < length xs → x ≡ get_or xs n x → slice_get (reverse xs) 0 ≡ Some x
+  first-is xs n x e some here =
+      some-at (reverse xs) 0 x (let long = length-reverse xs in omega (arith, long, some))
+      (get_or-reverse xs 0 x some ∙ ap (λ m. get_or xs m x) (let f : length xs - 1 - 0 ≡ n = omega (arith, e) in f) ∙ sym here)
+
+  pub second-is : (xs : List A) (n : ℕ) (x : A) → n ≡ length xs - 2 → 2 ≤ length xs → x ≡ get_or xs n x → slice_get (reverse xs) 1 ≡ Some x
+  second-is xs n x e some here =
+      some-at (reverse xs) 1 x (let long = length-reverse xs in omega (arith, long, some))
+      (get_or-reverse xs 1 x (omega (arith, some)) ∙ ap (λ m. get_or xs m x) (let f : length xs - 1 - 1 ≡ n = omega (arith, e, some) in f) ∙ sym here)
+
 module _ {V L : Type 0} (f : V → List L) (tasks : List V) (stacks : List (List L)) (seen : map f tasks ≡ stacks) where
   -- the stack of a task
-  read : (t : ℕ) (v : V) → t < length stacks → v ≡ get_or tasks t v → f v ≡ get_or stacks t []
+  pub read : (t : ℕ) (v : V) → t < length stacks → v ≡ get_or tasks t v → f v ≡ get_or stacks t []
   read t v lt here =
       let long : length stacks ≡ length tasks = sym (ap (λ (ls : List (List L)). length ls) seen) ∙ length-map tasks f in
       subst (λ (ls : List (List L)). f v ≡ get_or ls t []) seen (ap f here ∙ sym (get_or-map f tasks t v [] (omega (arith, long, lt))))

@@ -1,8 +1,9 @@
 -- The counts that the program keeps, against the items so far.
-use Rattle.std.specs.Prelude.{ℕ, ◌≡◌, ◌+◌, ◌<◌, ◌^◌, Bool, List, if◌then◌else◌}
+use Rattle.std.specs.Prelude.{ℕ, ◌≡◌, ◌+◌, ◌<◌, ◌^◌, Bool, List, length, if◌then◌else◌}
 use Rattle.ft_base.specs.declared.item.Item.{Item}
 use Rattle.ft_base.specs.declared.item.ItemKind.{ItemKind}
 use Rattle.trace_views.specs.declared.counts.Counts.{Counts}
+use Rattle.trace_views.specs.declared.counts.Totals.{Totals}
 use Rattle.trace_views.specs.ItemCounts.{count_of, is_enter, is_back, is_refuse, is_exit, is_miss}
 
 -- the counts of items
@@ -12,6 +13,11 @@ pub record IsCounted (items : List Item) (c : Counts) : Type 0 where
   pub refused : c.refused ≡ count_of is_refuse items
   pub exits : c.exits ≡ count_of is_exit items
   pub missed : c.missed ≡ count_of is_miss items
+
+-- how many items there are, and the counts of them
+pub record AreTotals (items : List Item) (t : Totals) : Type 0 where
+  pub many : t.items ≡ length items
+  pub counted : IsCounted items t.counts
 
 -- each count can take one more
 pub record HasRoom (c : Counts) : Type 0 where

@@ -1,14 +1,17 @@
--- The open calls as the form function keeps them: what each runs, by task. And the lines of that form.
-use Rattle.std.specs.Prelude.{ℕ, ◌≡◌, ◌<◌, true, List, ◌++◌, map, length, slice_get, codes, Option, Some, None, option_map}
+-- The open calls as they are kept: what each runs, by task. And the lines of the form function.
+use Rattle.std.specs.Prelude.{ℕ, ◌≡◌, ◌+◌, ◌*◌, ◌<◌, ◌≤◌, List, ◌++◌, map, length, reverse, get_or, slice_get, vec_capacity, codes, Option, Some, None, option_map}
 use Rattle.std.specs.Fmt.{decimal}
 use Rattle.ft_base.specs.declared.number.CallNo.{CallNo}
 use Rattle.ft_base.specs.declared.number.FuncNo.{FuncNo}
 use Rattle.ft_base.specs.declared.item.Item.{Item}
 use Rattle.ft_base.specs.Job.{Job}
-use Rattle.ft_hist.specs.Past.{entry_of, is_of}
+use Rattle.ft_base.specs.Versions.{levels}
+use Rattle.ft_hist.specs.Past.{entry_of}
 use Rattle.ft_hist.specs.Telling.{open_calls}
 use Rattle.trace_views.specs.declared.function.FunctionLine.{FunctionLine}
-use Rattle.trace_views.specs.declared.function.OpenCall.{OpenCall}
+use Rattle.trace_views.specs.declared.open_calls.OpenCall.{OpenCall}
+use Rattle.trace_views.specs.declared.open_calls.OpenCalls.{OpenCalls}
+use Rattle.history_bound.specs.Bound.{calls_of}
 use Rattle.trace_views.specs.FunctionText.{body_of, context_letter}
 use Rattle.trace_views.specs.TaskStacks.{stack_at}
 use Rattle.trace_views.specs.Words.{function_word, user_word, pid_at, cpu_at, right_in, zeros_in}
@@ -25,14 +28,23 @@ kept_call past call = record {
   body = option_map func_no (body_of call past);
 }
 
--- an item of control, or of one of this many tasks
-abbrev pub IsOfTasks : ℕ → Item → Type 0
-IsOfTasks n item = (t : ℕ) → is_of t item ≡ true → t < n
-
 -- the stacks have the open calls of each task of the job
 pub record HasOpenCalls (job : Job) (past : List Item) (stacks : List (List OpenCall)) : Type 0 where
   pub tasks : length stacks ≡ length job.tasks
   pub calls : (t : ℕ) → stack_at stacks t ≡ map (kept_call past) (open_calls t past)
+
+-- the stacks that are kept, each with its top first
+abbrev pub stacks_in : OpenCalls → List (List OpenCall)
+stacks_in open' = map (λ v. reverse v.items) open'.tasks.items
+
+-- how many calls each has room for
+abbrev pub rooms_in : OpenCalls → List ℕ
+rooms_in open' = map (λ v. vec_capacity v) open'.tasks.items
+
+-- it has followed these items of a job, the latest first: it has the open calls of each task, and room for as many as the task can have open
+pub record IsFollowed (job : Job) (past : List Item) (open' : OpenCalls) : Type 0 where
+  pub stacks : HasOpenCalls job past (stacks_in open')
+  pub rooms : (t : ℕ) → t < length job.tasks → calls_of job t + 2 * levels job ≤ get_or (rooms_in open') t 0
 
 -- what an open call is in: the function of its Body, or the called function if its Body hasn't come yet
 abbrev pub runs : OpenCall → FuncNo

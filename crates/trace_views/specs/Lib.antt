@@ -9,7 +9,9 @@ pub mod GraphWalks
 pub mod GraphLines
 pub mod GraphText
 pub mod FunctionText
+pub mod FunctionViews
 pub mod ProfileText
+pub mod ProfileViews
 pub mod EnabledText
 pub mod ModulesText
 pub mod RingsText

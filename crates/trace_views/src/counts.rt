@@ -1,9 +1,10 @@
 //! How many items of each kind a history has.
 
-ghost use Rattle.std.specs.Prelude.{◌≡◌, []};
-ghost use Rattle.trace_views.specs.Counted.{IsCounted, HasRoom, with_kind};
+ghost use Rattle.std.specs.Prelude.{◌≡◌, ◌+◌, ◌<◌, ◌^◌, List, [], ◌∷◌, ◌++◌, length};
+ghost use Rattle.ft_base.specs.declared.item.Item.{Item};
+ghost use Rattle.trace_views.specs.Counted.{AreTotals, IsCounted, HasRoom, with_kind};
 
-use ft_base::ItemKind;
+use ft_base::{Item, ItemKind};
 use ft_hist::History;
 
 /// How many items of some kinds there are.
@@ -19,6 +20,46 @@ pub struct Counts {
     pub exits: u32,
     /// Misses.
     pub missed: u32,
+}
+
+/// How many items there are, and how many of some kinds among them.
+#[derive(Clone, Copy)]
+pub struct Totals {
+    /// All items.
+    pub items: u32,
+    /// Those of some kinds.
+    pub counts: Counts,
+}
+
+impl Totals {
+    /// Of no items.
+    pub fn none() -> Totals
+        ensures { AreTotals [] result }
+    {
+        Totals {
+            items: 0,
+            counts: no_items(),
+        }
+    }
+
+    /// Of a history.
+    pub fn of(history: &History) -> Totals
+        ensures { AreTotals history.now.items result }
+    {
+        Totals {
+            items: history.len(),
+            counts: counted(history),
+        }
+    }
+
+    /// Takes in one more item.
+    pub fn add(&mut self, item: &Item)
+        requires { (items : List Item) × AreTotals items self.old × (length items + 1 < 2 ^ 32) }
+        ensures { (items : List Item) → AreTotals items self.old → AreTotals (items ++ item.now ∷ []) self.new }
+    {
+        self.items += 1;
+        self.counts = with_kind(self.counts, item.kind());
+    }
 }
 
 /// No item.

@@ -28,7 +28,7 @@ pub struct EnabledLine {
 }
 
 /// How many commands have returned after an item, if so many had before it.
-fn with_item(returned: u32, item: &Item) -> u32
+pub fn returned_with(returned: u32, item: &Item) -> u32
     requires { returned + 1 < 2 ^ 32 }
     ensures { result ≡ done_with item.now returned }
 {
@@ -44,7 +44,7 @@ pub fn returned(history: &History) -> u32
 {
     let mut returned: u32 = 0;
     for place in 0..history.len() {
-        returned = with_item(returned, history.item(place));
+        returned = returned_with(returned, history.item(place));
     }
     returned
 }

@@ -1,24 +1,22 @@
-//! The lines of a history, view function: one for each entry callback of a function tracer.
+//! The lines of the view function: one for each entry callback of a function tracer.
 
-ghost use Rattle.std.specs.Prelude.{◌≡◌, ◌<◌, ◌+◌, [], ◌∷◌, ◌++◌, false, List, length, IfOk, OnOk, IfSome, IfNone};
+ghost use Rattle.std.specs.Prelude.{◌≡◌, ◌<◌, ◌≤◌, ◌+◌, [], ◌∷◌, ◌++◌, ℕ, true, List, length, reverse, get_or, vec_capacity, IfOk, OnOk};
 ghost use Rattle.ft_base.specs.declared.item.Item.{Item};
+ghost use Rattle.ft_base.specs.declared.item.Item.TheVariants.{Back};
 ghost use Rattle.ft_base.specs.Desk.{spec_at};
 ghost use Rattle.ft_base.specs.Job.{Job as PlainJob};
 ghost use Rattle.ft_base.specs.Kinds.{is_function};
 ghost use Rattle.ft_hist.specs.Rules.{IsLegal, IsLegalPast};
-ghost use Rattle.trace_views.specs.FunctionText.{function_part};
-ghost use Rattle.trace_views.specs.KeptCalls.{HasOpenCalls, IsOfTasks, runs, parent_of};
-ghost use Rattle.trace_views.specs.KeptCalls.{function_line_text};
 ghost use Rattle.ft_hist.specs.Telling.{past_at};
-ghost use Rattle.trace_views.specs.Places.{part_at};
-ghost use Rattle.trace_views.specs.RingLines.{AreBackLines, IsLineAt, is_back_at};
-ghost use Rattle.trace_views.specs.TaskStacks.{stack_at};
+ghost use Rattle.trace_views.specs.FunctionText.{function_line, function_part};
+ghost use Rattle.trace_views.specs.KeptCalls.{IsFollowed, function_line_text};
+ghost use Rattle.trace_views.specs.RingLines.{AreBackLines};
 ghost use Rattle.trace_views.specs.Words.{item_texts, lines_text};
 
 use crate::counts::counted;
 use crate::named::Named;
-use crate::stacks::Stacks;
-use ft_base::{Ctx, FuncNo, Item, NoMemory, TaskNo, UserNo};
+use crate::open_calls::OpenCalls;
+use ft_base::{CallNo, Ctx, FuncNo, Item, NoMemory, TaskNo, UserNo};
 use ft_hist::History;
 use std::alloc::Global;
 
@@ -40,134 +38,121 @@ pub struct FunctionLine {
     pub user: UserNo,
 }
 
-/// A call that is open: its context, the called function, and the function that it runs, if its
-/// Body has come.
-#[derive(Clone, Copy)]
-struct OpenCall {
-    ctx: Ctx,
-    func: FuncNo,
-    body: Option<FuncNo>,
-}
-
-impl OpenCall {
-    /// What the call is in: the function that it runs, or the called one if its Body hasn't come.
-    fn running(&self) -> FuncNo
-        ensures { result ≡ runs self.now }
-    {
-        match self.body {
-            Some(func) => func,
-            None => self.func,
-        }
-    }
-}
-
-/// Whether a user is a function tracer.
-fn is_function<N: Named>(names: &N, user: UserNo) -> bool
-    ensures { result ≡ is_function (spec_at (N.job names.now) user.0).kind }
-{
-    names.kind(user).is_function()
-}
-
-/// Follows an item of a history: a call is opened by its Enter and closed by its Ret.
-fn follow(calls: &mut Stacks<OpenCall>, item: &Item) -> Result<(), NoMemory>
-    requires { IsOfTasks (length calls.old) item.now }
-    ensures { OnOk result ((job : PlainJob) (past : List Item) → IsLegalPast job (item.now ∷ past)
-        → HasOpenCalls job past calls.old → HasOpenCalls job (item.now ∷ past) calls.new) }
-{
-    match *item {
-        Item::Enter {
-            call,
-            ctx,
-            func,
-            ..
-        } => calls.push(
-            call.task,
-            OpenCall {
-                ctx,
-                func,
-                body: None,
-            },
-        ),
-        Item::Body { call, func, .. } => {
-            if let Some(top) = calls.top(call.task) {
-                calls.set_top(
-                    call.task,
-                    OpenCall {
-                        body: Some(func),
-                        ..top
-                    },
-                );
-            }
-            Ok(())
-        }
-        Item::Ret { call, .. } => {
-            calls.pop(call.task);
-            Ok(())
-        }
-        _ => Ok(()),
-    }
-}
-
-/// What a task's latest call is called from, none if no other call is open.
-fn parent_of(calls: &Stacks<OpenCall>, task: TaskNo) -> Option<FuncNo>
-    requires { task.0 < length calls.now }
-    ensures { result ≡ parent_of (stack_at calls.now task.0) }
-{
-    match calls.below_top(task) {
-        Some(caller) => Some(caller.running()),
-        None => None,
-    }
-}
-
-/// The line of the entry callback at a place, none if another item is there. `calls` has the calls
-/// that are open there.
-fn back_line(history: &History, place: u32, calls: &Stacks<OpenCall>) -> Option<FunctionLine>
-    requires within { place < length history.now.items }
-    requires calls { (job : PlainJob) × IsLegal job history.now.items
-        × HasOpenCalls job (past_at place history.now.items) calls.now }
-    ensures some { (job : PlainJob) → IsLegal job history.now.items
-        → HasOpenCalls job (past_at place history.now.items) calls.now
-        → IfSome result (IsLineAt job history.now.items place) }
-    ensures none { IfNone result (is_back_at history.now.items place ≡ false) }
-{
-    let Item::Back { call, user } = *history.item(place) else {
-        return None;
-    };
-    match calls.top(call.task) {
-        Some(top) => Some(FunctionLine {
-            place,
-            task: call.task,
-            ctx: top.ctx,
-            func: top.func,
-            parent: parent_of(calls, call.task),
-            user,
-        }),
-        None => unreachable!(),
-    }
-}
-
-/// Adds the line of the item at a place, if it has one. `calls` has the calls that are open there.
-fn push_part<N: Named>(
-    lines: &mut Vec<FunctionLine>,
-    names: &N,
-    history: &History,
+/// The lines of a job's items so far. It takes the items one after the other, each when it is marked,
+/// and no memory for them.
+#[derive(Drop)]
+pub struct FunctionView {
+    /// Whether each user is a function tracer.
+    tracers: Vec<bool>,
+    /// The calls that are open.
+    open: OpenCalls,
+    /// The place of the next item.
     place: u32,
-    calls: &Stacks<OpenCall>,
-) -> Result<(), NoMemory>
-    requires within { place < length history.now.items }
-    requires legal { IsLegal (N.job names.now) history.now.items }
-    requires calls { HasOpenCalls (N.job names.now) (past_at place history.now.items) calls.now }
-    ensures { OnOk result (lines_text (function_line_text (N.job names.now)) lines.new.items
-        ≡ lines_text (function_line_text (N.job names.now)) lines.old.items
-        ++ part_at (function_part (N.job names.now)) place history.now.items) }
-{
-    let Some(line) = back_line(history, place, calls) else {
-        return Ok(());
-    };
-    if !is_function(names, line.user) {
-        return Ok(());
+    /// The lines.
+    lines: Vec<FunctionLine>,
+}
+
+impl FunctionView {
+    ghost use Rattle.trace_views.specs.FunctionViews.{HasFunction};
+
+    /// Before the first item of a job, with room for the lines of so many items. The error says that
+    /// memory ran out.
+    pub fn new<N: Named>(alloc: Global, names: &N, room: u32) -> Result<FunctionView, NoMemory>
+        ensures { IfOk result (λ view. HasFunction (N.job names.now) room [] view) }
+    {
+        let tracers = tracers(alloc, names)?;
+        let open = OpenCalls::new(alloc, names)?;
+        let lines = Vec::with_capacity(alloc, room as usize).map_err(|_| NoMemory)?;
+        Ok(FunctionView {
+            tracers,
+            open,
+            place: 0,
+            lines,
+        })
     }
-    lines.push(line).map_err(|_| NoMemory)
+
+    /// Takes the next item of the job, for which there is room.
+    pub fn take(&mut self, item: &Item)
+        requires { (job : PlainJob) × (room : ℕ) × (past : List Item) × HasFunction job room past self.old
+            × IsLegalPast job (item.now ∷ past) × (length past < room) }
+        ensures { (job : PlainJob) (room : ℕ) (past : List Item) → HasFunction job room past self.old
+            → IsLegalPast job (item.now ∷ past) → length past < room → HasFunction job room (item.now ∷ past) self.new }
+    {
+        self.push_part(item);
+        self.open.follow(item);
+        self.place += 1;
+    }
+
+    /// The lines: their texts are what the view function prints of the items so far.
+    pub fn lines(&self) -> &[FunctionLine]
+        ensures { (job : PlainJob) (room : ℕ) (past : List Item) → HasFunction job room past self.now
+            → lines_text (function_line_text job) result.now ≡ item_texts (function_part job) [] (reverse past) }
+    {
+        self.lines.as_slice()
+    }
+
+    /// Adds the line of the next item, if it has one.
+    fn push_part(&mut self, item: &Item)
+        requires { (job : PlainJob) × (room : ℕ) × (past : List Item) × HasFunction job room past self.old
+            × IsLegalPast job (item.now ∷ past) × (length past < room) }
+        ensures text { (job : PlainJob) (room : ℕ) (past : List Item) → HasFunction job room past self.old
+            → IsLegalPast job (item.now ∷ past) → lines_text (function_line_text job) self.new.lines.items
+            ≡ lines_text (function_line_text job) self.old.lines.items ++ function_part job past item.now [] }
+        ensures long { length self.new.lines.items ≤ length self.old.lines.items + 1 }
+        ensures room { vec_capacity self.new.lines ≡ vec_capacity self.old.lines }
+        ensures rest { (self.new.tracers ≡ self.old.tracers) × (self.new.open ≡ self.old.open) × (self.new.place ≡ self.old.place) }
+    {
+        if let Item::Back { call, user } = *item {
+            if self.is_tracer(user) {
+                let line = back_line(&self.open, self.place, call, user);
+                self.lines.push_reserved(line);
+            }
+        }
+    }
+
+    /// Whether a user is a function tracer.
+    fn is_tracer(&self, user: UserNo) -> bool
+        ensures { result ≡ get_or self.now.tracers.items user.0 true }
+    {
+        match self.tracers.get(user.0 as usize) {
+            Some(is) => *is,
+            None => true,
+        }
+    }
+}
+
+/// Whether each user is a function tracer, as one would be that the job doesn't have. The error says that
+/// memory ran out.
+fn tracers<N: Named>(alloc: Global, names: &N) -> Result<Vec<bool>, NoMemory>
+    ensures { IfOk result (λ tracers. (u : ℕ) → get_or tracers.items u true ≡ is_function (spec_at (N.job names.now) u).kind) }
+{
+    let users = names.users();
+    let mut tracers = Vec::with_capacity(alloc, users as usize).map_err(|_| NoMemory)?;
+    for u in 0..users {
+        let user = UserNo(u);
+        tracers.push_reserved(names.kind(user).is_function());
+    }
+    Ok(tracers)
+}
+
+/// The line of the entry callback of a user in a call, which is at a place. `open` has the calls that are
+/// open there.
+fn back_line(open: &OpenCalls, place: u32, call: CallNo, user: UserNo) -> FunctionLine
+    requires { (job : PlainJob) × (past : List Item) × IsFollowed job past open.now × IsLegalPast job (Back call user ∷ past) }
+    ensures place { result.place ≡ place }
+    ensures user { result.user ≡ user }
+    ensures text { (job : PlainJob) (past : List Item) → IsFollowed job past open.now → IsLegalPast job (Back call user ∷ past)
+        → place ≡ length past → function_line_text job result ≡ function_line job past call user.0 }
+{
+    let top = open.top(call.task);
+    FunctionLine {
+        place,
+        task: call.task,
+        ctx: top.ctx,
+        func: top.func,
+        parent: open.parent(call.task),
+        user,
+    }
 }
 
 /// The lines of a legal history, view function. The error says that memory ran out.
@@ -180,36 +165,35 @@ pub fn function_lines<N: Named>(
     ensures { IfOk result (λ lines. lines_text (function_line_text (N.job names.now)) lines.items
         ≡ item_texts (function_part (N.job names.now)) [] history.now.items) }
 {
-    // Room for all lines at once: one that grows as they come would be copied to ever larger places.
-    let room = counted(history).backs as usize;
-    let mut lines = Vec::with_capacity(alloc, room).map_err(|_| NoMemory)?;
-    let mut calls = Stacks::new(alloc, names.tasks())?;
+    let mut view = FunctionView::new(alloc, names, history.len())?;
     for place in 0..history.len() {
-        push_part(&mut lines, names, history, place, &calls)?;
-        follow(&mut calls, history.item(place))?;
+        view.take(history.item(place));
     }
-    Ok(lines)
+    Ok(view.lines)
 }
 
-/// Adds the line of the item at a place, if it is an entry callback. `calls` has the calls that are
+/// Adds the line of the item at a place, if it is an entry callback. `open` has the calls that are
 /// open there.
 fn push_back(
     lines: &mut Vec<FunctionLine>,
     history: &History,
     place: u32,
-    calls: &Stacks<OpenCall>,
+    open: &OpenCalls,
 ) -> Result<(), NoMemory>
     requires within { place < length history.now.items }
     requires calls { (job : PlainJob) × IsLegal job history.now.items
-        × HasOpenCalls job (past_at place history.now.items) calls.now }
+        × IsFollowed job (past_at place history.now.items) open.now }
     ensures { OnOk result ((job : PlainJob) → IsLegal job history.now.items
-        → HasOpenCalls job (past_at place history.now.items) calls.now
+        → IsFollowed job (past_at place history.now.items) open.now
         → AreBackLines job history.now.items place lines.old.items
         → AreBackLines job history.now.items (place + 1) lines.new.items) }
 {
-    match back_line(history, place, calls) {
-        Some(line) => lines.push(line).map_err(|_| NoMemory),
-        None => Ok(()),
+    match *history.item(place) {
+        Item::Back { call, user } => {
+            let line = back_line(open, place, call, user);
+            lines.push(line).map_err(|_| NoMemory)
+        }
+        _ => Ok(()),
     }
 }
 
@@ -226,10 +210,10 @@ pub(crate) fn back_lines<N: Named>(
 {
     let room = counted(history).backs as usize;
     let mut lines = Vec::with_capacity(alloc, room).map_err(|_| NoMemory)?;
-    let mut calls = Stacks::new(alloc, names.tasks())?;
+    let mut open = OpenCalls::new(alloc, names)?;
     for place in 0..history.len() {
-        push_back(&mut lines, history, place, &calls)?;
-        follow(&mut calls, history.item(place))?;
+        push_back(&mut lines, history, place, &open)?;
+        open.follow(history.item(place));
     }
     Ok(lines)
 }

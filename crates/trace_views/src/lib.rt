@@ -14,7 +14,8 @@
 //! Promised: [`function_lines`], [`graph_lines`] and [`profile_lines`] give, for each legal history of a
 //! job, [`enabled_lines`] for the desk that it leaves, and [`rings_lines`] for rings whose entries are
 //! entry callbacks of it, lines whose texts are exactly those of the view. What they need of a job is
-//! [`Named`]. Only tested, in `trace_print_tests`: that memory is found.
+//! [`Named`]. [`FunctionView`] and [`ProfileView`] take the items one after the other, each when it is
+//! marked, with all memory from their making. Only tested, in `trace_print_tests`: that memory is found.
 #![tactic(auto)]
 
 mod counts;
@@ -25,16 +26,17 @@ mod graph_line;
 mod leaves;
 mod modules;
 mod named;
+mod open_calls;
 mod profile;
 mod rings;
 mod stacks;
 
-pub use counts::{Counts, counted};
-pub use enabled::{EnabledLine, enabled_lines, returned};
-pub use function::{FunctionLine, function_lines};
+pub use counts::{Counts, Totals, counted};
+pub use enabled::{EnabledLine, enabled_lines, returned, returned_with};
+pub use function::{FunctionLine, FunctionView, function_lines};
 pub use graph::graph_lines;
 pub use graph_line::{GraphLine, Shown};
 pub use modules::ModuleLine;
 pub use named::{Named, TaskName};
-pub use profile::{ProfileLine, profile_lines};
+pub use profile::{ProfileLine, ProfileView, profile_lines};
 pub use rings::{RingsLine, rings_lines};

@@ -14,10 +14,12 @@ pub struct TaskName {
 /// A job's names, and the pid and the CPU of each task, found by number. A job is within the limits of
 /// `ft_base::limits`.
 pub trait Named {
-    ghost use Rattle.std.specs.Prelude.{◌≡◌, length};
+    ghost use Rattle.std.specs.Prelude.{◌≡◌, ◌+◌, ◌*◌, ◌≤◌, length};
     ghost use Rattle.ft_base.specs.Desk.{spec_at};
     ghost use Rattle.ft_base.specs.Job.{Job, funcs};
+    ghost use Rattle.ft_base.specs.Versions.{levels};
     ghost use Rattle.ft_base.specs.WellFormed.{IsWellFormed};
+    ghost use Rattle.history_bound.specs.Bound.{calls_of};
     ghost use Rattle.trace_views.specs.ModulesText.{module_word};
     ghost use Rattle.trace_views.specs.Words.{function_word, user_word, pid_at, cpu_at, lane_at};
 
@@ -62,4 +64,9 @@ pub trait Named {
     /// How many tasks there are, over all CPUs.
     fn tasks(&self) -> u32
         ensures { result ≡ length (job self.now).tasks };
+
+    /// Room for the open calls of a task: one for each call of its script, and one for each level of the
+    /// guards of two contexts. A task that the job doesn't have needs none, whatever this is.
+    fn deepest(&self, task: TaskNo) -> u32
+        ensures { calls_of (job self.now) task.0 + 2 * levels (job self.now) ≤ result };
 }

@@ -58,18 +58,6 @@ impl<T: Copy> Stacks<T> {
         stack.last().copied()
     }
 
-    /// What is directly below the top of a task's stack, if there is something.
-    pub(crate) fn below_top(&self, task: TaskNo) -> Option<T>
-        requires { task.0 < length self.now }
-        ensures { result ≡ slice_get (stack_at self.now task.0) 1 }
-    {
-        let stack = &self.tasks[task.0 as usize];
-        if stack.len() < 2 {
-            return None;
-        }
-        Some(stack[stack.len() - 2])
-    }
-
     /// Puts `x` in place of the top of a task's stack, if there is one.
     pub(crate) fn set_top(&mut self, task: TaskNo, x: T)
         requires { task.0 < length self.old }

@@ -6,6 +6,6 @@ use Rattle.func_profile.proofs.profile.rows.Given as goal
 -- what is kept is what the items so far tell
 abbrev pub invariant-loop-place : goal.invariant-loop-place
 invariant-loop-place l = record {
-  functions : length l.tally.rows.items ≡ l.funcs;
+  functions : length l.tally.table.rows.items ≡ l.funcs;
   so_far : IsTally l.user.0 l.funcs (past_at l.place l.history.items) l.tally;
 }

@@ -12,7 +12,7 @@ loop-place-preserved c =
     let p = c.loop-place.place in
     let item = c.item.result.now in
     let le = done-with-le item c.loop-place.returned in
-    let e = c.with_item-returned.ensures in
+    let e = c.returned_with-returned.ensures in
     let inv = c.loop-place.invariant.within in
     record {
       count = e ∙ ap (done_with item) c.loop-place.invariant.count ∙ sym (done-more item (past_at p items)) ∙ sym (ap done (past-more items p item c.item.ensures));

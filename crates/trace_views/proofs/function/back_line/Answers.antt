@@ -1,20 +1,13 @@
-use Rattle.std.proofs.Common.{◌∙◌, sym}
-use Rattle.trace_views.proofs.FunctionLines.{back-task, back-top, back-line}
+use Rattle.trace_views.specs.KeptCalls.{stacks_in}
+use Rattle.trace_views.specs.TaskStacks.{stack_at}
+use Rattle.trace_views.proofs.FollowLaws.{back-open, some-open}
+use Rattle.trace_views.proofs.FunctionLines.{back-line}
 use Rattle.trace_views.proofs.function.back_line.Goals as goal
 
-pub top-requires : goal.top-requires
-top-requires c =
-    let told = c.requires.calls in
-    back-task told.0 c.args.history.now.items c.args.place c.item.result.now c.in-Back.call c.in-Back.user c.args.calls.now c.item.ensures c.in-Back.is told.1 told.2
+pub top-top-requires : goal.top-top-requires
+top-top-requires c =
+    some-open (stack_at (stacks_in c.args.open.now) c.args.call.task.0) _ (back-open c.requires.0 c.requires.1 c.args.open.now c.requires.2 c.args.call c.args.user c.requires.3)
 
-pub unreachable-requires : goal.unreachable-requires
-unreachable-requires c =
-    let told = c.requires.calls in
-    let top = back-top told.0 c.args.history.now.items c.args.place c.item.result.now c.in-Back.call c.in-Back.user c.args.calls.now c.item.ensures c.in-Back.is told.1 told.2 in
-    let clash = sym c.in-None.is ∙ c.top.ensures ∙ top in
-    absurd cc
-
-pub returns-clause-some : goal.returns-clause-some
-returns-clause-some c = λ job legal told.
-    back-line job c.args.history.now.items c.args.place c.item.result.now c.in-Back.call c.in-Back.user c.args.calls.now c.item.ensures c.in-Back.is legal told
-    c.in-Some.top (sym c.in-Some.is ∙ c.top.ensures) c.parent_of.result c.parent_of.ensures
+pub returns-clause-text : goal.returns-clause-text
+returns-clause-text c = λ job past told legal long.
+    back-line job past c.args.call c.args.user (stacks_in c.args.open.now) told.stacks legal c.top-top.result c.top-top.ensures c.parent.result c.parent.ensures c.args.place long

@@ -1,21 +1,33 @@
-use Rattle.std.proofs.Common.{arith}
+use Rattle.std.proofs.Common.{List, [], length, ap, ◌∙◌, arith}
+use Rattle.ft_base.specs.declared.item.Item.{Item}
+use Rattle.ft_hist.specs.Telling.{past_at}
+use Rattle.ft_hist.proofs.Splitting.{length-past}
 use Rattle.trace_views.specs.FunctionText.{function_part}
-use Rattle.trace_views.proofs.FunctionLines.{next-calls, of-stacks}
-use Rattle.trace_views.proofs.ItemTexts.{texts-more, texts-all}
+use Rattle.trace_views.specs.FunctionViews.{HasFunction}
+use Rattle.trace_views.specs.Words.{item_texts}
+use Rattle.trace_views.proofs.FollowLaws.{next-place, all-past}
+use Rattle.trace_views.proofs.ItemTexts.{legal-at}
 use Rattle.trace_views.proofs.function.function_lines.Goals as goal
 
-pub follow-requires : goal.follow-requires
-follow-requires g c =
-    of-stacks (g.N.Named.job c.args.names.now) c.args.history.now.items c.loop-place.place c.item.result.now c.loop-place.calls c.item.ensures
-    c.requires c.loop-place.invariant.open_calls
+pub take-requires : goal.take-requires
+take-requires g c =
+    let long = length-past c.args.history.now.items c.loop-place.place c.item.result.now c.item.ensures in (
+      g.N.Named.job c.args.names.now,
+      length c.args.history.now.items,
+      past_at c.loop-place.place c.args.history.now.items,
+      c.loop-place.invariant,
+      legal-at c.args.history.now.items c.loop-place.place c.item.result.now c.item.ensures (g.N.Named.job c.args.names.now) c.requires,
+      omega (arith, long),
+    )
 
 pub loop-place-preserved : goal.loop-place-preserved
-loop-place-preserved g c = record {
-  open_calls = next-calls (g.N.Named.job c.args.names.now) c.args.history.now.items c.loop-place.place c.item.result.now c.loop-place.calls c.item.ensures
-      c.requires c.loop-place.invariant.open_calls _ c.in_ok-follow.ensures;
-  texts = texts-more c.args.history.now.items c.loop-place.place c.item.result.now c.item.ensures (function_part (g.N.Named.job c.args.names.now)) _ _ _
-      c.in_ok-push_part.ensures c.loop-place.invariant.texts;
-}
+loop-place-preserved g c =
+    let long = length-past c.args.history.now.items c.loop-place.place c.item.result.now c.item.ensures in
+    next-place (λ past. HasFunction (g.N.Named.job c.args.names.now) (length c.args.history.now.items) past c.take.new.self) c.args.history.now.items c.loop-place.place c.item.result.now c.item.ensures
+    (c.take.ensures (g.N.Named.job c.args.names.now) (length c.args.history.now.items) (past_at c.loop-place.place c.args.history.now.items) c.loop-place.invariant
+    (legal-at c.args.history.now.items c.loop-place.place c.item.result.now c.item.ensures (g.N.Named.job c.args.names.now) c.requires) (omega (arith, long)))
 
 pub returns : goal.returns
-returns g c = texts-all (function_part (g.N.Named.job c.args.names.now)) c.args.history.now.items c.loop-place.place _ _ (omega arith) c.loop-place.invariant.texts
+returns g c =
+    c.loop-place.invariant.texts
+    ∙ ap (λ (xs : List Item). item_texts (function_part (g.N.Named.job c.args.names.now)) [] xs) (all-past c.args.history.now.items c.loop-place.place (omega arith))

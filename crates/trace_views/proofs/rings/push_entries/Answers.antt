@@ -1,6 +1,5 @@
-use Rattle.std.proofs.Common.{ℕ, arith, rules, sym, ◌∙◌}
+use Rattle.std.proofs.Common.{arith, rules, ◌∙◌}
 use Rattle.std.specs.Prelude.{slice_index, slice_index_or}
-use Rattle.ft_base.specs.declared.item.Item.{Item}
 use Rattle.ring_rules.specs.Fold.{no_ring}
 use Rattle.ring_rules.proofs.Lists.{get-some}
 use Rattle.trace_views.specs.RingLines.{HasLine}
