@@ -1,11 +1,10 @@
 -- What a job declares for its desk.
-use Rattle.std.proofs.Common.{◌≡◌, ℕ, List, length, map, All, refl, sym, ap, ◌∙◌, arith}
+use Rattle.std.proofs.Common.{◌≡◌, List, length, map, All, refl, sym, ap, ◌∙◌, arith}
 use Rattle.std.proofs.lemmas.List.{length-map}
 use Rattle.std.proofs.lemmas.List.Elements.{All-from_recursion}
 use Rattle.std.proofs.lemmas.Simd.{map-map}
 use Rattle.ft_base.specs.Job.{Job, Spec as PlainSpec}
 use Rattle.ft_base.proofs.Versions.{few-largest}
-use Rattle.user_specs.specs.declared.spec.Spec.{Spec}
 use Rattle.user_specs.specs.Plain.{spec_of, cpu_of}
 use Rattle.word_map.specs.Shapes.{IsShape, shape_of}
 use Rattle.ft_desk.specs.Declarations.{Declared, IsOf, bare, declared_by}

@@ -7,8 +7,8 @@
 //! defines; its history is legal at every moment, and whole once every actor is at its end; each call
 //! site is whole; a step takes no memory. A replay is a run of a beginning of its schedule's actors, and
 //! a *taker* has taken its items, each when it was marked; a history is one. An actor's state is a
-//! function of the values that its own steps took, so a machine can be taken apart
-//! ([`Machine::into_parts`]) and its actors can step at the same time. Out of memory is the only fault.
+//! function of the values that its own steps took, so the actors of a job's world ([`new_world`]) can
+//! be taken apart and step at the same time. Out of memory is the only fault.
 //!
 //! Only tested, in the crate `ft_machine_tests`: that a job isn't refused for its size.
 #![tactic(auto)]
@@ -23,7 +23,7 @@ pub use laws::{
     a_step_makes_the_next_operation, all_end_if_each_does, each_actor_is_fed_its_values,
     every_replay_is_a_run, sites_of_nobody_are_nops,
 };
-pub use machine::{Machine, MachineParts};
+pub use machine::Machine;
 pub use play::{Outcome, replay, replay_into};
 pub use taker::Taker;
-pub use world::new_history;
+pub use world::{most_items, new_history, new_world};

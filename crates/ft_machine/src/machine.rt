@@ -3,12 +3,10 @@
 ghost use Rattle.ft_machine.specs.Kept.{IsMachine};
 
 use crate::world::{new_history, new_world};
-use control_core::Control;
-use cpu_core::Cpu;
 use ft_base::{Actor, FuncNo, NoMemory};
 use ft_hist::History;
 use ft_job::Job;
-use machine_core::{CpuRoom, World, WorldParts};
+use machine_core::{CpuRoom, World};
 use std::alloc::Global;
 use word_map::{Op, WordMap};
 
@@ -22,19 +20,6 @@ pub struct Machine {
     ghost kept: { ∥ IsMachine world history ∥₁ },
 }
 
-/// A machine taken apart, for those who let its actors step at the same time.
-#[derive(Drop)]
-pub struct MachineParts {
-    /// The shared words, the clock first.
-    pub words: Vec<u64>,
-    /// Control.
-    pub control: Control,
-    /// The CPUs by number.
-    pub cpus: Vec<Cpu>,
-    /// What has happened, with room for all items that the job can make.
-    pub history: History,
-}
-
 impl Machine {
     ghost use Rattle.std.specs.Prelude.{◌≡◌, ◌<◌, true, get_or, length, option_map, reverse, IfOk};
     ghost use Rattle.ft_base.specs.Job.{Job as PlainJob};
@@ -44,10 +29,7 @@ impl Machine {
     ghost use Rattle.word_map.specs.Shapes.{shape_of};
     ghost use Rattle.word_map.specs.Words.{Word, read};
     ghost use Rattle.word_machine.specs.Machine.{all_end, is_at_end, start, step};
-    ghost use Rattle.control_core.specs.Seated.{IsOpening, LeadsAll};
-    ghost use Rattle.machine_core.specs.declared.cpus.CpuRoom.TheVariants.{ForAll};
     ghost use Rattle.machine_core.specs.Nexts.{next_op};
-    ghost use Rattle.machine_core.specs.Starts.{AreFirst};
     ghost use Rattle.machine_core.specs.Sites.{IsWhole as IsWholeSite, site_of};
     ghost use Rattle.ft_machine.specs.Machines.{IsOf, state_of};
 
@@ -59,19 +41,6 @@ impl Machine {
     {
         let history = new_history(alloc, job)?;
         let world = new_world(alloc, job, CpuRoom::ForOne)?;
-        Ok(Machine { world, history })
-    }
-
-    /// The same, and each CPU has room of its own for all items that its tasks can mark: for those who
-    /// take the machine apart.
-    pub fn start_apart(alloc: Global, job: &Job) -> Result<Machine, NoMemory>
-        ensures of { IfOk result (λ m. IsOf job.now m) }
-        ensures opening { IfOk result (λ m. state_of job.now m ≡ start job.now) }
-        ensures control { IfOk result (λ m. IsOpening m.world.control × LeadsAll m.world.control) }
-        ensures cpus { IfOk result (λ m. AreFirst ForAll job.now m.world.cpus) }
-    {
-        let history = new_history(alloc, job)?;
-        let world = new_world(alloc, job, CpuRoom::ForAll)?;
         Ok(Machine { world, history })
     }
 
@@ -153,26 +122,5 @@ impl Machine {
         ensures whole { (job : PlainJob) → IsOf job self.now → all_end job (state_of job self.now) ≡ true → IsWhole job result.now.items }
     {
         &self.history
-    }
-
-    /// What it is made of, for those who let the actors step at the same time; the machine is used up.
-    pub fn into_parts(self) -> MachineParts
-        ensures words { result.words.items ≡ self.world.words }
-        ensures control { result.control ≡ self.world.control }
-        ensures cpus { result.cpus.items ≡ self.world.cpus }
-        ensures history { result.history ≡ self.history }
-    {
-        let Machine { world, history } = self;
-        let WorldParts {
-            words,
-            control,
-            cpus,
-        } = world.into_parts();
-        MachineParts {
-            words,
-            control,
-            cpus,
-            history,
-        }
     }
 }

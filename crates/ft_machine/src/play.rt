@@ -30,9 +30,9 @@ const TURNS_TO_ASK: u32 = 64;
 /// Lets the actors of a player step, up to a moment when every actor is at its end. That is asked at
 /// some turns only: steps after the end change nothing, and to ask costs as much as a step.
 fn play<T: Taker>(world: &mut World, mut player: Player, taker: &mut T)
-    requires { (job : PlainJob) × (s : State) × IsAt job s world.old × T.took job s.past taker.old }
-    ensures { (job : PlainJob) (s : State) → IsAt job s world.old → T.took job s.past taker.old
-        → IsAt job (played job player.entry s) world.new × T.took job (played job player.entry s).past taker.new }
+    requires { (job : PlainJob) × (s : State) × (first : T) × IsAt job s world.old × T.took job s.past first taker.old }
+    ensures { (job : PlainJob) (s : State) (first : T) → IsAt job s world.old → T.took job s.past first taker.old
+        → IsAt job (played job player.entry s) world.new × T.took job (played job player.entry s).past first taker.new }
 {
     let mut turns: u32 = 0;
     while let Some(actor) = player.next_actor() {
@@ -46,9 +46,9 @@ fn play<T: Taker>(world: &mut World, mut player: Player, taker: &mut T)
 
 /// Lets an actor step. A taker takes the item that it marks, if any.
 fn step_into<T: Taker>(world: &mut World, actor: Actor, taker: &mut T)
-    requires { (job : PlainJob) × (s : State) × IsAt job s world.old × T.took job s.past taker.old }
-    ensures { (job : PlainJob) (s : State) → IsAt job s world.old → T.took job s.past taker.old
-        → IsAt job (step job actor s) world.new × T.took job (step job actor s).past taker.new }
+    requires { (job : PlainJob) × (s : State) × (first : T) × IsAt job s world.old × T.took job s.past first taker.old }
+    ensures { (job : PlainJob) (s : State) (first : T) → IsAt job s world.old → T.took job s.past first taker.old
+        → IsAt job (step job actor s) world.new × T.took job (step job actor s).past first taker.new }
 {
     if let Some(item) = world.step(actor) {
         taker.take(item);
@@ -60,8 +60,8 @@ fn step_into<T: Taker>(world: &mut World, actor: Actor, taker: &mut T)
 /// whether every actor is at its end. All memory is taken before the first step: the only fault is out of
 /// memory, and then nothing was taken.
 pub fn replay_into<T: Taker>(alloc: Global, job: &Job, taker: &mut T) -> Result<bool, NoMemory>
-    requires { T.took job.now [] taker.old }
-    ensures taken { IfOk result (λ _. T.took job.now (play job.now).past taker.new) }
+    requires { T.took job.now [] taker.old taker.old }
+    ensures taken { IfOk result (λ _. T.took job.now (play job.now).past taker.old taker.new) }
     ensures ended { IfOk result (λ ended. ended ≡ all_end job.now (play job.now)) }
     ensures legal { IfOk result (λ _. IsLegalPast job.now (play job.now).past) }
     ensures whole { IfOk result (λ ended. ended ≡ true → IsWhole job.now (reverse (play job.now).past)) }

@@ -21,14 +21,22 @@ pub fn new_history(alloc: Global, job: &Job) -> Result<History, NoMemory>
     ensures empty { IfOk result (λ h. h.items ≡ []) }
     ensures room { IfOk result (λ h. most_items job.now ≤ h.spare) }
 {
+    History::with_room(alloc, most_items(job))
+}
+
+/// For how many items there has to be room: the job makes no more.
+pub fn most_items(job: &Job) -> u32
+    ensures { most_items job.now ≤ result }
+{
     // Called for its contract alone: the job is within the limits of scripts.
     let _shape = job.shape();
-    machine_core::new_history(alloc, job.ctls(), job.cpus(), job.specs(), task_limits(job))
+    machine_core::most_items(job.ctls(), job.cpus(), job.specs(), task_limits(job))
 }
 
 /// The world of a job before the first step, whose CPUs have this room. The error says that memory ran
-/// out.
-pub(crate) fn new_world(alloc: Global, job: &Job, rooms: CpuRoom) -> Result<World, NoMemory>
+/// out. Those who let the actors step at the same time take it apart ([`World::into_parts`]), and take
+/// the room for a history when they know how many items there are.
+pub fn new_world(alloc: Global, job: &Job, rooms: CpuRoom) -> Result<World, NoMemory>
     ensures limited { IfOk result (λ _. IsLimited job.now) }
     ensures of { IfOk result (λ w. IsFor job.now [] w) }
     ensures opening { IfOk result (λ w. world_of job.now [] w ≡ start job.now) }

@@ -10,7 +10,7 @@
 //! machine, after any items that came before; a step tells the item that the word machine adds; it tells
 //! who is at an end, and the five bytes of each call site. A lemma for the crates above, `whole-site`,
 //! says that these bytes are whole. Only the start takes memory. Whoever keeps items takes the room for
-//! all that a job can make from [`new_history`]; that it is found is only tested, in `actors_tests`.
+//! all that a job can make, by [`most_items`]; that it is found is only tested, in `actors_tests`.
 #![tactic(auto)]
 
 mod cpus;
@@ -18,4 +18,4 @@ mod table;
 mod world;
 
 pub use cpus::{CpuRoom, TaskLimits};
-pub use world::{World, WorldParts, new_history};
+pub use world::{World, WorldParts, most_items};

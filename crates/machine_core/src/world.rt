@@ -27,7 +27,6 @@ use control_core::Control;
 use cpu_core::Cpu;
 use ft_base::{Actor, CpuNo, FuncNo, Item, NoMemory, Stamped};
 use ft_desk::{Ctl, Desk};
-use ft_hist::History;
 use pid_filter::Pids;
 use std::alloc::Global;
 use std::marker::Model;
@@ -255,22 +254,14 @@ fn only(marked: &[Stamped]) -> Item
     marked[0].item
 }
 
-/// An empty history with room for all items: two for each command, and what the calls of all tasks
-/// can make. The error says that memory ran out.
-pub fn new_history(
-    alloc: Global,
-    ctls: &[Ctl],
-    plans: &[CpuPlan],
-    specs: &[Spec],
-    limits: TaskLimits,
-) -> Result<History, NoMemory>
+/// For how many items there has to be room: two for each line of control, and what the calls of all tasks
+/// can make. No job makes more.
+pub fn most_items(ctls: &[Ctl], plans: &[CpuPlan], specs: &[Spec], limits: TaskLimits) -> u32
     requires { (job : Job) × AreListsOf job ctls.now plans.now specs.now limits }
-    ensures empty { IfOk result (λ h. h.items ≡ []) }
-    ensures room { IfOk result (λ h. (job : Job) → AreListsOf job ctls.now plans.now specs.now limits
-        → 2 * length (commands job) + call_bound_in job * all_calls job.tasks ≤ h.spare) }
+    ensures { (job : Job) → AreListsOf job ctls.now plans.now specs.now limits
+        → 2 * length (commands job) + call_bound_in job * all_calls job.tasks ≤ result }
 {
-    let room = 2 * ctls.len() as u32 + all_rooms(plans, specs, limits);
-    History::with_room(alloc, room)
+    2 * ctls.len() as u32 + all_rooms(plans, specs, limits)
 }
 
 /// The word of the traced tasks at the start: all tasks.

@@ -8,13 +8,13 @@ use Rattle.ft_machine.proofs.play.play.Goals as goal
 pub step_into-requires : goal.step_into-requires
 step_into-requires g c =
     let r = c.requires in
-    let i = c.loop-actor.invariant r.0 r.1 r.2 r.3 in
-    (r.0, i.0, i.1, i.2)
+    let i = c.loop-actor.invariant r.0 r.1 r.2 r.3 r.4 in
+    (r.0, i.0, r.2, i.1, i.2)
 
 pub loop-actor-preserved : goal.loop-actor-preserved
-loop-actor-preserved g c = λ job s at took.
-    (let i = c.loop-actor.invariant job s at took in
-    let n = c.step_into.ensures job i.0 i.1 i.2 in (
+loop-actor-preserved g c = λ job s first at took.
+    (let i = c.loop-actor.invariant job s first at took in
+    let n = c.step_into.ensures job i.0 first i.1 i.2 in (
       step job c.in-Some.actor i.0,
       n.0,
       n.1,
@@ -22,16 +22,16 @@ loop-actor-preserved g c = λ job s at took.
     ))
 
 pub returns-then-all_end : goal.returns-then-all_end
-returns-then-all_end g c = λ job s at took.
-    (let i = c.loop-actor.invariant job s at took in
-    let n = c.step_into.ensures job i.0 i.1 i.2 in
+returns-then-all_end g c = λ job s first at took.
+    (let i = c.loop-actor.invariant job s first at took in
+    let n = c.step_into.ensures job i.0 first i.1 i.2 in
     let over = sym (at-ends job _ _ c.all_end.result n.0 c.all_end.ensures) ∙ c.if-all_end.true in
     let rest = goes_on job c.loop-actor.player c.next_actor.new.self c.in-Some.actor i.0 _ _ c.in-Some.ensures.value c.next_actor.ensures.rest refl i.3 in
-    subst (λ (t : World). IsAt job t c.step_into.new.world × g.T.Taker.took job t.past c.step_into.new.taker)
+    subst (λ (t : World). IsAt job t c.step_into.new.world × g.T.Taker.took job t.past first c.step_into.new.taker)
     (stops_over job c.next_actor.new.self _ _ over rest) (n.0, n.1))
 
 pub returns : goal.returns
-returns g c = λ job s at took.
-    (let i = c.loop-actor.invariant job s at took in
-    subst (λ (t : World). IsAt job t c.loop-actor.world × g.T.Taker.took job t.past c.loop-actor.taker)
+returns g c = λ job s first at took.
+    (let i = c.loop-actor.invariant job s first at took in
+    subst (λ (t : World). IsAt job t c.loop-actor.world × g.T.Taker.took job t.past first c.loop-actor.taker)
     (stops_used_up job c.loop-actor.player _ _ (c.next_actor.ensures.used_up.0 (rw c.in_default.is refl)) i.3) (i.1, i.2))

@@ -12,22 +12,23 @@ use Rattle.ft_machine.proofs.PlayLaws.{all-actors, play-is}
 use Rattle.ft_machine.proofs.play.replay_into.Goals as goal
 
 -- a taker of no items
-none-taken : {T : Type 0} (took : Job → List Item → T → Type 0) (job : Job) (taker : T) → took job [] taker → [] ≡ (start job).past
-    → took job (start job).past taker
-none-taken took job taker none past = subst (λ (items : List Item). took job items taker) past none
+none-taken : {T : Type 0} (took : Job → List Item → T → T → Type 0) (job : Job) (taker : T) → took job [] taker taker → [] ≡ (start job).past
+    → took job (start job).past taker taker
+none-taken took job taker none past = subst (λ (items : List Item). took job items taker taker) past none
 
 -- what it has taken after the replay
-plays : {T : Type 0} (took : Job → List Item → T → Type 0) (job : Job) (actors : List Actor) (w : Parts) (taker : T) → actors ≡ actors_of job
-    → IsAt job (played job actors (start job)) w × took job (played job actors (start job)).past taker
-    → IsAt job (play job) w × took job (play job).past taker
-plays took job actors w taker all here =
-    subst (λ (s : World). IsAt job s w × took job s.past taker) (play-is job actors (start job) (played job actors (start job)) all refl refl) here
+plays : {T : Type 0} (took : Job → List Item → T → T → Type 0) (job : Job) (actors : List Actor) (w : Parts) (first taker : T) → actors ≡ actors_of job
+    → IsAt job (played job actors (start job)) w × took job (played job actors (start job)).past first taker
+    → IsAt job (play job) w × took job (play job).past first taker
+plays took job actors w first taker all here =
+    subst (λ (s : World). IsAt job s w × took job s.past first taker) (play-is job actors (start job) (played job actors (start job)) all refl refl) here
 
 pub play-requires : goal.play-requires
 play-requires g c =
     let w = c.in_ok-world.ensures in (
       c.args.job.now,
       start c.args.job.now,
+      c.args.taker.now,
       starts-at c.args.job.now c.in_ok-world.world w.limited w.of w.opening,
       none-taken g.T.Taker.took c.args.job.now c.args.taker.now c.requires (ap (λ (s : World). s.past) w.opening),
     )
@@ -35,35 +36,35 @@ play-requires g c =
 pub returns-clause-taken : goal.returns-clause-taken
 returns-clause-taken g c =
     let w = c.in_ok-world.ensures in
-    (plays g.T.Taker.took c.args.job.now _ c.play.new.world c.play.new.taker
+    (plays g.T.Taker.took c.args.job.now _ c.play.new.world c.args.taker.now c.play.new.taker
     (c.new-player.ensures ∙ all-actors c.args.job.now _ c.shape.result c.schedule.ensures c.shape.ensures.counts)
-    (c.play.ensures c.args.job.now (start c.args.job.now) (starts-at c.args.job.now c.in_ok-world.world w.limited w.of w.opening)
+    (c.play.ensures c.args.job.now (start c.args.job.now) c.args.taker.now (starts-at c.args.job.now c.in_ok-world.world w.limited w.of w.opening)
     (none-taken g.T.Taker.took c.args.job.now c.args.taker.now c.requires (ap (λ (s : World). s.past) w.opening)))).1
 
 pub returns-clause-ended : goal.returns-clause-ended
 returns-clause-ended g c =
     let w = c.in_ok-world.ensures in
-    let at = (plays g.T.Taker.took c.args.job.now _ c.play.new.world c.play.new.taker
+    let at = (plays g.T.Taker.took c.args.job.now _ c.play.new.world c.args.taker.now c.play.new.taker
     (c.new-player.ensures ∙ all-actors c.args.job.now _ c.shape.result c.schedule.ensures c.shape.ensures.counts)
-    (c.play.ensures c.args.job.now (start c.args.job.now) (starts-at c.args.job.now c.in_ok-world.world w.limited w.of w.opening)
+    (c.play.ensures c.args.job.now (start c.args.job.now) c.args.taker.now (starts-at c.args.job.now c.in_ok-world.world w.limited w.of w.opening)
     (none-taken g.T.Taker.took c.args.job.now c.args.taker.now c.requires (ap (λ (s : World). s.past) w.opening)))).0 in
     at-ends c.args.job.now (play c.args.job.now) _ c.all_end.result at c.all_end.ensures
 
 pub returns-clause-legal : goal.returns-clause-legal
 returns-clause-legal g c =
     let w = c.in_ok-world.ensures in
-    let at = (plays g.T.Taker.took c.args.job.now _ c.play.new.world c.play.new.taker
+    let at = (plays g.T.Taker.took c.args.job.now _ c.play.new.world c.args.taker.now c.play.new.taker
     (c.new-player.ensures ∙ all-actors c.args.job.now _ c.shape.result c.schedule.ensures c.shape.ensures.counts)
-    (c.play.ensures c.args.job.now (start c.args.job.now) (starts-at c.args.job.now c.in_ok-world.world w.limited w.of w.opening)
+    (c.play.ensures c.args.job.now (start c.args.job.now) c.args.taker.now (starts-at c.args.job.now c.in_ok-world.world w.limited w.of w.opening)
     (none-taken g.T.Taker.took c.args.job.now c.args.taker.now c.requires (ap (λ (s : World). s.past) w.opening)))).0 in
     at.runs.kept.legal
 
 pub returns-clause-whole : goal.returns-clause-whole
 returns-clause-whole g c = λ over.
     (let w = c.in_ok-world.ensures in
-    let at = (plays g.T.Taker.took c.args.job.now _ c.play.new.world c.play.new.taker
+    let at = (plays g.T.Taker.took c.args.job.now _ c.play.new.world c.args.taker.now c.play.new.taker
     (c.new-player.ensures ∙ all-actors c.args.job.now _ c.shape.result c.schedule.ensures c.shape.ensures.counts)
-    (c.play.ensures c.args.job.now (start c.args.job.now) (starts-at c.args.job.now c.in_ok-world.world w.limited w.of w.opening)
+    (c.play.ensures c.args.job.now (start c.args.job.now) c.args.taker.now (starts-at c.args.job.now c.in_ok-world.world w.limited w.of w.opening)
     (none-taken g.T.Taker.took c.args.job.now c.args.taker.now c.requires (ap (λ (s : World). s.past) w.opening)))).0 in
     whole c.args.job.now (play c.args.job.now) at.limited at.runs _ refl
     (sym (at-ends c.args.job.now (play c.args.job.now) _ c.all_end.result at c.all_end.ensures) ∙ over))

@@ -22,20 +22,20 @@ moved job s w w' a at result o is h =
 pub take-requires : goal.take-requires
 take-requires g c =
     let r = c.requires in
-    let m = moved r.0 r.1 _ c.step.new.self c.args.actor r.2 c.step.result (Some c.in-Some.item) c.in-Some.is c.step.ensures in
-    (r.0, r.1.past, r.2.limited, r.3, step-legal r.0 r.1 _ _ c.args.actor (Some c.in-Some.item) r.2 m)
+    let m = moved r.0 r.1 _ c.step.new.self c.args.actor r.3 c.step.result (Some c.in-Some.item) c.in-Some.is c.step.ensures in
+    (r.0, r.1.past, r.2, r.3.limited, r.4, step-legal r.0 r.1 _ _ c.args.actor (Some c.in-Some.item) r.3 m)
 
 pub returns-in-Some : goal.returns-in-Some
-returns-in-Some g c = λ job s at took.
+returns-in-Some g c = λ job s first at took.
     (let m = moved job s _ c.step.new.self c.args.actor at c.step.result (Some c.in-Some.item) c.in-Some.is c.step.ensures in (
       steps-at job s _ _ c.args.actor (Some c.in-Some.item) at m,
-      subst (λ (past : List Item). g.T.Taker.took job past c.take.new.self) (step-past job s _ _ c.args.actor (Some c.in-Some.item) at m)
-          (c.take.ensures job s.past at.limited took (step-legal job s _ _ c.args.actor (Some c.in-Some.item) at m)),
+      subst (λ (past : List Item). g.T.Taker.took job past first c.take.new.self) (step-past job s _ _ c.args.actor (Some c.in-Some.item) at m)
+          (c.take.ensures job s.past first at.limited took (step-legal job s _ _ c.args.actor (Some c.in-Some.item) at m)),
     ))
 
 pub returns-in_default : goal.returns-in_default
-returns-in_default g c = λ job s at took.
+returns-in_default g c = λ job s first at took.
     (let m = moved job s _ c.step.new.self c.args.actor at c.step.result None c.in_default.is c.step.ensures in (
       steps-at job s _ _ c.args.actor None at m,
-      subst (λ (past : List Item). g.T.Taker.took job past c.args.taker.now) (step-past job s _ _ c.args.actor None at m) took,
+      subst (λ (past : List Item). g.T.Taker.took job past first c.args.taker.now) (step-past job s _ _ c.args.actor None at m) took,
     ))

@@ -1,16 +1,14 @@
-use Rattle.std.proofs.Common.{◌≡◌, ◌≤◌, length, map, refl}
-use Rattle.std.proofs.lemmas.Result.{IfOk-weaker}
+use Rattle.std.proofs.Common.{length, map, refl}
 use Rattle.ft_base.specs.Job.{Job, funcs}
-use Rattle.ft_hist.specs.Shown.{Shown}
 use Rattle.word_map.specs.Shapes.{shape_of}
 use Rattle.ft_desk.specs.Declarations.{Declared, bare}
 use Rattle.ft_desk.specs.Seen.{opened}
 use Rattle.machine_core.specs.Starts.{AreListsOf}
 use Rattle.machine_core.proofs.Opening.{declared-lists}
-use Rattle.ft_machine.specs.Kept.{limits_for, most_items}
+use Rattle.ft_machine.specs.Kept.{limits_for}
 use Rattle.ft_machine.proofs.Declared.{declares}
-use Rattle.ft_machine.proofs.world.new_history.Goals as goal
-use Rattle.ft_machine.proofs.world.new_history.Goals.{After-task_limits}
+use Rattle.ft_machine.proofs.world.most_items.Goals as goal
+use Rattle.ft_machine.proofs.world.most_items.Goals.{After-task_limits}
 
 -- what the job's desk declares
 abbrev declared_for : Job → Declared
@@ -25,10 +23,8 @@ lists c =
     c.shape-shape.ensures.limited refl (record { specs = refl; funcs = refl; tasks = refl; tramps = refl }) c.ctls.ensures c.cpus.ensures.quanta c.cpus.ensures.tasks
     c.cpus.ensures.quick c.specs.ensures refl refl))
 
-pub new_history-requires : goal.new_history-requires
-new_history-requires c = (c.args.job.now, lists (goal.at.new_history-requires c).After-task_limits)
+pub most_items-requires : goal.most_items-requires
+most_items-requires c = (c.args.job.now, lists (goal.at.most_items-requires c).After-task_limits)
 
-pub returns-clause-room : goal.returns-clause-room
-returns-clause-room c =
-    let own = lists (goal.at.returns-clause-room c).After-task_limits in
-    IfOk-weaker c.new_history.result _ (λ (h : Shown). most_items c.args.job.now ≤ h.spare) (λ h enough. enough c.args.job.now own) c.new_history.ensures.room
+pub returns : goal.returns
+returns c = c.most_items.ensures c.args.job.now (lists (goal.at.returns c).After-task_limits)
