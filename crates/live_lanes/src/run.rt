@@ -168,7 +168,7 @@ fn gathered(alloc: Global, live: Live, job: Job, ended: Ended) -> Result<LaneRun
 /// steps, and once more before the call that finds none left, whoever steps them.
 ///
 /// The error says that memory ran out, and hands the job back unchanged. Most memory is taken before
-/// the first step, but not that of the history's order, so the run may have been made.
+/// the first step, but not that of the history and of its order, so the run may have been made.
 ///
 /// It may wait without end: nothing is said of whether a thread gets on.
 pub fn run_lanes<R: Threads + Wait + Sync, G: Gate>(

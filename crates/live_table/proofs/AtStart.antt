@@ -1,15 +1,10 @@
--- What a machine is made of before its first step, and what the seats of its actors keep then.
-use Rattle.std.proofs.Common.{◌≡◌, ℕ, None, ◌*◌, ◌+◌, ◌<◌, ◌≤◌, Bool, true, false, List, [], length, reverse, inl, inr, refl, sym, ap, ◌∙◌, subst, arith}
+-- What the world of a job is made of before its first step, and what the seats of its actors keep then.
+use Rattle.std.proofs.Common.{◌≡◌, ℕ, None, ◌<◌, ◌≤◌, Bool, true, false, List, [], length, inl, inr, refl, sym, ap, ◌∙◌, subst, arith}
 use Rattle.std.specs.List.{range_with_len}
-use Rattle.std.proofs.lemmas.List.{reverse-reverse}
 use Rattle.atomic_table.specs.Seated.{TableId}
 use Rattle.atomic_table.specs.Table.{Me}
-use Rattle.ft_base.specs.declared.item.Item.{Item}
 use Rattle.ft_base.specs.declared.item.Stamped.{Stamped}
-use Rattle.ft_base.specs.Job.{Job, Ctl, commands}
-use Rattle.ft_hist.specs.Shown.{Shown}
-use Rattle.user_specs.specs.Bound.{call_bound_in}
-use Rattle.history_bound.specs.Bound.{all_calls}
+use Rattle.ft_base.specs.Job.{Job, Ctl}
 use Rattle.led_jobs.specs.Led.{in_order}
 use Rattle.led_jobs.specs.Orders.{AreLed}
 use Rattle.led_jobs.proofs.Orders.{whole}
@@ -31,9 +26,8 @@ use Rattle.cpu_core.specs.declared.parts.Parts.{Parts as CpuParts}
 use Rattle.cpu_core.specs.Marks.{Marks}
 use Rattle.machine_core.specs.declared.cpus.CpuRoom.TheVariants.{ForAll}
 use Rattle.machine_core.specs.Starts.{IsFirst}
-use Rattle.machine_core.specs.Worlds.{Parts, words_of, world_of}
+use Rattle.machine_core.specs.Worlds.{IsFor, Parts, words_of, world_of}
 use Rattle.ft_machine.specs.Fed.{control_fed}
-use Rattle.ft_machine.specs.Kept.{IsMachineOf, past_in}
 use Rattle.ft_job.specs.Plans.{AreLinesPlanned}
 use Rattle.live_table.specs.declared.view.View.{View}
 use Rattle.live_table.specs.Seats.{Board, ControlPlace, ControlSits, CpuSits, IsOpen, IsRising, IsTable, control_at, withheld_if}
@@ -143,47 +137,35 @@ cpu-first {S} me job c x l inside is first = subst (λ (u : Me S View). CpuSits 
     none : x.marked.items ≡ []
     none = ap (λ (m : Marks). m.items) first.marked
 
--- ## the machine
+-- ## the table
 
-module _ (job : Job) (w : Parts) (h : Shown) (k : IsMachineOf job w h) (e : world_of job (past_in h) w ≡ start job) where
+pub opens-table : (job : Job) → IsLimited job → (id : TableId) (key : Job) → key ≡ job → id.words ≡ len (shape_of job) → id.slots ≡ 0
+    → IsTable (record { table_id = id; job = key })
+opens-table job l id key same words slots = subst (λ (q : Job). IsTable (record { table_id = id; job = q })) (sym same) record {
+  limited = l;
+  words = words;
+  slots = slots;
+}
+
+-- ## the world
+
+module _ (job : Job) (w : Parts) (is_for : IsFor job [] w) (e : world_of job [] w ≡ start job) where
   words-open : words_of job w.words ≡ opening_words job
   unfolding start
   words-open = ap (λ (s : World). s.words) e
-
-  none-yet : past_in h ≡ []
-  unfolding start
-  none-yet = ap (λ (s : World). s.past) e
 
   control-opens : control_of w.control ≡ control_start job
   unfolding start
   control-opens = ap (λ (s : World). s.control) e
 
-  blank : h.items ≡ []
-  blank = sym (reverse-reverse h.items) ∙ ap (λ (past : List Item). reverse past) none-yet
-
-  space : 2 * length (commands job) + call_bound_in job * all_calls job.tasks ≤ h.spare
-  space = let room = k.room in let none = ap length blank in omega (arith, room, none)
-
-  -- ## the table and its seats
-
-  pub opens-table : IsLimited job → (id : TableId) (key : Job) → key ≡ job → id.words ≡ len (shape_of job) → id.slots ≡ 0 → (room : Shown) → room ≡ h
-      → IsTable (record { table_id = id; job = key }) room
-  opens-table l id key same words slots room is =
-      subst (λ (r : Shown). IsTable (record { table_id = id; job = key }) r) (sym is)
-      (subst (λ (q : Job). IsTable (record { table_id = id; job = q }) h) (sym same) record {
-        limited = l;
-        words = words;
-        slots = slots;
-        empty = blank;
-        space = space;
-      })
+  -- ## control's seat
 
   pub opens-control : {S : Type 0} (me : Me S View) (withheld : Bool) (x : Seated) → IsLimited job → AreLinesPlanned job
       → IsOpening w.control → LeadsAll w.control → me ≡ (control_view job (led_first job withheld) 0 [], []) → x ≡ withheld_if withheld w.control
       → ControlSits {S = S} me x
   opens-control {S} me withheld x l planned opening all is same =
       subst (λ (y : Seated). ControlSits {S = S} me y) (sym same)
-      (withheld-first job w.control k.is_for.control' opening all control-opens {S = S} me withheld l planned is k.is_for.none)
+      (withheld-first job w.control is_for.control' opening all control-opens {S = S} me withheld l planned is is_for.none)
 
   pub opens-place : {S : Type 0} (all : LeadsAll w.control) (me : Me S View) (withheld : Bool) (table id-table : TableId) (id : ℕ) (key : Job) (x : Seated)
       → key ≡ job → id-table ≡ table → me ≡ (control_view job (led_first job withheld) 0 [], []) → x ≡ withheld_if withheld w.control
@@ -192,7 +174,7 @@ module _ (job : Job) (w : Parts) (h : Shown) (k : IsMachineOf job w h) (e : worl
     table_id = seat;
     job = ap (λ (u : Me S View). u.0.job) is ∙ sym same;
     led = ap (λ (u : Me S View). u.0.led) is ∙ ap (λ (q : Job). led_first q withheld) (sym same);
-    order = ap (λ (c : Seated). c.order) same-x ∙ first-order job w.control k.is_for.control' all withheld ∙ ap (λ (q : Job). order_first q withheld) (sym same);
+    order = ap (λ (c : Seated). c.order) same-x ∙ first-order job w.control is_for.control' all withheld ∙ ap (λ (q : Job). order_first q withheld) (sym same);
     split' = ap (λ (u : Me S View). u.0.split) is;
     values = ap (λ (u : Me S View). values_of u.0.parts) is;
   }

@@ -1,5 +1,5 @@
 -- All seats together: what their actors have marked is the history of which the rule speaks.
-use Rattle.std.proofs.Common.{◌≡◌, ℕ, zero, suc, ◌+◌, ◌*◌, ◌<◌, ◌≤◌, List, [], ◌∷◌, ◌++◌, length, map, reverse, slice_get, Some, None, refl, sym, ap, ◌∙◌, subst, arith}
+use Rattle.std.proofs.Common.{◌≡◌, ℕ, zero, suc, ◌+◌, ◌*◌, ◌^◌, ◌<◌, ◌≤◌, List, [], ◌∷◌, ◌++◌, length, map, reverse, slice_get, Some, None, refl, sym, ap, ◌∙◌, subst, arith}
 use Rattle.std.proofs.lemmas.List.{length-reverse, reverse-reverse}
 use Rattle.std.proofs.lemmas.Option.{same_Some}
 use mathlib.Core.Option.{some}
@@ -20,7 +20,7 @@ use Rattle.word_machine.specs.Control.{control_next}
 use Rattle.word_machine.specs.Cpu.{cpu_next}
 use Rattle.word_machine.specs.Machine.{World}
 use Rattle.word_machine_laws.proofs.Ends.{whole}
-use Rattle.word_machine_laws.proofs.Limited.{limited as word-job}
+use Rattle.word_machine_laws.proofs.Limited.{few-commands, limited as word-job}
 use Rattle.ft_machine.specs.Fed.{control_fed, control_items, cpu_fed, cpu_items}
 use Rattle.live_table.specs.declared.view.Part.{Part}
 use Rattle.live_table.specs.declared.view.View.{View}
@@ -81,14 +81,14 @@ always-reached job t r = let s = stands-at r in (s.reached, s.at_first)
 
 -- What the seats of a table have marked, once all are joined, if these lines were led.
 --   placed   each place of the history has one item
---   few      there are no more items than the job can make
+--   few      there are no more items than the job can make, so a number of 32 bits tells how many
 --   turns    the word machine makes the history by the steps of some actors in turn
 --   legal    the history is legal
 --   whole'   it is whole, if each seat is at its end
 pub record Gathered (job : Job) (control : ControlPlace) (cpus : List CpuPlace) : Type 0 where
   pub placed : ArePlaced (total (lists_at control cpus)) (lists_at control cpus)
   pub as_many : length (history_of control cpus) ≡ total (lists_at control cpus)
-  pub few : total (lists_at control cpus) ≤ 2 * length (commands job) + call_bound_in job * all_calls job.tasks
+  pub few : total (lists_at control cpus) < 2 ^ 32
   pub turns : IsMadeByTurns control.led (history_of control cpus)
   pub legal : IsLegal control.led (history_of control cpus)
   pub whole' : AreAtEnd control cpus → IsWhole control.led (history_of control cpus)
@@ -163,7 +163,8 @@ module _ {S : Type 0} (b : Board) (control : ControlPlace) (cpus : List CpuPlace
       placed = subst (λ n. ArePlaced n (lists_at control cpus)) (sym many) placed-past;
       as_many = ap (λ (items : List Item). length items) history-is ∙ length-reverse r.past ∙ sym many;
       few = (let most : length r.past ≤ 2 * length (commands led) + call_bound_in b.job * all_calls b.job.tasks = history-most led r.past now.runs.kept.legal in
-          let e = many in let fewer = commands-few in omega (arith, most, e, fewer));
+          let e = many in let fewer = commands-few in let lines = few-commands b.job.ctls in let ctls = r.limited.ctls in let items = r.limited.items in
+          omega (arith, most, e, fewer, lines, ctls, items));
       turns = subst (λ (job : Job). IsMadeByTurns job (history_of control cpus)) (sym knows)
           (now.reached.0, history-is ∙ ap (λ (w : World). reverse w.past) now.reached.1);
       legal = subst (λ (job : Job). IsLegal job (history_of control cpus)) (sym knows)

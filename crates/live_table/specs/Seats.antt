@@ -1,16 +1,13 @@
 -- What contracts see of the table and of seats.
-use Rattle.std.specs.Prelude.{ℕ, ◌≡◌, ◌+◌, ◌*◌, ◌<◌, ◌≤◌, Bool, true, false, List, [], ◌∷◌, ◌++◌, length, map, reverse, slice_get, Option, Some, None, if◌then◌else◌}
+use Rattle.std.specs.Prelude.{ℕ, ◌≡◌, ◌+◌, ◌<◌, ◌≤◌, Bool, true, false, List, [], ◌∷◌, ◌++◌, length, map, reverse, slice_get, Option, Some, None, if◌then◌else◌}
 use Rattle.atomic_table.specs.Seated.{TableId}
 use Rattle.atomic_table.specs.Table.{Me}
 use Rattle.ft_base.specs.declared.item.Item.{Item}
 use Rattle.ft_base.specs.declared.item.Stamped.{Stamped}
 use Rattle.ft_base.specs.declared.limits.TheConstants.{ITEMS}
 use Rattle.ft_base.specs.declared.turn.Actor.{Actor}
-use Rattle.ft_base.specs.Job.{Job, commands}
+use Rattle.ft_base.specs.Job.{Job}
 use Rattle.ft_hist.specs.Placing.{by_place}
-use Rattle.ft_hist.specs.Shown.{Shown}
-use Rattle.user_specs.specs.Bound.{call_bound_in}
-use Rattle.history_bound.specs.Bound.{all_calls}
 use Rattle.led_jobs.specs.Led.{in_order}
 use Rattle.led_jobs.specs.Orders.{AreLed}
 use Rattle.word_map.specs.Places.{len}
@@ -39,13 +36,11 @@ pub record Board : Type 0 where
   pub table_id : TableId
   pub job : Job
 
--- the table is the job's, and has room for all items that the job can make
-pub record IsTable (b : Board) (room : Shown) : Type 0 where
+-- the table is the job's
+pub record IsTable (b : Board) : Type 0 where
   pub limited : IsLimited b.job
   pub words : b.table_id.words ≡ len (shape_of b.job)
   pub slots : b.table_id.slots ≡ 0
-  pub empty : room.items ≡ []
-  pub space : 2 * length (commands b.job) + call_bound_in b.job * all_calls b.job.tasks ≤ room.spare
 
 -- ## seats
 

@@ -20,6 +20,7 @@
 
 pub mod laws;
 mod live;
+mod rooms;
 mod rule;
 mod seats;
 mod table;

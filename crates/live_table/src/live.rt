@@ -14,6 +14,7 @@ ghost use Rattle.live_table.specs.Seats.{AreAtEnd, AreNew, AreSeats, ControlSits
 ghost use Rattle.live_table.specs.Steps.{ControlLeads, ControlSteps, CpuSteps};
 ghost use Rattle.live_table.specs.Views.{part, view};
 
+use crate::rooms::rooms_for;
 use crate::rule::{Deals, Gathers, Key, Rules};
 use crate::seats::{ControlSeat, CpuSeat};
 use crate::table::{make, make_begin, open, settle};
@@ -24,7 +25,8 @@ use cpu_core::Cpu;
 use ft_base::{CpuNo, NoMemory, Stamped};
 use ft_hist::{History, merge};
 use ft_job::Job;
-use ft_machine::{Machine, MachineParts};
+use ft_machine::new_world;
+use machine_core::{CpuRoom, WorldParts};
 use std::alloc::Global;
 use std::marker::Model;
 use std::snapshot::Snapshot;
@@ -33,8 +35,6 @@ use std::snapshot::Snapshot;
 #[derive(Drop)]
 pub struct Live {
     table: Table<(), View, Key, Rules, Global>,
-    /// Empty, with room for all items that the job can make.
-    room: History,
 }
 
 impl Model for Live {
@@ -44,7 +44,7 @@ impl Model for Live {
 
     ghost view = { λ l. record { table_id = l.table.shared.table_id; job = l.table.shared.key.job.value } };
 
-    ghost invariant = { λ l. IsTable (record { table_id = l.table.shared.table_id; job = l.table.shared.key.job.value }) l.room };
+    ghost invariant = { λ l. IsTable (record { table_id = l.table.shared.table_id; job = l.table.shared.key.job.value }) };
 }
 
 /// A job before its first step, with a seat for each actor.
@@ -79,8 +79,8 @@ pub enum Going {
 }
 
 impl Live {
-    /// The job before its first step, with a seat for each actor and room for all items that the job can
-    /// make. All its lines are led, in their order. The error says that memory ran out.
+    /// The job before its first step, with a seat for each actor, which has room for all items that it can
+    /// mark. All its lines are led, in their order. The error says that memory ran out.
     pub fn start(alloc: Global, job: &Job) -> Result<Started, NoMemory>
         ensures job { IfOk result (λ s. s.live.job ≡ job.now) }
         ensures control { IfOk result (λ s. IsOpen s.live s.control false (length job.now.quanta)) }
@@ -124,14 +124,13 @@ impl Live {
         ensures control { IfOk result (λ r. IsOpen r.0 r.1 withheld 0) }
         ensures cpus { IfOk result (λ r. AreFirst ForAll job.now r.2.items) }
     {
-        let machine = Machine::start_apart(alloc, job)?;
         // A machine that steps as one and actors that step at the same time begin alike.
-        let MachineParts {
+        let world = new_world(alloc, job, CpuRoom::ForAll)?;
+        let WorldParts {
             words,
             mut control,
             cpus,
-            history,
-        } = machine.into_parts();
+        } = world.into_parts();
         withhold_if(&mut control, withheld);
         // For its contract alone: no line has more than one lane.
         let _lanes = job.lanes();
@@ -140,10 +139,7 @@ impl Live {
             withheld,
         };
         let (table, seat) = open(alloc, words.as_slice(), &key)?;
-        let live = Live {
-            table,
-            room: history,
-        };
+        let live = Live { table };
         Ok((live, ControlSeat { seat, control }, cpus))
     }
 
@@ -240,7 +236,7 @@ impl Live {
     /// What the seats' actors have marked, each item at its place, and one at each place: a history that
     /// the word machine makes as well, by the steps of some actors in turn, of the job with the lines
     /// that were led. The table and the seats are used up. All memory is taken before any seat is joined,
-    /// and the fault says that it ran out.
+    /// for as many items as there are, and the fault says that it ran out.
     pub fn gather(
         self,
         alloc: Global,
@@ -256,9 +252,9 @@ impl Live {
         ensures whole { IfOk result (λ h. AreAtEnd control cpus.items → IsWhole control.led h.items) }
         ensures fault { IfErr result (λ e. (e.live ≡ self) × (e.control ≡ control) × (e.cpus.items ≡ cpus.items)) }
     {
-        // For its contract alone: each line was led once, so the room is enough.
+        // For its contract alone: each line was led once, so there are no more items than the job can make.
         let _order = control.order();
-        let Ok(lists) = Vec::with_capacity(alloc, 1 + cpus.len()) else {
+        let Ok((room, lists)) = rooms_for(alloc, &control, cpus.as_slice()) else {
             return Err(GatherFault {
                 live: self,
                 control,
@@ -266,7 +262,7 @@ impl Live {
             });
         };
         let (seat, lists) = self.join_all(control, cpus, lists);
-        let Live { table, room } = self;
+        let Live { table } = self;
         settle(table, seat);
         Ok(merge(room, lists))
     }

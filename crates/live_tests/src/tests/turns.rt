@@ -186,7 +186,8 @@ fn start_one(alloc: Global, job: &Job) -> Option<(Live, ControlSeat, CpuSeat)>
     Some((live, control, cpu))
 }
 
-/// The history of such a table. None if memory runs out.
+/// The history of such a table. None if memory runs out twice: after the first time all is as it was, so
+/// one allocation that is refused (`rt try --test --fail-alloc`) changes nothing.
 fn gather_one(alloc: Global, live: Live, control: ControlSeat, cpu: CpuSeat) -> Option<History>
     requires control { ControlSitsAt live control }
     requires cpu { SitsAt live cpu × (cpu.number ≡ 0) }
@@ -195,7 +196,10 @@ fn gather_one(alloc: Global, live: Live, control: ControlSeat, cpu: CpuSeat) -> 
     let Ok(cpus) = vec![in alloc; cpu] else {
         return None;
     };
-    live.gather(alloc, control, cpus).ok()
+    match live.gather(alloc, control, cpus) {
+        Ok(history) => Some(history),
+        Err(back) => back.live.gather(alloc, back.control, back.cpus).ok(),
+    }
 }
 
 /// The history of a job of one CPU whose seats step in turn. None if memory runs out, if the job has

@@ -1,12 +1,9 @@
 -- The rule held to the end, so what the seats have marked is the history of which it spoke.
-use Rattle.std.proofs.Common.{sym, ap, ◌∙◌, ◌+◌, ◌*◌, List, length, subst, arith}
+use Rattle.std.proofs.Common.{sym, ap, ◌∙◌, List, length, subst, arith}
 use Rattle.ft_base.specs.declared.item.Item.{Item}
-use Rattle.ft_base.specs.Job.{Job, commands}
 use Rattle.ft_hist.specs.Placing.{ArePlaced, by_place, total}
 use Rattle.ft_hist.specs.Rules.{IsLegal, IsWhole}
-use Rattle.user_specs.specs.Bound.{call_bound_in}
-use Rattle.history_bound.specs.Bound.{all_calls}
-use Rattle.live_table.specs.Seats.{IsMadeByTurns, lists_at}
+use Rattle.live_table.specs.Seats.{CpuPlace, IsMadeByTurns, lists_at}
 use Rattle.live_table.proofs.Gathering.{Gathered, gathered}
 use Rattle.live_table.proofs.live.Live.gather.Goals as goal
 use Rattle.live_table.proofs.live.Live.gather.Goals.{After-settle}
@@ -18,15 +15,15 @@ all c =
     c.join_all-seat.ensures.parts c.order-order.ensures.once c.order-order.ensures.led
 
 pub merge-requires-clause-empty : goal.merge-requires-clause-empty
-merge-requires-clause-empty c = c.self.invariant.empty
+merge-requires-clause-empty c = c.in-Ok.ensures.empty.0
 
 pub merge-requires-clause-space : goal.merge-requires-clause-space
 merge-requires-clause-space c =
     let few = (all (goal.at.merge-requires-clause-space c).After-settle).few in
-    let space = c.self.invariant.space in
-    let same = ap (λ (j : Job). 2 * length (commands j) + call_bound_in j * all_calls j.tasks) (ap (λ b. b.job) c.self.view_is) in
     let many = ap total c.join_all-seat.ensures.lists in
-    omega (arith, few, space, same, many)
+    let same = ap (λ (cpus : List CpuPlace). total (lists_at c.args.control cpus)) c.as_slice.ensures.value in
+    let room = c.in-Ok.ensures.items (omega (arith, few, same)) in
+    omega (arith, many, same, room)
 
 pub merge-requires-clause-places : goal.merge-requires-clause-places
 merge-requires-clause-places c =
