@@ -1,3 +1,5 @@
 pub mod TaskLookups
 pub mod SummaryLines
-pub mod TwoTexts
+pub mod FirstText
+pub mod KeptLaws
+pub mod TaskCalls

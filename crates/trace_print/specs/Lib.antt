@@ -1,3 +1,4 @@
 pub mod SummaryText
 pub mod Texts
+pub mod Kept
 pub mod TaskNames

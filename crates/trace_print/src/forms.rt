@@ -1,14 +1,15 @@
 //! The text of a history in each form.
 
-ghost use Rattle.std.specs.Prelude.{◌≡◌, ◌≤◌, ◌++◌, length, Bool, Err, map, reverse, IfOk, OnOk};
+ghost use Rattle.std.specs.Prelude.{◌≡◌, ◌≢◌, ◌≤◌, ◌++◌, ℕ, length, Bool, List, Option, Err, map, IfOk, OnOk};
+ghost use Rattle.ft_base.specs.declared.item.Item.{Item};
 ghost use Rattle.std.specs.Io.KnownBytes.{Appends};
 ghost use Rattle.ft_base.specs.Desk.{desk};
 ghost use Rattle.ft_base.specs.Job.{funcs};
-ghost use Rattle.ft_hist.specs.Past.{done};
 ghost use Rattle.ft_hist.specs.Rules.{IsLegal};
 ghost use Rattle.ft_io.specs.Causes.{Rose, AppendsFront};
-ghost use Rattle.ft_io.specs.Pieces.{Puts};
-ghost use Rattle.trace_views.specs.LogText.{log_text};
+ghost use Rattle.ft_io.specs.Pieces.{IsUnderWay};
+ghost use Rattle.trace_views.specs.LogText.{log_lines, log_text};
+ghost use Rattle.trace_print.specs.Kept.{IsEnoughFor, IsKeptOf};
 ghost use Rattle.trace_print.specs.Texts.{body_of, fold_text, text_of};
 ghost use Rattle.trace_views.specs.EnabledText.{enabled_line_text, enabled_lines};
 ghost use Rattle.ft_job.specs.Plans.{row_of};
@@ -17,6 +18,7 @@ ghost use Rattle.trace_views.specs.RingLines.{HasEntries};
 ghost use Rattle.trace_views.specs.RingsText.{rings_text};
 ghost use Rattle.trace_views.specs.Words.{last_line, lines_text};
 
+use crate::kept::Kept;
 use crate::names::Names;
 use ft_base::NoMemory;
 use ft_hist::History;
@@ -26,7 +28,7 @@ use ft_words::Form;
 use ring_rules::Rings;
 use std::alloc::Global;
 use thiserror::Error;
-use trace_lines::{GrownText, last_line, put_lines, put_log};
+use trace_lines::{GrownText, Line, last_line, put_lines, put_log};
 use trace_rings::fold_rings;
 use trace_views::{
     EnabledLine, FunctionLine, GraphLine, ModuleLine, ProfileLine, RingsLine, enabled_lines,
@@ -57,16 +59,12 @@ enum Lines {
     Rings(Vec<RingsLine>),
 }
 
-/// Works out the lines of the form enabled.
-fn lines_of_desk(
-    alloc: Global,
-    names: &Names,
-    history: &History,
-) -> Result<Vec<EnabledLine>, NoMemory>
+/// Works out the lines of the form enabled, after so many commands have returned.
+fn lines_of_desk(alloc: Global, names: &Names, returned: u32) -> Result<Vec<EnabledLine>, NoMemory>
     ensures { IfOk result (λ lines. lines_text (enabled_line_text names.now) lines.items
-        ≡ enabled_lines names.now (desk names.now (done (reverse history.now.items))) 0 (funcs names.now)) }
+        ≡ enabled_lines names.now (desk names.now returned) 0 (funcs names.now)) }
 {
-    let desk = names.job().desk(alloc, returned(history))?;
+    let desk = names.job().desk(alloc, returned)?;
     enabled_lines(alloc, names, &desk)
 }
 
@@ -133,35 +131,13 @@ fn lines_of(alloc: Global, names: &Names, history: &History, form: Form) -> Resu
         Form::Function => Ok(Lines::Function(function_lines(alloc, names, history)?)),
         Form::Graph => Ok(Lines::Graph(graph_lines(alloc, names, history)?)),
         Form::Profile => Ok(Lines::Profile(profile_lines(alloc, names, history)?)),
-        Form::Enabled => Ok(Lines::Enabled(lines_of_desk(alloc, names, history)?)),
+        Form::Enabled => Ok(Lines::Enabled(lines_of_desk(alloc, names, returned(history))?)),
         Form::Modules => Ok(Lines::Modules(lines_of_modules(alloc, names)?)),
         Form::Rings => lines_of_fold(alloc, names, history),
     }
 }
 
-/// Puts the lines of a form.
-fn put_body<K: Sink>(
-    pieces: &mut Pieces,
-    sink: &mut K,
-    names: &Names,
-    history: &History,
-    lines: &Lines,
-)
-    ensures { Puts K.holds K.faults (body_of names.now history.now.items lines.now)
-        sink.old pieces.old sink.new pieces.new }
-{
-    match lines {
-        Lines::Log => put_log(pieces, sink, names, history),
-        Lines::Function(lines) => put_lines(pieces, sink, names, lines.as_slice()),
-        Lines::Graph(lines) => put_lines(pieces, sink, names, lines.as_slice()),
-        Lines::Profile(lines) => put_lines(pieces, sink, names, lines.as_slice()),
-        Lines::Enabled(lines) => put_lines(pieces, sink, names, lines.as_slice()),
-        Lines::Modules(lines) => put_lines(pieces, sink, names, lines.as_slice()),
-        Lines::Rings(lines) => put_lines(pieces, sink, names, lines.as_slice()),
-    }
-}
-
-/// Writes lines and the last line. The memory for the pieces is the last that is taken.
+/// Writes lines and the last line.
 fn send<K: Sink>(
     alloc: Global,
     names: &Names,
@@ -178,10 +154,71 @@ fn send<K: Sink>(
     ensures memory { result ≡ Err TextFail.NoMemory → sink.new ≡ sink.old }
     ensures faults { K.faults sink.old ≤ K.faults sink.new }
 {
+    match lines {
+        Lines::Log => send_log(alloc, names, history, ended, sink),
+        Lines::Function(lines) => send_lines(alloc, names, lines.as_slice(), ended, sink),
+        Lines::Graph(lines) => send_lines(alloc, names, lines.as_slice(), ended, sink),
+        Lines::Profile(lines) => send_lines(alloc, names, lines.as_slice(), ended, sink),
+        Lines::Enabled(lines) => send_lines(alloc, names, lines.as_slice(), ended, sink),
+        Lines::Modules(lines) => send_lines(alloc, names, lines.as_slice(), ended, sink),
+        Lines::Rings(lines) => send_lines(alloc, names, lines.as_slice(), ended, sink),
+    }
+}
+
+/// Writes a line for each item, and the last line. The memory for the pieces is the last that is taken.
+fn send_log<K: Sink>(
+    alloc: Global,
+    names: &Names,
+    history: &History,
+    ended: bool,
+    sink: &mut K,
+) -> Result<(), TextFail>
+    ensures all { OnOk result (Appends (K.holds sink.old) (K.holds sink.new) (log_lines names.now 0 history.now.items ++ last_line ended)) }
+    ensures front { result ≡ Err TextFail.Sink → AppendsFront (K.holds sink.old) (K.holds sink.new) (log_lines names.now 0 history.now.items ++ last_line ended) }
+    ensures fault { result ≡ Err TextFail.Sink → Rose (K.faults sink.old) (K.faults sink.new) }
+    ensures memory { result ≡ Err TextFail.NoMemory → sink.new ≡ sink.old }
+    ensures faults { K.faults sink.old ≤ K.faults sink.new }
+{
     let Ok(mut pieces) = Pieces::new(alloc) else {
         return Err(TextFail::NoMemory);
     };
-    put_body(&mut pieces, sink, names, history, lines);
+    put_log(&mut pieces, sink, names, history);
+    finish(pieces, sink, ended)
+}
+
+/// Writes lines that are worked out, and the last line, in the same way.
+fn send_lines<L: Line, K: Sink>(
+    alloc: Global,
+    names: &Names,
+    lines: &[L],
+    ended: bool,
+    sink: &mut K,
+) -> Result<(), TextFail>
+    ensures all { OnOk result (Appends (K.holds sink.old) (K.holds sink.new) (lines_text (L.text names.now) lines.now ++ last_line ended)) }
+    ensures front { result ≡ Err TextFail.Sink → AppendsFront (K.holds sink.old) (K.holds sink.new) (lines_text (L.text names.now) lines.now ++ last_line ended) }
+    ensures fault { result ≡ Err TextFail.Sink → Rose (K.faults sink.old) (K.faults sink.new) }
+    ensures memory { result ≡ Err TextFail.NoMemory → sink.new ≡ sink.old }
+    ensures faults { K.faults sink.old ≤ K.faults sink.new }
+{
+    let Ok(mut pieces) = Pieces::new(alloc) else {
+        return Err(TextFail::NoMemory);
+    };
+    put_lines(&mut pieces, sink, names, lines);
+    finish(pieces, sink, ended)
+}
+
+/// Puts the last line after the text that is under way, and writes what is still held.
+fn finish<K: Sink>(mut pieces: Pieces, sink: &mut K, ended: bool) -> Result<(), TextFail>
+    ensures all { (text : List ℕ) (begin : Option (List ℕ)) (before : ℕ) → IsUnderWay K.holds K.faults text begin before sink.old pieces
+        → OnOk result (Appends begin (K.holds sink.new) (text ++ last_line ended)) }
+    ensures front { (text : List ℕ) (begin : Option (List ℕ)) (before : ℕ) → IsUnderWay K.holds K.faults text begin before sink.old pieces
+        → result ≡ Err TextFail.Sink → AppendsFront begin (K.holds sink.new) (text ++ last_line ended) }
+    ensures fault { (text : List ℕ) (begin : Option (List ℕ)) (before : ℕ) → IsUnderWay K.holds K.faults text begin before sink.old pieces
+        → result ≡ Err TextFail.Sink → Rose before (K.faults sink.new) }
+    ensures later { (text : List ℕ) (begin : Option (List ℕ)) (before : ℕ) → IsUnderWay K.holds K.faults text begin before sink.old pieces
+        → before ≤ K.faults sink.new }
+    ensures memory { result ≢ Err TextFail.NoMemory }
+{
     pieces.put(sink, last_line(ended).as_bytes());
     match pieces.finish(sink) {
         Ok(()) => Ok(()),
@@ -214,10 +251,76 @@ pub fn write_text<K: Sink>(
     let Ok(names) = Names::new(alloc, job) else {
         return Err(TextFail::NoMemory);
     };
-    let Ok(lines) = lines_of(alloc, &names, history, form) else {
+    send_text(alloc, &names, history, ended, form, sink)
+}
+
+/// The same, with the names of the job.
+fn send_text<K: Sink>(
+    alloc: Global,
+    names: &Names,
+    history: &History,
+    ended: bool,
+    form: Form,
+    sink: &mut K,
+) -> Result<(), TextFail>
+    requires { IsLegal names.now history.now.items }
+    ensures all { OnOk result (Appends (K.holds sink.old) (K.holds sink.new) (text_of form names.now history.now.items ended)) }
+    ensures front { result ≡ Err TextFail.Sink → AppendsFront (K.holds sink.old) (K.holds sink.new) (text_of form names.now history.now.items ended) }
+    ensures fault { result ≡ Err TextFail.Sink → Rose (K.faults sink.old) (K.faults sink.new) }
+    ensures memory { result ≡ Err TextFail.NoMemory → sink.new ≡ sink.old }
+    ensures faults { K.faults sink.old ≤ K.faults sink.new }
+{
+    let Ok(lines) = lines_of(alloc, names, history, form) else {
         return Err(TextFail::NoMemory);
     };
-    send(alloc, &names, history, &lines, ended, sink)
+    send(alloc, names, history, &lines, ended, sink)
+}
+
+/// The text of a history, of what was kept of it, as [`write_text`] writes it.
+pub fn write_kept<K: Sink>(
+    alloc: Global,
+    job: &Job,
+    kept: &Kept,
+    ended: bool,
+    form: Form,
+    sink: &mut K,
+) -> Result<(), TextFail>
+    requires enough { IsEnoughFor form kept.now }
+    requires legal { (items : List Item) × IsKeptOf job.now items kept.now × IsLegal job.now items }
+    ensures all { (items : List Item) → IsKeptOf job.now items kept.now → OnOk result (Appends (K.holds sink.old) (K.holds sink.new)
+        (text_of form job.now items ended)) }
+    ensures front { (items : List Item) → IsKeptOf job.now items kept.now → result ≡ Err TextFail.Sink → AppendsFront (K.holds sink.old) (K.holds sink.new)
+        (text_of form job.now items ended) }
+    ensures fault { result ≡ Err TextFail.Sink → Rose (K.faults sink.old) (K.faults sink.new) }
+    ensures memory { result ≡ Err TextFail.NoMemory → sink.new ≡ sink.old }
+    ensures faults { K.faults sink.old ≤ K.faults sink.new }
+{
+    let Ok(names) = Names::new(alloc, job) else {
+        return Err(TextFail::NoMemory);
+    };
+    match kept {
+        Kept::History(history) => send_text(alloc, &names, history, ended, form, sink),
+        Kept::Function(view) => send_lines(alloc, &names, view.lines(), ended, sink),
+        Kept::Profile(view) => {
+            let Ok(lines) = view.lines(alloc, &names) else {
+                return Err(TextFail::NoMemory);
+            };
+            send_lines(alloc, &names, lines.as_slice(), ended, sink)
+        }
+        Kept::Returned(returned) => {
+            let Ok(lines) = lines_of_desk(alloc, &names, *returned) else {
+                return Err(TextFail::NoMemory);
+            };
+            send_lines(alloc, &names, lines.as_slice(), ended, sink)
+        }
+        Kept::Nothing => {
+            let Ok(lines) = lines_of_modules(alloc, &names) else {
+                return Err(TextFail::NoMemory);
+            };
+            send_lines(alloc, &names, lines.as_slice(), ended, sink)
+        }
+        Kept::Totals(_) => unreachable!(),
+    }
 }
 
 /// Writes the text of a history of the job, form log, as [`write_text`] does. The history need not
@@ -240,7 +343,7 @@ pub fn write_log<K: Sink>(
     let Ok(names) = Names::new(alloc, job) else {
         return Err(TextFail::NoMemory);
     };
-    send(alloc, &names, history, &Lines::Log, ended, sink)
+    send_log(alloc, &names, history, ended, sink)
 }
 
 /// Writes the text of rings of the job, form rings, as [`write_text`] does: of those that threads have

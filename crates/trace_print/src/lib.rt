@@ -15,20 +15,25 @@
 //! specs define it; [`write_text`] writes it to a sink in pieces, or a beginning of it if the sink
 //! fails, and [`write_log`] does so with the form log of any history; [`print_rings`] and
 //! [`write_rings`] do so with the form rings, of rings that threads have kept; [`summary`] gives exactly
-//! the counts; [`read_log`] reads the form log back. Only tested, in `trace_print_tests` and `ft_app_tests`: that memory is found.
+//! the counts; [`read_log`] reads the form log back. A [`Kept`] takes the items of a replay as they are
+//! marked and keeps what a form or the summary needs of them, and [`write_kept`] and [`summary_kept`] make
+//! of it the same texts as of all items. Only tested, in `trace_print_tests` and `ft_app_tests`: that memory
+//! is found.
 //!
 //! A form is worked out line by line, as numbers, which takes memory (`trace_views`). Then the lines
 //! are put, which takes none (`trace_lines`): what was written can't be taken back if memory runs out.
 #![tactic(auto)]
 
 mod forms;
+mod kept;
 mod names;
 mod read;
 mod totals;
 
-pub use forms::{TextFail, print, print_rings, write_log, write_rings, write_text};
+pub use forms::{TextFail, print, print_rings, write_kept, write_log, write_rings, write_text};
 pub use ft_words::Form;
+pub use kept::Kept;
 pub use log_reader::{Log, ReadFail};
 pub use read::read_log;
-pub use totals::summary;
+pub use totals::{summary, summary_kept};
 pub use trace_lines::laws;

@@ -1,14 +1,19 @@
 //! The summary of a history: how many items of each kind it has.
 
-ghost use Rattle.std.specs.Prelude.{◌≡◌, ◌++◌, IfOk, OnOk, string_bytes};
+ghost use Rattle.std.specs.Prelude.{◌≡◌, ◌++◌, List, IfOk, OnOk, string_bytes};
+ghost use Rattle.ft_base.specs.declared.item.Item.{Item};
+ghost use Rattle.ft_base.specs.Job.{Job as PlainJob};
+ghost use Rattle.trace_views.specs.Counted.{AreTotals};
+ghost use Rattle.trace_print.specs.Kept.{IsForSummary, IsKeptOf};
 ghost use Rattle.trace_print.specs.SummaryText.{number_line, summary_text};
 
+use crate::kept::Kept;
 use ft_base::NoMemory;
 use ft_hist::History;
 use std::alloc::{AllocError, Global};
 use std::fmt::Write;
 use trace_lines::last_line;
-use trace_views::counted;
+use trace_views::Totals;
 
 /// Adds a line of a word and a number.
 fn push_number(text: &mut String, word: &str, n: u32) -> Result<(), AllocError>
@@ -18,18 +23,13 @@ fn push_number(text: &mut String, word: &str, n: u32) -> Result<(), AllocError>
 }
 
 /// The text, or the error of an allocation.
-fn write_summary(
-    alloc: Global,
-    n: u32,
-    history: &History,
-    ended: bool,
-) -> Result<String, AllocError>
-    ensures { IfOk result (λ text. string_bytes text ≡ summary_text n history.now.items ended) }
+fn write_summary(alloc: Global, n: u32, totals: Totals, ended: bool) -> Result<String, AllocError>
+    ensures { (items : List Item) → AreTotals items totals → IfOk result (λ text. string_bytes text ≡ summary_text n items ended) }
 {
     let mut text = String::new(alloc);
-    let counts = counted(history);
+    let counts = totals.counts;
     push_number(&mut text, "seed", n)?;
-    push_number(&mut text, "items", history.len())?;
+    push_number(&mut text, "items", totals.items)?;
     push_number(&mut text, "calls", counts.calls)?;
     push_number(&mut text, "backs", counts.backs)?;
     push_number(&mut text, "refused", counts.refused)?;
@@ -45,7 +45,26 @@ fn write_summary(
 pub fn summary(alloc: Global, n: u32, history: &History, ended: bool) -> Result<Vec<u8>, NoMemory>
     ensures { IfOk result (λ text. text.items ≡ summary_text n history.now.items ended) }
 {
-    match write_summary(alloc, n, history, ended) {
+    summary_of(alloc, n, Totals::of(history), ended)
+}
+
+/// The same, of what was kept of the history.
+pub fn summary_kept(alloc: Global, n: u32, kept: &Kept, ended: bool) -> Result<Vec<u8>, NoMemory>
+    requires { IsForSummary kept.now }
+    ensures { (job : PlainJob) (items : List Item) → IsKeptOf job items kept.now → IfOk result (λ text. text.items ≡ summary_text n items ended) }
+{
+    match kept {
+        Kept::History(history) => summary(alloc, n, history, ended),
+        Kept::Totals(totals) => summary_of(alloc, n, *totals, ended),
+        Kept::Function(_) | Kept::Profile(_) | Kept::Returned(_) | Kept::Nothing => unreachable!(),
+    }
+}
+
+/// The text of totals. The error says that memory ran out.
+fn summary_of(alloc: Global, n: u32, totals: Totals, ended: bool) -> Result<Vec<u8>, NoMemory>
+    ensures { (items : List Item) → AreTotals items totals → IfOk result (λ text. text.items ≡ summary_text n items ended) }
+{
+    match write_summary(alloc, n, totals, ended) {
         Ok(text) => Ok(text.into_bytes()),
         Err(_) => Err(NoMemory),
     }

@@ -1,4 +1,5 @@
-//! A text in memory and in a sink, and the log of items that are no history of a job.
+//! A text in memory and in a sink, of a whole history and of what is kept of it, and the log of items that are
+//! no history of a job.
 
 ghost use Rattle.ft_hist.specs.Rules.{IsLegal};
 
@@ -7,11 +8,13 @@ use ft_base::{Answer, Item, NoMemory};
 use ft_hist::History;
 use ft_io::MemSink;
 use ft_job::Job;
-use ft_machine::{Outcome, replay};
+use ft_machine::{Outcome, most_items, replay, replay_into};
 use ft_script::read_script;
 use std::alloc::Global;
 use std::test::Fail;
-use trace_print::{Form, TextFail, print, print_rings, write_log, write_rings, write_text};
+use trace_print::{
+    Form, Kept, TextFail, print, print_rings, write_kept, write_log, write_rings, write_text,
+};
 use trace_rings::fold_rings;
 
 /// Room for each text here.
@@ -148,6 +151,28 @@ fn a_sink_gets_what_is_printed(rt: HostRuntime) -> Result<(), Fail> {
     let outcome = replay(alloc, &job)?;
     for form in &FORMS {
         assert!(rt; is_printed(alloc, &job, &outcome, *form)?);
+    }
+    Ok(())
+}
+
+/// Whether what a replay keeps for a form comes to the text that the whole history has.
+fn is_kept(alloc: Global, job: &Job, outcome: &Outcome, form: Form) -> Result<bool, Fail>
+    requires { IsLegal job.now outcome.now.history.items }
+{
+    let mut kept = Kept::for_form(alloc, job, most_items(job), form)?;
+    let ended = replay_into(alloc, job, &mut kept)?;
+    let mut sink = sink_of(alloc, ROOM)?;
+    let written = write_kept(alloc, job, &kept, ended, form, &mut sink);
+    Ok(written == Ok(()) && is_written(alloc, job, outcome, form, sink.bytes())?)
+}
+
+#[test]
+fn what_is_kept_is_enough(rt: HostRuntime) -> Result<(), Fail> {
+    let alloc = rt.alloc();
+    let job = each_kind(alloc)?;
+    let outcome = replay(alloc, &job)?;
+    for form in &FORMS {
+        assert!(rt; is_kept(alloc, &job, &outcome, *form)?);
     }
     Ok(())
 }

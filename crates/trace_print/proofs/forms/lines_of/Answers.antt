@@ -1,11 +1,12 @@
 use Rattle.std.proofs.Common.{List, ℕ, ◌++◌, ap, refl, ◌∙◌, append_assoc}
-use Rattle.ft_base.specs.Job.{ModuleRow}
+use Rattle.ft_base.specs.Desk.{desk}
+use Rattle.ft_base.specs.Job.{ModuleRow, funcs}
 use Rattle.trace_views.specs.Words.{last_line, numbered_texts, lines_text}
 use Rattle.trace_views.specs.LogText.{log_text}
 use Rattle.trace_views.specs.FunctionText.{function_text}
 use Rattle.trace_views.specs.GraphText.{graph_text}
 use Rattle.trace_views.specs.ProfileText.{profile_text, user_profile, fprobe_line}
-use Rattle.trace_views.specs.EnabledText.{enabled_text}
+use Rattle.trace_views.specs.EnabledText.{enabled_lines, enabled_text}
 use Rattle.trace_views.specs.ModulesText.{row_of_line, module_line, modules_text}
 use Rattle.trace_views.proofs.LineTexts.{lines-read}
 use Rattle.trace_print.proofs.forms.lines_of.Goals as goal
@@ -33,7 +34,8 @@ returns-in_ok-profile_lines-in-Profile c =
 pub returns-in_ok-lines_of_desk-in-Enabled : goal.returns-in_ok-lines_of_desk-in-Enabled
 unfolding enabled_text
 returns-in_ok-lines_of_desk-in-Enabled c =
-    rw c.in-Enabled.is (λ ended. ap (λ (t : List ℕ). t ++ last_line ended) c.in_ok-lines_of_desk-in-Enabled.ensures)
+    rw c.in-Enabled.is (λ ended. ap (λ (t : List ℕ). t ++ last_line ended) (c.in_ok-lines_of_desk-in-Enabled.ensures
+    ∙ ap (λ n. enabled_lines c.args.names.now (desk c.args.names.now n) 0 (funcs c.args.names.now)) c.returned.ensures))
 
 pub returns-in_ok-lines_of_modules-in-Modules : goal.returns-in_ok-lines_of_modules-in-Modules
 unfolding modules_text

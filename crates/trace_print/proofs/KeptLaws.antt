@@ -1,0 +1,96 @@
+-- What is kept of a history, item by item.
+use Rattle.std.proofs.Common.{◌≡◌, ℕ, ◌+◌, ◌<◌, ◌≤◌, ◌^◌, Bool, List, ◌∷◌, ◌++◌, [], length, reverse, sym, ap, ap₂, ◌∙◌, subst, arith, append_assoc}
+use Rattle.std.proofs.lemmas.List.{length-reverse, reverse-append, reverse-reverse}
+use Rattle.ft_base.specs.declared.item.Item.{Item}
+use Rattle.ft_base.specs.Desk.{desk}
+use Rattle.ft_base.specs.Job.{Job, funcs}
+use Rattle.ft_hist.specs.Past.{done}
+use Rattle.ft_hist.specs.Rules.{IsLegalPast}
+use Rattle.history_bound.proofs.Bounded.{history-most}
+use Rattle.word_machine.specs.Limits.{IsLimited}
+use Rattle.ft_words.specs.declared.order.Form.{Form}
+use Rattle.ft_words.specs.declared.order.Form.TheVariants as forms
+use Rattle.ft_machine.specs.Kept.{most_items}
+use Rattle.ft_machine.proofs.Bounds.{past-few}
+use Rattle.trace_views.specs.Counted.{AreTotals}
+use Rattle.trace_views.specs.declared.counts.Totals.{Totals as Counted}
+use Rattle.trace_views.specs.EnabledText.{enabled_lines, enabled_text}
+use Rattle.trace_views.specs.FunctionText.{function_part, function_text}
+use Rattle.trace_views.specs.FunctionViews.{HasFunction}
+use Rattle.trace_views.specs.ModulesText.{module_line, modules_text}
+use Rattle.trace_views.specs.ProfileText.{fprobe_line, profile_text, user_profile}
+use Rattle.trace_views.specs.ProfileViews.{HasProfile}
+use Rattle.trace_views.specs.Returned.{done_with}
+use Rattle.trace_views.specs.Words.{item_texts, last_line, lines_text, numbered_texts}
+use Rattle.trace_views.proofs.ReturnedLaws.{done-le, done-more}
+use Rattle.trace_print.specs.declared.kept.Kept.{Kept}
+use Rattle.trace_print.specs.declared.kept.Kept.TheVariants.{History, Function, Profile, Returned, Nothing, Totals}
+use Rattle.trace_print.specs.Kept.{Has, IsKeptOf}
+use Rattle.trace_print.specs.Texts.{text_of}
+
+-- one more item
+module _ (job : Job) (limited : IsLimited job) (past : List Item) (item : Item) (legal : IsLegalPast job (item ∷ past)) where
+  pub returned-few : (n : ℕ) → n ≡ done past → n + 1 < 2 ^ 32
+  returned-few n is = let few = past-few job limited (item ∷ past) legal in let le = done-le past in omega (arith, is, few, le)
+
+  pub totals-few : length (reverse past) + 1 < 2 ^ 32
+  totals-few = let few = past-few job limited (item ∷ past) legal in let same = length-reverse past in omega (arith, few, same)
+
+  pub past-room : length past + 1 < 2 ^ 32
+  past-room = let few = past-few job limited (item ∷ past) legal in omega (arith, few)
+
+pub returned-next : (past : List Item) (item : Item) (n m : ℕ) → n ≡ done past → m ≡ done_with item n → m ≡ done (item ∷ past)
+returned-next past item n m is next = next ∙ ap (done_with item) is ∙ sym (done-more item past)
+
+pub totals-next : (past : List Item) (item : Item) (t : Counted) → AreTotals (reverse past ++ item ∷ []) t → AreTotals (reverse (item ∷ past)) t
+totals-next past item t are = subst (λ (xs : List Item). AreTotals xs t) (sym (reverse-append (item ∷ []) past)) are
+
+-- a view has room for one more line
+pub views-few : (job : Job) (past : List Item) (item : Item) → IsLegalPast job (item ∷ past) → (room : ℕ) → most_items job ≤ room → length past < room
+views-few job past item legal room most = let few = history-most job (item ∷ past) legal in omega (arith, few, most)
+
+-- so what was kept is kept of these items
+pub has-kept : (job : Job) (past : List Item) (kept : Kept) → Has job past kept → IsKeptOf job (reverse past) kept
+has-kept job past (History h) has = sym (reverse-reverse h.items) ∙ ap (λ (xs : List Item). reverse xs) has.items
+has-kept job past (Function v) has = (has.0, subst (λ (xs : List Item). HasFunction job has.0 xs v) (sym (reverse-reverse past)) has.1)
+has-kept job past (Profile v) has = subst (λ (xs : List Item). HasProfile job xs v) (sym (reverse-reverse past)) has
+has-kept job past (Returned n) has = has ∙ ap done (sym (reverse-reverse past))
+has-kept job past Nothing has = tt
+has-kept job past (Totals t) has = has
+
+-- ## texts, of what is kept for a form
+
+-- lines that are sent, with the names of a job
+pub as-sent : {L : Type 0} (text : Job → L → List ℕ) (names job : Job) (slice lines : List L) (ended : Bool) → names ≡ job → slice ≡ lines
+    → lines_text (text names) slice ++ last_line ended ≡ lines_text (text job) lines ++ last_line ended
+as-sent {L} text names job slice lines ended own same = ap₂ (λ (j : Job) (ls : List L). lines_text (text j) ls ++ last_line ended) own same
+
+module _ (job : Job) (form : Form) (items : List Item) (ended : Bool) where
+  pub function-is : form ≡ forms.Function → (text : List ℕ) → text ≡ item_texts (function_part job) [] (reverse (reverse items))
+      → text ++ last_line ended ≡ text_of form job items ended
+  unfolding function_text
+  function-is is text same =
+      ap (λ (t : List ℕ). t ++ last_line ended) (same ∙ ap (λ (xs : List Item). item_texts (function_part job) [] xs) (reverse-reverse items))
+      ∙ ap (λ (f : Form). text_of f job items ended) (sym is)
+
+  pub profile-is : form ≡ forms.Profile → (text : List ℕ)
+      → text ≡ numbered_texts (user_profile job (reverse (reverse items))) 0 job.users ++ numbered_texts (fprobe_line (reverse (reverse items))) 0 job.users
+      → text ++ last_line ended ≡ text_of form job items ended
+  unfolding profile_text
+  profile-is is text same =
+      ap (λ (t : List ℕ). t ++ last_line ended)
+      (same ∙ ap (λ (xs : List Item). numbered_texts (user_profile job xs) 0 job.users ++ numbered_texts (fprobe_line xs) 0 job.users) (reverse-reverse items))
+      ∙ append_assoc (numbered_texts (user_profile job items) 0 job.users) (numbered_texts (fprobe_line items) 0 job.users) (last_line ended)
+      ∙ ap (λ (f : Form). text_of f job items ended) (sym is)
+
+  pub enabled-is : form ≡ forms.Enabled → (n : ℕ) → n ≡ done (reverse items) → (text : List ℕ) → text ≡ enabled_lines job (desk job n) 0 (funcs job)
+      → text ++ last_line ended ≡ text_of form job items ended
+  unfolding enabled_text
+  enabled-is is n count text same =
+      ap (λ (t : List ℕ). t ++ last_line ended) (same ∙ ap (λ k. enabled_lines job (desk job k) 0 (funcs job)) count)
+      ∙ ap (λ (f : Form). text_of f job items ended) (sym is)
+
+  pub modules-is : form ≡ forms.Modules → (text : List ℕ) → text ≡ lines_text (module_line job) job.lines.modules
+      → text ++ last_line ended ≡ text_of form job items ended
+  unfolding modules_text
+  modules-is is text same = ap (λ (t : List ℕ). t ++ last_line ended) same ∙ ap (λ (f : Form). text_of f job items ended) (sym is)

@@ -1,0 +1,83 @@
+-- What is kept of a history for a text.
+use Rattle.std.specs.Prelude.{ℕ, ◌≡◌, ◌≤◌, List, reverse}
+use Rattle.ft_base.specs.declared.item.Item.{Item}
+use Rattle.ft_base.specs.Job.{Job}
+use Rattle.ft_hist.specs.Past.{done}
+use Rattle.ft_machine.specs.Kept.{HasPast, most_items}
+use Rattle.ft_words.specs.declared.order.Form.{Form}
+use Rattle.ft_words.specs.declared.order.Form.TheVariants as forms
+use Rattle.trace_views.specs.Counted.{AreTotals}
+use Rattle.trace_views.specs.FunctionViews.{HasFunction}
+use Rattle.trace_views.specs.ProfileViews.{HasProfile}
+use Rattle.trace_print.specs.declared.kept.Kept.{Kept}
+use Rattle.trace_print.specs.declared.kept.Kept.TheVariants.{History, Function, Profile, Returned, Nothing, Totals}
+
+-- ## of which items
+
+-- it is kept of these items of a job, the latest first, and there is room for those that can still come
+abbrev pub Has : Job → List Item → Kept → Type 0
+Has job past (History h) = HasPast job past h
+Has job past (Function v) = (room : ℕ) × HasFunction job room past v × (most_items job ≤ room)
+Has job past (Profile v) = HasProfile job past v
+Has job past (Returned n) = n ≡ done past
+Has job past Nothing = Unit {0}
+Has job past (Totals t) = AreTotals (reverse past) t
+
+-- it is kept of these items of a job, in order
+abbrev pub IsKeptOf : Job → List Item → Kept → Type 0
+IsKeptOf job items (History h) = h.items ≡ items
+IsKeptOf job items (Function v) = (room : ℕ) × HasFunction job room (reverse items) v
+IsKeptOf job items (Profile v) = HasProfile job (reverse items) v
+IsKeptOf job items (Returned n) = n ≡ done (reverse items)
+IsKeptOf job items Nothing = Unit {0}
+IsKeptOf job items (Totals t) = AreTotals items t
+
+-- all items are kept, and this holds of them
+abbrev pub IsAllAnd : Kept → (List Item → Type 0) → Type 0
+IsAllAnd (History h) P = P h.items
+IsAllAnd (Function v) P = ⊥
+IsAllAnd (Profile v) P = ⊥
+IsAllAnd (Returned n) P = ⊥
+IsAllAnd Nothing P = ⊥
+IsAllAnd (Totals t) P = ⊥
+
+-- ## for what
+
+-- what is kept: all items, what one form needs, or what the summary needs
+pub data Content : Type 0 where
+  AllItems : Content
+  ForForm : (form : Form) → Content
+  ForSummary : Content
+
+abbrev pub content_of : Kept → Content
+content_of (History h) = AllItems
+content_of (Function v) = ForForm forms.Function
+content_of (Profile v) = ForForm forms.Profile
+content_of (Returned n) = ForForm forms.Enabled
+content_of Nothing = ForForm forms.Modules
+content_of (Totals t) = ForSummary
+
+-- the text of a form can be made of it
+abbrev pub ServesForm : Form → Content → Type 0
+ServesForm form AllItems = Unit {0}
+ServesForm form (ForForm own) = form ≡ own
+ServesForm form ForSummary = ⊥
+
+abbrev pub IsEnoughFor : Form → Kept → Type 0
+IsEnoughFor form kept = ServesForm form (content_of kept)
+
+-- the summary can be made of it
+abbrev pub ServesSummary : Content → Type 0
+ServesSummary AllItems = Unit {0}
+ServesSummary (ForForm own) = ⊥
+ServesSummary ForSummary = Unit {0}
+
+abbrev pub IsForSummary : Kept → Type 0
+IsForSummary kept = ServesSummary (content_of kept)
+
+-- ## while items come
+
+-- it has taken these items of a job, the latest first, and is for what it was for when it had taken none
+pub record HasTaken (job : Job) (past : List Item) (first kept : Kept) : Type 0 where
+  pub content : content_of first ≡ content_of kept
+  pub has : Has job past kept

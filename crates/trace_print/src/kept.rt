@@ -1,0 +1,83 @@
+//! What is kept of a history for a text.
+
+ghost use Rattle.std.specs.Prelude.{◌≤◌, IfOk, []};
+ghost use Rattle.ft_base.specs.Job.{Job as PlainJob};
+ghost use Rattle.ft_machine.specs.Kept.{most_items};
+ghost use Rattle.trace_print.specs.Kept.{Has, IsEnoughFor, IsForSummary};
+
+use crate::names::Names;
+use ft_base::{Item, NoMemory};
+use ft_hist::History;
+use ft_job::Job;
+use ft_machine::Taker;
+use ft_words::Form;
+use std::alloc::Global;
+use trace_views::{FunctionView, ProfileView, Totals, returned_with};
+
+/// What a text needs of the items that a job has made: all of them, or what they come to.
+#[derive(Drop)]
+pub enum Kept {
+    /// All items.
+    History(History),
+    /// The lines of the form function.
+    Function(FunctionView),
+    /// What the users were called back for, for the form profile.
+    Profile(ProfileView),
+    /// How many commands have returned, for the form enabled.
+    Returned(u32),
+    /// Nothing, for the form modules: its text is of the job's lines alone.
+    Nothing,
+    /// How many items there are, and how many of some kinds, for the summary.
+    Totals(Totals),
+}
+
+impl Kept {
+    /// What the text of a form needs, before the first item of a job that makes no more items than `room`.
+    /// The error says that memory ran out.
+    pub fn for_form(alloc: Global, job: &Job, room: u32, form: Form) -> Result<Kept, NoMemory>
+        requires { most_items job.now ≤ room }
+        ensures none { IfOk result (λ kept. Has job.now [] kept) }
+        ensures form { IfOk result (λ kept. IsEnoughFor form kept) }
+    {
+        match form {
+            Form::Log | Form::Graph | Form::Rings => {
+                Ok(Kept::History(History::with_room(alloc, room)?))
+            }
+            Form::Function => {
+                let names = Names::new(alloc, job)?;
+                Ok(Kept::Function(FunctionView::new(alloc, &names, room)?))
+            }
+            Form::Profile => {
+                let names = Names::new(alloc, job)?;
+                Ok(Kept::Profile(ProfileView::new(alloc, &names)?))
+            }
+            Form::Enabled => Ok(Kept::Returned(0)),
+            Form::Modules => Ok(Kept::Nothing),
+        }
+    }
+
+    /// What the summary needs, before the first item of a job.
+    pub fn for_summary() -> Kept
+        ensures none { (job : PlainJob) → Has job [] result }
+        ensures form { IsForSummary result }
+    {
+        Kept::Totals(Totals::none())
+    }
+}
+
+impl Taker for Kept {
+    ghost use Rattle.trace_print.specs.Kept.{HasTaken};
+
+    ghost took = { HasTaken };
+
+    fn take(&mut self, item: Item) {
+        match self {
+            Kept::History(history) => history.push(item),
+            Kept::Function(view) => view.take(&item),
+            Kept::Profile(view) => view.take(&item),
+            Kept::Returned(returned) => *returned = returned_with(*returned, &item),
+            Kept::Nothing => {}
+            Kept::Totals(totals) => totals.add(&item),
+        }
+    }
+}
