@@ -1,9 +1,10 @@
--- The rings that threads have kept, if they were told to.
-use Rattle.std.proofs.Common.{◌≡◌, ◌≢◌, Bool, List, [], Option, Some, None, Result, Ok, Err, refl, ap}
+-- What is kept of a history, and the rings that threads have kept, if they were told to.
+use Rattle.std.proofs.Common.{◌≡◌, ◌≢◌, Bool, List, [], Option, Some, None, Result, Ok, Err, refl, sym, ap, subst}
 use Rattle.ft_base.specs.declared.item.Item.{Item}
-use Rattle.std.specs.Prelude.{IfOk}
+use Rattle.std.specs.Prelude.{IfOk, OnOk}
 use Rattle.ft_base.specs.declared.memory.NoMemory.{NoMemory}
 use Rattle.ft_base.specs.Job.{Job}
+use Rattle.ft_hist.specs.Shown.{Shown}
 use Rattle.ring_rules.specs.Fold.{Rings}
 use Rattle.ring_rules.specs.Legal.{RingsLegal}
 use Rattle.ring_rules.specs.Plan.{plan_of}
@@ -11,10 +12,13 @@ use Rattle.ft_words.specs.declared.order.Form.{Form}
 use Rattle.ft_words.specs.declared.order.Form.TheVariants as forms
 use Rattle.ft_words.specs.declared.order.Order.{Order}
 use Rattle.ft_words.specs.declared.order.Order.TheVariants.{Replay, Run, Bulk}
+use Rattle.trace_print.specs.declared.kept.Kept.{Kept}
+use Rattle.trace_print.specs.declared.kept.Kept.TheVariants.{History, Function, Profile, Returned, Nothing, Totals}
+use Rattle.trace_print.specs.Kept.{IsAllAnd, IsEnoughFor, IsKeptOf, ServesForm, ServesSummary, content_of}
 use Rattle.trace_print.specs.Texts.{text_of}
 use Rattle.ft_app.specs.declared.carried_out.CarriedOut.{CarriedOut}
 use Rattle.ft_app.specs.Main.{IsPlain}
-use Rattle.ft_app.specs.Reply.{IsCarriedOut, IsKeptFor, IsReplayOf, printed}
+use Rattle.ft_app.specs.Reply.{IsCarriedOut, IsEnough, IsKeptFor, IsMade, IsMergeOf, IsReplayOf, IsRunOf, history_of, printed}
 
 -- there are none
 pub none-kept : (order : Order) (led : Job) (items : List Item) (kept : Option Rings) → kept ≡ None → IsKeptFor order led items kept
@@ -35,11 +39,80 @@ printed-without form led items (Some rings) ended other k = absurd (other (form-
     form-of : Run form ≡ Run forms.Rings → form ≡ forms.Rings
     form-of e = cc
 
+-- what is kept for an order is still enough for it after items have come
+pub still-enough : (order : Order) → IsPlain order → (first kept : Kept) → content_of first ≡ content_of kept → IsEnough order first → IsEnough order kept
+still-enough (Replay form) plain first kept same enough = subst (ServesForm form) same enough
+still-enough (Run form) plain first kept same enough = absurd plain
+still-enough (Bulk n) plain first kept same enough = subst ServesSummary same enough
+
+-- all items are kept
+pub all-kept : (kept : Kept) (h : Shown) (P : List Item → Type 0) → kept ≡ History h → P h.items → IsAllAnd kept P
+all-kept kept h P is has = subst (λ (k : Kept). IsAllAnd k P) (sym is) has
+
+-- all items are enough for each form
+pub all-enough : (kept : Kept) → IsAllAnd kept (λ items. Unit {0}) → (form : Form) → IsEnoughFor form kept
+all-enough (History h) all form = tt
+all-enough (Function v) all form = absurd all
+all-enough (Profile v) all form = absurd all
+all-enough (Returned n) all form = absurd all
+all-enough Nothing all form = absurd all
+all-enough (Totals t) all form = absurd all
+
+-- a text that was written whole, as the reply says it
+pub replied-all : {A E F : Type 0} (written : Result A E) (reply : Result A F) (x : A) (P : Type 0) → OnOk reply (written ≡ Ok x) → OnOk written P → OnOk reply P
+replied-all written (Ok y) x P was given = subst (λ w. OnOk w P) was given
+replied-all written (Err e) x P was given = tt
+
 -- a replay is how an order is carried out without running threads
 pub plain-made : (order : Order) → IsPlain order → (job : Job) (made : Result CarriedOut NoMemory) → IfOk made (λ c. c.job ≡ job)
-    → IfOk made (λ c. IsReplayOf c.job c.outcome.history.items c.outcome.ended) → IfOk made (λ c. c.rings ≡ None)
-    → IfOk made (λ c. IsCarriedOut order job c.job c.outcome.history.items c.rings c.outcome.ended)
-plain-made order plain job (Err fault) same replay none = tt
-plain-made (Replay form) plain job (Ok c) same replay none = record { led' = same; history = replay; kept' = none-kept (Replay form) c.job c.outcome.history.items c.rings none }
-plain-made (Run form) plain job (Ok c) same replay none = absurd plain
-plain-made (Bulk n) plain job (Ok c) same replay none = record { led' = same; history = replay; kept' = none-kept (Bulk n) c.job c.outcome.history.items c.rings none }
+    → IfOk made (λ c. IsKeptOf job (history_of job) c.kept) → IfOk made (λ c. IsEnough order c.kept) → IfOk made (λ c. IsReplayOf job (history_of job) c.ended)
+    → IfOk made (λ c. c.rings ≡ None) → IfOk made (λ c. (items : List Item) × IsMade order job c items)
+plain-made order plain job (Err fault) same kept enough replay none = tt
+plain-made (Replay form) plain job (Ok c) same kept enough replay none = (
+  history_of job,
+  record {
+    kept = subst (λ (j : Job). IsKeptOf j (history_of job) c.kept) (sym same) kept;
+    enough = enough;
+    carried_out = record {
+      led' = same;
+      history = subst (λ (j : Job). IsReplayOf j (history_of job) c.ended) (sym same) replay;
+      kept' = none-kept (Replay form) c.job (history_of job) c.rings none;
+    };
+  },
+)
+plain-made (Run form) plain job (Ok c) same kept enough replay none = absurd plain
+plain-made (Bulk n) plain job (Ok c) same kept enough replay none = (
+  history_of job,
+  record {
+    kept = subst (λ (j : Job). IsKeptOf j (history_of job) c.kept) (sym same) kept;
+    enough = enough;
+    carried_out = record {
+      led' = same;
+      history = subst (λ (j : Job). IsReplayOf j (history_of job) c.ended) (sym same) replay;
+      kept' = none-kept (Bulk n) c.job (history_of job) c.rings none;
+    };
+  },
+)
+
+-- threads have made all items
+pub run-made : (form : Form) (job : Job) (made : Result CarriedOut NoMemory) → IfOk made (λ c. IsMergeOf job c.job)
+    → IfOk made (λ c. IsAllAnd c.kept (λ items. IsRunOf c.job items c.ended)) → IfOk made (λ c. IsAllAnd c.kept (λ items. IsKeptFor (Run form) c.job items c.rings))
+    → IfOk made (λ c. (items : List Item) × IsMade (Run form) job c items)
+run-made form job (Err fault) led run kept = tt
+run-made form job (Ok c) led run kept = all c.kept refl run kept
+  where
+    all : (k : Kept) → c.kept ≡ k → IsAllAnd k (λ items. IsRunOf c.job items c.ended) → IsAllAnd k (λ items. IsKeptFor (Run form) c.job items c.rings)
+        → (items : List Item) × IsMade (Run form) job c items
+    all (History h) e run kept = (
+      h.items,
+      record {
+        kept = subst (IsKeptOf c.job h.items) (sym e) refl;
+        enough = subst (λ (k : Kept). IsAllAnd k (λ items. Unit {0})) (sym e) tt;
+        carried_out = record { led' = led; history = run; kept' = kept };
+      },
+    )
+    all (Function v) e run kept = absurd run
+    all (Profile v) e run kept = absurd run
+    all (Returned n) e run kept = absurd run
+    all Nothing e run kept = absurd run
+    all (Totals t) e run kept = absurd run

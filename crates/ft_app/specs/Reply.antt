@@ -18,6 +18,8 @@ use Rattle.ring_rules.specs.Fold.{Rings}
 use Rattle.ring_rules.specs.Legal.{RingsLegal}
 use Rattle.ring_rules.specs.Plan.{plan_of}
 use Rattle.trace_views.specs.RingsText.{rings_text}
+use Rattle.trace_print.specs.declared.kept.Kept.{Kept}
+use Rattle.trace_print.specs.Kept.{IsAllAnd, IsEnoughFor, IsForSummary, IsKeptOf}
 use Rattle.trace_print.specs.Texts.{text_of}
 use Rattle.trace_print.specs.SummaryText.{summary_text}
 use Rattle.ft_app.specs.declared.carried_out.CarriedOut.{CarriedOut}
@@ -93,10 +95,24 @@ pub record IsCarriedOut (order : Order) (job led : Job) (items : List Item) (kep
 abbrev pub FindsModules : Job → List Item → Type 0
 FindsModules job items = KeepsLoaded job items × RunsLoaded job items
 
+-- ## what is kept of its history
+
+-- it is enough for what an order prints; with `Run` all items are kept, since rings are places among them
+abbrev pub IsEnough : Order → Kept → Type 0
+IsEnough (Replay form) kept = IsEnoughFor form kept
+IsEnough (Run form) kept = IsAllAnd kept (λ items. Unit {0})
+IsEnough (Bulk n) kept = IsForSummary kept
+
+-- the job was carried out, and enough is kept of these items
+pub record IsMade (order : Order) (job : Job) (c : CarriedOut) (items : List Item) : Type 0 where
+  pub kept : IsKeptOf c.job items c.kept
+  pub enough : IsEnough order c.kept
+  pub carried_out : IsCarriedOut order job c.job items c.rings c.ended
+
 -- whatever is made of a job, it was carried out
 abbrev pub Serves : Order → (Job → Result CarriedOut NoMemory → Type 0) → Type 0
 Serves order makes =
-    (job : Job) (made : Result CarriedOut NoMemory) → makes job made → IfOk made (λ c. IsCarriedOut order job c.job c.outcome.history.items c.rings c.outcome.ended)
+    (job : Job) (made : Result CarriedOut NoMemory) → makes job made → IfOk made (λ c. (items : List Item) × IsMade order job c items)
 
 -- ## the reply
 

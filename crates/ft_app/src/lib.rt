@@ -5,7 +5,7 @@
 //! a replay of its schedule or by running threads, and what the order prints of the history is
 //! written; or the line is written that says where the script is refused, and why. That text or line
 //! is the *reply* to the script. The text of a history is written in pieces, so that it is never whole
-//! in memory. All memory is had before the first byte is written. The program makes that call with its
+//! in memory, and of the items of a replay no more is kept than the text needs. All memory is had before the first byte is written. The program makes that call with its
 //! arguments as the words.
 //!
 //! Proved, for every source, sink and gate:

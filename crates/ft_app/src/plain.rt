@@ -31,5 +31,11 @@ pub fn ft_plain<S: Source, K: Sink>(
         result source.old source.new sink.old sink.new }
     ensures spoken { result ≢ code_of Status.Language }
 {
-    answer(alloc, order, |job| replayed(alloc, job), source, sink)
+    answer(
+        alloc,
+        order,
+        |job| replayed(alloc, *order, job),
+        source,
+        sink,
+    )
 }

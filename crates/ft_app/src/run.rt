@@ -4,6 +4,7 @@ ghost use Rattle.std.specs.Prelude.{◌≡◌, true, [], IfOk};
 ghost use Rattle.ft_hist.specs.Rules.{IsWhole};
 ghost use Rattle.live_table.specs.Seats.{AreAtEnd, AreSeats, ControlSitsAt};
 ghost use Rattle.ft_words.specs.declared.order.Order.TheVariants.{Run};
+ghost use Rattle.trace_print.specs.Kept.{IsAllAnd};
 ghost use Rattle.ft_app.specs.Reply.{IsKeptFor, IsMergeOf, IsRunOf};
 
 use crate::carried_out::CarriedOut;
@@ -11,7 +12,6 @@ use ft_base::NoMemory;
 use ft_hist::History;
 use ft_io::Gate;
 use ft_job::Job;
-use ft_machine::Outcome;
 use ft_words::Form;
 use live_lanes::{LaneRun, run_lanes};
 use live_seats::Ended;
@@ -21,6 +21,7 @@ use ring_rules::Rings;
 use std::alloc::Global;
 use std::sync::Wait;
 use std::thread::Threads;
+use trace_print::Kept;
 
 /// Carries a job out by running threads, up to the end of each: one for control and one for each CPU,
 /// or with lanes one for each lane in the place of control's. They pass the gate before each of their
@@ -35,8 +36,8 @@ pub(crate) fn run<R: Threads + Wait + Sync, G: Gate>(
     gate: &G,
 ) -> Result<CarriedOut, NoMemory>
     ensures led { IfOk result (λ c. IsMergeOf job c.job) }
-    ensures run { IfOk result (λ c. IsRunOf c.job c.outcome.history.items c.outcome.ended) }
-    ensures kept { IfOk result (λ c. IsKeptFor (Run form) c.job c.outcome.history.items c.rings) }
+    ensures run { IfOk result (λ c. IsAllAnd c.kept (λ items. IsRunOf c.job items c.ended)) }
+    ensures kept { IfOk result (λ c. IsAllAnd c.kept (λ items. IsKeptFor (Run form) c.job items c.rings)) }
 {
     if job.lanes().is_empty() {
         let (history, rings) = run_alone(rt, alloc, &job, form, gate)?;
@@ -73,16 +74,14 @@ fn run_alone<R: Threads + Wait + Sync, G: Gate>(
 /// kept.
 fn run_to_end(job: Job, history: History, rings: Option<Rings>) -> CarriedOut
     ensures job { result.job ≡ job }
-    ensures items { result.outcome.history.items ≡ history.items }
-    ensures ended { result.outcome.ended ≡ true }
+    ensures items { result.kept ≡ Kept.History history }
+    ensures ended { result.ended ≡ true }
     ensures rings { result.rings ≡ rings }
 {
     CarriedOut {
         job,
-        outcome: Outcome {
-            history,
-            ended: true,
-        },
+        kept: Kept::History(history),
+        ended: true,
         rings,
     }
 }

@@ -1,16 +1,20 @@
 use Rattle.std.proofs.Common.{◌≡◌, None, rules}
 use Rattle.std.specs.Prelude.{IfOk}
-use Rattle.ft_app.specs.Reply.{IsReplayOf}
+use Rattle.trace_print.specs.Kept.{IsKeptOf}
+use Rattle.ft_app.specs.Reply.{IsEnough, IsReplayOf, history_of}
 use Rattle.ft_app.proofs.Ends.{spoken}
 use Rattle.ft_app.proofs.KeptRings.{plain-made}
 use Rattle.ft_app.proofs.plain.ft_plain.Goals as goal
 
 pub answer-requires-clause-serves : goal.answer-requires-clause-serves
 answer-requires-clause-serves g c = λ job made ran.
+    let order = c.args.order.now in
     let same : IfOk made (λ c. c.job ≡ job) = search rules in
-    let replay : IfOk made (λ c. IsReplayOf c.job c.outcome.history.items c.outcome.ended) = search rules in
+    let kept : IfOk made (λ c. IsKeptOf job (history_of job) c.kept) = search rules in
+    let enough : IfOk made (λ c. IsEnough order c.kept) = search rules in
+    let replay : IfOk made (λ c. IsReplayOf job (history_of job) c.ended) = search rules in
     let none : IfOk made (λ c. c.rings ≡ None) = search rules in
-    plain-made c.args.order.now c.requires job made same replay none
+    plain-made order c.requires job made same kept enough replay none
 
 pub returns-clause-spoken : goal.returns-clause-spoken
 returns-clause-spoken g c = spoken g.S.Source.remaining g.S.Source.faults g.K.Sink.holds g.K.Sink.faults _ _ _ _ _ _ c.answer.ensures

@@ -6,23 +6,26 @@ use Rattle.ft_app.proofs.reply.write_reply.Goals as goal
 
 -- ## the text of a history
 
-pub write_printed-requires-clause-legal : goal.write_printed-requires-clause-legal
-write_printed-requires-clause-legal g c =
-    history-legal c.args.order _ _ _ (c.requires.serves _ _ c.in-Ok-carry_out.ensures).history
+pub write_printed-requires-clause-enough : goal.write_printed-requires-clause-enough
+write_printed-requires-clause-enough g c = (c.requires.serves _ _ c.in-Ok-carry_out.ensures).1.enough
 
-pub write_printed-requires-clause-kept : goal.write_printed-requires-clause-kept
-write_printed-requires-clause-kept g c = (c.requires.serves _ _ c.in-Ok-carry_out.ensures).kept'
+pub write_printed-requires-clause-items : goal.write_printed-requires-clause-items
+write_printed-requires-clause-items g c =
+    let made = c.requires.serves _ _ c.in-Ok-carry_out.ensures in
+    (made.0, made.1.kept, history-legal c.args.order _ _ _ made.1.carried_out.history, made.1.carried_out.kept')
 
 pub returns-in_ok-write_printed-in-Ok-clause-all : goal.returns-in_ok-write_printed-in-Ok-clause-all
 returns-in_ok-write_printed-in-Ok-clause-all g c =
-    history-replied c.args.order _ _ c.args.script.now c.in-Ok.job _ _ _ _ c.in-Ok.ensures.job
-    (c.requires.serves _ _ c.in-Ok-carry_out.ensures) c.in_ok-write_printed-in-Ok.ensures.all
+    let made = c.requires.serves _ _ c.in-Ok-carry_out.ensures in
+    history-replied c.args.order _ _ c.args.script.now c.in-Ok.job _ _ _ _ c.in-Ok.ensures.job made.1.carried_out
+    (c.in_ok-write_printed-in-Ok.ensures.all made.0 made.1.kept)
 
 pub returns-in_err-write_printed-in-Ok-clause-front : goal.returns-in_err-write_printed-in-Ok-clause-front
 returns-in_err-write_printed-in-Ok-clause-front g c = λ e.
     let failed : c.write_printed.result ≡ Err Sink = search rules in
-    history-begun c.args.order _ _ c.args.script.now c.in-Ok.job _ _ _ _ c.in-Ok.ensures.job
-    (c.requires.serves _ _ c.in-Ok-carry_out.ensures) (c.write_printed.ensures.front failed)
+    let made = c.requires.serves _ _ c.in-Ok-carry_out.ensures in
+    history-begun c.args.order _ _ c.args.script.now c.in-Ok.job _ _ _ _ c.in-Ok.ensures.job made.1.carried_out
+    (c.write_printed.ensures.front made.0 made.1.kept failed)
 
 -- ## the line of a refusal
 

@@ -1,6 +1,11 @@
-use Rattle.std.proofs.Common.{ap, map, subst, Err, ◌∙◌, rules}
+use Rattle.std.proofs.Common.{ap, map, List, subst, sym, Err, ◌∙◌, rules}
+use Rattle.std.specs.Prelude.{IfOk}
+use Rattle.ft_base.specs.declared.item.Item.{Item}
 use Rattle.ft_words.specs.declared.order.Order.TheVariants.{Run}
 use Rattle.ft_words.specs.Language.{Gives}
+use Rattle.trace_print.specs.Kept.{IsAllAnd}
+use Rattle.ft_app.specs.Reply.{IsKeptFor, IsMergeOf, IsRunOf}
+use Rattle.ft_app.proofs.KeptRings.{run-made}
 use Rattle.ft_app.proofs.Ends.{given, no-memory-for-words, no-order}
 use Rattle.ft_app.proofs.top.ft_main.Goals as goal
 
@@ -18,7 +23,12 @@ returns-in-Err-NoMemory g c =
 -- ## the order that the words give is the one that is carried out
 
 pub answer-requires-clause-serves : goal.answer-requires-clause-serves
-answer-requires-clause-serves g c = search rules
+answer-requires-clause-serves g c = λ job made ran.
+    let form = c.in-Run.form in
+    let led : IfOk made (λ c. IsMergeOf job c.job) = search rules in
+    let run : IfOk made (λ c. IsAllAnd c.kept (λ items. IsRunOf c.job items c.ended)) = search rules in
+    let kept : IfOk made (λ c. IsAllAnd c.kept (λ items. IsKeptFor (Run form) c.job items c.rings)) = search rules in
+    run-made form job made led run kept
 
 pub returns-in-Run : goal.returns-in-Run
 returns-in-Run g c =

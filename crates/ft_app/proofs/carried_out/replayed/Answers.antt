@@ -1,0 +1,23 @@
+use Rattle.std.proofs.Common.{refl}
+use Rattle.word_machine.specs.Machine.{play}
+use Rattle.word_machine_laws.proofs.Room.{legal-turned}
+use Rattle.trace_print.proofs.KeptLaws.{has-kept}
+use Rattle.ft_app.proofs.KeptRings.{still-enough}
+use Rattle.ft_app.proofs.carried_out.replayed.Goals as goal
+
+pub replay_into-requires : goal.replay_into-requires
+replay_into-requires c = record { content = refl; has = c.in_ok-kept.ensures.none }
+
+pub returns-clause-kept : goal.returns-clause-kept
+returns-clause-kept c = has-kept c.args.job (play c.args.job).past _ c.in_ok-ended.ensures.taken.has
+
+pub returns-clause-enough : goal.returns-clause-enough
+returns-clause-enough c = still-enough c.args.order c.requires _ _ c.in_ok-ended.ensures.taken.content c.in_ok-kept.ensures.enough
+
+pub returns-clause-replay : goal.returns-clause-replay
+returns-clause-replay c = record {
+  items' = refl;
+  ended' = c.in_ok-ended.ensures.ended;
+  legal = legal-turned c.args.job (play c.args.job).past c.in_ok-ended.ensures.legal;
+  whole = c.in_ok-ended.ensures.whole;
+}
