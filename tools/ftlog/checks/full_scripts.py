@@ -11,6 +11,7 @@ from ftlog.checks import command_words, memory_limits
 from ftlog.make import script_forms as forms
 
 SECONDS, RUN_SECONDS = 60, 600  # of a replay, and of a run by threads, whose end depends on the system
+OF_A_FEW_LINES = ["replay", "--print", "graph"]  # without graph users; it keeps all items, as the log does
 PART = 4  # a log is written in pieces: it may take a fourth of its own length besides what its history takes
 
 
@@ -90,16 +91,16 @@ def check_full(rows, program):
 
 
 def check_memory_of_log(rows, program):
-    """The log of a history needs hardly more address space than a form of a few lines: it is never whole in memory."""
+    """The log needs hardly more address space than a form of a few lines that keeps all items, too: it is never whole in memory."""
     text = script(forms.VERSION_2)
     log = runs.answer([program, "replay"], text, SECONDS)
-    few = runs.answer([program, "replay", "--print", "enabled"], text, SECONDS)
+    few = runs.answer([program, *OF_A_FEW_LINES], text, SECONDS)
     found = runs.faults(log, 0) + runs.faults(few, 0)
     if not found:
         least = memory_limits.beginning(program)
         whole = [memory_limits.WHOLE]
         of_log = memory_limits.Order(program, ["replay"], text, 0, log.out).least(whole, least)
-        of_few = memory_limits.Order(program, ["replay", "--print", "enabled"], text, 0, few.out).least(whole, least)
+        of_few = memory_limits.Order(program, OF_A_FEW_LINES, text, 0, few.out).least(whole, least)
         found = [f"{of_log:,} bytes of address space, and {of_few:,} for a few lines"] * (of_log > of_few + len(log.out) // PART)
     rows.row(f"memory: a log of {len(log.out):,} bytes", found)
 
