@@ -3,7 +3,9 @@ use Rattle.std.proofs.Common.{◌≡◌, ℕ, zero, suc, ◌<◌, ◌≤◌, Lis
 use Rattle.std.specs.Prelude.{slice_get, option_map}
 use Rattle.std.proofs.lemmas.List.Sums.{get_or-le-sum_by}
 use Rattle.ft_base.specs.declared.task.TaskAct.{TaskAct}
+use Rattle.ft_base.specs.declared.task.TaskAct.TheVariants.{Call}
 use Rattle.ft_base.specs.Job.{Task, no_task}
+use Rattle.history_bound.specs.Bound.{calls_in}
 
 -- the script of a task that there is
 pub acts-at : (ts : List Task) (t : ℕ) (acts : List TaskAct) → Some acts ≡ option_map (λ x. x.acts) (slice_get ts t) → acts ≡ (get_or ts t no_task).acts
@@ -28,3 +30,9 @@ pub no-acts : (ts : List Task) (t : ℕ) → None ≡ option_map (λ x. x.acts) 
 no-acts [] t e = refl
 no-acts (x ∷ ts) zero e = absurd cc
 no-acts (x ∷ ts) (suc t) e = no-acts ts t e
+
+-- no more acts are calls than there are
+pub calls-few : (acts : List TaskAct) → calls_in acts ≤ length acts
+calls-few [] = omega arith
+calls-few (Call f ∷ acts) = let few = calls-few acts in omega (arith, few)
+calls-few (_ ∷ acts) = let few = calls-few acts in omega (arith, few)

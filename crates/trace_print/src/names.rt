@@ -1,14 +1,14 @@
 //! A job's names, those of its modules among them, and the pid and the CPU of each task, found by number in constant time.
 
-ghost use Rattle.std.specs.Prelude.{◌≡◌, ◌+◌, ◌*◌, ◌≤◌, length, IfOk};
+ghost use Rattle.std.specs.Prelude.{◌≡◌, ◌+◌, ◌*◌, ◌≤◌, IfOk};
 ghost use Rattle.ft_base.specs.declared.limits.TheConstants.{ACTS};
 ghost use Rattle.ft_base.specs.Versions.{levels};
-ghost use Rattle.history_bound.specs.Bound.{calls_in, calls_of};
+ghost use Rattle.history_bound.specs.Bound.{calls_of};
 ghost use Rattle.trace_print.specs.TaskNames.{name_at};
 ghost use Rattle.word_machine.specs.Limits.{IsLimited};
 
 use ft_base::limits::Limits;
-use ft_base::{FuncNo, Kind, NoMemory, TaskAct, TaskNo, UserNo};
+use ft_base::{FuncNo, Kind, NoMemory, TaskNo, UserNo};
 use ft_job::Job;
 use module_table::ModuleNames;
 use std::alloc::Global;
@@ -125,13 +125,14 @@ impl<'a> Named for Names<'a> {
 
     fn deepest(&self, task: TaskNo) -> u32 {
         let limits = Limits::of(self.job.version());
-        calls_of(self.job, task) + 2 * u32::from(limits.levels)
+        acts_of(self.job, task) + 2 * u32::from(limits.levels)
     }
 }
 
-/// How many calls the script of a task of the job makes, none if the job doesn't have the task.
-fn calls_of(job: &Job, task: TaskNo) -> u32
-    ensures calls { result ≡ calls_of job.now task.0 }
+/// How many acts the script of a task of the job has, none if the job doesn't have the task. Of these
+/// no more can be calls.
+fn acts_of(job: &Job, task: TaskNo) -> u32
+    ensures calls { calls_of job.now task.0 ≤ result }
     ensures few { result ≤ ACTS }
 {
     // A job that tells its shape is within the limits of scripts.
@@ -139,24 +140,9 @@ fn calls_of(job: &Job, task: TaskNo) -> u32
         return 0;
     }
     match job.acts(task) {
-        Some(acts) => calls_in(acts),
+        Some(acts) => acts.len() as u32,
         None => 0,
     }
-}
-
-/// How many of these acts are calls.
-fn calls_in(acts: &[TaskAct]) -> u32
-    requires { length acts.now ≤ ACTS }
-    ensures calls { result ≡ calls_in acts.now }
-    ensures few { result ≤ length acts.now }
-{
-    let mut calls: u32 = 0;
-    for act in acts {
-        if let TaskAct::Call(_) = act {
-            calls += 1;
-        }
-    }
-    calls
 }
 
 /// The pid and the CPU of a task of the job.

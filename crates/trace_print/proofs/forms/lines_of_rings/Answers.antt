@@ -1,4 +1,4 @@
-use Rattle.std.proofs.Common.{◌≡◌, length, List, ℕ, ◌++◌, ap, ◌∙◌, arith}
+use Rattle.std.proofs.Common.{◌≡◌, length, List, ℕ, ◌++◌, ap, arith}
 use Rattle.ft_base.specs.Job.{Job}
 use Rattle.trace_rings.proofs.Plans.{cpu-count}
 use Rattle.trace_views.specs.RingsText.{rings_text}

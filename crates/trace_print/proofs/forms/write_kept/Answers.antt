@@ -1,5 +1,4 @@
 use Rattle.std.proofs.Common.{◌≡◌, ℕ, List, reverse, refl, sym, ap, ◌∙◌, subst}
-use Rattle.ft_base.specs.declared.item.Item.{Item}
 use Rattle.ft_base.specs.Desk.{desk}
 use Rattle.ft_base.specs.Job.{Job, ModuleRow, funcs}
 use Rattle.ft_words.specs.declared.order.Form.TheVariants as forms
