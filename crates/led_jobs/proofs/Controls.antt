@@ -6,9 +6,12 @@ use Rattle.ft_base.specs.Desk.{desk, answer_on}
 use Rattle.word_map.specs.Contents.{high}
 use Rattle.word_map.specs.Words.{at_put}
 use Rattle.word_map.specs.Ops.{WordOp, Mark}
-use Rattle.patch_core.specs.Moves.{Move, Put, Sync, Done}
-use Rattle.word_machine.specs.Commands.{Effect, Adds, Removes, Edits, Enables, Disables, Lists, Levels, Nothing, command, effect, moves, subject}
-use Rattle.word_machine.specs.Control.{Control, Position, Line, Take, Copy, Select, Push, Relink, StorePids, StoreDepth, Patch, AskSync, WaitSync, AskQuiet, WaitQuiet, Release, Close, next_in, got_in, control_next, control_got, answer_in, line_op, line_got, rest_lines, begin_in, before_moves, batch_first, selected_in, released_in, released, at_position, copy_after, relinked, relink_op}
+use Rattle.grace_core.specs.declared.waiter.WaitPhase.{WaitPhase}
+use Rattle.grace_core.specs.declared.waiter.WaitPhase.TheVariants.{Asking, Waiting, Ended}
+use Rattle.grace_core.specs.Waits.{wait_got}
+use Rattle.patch_core.specs.Moves.{Move, Done}
+use Rattle.word_machine.specs.Commands.{Effect, Adds, Removes, Edits, command, effect, moves, subject}
+use Rattle.word_machine.specs.Control.{Control, Position, Line, Take, Copy, Select, Push, Relink, StorePids, StoreDepth, Patch, Awaited, Ask, Await, Cpus, Tasks, Release, Close, next_in, got_in, control_next, control_got, answer_in, line_op, line_got, rest_lines, begin_in, before_moves, batch_first, selected_in, released_in, wait_for, in_wait, at_position, asked, copy_after, relinked}
 use Rattle.word_machine.specs.Rule.{ControlLines, UnderAt}
 use Rattle.led_jobs.specs.Led.{later, more_to_come}
 use Rattle.led_jobs.proofs.Desks.{same_command, same_desk, same_effect, same_moves}
@@ -72,13 +75,9 @@ module _ (job : Job) (more : List Ctl) (plan : LinePlan) (s : Control) (under : 
   next_same Relink = let f = now in let g = does in cc
   next_same StorePids = let e = after in cc
   next_same StoreDepth = let e = after in cc
-  next_same (Patch w x rest) = refl
-  next_same (AskSync rest) = refl
-  next_same (WaitSync rest c) = refl
-  next_same AskQuiet = refl
-  next_same (WaitQuiet t) = refl
   next_same Release = let e = before in let f = now in cc
   next_same Close = ap (λ x. Some (Mark (Return (suc d) x))) (answer_same (command longer d) ∙ ap (λ x. answer_in job d x) now)
+  next_same _ = refl
 
   pub same_next : control_next longer (more_to_come more s) ≡ control_next job s
   unfolding control_next
@@ -88,45 +87,30 @@ module _ (job : Job) (more : List Ctl) (plan : LinePlan) (s : Control) (under : 
 
   begin_same : (e : Effect) → begin_in longer d e ≡ begin_in job d e
   begin_same Adds = let e = after in let f = now in cc
-  begin_same Removes = refl
-  begin_same Edits = refl
-  begin_same Enables = refl
-  begin_same Disables = refl
-  begin_same Lists = refl
-  begin_same Levels = refl
-  begin_same Nothing = refl
+  begin_same _ = refl
 
   before_same : (rest : List Move) → before_moves longer d rest ≡ before_moves job d rest
   before_same [] = let e = does in cc
-  before_same (Put w x ∷ rest) = refl
-  before_same (Sync ∷ rest) = refl
   before_same (Done ∷ rest) = let e = does in cc
+  before_same _ = refl
 
   first_same : batch_first longer d ≡ batch_first job d
   first_same = ap (before_moves longer d) (same_moves job more plan d under) ∙ before_same (moves job d)
 
   selected_same : (e : Effect) → selected_in longer d e ≡ selected_in job d e
-  selected_same Adds = refl
-  selected_same Removes = refl
   selected_same Edits = first_same
-  selected_same Enables = refl
-  selected_same Disables = refl
-  selected_same Lists = refl
-  selected_same Levels = refl
-  selected_same Nothing = refl
+  selected_same _ = refl
 
   released_same : (e : Effect) → released_in longer d e ≡ released_in job d e
-  released_same Adds = refl
   released_same Removes = let e = before in let f = now in cc
-  released_same Edits = refl
-  released_same Enables = refl
-  released_same Disables = refl
-  released_same Lists = refl
-  released_same Levels = refl
-  released_same Nothing = refl
+  released_same _ = refl
 
-  released_all : released longer d ≡ released job d
-  released_all = released_same (effect longer d) ∙ ap (released_in job d) does
+  -- where control stands in a wait, and after it
+  wait_same : (whom : Awaited) (phase : WaitPhase) → in_wait longer d whom phase ≡ in_wait job d whom phase
+  wait_same whom Asking = refl
+  wait_same whom (Waiting n) = refl
+  wait_same (Cpus rest) Ended = before_same rest
+  wait_same Tasks Ended = released_same (effect longer d) ∙ ap (released_in job d) does
 
   abbrev at : Position → Control
   at p = more_to_come more (at_position s p)
@@ -155,26 +139,20 @@ module _ (job : Job) (more : List Ctl) (plan : LinePlan) (s : Control) (under : 
       ap (λ l. line_got longer (more_to_come more s) (l ++ more) v) present
       ∙ ap at (begin_same (effect longer d) ∙ ap (begin_in job d) does)
       ∙ sym (ap (λ l. more_to_come more (line_got job s l v)) present)
-  got_same Take v = refl
-  got_same (Copy half w) v = refl
   got_same Select v =
       ap (λ u. selected_at u (effect longer d) (selected_in longer d (effect longer d))) subject_same
       ∙ ap (λ e. selected_at (subject job d) e (selected_in longer d (effect longer d))) does
       ∙ ap (selected_at (subject job d) (effect job d)) (selected_same (effect longer d) ∙ ap (selected_in job d) does)
-  got_same Push v = refl
   got_same Relink v =
       ap (λ u. relinked_at u (effect longer d) (batch_first longer d)) subject_same
       ∙ ap (λ e. relinked_at (subject job d) e (batch_first longer d)) does
       ∙ ap (relinked_at (subject job d) (effect job d)) first_same
-  got_same StorePids v = refl
-  got_same StoreDepth v = refl
   got_same (Patch w x rest) v = ap at (before_same rest)
-  got_same (AskSync rest) v = let e = before_same rest in cc
-  got_same (WaitSync rest c) v = let e = before_same rest in cc
-  got_same AskQuiet v = let e = released_all in cc
-  got_same (WaitQuiet t) v = let e = released_all in cc
-  got_same Release v = refl
+  got_same (Ask whom) v =
+      ap (λ p. more_to_come more (asked s p)) (wait_same whom (wait_got (wait_for job whom (suc s.request) Asking) v).phase)
+  got_same (Await whom n) v = ap at (wait_same whom (wait_got (wait_for job whom s.request (Waiting n)) v).phase)
   got_same Close v = ap (λ l. closed_at (rest_lines (l ++ more))) present ∙ sym (ap (λ l. closed_at (rest_lines l ++ more)) present)
+  got_same _ v = refl
 
   pub same_got : (v : ℕ) → control_got longer (more_to_come more s) v ≡ more_to_come more (control_got job s v)
   unfolding control_got
@@ -186,8 +164,8 @@ module _ (job : Job) (more : List Ctl) (plan : LinePlan) (s : Control) (t n : �
   abbrev left_at : List Ctl → Control
   left_at l = record s { remaining = l }
 
-  wait_next : (p : Position) → p ≡ Line → next_in (later job more plan) (more_to_come more s) p ≡ next_in job s p
-  wait_next p at =
+  until_next : (p : Position) → p ≡ Line → next_in (later job more plan) (more_to_come more s) p ≡ next_in job s p
+  until_next p at =
       ap (next_in (later job more plan) (more_to_come more s)) at
       ∙ ap (λ l. line_op s.commands_done (l ++ more)) present
       ∙ sym (ap (line_op s.commands_done) present)
@@ -197,8 +175,8 @@ module _ (job : Job) (more : List Ctl) (plan : LinePlan) (s : Control) (t n : �
   one_or_other true = refl
   one_or_other false = refl
 
-  wait_got : (p : Position) → p ≡ Line → (v : ℕ) → got_in (later job more plan) (more_to_come more s) p v ≡ more_to_come more (got_in job s p v)
-  wait_got p at v =
+  until_got : (p : Position) → p ≡ Line → (v : ℕ) → got_in (later job more plan) (more_to_come more s) p v ≡ more_to_come more (got_in job s p v)
+  until_got p at v =
       ap (λ q. got_in (later job more plan) (more_to_come more s) q v) at
       ∙ ap (λ l. line_got (later job more plan) (more_to_come more s) (l ++ more) v) present
       ∙ one_or_other (nat_le n (high v))
@@ -207,11 +185,11 @@ module _ (job : Job) (more : List Ctl) (plan : LinePlan) (s : Control) (t n : �
 
   pub same_wait_next : s.position ≡ Line → control_next (later job more plan) (more_to_come more s) ≡ control_next job s
   unfolding control_next
-  same_wait_next at = wait_next s.position at
+  same_wait_next at = until_next s.position at
 
   pub same_wait_got : s.position ≡ Line → (v : ℕ) → control_got (later job more plan) (more_to_come more s) v ≡ more_to_come more (control_got job s v)
   unfolding control_got
-  same_wait_got at v = wait_got s.position at v
+  same_wait_got at v = until_got s.position at v
 
 -- ## either
 
@@ -242,26 +220,13 @@ no_line d [] e = refl
 no_line d (Run c ∷ rest) e = absurd (cc)
 no_line d (Until t n ∷ rest) e = absurd (cc)
 
+no_op : (op : WordOp) → Some op ≡ None → ⊥
+no_op op e = cc
+
 -- control without an operation is at a line, and none is left
 ended_in : (job : Job) (s : Control) (p : Position) → next_in job s p ≡ None → (p ≡ Line) × (s.remaining ≡ [])
 ended_in job s Line e = (refl, no_line s.commands_done s.remaining e)
-ended_in job s Take e = absurd (cc)
-ended_in job s (Copy half w) e = absurd (cc)
-ended_in job s Select e = absurd (cc)
-ended_in job s Push e = absurd (cc)
-ended_in job s Relink e = absurd (relinks (effect job s.commands_done) e)
-  where
-    relinks : (x : Effect) → Some (relink_op x (subject job s.commands_done) s.order) ≡ None → ⊥
-    relinks x e = cc
-ended_in job s StorePids e = absurd (cc)
-ended_in job s StoreDepth e = absurd (cc)
-ended_in job s (Patch w x rest) e = absurd (cc)
-ended_in job s (AskSync rest) e = absurd (cc)
-ended_in job s (WaitSync rest c) e = absurd (cc)
-ended_in job s AskQuiet e = absurd (cc)
-ended_in job s (WaitQuiet t) e = absurd (cc)
-ended_in job s Release e = absurd (cc)
-ended_in job s Close e = absurd (cc)
+ended_in job s _ e = absurd (no_op _ e)
 
 pub ended : (job : Job) (s : Control) → control_next job s ≡ None → (s.position ≡ Line) × (s.remaining ≡ [])
 unfolding control_next

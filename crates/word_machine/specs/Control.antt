@@ -1,17 +1,26 @@
 -- Control: the steps of each command in their order, its next operation, and what the value that the operation gives makes of it.
 -- docs/PROTOCOL.md tells what each store and each wait is for.
-use Rattle.std.specs.Prelude.{ℕ, zero, suc, Bool, ◌==◌, nat_lt, nat_le, List, [], ◌∷◌, length, Option, Some, None, if◌then◌else◌}
+use Rattle.std.specs.Prelude.{ℕ, zero, suc, Bool, true, false, ◌==◌, nat_lt, nat_le, List, [], ◌∷◌, length, Option, Some, None, if◌then◌else◌}
 use Rattle.ft_base.specs.declared.item.Answer.{Answer}
 use Rattle.ft_base.specs.declared.item.Answer.TheVariants.{Accepted}
 use Rattle.ft_base.specs.declared.item.Item.TheVariants.{Begin, Return}
 use Rattle.ft_base.specs.Job.{Job, Command, Unregister, Ctl, Run, Until}
 use Rattle.ft_base.specs.Order.{order_after}
 use Rattle.ft_base.specs.Desk.{desk, answer_on}
-use Rattle.word_map.specs.Words.{Word, Want, First, Pids, Depth, Ack, Quiet, Tramp, Link, Sel, Bits, at_put}
-use Rattle.word_map.specs.Contents.{low, high, sel_of, tramp_word, set_word, mask_of, other_copy}
+use Rattle.word_map.specs.Words.{Word, First, Pids, Depth, Quiet, Tramp, Link, Sel, Bits, at_put}
+use Rattle.word_map.specs.Contents.{high, sel_of, tramp_word, set_word, mask_of, other_copy}
+use Rattle.word_map.specs.Shapes.{shape_of}
 use Rattle.word_map.specs.Ops.{WordOp, Load, Store, Mark}
+use Rattle.grace_core.specs.declared.waiter.WaitPhase.{WaitPhase}
+use Rattle.grace_core.specs.declared.waiter.WaitPhase.TheVariants.{Asking, Waiting, Ended}
+use Rattle.grace_core.specs.Waits.{Wait, wait_next, wait_got}
 use Rattle.patch_core.specs.Moves.{Move, Put, Sync}
 use Rattle.word_machine.specs.Commands.{moves, command, subject, state_of, has_slot_at, set_words, Effect, Adds, Removes, Edits, Enables, Disables, Lists, Levels, Nothing, effect}
+
+-- Whom a wait is for: each CPU, in a sync of the batch, which has these moves after it; or each task, for its quiet point
+pub data Awaited : Type 0 where
+  Cpus : (rest : List Move) → Awaited
+  Tasks : Awaited
 
 -- Where control stands: at a line, or in a command before this operation.
 --   Take, Release      store a trampoline's word: its user, or 0
@@ -20,9 +29,8 @@ use Rattle.word_machine.specs.Commands.{moves, command, subject, state_of, has_s
 --   Push               stores the link of a user that is added
 --   Relink             stores the word that names the user, or that named it
 --   Patch w x rest     makes this store of the batch; these moves come after it
---   AskSync rest       a sync of the batch: stores a request
---   WaitSync rest c    and waits for CPU c
---   AskQuiet, WaitQuiet t                 the wait for quiet points: store a request, and wait for task t
+--   Ask whom           a wait: stores a request
+--   Await whom n       and looks at the word of this CPU or task
 --   Close              marks the Return
 pub data Position : Type 0 where
   Line : Position
@@ -34,10 +42,8 @@ pub data Position : Type 0 where
   StorePids : Position
   StoreDepth : Position
   Patch : (w : Word) (x : ℕ) (rest : List Move) → Position
-  AskSync : (rest : List Move) → Position
-  WaitSync : (rest : List Move) (c : ℕ) → Position
-  AskQuiet : Position
-  WaitQuiet : (t : ℕ) → Position
+  Ask : (whom : Awaited) → Position
+  Await : (whom : Awaited) (n : ℕ) → Position
   Release : Position
   Close : Position
 
@@ -52,14 +58,6 @@ pub record Control : Type 0 where
   pub position : Position
 
 -- ## which position follows
-
--- the next CPU or task to wait for, or what follows once all of this many have answered
-abbrev pub after_wait : ℕ → Position → ℕ → (ℕ → Position) → Position
-after_wait n otherwise c at' = if nat_lt c n then at' c else otherwise
-
--- a wait goes on once the number that it waits for is reached
-abbrev pub waited : Bool → Position → Position → Position
-waited b next same = if b then next else same
 
 -- the next word of the copy that is being written, all words of the filter first; after the last the store of the user's state
 abbrev pub copy_from : Job → ℕ → ℕ → Position
@@ -87,8 +85,8 @@ begin_in job d Nothing = Close
 
 -- after the last sync of a batch: only a registration need not wait for quiet points
 abbrev pub after_batch_in : Effect → Position
-after_batch_in Removes = AskQuiet
-after_batch_in Edits = AskQuiet
+after_batch_in Removes = Ask Tasks
+after_batch_in Edits = Ask Tasks
 after_batch_in _ = Close
 
 -- the same of the command after the first d
@@ -98,7 +96,7 @@ after_batch job d = after_batch_in (effect job d)
 -- before the first of these moves of the batch; what follows if there is none
 abbrev pub before_moves : Job → ℕ → List Move → Position
 before_moves job d (Put w x ∷ rest) = Patch w x rest
-before_moves job d (Sync ∷ rest) = AskSync rest
+before_moves job d (Sync ∷ rest) = Ask (Cpus rest)
 before_moves job d _ = after_batch job d
 
 -- the first step of the batch, which changes the sites; what follows if no site changes
@@ -110,7 +108,7 @@ abbrev pub selected_in : Job → ℕ → Effect → Position
 selected_in job d Adds = Push
 selected_in job d Removes = Relink
 selected_in job d Edits = batch_first job d
-selected_in job d Disables = AskQuiet
+selected_in job d Disables = Ask Tasks
 selected_in job d _ = Close
 
 -- after the wait for quiet points
@@ -121,6 +119,28 @@ released_in job d _ = Close
 -- the same of the command after the first d
 abbrev pub released : Job → ℕ → Position
 released job d = released_in job d (effect job d)
+
+-- ## waits
+
+-- the wait is for tasks
+abbrev pub is_for_tasks : Awaited → Bool
+is_for_tasks (Cpus rest) = false
+is_for_tasks Tasks = true
+
+-- the wait for them whose request has this number, in a phase
+abbrev pub wait_for : Job → Awaited → ℕ → WaitPhase → Wait
+wait_for job whom request phase = record { shape = shape_of job; quiet = is_for_tasks whom; request = request; phase = phase }
+
+-- after a wait of the command after the first d
+abbrev pub after_wait : Job → ℕ → Awaited → Position
+after_wait job d (Cpus rest) = before_moves job d rest
+after_wait job d Tasks = released job d
+
+-- in a phase of it
+abbrev pub in_wait : Job → ℕ → Awaited → WaitPhase → Position
+in_wait job d whom Asking = Ask whom
+in_wait job d whom (Waiting n) = Await whom n
+in_wait job d whom Ended = after_wait job d whom
 
 -- ## the list of users
 
@@ -192,10 +212,8 @@ next_in job s Relink = Some (relink_op (effect job s.commands_done) (subject job
 next_in job s StorePids = Some (Store Pids (mask_of (desk job (suc s.commands_done)) (length job.tasks)))
 next_in job s StoreDepth = Some (Store Depth (desk job (suc s.commands_done)).depth)
 next_in job s (Patch w x rest) = Some (Store w x)
-next_in job s (AskSync rest) = Some (Store Want (suc s.request))
-next_in job s (WaitSync rest c) = Some (Load (Ack c))
-next_in job s AskQuiet = Some (Store Want (suc s.request))
-next_in job s (WaitQuiet t) = Some (Load (Quiet t))
+next_in job s (Ask whom) = wait_next (wait_for job whom (suc s.request) Asking)
+next_in job s (Await whom n) = wait_next (wait_for job whom s.request (Waiting n))
 next_in job s Release = Some (Store (Tramp (slot_of (state_of job s.commands_done (subject job s.commands_done)).slot)) 0)
 next_in job s Close = Some (Mark (Return (suc s.commands_done) (answer_in job s.commands_done (command job s.commands_done))))
 
@@ -234,15 +252,12 @@ got_in job s Select v =
 got_in job s Push v = at_position s Relink
 got_in job s Relink v =
     record s { order = relinked (effect job s.commands_done) (subject job s.commands_done) s.order; position = batch_first job s.commands_done }
-got_in job s StorePids v = at_position s AskQuiet
-got_in job s StoreDepth v = at_position s AskQuiet
+got_in job s StorePids v = at_position s (Ask Tasks)
+got_in job s StoreDepth v = at_position s (Ask Tasks)
 got_in job s (Patch w x rest) v = at_position s (before_moves job s.commands_done rest)
-got_in job s (AskSync rest) v = asked s (after_wait (length job.quanta) (before_moves job s.commands_done rest) 0 (WaitSync rest))
-got_in job s (WaitSync rest c) v =
-    at_position s (waited (nat_le s.request v) (after_wait (length job.quanta) (before_moves job s.commands_done rest) (suc c) (WaitSync rest)) (WaitSync rest c))
-got_in job s AskQuiet v = asked s (after_wait (length job.tasks) (released job s.commands_done) 0 WaitQuiet)
-got_in job s (WaitQuiet t) v =
-    at_position s (waited (nat_le s.request (low v)) (after_wait (length job.tasks) (released job s.commands_done) (suc t) WaitQuiet) (WaitQuiet t))
+got_in job s (Ask whom) v = asked s (in_wait job s.commands_done whom (wait_got (wait_for job whom (suc s.request) Asking) v).phase)
+got_in job s (Await whom n) v =
+    at_position s (in_wait job s.commands_done whom (wait_got (wait_for job whom s.request (Waiting n)) v).phase)
 got_in job s Release v = at_position s Close
 got_in job s Close v = record s { commands_done = suc s.commands_done; remaining = rest_lines s.remaining; position = Line }
 

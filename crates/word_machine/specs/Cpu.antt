@@ -6,9 +6,10 @@ use Rattle.ft_base.specs.declared.task.TaskAct.TheVariants.{After}
 use Rattle.ft_base.specs.Job.{Job}
 use Rattle.plain_machine.specs.State.{has_acts, tasks_of}
 use Rattle.word_map.specs.Words.{Want, Ack, Quiet, at_put}
-use Rattle.word_map.specs.Contents.{all_ones, returned_at}
+use Rattle.word_map.specs.Contents.{returned_at}
 use Rattle.word_map.specs.Ops.{WordOp, Load, Store}
-use Rattle.word_machine.specs.Task.{TaskState, Moment, Polling, First, task_op, task_got, task_start, is_fetching, quiet_word, begun_act}
+use Rattle.grace_core.specs.Views.{acknowledged, has_told}
+use Rattle.word_machine.specs.Task.{TaskState, Moment, Polling, First, task_op, task_got, task_start, is_fetching, viewed, quiet_word, begun_act}
 
 -- where a CPU stands: at its present task, in a poll that loaded this request (before the store of its own word, or of the word of
 -- a task), or at its end
@@ -64,12 +65,12 @@ ticked me = record me { count = suc me.count }
 
 -- what a poll acknowledges: the request that it loaded, or all ones once every task has ended
 abbrev pub ack_value : Job → Cpu → ℕ → ℕ
-ack_value job me r = if any_has_more job me then r else all_ones
+ack_value job me r = acknowledged (any_has_more job me) r
 
 -- the first of these tasks whose quiet word is to change
 abbrev pub quiet_next : (ℕ → TaskState) → ℕ → List ℕ → Option ℕ
 quiet_next tasks r [] = None
-quiet_next tasks r (t ∷ rest) = if (tasks t).word == quiet_word r (tasks t) then quiet_next tasks r rest else Some t
+quiet_next tasks r (t ∷ rest) = if has_told r (viewed (tasks t)) then quiet_next tasks r rest else Some t
 
 -- a poll is over: the present task's act begins, or, if every task has ended, the CPU is at its end
 abbrev pub polled : Job → Cpu → Cpu

@@ -15,7 +15,7 @@ use Rattle.word_map.specs.Shapes.{shape_of}
 use Rattle.word_map.specs.Places.{IsThere}
 use Rattle.word_machine.specs.Commands.{insn, subject}
 use Rattle.word_map.specs.Ops.{WordOp, Load, Store, Mark}
-use Rattle.word_machine.specs.Control.{Position, Copy, Push, WaitSync, WaitQuiet}
+use Rattle.word_machine.specs.Control.{Position, Copy, Push, Await, Cpus, Tasks}
 use Rattle.word_machine.specs.Task.{OpenCall, TaskState, Moment, Polling, First, Fetch, GotHead, GotBreak, InTramp, AtFirst, TestSel, TestFilter, TestNotrace, AtPids, AtDepth, Refusing, Calling, Missing, Acting, Ending, AtLink}
 use Rattle.word_machine.specs.Cpu.{Cpu, Phase, Going, any_has_more}
 use Rattle.word_machine.specs.Machine.{World}
@@ -183,8 +183,8 @@ IsOnWord job (Some (Mark item)) = Unit {0}
 
 -- control waits for a CPU or a task that the job has
 abbrev pub WaitsAt : Job → Position → Type 0
-WaitsAt job (WaitSync rest c) = c < length job.quanta
-WaitsAt job (WaitQuiet t) = t < length job.tasks
+WaitsAt job (Await (Cpus rest) c) = c < length job.quanta
+WaitsAt job (Await Tasks t) = t < length job.tasks
 WaitsAt job _ = Unit {0}
 
 -- What code carries from step to step.

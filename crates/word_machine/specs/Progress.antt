@@ -3,7 +3,7 @@
 use Rattle.std.specs.Prelude.{ℕ, suc, ◌≡◌, ◌-◌, ◌<◌, ◌⊎◌, Bool, true, false, nat_lt, List, sum_by, if◌then◌else◌}
 use Rattle.patch_core.specs.Moves.{Move, Sync}
 use Rattle.word_machine.specs.Commands.{Effect, Adds, Removes, Edits, Disables, Lists, Levels, Nothing}
-use Rattle.word_machine.specs.Control.{Position, Line, Take, Copy, Select, Push, Relink, StorePids, StoreDepth, Patch, AskSync, WaitSync, AskQuiet, WaitQuiet, Release, Close}
+use Rattle.word_machine.specs.Control.{Position, Line, Take, Copy, Select, Push, Relink, StorePids, StoreDepth, Patch, Ask, Await, Cpus, Tasks, Release, Close}
 
 -- whether a command waits for quiet points
 abbrev pub waits : Effect → Bool
@@ -80,7 +80,7 @@ ClosingHolds false request q = Unit {0}
 -- A task holds the command under way: it may still use what it loaded before control's store, since it has passed no quiet point
 -- after the command's last request, or that request is not stored yet. q is the low half of its quiet word
 abbrev pub HoldsAt : Effect → Position → ℕ → ℕ → Type 0
-HoldsAt z (WaitQuiet t) request q = q < request
+HoldsAt z (Await Tasks t) request q = q < request
 HoldsAt z Release request q = q < request
 HoldsAt z Close request q = ClosingHolds (waits z) request q
 HoldsAt z _ request q = Unit {0}
@@ -93,7 +93,7 @@ SeenAt true z p request q old new = new ⊎ ((waits z ≡ true) × HoldsAt z p r
 
 -- at which request a task has passed a quiet point, as far as control knows
 abbrev pub quiet_reached : Effect → Position → ℕ → ℕ → ℕ
-quiet_reached z (WaitQuiet k) request t = if nat_lt t k then request else 0
+quiet_reached z (Await Tasks k) request t = if nat_lt t k then request else 0
 quiet_reached z Release request t = request
 quiet_reached z Close request t = if waits z then request else 0
 quiet_reached z _ request t = 0
@@ -156,8 +156,8 @@ comes_to z Push = is_adds z
 comes_to z Relink = relinks z
 comes_to z StorePids = is_lists z
 comes_to z StoreDepth = is_levels z
-comes_to z AskQuiet = waits z
-comes_to z (WaitQuiet t) = waits z
+comes_to z (Ask Tasks) = waits z
+comes_to z (Await Tasks t) = waits z
 comes_to z Release = is_removes z
 comes_to z Close = true
 comes_to z _ = patches z
@@ -176,10 +176,10 @@ syncs_in rest = sum_by syncs_by rest
 -- how many requests a command has stored at most
 abbrev pub asked_in : Position → ℕ
 asked_in (Patch w x rest) = 3 - syncs_in rest
-asked_in (AskSync rest) = 2 - syncs_in rest
-asked_in (WaitSync rest c) = 3 - syncs_in rest
-asked_in AskQuiet = 3
-asked_in (WaitQuiet t) = 4
+asked_in (Ask (Cpus rest)) = 2 - syncs_in rest
+asked_in (Await (Cpus rest) c) = 3 - syncs_in rest
+asked_in (Ask Tasks) = 3
+asked_in (Await Tasks t) = 4
 asked_in Release = 4
 asked_in Close = 4
 asked_in _ = 0

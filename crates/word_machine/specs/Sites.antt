@@ -6,7 +6,7 @@ use Rattle.word_map.specs.Words.{Word, Head, Tail, Next}
 use Rattle.word_map.specs.Instructions.{head_of, tail_of}
 use Rattle.patch_core.specs.Moves.{Move, Put, Sync, Done}
 use Rattle.word_machine.specs.Commands.{insn, changes, moves, effect, subject, set_words, has_slot_at}
-use Rattle.word_machine.specs.Control.{Position, Copy, Patch, AskSync, WaitSync, AskQuiet, WaitQuiet, Release, Close, Take}
+use Rattle.word_machine.specs.Control.{Position, Copy, Patch, Ask, Await, Cpus, Tasks, Release, Close, Take}
 use Rattle.word_machine.specs.Task.{Moment, GotHead, GotBreak}
 use Rattle.word_machine.specs.Progress.{comes_to, asked_in, syncs_in}
 
@@ -34,10 +34,10 @@ stages_left f rest = sum_by (stages_by f) rest
 -- stored, 9 the third request, 10 the third sync is over
 abbrev pub stage_in : Position → ℕ → ℕ
 stage_in (Patch w x rest) f = 10 - (stages_by f (Put w x) + stages_left f rest)
-stage_in (AskSync rest) f = 8 - stages_left f rest
-stage_in (WaitSync rest c) f = 9 - stages_left f rest
-stage_in AskQuiet f = 10
-stage_in (WaitQuiet t) f = 10
+stage_in (Ask (Cpus rest)) f = 8 - stages_left f rest
+stage_in (Await (Cpus rest) c) f = 9 - stages_left f rest
+stage_in (Ask Tasks) f = 10
+stage_in (Await Tasks t) f = 10
 stage_in Release f = 10
 stage_in Close f = 10
 stage_in _ f = 0
@@ -53,8 +53,8 @@ stage job d p f = stage_by (changes job d f) (stage_in p f)
 -- how many of the batch's three requests are stored
 abbrev pub asks : Position → ℕ
 asks (Patch w x rest) = 3 - syncs_in rest
-asks (AskSync rest) = 2 - syncs_in rest
-asks (WaitSync rest c) = 3 - syncs_in rest
+asks (Ask (Cpus rest)) = 2 - syncs_in rest
+asks (Await (Cpus rest) c) = 3 - syncs_in rest
 asks _ = 0
 
 -- what each CPU has acknowledged after so many syncs of the batch; `base` is the number of requests before it
@@ -65,8 +65,8 @@ synced base (suc k) = base + suc k
 -- what CPU c has acknowledged, as far as control knows
 abbrev pub reached : ℕ → Position → ℕ → ℕ
 reached base (Patch w x rest) c = synced base (3 - syncs_in rest)
-reached base (AskSync rest) c = synced base (2 - syncs_in rest)
-reached base (WaitSync rest k) c = if nat_lt c k then synced base (3 - syncs_in rest) else synced base (2 - syncs_in rest)
+reached base (Ask (Cpus rest)) c = synced base (2 - syncs_in rest)
+reached base (Await (Cpus rest) k) c = if nat_lt c k then synced base (3 - syncs_in rest) else synced base (2 - syncs_in rest)
 reached base _ c = 0
 
 -- the batch of the command after the first d has this move, and these after it
@@ -76,8 +76,8 @@ IsMove job d m rest = (before : List Move) × (moves job d ≡ before ++ m ∷ r
 -- what control's position names is there: a move of the batch, a word of a set, a trampoline that the user has
 abbrev pub PositionAt : Job → ℕ → Position → Type 0
 PositionAt job d (Patch w x rest) = IsMove job d (Put w x) rest
-PositionAt job d (AskSync rest) = IsMove job d Sync rest
-PositionAt job d (WaitSync rest c) = IsMove job d Sync rest
+PositionAt job d (Ask (Cpus rest)) = IsMove job d Sync rest
+PositionAt job d (Await (Cpus rest) c) = IsMove job d Sync rest
 PositionAt job d (Copy half w) = (half < 2) × (w < set_words job)
 PositionAt job d Take = has_slot_at job (suc d) (subject job d) ≡ true
 PositionAt job d Release = has_slot_at job d (subject job d) ≡ true

@@ -28,13 +28,13 @@ use Rattle.word_machine.specs.Sites.{PositionAt, stage_in, asks, reached}
 use Rattle.word_machine.specs.UserList.{since_of, list_desk, PushedAt, UserList}
 use Rattle.word_machine.specs.HashCopies.{SelIs, WrittenAt, HashCopies}
 use Rattle.word_machine.specs.Trampolines.{HasSlot, TrampolinesHeld, PidsAndDepth}
-use Rattle.word_machine.specs.Rule.{MachineRule, UnderAt}
+use Rattle.word_machine.specs.Rule.{MachineRule}
 use Rattle.word_machine_laws.proofs.Carried.{cpu_carried}
 use Rattle.word_machine_laws.proofs.DeskChanges.{SubjectBy, between}
 use Rattle.word_machine.proofs.Small.{if_case}
 use Rattle.word_machine_laws.proofs.Sites.{Fetches, Passed, passed_same}
 use Rattle.word_machine_laws.proofs.Goes.{Goes, cpu_goes}
-use Rattle.word_machine_laws.proofs.NoSwitch.{world, hereby, lines_on}
+use Rattle.word_machine_laws.proofs.NoSwitch.{world, hereby, lines_on, under_on}
 use Rattle.word_machine_laws.proofs.DeskKept.{others_same, none_changes, rest_same, order_flips, IsSteady}
 use Rattle.word_machine_laws.proofs.TrampRows.{first_copy}
 use Rattle.word_machine_laws.proofs.Room.{HasRoomFor}
@@ -96,7 +96,6 @@ module _ (job : Job) (ok : IsWellFormed job) (d : ℕ) where
     slot : took p' ≡ true → effect job d ≡ Adds → has_slot_at job (suc d) (subject job d) ≡ false
     give : gave (effect job d) p' ≡ false
     begun : underway p' ≡ true
-    to : (remaining : List Ctl) → UnderAt Close remaining → UnderAt p' remaining
     pushed : (link : ℕ → ℕ) (order : List ℕ) → PushedAt job d link order p'
     written : (copy : ℕ → ℕ → ℕ) → WrittenAt job (state_of job (suc d) (subject job d)) copy (effect job d) p'
     quiet : (t : ℕ) → quiet_reached (effect job d) p' request t ≡ 0
@@ -231,7 +230,7 @@ module _ (job : Job) (ok : IsWellFormed job) (ws : Words) (d : ℕ) (c : Command
         };
         legal = legal;
         runs = λ t. rw (plain-other job past (Begin (suc d)) t refl) (k.runs t);
-        lines = lines_on job d Line p' (Run c ∷ rest) _ (λ u. b.to (Run c ∷ rest) (c, rest, refl)) k.lines;
+        lines = lines_on job d Line p' (Run c ∷ rest) _ (λ u. under_on Close p' (Run c ∷ rest) b.begun (c, rest, refl)) k.lines;
         sites = pass.sites;
         list = listed_begin job ok d p' request b order ws.first ws.link k.list;
         sets = sets_begin job ok d p' request b copies ws.sel ws.bits k.sets;
@@ -264,12 +263,12 @@ module _ (job : Job) (ok : IsWellFormed job) (ws : Words) (d : ℕ) (c : Command
       -- with the state still to be stored
       early : (p' : Position) → selected p' ≡ false → listed p' ≡ false → is_lists (effect job d) ≡ false → is_levels (effect job d) ≡ false
           → (took p' ≡ true → effect job d ≡ Adds → has_slot_at job (suc d) (subject job d) ≡ false) → gave (effect job d) p' ≡ false → underway p' ≡ true
-          → ((remaining : List Ctl) → UnderAt Close remaining → UnderAt p' remaining) → ((link : ℕ → ℕ) (order : List ℕ) → PushedAt job d link order p')
+          → ((link : ℕ → ℕ) (order : List ℕ) → PushedAt job d link order p')
           → ((copy : ℕ → ℕ → ℕ) → WrittenAt job (state_of job (suc d) (subject job d)) copy (effect job d) p')
           → ((t : ℕ) → quiet_reached (effect job d) p' request t ≡ 0) → ((f : ℕ) → stage_in p' f ≡ 0) → asks p' ≡ 0 → ((b c : ℕ) → reached b p' c ≡ 0)
           → PositionAt job d p' → comes_to (effect job d) p' ≡ true
           → MachineRule job (world (record ws { clock = half_size + 1 + ws.clock }) d (Run c ∷ rest) request copies order cpus (Begin (suc d) ∷ past) p')
-      early p' sel lis pids depth slot give begun to' pushed written quiet stages none reaches position fit = to p' (record {
+      early p' sel lis pids depth slot give begun pushed written quiet stages none reaches position fit = to p' (record {
         user = λ e. false_true (sym sel ∙ e);
         list = λ e. false_true (sym lis ∙ e);
         pids = λ e. pids;
@@ -277,7 +276,6 @@ module _ (job : Job) (ok : IsWellFormed job) (ws : Words) (d : ℕ) (c : Command
         slot = slot;
         give = give;
         begun = begun;
-        to = to';
         pushed = pushed;
         written = written;
         quiet = quiet;
@@ -292,7 +290,7 @@ module _ (job : Job) (ok : IsWellFormed job) (ws : Words) (d : ℕ) (c : Command
           → gave z Select ≡ false → selects z ≡ true → ((copy : ℕ → ℕ → ℕ) → WrittenAt job (state_of job (suc d) (subject job d)) copy z Select)
           → MachineRule job (world (record ws { clock = half_size + 1 + ws.clock }) d (Run c ∷ rest) request copies order cpus (Begin (suc d) ∷ past) Select)
       to_select z e pids depth slot give fit written =
-          early Select refl refl (ap is_lists e ∙ pids) (ap is_levels e ∙ depth) (λ t a. slot (sym e ∙ a)) (ap (λ y. gave y Select) e ∙ give) refl (λ l u. u)
+          early Select refl refl (ap is_lists e ∙ pids) (ap is_levels e ∙ depth) (λ t a. slot (sym e ∙ a)) (ap (λ y. gave y Select) e ∙ give) refl
           (λ l o. tt) (λ copy. subst (λ y. WrittenAt job (state_of job (suc d) (subject job d)) copy y Select) (sym e) (written copy))
           (λ t. refl) (λ f. refl) refl (λ b c. refl) tt (ap selects e ∙ fit)
 
@@ -303,7 +301,7 @@ module _ (job : Job) (ok : IsWellFormed job) (ws : Words) (d : ℕ) (c : Command
       to_copy z e pids depth slot give give' fit fit' = first_copy job
           (λ p. MachineRule job (world (record ws { clock = half_size + 1 + ws.clock }) d (Run c ∷ rest) request copies order cpus (Begin (suc d) ∷ past) p))
           (λ some. early (Copy 0 0) refl refl (ap is_lists e ∙ pids) (ap is_levels e ∙ depth) (λ t a. slot (sym e ∙ a)) (ap (λ y. gave y (Copy 0 0)) e
-          ∙ give') refl (λ l u. u) (λ l o. tt)
+          ∙ give') refl (λ l o. tt)
           (λ copy i v ti tv b. absurd (elim b [ inl x ↦ omega (arith, x) | inr x ↦ (let y = x.1 in omega (arith, y)) ]))
           (λ t. refl) (λ f. refl) refl (λ b c. refl) (omega arith, some) (ap writes_copy e ∙ fit'))
           (λ none. to_select z e pids depth slot give fit (λ copy w i v ti tv. absurd (omega (arith, none, tv))))
@@ -313,7 +311,7 @@ module _ (job : Job) (ok : IsWellFormed job) (ws : Words) (d : ℕ) (c : Command
           (begin_in job d z))
       by_effect Adds e = if_case (λ p. MachineRule job (world (record ws { clock = half_size + 1 + ws.clock }) d (Run c ∷ rest) request copies order cpus
           (Begin (suc d) ∷ past) p)) (has_slot_at job (suc d) (subject job d)) Take (copy_from job 0 0)
-          (λ s. early Take refl refl (ap is_lists e) (ap is_levels e) (λ t a. false_true t) (ap (λ y. gave y Take) e) refl (λ l u. u) (λ l o. tt) (λ copy. tt)
+          (λ s. early Take refl refl (ap is_lists e) (ap is_levels e) (λ t a. false_true t) (ap (λ y. gave y Take) e) refl (λ l o. tt) (λ copy. tt)
           (λ t. refl) (λ f. refl) refl (λ b c. refl) s (ap is_adds e))
           (λ s. to_copy Adds e refl refl (λ a. s) refl refl refl refl)
       by_effect Removes e = to_select Removes e refl refl (λ a. false_true (ap is_adds a)) refl refl (λ copy w. false_true w)
@@ -328,7 +326,6 @@ module _ (job : Job) (ok : IsWellFormed job) (ws : Words) (d : ℕ) (c : Command
         slot = λ x a. false_true (ap is_adds (sym e ∙ a));
         give = ap (λ y. gave y StorePids) e;
         begun = refl;
-        to = λ l u. u;
         pushed = λ l o. tt;
         written = λ copy. tt;
         quiet = λ t. refl;
@@ -346,7 +343,6 @@ module _ (job : Job) (ok : IsWellFormed job) (ws : Words) (d : ℕ) (c : Command
         slot = λ x a. false_true (ap is_adds (sym e ∙ a));
         give = ap (λ y. gave y StoreDepth) e;
         begun = refl;
-        to = λ l u. u;
         pushed = λ l o. tt;
         written = λ copy. tt;
         quiet = λ t. refl;
@@ -364,7 +360,6 @@ module _ (job : Job) (ok : IsWellFormed job) (ws : Words) (d : ℕ) (c : Command
         slot = λ x a. false_true (ap is_adds (sym e ∙ a));
         give = ap (λ y. gave y Close) e;
         begun = refl;
-        to = λ l u. u;
         pushed = λ l o. tt;
         written = λ copy. tt;
         quiet = subst (λ y. (t : ℕ) → quiet_reached y Close request t ≡ 0) (sym e) (λ t. refl);

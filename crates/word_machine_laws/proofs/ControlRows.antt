@@ -8,18 +8,19 @@ use Rattle.ft_base.specs.Job.{Job, no_task, Ctl, Run, Until}
 use Rattle.ft_base.specs.Desk.{desk}
 use Rattle.ft_hist.specs.Plain.{plain, PlainTask}
 use Rattle.ft_hist.specs.Rules.{acts_passed}
-use Rattle.word_map.specs.Words.{Words, Want, Pids, Depth, Ack, Quiet, Tramp, Link, Sel, Bits}
+use Rattle.word_map.specs.Words.{Words, Want, Pids, Depth, Quiet, Tramp, Link, Sel, Bits}
 use Rattle.word_map.specs.Contents.{sel_of, tramp_word, set_word, mask_of, other_copy}
+use Rattle.grace_core.specs.Waits.{awaited_word}
 use Rattle.word_machine.specs.Commands.{effect, subject, state_of, command}
 use Rattle.word_map.specs.Ops.{WordOp, Load, Store, Mark}
-use Rattle.word_machine.specs.Control.{Position, Line, Take, Copy, Select, Push, Relink, StorePids, StoreDepth, Patch, AskSync, WaitSync, AskQuiet, WaitQuiet, Release, Close, copy_after, slot_of, name_of, relink_op, answer_in, line_op, next_in, control_next}
+use Rattle.word_machine.specs.Control.{Position, Line, Take, Copy, Select, Push, Relink, StorePids, StoreDepth, Patch, Ask, Await, Release, Close, copy_after, slot_of, name_of, relink_op, answer_in, line_op, is_for_tasks, next_in, control_next}
 use Rattle.word_machine.specs.Cpu.{Cpu}
 use Rattle.word_machine.specs.Machine.{World, control_row}
 use Rattle.word_machine.specs.Tasks.{TaskRule}
 use Rattle.word_machine.specs.Rule.{MachineRule, IsWordJob, task_in}
 use Rattle.word_machine_laws.proofs.NoSwitch.{world, hereby}
-use Rattle.word_machine_laws.proofs.SiteRows.{patch_keeps, ask_keeps, wait_keeps}
-use Rattle.word_machine_laws.proofs.QuietRows.{ask_quiet_keeps, wait_quiet_keeps}
+use Rattle.word_machine_laws.proofs.SiteRows.{patch_keeps}
+use Rattle.word_machine_laws.proofs.WaitRows.{ask_keeps, await_keeps}
 use Rattle.word_machine_laws.proofs.SetCopy.{copy_keeps}
 use Rattle.word_machine_laws.proofs.SetSelect.{select_keeps}
 use Rattle.word_machine_laws.proofs.ListRows.{push_keeps, relink_keeps}
@@ -81,10 +82,9 @@ module _ (job : Job) (ok : IsWordJob job) (ws : Words) (d : ℕ) (request : ℕ)
     by_place StoreDepth op k is = row StoreDepth (Store Depth (desk job (suc d)).depth) op is
         (depth_keeps job ok.job' ws d remaining request copies order cpus past k)
     by_place (Patch w x rest) op k is = row (Patch w x rest) (Store w x) op is (patch_keeps job d remaining copies order cpus past ws request w x rest k)
-    by_place (AskSync rest) op k is = row (AskSync rest) (Store Want (suc request)) op is (ask_keeps job d remaining copies order cpus past ws request rest k)
-    by_place (WaitSync rest c) op k is = row (WaitSync rest c) (Load (Ack c)) op is (wait_keeps job d remaining copies order cpus past ws request rest c k)
-    by_place AskQuiet op k is = row AskQuiet (Store Want (suc request)) op is (ask_quiet_keeps job d remaining copies order cpus past ws request k)
-    by_place (WaitQuiet t) op k is = row (WaitQuiet t) (Load (Quiet t)) op is (wait_quiet_keeps job d remaining copies order cpus past ws request t k)
+    by_place (Ask whom) op k is = row (Ask whom) (Store Want (suc request)) op is (ask_keeps job d remaining copies order cpus past ws request whom k)
+    by_place (Await whom n) op k is = row (Await whom n) (Load (awaited_word (is_for_tasks whom) n)) op is
+        (await_keeps job d remaining copies order cpus past ws request whom n k)
     by_place Release op k is = row Release (Store (Tramp (slot_of (state_of job d (subject job d)).slot)) 0) op is
         (release_keeps job ok.job' ws d remaining request copies order cpus past k)
     by_place Close op k is = row Close (Mark (Return (suc d) (answer_in job d (command job d)))) op is

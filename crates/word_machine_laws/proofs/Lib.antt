@@ -51,7 +51,7 @@ pub mod PollTasks
 pub mod PollSteps
 pub mod PollRows
 -- each row of control
-pub mod QuietRows
+pub mod WaitRows
 pub mod NoneCalled
 pub mod ControlLine
 pub mod ControlBegin

@@ -9,31 +9,31 @@ use Rattle.word_map.specs.Words.{Words, Pids, Depth}
 use Rattle.word_map.specs.Contents.{mask_of, low}
 use Rattle.word_machine.specs.Commands.{effect, state_of}
 use Rattle.word_map.specs.Ops.{Store}
-use Rattle.word_machine.specs.Control.{StorePids, StoreDepth, AskQuiet, control_got}
+use Rattle.word_machine.specs.Control.{StorePids, StoreDepth, Ask, Tasks, control_got}
 use Rattle.word_machine.specs.Cpu.{Cpu}
 use Rattle.word_machine.specs.Machine.{control_row}
 use Rattle.word_machine.specs.Progress.{is_lists, is_levels}
 use Rattle.word_machine.specs.Rule.{MachineRule}
 use Rattle.word_machine_laws.proofs.Sites.{Fetches, Passed, passed_same}
 use Rattle.word_machine_laws.proofs.Goes.{Goes, cpu_goes}
-use Rattle.word_machine_laws.proofs.NoSwitch.{world, hereby, seen_on, read_still, walk_still, tramps_on, listed_on, sets_on, counts_on, lines_on, begun_more}
+use Rattle.word_machine_laws.proofs.NoSwitch.{world, hereby, seen_on, read_still, walk_still, tramps_before, listed_on, sets_on, counts_on, lines_on, begun_more}
 use Rattle.word_machine_laws.proofs.DeskKept.{none_changes}
-use Rattle.word_machine_laws.proofs.Effects.{what_waits_pids, what_waits_depth, none_gave}
+use Rattle.word_machine_laws.proofs.Effects.{what_waits_pids, what_waits_depth}
 
 goes_pids : (job : Job) (d base request : ℕ) (order : List ℕ) (copies link : ℕ → ℕ) (bits : ℕ → ℕ → ℕ → ℕ → ℕ) → is_lists (effect job d) ≡ true → (ack q : ℕ)
-    → Fetches job ack d StorePids base d AskQuiet base
-    → Goes job (hereby d StorePids base request order copies link bits) (hereby d AskQuiet base request order copies link bits) ack q
+    → Fetches job ack d StorePids base d (Ask Tasks) base
+    → Goes job (hereby d StorePids base request order copies link bits) (hereby d (Ask Tasks) base request order copies link bits) ack q
 goes_pids job d base request order copies link bits fit ack q fetch = record {
   later = omega arith;
   fetch = fetch;
-  user = λ u R steady s. seen_on (effect job d) StorePids AskQuiet request request q true true (R (state_of job d u)) (R (state_of job (suc d) u)) refl
+  user = λ u R steady s. seen_on (effect job d) StorePids (Ask Tasks) request request q true true (R (state_of job d u)) (R (state_of job (suc d) u)) refl
       (λ h. tt) s;
-  reads = λ u copy R steady s. read_still job d StorePids AskQuiet request request q (λ h. tt) copies bits u copy R refl s;
-  walks = λ u w. walk_still job d StorePids AskQuiet request request q (λ h. tt) order link u refl w;
+  reads = λ u copy R steady s. read_still job d StorePids (Ask Tasks) request request q (λ h. tt) copies bits u copy R refl s;
+  walks = λ u w. walk_still job d StorePids (Ask Tasks) request request q (λ h. tt) order link u refl w;
   walked = λ u w. refl;
   since = λ u. inl refl;
   pids = λ t x s. inr ((what_waits_pids (effect job d) fit).0, tt, s);
-  depth = λ Q s. seen_on (effect job d) StorePids AskQuiet request request q true true (Q (desk job d).depth) (Q (desk job (suc d)).depth) refl (λ h. tt) s;
+  depth = λ Q s. seen_on (effect job d) StorePids (Ask Tasks) request request q true true (Q (desk job d).depth) (Q (desk job (suc d)).depth) refl (λ h. tt) s;
 }
 
 pub pids_keeps : (job : Job) → IsWellFormed job → (ws : Words) (d : ℕ) (remaining : List Ctl) (request : ℕ) (copies : ℕ → ℕ) (order : List ℕ) (cpus : ℕ
@@ -42,24 +42,24 @@ pub pids_keeps : (job : Job) → IsWellFormed job → (ws : Words) (d : ℕ) (re
     (Store Pids (mask_of (desk job (suc d)) (length job.tasks))))
 unfolding control_got
 pids_keeps job ok ws d remaining request copies order cpus past k =
-    let pass : Passed job ws.ack d StorePids k.base request d AskQuiet k.base request ws.want ws.head ws.tail ws.next =
-    passed_same job d ws.ack StorePids AskQuiet k.base k.base request request ws.want ws.want ws.head ws.tail ws.next
+    let pass : Passed job ws.ack d StorePids k.base request d (Ask Tasks) k.base request ws.want ws.head ws.tail ws.next =
+    passed_same job d ws.ack StorePids (Ask Tasks) k.base k.base request request ws.want ws.want ws.head ws.tail ws.next
     (λ f inside ch. false_true (sym (none_changes job ok d (what_waits_pids (effect job d) k.sites.fit).1 f) ∙ ch)) k.sites.asked (let z = k.sites.few in
     omega (arith, z)) k.sites.want tt
     (what_waits_pids (effect job d) k.sites.fit).0 (inl refl) (λ c within s. omega arith) k.sites in
     record {
       base = k.base;
-      counts = counts_on d StorePids AskQuiet ws.clock past refl k.counts;
+      counts = counts_on d StorePids (Ask Tasks) ws.clock past refl k.counts;
       legal = k.legal;
       runs = k.runs;
-      lines = lines_on job d StorePids AskQuiet remaining _ (λ u. u) k.lines;
+      lines = lines_on job d StorePids (Ask Tasks) remaining _ (λ u. u) k.lines;
       sites = pass.sites;
-      list = listed_on job d StorePids AskQuiet order ws.first ws.link refl tt k.list;
-      sets = sets_on job d StorePids AskQuiet copies ws.sel ws.bits refl tt k.sets;
-      tramps = tramps_on job d StorePids AskQuiet refl (none_gave (effect job d) AskQuiet refl ∙ sym (none_gave (effect job d) StorePids refl)) ws.tramp k.tramps;
+      list = listed_on job d StorePids (Ask Tasks) order ws.first ws.link refl tt k.list;
+      sets = sets_on job d StorePids (Ask Tasks) copies ws.sel ws.bits refl tt k.sets;
+      tramps = tramps_before job d StorePids (Ask Tasks) refl refl refl ws.tramp k.tramps;
       limits = record { tasks = refl; level = k.limits.level };
       cpus = λ c within.
-          cpu_goes job past (hereby d StorePids k.base request order copies ws.link ws.bits) (hereby d AskQuiet k.base request order copies ws.link ws.bits)
+          cpu_goes job past (hereby d StorePids k.base request order copies ws.link ws.bits) (hereby d (Ask Tasks) k.base request order copies ws.link ws.bits)
           (ws.ack c) ws.quiet c (cpus c) (begun_more d StorePids ws.clock past k.counts) (omega arith)
           (pass.reach c within) (λ t there r. omega arith)
           (λ t there r a qr small. goes_pids job d k.base request order copies ws.link ws.bits k.sites.fit (ws.ack c) (low (ws.quiet t))
@@ -68,18 +68,18 @@ pids_keeps job ok ws d remaining request copies order cpus past k =
     }
 
 goes_depth : (job : Job) (d base request : ℕ) (order : List ℕ) (copies link : ℕ → ℕ) (bits : ℕ → ℕ → ℕ → ℕ → ℕ) → is_levels (effect job d) ≡ true
-    → (ack q : ℕ) → Fetches job ack d StoreDepth base d AskQuiet base
-    → Goes job (hereby d StoreDepth base request order copies link bits) (hereby d AskQuiet base request order copies link bits) ack q
+    → (ack q : ℕ) → Fetches job ack d StoreDepth base d (Ask Tasks) base
+    → Goes job (hereby d StoreDepth base request order copies link bits) (hereby d (Ask Tasks) base request order copies link bits) ack q
 goes_depth job d base request order copies link bits fit ack q fetch = record {
   later = omega arith;
   fetch = fetch;
-  user = λ u R steady s. seen_on (effect job d) StoreDepth AskQuiet request request q true true (R (state_of job d u)) (R (state_of job (suc d) u)) refl
+  user = λ u R steady s. seen_on (effect job d) StoreDepth (Ask Tasks) request request q true true (R (state_of job d u)) (R (state_of job (suc d) u)) refl
       (λ h. tt) s;
-  reads = λ u copy R steady s. read_still job d StoreDepth AskQuiet request request q (λ h. tt) copies bits u copy R refl s;
-  walks = λ u w. walk_still job d StoreDepth AskQuiet request request q (λ h. tt) order link u refl w;
+  reads = λ u copy R steady s. read_still job d StoreDepth (Ask Tasks) request request q (λ h. tt) copies bits u copy R refl s;
+  walks = λ u w. walk_still job d StoreDepth (Ask Tasks) request request q (λ h. tt) order link u refl w;
   walked = λ u w. refl;
   since = λ u. inl refl;
-  pids = λ t x s. seen_on (effect job d) StoreDepth AskQuiet request request q true true (is_allowed (desk job d) t ≡ x) (is_allowed (desk job (suc d)) t
+  pids = λ t x s. seen_on (effect job d) StoreDepth (Ask Tasks) request request q true true (is_allowed (desk job d) t ≡ x) (is_allowed (desk job (suc d)) t
       ≡ x) refl (λ h. tt) s;
   depth = λ Q s. inr ((what_waits_depth (effect job d) fit).0, tt, s);
 }
@@ -89,24 +89,24 @@ pub depth_keeps : (job : Job) → IsWellFormed job → (ws : Words) (d : ℕ) (r
     → MachineRule job (control_row job (world ws d remaining request copies order cpus past StoreDepth) (Store Depth (desk job (suc d)).depth))
 unfolding control_got
 depth_keeps job ok ws d remaining request copies order cpus past k =
-    let pass : Passed job ws.ack d StoreDepth k.base request d AskQuiet k.base request ws.want ws.head ws.tail ws.next =
-    passed_same job d ws.ack StoreDepth AskQuiet k.base k.base request request ws.want ws.want ws.head ws.tail ws.next
+    let pass : Passed job ws.ack d StoreDepth k.base request d (Ask Tasks) k.base request ws.want ws.head ws.tail ws.next =
+    passed_same job d ws.ack StoreDepth (Ask Tasks) k.base k.base request request ws.want ws.want ws.head ws.tail ws.next
     (λ f inside ch. false_true (sym (none_changes job ok d (what_waits_depth (effect job d) k.sites.fit).1 f) ∙ ch)) k.sites.asked (let z = k.sites.few in
     omega (arith, z)) k.sites.want tt
     (what_waits_depth (effect job d) k.sites.fit).0 (inl refl) (λ c within s. omega arith) k.sites in
     record {
       base = k.base;
-      counts = counts_on d StoreDepth AskQuiet ws.clock past refl k.counts;
+      counts = counts_on d StoreDepth (Ask Tasks) ws.clock past refl k.counts;
       legal = k.legal;
       runs = k.runs;
-      lines = lines_on job d StoreDepth AskQuiet remaining _ (λ u. u) k.lines;
+      lines = lines_on job d StoreDepth (Ask Tasks) remaining _ (λ u. u) k.lines;
       sites = pass.sites;
-      list = listed_on job d StoreDepth AskQuiet order ws.first ws.link refl tt k.list;
-      sets = sets_on job d StoreDepth AskQuiet copies ws.sel ws.bits refl tt k.sets;
-      tramps = tramps_on job d StoreDepth AskQuiet refl (none_gave (effect job d) AskQuiet refl ∙ sym (none_gave (effect job d) StoreDepth refl)) ws.tramp k.tramps;
+      list = listed_on job d StoreDepth (Ask Tasks) order ws.first ws.link refl tt k.list;
+      sets = sets_on job d StoreDepth (Ask Tasks) copies ws.sel ws.bits refl tt k.sets;
+      tramps = tramps_before job d StoreDepth (Ask Tasks) refl refl refl ws.tramp k.tramps;
       limits = record { tasks = k.limits.tasks; level = refl };
       cpus = λ c within.
-          cpu_goes job past (hereby d StoreDepth k.base request order copies ws.link ws.bits) (hereby d AskQuiet k.base request order copies ws.link ws.bits)
+          cpu_goes job past (hereby d StoreDepth k.base request order copies ws.link ws.bits) (hereby d (Ask Tasks) k.base request order copies ws.link ws.bits)
           (ws.ack c) ws.quiet c (cpus c) (begun_more d StoreDepth ws.clock past k.counts) (omega arith)
           (pass.reach c within) (λ t there r. omega arith)
           (λ t there r a qr small. goes_depth job d k.base request order copies ws.link ws.bits k.sites.fit (ws.ack c) (low (ws.quiet t))

@@ -23,7 +23,7 @@ use Rattle.word_machine.proofs.Small.{put_same, each_of}
 use Rattle.word_machine_laws.proofs.Sites.{Fetches, Passed, passed_same}
 use Rattle.word_machine_laws.proofs.SiteSyncs.{enter_row}
 use Rattle.word_machine_laws.proofs.Goes.{Goes, cpu_goes}
-use Rattle.word_machine_laws.proofs.NoSwitch.{world, hereby, Flags, seen_on, read_still, goes_still, tramps_on, sets_on, limits_on, counts_on, lines_on, begun_more}
+use Rattle.word_machine_laws.proofs.NoSwitch.{world, hereby, Flags, seen_on, read_still, goes_still, tramps_on, tramps_before, sets_on, limits_on, counts_on, lines_on, under_on, begun_more}
 use Rattle.word_machine_laws.proofs.SiteRows.{InBatch, in_batch}
 use Rattle.word_machine_laws.proofs.DeskKept.{order_next, sort_adds, sort_removes}
 use Rattle.word_machine_laws.proofs.UserList.{Among, among_of, has_of, Falls, falls_of, without_user, WalkOn, reads_name, reads_other, reads_older, push_reads, namer, namer_word, namer_later, unlink_reads, without_older, unlink_walker, without_filter}
@@ -73,7 +73,7 @@ module _ (job : Job) (ok : IsWellFormed job) (ws : Words) (d : ℕ) (remaining :
           pushed = λ e. put_same ws.link (subject job d) (name_of order);
         };
         sets = sets_on job d Push Relink copies ws.sel ws.bits refl tt k.sets;
-        tramps = tramps_on job d Push Relink refl (none_gave (effect job d) Relink refl ∙ sym (none_gave (effect job d) Push refl)) ws.tramp k.tramps;
+        tramps = tramps_before job d Push Relink refl refl refl ws.tramp k.tramps;
         limits = limits_on job d Push Relink ws.pids ws.depth refl refl k.limits;
         cpus = λ c within.
             cpu_goes job past (hereby d Push k.base request order copies ws.link ws.bits)
@@ -114,7 +114,7 @@ module _ (job : Job) (ok : IsWellFormed job) (ws : Words) (d : ℕ) (remaining :
         counts = counts_on d Relink (batch_first job d) ws.clock past b.stored.begun k.counts;
         legal = k.legal;
         runs = k.runs;
-        lines = lines_on job d Relink (batch_first job d) remaining _ (b.stored.to remaining) k.lines;
+        lines = lines_on job d Relink (batch_first job d) remaining _ (under_on Relink (batch_first job d) remaining b.stored.begun) k.lines;
         sites = pass.sites;
         list = record {
           order' = subst (λ y. IsOrder (desk job (desk_by y d)) (desk_by y d) order') (sym b.list) orders;

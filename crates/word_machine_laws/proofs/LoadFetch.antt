@@ -14,7 +14,7 @@ use Rattle.site_bytes.specs.Bytes.{breakpoint}
 use Rattle.word_map.specs.Instructions.{head_of, decode}
 use Rattle.patch_core.specs.Moves.{Put, Sync}
 use Rattle.word_machine.specs.Commands.{insn, changes, effect, state_of}
-use Rattle.word_machine.specs.Control.{Position, Patch, WaitSync}
+use Rattle.word_machine.specs.Control.{Position, Patch, Ask, Await, Cpus}
 use Rattle.word_machine.specs.Task.{OpenCall, Moment, Fetch, GotHead, GotBreak, InTramp, AtFirst, Closing, head_in, fetched, fetched_ran}
 use Rattle.word_machine.specs.Progress.{SeenAt, selected, underway, begun_at}
 use Rattle.word_machine.specs.Sites.{stage, stage_in, stage_by, asks, SiteAt, FetchAt, PositionAt, SitesInPatching}
@@ -34,7 +34,8 @@ use Rattle.word_machine_laws.proofs.Effects.{early, late}
 asks_low : (job : Job) (d : ℕ) (p : Position) (f : ℕ) → PositionAt job d p → f < funcs job → changes job d f ≡ true → stage_in p f < 9 → asks p ≤ 2
 asks_low job d (Patch w x rest) f a inside ch low =
     let s = is-move job d (Put w x) rest a in let k = s.syncs in let y = (sweep-syncs s.sweep).0 in omega (arith, k, y)
-asks_low job d (WaitSync rest c) f a inside ch low = let e = (is-move job d Sync rest a).left f inside ch in omega (arith, e, low)
+asks_low job d (Ask (Cpus rest)) f a inside ch low = omega arith
+asks_low job d (Await (Cpus rest) c) f a inside ch low = let e = (is-move job d Sync rest a).left f inside ch in omega (arith, e, low)
 asks_low job d _ f a inside ch low = omega arith
 
 not_break : (i h : ℕ) → h ≡ 204 → h ≡ head_of i → ⊥

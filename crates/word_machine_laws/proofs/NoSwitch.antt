@@ -4,11 +4,12 @@ use Rattle.ft_base.specs.declared.item.Item.{Item}
 use Rattle.ft_base.specs.Job.{Job, Ctl}
 use Rattle.ft_base.specs.Desk.{UserState, desk, is_allowed}
 use Rattle.ft_base.specs.Order.{IsOrder}
+use Rattle.ft_base.proofs.Small.{false_true}
 use Rattle.ft_hist.specs.Past.{begun}
 use Rattle.word_map.specs.Words.{Words}
 use Rattle.word_map.specs.Contents.{low, mask_of, other_copy}
 use Rattle.word_machine.specs.Commands.{Effect, effect, subject, state_of}
-use Rattle.word_machine.specs.Control.{Position}
+use Rattle.word_machine.specs.Control.{Position, Line, Close}
 use Rattle.word_machine.specs.Cpu.{Cpu}
 use Rattle.word_machine.specs.Machine.{World}
 use Rattle.word_machine.specs.Progress.{SeenAt, HoldsAt, selected, listed, took, gave, pids_stored, depth_stored, desk_by, underway, quiet_reached}
@@ -17,6 +18,7 @@ use Rattle.word_machine.specs.HashCopies.{ReaderAt, SelIs, WrittenAt, HashCopies
 use Rattle.word_machine.specs.Trampolines.{TrampolinesHeld, PidsAndDepth}
 use Rattle.word_machine.specs.Verdicts.{Here}
 use Rattle.word_machine.specs.Rule.{MachineRule, UnderAt, Counts, ControlLines}
+use Rattle.word_machine_laws.proofs.Effects.{closes, none_gave}
 use Rattle.word_machine_laws.proofs.Seen.{seen_still}
 use Rattle.word_machine_laws.proofs.Sites.{Fetches, Passed}
 use Rattle.word_machine_laws.proofs.Goes.{Goes, cpu_goes}
@@ -58,7 +60,6 @@ pub record Stays (job : Job) (d : ℕ) (p p' : Position) : Type 0 where
   pub tramps : (tramp : ℕ → ℕ) → TrampolinesHeld job d p tramp → TrampolinesHeld job d p' tramp
   pub pushed : (link : ℕ → ℕ) (order : List ℕ) → PushedAt job d link order p'
   pub written : (s : UserState) (copy : ℕ → ℕ → ℕ) → WrittenAt job s copy (effect job d) p'
-  pub lines : (remaining : List Ctl) → UnderAt p remaining → UnderAt p' remaining
   pub begun : underway p' ≡ underway p
 
 pub tramps_on : (job : Job) (d : ℕ) (p p' : Position) → took p' ≡ took p → gave (effect job d) p' ≡ gave (effect job d) p → (tramp : ℕ → ℕ)
@@ -68,6 +69,11 @@ tramps_on job d p p' take give tramp k = record {
   after = λ t. k.after (sym take ∙ t);
   free = λ t within old new. k.free t within (λ u h. (sym give ∙ (old u h).0, (old u h).1)) (λ e. new (take ∙ e));
 }
+
+-- the same before the Return
+pub tramps_before : (job : Job) (d : ℕ) (p p' : Position) → closes p ≡ false → closes p' ≡ false → took p' ≡ took p → (tramp : ℕ → ℕ)
+    → TrampolinesHeld job d p tramp → TrampolinesHeld job d p' tramp
+tramps_before job d p p' before before' take = tramps_on job d p p' take (none_gave (effect job d) p' before' ∙ sym (none_gave (effect job d) p before))
 
 -- ## tasks
 
@@ -149,6 +155,15 @@ pub lines_on : (job : Job) (d : ℕ) (p p' : Position) (remaining : List Ctl) (g
     → ControlLines job d p remaining gone → ControlLines job d p' remaining gone
 lines_on job d p p' remaining gone f k = record { waits = k.waits; met = k.met; before = k.before; within = k.within; commands = k.commands; under = f k.under }
 
+-- a command under way is that of the present line, wherever control stands in it
+under_from : (p : Position) (remaining : List Ctl) → true ≡ underway p → UnderAt p remaining → UnderAt Close remaining
+under_from Line remaining begins u = false_true (sym begins)
+under_from _ remaining begins u = u
+
+pub under_on : (p p' : Position) (remaining : List Ctl) → underway p' ≡ underway p → UnderAt p remaining → UnderAt p' remaining
+under_on p Line remaining begins u = tt
+under_on p _ remaining begins u = under_from p remaining begins u
+
 -- the command that has returned last has begun
 pub begun_more : (d : ℕ) (p : Position) (clock : ℕ) (past : List Item) → Counts d p clock past → d ≤ begun past
 begun_more d p clock past k = by_under (underway p) k.started
@@ -171,7 +186,7 @@ module _ (job : Job) (ws : Words) (d : ℕ) (remaining : List Ctl) (request : �
     counts = counts_on d p p' ws.clock past stays.begun k.counts;
     legal = k.legal;
     runs = k.runs;
-    lines = lines_on job d p p' remaining _ (stays.lines remaining) k.lines;
+    lines = lines_on job d p p' remaining _ (under_on p p' remaining stays.begun) k.lines;
     sites = pass.sites;
     list = listed_on job d p p' order ws.first ws.link flags.list (stays.pushed ws.link order) k.list;
     sets = sets_on job d p p' copies ws.sel ws.bits flags.select

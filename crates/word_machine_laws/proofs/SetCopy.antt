@@ -17,11 +17,11 @@ use Rattle.word_machine.specs.Progress.{SeenAt, selected, took, gave, underway, 
 use Rattle.word_machine.specs.Sites.{PositionAt, stage_in, asks, reached}
 use Rattle.word_machine.specs.UserList.{PushedAt}
 use Rattle.word_machine.specs.HashCopies.{HasSets, SelIs, WrittenAt, HashCopies}
-use Rattle.word_machine.specs.Rule.{MachineRule, UnderAt}
+use Rattle.word_machine.specs.Rule.{MachineRule}
 use Rattle.word_machine.proofs.Small.{if_case, flip_other}
 use Rattle.word_machine_laws.proofs.Sites.{Fetches, Passed, passed_same}
 use Rattle.word_machine_laws.proofs.Goes.{Goes, cpu_goes}
-use Rattle.word_machine_laws.proofs.NoSwitch.{world, hereby, Flags, goes_still, tramps_on, listed_on, limits_on, counts_on, lines_on, begun_more}
+use Rattle.word_machine_laws.proofs.NoSwitch.{world, hereby, Flags, goes_still, tramps_on, listed_on, limits_on, counts_on, lines_on, under_on, begun_more}
 use Rattle.word_machine_laws.proofs.Effects.{writes_selects, none_gave}
 
 -- a store into another copy
@@ -117,12 +117,12 @@ module _ (job : Job) (ws : Words) (d : ℕ) (remaining : List Ctl) (request : �
       (put (Bits (subject job d) (other_copy (copies (subject job d))) h w) (word_at h w) ws) d remaining request copies order cpus past p)
 
   copy_to : (h w : ℕ) (p' : Position) → Flags job d (Copy h w) p' request request → selected p' ≡ false → took p' ≡ took (Copy h w)
-      → gave (effect job d) p' ≡ false → underway p' ≡ true → (UnderAt (Copy h w) remaining → UnderAt p' remaining)
-      → PushedAt job d ws.link order p' → PositionAt job d p' → comes_to (effect job d) p' ≡ true → ((f : ℕ) → stage_in p' f ≡ 0) → asks p' ≡ 0
+      → gave (effect job d) p' ≡ false → underway p' ≡ true → PushedAt job d ws.link order p' → PositionAt job d p'
+      → comes_to (effect job d) p' ≡ true → ((f : ℕ) → stage_in p' f ≡ 0) → asks p' ≡ 0
       → ((b c : ℕ) → reached b p' c ≡ 0) → ((t : ℕ) → quiet_reached (effect job d) p' request t ≡ 0)
       → WrittenAt job (state_of job (suc d) (subject job d)) (bits' job d h w copies ws.bits (subject job d) (other_copy (copies (subject job d))))
       (effect job d) p' → At (Copy h w) → After h w p'
-  copy_to h w p' flags out take give begun lines pushed position fit stages none reaches quiet written k =
+  copy_to h w p' flags out take give begun pushed position fit stages none reaches quiet written k =
       let pass : Passed job ws.ack d (Copy h w) k.base request d p' k.base request ws.want ws.head ws.tail ws.next =
       passed_same job d ws.ack (Copy h w) p' k.base k.base request request ws.want ws.want ws.head ws.tail ws.next (λ f inside ch. stages f)
       (k.sites.asked ∙ ap (λ n. k.base + n) (sym none)) (let z = k.sites.few in omega (arith, z)) k.sites.want position fit (inl refl)
@@ -132,7 +132,7 @@ module _ (job : Job) (ws : Words) (d : ℕ) (remaining : List Ctl) (request : �
         counts = counts_on d (Copy h w) p' ws.clock past begun k.counts;
         legal = k.legal;
         runs = k.runs;
-        lines = lines_on job d (Copy h w) p' remaining _ lines k.lines;
+        lines = lines_on job d (Copy h w) p' remaining _ (under_on (Copy h w) p' remaining begun) k.lines;
         sites = pass.sites;
         list = listed_on job d (Copy h w) p' order ws.first ws.link flags.list pushed k.list;
         sets = sets_copy job d h w copies ws.bits p' ws.sel out written k.sets;
@@ -159,13 +159,13 @@ module _ (job : Job) (ws : Words) (d : ℕ) (remaining : List Ctl) (request : �
           (effect job d) (Copy i v) → After h w (Copy i v)
       to_copy i v ti tv written =
           copy_to h w (Copy i v) (record { list = refl; select = refl; pids = refl; depth = refl; hold = λ q small x. tt; grows = omega arith }) refl refl
-          (none_gave (effect job d) (Copy i v) refl) refl (λ u. u) tt (ti, tv) k.sites.fit (λ f. refl) refl (λ b c. refl) (λ t. refl) written k
+          (none_gave (effect job d) (Copy i v) refl) refl tt (ti, tv) k.sites.fit (λ f. refl) refl (λ b c. refl) (λ t. refl) written k
 
       to_select : WrittenAt job (state_of job (suc d) (subject job d)) (bits' job d h w copies ws.bits (subject job d) (other_copy (copies (subject job d))))
           (effect job d) Select → After h w Select
       to_select written =
           copy_to h w Select (record { list = refl; select = refl; pids = refl; depth = refl; hold = λ q small x. tt; grows = omega arith }) refl refl
-          (none_gave (effect job d) Select refl) refl (λ u. u) tt tt (writes_selects (effect job d) k.sites.fit) (λ f. refl) refl (λ b c. refl) (λ t. refl) written k
+          (none_gave (effect job d) Select refl) refl tt tt (writes_selects (effect job d) k.sites.fit) (λ f. refl) refl (λ b c. refl) (λ t. refl) written k
 
       now : (i v : ℕ) → i < 2 → v < set_words job → (i < h) ⊎ ((i ≡ h) × (v < suc w))
           → bits' job d h w copies ws.bits (subject job d) (other_copy (copies (subject job d))) i v ≡ set_word (state_of job (suc d) (subject job d)) i v

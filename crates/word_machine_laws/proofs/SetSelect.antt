@@ -12,7 +12,7 @@ use Rattle.word_map.specs.Words.{Words, put, at_put, Sel}
 use Rattle.word_map.specs.Contents.{sel_of, sel_word, high, low, other_copy}
 use Rattle.word_machine.specs.Commands.{Effect, Adds, Removes, Edits, Enables, Disables, Lists, Levels, Nothing, effect, subject, state_of}
 use Rattle.word_map.specs.Ops.{Store}
-use Rattle.word_machine.specs.Control.{Position, Select, Push, Relink, AskQuiet, Close, batch_first, copy_after, selected_in, control_got}
+use Rattle.word_machine.specs.Control.{Position, Select, Push, Relink, Ask, Tasks, Close, batch_first, copy_after, selected_in, control_got}
 use Rattle.word_machine.specs.Cpu.{Cpu}
 use Rattle.word_machine.specs.Machine.{control_row}
 use Rattle.word_machine.specs.Progress.{SeenAt, selected, listed, pids_stored, depth_stored, desk_by, waits, writes_copy, selects, relinks, patches, is_adds, comes_to}
@@ -25,8 +25,8 @@ use Rattle.word_machine.proofs.Small.{put_case, put_same, put_other}
 use Rattle.word_machine_laws.proofs.Sites.{Fetches, Passed, passed_same}
 use Rattle.word_machine_laws.proofs.SiteSyncs.{enter_row}
 use Rattle.word_machine_laws.proofs.Goes.{Goes, cpu_goes}
-use Rattle.word_machine_laws.proofs.NoSwitch.{world, hereby, seen_on, tramps_on, listed_on, limits_on, counts_on, lines_on, begun_more}
-use Rattle.word_machine_laws.proofs.SiteRows.{InBatch, Stored, stored_at, stored_Close, in_batch, in_AskQuiet}
+use Rattle.word_machine_laws.proofs.NoSwitch.{world, hereby, seen_on, tramps_on, listed_on, limits_on, counts_on, lines_on, under_on, begun_more}
+use Rattle.word_machine_laws.proofs.SiteRows.{InBatch, Stored, stored_at, stored_Close, in_batch, in_ask}
 use Rattle.word_machine_laws.proofs.DeskKept.{others_same, user_kept, none_changes, rest_same, order_flips}
 use Rattle.word_machine_laws.proofs.Effects.{after_small, none_gave}
 
@@ -161,7 +161,7 @@ module _ (job : Job) (ok : IsWellFormed job) (ws : Words) (d : ℕ) (remaining :
     counts = counts_on d Select p' ws.clock past b.stored.begun k.counts;
     legal = k.legal;
     runs = k.runs;
-    lines = lines_on job d Select p' remaining _ (b.stored.to remaining) k.lines;
+    lines = lines_on job d Select p' remaining _ (under_on Select p' remaining b.stored.begun) k.lines;
     sites = pass.sites;
     list = b.list;
     sets = sets_select job ok d copies p' ws.sel ws.bits b.stored.select b.stored.written k.sites.fit k.sets;
@@ -220,24 +220,22 @@ module _ (job : Job) (ok : IsWellFormed job) (ws : Words) (d : ℕ) (remaining :
       by_effect : (z : Effect) → effect job d ≡ z → selects z ≡ true → After (selected_in job d z)
       by_effect Adds e t = select_to Push k.base k
           (record {
-            stored = stored_at job d Push (refl, refl, refl, refl, refl) (none_gave (effect job d) Push refl) (λ r q. tt) (λ r t. refl) (λ s c. tt) (λ l u. u)
-                (λ l u. u);
+            stored = stored_at job d Push (refl, refl, refl, refl, refl) (none_gave (effect job d) Push refl) (λ r q. tt) (λ r t. refl) (λ s c. tt);
             list = listed_on job d Select Push order ws.first ws.link refl tt k.list;
             same = λ v. refl;
           })
           (same Push (λ f. refl) refl tt (ap is_adds e) (λ c. refl))
       by_effect Removes e t = select_to Relink k.base k
           (record {
-            stored = stored_at job d Relink (refl, refl, refl, refl, refl) (none_gave (effect job d) Relink refl) (λ r q. tt) (λ r t. refl) (λ s c. tt) (λ l u. u)
-                (λ l u. u);
+            stored = stored_at job d Relink (refl, refl, refl, refl, refl) (none_gave (effect job d) Relink refl) (λ r q. tt) (λ r t. refl) (λ s c. tt);
             list = listed_on job d Select Relink order ws.first ws.link refl (λ a. false_true (sym (ap is_adds e) ∙ a)) k.list;
             same = λ v. refl;
           })
           (same Relink (λ f. refl) refl tt (ap relinks e) (λ c. refl))
       by_effect Edits e t = select_to (batch_first job d) k.base k (from_batch (batch_first job d) (ap relinks e) (in_batch job d (ap patches e)) k.list)
           (enter_row job d ws.ack k.base request ws.want ws.head ws.tail ws.next Select (ap patches e) (λ f. refl) refl refl k.sites)
-      by_effect Disables e t = select_to AskQuiet k.base k (from_batch AskQuiet (ap relinks e) (in_AskQuiet job d) k.list)
-          (no_site AskQuiet (ap patches e) refl tt (ap waits e) (λ c. refl))
+      by_effect Disables e t = select_to (Ask Tasks) k.base k (from_batch (Ask Tasks) (ap relinks e) (in_ask job d Tasks) k.list)
+          (no_site (Ask Tasks) (ap patches e) refl tt (ap waits e) (λ c. refl))
       by_effect Enables e t = select_to Close k.base k
           (record {
             stored = stored_Close job d Enables e refl refl;

@@ -1,27 +1,23 @@
 -- The rows of a batch.
-use Rattle.std.proofs.Common.{◌≡◌, ℕ, suc, ◌≤◌, true, false, cond, List, [], ◌∷◌, refl, sym, ap, ap₂, ◌∙◌, subst, arith, length}
-use Rattle.std.specs.Prelude.{nat_lt, nat_le}
-use Rattle.std.proofs.lemmas.Bool.Decides.{nat_tests}
+use Rattle.std.proofs.Common.{◌≡◌, ℕ, ◌≤◌, true, false, cond, List, [], ◌∷◌, refl, sym, ap, ap₂, ◌∙◌, subst, arith}
 use Rattle.ft_base.specs.declared.item.Item.{Item}
 use Rattle.ft_base.specs.Job.{Job, Ctl}
 use Rattle.ft_base.specs.Desk.{UserState}
 use Rattle.ft_base.proofs.Small.{false_true}
-use Rattle.word_map.specs.Words.{Word, Words, put, Want, Ack}
-use Rattle.word_map.specs.Ops.{Load, Store}
+use Rattle.word_map.specs.Words.{Word, Words}
+use Rattle.word_map.specs.Ops.{Store}
 use Rattle.patch_core.specs.Moves.{Move, Put, Sync, Done}
 use Rattle.word_machine.specs.Commands.{effect, Effect, Adds, Removes, Edits, moves}
-use Rattle.word_machine.specs.Control.{Position, Patch, AskSync, WaitSync, AskQuiet, Close, before_moves, batch_first, after_batch, after_batch_in, after_wait, control_got}
+use Rattle.word_machine.specs.Control.{Position, Patch, Awaited, Ask, Await, Cpus, Tasks, Close, before_moves, batch_first, after_batch, after_batch_in, control_got}
 use Rattle.word_machine.specs.Cpu.{Cpu}
 use Rattle.word_machine.specs.Machine.{control_row, words_after}
 use Rattle.word_machine.specs.Progress.{HoldsAt, selected, listed, took, gave, pids_stored, depth_stored, underway, quiet_reached, patches, waits, ClosingHolds}
 use Rattle.word_machine.specs.UserList.{PushedAt}
 use Rattle.word_machine.specs.HashCopies.{WrittenAt}
-use Rattle.word_machine.specs.Rule.{MachineRule, UnderAt}
-use Rattle.word_machine.proofs.Small.{if_case}
+use Rattle.word_machine.specs.Rule.{MachineRule}
 use Rattle.word_machine_laws.proofs.Effects.{none_gave}
 use Rattle.word_machine_laws.proofs.Batches.{Sweep, Nexts, store_at, is-move, after-move}
 use Rattle.word_machine_laws.proofs.Sites.{Passed, before_rest, passed_store}
-use Rattle.word_machine_laws.proofs.SiteSyncs.{based, ask_row, pass_row, exit_row}
 use Rattle.word_machine_laws.proofs.NoSwitch.{world, Flags, Stays, tramps_on, kept_on}
 
 -- a position after the store of the user's state: the trampoline, the lists of pids and the depth are those of the command, too, and nobody
@@ -36,8 +32,6 @@ pub record Stored (job : Job) (d : ℕ) (p : Position) : Type 0 where
   pub hold : (r q : ℕ) → HoldsAt (effect job d) p r q
   pub quiet : (r t : ℕ) → quiet_reached (effect job d) p r t ≡ 0
   pub written : (s : UserState) (copy : ℕ → ℕ → ℕ) → WrittenAt job s copy (effect job d) p
-  pub from : (remaining : List Ctl) → UnderAt p remaining → UnderAt Close remaining
-  pub to : (remaining : List Ctl) → UnderAt Close remaining → UnderAt p remaining
 
 -- a position of a batch: the list is that of the command, too
 pub record InBatch (job : Job) (d : ℕ) (p : Position) : Type 0 where
@@ -49,10 +43,8 @@ module _ (job : Job) (d : ℕ) where
   pub stored_at : (p : Position)
       → (selected p ≡ true) × (took p ≡ true) × (pids_stored p ≡ true) × (depth_stored p ≡ true) × (underway p ≡ true)
       → gave (effect job d) p ≡ false → ((r q : ℕ) → HoldsAt (effect job d) p r q) → ((r t : ℕ) → quiet_reached (effect job d) p r t ≡ 0)
-      → ((s : UserState) (copy : ℕ → ℕ → ℕ) → WrittenAt job s copy (effect job d) p)
-      → ((remaining : List Ctl) → UnderAt p remaining → UnderAt Close remaining)
-      → ((remaining : List Ctl) → UnderAt Close remaining → UnderAt p remaining) → Stored job d p
-  stored_at p on give hold quiet written from to = record {
+      → ((s : UserState) (copy : ℕ → ℕ → ℕ) → WrittenAt job s copy (effect job d) p) → Stored job d p
+  stored_at p on give hold quiet written = record {
     select = on.0;
     take = on.1;
     pids = on.2;
@@ -62,55 +54,46 @@ module _ (job : Job) (d : ℕ) where
     hold = hold;
     quiet = quiet;
     written = written;
-    from = from;
-    to = to;
   }
 
   -- the Return, if the command does not wait
   pub stored_Close : (z : Effect) → effect job d ≡ z → gave z Close ≡ false → waits z ≡ false → Stored job d Close
   stored_Close z e give none =
       stored_at Close (refl, refl, refl, refl, refl) (ap (λ y. gave y Close) e ∙ give) (λ r q. subst (λ b. ClosingHolds b r q) (sym off) tt)
-      (λ r t. ap (λ b. cond b r 0) off) (λ s c. tt) (λ l u. u) (λ l u. u)
+      (λ r t. ap (λ b. cond b r 0) off) (λ s c. tt)
     where
       off : waits (effect job d) ≡ false
       off = ap waits e ∙ none
 
-  in_Patch : (w : Word) (x : ℕ) (rest : List Move) → InBatch job d (Patch w x rest)
-  in_Patch w x rest =
-      let s = stored_at (Patch w x rest) (refl, refl, refl, refl, refl) (none_gave (effect job d) (Patch w x rest) refl) (λ r q. tt) (λ r t. refl) (λ s c. tt)
-      (λ l u. u) (λ l u. u) in
+  in_patch : (w : Word) (x : ℕ) (rest : List Move) → InBatch job d (Patch w x rest)
+  in_patch w x rest =
+      let s = stored_at (Patch w x rest) (refl, refl, refl, refl, refl) (none_gave (effect job d) (Patch w x rest) refl) (λ r q. tt) (λ r t. refl)
+      (λ s c. tt) in
       record { stored = s; list = refl; pushed = λ l o. tt }
 
-  in_AskSync : (rest : List Move) → InBatch job d (AskSync rest)
-  in_AskSync rest =
-      let s = stored_at (AskSync rest) (refl, refl, refl, refl, refl) (none_gave (effect job d) (AskSync rest) refl) (λ r q. tt) (λ r t. refl) (λ s c. tt)
-      (λ l u. u) (λ l u. u) in
+  pub in_ask : (whom : Awaited) → InBatch job d (Ask whom)
+  in_ask whom =
+      let s = stored_at (Ask whom) (refl, refl, refl, refl, refl) (none_gave (effect job d) (Ask whom) refl) (λ r q. tt) (λ r t. refl) (λ s c. tt) in
       record { stored = s; list = refl; pushed = λ l o. tt }
 
-  in_WaitSync : (rest : List Move) (i : ℕ) → InBatch job d (WaitSync rest i)
-  in_WaitSync rest i =
-      let s = stored_at (WaitSync rest i) (refl, refl, refl, refl, refl) (none_gave (effect job d) (WaitSync rest i) refl) (λ r q. tt) (λ r t. refl)
-      (λ s c. tt) (λ l u. u) (λ l u. u) in
-      record { stored = s; list = refl; pushed = λ l o. tt }
-
-  pub in_AskQuiet : InBatch job d AskQuiet
-  in_AskQuiet =
-      let s = stored_at AskQuiet (refl, refl, refl, refl, refl) (none_gave (effect job d) AskQuiet refl) (λ r q. tt) (λ r t. refl) (λ s c. tt) (λ l u. u)
-      (λ l u. u) in
+  pub in_sync : (rest : List Move) (n : ℕ) → InBatch job d (Await (Cpus rest) n)
+  in_sync rest n =
+      let s = stored_at (Await (Cpus rest) n) (refl, refl, refl, refl, refl) (none_gave (effect job d) (Await (Cpus rest) n) refl) (λ r q. tt) (λ r t. refl)
+      (λ s c. tt) in
       record { stored = s; list = refl; pushed = λ l o. tt }
 
   in_after : patches (effect job d) ≡ true → InBatch job d (after_batch job d)
   in_after fit = by_effect (effect job d) refl fit
     where
       by_effect : (z : Effect) → effect job d ≡ z → patches z ≡ true → InBatch job d (after_batch_in z)
-      by_effect Removes e t = in_AskQuiet
-      by_effect Edits e t = in_AskQuiet
+      by_effect Removes e t = in_ask Tasks
+      by_effect Edits e t = in_ask Tasks
       by_effect Adds e t = record { stored = stored_Close Adds e refl refl; list = refl; pushed = λ l o. tt }
       by_effect _ e t = false_true t
 
-  in_moves : (rest : List Move) → patches (effect job d) ≡ true → InBatch job d (before_moves job d rest)
-  in_moves (Put w x ∷ rest) fit = in_Patch w x rest
-  in_moves (Sync ∷ rest) fit = in_AskSync rest
+  pub in_moves : (rest : List Move) → patches (effect job d) ≡ true → InBatch job d (before_moves job d rest)
+  in_moves (Put w x ∷ rest) fit = in_patch w x rest
+  in_moves (Sync ∷ rest) fit = in_ask (Cpus rest)
   in_moves (Done ∷ rest) fit = in_after fit
   in_moves [] fit = in_after fit
 
@@ -132,12 +115,11 @@ module _ (job : Job) (d : ℕ) where
     tramps = tramps_on job d p p' (b'.stored.take ∙ sym b.stored.take) (b'.stored.give ∙ sym b.stored.give);
     pushed = b'.pushed;
     written = b'.stored.written;
-    lines = λ remaining u. b'.stored.to remaining (b.stored.from remaining u);
     begun = b'.stored.begun ∙ sym b.stored.begun;
   }
 
 module _ (job : Job) (d : ℕ) (remaining : List Ctl) (copies : ℕ → ℕ) (order : List ℕ) (cpus : ℕ → Cpu) (past : List Item) where
-  kept_batch : (ws : Words) (request : ℕ) (p p' : Position) (base' request' wanted : ℕ) (head tail next : ℕ → ℕ) → request ≤ request' → InBatch job d p
+  pub kept_batch : (ws : Words) (request : ℕ) (p p' : Position) (base' request' wanted : ℕ) (head tail next : ℕ → ℕ) → request ≤ request' → InBatch job d p
       → InBatch job d p'
       → (k : MachineRule job (world ws d remaining request copies order cpus past p))
       → Passed job ws.ack d p k.base request d p' base' request' wanted head tail next
@@ -160,7 +142,7 @@ module _ (job : Job) (d : ℕ) (remaining : List Ctl) (copies : ℕ → ℕ) (or
       subst (λ o. MachineRule job (control_row job (world ws d remaining request copies order cpus past (Patch w x rest)) o)) (sym (ap₂ Store s.word s.value))
       (by_sweep s.sweep s.site
       (kept_batch ws request (Patch w x rest) (before_moves job d rest) k.base request ws.want after.head after.tail after.next (omega arith)
-      (in_Patch job d w x rest) (in_moves job d rest k.sites.fit) k
+      (in_patch job d w x rest) (in_moves job d rest k.sites.fit) k
       (passed_store job d w x rest s (before_moves job d rest) b ws.ack k.base request ws.want ws k.sites)))
     where
       by_sweep : (z : Sweep) (i : ℕ)
@@ -173,32 +155,3 @@ module _ (job : Job) (d : ℕ) (remaining : List Ctl) (copies : ℕ → ℕ) (or
           → MachineRule job (control_row job (world ws d remaining request copies order cpus past (Patch w x rest)) (store_at job d z i))
       by_sweep Nexts i kept = kept
       by_sweep _ i kept = kept
-
-  -- CPU i was found to have reached the request, and all CPUs have
-  pass : (ws : Words) (request : ℕ) (rest : List Move) (i : ℕ) → request ≤ ws.ack i → At ws request (WaitSync rest i) → At ws request (WaitSync rest (suc i))
-  pass ws request rest i le k =
-      kept_batch ws request (WaitSync rest i) (WaitSync rest (suc i)) k.base request ws.want ws.head ws.tail ws.next (omega arith) (in_WaitSync job d rest i)
-      (in_WaitSync job d rest (suc i)) k (pass_row job d ws.ack k.base request ws.want ws.head ws.tail ws.next rest i le k.sites)
-
-  after : (ws : Words) (request : ℕ) (rest : List Move) (i : ℕ) → At ws request (WaitSync rest i)
-      → At ws request (after_wait (length job.quanta) (before_moves job d rest) i (WaitSync rest))
-  after ws request rest i k =
-      if_case (λ q. At ws request q) (nat_lt i (length job.quanta)) (WaitSync rest i) (before_moves job d rest) (λ e. k)
-      (λ e. kept_batch ws request (WaitSync rest i) (before_moves job d rest) (based k.base rest) request ws.want ws.head ws.tail ws.next (omega arith)
-      (in_WaitSync job d rest i) (in_moves job d rest k.sites.fit) k
-      (exit_row job d ws.ack k.base request ws.want ws.head ws.tail ws.next rest i (grind (arith, nat_tests)) k.sites))
-
-  pub ask_keeps : (ws : Words) (request : ℕ) (rest : List Move) → At ws request (AskSync rest)
-      → MachineRule job (control_row job (world ws d remaining request copies order cpus past (AskSync rest)) (Store Want (suc request)))
-  unfolding control_got
-  ask_keeps ws request rest k =
-      after (put Want (suc request) ws) (suc request) rest 0
-      (kept_batch ws request (AskSync rest) (WaitSync rest 0) k.base (suc request) (suc request) ws.head ws.tail ws.next (omega arith) (in_AskSync job d rest)
-      (in_WaitSync job d rest 0) k (ask_row job d ws.ack k.base request ws.want ws.head ws.tail ws.next rest k.sites))
-
-  pub wait_keeps : (ws : Words) (request : ℕ) (rest : List Move) (i : ℕ) → At ws request (WaitSync rest i)
-      → MachineRule job (control_row job (world ws d remaining request copies order cpus past (WaitSync rest i)) (Load (Ack i)))
-  unfolding control_got
-  wait_keeps ws request rest i k =
-      if_case (λ q. At ws request q) (nat_le request (ws.ack i)) (after_wait (length job.quanta) (before_moves job d rest) (suc i) (WaitSync rest))
-      (WaitSync rest i) (λ e. after ws request rest (suc i) (pass ws request rest i (grind (arith, nat_tests)) k)) (λ e. k)

@@ -6,7 +6,7 @@ use Rattle.std.proofs.lemmas.Bool.Decides.{nat_tests}
 use Rattle.ft_base.specs.Job.{Job}
 use Rattle.patch_core.specs.Moves.{Move, Sync}
 use Rattle.word_machine.specs.Commands.{effect, moves}
-use Rattle.word_machine.specs.Control.{Position, AskSync, WaitSync, before_moves, batch_first}
+use Rattle.word_machine.specs.Control.{Position, Ask, Await, Cpus, before_moves, batch_first}
 use Rattle.word_machine.specs.Progress.{asked_in, syncs_in, patches}
 use Rattle.word_machine.specs.Sites.{SitesInPatching, stage_in, asks, synced}
 use Rattle.word_machine.proofs.Small.{if_case}
@@ -59,12 +59,12 @@ module _ (job : Job) (d : ℕ) (ack : ℕ → ℕ) (base request wanted : ℕ) (
   -- ## a sync: the request is stored, a CPU is found to have reached it, all have
 
   module _ (rest : List Move) where
-    pub ask_row : SitesInPatching job d (AskSync rest) base request wanted head tail next
-        → Passed job ack d (AskSync rest) base request d (WaitSync rest 0) base (suc request) (suc request) head tail next
+    pub ask_row : SitesInPatching job d (Ask (Cpus rest)) base request wanted head tail next
+        → Passed job ack d (Ask (Cpus rest)) base request d (Await (Cpus rest) 0) base (suc request) (suc request) head tail next
     ask_row k =
         let s = is-move job d Sync rest k.position in
         let q = s.few in
-        passed_lifts job d ack (AskSync rest) (WaitSync rest 0) (8 - 3 * syncs_in rest) base base request (suc request) wanted (suc request) head tail next
+        passed_lifts job d ack (Ask (Cpus rest)) (Await (Cpus rest) 0) (8 - 3 * syncs_in rest) base base request (suc request) wanted (suc request) head tail next
         (λ f inside ch. let e = s.left f inside ch in (omega (arith, e), omega (arith, e, q)))
         (λ e. omega (arith, e, q)) (λ e. omega (arith, e, q)) (λ e. omega (arith, e, q)) (λ e. omega (arith, e, q))
         (let a = k.asked in omega (arith, a, q)) (let a = k.few in omega (arith, a, q)) refl k.position k.fit (inl refl)
@@ -76,27 +76,27 @@ module _ (job : Job) (d : ℕ) (ack : ℕ → ℕ) (base request wanted : ℕ) (
         ))
         k
 
-    all_synced : (i : ℕ) → SitesInPatching job d (WaitSync rest i) base request wanted head tail next
+    all_synced : (i : ℕ) → SitesInPatching job d (Await (Cpus rest) i) base request wanted head tail next
         → synced base (3 - syncs_in rest) ≡ base + (3 - syncs_in rest)
     all_synced i k = synced-is base (3 - syncs_in rest) (let q = (is-move job d Sync rest k.position).few in omega (arith, q))
 
-    pub pass_row : (i : ℕ) → request ≤ ack i → SitesInPatching job d (WaitSync rest i) base request wanted head tail next
-        → Passed job ack d (WaitSync rest i) base request d (WaitSync rest (suc i)) base request wanted head tail next
+    pub pass_row : (i : ℕ) → request ≤ ack i → SitesInPatching job d (Await (Cpus rest) i) base request wanted head tail next
+        → Passed job ack d (Await (Cpus rest) i) base request d (Await (Cpus rest) (suc i)) base request wanted head tail next
     pass_row i le k =
-        passed_same job d ack (WaitSync rest i) (WaitSync rest (suc i)) base base request request wanted wanted head tail next (λ f inside ch. refl) k.asked
+        passed_same job d ack (Await (Cpus rest) i) (Await (Cpus rest) (suc i)) base base request request wanted wanted head tail next (λ f inside ch. refl) k.asked
         k.few k.want k.position k.fit (inl refl)
         (λ c within r. passed_more (synced base (3 - syncs_in rest)) (synced base (2 - syncs_in rest)) i c (ack c)
         (λ e. subst (λ j. synced base (3 - syncs_in rest) ≤ ack j) (sym e) (let a = k.asked in let y = all_synced i k in omega (arith, a, y, le))) r)
         k
 
-    pub exit_row : (i : ℕ) → length job.quanta ≤ i → SitesInPatching job d (WaitSync rest i) base request wanted head tail next
-        → Passed job ack d (WaitSync rest i) base request d (before_moves job d rest) (based base rest) request wanted head tail next
+    pub exit_row : (i : ℕ) → length job.quanta ≤ i → SitesInPatching job d (Await (Cpus rest) i) base request wanted head tail next
+        → Passed job ack d (Await (Cpus rest) i) base request d (before_moves job d rest) (based base rest) request wanted head tail next
     exit_row i all k =
         let s = is-move job d Sync rest k.position in
         let q = s.few in
         let b = before_rest job d rest (after-move job d Sync rest k.position) k.fit in
         let from = based-is base rest in
-        passed_lifts job d ack (WaitSync rest i) (before_moves job d rest) (9 - 3 * syncs_in rest) base (based base rest) request request wanted wanted
+        passed_lifts job d ack (Await (Cpus rest) i) (before_moves job d rest) (9 - 3 * syncs_in rest) base (based base rest) request request wanted wanted
         head tail next
         (λ f inside ch. let e = s.left f inside ch in let g = b.stages f in (omega (arith, e), omega (arith, e, g, q)))
         (λ e. omega (arith, e, q)) (λ e. omega (arith, e, q)) (λ e. omega (arith, e, q)) (λ e. omega (arith, e, q))

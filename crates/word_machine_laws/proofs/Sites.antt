@@ -7,7 +7,7 @@ use Rattle.word_map.specs.Words.{Word, Words}
 use Rattle.word_map.specs.Instructions.{head_of, tail_of}
 use Rattle.patch_core.specs.Moves.{Move, Put, Sync, Done}
 use Rattle.word_machine.specs.Commands.{insn, changes, effect, Effect, Adds, Removes, Edits}
-use Rattle.word_machine.specs.Control.{Position, Patch, AskQuiet, Close, before_moves, after_batch_in}
+use Rattle.word_machine.specs.Control.{Position, Patch, Ask, Tasks, Close, before_moves, after_batch_in}
 use Rattle.word_machine.specs.Task.{Moment, GotHead, GotBreak}
 use Rattle.word_machine.specs.Machine.{words_after}
 use Rattle.word_machine.specs.Progress.{comes_to, asked_in, syncs_in, patches, waits}
@@ -161,7 +161,7 @@ module _ (job : Job) (d : ℕ) where
   before_rest (Done ∷ rest) left fit = absurd (is-move job d Done rest left)
   before_rest [] left fit = by_effect (effect job d) refl fit
     where
-      quiet : waits (effect job d) ≡ true → Before job d [] AskQuiet
+      quiet : waits (effect job d) ≡ true → Before job d [] (Ask Tasks)
       quiet w = record { stages = λ f. refl; position = tt; fit = w; few = omega arith; asked = refl; reaches = λ base c. refl }
 
       by_effect : (z : Effect) → effect job d ≡ z → patches z ≡ true → Before job d [] (after_batch_in z)

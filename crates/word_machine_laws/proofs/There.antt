@@ -20,7 +20,7 @@ use Rattle.word_map.specs.Words.{Word, Want, First as ListHead, Link}
 use Rattle.word_map.specs.Contents.{low}
 use Rattle.word_machine.specs.Commands.{Effect, Adds, Removes, Edits, Enables, Disables, Lists, Levels, Nothing, effect, subject, state_of, set_words}
 use Rattle.word_map.specs.Ops.{Load}
-use Rattle.word_machine.specs.Control.{Position, Line, Take, Copy, Select, Push, Relink, Patch, WaitSync, WaitQuiet, Release, slot_of, namer_from, relink_op, line_op, next_in, control_next}
+use Rattle.word_machine.specs.Control.{Position, Line, Take, Copy, Select, Push, Relink, Patch, Await, Cpus, Tasks, Release, slot_of, namer_from, relink_op, line_op, next_in, control_next}
 use Rattle.word_machine.specs.Task.{OpenCall, TaskState, Moment, Polling, First, Fetch, GotHead, GotBreak, InTramp, OwnSel, AtFirst, TestSel, TestFilter, TestNotrace, AtPids, AtDepth, Refusing, Calling, Missing, Acting, Ending, AtLink, Closing, Leaving, AtExit, Exiting, EndingExit, Returning, first_op, call_op, stack_op, task_op}
 use Rattle.word_machine.specs.Cpu.{Cpu, Phase, Going, StoringAck, StoringQuiet, Over, any_has_more, present_op, phase_op, cpu_next}
 use Rattle.word_machine.specs.Machine.{World}
@@ -255,8 +255,8 @@ module _ (job : Job) (ok : IsWordJob job) (s : World) (k : MachineRule job s) wh
   position-there Push a f n = subject-inside job ok.job' d (effect job d) refl (adds-selects (effect job d) f)
   position-there Relink a f n = relink-there (effect job d) refl f
   position-there (Patch w x rest) a f n = store_case job d (λ o. IsOnWord job (Some o)) w x rest a store-there
-  position-there (WaitSync rest c) a f n = n
-  position-there (WaitQuiet t) a f n = n
+  position-there (Await (Cpus rest) c) a f n = n
+  position-there (Await Tasks t) a f n = n
   position-there Release a f n = slot-there d (subject job d) (state_of job d (subject job d)).slot refl a (removed f)
   position-there _ a f n = tt
 

@@ -1,5 +1,5 @@
 -- The rows that give a trampoline to a user and take it away.
-use Rattle.std.proofs.Common.{cond, ◌≡◌, ◌≢◌, ℕ, suc, ◌+◌, ◌<◌, ◌≤◌, Bool, true, false, List, length, Some, inl, inr, refl, sym, ap, ◌∙◌, subst, arith}
+use Rattle.std.proofs.Common.{cond, ◌≡◌, ◌≢◌, ℕ, suc, ◌+◌, ◌<◌, ◌≤◌, true, false, List, length, Some, inl, inr, refl, sym, ap, ◌∙◌, subst, arith}
 use Rattle.std.specs.Prelude.{nat_lt}
 use Rattle.std.proofs.lemmas.Bool.{cases_eq}
 use Rattle.std.proofs.lemmas.Bool.Decides.{nat_tests}
@@ -11,25 +11,25 @@ use Rattle.ft_base.specs.WellFormed.{IsWellFormed}
 use Rattle.ft_base.proofs.Small.{false_true}
 use Rattle.word_map.specs.Words.{Words, put, at_put, Tramp}
 use Rattle.word_map.specs.Contents.{tramp_word, low, other_copy}
-use Rattle.word_machine.specs.Commands.{Effect, Adds, Removes, effect, subject, state_of, set_words}
+use Rattle.word_machine.specs.Commands.{Adds, Removes, effect, subject, state_of, set_words}
 use Rattle.word_map.specs.Ops.{Store}
 use Rattle.word_machine.specs.Control.{Position, Take, Copy, Select, Release, Close, slot_of, copy_from, control_got}
 use Rattle.word_machine.specs.Cpu.{Cpu}
 use Rattle.word_machine.specs.Machine.{control_row}
-use Rattle.word_machine.specs.Progress.{took, gave, underway, quiet_reached, writes_copy, selects, comes_to, waits, ClosingHolds}
+use Rattle.word_machine.specs.Progress.{took, gave, underway, quiet_reached, writes_copy, selects, comes_to, waits}
 use Rattle.word_machine.specs.Sites.{PositionAt, stage_in, asks, reached}
 use Rattle.word_machine.specs.UserList.{PushedAt}
 use Rattle.word_machine.specs.HashCopies.{WrittenAt}
 use Rattle.word_machine.specs.Trampolines.{HasSlot, TrampolinesHeld}
-use Rattle.word_machine.specs.Rule.{MachineRule, UnderAt}
+use Rattle.word_machine.specs.Rule.{MachineRule}
 use Rattle.word_machine_laws.proofs.DeskChanges.{SubjectBy, between}
 use Rattle.word_machine.proofs.Small.{if_case, put_same, put_other, slot_is}
 use Rattle.word_machine_laws.proofs.Sites.{Passed, passed_same}
 use Rattle.word_machine_laws.proofs.Goes.{cpu_goes}
-use Rattle.word_machine_laws.proofs.NoSwitch.{world, hereby, Flags, goes_still, listed_on, sets_on, limits_on, counts_on, lines_on, begun_more}
+use Rattle.word_machine_laws.proofs.NoSwitch.{world, hereby, Flags, goes_still, listed_on, sets_on, limits_on, counts_on, lines_on, under_on, begun_more}
 use Rattle.word_machine_laws.proofs.DeskKept.{others_same}
 use Rattle.word_machine_laws.proofs.DeskSlots.{added_free, slots_apart}
-use Rattle.word_machine_laws.proofs.Effects.{adds_of, removes_of, none_gave}
+use Rattle.word_machine_laws.proofs.Effects.{adds_of, removes_of, none_gave, closing}
 
 -- the first word of the copy, or the store of the state if a set has no words
 pub first_copy : (job : Job) (P : Position → Type 0) → (0 < set_words job → P (Copy 0 0)) → (set_words job ≡ 0 → P Select) → P (copy_from job 0 0)
@@ -98,18 +98,18 @@ module _ (job : Job) (ok : IsWellFormed job) (ws : Words) (d : ℕ) (remaining :
 
   -- a store of a trampoline
   tramp_to : (p p' : Position) (t0 x : ℕ) → (k : At p) → Flags job d p p' request request → TrampolinesHeld job d p' (at_put ws.tramp t0 x)
-      → underway p' ≡ underway p → (UnderAt p remaining → UnderAt p' remaining) → PushedAt job d ws.link order p'
+      → underway p' ≡ underway p → PushedAt job d ws.link order p'
       → WrittenAt job (state_of job (suc d) (subject job d)) (ws.bits (subject job d) (other_copy (copies (subject job d)))) (effect job d) p'
       → Passed job ws.ack d p k.base request d p' k.base request ws.want ws.head ws.tail ws.next
       → ((t : ℕ) → t < length job.tasks → quiet_reached (effect job d) p request t ≤ low (ws.quiet t)
       → quiet_reached (effect job d) p' request t ≤ low (ws.quiet t))
       → MachineRule job (world (put (Tramp t0) x ws) d remaining request copies order cpus past p')
-  tramp_to p p' t0 x k flags tramps begun lines pushed written pass quiets = record {
+  tramp_to p p' t0 x k flags tramps begun pushed written pass quiets = record {
     base = k.base;
     counts = counts_on d p p' ws.clock past begun k.counts;
     legal = k.legal;
     runs = k.runs;
-    lines = lines_on job d p p' remaining _ lines k.lines;
+    lines = lines_on job d p p' remaining _ (under_on p p' remaining begun) k.lines;
     sites = pass.sites;
     list = listed_on job d p p' order ws.first ws.link flags.list pushed k.list;
     sets = sets_on job d p p' copies ws.sel ws.bits flags.select written k.sets;
@@ -131,13 +131,13 @@ module _ (job : Job) (ok : IsWellFormed job) (ws : Words) (d : ℕ) (remaining :
       (world (put (Tramp (slot_of (state_of job (suc d) (subject job d)).slot))
       (tramp_word (state_of job (suc d) (subject job d)).reg (subject job d)) ws) d remaining request copies order cpus past q))
       (λ some. to (Copy 0 0) (record { list = refl; select = refl; pids = refl; depth = refl; hold = λ q small h. tt; grows = omega arith })
-      (none_gave (effect job d) (Copy 0 0) refl) refl refl (λ u. u) tt
+      (none_gave (effect job d) (Copy 0 0) refl) refl refl tt
       (λ i v ti tv b. absurd (elim b [ inl x ↦ omega (arith, x) | inr x ↦ (let y = x.1 in omega (arith, y)) ])) (λ f. refl) refl (
         omega arith,
         some,
       ) (ap writes_copy adds) (λ b c. refl) (λ t. refl))
       (λ none. to Select (record { list = refl; select = refl; pids = refl; depth = refl; hold = λ q small h. tt; grows = omega arith })
-      (none_gave (effect job d) Select refl) refl refl (λ u. u) tt
+      (none_gave (effect job d) Select refl) refl refl tt
       (λ w i v ti tv. absurd (omega (arith, none, tv))) (λ f. refl) refl tt (ap selects adds) (λ b c. refl) (λ t. refl))
     where
       adds : effect job d ≡ Adds
@@ -151,17 +151,17 @@ module _ (job : Job) (ok : IsWellFormed job) (ws : Words) (d : ℕ) (remaining :
           ap (λ (y : UserState). y.registered) c.1
 
       to : (p' : Position) → Flags job d Take p' request request → gave (effect job d) p' ≡ false → took p' ≡ true → underway p' ≡ true
-          → (UnderAt Take remaining → UnderAt p' remaining) → PushedAt job d ws.link order p'
+          → PushedAt job d ws.link order p'
           → WrittenAt job (state_of job (suc d) (subject job d)) (ws.bits (subject job d) (other_copy (copies (subject job d)))) (effect job d) p'
           → ((f : ℕ) → stage_in p' f ≡ 0) → asks p' ≡ 0 → PositionAt job d p' → comes_to (effect job d) p' ≡ true → ((b c : ℕ) → reached b p' c ≡ 0)
           → ((t : ℕ) → quiet_reached (effect job d) p' request t ≡ 0)
           → MachineRule job (world (put (Tramp (slot_of (state_of job (suc d) (subject job d)).slot))
           (tramp_word (state_of job (suc d) (subject job d)).reg (subject job d)) ws) d remaining request copies order cpus past p')
-      to p' flags give take begun lines pushed written stages none position fit reaches quiet =
+      to p' flags give take begun pushed written stages none position fit reaches quiet =
           tramp_to Take p' (slot_of (state_of job (suc d) (subject job d)).slot) (tramp_word (state_of job (suc d) (subject job d)).reg (subject job d)) k flags
           (tramps_take job ok d ws.tramp (slot_of (state_of job (suc d) (subject job d)).slot) p' adds
           (slot_is (state_of job (suc d) (subject job d)).slot k.sites.position) registered give take k.tramps)
-          begun lines pushed written
+          begun pushed written
           (passed_same job d ws.ack Take p' k.base k.base request request ws.want ws.want ws.head ws.tail ws.next (λ f inside ch. stages f)
           (k.sites.asked ∙ ap (λ n. k.base + n) (sym none)) (let z = k.sites.few in omega (arith, z)) k.sites.want position fit (inl refl)
           (λ c within s. rw (reaches k.base c) (omega arith)) k.sites)
@@ -174,17 +174,10 @@ module _ (job : Job) (ok : IsWellFormed job) (ws : Words) (d : ℕ) (remaining :
   release_keeps k =
       let removes : effect job d ≡ Removes = removes_of (effect job d) k.sites.fit in
       tramp_to Release Close (slot_of (state_of job d (subject job d)).slot) 0 k
-      (record { list = refl; select = refl; pids = refl; depth = refl; hold = λ q small h. closing (effect job d) q h; grows = omega arith })
+      (record { list = refl; select = refl; pids = refl; depth = refl; hold = λ q small h. closing (effect job d) request q h; grows = omega arith })
       (tramps_release job ok d ws.tramp (slot_of (state_of job d (subject job d)).slot) removes
       (slot_is (state_of job d (subject job d)).slot k.sites.position) k.tramps)
-      refl (λ u. u) tt tt
+      refl tt tt
       (passed_same job d ws.ack Release Close k.base k.base request request ws.want ws.want ws.head ws.tail ws.next
       (λ f inside ch. refl) k.sites.asked k.sites.few k.sites.want tt refl (inl refl) (λ c within s. omega arith) k.sites)
       (λ t there r. if_case (λ n. n ≤ low (ws.quiet t)) (waits (effect job d)) request 0 (λ e. r) (λ e. omega arith))
-    where
-      closing : (z : Effect) (q : ℕ) → q < request → ClosingHolds (waits z) request q
-      closing z q h = by_wait (waits z)
-        where
-          by_wait : (b : Bool) → ClosingHolds b request q
-          by_wait true = h
-          by_wait false = tt

@@ -1,21 +1,19 @@
 -- Control waits for a CPU or a task that the job has, whatever values it loads.
-use Rattle.std.proofs.Common.{cond, ◌≡◌, ℕ, zero, suc, ◌<◌, Bool, List, [], ◌∷◌, length, refl, sym, subst, arith}
+use Rattle.std.proofs.Common.{cond, ◌≡◌, ℕ, zero, suc, ◌<◌, List, [], ◌∷◌, refl, sym, subst}
 use Rattle.std.specs.Prelude.{nat_lt, nat_le}
-use Rattle.std.proofs.lemmas.Bool.Decides.{nat_tests}
+use Rattle.std.proofs.lemmas.Bool.{ltb-true}
 use Rattle.ft_base.specs.Job.{Job, Ctl, Run, Until}
-use Rattle.word_map.specs.Contents.{low}
+use Rattle.grace_core.specs.declared.waiter.WaitPhase.TheVariants.{Asking, Waiting, Ended}
+use Rattle.grace_core.specs.Waits.{awaited, reached, waiting_for}
 use Rattle.patch_core.specs.Moves.{Move, Put, Sync, Done}
 use Rattle.word_machine.specs.Commands.{Effect, Adds, Removes, Edits, effect, moves, has_slot_at, set_words, subject}
-use Rattle.word_machine.specs.Control.{Control, Position, Line, Take, Copy, Select, Relink, Patch, AskSync, WaitSync, AskQuiet, WaitQuiet, Release, Close, control_got, got_in, line_got, after_wait, copy_from, begin_in, after_batch_in, before_moves, selected_in, released_in, released}
+use Rattle.word_machine.specs.Control.{Control, Position, Line, Take, Copy, Select, Relink, Patch, Awaited, Ask, Await, Cpus, Tasks, Release, Close, control_got, got_in, line_got, copy_from, begin_in, after_batch_in, before_moves, selected_in, released_in, is_for_tasks, wait_for, after_wait, in_wait}
 use Rattle.word_machine.specs.Laws.{WaitsAt}
 use Rattle.word_machine.proofs.Small.{if_case}
 
 module _ (job : Job) where
   abbrev W : Position → Type 0
   W p = WaitsAt job p
-
-  to-wait : (n : ℕ) (otherwise : Position) (c : ℕ) (at' : ℕ → Position) → (c < n → W (at' c)) → W otherwise → W (after_wait n otherwise c at')
-  to-wait n otherwise c at' here there = if_case W (nat_lt c n) (at' c) otherwise (λ e. here (grind (arith, nat_tests))) (λ e. there)
 
   to-copy : (h w : ℕ) → W (copy_from job h w)
   to-copy zero w = if_case W (nat_lt w (set_words job)) (Copy 0 w) (cond (nat_lt 0 (set_words job)) (Copy 1 0) Select) (λ e. tt)
@@ -29,7 +27,6 @@ module _ (job : Job) where
 
   after-batch : (z : Effect) → W (after_batch_in z)
   after-batch Removes = tt
-  after-batch Edits = tt
   after-batch _ = tt
 
   to-moves : (d : ℕ) (rest : List Move) → W (before_moves job d rest)
@@ -51,8 +48,22 @@ module _ (job : Job) where
   at-line s (Until t n ∷ rest) v e = subst W (sym e) tt
   at-line s (Run c ∷ rest) v e = to-begin s.commands_done (effect job s.commands_done)
 
-  waited-for : (b : Bool) (next same : Position) → W next → W same → W (cond b next same)
-  waited-for b next same n s = if_case W b next same (λ e. n) (λ e. s)
+  -- a wait: how many it is for, one of them, what follows, and either
+  abbrev many : Awaited → ℕ
+  many whom = awaited (wait_for job whom 0 Asking)
+
+  for-one : (whom : Awaited) (n : ℕ) → n < many whom → W (Await whom n)
+  for-one (Cpus rest) n there = there
+  for-one Tasks n there = there
+
+  after-wait : (d : ℕ) (whom : Awaited) → W (after_wait job d whom)
+  after-wait d (Cpus rest) = to-moves d rest
+  after-wait d Tasks = after-quiet d (effect job d)
+
+  to-wait : (d : ℕ) (whom : Awaited) (n : ℕ) → W (in_wait job d whom (waiting_for (many whom) n))
+  to-wait d whom n =
+      if_case (λ p. W (in_wait job d whom p)) (nat_lt n (many whom)) (Waiting n) Ended (λ e. for-one whom n (ltb-true n (many whom) e))
+      (λ e. after-wait d whom)
 
   waits-in : (s : Control) (p : Position) (v : ℕ) → s.position ≡ p → W p → W (got_in job s p v).position
   waits-in s Line v e k = at-line s s.remaining v e
@@ -61,16 +72,10 @@ module _ (job : Job) where
   waits-in s Select v e k = after-select s.commands_done (effect job s.commands_done)
   waits-in s Relink v e k = to-moves s.commands_done (moves job s.commands_done)
   waits-in s (Patch w x rest) v e k = to-moves s.commands_done rest
-  waits-in s (AskSync rest) v e k =
-      to-wait (length job.quanta) (before_moves job s.commands_done rest) 0 (WaitSync rest) (λ h. h) (to-moves s.commands_done rest)
-  waits-in s (WaitSync rest c) v e k =
-      waited-for (nat_le s.request v) (after_wait (length job.quanta) (before_moves job s.commands_done rest) (suc c) (WaitSync rest)) (WaitSync rest c)
-      (to-wait (length job.quanta) (before_moves job s.commands_done rest) (suc c) (WaitSync rest) (λ h. h) (to-moves s.commands_done rest)) k
-  waits-in s AskQuiet v e k =
-      to-wait (length job.tasks) (released job s.commands_done) 0 WaitQuiet (λ h. h) (after-quiet s.commands_done (effect job s.commands_done))
-  waits-in s (WaitQuiet t) v e k =
-      waited-for (nat_le s.request (low v)) (after_wait (length job.tasks) (released job s.commands_done) (suc t) WaitQuiet) (WaitQuiet t)
-      (to-wait (length job.tasks) (released job s.commands_done) (suc t) WaitQuiet (λ h. h) (after-quiet s.commands_done (effect job s.commands_done))) k
+  waits-in s (Ask whom) v e k = to-wait s.commands_done whom 0
+  waits-in s (Await whom n) v e k =
+      if_case (λ p. W (in_wait job s.commands_done whom p)) (nat_le s.request (reached (is_for_tasks whom) v)) (waiting_for (many whom) (suc n)) (Waiting n)
+      (λ e. to-wait s.commands_done whom (suc n)) (λ e. k)
   waits-in s _ v e k = tt
 
   pub waits-got : (s : Control) (v : ℕ) → WaitsAt job s.position → WaitsAt job (control_got job s v).position

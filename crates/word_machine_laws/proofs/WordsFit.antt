@@ -27,7 +27,7 @@ use Rattle.word_map.specs.Contents.{low, halves, half_size, greatest_half, all_o
 use Rattle.word_map.specs.Instructions.{head_of, tail_of}
 use Rattle.word_machine.specs.Commands.{Effect, Removes, Edits, Lists, Levels, Nothing, effect, subject, subject_in, command, state_of, insn}
 use Rattle.word_map.specs.Ops.{WordOp, Load, Store, Mark}
-use Rattle.word_machine.specs.Control.{Position, Line, Take, Copy, Select, Push, Relink, StorePids, StoreDepth, Patch, AskSync, AskQuiet, Release, next_in, line_op, relink_op, control_next, copy_after, name_of, follower}
+use Rattle.word_machine.specs.Control.{Position, Line, Take, Copy, Select, Push, Relink, StorePids, StoreDepth, Patch, Ask, Release, next_in, line_op, relink_op, control_next, copy_after, name_of, follower}
 use Rattle.word_machine.specs.Task.{TaskState, is_quiet, quiet_word, OpenCall, Moment, Polling, First, call_op, first_op, stack_op}
 use Rattle.word_machine.specs.Cpu.{Cpu, Phase, Going, StoringAck, StoringQuiet, Over, any_has_more, ack_value, phase_op, going_op, present_op, cpu_next}
 use Rattle.word_machine.specs.Machine.{World, words_after, weight, control_moved, cpu_moved, step, run, start, taken, control_row, cpu_row}
@@ -296,8 +296,7 @@ module _ (job : Job) (l : IsLimited job) (s : World) (k : MachineRule job s) whe
   control-fit StorePids op a is = subst (λ o. FitsIn o) (same_Some _ op is) (mask-small (desk job (suc s.control.commands_done)) (length job.tasks) l.counts.few_tasks)
   control-fit StoreDepth op a is = subst (λ o. FitsIn o) (same_Some _ op is) (let h = depth-small job l (suc s.control.commands_done) in omega (arith, h))
   control-fit (Patch w x rest) op a is = subst (λ o. FitsIn o) (same_Some (Store w x) op is) (store_case job s.control.commands_done FitsIn w x rest a stores-fit)
-  control-fit (AskSync rest) op a is = subst (λ o. FitsIn o) (same_Some _ op is) asks-fit
-  control-fit AskQuiet op a is = subst (λ o. FitsIn o) (same_Some _ op is) asks-fit
+  control-fit (Ask whom) op a is = subst (λ o. FitsIn o) (same_Some _ op is) asks-fit
   control-fit Release op a is = subst (λ o. FitsIn o) (same_Some _ op is) (omega arith)
   control-fit _ op a is = subst (λ o. FitsIn o) (same_Some _ op is) tt
 

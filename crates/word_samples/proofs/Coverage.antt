@@ -12,7 +12,7 @@ use Rattle.word_map.specs.Words.{Head, Tail, Next}
 use Rattle.word_map.specs.Instructions.{tail_of}
 use Rattle.word_map.specs.Ops.{WordOp, Store}
 use Rattle.word_machine.specs.Commands.{insn, moves}
-use Rattle.word_machine.specs.Control.{Position, Line, Take, Copy, Select, Push, Relink, StorePids, StoreDepth, Patch, AskSync, WaitSync, AskQuiet, WaitQuiet, Release, Close, control_next, control_got}
+use Rattle.word_machine.specs.Control.{Position, Line, Take, Copy, Select, Push, Relink, StorePids, StoreDepth, Patch, Ask, Await, Cpus, Tasks, Release, Close, control_next, control_got}
 use Rattle.word_machine.specs.Task.{Moment, Polling, First, Fetch, GotHead, GotBreak, InTramp, OwnSel, AtFirst, TestSel, TestFilter, TestNotrace, AtPids, AtDepth, Refusing, Calling, Missing, Acting, Ending, AtLink, Closing, Leaving, AtExit, Exiting, EndingExit, Returning}
 use Rattle.word_machine.specs.Cpu.{Phase, Going, StoringAck, StoringQuiet, Over, cpu_next, cpu_got}
 use Rattle.word_machine.specs.Machine.{World, start, step, run}
@@ -32,8 +32,8 @@ data Stand : Type 0 where
 
 abbrev stand_at : ℕ → Position → Stand
 stand_at lines (Patch w x rest) = AtPatch lines (Store w x) (length rest)
-stand_at lines (AskSync rest) = AtAsk lines (length rest)
-stand_at lines (WaitSync rest c) = AtWait lines (length rest) c
+stand_at lines (Ask (Cpus rest)) = AtAsk lines (length rest)
+stand_at lines (Await (Cpus rest) c) = AtWait lines (length rest) c
 stand_at lines p = OfControl lines p
 
 abbrev stand : World → Actor → Stand
@@ -86,19 +86,19 @@ control_rows =
     row breakpoint_is_read 4 ByControl (OfControl 1 Select) (OfControl 1 Push) ∷  -- Select: adds
     row repeated_commands 18 ByControl (OfControl 2 Select) (OfControl 2 Relink) ∷  -- Select: removes
     row cleared_set 54 ByControl (OfControl 5 Select) (AtPatch 5 (Store (Next 1) 2) 6) ∷  -- Select: edits
-    row present_copy_written 90 ByControl (OfControl 1 Select) (OfControl 1 AskQuiet) ∷  -- Select: edits, and no site changes
+    row present_copy_written 90 ByControl (OfControl 1 Select) (OfControl 1 (Ask Tasks)) ∷  -- Select: edits, and no site changes
     row enabled_again 92 ByControl (OfControl 5 Select) (OfControl 5 Close) ∷  -- Select: enables
-    row enabled_again 46 ByControl (OfControl 7 Select) (OfControl 7 AskQuiet) ∷  -- Select: disables
+    row enabled_again 46 ByControl (OfControl 7 Select) (OfControl 7 (Ask Tasks)) ∷  -- Select: disables
     row breakpoint_is_read 5 ByControl (OfControl 1 Push) (OfControl 1 Relink) ∷  -- Push: no other user
     row invalid_commands 30 ByControl (OfControl 2 Push) (OfControl 2 Relink) ∷  -- Push: others
     row breakpoint_is_read 6 ByControl (OfControl 1 Relink) (AtPatch 1 (Store (Next 0) 2) 6) ∷  -- Relink: adds
     row no_quiet_for_a_walker 64 ByControl (OfControl 2 Relink) (OfControl 2 Close) ∷  -- Relink: adds, and no site changes
     row repeated_commands 19 ByControl (OfControl 2 Relink) (AtPatch 2 (Store (Next 0) 0) 6) ∷  -- Relink: removes the first
     row list_then_own 140 ByControl (OfControl 1 Relink) (AtPatch 1 (Store (Next 0) 3) 6) ∷  -- Relink: removes another
-    row link_cleared 81 ByControl (OfControl 1 Relink) (OfControl 1 AskQuiet) ∷  -- Relink: removes, and no site changes
-    row silent_acts 3 ByControl (OfControl 3 StorePids) (OfControl 3 AskQuiet) ∷  -- StorePids: pid
-    row excluded_pids 50 ByControl (OfControl 3 StorePids) (OfControl 3 AskQuiet) ∷  -- StorePids: nopid
-    row silent_acts 57 ByControl (OfControl 1 StoreDepth) (OfControl 1 AskQuiet) ∷  -- StoreDepth
+    row link_cleared 81 ByControl (OfControl 1 Relink) (OfControl 1 (Ask Tasks)) ∷  -- Relink: removes, and no site changes
+    row silent_acts 3 ByControl (OfControl 3 StorePids) (OfControl 3 (Ask Tasks)) ∷  -- StorePids: pid
+    row excluded_pids 50 ByControl (OfControl 3 StorePids) (OfControl 3 (Ask Tasks)) ∷  -- StorePids: nopid
+    row silent_acts 57 ByControl (OfControl 1 StoreDepth) (OfControl 1 (Ask Tasks)) ∷  -- StoreDepth
     row repeated_commands 20 ByControl (AtPatch 2 (Store (Next 0) 0) 6) (AtPatch 2 (Store (Head 0) 204) 5) ∷  -- Patch: a next, the nop
     row no_trampolines 12 ByControl (AtPatch 1 (Store (Next 0) 1) 6) (AtPatch 1 (Store (Head 0) 204) 5) ∷  -- Patch: a next, the list caller
     row breakpoint_is_read 7 ByControl (AtPatch 1 (Store (Next 0) 2) 6) (AtPatch 1 (Store (Head 0) 204) 5) ∷  -- Patch: a next, a trampoline
@@ -106,19 +106,19 @@ control_rows =
     row repeated_commands 10 ByControl (AtPatch 4 (Store (Tail 0) (tail_of 0 2)) 3) (AtAsk 4 2) ∷  -- Patch: a tail
     row job_3 69 ByControl (AtPatch 7 (Store (Tail 0) (tail_of 0 2)) 5) (AtPatch 7 (Store (Tail 1) (tail_of 1 2)) 4) ∷  -- Patch: a tail, before another site's
     row repeated_commands 12 ByControl (AtPatch 4 (Store (Head 0) 232) 1) (AtAsk 4 0) ∷  -- Patch: a head
-    row preempted_in_callback 9 ByControl (AtAsk 2 4) (AtWait 2 4 0) ∷  -- AskSync: the first
-    row repeated_commands 11 ByControl (AtAsk 4 2) (AtPatch 4 (Store (Head 0) 232) 1) ∷  -- AskSync: the second
-    row repeated_commands 13 ByControl (AtAsk 4 0) (OfControl 4 Close) ∷  -- AskSync: the third
-    row hash_changed_in_walk_old 10 ByControl (AtWait 4 4 0) (AtWait 4 4 0) ∷  -- WaitSync: the first, not met
-    row preempted_in_callback 15 ByControl (AtWait 2 4 0) (AtPatch 2 (Store (Tail 0) (tail_of 0 2)) 3) ∷  -- WaitSync: the first, met
-    row job_3 63 ByControl (AtWait 7 6 0) (AtWait 7 6 1) ∷  -- WaitSync: the first, met, before another CPU's
-    row no_trampolines 26 ByControl (AtWait 1 2 0) (AtWait 1 2 0) ∷  -- WaitSync: the second, not met
-    row preempted_in_callback 23 ByControl (AtWait 2 2 0) (AtPatch 2 (Store (Head 0) 232) 1) ∷  -- WaitSync: the second, met
-    row no_trampolines 34 ByControl (AtWait 1 0 0) (AtWait 1 0 0) ∷  -- WaitSync: the third, not met
-    row preempted_in_callback 31 ByControl (AtWait 2 0 0) (OfControl 2 Close) ∷  -- WaitSync: the third, met
-    row silent_acts 6 ByControl (OfControl 3 AskQuiet) (OfControl 3 (WaitQuiet 0)) ∷  -- AskQuiet
-    row silent_acts 9 ByControl (OfControl 3 (WaitQuiet 0)) (OfControl 3 (WaitQuiet 0)) ∷  -- WaitQuiet: not met
-    row silent_acts 18 ByControl (OfControl 3 (WaitQuiet 0)) (OfControl 3 (WaitQuiet 1)) ∷  -- WaitQuiet: met
+    row preempted_in_callback 9 ByControl (AtAsk 2 4) (AtWait 2 4 0) ∷  -- Ask Cpus: the first
+    row repeated_commands 11 ByControl (AtAsk 4 2) (AtPatch 4 (Store (Head 0) 232) 1) ∷  -- Ask Cpus: the second
+    row repeated_commands 13 ByControl (AtAsk 4 0) (OfControl 4 Close) ∷  -- Ask Cpus: the third
+    row hash_changed_in_walk_old 10 ByControl (AtWait 4 4 0) (AtWait 4 4 0) ∷  -- Await Cpus: the first, not met
+    row preempted_in_callback 15 ByControl (AtWait 2 4 0) (AtPatch 2 (Store (Tail 0) (tail_of 0 2)) 3) ∷  -- Await Cpus: the first, met
+    row job_3 63 ByControl (AtWait 7 6 0) (AtWait 7 6 1) ∷  -- Await Cpus: the first, met, before another CPU's
+    row no_trampolines 26 ByControl (AtWait 1 2 0) (AtWait 1 2 0) ∷  -- Await Cpus: the second, not met
+    row preempted_in_callback 23 ByControl (AtWait 2 2 0) (AtPatch 2 (Store (Head 0) 232) 1) ∷  -- Await Cpus: the second, met
+    row no_trampolines 34 ByControl (AtWait 1 0 0) (AtWait 1 0 0) ∷  -- Await Cpus: the third, not met
+    row preempted_in_callback 31 ByControl (AtWait 2 0 0) (OfControl 2 Close) ∷  -- Await Cpus: the third, met
+    row silent_acts 6 ByControl (OfControl 3 (Ask Tasks)) (OfControl 3 (Await Tasks 0)) ∷  -- Ask Tasks
+    row silent_acts 9 ByControl (OfControl 3 (Await Tasks 0)) (OfControl 3 (Await Tasks 0)) ∷  -- Await Tasks: not met
+    row silent_acts 18 ByControl (OfControl 3 (Await Tasks 0)) (OfControl 3 (Await Tasks 1)) ∷  -- Await Tasks: met
     row repeated_commands 28 ByControl (OfControl 2 Release) (OfControl 2 Close) ∷  -- Release
     row further_words 2 ByControl (OfControl 7 Close) (OfControl 6 Line) ∷  -- Close: ok
     row repeated_commands 16 ByControl (OfControl 3 Close) (OfControl 2 Line) ∷  -- Close: already

@@ -24,6 +24,7 @@ CRATES = {
     "ft_base": ["ft_base", "ft_hist", "plain_machine", "plain_samples", "word_machine", "word_machine_laws"],
     "ft_hist": ["ft_hist", "plain_machine", "plain_samples"],
     "plain_machine": ["plain_machine", "plain_samples"],
+    "word_machine": ["word_machine", "word_machine_laws"],
 }
 FIRST_FAULT = re.compile(r"(?:proofs|specs|src)/[\w/]*\.(?:antt|rt)(?=:\d+:\d+: error)")
 
