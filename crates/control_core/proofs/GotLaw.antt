@@ -20,7 +20,7 @@ use Rattle.patch_core.specs.Moves.{Move, Put, batch_next}
 use Rattle.ft_desk.specs.declared.plan.TrampChange.TheVariants.{Set}
 use Rattle.ft_desk.specs.Plans.{PlainPlan}
 use Rattle.word_machine.specs.Commands.{effect, set_words, subject}
-use Rattle.word_machine.specs.Control.{Control, AskQuiet, Position, Relink, Select, batch_first, got_in, relinked}
+use Rattle.word_machine.specs.Control.{Control, Ask, Tasks, Position, Relink, Select, batch_first, got_in, relinked}
 use Rattle.word_machine.specs.Values.{copies_in}
 use Rattle.control_core.specs.declared.phase.Phase.{Phase}
 use Rattle.control_core.specs.declared.phase.Phase.TheVariants as phase
@@ -58,11 +58,11 @@ module _ (job : Job) (c : Seated) (safe : IsSafe c) (is : IsFor job c) (u : IsUn
   abbrev plan : PlainPlan
   plan = plan_at job c.commands_done (copies_in c.before.copies) c.before.order
 
-  at-plan : c.desk.plan ≡ plan
+  pub at-plan : c.desk.plan ≡ plan
   at-plan = plan-is job c (base-of job c safe is) u
 
   -- the machine's control in a phase goes on here
-  abbrev Goes : Phase → Type 0
+  abbrev pub Goes : Phase → Type 0
   Goes p = Went job (stepped_in c p v) (got_in job (control_in c p) (position_of c p) v)
 
   -- the user takes its trampoline
@@ -134,29 +134,29 @@ module _ (job : Job) (c : Seated) (safe : IsSafe c) (is : IsFor job c) (u : IsUn
       (ap₂ (λ (at' : Position) (users : List ℕ). machine_at c at' (copies_in c.desk.copies) users)
       (ap₂ moving_by at-plan none ∙ sym goes) (sym order))
 
-  pub linking-by : (linker : Linked) (p : LinkPhase) → HasLeft c (phase.Linking linker) → c.made ≡ 0 → IsLinkOf c.desk.plan p
+  pub linking-by : (linker : Linked) (p : LinkPhase) → c.made ≡ 0 → IsLinkOf c.desk.plan p
       → Went job (linked c (record linker { phase = link_after p })) (got_in job (control_in c (phase.Linking linker)) (linking_at p) v)
-  linking-by linker (LinkingUser w first) left none of =
+  linking-by linker (LinkingUser w first) none of =
       let l : Leads job c (phase.Linking (record linker { phase = Heading w })) Relink (copies_in c.desk.copies) c.before.order =
       record { stands = refl; copies_are = refl; order_is = refl; fits = (none, (first, of.0, of.1)); under = λ u. u } in
       lead-to job c c.made c.request _ _ _ _ is u l
-  linking-by linker (Heading w) left none of =
+  linking-by linker (Heading w) none of =
       let push = sym (ap (λ (p : PlainPlan). p.list) at-plan) ∙ of.1 in
       relinking linker none
       (push-goes job c.commands_done (copies_in c.before.copies) c.before.order of.0 push)
       (push-order job c.commands_done (copies_in c.before.copies) c.before.order of.0 c.before.order push ∙ sym (order-is job c (base-of job c safe is) u))
-  linking-by linker (Unlinking before after) left none of =
+  linking-by linker (Unlinking before after) none of =
       let unlink = sym (ap (λ (p : PlainPlan). p.list) at-plan) ∙ of in
       relinking linker none
       (unlink-goes job c.commands_done (copies_in c.before.copies) c.before.order before after unlink)
       (unlink-order job c.commands_done (copies_in c.before.copies) c.before.order before after c.before.order unlink
       ∙ sym (order-is job c (base-of job c safe is) u))
-  linking-by linker LinkEnded left none of = absurd of
+  linking-by linker LinkEnded none of = absurd of
 
   -- the traced tasks or the graph depth are stored
-  pub quieting : (p : Phase) → AskQuiet ≡ quiet_by plan
-      → Went job (at_phase c (quiet_to c.shape c.desk.plan c.request)) (machine_at c AskQuiet (copies_in c.desk.copies) c.desk.order)
-  quieting p goes =
+  pub quieting : Ask Tasks ≡ quiet_by plan
+      → Went job (at_phase c (quiet_to c.shape c.desk.plan c.request)) (machine_at c (Ask Tasks) (copies_in c.desk.copies) c.desk.order)
+  quieting goes =
       went job _ _ _ (lead-to job c c.made c.request _ _ _ _ is u (quiet-leads job c))
       (ap (λ (at' : Position). machine_at c at' (copies_in c.desk.copies) c.desk.order) (ap quiet_by at-plan ∙ sym goes))
 

@@ -9,11 +9,10 @@ use Rattle.control_core.specs.declared.phase.Phase.TheVariants as phase
 use Rattle.control_core.specs.Seated.{Seated, Fits, IsDeskOf, IsFor, control_in, control_of, position_of}
 use Rattle.control_core.specs.Kept.{HasLeft, IsSafe}
 use Rattle.control_core.specs.Steps.{stepped, stepped_in}
-use Rattle.control_core.proofs.GotLaw.{linking-by, listing, patching, quieting, releasing, taking, writing}
+use Rattle.control_core.proofs.GotLaw.{at-plan, linking-by, listing, patching, quieting, releasing, taking, writing}
 use Rattle.control_core.proofs.Leads.{Went}
 use Rattle.control_core.proofs.LineLaw.{at-a-line, closing}
 use Rattle.control_core.proofs.PositionsGoes.{depth-goes, pids-goes}
-use Rattle.control_core.proofs.Under.{base-of, plan-is}
 use Rattle.control_core.proofs.WaitLaw.{quieting as quiet-waits, syncing}
 
 module _ (job : Job) (c : Seated) (safe : IsSafe c) (is : IsFor job c) (v : ℕ) where
@@ -23,18 +22,18 @@ module _ (job : Job) (c : Seated) (safe : IsSafe c) (is : IsFor job c) (v : ℕ)
   got-in phase.Taking e u f h = taking job c safe is u v f.1.0 f.1.1 f.0 f.1.2
   got-in (phase.Writing page) e u f h = writing job c safe is u v page h f.0 f.1
   got-in phase.Selecting e u f h = listing job c safe is u v f.1.0 f.0 f.1.1
-  got-in (phase.Linking linker) e u f h = linking-by job c safe is u v linker linker.phase h f.0 f.1
+  got-in (phase.Linking linker) e u f h = linking-by job c safe is u v linker linker.phase f.0 f.1
   got-in phase.StoringPids e u f h =
-      quieting job c safe is u v phase.StoringPids
+      quieting job c safe is u v
       (pids-goes job c.commands_done (copies_in c.before.copies) c.before.order f.0
-      (sym (ap (λ (p : PlainPlan). p.pids) (plan-is job c (base-of job c safe is) u)) ∙ f.1))
+      (sym (ap (λ (p : PlainPlan). p.pids) (at-plan job c safe is u v)) ∙ f.1))
   got-in phase.StoringDepth e u f h =
-      quieting job c safe is u v phase.StoringDepth
+      quieting job c safe is u v
       (depth-goes job c.commands_done (copies_in c.before.copies) c.before.order f.0
-      (sym (ap (λ (p : PlainPlan). p.depth) (plan-is job c (base-of job c safe is) u)) ∙ f.1))
+      (sym (ap (λ (p : PlainPlan). p.depth) (at-plan job c safe is u v)) ∙ f.1))
   got-in phase.Patching e u f h = patching job c safe is u v f.0 f.1 f.2
-  got-in (phase.Syncing w) e u f h = syncing job c safe is u v w h f
-  got-in (phase.Quieting w) e u f h = quiet-waits job c safe is u v w h f
+  got-in (phase.Syncing w) e u f h = syncing job c safe is u v w f
+  got-in (phase.Quieting w) e u f h = quiet-waits job c safe is u v w f
   got-in phase.Releasing e u f h = releasing job c safe is u v
   got-in phase.Closing e u f h = closing job c safe is u v
 

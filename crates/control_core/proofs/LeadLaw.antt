@@ -32,8 +32,6 @@ module _ (c : Seated) (lines : List Ctl) (order : List ℕ) where
 
   fits-still : (p : Phase) → Fits c p → Fits other p
   fits-still (phase.Writing page) h = (h.0, record { user = h.1.user; sel = h.1.sel; pair = h.1.pair; copy = h.1.copy })
-  fits-still (phase.Syncing w) h = (h.0, record { quiet_is = h.1.quiet_is; way = h.1.way })
-  fits-still (phase.Quieting w) h = (h.0, record { quiet_is = h.1.quiet_is; way = h.1.way })
   fits-still _ h = h
 
   position-still : (p : Phase) → position_of other p ≡ position_of c p

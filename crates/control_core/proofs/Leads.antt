@@ -8,7 +8,7 @@ use Rattle.word_map.specs.Shapes.{shape_of}
 use Rattle.ft_desk.specs.Declarations.{IsOf}
 use Rattle.word_map.specs.declared.shape.Shape.{Shape}
 use Rattle.word_map.specs.Places.{words_for}
-use Rattle.grace_core.specs.declared.waiter.WaitPhase.TheVariants.{Asking}
+use Rattle.grace_core.specs.Waits.{wait_start}
 use Rattle.patch_core.specs.Moves.{Move, Put, Sync, Done, batch_next}
 use Rattle.ft_desk.specs.declared.plan.TrampChange.{TrampChange}
 use Rattle.ft_desk.specs.declared.plan.TrampChange.TheVariants.{Keep as KeepTramp, Set, Clear}
@@ -16,7 +16,7 @@ use Rattle.ft_desk.specs.declared.plan.ListChange.{ListChange}
 use Rattle.ft_desk.specs.declared.plan.ListChange.TheVariants.{Keep as KeepList, Push, Unlink}
 use Rattle.ft_desk.specs.Plans.{PlainPlan}
 use Rattle.word_machine.specs.Commands.{Effect, Adds, Removes, effect}
-use Rattle.word_machine.specs.Control.{Control, Position, AskQuiet, Close, Select, StoreDepth, StorePids, copy_from}
+use Rattle.word_machine.specs.Control.{Control, Position, Ask, Tasks, Close, Select, StoreDepth, StorePids, copy_from}
 use Rattle.word_machine.specs.Values.{copies_in}
 use Rattle.control_core.specs.declared.phase.Phase.{Phase}
 use Rattle.control_core.specs.declared.phase.Phase.TheVariants as phase
@@ -98,8 +98,8 @@ module _ (job : Job) (c : Seated) where
   closing = record { stands = refl; copies_are = refl; order_is = refl; fits = tt; under = λ u. u }
 
   quiet-by : (b : Bool) → c.desk.plan.quiet ≡ b
-      → now (cond b (phase.Quieting (record { shape = c.shape; quiet = true; request = suc c.request; phase = Asking })) phase.Closing) (cond b AskQuiet Close)
-  quiet-by true e = record { stands = refl; copies_are = refl; order_is = refl; fits = (e, record { quiet_is = refl; way = refl }); under = λ u. u }
+      → now (cond b (phase.Quieting (wait_start c.shape true (suc c.request))) phase.Closing) (cond b (Ask Tasks) Close)
+  quiet-by true e = record { stands = refl; copies_are = refl; order_is = refl; fits = (e, (refl, refl)); under = λ u. u }
   quiet-by false e = closing
 
   pub quiet-leads : now (quiet_to c.shape c.desk.plan c.request) (quiet_by c.desk.plan)
@@ -110,7 +110,7 @@ module _ (job : Job) (c : Seated) where
   batch-by (Put w x) e =
       let stands = ap (moving_to c.desk.plan (moves_left c.desk.plan (suc c.made))) e in
       record { stands = stands; copies_are = refl; order_is = refl; fits = (w, x, e); under = λ u. u }
-  batch-by Sync e = record { stands = refl; copies_are = refl; order_is = refl; fits = (e, record { quiet_is = refl; way = refl }); under = λ u. u }
+  batch-by Sync e = record { stands = refl; copies_are = refl; order_is = refl; fits = (e, (refl, refl)); under = λ u. u }
   batch-by Done e = quiet-leads
 
   pub batch-leads : now (batch_to c.shape c.desk.plan c.made c.request) (moving_by c.desk.plan c.made)

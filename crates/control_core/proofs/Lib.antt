@@ -15,7 +15,6 @@ pub mod PositionsWriting
 pub mod PositionsLists
 pub mod PositionsPlans
 pub mod PositionsBatch
-pub mod PositionsWaits
 pub mod PositionsEffects
 pub mod PositionsStores
 pub mod PositionsGoes

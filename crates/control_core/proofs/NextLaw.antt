@@ -17,7 +17,7 @@ use Rattle.patch_core.specs.Moves.{Move, Put, batch_next}
 use Rattle.ft_desk.specs.declared.plan.TrampChange.TheVariants.{Set, Clear}
 use Rattle.ft_desk.specs.Plans.{PlainPlan, user_no}
 use Rattle.word_machine.specs.Commands.{effect, set_words, subject}
-use Rattle.word_machine.specs.Control.{control_next, next_in}
+use Rattle.word_machine.specs.Control.{Cpus, Tasks, control_next, next_in}
 use Rattle.word_machine.specs.Values.{copies_in}
 use Rattle.control_core.specs.declared.phase.Phase.{Phase}
 use Rattle.control_core.specs.declared.phase.Phase.TheVariants as phase
@@ -27,9 +27,9 @@ use Rattle.control_core.specs.Kept.{HasLeft, IsSafe}
 use Rattle.control_core.specs.Steps.{depth_next, op_in, op_of, pair_at, patch_next, pids_next, release_next, select_next, take_next, write_next}
 use Rattle.control_core.proofs.PositionsEffects.{sel-user, set-user}
 use Rattle.control_core.proofs.PositionsStores.{copy-is, depth-op, head-op, pids-op, push-op, release-op, sel-is, select-op, take-op, unlink-op, user-is}
-use Rattle.control_core.proofs.PositionsWaits.{quiet-op, sync-op}
 use Rattle.control_core.proofs.PositionsWriting.{page-is-next}
 use Rattle.control_core.proofs.Under.{answer-is, base-of, line-next, plan-is, state-is}
+use Rattle.control_core.proofs.WaitLaw.{wait-op}
 
 module _ (job : Job) (c : Seated) (safe : IsSafe c) (is : IsFor job c) where
   -- the plan of the job's command
@@ -130,9 +130,8 @@ module _ (job : Job) (c : Seated) (safe : IsSafe c) (is : IsFor job c) where
   next-in phase.StoringPids u f h = pids u f.0 f.1
   next-in phase.StoringDepth u f h = depth u f.0 f.1
   next-in phase.Patching u f h = patching u f.0 f.1 f.2
-  next-in (phase.Syncing w) u f h =
-      sym (sync-op job (control_in c (phase.Syncing w)) w f.1.quiet_is f.1.way (moves_left c.desk.plan (suc c.made)))
-  next-in (phase.Quieting w) u f h = sym (quiet-op job (control_in c (phase.Quieting w)) w f.1.quiet_is f.1.way)
+  next-in (phase.Syncing w) u f h = wait-op job c is (Cpus (moves_left c.desk.plan (suc c.made))) w f.1
+  next-in (phase.Quieting w) u f h = wait-op job c is Tasks w f.1
   next-in phase.Releasing u f h = releasing u f.0 f.1
   next-in phase.Closing u f h = ap (λ (a : Answer). Some (Mark (Return (suc c.commands_done) a))) (answer-is job c (base-of job c safe is) u)
 

@@ -6,7 +6,7 @@ use Rattle.word_map.specs.Words.{at_put}
 use Rattle.ft_desk.specs.declared.plan.TrampChange.TheVariants.{Set}
 use Rattle.ft_desk.specs.declared.plan.ListChange.TheVariants.{Keep, Push, Unlink}
 use Rattle.word_machine.specs.Commands.{Effect, Adds, Removes, Edits, Lists, Levels, Nothing, effect, subject}
-use Rattle.word_machine.specs.Control.{AskQuiet, batch_first, copy_after, copy_from, relinked, selected_in}
+use Rattle.word_machine.specs.Control.{Ask, Tasks, batch_first, copy_after, copy_from, relinked, selected_in}
 use Rattle.control_core.specs.Followed.{is_of_user, order_followed, patches, plan_followed}
 use Rattle.control_core.specs.Positions.{listed_by, moving_by, plan_at, quiet_by, stored_by}
 use Rattle.control_core.proofs.Copies.{put-own}
@@ -48,13 +48,13 @@ module _ (job : Job) (d : ℕ) (copies : ℕ → ℕ) (order : List ℕ) where
 
   -- after the traced tasks, and after the graph depth
   pub pids-goes : (x : ℕ) → (plan_at job d copies order).pids ≡ Some x
-      → AskQuiet ≡ quiet_by (plan_at job d copies order)
+      → Ask Tasks ≡ quiet_by (plan_at job d copies order)
   pids-goes x is =
       let lists = pids-lists job d copies order (effect job d) x is in
       ap (λ (e : Effect). quiet_by (plan_followed job d copies order e)) (sym lists)
 
   pub depth-goes : (x : ℕ) → (plan_at job d copies order).depth ≡ Some x
-      → AskQuiet ≡ quiet_by (plan_at job d copies order)
+      → Ask Tasks ≡ quiet_by (plan_at job d copies order)
   depth-goes x is =
       let levels = depth-levels job d copies order (effect job d) x is in
       ap (λ (e : Effect). quiet_by (plan_followed job d copies order e)) (sym levels)

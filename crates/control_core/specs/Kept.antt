@@ -1,13 +1,13 @@
 -- What control keeps between its operations, so that each is on a word that is there and takes no memory.
-use Rattle.std.specs.Prelude.{ℕ, ◌≡◌, ◌+◌, ◌*◌, ◌<◌, ◌≤◌, length, All, vec_len, vec_capacity}
+use Rattle.std.specs.Prelude.{ℕ, ◌≡◌, ◌+◌, ◌*◌, ◌<◌, ◌≤◌, length, All, vec_len, vec_capacity, if◌then◌else◌}
 use Rattle.ft_base.specs.declared.limits.TheConstants.{COMMANDS, FUNCS, UNTILS}
 use Rattle.word_map.specs.Shapes.{IsShape}
 use Rattle.word_map.specs.Places.{words_for}
 use Rattle.grace_core.specs.declared.waiter.WaitPhase.{WaitPhase}
-use Rattle.grace_core.specs.declared.waiter.WaitPhase.TheVariants.{Asking, Waiting, Ended as WaitEnded}
 use Rattle.led_jobs.specs.Orders.{AreLed, picked}
 use Rattle.ft_desk.specs.Lines.{IsLineIn, lines_of}
 use Rattle.control_core.specs.Lines.{IsNamedLine}
+use Rattle.control_core.specs.Phases.{is_asking}
 use Rattle.control_core.specs.Plans.{IsDeskIn, IsPlanIn}
 use Rattle.control_core.specs.declared.phase.Phase.{Phase}
 use Rattle.control_core.specs.declared.phase.Phase.TheVariants as phase
@@ -23,9 +23,7 @@ busy _ = 1
 
 -- a wait whose request is stored counts one
 abbrev pub asked_by : WaitPhase → ℕ
-asked_by Asking = 0
-asked_by (Waiting n) = 1
-asked_by WaitEnded = 1
+asked_by p = if is_asking p then 0 else 1
 
 -- the request that is stored besides those of the moves that were made
 abbrev pub asked : Phase → ℕ

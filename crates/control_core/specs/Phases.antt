@@ -3,9 +3,9 @@ use Rattle.std.specs.Prelude.{ℕ, suc, Bool, true, false, Option, Some, None, i
 use Rattle.ft_base.specs.declared.number.UserNo.{UserNo}
 use Rattle.word_map.specs.declared.shape.Shape.{Shape}
 use Rattle.word_map.specs.Contents.{sel_copy}
-use Rattle.grace_core.specs.Waits.{wait_start}
+use Rattle.grace_core.specs.Waits.{Wait, wait_start}
 use Rattle.grace_core.specs.declared.waiter.WaitPhase.{WaitPhase}
-use Rattle.grace_core.specs.declared.waiter.WaitPhase.TheVariants.{Asking, Waiting, Ended as WaitEnded}
+use Rattle.grace_core.specs.declared.waiter.WaitPhase.TheVariants.{Asking, Ended}
 use Rattle.hash_pages.specs.Pages.{Page}
 use Rattle.ops_list.specs.declared.linker.LinkPhase.{LinkPhase}
 use Rattle.ops_list.specs.declared.linker.LinkPhase.TheVariants.{Linking as LinkingUser, Heading, Unlinking, Ended as LinkEnded}
@@ -85,14 +85,17 @@ release_in (Set slot reg) = phase.Closing
 -- a wait has not stored its request
 abbrev pub is_asking : WaitPhase → Bool
 is_asking Asking = true
-is_asking (Waiting n) = false
-is_asking WaitEnded = false
+is_asking _ = false
 
 -- a wait is over
 abbrev pub is_over : WaitPhase → Bool
-is_over Asking = false
-is_over (Waiting n) = false
-is_over WaitEnded = true
+is_over Ended = true
+is_over _ = false
+
+-- the wait for the quiet points of tasks, or for the acknowledgements of CPUs, in a phase, after this many requests: its own is the next one,
+-- or, once it is stored, the last
+abbrev pub wait_in : Shape → Bool → ℕ → WaitPhase → Wait
+wait_in shape quiet requests p = record { shape = shape; quiet = quiet; request = if is_asking p then suc requests else requests; phase = p }
 
 -- a change of the list is made
 abbrev pub is_linked_up : LinkPhase → Bool

@@ -1,8 +1,8 @@
 -- Where control stands in the parts of a command, by what its steppers have done: the word machine's positions.
-use Rattle.std.specs.Prelude.{ℕ, suc, ◌≡◌, ◌+◌, ◌-◌, nat_lt, List, drop, is_some, if◌then◌else◌}
+use Rattle.std.specs.Prelude.{ℕ, suc, ◌+◌, ◌-◌, nat_lt, List, drop, is_some, if◌then◌else◌}
 use Rattle.ft_base.specs.Job.{Job}
 use Rattle.grace_core.specs.declared.waiter.WaitPhase.{WaitPhase}
-use Rattle.grace_core.specs.declared.waiter.WaitPhase.TheVariants.{Asking, Waiting, Ended as WaitEnded}
+use Rattle.grace_core.specs.declared.waiter.WaitPhase.TheVariants.{Waiting}
 use Rattle.ops_list.specs.declared.linker.LinkPhase.{LinkPhase}
 use Rattle.ops_list.specs.declared.linker.LinkPhase.TheVariants.{Linking as LinkingUser}
 use Rattle.patch_core.specs.Moves.{Move, Put, Sync, Done, batch, batch_next}
@@ -13,7 +13,7 @@ use Rattle.ft_desk.specs.declared.plan.ListChange.TheVariants.{Keep as KeepList,
 use Rattle.ft_desk.specs.Plans.{PlainPlan}
 use Rattle.control_core.specs.Followed.{plan_followed}
 use Rattle.word_machine.specs.Commands.{effect}
-use Rattle.word_machine.specs.Control.{Position, Take, Copy, Select, Push, Relink, StorePids, StoreDepth, Patch, AskSync, WaitSync, AskQuiet, Release, Close, copy_from}
+use Rattle.word_machine.specs.Control.{Position, Take, Copy, Select, Push, Relink, StorePids, StoreDepth, Patch, Ask, Await, Awaited, Cpus, Tasks, Release, Close, copy_from}
 
 -- before a word of the copy, or, after the last of them, before the user's state
 abbrev pub writing_at : ℕ → ℕ → Position
@@ -24,26 +24,10 @@ abbrev pub linking_at : LinkPhase → Position
 linking_at (LinkingUser u first) = Push
 linking_at _ = Relink
 
--- in a wait
-abbrev pub waiting_at : Position → (ℕ → Position) → WaitPhase → Position
-waiting_at ask at' Asking = ask
-waiting_at ask at' (Waiting c) = at' c
-waiting_at ask at' WaitEnded = ask
-
--- in a wait that goes on, or after one that is over
-abbrev pub wait_or : (WaitPhase → Position) → Position → WaitPhase → Position
-wait_or at' otherwise WaitEnded = otherwise
-wait_or at' otherwise phase = at' phase
-
--- a wait is under way, after this many requests: its own request is the next one, or, once it is stored, the last
-abbrev pub IsUnderWay : ℕ → ℕ → WaitPhase → Type 0
-IsUnderWay requests own Asking = own ≡ suc requests
-IsUnderWay requests own (Waiting c) = own ≡ requests
-IsUnderWay requests own WaitEnded = ⊥
-
--- in a sync of a batch, which has these moves after it
-abbrev pub syncing_at : List Move → WaitPhase → Position
-syncing_at rest w = waiting_at (AskSync rest) (WaitSync rest) w
+-- in a wait that is not over
+abbrev pub waiting_at : Awaited → WaitPhase → Position
+waiting_at whom (Waiting n) = Await whom n
+waiting_at whom _ = Ask whom
 
 -- ## where a plan leads
 
@@ -71,7 +55,7 @@ begun_by job plan = begun_to job plan plan.tramp
 
 -- after all other stores: before the wait for quiet points, if there is one
 abbrev pub quiet_by : PlainPlan → Position
-quiet_by plan = if plan.quiet then AskQuiet else Close
+quiet_by plan = if plan.quiet then Ask Tasks else Close
 
 -- the moves of the plan's batch that are left after this many
 abbrev pub moves_left : PlainPlan → ℕ → List Move
@@ -80,7 +64,7 @@ moves_left plan made = drop made (batch plan.sites)
 -- before this move of the batch, which has these after it; a batch that is done leads on
 abbrev pub moving_to : PlainPlan → List Move → Move → Position
 moving_to plan rest (Put w x) = Patch w x rest
-moving_to plan rest Sync = AskSync rest
+moving_to plan rest Sync = Ask (Cpus rest)
 moving_to plan rest Done = quiet_by plan
 
 -- before the next move of the batch, after this many

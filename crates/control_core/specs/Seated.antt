@@ -22,9 +22,10 @@ use Rattle.ft_base.specs.declared.number.UserNo.{UserNo}
 use Rattle.word_map.specs.Contents.{sel_copy}
 use Rattle.word_map.specs.Words.{Word}
 use Rattle.word_machine.specs.Commands.{command}
-use Rattle.word_machine.specs.Control.{Control, Position, Line, Take, Select, StorePids, StoreDepth, AskQuiet, WaitQuiet, Release, Close}
+use Rattle.word_machine.specs.Control.{Control, Position, Line, Take, Select, StorePids, StoreDepth, Cpus, Tasks, Release, Close}
 use Rattle.word_machine.specs.Values.{copies_in}
-use Rattle.control_core.specs.Positions.{IsUnderWay, linking_at, moves_left, moving_by, syncing_at, waiting_at, writing_at}
+use Rattle.control_core.specs.Phases.{is_over, wait_in}
+use Rattle.control_core.specs.Positions.{linking_at, moves_left, moving_by, waiting_at, writing_at}
 use Rattle.control_core.specs.declared.phase.Phase.{Phase}
 use Rattle.control_core.specs.declared.phase.Phase.TheVariants as phase
 
@@ -56,8 +57,8 @@ position_of c (phase.Linking linker) = linking_at linker.phase
 position_of c phase.StoringPids = StorePids
 position_of c phase.StoringDepth = StoreDepth
 position_of c phase.Patching = moving_by c.desk.plan c.made
-position_of c (phase.Syncing wait) = syncing_at (moves_left c.desk.plan (suc c.made)) wait.phase
-position_of c (phase.Quieting wait) = waiting_at AskQuiet WaitQuiet wait.phase
+position_of c (phase.Syncing wait) = waiting_at (Cpus (moves_left c.desk.plan (suc c.made))) wait.phase
+position_of c (phase.Quieting wait) = waiting_at Tasks wait.phase
 position_of c phase.Releasing = Release
 position_of c phase.Closing = Close
 
@@ -107,9 +108,8 @@ IsDeskOf job c _ = IsUnder job c
 -- ## what the phase says of the plan
 
 -- a wait for the quiet points of tasks, or for the acknowledgements of CPUs, which is not over
-pub record IsWaitOf (c : Seated) (quiet : Bool) (w : Wait) : Type 0 where
-  pub quiet_is : w.quiet ≡ quiet
-  pub way : IsUnderWay c.request w.request w.phase
+abbrev pub IsWaitOf : Seated → Bool → Wait → Type 0
+IsWaitOf c quiet w = (w ≡ wait_in c.shape quiet c.request w.phase) × (is_over w.phase ≡ false)
 
 -- a page of the plan's user and state
 pub record IsPageOf (c : Seated) (page : Page) : Type 0 where
