@@ -32,7 +32,7 @@ use Rattle.task_core.proofs.TiedLaw.{acts-same, frames-same, gone-begun, levels-
 
 module _ (job : Job) (t : Task) (k : IsTaskOf job t) (e : t.moment ≡ Polling) where
   -- it is before its poll
-  before : moment_of t ≡ machine.Polling
+  pub before : moment_of t ≡ machine.Polling
   before = ap (λ m. moment_at (top t) (users_in (top_users t.stacks.calls)) m) e
 
   -- no call of an act is open

@@ -1,34 +1,29 @@
 -- A step of a CPU of code is a row of the word machine's CPU.
-use Rattle.std.proofs.Common.{cond, ◌≡◌, ℕ, ◌<◌, ◌++◌, Bool, true, false, Option, Some, None, IsSome, refl, sym, ap, ◌∙◌, subst}
+use Rattle.std.proofs.Common.{cond, ◌≡◌, ℕ, ◌+◌, ◌<◌, ◌++◌, Bool, true, false, slice_get, Option, Some, None, IsSome, refl, sym, ap, ◌∙◌, subst}
 use Rattle.std.proofs.lemmas.Bool.{false≢true}
 use Rattle.std.proofs.lemmas.List.{append-nil}
+use Rattle.std.proofs.lemmas.Option.{slice_get_within}
 use Rattle.ft_base.specs.Job.{Job}
-use Rattle.grace_core.specs.declared.poller.PollPhase.{PollPhase}
-use Rattle.grace_core.specs.declared.poller.PollPhase.TheVariants.{Asking, Acking, Telling, Ended}
-use Rattle.grace_core.specs.Polls.{Poll, poll_op}
-use Rattle.return_stack.specs.Calls.{top_users}
 use Rattle.word_map.specs.Contents.{greatest_half}
 use Rattle.word_map.specs.Ops.{WordOp}
 use Rattle.word_machine.specs.Cpu.{any_has_more, cpu_got, cpu_next}
 use Rattle.word_machine.specs.Laws.{CpuTakes, GoingTakes, PhaseTakes, PresentTakes}
 use Rattle.word_machine.specs.Limits.{IsLimited}
-use Rattle.word_machine.specs.Task.{TaskState}
 use Rattle.cpu_core.specs.declared.parts.Parts.{Parts}
 use Rattle.cpu_core.specs.declared.parts.Phase.{Phase}
-use Rattle.cpu_core.specs.declared.parts.Phase.TheVariants.{Going, Polling, Over}
+use Rattle.cpu_core.specs.declared.parts.Phase.TheVariants.{Going, StoringAck, StoringQuiet, Over}
 use Rattle.task_core.specs.declared.task.Task.{Task}
-use Rattle.cpu_core.specs.CpuFits.{CanBeginAct, CpuFits, FitsIn, GoFits, PollFits, StartFits}
-use Rattle.cpu_core.specs.CpuOps.{is_running, phase_op, present_task}
-use Rattle.cpu_core.specs.CpuSteps.{began_poll, marks_in, polled_on, stamped, stepped, stepped_in, ticked, went}
-use Rattle.cpu_core.specs.Cpus.{IsBeforePoll, IsFor, cpu_of, phase_in}
+use Rattle.cpu_core.specs.CpuFits.{CpuFits, FitsIn}
+use Rattle.cpu_core.specs.CpuOps.{is_running, phase_op, told_op}
+use Rattle.cpu_core.specs.CpuSteps.{acked, marks_in, poll_on, polling, stamped, stepped, stepped_in, ticked, went, with_told}
+use Rattle.cpu_core.specs.Cpus.{IsFor, cpu_of, phase_in}
 use Rattle.cpu_core.specs.Marks.{HasRoom, Marks}
-use Rattle.task_core.specs.States.{moment_at, state_of, users_in}
-use Rattle.task_core.specs.TaskOps.{item_in, top}
+use Rattle.task_core.specs.TaskOps.{item_in}
 use Rattle.cpu_core.proofs.CpuNext.{cpu-op-is, more-is}
-use Rattle.cpu_core.proofs.GoSteps.{count-fits, is-going, waiting}
-use Rattle.cpu_core.proofs.GoStepsWent.{going-for, going-is, going-items, running-fits}
-use Rattle.cpu_core.proofs.Lookups.{now-is, state-at}
-use Rattle.cpu_core.proofs.PollStepsLaws.{began-fits, began-for, began-is, began-marked, polled-fits, polled-for, polled-is, polled-marked}
+use Rattle.cpu_core.proofs.GoSteps.{count-fits}
+use Rattle.cpu_core.proofs.GoStepsWent.{going-fits, going-for, going-is, going-items}
+use Rattle.cpu_core.proofs.PollEnd.{can-begin}
+use Rattle.cpu_core.proofs.Polls.{acked-for, acked-is, acked-marked, asked-for, asked-is, asked-marked, asks, asks-moment, at-ack, at-quiet, stores, teller, told-for, told-is, told-marked}
 
 module _ (job : Job) (c : Parts) (v : ℕ) (k : IsFor job c) (next : IsSome (cpu_next job (cpu_of job c))) where
   -- a CPU at its end has no next operation
@@ -37,16 +32,18 @@ module _ (job : Job) (c : Parts) (v : ℕ) (k : IsFor job c) (next : IsSome (cpu
 
   -- a step is that of the present task, the first of a poll, or a later one of it
   cases : (P : Parts → Type 0) → (c.phase ≡ Going → is_running c ≡ true → P (went (ticked c) v))
-      → (c.phase ≡ Going → is_running c ≡ false → P (began_poll (ticked c) v)) → (c.phase ≡ Polling → P (polled_on (ticked c) v)) → P (stepped c v)
-  cases P goes begins polls = by c.phase refl
+      → (c.phase ≡ Going → is_running c ≡ false → P (polling (ticked c) v)) → ((r : ℕ) → c.phase ≡ StoringAck r → P (poll_on (acked (ticked c) r) r))
+      → ((r i : ℕ) → c.phase ≡ StoringQuiet r i → P (poll_on (with_told (ticked c) r i) r)) → P (stepped c v)
+  cases P goes begins acks tells = by c.phase refl
     where
-      run : c.phase ≡ Going → (b : Bool) → is_running c ≡ b → P (cond b (went (ticked c) v) (began_poll (ticked c) v))
+      run : c.phase ≡ Going → (b : Bool) → is_running c ≡ b → P (cond b (went (ticked c) v) (polling (ticked c) v))
       run e true r = goes e r
       run e false r = begins e r
 
       by : (p : Phase) → c.phase ≡ p → P (stepped_in (ticked c) p v)
       by Going e = run e (is_running c) refl
-      by Polling e = polls e
+      by (StoringAck r) e = acks r e
+      by (StoringQuiet r i) e = tells r i e
       by Over e = absurd (not-over e)
 
   -- ## polls mark nothing
@@ -57,62 +54,48 @@ module _ (job : Job) (c : Parts) (v : ℕ) (k : IsFor job c) (next : IsSome (cpu
   asking : c.phase ≡ Going → is_running c ≡ false → item_in (cpu_next job (cpu_of job c)) ≡ None
   asking e r = ap item_in (sym (cpu-op-is job c k) ∙ ap (phase_op c) e) ∙ rw r refl
 
-  told : (p : Poll) (phase : PollPhase) → item_in (poll_op p phase) ≡ None
-  told p Asking = refl
-  told p (Acking r) = refl
-  told p (Telling r i) = refl
-  told p Ended = refl
+  acking : (r : ℕ) → c.phase ≡ StoringAck r → item_in (cpu_next job (cpu_of job c)) ≡ None
+  acking r e = ap item_in (sym (cpu-op-is job c k) ∙ ap (phase_op c) e)
 
-  telling : c.phase ≡ Polling → item_in (cpu_next job (cpu_of job c)) ≡ None
-  telling e = ap item_in (sym (cpu-op-is job c k) ∙ ap (phase_op c) e) ∙ told c.polls.poll c.polls.poll.phase
+  telling : (r i : ℕ) → c.phase ≡ StoringQuiet r i → item_in (cpu_next job (cpu_of job c)) ≡ None
+  telling r i e = ap item_in (sym (cpu-op-is job c k) ∙ ap (phase_op c) e) ∙ by (slice_get c.tasks i)
+    where
+      by : (o : Option Task) → item_in (told_op r o) ≡ None
+      by None = refl
+      by (Some t) = refl
 
   -- ## the step
 
   module _ (limited : IsLimited job) (takes : CpuTakes job (cpu_of job c) v) where
     pub cpu-is : cpu_of job (stepped c v) ≡ cpu_got job (cpu_of job c) v
     cpu-is = cases (λ d. cpu_of job d ≡ cpu_got job (cpu_of job c) v) (λ e r. going-is job c k e r v limited takes)
-        (λ e r. began-is job c v k e r) (λ e. polled-is job c k e v)
+        (λ e r. asked-is job c v k e r) (λ r e. acked-is job c k r e v) (λ r i e. told-is job c k r i e v)
 
     -- the request that a poll loads fits
     request : c.phase ≡ Going → is_running c ≡ false → v < greatest_half
-    request e r = by (any_has_more job (cpu_of job c)) refl (subst (λ p. PhaseTakes job (cpu_of job c) (phase_in job c p) v) e takes)
+    request e r = by (any_has_more job (cpu_of job c)) refl (subst (λ p. PhaseTakes job (cpu_of job c) (phase_in c.tasks p) v) e takes)
       where
-        polls : (o : Option Task) → present_task c ≡ o → IsBeforePoll o
-            → PresentTakes job ((cpu_of job c).tasks (cpu_of job c).present) ((cpu_of job c).tasks (cpu_of job c).present).moment v → v < greatest_half
-        polls None at' before small = absurd before
-        polls (Some t) at' before small =
-            let state : (cpu_of job c).tasks (cpu_of job c).present ≡ state_of t =
-            rw (at', now-is c (is-going job c k e).free, state-at job c.polls.poll.cpu c.tasks k.numbers' c.present t at') refl in
-            subst (λ m. PresentTakes job (state_of t) (moment_at (top t) (users_in (top_users t.stacks.calls)) m) v) before
-            (subst (λ (x : TaskState). PresentTakes job x x.moment v) state small)
-
         by : (b : Bool) → any_has_more job (cpu_of job c) ≡ b → GoingTakes job (cpu_of job c) b v → v < greatest_half
-        by true any small = polls (present_task c) refl (waiting job c k e r (sym (more-is job c k) ∙ any)) small
+        by true any small =
+            subst (λ m. PresentTakes job ((cpu_of job c).tasks (cpu_of job c).present) m v)
+            (asks-moment job c v k e r (sym (more-is job c k) ∙ any)) small
         by false none small = small
 
     module _ (room : IsSome (item_in (cpu_next job (cpu_of job c))) → HasRoom c.marked) where
       pub cpu-for : IsFor job (stepped c v)
-      cpu-for = cases (IsFor job) (λ e r. going-for job c k e r v limited takes room) (λ e r. began-for job c v k e r) (λ e. polled-for job c k e v)
-
-      -- the parts that a poll rests on don't count steps
-      untick : CanBeginAct (ticked c) → CanBeginAct c
-      untick can = record { present' = can.present'; act = can.act }
+      cpu-for = cases (IsFor job) (λ e r. going-for job c k e r v limited takes room) (λ e r. asked-for job c v k e r)
+          (λ r e. acked-for job c k r e) (λ r i e. told-for job c k r i e)
 
       fits-in : (p : Phase) → c.phase ≡ p → FitsIn c p v
-      fits-in Going e = (λ r. run e r, λ r. start (began-fits job c v k e r (request e r)))
-        where
-          start : StartFits (ticked c) v → StartFits c v
-          start f = record { free = f.free; size = f.size; there = f.there; fits = f.fits; act = λ any. untick (f.act any) }
-
-          run : c.phase ≡ Going → is_running c ≡ true → GoFits c v
-          run e' r = (subst (λ p. FitsIn c p v) e' (running-fits job c k e' r v limited takes room next).phase').0 r
-      fits-in Polling e = again (polled-fits job c k e v)
-        where
-          again : PollFits (ticked c) v → PollFits c v
-          again f = record {
-            fits = f.fits;
-            end' = record { lent = f.end'.lent; size = f.end'.size; act = λ any. untick (f.end'.act any) };
-          }
+      fits-in Going e = (
+        λ r. going-fits job c k e r v limited takes room,
+        λ r. record { fits = request e r; act = can-begin job c (asks job c v k e r) },
+      )
+      fits-in (StoringAck r) e = can-begin job c (stores job c k 1 (at-ack job c k r e))
+      fits-in (StoringQuiet r i) e =
+          let t = teller job c k r i e in
+          let at = at-quiet job c k r i e in
+          record { within = slice_get_within c.tasks i t.0 t.1; first = at.1; act = can-begin job c (stores job c k (2 + i) at.0) }
       fits-in Over e = tt
 
       pub cpu-fits : CpuFits c v
@@ -121,5 +104,6 @@ module _ (job : Job) (c : Parts) (v : ℕ) (k : IsFor job c) (next : IsSome (cpu
     -- what is marked
     pub cpu-items : (stepped c v).marked.items ≡ c.marked.items ++ marks_in (cpu_next job (cpu_of job c)) v
     cpu-items = cases (λ d. d.marked.items ≡ c.marked.items ++ marks_in (cpu_next job (cpu_of job c)) v) (λ e r. going-items job c k e r v limited takes)
-        (λ e r. ap (λ (m : Marks). m.items) (began-marked job c v k e r) ∙ unmarked (asking e r))
-        (λ e. ap (λ (m : Marks). m.items) (polled-marked job c k e v) ∙ unmarked (telling e))
+        (λ e r. ap (λ (m : Marks). m.items) (asked-marked (ticked c) v) ∙ unmarked (asking e r))
+        (λ r e. ap (λ (m : Marks). m.items) (acked-marked (ticked c) r) ∙ unmarked (acking r e))
+        (λ r i e. ap (λ (m : Marks). m.items) (told-marked (ticked c) r i) ∙ unmarked (telling r i e))

@@ -1,25 +1,18 @@
 -- A CPU's next operation is the machine's, and its word is there.
-use Rattle.std.proofs.Common.{cond, ◌≡◌, ℕ, zero, suc, ◌<◌, Bool, true, false, not, List, [], ◌∷◌, get_or, length, slice_get, Option, Some, None, IsSomeAnd, refl, sym, ap, ap₂, ◌∙◌, subst, arith}
-use Rattle.std.specs.List.{AllByRecursion as Each}
+use Rattle.std.proofs.Common.{cond, ◌≡◌, ℕ, zero, suc, ◌<◌, Bool, true, false, not, List, [], ◌∷◌, length, slice_get, Option, Some, None, IsSomeAnd, refl, sym, ap, ap₂, ◌∙◌, subst}
 use Rattle.std.proofs.lemmas.Bool.{lt-ltb}
-use Rattle.std.proofs.lemmas.List.{get_or-map, length-map}
-use Rattle.std.proofs.lemmas.List.Quantifiers.{position-Some}
+use Rattle.std.proofs.lemmas.Option.{slice_get_within}
 use Rattle.ft_base.specs.Job.{Job}
 use Rattle.ft_base.proofs.Modifiers.{named-at}
 use Rattle.ft_base.proofs.Small.{false_true, or-true}
 use Rattle.ft_hist.specs.Frames.{FrameUser}
-use Rattle.grace_core.specs.declared.poller.PollPhase.{PollPhase}
-use Rattle.grace_core.specs.declared.poller.PollPhase.TheVariants.{Asking, Acking, Telling, Ended}
-use Rattle.grace_core.specs.declared.view.TaskView.{TaskView}
-use Rattle.grace_core.specs.Polls.{Poll, no_task_view, poll_op, untold}
-use Rattle.grace_core.specs.Views.{PlainView, acknowledged, told_word}
-use Rattle.plain_machine.specs.State.{tasks_of}
+use Rattle.grace_core.specs.Views.{acknowledged, told_word}
 use Rattle.return_stack.specs.Calls.{top_users}
 use Rattle.word_map.specs.Words.{Ack, Quiet, Want}
 use Rattle.word_map.specs.Ops.{WordOp, Load as LoadOp, Store}
-use Rattle.word_machine.specs.Task.{Moment as MachineMoment, TaskState, is_quiet as machine_quiet, task_op}
+use Rattle.word_machine.specs.Task.{Moment as MachineMoment, TaskState, is_quiet as machine_quiet, quiet_word, task_op}
 use Rattle.word_machine.specs.Task as machine
-use Rattle.word_machine.specs.Cpu.{Cpu, any_has_more, cpu_next, going_op, phase_op as machine_op, present_op}
+use Rattle.word_machine.specs.Cpu.{Cpu, StoringAck, any_has_more, cpu_next, going_op, phase_op as machine_op, present_op}
 use Rattle.word_machine_laws.proofs.Finished.{present-is}
 use Rattle.word_machine_laws.proofs.TaskSteps.{is_polling as polls}
 use Rattle.task_core.specs.declared.moment.Moment.{Moment}
@@ -29,23 +22,22 @@ use Rattle.cpu_core.specs.declared.parts.Parts.{Parts}
 use Rattle.cpu_core.specs.declared.parts.Phase.{Phase}
 use Rattle.cpu_core.specs.declared.parts.Phase.TheVariants as code
 use Rattle.task_core.specs.declared.task.Task.{Task}
-use Rattle.cpu_core.specs.CpuFits.{HasNext, NextAt}
-use Rattle.cpu_core.specs.CpuOps.{cpu_op, is_running, op_by, phase_op, present_task, runs}
-use Rattle.cpu_core.specs.Cpus.{IsFor, IsIn, IsPolling, IsUnderWay, cpu_of, number_or, numbers, phase_in, polling_in, tasks_by, tasks_now}
+use Rattle.cpu_core.specs.CpuFits.{HasNext, IsQuietThere, NextAt}
+use Rattle.cpu_core.specs.CpuOps.{cpu_op, is_running, op_by, phase_op, present_task, runs, told_op}
+use Rattle.cpu_core.specs.Cpus.{IsFor, IsIn, cpu_of, number_or, phase_in, tasks_by}
 use Rattle.task_core.specs.Fits.{IsTaskThere}
-use Rattle.cpu_core.specs.PlainPolls.{lent_words, looked}
-use Rattle.cpu_core.specs.Polled.{view_of, viewed}
 use Rattle.task_core.specs.Setups.{PlainSetup}
 use Rattle.task_core.specs.Starts.{is_left}
 use Rattle.task_core.specs.States.{is_polling, moment_at, moment_of, state_of, users_in}
 use Rattle.task_core.specs.TaskOps.{op_of, top}
 use Rattle.task_core.specs.Tied.{IsTaskOf}
 use Rattle.cpu_core.specs.Turns.{any_left}
+use Rattle.cpu_core.proofs.Changed.{more-left}
 use Rattle.cpu_core.proofs.FitsThere.{task-there}
-use Rattle.cpu_core.proofs.Lookups.{any-more, now-is, state-at, views-are, words-any, words-numbers}
+use Rattle.cpu_core.proofs.Lookups.{state-at, view-is}
+use Rattle.cpu_core.proofs.Untold.{untold-there}
 use Rattle.task_core.proofs.RowMoments.{load-loud, mark-loud}
 use Rattle.task_core.proofs.RowOps.{operation-is}
-use Rattle.cpu_core.proofs.Telling.{ack-same, word-same}
 use Rattle.task_core.proofs.TiedLeft.{act-left}
 
 -- ## a task before a poll
@@ -94,126 +86,103 @@ abbrev running_op : Option Task → Option WordOp
 running_op o = cond (runs o) (op_by o) (Some (LoadOp Want))
 
 module _ (job : Job) (c : Parts) (k : IsFor job c) where
-  pub now-numbers : numbers (tasks_now c) ≡ tasks_of job c.polls.poll.cpu
-  now-numbers = words-numbers c.tasks (lent_words c.polls.poll.view) ∙ k.numbers'
-
   -- a task has an act left where the machine's has
   pub more-is : any_has_more job (cpu_of job c) ≡ any_left c.tasks
-  more-is = any-more job c.polls.poll.cpu (tasks_now c) now-numbers ∙ words-any c.tasks (lent_words c.polls.poll.view)
-
-  -- a poll of the machine's CPU looks at the same
-  pub looked-is : view_of job (cpu_of job c) ≡ looked (tasks_now c)
-  looked-is =
-      rw (any-more job c.polls.poll.cpu (tasks_now c) now-numbers, views-are job c.polls.poll.cpu (tasks_now c) now-numbers k.tasks) refl
+  more-is = more-left job c k.own
 
   -- ## between polls
 
-  module _ (free : c.polls.poll.view ≡ None) where
-    pub task-for : (i : ℕ) (t : Task) → slice_get c.tasks i ≡ Some t → IsTaskOf job t
-    task-for i t e = named-at (IsTaskOf job) c.tasks i t e (subst (λ ts. Each (IsTaskOf job) ts) (now-is c free) k.tasks)
+  pub task-for : (i : ℕ) (t : Task) → slice_get c.tasks i ≡ Some t → IsTaskOf job t
+  task-for i t e = named-at (IsTaskOf job) c.tasks i t e k.own.tasks
 
-    -- the machine's task
-    state-is : (t : Task) → present_task c ≡ Some t → tasks_by job (tasks_now c) t.number.0 ≡ state_of t
-    state-is t e = state-at job c.polls.poll.cpu (tasks_now c) now-numbers c.present t (ap (λ ts. slice_get ts c.present) (now-is c free) ∙ e)
+  -- the machine's task
+  state-is : (i : ℕ) (t : Task) → slice_get c.tasks i ≡ Some t → tasks_by job c.tasks t.number.0 ≡ state_of t
+  state-is i t e = state-at job c.cpu.0 c.tasks k.own.numbers' i t e
 
-    -- the present task, which has an act left
-    present-op-is : (t : Task) → present_task c ≡ Some t
-        → running_op (present_task c) ≡ present_op (cpu_of job c) (tasks_by job (tasks_now c) (cpu_of job c).present).moment
-    present-op-is t e =
-        let me : Cpu = cpu_of job c in
-        let number : me.present ≡ t.number.0 = ap (λ o. number_or (length job.tasks) o) e in
-        let state : me.tasks me.present ≡ state_of t = ap me.tasks number ∙ state-is t e in
-        ap (λ o. running_op o) e
-        ∙ op-at me t (ap (λ (x : TaskState). x.moment) state)
-        (λ other. operation-is job t (task-for c.present t e) other ∙ ap₂ (λ n (x : TaskState). task_op n x x.moment) (sym number) (sym state))
+  -- the present task, which has an act left
+  present-op-is : (t : Task) → present_task c ≡ Some t
+      → running_op (present_task c) ≡ present_op (cpu_of job c) (tasks_by job c.tasks (cpu_of job c).present).moment
+  present-op-is t e =
+      let me : Cpu = cpu_of job c in
+      let number : me.present ≡ t.number.0 = ap (λ o. number_or (length job.tasks) o) e in
+      let state : me.tasks me.present ≡ state_of t = ap me.tasks number ∙ state-is c.present t e in
+      ap (λ o. running_op o) e
+      ∙ op-at me t (ap (λ (x : TaskState). x.moment) state)
+      (λ other. operation-is job t (task-for c.present t e) other ∙ ap₂ (λ n (x : TaskState). task_op n x x.moment) (sym number) (sym state))
 
-    -- no task has an act left
-    last-op : any_left c.tasks ≡ false → running_op (present_task c) ≡ Some (LoadOp Want)
-    last-op none = by (present_task c) refl
-      where
-        by_poll : (t : Task) (b : Bool) → is_polling t.moment ≡ b → present_task c ≡ Some t → cond (not b) (op_of t) (Some (LoadOp Want)) ≡ Some (LoadOp Want)
-        by_poll t true p e = refl
-        by_poll t false p e =
-            let left : is_left t ≡ true = lt-ltb t.acts.gone (length t.acts.all) (act-left job t (task-for c.present t e) p) in
-            false_true (sym none ∙ left-any c.tasks c.present t e left)
+  -- no task has an act left
+  last-op : any_left c.tasks ≡ false → running_op (present_task c) ≡ Some (LoadOp Want)
+  last-op none = by (present_task c) refl
+    where
+      by_poll : (t : Task) (b : Bool) → is_polling t.moment ≡ b → present_task c ≡ Some t → cond (not b) (op_of t) (Some (LoadOp Want)) ≡ Some (LoadOp Want)
+      by_poll t true p e = refl
+      by_poll t false p e =
+          let left : is_left t ≡ true = lt-ltb t.acts.gone (length t.acts.all) (act-left job t (task-for c.present t e) p) in
+          false_true (sym none ∙ left-any c.tasks c.present t e left)
 
-        by : (o : Option Task) → present_task c ≡ o → running_op o ≡ Some (LoadOp Want)
-        by None e = refl
-        by (Some t) e = by_poll t (is_polling t.moment) refl e
+      by : (o : Option Task) → present_task c ≡ o → running_op o ≡ Some (LoadOp Want)
+      by None e = refl
+      by (Some t) e = by_poll t (is_polling t.moment) refl e
 
-    pub going-is : running_op (present_task c) ≡ going_op job (cpu_of job c)
-    going-is = rw more-is (by (any_left c.tasks) refl)
-      where
-        by_task : (o : Option Task) → present_task c ≡ o → IsSomeAnd o (λ t. is_left t ≡ true)
-            → running_op (present_task c) ≡ present_op (cpu_of job c) (tasks_by job (tasks_now c) (cpu_of job c).present).moment
-        by_task None e left = absurd left
-        by_task (Some t) e left = present-op-is t e
+  pub going-is : running_op (present_task c) ≡ going_op job (cpu_of job c)
+  going-is = rw more-is (by (any_left c.tasks) refl)
+    where
+      by_task : (o : Option Task) → present_task c ≡ o → IsSomeAnd o (λ t. is_left t ≡ true)
+          → running_op (present_task c) ≡ present_op (cpu_of job c) (tasks_by job c.tasks (cpu_of job c).present).moment
+      by_task None e left = absurd left
+      by_task (Some t) e left = present-op-is t e
 
-        by : (b : Bool) → any_left c.tasks ≡ b
-            → running_op (present_task c)
-            ≡ cond b (present_op (cpu_of job c) (tasks_by job (tasks_now c) (cpu_of job c).present).moment) (Some (LoadOp Want))
-        by true any = by_task (present_task c) refl (k.present any)
-        by false none = last-op none
+      by : (b : Bool) → any_left c.tasks ≡ b
+          → running_op (present_task c)
+          ≡ cond b (present_op (cpu_of job c) (tasks_by job c.tasks (cpu_of job c).present).moment) (Some (LoadOp Want))
+      by true any = by_task (present_task c) refl (k.present any)
+      by false none = last-op none
 
-    pub running-there : is_running c ≡ true → IsSomeAnd (present_task c) (IsTaskThere c.setup.shape)
-    running-there r = by (present_task c) refl r
-      where
-        by : (o : Option Task) → present_task c ≡ o → runs o ≡ true → IsSomeAnd o (IsTaskThere c.setup.shape)
-        by None e r = false_true r
-        by (Some t) e r = subst (λ (s : PlainSetup). IsTaskThere s.shape t) (sym k.setup) (task-there job t (task-for c.present t e))
+  pub running-there : is_running c ≡ true → IsSomeAnd (present_task c) (IsTaskThere c.setup.shape)
+  running-there r = by (present_task c) refl r
+    where
+      by : (o : Option Task) → present_task c ≡ o → runs o ≡ true → IsSomeAnd o (IsTaskThere c.setup.shape)
+      by None e r = false_true r
+      by (Some t) e r = subst (λ (s : PlainSetup). IsTaskThere s.shape t) (sym k.own.setup) (task-there job t (task-for c.present t e))
 
   -- ## in a poll
 
-  -- what the poll looks at of a task
-  told-is : (i : ℕ) → i < length (tasks_of job c.polls.poll.cpu)
-      → get_or (looked (tasks_now c)).tasks i no_task_view
-      ≡ viewed (get_or (tasks_of job c.polls.poll.cpu) i 0) (tasks_by job (tasks_now c) (get_or (tasks_of job c.polls.poll.cpu) i 0))
-  told-is i lt =
-      ap (λ (w : PlainView). get_or w.tasks i no_task_view) (sym looked-is)
-      ∙ get_or-map (λ t. viewed t (tasks_by job (tasks_now c) t)) (tasks_of job c.polls.poll.cpu) i 0 no_task_view lt
+  acking-is : (r : ℕ) → phase_op c (code.StoringAck r) ≡ machine_op job (cpu_of job c) (StoringAck r)
+  acking-is r = ap (λ b. Some (Store (Ack c.cpu.0) (acknowledged b r))) (sym more-is)
 
-  -- the task whose word is to change is one of the CPU's
-  pub within : (r i : ℕ) → untold r (looked (tasks_now c)).tasks ≡ Some i → i < length (tasks_of job c.polls.poll.cpu)
-  within r i e =
-      let tasks : List ℕ = tasks_of job c.polls.poll.cpu in
-      let sizes : length (looked (tasks_now c)).tasks ≡ length tasks = ap (λ (w : PlainView). length w.tasks) (sym looked-is) ∙ length-map tasks _ in
-      let lt = (position-Some _ (looked (tasks_now c)).tasks i no_task_view e).0 in
-      omega (arith, lt, sizes)
+  -- the word of a task
+  module _ (r i : ℕ) (t : Task) (e : slice_get c.tasks i ≡ Some t) where
+    telling-is : phase_op c (code.StoringQuiet r i) ≡ machine_op job (cpu_of job c) (phase_in c.tasks (code.StoringQuiet r i))
+    telling-is =
+        ap (λ o. told_op r o) e
+        ∙ ap (λ v. Some (Store (Quiet t.number.0) (told_word r v))) (sym (view-is t))
+        ∙ ap (λ (x : TaskState). Some (Store (Quiet t.number.0) (quiet_word r x))) (sym (state-is i t e))
+        ∙ ap (λ n. Some (Store (Quiet n) (quiet_word r (tasks_by job c.tasks n)))) (ap (λ o. number_or 0 o) (sym e))
 
-  poll-is : (view : PlainView) (phase : PollPhase) → view ≡ looked (tasks_now c) → IsUnderWay view.tasks phase
-      → poll_op (record c.polls.poll { view = Some view }) phase ≡ machine_op job (cpu_of job c) (polling_in job c.polls.poll.cpu phase)
-  poll-is view Asking e way = absurd way
-  poll-is view (Acking r) e way =
-      ap (λ v. Some (Store (Ack c.polls.poll.cpu) v)) (ap (λ w. acknowledged w r) (e ∙ sym looked-is) ∙ ack-same job (cpu_of job c) r)
-  poll-is view (Telling r i) e way =
-      let t : ℕ = get_or (tasks_of job c.polls.poll.cpu) i 0 in
-      let x : TaskState = tasks_by job (tasks_now c) t in
-      let found : get_or view.tasks i no_task_view ≡ viewed t x =
-      ap (λ (w : PlainView). get_or w.tasks i no_task_view) e
-      ∙ told-is i (within r i (ap (λ (w : PlainView). untold r w.tasks) (sym e) ∙ way)) in
-      ap (λ (v : TaskView). Some (Store (Quiet v.task.0) (told_word r v))) found ∙ ap (λ w. Some (Store (Quiet t) w)) (word-same r t x)
-  poll-is view Ended e way = absurd way
-
-  pub polling-is : IsPolling c → poll_op c.polls.poll c.polls.poll.phase ≡ machine_op job (cpu_of job c) (polling_in job c.polls.poll.cpu c.polls.poll.phase)
-  polling-is p =
-      ap (λ view. let q : Poll = record c.polls.poll { view = view } in poll_op q c.polls.poll.phase) p.view
-      ∙ poll-is (looked (tasks_now c)) c.polls.poll.phase refl (subst (λ v. IsUnderWay (lent_words v) c.polls.poll.phase) p.view p.way)
+    telling-there : IsQuietThere c i
+    telling-there = record {
+      within = slice_get_within c.tasks i t e;
+      number = subst (λ o. IsSomeAnd o (λ (x : Task). x.number.0 < c.setup.shape.tasks)) (sym e)
+          (subst (λ (s : PlainSetup). t.number.0 < s.shape.tasks) (sym k.own.setup) (task-for i t e).number);
+    }
 
   -- ## in any phase
 
-  op-in : (phase : Phase) → IsIn c phase → phase_op c phase ≡ machine_op job (cpu_of job c) (phase_in job c phase)
-  op-in code.Going g = going-is g.free
-  op-in code.Polling p = polling-is p
-  op-in code.Over o = refl
+  op-in : (phase : Phase) → IsIn c phase → phase_op c phase ≡ machine_op job (cpu_of job c) (phase_in c.tasks phase)
+  op-in code.Going h = going-is
+  op-in (code.StoringAck r) h = acking-is r
+  op-in (code.StoringQuiet r i) h = (let t = untold-there r c.tasks i h.1 in telling-is r i t.0 t.1)
+  op-in code.Over h = refl
 
   pub cpu-op-is : cpu_op c ≡ cpu_next job (cpu_of job c)
   unfolding cpu_next
   cpu-op-is = op-in c.phase k.phase'
 
   there-in : (phase : Phase) → IsIn c phase → NextAt c phase
-  there-in code.Going g = running-there g.free
-  there-in code.Polling p = k.shape ∙ ap (λ (s : PlainSetup). s.shape) (sym k.setup)
-  there-in code.Over o = tt
+  there-in code.Going h = running-there
+  there-in (code.StoringAck r) h = subst (λ (s : PlainSetup). c.cpu.0 < s.shape.cpus) (sym k.own.setup) k.own.cpu
+  there-in (code.StoringQuiet r i) h = (let t = untold-there r c.tasks i h.1 in telling-there r i t.0 t.1)
+  there-in code.Over h = tt
 
   pub cpu-op-there : HasNext c
   cpu-op-there = there-in c.phase k.phase'

@@ -5,11 +5,11 @@ use Rattle.std.proofs.lemmas.Bool.{eqb-true, false≢true}
 use Rattle.ft_base.specs.declared.context.Ctx.{Ctx}
 use Rattle.ft_base.specs.declared.context.Ctx.TheVariants.{Normal, Softirq, Irq, Nmi}
 use Rattle.ft_base.specs.declared.limits.TheConstants.{ITEMS, QUANTUM}
+use Rattle.ft_base.specs.declared.number.CpuNo.{CpuNo}
 use Rattle.ft_base.specs.Job.{Job, Task as DeclaredTask, no_task}
 use Rattle.ft_base.specs.Versions.{levels}
 use Rattle.ft_base.specs.WellFormed.{IsScript}
 use Rattle.ft_base.specs.Acts.{AreRaised}
-use Rattle.grace_core.specs.Polls.{poll_start}
 use Rattle.plain_machine.specs.State.{tasks_from, tasks_of}
 use Rattle.recursion_guard.specs.Guards.{held_in, unheld}
 use Rattle.user_specs.specs.declared.plan.CpuPlan.{CpuPlan}
@@ -17,7 +17,6 @@ use Rattle.user_specs.specs.declared.plan.TaskPlan.{TaskPlan}
 use Rattle.user_specs.specs.declared.spec.Spec.{Spec as CodeSpec}
 use Rattle.user_specs.specs.Plain.{spec_of}
 use Rattle.word_map.specs.declared.shape.Shape.{Shape}
-use Rattle.word_map.specs.Shapes.{shape_of}
 use Rattle.word_machine.specs.Cpu.{cpu_start, first_of, has_more}
 use Rattle.word_machine.specs.Cpu as machine
 use Rattle.word_machine.specs.Limits.{IsLimited}
@@ -37,8 +36,8 @@ use Rattle.task_core.specs.States.{is_polling, state_of}
 use Rattle.task_core.specs.Steady.{IsSteady}
 use Rattle.cpu_core.specs.Taken.{IsCpuOf}
 use Rattle.task_core.specs.Tied.{IsTaskOf}
-use Rattle.cpu_core.specs.Turns.{AreStarted, first_left, with_words}
-use Rattle.cpu_core.proofs.Lookups.{first-is, words-none}
+use Rattle.cpu_core.specs.Turns.{AreStarted, first_left}
+use Rattle.cpu_core.proofs.Lookups.{first-is}
 use Rattle.task_core.proofs.SteadyActs.{steady-start}
 use Rattle.cpu_core.proofs.Turns.{first-turn}
 
@@ -161,13 +160,14 @@ module _ (job : Job) (limited : IsLimited job) where
 
   -- ## the CPU
 
-  module _ (cpu : ℕ) (ts : List Task) (room : ℕ) (inside : cpu < length job.quanta) (quick : get_or job.quanta cpu 1 ≤ QUANTUM)
-      (h : Each (HasBegun job) ts) (is : numbers ts ≡ tasks_of job cpu) where
+  module _ (cpu : CpuNo) (ts : List Task) (room : ℕ) (inside : cpu.0 < length job.quanta) (quick : get_or job.quanta cpu.0 1 ≤ QUANTUM)
+      (h : Each (HasBegun job) ts) (is : numbers ts ≡ tasks_of job cpu.0) where
     abbrev pub first-cpu : Parts
     first-cpu = record {
       setup = setup_in job;
-      polls = record { poll = poll_start (shape_of job) cpu; size = length ts };
-      quantum = get_or job.quanta cpu 1;
+      cpu = cpu;
+      ack = 0;
+      quantum = get_or job.quanta cpu.0 1;
       tasks = ts;
       present = first_left ts;
       count = 0;
@@ -177,38 +177,35 @@ module _ (job : Job) (limited : IsLimited job) where
 
     pub first-for : IsFor job first-cpu
     first-for = record {
-      setup = refl;
-      shape = refl;
-      cpu = inside;
-      quantum = refl;
-      quick = quick;
-      size = refl;
-      numbers' = is;
-      tasks = subst (Each (IsTaskOf job)) (sym (words-none ts)) (each-of ts h);
-      calls = each-next (0 + (ITEMS - ITEMS)) ts h;
-      left = omega arith;
-      items = omega arith;
+      own = record {
+        setup = refl;
+        cpu = inside;
+        quantum = refl;
+        quick = quick;
+        numbers' = is;
+        tasks = each-of ts h;
+        calls = each-next (0 + (ITEMS - ITEMS)) ts h;
+        left = omega arith;
+        items = omega arith;
+      };
       present = λ any. subst (λ o. IsSomeAnd o (λ t. is_left t ≡ true)) (sym (first-turn ts)) (found is_left ts any);
-      phase' = record { free = refl; count = omega arith };
+      phase' = omega arith;
     }
 
     all-start : tasks_by job ts ≡ task_start job
     all-start = λ i n. start-by ts n h i
 
-    now-start : tasks_by job (with_words ts []) ≡ task_start job
-    now-start = ap (tasks_by job) (words-none ts) ∙ all-start
-
-    present-start : number_or (length job.tasks) (slice_get ts (first_left ts)) ≡ first_of (λ t. has_more (task_start job) t) (length job.tasks) (tasks_of job cpu)
+    present-start : number_or (length job.tasks) (slice_get ts (first_left ts)) ≡ first_of (λ t. has_more (task_start job) t) (length job.tasks) (tasks_of job cpu.0)
     present-start =
-        sym (first-is job cpu ts is)
-        ∙ ap (λ (tasks : ℕ → TaskState). first_of (λ t. has_more tasks t) (length job.tasks) (tasks_of job cpu)) all-start
+        sym (first-is job cpu.0 ts is)
+        ∙ ap (λ (tasks : ℕ → TaskState). first_of (λ t. has_more tasks t) (length job.tasks) (tasks_of job cpu.0)) all-start
 
-    pub first-start : cpu_of job first-cpu ≡ cpu_start job cpu
-    first-start = λ i. record { number = cpu; present = present-start i; count = 0; ack = 0; tasks = now-start i; phase = machine.Going }
+    pub first-start : cpu_of job first-cpu ≡ cpu_start job cpu.0
+    first-start = λ i. record { number = cpu.0; present = present-start i; count = 0; ack = 0; tasks = all-start i; phase = machine.Going }
 
     -- a CPU that has the same parts
-    pub start-same : (c : Parts) → first-cpu ≡ c → IsFor job c × (cpu_of job c ≡ cpu_start job cpu)
-    start-same c e = subst (λ x. IsFor job x × (cpu_of job x ≡ cpu_start job cpu)) e (first-for, first-start)
+    pub start-same : (c : Parts) → first-cpu ≡ c → IsFor job c × (cpu_of job c ≡ cpu_start job cpu.0)
+    start-same c e = subst (λ x. IsFor job x × (cpu_of job x ≡ cpu_start job cpu.0)) e (first-for, first-start)
 
 -- ## what `Cpu::new` has made
 
@@ -220,32 +217,29 @@ none-runs frames levels (p ∷ ps) [] i started = absurd started
 none-runs frames levels (p ∷ ps) (t ∷ ts) zero started = ap (λ (x : Task). not (is_polling x.moment)) started.0.start
 none-runs frames levels (p ∷ ps) (t ∷ ts) (suc i) started = none-runs frames levels ps ts i started.1
 
-module _ (plan : CpuPlan) (cpu : ℕ) (specs : List CodeSpec) (frames guard_levels : ℕ) (shape : Shape) (room : ℕ) (c : Parts)
-    (setup : c.setup ≡ record { shape = shape; users = map spec_of specs; frames = frames })
-    (polls : c.polls ≡ record { poll = poll_start shape cpu; size = length c.tasks })
+module _ (plan : CpuPlan) (cpu : CpuNo) (specs : List CodeSpec) (frames guard_levels : ℕ) (shape : Shape) (room : ℕ) (c : Parts)
+    (setup : c.setup ≡ record { shape = shape; users = map spec_of specs; frames = frames }) (number : c.cpu ≡ cpu) (ack : c.ack ≡ 0)
     (quantum : c.quantum ≡ plan.quantum) (started : AreStarted frames guard_levels plan.tasks.items c.tasks) (present : c.present ≡ first_left c.tasks)
     (count : c.count ≡ 0) (phase : c.phase ≡ Going) (marked : c.marked ≡ no_marks room) where
   pub start-next : HasNext c
   start-next = subst (λ p. NextAt c p) (sym phase)
       (λ running. absurd (false≢true (sym (none-runs frames guard_levels plan.tasks.items c.tasks c.present started) ∙ running)))
 
-  module _ (job : Job) (limited : IsLimited job) (is : IsCpuOf job plan cpu specs frames guard_levels shape) where
+  module _ (job : Job) (limited : IsLimited job) (is : IsCpuOf job plan cpu.0 specs frames guard_levels shape) where
     begun-all : Each (HasBegun job) c.tasks × (numbers c.tasks ≡ map (λ (p : TaskPlan). p.task.0) plan.tasks.items)
     begun-all = begun job limited plan.tasks.items c.tasks (subst (λ (n : ℕ × ℕ). AreStarted n.0 n.1 plan.tasks.items c.tasks) (λ i. (is.frames' i, is.levels' i)) started) is.acts
-        (subst (λ ns. Each (λ n. n < length job.tasks) ns) (sym is.numbers) (own-inside job cpu))
+        (subst (λ ns. Each (λ n. n < length job.tasks) ns) (sym is.numbers) (own-inside job cpu.0))
 
     same-setup : setup_in job ≡ c.setup
     same-setup = sym (setup ∙ λ i. record { shape = is.shape' i; users = is.users i; frames = is.frames' i })
 
-    same-polls : record { poll = poll_start (shape_of job) cpu; size = length c.tasks } ≡ c.polls
-    same-polls = sym (polls ∙ ap (λ (s : Shape). record { poll = poll_start s cpu; size = length c.tasks }) is.shape')
-
-    pub start-is : cpu < shape.cpus → plan.quantum ≤ QUANTUM → IsFor job c × (cpu_of job c ≡ cpu_start job cpu)
+    pub start-is : cpu.0 < shape.cpus → plan.quantum ≤ QUANTUM → IsFor job c × (cpu_of job c ≡ cpu_start job cpu.0)
     start-is inside quick =
-        start-same job limited cpu c.tasks room (subst (λ (s : Shape). cpu < s.cpus) is.shape' inside) (subst (λ n. n ≤ QUANTUM) is.quantum quick)
+        start-same job limited cpu c.tasks room (subst (λ (s : Shape). cpu.0 < s.cpus) is.shape' inside) (subst (λ n. n ≤ QUANTUM) is.quantum quick)
         begun-all.0 (begun-all.1 ∙ is.numbers) c (λ i. record {
           setup = same-setup i;
-          polls = same-polls i;
+          cpu = sym number i;
+          ack = sym ack i;
           quantum = sym (quantum ∙ is.quantum) i;
           tasks = c.tasks;
           present = sym present i;

@@ -1,17 +1,13 @@
 -- What is so of a CPU of a job that is at its tasks, and that its steps since the last switch are counted.
-use Rattle.std.proofs.Common.{cond, ◌≡◌, ℕ, suc, ◌+◌, ◌<◌, ◌≤◌, ◌^◌, Bool, true, false, ◌==◌, List, [], ◌∷◌, length, Some, None, lt-ltb, refl, sym, ap, subst, ◌∙◌, arith}
+use Rattle.std.proofs.Common.{cond, ◌≡◌, ℕ, suc, ◌+◌, ◌<◌, ◌≤◌, ◌^◌, Bool, true, false, ◌==◌, List, [], ◌∷◌, length, Some, None, lt-ltb, refl, ap, subst, arith}
 use Rattle.std.specs.Prelude.{Option, IsSome, IsSomeAnd}
 use Rattle.std.proofs.lemmas.Bool.{not-false, not-true}
 use Rattle.std.proofs.lemmas.List.{length-map}
-use Rattle.std.proofs.lemmas.List.Quantifiers.{position-Some}
+use Rattle.std.proofs.lemmas.Option.{slice_get_within}
 use Rattle.ft_base.specs.declared.limits.TheConstants.{TASKS}
 use Rattle.ft_base.specs.Job.{Job, Task as JobTask}
 use Rattle.ft_base.proofs.Small.{false_true}
 use Rattle.plain_machine.specs.State.{tasks_from}
-use Rattle.grace_core.specs.declared.poller.PollPhase.{PollPhase}
-use Rattle.grace_core.specs.declared.poller.PollPhase.TheVariants.{Asking, Acking, Telling, Ended}
-use Rattle.grace_core.specs.declared.view.TaskView.{TaskView}
-use Rattle.grace_core.specs.Polls.{no_task_view}
 use Rattle.word_machine.specs.Cpu.{cpu_next, phase_op}
 use Rattle.word_machine.specs.Limits.{IsLimited}
 use Rattle.cpu_core.specs.declared.parts.Parts.{Parts}
@@ -21,16 +17,15 @@ use Rattle.task_core.specs.declared.moment.Moment.{Moment}
 use Rattle.task_core.specs.declared.moment.Moment.TheVariants.{Polling}
 use Rattle.task_core.specs.declared.task.Task.{Task}
 use Rattle.cpu_core.specs.CpuOps.{is_running, present_task, runs}
-use Rattle.cpu_core.specs.Cpus.{IsBeforePoll, IsFor, IsGoing, IsIn, IsPolling, IsUnderWay, cpu_of, fetch_step, phase_in, poll_steps, tasks_now}
+use Rattle.cpu_core.specs.Cpus.{IsFor, IsIn, cpu_of, fetch_step, phase_in}
 use Rattle.task_core.specs.Leads.{is_fetching}
-use Rattle.cpu_core.specs.PlainPolls.{lent_words}
-use Rattle.task_core.specs.Starts.{is_left, view_of}
+use Rattle.task_core.specs.Starts.{is_left}
 use Rattle.task_core.specs.States.{is_polling}
 use Rattle.task_core.specs.Tied.{IsTaskOf}
 use Rattle.cpu_core.specs.Turns.{any_left}
 use Rattle.cpu_core.proofs.CpuNext.{left-any, task-for}
-use Rattle.cpu_core.proofs.Lookups.{words-length}
 use Rattle.task_core.proofs.TiedLeft.{act-left}
+use Rattle.cpu_core.proofs.Untold.{untold-there}
 
 -- ## the present task
 
@@ -49,7 +44,7 @@ before-poll Polling e = refl
 before-poll _ e = false_true e
 
 -- a task that has an act is before a poll if it doesn't make the next operation
-waiting-at : (o : Option Task) → runs o ≡ false → IsSomeAnd o (λ t. is_left t ≡ true) → IsBeforePoll o
+waiting-at : (o : Option Task) → runs o ≡ false → IsSomeAnd o (λ t. is_left t ≡ true) → IsSomeAnd o (λ t. t.moment ≡ Polling)
 waiting-at None r has = absurd has
 waiting-at (Some t) r has = before-poll t.moment (not-false (is_polling t.moment) r)
 
@@ -57,29 +52,21 @@ waiting-at (Some t) r has = before-poll t.moment (not-false (is_polling t.moment
 pub running-left : (job : Job) (t : Task) → IsTaskOf job t → is_polling t.moment ≡ false → is_left t ≡ true
 running-left job t k other = lt-ltb t.acts.gone (length t.acts.all) (act-left job t k other)
 
--- and one that has none is before a poll
-pub idle-polls : (job : Job) (t : Task) → IsTaskOf job t → is_left t ≡ false → t.moment ≡ Polling
-idle-polls job t k idle = by (is_polling t.moment) refl
-  where
-    by : (b : Bool) → is_polling t.moment ≡ b → t.moment ≡ Polling
-    by true e = before-poll t.moment e
-    by false e = false_true (sym idle ∙ running-left job t k e)
-
 -- ## a CPU at its tasks
 
 module _ (job : Job) (c : Parts) (k : IsFor job c) (going : c.phase ≡ code.Going) where
-  pub is-going : IsGoing c
-  is-going = subst (λ p. IsIn c p) going k.phase'
+  pub going-count : c.count ≤ c.quantum + fetch_step (present_task c)
+  going-count = subst (λ p. IsIn c p) going k.phase'
 
   -- the task that makes the next operation has an act left
   pub running-any : is_running c ≡ true → any_left c.tasks ≡ true
   running-any r =
       let there = running (present_task c) r in
-      let of : IsTaskOf job there.task = task-for job c k is-going.free c.present there.task there.is in
+      let of : IsTaskOf job there.task = task-for job c k c.present there.task there.is in
       left-any c.tasks c.present there.task there.is (running-left job there.task of there.other)
 
   -- where it doesn't run, the present task is before a poll, if it is to have one
-  pub waiting : is_running c ≡ false → any_left c.tasks ≡ true → IsBeforePoll (present_task c)
+  pub waiting : is_running c ≡ false → any_left c.tasks ≡ true → IsSomeAnd (present_task c) (λ t. t.moment ≡ Polling)
   waiting r any = waiting-at (present_task c) r (k.present any)
 
 -- ## the steps since the last switch
@@ -91,12 +78,6 @@ fetch-step (Some t) = by (is_fetching t.moment)
     by : (b : Bool) → cond b 1 0 ≤ 1
     by true = omega arith
     by false = omega arith
-
-poll-steps : (views : List TaskView) (p : PollPhase) → IsUnderWay views p → poll_steps p ≤ 2 + length views
-poll-steps views Asking way = absurd way
-poll-steps views (Acking r) way = omega arith
-poll-steps views (Telling r i) way = (let lt = (position-Some _ views i no_task_view way).0 in omega arith)
-poll-steps views Ended way = absurd way
 
 -- a CPU has no more tasks than the job
 few-tasks : (c n : ℕ) (ts : List JobTask) → length (tasks_from c n ts) ≤ length ts
@@ -113,15 +94,13 @@ unfolding cpu_next
 count-fits job c limited k next = by c.phase k.phase' next
   where
     few : length c.tasks ≤ TASKS
-    few = omega (arith, length-map c.tasks (λ t. t.number.0), ap length k.numbers', few-tasks c.polls.poll.cpu 0 job.tasks, limited.counts.few_tasks)
+    few = omega (arith, length-map c.tasks (λ t. t.number.0), ap length k.own.numbers', few-tasks c.cpu.0 0 job.tasks, limited.counts.few_tasks)
 
-    viewed : IsPolling c → length (lent_words c.polls.poll.view) ≡ length c.tasks
-    viewed is =
-        ap (λ w. length (lent_words w)) is.view
-        ∙ length-map (tasks_now c) view_of
-        ∙ words-length c.tasks (lent_words c.polls.poll.view)
-
-    by : (p : Phase) → IsIn c p → IsSome (phase_op job (cpu_of job c) (phase_in job c p)) → suc c.count < 2 ^ 32
-    by code.Going is some = omega (arith, is.count, fetch-step (present_task c), k.quick)
-    by code.Polling is some = omega (arith, is.count, poll-steps (lent_words c.polls.poll.view) c.polls.poll.phase is.way, viewed is, few, k.quick)
+    by : (p : Phase) → IsIn c p → IsSome (phase_op job (cpu_of job c) (phase_in c.tasks p)) → suc c.count < 2 ^ 32
+    by code.Going is some = omega (arith, is, fetch-step (present_task c), k.own.quick)
+    by (code.StoringAck r) is some = omega (arith, is.count, k.own.quick)
+    by (code.StoringQuiet r i) is some =
+        let t = untold-there r c.tasks i is.1 in
+        let lt : i < length c.tasks = slice_get_within c.tasks i t.0 t.1 in
+        omega (arith, is.0.count, lt, few, k.own.quick)
     by code.Over is some = false_true some

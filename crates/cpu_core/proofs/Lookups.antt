@@ -1,34 +1,30 @@
 -- The tasks of a CPU of code, looked up as the machine does it.
-use Rattle.std.proofs.Common.{◌≡◌, ℕ, zero, suc, ◌+◌, ◌<◌, ◌≤◌, Bool, true, nat_le, nat_lt, List, [], ◌∷◌, ◌++◌, drop, filter, find, length, map, set, slice_get, Option, Some, None, IsSome, IsSomeAnd, option_map, refl, sym, ap, ◌∙◌, subst, arith, inl, inr}
+use Rattle.std.proofs.Common.{cond, ◌≡◌, ℕ, zero, suc, ◌+◌, Bool, true, false, not, nat_le, nat_lt, List, [], ◌∷◌, ◌++◌, drop, filter, find, length, set, slice_get, Option, Some, None, IsSome, IsSomeAnd, option_map, refl, sym, ap, ◌∙◌, subst, arith, inl, inr}
 use Rattle.std.specs.List.{list_any, AllByRecursion as Each}
 use Rattle.std.specs.Option.{option_or}
 use Rattle.std.proofs.lemmas.Bool.{cases_eq, lt-ltb}
 use Rattle.std.proofs.lemmas.Bool.Decides.{nat_tests}
 use Rattle.std.proofs.lemmas.List.{drop-map}
-use Rattle.std.proofs.lemmas.Option.{none-some, same_Some, slice_get-map}
+use Rattle.std.proofs.lemmas.Option.{none-some, slice_get-map}
 use Rattle.ft_base.specs.declared.task.TaskAct.{TaskAct}
 use Rattle.ft_base.specs.Job.{Job}
-use Rattle.grace_core.specs.declared.view.TaskView.{TaskView}
+use Rattle.grace_core.specs.Views.{has_told}
 use Rattle.plain_machine.specs.State.{has_acts, tasks_of}
 use Rattle.return_stack.specs.Calls.{top_users}
 use Rattle.word_map.specs.Words.{at_put}
-use Rattle.word_machine.specs.Task.{TaskState, task_start}
-use Rattle.word_machine.specs.Cpu.{first_of, has_more}
+use Rattle.word_machine.specs.Task.{TaskState, task_start, viewed}
+use Rattle.word_machine.specs.Cpu.{first_of, has_more, quiet_next}
 use Rattle.word_machine.proofs.Small.{put_other, put_same}
-use Rattle.cpu_core.specs.declared.parts.Parts.{Parts}
 use Rattle.task_core.specs.declared.task.Task.{Task}
-use Rattle.cpu_core.specs.Cpus.{number_or, numbered, numbers, state_or, tasks_by, tasks_now}
-use Rattle.cpu_core.specs.PlainPolls.{lent_words}
-use Rattle.cpu_core.specs.Polled.{viewed}
+use Rattle.cpu_core.specs.Cpus.{number_or, numbered, numbers, state_or, tasks_by}
 use Rattle.task_core.specs.Starts.{is_left, view_of}
 use Rattle.task_core.specs.States.{state_of, users_in}
 use Rattle.task_core.specs.TaskOps.{top}
-use Rattle.task_core.specs.Tied.{IsTaskOf}
-use Rattle.cpu_core.specs.Turns.{any_left, first_left, next_left, with_words}
-use Rattle.cpu_core.proofs.Numbers.{Agrees, Rises, any-numbers, map-numbers, numbered-at, numbered-set, numbers-set, tasks-rise}
-use Rattle.cpu_core.proofs.Telling.{more-below}
+use Rattle.cpu_core.specs.Turns.{any_left, first_left, is_untold, next_left}
+use Rattle.cpu_core.proofs.Numbers.{Agrees, Rises, any-numbers, numbered-at, numbered-set, numbers-set, tasks-rise}
+use Rattle.cpu_core.proofs.Places.{first-case, more-below}
 use Rattle.task_core.proofs.TiedLeft.{quiet-is}
-use Rattle.cpu_core.proofs.Turns.{after-place, drop-get, first-append, first-below, first-case, first-number, first-turn, next-turn, turn-left, turn-there}
+use Rattle.cpu_core.proofs.Turns.{after-place, drop-get, first-append, first-below, first-number, first-turn, next-turn, turn-left, turn-there}
 
 -- ## acts that are left
 
@@ -53,9 +49,25 @@ each-set P [] i y k p = tt
 each-set P (x ∷ xs) zero y k p = (p, k.1)
 each-set P (x ∷ xs) (suc i) y k p = (k.0, each-set P xs i y k.1 p)
 
-option-same : {A : Type 0} (o : Option A) → option_map (λ x. x) o ≡ o
-option-same None = refl
-option-same (Some x) = refl
+-- ## what a poll looks at
+
+pub view-is : (t : Task) → viewed (state_of t) ≡ view_of t
+view-is t = rw (quiet-is (top t) (users_in (top_users t.stacks.calls)) t.moment, left-is t) refl
+
+-- the first of these tasks whose word is to change, by its number
+untold-number : (tasks : ℕ → TaskState) (r : ℕ) (ts : List Task)
+    → Agrees (λ n. has_told r (viewed (tasks n))) (λ t. has_told r (view_of t)) ts
+    → quiet_next tasks r (numbers ts) ≡ option_map (λ (t : Task). t.number.0) (find (is_untold r) ts)
+untold-number tasks r [] same = refl
+untold-number tasks r (t ∷ ts) same =
+    ap (λ b. cond b (quiet_next tasks r (numbers ts)) (Some t.number.0)) (same 0 t refl)
+    ∙ by (has_told r (view_of t)) (untold-number tasks r ts (λ i u e. same (suc i) u e))
+  where
+    by : (b : Bool) → quiet_next tasks r (numbers ts) ≡ option_map (λ (u : Task). u.number.0) (find (is_untold r) ts)
+        → cond b (quiet_next tasks r (numbers ts)) (Some t.number.0)
+        ≡ option_map (λ (u : Task). u.number.0) (cond (not b) (Some t) (find (is_untold r) ts))
+    by true more = more
+    by false more = refl
 
 -- ## tasks by number
 
@@ -78,6 +90,13 @@ module _ (job : Job) (n : ℕ) (ts : List Task) (is : numbers ts ≡ tasks_of jo
   -- a task has an act left
   pub any-more : list_any (λ t. has_more (tasks_by job ts) t) (tasks_of job n) ≡ any_left ts
   any-more = rw (← is) (any-numbers (λ t. has_more (tasks_by job ts) t) is_left ts more-at)
+
+  -- the first task whose word is to change
+  pub untold-is : (r : ℕ) → quiet_next (tasks_by job ts) r (tasks_of job n) ≡ option_map (λ (t : Task). t.number.0) (find (is_untold r) ts)
+  untold-is r =
+      rw (← is)
+      (untold-number (tasks_by job ts) r ts
+      (λ i t e. ap (λ (x : TaskState). has_told r (viewed x)) (state-at i t e) ∙ ap (λ v. has_told r v) (view-is t)))
 
   -- ## turns
 
@@ -144,70 +163,6 @@ module _ (job : Job) (n : ℕ) (ts : List Task) (is : numbers ts ≡ tasks_of jo
       → at_put (tasks_by job ts) t.number.0 (state_of u) ≡ tasks_by job (set ts i u)
   put-is i t u at same = λ j k. put-at i t u at same k j
 
--- ## words of a poll
-
--- a task with the word that a poll has stored or found, if it has
-abbrev pub worded : Option TaskView → Task → Task
-worded None t = t
-worded (Some v) t = record t { word = v.word }
-
--- no words
-pub words-none : (ts : List Task) → with_words ts [] ≡ ts
-words-none [] = refl
-words-none (t ∷ ts) = refl
-
--- no poll is under way
-pub now-is : (c : Parts) → c.polls.poll.view ≡ None → tasks_now c ≡ c.tasks
-now-is c free = ap (λ view. with_words c.tasks (lent_words view)) free ∙ words-none c.tasks
-
--- the tasks' own words
-pub words-own : (ts : List Task) → with_words ts (map view_of ts) ≡ ts
-words-own [] = refl
-words-own (t ∷ ts) = ap (λ (us : List Task). t ∷ us) (words-own ts)
-
--- words change neither acts, numbers nor places
-pub words-any : (ts : List Task) (vs : List TaskView) → any_left (with_words ts vs) ≡ any_left ts
-words-any [] vs = refl
-words-any (t ∷ ts) [] = refl
-words-any (t ∷ ts) (v ∷ vs) = rw (words-any ts vs) refl
-
-pub words-numbers : (ts : List Task) (vs : List TaskView) → numbers (with_words ts vs) ≡ numbers ts
-words-numbers [] vs = refl
-words-numbers (t ∷ ts) [] = refl
-words-numbers (t ∷ ts) (v ∷ vs) = ap (λ (ns : List ℕ). t.number.0 ∷ ns) (words-numbers ts vs)
-
-pub words-length : (ts : List Task) (vs : List TaskView) → length (with_words ts vs) ≡ length ts
-words-length [] vs = refl
-words-length (t ∷ ts) [] = refl
-words-length (t ∷ ts) (v ∷ vs) = ap (λ n. suc n) (words-length ts vs)
-
-pub words-get : (ts : List Task) (vs : List TaskView) (i : ℕ) → slice_get (with_words ts vs) i ≡ option_map (worded (slice_get vs i)) (slice_get ts i)
-words-get [] vs i = refl
-words-get (t ∷ ts) [] i = sym (option-same (slice_get (t ∷ ts) i))
-words-get (t ∷ ts) (v ∷ vs) zero = refl
-words-get (t ∷ ts) (v ∷ vs) (suc i) = words-get ts vs i
-
--- a task's word is stored
-pub words-set : (ts : List Task) (vs : List TaskView) (i : ℕ) (t : Task) (v : TaskView) → slice_get ts i ≡ Some t → i < length vs
-    → with_words ts (set vs i v) ≡ set (with_words ts vs) i (worded (Some v) t)
-words-set [] vs i t v e lt = absurd (none-some t e)
-words-set (x ∷ ts) [] i t v e lt = absurd (omega (arith, lt))
-words-set (x ∷ ts) (w ∷ vs) zero t v e lt = ap (λ (y : Task). worded (Some v) y ∷ with_words ts vs) (same_Some x t e)
-words-set (x ∷ ts) (w ∷ vs) (suc i) t v e lt = ap (λ (us : List Task). worded (Some w) x ∷ us) (words-set ts vs i t v e (omega (arith, lt)))
-
--- later words are put in the place of the earlier ones
-pub words-over : (ts : List Task) (vs ws : List TaskView) → length vs ≤ length ws → with_words (with_words ts vs) ws ≡ with_words ts ws
-words-over [] vs ws le = refl
-words-over (t ∷ ts) [] ws le = refl
-words-over (t ∷ ts) (v ∷ vs) [] le = absurd (omega (arith, le))
-words-over (t ∷ ts) (v ∷ vs) (w ∷ ws) le = ap (λ (us : List Task). worded (Some w) t ∷ us) (words-over ts vs ws (omega (arith, le)))
-
--- what the tasks with these words show has these words
-pub words-again : (ts : List Task) (vs : List TaskView) → with_words ts (map view_of (with_words ts vs)) ≡ with_words ts vs
-words-again [] vs = refl
-words-again (t ∷ ts) [] = words-own (t ∷ ts)
-words-again (t ∷ ts) (v ∷ vs) = ap (λ (us : List Task). worded (Some v) t ∷ us) (words-again ts vs)
-
 -- ## the next turn
 
 -- it is there
@@ -217,14 +172,3 @@ next-there ts i t e = rw (next-turn ts i) (turn-there ts i t e)
 -- it has an act left, if one of the tasks has
 pub next-left : (ts : List Task) (i : ℕ) → any_left ts ≡ true → IsSomeAnd (slice_get ts (next_left ts i)) (λ u. is_left u ≡ true)
 next-left ts i any = rw (next-turn ts i) (turn-left ts i any)
-
--- ## what a poll looks at
-
-pub view-is : (t : Task) → viewed t.number.0 (state_of t) ≡ view_of t
-view-is t = rw (quiet-is (top t) (users_in (top_users t.stacks.calls)) t.moment, left-is t) refl
-
-pub views-are : (job : Job) (n : ℕ) (ts : List Task) → numbers ts ≡ tasks_of job n → Each (IsTaskOf job) ts
-    → map (λ t. viewed t (tasks_by job ts t)) (tasks_of job n) ≡ map view_of ts
-views-are job n ts is of =
-    rw (← is)
-    (map-numbers (λ t. viewed t (tasks_by job ts t)) view_of ts (λ i t e. ap (λ x. viewed t.number.0 x) (state-at job n ts is i t e) ∙ view-is t))

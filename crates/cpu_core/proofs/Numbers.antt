@@ -1,5 +1,5 @@
 -- The numbers of a CPU's tasks rise, so that each task is found by its number.
-use Rattle.std.proofs.Common.{cond, ◌≡◌, ◌≢◌, ℕ, zero, suc, ◌<◌, ◌≤◌, Bool, true, false, ◌==◌, List, [], ◌∷◌, map, set, slice_get, Some, refl, sym, ap, ◌∙◌, subst, arith}
+use Rattle.std.proofs.Common.{cond, ◌≡◌, ◌≢◌, ℕ, zero, suc, ◌<◌, ◌≤◌, Bool, true, false, ◌==◌, List, [], ◌∷◌, set, slice_get, Some, refl, sym, ap, ◌∙◌, subst, arith}
 use Rattle.std.specs.List.{list_any, AllByRecursion as Each}
 use Rattle.std.proofs.lemmas.Bool.{eq-eqb, ne_eqb}
 use Rattle.std.proofs.lemmas.Option.{none-some, same_Some}
@@ -7,7 +7,7 @@ use Rattle.ft_base.specs.Job.{Task as DeclaredTask}
 use Rattle.ft_base.proofs.Small.{Each-weaker}
 use Rattle.plain_machine.specs.State.{tasks_from}
 use Rattle.task_core.specs.declared.task.Task.{Task}
-use Rattle.cpu_core.specs.Cpus.{numbered, numbers}
+use Rattle.cpu_core.specs.Cpus.{number_or, numbered, numbers}
 
 -- ## numbers that rise
 
@@ -71,16 +71,20 @@ numbers-set (x ∷ ts) zero t u e same =
     ap (λ n. n ∷ numbers ts) (ap (λ n. n.0) same ∙ ap (λ (y : Task). y.number.0) (sym (same_Some x t e)))
 numbers-set (x ∷ ts) (suc i) t u e same = ap (λ (ns : List ℕ). x.number.0 ∷ ns) (numbers-set ts i t u e same)
 
+-- nor does the number at any place change
+pub number-set : (otherwise : ℕ) (ts : List Task) (i p : ℕ) (t u : Task) → slice_get ts i ≡ Some t → u.number ≡ t.number
+    → number_or otherwise (slice_get (set ts i u) p) ≡ number_or otherwise (slice_get ts p)
+number-set otherwise [] i p t u e same = absurd (none-some t e)
+number-set otherwise (x ∷ ts) zero zero t u e same = ap (λ n. n.0) same ∙ ap (λ (y : Task). y.number.0) (sym (same_Some x t e))
+number-set otherwise (x ∷ ts) zero (suc p) t u e same = refl
+number-set otherwise (x ∷ ts) (suc i) zero t u e same = refl
+number-set otherwise (x ∷ ts) (suc i) (suc p) t u e same = number-set otherwise ts i p t u e same
+
 -- ## all tasks
 
-module _ {X : Type 0} (f : ℕ → X) (g : Task → X) where
-  -- what the numbers give is what the tasks give
-  abbrev pub Agrees : List Task → Type 0
-  Agrees ts = (i : ℕ) (t : Task) → slice_get ts i ≡ Some t → f t.number.0 ≡ g t
-
-  pub map-numbers : (ts : List Task) → Agrees ts → map f (numbers ts) ≡ map g ts
-  map-numbers [] same = refl
-  map-numbers (t ∷ ts) same = rw (same 0 t refl, map-numbers ts (λ i u e. same (suc i) u e)) refl
+-- what the numbers give is what the tasks give
+abbrev pub Agrees : {X : Type 0} → (ℕ → X) → (Task → X) → List Task → Type 0
+Agrees f g ts = (i : ℕ) (t : Task) → slice_get ts i ≡ Some t → f t.number.0 ≡ g t
 
 pub any-numbers : (p : ℕ → Bool) (q : Task → Bool) (ts : List Task) → Agrees p q ts → list_any p (numbers ts) ≡ list_any q ts
 any-numbers p q [] same = refl

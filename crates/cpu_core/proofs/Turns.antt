@@ -1,6 +1,6 @@
 -- Which task of a CPU has the next turn: of code by their places, of the machine by their numbers.
-use Rattle.std.proofs.Common.{cond, ◌≡◌, ℕ, zero, suc, ◌+◌, ◌<◌, Bool, true, false, not, nat_lt, nat_le, List, [], ◌∷◌, ◌++◌, drop, length, filter, find, position, slice_get, Option, Some, None, IsSome, IsSomeAnd, option_map, unwrap_or, refl, sym, ap, ◌∙◌, arith}
-use Rattle.std.specs.List.{list_any, position_or_len, AllByRecursion as Each}
+use Rattle.std.proofs.Common.{cond, ◌≡◌, ℕ, zero, suc, ◌+◌, ◌<◌, Bool, true, false, nat_lt, nat_le, List, [], ◌∷◌, ◌++◌, drop, length, filter, find, slice_get, Option, Some, None, IsSome, IsSomeAnd, option_map, unwrap_or, refl, sym, ap, ◌∙◌, arith}
+use Rattle.std.specs.List.{list_any, AllByRecursion as Each}
 use Rattle.std.specs.Option.{option_or}
 use Rattle.std.proofs.lemmas.Bool.{le-leb, le-ltb, lt-leb, lt-ltb, ltb-false, ltb-true}
 use Rattle.std.proofs.lemmas.Option.{none-some, same_Some, slice_get_past}
@@ -11,42 +11,14 @@ use Rattle.cpu_core.specs.Cpus.{number_or, numbers}
 use Rattle.task_core.specs.Starts.{is_left}
 use Rattle.cpu_core.specs.Turns.{any_left, first_left, left_from, next_by, next_left}
 use Rattle.cpu_core.proofs.Numbers.{Agrees, Rises}
-use Rattle.cpu_core.proofs.Telling.{more-below}
+use Rattle.cpu_core.proofs.Places.{first-case}
 
--- ## the first place that passes
-
-module _ {X : Type 0} (q : X → Bool) where
-  place-more : (x : X) (xs : List X) → position q (x ∷ xs) ≡ cond (q x) (Some 0) (option_map (λ k. suc k) (position q xs))
-  place-more x xs = by (q x)
-    where
-      later : (m : ℕ) (b : Bool) → cond b (Some (suc m)) None ≡ option_map (λ k. suc k) (cond b (Some m) None)
-      later m true = refl
-      later m false = refl
-
-      by : (b : Bool) → cond (nat_lt (cond (not b) (1 + position_or_len q xs) 0) (suc (length xs))) (Some (cond (not b) (1 + position_or_len q xs) 0)) None
-          ≡ cond b (Some 0) (option_map (λ k. suc k) (position q xs))
-      by true = let lt : nat_lt 0 (suc (length xs)) ≡ true = lt-ltb 0 (suc (length xs)) (omega arith) in rw lt refl
-      by false =
-          let e : 1 + position_or_len q xs ≡ suc (position_or_len q xs) = omega arith in
-          rw (e, more-below (position_or_len q xs) (length xs)) (later (position_or_len q xs) (nat_lt (position_or_len q xs) (length xs)))
-
-  -- none passes, or the first that does stands at the first place
-  pub first-case : (xs : List X) (P : Option ℕ → Option X → Type 0) → (list_any q xs ≡ false → P None None)
-      → ((k : ℕ) (x : X) → slice_get xs k ≡ Some x → q x ≡ true → P (Some k) (Some x)) → P (position q xs) (find q xs)
-  first-case [] P none some = none refl
-  first-case (x ∷ xs) P none some =
-      rw (place-more x xs)
-      (elim (q x) as (λ b. q x ≡ b → P (cond b (Some 0) (option_map (λ k. suc k) (position q xs))) (cond b (Some x) (find q xs))) [
-        | true ↦ λ e. some 0 x refl e
-        | false ↦ λ e. first-case xs (λ o f. P (option_map (λ k. suc k) o) f) (λ no. none (rw (e, no) refl)) (λ k y at is. some (suc k) y at is)
-      ] refl)
+-- ## the next task by its place
 
 pub drop-get : {X : Type 0} (xs : List X) (from k : ℕ) → slice_get xs (from + k) ≡ slice_get (drop from xs) k
 drop-get xs zero k = let e : 0 + k ≡ k = omega arith in rw e refl
 drop-get [] (suc from) k = refl
 drop-get (x ∷ xs) (suc from) k = let e : suc from + k ≡ suc (from + k) = omega arith in rw e (drop-get xs from k)
-
--- ## the next task by its place
 
 -- the task that has the next turn after a place
 abbrev pub turn : List Task → ℕ → Option Task

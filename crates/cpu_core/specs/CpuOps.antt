@@ -1,14 +1,16 @@
 -- A CPU's next operation, by what contracts see of it.
-use Rattle.std.specs.Prelude.{Bool, false, not, slice_get, Option, Some, None, if◌then◌else◌}
-use Rattle.grace_core.specs.Polls.{poll_next}
-use Rattle.word_map.specs.Words.{Want}
-use Rattle.word_map.specs.Ops.{WordOp, Load}
+use Rattle.std.specs.Prelude.{ℕ, Bool, false, not, slice_get, Option, Some, None, if◌then◌else◌}
+use Rattle.grace_core.specs.Views.{acknowledged, told_word}
+use Rattle.word_map.specs.Words.{Ack, Quiet, Want}
+use Rattle.word_map.specs.Ops.{WordOp, Load, Store}
 use Rattle.cpu_core.specs.declared.parts.Parts.{Parts}
 use Rattle.cpu_core.specs.declared.parts.Phase.{Phase}
-use Rattle.cpu_core.specs.declared.parts.Phase.TheVariants.{Going, Polling, Over}
+use Rattle.cpu_core.specs.declared.parts.Phase.TheVariants.{Going, StoringAck, StoringQuiet, Over}
 use Rattle.task_core.specs.declared.task.Task.{Task}
+use Rattle.task_core.specs.Starts.{view_of}
 use Rattle.task_core.specs.States.{is_polling}
 use Rattle.task_core.specs.TaskOps.{op_of}
+use Rattle.cpu_core.specs.Turns.{any_left}
 
 -- the present task
 abbrev pub present_task : Parts → Option Task
@@ -27,10 +29,16 @@ abbrev pub op_by : Option Task → Option WordOp
 op_by None = None
 op_by (Some t) = op_of t
 
+-- the store of a task's word
+abbrev pub told_op : ℕ → Option Task → Option WordOp
+told_op r None = None
+told_op r (Some t) = Some (Store (Quiet t.number.0) (told_word r (view_of t)))
+
 -- in a phase
 abbrev pub phase_op : Parts → Phase → Option WordOp
 phase_op c Going = if is_running c then op_by (present_task c) else Some (Load Want)
-phase_op c Polling = poll_next c.polls.poll
+phase_op c (StoringAck r) = Some (Store (Ack c.cpu.0) (acknowledged (any_left c.tasks) r))
+phase_op c (StoringQuiet r i) = told_op r (slice_get c.tasks i)
 phase_op c Over = None
 
 -- a CPU's next operation; none at its end

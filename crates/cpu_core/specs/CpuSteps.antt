@@ -1,22 +1,20 @@
 -- A CPU after its next operation gave a value, by what contracts see of it.
-use Rattle.std.specs.Prelude.{ℕ, suc, Bool, false, not, ◌||◌, nat_le, List, [], ◌∷◌, ◌++◌, set, Option, Some, None, if◌then◌else◌}
+use Rattle.std.specs.Prelude.{ℕ, suc, Bool, false, not, ◌||◌, ◌==◌, nat_le, List, [], ◌∷◌, ◌++◌, set, slice_get, Option, Some, None, if◌then◌else◌}
 use Rattle.ft_base.specs.declared.item.Item.{Item}
 use Rattle.ft_base.specs.declared.item.Stamped.{Stamped}
-use Rattle.grace_core.specs.Pasts.{begun as poll_begun}
-use Rattle.grace_core.specs.Polls.{Poll, poll_got}
+use Rattle.grace_core.specs.Views.{acknowledged}
 use Rattle.word_map.specs.Contents.{low}
 use Rattle.word_map.specs.Ops.{WordOp}
 use Rattle.cpu_core.specs.declared.parts.Parts.{Parts}
 use Rattle.cpu_core.specs.declared.parts.Phase.{Phase}
-use Rattle.cpu_core.specs.declared.parts.Phase.TheVariants.{Going, Polling, Over}
+use Rattle.cpu_core.specs.declared.parts.Phase.TheVariants.{Going, StoringAck, StoringQuiet, Over}
 use Rattle.task_core.specs.declared.task.Task.{Task}
 use Rattle.cpu_core.specs.CpuOps.{is_running, present_task}
 use Rattle.task_core.specs.Leads.{is_fetching}
-use Rattle.cpu_core.specs.PlainPolls.{lent_words, looked, over}
 use Rattle.task_core.specs.Starts.{is_left, is_unmet}
 use Rattle.task_core.specs.TaskOps.{item_in, op_of, present}
 use Rattle.task_core.specs.TaskSteps.{begun, task_after}
-use Rattle.cpu_core.specs.Turns.{any_left, next_left, with_words}
+use Rattle.cpu_core.specs.Turns.{any_left, first_untold, next_left, told_task}
 
 -- ## which task runs
 
@@ -64,35 +62,37 @@ abbrev pub act_begun : Parts → Option Task → Parts
 act_begun c None = c
 act_begun c (Some t) = record c { tasks = set c.tasks c.present (begun t (present t)) }
 
--- the poll's words are the tasks', and it lends nothing
-abbrev pub with_poll_over : Parts → Parts
-with_poll_over c = record c {
-  polls = record c.polls { poll = record c.polls.poll { view = None } };
-  tasks = with_words c.tasks (lent_words c.polls.poll.view);
-}
-
--- after the last poll the CPU is at its end
+-- a poll is over: the present task's act begins, or, if every task has ended, the CPU is at its end
 abbrev pub after_poll : Parts → Parts
 after_poll c =
     if any_left c.tasks
     then (let c' = record c { phase = Going } in switched (act_begun c' (present_task c')) false)
     else record c { phase = Over }
 
--- a poll that is over ends
-abbrev pub ended_poll : Parts → Parts
-ended_poll c = if over c.polls.poll.phase then after_poll (with_poll_over c) else c
+-- the next word that is to change, or the end of the poll
+abbrev pub telling : Parts → ℕ → Option ℕ → Parts
+telling c r None = after_poll c
+telling c r (Some i) = record c { phase = StoringQuiet r i }
 
--- at this poll
-abbrev pub with_poll : Parts → Poll → Parts
-with_poll c p = record c { polls = record c.polls { poll = p } }
+-- after the store of the CPU's own word, and after each store of a task's
+abbrev pub poll_on : Parts → ℕ → Parts
+poll_on c r = telling c r (first_untold r c.tasks)
 
--- a poll begins
-abbrev pub began_poll : Parts → ℕ → Parts
-began_poll c v = ended_poll (record (with_poll c (poll_got (poll_begun c.polls.poll (looked c.tasks)) v)) { phase = Polling })
+-- after the load of the request: the CPU's own word is stored if it changes
+abbrev pub polling : Parts → ℕ → Parts
+polling c r = if c.ack == acknowledged (any_left c.tasks) r then poll_on c r else record c { phase = StoringAck r }
 
--- a poll goes on
-abbrev pub polled_on : Parts → ℕ → Parts
-polled_on c v = ended_poll (with_poll c (poll_got c.polls.poll v))
+-- the CPU's own word is stored
+abbrev pub acked : Parts → ℕ → Parts
+acked c r = record c { ack = acknowledged (any_left c.tasks) r }
+
+-- the word of a task is stored
+abbrev pub told_by : Parts → ℕ → ℕ → Option Task → Parts
+told_by c r i None = c
+told_by c r i (Some t) = record c { tasks = set c.tasks i (told_task r t) }
+
+abbrev pub with_told : Parts → ℕ → ℕ → Parts
+with_told c r i = told_by c r i (slice_get c.tasks i)
 
 -- ## all of it
 
@@ -102,10 +102,15 @@ ticked c = record c { count = suc c.count }
 
 -- the operation in a phase
 abbrev pub stepped_in : Parts → Phase → ℕ → Parts
-stepped_in c Going v = if is_running c then went c v else began_poll c v
-stepped_in c Polling v = polled_on c v
+stepped_in c Going v = if is_running c then went c v else polling c v
+stepped_in c (StoringAck r) v = poll_on (acked c r) r
+stepped_in c (StoringQuiet r i) v = poll_on (with_told c r i) r
 stepped_in c Over v = c
 
 -- a CPU after its next operation gave this value
 abbrev pub stepped : Parts → ℕ → Parts
 stepped c v = stepped_in (ticked c) c.phase v
+
+-- a CPU but for what it has marked, which is as it was before
+abbrev pub unmarked : Parts → Parts → Parts
+unmarked before c = record c { marked = before.marked }

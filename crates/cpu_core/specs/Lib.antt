@@ -2,11 +2,8 @@ pub mod CpuFits
 pub mod CpuOps
 pub mod CpuSteps
 pub mod KeptMarks
-pub mod KeptPolls
 pub mod KeptTasks
 pub mod Marks
-pub mod PlainPolls
-pub mod Polled
 pub mod Turns
 pub mod Cpus
 pub mod Taken

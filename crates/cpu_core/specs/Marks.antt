@@ -1,6 +1,7 @@
 -- The items that a CPU has marked, as contracts see them.
-use Rattle.std.specs.Prelude.{ℕ, ◌-◌, ◌<◌, List, [], length}
+use Rattle.std.specs.Prelude.{ℕ, ◌-◌, ◌<◌, List, [], length, Option, Some, None}
 use Rattle.ft_base.specs.declared.limits.TheConstants.{ITEMS}
+use Rattle.ft_base.specs.declared.item.Item.{Item}
 use Rattle.ft_base.specs.declared.item.Stamped.{Stamped}
 
 -- The items, in the order of their places.
@@ -20,6 +21,11 @@ pub record HasRoom (m : Marks) : Type 0 where
   pub room : length m.items < m.room
   pub left : length m.items < m.left
 
--- none of them is kept any more: the list has all its room again, and as many fewer can be marked
-abbrev pub emptied : Marks → Marks
-emptied m = record { items = []; room = m.room; left = m.left - length m.items }
+-- one more was marked, and isn't kept
+abbrev pub passed : Marks → Marks
+passed m = record m { left = m.left - 1 }
+
+-- this one, or none
+abbrev pub handed_on : Option Item → Marks → Marks
+handed_on None m = m
+handed_on (Some item) m = passed m

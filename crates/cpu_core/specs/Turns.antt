@@ -1,11 +1,11 @@
--- The tasks of a CPU, and which of them runs.
-use Rattle.std.specs.Prelude.{ℕ, suc, ◌+◌, ◌≡◌, Bool, List, [], ◌∷◌, drop, length, position, Option, Some, None, unwrap_or}
+-- The tasks of a CPU: which of them runs, and which is to tell.
+use Rattle.std.specs.Prelude.{ℕ, zero, suc, ◌+◌, ◌≡◌, Bool, true, not, List, [], ◌∷◌, drop, length, position, Option, Some, None, unwrap_or}
 use Rattle.std.specs.Option.{option_map}
 use Rattle.std.specs.List.{list_any}
 use Rattle.user_specs.specs.declared.plan.TaskPlan.{TaskPlan}
-use Rattle.grace_core.specs.declared.view.TaskView.{TaskView}
+use Rattle.grace_core.specs.Views.{has_told, told_word}
 use Rattle.task_core.specs.declared.task.Task.{Task}
-use Rattle.task_core.specs.Starts.{HasRoomFor, is_left, task_at_start}
+use Rattle.task_core.specs.Starts.{HasRoomFor, is_left, task_at_start, view_of}
 
 -- a task of a plan before its first act, with room for its calls
 pub record IsStarted (frames levels : ℕ) (plan : TaskPlan) (t : Task) : Type 0 where
@@ -17,6 +17,8 @@ abbrev pub AreStarted : (frames levels : ℕ) → List TaskPlan → List Task �
 AreStarted frames levels [] [] = Unit {0}
 AreStarted frames levels (p ∷ ps) (t ∷ ts) = IsStarted frames levels p t × AreStarted frames levels ps ts
 AreStarted frames levels _ _ = ⊥
+
+-- ## which task runs
 
 -- a task has an act left
 abbrev pub any_left : List Task → Bool
@@ -38,7 +40,26 @@ next_by None first present = unwrap_or first present
 abbrev pub next_left : List Task → ℕ → ℕ
 next_left ts present = next_by (left_from ts (suc present)) (left_from ts 0) present
 
--- the tasks with the words that a poll has stored or found
-abbrev pub with_words : List Task → List TaskView → List Task
-with_words (t ∷ ts) (v ∷ vs) = record t { word = v.word } ∷ with_words ts vs
-with_words ts vs = ts
+-- ## which task is to tell
+
+-- its word is to change, once this request was loaded
+abbrev pub is_untold : ℕ → Task → Bool
+is_untold r t = not (has_told r (view_of t))
+
+-- the first such task
+abbrev pub first_untold : ℕ → List Task → Option ℕ
+first_untold r ts = position (is_untold r) ts
+
+-- the first from an index on
+abbrev pub untold_from : ℕ → List Task → ℕ → Option ℕ
+untold_from r ts from = option_map (λ k. from + k) (position (is_untold r) (drop from ts))
+
+-- the tasks before an index have told
+abbrev pub HaveTold : ℕ → ℕ → List Task → Type 0
+HaveTold r zero ts = Unit {0}
+HaveTold r (suc n) [] = Unit {0}
+HaveTold r (suc n) (t ∷ ts) = (has_told r (view_of t) ≡ true) × HaveTold r n ts
+
+-- a task that tells: its word is stored
+abbrev pub told_task : ℕ → Task → Task
+told_task r t = record t { word = told_word r (view_of t) }

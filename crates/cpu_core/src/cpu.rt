@@ -1,6 +1,6 @@
 //! A CPU, as a stepper: its next operation, and what the value that the operation gives makes of it.
 
-ghost use Rattle.std.specs.Prelude.{◌≡◌, ◌<◌, ◌≤◌, ◌++◌, length, All, IfOk, Option};
+ghost use Rattle.std.specs.Prelude.{◌≡◌, ◌<◌, ◌≤◌, [], ◌++◌, length, All, IfOk, Option};
 ghost use Rattle.std.specs.Option.{option_map};
 ghost use Rattle.ft_base.specs.declared.limits.TheConstants.{ACTS, FRAMES, GUARD_LEVELS, QUANTUM, TASKS};
 ghost use Rattle.user_specs.specs.declared.plan.TaskPlan.{TaskPlan};
@@ -9,9 +9,8 @@ ghost use Rattle.word_map.specs.Shapes.{shape_of};
 
 use crate::marked::Marked;
 use crate::parts::{Parts, Phase};
-use crate::polls::Polls;
 use crate::tasks::Tasks;
-use ft_base::{CpuNo, NoMemory, Stamped};
+use ft_base::{CpuNo, Item, NoMemory, Stamped};
 use std::alloc::Global;
 use std::fmt;
 use std::marker::Model;
@@ -54,7 +53,8 @@ impl Cpu {
     ghost use Rattle.word_machine.specs.Limits.{IsLimited};
     ghost use Rattle.cpu_core.specs.Cpus.{IsFor, cpu_of};
     ghost use Rattle.cpu_core.specs.CpuSteps.{marks_in};
-    ghost use Rattle.cpu_core.specs.Marks.{emptied, no_marks};
+    ghost use Rattle.cpu_core.specs.Marks.{handed_on, no_marks};
+    ghost use Rattle.task_core.specs.TaskOps.{item_in};
     ghost use Rattle.cpu_core.specs.Taken.{IsCpuOf, IsTaken};
 
     /// CPU `cpu` of a script before its first step, with these tasks and users. `frames` is how many
@@ -84,7 +84,8 @@ impl Cpu {
         Ok(Cpu {
             parts: Parts {
                 setup: Setup::new(alloc, specs, frames, map)?,
-                polls: Polls::new(alloc, cpu, &tasks, map)?,
+                cpu,
+                ack: 0,
                 quantum: plan.quantum,
                 present: tasks.first(),
                 tasks,
@@ -119,14 +120,21 @@ impl Cpu {
         self.parts.step(value);
     }
 
-    /// Empties the list of what it has marked, once its caller has noted that elsewhere: a machine
-    /// that keeps all items in one history need not keep each of them twice. The list keeps its room,
-    /// so a CPU whose items are forgotten one by one has enough with room for one.
-    pub fn forget_items(&mut self)
-        ensures of { (job : Job) → IsFor job self.old → IsFor job self.new }
-        ensures parts { self.new ≡ record self.old { marked = emptied self.old.marked } }
+    /// The same of a CPU that keeps no items: if the operation was a mark, its item is the answer, and
+    /// isn't kept. A machine that keeps all items in one history need not keep each of them twice.
+    #[inline(always)]
+    pub fn take(&mut self, value: u64) -> Option<Item>
+        requires taken { IsTaken self.old value }
+        requires none { self.old.marked.items ≡ [] }
+        ensures of { (job : Job) → IsLimited job → IsFor job self.old → CpuTakes job (cpu_of job self.old) value → IsFor job self.new }
+        ensures cpu { (job : Job) → IsLimited job → IsFor job self.old → CpuTakes job (cpu_of job self.old) value
+            → cpu_of job self.new ≡ cpu_got job (cpu_of job self.old) value }
+        ensures item { (job : Job) → IsFor job self.old → result ≡ item_in (cpu_next job (cpu_of job self.old)) }
+        ensures marked { self.new.marked ≡ handed_on result self.old.marked }
     {
-        self.parts.marked.empty();
+        let item = self.parts.take(value);
+        self.parts.marked.hand_on(&item);
+        item
     }
 
     /// What it has marked, in the order of the places.

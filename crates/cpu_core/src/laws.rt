@@ -1,9 +1,8 @@
-//! The parts of a CPU and the word machine are one: what a poll and the stacks of a task do is what the
-//! machine's rows do. Each law is a function with an empty body, whose clauses say it.
+//! When a poll ends; and that the parts of a CPU and the word machine are one: what the stacks of a task
+//! do is what the machine's rows do. Each law is a function with an empty body, whose clauses say it.
 
-ghost use Rattle.std.specs.Prelude.{◌≡◌, ◌<◌, ◌↔◌, ℕ, Bool, true, false, not, ◌&&◌, List, [], ◌∷◌, drop, get_or, length, map};
+ghost use Rattle.std.specs.Prelude.{◌≡◌, ◌<◌, ◌↔◌, ℕ, Bool, true, false, not, ◌&&◌, List, [], ◌∷◌, drop, get_or, map};
 ghost use Rattle.std.specs.List.{AllByRecursion as Each};
-ghost use Rattle.std.specs.Option.{option_map};
 ghost use Rattle.ft_base.specs.declared.context.Ctx.{Ctx};
 ghost use Rattle.ft_base.specs.declared.number.CallNo.{CallNo};
 ghost use Rattle.ft_base.specs.declared.user.Kind.{Kind};
@@ -14,9 +13,6 @@ ghost use Rattle.ft_base.specs.WellFormed.{IsActNamed, IsScript};
 ghost use Rattle.ft_base.specs.Acts.{AreRaised};
 ghost use Rattle.ft_hist.specs.Frames.{is_nil};
 ghost use Rattle.plain_machine.specs.State.{has_acts, misses_frame, tasks_of};
-ghost use Rattle.grace_core.specs.declared.poller.PollPhase.TheVariants.{Asking, Acking, Telling};
-ghost use Rattle.grace_core.specs.Polls.{poll_got, poll_next, told_at, untold};
-ghost use Rattle.grace_core.specs.Views.{acknowledged, told_word};
 ghost use Rattle.return_stack.specs.Calls.{caller_of, frames_in, is_full, top_call, with_call, with_hook, with_user, without_empty};
 ghost use Rattle.graph_users.specs.Depth.{MayEnter};
 ghost use Rattle.fprobe.specs.declared.entry.Probe.{Probe};
@@ -26,59 +22,16 @@ ghost use Rattle.word_machine.specs.Task.{OpenCall, Polling, TaskState};
 ghost use Rattle.word_machine.specs.Task.{around, begun_act, called_back};
 ghost use Rattle.word_machine.specs.Task.{task_got, task_start};
 ghost use Rattle.word_machine.specs.Task.{is_too_deep, level_of, opened, quiet_word, top_of};
-ghost use Rattle.word_machine.specs.Cpu.{Cpu, StoringAck, StoringQuiet, ack_value, any_has_more, going_op, phase_got, phase_op};
-ghost use Rattle.word_machine.specs.Cpu.{polling, quiet_next, with_word};
+ghost use Rattle.word_machine.specs.Cpu.{Cpu, quiet_next, with_word};
 ghost use Rattle.word_machine.specs.Laws.{PresentTakes};
-ghost use Rattle.cpu_core.specs.Polled.{acked, poll_at, polled_task, polling_at, task_told, view_of, viewed};
 ghost use Rattle.task_core.specs.Framed.{AreFramed, probe_of, stack_of, stacked};
 ghost use Rattle.task_core.specs.Steady.{IsSteady};
 
-/// What a poll is to tell is what the machine's CPU is to tell: its acknowledgement, the word of a
-/// task, and the first task whose word is to change.
-pub fn a_poll_tells_what_the_machine_tells()
-    ensures ack { (job : Job) (me : Cpu) (r : ℕ) → acknowledged (view_of job me) r ≡ ack_value job me r }
-    ensures word { (r t : ℕ) (x : TaskState) → told_word r (viewed t x) ≡ quiet_word r x }
-    ensures next { (job : Job) (me : Cpu) (r : ℕ)
-        → quiet_next me.tasks r (tasks_of job me.number)
-        ≡ option_map (polled_task job me) (untold r (view_of job me).tasks) }
-{}
-
-/// A poll's next operation is the machine's: before an act, and after the last one; before the store
-/// of the CPU's word; and before the store of a task's.
-pub fn a_poll_is_the_machines()
-    ensures act { (job : Job) (me : Cpu) → any_has_more job me ≡ true → (me.tasks me.present).moment ≡ Polling
-        → poll_next (poll_at job me Asking) ≡ going_op job (polling_at job me Asking) }
-    ensures last { (job : Job) (me : Cpu) → any_has_more job me ≡ false
-        → poll_next (poll_at job me Asking) ≡ going_op job (polling_at job me Asking) }
-    ensures acking { (job : Job) (me : Cpu) (r : ℕ)
-        → poll_next (poll_at job me (Acking r)) ≡ phase_op job me (StoringAck r) }
-    ensures telling { (job : Job) (me : Cpu) (r i : ℕ) → i < length (tasks_of job me.number)
-        → poll_next (poll_at job me (Telling r i)) ≡ phase_op job me (StoringQuiet r (polled_task job me i)) }
-{}
-
-/// After a value the machine's CPU stands where the poll does.
-pub fn a_poll_goes_on_as_the_machines()
-    ensures asked { (job : Job) (me : Cpu) (v : ℕ)
-        → polling job me v ≡ polling_at job me (poll_got (poll_at job me Asking) v).phase }
-    ensures acked { (job : Job) (me : Cpu) (r v : ℕ)
-        → phase_got job me (StoringAck r) v
-        ≡ polling_at job (acked job me r) (poll_got (poll_at job me (Acking r)) v).phase }
-    ensures told { (job : Job) (me : Cpu) (r i v : ℕ) → i < length (tasks_of job me.number)
-        → phase_got job me (StoringQuiet r (polled_task job me i)) v
-        ≡ polling_at job (task_told me r (polled_task job me i)) (poll_got (poll_at job me (Telling r i)) v).phase }
-{}
-
-/// After a value the poll is still that CPU's: what it looks at is what the CPU has after the store.
-pub fn a_poll_stays_the_machines()
-    ensures view { (job : Job) (me : Cpu) (r i : ℕ) → i < length (tasks_of job me.number)
-        → view_of job (task_told me r (polled_task job me i)) ≡ told_at r i (view_of job me) }
-    ensures asked { (job : Job) (me : Cpu) (v : ℕ)
-        → let p = poll_got (poll_at job me Asking) v in p ≡ poll_at job me p.phase }
-    ensures acked { (job : Job) (me : Cpu) (r v : ℕ)
-        → let p = poll_got (poll_at job me (Acking r)) v in p ≡ poll_at job (acked job me r) p.phase }
-    ensures told { (job : Job) (me : Cpu) (r i v : ℕ) → i < length (tasks_of job me.number)
-        → let p = poll_got (poll_at job me (Telling r i)) v in
-        p ≡ poll_at job (task_told me r (polled_task job me i)) p.phase }
+/// A poll goes on as long as the word of one of its CPU's tasks is to change. Once there is none, each
+/// of these words is what it is to be.
+pub fn a_poll_ends_once_all_have_told()
+    ensures { (job : Job) (me : Cpu) (r : ℕ) → quiet_next me.tasks r (tasks_of job me.number) ≡ None
+        → Each (λ t. (me.tasks t).word ≡ quiet_word r (me.tasks t)) (tasks_of job me.number) }
 {}
 
 /// The stacks tell of a task's open calls what the machine knows of them: how many hold a frame, the

@@ -1,10 +1,10 @@
 //! The items that a CPU has marked.
 
-ghost use Rattle.std.specs.Prelude.{◌≡◌, ◌++◌, ◌∷◌, [], IfOk};
-ghost use Rattle.cpu_core.specs.Marks.{HasRoom, emptied, no_marks};
+ghost use Rattle.std.specs.Prelude.{◌≡◌, ◌++◌, ◌∷◌, [], IfOk, IsSome};
+ghost use Rattle.cpu_core.specs.Marks.{HasRoom, handed_on, no_marks};
 
 use ft_base::limits::ITEMS;
-use ft_base::{NoMemory, Stamped};
+use ft_base::{Item, NoMemory, Stamped};
 use std::alloc::Global;
 use std::marker::Model;
 
@@ -67,11 +67,13 @@ impl Marked {
         self.items.push_reserved(stamped);
     }
 
-    /// Empties the list, which keeps its room.
-    pub(crate) fn empty(&mut self)
-        ensures { self.new ≡ emptied self.old }
+    /// This item is marked, if it is one, and isn't kept.
+    pub(crate) fn hand_on(&mut self, item: &Option<Item>)
+        requires { IsSome item.now → HasRoom self.old }
+        ensures { self.new ≡ handed_on item.now self.old }
     {
-        self.left -= self.items.len() as u32;
-        self.items.clear();
+        if item.is_some() {
+            self.left -= 1;
+        }
     }
 }

@@ -1,29 +1,36 @@
 //! The parts of a CPU, and its steps. What [`Cpu`](crate::Cpu) promises of them is proved there.
+//!
+//! A CPU *polls* before each act of its tasks, and once after the last act. A poll loads the last
+//! request, stores the CPU's own word, which acknowledges the request, and stores the word of each task,
+//! which tells whether the task was quiet at the request. It stores only what changes. Control waits for
+//! what polls tell. A CPU that ran on without them would let it wait for ever.
 
-ghost use Rattle.std.specs.Prelude.{◌≡◌, true, IsSomeAnd};
+ghost use Rattle.std.specs.Prelude.{◌≡◌};
 ghost use Rattle.std.specs.Option.{option_map};
 ghost use Rattle.word_map.specs.Ops.{placed};
-ghost use Rattle.cpu_core.specs.CpuOps.{is_running, cpu_op, present_task};
-ghost use Rattle.cpu_core.specs.CpuSteps.{after_poll, began_poll, ended_poll, marks_in, polled_on, stepped, switched, went, with_step};
-ghost use Rattle.task_core.specs.TaskOps.{op_of};
-ghost use Rattle.task_core.specs.TaskSteps.{task_after};
-ghost use Rattle.cpu_core.specs.CpuFits.{CanEndPoll, CanGoOn, CanSwitch, CpuFits, GoFits, HasNext, HasTold, PollFits, StartFits};
+ghost use Rattle.cpu_core.specs.CpuOps.{is_running, cpu_op, op_by, present_task};
+ghost use Rattle.cpu_core.specs.CpuSteps.{acked, after_poll, poll_on, polling, stepped, switched, unmarked, went, with_told};
+ghost use Rattle.cpu_core.specs.Turns.{HaveTold};
+ghost use Rattle.task_core.specs.TaskOps.{item_in};
+ghost use Rattle.cpu_core.specs.CpuFits.{CanGoOn, CanSwitch, CpuFits, GoFits, HasNext, QuietFits, StartFits};
 
 use crate::marked::Marked;
-use crate::polls::Polls;
 use crate::tasks::Tasks;
-use ft_base::Stamped;
+use ft_base::{CpuNo, Item, Stamped};
+use grace_core::acknowledged;
 use task_core::Setup;
 use word_map::{Op, clock};
 
-/// Where a CPU stands.
+/// Where a CPU stands, as the machine's `Phase` has it. Here a task is named by its index.
 #[derive(Clone, Copy)]
 pub(crate) enum Phase {
     /// At its present task, or before its last poll.
     Going,
-    /// In a poll that has loaded a request, before a store: the machine's `StoringAck` and
-    /// `StoringQuiet`.
-    Polling,
+    /// In a poll that has loaded this request, before the store of the CPU's own word.
+    StoringAck(u32),
+    /// In a poll that has loaded this request and acknowledged it, before the store of the word of the
+    /// task at this index. The words of the tasks before it are what they are to be.
+    StoringQuiet(u32, u32),
     /// At its end.
     Over,
 }
@@ -32,7 +39,10 @@ pub(crate) enum Phase {
 #[derive(Drop)]
 pub(crate) struct Parts {
     pub(crate) setup: Setup,
-    pub(crate) polls: Polls,
+    /// Its number.
+    pub(crate) cpu: CpuNo,
+    /// What its own word holds.
+    pub(crate) ack: u64,
     /// After how many steps it switches to its next task.
     pub(crate) quantum: u32,
     pub(crate) tasks: Tasks,
@@ -54,7 +64,7 @@ impl Parts {
         match self.phase {
             Phase::Going => {
                 if self.is_running() {
-                    self.tasks.task(self.present).op(&self.setup.map())
+                    self.tasks.task(self.present).op(self.setup.map())
                 } else {
                     // The first operation of a poll. The poll itself begins when it is made.
                     Some(Op::Load {
@@ -62,29 +72,56 @@ impl Parts {
                     })
                 }
             }
-            Phase::Polling => self.polls.next(),
+            Phase::StoringAck(request) => Some(Op::Store {
+                word: self.setup.map().ack(self.cpu),
+                value: acknowledged(self.tasks.is_any_left(), request),
+            }),
+            Phase::StoringQuiet(request, i) => {
+                let task = self.tasks.task(i);
+                Some(Op::Store {
+                    word: self.setup.map().quiet(task.number()),
+                    value: task.view().told_word(request),
+                })
+            }
             Phase::Over => None,
         }
     }
 
-    /// Takes the value that its next operation gave, and goes on.
+    /// Takes the value that its next operation gave, and goes on. If the operation was a mark, its item
+    /// is marked.
     #[inline(always)]
     pub(crate) fn step(&mut self, value: u64)
         requires { CpuFits self.old value }
         ensures { self.new ≡ stepped self.old value }
     {
+        if let Some(item) = self.take(value) {
+            self.marked.push(Stamped {
+                place: clock::items_at(value),
+                item,
+            });
+        }
+    }
+
+    /// The same, but if the operation was a mark, the answer is its item, and it isn't marked.
+    #[inline(always)]
+    pub(crate) fn take(&mut self, value: u64) -> Option<Item>
+        requires { CpuFits self.old value }
+        ensures parts { self.new ≡ unmarked self.old (stepped self.old value) }
+        ensures item { result ≡ item_in (cpu_op self.old) }
+    {
         self.count += 1;
         match self.phase {
             Phase::Going => {
                 if self.is_running() {
-                    self.go(value);
-                } else {
-                    self.begin_poll(value);
+                    return self.go(value);
                 }
+                self.begin_poll(value);
             }
-            Phase::Polling => self.go_on_polling(value),
+            Phase::StoringAck(request) => self.ack_stored(request),
+            Phase::StoringQuiet(request, i) => self.quiet_stored(request, i),
             Phase::Over => {}
         }
+        None
     }
 
     /// Whether the present task makes the next operation. Otherwise a poll is next: the task stands
@@ -96,32 +133,21 @@ impl Parts {
         self.present < self.tasks.len() && !self.tasks.task(self.present).is_polling()
     }
 
-    /// The operation of the present task gave this value.
-    fn go(&mut self, value: u64)
+    /// The operation of the present task gave this value. If it was a mark, the answer is its item.
+    fn go(&mut self, value: u64) -> Option<Item>
         requires { GoFits self.old value }
-        ensures { self.new ≡ went self.old value }
+        ensures parts { self.new ≡ unmarked self.old (went self.old value) }
+        ensures item { result ≡ item_in (op_by (present_task self.old)) }
     {
         let unmet = self.tasks.task(self.present).is_unmet(value);
-        self.task_got(value);
+        let item = self.tasks.got(self.present, &self.setup, value, unmet);
         // Never between the two loads of a fetch: the next task's poll would acknowledge a request for
         // the CPU, control would change the site, and this task would load the rest of another
         // instruction.
         if !self.tasks.task(self.present).is_fetching() {
             self.switch(unmet);
         }
-    }
-
-    /// The present task takes the value. If its operation was a mark, the item is marked.
-    fn task_got(&mut self, value: u64)
-        requires { GoFits self.old value }
-        ensures { IsSomeAnd (present_task self.old) (λ t. self.new ≡ with_step self.old (task_after t self.old.setup value) (marks_in (op_of t) value)) }
-    {
-        if let Some(item) = self.tasks.got(self.present, &self.setup, value) {
-            self.marked.push(Stamped {
-                place: clock::items_at(value),
-                item,
-            });
-        }
+        item
     }
 
     /// Switches to the next task if the present one has ended, or waits, or has used up the quantum.
@@ -139,51 +165,52 @@ impl Parts {
     /// The last request is loaded: a poll begins.
     fn begin_poll(&mut self, value: u64)
         requires { StartFits self.old value }
-        ensures { self.new ≡ began_poll self.old value }
+        ensures { self.new ≡ polling self.old value }
     {
-        if self.has_told(value) {
-            // Nothing has changed since a poll that stored nothing. With eight tasks that wait, to look
-            // at each of them again is most of what a turn costs.
-            self.go_on_after_poll();
-            return;
-        }
-        self.polls.begin(&self.tasks, value);
-        if self.polls.is_over() {
-            self.polls.end(&mut self.tasks);
-            self.tasks.note_told(value);
-            self.go_on_after_poll();
+        // Only what was loaded is told. Of a request that is not stored yet, the wait would be over at
+        // once, and control would change a call site between the two loads by which a task of this CPU
+        // reads it.
+        let request = value as u32;
+        if self.ack == acknowledged(self.tasks.is_any_left(), request) {
+            self.tell(request, 0);
         } else {
-            self.phase = Phase::Polling;
+            self.phase = Phase::StoringAck(request);
         }
     }
 
-    /// Whether it is known that a poll which has loaded this request has nothing to store.
-    fn has_told(&self, request: u64) -> bool
-        ensures { result ≡ true → HasTold self.now request }
+    /// The CPU's own word is stored.
+    fn ack_stored(&mut self, request: u32)
+        requires { CanGoOn self.old }
+        ensures { self.new ≡ poll_on (acked self.old request) request }
     {
-        self.polls.has_told(request) && self.tasks.have_told(request) && self.tasks.is_any_left()
+        self.ack = acknowledged(self.tasks.is_any_left(), request);
+        self.tell(request, 0);
     }
 
-    /// The poll's next operation gave this value.
-    fn go_on_polling(&mut self, value: u64)
-        requires { PollFits self.old value }
-        ensures { self.new ≡ polled_on self.old value }
+    /// The word of the task at this index is stored.
+    fn quiet_stored(&mut self, request: u32, i: u32)
+        requires { QuietFits self.old request i }
+        ensures { self.new ≡ poll_on (with_told self.old request i) request }
     {
-        self.polls.got(value);
-        self.end_if_over();
+        self.tasks.tell(i, request);
+        self.tell(request, i + 1);
     }
 
-    /// At the end of a poll the CPU goes on. No act begins earlier: what the poll tells of the task
-    /// would not be so any more.
-    fn end_if_over(&mut self)
-        requires { CanEndPoll self.old }
-        ensures { self.new ≡ ended_poll self.old }
+    /// The word of the first task that is to tell is stored next. All before this index have told. If
+    /// none is to tell, the poll is over. No act begins earlier: what the poll tells of its task would
+    /// not be so any more.
+    fn tell(&mut self, request: u32, from: u32)
+        requires told { HaveTold request from self.old.tasks }
+        requires act { CanGoOn self.old }
+        ensures { self.new ≡ poll_on self.old request }
     {
-        if !self.polls.is_over() {
-            return;
+        match self.tasks.first_untold(request, from) {
+            Some(i) => self.phase = Phase::StoringQuiet(request, i),
+            None => {
+                self.tasks.note_told(request);
+                self.go_on_after_poll();
+            }
         }
-        self.polls.end(&mut self.tasks);
-        self.go_on_after_poll();
     }
 
     /// After a poll the present task's act begins, or, if every task has ended, the CPU is at its end.

@@ -1,17 +1,15 @@
 //! The tasks of a CPU, and which of them runs.
 
-ghost use Rattle.std.specs.Prelude.{◌≡◌, ◌<◌, ◌≤◌, true, if◌then◌else◌, length, map, set, slice_get, Some, None, All, IfOk, IsSomeAnd};
+ghost use Rattle.std.specs.Prelude.{◌≡◌, ◌<◌, ◌≤◌, true, if◌then◌else◌, length, set, slice_get, Some, None, All, IfOk, IsSomeAnd};
 ghost use Rattle.ft_base.specs.declared.limits.TheConstants.{ACTS, FRAMES, GUARD_LEVELS, TASKS};
 ghost use Rattle.user_specs.specs.declared.plan.TaskPlan.{TaskPlan as DeclaredPlan};
-ghost use Rattle.grace_core.specs.Polls.{untold};
 ghost use Rattle.task_core.specs.Fits.{CanBegin, HasAct, TaskFits};
-ghost use Rattle.task_core.specs.Starts.{view_of};
+ghost use Rattle.task_core.specs.Starts.{is_unmet};
 ghost use Rattle.task_core.specs.TaskOps.{item_in, op_of, present};
 ghost use Rattle.task_core.specs.TaskSteps.{begun, task_after};
-ghost use Rattle.cpu_core.specs.Turns.{AreStarted, any_left, first_left, left_from, next_left, with_words};
+ghost use Rattle.cpu_core.specs.Turns.{AreStarted, HaveTold, any_left, first_left, first_untold, is_untold, left_from, next_left, told_task, untold_from};
 
 use ft_base::{Item, NoMemory};
-use grace_core::TaskView;
 use std::alloc::Global;
 use std::marker::Model;
 use task_core::{Setup, Task};
@@ -22,8 +20,7 @@ use user_specs::TaskPlan;
 pub(crate) struct Tasks {
     tasks: Vec<Task>,
     /// A request that each task's word tells, as far as a poll is to tell it; none if that isn't known.
-    /// Most polls of a task that waits load the same request again, and need not go over all tasks.
-    told: Option<u64>,
+    told: Option<u32>,
 }
 
 impl Model for Tasks {
@@ -115,15 +112,16 @@ impl Tasks {
         None
     }
 
-    /// The operation of the task at this index gave this value. If it was a mark, the answer is its
-    /// item.
-    pub(crate) fn got(&mut self, i: u32, setup: &Setup, value: u64) -> Option<Item>
-        requires { IsSomeAnd (slice_get self.old i) (λ t. TaskFits setup.now t value) }
+    /// The operation of the task at this index gave this value, which is the clock of a wait that isn't
+    /// met if `unmet` says so. If the operation was a mark, the answer is its item.
+    pub(crate) fn got(&mut self, i: u32, setup: &Setup, value: u64, unmet: bool) -> Option<Item>
+        requires fits { IsSomeAnd (slice_get self.old i) (λ t. TaskFits setup.now t value) }
+        requires waits { IsSomeAnd (slice_get self.old i) (λ t. unmet ≡ is_unmet t value) }
         ensures tasks { IsSomeAnd (slice_get self.old i) (λ t. self.new ≡ set self.old i (task_after t setup.now value)) }
         ensures item { IsSomeAnd (slice_get self.old i) (λ t. result ≡ item_in (op_of t)) }
     {
         // A wait that isn't met changes nothing that a poll looks at.
-        let told = known_if(self.tasks[i as usize].is_unmet(value), self.told);
+        let told = known_if(unmet, self.told);
         let item = self.tasks[i as usize].got(setup, value);
         self.told = told;
         item
@@ -134,55 +132,80 @@ impl Tasks {
         requires { IsSomeAnd (slice_get self.old i) (λ t. HasAct t × CanBegin t (present t)) }
         ensures { IsSomeAnd (slice_get self.old i) (λ t. self.new ≡ set self.old i (begun t (present t))) }
     {
+        let task = &mut self.tasks[i as usize];
         // A task is quiet before its act and at the act's first operation. An interrupt that comes or
         // goes is an act that has ended.
-        let told = known_if(self.tasks[i as usize].is_polling(), self.told);
-        self.tasks[i as usize].begin_act();
-        self.told = known_if(!self.tasks[i as usize].is_polling(), told);
+        let told = known_if(task.is_polling(), self.told);
+        task.begin_act();
+        self.told = known_if(!task.is_polling(), told);
     }
 
-    /// What a poll has stored for each task is what the task's word holds.
-    pub(crate) fn take_words(&mut self, views: &[TaskView])
-        requires { length views.now ≡ length self.old }
-        ensures { self.new ≡ with_words self.old views.now }
+    /// The first task whose word is to change. It isn't one before this index: those have told.
+    pub(crate) fn first_untold(&self, request: u32, from: u32) -> Option<u32>
+        requires { HaveTold request from self.now }
+        ensures { result ≡ first_untold request self.now }
     {
-        self.told = None;
-        for i in 0..self.tasks.len() {
-            self.tasks[i].told(views[i].word);
+        // Most polls of a task that waits load the same request again. With eight such tasks, to look at
+        // each of them is most of what a turn costs.
+        if self.have_told(request) {
+            return None;
         }
+        self.untold_from(request, from as usize)
+    }
+
+    /// The first task from an index on whose word is to change.
+    fn untold_from(&self, request: u32, from: usize) -> Option<u32>
+        ensures { result ≡ untold_from request self.now from }
+    {
+        for n in from..self.tasks.len() {
+            if is_untold(&self.tasks[n], request) {
+                return Some(n as u32);
+            }
+        }
+        None
+    }
+
+    /// The word of the task at this index is stored: the task has told this request.
+    pub(crate) fn tell(&mut self, i: u32, request: u32)
+        requires { i < length self.old }
+        ensures tasks { IsSomeAnd (slice_get self.old i) (λ t. self.new ≡ set self.old i (told_task request t)) }
+        ensures few { i < TASKS }
+    {
+        let word = self.tasks[i as usize].view().told_word(request);
+        self.tasks[i as usize].told(word);
+        self.told = None;
     }
 
     /// Each task's word tells this request. That is known until one of them changes.
-    pub(crate) fn note_told(&mut self, request: u64)
-        requires { untold request (map view_of self.old) ≡ None }
+    pub(crate) fn note_told(&mut self, request: u32)
+        requires { first_untold request self.old ≡ None }
         ensures { self.new ≡ self.old }
     {
         self.told = Some(request);
     }
 
     /// Whether it is known that each task's word tells this request, so that a poll has none to store.
-    pub(crate) fn have_told(&self, request: u64) -> bool
-        ensures { result ≡ true → untold request (map view_of self.now) ≡ None }
+    fn have_told(&self, request: u32) -> bool
+        ensures { result ≡ true → first_untold request self.now ≡ None }
     {
         match self.told {
             Some(told) => told == request,
             None => false,
         }
     }
+}
 
-    /// Puts what a poll is to see of each task into these views.
-    pub(crate) fn look(&self, views: &mut [TaskView])
-        requires { length views.old ≡ length self.now }
-        ensures { views.new ≡ map view_of self.now }
-    {
-        for i in 0..self.tasks.len() {
-            views[i] = self.tasks[i].view();
-        }
-    }
+/// Whether a task's word is to change.
+fn is_untold(task: &Task, request: u32) -> bool
+    ensures { result ≡ is_untold request task.now }
+{
+    // The task is looked at as it is now. One that was quiet at the last poll may be within a call: told
+    // to be quiet, it might call a user back after the user's unregistration has returned.
+    !task.view().has_told(request)
 }
 
 /// What was known, if it still holds.
-fn known_if(holds: bool, known: Option<u64>) -> Option<u64>
+fn known_if(holds: bool, known: Option<u32>) -> Option<u32>
     ensures { result ≡ (if holds then known else None) }
 {
     if holds { known } else { None }

@@ -1,3 +1,1 @@
-pub mod Untold
-pub mod PollLaws
 mod WaitLaws

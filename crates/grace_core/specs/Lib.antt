@@ -1,6 +1,4 @@
 pub mod Views
-pub mod Polls
-pub mod KeptPoll
 pub mod Waits
 pub mod KeptWait
 pub mod Pasts

@@ -1,28 +1,7 @@
--- Polls and waits after several of their operations, and what they have come to by then.
-use Rattle.std.specs.Prelude.{◌≡◌, ℕ, ◌≤◌, List, [], ◌∷◌, map, take, slice_get, Some}
+-- Waits after several of their operations, and what they have come to by then.
+use Rattle.std.specs.Prelude.{◌≡◌, ℕ, ◌≤◌, List, [], ◌∷◌, take, slice_get, Some}
 use Rattle.word_map.specs.Ops.{Load}
-use Rattle.grace_core.specs.declared.poller.PollPhase.TheVariants.{Asking, Ended}
-use Rattle.grace_core.specs.Views.{PlainView, acknowledged, told}
-use Rattle.grace_core.specs.Polls.{Poll, poll_got}
 use Rattle.grace_core.specs.Waits.{Wait, wait_next, wait_got, awaited_word, reached}
-
--- ## polls
-
--- a poll after its next operations gave these values
-abbrev pub poll_past : Poll → List ℕ → Poll
-poll_past p [] = p
-poll_past p (v ∷ vs) = poll_past (poll_got p v) vs
-
--- a poll that begins
-abbrev pub begun : Poll → PlainView → Poll
-begun p view = record p { view = Some view; phase = Asking }
-
--- a poll that is over, if it has loaded this request: the CPU has acknowledged, and each task has told
-abbrev pub polled : Poll → PlainView → ℕ → Poll
-polled p view r =
-    record p { ack = acknowledged view r; view = Some (record view { tasks = map (told r) view.tasks }); phase = Ended }
-
--- ## waits
 
 -- a wait after its next operations gave these values
 abbrev pub wait_past : Wait → List ℕ → Wait

@@ -1,22 +1,11 @@
-//! Laws of polls and waits, for readers of the definitions and for the layers above.
+//! The law of waits, for readers of the definitions and for the layers above.
 
-ghost use Rattle.std.specs.Prelude.{◌≡◌, ℕ, ◌<◌, Bool, List, ◌∷◌, Some, None};
+ghost use Rattle.std.specs.Prelude.{◌≡◌, ℕ, ◌<◌, Bool, List, Some, None};
 ghost use Rattle.word_map.specs.declared.shape.Shape.{Shape};
-ghost use Rattle.word_map.specs.Ops.{Load, Store};
+ghost use Rattle.word_map.specs.Ops.{Store};
 ghost use Rattle.word_map.specs.Words.{Want};
-ghost use Rattle.grace_core.specs.Views.{PlainView};
-ghost use Rattle.grace_core.specs.Polls.{Poll, poll_next};
 ghost use Rattle.grace_core.specs.Waits.{awaited, wait_next, wait_start};
-ghost use Rattle.grace_core.specs.Pasts.{HasSeen, begun, poll_past, polled, wait_past};
-
-/// A poll first loads the request. Once it is over, the CPU has acknowledged that request, the word of
-/// each task is what it is to hold, and nothing else has changed.
-pub fn polled_once_all_have_told()
-    ensures asks { (p : Poll) (view : PlainView) → poll_next (begun p view) ≡ Some (Load Want) }
-    ensures over { (p : Poll) (view : PlainView) (request : ℕ) (values : List ℕ)
-        → poll_next (poll_past (begun p view) (request ∷ values)) ≡ None
-        → poll_past (begun p view) (request ∷ values) ≡ polled p view request }
-{}
+ghost use Rattle.grace_core.specs.Pasts.{HasSeen, wait_past};
 
 /// A wait first stores its request. Once it is over, it has loaded the word of each CPU or task that
 /// it is for, and found the request reached.

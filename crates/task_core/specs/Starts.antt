@@ -1,5 +1,5 @@
 -- A task before its first act, and what its CPU asks of a task.
-use Rattle.std.specs.Prelude.{ℕ, ◌-◌, ◌*◌, ◌≤◌, Bool, false, not, nat_lt, List, [], length, Option, Some}
+use Rattle.std.specs.Prelude.{ℕ, ◌-◌, ◌*◌, ◌≤◌, Bool, false, nat_lt, List, [], length, Option, Some}
 use Rattle.ft_base.specs.declared.number.TaskNo.{TaskNo}
 use Rattle.ft_base.specs.declared.task.TaskAct.{TaskAct}
 use Rattle.ft_base.specs.declared.task.TaskAct.TheVariants.{After}
@@ -36,9 +36,9 @@ pub record HasRoomFor (limit levels : ℕ) (acts : List TaskAct) : Type 0 where
 abbrev pub is_left : Task → Bool
 is_left t = nat_lt t.acts.gone (length t.acts.all)
 
--- what a poll looks at
+-- what a poll sees of it
 abbrev pub view_of : Task → TaskView
-view_of t = record { task = t.number; acts = t.acts.gone; quiet = is_quiet t.moment; ended = not (is_left t); word = t.word }
+view_of t = record { acts = t.acts.gone; quiet = is_quiet t.moment; left = is_left t; word = t.word }
 
 -- a wait that is not met by this clock
 abbrev pub is_unmet_at : Moment → Option TaskAct → ℕ → Bool

@@ -47,10 +47,10 @@ impl Setup {
     }
 
     /// The places of the words.
-    pub fn map(&self) -> WordMap
-        ensures { result ≡ self.now.shape }
+    pub fn map(&self) -> &WordMap
+        ensures { result.now ≡ self.now.shape }
     {
-        self.map
+        &self.map
     }
 
     /// What the script declares of a user.

@@ -73,20 +73,26 @@ impl Task {
         })
     }
 
+    /// Its number.
+    pub fn number(&self) -> TaskNo
+        ensures { result ≡ self.now.number }
+    {
+        self.number
+    }
+
     /// What a poll of its CPU sees of it.
     pub fn view(&self) -> TaskView
         ensures { result ≡ view_of self.now }
     {
         TaskView {
-            task: self.number,
             acts: self.acts.gone(),
             quiet: self.moment.is_quiet(),
-            ended: !self.acts.is_left(),
+            left: self.acts.is_left(),
             word: self.word,
         }
     }
 
-    /// A poll of its CPU has stored this into its quiet word, or found it there.
+    /// A poll of its CPU has stored this into its quiet word.
     pub fn told(&mut self, word: u64)
         ensures { self.new ≡ record self.old { word = word } }
     {
@@ -145,6 +151,7 @@ impl Task {
     }
 
     /// Its next operation, if it is not before a poll.
+    #[inline(always)]
     pub fn op(&self, map: &WordMap) -> Option<Op>
         requires { IsTaskThere map.now self.now }
         ensures { result ≡ option_map (placed map.now) (op_of self.now) }

@@ -1,5 +1,4 @@
-use Rattle.std.proofs.Common.{◌≡◌, List, length, refl, sym, ap, ◌∙◌, subst}
-use Rattle.grace_core.specs.Polls.{poll_start}
+use Rattle.std.proofs.Common.{◌≡◌, List, refl, sym, ap, ◌∙◌, subst}
 use Rattle.user_specs.specs.declared.plan.TaskPlan.{TaskPlan}
 use Rattle.cpu_core.specs.declared.parts.Parts.{Parts}
 use Rattle.cpu_core.specs.declared.parts.Phase.TheVariants.{Going}
@@ -8,21 +7,19 @@ use Rattle.cpu_core.specs.Turns.{AreStarted, first_left}
 use Rattle.cpu_core.proofs.CpuStart.{start-is, start-next}
 use Rattle.cpu_core.proofs.cpu.Cpu.new.Goals as goal
 
-module _ (c : goal.In_ok-new-3) where
+module _ (c : goal.In_ok-new-2) where
   abbrev made : Parts
   made = record {
     setup = c.in_ok-new.field-0;
-    polls = c.in_ok-new-2.field-0;
+    cpu = c.args.cpu;
+    ack = 0;
     quantum = c.args.plan.now.quantum;
     tasks = c.tasks.inside.tasks.items;
     present = c.first.result;
     count = 0;
     phase = Going;
-    marked = c.in_ok-new-3.field-0;
+    marked = c.in_ok-new-2.field-0;
   }
-
-  polls : c.in_ok-new-2.field-0 ≡ record { poll = poll_start c.args.map c.args.cpu.0; size = length c.tasks.inside.tasks.items }
-  polls = c.in_ok-new-2.ensures {u = tt} ∙ λ i. record { poll = poll_start c.args.map c.args.cpu.0; size = length (sym c.tasks.view_is i) }
 
   started : AreStarted c.args.frames c.args.levels c.args.plan.now.tasks.items c.tasks.inside.tasks.items
   started = subst (λ (ts : List Task). AreStarted c.args.frames c.args.levels c.args.plan.now.tasks.items ts) (sym c.tasks.view_is)
@@ -33,10 +30,10 @@ module _ (c : goal.In_ok-new-3) where
 
 pub returns-clause-of : goal.returns-clause-of
 returns-clause-of c = λ job limited is quick.
-    start-is c.args.plan.now c.args.cpu.0 c.args.specs.now c.args.frames c.args.levels c.args.map c.args.room (made c) (c.in_ok-new.ensures {u = tt}) (polls c) refl
-    (started c) (present c) refl refl (c.in_ok-new-3.ensures {u = tt}) job limited is c.requires.cpu quick
+    start-is c.args.plan.now c.args.cpu c.args.specs.now c.args.frames c.args.levels c.args.map c.args.room (made c) (c.in_ok-new.ensures {u = tt}) refl refl refl
+    (started c) (present c) refl refl (c.in_ok-new-2.ensures {u = tt}) job limited is c.requires.cpu quick
 
 pub invariant_of-result-2 : goal.invariant_of-result-2
 invariant_of-result-2 c =
-    start-next c.args.plan.now c.args.cpu.0 c.args.specs.now c.args.frames c.args.levels c.args.map c.args.room (made c) (c.in_ok-new.ensures {u = tt}) (polls c) refl
-    (started c) (present c) refl refl (c.in_ok-new-3.ensures {u = tt})
+    start-next c.args.plan.now c.args.cpu c.args.specs.now c.args.frames c.args.levels c.args.map c.args.room (made c) (c.in_ok-new.ensures {u = tt}) refl refl refl
+    (started c) (present c) refl refl (c.in_ok-new-2.ensures {u = tt})

@@ -13,5 +13,5 @@ pub returns : goal.returns
 returns c = λ job limited is.
     let own : IsFor job c.self.inside.parts = subst (IsFor job) (sym c.self.view_is) is in
     c.op.ensures
-    ∙ ap (λ (s : PlainSetup). option_map (placed s.shape) (cpu_op c.self.inside.parts)) own.setup
+    ∙ ap (λ (s : PlainSetup). option_map (placed s.shape) (cpu_op c.self.inside.parts)) own.own.setup
     ∙ ap (λ op. option_map (placed (shape_of job)) op) (cpu-op-is job c.self.inside.parts own ∙ ap (λ d. cpu_next job (cpu_of job d)) c.self.view_is)

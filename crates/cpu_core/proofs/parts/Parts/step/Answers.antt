@@ -1,34 +1,24 @@
--- In each phase a step is what the phase says.
-use Rattle.std.proofs.Common.{cond, ◌≡◌, ℕ, suc, ◌+◌, Bool, true, false, sym, ap, ◌∙◌, arith}
-use Rattle.cpu_core.specs.declared.parts.Parts.{Parts}
-use Rattle.cpu_core.specs.declared.parts.Phase.{Phase}
-use Rattle.cpu_core.specs.declared.parts.Phase.TheVariants.{Going}
-use Rattle.cpu_core.specs.CpuOps.{is_running}
-use Rattle.cpu_core.specs.CpuSteps.{began_poll, stepped, stepped_in, ticked, went}
+-- The item that was taken is marked.
+use Rattle.std.proofs.Common.{◌≡◌, ◌++◌, [], ◌∷◌, Some, None, sym, ◌∙◌}
+use Rattle.std.proofs.lemmas.List.{append-nil}
+use Rattle.word_map.specs.Contents.{low}
+use Rattle.cpu_core.specs.CpuSteps.{stepped, unmarked}
+use Rattle.cpu_core.specs.Marks.{Marks}
+use Rattle.cpu_core.proofs.Handed.{stepped-from}
 use Rattle.cpu_core.proofs.parts.Parts.step.Goals as goal
 
-module _ (d : Parts) (v : ℕ) where
-  -- one more step is counted
-  abbrev counted : Parts
-  counted = record d { count = d.count + 1 }
+pub returns-in-Some : goal.returns-in-Some
+returns-in-Some c =
+    let d = c.args.self.now in
+    let same : c.push.new.self ≡ record d.marked { items = d.marked.items ++ record { place = low c.args.value; item = c.in-Some.item } ∷ [] } =
+    c.push.ensures ∙ (λ i. let m : Marks = (c.take.ensures.parts i).marked in
+    record m { items = m.items ++ record { place = c.items_at.ensures i; item = c.in-Some.item } ∷ [] }) in
+    (λ i. record (c.take.ensures.parts i) { marked = same i })
+    ∙ sym (stepped-from d c.args.value (Some c.in-Some.item) (sym c.in-Some.is ∙ c.take.ensures.item))
 
-  one-more : counted ≡ ticked d
-  one-more = let one : d.count + 1 ≡ suc d.count = omega arith in ap (λ n. record d { count = n }) one
-
-  in-phase : (p : Phase) → d.phase ≡ p → stepped d v ≡ stepped_in counted p v
-  in-phase p e = ap (λ q. stepped_in (ticked d) q v) e ∙ ap (λ c. stepped_in c p v) (sym one-more)
-
-  going : (b : Bool) → d.phase ≡ Going → b ≡ is_running counted → stepped d v ≡ cond b (went counted v) (began_poll counted v)
-  going b e runs = in-phase Going e ∙ ap (λ r. cond r (went counted v) (began_poll counted v)) (sym runs)
-
-pub returns-then-is_running : goal.returns-then-is_running
-returns-then-is_running c = c.go.ensures ∙ sym (going c.args.self.now c.args.value true c.in-Going.is (c.if-is_running.ensures {u = tt}))
-
-pub returns-else-is_running : goal.returns-else-is_running
-returns-else-is_running c = c.begin_poll.ensures ∙ sym (going c.args.self.now c.args.value false c.in-Going.is (c.if-is_running.ensures {u = tt}))
-
-pub returns-in-Polling : goal.returns-in-Polling
-returns-in-Polling c = c.go_on_polling.ensures ∙ sym (in-phase c.args.self.now c.args.value _ c.in-Polling.is)
-
-pub returns-in-Over : goal.returns-in-Over
-returns-in-Over c = sym (in-phase c.args.self.now c.args.value _ c.in-Over.is)
+pub returns-in_default : goal.returns-in_default
+returns-in_default c =
+    let d = c.args.self.now in
+    c.take.ensures.parts
+    ∙ sym (stepped-from d c.args.value None (sym c.in_default.is ∙ c.take.ensures.item)
+    ∙ λ i. record (unmarked d (stepped d c.args.value)) { marked = record d.marked { items = append-nil d.marked.items i } })

@@ -1,9 +1,7 @@
 -- An act that begins with an operation leaves all tasks as a poll looks at them.
-use Rattle.std.proofs.Common.{◌≡◌, ◌<◌, length, ap, ◌∙◌, arith}
-use Rattle.std.proofs.lemmas.List.{get_or-set_same, length-set}
-use Rattle.task_core.specs.declared.task.Task.{Task}
+use Rattle.std.proofs.Common.{◌<◌, length, ap, arith}
+use Rattle.std.proofs.lemmas.List.{length-set}
 use Rattle.task_core.specs.Fits.{CanBegin, HasAct}
-use Rattle.task_core.specs.States.{is_polling}
 use Rattle.task_core.specs.TaskOps.{present}
 use Rattle.cpu_core.proofs.Told.{some-within, told-begun}
 use Rattle.cpu_core.proofs.tasks.Tasks.begin_act.Goals as goal
@@ -13,10 +11,9 @@ invariant_of-self c =
     let ts = c.self.inside.tasks.items in
     let lt : c.args.i < length ts =
     omega (arith, some-within c.args.self.now c.args.i (λ t. HasAct t × CanBegin t (present t)) c.requires, ap length c.self.view_is) in
-    let still : c.is_polling-2.result ≡ is_polling c.begin_act.new.self.moment =
-    c.is_polling-2.ensures ∙ ap (λ (t : Task). is_polling t.moment) (c.index-2.ensures ∙ get_or-set_same ts c.args.i c.begin_act.new.self _ lt) in
     record {
       few = rw (length-set ts c.args.i c.begin_act.new.self) c.self.invariant.few;
-      told = rw (c.known_if-self-inside.ensures, c.known_if-told.ensures) (told-begun c.self.inside.told ts c.args.i c.index.result.now c.index_mut.result.now c.begin_act.new.self lt
-          c.index.ensures c.index_mut.ensures.value c.self.invariant.told c.is_polling.result c.is_polling-2.result c.is_polling.ensures still c.begin_act.ensures);
+      told = rw (c.known_if-self-inside.ensures, c.known_if-told.ensures) (told-begun c.self.inside.told ts c.args.i c.index_mut-task.result.now c.begin_act.new.self
+          lt c.index_mut-task.ensures.value c.self.invariant.told c.is_polling.result c.is_polling-2.result c.is_polling.ensures c.is_polling-2.ensures
+          c.begin_act.ensures);
     }
