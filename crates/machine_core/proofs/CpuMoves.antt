@@ -1,5 +1,5 @@
 -- A step of a CPU: the word machine's row.
-use Rattle.std.proofs.Common.{◌≡◌, ◌≢◌, ℕ, zero, suc, ◌+◌, ◌<◌, ◌++◌, Bool, inl, inr, List, [], ◌∷◌, get_or, length, set, slice_get, Option, Some, None, IsSome, option_map, refl, sym, ap, ◌∙◌, subst, arith, length-set}
+use Rattle.std.proofs.Common.{◌≡◌, ◌≢◌, ℕ, zero, suc, ◌+◌, ◌<◌, inl, inr, List, [], ◌∷◌, get_or, length, set, slice_get, Option, Some, None, IsSome, option_map, refl, sym, ap, ◌∙◌, subst, arith, length-set}
 use Rattle.std.proofs.lemmas.Bool.{cases_eq, lt-ltb}
 use Rattle.std.proofs.lemmas.Option.{same_Some, slice_get_read, slice_get_within}
 use Rattle.std.specs.Prelude.{nat_lt, cond}
@@ -12,8 +12,7 @@ use Rattle.ft_base.specs.Desk.{desk}
 use Rattle.ft_base.specs.Job.{Job}
 use Rattle.ft_base.proofs.Small.{false_true}
 use Rattle.word_map.specs.declared.op.Op.{Op}
-use Rattle.word_map.specs.declared.op.Op.TheVariants.{Mark as CodeMark}
-use Rattle.word_map.specs.Contents.{low, mask_of}
+use Rattle.word_map.specs.Contents.{mask_of}
 use Rattle.word_map.specs.Ops.{WordOp, Load, Store, Mark, placed}
 use Rattle.word_map.specs.Shapes.{shape_of}
 use Rattle.word_map.specs.Words.{at_put}
@@ -29,7 +28,6 @@ use Rattle.word_machine_laws.proofs.There.{cpu-there}
 use Rattle.word_machine_laws.proofs.WordsFit.{cpu-row-runs}
 use Rattle.cpu_core.specs.declared.parts.Parts.{Parts as CpuParts}
 use Rattle.cpu_core.specs.Cpus.{IsFor as IsCpuFor, cpu_of}
-use Rattle.cpu_core.specs.CpuSteps.{marks_in}
 use Rattle.cpu_core.specs.Marks.{HasRoom}
 use Rattle.cpu_core.specs.Taken.{IsTaken}
 use Rattle.task_core.specs.TaskOps.{item_in}
@@ -40,7 +38,7 @@ use Rattle.machine_core.proofs.Chosen.{Chosen, chosen, none-next}
 use Rattle.machine_core.proofs.Made.{IsOpThere, gives-is, made-is, made-length, of-job, on-is, room-is}
 use Rattle.machine_core.proofs.Moved.{HasMoved}
 use Rattle.machine_core.proofs.Plans.{room-most}
-use Rattle.machine_core.proofs.Recording.{IsLeft, IsMarked, IsTold, mark-item, told-past}
+use Rattle.machine_core.proofs.Recording.{IsLeft, IsTold, told-past}
 
 -- ## the list of CPUs
 
@@ -130,12 +128,6 @@ module _ (job : Job) (past : List Item) (limited : IsLimited job) (w : Parts) (k
         let room = own.room some in
         record { room = omega (arith, none, room); left = omega (arith, lt, most, none, left) }
 
-    -- its list was empty
-    marked : (o : WordOp) (v : ℕ) (items : List Stamped) → items ≡ x.marked.items ++ marks_in (Some o) v → IsMarked o items
-    marked (Load y) v items e = e ∙ ap (λ (had : List Stamped). had ++ []) own.none
-    marked (Store y z) v items e = e ∙ ap (λ (had : List Stamped). had ++ []) own.none
-    marked (Mark item) v items e = (record { place = low v; item = item }, e ∙ ap (λ (had : List Stamped). had ++ marks_in (Some (Mark item)) v) own.none, refl)
-
     module _ (y : CpuParts) (is_for : IsCpuFor job y) (none : y.marked.items ≡ []) (left : IsLeft op x.marked.left y.marked.left) (stays : y.marked.room ≡ x.marked.room)
         (is : cpu_of job y ≡ cpu_got job (cpu_of job x) (gives (placed (shape_of job) op) w.words))
         (o : Option Item) (is-told : IsTold op o) where
@@ -173,7 +165,7 @@ module _ (job : Job) (past : List Item) (limited : IsLimited job) (w : Parts) (k
       other-count c ne (Store a b) e = refl
       other-count c ne (Mark item) e = other-mark job (word-job job limited) (world_of job past w) r.kept i inside item e c ne
 
-      number-is : y.polls.poll.cpu ≡ i
+      number-is : y.cpu.0 ≡ i
       number-is =
           ap (λ (me : Cpu). me.number) (got-is ∙ sym (put_same (world_of job past w).cpus i (cpu_got job ((world_of job past w).cpus i) (taken op (world_of job past w).words))))
           ∙ (runs-on.kept.cpus i inside).number
@@ -245,16 +237,9 @@ module _ (job : Job) (past : List Item) (limited : IsLimited job) (w : Parts) (k
     room = cpu-fits;
   }
 
-  -- what it has marked, before its list is emptied
-  pub cpu-marked : (v : ℕ) (items : List Stamped) → items ≡ x.marked.items ++ marks_in (cpu_next job (cpu_of job x)) v → IsMarked u.op items
-  cpu-marked v items e = marked job past limited w k r i x at u.op u.is u.op v items (e ∙ ap (λ o. x.marked.items ++ marks_in o v) u.is)
-
   -- a mark was left to it
-  pub cpu-had-left : (command : Bool) → code ≡ CodeMark command → 0 < x.marked.left
-  cpu-had-left command e =
-      let m = mark-item (shape_of job) command u.op (u.placed' ∙ e) in
-      let lt = (cpu-fits (subst (λ o. IsSome (item_in o)) (sym (u.is ∙ ap (λ o. Some o) m.1)) refl)).left in
-      omega (arith, lt)
+  pub cpu-had-left : IsSome (item_in (Some u.op)) → 0 < x.marked.left
+  cpu-had-left some = let lt = (cpu-fits (subst (λ o. IsSome (item_in o)) (sym u.is) some)).left in omega (arith, lt)
 
   pub cpu-moved : (words : List ℕ) → words ≡ made code w.words → (v : ℕ) → v ≡ gives code w.words → (y : CpuParts) → IsCpuFor job y → y.marked.items ≡ []
       → IsLeft u.op x.marked.left y.marked.left → y.marked.room ≡ x.marked.room → cpu_of job y ≡ cpu_got job (cpu_of job x) v → (o : Option Item) → IsTold u.op o

@@ -1,5 +1,5 @@
 -- What an operation marks, and what is told of it: the world's items go on with that.
-use Rattle.std.proofs.Common.{◌≡◌, ◌≢◌, ℕ, suc, ◌-◌, ◌<◌, Bool, List, [], ◌∷◌, get_or, length, map, Option, Some, None, refl, sym, ap, ◌∙◌, arith}
+use Rattle.std.proofs.Common.{◌≡◌, ◌≢◌, ℕ, suc, ◌-◌, ◌<◌, Bool, List, [], ◌∷◌, get_or, length, map, Option, Some, None, IsSome, refl, sym, ap, ◌∙◌, subst, arith}
 use Rattle.ft_base.specs.declared.item.Item.{Item}
 use Rattle.ft_base.specs.declared.item.Stamped.{Stamped}
 use Rattle.word_map.specs.declared.op.Op.{Op}
@@ -7,6 +7,8 @@ use Rattle.word_map.specs.declared.op.Op.TheVariants.{Mark as CodeMark}
 use Rattle.word_map.specs.declared.shape.Shape.{Shape}
 use Rattle.word_map.specs.Ops.{WordOp, Load, Store, Mark, placed}
 use Rattle.word_machine.specs.Machine.{past_after}
+use Rattle.cpu_core.specs.Marks.{Marks, handed_on}
+use Rattle.task_core.specs.TaskOps.{item_in}
 use Rattle.machine_core.specs.Worlds.{marked_on}
 
 -- ## what is marked
@@ -21,18 +23,12 @@ abbrev pub IsTold : WordOp → Option Item → Type 0
 IsTold (Mark item) o = o ≡ Some item
 IsTold _ o = o ≡ None
 
--- how many items are left to mark after an operation, once the list was emptied
+-- how many items are left to mark after an operation
 abbrev pub IsLeft : WordOp → ℕ → ℕ → Type 0
 IsLeft (Mark item) left left' = suc left' ≡ left
 IsLeft _ left left' = left' ≡ left
 
 -- ## as code has the operation
-
--- a mark is one of some item
-pub mark-item : (shape : Shape) (command : Bool) (op : WordOp) → placed shape op ≡ CodeMark command → (item : Item) × (op ≡ Mark item)
-mark-item shape command (Load w) e = absurd cc
-mark-item shape command (Store w x) e = absurd cc
-mark-item shape command (Mark item) e = (item, refl)
 
 -- what it leaves
 module _ (shape : Shape) (command : Bool) (items : List Stamped) where
@@ -48,12 +44,6 @@ module _ (shape : Shape) (command : Bool) (items : List Stamped) where
   mark-told (Mark item) e m told one = ap (λ (i : Item). Some i)
       (ap (λ (xs : List Item). get_or xs 0 told) (sym one ∙ ap (λ (xs : List Stamped). map (λ (s : Stamped). s.item) xs) m.1) ∙ m.2)
 
-  pub mark-left : (op : WordOp) → placed shape op ≡ CodeMark command → IsMarked op items → (left left' : ℕ) → 0 < left → left' ≡ left - length items
-      → IsLeft op left left'
-  mark-left (Load w) e m left left' some is = absurd cc
-  mark-left (Store w x) e m left left' some is = absurd cc
-  mark-left (Mark item) e m left left' some is = let one = ap (λ (xs : List Stamped). length xs) m.1 in omega (arith, is, one, some)
-
 -- any other operation leaves all as it was
 module _ (shape : Shape) (code : Op) (other : (command : Bool) → code ≢ CodeMark command) where
   pub none-marked : (op : WordOp) → placed shape op ≡ code → (items : List Stamped) → IsMarked op items → items ≡ []
@@ -66,10 +56,32 @@ module _ (shape : Shape) (code : Op) (other : (command : Bool) → code ≢ Code
   none-told (Store w x) e = refl
   none-told (Mark item) e = absurd (other _ (sym e))
 
-  pub none-left : (op : WordOp) → placed shape op ≡ code → (left : ℕ) → IsLeft op left left
-  none-left (Load w) e left = refl
-  none-left (Store w x) e left = refl
-  none-left (Mark item) e left = absurd (other _ (sym e))
+-- ## what a CPU hands on
+
+-- what an operation marks is told
+pub is-told : (op : WordOp) (o : Option Item) → o ≡ item_in (Some op) → IsTold op o
+is-told (Load w) o e = e
+is-told (Store w x) o e = e
+is-told (Mark item) o e = e
+
+-- its list stays empty, and keeps its room
+pub handed-none : (o : Option Item) (m n : Marks) → n ≡ handed_on o m → m.items ≡ [] → n.items ≡ []
+handed-none None m n is none = ap (λ (k : Marks). k.items) is ∙ none
+handed-none (Some item) m n is none = ap (λ (k : Marks). k.items) is ∙ none
+
+pub handed-room : (o : Option Item) (m n : Marks) → n ≡ handed_on o m → n.room ≡ m.room
+handed-room None m n is = ap (λ (k : Marks). k.room) is
+handed-room (Some item) m n is = ap (λ (k : Marks). k.room) is
+
+-- and a mark takes one of those that are left
+pub handed-left : (op : WordOp) (o : Option Item) → o ≡ item_in (Some op) → (m n : Marks) → n ≡ handed_on o m → (IsSome o → 0 < m.left)
+    → IsLeft op m.left n.left
+handed-left (Load w) o e m n is some = ap (λ (k : Marks). k.left) (is ∙ ap (λ p. handed_on p m) e)
+handed-left (Store w x) o e m n is some = ap (λ (k : Marks). k.left) (is ∙ ap (λ p. handed_on p m) e)
+handed-left (Mark item) o e m n is some =
+    let left : n.left ≡ m.left - 1 = ap (λ (k : Marks). k.left) (is ∙ ap (λ p. handed_on p m) e) in
+    let had = some (subst (λ p. IsSome p) (sym e) refl) in
+    omega (arith, left, had)
 
 -- ## the items so far
 

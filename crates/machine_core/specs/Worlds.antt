@@ -71,7 +71,7 @@ world_of job past w = record {
 --   room   it has room for one, if its tasks can mark any
 pub record IsCpuAt (job : Job) (past : List Item) (c : ℕ) (x : CpuParts) : Type 0 where
   pub is_for : cpu.IsFor job x
-  pub number : x.polls.poll.cpu ≡ c
+  pub number : x.cpu.0 ≡ c
   pub none : x.marked.items ≡ []
   pub left : x.marked.left + items_on job c past ≡ ITEMS
   pub room : 0 < room_on job c → 0 < x.marked.room

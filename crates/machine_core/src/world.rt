@@ -144,13 +144,7 @@ impl World {
     {
         if let Some(op) = self.cpus[cpu.0 as usize].next() {
             let value = self.table.make(op);
-            let own = &mut self.cpus[cpu.0 as usize];
-            own.got(value);
-            if let Op::Mark { .. } = op {
-                let item = only(own.items());
-                own.forget_items();
-                return Some(item);
-            }
+            return self.cpus[cpu.0 as usize].take(value);
         }
         None
     }
