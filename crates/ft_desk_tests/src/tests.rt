@@ -142,20 +142,20 @@ static TWO_MODIFIERS: [(Line, Answer); 11] = [
     (Line::Filter(0, APPEND, 0b100), TWO_HELD_BY_1),
 ];
 
+/// Those commands, and what is there after them.
+fn two_modifiers(rt: &impl Abort, alloc: Global, bench: &mut Bench) -> Result<(), Fail> {
+    answers(rt, alloc, bench, &TWO_MODIFIERS)?;
+    let row = bench.row(rt, 2);
+    assert!(rt; row.count == 1 && row.regs == 1 && row.ipmodify == 1);
+    assert!(rt; bench.matched(rt, 0) == 0b001 && bench.commands() == 11);
+    Ok(())
+}
+
 #[test]
 fn two_users_that_replace_functions(rt: HostRuntime) -> Result<(), Fail> {
     let alloc = rt.alloc();
     let mut bench = Bench::new(&rt, alloc, &[MODIFIER, MODIFIER], 3, 16)?;
-    answers(&rt, alloc, &mut bench, &TWO_MODIFIERS)?;
-    check_modifiers(&rt, &bench);
-    Ok(())
-}
-
-/// What is there after those commands.
-fn check_modifiers(rt: &impl Abort, bench: &Bench) {
-    let row = bench.row(rt, 2);
-    assert!(rt; row.count == 1 && row.regs == 1 && row.ipmodify == 1);
-    assert!(rt; bench.matched(rt, 0) == 0b001 && bench.commands() == 11);
+    two_modifiers(&rt, alloc, &mut bench)
 }
 
 // User 0 lacks the registers. An edit that selects nothing is no match, and one that would leave the
@@ -185,14 +185,19 @@ static IN_ORDER: [(Line, Answer); 22] = [
     (Line::Notrace(3, REMOVE, 0b110), ONE_HELD_BY_2),
 ];
 
+/// Those commands, and what two of the users match after them.
+fn in_order(rt: &impl Abort, alloc: Global, bench: &mut Bench) -> Result<(), Fail> {
+    answers(rt, alloc, bench, &IN_ORDER)?;
+    assert!(rt; bench.matched(rt, 1) == 0b100 && bench.matched(rt, 3) == 0b001);
+    Ok(())
+}
+
 #[test]
 fn answers_in_order(rt: HostRuntime) -> Result<(), Fail> {
     let alloc = rt.alloc();
     let users = [NO_REGS, MODIFIER, MODIFIER, MODIFIER];
     let mut bench = Bench::new(&rt, alloc, &users, 3, 16)?;
-    answers(&rt, alloc, &mut bench, &IN_ORDER)?;
-    assert!(rt; bench.matched(&rt, 1) == 0b100 && bench.matched(&rt, 3) == 0b001);
-    Ok(())
+    in_order(&rt, alloc, &mut bench)
 }
 
 static MATCHES: [(Line, Answer, u64); 13] = [
@@ -215,8 +220,7 @@ static MATCHES: [(Line, Answer, u64); 13] = [
 fn notrace_wins(rt: HostRuntime) -> Result<(), Fail> {
     let alloc = rt.alloc();
     let mut bench = Bench::new(&rt, alloc, &[PLAIN], 3, 16)?;
-    matches(&rt, alloc, &mut bench, &MATCHES)?;
-    Ok(())
+    matches(&rt, alloc, &mut bench, &MATCHES)
 }
 
 static SWITCHES: [(Line, Answer); 19] = [
@@ -246,8 +250,7 @@ fn switches_are_for_fprobes(rt: HostRuntime) -> Result<(), Fail> {
     let alloc = rt.alloc();
     let users = [PLAIN, PROBE, GRAPH, PROFILE];
     let mut bench = Bench::new(&rt, alloc, &users, 3, 16)?;
-    answers(&rt, alloc, &mut bench, &SWITCHES)?;
-    Ok(())
+    answers(&rt, alloc, &mut bench, &SWITCHES)
 }
 
 const NOP: Insn = Insn::Nop;
@@ -265,14 +268,19 @@ static DISABLED: [(Line, Insn, Insn, Insn); 4] = [
     (Line::Enable(0), FIRST, FIRST, NOP),
 ];
 
+/// Those commands, and how many users the sites have after one more.
+fn disabled(rt: &impl Abort, alloc: Global, bench: &mut Bench) -> Result<(), Fail> {
+    sites(rt, alloc, bench, &DISABLED)?;
+    assert!(rt; bench.ask(rt, alloc, Line::Disable(0))? == ACCEPTED);
+    assert!(rt; bench.row(rt, 0).count == 1 && bench.row(rt, 2).count == 0);
+    Ok(())
+}
+
 #[test]
 fn disabled_user_keeps_its_sites(rt: HostRuntime) -> Result<(), Fail> {
     let alloc = rt.alloc();
     let mut bench = Bench::new(&rt, alloc, &[PROBE], 3, 16)?;
-    sites(&rt, alloc, &mut bench, &DISABLED)?;
-    assert!(rt; bench.ask(&rt, alloc, Line::Disable(0))? == ACCEPTED);
-    assert!(rt; bench.row(&rt, 0).count == 1 && bench.row(&rt, 2).count == 0);
-    Ok(())
+    disabled(&rt, alloc, &mut bench)
 }
 
 // Two slots for three users: the lowest free one is taken.
@@ -300,7 +308,22 @@ static SLOTS: [(Line, Insn, Insn, Insn); 17] = [
 fn slots_and_lists(rt: HostRuntime) -> Result<(), Fail> {
     let alloc = rt.alloc();
     let mut bench = Bench::new(&rt, alloc, &[PLAIN, PLAIN, PLAIN], 3, 2)?;
-    sites(&rt, alloc, &mut bench, &SLOTS)?;
+    sites(&rt, alloc, &mut bench, &SLOTS)
+}
+
+/// All users come to the only function, and all but the last one go.
+fn come_and_go(rt: &impl Abort, alloc: Global, bench: &mut Bench) -> Result<(), Fail> {
+    for u in 0..USERS {
+        assert!(rt; bench.ask(rt, alloc, Line::Register(u))? == ACCEPTED, "{u}");
+    }
+    assert!(rt; bench.row(rt, 0).count == 64 && bench.target(rt, 0) == LIST);
+    for u in 0..63 {
+        assert!(rt;
+            bench.ask(rt, alloc, Line::Unregister(u))? == ACCEPTED,
+            "{u}"
+        );
+    }
+    assert!(rt; bench.row(rt, 0).count == 1 && bench.target(rt, 0) == Insn::Own(63));
     Ok(())
 }
 
@@ -309,19 +332,5 @@ fn all_users_at_one_function(rt: HostRuntime) -> Result<(), Fail> {
     let alloc = rt.alloc();
     let users = [PLAIN; USERS as usize];
     let mut bench = Bench::new(&rt, alloc, &users, 1, TRAMPS as u8)?;
-    for u in 0..USERS {
-        assert!(rt;
-            bench.ask(&rt, alloc, Line::Register(u))? == ACCEPTED,
-            "{u}"
-        );
-    }
-    assert!(rt; bench.row(&rt, 0).count == 64 && bench.target(&rt, 0) == LIST);
-    for u in 0..63 {
-        assert!(rt;
-            bench.ask(&rt, alloc, Line::Unregister(u))? == ACCEPTED,
-            "{u}"
-        );
-    }
-    assert!(rt; bench.row(&rt, 0).count == 1 && bench.target(&rt, 0) == Insn::Own(63));
-    Ok(())
+    come_and_go(&rt, alloc, &mut bench)
 }

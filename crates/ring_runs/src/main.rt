@@ -57,26 +57,47 @@ fn write_fired<K: Sink>(
     write_all(sink, b"\n").map_err(|_| Stopped)
 }
 
-/// Runs the script that the source gives, and writes all to the sink.
-fn run_script<R: AllocGlobal + Threads + Wait + Sync, S: Source, K: Sink>(
-    rt: &R,
-    source: &mut S,
-    sink: &mut K,
-) -> Result<(), Stopped> {
-    let alloc = rt.alloc();
-    let script = read_all(alloc, source, INPUT_BYTES).map_err(|_| Stopped)?;
-    let job = read_script(alloc, script.as_slice()).map_err(|_| Stopped)?;
-    let Ok(run) = run_rings(rt, alloc, &job, &OpenGate) else {
-        return Err(Stopped);
-    };
-    let text = rings_text(alloc, &job, &run).map_err(|_| Stopped)?;
-    write_log(alloc, &job, &run.history, true, sink).map_err(|_| Stopped)?;
+/// Writes the log of a run of this job, its rings, and the places at which each trigger fired.
+fn write_run<K: Sink>(alloc: Global, job: &Job, run: &RingRun, sink: &mut K) -> Result<(), Stopped>
+    requires whole { IsWhole job.now run.now.history.items }
+    requires legal { RingsLegal (plan_of job.now) run.now.history.items run.now.rings }
+{
+    let text = rings_text(alloc, job, run).map_err(|_| Stopped)?;
+    write_log(alloc, job, &run.history, true, sink).map_err(|_| Stopped)?;
     write_all(sink, b"rings\n").map_err(|_| Stopped)?;
     write_all(sink, text.as_slice()).map_err(|_| Stopped)?;
     for trigger in 0..run.rings.triggers() {
         write_fired(alloc, &run.rings, trigger, sink)?;
     }
     Ok(())
+}
+
+/// Runs a job by threads, and writes all to the sink.
+fn run_job<R: AllocGlobal + Threads + Wait + Sync, K: Sink>(
+    rt: &R,
+    job: &Job,
+    sink: &mut K,
+) -> Result<(), Stopped> {
+    let Ok(run) = run_rings(rt, rt.alloc(), job, &OpenGate) else {
+        return Err(Stopped);
+    };
+    write_run(rt.alloc(), job, &run, sink)
+}
+
+/// The job of the script that the source gives.
+fn read_job<S: Source>(alloc: Global, source: &mut S) -> Result<Job, Stopped> {
+    let script = read_all(alloc, source, INPUT_BYTES).map_err(|_| Stopped)?;
+    read_script(alloc, script.as_slice()).map_err(|_| Stopped)
+}
+
+/// Runs the script that the source gives, and writes all to the sink.
+fn run_script<R: AllocGlobal + Threads + Wait + Sync, S: Source, K: Sink>(
+    rt: &R,
+    source: &mut S,
+    sink: &mut K,
+) -> Result<(), Stopped> {
+    let job = read_job(rt.alloc(), source)?;
+    run_job(rt, &job, sink)
 }
 
 fn main(rt: HostRuntime) -> ExitCode {

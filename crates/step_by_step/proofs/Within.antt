@@ -1,27 +1,10 @@
 -- The job that the program makes is within what the machine asks.
-use Rattle.std.proofs.Common.{◌≡◌, inl, [], ◌∷◌, refl, sym, subst, arith}
-use Rattle.ft_base.specs.Job.{usual_lines, usual_rings}
+use Rattle.std.proofs.Common.{◌≡◌, inl, refl, sym, subst, arith}
 use Rattle.ft_base.specs.WellFormed.{IsWellFormed}
-use Rattle.ft_desk.specs.declared.command.Ctl.TheVariants.{Run, Until}
-use Rattle.ft_desk.specs.declared.command.Command.TheVariants.{Register, Unregister}
 use Rattle.word_machine.specs.Limits.{IsLimited}
-use Rattle.ft_job.specs.Parts.{Parts, IsWithin, job_of}
-use Rattle.step_by_step.specs.TheJob.{the_functions, the_user, the_task, the_job}
-
--- the parts that the program gives
-abbrev pub the_parts : Parts
-the_parts = record {
-  version = 1;
-  functions = the_functions;
-  users = the_user ∷ [];
-  frames = 0;
-  tramps = 1;
-  cpus = record { quantum = 100; tasks = record { task = 0; pid = the_task.pid; acts = the_task.acts } ∷ [] } ∷ [];
-  ctls = Run (Register (record { 0 = 0 })) ∷ Until (record { 0 = 0 }) 5 ∷ Run (Unregister (record { 0 = 0 })) ∷ [];
-  schedule = [];
-  lines = usual_lines;
-  rings = usual_rings;
-}
+use Rattle.ft_job.specs.Parts.{IsWithin, job_of}
+use Rattle.step_by_step.specs.TheJob.{the_job}
+use Rattle.step_by_step.specs.TheParts.{the_parts}
 
 pub job-is : job_of the_parts ≡ the_job
 unfolding job_of

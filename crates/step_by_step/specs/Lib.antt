@@ -1,2 +1,3 @@
 pub mod TheJob
+pub mod TheParts
 pub mod Silence

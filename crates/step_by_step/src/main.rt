@@ -8,11 +8,13 @@
 //! stored output: what it prints, and that it comes to the end.
 #![tactic(auto)]
 
-ghost use Rattle.std.specs.Prelude.{◌≡◌, IfOk};
+ghost use Rattle.std.specs.Prelude.{◌≡◌, map, IfOk};
+ghost use Rattle.user_specs.specs.Plain.{spec_of, cpu_of};
 ghost use Rattle.ft_hist.specs.Counts.{backs_of};
 ghost use Rattle.word_machine.specs.Machine.{step as machine_step};
 ghost use Rattle.ft_machine.specs.Machines.{IsOf, state_of};
 ghost use Rattle.step_by_step.specs.TheJob.{the_functions, the_job};
+ghost use Rattle.step_by_step.specs.TheParts.{the_parts};
 ghost use Rattle.step_by_step.specs.Silence.{items_of, IsSilent};
 
 use ft_base::limits::USUAL_RING;
@@ -51,12 +53,9 @@ fn functions(alloc: Global) -> Result<FuncTable, AllocError>
     Ok(table)
 }
 
-/// The job: control registers a function tracer; after that the task makes its two calls; then
-/// control unregisters the tracer. It has no frames of a shadow stack, which a function tracer
-/// doesn't use, and no schedule: `main` says whose turn it is. It has no lanes, no modules and no
-/// triggers.
-fn make_job(alloc: Global) -> Result<Job, AllocError>
-    ensures { IfOk result (λ job. job ≡ the_job) }
+/// The users: a function tracer.
+fn users(alloc: Global) -> Result<Vec<Spec>, AllocError>
+    ensures { IfOk result (λ users. map spec_of users.items ≡ the_parts.users) }
 {
     let tracer = Spec {
         name: String::from_str(alloc, "tracer")?,
@@ -66,35 +65,65 @@ fn make_job(alloc: Global) -> Result<Job, AllocError>
         pid: false,
         act: None,
     };
+    Ok(vec![in alloc; tracer]?)
+}
+
+/// The CPUs: one, with a task that waits for control's first command, and then makes its two calls.
+fn cpus(alloc: Global) -> Result<Vec<CpuPlan>, AllocError>
+    ensures { IfOk result (λ cpus. map cpu_of cpus.items ≡ the_parts.cpus) }
+{
+    let acts = vec![in alloc;
+        TaskAct::After(1),
+        TaskAct::Call(OPEN),
+        TaskAct::Call(READ),
+        TaskAct::Ret,
+        TaskAct::Ret,
+    ]?;
     let task = TaskPlan {
         task: TASK,
         pid: 10,
-        acts: vec![in alloc;
-            TaskAct::After(1),
-            TaskAct::Call(OPEN),
-            TaskAct::Call(READ),
-            TaskAct::Ret,
-            TaskAct::Ret,
-        ]?,
+        acts,
     };
+    let tasks = vec![in alloc; task]?;
     let cpu = CpuPlan {
         quantum: 100,
-        tasks: vec![in alloc; task]?,
+        tasks,
     };
-    let register = Ctl::Run(Command::Register(TRACER));
-    let wait = Ctl::Until {
-        task: TASK,
-        acts: 5,
-    };
-    let unregister = Ctl::Run(Command::Unregister(TRACER));
+    Ok(vec![in alloc; cpu]?)
+}
+
+/// What control does: it registers the tracer, waits until the task has made its five acts, and
+/// unregisters the tracer.
+fn ctls(alloc: Global) -> Result<Vec<Ctl>, AllocError>
+    ensures { IfOk result (λ ctls. ctls.items ≡ the_parts.ctls) }
+{
+    Ok(vec![in alloc;
+        Ctl::Run(Command::Register(TRACER)),
+        Ctl::Until {
+            task: TASK,
+            acts: 5
+        },
+        Ctl::Run(Command::Unregister(TRACER)),
+    ]?)
+}
+
+/// The job. It has no frames of a shadow stack, which a function tracer doesn't use, and no
+/// schedule: `main` says whose turn it is. It has no lanes, no modules and no triggers.
+fn make_job(alloc: Global) -> Result<Job, AllocError>
+    ensures { IfOk result (λ job. job ≡ the_job) }
+{
+    let ctls = ctls(alloc)?;
+    let cpus = cpus(alloc)?;
+    let specs = users(alloc)?;
+    let table = functions(alloc)?;
     Ok(Job::new(JobParts {
         version: 1,
-        table: functions(alloc)?,
-        specs: vec![in alloc; tracer]?,
+        table,
+        specs,
         frames: 0,
         tramps: 1,
-        cpus: vec![in alloc; cpu]?,
-        ctls: vec![in alloc; register, wait, unregister]?,
+        cpus,
+        ctls,
         schedule: Schedule {
             turns: Vec::new(alloc),
         },

@@ -30,9 +30,15 @@ fn is_line(line: &Ctl) -> bool {
     }
 }
 
+/// Whether a copy of a line is that edit.
+fn is_copied(line: &Ctl) -> Result<bool, Fail> {
+    let copy = line.copy()?;
+    Ok(is_line(&copy))
+}
+
 #[test]
 fn copies_lines(rt: HostRuntime) -> Result<(), Fail> {
     let line = line(&rt, rt.alloc())?;
-    assert!(rt; is_line(&line.copy()?));
+    assert!(rt; is_copied(&line)?);
     Ok(())
 }

@@ -170,8 +170,7 @@ static EDITS: [Row; 9] = [
 fn stores_sets(rt: HostRuntime) -> Result<(), Fail> {
     let alloc = rt.alloc();
     let mut bench = Bench::new(&rt, alloc, &[PLAIN], 3, 16)?;
-    stores(&rt, alloc, &mut bench, &EDITS)?;
-    Ok(())
+    stores(&rt, alloc, &mut bench, &EDITS)
 }
 
 // One slot for three users, of which the list is 0, then 1, then 2 before them at its longest.
@@ -246,8 +245,7 @@ static ENDS: [Row; 8] = [
 fn stores_slots_and_lists(rt: HostRuntime) -> Result<(), Fail> {
     let alloc = rt.alloc();
     let mut bench = Bench::new(&rt, alloc, &[GRAPH, PLAIN, PROBE], 1, 1)?;
-    stores(&rt, alloc, &mut bench, &ENDS)?;
-    Ok(())
+    stores(&rt, alloc, &mut bench, &ENDS)
 }
 
 static SWITCHES: [Row; 4] = [
@@ -319,11 +317,15 @@ fn is_for_all(plan: &Plan, pids: Option<u64>, depth: Option<u32>) -> bool {
         && plan.quiet
 }
 
+/// The commands of the two tables.
+fn switches_and_numbers(rt: &impl Abort, alloc: Global, bench: &mut Bench) -> Result<(), Fail> {
+    stores(rt, alloc, bench, &SWITCHES)?;
+    numbers(rt, alloc, bench, &NUMBERS)
+}
+
 #[test]
 fn stores_switches_and_numbers(rt: HostRuntime) -> Result<(), Fail> {
     let alloc = rt.alloc();
     let mut bench = Bench::new(&rt, alloc, &[PROBE], 1, 16)?;
-    stores(&rt, alloc, &mut bench, &SWITCHES)?;
-    numbers(&rt, alloc, &mut bench, &NUMBERS)?;
-    Ok(())
+    switches_and_numbers(&rt, alloc, &mut bench)
 }

@@ -1,9 +1,10 @@
 //! Small scripts with modules that come and go, each with the lowest line of a call that isn't covered.
 
-use ft_base::{Ctx, FuncNo, NoMemory, TaskAct, TaskNo};
+use ft_base::{Ctx, FuncNo, TaskAct, TaskNo};
 use module_coverage::{Change, are_in_order, lowest_uncovered};
 use script_waits::{ControlLine, LinedAct, LinedTask, Wait};
 use std::alloc::{AllocError, Global};
+use std::process::Abort;
 use std::test::Fail;
 
 /// An act, with the number of its task before it and its line after it.
@@ -98,26 +99,41 @@ fn changes(alloc: Global, steps: &[Step]) -> Result<Vec<Change>, AllocError> {
         .collect(alloc)
 }
 
+/// Whether this is the answer for these tasks, lines of control, absent modules and changes.
+fn is_lowest(
+    alloc: Global,
+    tasks: &[LinedTask],
+    control: &[ControlLine],
+    absent: &[u32],
+    changes: &[Change],
+    answer: Option<u32>,
+) -> bool {
+    are_in_order(changes)
+        && lowest_uncovered(alloc, tasks, control, &OWNERS, absent, changes) == Ok(answer)
+}
+
 /// Whether the answer for the two tasks, the lines of control and the changes of a row is the row's.
-fn is_answered(alloc: Global, row: &Row) -> Result<bool, NoMemory> {
+fn is_answered(alloc: Global, row: &Row) -> Result<bool, AllocError> {
     let (acts, lines, absent, steps, answer) = row;
-    let control = control(alloc, *lines).map_err(|_| NoMemory)?;
-    let changes = changes(alloc, *steps).map_err(|_| NoMemory)?;
-    let first = task(alloc, 0, *acts).map_err(|_| NoMemory)?;
-    let second = task(alloc, 1, *acts).map_err(|_| NoMemory)?;
-    if !are_in_order(changes.as_slice()) {
-        return Ok(false);
-    }
-    let tasks = [first, second];
-    let line = lowest_uncovered(
+    let control = control(alloc, *lines)?;
+    let changes = changes(alloc, *steps)?;
+    let tasks = [task(alloc, 0, *acts)?, task(alloc, 1, *acts)?];
+    Ok(is_lowest(
         alloc,
         &tasks,
         control.as_slice(),
-        &OWNERS,
         *absent,
         changes.as_slice(),
-    )?;
-    Ok(line == *answer)
+        *answer,
+    ))
+}
+
+/// All rows have their answers.
+fn check(rt: &impl Abort, alloc: Global, rows: &[Row]) -> Result<(), Fail> {
+    for (at, row) in rows.iter().enumerate() {
+        assert!(rt; is_answered(alloc, row)?, "row {at}");
+    }
+    Ok(())
 }
 
 static COVERED: [Row; 12] = [
@@ -219,10 +235,7 @@ static COVERED: [Row; 12] = [
 
 #[test]
 fn these_are_covered(rt: HostRuntime) -> Result<(), Fail> {
-    for (at, row) in COVERED.iter().enumerate() {
-        assert!(rt; is_answered(rt.alloc(), row) == Ok(true), "row {at}");
-    }
-    Ok(())
+    check(&rt, rt.alloc(), &COVERED)
 }
 
 static UNCOVERED: [Row; 13] = [
@@ -330,10 +343,7 @@ static UNCOVERED: [Row; 13] = [
 
 #[test]
 fn these_are_not(rt: HostRuntime) -> Result<(), Fail> {
-    for (at, row) in UNCOVERED.iter().enumerate() {
-        assert!(rt; is_answered(rt.alloc(), row) == Ok(true), "row {at}");
-    }
-    Ok(())
+    check(&rt, rt.alloc(), &UNCOVERED)
 }
 
 /// A number of a module, if there are so many.
@@ -401,29 +411,36 @@ fn many_owners(alloc: Global, modules: u32) -> Result<Vec<Option<u32>>, AllocErr
     Ok(owners)
 }
 
+/// Whether all calls of these tasks are covered.
+fn are_covered(
+    alloc: Global,
+    tasks: &[LinedTask],
+    control: &[ControlLine],
+    owners: &[Option<u32>],
+    changes: &[Change],
+) -> bool {
+    are_in_order(changes)
+        && lowest_uncovered(alloc, tasks, control, owners, &[], changes) == Ok(None)
+}
+
 /// Whether all calls of the largest script are covered.
-fn is_all_covered(alloc: Global, modules: u32) -> Result<bool, NoMemory> {
-    let tasks = many_tasks(alloc, modules).map_err(|_| NoMemory)?;
-    let control = many_lines(alloc).map_err(|_| NoMemory)?;
-    let changes = many_changes(alloc, modules).map_err(|_| NoMemory)?;
-    let owners = many_owners(alloc, modules).map_err(|_| NoMemory)?;
-    if !are_in_order(changes.as_slice()) {
-        return Ok(false);
-    }
-    let line = lowest_uncovered(
+fn is_all_covered(alloc: Global, modules: u32) -> Result<bool, AllocError> {
+    let tasks = many_tasks(alloc, modules)?;
+    let control = many_lines(alloc)?;
+    let changes = many_changes(alloc, modules)?;
+    let owners = many_owners(alloc, modules)?;
+    Ok(are_covered(
         alloc,
         tasks.as_slice(),
         control.as_slice(),
         owners.as_slice(),
-        &[],
         changes.as_slice(),
-    )?;
-    Ok(line == None)
+    ))
 }
 
 #[test]
 fn largest_scripts_take_no_long_time(rt: HostRuntime) -> Result<(), Fail> {
-    assert!(rt; is_all_covered(rt.alloc(), 1000) == Ok(true));
-    assert!(rt; is_all_covered(rt.alloc(), 1) == Ok(true));
+    assert!(rt; is_all_covered(rt.alloc(), 1000)?);
+    assert!(rt; is_all_covered(rt.alloc(), 1)?);
     Ok(())
 }

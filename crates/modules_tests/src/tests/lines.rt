@@ -1,10 +1,8 @@
 //! Lines that load and unload modules: their answers and their commands.
 
-ghost use Rattle.std.specs.Prelude.{◌≡◌, length, IfOk};
-
-use ft_base::{Answer, FuncNo, Kind, UserNo};
+use ft_base::{Answer, FuncNo, Kind, NoMemory, UserNo};
 use ft_desk::{Command, Shape};
-use func_table::FuncTable;
+use func_table::{FuncTable, TableFault};
 use module_table::{ModLine, ModuleNames, Modules};
 use site_set::{Edit, SiteSet};
 use std::alloc::{AllocError, Global};
@@ -34,7 +32,7 @@ enum Line {
 }
 
 /// What a command is.
-#[derive(Clone, Copy, Debug, PartialEq, Eq)]
+#[derive(Clone, Copy, PartialEq, Eq)]
 enum Made {
     Register(u32),
     Filter(u32, u64),
@@ -47,17 +45,25 @@ enum Made {
     Other,
 }
 
-/// The set of the functions below a size whose bits are set.
-fn set_of(rt: &impl Abort, alloc: Global, size: u32, bits: u64) -> Result<SiteSet, Fail>
-    ensures { IfOk result (λ set. length set ≡ size) }
-{
-    let mut set = SiteSet::empty(alloc, size)?;
-    for f in 0..64 {
-        if (bits >> f) & 1 == 1 && f < set.size() {
+/// How many functions there are.
+const FUNCS: u32 = 4;
+
+/// The functions, each with its module: `a` lies in none.
+static FUNCTIONS: [(&str, Option<&str>); 4] = [
+    ("a", None),
+    ("e", Some("ext3")),
+    ("s", Some("snd")),
+    ("g", Some("ext3")),
+];
+
+/// The set of the functions whose bits are set.
+fn set_of(alloc: Global, bits: u64) -> Result<SiteSet, AllocError> {
+    let mut set = SiteSet::empty(alloc, FUNCS)?;
+    for f in 0..FUNCS {
+        if f < set.size() && (bits >> f) & 1 == 1 {
             set.add(f);
         }
     }
-    assert!(rt; set.size() == size);
     Ok(set)
 }
 
@@ -111,15 +117,17 @@ fn are_made(commands: &[Command], from: usize, wanted: &[Made]) -> bool {
     made.next().is_none()
 }
 
-/// How many functions there are: `a` lies in no module, `e` and `g` in `ext3`, `s` in `snd`.
-const FUNCS: u32 = 4;
+/// Adds the functions.
+fn add_functions(alloc: Global, table: &mut FuncTable) -> Result<(), TableFault> {
+    for (name, module) in FUNCTIONS.iter() {
+        table.add(alloc, name, *module)?;
+    }
+    Ok(())
+}
 
-fn table(alloc: Global) -> Result<FuncTable, Fail> {
+fn table(alloc: Global) -> Result<FuncTable, TableFault> {
     let mut table = FuncTable::new(alloc, FUNCS);
-    table.add(alloc, "a", None)?;
-    table.add(alloc, "e", Some("ext3"))?;
-    table.add(alloc, "s", Some("snd"))?;
-    table.add(alloc, "g", Some("ext3"))?;
+    add_functions(alloc, &mut table)?;
     Ok(table)
 }
 
@@ -137,6 +145,14 @@ fn spec(alloc: Global, modifies: bool) -> Result<Spec, AllocError> {
     })
 }
 
+/// Puts users last that replace functions or don't.
+fn put_specs(alloc: Global, specs: &mut Vec<Spec>, users: &[bool]) -> Result<(), AllocError> {
+    for modifies in users.iter() {
+        specs.push(spec(alloc, *modifies)?)?;
+    }
+    Ok(())
+}
+
 /// Modules with users that replace functions or don't, and with some modules absent.
 fn modules(
     rt: &impl Abort,
@@ -145,22 +161,28 @@ fn modules(
     absent: &[u32],
 ) -> Result<Modules, Fail> {
     let mut specs = Vec::new(alloc);
-    for modifies in users.iter() {
-        specs.push(spec(alloc, *modifies)?)?;
-    }
-    let table = table(alloc)?;
-    made_of(rt, alloc, &table, specs.as_slice(), absent)
+    put_specs(alloc, &mut specs, users)?;
+    made_of(rt, alloc, specs.as_slice(), absent)
 }
 
 fn made_of(
     rt: &impl Abort,
     alloc: Global,
-    table: &FuncTable,
     specs: &[Spec],
     absent: &[u32],
 ) -> Result<Modules, Fail> {
-    let names = ModuleNames::new(alloc, table)?;
-    let count = names.len();
+    let table = table(alloc)?;
+    Ok(made_over(rt, alloc, &table, specs, absent)?)
+}
+
+fn made_over(
+    rt: &impl Abort,
+    alloc: Global,
+    table: &FuncTable,
+    specs: &[Spec],
+    absent: &[u32],
+) -> Result<Modules, NoMemory> {
+    let count = ModuleNames::new(alloc, table)?.len();
     assert!(rt; absent.iter().all(|m| *m < count));
     assert!(rt; table.len() == FUNCS && specs.len() <= 64);
     let shape = Shape {
@@ -170,23 +192,23 @@ fn made_of(
         tasks: 1,
         tramps: 16,
     };
-    Ok(Modules::new(alloc, table, specs, shape, absent)?)
+    Modules::new(alloc, table, specs, shape, absent)
 }
 
 /// A line.
-fn line_of(rt: &impl Abort, alloc: Global, line: Line) -> Result<ModLine, Fail> {
+fn line_of(alloc: Global, line: Line) -> Result<ModLine, AllocError> {
     match line {
         Line::Register(user) => Ok(ModLine::Plain(Command::Register(UserNo(user)))),
         Line::Filter(user, bits) => {
-            let edit = edit(rt, alloc, false, bits)?;
+            let edit = edit(alloc, false, bits)?;
             Ok(ModLine::Plain(Command::Filter(UserNo(user), edit)))
         }
         Line::Notrace(user, bits) => {
-            let edit = edit(rt, alloc, false, bits)?;
+            let edit = edit(alloc, false, bits)?;
             Ok(ModLine::Plain(Command::Notrace(UserNo(user), edit)))
         }
         Line::Clear(user) => {
-            let edit = edit(rt, alloc, true, 0)?;
+            let edit = edit(alloc, true, 0)?;
             Ok(ModLine::Plain(Command::Notrace(UserNo(user), edit)))
         }
         Line::MaxDepth(depth) => Ok(ModLine::Plain(Command::MaxDepth(depth))),
@@ -196,8 +218,8 @@ fn line_of(rt: &impl Abort, alloc: Global, line: Line) -> Result<ModLine, Fail> 
 }
 
 /// An edit that replaces a set or clears it.
-fn edit(rt: &impl Abort, alloc: Global, clear: bool, bits: u64) -> Result<Edit, Fail> {
-    let set = set_of(rt, alloc, FUNCS, bits)?;
+fn edit(alloc: Global, clear: bool, bits: u64) -> Result<Edit, AllocError> {
+    let set = set_of(alloc, bits)?;
     Ok(Edit {
         append: false,
         remove: false,
@@ -209,21 +231,49 @@ fn edit(rt: &impl Abort, alloc: Global, clear: bool, bits: u64) -> Result<Edit, 
 /// A line, its answer, and its commands.
 type Row = (Line, Answer, &'static [Made]);
 
+/// Whether a line has this answer and these commands, which are put last.
+fn is_answered(
+    modules: &mut Modules,
+    out: &mut Vec<Command>,
+    line: &ModLine,
+    answer: Answer,
+    wanted: &[Made],
+) -> bool {
+    let from = out.len();
+    modules.takes(line)
+        && modules.commands() < COMMANDS
+        && modules.expand(line, out) == Ok(answer)
+        && are_made(out.as_slice(), from, wanted)
+}
+
+/// Lines with their answers and commands, which are put last.
+fn put_lines(
+    rt: &impl Abort,
+    alloc: Global,
+    modules: &mut Modules,
+    out: &mut Vec<Command>,
+    rows: &[Row],
+) -> Result<(), Fail> {
+    for (n, (line, answer, wanted)) in rows.iter().enumerate() {
+        let line = line_of(alloc, *line)?;
+        assert!(rt;
+            is_answered(modules, out, &line, *answer, wanted),
+            "line {n}"
+        );
+    }
+    Ok(())
+}
+
 /// Lines with their answers and commands.
 fn lines(rt: &impl Abort, alloc: Global, modules: &mut Modules, rows: &[Row]) -> Result<(), Fail> {
     let mut out = Vec::new(alloc);
-    for (n, (line, answer, wanted)) in rows.iter().enumerate() {
-        let line = line_of(rt, alloc, *line)?;
-        let from = out.len();
-        assert!(rt;
-            modules.takes(&line) && modules.commands() < COMMANDS,
-            "line {n}"
-        );
-        let given = modules.expand(&line, &mut out)?;
-        assert!(rt; given == *answer, "line {n}");
-        assert!(rt; are_made(out.as_slice(), from, *wanted), "line {n}");
-    }
-    Ok(())
+    put_lines(rt, alloc, modules, &mut out, rows)
+}
+
+/// Whether control opens with these commands.
+fn is_opened(alloc: Global, modules: &Modules, wanted: &[Made]) -> Result<bool, NoMemory> {
+    let opening = modules.opening(alloc)?;
+    Ok(are_made(opening.as_slice(), 0, wanted))
 }
 
 const OK: Answer = Answer::Accepted;
@@ -242,16 +292,19 @@ static LOADED_ONCE: [Row; 6] = [
     (Line::Unload(EXT3), Answer::NotThere, &[Made::MaxDepth(3)]),
 ];
 
-#[test]
-fn loads_and_unloads(rt: HostRuntime) -> Result<(), Fail> {
-    let alloc = rt.alloc();
-    let mut modules = modules(&rt, alloc, &[false], &[EXT3])?;
-    let opening = modules.opening(alloc)?;
-    assert!(rt; are_made(opening.as_slice(), 0, &[Made::Mask(0, 0b1010)]));
+/// The lines of the first table, for a user and `ext3` absent.
+fn check_loads(rt: &impl Abort, alloc: Global, modules: &mut Modules) -> Result<(), Fail> {
+    assert!(rt; is_opened(alloc, modules, &[Made::Mask(0, 0b1010)])?);
     assert!(rt; modules.commands() == 1 && !modules.is_loaded(EXT3) && modules.is_loaded(SND));
-    lines(&rt, alloc, &mut modules, &LOADED_ONCE)?;
+    lines(rt, alloc, modules, &LOADED_ONCE)?;
     assert!(rt; modules.commands() == 9 && modules.modules() == 2 && !modules.is_loaded(EXT3));
     Ok(())
+}
+
+#[test]
+fn loads_and_unloads(rt: HostRuntime) -> Result<(), Fail> {
+    let mut modules = modules(&rt, rt.alloc(), &[false], &[EXT3])?;
+    check_loads(&rt, rt.alloc(), &mut modules)
 }
 
 static OWN_SETS: [Row; 8] = [
@@ -285,13 +338,16 @@ static OWN_SETS: [Row; 8] = [
     ),
 ];
 
+/// The lines of the second table, for two users and no module absent.
+fn check_own_sets(rt: &impl Abort, alloc: Global, modules: &mut Modules) -> Result<(), Fail> {
+    assert!(rt; is_opened(alloc, modules, &[])?);
+    lines(rt, alloc, modules, &OWN_SETS)
+}
+
 #[test]
 fn own_sets_stay(rt: HostRuntime) -> Result<(), Fail> {
-    let alloc = rt.alloc();
-    let mut modules = modules(&rt, alloc, &[false, false], &[])?;
-    assert!(rt; modules.opening(alloc)?.is_empty());
-    lines(&rt, alloc, &mut modules, &OWN_SETS)?;
-    Ok(())
+    let mut modules = modules(&rt, rt.alloc(), &[false, false], &[])?;
+    check_own_sets(&rt, rt.alloc(), &mut modules)
 }
 
 const HELD: Answer = Answer::Busy {
@@ -322,19 +378,28 @@ static CLASH: [Row; 8] = [
 
 #[test]
 fn load_is_busy(rt: HostRuntime) -> Result<(), Fail> {
-    let alloc = rt.alloc();
-    let mut modules = modules(&rt, alloc, &[false, true, true], &[EXT3])?;
-    lines(&rt, alloc, &mut modules, &CLASH)?;
-    Ok(())
+    let mut modules = modules(&rt, rt.alloc(), &[false, true, true], &[EXT3])?;
+    lines(&rt, rt.alloc(), &mut modules, &CLASH)
+}
+
+/// The names of the modules.
+fn names(alloc: Global) -> Result<ModuleNames, Fail> {
+    let table = table(alloc)?;
+    Ok(ModuleNames::new(alloc, &table)?)
+}
+
+/// Whether the names are `ext3` and `snd`, in this order.
+fn are_both(names: &ModuleNames) -> bool {
+    names.len() == 2
+        && !names.is_empty()
+        && names.name(EXT3) == "ext3"
+        && names.name(SND) == "snd"
+        && names.find("snd") == Some(SND)
+        && names.find("a").is_none()
 }
 
 #[test]
 fn modules_are_numbered_by_first_function(rt: HostRuntime) -> Result<(), Fail> {
-    let alloc = rt.alloc();
-    let table = table(alloc)?;
-    let names = ModuleNames::new(alloc, &table)?;
-    assert!(rt; names.len() == 2 && !names.is_empty());
-    assert!(rt; names.name(EXT3) == "ext3" && names.name(SND) == "snd");
-    assert!(rt; names.find("snd") == Some(SND) && names.find("a").is_none());
+    assert!(rt; are_both(&names(rt.alloc())?));
     Ok(())
 }
