@@ -60,14 +60,19 @@ fn refuse<K: Sink>(alloc: Global, fault: ScriptFault, sink: &mut K) -> Status {
     }
 }
 
+/// Notes what the order finds.
+fn find_into(race: &Race<'_>, order: Order, found: &mut Found) -> Result<(), AllocError> {
+    match order {
+        Order::Random { seed, tries } => try_random(race, seed, tries, found)?,
+        Order::Search { switches, tries } => try_all(race, switches, tries, found)?,
+    }
+    shorten(race, found)
+}
+
 /// What the order finds.
 fn find(race: &Race<'_>, order: Order) -> Result<Found, AllocError> {
     let mut found = Found::new(race.alloc);
-    match order {
-        Order::Random { seed, tries } => try_random(race, seed, tries, &mut found)?,
-        Order::Search { switches, tries } => try_all(race, switches, tries, &mut found)?,
-    }
-    shorten(race, &mut found)?;
+    find_into(race, order, &mut found)?;
     Ok(found)
 }
 
@@ -115,25 +120,29 @@ fn answer<S: Source, K: Sink>(alloc: Global, order: Order, source: &mut S, sink:
     }
 }
 
+/// What the words of the command order, or the status with which it ends without reading anything.
+fn ordered<R: Env + AllocGlobal>(rt: &R) -> Result<Order, Status> {
+    let args = match env::args(rt) {
+        Ok(args) => args,
+        Err(error) if error.kind() == ErrorKind::OutOfMemory => return Err(Status::NoMemory),
+        // An argument that isn't UTF-8 is no word of the language.
+        Err(_) => return Err(Status::Language),
+    };
+    let Ok(words) = args.skip(1).collect::<Vec<String>>(rt.alloc()) else {
+        return Err(Status::NoMemory);
+    };
+    read_order(words.as_slice()).ok_or(Status::Language)
+}
+
 /// The whole of the program but its streams.
 fn run_program<R: Env + AllocGlobal, S: Source, K: Sink>(
     rt: &R,
     source: &mut S,
     sink: &mut K,
 ) -> Status {
-    let alloc = rt.alloc();
-    let args = match env::args(rt) {
-        Ok(args) => args,
-        Err(error) if error.kind() == ErrorKind::OutOfMemory => return Status::NoMemory,
-        // An argument that isn't UTF-8 is no word of the language.
-        Err(_) => return Status::Language,
-    };
-    let Ok(words) = args.skip(1).collect::<Vec<String>>(alloc) else {
-        return Status::NoMemory;
-    };
-    match read_order(words.as_slice()) {
-        Some(order) => answer(alloc, order, source, sink),
-        None => Status::Language,
+    match ordered(rt) {
+        Ok(order) => answer(rt.alloc(), order, source, sink),
+        Err(status) => status,
     }
 }
 

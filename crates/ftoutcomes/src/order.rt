@@ -3,7 +3,7 @@
 use script_text::number;
 
 /// What is to be tried.
-#[derive(Clone, Copy, Debug, PartialEq, Eq)]
+#[derive(Clone, Copy)]
 pub(crate) enum Order {
     /// So many schedules, drawn by a generator that begins with this seed.
     Random { seed: u64, tries: u64 },

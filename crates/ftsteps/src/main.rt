@@ -14,7 +14,7 @@ mod status;
 mod trace;
 
 use crate::status::Status;
-use crate::trace::{TraceFail, write_trace};
+use crate::trace::write_trace;
 use ft_base::limits::INPUT_BYTES;
 use ft_io::{ReadFail, Sink, Source, StdSink, StdSource, read_all, write_all};
 use ft_script::{Cause, ScriptFault, read_script};
@@ -48,14 +48,9 @@ fn trace_script<S: Source, K: Sink>(alloc: Global, source: &mut S, sink: &mut K)
         Err(ReadFail::TooLong) => return Status::TooLong,
         Err(ReadFail::NoMemory) => return Status::NoMemory,
     };
-    let job = match read_script(alloc, &script) {
-        Ok(job) => job,
-        Err(fault) => return refuse(alloc, fault, sink),
-    };
-    match write_trace(alloc, &job, sink) {
-        Ok(()) => Status::Done,
-        Err(TraceFail::NoMemory) => Status::NoMemory,
-        Err(TraceFail::Sink) => Status::WriteFault,
+    match read_script(alloc, &script) {
+        Ok(job) => write_trace(alloc, &job, sink),
+        Err(fault) => refuse(alloc, fault, sink),
     }
 }
 

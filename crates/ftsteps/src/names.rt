@@ -2,7 +2,7 @@
 
 ghost use Rattle.std.specs.Prelude.{◌<◌};
 
-use ft_base::{CpuNo, FuncNo, Half, NoMemory, TaskNo, UserNo};
+use ft_base::{CpuNo, FuncNo, Half, TaskNo, UserNo};
 use ft_job::Job;
 use std::alloc::{AllocError, Global};
 use word_map::WordMap;
@@ -21,29 +21,25 @@ pub(crate) struct Names {
     words: Vec<WordName>,
 }
 
+/// As many words without a name.
+fn nameless(alloc: Global, count: u32) -> Result<Vec<WordName>, AllocError> {
+    let mut words = Vec::with_capacity(alloc, count as usize)?;
+    for _ in 0..count {
+        words.push(WordName {
+            name: String::new(alloc),
+            hexadecimal: true,
+        })?;
+    }
+    Ok(words)
+}
+
 impl Names {
-    /// The names of a job's words, which stand where this map says. The error says that memory ran out.
-    pub(crate) fn new(alloc: Global, job: &Job, map: WordMap) -> Result<Names, NoMemory> {
+    /// The names of a job's words, which stand where this map says.
+    pub(crate) fn new(alloc: Global, job: &Job, map: WordMap) -> Result<Names, AllocError> {
         let mut names = Names {
-            words: Vec::with_capacity(alloc, map.len() as usize).map_err(|_| NoMemory)?,
+            words: nameless(alloc, map.len())?,
         };
-        for _ in 0..map.len() {
-            let word = WordName {
-                name: String::new(alloc),
-                hexadecimal: true,
-            };
-            if names.words.push(word).is_err() {
-                return Err(NoMemory);
-            }
-        }
-        names.set(map.clock(), format!(in alloc; "clock"), true)?;
-        names.set(map.want(), format!(in alloc; "want"), false)?;
-        names.set(map.first(), format!(in alloc; "first"), false)?;
-        names.set(map.pids(), format!(in alloc; "pids"), true)?;
-        names.set(map.depth(), format!(in alloc; "depth"), false)?;
-        names.set_actors(alloc, job, map)?;
-        names.set_sites(alloc, job, map)?;
-        names.set_users(alloc, job, map)?;
+        names.set_all(alloc, job, map)?;
         Ok(names)
     }
 
@@ -52,60 +48,89 @@ impl Names {
         self.words.get(place as usize)
     }
 
+    /// Names all words.
+    fn set_all(&mut self, alloc: Global, job: &Job, map: WordMap) -> Result<(), AllocError> {
+        self.set(map.clock(), String::from_str(alloc, "clock")?, true);
+        self.set(map.want(), String::from_str(alloc, "want")?, false);
+        self.set(map.first(), String::from_str(alloc, "first")?, false);
+        self.set(map.pids(), String::from_str(alloc, "pids")?, true);
+        self.set(map.depth(), String::from_str(alloc, "depth")?, false);
+        self.set_actors(alloc, job, map)?;
+        self.set_sites(alloc, job, map)?;
+        self.set_users(alloc, job, map)
+    }
+
     /// Names the word at a place.
-    fn set(
-        &mut self,
-        place: u32,
-        name: Result<String, AllocError>,
-        hexadecimal: bool,
-    ) -> Result<(), NoMemory> {
-        let name = name.map_err(|_| NoMemory)?;
+    fn set(&mut self, place: u32, name: String, hexadecimal: bool) {
         if let Some(word) = self.words.get_mut(place as usize) {
             *word = WordName { name, hexadecimal };
         }
+    }
+
+    /// Names the word at a place, which belongs to the thing with this number.
+    fn set_numbered(
+        &mut self,
+        alloc: Global,
+        place: u32,
+        what: &str,
+        number: u32,
+        hexadecimal: bool,
+    ) -> Result<(), AllocError> {
+        let name = format!(in alloc; "{what}.{number}")?;
+        self.set(place, name, hexadecimal);
+        Ok(())
+    }
+
+    /// Names the word at a place, which belongs to the thing with this name.
+    fn set_named(
+        &mut self,
+        alloc: Global,
+        place: u32,
+        what: &str,
+        thing: &str,
+        hexadecimal: bool,
+    ) -> Result<(), AllocError> {
+        let name = format!(in alloc; "{what}.{thing}")?;
+        self.set(place, name, hexadecimal);
         Ok(())
     }
 
     /// Names the words of CPUs, tasks and trampolines.
-    fn set_actors(&mut self, alloc: Global, job: &Job, map: WordMap) -> Result<(), NoMemory> {
+    fn set_actors(&mut self, alloc: Global, job: &Job, map: WordMap) -> Result<(), AllocError> {
         for c in 0..map.shape().cpus {
-            self.set(map.ack(CpuNo(c)), format!(in alloc; "ack.{c}"), false)?;
+            self.set_numbered(alloc, map.ack(CpuNo(c)), "ack", c, false)?;
         }
         for t in 0..map.shape().tasks {
             let pid = job.pid(TaskNo(t)).unwrap_or(0);
-            self.set(map.quiet(TaskNo(t)), format!(in alloc; "quiet.{pid}"), true)?;
+            self.set_numbered(alloc, map.quiet(TaskNo(t)), "quiet", pid, true)?;
         }
         for s in 0..map.shape().tramps {
-            self.set(map.tramp(s), format!(in alloc; "tramp.{s}"), true)?;
+            self.set_numbered(alloc, map.tramp(s), "tramp", u32::from(s), true)?;
         }
         Ok(())
     }
 
     /// Names the words of call sites.
-    fn set_sites(&mut self, alloc: Global, job: &Job, map: WordMap) -> Result<(), NoMemory> {
+    fn set_sites(&mut self, alloc: Global, job: &Job, map: WordMap) -> Result<(), AllocError> {
         let table = job.table();
         for number in 0..map.shape().funcs.min(table.len()) {
             let f = FuncNo(number);
             let function = table.name(f);
-            self.set(map.head(f), format!(in alloc; "head.{function}"), true)?;
-            self.set(map.tail(f), format!(in alloc; "tail.{function}"), true)?;
-            self.set(
-                map.next_word(f),
-                format!(in alloc; "next.{function}"),
-                false,
-            )?;
+            self.set_named(alloc, map.head(f), "head", function, true)?;
+            self.set_named(alloc, map.tail(f), "tail", function, true)?;
+            self.set_named(alloc, map.next_word(f), "next", function, false)?;
         }
         Ok(())
     }
 
     /// Names the words of users.
-    fn set_users(&mut self, alloc: Global, job: &Job, map: WordMap) -> Result<(), NoMemory> {
+    fn set_users(&mut self, alloc: Global, job: &Job, map: WordMap) -> Result<(), AllocError> {
         let specs = job.specs().iter().take(map.shape().users as usize);
         for (number, spec) in specs.enumerate() {
             let user = UserNo(number as u32);
             let name = spec.name.as_str();
-            self.set(map.link(user), format!(in alloc; "link.{name}"), false)?;
-            self.set(map.sel(user), format!(in alloc; "sel.{name}"), true)?;
+            self.set_named(alloc, map.link(user), "link", name, false)?;
+            self.set_named(alloc, map.sel(user), "sel", name, true)?;
             for copy in 0..2 {
                 self.set_bits(alloc, name, map, user, copy)?;
             }
@@ -121,15 +146,15 @@ impl Names {
         map: WordMap,
         user: UserNo,
         copy: u8,
-    ) -> Result<(), NoMemory>
+    ) -> Result<(), AllocError>
         requires user { user.0 < map.users }
         requires copy { copy < 2 }
     {
         for w in 0..map.shape().funcs.div_ceil(64) {
-            let filter = format!(in alloc; "bits.{name}.{copy}.filter.{w}");
-            self.set(map.bits(user, copy, Half::Filter, w), filter, true)?;
-            let notrace = format!(in alloc; "bits.{name}.{copy}.notrace.{w}");
-            self.set(map.bits(user, copy, Half::Notrace, w), notrace, true)?;
+            let filter = format!(in alloc; "bits.{name}.{copy}.filter.{w}")?;
+            self.set(map.bits(user, copy, Half::Filter, w), filter, true);
+            let notrace = format!(in alloc; "bits.{name}.{copy}.notrace.{w}")?;
+            self.set(map.bits(user, copy, Half::Notrace, w), notrace, true);
         }
         Ok(())
     }

@@ -1,7 +1,7 @@
 //! The statuses of the program, those of `ftcore`.
 
 /// How the call ended. The program ends with the number as its exit status.
-#[derive(Clone, Copy, Debug, PartialEq, Eq)]
+#[derive(Clone, Copy)]
 pub(crate) enum Status {
     /// The trace was written in full.
     Done = 0,

@@ -2,6 +2,7 @@
 
 use crate::names::Names;
 use crate::numbers::{put_decimal, put_hexadecimal};
+use crate::status::Status;
 use ft_base::{Actor, NoMemory};
 use ft_io::{Pieces, Sink};
 use ft_job::Job;
@@ -10,16 +11,7 @@ use ft_schedule::Player;
 use script_text::first_line;
 use std::alloc::Global;
 use trace_print::{Form, print};
-use word_map::Op;
-
-/// Why a trace wasn't written in full.
-#[derive(Clone, Copy, Drop)]
-pub(crate) enum TraceFail {
-    /// Out of memory. Nothing was written.
-    NoMemory,
-    /// The sink failed. A beginning of the trace was written.
-    Sink,
-}
+use word_map::{Op, WordMap};
 
 // After how many turns it is asked again whether every actor is at its end, as a replay does.
 const TURNS_TO_ASK: u64 = 64;
@@ -31,28 +23,34 @@ fn log_of(alloc: Global, job: &Job) -> Result<Vec<u8>, NoMemory> {
 }
 
 /// Writes the step trace of a job's replay.
-pub(crate) fn write_trace<K: Sink>(
+pub(crate) fn write_trace<K: Sink>(alloc: Global, job: &Job, sink: &mut K) -> Status {
+    let Ok(mut pieces) = Pieces::new(alloc) else {
+        return Status::NoMemory;
+    };
+    if put_trace(&mut pieces, sink, alloc, job).is_err() {
+        return Status::NoMemory;
+    }
+    match pieces.finish(sink) {
+        Ok(()) => Status::Done,
+        Err(_) => Status::WriteFault,
+    }
+}
+
+/// Puts the step trace of a job's replay. The error says that memory ran out; nothing is put then.
+fn put_trace<K: Sink>(
+    pieces: &mut Pieces,
+    sink: &mut K,
     alloc: Global,
     job: &Job,
-    sink: &mut K,
-) -> Result<(), TraceFail> {
-    let Ok(log) = log_of(alloc, job) else {
-        return Err(TraceFail::NoMemory);
+) -> Result<(), NoMemory> {
+    let log = log_of(alloc, job)?;
+    let map = WordMap::new(job.shape());
+    let Ok(names) = Names::new(alloc, job, map) else {
+        return Err(NoMemory);
     };
-    let Ok(mut machine) = Machine::start(alloc, job) else {
-        return Err(TraceFail::NoMemory);
-    };
-    let Ok(names) = Names::new(alloc, job, machine.map()) else {
-        return Err(TraceFail::NoMemory);
-    };
-    let Ok(mut pieces) = Pieces::new(alloc) else {
-        return Err(TraceFail::NoMemory);
-    };
-    put_steps(&mut pieces, sink, job, &names, &mut machine, &log);
-    match pieces.finish(sink) {
-        Ok(()) => Ok(()),
-        Err(_) => Err(TraceFail::Sink),
-    }
+    let mut machine = Machine::start(alloc, job)?;
+    put_steps(pieces, sink, job, &names, &mut machine, &log);
+    Ok(())
 }
 
 /// Puts a line for each step of the schedule that makes an operation, up to a moment when every actor is
