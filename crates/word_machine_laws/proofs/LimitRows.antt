@@ -6,17 +6,18 @@ use Rattle.ft_base.specs.Desk.{desk, is_allowed}
 use Rattle.ft_base.specs.WellFormed.{IsWellFormed}
 use Rattle.ft_base.proofs.Small.{false_true}
 use Rattle.word_map.specs.Words.{Words, Pids, Depth}
-use Rattle.word_map.specs.Contents.{mask_of, low}
+use Rattle.word_map.specs.Contents.{mask_of}
 use Rattle.word_machine.specs.Commands.{effect, state_of}
 use Rattle.word_map.specs.Ops.{Store}
 use Rattle.word_machine.specs.Control.{StorePids, StoreDepth, Ask, Tasks, control_got}
 use Rattle.word_machine.specs.Cpu.{Cpu}
 use Rattle.word_machine.specs.Machine.{control_row}
 use Rattle.word_machine.specs.Progress.{is_lists, is_levels}
+use Rattle.word_machine.specs.Trampolines.{PidsAndDepth}
 use Rattle.word_machine.specs.Rule.{MachineRule}
-use Rattle.word_machine_laws.proofs.Sites.{Fetches, Passed, passed_same}
-use Rattle.word_machine_laws.proofs.Goes.{Goes, cpu_goes}
-use Rattle.word_machine_laws.proofs.NoSwitch.{world, hereby, seen_on, read_still, walk_still, tramps_before, listed_on, sets_on, counts_on, lines_on, begun_more}
+use Rattle.word_machine_laws.proofs.Sites.{Fetches, passed_same}
+use Rattle.word_machine_laws.proofs.Goes.{Goes}
+use Rattle.word_machine_laws.proofs.NoSwitch.{world, hereby, seen_on, read_still, walk_still, tramps_before, listed_on, sets_on, row_kept}
 use Rattle.word_machine_laws.proofs.DeskKept.{none_changes}
 use Rattle.word_machine_laws.proofs.Effects.{what_waits_pids, what_waits_depth}
 
@@ -42,30 +43,15 @@ pub pids_keeps : (job : Job) → IsWellFormed job → (ws : Words) (d : ℕ) (re
     (Store Pids (mask_of (desk job (suc d)) (length job.tasks))))
 unfolding control_got
 pids_keeps job ok ws d remaining request copies order cpus past k =
-    let pass : Passed job ws.ack d StorePids k.base request d (Ask Tasks) k.base request ws.want ws.head ws.tail ws.next =
-    passed_same job d ws.ack StorePids (Ask Tasks) k.base k.base request request ws.want ws.want ws.head ws.tail ws.next
-    (λ f inside ch. false_true (sym (none_changes job ok d (what_waits_pids (effect job d) k.sites.fit).1 f) ∙ ch)) k.sites.asked (let z = k.sites.few in
-    omega (arith, z)) k.sites.want tt
-    (what_waits_pids (effect job d) k.sites.fit).0 (inl refl) (λ c within s. omega arith) k.sites in
-    record {
-      base = k.base;
-      counts = counts_on d StorePids (Ask Tasks) ws.clock past refl k.counts;
-      legal = k.legal;
-      runs = k.runs;
-      lines = lines_on job d StorePids (Ask Tasks) remaining _ (λ u. u) k.lines;
-      sites = pass.sites;
-      list = listed_on job d StorePids (Ask Tasks) order ws.first ws.link refl tt k.list;
-      sets = sets_on job d StorePids (Ask Tasks) copies ws.sel ws.bits refl tt k.sets;
-      tramps = tramps_before job d StorePids (Ask Tasks) refl refl refl ws.tramp k.tramps;
-      limits = record { tasks = refl; level = k.limits.level };
-      cpus = λ c within.
-          cpu_goes job past (hereby d StorePids k.base request order copies ws.link ws.bits) (hereby d (Ask Tasks) k.base request order copies ws.link ws.bits)
-          (ws.ack c) ws.quiet c (cpus c) (begun_more d StorePids ws.clock past k.counts) (omega arith)
-          (pass.reach c within) (λ t there r. omega arith)
-          (λ t there r a qr small. goes_pids job d k.base request order copies ws.link ws.bits k.sites.fit (ws.ack c) (low (ws.quiet t))
-          (pass.fetch c within r a))
-          (k.cpus c within);
-    }
+    let z = what_waits_pids (effect job d) k.sites.fit in
+    let limits : PidsAndDepth job d (Ask Tasks) (mask_of (desk job (suc d)) (length job.tasks)) ws.depth = record { tasks = refl; level = k.limits.level } in
+    row_kept job ws d remaining request copies order cpus past StorePids (Ask Tasks) k.base request copies order k refl (omega arith)
+    (passed_same job d ws.ack StorePids (Ask Tasks) k.base k.base request request ws.want ws.want ws.head ws.tail ws.next
+    (λ f inside ch. false_true (sym (none_changes job ok d z.1 f) ∙ ch)) k.sites.asked (let few = k.sites.few in omega (arith, few)) k.sites.want tt z.0
+    (inl refl) (λ c within s. omega arith) k.sites)
+    (listed_on job d StorePids (Ask Tasks) order ws.first ws.link refl tt k.list) (sets_on job d StorePids (Ask Tasks) copies ws.sel ws.bits refl tt k.sets)
+    (tramps_before job d StorePids (Ask Tasks) refl refl refl ws.tramp k.tramps) limits (λ t there r. omega arith)
+    (λ ack q small fetch. goes_pids job d k.base request order copies ws.link ws.bits k.sites.fit ack q fetch)
 
 goes_depth : (job : Job) (d base request : ℕ) (order : List ℕ) (copies link : ℕ → ℕ) (bits : ℕ → ℕ → ℕ → ℕ → ℕ) → is_levels (effect job d) ≡ true
     → (ack q : ℕ) → Fetches job ack d StoreDepth base d (Ask Tasks) base
@@ -89,27 +75,12 @@ pub depth_keeps : (job : Job) → IsWellFormed job → (ws : Words) (d : ℕ) (r
     → MachineRule job (control_row job (world ws d remaining request copies order cpus past StoreDepth) (Store Depth (desk job (suc d)).depth))
 unfolding control_got
 depth_keeps job ok ws d remaining request copies order cpus past k =
-    let pass : Passed job ws.ack d StoreDepth k.base request d (Ask Tasks) k.base request ws.want ws.head ws.tail ws.next =
-    passed_same job d ws.ack StoreDepth (Ask Tasks) k.base k.base request request ws.want ws.want ws.head ws.tail ws.next
-    (λ f inside ch. false_true (sym (none_changes job ok d (what_waits_depth (effect job d) k.sites.fit).1 f) ∙ ch)) k.sites.asked (let z = k.sites.few in
-    omega (arith, z)) k.sites.want tt
-    (what_waits_depth (effect job d) k.sites.fit).0 (inl refl) (λ c within s. omega arith) k.sites in
-    record {
-      base = k.base;
-      counts = counts_on d StoreDepth (Ask Tasks) ws.clock past refl k.counts;
-      legal = k.legal;
-      runs = k.runs;
-      lines = lines_on job d StoreDepth (Ask Tasks) remaining _ (λ u. u) k.lines;
-      sites = pass.sites;
-      list = listed_on job d StoreDepth (Ask Tasks) order ws.first ws.link refl tt k.list;
-      sets = sets_on job d StoreDepth (Ask Tasks) copies ws.sel ws.bits refl tt k.sets;
-      tramps = tramps_before job d StoreDepth (Ask Tasks) refl refl refl ws.tramp k.tramps;
-      limits = record { tasks = k.limits.tasks; level = refl };
-      cpus = λ c within.
-          cpu_goes job past (hereby d StoreDepth k.base request order copies ws.link ws.bits) (hereby d (Ask Tasks) k.base request order copies ws.link ws.bits)
-          (ws.ack c) ws.quiet c (cpus c) (begun_more d StoreDepth ws.clock past k.counts) (omega arith)
-          (pass.reach c within) (λ t there r. omega arith)
-          (λ t there r a qr small. goes_depth job d k.base request order copies ws.link ws.bits k.sites.fit (ws.ack c) (low (ws.quiet t))
-          (pass.fetch c within r a))
-          (k.cpus c within);
-    }
+    let z = what_waits_depth (effect job d) k.sites.fit in
+    let limits : PidsAndDepth job d (Ask Tasks) ws.pids (desk job (suc d)).depth = record { tasks = k.limits.tasks; level = refl } in
+    row_kept job ws d remaining request copies order cpus past StoreDepth (Ask Tasks) k.base request copies order k refl (omega arith)
+    (passed_same job d ws.ack StoreDepth (Ask Tasks) k.base k.base request request ws.want ws.want ws.head ws.tail ws.next
+    (λ f inside ch. false_true (sym (none_changes job ok d z.1 f) ∙ ch)) k.sites.asked (let few = k.sites.few in omega (arith, few)) k.sites.want tt z.0
+    (inl refl) (λ c within s. omega arith) k.sites)
+    (listed_on job d StoreDepth (Ask Tasks) order ws.first ws.link refl tt k.list) (sets_on job d StoreDepth (Ask Tasks) copies ws.sel ws.bits refl tt k.sets)
+    (tramps_before job d StoreDepth (Ask Tasks) refl refl refl ws.tramp k.tramps) limits (λ t there r. omega arith)
+    (λ ack q small fetch. goes_depth job d k.base request order copies ws.link ws.bits k.sites.fit ack q fetch)

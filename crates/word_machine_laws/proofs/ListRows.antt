@@ -9,21 +9,20 @@ use Rattle.ft_base.specs.WellFormed.{IsWellFormed}
 use Rattle.word_map.specs.Chains.{Leads}
 use Rattle.ft_base.proofs.Small.{false_true, or-true}
 use Rattle.word_map.specs.Words.{Words, put, at_put, First, Link}
-use Rattle.word_map.specs.Contents.{low}
 use Rattle.word_machine.specs.Commands.{Effect, Adds, Removes, Edits, Enables, Disables, Lists, Levels, Nothing, effect, subject, state_of}
 use Rattle.word_map.specs.Ops.{Store}
 use Rattle.word_machine.specs.Control.{Position, Push, Relink, batch_first, name_of, follower, namer_from, relink_op, relinked, control_got}
 use Rattle.word_machine.specs.Cpu.{Cpu}
 use Rattle.word_machine.specs.Machine.{control_row, words_after, past_after}
 use Rattle.word_machine.specs.Progress.{selected, pids_stored, depth_stored, desk_by, is_adds, relinks, patches}
-use Rattle.word_machine.specs.UserList.{since_of, older, ListWalk, Unlinked}
+use Rattle.word_machine.specs.UserList.{since_of, older, UserList, ListWalk, Unlinked}
 use Rattle.word_machine.specs.Rule.{MachineRule}
 use Rattle.word_machine_laws.proofs.DeskChanges.{SubjectBy, between, since-step, numbers-kept}
 use Rattle.word_machine.proofs.Small.{put_same, each_of}
-use Rattle.word_machine_laws.proofs.Sites.{Fetches, Passed, passed_same}
+use Rattle.word_machine_laws.proofs.Sites.{Fetches, passed_same}
 use Rattle.word_machine_laws.proofs.SiteSyncs.{enter_row}
-use Rattle.word_machine_laws.proofs.Goes.{Goes, cpu_goes}
-use Rattle.word_machine_laws.proofs.NoSwitch.{world, hereby, Flags, seen_on, read_still, goes_still, tramps_on, tramps_before, sets_on, limits_on, counts_on, lines_on, under_on, begun_more}
+use Rattle.word_machine_laws.proofs.Goes.{Goes}
+use Rattle.word_machine_laws.proofs.NoSwitch.{world, hereby, Flags, seen_on, read_still, goes_still, tramps_on, tramps_before, sets_on, limits_on, row_kept}
 use Rattle.word_machine_laws.proofs.SiteRows.{InBatch, in_batch}
 use Rattle.word_machine_laws.proofs.DeskKept.{order_next, sort_adds, sort_removes}
 use Rattle.word_machine_laws.proofs.UserList.{Among, among_of, has_of, Falls, falls_of, without_user, WalkOn, reads_name, reads_other, reads_older, push_reads, namer, namer_word, namer_later, unlink_reads, without_older, unlink_walker, without_filter}
@@ -48,55 +47,31 @@ module _ (job : Job) (ok : IsWellFormed job) (ws : Words) (d : ℕ) (remaining :
   unfolding control_got
   push_keeps order k =
       let adds : effect job d ≡ Adds = adds_of (effect job d) k.sites.fit in
-      let flags : Flags job d Push Relink request request = record {
-        list = refl;
-        select = refl;
-        pids = refl;
-        depth = refl;
-        hold = λ q small h. tt;
-        grows =
-            omega arith;
+      let flags : Flags job d Push Relink request request =
+      record { list = refl; select = refl; pids = refl; depth = refl; hold = λ q small h. tt; grows = omega arith } in
+      let list : UserList job d Relink order ws.first (at_put ws.link (subject job d) (name_of order)) = record {
+        order' = k.list.order';
+        leads = reads_other ws.link (subject job d) (name_of order) ws.first order (new_out order adds k.list.order') k.list.leads;
+        pushed = λ e. put_same ws.link (subject job d) (name_of order);
       } in
-      let pass : Passed job ws.ack d Push k.base request d Relink k.base request ws.want ws.head ws.tail ws.next =
-      passed_same job d ws.ack Push Relink k.base k.base request request ws.want ws.want ws.head ws.tail ws.next
-      (λ f inside ch. refl) k.sites.asked k.sites.few k.sites.want tt (ap relinks adds) (inl refl) (λ c within s. omega arith) k.sites in
+      row_kept job ws d remaining request copies order cpus past Push Relink k.base request copies order k refl (omega arith)
+      (passed_same job d ws.ack Push Relink k.base k.base request request ws.want ws.want ws.head ws.tail ws.next
+      (λ f inside ch. refl) k.sites.asked k.sites.few k.sites.want tt (ap relinks adds) (inl refl) (λ c within s. omega arith) k.sites)
+      list (sets_on job d Push Relink copies ws.sel ws.bits refl tt k.sets) (tramps_before job d Push Relink refl refl refl ws.tramp k.tramps)
+      (limits_on job d Push Relink ws.pids ws.depth refl refl k.limits) (λ t there r. omega arith)
+      (λ ack q small fetch.
+      let g = goes_still job d Push Relink k.base k.base request request flags order copies ws.link ws.bits ack q small fetch in
       record {
-        base = k.base;
-        counts = counts_on d Push Relink ws.clock past refl k.counts;
-        legal = k.legal;
-        runs = k.runs;
-        lines = lines_on job d Push Relink remaining _ (λ u. u) k.lines;
-        sites = pass.sites;
-        list = record {
-          order' = k.list.order';
-          leads = reads_other ws.link (subject job d) (name_of order) ws.first order (new_out order adds k.list.order') k.list.leads;
-          pushed = λ e. put_same ws.link (subject job d) (name_of order);
-        };
-        sets = sets_on job d Push Relink copies ws.sel ws.bits refl tt k.sets;
-        tramps = tramps_before job d Push Relink refl refl refl ws.tramp k.tramps;
-        limits = limits_on job d Push Relink ws.pids ws.depth refl refl k.limits;
-        cpus = λ c within.
-            cpu_goes job past (hereby d Push k.base request order copies ws.link ws.bits)
-            (hereby d Relink k.base request order copies (at_put ws.link (subject job d) (name_of order)) ws.bits) (ws.ack c) ws.quiet c (cpus c)
-            (begun_more d Push ws.clock past k.counts) (omega arith)
-            (pass.reach c within) (λ t there r. omega arith)
-            (λ t there r a qr small.
-            let g : Goes job (hereby d Push k.base request order copies ws.link ws.bits) (hereby d Relink k.base request order copies ws.link ws.bits)
-            (ws.ack c) (low (ws.quiet t)) = goes_still job d Push Relink k.base k.base request request flags order copies ws.link ws.bits (ws.ack c)
-            (low (ws.quiet t)) small (pass.fetch c within r a) in
-            record {
-              later = g.later;
-              fetch = g.fetch;
-              user = g.user;
-              reads = g.reads;
-              walks = λ u w. elim w [ inl x ↦ inl x | inr x ↦ false_true x.0.0 ];
-              walked = g.walked;
-              since = g.since;
-              pids = g.pids;
-              depth = g.depth;
-            })
-            (k.cpus c within);
-      }
+        later = g.later;
+        fetch = g.fetch;
+        user = g.user;
+        reads = g.reads;
+        walks = λ u w. elim w [ inl x ↦ inl x | inr x ↦ false_true x.0.0 ];
+        walked = g.walked;
+        since = g.since;
+        pids = g.pids;
+        depth = g.depth;
+      })
 
   -- ## the store that makes the list that of the command
 
@@ -107,31 +82,17 @@ module _ (job : Job) (ok : IsWellFormed job) (ws : Words) (d : ℕ) (remaining :
   relink_to order order' first' link' k orders reads walks =
       let fit : patches (effect job d) ≡ true = relinks_patches (effect job d) k.sites.fit in
       let b : InBatch job d (batch_first job d) = in_batch job d fit in
-      let pass : Passed job ws.ack d Relink k.base request d (batch_first job d) k.base request ws.want ws.head ws.tail ws.next =
-      enter_row job d ws.ack k.base request ws.want ws.head ws.tail ws.next Relink fit (λ f. refl) refl refl k.sites in
-      record {
-        base = k.base;
-        counts = counts_on d Relink (batch_first job d) ws.clock past b.stored.begun k.counts;
-        legal = k.legal;
-        runs = k.runs;
-        lines = lines_on job d Relink (batch_first job d) remaining _ (under_on Relink (batch_first job d) remaining b.stored.begun) k.lines;
-        sites = pass.sites;
-        list = record {
-          order' = subst (λ y. IsOrder (desk job (desk_by y d)) (desk_by y d) order') (sym b.list) orders;
-          leads = reads;
-          pushed = b.pushed link' order';
-        };
-        sets = sets_on job d Relink (batch_first job d) copies ws.sel ws.bits b.stored.select (b.stored.written (state_of job (suc d) (subject job d)) _) k.sets;
-        tramps = tramps_on job d Relink (batch_first job d) b.stored.take (b.stored.give ∙ sym (none_gave (effect job d) Relink refl)) ws.tramp k.tramps;
-        limits = limits_on job d Relink (batch_first job d) ws.pids ws.depth b.stored.pids b.stored.depth k.limits;
-        cpus = λ c within.
-            cpu_goes job past (hereby d Relink k.base request order copies ws.link ws.bits)
-            (hereby d (batch_first job d) k.base request order' copies link' ws.bits) (ws.ack c) ws.quiet c (cpus c)
-            (begun_more d Relink ws.clock past k.counts) (omega arith)
-            (pass.reach c within) (λ t there r. rw (b.stored.quiet request t) (omega arith))
-            (λ t there r a qr small. goes b k (ws.ack c) (low (ws.quiet t)) (pass.fetch c within r a))
-            (k.cpus c within);
-      }
+      let list : UserList job d (batch_first job d) order' first' link' = record {
+        order' = subst (λ y. IsOrder (desk job (desk_by y d)) (desk_by y d) order') (sym b.list) orders;
+        leads = reads;
+        pushed = b.pushed link' order';
+      } in
+      row_kept job ws d remaining request copies order cpus past Relink (batch_first job d) k.base request copies order' k b.stored.begun (omega arith)
+      (enter_row job d ws.ack k.base request ws.want ws.head ws.tail ws.next Relink fit (λ f. refl) refl refl k.sites) list
+      (sets_on job d Relink (batch_first job d) copies ws.sel ws.bits b.stored.select (b.stored.written (state_of job (suc d) (subject job d)) _) k.sets)
+      (tramps_on job d Relink (batch_first job d) b.stored.take (b.stored.give ∙ sym (none_gave (effect job d) Relink refl)) ws.tramp k.tramps)
+      (limits_on job d Relink (batch_first job d) ws.pids ws.depth b.stored.pids b.stored.depth k.limits)
+      (λ t there r. rw (b.stored.quiet request t) (omega arith)) (λ ack q small fetch. goes b k ack q fetch)
     where
       goes : (b : InBatch job d (batch_first job d)) (k : At order Relink) (ack q : ℕ) → Fetches job ack d Relink k.base d (batch_first job d) k.base
           → Goes job (hereby d Relink k.base request order copies ws.link ws.bits) (hereby d (batch_first job d) k.base request order' copies link' ws.bits) ack q

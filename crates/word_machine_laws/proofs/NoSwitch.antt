@@ -1,4 +1,4 @@
--- One law for the five rows of control that change no word of users and let no command return.
+-- One law for the rows of control within a command, and what those that change no word of users have in common.
 use Rattle.std.proofs.Common.{cond, ◌≡◌, ℕ, suc, ◌<◌, ◌≤◌, Bool, true, false, List, length, inl, inr, sym, ap, ◌∙◌, subst, arith}
 use Rattle.ft_base.specs.declared.item.Item.{Item}
 use Rattle.ft_base.specs.Job.{Job, Ctl}
@@ -143,7 +143,7 @@ limits_on job d p p' pids depth same_pids same_depth k = record {
   level = subst (λ b. depth ≡ (desk job (desk_by b d)).depth) (sym same_depth) k.level;
 }
 
-pub counts_on : (d : ℕ) (p p' : Position) (clock : ℕ) (past : List Item) → underway p' ≡ underway p → Counts d p clock past → Counts d p' clock past
+counts_on : (d : ℕ) (p p' : Position) (clock : ℕ) (past : List Item) → underway p' ≡ underway p → Counts d p clock past → Counts d p' clock past
 counts_on d p p' clock past same k = record {
   returned = k.returned;
   started = subst (λ b. begun past ≡ cond b (suc d) d) (sym same) k.started;
@@ -165,7 +165,7 @@ under_on p Line remaining begins u = tt
 under_on p _ remaining begins u = under_from p remaining begins u
 
 -- the command that has returned last has begun
-pub begun_more : (d : ℕ) (p : Position) (clock : ℕ) (past : List Item) → Counts d p clock past → d ≤ begun past
+begun_more : (d : ℕ) (p : Position) (clock : ℕ) (past : List Item) → Counts d p clock past → d ≤ begun past
 begun_more d p clock past k = by_under (underway p) k.started
   where
     by_under : (b : Bool) → begun past ≡ cond b (suc d) d → d ≤ begun past
@@ -175,29 +175,56 @@ begun_more d p clock past k = by_under (underway p) k.started
 -- ## the law
 
 module _ (job : Job) (ws : Words) (d : ℕ) (remaining : List Ctl) (request : ℕ) (copies : ℕ → ℕ) (order : List ℕ) (cpus : ℕ → Cpu) (past : List Item) where
+  -- a row within a command, by what it makes of each part, and of what tasks know
+  pub row_kept : {want first pids depth : ℕ} {head tail next tramp link sel : ℕ → ℕ} {bits : ℕ → ℕ → ℕ → ℕ → ℕ} (p p' : Position) (base' request' : ℕ)
+      (copies' : ℕ → ℕ) (order' : List ℕ) → (k : MachineRule job (world ws d remaining request copies order cpus past p)) → underway p' ≡ underway p
+      → request ≤ request' → Passed job ws.ack d p k.base request d p' base' request' want head tail next → UserList job d p' order' first link
+      → HashCopies job d p' copies' sel bits → TrampolinesHeld job d p' tramp → PidsAndDepth job d p' pids depth
+      → ((t : ℕ) → t < length job.tasks → quiet_reached (effect job d) p request t ≤ low (ws.quiet t)
+      → quiet_reached (effect job d) p' request' t ≤ low (ws.quiet t))
+      → ((ack q : ℕ) → q ≤ request → Fetches job ack d p k.base d p' base'
+      → Goes job (hereby d p k.base request order copies ws.link ws.bits) (hereby d p' base' request' order' copies' link bits) ack q)
+      → MachineRule job (world (record ws {
+        want = want;
+        first = first;
+        pids = pids;
+        depth = depth;
+        head = head;
+        tail = tail;
+        next = next;
+        tramp = tramp;
+        link = link;
+        sel = sel;
+        bits = bits;
+      }) d remaining request' copies' order' cpus past p')
+  row_kept {link = link} {bits = bits} p p' base' request' copies' order' k begun later pass list sets tramps limits quiets goes = record {
+    base = base';
+    counts = counts_on d p p' ws.clock past begun k.counts;
+    legal = k.legal;
+    runs = k.runs;
+    lines = lines_on job d p p' remaining _ (under_on p p' remaining begun) k.lines;
+    sites = pass.sites;
+    list = list;
+    sets = sets;
+    tramps = tramps;
+    limits = limits;
+    cpus = λ c within.
+        cpu_goes job past (hereby d p k.base request order copies ws.link ws.bits) (hereby d p' base' request' order' copies' link bits) (ws.ack c) ws.quiet c
+        (cpus c) (begun_more d p ws.clock past k.counts) later (pass.reach c within) quiets
+        (λ t there r a qr small. goes (ws.ack c) (low (ws.quiet t)) small (pass.fetch c within r a)) (k.cpus c within);
+  }
+
+  -- one that changes no word of users
   pub kept_on : (p p' : Position) (base' request' wanted : ℕ) (head tail next : ℕ → ℕ) → Flags job d p p' request request' → Stays job d p p'
       → (k : MachineRule job (world ws d remaining request copies order cpus past p))
       → Passed job ws.ack d p k.base request d p' base' request' wanted head tail next
       → ((t : ℕ) → t < length job.tasks → quiet_reached (effect job d) p request t ≤ low (ws.quiet t)
       → quiet_reached (effect job d) p' request' t ≤ low (ws.quiet t))
       → MachineRule job (world (record ws { want = wanted; head = head; tail = tail; next = next }) d remaining request' copies order cpus past p')
-  kept_on p p' base' request' wanted head tail next flags stays k pass quiets = record {
-    base = base';
-    counts = counts_on d p p' ws.clock past stays.begun k.counts;
-    legal = k.legal;
-    runs = k.runs;
-    lines = lines_on job d p p' remaining _ (under_on p p' remaining stays.begun) k.lines;
-    sites = pass.sites;
-    list = listed_on job d p p' order ws.first ws.link flags.list (stays.pushed ws.link order) k.list;
-    sets = sets_on job d p p' copies ws.sel ws.bits flags.select
-        (stays.written (state_of job (suc d) (subject job d)) (ws.bits (subject job d) (other_copy (copies (subject job d))))) k.sets;
-    tramps = stays.tramps ws.tramp k.tramps;
-    limits = limits_on job d p p' ws.pids ws.depth flags.pids flags.depth k.limits;
-    cpus = λ c within.
-        cpu_goes job past (hereby d p k.base request order copies ws.link ws.bits) (hereby d p' base' request' order copies ws.link ws.bits)
-        (ws.ack c) ws.quiet c (cpus c) (begun_more d p ws.clock past k.counts) flags.grows
-        (pass.reach c within) quiets
-        (λ t there r a qr small. goes_still job d p p' k.base base' request request' flags order copies ws.link ws.bits (ws.ack c) (low (ws.quiet t)) small
-        (pass.fetch c within r a))
-        (k.cpus c within);
-  }
+  kept_on p p' base' request' wanted head tail next flags stays k pass quiets =
+      row_kept p p' base' request' copies order k stays.begun flags.grows pass
+      (listed_on job d p p' order ws.first ws.link flags.list (stays.pushed ws.link order) k.list)
+      (sets_on job d p p' copies ws.sel ws.bits flags.select
+      (stays.written (state_of job (suc d) (subject job d)) (ws.bits (subject job d) (other_copy (copies (subject job d))))) k.sets)
+      (stays.tramps ws.tramp k.tramps) (limits_on job d p p' ws.pids ws.depth flags.pids flags.depth k.limits) quiets
+      (goes_still job d p p' k.base base' request request' flags order copies ws.link ws.bits)

@@ -7,7 +7,7 @@ use Rattle.ft_base.specs.declared.item.Item.{Item}
 use Rattle.ft_base.specs.Job.{Job, Ctl}
 use Rattle.ft_base.specs.Desk.{UserState}
 use Rattle.word_map.specs.Words.{Words, put, bits_put, Bits}
-use Rattle.word_map.specs.Contents.{set_word, low, other_copy}
+use Rattle.word_map.specs.Contents.{set_word, other_copy}
 use Rattle.word_machine.specs.Commands.{effect, subject, state_of, set_words}
 use Rattle.word_map.specs.Ops.{Store}
 use Rattle.word_machine.specs.Control.{Position, Copy, Select, copy_from, control_got}
@@ -19,9 +19,9 @@ use Rattle.word_machine.specs.UserList.{PushedAt}
 use Rattle.word_machine.specs.HashCopies.{HasSets, SelIs, WrittenAt, HashCopies}
 use Rattle.word_machine.specs.Rule.{MachineRule}
 use Rattle.word_machine.proofs.Small.{if_case, flip_other}
-use Rattle.word_machine_laws.proofs.Sites.{Fetches, Passed, passed_same}
-use Rattle.word_machine_laws.proofs.Goes.{Goes, cpu_goes}
-use Rattle.word_machine_laws.proofs.NoSwitch.{world, hereby, Flags, goes_still, tramps_on, listed_on, limits_on, counts_on, lines_on, under_on, begun_more}
+use Rattle.word_machine_laws.proofs.Sites.{Fetches, passed_same}
+use Rattle.word_machine_laws.proofs.Goes.{Goes}
+use Rattle.word_machine_laws.proofs.NoSwitch.{world, hereby, Flags, goes_still, tramps_on, listed_on, limits_on, row_kept}
 use Rattle.word_machine_laws.proofs.Effects.{writes_selects, none_gave}
 
 -- a store into another copy
@@ -123,30 +123,14 @@ module _ (job : Job) (ws : Words) (d : ℕ) (remaining : List Ctl) (request : �
       → WrittenAt job (state_of job (suc d) (subject job d)) (bits' job d h w copies ws.bits (subject job d) (other_copy (copies (subject job d))))
       (effect job d) p' → At (Copy h w) → After h w p'
   copy_to h w p' flags out take give begun pushed position fit stages none reaches quiet written k =
-      let pass : Passed job ws.ack d (Copy h w) k.base request d p' k.base request ws.want ws.head ws.tail ws.next =
-      passed_same job d ws.ack (Copy h w) p' k.base k.base request request ws.want ws.want ws.head ws.tail ws.next (λ f inside ch. stages f)
+      row_kept job ws d remaining request copies order cpus past (Copy h w) p' k.base request copies order k begun (omega arith)
+      (passed_same job d ws.ack (Copy h w) p' k.base k.base request request ws.want ws.want ws.head ws.tail ws.next (λ f inside ch. stages f)
       (k.sites.asked ∙ ap (λ n. k.base + n) (sym none)) (let z = k.sites.few in omega (arith, z)) k.sites.want position fit (inl refl)
-      (λ c within s. rw (reaches k.base c) (omega arith)) k.sites in
-      record {
-        base = k.base;
-        counts = counts_on d (Copy h w) p' ws.clock past begun k.counts;
-        legal = k.legal;
-        runs = k.runs;
-        lines = lines_on job d (Copy h w) p' remaining _ (under_on (Copy h w) p' remaining begun) k.lines;
-        sites = pass.sites;
-        list = listed_on job d (Copy h w) p' order ws.first ws.link flags.list pushed k.list;
-        sets = sets_copy job d h w copies ws.bits p' ws.sel out written k.sets;
-        tramps = tramps_on job d (Copy h w) p' take (give ∙ sym (none_gave (effect job d) (Copy h w) refl)) ws.tramp k.tramps;
-        limits = limits_on job d (Copy h w) p' ws.pids ws.depth flags.pids flags.depth k.limits;
-        cpus = λ c within.
-            cpu_goes job past (hereby d (Copy h w) k.base request order copies ws.link ws.bits)
-            (hereby d p' k.base request order copies ws.link (bits' job d h w copies ws.bits)) (ws.ack c) ws.quiet c (cpus c)
-            (begun_more d (Copy h w) ws.clock past k.counts) (omega arith)
-            (pass.reach c within) (λ t there r. rw (quiet t) (omega arith))
-            (λ t there r a qr small. goes_copy job d h w copies ws.bits p' k.base request order ws.link flags k.sets.small (ws.ack c) (low (ws.quiet t)) small
-            (pass.fetch c within r a))
-            (k.cpus c within);
-      }
+      (λ c within s. rw (reaches k.base c) (omega arith)) k.sites)
+      (listed_on job d (Copy h w) p' order ws.first ws.link flags.list pushed k.list) (sets_copy job d h w copies ws.bits p' ws.sel out written k.sets)
+      (tramps_on job d (Copy h w) p' take (give ∙ sym (none_gave (effect job d) (Copy h w) refl)) ws.tramp k.tramps)
+      (limits_on job d (Copy h w) p' ws.pids ws.depth flags.pids flags.depth k.limits) (λ t there r. rw (quiet t) (omega arith))
+      (goes_copy job d h w copies ws.bits p' k.base request order ws.link flags k.sets.small)
 
   pub copy_keeps : (h w : ℕ) → At (Copy h w)
       → MachineRule job (control_row job (world ws d remaining request copies order cpus past (Copy h w))

@@ -9,7 +9,7 @@ use Rattle.ft_base.specs.Order.{IsOrder}
 use Rattle.ft_base.specs.WellFormed.{IsWellFormed}
 use Rattle.ft_base.proofs.Small.{false_true}
 use Rattle.word_map.specs.Words.{Words, put, at_put, Sel}
-use Rattle.word_map.specs.Contents.{sel_of, sel_word, high, low, other_copy}
+use Rattle.word_map.specs.Contents.{sel_of, sel_word, high, other_copy}
 use Rattle.word_machine.specs.Commands.{Effect, Adds, Removes, Edits, Enables, Disables, Lists, Levels, Nothing, effect, subject, state_of}
 use Rattle.word_map.specs.Ops.{Store}
 use Rattle.word_machine.specs.Control.{Position, Select, Push, Relink, Ask, Tasks, Close, batch_first, copy_after, selected_in, control_got}
@@ -24,8 +24,8 @@ use Rattle.word_machine_laws.proofs.DeskChanges.{SubjectBy, between}
 use Rattle.word_machine.proofs.Small.{put_case, put_same, put_other}
 use Rattle.word_machine_laws.proofs.Sites.{Fetches, Passed, passed_same}
 use Rattle.word_machine_laws.proofs.SiteSyncs.{enter_row}
-use Rattle.word_machine_laws.proofs.Goes.{Goes, cpu_goes}
-use Rattle.word_machine_laws.proofs.NoSwitch.{world, hereby, seen_on, tramps_on, listed_on, limits_on, counts_on, lines_on, under_on, begun_more}
+use Rattle.word_machine_laws.proofs.Goes.{Goes}
+use Rattle.word_machine_laws.proofs.NoSwitch.{world, hereby, seen_on, tramps_on, listed_on, limits_on, row_kept}
 use Rattle.word_machine_laws.proofs.SiteRows.{InBatch, Stored, stored_at, stored_Close, in_batch, in_ask}
 use Rattle.word_machine_laws.proofs.DeskKept.{others_same, user_kept, none_changes, rest_same, order_flips}
 use Rattle.word_machine_laws.proofs.Effects.{after_small, none_gave}
@@ -156,26 +156,12 @@ module _ (job : Job) (ok : IsWellFormed job) (ws : Words) (d : ℕ) (remaining :
 
   select_to : (p' : Position) (base' : ℕ) → (k : At Select) → Selected job d p' order ws.first ws.link
       → Passed job ws.ack d Select k.base request d p' base' request ws.want ws.head ws.tail ws.next → After p'
-  select_to p' base' k b pass = record {
-    base = base';
-    counts = counts_on d Select p' ws.clock past b.stored.begun k.counts;
-    legal = k.legal;
-    runs = k.runs;
-    lines = lines_on job d Select p' remaining _ (under_on Select p' remaining b.stored.begun) k.lines;
-    sites = pass.sites;
-    list = b.list;
-    sets = sets_select job ok d copies p' ws.sel ws.bits b.stored.select b.stored.written k.sites.fit k.sets;
-    tramps = tramps_on job d Select p' b.stored.take (b.stored.give ∙ sym (none_gave (effect job d) Select refl)) ws.tramp k.tramps;
-    limits = limits_on job d Select p' ws.pids ws.depth b.stored.pids b.stored.depth k.limits;
-    cpus = λ c within.
-        cpu_goes job past (hereby d Select k.base request order copies ws.link ws.bits)
-        (hereby d p' base' request order (Copies job ok d copies) ws.link ws.bits) (ws.ack c) ws.quiet c (cpus c)
-        (begun_more d Select ws.clock past k.counts) (omega arith)
-        (pass.reach c within) (λ t there r. rw (b.stored.quiet request t) (omega arith))
-        (λ t there r a qr small. goes_select job ok d copies p' k.base base' request order ws.first ws.link ws.bits b (ws.ack c) (low (ws.quiet t))
-        (pass.fetch c within r a))
-        (k.cpus c within);
-  }
+  select_to p' base' k b pass =
+      row_kept job ws d remaining request copies order cpus past Select p' base' request (Copies job ok d copies) order k b.stored.begun (omega arith) pass b.list
+      (sets_select job ok d copies p' ws.sel ws.bits b.stored.select b.stored.written k.sites.fit k.sets)
+      (tramps_on job d Select p' b.stored.take (b.stored.give ∙ sym (none_gave (effect job d) Select refl)) ws.tramp k.tramps)
+      (limits_on job d Select p' ws.pids ws.depth b.stored.pids b.stored.depth k.limits) (λ t there r. rw (b.stored.quiet request t) (omega arith))
+      (λ ack q small fetch. goes_select job ok d copies p' k.base base' request order ws.first ws.link ws.bits b ack q fetch)
 
   -- a list that the command leaves
   flipped : (p' : Position) → listed p' ≡ true → relinks (effect job d) ≡ false → PushedAt job d ws.link order p'

@@ -25,8 +25,7 @@ use Rattle.word_machine.specs.Rule.{MachineRule}
 use Rattle.word_machine_laws.proofs.DeskChanges.{SubjectBy, between}
 use Rattle.word_machine.proofs.Small.{if_case, put_same, put_other, slot_is}
 use Rattle.word_machine_laws.proofs.Sites.{Passed, passed_same}
-use Rattle.word_machine_laws.proofs.Goes.{cpu_goes}
-use Rattle.word_machine_laws.proofs.NoSwitch.{world, hereby, Flags, goes_still, listed_on, sets_on, limits_on, counts_on, lines_on, under_on, begun_more}
+use Rattle.word_machine_laws.proofs.NoSwitch.{world, Flags, goes_still, listed_on, sets_on, limits_on, row_kept}
 use Rattle.word_machine_laws.proofs.DeskKept.{others_same}
 use Rattle.word_machine_laws.proofs.DeskSlots.{added_free, slots_apart}
 use Rattle.word_machine_laws.proofs.Effects.{adds_of, removes_of, none_gave, closing}
@@ -104,25 +103,11 @@ module _ (job : Job) (ok : IsWellFormed job) (ws : Words) (d : ℕ) (remaining :
       → ((t : ℕ) → t < length job.tasks → quiet_reached (effect job d) p request t ≤ low (ws.quiet t)
       → quiet_reached (effect job d) p' request t ≤ low (ws.quiet t))
       → MachineRule job (world (put (Tramp t0) x ws) d remaining request copies order cpus past p')
-  tramp_to p p' t0 x k flags tramps begun pushed written pass quiets = record {
-    base = k.base;
-    counts = counts_on d p p' ws.clock past begun k.counts;
-    legal = k.legal;
-    runs = k.runs;
-    lines = lines_on job d p p' remaining _ (under_on p p' remaining begun) k.lines;
-    sites = pass.sites;
-    list = listed_on job d p p' order ws.first ws.link flags.list pushed k.list;
-    sets = sets_on job d p p' copies ws.sel ws.bits flags.select written k.sets;
-    tramps = tramps;
-    limits = limits_on job d p p' ws.pids ws.depth flags.pids flags.depth k.limits;
-    cpus = λ c within.
-        cpu_goes job past (hereby d p k.base request order copies ws.link ws.bits) (hereby d p' k.base request order copies ws.link ws.bits)
-        (ws.ack c) ws.quiet c (cpus c) (begun_more d p ws.clock past k.counts) (omega arith)
-        (pass.reach c within) quiets
-        (λ t there r a qr small. goes_still job d p p' k.base k.base request request flags order copies ws.link ws.bits (ws.ack c) (low (ws.quiet t)) small
-        (pass.fetch c within r a))
-        (k.cpus c within);
-  }
+  tramp_to p p' t0 x k flags tramps begun pushed written pass quiets =
+      row_kept job ws d remaining request copies order cpus past p p' k.base request copies order k begun (omega arith) pass
+      (listed_on job d p p' order ws.first ws.link flags.list pushed k.list) (sets_on job d p p' copies ws.sel ws.bits flags.select written k.sets) tramps
+      (limits_on job d p p' ws.pids ws.depth flags.pids flags.depth k.limits) quiets
+      (goes_still job d p p' k.base k.base request request flags order copies ws.link ws.bits)
 
   pub take_keeps : At Take → MachineRule job (control_row job (world ws d remaining request copies order cpus past Take)
       (Store (Tramp (slot_of (state_of job (suc d) (subject job d)).slot)) (tramp_word (state_of job (suc d) (subject job d)).reg (subject job d))))
