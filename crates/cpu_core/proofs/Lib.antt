@@ -7,6 +7,7 @@ pub mod TurnLoops
 pub mod Places
 pub mod Untold
 pub mod Told
+pub mod WholePoll
 pub mod Numbers
 pub mod Turns
 pub mod Lookups

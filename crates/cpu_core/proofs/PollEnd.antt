@@ -48,7 +48,7 @@ after-marked c =
     going : Parts
     going = act_begun (record c { phase = Going }) (present_task c)
 
--- and it numbers no call
+-- an act that begins numbers no call
 begun-next : (t : Task) (act : Option TaskAct) → (begun t act).next ≡ t.next
 begun-next t (Some (Raise x)) = refl
 begun-next t (Some Lower) = refl

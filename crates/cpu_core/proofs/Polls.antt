@@ -31,6 +31,7 @@ use Rattle.cpu_core.proofs.Places.{first-case}
 use Rattle.cpu_core.proofs.PollEnd.{IsPolling, after-for, after-is, after-marked, next-act, next-state}
 use Rattle.cpu_core.proofs.Told.{at-told, left-told}
 use Rattle.cpu_core.proofs.Untold.{told-before, told-next, untold-there}
+use Rattle.cpu_core.proofs.WholePoll.{asked}
 
 -- ## what is marked
 
@@ -121,12 +122,8 @@ module _ (job : Job) (c : Parts) (v : ℕ) (k : IsFor job c) (e : c.phase ≡ Go
   -- so the machine's CPU loads the request
   machine-asks : cpu_got job (cpu_of job c) v ≡ machine.polling job (machine_ticked (cpu_of job c)) v
   machine-asks =
-      machine-at job c v machine.Going (ap (phase_in c.tasks) e)
-      ∙ if_case (λ x. x ≡ machine.polling job me v) (any_has_more job me) (present_got job me (me.tasks me.present).moment v) (machine.polling job me v)
-      (λ more. ap (λ m. present_got job me m v) (asks-moment (sym (more-left job c k.own) ∙ more))) (λ none. refl)
-    where
-      me : Cpu
-      me = machine_ticked (cpu_of job c)
+      asked job (cpu_of job c) v
+      (record { going = ap (phase_in c.tasks) e; between = λ more. asks-moment (sym (more-left job c k.own) ∙ more) })
 
   -- then its own word is stored, or the poll goes on
   pub asked-is : cpu_of job (polling (ticked c) v) ≡ cpu_got job (cpu_of job c) v

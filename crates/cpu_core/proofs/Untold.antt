@@ -15,7 +15,7 @@ low-halves : (h w : ℕ) → low (halves h (low w)) ≡ low w
 low-halves h w = omega arith
 
 -- it has nothing more to tell
-low-told : (r : ℕ) (v : TaskView) → told_low r (record v { word = told_word r v }) ≡ told_low r v
+pub low-told : (r : ℕ) (v : TaskView) → told_low r (record v { word = told_word r v }) ≡ told_low r v
 low-told r v = by v.left v.quiet
   where
     by : (left quiet : Bool)

@@ -7,3 +7,4 @@ pub mod Marks
 pub mod Turns
 pub mod Cpus
 pub mod Taken
+pub mod WholePoll

@@ -59,7 +59,7 @@ impl Cpu {
 
     /// CPU `cpu` of a script before its first step, with these tasks and users. `frames` is how many
     /// frames each task's shadow stack has, and `levels` how many levels each guard has, 1 or 2. It has
-    /// room for `room` items that aren't forgotten, and for all else that its steps need. The error says
+    /// room for `room` items that it keeps, and for all else that its steps need. The error says
     /// that memory ran out.
     pub fn new(
         alloc: Global,

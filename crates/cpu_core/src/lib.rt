@@ -2,18 +2,16 @@
 //! before each act, and keeps the list of what it has marked.
 //!
 //! Promised: for every job of which it is a CPU, its start, its next operation, what a value makes of
-//! it and what it marks are those of the word machine's CPU ([`cpu_laws`]; of the end of a poll and of
-//! its tasks' stacks, [`laws`]). Asked: that each value fits its operation, and that there is room for
-//! what a mark adds; the word machine's laws say that both are so. Only [`Cpu::new`] takes memory; that
-//! it is found is only tested, in `actors_tests`.
+//! it and what it marks are those of the word machine's CPU ([`Cpu`]). What a whole poll comes to, and
+//! what its tasks stay, is in [`laws`]. Asked: that each value fits its operation, and that there is room
+//! for what a mark adds; the word machine's laws say that both are so. Only [`Cpu::new`] takes memory;
+//! that it is found is only tested, in `actors_tests`.
 #![tactic(auto)]
 
 mod cpu;
-pub mod cpu_laws;
 pub mod laws;
 mod marked;
 mod parts;
-pub mod task_laws;
 mod tasks;
 
 pub use cpu::Cpu;

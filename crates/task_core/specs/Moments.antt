@@ -1,15 +1,12 @@
 -- Where a task of the word machine stands, by its walk of the list and by what it has read of a user.
 use Rattle.std.specs.Prelude.{ℕ}
-use Rattle.ft_base.specs.Job.{Job}
-use Rattle.word_map.specs.Shapes.{shape_of}
 use Rattle.ops_list.specs.declared.walker.WalkPhase.{WalkPhase}
 use Rattle.ops_list.specs.declared.walker.WalkPhase.TheVariants.{Starting, At, Ended as WalkEnded}
 use Rattle.hash_pages.specs.declared.reader.ReadPhase.{ReadPhase}
 use Rattle.hash_pages.specs.declared.reader.ReadPhase.TheVariants.{AtSel, AtFilter, AtNotrace, Ended as ReadEnded}
 use Rattle.hash_pages.specs.declared.reader.Verdict.{Verdict}
 use Rattle.hash_pages.specs.declared.reader.Verdict.TheVariants.{On}
-use Rattle.hash_pages.specs.Reads.{Read}
-use Rattle.word_machine.specs.Task.{OpenCall, Moment, AtFirst, AtLink, TestSel, TestFilter, TestNotrace, Closing}
+use Rattle.word_machine.specs.Task.{Moment, AtFirst, AtLink, TestSel, TestFilter, TestNotrace, Closing}
 
 -- before the next load of a walk: of the head, or of the link of the user where it stands; at its end the dispatch is over
 abbrev pub walking_at : WalkPhase → Moment
@@ -22,10 +19,6 @@ abbrev pub arrived_at : WalkPhase → Moment
 arrived_at Starting = AtFirst
 arrived_at (At u) = TestSel u.0
 arrived_at WalkEnded = Closing
-
--- a read of a user for a call
-abbrev pub read_at : Job → OpenCall → ℕ → ReadPhase → Read
-read_at job c u phase = record { shape = shape_of job; user = u; func = c.func; phase = phase }
 
 -- a user that isn't on is passed by; of one that is on the tests follow, which begin at the moment that its registration number gives
 abbrev pub judged : ℕ → (ℕ → Moment) → Verdict → Moment
