@@ -1,10 +1,9 @@
 -- The copies of sets that are in use after a command are the machine's.
 use Rattle.std.proofs.Common.{cond, ◌≡◌, ℕ, ◌<◌, Bool, true, false, List, length, get_or, Some, refl, ap, ◌∙◌, arith, inl, inr}
 use Rattle.std.proofs.lemmas.Bool.Decides.{eqb_tells}
-use Rattle.ft_base.specs.Job.{Job, Command, Register, Unregister, Filter, Notrace, Pid, NoPid, Enable, Disable, MaxDepth, commands}
+use Rattle.ft_base.specs.Job.{Job, Command, Register, Unregister, Filter, Notrace, Pid, NoPid, Enable, Disable, MaxDepth}
 use Rattle.ft_base.specs.Desk.{Desk, desk, user_at, answer_on, is_accepted}
-use Rattle.ft_base.specs.WellFormed.{IsNamed, IsWellFormed}
-use Rattle.ft_base.proofs.Modifiers.{named-at}
+use Rattle.ft_base.specs.WellFormed.{IsNamed}
 use Rattle.word_map.specs.Contents.{other_copy}
 use Rattle.word_map.specs.Words.{at_put}
 use Rattle.ft_desk.specs.Declarations.{IsOf}
@@ -61,11 +60,3 @@ module _ (job : Job) (s : Seen) (d : ℕ) (c : Command) (named : IsNamed job c) 
           (ap (λ (D : Desk). copies_in (copies_after D s.copies c)) same
           ∙ accepted s.copies job (desk job d) c size named)
       by false e = rw (if_refused job s d c is same e, effect_if_refused job d c given e) (put-own (copies_in s.copies) (subject job d))
-
--- a well-formed job names users that it has
-pub copies-same : (job : Job) (s : Seen) (d : ℕ) (c : Command) → IsWellFormed job → IsOf job s.declared → s.state ≡ desk job d
-    → command job d ≡ Some c → length s.copies ≡ length job.users
-    → copies_in (after_command s c).copies
-    ≡ at_put (copies_in s.copies) (subject job d) (copy_after (effect job d) (copies_in s.copies (subject job d)))
-copies-same job s d c ok is same given size =
-    copies-named job s d c (named-at (IsNamed job) (commands job) d c given ok.commands) is same given size

@@ -7,7 +7,9 @@ ghost use Rattle.word_map.specs.Ops.{placed};
 ghost use Rattle.grace_core.specs.Waits.{wait_got};
 ghost use Rattle.ft_desk.specs.Seen.{opened};
 ghost use Rattle.led_jobs.specs.Orders.{AreLed, IsLed, picked};
+ghost use Rattle.ft_desk.specs.Declarations.{IsOf};
 ghost use Rattle.ft_desk.specs.Lines.{IsLineIn, lines_of};
+ghost use Rattle.word_map.specs.Shapes.{shape_of};
 ghost use Rattle.control_core.specs.Plans.{IsDeclaredIn};
 ghost use Rattle.control_core.specs.Phases.{is_asking as asks, is_over as over, is_linked_up, quiet_to, release_in, store_to};
 
@@ -85,6 +87,8 @@ impl Control {
         ensures lines { IfOk result (λ c. c.lines ≡ lines_of map.tasks ctls.now) }
         ensures all { IfOk result (λ c. LeadsAll c) }
         ensures opening { IfOk result (λ c. IsOpening c) }
+        ensures starts { IfOk result (λ c. (job : Job) → map ≡ shape_of job → lines_of map.tasks ctls.now ≡ job.ctls → IsOf job desk.declared
+            → IsFor job c × (control_of c ≡ control_start job)) }
     {
         let items = room_for(alloc, ctls.len())?;
         let lines = copies(alloc, ctls)?;

@@ -11,13 +11,11 @@
 //! were led so far: those to come are read by no operation.
 //!
 //! Promised: for every job whose lines and shape it has, its start, its next operation, what a value
-//! makes of it and what it marks are those of the word machine's control. A plan of the desk is what
-//! the machine stores for the command ([`laws`]). Only [`Control::new`] takes memory; that it is found
-//! is only tested. Not promised: that a wait ends.
+//! makes of it and what it marks are those of the word machine's control. Only [`Control::new`] takes
+//! memory; that it is found is only tested. Not promised: that a wait ends.
 #![tactic(auto)]
 
 mod control;
-pub mod laws;
 mod ops;
 mod order;
 mod phase;

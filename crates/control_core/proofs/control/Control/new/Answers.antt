@@ -8,6 +8,7 @@ use Rattle.ft_desk.specs.Commands.{ctl_of}
 use Rattle.ft_desk.specs.Lines.{lines_of}
 use Rattle.control_core.specs.declared.phase.Phase.TheVariants as phase
 use Rattle.control_core.proofs.Opening.{opening-kept, opening-lines}
+use Rattle.control_core.proofs.StartLaw.{starts}
 use Rattle.control_core.proofs.control.Control.new.Goals as goal
 
 pub invariant_of-result : goal.invariant_of-result
@@ -49,3 +50,9 @@ returns-clause-all c =
       lines = opening-lines c.args.map.tasks c.in_ok-lines.lines.items c.args.ctls.now c.in_ok-order.order.items lines order
           ∙ ap (lines_of c.args.map.tasks) (sym lines);
     }
+
+pub returns-clause-starts : goal.returns-clause-starts
+returns-clause-starts c = λ job shape lines of. starts job _ shape
+    (opening-lines c.args.map.tasks c.in_ok-lines.lines.items c.args.ctls.now c.in_ok-order.order.items (c.in_ok-lines.ensures {u = tt}) (c.in_ok-order.ensures {u = tt})
+    ∙ lines)
+    of (search rules)
