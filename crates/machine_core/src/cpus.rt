@@ -125,7 +125,7 @@ fn room_of(plan: &CpuPlan, specs: &[Spec], limits: TaskLimits) -> u32
 }
 
 /// How many calls the scripts of a CPU's tasks make.
-fn calls_of(plan: &CpuPlan) -> u32
+pub fn calls_of(plan: &CpuPlan) -> u32
     requires tasks { length plan.now.tasks.items ≤ TASKS }
     requires acts { All (λ (p : DeclaredPlan). length p.acts.items ≤ ACTS) plan.now.tasks.items }
     ensures { result ≡ sum_by (λ (p : DeclaredPlan). calls_in p.acts.items) plan.now.tasks.items }

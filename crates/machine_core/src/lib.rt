@@ -17,5 +17,5 @@ mod cpus;
 mod table;
 mod world;
 
-pub use cpus::{CpuRoom, TaskLimits};
+pub use cpus::{CpuRoom, TaskLimits, calls_of};
 pub use world::{World, WorldParts, most_items};
