@@ -3,7 +3,7 @@
 use ft_base::{Answer, CallNo, Ctx, FuncNo, Item, Ran, TaskNo, UserNo};
 use ft_hist::History;
 use ft_job::Job;
-use ft_machine::{Outcome, replay};
+use ft_machine::replay;
 use std::alloc::Global;
 use std::test::Fail;
 
@@ -74,28 +74,21 @@ pub fn has(history: &History, items: &[Item]) -> bool {
     true
 }
 
-/// The first place at which two histories differ.
-fn difference(history: &History, want: &History) -> Option<u32> {
+/// Whether two histories have the same items.
+fn are_same(history: &History, other: &History) -> bool {
+    if history.len() != other.len() {
+        return false;
+    }
     for p in 0..history.len() {
-        if p >= want.len() || history.item(p) != want.item(p) {
-            return Some(p);
+        if history.item(p) != other.item(p) {
+            return false;
         }
     }
-    if history.len() == want.len() {
-        None
-    } else {
-        Some(history.len())
-    }
+    true
 }
 
-/// The history of a job's replay, which comes to its end.
-fn replayed(alloc: Global, job: &Job) -> Result<History, Fail> {
-    let Outcome { history, ended } = replay(alloc, job)?;
-    if ended { Ok(history) } else { Err("stopped")? }
-}
-
-/// Whether a history is that of the job's replay, which comes to its end.
+/// Whether a job's replay comes to its end, and a history is that replay's.
 pub fn is_replays(alloc: Global, job: &Job, history: &History) -> Result<bool, Fail> {
-    let replayed = replayed(alloc, job)?;
-    Ok(difference(history, &replayed).is_none())
+    let outcome = replay(alloc, job)?;
+    Ok(outcome.ended && are_same(history, &outcome.history))
 }

@@ -132,8 +132,28 @@ lane 1
 ctl register s
 ";
 
-/// Calls of each task.
-const CALLS: u32 = 10;
+/// Ten calls of a task.
+const TEN_CALLS: &str = "call a
+ret
+call a
+ret
+call a
+ret
+call a
+ret
+call a
+ret
+call a
+ret
+call a
+ret
+call a
+ret
+call a
+ret
+call a
+ret
+";
 
 /// The job of a text; none if it is refused. The texts here are short enough.
 fn read(alloc: Global, text: &str) -> Option<Job> {
@@ -181,46 +201,65 @@ pub fn lanes_and_calls(alloc: Global) -> Result<Job, Fail> {
     job_of(alloc, LANES_AND_CALLS)
 }
 
-/// A task of ten calls, on this CPU.
-fn add_task(text: &mut String, head: &str) -> Result<(), AllocError> {
-    text.push_str(head)?;
-    for _ in 0..CALLS {
-        text.push_str("call a\nret\n")?;
+/// The text of these parts, one after the other.
+fn joined(alloc: Global, parts: &[&str]) -> Result<String, AllocError> {
+    let mut text = String::new(alloc);
+    for part in parts {
+        text.push_str(part)?;
     }
-    Ok(())
+    Ok(text)
 }
 
-/// The text of two CPUs with a task of ten calls each.
-fn two_tasks(alloc: Global) -> Result<String, AllocError> {
-    let mut text = String::new(alloc);
-    text.push_str(TWO_CPUS)?;
-    add_task(&mut text, "task 10 cpu 0\n")?;
-    add_task(&mut text, "task 11 cpu 1\n")?;
-    Ok(text)
+/// The job of a text in parts that isn't refused.
+fn job_of_parts(alloc: Global, parts: &[&str]) -> Result<Job, Fail> {
+    let text = joined(alloc, parts)?;
+    job_of(alloc, text.as_str())
 }
 
 /// Two CPUs with a task of ten calls each, and control registers one user.
 pub fn three_at_once(alloc: Global) -> Result<Job, Fail> {
-    let mut text = two_tasks(alloc)?;
-    text.push_str("ctl register t\n")?;
-    job_of(alloc, text.as_str())
+    job_of_parts(
+        alloc,
+        &[
+            TWO_CPUS,
+            "task 10 cpu 0\n",
+            TEN_CALLS,
+            "task 11 cpu 1\n",
+            TEN_CALLS,
+            "ctl register t\n",
+        ],
+    )
 }
 
 /// Two CPUs, one with a task of ten calls and one with two of them, and no command.
 pub fn calls_alone(alloc: Global) -> Result<Job, Fail> {
-    let mut text = two_tasks(alloc)?;
-    add_task(&mut text, "task 12 cpu 1\n")?;
-    job_of(alloc, text.as_str())
+    job_of_parts(
+        alloc,
+        &[
+            TWO_CPUS,
+            "task 10 cpu 0\n",
+            TEN_CALLS,
+            "task 11 cpu 1\n",
+            TEN_CALLS,
+            "task 12 cpu 1\n",
+            TEN_CALLS,
+        ],
+    )
 }
 
 /// Two CPUs with a task of ten calls each, all of them after the command that registers a user.
 fn calls_after_command(alloc: Global, head: &str) -> Result<Job, Fail> {
-    let mut text = String::new(alloc);
-    text.push_str(head)?;
-    add_task(&mut text, "task 10 cpu 0\nafter 1\n")?;
-    add_task(&mut text, "task 11 cpu 1\nafter 1\n")?;
-    text.push_str("ctl register t\n")?;
-    job_of(alloc, text.as_str())
+    job_of_parts(
+        alloc,
+        &[
+            head,
+            "task 10 cpu 0\nafter 1\n",
+            TEN_CALLS,
+            "task 11 cpu 1\nafter 1\n",
+            TEN_CALLS,
+            "ctl register t\n",
+        ],
+    )
 }
 
 /// Calls that are all called back, and no trigger.

@@ -13,20 +13,18 @@ use std::sync::Wait;
 use std::test::Fail;
 use std::thread::Threads;
 
-/// What the actors and the lanes of a job make of it by threads.
+/// What the actors and the lanes of a job make of it by threads; none if it has no lanes, or if memory
+/// runs out.
 fn run<R: Threads + Wait + Sync, G: Gate>(
     rt: &R,
     alloc: Global,
     job: Job,
     gate: &G,
-) -> Result<LaneRun, Fail> {
+) -> Option<LaneRun> {
     if job.lanes().is_empty() {
-        Err("no lanes")?;
+        return None;
     }
-    match run_lanes(rt, alloc, job, gate) {
-        Ok(run) => Ok(run),
-        Err(_job) => Err("no memory")?,
-    }
+    run_lanes(rt, alloc, job, gate).ok()
 }
 
 /// Which of the three commands of the jobs a line is; 3 if it is none.
@@ -60,6 +58,11 @@ fn goes_anyhow(job: &Job) -> bool {
     goes(job, &[0, 1, 2]) || goes(job, &[0, 2, 1]) || goes(job, &[2, 0, 1])
 }
 
+/// Whether a run has carried out the commands in this order.
+fn is_in_order(run: &LaneRun, order: &[u32; 3]) -> bool {
+    goes(&run.job, order) && run.history.len() == 6
+}
+
 /// Whether a run whose lanes take turns in this order carries out the commands in that one.
 fn is_kept<R: Threads + Wait + Sync>(
     rt: &R,
@@ -67,9 +70,10 @@ fn is_kept<R: Threads + Wait + Sync>(
     lanes: [u32; 3],
     order: &[u32; 3],
 ) -> Result<bool, Fail> {
+    let job = lanes_alone(alloc)?;
     let gate = Order::new(lanes);
-    let LaneRun { job, history } = run(rt, alloc, lanes_alone(alloc)?, &gate)?;
-    Ok(!gate.failed() && goes(&job, order) && history.len() == 6)
+    let run = run(rt, alloc, job, &gate).ok_or("no run")?;
+    Ok(!gate.failed() && is_in_order(&run, order))
 }
 
 #[test]
@@ -81,15 +85,21 @@ fn each_order_is_seen(rt: HostRuntime) -> Result<(), Fail> {
     Ok(())
 }
 
+/// Whether a run has two items of each command; Enter, Body, Leave and Ret of each call, and what is
+/// called back.
+fn has_all(run: &LaneRun) -> bool {
+    goes_anyhow(&run.job) && run.history.len() >= 14
+}
+
 /// Whether a run of lanes and CPUs carries out each command and each call.
 fn is_whole<R: Threads + Wait + Sync, G: Gate>(
     rt: &R,
     alloc: Global,
     gate: &G,
 ) -> Result<bool, Fail> {
-    let LaneRun { job, history } = run(rt, alloc, lanes_and_calls(alloc)?, gate)?;
-    // Two items of each command; Enter, Body, Leave and Ret of each call, and what is called back.
-    Ok(goes_anyhow(&job) && history.len() >= 14)
+    let job = lanes_and_calls(alloc)?;
+    let run = run(rt, alloc, job, gate).ok_or("no run")?;
+    Ok(has_all(&run))
 }
 
 #[test]
@@ -97,17 +107,16 @@ fn lanes_pass_together(rt: HostRuntime) -> Result<(), Fail> {
     let meeting = Meeting::of_lanes();
     assert!(rt; is_whole(&rt, rt.alloc(), &meeting)?);
     // Each came, so the gate was passed, and none gave up, so they were there together.
-    assert!(rt; meeting.came() == 2);
-    assert!(rt; !meeting.failed());
+    assert!(rt; meeting.came() == 2 && !meeting.failed());
     Ok(())
 }
 
 /// How often the two lanes pass, if each actor passes with the numbers from 0 on.
 fn lane_passes<R: Threads + Wait + Sync>(rt: &R, alloc: Global) -> Result<[u64; 2], Fail> {
+    let job = lanes_and_calls(alloc)?;
     let tally = Tally::new();
-    run(rt, alloc, lanes_and_calls(alloc)?, &tally)?;
-    if tally.is_broken() {
-        Err("broken")?;
+    if run(rt, alloc, job, &tally).is_none() || tally.is_broken() {
+        Err("no run, or another number")?;
     }
     let [_, _, _, lane, other] = tally.passes();
     Ok([lane, other])

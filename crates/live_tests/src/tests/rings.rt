@@ -1,12 +1,16 @@
 //! A run whose CPUs offer their items to rings.
 
 use super::jobs::{traced_calls, triggered_calls};
-use ft_base::{CpuNo, FuncNo, Item, UserNo};
+use ft_base::{CpuNo, FuncNo, Item, NoMemory, UserNo};
 use ft_hist::History;
 use ft_io::OpenGate;
+use ft_job::Job;
 use live_threads::{RingRun, run_rings};
 use ring_rules::Rings;
+use std::alloc::Global;
+use std::sync::Wait;
 use std::test::Fail;
+use std::thread::Threads;
 
 /// The only function, and the only user, which is of kind function.
 const FUNCTION: FuncNo = FuncNo(0);
@@ -40,25 +44,32 @@ fn have_fired(rings: &Rings, first: u32, second: u32) -> bool {
     rings.triggers() == 2 && rings.fired(0) == first && rings.fired(1) == second
 }
 
+/// What the actors of a job make of it by threads.
+fn run<R: Threads + Wait + Sync>(rt: &R, alloc: Global, job: Job) -> Result<RingRun, NoMemory> {
+    run_rings(rt, alloc, &job, &OpenGate)
+}
+
+/// Whether each of 20 calls is called back and written. The calls come after the registration.
+fn is_each_written<R: Threads + Wait + Sync>(rt: &R, alloc: Global) -> Result<bool, Fail> {
+    let RingRun { history, rings } = run(rt, alloc, traced_calls(alloc)?)?;
+    Ok(rings.triggers() == 0 && history.backs(USER) == 20 && have_written(&rings, 20))
+}
+
 #[test]
 fn each_callback_is_written(rt: HostRuntime) -> Result<(), Fail> {
-    let alloc = rt.alloc();
-    let job = traced_calls(alloc)?;
-    let RingRun { history, rings } = run_rings(&rt, alloc, &job, &OpenGate)?;
-    assert!(rt; rings.triggers() == 0);
-    // The calls come after the registration, so each is called back.
-    assert!(rt; history.backs(USER) == 20);
-    assert!(rt; have_written(&rings, 20));
+    assert!(rt; is_each_written(&rt, rt.alloc())?);
     Ok(())
+}
+
+/// Whether 20 calls are made, and the triggers fire as often as they may: the first 3 times, over both
+/// CPUs; the second as often as it is hit.
+fn is_each_fired<R: Threads + Wait + Sync>(rt: &R, alloc: Global) -> Result<bool, Fail> {
+    let RingRun { history, rings } = run(rt, alloc, triggered_calls(alloc)?)?;
+    Ok(enters(&history) == 20 && have_fired(&rings, 3, 20))
 }
 
 #[test]
 fn a_trigger_fires_as_often_as_it_may(rt: HostRuntime) -> Result<(), Fail> {
-    let alloc = rt.alloc();
-    let job = triggered_calls(alloc)?;
-    let RingRun { history, rings } = run_rings(&rt, alloc, &job, &OpenGate)?;
-    assert!(rt; enters(&history) == 20);
-    // The first may fire 3 times, over both CPUs; the second as often as it is hit.
-    assert!(rt; have_fired(&rings, 3, 20));
+    assert!(rt; is_each_fired(&rt, rt.alloc())?);
     Ok(())
 }

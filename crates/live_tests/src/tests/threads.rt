@@ -1,5 +1,7 @@
 //! A run that has one history, a run that only several threads come through, and the passes of gates.
 
+ghost use Rattle.live_table.specs.Seats.{AreSeats, ControlSitsAt};
+
 use super::histories::is_replays;
 use super::jobs::{calls_alone, commands_alone, one_order, three_at_once};
 use super::meeting::Meeting;
@@ -32,19 +34,42 @@ fn run<R: Threads + Wait + Sync, G: Gate>(
     let Ok(ended) = run_live(rt, alloc, &live, control, cpus, gate) else {
         return Err(NoMemory);
     };
-    let Ended { control, cpus } = ended;
-    live.gather(alloc, control, cpus).map_err(|_| NoMemory)
+    gathered(alloc, live, ended)
+}
+
+/// The history of a table, with its seats.
+fn gathered(alloc: Global, live: Live, ended: Ended) -> Result<History, NoMemory>
+    requires control { ControlSitsAt live ended.control }
+    requires cpus { AreSeats live ended.cpus.items }
+{
+    match live.gather(alloc, ended.control, ended.cpus) {
+        Ok(history) => Ok(history),
+        Err(_) => Err(NoMemory),
+    }
+}
+
+/// Whether a run of a job has so many items, and is the replay.
+fn is_replay_of<R: Threads + Wait + Sync>(
+    rt: &R,
+    alloc: Global,
+    job: &Job,
+    items: u32,
+) -> Result<bool, Fail> {
+    let history = run(rt, alloc, job, &OpenGate)?;
+    Ok(history.len() == items && is_replays(alloc, job, &history)?)
+}
+
+/// Whether that is so for the job whose items have one order.
+fn is_the_replay<R: Threads + Wait + Sync>(rt: &R, alloc: Global) -> Result<bool, Fail> {
+    let job = one_order(alloc)?;
+    // Two of each of the five commands; eight of each of the four calls, less the two of the exit that
+    // doesn't come.
+    is_replay_of(rt, alloc, &job, 40)
 }
 
 #[test]
 fn one_order_is_the_replays(rt: HostRuntime) -> Result<(), Fail> {
-    let alloc = rt.alloc();
-    let job = one_order(alloc)?;
-    let history = run(&rt, alloc, &job, &OpenGate)?;
-    // Two of each of the five commands; eight of each of the four calls, less the two of the exit that
-    // doesn't come.
-    assert!(rt; history.len() == 40);
-    assert!(rt; is_replays(alloc, &job, &history)?);
+    assert!(rt; is_the_replay(&rt, rt.alloc())?);
     Ok(())
 }
 
@@ -64,8 +89,7 @@ fn threads_pass_together(rt: HostRuntime) -> Result<(), Fail> {
     let meeting = Meeting::of_three();
     let items = items_of_three(&rt, rt.alloc(), &meeting)?;
     // Each came, so the gate was passed, and none gave up, so they were there together.
-    assert!(rt; meeting.came() == 3);
-    assert!(rt; !meeting.failed());
+    assert!(rt; meeting.came() == 3 && !meeting.failed());
     // Enter, Body, Leave and Ret of each of the 20 calls, and the command's two. Which calls are called
     // back is the threads' choice.
     assert!(rt; items >= 82);
@@ -96,31 +120,49 @@ fn steps_to_end(machine: &mut Machine, actor: Actor) -> Option<u64> {
     None
 }
 
+/// The same of a machine of its own.
+fn steps_alone(alloc: Global, job: &Job, actor: Actor) -> Result<Option<u64>, NoMemory> {
+    let mut machine = Machine::start(alloc, job)?;
+    Ok(steps_to_end(&mut machine, actor))
+}
+
 /// The steps of an actor, and one more, in a replay that steps it alone. The actors of these jobs come
 /// to their ends alone.
 fn steps_and_one(alloc: Global, job: &Job, actor: Actor) -> Result<u64, Fail> {
-    let mut machine = Machine::start(alloc, job)?;
-    match steps_to_end(&mut machine, actor) {
-        Some(steps) => Ok(steps),
-        None => Err("no end")?,
-    }
+    Ok(steps_alone(alloc, job, actor)?.ok_or("no end")?)
+}
+
+/// Whether control alone passes, once a step.
+fn passes_of_control<R: Threads + Wait + Sync>(
+    rt: &R,
+    alloc: Global,
+    job: &Job,
+) -> Result<bool, Fail> {
+    let control = steps_and_one(alloc, job, Actor::Control)?;
+    Ok(passes(rt, alloc, job)? == [control, 0, 0, 0, 0])
+}
+
+/// Whether control passes once, and each of two CPUs once a step.
+fn passes_of_cpus<R: Threads + Wait + Sync>(
+    rt: &R,
+    alloc: Global,
+    job: &Job,
+) -> Result<bool, Fail> {
+    let first = steps_and_one(alloc, job, Actor::Cpu(CpuNo(0)))?;
+    let second = steps_and_one(alloc, job, Actor::Cpu(CpuNo(1)))?;
+    Ok(passes(rt, alloc, job)? == [1, first, second, 0, 0])
 }
 
 /// Whether control passes once a step, if no CPU is waited for.
 fn passes_with_commands<R: Threads + Wait + Sync>(rt: &R, alloc: Global) -> Result<bool, Fail> {
     let job = commands_alone(alloc)?;
-    let control = steps_and_one(alloc, &job, Actor::Control)?;
-    let passes = passes(rt, alloc, &job)?;
-    Ok(passes == [control, 0, 0, 0, 0])
+    passes_of_control(rt, alloc, &job)
 }
 
 /// Whether each CPU passes once a step, if nothing is asked for and control has no step.
 fn passes_with_calls<R: Threads + Wait + Sync>(rt: &R, alloc: Global) -> Result<bool, Fail> {
     let job = calls_alone(alloc)?;
-    let first = steps_and_one(alloc, &job, Actor::Cpu(CpuNo(0)))?;
-    let second = steps_and_one(alloc, &job, Actor::Cpu(CpuNo(1)))?;
-    let passes = passes(rt, alloc, &job)?;
-    Ok(passes == [1, first, second, 0, 0])
+    passes_of_cpus(rt, alloc, &job)
 }
 
 /// How often each passes if all are under way. How often control asks is the threads' choice.

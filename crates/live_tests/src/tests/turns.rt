@@ -206,11 +206,9 @@ fn gather_one(alloc: Global, live: Live, control: ControlSeat, cpu: CpuSeat) -> 
 /// another number of CPUs, or if the seats do not come to their ends.
 pub fn one_cpu_in_turn(alloc: Global, job: &Job) -> Option<History> {
     let (live, mut control, mut cpu) = start_one(alloc, job)?;
-    if run_in_turn(&live, &mut control, &mut cpu) {
-        gather_one(alloc, live, control, cpu)
-    } else {
-        None
-    }
+    let ended = run_in_turn(&live, &mut control, &mut cpu);
+    let history = gather_one(alloc, live, control, cpu)?;
+    if ended { Some(history) } else { None }
 }
 
 /// The history of a job of one CPU whose seats step from two threads. None if memory runs out, or if
