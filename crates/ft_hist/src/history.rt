@@ -1,6 +1,6 @@
 //! A history that the program keeps.
 
-ghost use Rattle.std.specs.Prelude.{◌≡◌, ℕ, ◌+◌, ◌-◌, ◌<◌, ◌≤◌, ◌^◌, List, [], ◌∷◌, ◌++◌, length, IfOk, set, slice_get};
+ghost use Rattle.std.specs.Prelude.{◌≡◌, ℕ, ◌+◌, ◌-◌, ◌<◌, ◌≤◌, ◌^◌, List, [], ◌∷◌, ◌++◌, length, nat_eq, IfOk, OnOk, set, slice_get};
 ghost use Rattle.ft_hist.specs.Counts.{is_back_of, is_missed_by, backs_of, missed_by};
 
 use ft_base::{Item, NoMemory, Reason, UserNo};
@@ -52,13 +52,46 @@ impl History {
         &self.kept[p as usize]
     }
 
-    /// Adds an item at the end. It takes no memory, since the room was taken at the start.
+    /// Adds an item at the end. It takes no memory, since the room was taken before.
     pub fn push(&mut self, item: Item)
         requires { 0 < self.old.spare }
         ensures added { self.new.items ≡ self.old.items ++ item ∷ [] }
         ensures room { self.old.spare ≤ self.new.spare + 1 }
     {
         self.kept.push_reserved(item);
+    }
+
+    /// Whether there is no room for another item.
+    fn is_full(&self) -> bool
+        ensures { result ≡ nat_eq self.now.spare 0 }
+    {
+        self.kept.len() >= self.room as usize
+    }
+
+    /// Takes room for more items if there is none left. The error says that there is no memory for it.
+    #[inline(always)]
+    pub fn make_room(&mut self) -> Result<(), NoMemory>
+        ensures items { self.new.items ≡ self.old.items }
+        ensures room { OnOk result (0 < self.new.spare) }
+    {
+        if self.is_full() {
+            return self.grow();
+        }
+        Ok(())
+    }
+
+    /// Takes room for at least one more item, and mostly for as many more as there are, so that an item
+    /// costs the same however many there are.
+    fn grow(&mut self) -> Result<(), NoMemory>
+        ensures items { self.new.items ≡ self.old.items }
+        ensures room { OnOk result (0 < self.new.spare) }
+    {
+        self.kept.reserve(1).map_err(|_| NoMemory)?;
+        self.room = u32::try_from(self.kept.capacity()).unwrap_or(u32::MAX);
+        if self.is_full() {
+            return Err(NoMemory);
+        }
+        Ok(())
     }
 
     /// Puts an item in place of the one at a place.

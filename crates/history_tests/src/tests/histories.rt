@@ -21,6 +21,17 @@ fn keeps_items_in_order(rt: HostRuntime) -> Result<(), Fail> {
     Ok(())
 }
 
+#[test]
+fn takes_room_as_it_needs_it(rt: HostRuntime) -> Result<(), Fail> {
+    let mut history = History::with_room(rt.alloc(), 0)?;
+    history.make_room()?;
+    history.push(Item::Begin { k: 1 });
+    history.make_room()?;
+    history.push(RETURN);
+    assert!(rt; history.len() == 2 && *history.item(0) == Item::Begin { k: 1 });
+    Ok(())
+}
+
 /// The user whose items are counted.
 const USER: UserNo = UserNo(0);
 
