@@ -134,6 +134,7 @@ impl Parts {
     }
 
     /// The operation of the present task gave this value. If it was a mark, the answer is its item.
+    #[inline(always)]
     fn go(&mut self, value: u64) -> Option<Item>
         requires { GoFits self.old value }
         ensures parts { self.new ≡ unmarked self.old (went self.old value) }

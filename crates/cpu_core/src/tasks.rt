@@ -114,16 +114,16 @@ impl Tasks {
 
     /// The operation of the task at this index gave this value, which is the clock of a wait that isn't
     /// met if `unmet` says so. If the operation was a mark, the answer is its item.
+    #[inline(always)]
     pub(crate) fn got(&mut self, i: u32, setup: &Setup, value: u64, unmet: bool) -> Option<Item>
         requires fits { IsSomeAnd (slice_get self.old i) (λ t. TaskFits setup.now t value) }
         requires waits { IsSomeAnd (slice_get self.old i) (λ t. unmet ≡ is_unmet t value) }
         ensures tasks { IsSomeAnd (slice_get self.old i) (λ t. self.new ≡ set self.old i (task_after t setup.now value)) }
         ensures item { IsSomeAnd (slice_get self.old i) (λ t. result ≡ item_in (op_of t)) }
     {
-        // A wait that isn't met changes nothing that a poll looks at.
-        let told = known_if(unmet, self.told);
         let item = self.tasks[i as usize].got(setup, value);
-        self.told = told;
+        // A wait that isn't met changes nothing that a poll looks at.
+        self.told = known_if(unmet, self.told);
         item
     }
 

@@ -14,12 +14,6 @@ walking_at Starting = AtFirst
 walking_at (At u) = AtLink u.0
 walking_at WalkEnded = Closing
 
--- the user that a load of the walk has named is asked next, or the dispatch is over
-abbrev pub arrived_at : WalkPhase → Moment
-arrived_at Starting = AtFirst
-arrived_at (At u) = TestSel u.0
-arrived_at WalkEnded = Closing
-
 -- a user that isn't on is passed by; of one that is on the tests follow, which begin at the moment that its registration number gives
 abbrev pub judged : ℕ → (ℕ → Moment) → Verdict → Moment
 judged u on (On reg) = on reg

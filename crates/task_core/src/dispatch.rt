@@ -32,6 +32,7 @@ use word_map::{Op, Sel, WordMap, next, tramp};
 
 impl Task {
     /// The load that comes next.
+    #[inline(always)]
     pub(crate) fn load_op(&self, load: &ToLoad, map: &WordMap) -> Option<Op>
         requires call { IsInCall self.now }
         requires word { IsLoadThere map.now self.now load.now }
@@ -54,6 +55,7 @@ impl Task {
     }
 
     /// The load gave this value.
+    #[inline(always)]
     pub(crate) fn loaded(&mut self, load: ToLoad, setup: &Setup, value: u64)
         requires call { IsInCall self.old }
         requires fits { FitsLoad setup.now self.old load value }
@@ -77,6 +79,7 @@ impl Task {
     }
 
     /// The mark at this place of the history is made. The answer is its item.
+    #[inline(always)]
     pub(crate) fn marked(&mut self, mark: ToMark, setup: &Setup, place: u32) -> Item
         requires call { IsInCall self.old }
         requires fits { FitsMark setup.now self.old mark }

@@ -166,6 +166,7 @@ impl Task {
 
     /// Takes the value that its next operation gave. If that was a mark, its item is the answer, and
     /// stands at the place that the clock told.
+    #[inline(always)]
     pub fn got(&mut self, setup: &Setup, value: u64) -> Option<Item>
         requires { TaskFits setup.now self.old value }
         ensures task { self.new ≡ task_after self.old setup.now value }

@@ -14,6 +14,6 @@ invariant_of-self c =
     subst (λ us. IsSomeAnd (slice_get us c.args.i) (λ t. c.args.unmet ≡ is_unmet t c.args.value)) (sym c.self.view_is) c.requires.waits in
     record {
       few = rw (length-set ts c.args.i c.got-item.new.self) c.self.invariant.few;
-      told = rw c.known_if-told.ensures (told-unmet c.self.inside.told ts c.args.i c.index_mut.result.now c.got-item.new.self lt
+      told = rw c.known_if-self-inside.ensures (told-unmet c.self.inside.told ts c.args.i c.index_mut.result.now c.got-item.new.self lt
           c.index_mut.ensures.value c.self.invariant.told c.args.setup.now c.args.value c.args.unmet waits c.got-item.ensures.task);
     }
