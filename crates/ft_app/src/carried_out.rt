@@ -7,7 +7,7 @@ ghost use Rattle.ft_app.specs.Reply.{IsEnough, IsReplayOf, history_of};
 
 use ft_base::NoMemory;
 use ft_job::Job;
-use ft_machine::{most_items, replay_into};
+use ft_machine::replay_into;
 use ft_words::Order;
 use ring_rules::Rings;
 use std::alloc::Global;
@@ -53,7 +53,7 @@ fn kept_for(alloc: Global, order: Order, job: &Job) -> Result<Kept, NoMemory>
     ensures enough { IfOk result (λ kept. IsEnough order kept) }
 {
     match order {
-        Order::Replay(form) => Kept::for_form(alloc, job, most_items(job), form),
+        Order::Replay(form) => Kept::for_form(alloc, job, form),
         Order::Bulk(_) => Ok(Kept::for_summary()),
         Order::Run(_) => unreachable!(),
     }

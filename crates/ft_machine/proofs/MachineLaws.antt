@@ -30,10 +30,14 @@ has-room job past h has item legal =
     omega (arith, most, many, room)
 
 -- one more item
+pub past-next : (past : List Item) (h h' : Shown) (item : Item) → past_in h ≡ past → h'.items ≡ h.items ++ item ∷ [] → past_in h' ≡ item ∷ past
+past-next past h h' item is added =
+    ap (λ (xs : List Item). reverse xs) added ∙ reverse-append h.items (item ∷ []) ∙ ap (λ (xs : List Item). item ∷ xs) is
+
 pub takes : (job : Job) (past : List Item) (h h' : Shown) (item : Item) → HasPast job past h → h'.items ≡ h.items ++ item ∷ [] → h.spare ≤ h'.spare + 1
     → HasPast job (item ∷ past) h'
 takes job past h h' item has added spare = record {
-  items = ap (λ (xs : List Item). reverse xs) added ∙ reverse-append h.items (item ∷ []) ∙ ap (λ (xs : List Item). item ∷ xs) has.items;
+  items = past-next past h h' item has.items added;
   room = (let e = ap (λ (xs : List Item). length xs) added ∙ length-append h.items (item ∷ []) in let room = has.room in omega (arith, e, spare, room));
 }
 
@@ -43,6 +47,11 @@ takes-none job h none room = record {
   items = ap (λ (xs : List Item). reverse xs) none;
   room = (let n = ap (λ (xs : List Item). length xs) none in omega (arith, n, room));
 }
+
+-- none is legal
+pub none-legal : (job : Job) → IsLegalPast job []
+unfolding IsLegalPast
+none-legal job = tt
 
 -- ## a world
 
@@ -147,8 +156,8 @@ push-room job w w' h a item m moved =
 pub items-are : (job : Job) (m : Machine) (h : Shown) → h ≡ m.history → h.items ≡ reverse (state_of job m).past
 items-are job m h e = ap (λ (x : Shown). x.items) e ∙ sym (reverse-reverse m.history.items)
 
-pub has-items : (job : Job) (past : List Item) (h : Shown) → HasPast job past h → h.items ≡ reverse past
-has-items job past h has = sym (reverse-reverse h.items) ∙ ap (λ (xs : List Item). reverse xs) has.items
+pub has-items : (past : List Item) (h : Shown) → past_in h ≡ past → h.items ≡ reverse past
+has-items past h is = sym (reverse-reverse h.items) ∙ ap (λ (xs : List Item). reverse xs) is
 
 module _ (job : Job) (s : World) (l : IsLimited job) (r : Runs job s) (items : List Item) (e : items ≡ reverse s.past) where
   pub legal : IsLegal job items

@@ -26,4 +26,4 @@ pub use laws::{
 pub use machine::Machine;
 pub use play::{Outcome, replay, replay_into};
 pub use taker::Taker;
-pub use world::{most_items, new_history, new_world};
+pub use world::new_world;

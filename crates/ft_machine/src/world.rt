@@ -17,7 +17,7 @@ use std::alloc::Global;
 use word_map::WordMap;
 
 /// An empty history with room for all items that the job can make. The error says that memory ran out.
-pub fn new_history(alloc: Global, job: &Job) -> Result<History, NoMemory>
+pub(crate) fn new_history(alloc: Global, job: &Job) -> Result<History, NoMemory>
     ensures empty { IfOk result (λ h. h.items ≡ []) }
     ensures room { IfOk result (λ h. most_items job.now ≤ h.spare) }
 {
@@ -25,7 +25,7 @@ pub fn new_history(alloc: Global, job: &Job) -> Result<History, NoMemory>
 }
 
 /// For how many items there has to be room: the job makes no more.
-pub fn most_items(job: &Job) -> u32
+fn most_items(job: &Job) -> u32
     ensures { most_items job.now ≤ result }
 {
     // Called for its contract alone: the job is within the limits of scripts.

@@ -10,7 +10,8 @@
 //! machine, after any items that came before; a step tells the item that the word machine adds; it tells
 //! who is at an end, and the five bytes of each call site. A lemma for the crates above, `whole-site`,
 //! says that these bytes are whole. Only the start takes memory. Whoever keeps items takes the room for
-//! all that a job can make, by [`most_items`]; that it is found is only tested, in `actors_tests`.
+//! one before the step that may mark it, or at the start for all that a job can make ([`most_items`]).
+//! That memory is found is only tested, in `actors_tests`.
 #![tactic(auto)]
 
 mod cpus;

@@ -1,16 +1,14 @@
 -- What is kept of a history, item by item.
-use Rattle.std.proofs.Common.{◌≡◌, ℕ, ◌+◌, ◌<◌, ◌≤◌, ◌^◌, Bool, List, ◌∷◌, ◌++◌, [], length, reverse, sym, ap, ap₂, ◌∙◌, subst, arith, append_assoc}
+use Rattle.std.proofs.Common.{◌≡◌, ℕ, ◌+◌, ◌<◌, ◌^◌, Bool, List, ◌∷◌, ◌++◌, [], length, reverse, sym, ap, ap₂, ◌∙◌, subst, arith, append_assoc}
 use Rattle.std.proofs.lemmas.List.{length-reverse, reverse-append, reverse-reverse}
 use Rattle.ft_base.specs.declared.item.Item.{Item}
 use Rattle.ft_base.specs.Desk.{desk}
 use Rattle.ft_base.specs.Job.{Job, funcs}
 use Rattle.ft_hist.specs.Past.{done}
 use Rattle.ft_hist.specs.Rules.{IsLegalPast}
-use Rattle.history_bound.proofs.Bounded.{history-most}
 use Rattle.word_machine.specs.Limits.{IsLimited}
 use Rattle.ft_words.specs.declared.order.Form.{Form}
 use Rattle.ft_words.specs.declared.order.Form.TheVariants as forms
-use Rattle.ft_machine.specs.Kept.{most_items}
 use Rattle.ft_machine.proofs.Bounds.{past-few}
 use Rattle.trace_views.specs.Counted.{AreTotals}
 use Rattle.trace_views.specs.declared.counts.Totals.{Totals as Counted}
@@ -45,14 +43,10 @@ returned-next past item n m is next = next ∙ ap (done_with item) is ∙ sym (d
 pub totals-next : (past : List Item) (item : Item) (t : Counted) → AreTotals (reverse past ++ item ∷ []) t → AreTotals (reverse (item ∷ past)) t
 totals-next past item t are = subst (λ (xs : List Item). AreTotals xs t) (sym (reverse-append (item ∷ []) past)) are
 
--- a view has room for one more line
-pub views-few : (job : Job) (past : List Item) (item : Item) → IsLegalPast job (item ∷ past) → (room : ℕ) → most_items job ≤ room → length past < room
-views-few job past item legal room most = let few = history-most job (item ∷ past) legal in omega (arith, few, most)
-
 -- so what was kept is kept of these items
 pub has-kept : (job : Job) (past : List Item) (kept : Kept) → Has job past kept → IsKeptOf job (reverse past) kept
-has-kept job past (History h) has = sym (reverse-reverse h.items) ∙ ap (λ (xs : List Item). reverse xs) has.items
-has-kept job past (Function v) has = (has.0, subst (λ (xs : List Item). HasFunction job has.0 xs v) (sym (reverse-reverse past)) has.1)
+has-kept job past (History h) has = sym (reverse-reverse h.items) ∙ ap (λ (xs : List Item). reverse xs) has
+has-kept job past (Function v) has = subst (λ (xs : List Item). HasFunction job xs v) (sym (reverse-reverse past)) has
 has-kept job past (Profile v) has = subst (λ (xs : List Item). HasProfile job xs v) (sym (reverse-reverse past)) has
 has-kept job past (Returned n) has = has ∙ ap done (sym (reverse-reverse past))
 has-kept job past Nothing has = tt

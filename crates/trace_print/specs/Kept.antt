@@ -1,23 +1,23 @@
 -- What is kept of a history for a text.
-use Rattle.std.specs.Prelude.{ℕ, ◌≡◌, ◌≤◌, List, reverse}
+use Rattle.std.specs.Prelude.{◌≡◌, ◌<◌, List, reverse}
 use Rattle.ft_base.specs.declared.item.Item.{Item}
 use Rattle.ft_base.specs.Job.{Job}
 use Rattle.ft_hist.specs.Past.{done}
-use Rattle.ft_machine.specs.Kept.{HasPast, most_items}
+use Rattle.ft_machine.specs.Kept.{past_in}
 use Rattle.ft_words.specs.declared.order.Form.{Form}
 use Rattle.ft_words.specs.declared.order.Form.TheVariants as forms
 use Rattle.trace_views.specs.Counted.{AreTotals}
-use Rattle.trace_views.specs.FunctionViews.{HasFunction}
+use Rattle.trace_views.specs.FunctionViews.{HasFunction, HasRoom as HasRoomForLine}
 use Rattle.trace_views.specs.ProfileViews.{HasProfile}
 use Rattle.trace_print.specs.declared.kept.Kept.{Kept}
 use Rattle.trace_print.specs.declared.kept.Kept.TheVariants.{History, Function, Profile, Returned, Nothing, Totals}
 
 -- ## of which items
 
--- it is kept of these items of a job, the latest first, and there is room for those that can still come
+-- it is kept of these items of a job, the latest first
 abbrev pub Has : Job → List Item → Kept → Type 0
-Has job past (History h) = HasPast job past h
-Has job past (Function v) = (room : ℕ) × HasFunction job room past v × (most_items job ≤ room)
+Has job past (History h) = past_in h ≡ past
+Has job past (Function v) = HasFunction job past v
 Has job past (Profile v) = HasProfile job past v
 Has job past (Returned n) = n ≡ done past
 Has job past Nothing = Unit {0}
@@ -26,7 +26,7 @@ Has job past (Totals t) = AreTotals (reverse past) t
 -- it is kept of these items of a job, in order
 abbrev pub IsKeptOf : Job → List Item → Kept → Type 0
 IsKeptOf job items (History h) = h.items ≡ items
-IsKeptOf job items (Function v) = (room : ℕ) × HasFunction job room (reverse items) v
+IsKeptOf job items (Function v) = HasFunction job (reverse items) v
 IsKeptOf job items (Profile v) = HasProfile job (reverse items) v
 IsKeptOf job items (Returned n) = n ≡ done (reverse items)
 IsKeptOf job items Nothing = Unit {0}
@@ -76,6 +76,15 @@ abbrev pub IsForSummary : Kept → Type 0
 IsForSummary kept = ServesSummary (content_of kept)
 
 -- ## while items come
+
+-- there is room for what is kept of one more item
+abbrev pub HasRoom : Kept → Type 0
+HasRoom (History h) = 0 < h.spare
+HasRoom (Function v) = HasRoomForLine v
+HasRoom (Profile v) = Unit {0}
+HasRoom (Returned n) = Unit {0}
+HasRoom Nothing = Unit {0}
+HasRoom (Totals t) = Unit {0}
 
 -- it has taken these items of a job, the latest first, and is for what it was for when it had taken none
 pub record HasTaken (job : Job) (past : List Item) (first kept : Kept) : Type 0 where

@@ -1,8 +1,7 @@
 //! What is kept of a history for a text.
 
-ghost use Rattle.std.specs.Prelude.{◌≤◌, IfOk, []};
+ghost use Rattle.std.specs.Prelude.{IfOk, []};
 ghost use Rattle.ft_base.specs.Job.{Job as PlainJob};
-ghost use Rattle.ft_machine.specs.Kept.{most_items};
 ghost use Rattle.trace_print.specs.Kept.{Has, IsEnoughFor, IsForSummary};
 
 use crate::names::Names;
@@ -32,20 +31,18 @@ pub enum Kept {
 }
 
 impl Kept {
-    /// What the text of a form needs, before the first item of a job that makes no more items than `room`.
-    /// The error says that memory ran out.
-    pub fn for_form(alloc: Global, job: &Job, room: u32, form: Form) -> Result<Kept, NoMemory>
-        requires { most_items job.now ≤ room }
+    /// What the text of a form needs, before the first item of a job. The error says that memory ran out.
+    pub fn for_form(alloc: Global, job: &Job, form: Form) -> Result<Kept, NoMemory>
         ensures none { IfOk result (λ kept. Has job.now [] kept) }
         ensures form { IfOk result (λ kept. IsEnoughFor form kept) }
     {
         match form {
             Form::Log | Form::Graph | Form::Rings => {
-                Ok(Kept::History(History::with_room(alloc, room)?))
+                Ok(Kept::History(History::with_room(alloc, 0)?))
             }
             Form::Function => {
                 let names = Names::new(alloc, job)?;
-                Ok(Kept::Function(FunctionView::new(alloc, &names, room)?))
+                Ok(Kept::Function(FunctionView::new(alloc, &names)?))
             }
             Form::Profile => {
                 let names = Names::new(alloc, job)?;
@@ -66,9 +63,20 @@ impl Kept {
 }
 
 impl Taker for Kept {
-    ghost use Rattle.trace_print.specs.Kept.{HasTaken};
+    ghost use Rattle.trace_print.specs.Kept.{HasRoom, HasTaken};
 
     ghost took = { HasTaken };
+
+    ghost has_room = { HasRoom };
+
+    #[inline(always)]
+    fn make_room(&mut self) -> Result<(), NoMemory> {
+        match self {
+            Kept::History(history) => history.make_room(),
+            Kept::Function(view) => view.make_room(),
+            Kept::Profile(_) | Kept::Returned(_) | Kept::Nothing | Kept::Totals(_) => Ok(()),
+        }
+    }
 
     fn take(&mut self, item: Item) {
         match self {

@@ -8,7 +8,7 @@ use ft_base::{Answer, Item, NoMemory};
 use ft_hist::History;
 use ft_io::MemSink;
 use ft_job::Job;
-use ft_machine::{Outcome, most_items, replay, replay_into};
+use ft_machine::{Outcome, replay, replay_into};
 use ft_script::read_script;
 use std::alloc::Global;
 use std::test::Fail;
@@ -159,7 +159,7 @@ fn a_sink_gets_what_is_printed(rt: HostRuntime) -> Result<(), Fail> {
 fn is_kept(alloc: Global, job: &Job, outcome: &Outcome, form: Form) -> Result<bool, Fail>
     requires { IsLegal job.now outcome.now.history.items }
 {
-    let mut kept = Kept::for_form(alloc, job, most_items(job), form)?;
+    let mut kept = Kept::for_form(alloc, job, form)?;
     let ended = replay_into(alloc, job, &mut kept)?;
     let mut sink = sink_of(alloc, ROOM)?;
     let written = write_kept(alloc, job, &kept, ended, form, &mut sink);

@@ -1,6 +1,5 @@
 -- What the view function makes of one more item.
-use Rattle.std.proofs.Common.{◌≡◌, ℕ, ◌+◌, ◌<◌, ◌≤◌, true, List, [], ◌∷◌, ◌++◌, length, get_or, refl, sym, ap, ◌∙◌, subst, arith}
-use Rattle.std.specs.Prelude.{vec_capacity}
+use Rattle.std.proofs.Common.{◌≡◌, ℕ, ◌+◌, true, List, [], ◌∷◌, ◌++◌, get_or, refl, sym, ap, ◌∙◌, subst, arith}
 use Rattle.ft_base.specs.declared.number.CallNo.{CallNo}
 use Rattle.ft_base.specs.declared.number.UserNo.{UserNo}
 use Rattle.ft_base.specs.declared.item.Item.{Item}
@@ -23,7 +22,7 @@ part-alike : (job : Job) (past : List Item) (item : Item) (a b : List Item) → 
 part-alike job past (Back call u) a b = refl
 part-alike job past _ a b = refl
 
-module _ (job : Job) (most : ℕ) (past : List Item) (view : FunctionView) (told : HasFunction job most past view) (item : Item) where
+module _ (job : Job) (past : List Item) (view : FunctionView) (told : HasFunction job past view) (item : Item) where
   -- the line of an entry callback of a function tracer
   pub line-added : (call : CallNo) (u : UserNo) → item ≡ Back call u → IsLegalPast job (item ∷ past) → get_or view.tracers.items u.0 true ≡ true
       → (line : FunctionLine) → (IsLegalPast job (Back call u ∷ past) → function_line_text job line ≡ function_line job past call u.0)
@@ -38,14 +37,12 @@ module _ (job : Job) (most : ℕ) (past : List Item) (view : FunctionView) (told
       (text (subst (λ (x : Item). IsLegalPast job (x ∷ past)) is l) ∙ sym part ∙ ap (λ (x : Item). function_part job past x []) (sym is))
 
   -- the view has taken the item
-  pub taken-in : (view' : FunctionView) → length past < most → IsFollowed job (item ∷ past) view'.open → view'.place ≡ view.place + 1 → view'.tracers ≡ view.tracers
+  pub taken-in : (view' : FunctionView) → IsFollowed job (item ∷ past) view'.open → view'.place ≡ view.place + 1 → view'.tracers ≡ view.tracers
       → lines_text (function_line_text job) view'.lines.items ≡ lines_text (function_line_text job) view.lines.items ++ function_part job past item []
-      → length view'.lines.items ≤ length view.lines.items + 1 → vec_capacity view'.lines ≡ vec_capacity view.lines → HasFunction job most (item ∷ past) view'
-  taken-in view' lt calls place same texts long room = record {
+      → HasFunction job (item ∷ past) view'
+  taken-in view' calls place same texts = record {
     tracers = λ u. ap (λ ts. get_or ts.items u true) same ∙ told.tracers u;
     calls = calls;
     place' = (let p = told.place' in omega (arith, place, p));
     texts = texts ∙ ap (λ (t : List ℕ). t ++ function_part job past item []) told.texts ∙ sym (texts-next (function_part job) (part-alike job) past item);
-    room = (let r = told.room in omega (arith, r, long, room));
-    small = told.small;
   }

@@ -1,6 +1,6 @@
 //! The lines of the view function: one for each entry callback of a function tracer.
 
-ghost use Rattle.std.specs.Prelude.{◌≡◌, ◌<◌, ◌≤◌, ◌+◌, [], ◌∷◌, ◌++◌, ℕ, true, List, length, reverse, get_or, vec_capacity, IfOk, OnOk};
+ghost use Rattle.std.specs.Prelude.{◌≡◌, ◌<◌, ◌+◌, ◌^◌, [], ◌∷◌, ◌++◌, ℕ, true, List, length, reverse, get_or, IfOk, OnOk};
 ghost use Rattle.ft_base.specs.declared.item.Item.{Item};
 ghost use Rattle.ft_base.specs.declared.item.Item.TheVariants.{Back};
 ghost use Rattle.ft_base.specs.Desk.{spec_at};
@@ -39,7 +39,7 @@ pub struct FunctionLine {
 }
 
 /// The lines of a job's items so far. It takes the items one after the other, each when it is marked,
-/// and no memory for them.
+/// and room for an item's line before.
 #[derive(Drop)]
 pub struct FunctionView {
     /// Whether each user is a function tracer.
@@ -53,30 +53,41 @@ pub struct FunctionView {
 }
 
 impl FunctionView {
-    ghost use Rattle.trace_views.specs.FunctionViews.{HasFunction};
+    ghost use Rattle.trace_views.specs.FunctionViews.{HasFunction, HasRoom};
 
-    /// Before the first item of a job, with room for the lines of so many items. The error says that
-    /// memory ran out.
-    pub fn new<N: Named>(alloc: Global, names: &N, room: u32) -> Result<FunctionView, NoMemory>
-        ensures { IfOk result (λ view. HasFunction (N.job names.now) room [] view) }
+    /// Before the first item of a job. The error says that memory ran out.
+    pub fn new<N: Named>(alloc: Global, names: &N) -> Result<FunctionView, NoMemory>
+        ensures { IfOk result (λ view. HasFunction (N.job names.now) [] view) }
     {
         let tracers = tracers(alloc, names)?;
         let open = OpenCalls::new(alloc, names)?;
-        let lines = Vec::with_capacity(alloc, room as usize).map_err(|_| NoMemory)?;
         Ok(FunctionView {
             tracers,
             open,
             place: 0,
-            lines,
+            lines: Vec::new(alloc),
         })
     }
 
-    /// Takes the next item of the job, for which there is room.
+    /// Takes room for the line of the next item, if there is none. The error says that memory ran out.
+    #[inline(always)]
+    pub fn make_room(&mut self) -> Result<(), NoMemory>
+        ensures same { (job : PlainJob) (past : List Item) → HasFunction job past self.old → HasFunction job past self.new }
+        ensures room { OnOk result (HasRoom self.new) }
+    {
+        if self.lines.len() < self.lines.capacity() {
+            return Ok(());
+        }
+        self.lines.reserve(1).map_err(|_| NoMemory)
+    }
+
+    /// Takes the next item of the job.
     pub fn take(&mut self, item: &Item)
-        requires { (job : PlainJob) × (room : ℕ) × (past : List Item) × HasFunction job room past self.old
-            × IsLegalPast job (item.now ∷ past) × (length past < room) }
-        ensures { (job : PlainJob) (room : ℕ) (past : List Item) → HasFunction job room past self.old
-            → IsLegalPast job (item.now ∷ past) → length past < room → HasFunction job room (item.now ∷ past) self.new }
+        requires room { HasRoom self.old }
+        requires next { (job : PlainJob) × (past : List Item) × HasFunction job past self.old
+            × IsLegalPast job (item.now ∷ past) × (length past + 1 < 2 ^ 32) }
+        ensures { (job : PlainJob) (past : List Item) → HasFunction job past self.old
+            → IsLegalPast job (item.now ∷ past) → HasFunction job (item.now ∷ past) self.new }
     {
         self.push_part(item);
         self.open.follow(item);
@@ -85,7 +96,7 @@ impl FunctionView {
 
     /// The lines: their texts are what the view function prints of the items so far.
     pub fn lines(&self) -> &[FunctionLine]
-        ensures { (job : PlainJob) (room : ℕ) (past : List Item) → HasFunction job room past self.now
+        ensures { (job : PlainJob) (past : List Item) → HasFunction job past self.now
             → lines_text (function_line_text job) result.now ≡ item_texts (function_part job) [] (reverse past) }
     {
         self.lines.as_slice()
@@ -93,13 +104,11 @@ impl FunctionView {
 
     /// Adds the line of the next item, if it has one.
     fn push_part(&mut self, item: &Item)
-        requires { (job : PlainJob) × (room : ℕ) × (past : List Item) × HasFunction job room past self.old
-            × IsLegalPast job (item.now ∷ past) × (length past < room) }
-        ensures text { (job : PlainJob) (room : ℕ) (past : List Item) → HasFunction job room past self.old
+        requires room { HasRoom self.old }
+        requires next { (job : PlainJob) × (past : List Item) × HasFunction job past self.old × IsLegalPast job (item.now ∷ past) }
+        ensures text { (job : PlainJob) (past : List Item) → HasFunction job past self.old
             → IsLegalPast job (item.now ∷ past) → lines_text (function_line_text job) self.new.lines.items
             ≡ lines_text (function_line_text job) self.old.lines.items ++ function_part job past item.now [] }
-        ensures long { length self.new.lines.items ≤ length self.old.lines.items + 1 }
-        ensures room { vec_capacity self.new.lines ≡ vec_capacity self.old.lines }
         ensures rest { (self.new.tracers ≡ self.old.tracers) × (self.new.open ≡ self.old.open) × (self.new.place ≡ self.old.place) }
     {
         if let Item::Back { call, user } = *item {
@@ -165,8 +174,9 @@ pub fn function_lines<N: Named>(
     ensures { IfOk result (λ lines. lines_text (function_line_text (N.job names.now)) lines.items
         ≡ item_texts (function_part (N.job names.now)) [] history.now.items) }
 {
-    let mut view = FunctionView::new(alloc, names, history.len())?;
+    let mut view = FunctionView::new(alloc, names)?;
     for place in 0..history.len() {
+        view.make_room()?;
         view.take(history.item(place));
     }
     Ok(view.lines)

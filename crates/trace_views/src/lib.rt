@@ -15,7 +15,8 @@
 //! job, [`enabled_lines`] for the desk that it leaves, and [`rings_lines`] for rings whose entries are
 //! entry callbacks of it, lines whose texts are exactly those of the view. What they need of a job is
 //! [`Named`]. [`FunctionView`] and [`ProfileView`] take the items one after the other, each when it is
-//! marked, with all memory from their making. Only tested, in `trace_print_tests`: that memory is found.
+//! marked. A function view takes room for an item's line before, and a profile view has all memory from
+//! its making. Only tested, in `trace_print_tests`: that memory is found.
 #![tactic(auto)]
 
 mod counts;

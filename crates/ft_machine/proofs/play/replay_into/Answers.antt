@@ -7,8 +7,8 @@ use Rattle.ft_base.specs.Schedule.{actors_of}
 use Rattle.word_machine.specs.Machine.{World, play, played, start}
 use Rattle.machine_core.specs.Worlds.{Parts}
 use Rattle.ft_machine.specs.Kept.{IsAt}
-use Rattle.ft_machine.proofs.MachineLaws.{at-ends, starts-at, whole}
-use Rattle.ft_machine.proofs.PlayLaws.{all-actors, play-is}
+use Rattle.ft_machine.proofs.MachineLaws.{at-ends, none-legal, starts-at, whole}
+use Rattle.ft_machine.proofs.PlayLaws.{all-actors, on-err, play-is}
 use Rattle.ft_machine.proofs.play.replay_into.Goals as goal
 
 -- a taker of no items
@@ -33,12 +33,23 @@ play-requires g c =
       none-taken g.T.Taker.took c.args.job.now c.args.taker.now c.requires (ap (λ (s : World). s.past) w.opening),
     )
 
+pub returns-in_err-world-clause-fault : goal.returns-in_err-world-clause-fault
+returns-in_err-world-clause-fault g c = on-err c.from_residual.result _ ([], none-legal c.args.job.now, c.requires)
+
+pub returns-in_err-play-clause-fault : goal.returns-in_err-play-clause-fault
+returns-in_err-play-clause-fault g c =
+    let w = c.in_ok-world.ensures in
+    let e = c.in_err-play.ensures.err c.args.job.now (start c.args.job.now) c.args.taker.now
+    (starts-at c.args.job.now c.in_ok-world.world w.limited w.of w.opening)
+    (none-taken g.T.Taker.took c.args.job.now c.args.taker.now c.requires (ap (λ (s : World). s.past) w.opening)) in
+    on-err c.from_residual-in_err-play.result _ (e.0.past, e.1.runs.kept.legal, e.2)
+
 pub returns-clause-taken : goal.returns-clause-taken
 returns-clause-taken g c =
     let w = c.in_ok-world.ensures in
     (plays g.T.Taker.took c.args.job.now _ c.play.new.world c.args.taker.now c.play.new.taker
     (c.new-player.ensures ∙ all-actors c.args.job.now _ c.shape.result c.schedule.ensures c.shape.ensures.counts)
-    (c.play.ensures c.args.job.now (start c.args.job.now) c.args.taker.now (starts-at c.args.job.now c.in_ok-world.world w.limited w.of w.opening)
+    (c.in_ok-play.ensures.ok c.args.job.now (start c.args.job.now) c.args.taker.now (starts-at c.args.job.now c.in_ok-world.world w.limited w.of w.opening)
     (none-taken g.T.Taker.took c.args.job.now c.args.taker.now c.requires (ap (λ (s : World). s.past) w.opening)))).1
 
 pub returns-clause-ended : goal.returns-clause-ended
@@ -46,7 +57,7 @@ returns-clause-ended g c =
     let w = c.in_ok-world.ensures in
     let at = (plays g.T.Taker.took c.args.job.now _ c.play.new.world c.args.taker.now c.play.new.taker
     (c.new-player.ensures ∙ all-actors c.args.job.now _ c.shape.result c.schedule.ensures c.shape.ensures.counts)
-    (c.play.ensures c.args.job.now (start c.args.job.now) c.args.taker.now (starts-at c.args.job.now c.in_ok-world.world w.limited w.of w.opening)
+    (c.in_ok-play.ensures.ok c.args.job.now (start c.args.job.now) c.args.taker.now (starts-at c.args.job.now c.in_ok-world.world w.limited w.of w.opening)
     (none-taken g.T.Taker.took c.args.job.now c.args.taker.now c.requires (ap (λ (s : World). s.past) w.opening)))).0 in
     at-ends c.args.job.now (play c.args.job.now) _ c.all_end.result at c.all_end.ensures
 
@@ -55,7 +66,7 @@ returns-clause-legal g c =
     let w = c.in_ok-world.ensures in
     let at = (plays g.T.Taker.took c.args.job.now _ c.play.new.world c.args.taker.now c.play.new.taker
     (c.new-player.ensures ∙ all-actors c.args.job.now _ c.shape.result c.schedule.ensures c.shape.ensures.counts)
-    (c.play.ensures c.args.job.now (start c.args.job.now) c.args.taker.now (starts-at c.args.job.now c.in_ok-world.world w.limited w.of w.opening)
+    (c.in_ok-play.ensures.ok c.args.job.now (start c.args.job.now) c.args.taker.now (starts-at c.args.job.now c.in_ok-world.world w.limited w.of w.opening)
     (none-taken g.T.Taker.took c.args.job.now c.args.taker.now c.requires (ap (λ (s : World). s.past) w.opening)))).0 in
     at.runs.kept.legal
 
@@ -64,7 +75,7 @@ returns-clause-whole g c = λ over.
     (let w = c.in_ok-world.ensures in
     let at = (plays g.T.Taker.took c.args.job.now _ c.play.new.world c.args.taker.now c.play.new.taker
     (c.new-player.ensures ∙ all-actors c.args.job.now _ c.shape.result c.schedule.ensures c.shape.ensures.counts)
-    (c.play.ensures c.args.job.now (start c.args.job.now) c.args.taker.now (starts-at c.args.job.now c.in_ok-world.world w.limited w.of w.opening)
+    (c.in_ok-play.ensures.ok c.args.job.now (start c.args.job.now) c.args.taker.now (starts-at c.args.job.now c.in_ok-world.world w.limited w.of w.opening)
     (none-taken g.T.Taker.took c.args.job.now c.args.taker.now c.requires (ap (λ (s : World). s.past) w.opening)))).0 in
     whole c.args.job.now (play c.args.job.now) at.limited at.runs _ refl
     (sym (at-ends c.args.job.now (play c.args.job.now) _ c.all_end.result at c.all_end.ensures) ∙ over))

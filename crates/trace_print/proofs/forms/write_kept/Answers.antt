@@ -1,4 +1,4 @@
-use Rattle.std.proofs.Common.{◌≡◌, ℕ, List, reverse, refl, sym, ap, ◌∙◌, subst}
+use Rattle.std.proofs.Common.{◌≡◌, List, reverse, refl, sym, ap, ◌∙◌, subst}
 use Rattle.ft_base.specs.Desk.{desk}
 use Rattle.ft_base.specs.Job.{Job, ModuleRow, funcs}
 use Rattle.ft_words.specs.declared.order.Form.TheVariants as forms
@@ -20,19 +20,19 @@ use Rattle.trace_print.proofs.forms.write_kept.Goals as goal
 pub returns-in-Function-clause-all : goal.returns-in-Function-clause-all
 returns-in-Function-clause-all g c = λ items kept.
     (let job = c.args.job.now in
-    let has : (room : ℕ) × HasFunction job room (reverse items) c.in-Function.view = subst (λ (k : Kept). IsKeptOf job items k) c.in-Function.is kept in
+    let has : HasFunction job (reverse items) c.in-Function.view = subst (λ (k : Kept). IsKeptOf job items k) c.in-Function.is kept in
     let form : c.args.form ≡ forms.Function = subst (λ (k : Kept). IsEnoughFor c.args.form k) c.in-Function.is c.requires.enough in
     let same = as-sent function_line_text c.in-Ok.names job c.lines.result.now c.lines.result.now c.args.ended c.in-Ok.ensures refl
-    ∙ function-is job c.args.form items c.args.ended form _ (c.lines.ensures job has.0 (reverse items) has.1) in
+    ∙ function-is job c.args.form items c.args.ended form _ (c.lines.ensures job (reverse items) has) in
     rw (← same) c.send_lines.ensures.all)
 
 pub returns-in-Function-clause-front : goal.returns-in-Function-clause-front
 returns-in-Function-clause-front g c = λ items kept.
     (let job = c.args.job.now in
-    let has : (room : ℕ) × HasFunction job room (reverse items) c.in-Function.view = subst (λ (k : Kept). IsKeptOf job items k) c.in-Function.is kept in
+    let has : HasFunction job (reverse items) c.in-Function.view = subst (λ (k : Kept). IsKeptOf job items k) c.in-Function.is kept in
     let form : c.args.form ≡ forms.Function = subst (λ (k : Kept). IsEnoughFor c.args.form k) c.in-Function.is c.requires.enough in
     let same = as-sent function_line_text c.in-Ok.names job c.lines.result.now c.lines.result.now c.args.ended c.in-Ok.ensures refl
-    ∙ function-is job c.args.form items c.args.ended form _ (c.lines.ensures job has.0 (reverse items) has.1) in
+    ∙ function-is job c.args.form items c.args.ended form _ (c.lines.ensures job (reverse items) has) in
     rw (← same) c.send_lines.ensures.front)
 
 -- ## the form profile

@@ -1,36 +1,36 @@
 use Rattle.std.proofs.Common.{◌∷◌, ap, sym, ◌∙◌, reverse, subst}
-use Rattle.ft_machine.proofs.MachineLaws.{has-room, takes}
+use Rattle.ft_machine.proofs.MachineLaws.{past-next}
 use Rattle.trace_print.specs.declared.kept.Kept.{Kept}
-use Rattle.trace_print.specs.Kept.{Has, content_of}
-use Rattle.trace_print.proofs.KeptLaws.{past-room, returned-few, returned-next, totals-few, totals-next, views-few}
+use Rattle.trace_print.specs.Kept.{Has, HasRoom, content_of}
+use Rattle.trace_print.proofs.KeptLaws.{past-room, returned-few, returned-next, totals-few, totals-next}
 use Rattle.trace_print.proofs.kept.KeptTaker.take.Goals as goal
 
 -- ## there is room
 
 pub push-requires : goal.push-requires
-push-requires c =
-    let r = c.requires in
-    has-room r.0 r.1 c.in-History.history (subst (λ (k : Kept). Has r.0 r.1 k) c.in-History.is r.4.has) c.args.item r.5
+push-requires c = subst (λ (k : Kept). HasRoom k) c.in-History.is c.requires.room
 
-pub take-requires : goal.take-requires
-take-requires c =
-    let r = c.requires in
-    let has = subst (λ (k : Kept). Has r.0 r.1 k) c.in-Function.is r.4.has in
-    (r.0, has.0, r.1, has.1, r.5, views-few r.0 r.1 c.args.item r.5 has.0 has.2)
+pub take-requires-clause-room : goal.take-requires-clause-room
+take-requires-clause-room c = subst (λ (k : Kept). HasRoom k) c.in-Function.is c.requires.room
+
+pub take-requires-clause-next : goal.take-requires-clause-next
+take-requires-clause-next c =
+    let r = c.requires.next in
+    (r.0, r.1, subst (λ (k : Kept). Has r.0 r.1 k) c.in-Function.is r.4.has, r.5, past-room r.0 r.3 r.1 c.args.item r.5)
 
 pub take-requires-in-Profile : goal.take-requires-in-Profile
 take-requires-in-Profile c =
-    let r = c.requires in
+    let r = c.requires.next in
     (r.0, r.1, subst (λ (k : Kept). Has r.0 r.1 k) c.in-Profile.is r.4.has, r.5, past-room r.0 r.3 r.1 c.args.item r.5)
 
 pub returned_with-requires : goal.returned_with-requires
 returned_with-requires c =
-    let r = c.requires in
+    let r = c.requires.next in
     returned-few r.0 r.3 r.1 c.args.item r.5 c.in-Returned.returned (subst (λ (k : Kept). Has r.0 r.1 k) c.in-Returned.is r.4.has)
 
 pub add-requires : goal.add-requires
 add-requires c =
-    let r = c.requires in
+    let r = c.requires.next in
     (reverse r.1, subst (λ (k : Kept). Has r.0 r.1 k) c.in-Totals.is r.4.has, totals-few r.0 r.3 r.1 c.args.item r.5)
 
 -- ## what it has then
@@ -38,16 +38,14 @@ add-requires c =
 pub returns-in-History : goal.returns-in-History
 returns-in-History c = λ job past first limited took legal. record {
   content = took.content ∙ ap content_of c.in-History.is;
-  has = takes job past c.in-History.history _ c.args.item (subst (λ (k : Kept). Has job past k) c.in-History.is took.has) c.push.ensures.added c.push.ensures.room;
+  has = past-next past c.in-History.history c.push.new.self c.args.item (subst (λ (k : Kept). Has job past k) c.in-History.is took.has) c.push.ensures.added;
 }
 
 pub returns-in-Function : goal.returns-in-Function
-returns-in-Function c = λ job past first limited took legal.
-    (let has = subst (λ (k : Kept). Has job past k) c.in-Function.is took.has in
-    record {
-      content = took.content ∙ ap content_of c.in-Function.is;
-      has = (has.0, c.take.ensures job has.0 past has.1 legal (views-few job past c.args.item legal has.0 has.2), has.2);
-    })
+returns-in-Function c = λ job past first limited took legal. record {
+  content = took.content ∙ ap content_of c.in-Function.is;
+  has = c.take.ensures job past (subst (λ (k : Kept). Has job past k) c.in-Function.is took.has) legal;
+}
 
 pub returns-in-Profile : goal.returns-in-Profile
 returns-in-Profile c = λ job past first limited took legal. record {
