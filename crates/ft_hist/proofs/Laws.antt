@@ -19,6 +19,11 @@ use Rattle.ft_hist.specs.Rules.{IsLegal, IsLegalPast, MayFollow}
 pub same_call-refl : (c : CallNo) → same_call c c ≡ true
 same_call-refl c = search rules
 
+-- no items at all are legal
+pub none-legal : (job : Job) → IsLegalPast job []
+unfolding IsLegalPast
+none-legal job = tt
+
 -- a legal history stays legal with one more item that may stand there
 pub IsLegal-push : (job : Job) (items : List Item) (item : Item) → IsLegal job items → MayFollow job (reverse items) item → IsLegal job (items ++ item ∷ [])
 unfolding IsLegal IsLegalPast

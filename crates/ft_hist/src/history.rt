@@ -1,6 +1,6 @@
 //! A history that the program keeps.
 
-ghost use Rattle.std.specs.Prelude.{◌≡◌, ℕ, ◌+◌, ◌-◌, ◌<◌, ◌≤◌, ◌^◌, List, [], ◌∷◌, ◌++◌, length, nat_eq, IfOk, OnOk, set, slice_get};
+ghost use Rattle.std.specs.Prelude.{◌≡◌, ℕ, ◌+◌, ◌-◌, ◌<◌, ◌≤◌, ◌^◌, List, [], ◌∷◌, ◌++◌, length, nat_eq, IfOk, OnErr, OnOk, set, slice_get};
 ghost use Rattle.ft_hist.specs.Counts.{is_back_of, is_missed_by, backs_of, missed_by};
 
 use ft_base::{Item, NoMemory, Reason, UserNo};
@@ -73,6 +73,8 @@ impl History {
     pub fn make_room(&mut self) -> Result<(), NoMemory>
         ensures items { self.new.items ≡ self.old.items }
         ensures room { OnOk result (0 < self.new.spare) }
+        ensures kept { self.old.spare ≤ self.new.spare }
+        ensures full { OnErr result (self.old.spare ≡ 0) }
     {
         if self.is_full() {
             return self.grow();
@@ -85,6 +87,7 @@ impl History {
     fn grow(&mut self) -> Result<(), NoMemory>
         ensures items { self.new.items ≡ self.old.items }
         ensures room { OnOk result (0 < self.new.spare) }
+        ensures kept { self.old.spare ≤ self.new.spare }
     {
         self.kept.reserve(1).map_err(|_| NoMemory)?;
         self.room = u32::try_from(self.kept.capacity()).unwrap_or(u32::MAX);

@@ -48,11 +48,6 @@ takes-none job h none room = record {
   room = (let n = ap (λ (xs : List Item). length xs) none in omega (arith, n, room));
 }
 
--- none is legal
-pub none-legal : (job : Job) → IsLegalPast job []
-unfolding IsLegalPast
-none-legal job = tt
-
 -- ## a world
 
 -- before the first step

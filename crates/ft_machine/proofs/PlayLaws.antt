@@ -1,6 +1,6 @@
 -- A replay of a schedule, actor by actor.
 use Rattle.std.proofs.Common.{cond, ◌≡◌, ℕ, Bool, true, false, List, [], ◌∷◌, drop, length, Some, refl, sym, ap, ◌∙◌}
-use Rattle.std.specs.Prelude.{nat_lt, slice_get, Result, Ok, Err, OnErr}
+use Rattle.std.specs.Prelude.{nat_lt, slice_get}
 use Rattle.std.proofs.lemmas.Bool.{ltb-true}
 use Rattle.ft_base.specs.declared.turn.Actor.{Actor}
 use Rattle.ft_base.specs.declared.turn.Actor.TheVariants.{Control, Cpu}
@@ -14,11 +14,6 @@ use Rattle.word_machine.specs.Cpu.{Phase, Over, cpu_next, phase_op}
 use Rattle.word_machine.specs.Machine.{World, all_end, cpu_moved, is_at_end, is_end, play, played, start, step}
 use Rattle.word_machine_laws.proofs.Stops.{control-ends}
 use Rattle.ft_machine.proofs.Replays.{ends-alike}
-
--- what holds whatever comes of a call holds after an error
-pub on-err : {T E : Type 0} (r : Result T E) (P : Type 0) → P → OnErr r P
-on-err (Ok x) P p = tt
-on-err (Err y) P p = p
 
 played-over : (j : Job) (actors : List Actor) (s : World) → all_end j s ≡ true → played j actors s ≡ s
 unfolding played

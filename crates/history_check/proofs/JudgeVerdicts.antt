@@ -12,10 +12,6 @@ use Rattle.history_check.specs.Verdicts.{IsBroken}
 use Rattle.history_check.proofs.PastLaws.{past-all}
 
 module _ (job : Job) where
-  pub none-legal : IsLegalPast job []
-  unfolding IsLegalPast
-  none-legal = tt
-
   pub more-legal : (item : Item) (past : List Item) → MayFollow job past item → IsLegalPast job past → IsLegalPast job (item ∷ past)
   unfolding IsLegalPast
   more-legal item past may legal = (may, legal)

@@ -1,8 +1,9 @@
 use Rattle.std.proofs.Common.{sym, subst, ◌∙◌, refl}
+use Rattle.ft_base.proofs.Small.{on-err}
 use Rattle.word_machine.specs.Machine.{World, step}
 use Rattle.ft_machine.specs.Kept.{IsAt}
 use Rattle.ft_machine.proofs.MachineLaws.{at-ends}
-use Rattle.ft_machine.proofs.PlayLaws.{goes_on, on-err, stops_over, stops_used_up}
+use Rattle.ft_machine.proofs.PlayLaws.{goes_on, stops_over, stops_used_up}
 use Rattle.ft_machine.proofs.play.play.Goals as goal
 
 -- without room for a first item nothing has stepped

@@ -4,11 +4,13 @@ use Rattle.ft_base.specs.declared.item.Item.{Item}
 use Rattle.ft_base.specs.declared.turn.Actor.{Actor}
 use Rattle.ft_base.specs.Job.{Job}
 use Rattle.ft_base.specs.Schedule.{actors_of}
+use Rattle.ft_base.proofs.Small.{on-err}
+use Rattle.ft_hist.proofs.Laws.{none-legal}
 use Rattle.word_machine.specs.Machine.{World, play, played, start}
 use Rattle.machine_core.specs.Worlds.{Parts}
 use Rattle.ft_machine.specs.Kept.{IsAt}
-use Rattle.ft_machine.proofs.MachineLaws.{at-ends, none-legal, starts-at, whole}
-use Rattle.ft_machine.proofs.PlayLaws.{all-actors, on-err, play-is}
+use Rattle.ft_machine.proofs.MachineLaws.{at-ends, starts-at, whole}
+use Rattle.ft_machine.proofs.PlayLaws.{all-actors, play-is}
 use Rattle.ft_machine.proofs.play.replay_into.Goals as goal
 
 -- a taker of no items

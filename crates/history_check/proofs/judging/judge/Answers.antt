@@ -3,10 +3,11 @@ use Rattle.std.proofs.lemmas.Option.{slice_get-get_or}
 use Rattle.std.proofs.lemmas.Bool.{iff_false}
 use Rattle.ft_hist.specs.Rules.{IsLegalPast}
 use Rattle.ft_hist.specs.Telling.{past_at}
+use Rattle.ft_hist.proofs.Laws.{none-legal}
 use Rattle.ft_hist.proofs.Splitting.{past-more}
 use Rattle.history_check.specs.KeptPast.{IsPast}
 use Rattle.history_check.specs.Verdicts.{IsBroken}
-use Rattle.history_check.proofs.JudgeVerdicts.{all-legal, all-whole, at-end, broken-there, more-legal, none-legal}
+use Rattle.history_check.proofs.JudgeVerdicts.{all-legal, all-whole, at-end, broken-there, more-legal}
 use Rattle.history_check.proofs.PastLaws.{length-past}
 use Rattle.history_check.proofs.judging.judge.Goals as goal
 
