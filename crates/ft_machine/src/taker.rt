@@ -1,6 +1,6 @@
 //! Who takes the items of a job as they are marked.
 
-ghost use Rattle.std.specs.Prelude.{List, ◌∷◌, OnOk};
+ghost use Rattle.std.specs.Prelude.{List, ◌∷◌, OnErr, OnOk};
 ghost use Rattle.ft_base.specs.declared.item.Item.{Item};
 ghost use Rattle.ft_base.specs.Job.{Job as PlainJob};
 ghost use Rattle.ft_hist.specs.Rules.{IsLegalPast};
@@ -24,11 +24,13 @@ pub trait Taker {
     ghost has_room: { Self → Type 0 };
 
     /// Takes room for one more item, if the taker has none. That is before the step that may mark the
-    /// item: within a step no memory is taken. Whatever comes, the taker has taken the same items. The
-    /// error says that memory ran out.
+    /// item: within a step no memory is taken. Whatever comes, the taker has taken the same items, and
+    /// room that it had stays. The error says that it had none, and that memory ran out.
     fn make_room(&mut self) -> Result<(), NoMemory>
         ensures took { (job : PlainJob) (past : List Item) (first : Self) → took job past first self.old → took job past first self.new }
-        ensures room { OnOk result (has_room self.new) };
+        ensures room { OnOk result (has_room self.new) }
+        ensures kept { has_room self.old → has_room self.new }
+        ensures full { OnErr result (has_room self.old → ⊥) };
 
     /// Takes the next item. It takes no memory, since there is room.
     fn take(&mut self, item: Item)

@@ -43,7 +43,7 @@ returned-next past item n m is next = next ∙ ap (done_with item) is ∙ sym (d
 pub totals-next : (past : List Item) (item : Item) (t : Counted) → AreTotals (reverse past ++ item ∷ []) t → AreTotals (reverse (item ∷ past)) t
 totals-next past item t are = subst (λ (xs : List Item). AreTotals xs t) (sym (reverse-append (item ∷ []) past)) are
 
--- so what was kept is kept of these items
+-- what has taken items, the latest first, is kept of them in order
 pub has-kept : (job : Job) (past : List Item) (kept : Kept) → Has job past kept → IsKeptOf job (reverse past) kept
 has-kept job past (History h) has = sym (reverse-reverse h.items) ∙ ap (λ (xs : List Item). reverse xs) has
 has-kept job past (Function v) has = subst (λ (xs : List Item). HasFunction job xs v) (sym (reverse-reverse past)) has

@@ -1,6 +1,6 @@
 //! The lines of the view function: one for each entry callback of a function tracer.
 
-ghost use Rattle.std.specs.Prelude.{◌≡◌, ◌<◌, ◌+◌, ◌^◌, [], ◌∷◌, ◌++◌, ℕ, true, List, length, reverse, get_or, IfOk, OnOk};
+ghost use Rattle.std.specs.Prelude.{◌≡◌, ◌<◌, ◌+◌, ◌^◌, [], ◌∷◌, ◌++◌, ℕ, true, List, length, reverse, get_or, IfOk, OnErr, OnOk};
 ghost use Rattle.ft_base.specs.declared.item.Item.{Item};
 ghost use Rattle.ft_base.specs.declared.item.Item.TheVariants.{Back};
 ghost use Rattle.ft_base.specs.Desk.{spec_at};
@@ -74,6 +74,8 @@ impl FunctionView {
     pub fn make_room(&mut self) -> Result<(), NoMemory>
         ensures same { (job : PlainJob) (past : List Item) → HasFunction job past self.old → HasFunction job past self.new }
         ensures room { OnOk result (HasRoom self.new) }
+        ensures kept { HasRoom self.old → HasRoom self.new }
+        ensures full { OnErr result (HasRoom self.old → ⊥) }
     {
         if self.lines.len() < self.lines.capacity() {
             return Ok(());
