@@ -19,7 +19,7 @@ own-number : (s : ℕ) → 2 + s ≡ suc (suc s)
 own-number s = omega arith
 
 -- an instruction is the one with its number
-insn-numbered_back : (i : Insn) → insn_numbered (number_of i) ≡ i
+pub insn-numbered_back : (i : Insn) → insn_numbered (number_of i) ≡ i
 insn-numbered_back Nop = refl
 insn-numbered_back CallList = refl
 insn-numbered_back (Own s) = rw (own-number s) refl

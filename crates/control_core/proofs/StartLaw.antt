@@ -1,8 +1,8 @@
 -- Control before the first line of a job is the word machine's at its start.
-use Rattle.std.proofs.Common.{◌≡◌, ℕ, zero, suc, List, [], drop, length, take, refl, sym, ap, ◌∙◌, subst}
-use Rattle.std.specs.Prelude.{replicate}
+use Rattle.std.proofs.Common.{◌≡◌, List, [], drop, length, take, refl, sym, ap, ◌∙◌, subst}
 use Rattle.ft_base.specs.Job.{Job, Ctl, commands_in}
 use Rattle.ft_base.specs.Desk.{desk}
+use Rattle.word_machine_laws.proofs.ValueLaws.{copy-start}
 use Rattle.word_map.specs.Shapes.{shape_of}
 use Rattle.ft_desk.specs.Declarations.{Declared, IsOf}
 use Rattle.ft_desk.specs.Seen.{Seen, opened}
@@ -10,12 +10,6 @@ use Rattle.ft_desk.proofs.JobLaws.{opening-is}
 use Rattle.word_machine.specs.Control.{Line, control_start}
 use Rattle.word_machine.specs.Values.{copies_in}
 use Rattle.control_core.specs.Seated.{Seated, Fits, IsDeskOf, IsFor, IsOpening, control_in, control_of}
-
--- nobody has another copy in use
-first-copies : (n u : ℕ) → copies_in (replicate n 0) u ≡ 0
-first-copies zero u = refl
-first-copies (suc n) zero = refl
-first-copies (suc n) (suc u) = first-copies n u
 
 -- the desk of a job before its first command
 start-desk : (job : Job) (d : Declared) → IsOf job d → (opened d).state ≡ desk job 0
@@ -51,7 +45,7 @@ module _ (job : Job) (c : Seated) (shape : c.shape ≡ shape_of job) (lines : c.
         commands_done = o.commands_done i;
         remaining = drop (o.line i) (lines i);
         request = o.request i;
-        copies = λ u. ((ap (λ (s : Seen). copies_in s.copies u) o.desk ∙ first-copies (length c.desk.declared.specs) u) i);
+        copies = λ u. ((ap (λ (s : Seen). copies_in s.copies u) o.desk ∙ copy-start (length c.desk.declared.specs) u) i);
         order = ap (λ (s : Seen). s.order) o.desk i;
         position = Line;
       })

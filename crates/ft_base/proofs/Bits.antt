@@ -1,5 +1,5 @@
 -- Bits of words as tests.
-use Rattle.std.proofs.Common.{◌≡◌, ℕ, zero, suc, ◌<◌, ◌≤◌, ◌==◌, ◌&&◌, ◌||◌, min, max, false, List, length, get_or, bit_or, bit_and, refl, ap, ◌∙◌, arith}
+use Rattle.std.proofs.Common.{◌≡◌, ℕ, zero, suc, ◌<◌, ◌≤◌, ◌==◌, ◌&&◌, ◌||◌, min, max, false, List, length, get_or, not, ◌-◌, bit_or, bit_and, refl, ap, ◌∙◌, arith}
 use Rattle.std.specs.Int.{bit_at}
 use Rattle.std.proofs.lemmas.List.{get_or_past}
 use Rattle.std.proofs.lemmas.Nat.Bits.{bit_at-zero, bit_at-lt, bit_at_and, bit_at_or}
@@ -21,6 +21,15 @@ tests_and (suc zero) (suc zero) h k = refl
 tests_and zero (suc (suc b)) h k = absurd (omega arith)
 tests_and (suc zero) (suc (suc b)) h k = absurd (omega arith)
 tests_and (suc (suc a)) b h k = absurd (omega arith)
+
+pub tests_and_not : (a b : ℕ) → a < 2 → b < 2 → (min a (1 - b) == 1) ≡ ((a == 1) && not (b == 1))
+tests_and_not zero zero h k = refl
+tests_and_not zero (suc zero) h k = refl
+tests_and_not (suc zero) zero h k = refl
+tests_and_not (suc zero) (suc zero) h k = refl
+tests_and_not zero (suc (suc b)) h k = absurd (omega arith)
+tests_and_not (suc zero) (suc (suc b)) h k = absurd (omega arith)
+tests_and_not (suc (suc a)) b h k = absurd (omega arith)
 
 -- a bit of `a | b`
 pub or_test : (a b i : ℕ) → (bit_at (bit_or a b) i == 1) ≡ ((bit_at a i == 1) || (bit_at b i == 1))

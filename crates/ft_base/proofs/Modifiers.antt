@@ -69,12 +69,13 @@ modifies job d u f = (user_at d u).registered && is_some (spec_at job u).ipmodif
 abbrev pub Lone : Job → Desk → Type 0
 Lone job d = (f u v : ℕ) → f < funcs job → modifies job d u f ≡ true → modifies job d v f ≡ true → u ≡ v
 
-module _ (job : Job) (d : Desk) (size : length d.users ≡ length job.users) (h : Lone job d) where
-  registered-within : (us : List UserState) (v : ℕ) → (get_or us v (unseen 0)).registered ≡ true → v < length us
-  registered-within [] v e = false_true e
-  registered-within (x ∷ us) zero e = omega arith
-  registered-within (x ∷ us) (suc v) e = let l = registered-within us v e in omega arith
+-- a user that is registered is one of the users
+pub registered-within : (us : List UserState) (v : ℕ) → (get_or us v (unseen 0)).registered ≡ true → v < length us
+registered-within [] v e = false_true e
+registered-within (x ∷ us) zero e = omega arith
+registered-within (x ∷ us) (suc v) e = let l = registered-within us v e in omega arith
 
+module _ (job : Job) (d : Desk) (size : length d.users ≡ length job.users) (h : Lone job d) where
   -- nobody else stands where this user is to be
   abbrev IsClear : ℕ → UserState → Type 0
   IsClear u s = (f v : ℕ) → f < funcs job → v < length job.users → s.registered ≡ true → is_some (spec_at job u).ipmodify ≡ true → is_matching s f ≡ true → other_modifier job d u f v ≡ false
@@ -161,12 +162,18 @@ named-at P [] k x e h = absurd cc
 named-at P (y ∷ xs) zero x e h = let same : y ≡ x = cc in subst P same h.0
 named-at P (y ∷ xs) (suc k) x e h = named-at P xs k x e h.1
 
-module _ (job : Job) (is : IsWellFormed job) where
-  start-registered : (us : List Spec) (u : ℕ) → (get_or (map (λ s. unseen (funcs job)) us) u (unseen 0)).registered ≡ false
-  start-registered [] u = refl
-  start-registered (x ∷ us) zero = refl
-  start-registered (x ∷ us) (suc u) = start-registered us u
+-- before the first command no user is registered, or has been
+pub start-registered : (n : ℕ) (us : List Spec) (u : ℕ) → (get_or (map (λ s. unseen n) us) u (unseen 0)).registered ≡ false
+start-registered n [] u = refl
+start-registered n (x ∷ us) zero = refl
+start-registered n (x ∷ us) (suc u) = start-registered n us u
 
+pub start-since : (n : ℕ) (us : List Spec) (u : ℕ) → (get_or (map (λ s. unseen n) us) u (unseen 0)).since ≡ 0
+start-since n [] u = refl
+start-since n (x ∷ us) zero = refl
+start-since n (x ∷ us) (suc u) = start-since n us u
+
+module _ (job : Job) (is : IsWellFormed job) where
   lone-after : (k : ℕ) (c : Option Command) → slice_get (commands job) k ≡ c → Lone job (desk job k) → Lone job (after job (desk job k) (suc k) c)
   lone-after k None e h = h
   lone-after k (Some c) e h =
@@ -177,7 +184,7 @@ module _ (job : Job) (is : IsWellFormed job) where
 
   lone-start : Lone job (desk job 0)
   unfolding desk
-  lone-start f u v lt mu mv = false_true (sym (start-registered job.users u) ∙ (and_both (user_at (desk job 0) u).registered _ (and_both ((user_at (desk job 0) u).registered && is_some (spec_at job u).ipmodify) _ mu).0).0)
+  lone-start f u v lt mu mv = false_true (sym (start-registered (funcs job) job.users u) ∙ (and_both (user_at (desk job 0) u).registered _ (and_both ((user_at (desk job 0) u).registered && is_some (spec_at job u).ipmodify) _ mu).0).0)
 
   pub lone : (k : ℕ) → Lone job (desk job k)
   unfolding desk

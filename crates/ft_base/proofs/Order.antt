@@ -137,7 +137,7 @@ user-part part d u s within same v = elim (eqb_tells u v) [
   | inr f ↦ ap part (user_at-other d u v s (ne_sym u v f.1))
 ]
 
-not-registered : (job : Job) (d : Desk) (u : ℕ) → is_accepted (register_answer job d u) ≡ true → (user_at d u).registered ≡ false
+pub not-registered : (job : Job) (d : Desk) (u : ℕ) → is_accepted (register_answer job d u) ≡ true → (user_at d u).registered ≡ false
 not-registered job d u e = by (user_at d u).registered refl
   where
     by : (b : Bool) → (user_at d u).registered ≡ b → (user_at d u).registered ≡ false

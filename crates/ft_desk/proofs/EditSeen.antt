@@ -38,7 +38,7 @@ no-sites old new funcs same =
     sym (changed-none old new 0 funcs [] (changed_sites old new 0 funcs) (omega arith) (λ f low high. same_insn-equal (old f) (new f) (same f))
     (ap (λ n. changed_sites old new 0 n) e))
 
-other-digit : (b : Bool) → digit (not b) ≡ other_copy (digit b)
+pub other-digit : (b : Bool) → digit (not b) ≡ other_copy (digit b)
 other-digit true = refl
 other-digit false = refl
 

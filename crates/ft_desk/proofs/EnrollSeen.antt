@@ -24,7 +24,7 @@ use Rattle.ft_desk.specs.Users.{desk_by, enrolled, no_user, retired, state_of, u
 use Rattle.ft_desk.proofs.SumLaws.{user_at-is}
 use Rattle.ft_desk.proofs.ViewLaws.{declared_with, desk_with, map-set, set-back}
 use Rattle.ft_desk.proofs.SeenLaws.{seen, seen-same, declared-still, state-now, next-at, copy-at}
-use Rattle.ft_desk.proofs.EditSeen.{sites-with}
+use Rattle.ft_desk.proofs.EditSeen.{sites-with, other-digit}
 
 -- ## free slots
 
@@ -137,10 +137,6 @@ enrolled_state since slot s = record s { registered = true; reg = suc s.reg; sin
 enrolled_state-same : (k k' : ℕ) (o o' : Option ℕ) (s s' : UserState) → k ≡ k' → o ≡ o' → s ≡ s' → enrolled_state k o s ≡ enrolled_state k' o' s'
 enrolled_state-same k k' o o' s s' ek eo es = rw (ek, eo, es) refl
 
-not-digit : (b : Bool) → digit (not b) ≡ other_copy (digit b)
-not-digit true = refl
-not-digit false = refl
-
 pub enroll-seen : (users users' : List User) (funcs funcs' tasks : ℕ) (slots slots' : Holders) (pids nopids : Marks) (depth : ℕ) (order order' : List ℕ) (commands commands' : ℕ)
     (plan before after : PlainPlan) (sites : List SiteChange) (u : ℕ) (slot : Option ℕ) (this : User) (first : Option UserNo) → u < length users
     → AreSlots users slots → slot ≡ lowest (is_free_slot slots) 0 (length slots)
@@ -156,11 +152,11 @@ enroll-seen users users' funcs funcs' tasks slots slots' pids nopids depth order
     (ap (λ t. declared_with users' funcs' tasks t) er ∙ declared-still users u (enrolled commands' slot (user_of users u)) within refl users' funcs funcs' tasks (length slots) eu ef)
     state
     (ap (λ (us : List User). map (λ (x : User). digit x.second) us) eu ∙ map-set (λ (x : User). digit x.second) users u (enrolled commands' slot (user_of users u))
-    ∙ ap (set (map (λ (x : User). digit x.second) users) u) (not-digit (user_of users u).second ∙ ap other_copy (sym (copy-at users u))))
+    ∙ ap (set (map (λ (x : User). digit x.second) users) u) (other-digit (user_of users u).second ∙ ap other_copy (sym (copy-at users u))))
     ed en
     (ea ∙ with_enroll-same before u _ _ _ _ _ _ sites _ eb
     (ap (λ (x : User). sel_of (state_of x) (digit x.second)) is-y
-    ∙ ap₂ sel_of (own ∙ sym (next-at users u (enrolled commands' slot (user_of users u)) within refl _)) (not-digit (user_of users u).second ∙ ap other_copy (sym (copy-at users u))))
+    ∙ ap₂ sel_of (own ∙ sym (next-at users u (enrolled commands' slot (user_of users u)) within refl _)) (other-digit (user_of users u).second ∙ ap other_copy (sym (copy-at users u))))
     (ap₂ (λ n (p : PlainPlan). taken_by slot n p.tramp) (ap (λ (x : User). x.reg) is-y) eb
     ∙ ap (λ (s : UserState). taken_by s.slot s.reg KeepTramp) (own ∙ sym (next-at users u (enrolled commands' slot (user_of users u)) within refl _)))
     (ap Push ei)

@@ -11,7 +11,7 @@ use Rattle.ipmodify.proofs.LowestLemmas.{lowest-same}
 use Rattle.ft_desk.specs.Declarations.{Declared, IsOf, bare, job_of}
 use Rattle.ft_desk.proofs.ClaimLaws.{funcs-is}
 
-bare-at : (specs : List Spec) (u : ℕ) → get_or (map bare specs) u plain_spec ≡ bare (get_or specs u plain_spec)
+pub bare-at : (specs : List Spec) (u : ℕ) → get_or (map bare specs) u plain_spec ≡ bare (get_or specs u plain_spec)
 bare-at [] u = refl
 bare-at (s ∷ specs) zero = refl
 bare-at (s ∷ specs) (suc u) = bare-at specs u

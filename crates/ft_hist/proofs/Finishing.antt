@@ -1,5 +1,5 @@
 -- What a task has finished, counted by its items, is what its plain run has done.
-use Rattle.std.proofs.Common.{cond, ◌≡◌, ℕ, suc, ◌+◌, ◌<◌, ◌≤◌, Bool, true, false, not, ◌&&◌, ◌==◌, List, [], ◌∷◌, ◌++◌, length, reverse, Option, Some, None, refl, sym, ap, ◌∙◌, subst, arith, eqb-true, nat_le, append_assoc}
+use Rattle.std.proofs.Common.{cond, ◌≡◌, ℕ, zero, suc, ◌+◌, ◌<◌, ◌≤◌, Bool, true, false, not, ◌&&◌, ◌==◌, List, [], ◌∷◌, ◌++◌, length, reverse, Option, Some, None, refl, sym, ap, ◌∙◌, subst, arith, eqb-true, nat_le, append_assoc}
 use Rattle.std.specs.Prelude.{get_or, IfSome, ◌-◌}
 use Rattle.std.specs.List.{filter, list_any, AllByRecursion as Each}
 use Rattle.ft_base.specs.declared.number.CallNo.{CallNo}
@@ -461,3 +461,29 @@ module _ (job : Job) (items : List Item) (legal : IsLegal job items) where
   waits-back h =
       Each-weaker (λ (w : ℕ × ℕ). w.1 ≤ acts_done job w.0 past) (λ (w : ℕ × ℕ). IfSome (plain job w.0 past) (λ s. w.1 ≤ acts_passed s)) (waits_before (begun past) job.ctls)
       (λ w x. let r = wait-is w in subst (λ (o : Option PlainTask). IfSome o (λ s. w.1 ≤ acts_passed s)) (sym r.1) (subst (λ k. w.1 ≤ k) (sym r.2) x)) h
+
+-- ## one more item takes no act back
+
+longest-more : (acts : List TaskAct) (n m : ℕ) → n ≤ m → longest_with acts n ≤ longest_with acts m
+longest-more [] n m le = omega arith
+longest-more (Call f ∷ acts) zero m le = omega arith
+longest-more (Call f ∷ acts) (suc n) zero le = absurd (omega (arith, le))
+longest-more (Call f ∷ acts) (suc n) (suc m) le = let more = longest-more acts n m (omega (arith, le)) in omega (arith, more)
+longest-more (RetAct ∷ acts) zero m le = omega arith
+longest-more (RetAct ∷ acts) (suc n) zero le = absurd (omega (arith, le))
+longest-more (RetAct ∷ acts) (suc n) (suc m) le = let more = longest-more acts n m (omega (arith, le)) in omega (arith, more)
+longest-more (Raise c ∷ acts) n m le = let more = longest-more acts n m le in omega (arith, more)
+longest-more (Lower ∷ acts) n m le = let more = longest-more acts n m le in omega (arith, more)
+longest-more (After k ∷ acts) n m le = let more = longest-more acts n m le in omega (arith, more)
+
+one-more : (b : Bool) (n : ℕ) → n ≤ cond b (suc n) n
+one-more true n = omega arith
+one-more false n = omega arith
+
+finished-more : (t : ℕ) (item : Item) (past : List Item) → finished t past ≤ finished t (item ∷ past)
+finished-more t (Body c g ran) past = one-more ((c.task.0 == t) && is_scripted c past) (finished t past)
+finished-more t (Ret c to) past = one-more ((c.task.0 == t) && is_scripted c past) (finished t past)
+finished-more t _ past = omega arith
+
+pub acts_done-more : (job : Job) (t : ℕ) (item : Item) (past : List Item) → acts_done job t past ≤ acts_done job t (item ∷ past)
+acts_done-more job t item past = longest-more (get_or job.tasks t no_task).acts (finished t past) (finished t (item ∷ past)) (finished-more t item past)

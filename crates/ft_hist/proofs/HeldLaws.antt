@@ -8,7 +8,7 @@ use Rattle.ft_base.specs.declared.item.Item.TheVariants.{Begin, Return, Enter, B
 use Rattle.ft_base.specs.Same.{same_call}
 use Rattle.ft_base.specs.Job.{Job}
 use Rattle.ft_base.specs.Desk.{spec_at}
-use Rattle.ft_base.proofs.Small.{false_true, ==-refl, and-false, Each-weaker}
+use Rattle.ft_base.proofs.Small.{false_true, ==-refl, and-false, Each-weaker, each-all, filter-all, filter-ext}
 use Rattle.ft_base.specs.Kinds.{cancels}
 use Rattle.ft_hist.specs.Past.{is_of, done, is_open, calls, held, all_visits, is_dispatched, has_frame_user}
 use Rattle.ft_hist.specs.Plain.{plain, after_next, PlainTask, at_start}
@@ -17,18 +17,6 @@ use Rattle.ft_hist.proofs.Laws.{same_call-refl}
 use Rattle.ft_hist.proofs.RunLaws.{some_inj, calls_on, Keeps, Moves, moves}
 use Rattle.ft_hist.specs.Known.{holds}
 use Rattle.ft_hist.proofs.Since.{IsOlder, apart, holding}
-
-filter-ext : {X : Type 0} (p q : X → Bool) (xs : List X) → Each (λ x. p x ≡ q x) xs → filter p xs ≡ filter q xs
-filter-ext p q [] h = refl
-filter-ext p q (x ∷ xs) h =
-    rw h.0 (elim (q x) as (λ b. cond b (x ∷ filter p xs) (filter p xs) ≡ cond b (x ∷ filter q xs) (filter q xs)) [
-      | true ↦ ap (λ ys. x ∷ ys) (filter-ext p q xs h.1)
-      | false ↦ filter-ext p q xs h.1
-    ])
-
-filter-all : {X : Type 0} (p : X → Bool) (xs : List X) → Each (λ x. p x ≡ true) xs → filter p xs ≡ xs
-filter-all p [] h = refl
-filter-all p (x ∷ xs) h = rw h.0 (ap (λ ys. x ∷ ys) (filter-all p xs h.1))
 
 filter-both : {X : Type 0} (a n o : X → Bool) (xs : List X) → filter (λ x. a x && (n x && o x)) xs ≡ filter n (filter (λ x. a x && o x) xs)
 filter-both a n o [] = refl
@@ -145,10 +133,6 @@ module _ (t : ℕ) (past : List Item) where
         | inl e ↦ rw (subst (λ x. (call.task.0 == x) ≡ false) (sym e.1) other) refl
         | inr e ↦ rw e.0 refl
       ]
-
-  each-all : {X : Type 0} (P : X → Type 0) (xs : List X) → ((x : X) → P x) → Each P xs
-  each-all P [] f = tt
-  each-all P (x ∷ xs) f = (f x, each-all P xs f)
 
   opens-other : (next : ℕ) (stack : List CallNo) (item : Item) → is_of t item ≡ false → Opens t past next stack → Opens t (item ∷ past) next stack
   opens-other next stack (Enter call x f caller) other h = record {

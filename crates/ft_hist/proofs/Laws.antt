@@ -11,6 +11,7 @@ use Rattle.ft_base.specs.Job.{Job}
 use Rattle.ft_base.specs.declared.task.TaskAct.{TaskAct}
 use Rattle.ft_base.specs.declared.task.TaskAct.TheVariants.{Call, Ret as RetAct, Raise, Lower, After}
 use Rattle.ft_base.proofs.Small.{==-refl}
+use Rattle.ft_base.specs.Items.{call_of}
 use Rattle.ft_hist.specs.Plain.{plain, after_item, PlainTask, same_top, ahead, Ahead, below_top}
 use Rattle.ft_hist.specs.Past.{is_of, done, entry_of}
 use Rattle.ft_hist.specs.Rules.{IsLegal, IsLegalPast, MayFollow}
@@ -18,6 +19,14 @@ use Rattle.ft_hist.specs.Rules.{IsLegal, IsLegalPast, MayFollow}
 -- a call is the same as itself
 pub same_call-refl : (c : CallNo) → same_call c c ≡ true
 same_call-refl c = search rules
+
+-- the calls of other tasks are other calls
+pub other-task : (t : ℕ) (call c : CallNo) → (call.task.0 == t) ≡ false → c.task.0 ≡ t → same_call call c ≡ false
+other-task t call c other own = let x : (call.task.0 == c.task.0) ≡ false = rw own other in rw x refl
+
+-- an item is of the task of its call
+pub own-item : (item : Item) (call : CallNo) → call_of item ≡ Some call → is_of call.task.0 item ≡ true
+own-item item call is = rw is (==-refl call.task.0)
 
 -- no items at all are legal
 pub none-legal : (job : Job) → IsLegalPast job []

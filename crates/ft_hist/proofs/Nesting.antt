@@ -17,13 +17,14 @@ use Rattle.ft_hist.proofs.Laws.{same_call-refl}
 use Rattle.ft_hist.proofs.HeldLaws.{Falls, opens}
 use Rattle.ft_hist.proofs.Numbers.{moved, unmoved, some-run}
 use Rattle.ft_hist.proofs.RunLaws.{some_inj, if_some, same_call-eq, calls_on, Moves}
+use Rattle.ft_hist.proofs.Splitting.{legal-older}
 
 -- the first call of a stack
 abbrev pub top_of : List CallNo → Option CallNo
 top_of [] = None
 top_of (c ∷ cs) = Some c
 
-top-of-frames : (fs : List Frame) → top_call fs ≡ top_of (calls_on fs)
+pub top-of-frames : (fs : List Frame) → top_call fs ≡ top_of (calls_on fs)
 top-of-frames [] = refl
 top-of-frames (f ∷ fs) = refl
 
@@ -214,11 +215,6 @@ module _ (job : Job) (call : CallNo) where
       let away = rw k.calls at (subst (λ (p : PlainTask). Each (λ d. d.n ≡ call.n → ⊥) (calls_on p.stack)) same h.away) in
       away.0 refl
 
-  older-legal : (newer past : List Item) → IsLegalPast job (newer ++ past) → IsLegalPast job past
-  unfolding IsLegalPast
-  older-legal [] past l = l
-  older-legal (x ∷ newer) past l = older-legal newer past l.1
-
   ret-is : (item : Item) → is_ret_of call item ≡ true → (to : Option CallNo) × (item ≡ Ret call to)
   ret-is (Ret c to) e = (to, ap (λ (d : CallNo). Ret d to) (same_call-eq c call e))
   ret-is (Begin k) e = false_true e
@@ -236,7 +232,7 @@ module _ (job : Job) (call : CallNo) where
   again : (to : Option CallNo) (ys : List Item) (to' : Option CallNo) (rest : List Item) → IsLegalPast job (Ret call to ∷ (ys ++ Ret call to' ∷ rest)) → ⊥
   unfolding IsLegalPast
   again to ys to' rest k = not-again to (ys ++ Ret call to' ∷ rest) k
-      (returned-through ys (Ret call to' ∷ rest) k.1 (has-returned to' rest (older-legal ys (Ret call to' ∷ rest) k.1)))
+      (returned-through ys (Ret call to' ∷ rest) k.1 (has-returned to' rest (legal-older job ys (Ret call to' ∷ rest) k.1)))
 
   -- before a call's return it has not returned
   pub returns-once : (to : Option CallNo) (newer past : List Item) → IsLegalPast job (Ret call to ∷ (newer ++ past)) → list_any (is_ret_of call) newer ≡ false

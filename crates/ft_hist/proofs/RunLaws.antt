@@ -13,6 +13,7 @@ use Rattle.ft_base.specs.Job.{Job}
 use Rattle.ft_base.proofs.Small.{false_true, ==-refl, and_both, and-false, Each-weaker}
 use Rattle.ft_hist.specs.Past.{is_of, done, all_visits, Visit, is_dispatched, exits}
 use Rattle.ft_hist.specs.Plain.{plain, after_item, after_next, PlainTask, Frame, Phase, Owed, Dispatch, InBack, Running, Leaving, InExit, on_call, on_top, in_phase, after_back, after_back_end, after_miss, after_refusal, after_body, after_leave, after_leave_ahead, after_scripted_leave, after_exit, after_exit_end, after_ret, after_enter, after_owed_enter, after_scripted_enter, ahead, top_call, same_top}
+use Rattle.ft_hist.proofs.Laws.{other-task}
 
 pub if_some : {A : Type 0} (b : Bool) (o : Option A) (y : A) → cond b o None ≡ Some y → (b ≡ true) × (o ≡ Some y)
 if_some true o y e = (refl, e)
@@ -252,9 +253,6 @@ module _ (job : Job) (t : ℕ) (past : List Item) where
     fresh = rw m.next h.fresh;
   }
 
-  apart-task : (call c : CallNo) → (call.task.0 == t) ≡ false → c.task.0 ≡ t → same_call call c ≡ false
-  apart-task call c other e = let x : (call.task.0 == c.task.0) ≡ false = rw e other in rw x refl
-
   -- one more item of another
   sound-other : (next : ℕ) (calls : List CallNo) (item : Item) → is_of t item ≡ false → Sound job t past next calls → Sound job t (item ∷ past) next calls
   unfolding all_visits
@@ -264,13 +262,13 @@ module _ (job : Job) (t : ℕ) (past : List Item) where
     task = h.task;
     number = h.number;
     visits = h.visits;
-    fresh = λ c e' le. (rw (apart-task call c other e') (h.fresh c e' le).0, (h.fresh c e' le).1);
+    fresh = λ c e' le. (rw (other-task t call c other e') (h.fresh c e' le).0, (h.fresh c e' le).1);
   }
   sound-other next calls (Exit call u entry) other h = record {
     task = h.task;
     number = h.number;
     visits = h.visits;
-    fresh = λ c e' le. ((h.fresh c e' le).0, rw (apart-task call c other e') (h.fresh c e' le).1);
+    fresh = λ c e' le. ((h.fresh c e' le).0, rw (other-task t call c other e') (h.fresh c e' le).1);
   }
   sound-other next calls _ other h = record { task = h.task; number = h.number; visits = h.visits; fresh = h.fresh }
 

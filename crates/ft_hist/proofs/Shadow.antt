@@ -16,7 +16,7 @@ use Rattle.ft_base.specs.Same.{same_call}
 use Rattle.ft_base.specs.Job.{Job}
 use Rattle.ft_base.specs.Desk.{spec_at}
 use Rattle.ft_base.specs.Kinds.{has_depth, has_exit, cancels}
-use Rattle.ft_base.proofs.Small.{false_true, ==-refl, and_both, or-false_both, Each-weaker}
+use Rattle.ft_base.proofs.Small.{false_true, ==-refl, and_both, or-false_both, Each-weaker, each-all}
 use Rattle.ft_hist.specs.Past.{is_of, done, is_open, is_dispatched, all_visits, visits, Visit, visit, has_frame_user, held, gets_frame, calls}
 use Rattle.ft_hist.specs.Plain.{plain, after_item, after_next, at_start, PlainTask, Frame, Phase, Owed, Dispatch, InBack, Running, Leaving, InExit, on_call, on_top, in_phase, after_back, after_back_end, after_miss, after_refusal, after_body, after_leave, after_leave_ahead, after_scripted_leave, after_exit, after_exit_end, after_ret, after_enter, after_owed_enter, after_scripted_enter, ahead, owed_by, same_top, top_call}
 use Rattle.ft_hist.specs.Rules.{IsLegal}
@@ -225,10 +225,6 @@ same-on job past past' cs u =
     frames-ext (λ c. holds job past c) (λ c. keeps job past c) (λ c. holds job past' c) (λ c. keeps job past' c) cs
     (Each-weaker (λ c. Untouched job c past past') (λ c. (holds job past' c ≡ holds job past c) × (keeps job past' c ≡ keeps job past c)) cs (λ c x. (holds-untouched job c past past' x, keeps-untouched job c past past' x)) u)
 
-every : {X : Type 0} (P : X → Type 0) (xs : List X) → ((x : X) → P x) → Each P xs
-every P [] f = tt
-every P (x ∷ xs) f = (f x, every P xs f)
-
 -- the first that passes does
 passes : {X : Type 0} (p : X → Bool) (xs : List X) (y : X) (ys : List X) → filter p xs ≡ y ∷ ys → p y ≡ true
 passes p [] y ys e = absurd cc
@@ -368,7 +364,7 @@ module _ (job : Job) (t : ℕ) (past : List Item) (p s : PlainTask) (here : plai
   after-refuse call u reason cs =
       let m = visit job call u.0 past (all_visits job past) false in
       frames-ext (λ c. holds job past c) (λ c. keeps job past c) (λ c. holds job (Refuse call u reason ∷ past) c) (λ c. keeps job (Refuse call u reason ∷ past) c) cs
-      (every (λ c. (holds job (Refuse call u reason ∷ past) c ≡ holds job past c) × (keeps job (Refuse call u reason ∷ past) c ≡ keeps job past c)) cs (λ c. (
+      (each-all (λ c. (holds job (Refuse call u reason ∷ past) c ≡ holds job past c) × (keeps job (Refuse call u reason ∷ past) c ≡ keeps job past c)) cs (λ c. (
         holds-by job (Refuse call u reason ∷ past) c
             ∙ elim (same_call call c) as (λ b. holds_by job (is_open c past) (is_dispatched c past) (cond b (m ∷ visits job c past) (visits job c past)) ≡ holds_by job (is_open c past) (is_dispatched c past) (visits job c past)) [ true ↦ refl | false ↦ refl ]
             ∙ sym (holds-by job past c),

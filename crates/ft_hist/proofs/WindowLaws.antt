@@ -1,5 +1,5 @@
 -- How the words on a past go on over one more item, of whichever actor.
-use Rattle.std.proofs.Common.{◌≡◌, ℕ, suc, ◌≤◌, Bool, false, List, [], ◌∷◌, refl, arith}
+use Rattle.std.proofs.Common.{◌≡◌, ℕ, suc, ◌≤◌, Bool, false, List, [], ◌∷◌, length, refl, arith}
 use Rattle.ft_base.specs.declared.number.CallNo.{CallNo}
 use Rattle.ft_base.specs.declared.item.Item.{Item}
 use Rattle.ft_base.specs.declared.item.Item.TheVariants.{Begin, Return, Enter, Back, Refuse}
@@ -16,6 +16,17 @@ done-more _ past = omega arith
 pub begun-more : (item : Item) (past : List Item) → begun past ≤ begun (item ∷ past)
 begun-more (Begin k) past = omega arith
 begun-more _ past = omega arith
+
+-- each command that has returned or begun is told by an item
+pub few-done : (past : List Item) → done past ≤ length past
+few-done [] = omega arith
+few-done (Return n answer ∷ past) = let h = few-done past in omega (arith, h)
+few-done (_ ∷ past) = let h = few-done past in omega (arith, h)
+
+pub few-begun : (past : List Item) → begun past ≤ length past
+few-begun [] = omega arith
+few-begun (Begin n ∷ past) = let h = few-begun past in omega (arith, h)
+few-begun (_ ∷ past) = let h = few-begun past in omega (arith, h)
 
 -- whether an item enters this call
 abbrev pub is_enter : CallNo → Item → Bool

@@ -1,5 +1,5 @@
 -- What the word machine needs besides: where desks change under a call, a user's registration is read later and later, so whoever stands below all that were visited hasn't been met.
-use Rattle.std.proofs.Common.{cond, ◌≡◌, ◌≢◌, ℕ, zero, suc, ◌<◌, ◌≤◌, ◌⊎◌, Bool, true, false, ◌||◌, ◌==◌, nat_le, List, [], ◌∷◌, length, get_or, map, Option, Some, None, refl, sym, ap, ◌∙◌, subst, arith, inl, inr, eqb-true, leb-true, leb-false}
+use Rattle.std.proofs.Common.{cond, ◌≡◌, ◌≢◌, ℕ, zero, suc, ◌<◌, ◌≤◌, ◌⊎◌, Bool, true, false, ◌||◌, ◌==◌, nat_le, List, [], ◌∷◌, length, Option, Some, None, refl, sym, ap, ◌∙◌, subst, arith, inl, inr, eqb-true, leb-true, leb-false}
 use Rattle.std.specs.Prelude.{slice_get, ◌&&◌, is_some}
 use Rattle.std.proofs.lemmas.Bool.Decides.{eqb_tells}
 use Rattle.std.specs.List.{list_any, AllByRecursion as Each}
@@ -7,12 +7,12 @@ use Rattle.ft_base.specs.declared.number.CallNo.{CallNo}
 use Rattle.ft_base.specs.declared.item.Item.{Item}
 use Rattle.ft_base.specs.declared.item.Item.TheVariants.{Begin, Return, Enter, Back, Refuse}
 use Rattle.ft_base.specs.Same.{same_call}
-use Rattle.ft_base.specs.Job.{Job, Spec, Command, Register, Unregister, Filter, Notrace, Pid, NoPid, Enable, Disable, MaxDepth, commands, funcs}
-use Rattle.ft_base.specs.Desk.{Desk, UserState, desk, after, changed, user_at, unseen, with_user, is_on, is_accepted, answer_on, is_matching, spec_at, registered_as, unregistered_as, edited}
+use Rattle.ft_base.specs.Job.{Job, Command, Register, Unregister, Filter, Notrace, Pid, NoPid, Enable, Disable, MaxDepth, commands, funcs}
+use Rattle.ft_base.specs.Desk.{Desk, UserState, desk, after, changed, user_at, with_user, is_on, is_accepted, answer_on, is_matching, spec_at, registered_as, unregistered_as, edited}
 use Rattle.ft_base.proofs.DeskLaws.{length-desk, user_at-same, user_at-other}
 use Rattle.ft_base.specs.WellFormed.{IsWellFormed, IsNamed}
 use Rattle.ft_base.proofs.Small.{false_true, Each-weaker, or-false_both, ==-refl}
-use Rattle.ft_base.proofs.Modifiers.{named-at, lone}
+use Rattle.ft_base.proofs.Modifiers.{named-at, lone, start-since}
 use Rattle.ft_hist.specs.Past.{done, begun, entry_of, all_visits, visit, Visit, visits, registration_at}
 use Rattle.ft_hist.specs.Rules.{IsLegalPast, IsUnvisited, AtReturnedOrBegun, MayVisit, OneReplaces, backs_with_replacement}
 use Rattle.ft_hist.proofs.WindowLaws.{legal-counts, entry_of-more}
@@ -59,14 +59,9 @@ module _ (job : Job) (is : IsWellFormed job) where
         | false ↦ same-since (desk job k) k r v
       ]
 
-  start-since : (us : List Spec) (u : ℕ) → (get_or (map (λ s. unseen (funcs job)) us) u (unseen 0)).since ≡ 0
-  start-since [] u = refl
-  start-since (x ∷ us) zero = refl
-  start-since (x ∷ us) (suc u) = start-since us u
-
   recent : (k u : ℕ) → since_at k u ≤ k
   unfolding desk
-  recent zero u = rw (start-since job.users u) (omega arith)
+  recent zero u = rw (start-since (funcs job) job.users u) (omega arith)
   recent (suc k) u = (after-grows k (slice_get (commands job) k) refl (recent k) u).1
 
   since-step : (k u : ℕ) → since_at k u ≤ since_at (suc k) u

@@ -1,5 +1,5 @@
 -- The desk after the first commands of a job.
-use Rattle.std.proofs.Common.{◌≡◌, ℕ, zero, suc, ◌+◌, ◌-◌, ◌≤◌, List, [], ◌∷◌, length, take, map, get_or, Some, is_some, refl, sym, ap, ap₂, ◌∙◌, subst, arith, add-one}
+use Rattle.std.proofs.Common.{◌≡◌, ℕ, zero, suc, ◌+◌, ◌-◌, ◌≤◌, List, length, take, get_or, Some, is_some, refl, sym, ap, ap₂, ◌∙◌, subst, arith, add-one}
 use Rattle.std.specs.Prelude.{filter, option_map, slice_get}
 use Rattle.std.proofs.lemmas.Option.{slice_get-map, slice_get_past}
 use Rattle.std.proofs.lemmas.List.{length-map, length-take, take_all}
@@ -14,7 +14,7 @@ use Rattle.ft_desk.specs.Commands.{command_of, ctl_of}
 use Rattle.ft_desk.specs.Declarations.{Declared, IsOf, bare, job_of}
 use Rattle.ft_desk.specs.Seen.{Seen, after_command, opened}
 use Rattle.ft_desk.specs.Sites.{row_at}
-use Rattle.ft_desk.proofs.JobLaws.{opening-is}
+use Rattle.ft_desk.proofs.JobLaws.{opening-is, bare-at}
 use Rattle.word_machine_laws.proofs.Limited.{few-commands}
 use Rattle.ft_desk.specs.Lines.{lines_of}
 use Rattle.ft_desk.proofs.LineLaws.{commands-after, declared-after}
@@ -22,11 +22,6 @@ use Rattle.ft_desk.proofs.NextDesk.{state-same}
 use Rattle.ft_desk.proofs.LineLaws.{command-at, count-run, count-until}
 
 -- ## rows
-
-bare-at : (specs : List Spec) (u : ℕ) → get_or (map bare specs) u plain_spec ≡ bare (get_or specs u plain_spec)
-bare-at [] u = refl
-bare-at (s ∷ specs) zero = refl
-bare-at (s ∷ specs) (suc u) = bare-at specs u
 
 module _ (job : Job) (d : Declared) (is : IsOf job d) where
   spec-is : (u : ℕ) → spec_at (job_of d) u ≡ bare (spec_at job u)

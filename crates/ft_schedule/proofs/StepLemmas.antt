@@ -1,5 +1,5 @@
 -- The turns of items that have no cause: their steps, counts and CPUs.
-use Rattle.std.proofs.Common.{◌≡◌, ℕ, zero, suc, ◌+◌, ◌*◌, ◌<◌, ◌≤◌, ◌||◌, ◌==◌, arith, Bool, true, false, true≢false, nat_lt, All, List, [], ◌∷◌, length, map, sum_by, Option, Some, None, refl, ap, ap₂, ◌∙◌, sym, subst, if◌then◌else◌}
+use Rattle.std.proofs.Common.{◌≡◌, ℕ, zero, suc, ◌+◌, ◌*◌, ◌<◌, ◌≤◌, ◌==◌, arith, Bool, true, false, nat_lt, All, List, [], ◌∷◌, length, map, sum_by, Option, Some, None, refl, ap, ap₂, ◌∙◌, sym, subst, if◌then◌else◌}
 use Rattle.std.specs.List.{list_any}
 use Rattle.std.proofs.lemmas.List.{length-append}
 use Rattle.std.proofs.lemmas.List.Sums.{sum_by-cons}
@@ -10,6 +10,7 @@ use Rattle.ft_base.specs.declared.turn.Who.TheVariants.{Control, Cpu, All as Eve
 use Rattle.ft_base.specs.declared.turn.Turn.{Turn}
 use Rattle.ft_base.specs.Schedule.{every_cpu, turn_of, repeated, actors_in}
 use Rattle.ft_base.specs.declared.limits.TheConstants.{STEPS}
+use Rattle.ft_base.proofs.Small.{or-false_both}
 use Rattle.ft_schedule.specs.declared.item.SchedItem.{SchedItem}
 use Rattle.ft_schedule.specs.declared.faults.SchedFault.{SchedFault}
 use Rattle.ft_schedule.specs.declared.faults.SchedFault.TheVariants.{Limit, Unknown}
@@ -39,10 +40,6 @@ length-actors_in cpus (item ∷ items) =
     ∙ ap₂ (λ m n. m + n) front (length-actors_in cpus items)
     ∙ sym (sum_by-cons (steps_of cpus) item items)
 
-or-parts : (a b : Bool) → (a || b) ≡ false → (a ≡ false) × (b ≡ false)
-or-parts true b h = absurd (true≢false h)
-or-parts false b h = (refl, h)
-
 counted : (n : ℕ) → (n == 0) ≡ false → 0 < n
 counted n h = grind (arith, nat_tests)
 
@@ -50,11 +47,11 @@ counted n h = grind (arith, nat_tests)
 pub all-turns : (cpus : ℕ) (items : List SchedItem) → list_any has_bad_count items ≡ false → has_unknown cpus items ≡ false → All (IsTurn cpus) (map turn_from items)
 all-turns cpus [] good known k d h = absurd (omega (arith, h))
 all-turns cpus (item ∷ items) good known zero d h = record {
-  counted = counted item.count (or-parts _ _ (or-parts (has_bad_count item) (list_any has_bad_count items) good).0).0;
-  known = (or-parts (is_unknown cpus item) (has_unknown cpus items) known).0;
+  counted = counted item.count (or-false_both _ _ (or-false_both (has_bad_count item) (list_any has_bad_count items) good).0).0;
+  known = (or-false_both (is_unknown cpus item) (has_unknown cpus items) known).0;
 }
 all-turns cpus (item ∷ items) good known (suc k) d h =
-    all-turns cpus items (or-parts (has_bad_count item) (list_any has_bad_count items) good).1 (or-parts (is_unknown cpus item) (has_unknown cpus items) known).1 k d (omega (arith, h))
+    all-turns cpus items (or-false_both (has_bad_count item) (list_any has_bad_count items) good).1 (or-false_both (is_unknown cpus item) (has_unknown cpus items) known).1 k d (omega (arith, h))
 
 cause_by : Bool → Bool → Option SchedFault
 cause_by past unknown = if past then Some Limit else (if unknown then Some Unknown else None)
@@ -71,7 +68,7 @@ module _ (cpus : ℕ) (items : List SchedItem) (none : cause_in cpus items ≡ N
   parts = no_cause (is_past_limit cpus 0 items) (has_unknown cpus items) none
 
   pub good : (list_any has_bad_count items ≡ false) × (nat_lt STEPS (0 + sum_by (steps_of cpus) items) ≡ false)
-  good = or-parts _ _ parts.0
+  good = or-false_both _ _ parts.0
 
   few-steps : (n : ℕ) → nat_lt STEPS n ≡ false → n ≤ STEPS
   few-steps n h = grind (arith, nat_tests)

@@ -29,7 +29,7 @@ same-bytes_eq : (a b : List ℕ) → a ≡ b → bytes_eq a b ≡ true
 same-bytes_eq a b e = (bytes_eq-Decides a b).1 e
 
 -- a name that passes the test is the name
-same-name : (a b : List ℕ) → bytes_eq a b ≡ true → a ≡ b
+pub same-name : (a b : List ℕ) → bytes_eq a b ≡ true → a ≡ b
 same-name a b e = (bytes_eq-Decides a b).0 e
 
 module _ (ns : List (List ℕ)) (n : List ℕ) where

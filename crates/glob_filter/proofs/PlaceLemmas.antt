@@ -9,6 +9,7 @@ use Rattle.glob_filter.specs.Kept.{item_of, items_kept}
 use Rattle.glob_filter.specs.declared.token.Token.{Token}
 use Rattle.glob_filter.specs.declared.token.Token.TheVariants.{Byte, Any, Star, Class}
 use Rattle.glob_filter.specs.Places.{has_place, has_byte, matches_from, AreBytes, StandsFor, IsFilled}
+use Rattle.ft_base.proofs.Small.{same_test}
 
 -- ---- items
 
@@ -202,11 +203,6 @@ module _ (t s state new : List ℕ) (b : ℕ) (left : List ℕ)
   pub IsDecidedBy-step : (start : ℕ) (name : List ℕ) → IsDecidedBy t s start name state (b ∷ left) → IsDecidedBy t s start name new left
   IsDecidedBy-step start name decided =
       (λ m. let r = decided.0 m in Reaches-more r.0 r.1 r.2, λ r. let more = Reaches-less r.0 r.1 r.2 in decided.1 more)
-
-same_test : (a b : Bool) → (a ≡ true → b ≡ true) → (b ≡ true → a ≡ true) → a ≡ b
-same_test true b f g = sym (f refl)
-same_test false true f g = g refl
-same_test false false f g = refl
 
 -- if no place is left, the place at the start doesn't match
 pub decided-none : (t s : List ℕ) (start : ℕ) (name state left : List ℕ) → ((p : ℕ) → has_place state p ≡ false) → IsDecidedBy t s start name state left

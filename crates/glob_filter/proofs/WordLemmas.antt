@@ -7,16 +7,12 @@ use Rattle.std.proofs.lemmas.Nat.{and_le_l}
 use Rattle.std.proofs.lemmas.List.{get_or_past}
 use Rattle.std.proofs.lemmas.Nat.Bits.{shr_and_one, bit_at_set_same, bit_at_set_other, bit_at-zero, bit_at-suc, bit_at_above, bit_at_cat_low}
 use Rattle.ft_base.proofs.Bits.{or_test, and_test, past_test}
+use Rattle.ft_base.proofs.Small.{same_test}
 use Rattle.glob_filter.specs.Places.{has_place, has_byte}
 
 -- bit i of the word w
 abbrev pub has_bit : List ℕ → ℕ → ℕ → Bool
 has_bit words w i = bit_at (get_or words w 0) i == 1
-
-same_test : (a b : Bool) → (a ≡ true → b ≡ true) → (b ≡ true → a ≡ true) → a ≡ b
-same_test true b f g = sym (f refl)
-same_test false true f g = g refl
-same_test false false f g = refl
 
 -- ---- a bit that is set
 

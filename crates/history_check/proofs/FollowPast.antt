@@ -21,9 +21,10 @@ use Rattle.ft_hist.specs.Past as told
 use Rattle.ft_hist.specs.Known.{holds}
 use Rattle.ft_hist.specs.Plain.{plain}
 use Rattle.ft_hist.specs.Rules.{MayFollow}
-use Rattle.ft_hist.proofs.Laws.{plain-other, same_call-refl}
+use Rattle.ft_hist.proofs.Laws.{plain-other, same_call-refl, own-item}
 use Rattle.ft_hist.proofs.RunLaws.{some_inj}
 use Rattle.ft_hist.proofs.Since.{misses-other}
+use Rattle.ft_hist.proofs.WindowLaws.{few-done, few-begun}
 use Rattle.ft_desk.specs.Lines.{lines_of}
 use Rattle.history_check.specs.declared.open_call.OpenCall.{OpenCall}
 use Rattle.history_check.specs.declared.open_call.Visit.{Visit}
@@ -36,8 +37,7 @@ use Rattle.history_check.specs.KeptPast.{IsMet, IsPast, IsPastAt, IsTopOf, is_en
 use Rattle.history_check.specs.Parts.{KeepsPlainRun}
 use Rattle.history_check.proofs.FollowRuns.{all-met, of-job}
 use Rattle.history_check.proofs.FollowTask.{not-enter, top-of}
-use Rattle.history_check.proofs.OpenStacks.{after-other, few-calls, few-left, of-own, of-own-task}
-use Rattle.history_check.proofs.PastLaws.{few-begun, few-done}
+use Rattle.history_check.proofs.OpenStacks.{after-other, few-calls, few-left, of-own}
 
 -- ## a list with one value changed
 
@@ -112,7 +112,7 @@ module _ (job : Job) (past now : List Item) (p : Past) (k : IsPastAt job past no
   pub in-job : (call : CallNo) → call_of item ≡ Some call → call.task.0 < length job.tasks
   in-job call is = elim (cases_lt call.task.0 (length job.tasks)) [
     | inl lt ↦ lt
-    | inr over ↦ false_true (sym (of-job job past item call.task.0 over (k.others call.task.0 over) (goes call.task.0)) ∙ of-own-task item call is)
+    | inr over ↦ false_true (sym (of-job job past item call.task.0 over (k.others call.task.0 over) (goes call.task.0)) ∙ own-item item call is)
   ]
 
   -- and it is there
@@ -121,7 +121,7 @@ module _ (job : Job) (past now : List Item) (p : Past) (k : IsPastAt job past no
     in-job c is',
     λ out.
         let same : c ≡ call = some_inj c call (sym is' ∙ is) in
-        let w = top-of job past call.task.0 x.calls.items (calls-of-task job past now call.task.0 x (k.each call.task.0 x at)) item call is (of-own-task item call is) (goes call.task.0) out in (
+        let w = top-of job past call.task.0 x.calls.items (calls-of-task job past now call.task.0 x (k.each call.task.0 x at)) item call is (own-item item call is) (goes call.task.0) out in (
           w.top,
           w.first,
           record {

@@ -1,48 +1,19 @@
 -- What one more item does to the tasks' plain runs: none goes back, and a task that the job doesn't have has no item.
-use Rattle.std.proofs.Common.{cond, ◌≡◌, ℕ, zero, suc, ◌≤◌, Bool, true, false, ◌&&◌, ◌==◌, List, [], ◌∷◌, Option, Some, None, refl, ap, ◌∙◌, subst, arith}
-use Rattle.std.specs.Prelude.{get_or, IfSome, IsSome, length}
+use Rattle.std.proofs.Common.{cond, ◌≡◌, ℕ, ◌≤◌, Bool, true, false, ◌&&◌, ◌==◌, List, [], ◌∷◌, Option, Some, None, refl, ap, ◌∙◌, subst, arith}
+use Rattle.std.specs.Prelude.{IfSome, IsSome, length}
 use Rattle.std.specs.List.{AllByRecursion as Each}
 use Rattle.std.proofs.lemmas.List.{get_or_past}
 use Rattle.ft_base.specs.declared.item.Item.{Item}
 use Rattle.ft_base.specs.declared.item.Item.TheVariants.{Begin, Return, Enter, Back, BackEnd, Refuse, Miss, Body, Leave, Exit, ExitEnd, Ret}
-use Rattle.ft_base.specs.declared.task.TaskAct.{TaskAct}
-use Rattle.ft_base.specs.declared.task.TaskAct.TheVariants.{Call, Ret as RetAct, Raise, Lower, After}
 use Rattle.ft_base.specs.Job.{Job, Task, no_task}
 use Rattle.ft_base.proofs.Small.{Each-weaker, false_true}
-use Rattle.ft_hist.specs.Finished.{acts_done, finished, is_scripted, longest_with}
 use Rattle.ft_hist.specs.Past.{done, is_of}
 use Rattle.ft_hist.specs.Plain.{PlainTask, after_item, at_start, plain, same_top}
 use Rattle.ft_hist.specs.Rules.{acts_passed}
-use Rattle.ft_hist.proofs.Finishing.{passed-is}
+use Rattle.ft_hist.proofs.Finishing.{passed-is, acts_done-more}
 use Rattle.ft_hist.proofs.Laws.{plain-own}
 use Rattle.history_check.specs.KeptPast.{IsMet}
 use Rattle.history_check.proofs.OpenStacks.{run-of}
-
--- ## acts
-
-longest-more : (acts : List TaskAct) (n m : ℕ) → n ≤ m → longest_with acts n ≤ longest_with acts m
-longest-more [] n m le = omega arith
-longest-more (Call f ∷ acts) zero m le = omega arith
-longest-more (Call f ∷ acts) (suc n) zero le = absurd (omega (arith, le))
-longest-more (Call f ∷ acts) (suc n) (suc m) le = let more = longest-more acts n m (omega (arith, le)) in omega (arith, more)
-longest-more (RetAct ∷ acts) zero m le = omega arith
-longest-more (RetAct ∷ acts) (suc n) zero le = absurd (omega (arith, le))
-longest-more (RetAct ∷ acts) (suc n) (suc m) le = let more = longest-more acts n m (omega (arith, le)) in omega (arith, more)
-longest-more (Raise c ∷ acts) n m le = let more = longest-more acts n m le in omega (arith, more)
-longest-more (Lower ∷ acts) n m le = let more = longest-more acts n m le in omega (arith, more)
-longest-more (After k ∷ acts) n m le = let more = longest-more acts n m le in omega (arith, more)
-
-one-more : (b : Bool) (n : ℕ) → n ≤ cond b (suc n) n
-one-more true n = omega arith
-one-more false n = omega arith
-
-finished-more : (t : ℕ) (item : Item) (past : List Item) → finished t past ≤ finished t (item ∷ past)
-finished-more t (Body c g ran) past = one-more ((c.task.0 == t) && is_scripted c past) (finished t past)
-finished-more t (Ret c to) past = one-more ((c.task.0 == t) && is_scripted c past) (finished t past)
-finished-more t _ past = omega arith
-
-done-more : (job : Job) (t : ℕ) (item : Item) (past : List Item) → acts_done job t past ≤ acts_done job t (item ∷ past)
-done-more job t item past = longest-more (get_or job.tasks t no_task).acts (finished t past) (finished t (item ∷ past)) (finished-more t item past)
 
 always : {A : Type 0} (b : Bool) (x : A) → cond b x x ≡ x
 always true x = refl
@@ -64,7 +35,7 @@ module _ (job : Job) (past : List Item) (item : Item) (goes : (t : ℕ) → IsSo
           let n = run-of job w.0 (item ∷ past) (goes w.0) in
           let a = passed-is job w.0 past p here in
           let b = passed-is job w.0 (item ∷ past) n.0 n.1 in
-          let more = done-more job w.0 item past in
+          let more = acts_done-more job w.0 item past in
           let after : w.1 ≤ acts_passed n.0 = omega (arith, a, b, more, le) in
           rw n.1 after
 

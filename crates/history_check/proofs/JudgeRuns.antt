@@ -16,7 +16,7 @@ use Rattle.ft_base.proofs.Small.{false_true}
 use Rattle.ft_hist.specs.Past.{done, is_of}
 use Rattle.ft_hist.specs.Rules.{HasEnded}
 use Rattle.ft_hist.specs.Plain.{PlainTask, after_item, after_next, at_start, plain}
-use Rattle.ft_hist.proofs.Laws.{plain-other, plain-own}
+use Rattle.ft_hist.proofs.Laws.{plain-other, plain-own, own-item}
 use Rattle.ft_hist.proofs.RunLaws.{Moves, moves, some_inj}
 use Rattle.history_check.specs.declared.past.Past.{Past}
 use Rattle.history_check.specs.declared.task_past.TaskPast.{TaskPast}
@@ -24,7 +24,7 @@ use Rattle.history_check.specs.KeptCalls.{IsTaskPast}
 use Rattle.history_check.specs.KeptPast.{IsAtEnd, IsPast, IsPastAt}
 use Rattle.history_check.specs.Parts.{KeepsPlainRun}
 use Rattle.history_check.proofs.FollowPast.{set-each}
-use Rattle.history_check.proofs.OpenStacks.{of-own, of-own-task}
+use Rattle.history_check.proofs.OpenStacks.{of-own}
 
 -- ## items and runs
 
@@ -132,7 +132,7 @@ module _ (job : Job) (past : List Item) (p : Past) (is : IsPast job past p) wher
           (so : after_item job p.done x.run item ≡ cond b (Some new) None) where
         after-is : plain job call.task.0 (item ∷ past) ≡ cond b (Some new) None
         after-is =
-            plain-own job past item call.task.0 x.run (of-own-task item call of) (is.each call.task.0 x at).run
+            plain-own job past item call.task.0 x.run (own-item item call of) (is.each call.task.0 x at).run
             ∙ ap (λ n. after_item job n x.run item) (sym is.done') ∙ so
 
         pub run-told : IsTrue b ↔ KeepsPlainRun job past item

@@ -1,6 +1,6 @@
 -- What a table of a job's desks tells of them.
 use denote.Bor.{Bor}
-use Rattle.std.proofs.Common.{◌≡◌, ℕ, zero, suc, ◌+◌, ◌-◌, ◌≤◌, List, [], ◌∷◌, ◌++◌, length, map, Option, Some, None, get_or, refl, ◌<◌, sym, ap, ◌∙◌, subst, arith}
+use Rattle.std.proofs.Common.{◌≡◌, ℕ, zero, suc, ◌+◌, ◌-◌, ◌≤◌, List, [], ◌∷◌, length, map, Option, Some, None, get_or, refl, ◌<◌, sym, ap, ◌∙◌, subst, arith}
 use Rattle.std.specs.Prelude.{IfSome, option_map, slice_get}
 use Rattle.std.specs.Option.{option_copied}
 use Rattle.std.specs.List.{range_with_len}
@@ -13,22 +13,13 @@ use Rattle.ft_base.specs.declared.number.UserNo.{UserNo}
 use Rattle.ft_base.specs.Job.{Command, Job, Spec, commands, funcs, takes_off}
 use Rattle.ft_base.specs.Desk.{Desk, answer_at, desk, is_allowed, target, unseen, user_at}
 use Rattle.ft_base.proofs.DeskLaws.{length-desk}
+use Rattle.ft_base.proofs.Small.{each-pushed}
 use Rattle.ft_desk.specs.Declarations.{IsOf, bare}
 use Rattle.ft_desk.specs.Seen.{Seen, opened}
 use Rattle.history_check.specs.declared.desks.Row.{Row}
 use Rattle.history_check.specs.TakenOff.{answer_of, taken_off, taken_by}
 use Rattle.history_check.specs.KeptDesks.{AreRowsOf, IsDeskOf, IsRowOf, IsSeenOf, IsSightOf}
 use Rattle.ft_job.proofs.DeskLaws.{desk-past, new-commands, new-state}
-
--- ## lists that grow
-
--- what holds of each element, and of one that is put after them
-pub each-pushed : {A : Type 0} (P : ℕ → A → Type 0) (xs : List A) (x : A) → ((k : ℕ) (y : A) → slice_get xs k ≡ Some y → P k y) → P (length xs) x
-    → (k : ℕ) (y : A) → slice_get (xs ++ x ∷ []) k ≡ Some y → P k y
-each-pushed P [] x all here zero y e = let same : x ≡ y = cc in subst (P 0) same here
-each-pushed P [] x all here (suc k) y e = absurd cc
-each-pushed P (z ∷ xs) x all here zero y e = all zero y e
-each-pushed P (z ∷ xs) x all here (suc k) y e = each-pushed (λ n. P (suc n)) xs x (λ n. all (suc n)) here k y e
 
 -- ## users
 

@@ -1,5 +1,5 @@
 -- What an item leaves of the calls that are kept: all of a call that it says nothing of.
-use Rattle.std.proofs.Common.{cond, ◌≡◌, ℕ, suc, Bool, true, false, ◌==◌, List, [], ◌∷◌, length, Some, refl, sym, ap, ◌∙◌}
+use Rattle.std.proofs.Common.{cond, ◌≡◌, ℕ, suc, Bool, true, false, List, [], ◌∷◌, length, Some, refl, sym, ap, ◌∙◌}
 use Rattle.std.specs.List.{filter, AllByRecursion as Each}
 use Rattle.ft_base.specs.declared.number.CallNo.{CallNo}
 use Rattle.ft_base.specs.declared.item.Item.{Item}
@@ -11,6 +11,7 @@ use Rattle.ft_hist.specs.Past.{is_of}
 use Rattle.ft_hist.specs.Known.{holds}
 use Rattle.ft_hist.proofs.RunLaws.{some_inj}
 use Rattle.ft_hist.proofs.Since.{Untouched, holds-untouched, touches, untouched-item}
+use Rattle.ft_hist.proofs.Laws.{other-task}
 use Rattle.history_check.specs.declared.open_call.OpenCall.{OpenCall}
 use Rattle.history_check.specs.KeptCalls.{AreStacked, IsOpenCall, holding}
 
@@ -24,9 +25,6 @@ touch-other c call (Leave d) is other = ap (λ (y : CallNo). same_call y c) (som
 touch-other c call (Exit d u entry) is other = ap (λ (y : CallNo). same_call y c) (some_inj d call is) ∙ other
 touch-other c call (Ret d to) is other = ap (λ (y : CallNo). same_call y c) (some_inj d call is) ∙ other
 touch-other c call _ is other = refl
-
-other-task : (t : ℕ) (call c : CallNo) → (call.task.0 == t) ≡ false → c.task.0 ≡ t → same_call call c ≡ false
-other-task t call c other own = let x : (call.task.0 == c.task.0) ≡ false = rw own other in rw x refl
 
 -- an item of another task, or of none, says nothing of a task's calls
 pub touch-task : (t : ℕ) (c : CallNo) (item : Item) → is_of t item ≡ false → c.task.0 ≡ t → touches c item ≡ false

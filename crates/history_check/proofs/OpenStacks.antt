@@ -8,7 +8,7 @@ use Rattle.ft_base.specs.declared.item.Item.{Item}
 use Rattle.ft_base.specs.declared.item.Item.TheVariants.{Begin, Return, Enter, Back, BackEnd, Refuse, Miss, Body, Leave, Exit, ExitEnd, Ret}
 use Rattle.ft_base.specs.Items.{call_of, is_task}
 use Rattle.ft_base.specs.Job.{Job}
-use Rattle.ft_base.proofs.Small.{false_true, ==-refl, Each-weaker}
+use Rattle.ft_base.proofs.Small.{false_true, Each-weaker}
 use Rattle.ft_hist.specs.Past.{calls, is_of, is_open}
 use Rattle.ft_hist.specs.Plain.{Frame, PlainTask, plain}
 use Rattle.ft_hist.specs.Telling.{open_calls}
@@ -98,9 +98,6 @@ keeps-of p s (Ret c to) call m is inside = false_true inside
 -- an item is of the task of its call
 pub of-own : (t : ℕ) (item : Item) (call : CallNo) → call_of item ≡ Some call → is_of t item ≡ (call.task.0 == t)
 of-own t item call is = ap (is_task t) is
-
-pub of-own-task : (item : Item) (call : CallNo) → call_of item ≡ Some call → is_of call.task.0 item ≡ true
-of-own-task item call is = of-own call.task.0 item call is ∙ ==-refl call.task.0
 
 -- frames are counted by the numbers of the calls
 pub holding-calls : (job : Job) (past : List Item) (cs : List OpenCall) → holding job past cs ≡ holding_on job past (map call_in cs)

@@ -4,7 +4,7 @@ use Rattle.std.specs.Prelude.{IfSome}
 use Rattle.std.proofs.lemmas.List.{reverse-append, take-append-drop, length-take-le, length-reverse, take_all}
 use Rattle.ft_base.specs.declared.item.Answer.{Answer}
 use Rattle.ft_base.specs.declared.item.Item.{Item}
-use Rattle.ft_base.specs.declared.item.Item.TheVariants.{Begin, Return, Back, Refuse, Body}
+use Rattle.ft_base.specs.declared.item.Item.TheVariants.{Return, Back, Refuse, Body}
 use Rattle.ft_base.specs.Job.{Job}
 use Rattle.ft_base.specs.Desk.{is_accepted}
 use Rattle.ft_hist.specs.Past.{begun, done}
@@ -13,6 +13,7 @@ use Rattle.ft_hist.proofs.Splitting.{past-more}
 use Rattle.history_check.specs.TakenOff.{command_at}
 use Rattle.history_check.specs.Backs.{AreBacksLegal, AreBacksLegalPast, KeepsBacks}
 use Rattle.ft_hist.specs.Telling.{past_at}
+use Rattle.ft_hist.proofs.WindowLaws.{few-done, few-begun}
 
 -- ## places
 
@@ -25,17 +26,6 @@ pub length-past : (items : List Item) (k : ℕ) → k ≤ length items → lengt
 length-past items k within = length-reverse (take k items) ∙ length-take-le k items within
 
 -- ## counts
-
--- each command that has returned or begun is told by an item
-pub few-done : (past : List Item) → done past ≤ length past
-few-done [] = omega arith
-few-done (Return n answer ∷ past) = let h = few-done past in omega (arith, h)
-few-done (_ ∷ past) = let h = few-done past in omega (arith, h)
-
-pub few-begun : (past : List Item) → begun past ≤ length past
-few-begun [] = omega arith
-few-begun (Begin n ∷ past) = let h = few-begun past in omega (arith, h)
-few-begun (_ ∷ past) = let h = few-begun past in omega (arith, h)
 
 -- before a place there are no more returns, and no more beginnings, than its number
 pub done-room : (items : List Item) (k n : ℕ) → n ≡ done (past_at k items) → k < length items → length items < 4294967296 → n + 1 < 4294967296

@@ -15,7 +15,7 @@ use Rattle.word_machine.specs.Cpu.{cpu_next, cpu_start}
 use Rattle.word_machine.specs.Laws.{IsOnWord}
 use Rattle.word_machine.specs.Limits.{IsLimited}
 use Rattle.word_machine.specs.Machine.{World, opening_words, start}
-use Rattle.word_machine_laws.proofs.Limited.{limited as word-job}
+use Rattle.word_machine_laws.proofs.Limited.{limited as word-job, few-commands}
 use Rattle.word_machine_laws.proofs.There.{control-there, cpu-there}
 use Rattle.word_machine_laws.proofs.WordsFit.{start-runs}
 use Rattle.control_core.specs.Seated.{IsOpening, LeadsAll, Seated, control_of}
@@ -34,7 +34,6 @@ use Rattle.live_table.specs.Seats.{Board, ControlPlace, ControlSits, CpuSits, Is
 use Rattle.live_table.specs.Views.{control_view, cpu_view, led_first, order_first, values_of}
 use Rattle.live_table.proofs.ControlStep.{control_place_of}
 use Rattle.live_table.proofs.Opening.{first-limited}
-use Rattle.live_table.proofs.Orders.{commands-few}
 
 -- ## seats
 
@@ -70,7 +69,7 @@ control-first {S} me job led x l is all once knows of' at none = subst (λ (u : 
 lanes-few : (job : Job) → AreLinesPlanned job → length job.lines.lanes ≤ length job.ctls
 lanes-few job planned = elim planned.lanes [
   | inl none ↦ (let e = ap length none in omega (arith, e))
-  | inr has ↦ (let e = has.each in let few = commands-few job.ctls in omega (arith, e, few))
+  | inr has ↦ (let e = has.each in let few = few-commands job.ctls in omega (arith, e, few))
 ]
 
 -- so the lines that are led at first are those of their order

@@ -1,6 +1,6 @@
 -- All seats together: what their actors have marked is the history of which the rule speaks.
 use Rattle.std.proofs.Common.{◌≡◌, ℕ, zero, suc, ◌+◌, ◌*◌, ◌^◌, ◌<◌, ◌≤◌, List, [], ◌∷◌, ◌++◌, length, map, reverse, slice_get, Some, None, refl, sym, ap, ◌∙◌, subst, arith}
-use Rattle.std.proofs.lemmas.List.{length-reverse, reverse-reverse}
+use Rattle.std.proofs.lemmas.List.{length-reverse}
 use Rattle.std.proofs.lemmas.Option.{same_Some}
 use mathlib.Core.Option.{some}
 use lib.ListN.{get_elem?}
@@ -10,7 +10,7 @@ use Rattle.ft_base.specs.declared.turn.Actor.{Actor}
 use Rattle.ft_base.specs.declared.turn.Actor.TheVariants.{Control as ByControl}
 use Rattle.ft_base.specs.Job.{Job, commands}
 use Rattle.ft_hist.specs.Placing.{ArePlaced, past_below, total}
-use Rattle.ft_hist.specs.Rules.{IsLegal, IsLegalPast, IsWhole}
+use Rattle.ft_hist.specs.Rules.{IsLegal, IsWhole}
 use Rattle.user_specs.specs.Bound.{call_bound_in}
 use Rattle.history_bound.specs.Bound.{all_calls}
 use Rattle.history_bound.proofs.Bounded.{history-most}
@@ -21,6 +21,7 @@ use Rattle.word_machine.specs.Cpu.{cpu_next}
 use Rattle.word_machine.specs.Machine.{World}
 use Rattle.word_machine_laws.proofs.Ends.{whole}
 use Rattle.word_machine_laws.proofs.Limited.{few-commands, limited as word-job}
+use Rattle.word_machine_laws.proofs.Room.{legal-turned}
 use Rattle.ft_machine.specs.Fed.{control_fed, control_items, cpu_fed, cpu_items}
 use Rattle.live_table.specs.declared.view.Part.{Part}
 use Rattle.live_table.specs.declared.view.View.{View}
@@ -64,10 +65,6 @@ parts-more [] s = refl
 parts-more (x ∷ xs) s = ap (λ (l : List Part). part (cpu x.number) x.values ∷ l) (parts-more xs s)
 
 -- ## the history
-
-legal-turned : (job : Job) (past : List Item) → IsLegalPast job past → IsLegal job (reverse past)
-unfolding IsLegal
-legal-turned job past l = subst (IsLegalPast job) (sym (reverse-reverse past)) l
 
 -- at any moment
 stands-at : {S : Type 0} {job : Job} {t : State S View} (r : LiveRule job t) → StandsFor (led_at r) t.words r.values r.past

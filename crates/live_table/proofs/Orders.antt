@@ -6,14 +6,9 @@ use Rattle.std.proofs.lemmas.Bool.{cases_eq, eq-eqb}
 use Rattle.std.proofs.lemmas.Cmp.{nat_eq_equiv}
 use Rattle.std.proofs.lemmas.Map.Made.{is_member-filter, length-le_from_is_member}
 use Rattle.ft_base.specs.Job.{Ctl, Run, Until, commands_in}
+use Rattle.ft_base.proofs.Small.{and_both}
 use Rattle.led_jobs.specs.Orders.{AreLed, before_all, picked}
 use Rattle.led_jobs.proofs.Lists.{picked_all}
-
--- no more than there are lines
-pub commands-few : (ctls : List Ctl) → length (commands_in ctls) ≤ length ctls
-commands-few [] = omega arith
-commands-few (Run c ∷ rest) = let few = commands-few rest in omega (arith, few)
-commands-few (Until t n ∷ rest) = let few = commands-few rest in omega (arith, few)
 
 -- a number is one of those below n
 in-range : (n from k : ℕ) → from ≤ k → k < from + n → list_any (eqb k) (range_with_len from n) ≡ true
@@ -26,10 +21,6 @@ in-range (suc n) from k low high = elim (cases_eq k from) [
     or-else : (a b : Bool) → b ≡ true → (a || b) ≡ true
     or-else true b e = refl
     or-else false b e = e
-
-both : (a b : Bool) → (a && b) ≡ true → (a ≡ true) × (b ≡ true)
-both true b e = (refl, e)
-both false b e = absurd (cc)
 
 -- some of a list are as all of it are
 one-kept : (P : ℕ → Type 0) (b : Bool) (x : ℕ) (xs : List ℕ) → P x → Each P xs → Each P (cond b (x ∷ xs) xs)
@@ -80,7 +71,7 @@ module _ (ctls : List Ctl) where
       let all : List ℕ = range_with_len 0 (length ctls) in
       let few = length-le_from_is_member nat_eq_equiv (filter runs order) (filter runs all) (all-distinct runs order led.once)
       (λ k m.
-      let h = both (list_any (eqb k) order) (runs k) (sym (kept order k) ∙ m) in
+      let h = and_both (list_any (eqb k) order) (runs k) (sym (kept order k) ∙ m) in
       let lt = led.within k h.0 in
       let there : list_any (eqb k) all ≡ true = in-range (length ctls) 0 k (omega arith) (omega (arith, lt)) in
       kept all k ∙ (λ i. there i && h.1 i)) in

@@ -19,8 +19,8 @@ use Rattle.word_map.specs.Contents.{returned_at}
 use Rattle.word_map.specs.Ops.{WordOp, Load, Store, Mark}
 use Rattle.word_map.specs.Words.{Want, at_put}
 use Rattle.word_machine.specs.Task.{OpenCall, TaskState, Moment, Polling, First, GotHead, GotBreak, InTramp, Refusing, Calling, Missing, Acting, Ending, Closing, Leaving, Exiting, EndingExit, Returning, begun_act, call_got, call_op, finished, first_got, first_op, is_fetching, stack_got, stack_op, task_got, task_op, task_start, top_of, user_of}
-use Rattle.word_machine.specs.Commands.{Effect, Removes, effect, command}
-use Rattle.word_machine.specs.Control.{Control, Position, Line, Relink, Close, answer_in, control_got, control_next, control_start, line_op, next_in, relink_op}
+use Rattle.word_machine.specs.Commands.{effect, command}
+use Rattle.word_machine.specs.Control.{Control, Position, Line, Relink, Close, answer_in, control_got, control_next, control_start, line_op, next_in}
 use Rattle.word_machine.specs.Cpu.{Cpu, Phase, Going, StoringAck, StoringQuiet, Over, ack_value, any_has_more, cpu_got, cpu_next, cpu_start, first_of, has_more, is_unmet, moved, next_task, phase_got, phase_op, poll_on, polled, polling, present_got, present_op, quiet_in, quiet_next, switched, ticked, with_word}
 use Rattle.word_machine.specs.Limits.{IsLimited}
 use Rattle.word_machine.specs.Rule.{IsOn}
@@ -28,6 +28,7 @@ use Rattle.word_machine.proofs.Small.{if_case, put_case, each-append}
 use Rattle.word_machine_laws.proofs.Limited.{limited as word-job}
 use Rattle.word_machine_laws.proofs.Start.{on-tasks}
 use Rattle.word_machine_laws.proofs.TasksOf.{first-there}
+use Rattle.word_machine_laws.proofs.Marked.{relink-marks}
 use Rattle.control_core.specs.Steps.{marks_in as control_marks_in}
 use Rattle.cpu_core.specs.CpuSteps.{marks_in}
 use Rattle.ft_machine.specs.Fed.{control_items, control_marks, cpu_items, cpu_marks}
@@ -277,10 +278,6 @@ cpu-own job limited c vs = from (cpu_start job c) vs (starts-own job limited c)
         (marks-own job c me w k) (from (cpu_got job me w) ws (got-own job limited c me w k))
 
 -- ## control
-
-relink-marks : (z : Effect) (u : ℕ) (order : List ℕ) (item : Item) → relink_op z u order ≡ Mark item → ⊥
-relink-marks Removes u order item e = absurd cc
-relink-marks _ u order item e = absurd cc
 
 control-mark : (job : Job) (s : Control) (p : Position) (item : Item) → next_in job s p ≡ Some (Mark item) → call_of item ≡ None
 control-mark job s Line item is = by s.remaining is

@@ -1,10 +1,9 @@
 -- What is declared for a CPU of a job: how many tasks, acts and calls.
-use Rattle.std.proofs.Common.{cond, ◌≡◌, ℕ, zero, suc, ◌+◌, ◌*◌, ◌<◌, ◌≤◌, Bool, true, false, ◌==◌, List, [], ◌∷◌, ◌++◌, length, map, get_or, slice_get, sum_by, All, IfOk, Result, Ok, Err, Some, refl, sym, ap, ap₂, ◌∙◌, subst, arith}
+use Rattle.std.proofs.Common.{cond, ◌≡◌, ℕ, zero, suc, ◌+◌, ◌*◌, ◌<◌, ◌≤◌, Bool, true, false, ◌==◌, List, [], ◌∷◌, length, map, get_or, sum_by, All, IfOk, Result, Ok, Err, refl, sym, ap, ap₂, ◌∙◌, subst, arith}
 use Rattle.std.specs.List.{AllByRecursion as Each, filter, range_with_len}
 use Rattle.std.proofs.lemmas.List.Sums.{sum_by-cons}
 use Rattle.std.proofs.lemmas.Nat.{mul-le}
 use Rattle.std.proofs.lemmas.List.{length-map}
-use Rattle.std.proofs.lemmas.Option.{none-some, same_Some}
 use Rattle.ft_base.specs.declared.limits.TheConstants.{GUARD_LEVELS, ACTS, USERS, FRAMES, ITEMS, QUANTUM, TASKS}
 use Rattle.ft_base.proofs.Versions.{few-largest, levels-most}
 use Rattle.machine_core.specs.declared.cpus.CpuRoom.{CpuRoom}
@@ -175,13 +174,3 @@ pub plan-made : {E : Type 0} (p : CpuPlan) (c : ℕ) (specs : List Spec) (limits
     → IfOk r (λ x. (job : Job) → IsPlanOf job p c specs limits shape → IsFirst rooms job c x)
 plan-made p c specs limits shape rooms room (Ok x) e of' marked = λ job is. plan-first job p c specs limits shape is rooms room x (e job is) (of' job) marked
 plan-made p c specs limits shape rooms room (Err y) e of' marked = tt
-
--- ## one CPU after the other
-
--- what is so of each element, and of one more, is so of each
-pub push-each : {A : Type 0} (P : ℕ → A → Type 0) (xs : List A) (x : A) → ((k : ℕ) (y : A) → slice_get xs k ≡ Some y → P k y) → P (length xs) x
-    → (k : ℕ) (y : A) → slice_get (xs ++ x ∷ []) k ≡ Some y → P k y
-push-each P [] x h px zero y e = subst (P 0) (same_Some x y e) px
-push-each P [] x h px (suc k) y e = absurd (none-some y e)
-push-each P (z ∷ zs) x h px zero y e = h zero y e
-push-each P (z ∷ zs) x h px (suc k) y e = push-each (λ i. P (suc i)) zs x (λ i. h (suc i)) px k y e

@@ -1,24 +1,19 @@
 -- Between any two steps the bytes of each call site are whole.
-use Rattle.std.proofs.Common.{◌≡◌, ℕ, suc, ◌+◌, ◌<◌, ◌%◌, ◌∷◌, inl, inr, refl, ap, ◌∙◌, arith}
+use Rattle.std.proofs.Common.{◌≡◌, ℕ, ◌<◌, ◌%◌, ◌∷◌, inl, inr, refl, ap, ◌∙◌}
 use Rattle.ft_base.specs.Desk.{desk, target}
 use Rattle.ft_base.specs.Job.{Job, funcs}
+use Rattle.control_core.proofs.ChangedSites.{insn-numbered_back}
 use Rattle.ft_hist.specs.Past.{done, begun}
 use Rattle.site_bytes.specs.Bytes.{bytes_of, four_bytes, head_byte, tail_number}
 use Rattle.site_bytes.specs.declared.insn.Insn.{Insn}
 use Rattle.site_bytes.specs.declared.insn.Insn.TheVariants.{Nop, List as CallList, Own}
-use Rattle.word_map.specs.Instructions.{insn_at, insn_numbered, insn_of, number_of}
+use Rattle.word_map.specs.Instructions.{insn_at, insn_of}
 use Rattle.word_machine.specs.Commands.{insn}
 use Rattle.word_machine.specs.Laws.{HasTarget, IsSettled, Runs}
 use Rattle.word_machine.specs.Limits.{IsLimited}
 use Rattle.word_machine.specs.Machine.{World}
 use Rattle.word_machine_laws.proofs.Settled.{settled}
 use Rattle.machine_core.specs.Sites.{IsWhole, site_of, site_on}
-
--- an instruction is the one of its number
-numbered : (i : Insn) → insn_numbered (number_of i) ≡ i
-numbered Nop = refl
-numbered CallList = refl
-numbered (Own s) = let e : 2 + s ≡ suc (suc s) = omega arith in ap insn_numbered e
 
 -- its head and its tail are its bytes
 bytes-are : (f : ℕ) (i : Insn) → head_byte i % 256 ∷ four_bytes (tail_number f i) ≡ bytes_of f i
@@ -33,7 +28,7 @@ module _ (job : Job) (s : World) (f : ℕ) where
   target-bytes k h =
       let i : Insn = insn_of (desk job k) (target (desk job k) f) in
       (λ j. h.0 j % 256 ∷ four_bytes (h.1 j))
-      ∙ ap (λ (x : Insn). head_byte x % 256 ∷ four_bytes (tail_number f x)) (numbered i)
+      ∙ ap (λ (x : Insn). head_byte x % 256 ∷ four_bytes (tail_number f x)) (insn-numbered_back i)
       ∙ bytes-are f i
 
   whole-by : IsSettled job s f → IsWhole job s.past f (site_of s.words f)

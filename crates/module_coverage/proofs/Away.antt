@@ -11,6 +11,7 @@ use Rattle.script_waits.specs.Greedy.{IsLeast}
 use Rattle.module_coverage.specs.declared.change.Change.{Change}
 use Rattle.module_coverage.specs.Plan.{ModulePlan, is_of, loaded_by, is_loaded_in}
 use Rattle.module_coverage.specs.Histories.{absence, lists, Keeps}
+use Rattle.ft_base.proofs.Small.{and_both}
 
 -- no change counts before its time
 still : (k : ℕ) (was : Bool) (cs : List Change) → ((j : ℕ) (d : Change) → j < length cs → k < (get_or cs j d).at) → loaded_by k was cs ≡ was
@@ -82,10 +83,6 @@ module _ (plan : ModulePlan) (owners : List (Option ℕ)) (histories : List (Lis
 
 -- ## the search for the first number of commands
 
-and-true : (a b : Bool) → (a && b) ≡ true → (a ≡ true) × (b ≡ true)
-and-true true b e = (refl, e)
-and-true false b e = absurd (true≢false (sym e))
-
 and-right : (a b : Bool) → b ≡ true → (a && b) ≡ a
 and-right true b e = e
 and-right false b e = refl
@@ -105,7 +102,7 @@ module _ (history : List Change) (i : ℕ) (d : Change) (from since : ℕ) (load
   pub away-found : (not loaded && nat_lt since (get_or history i d).at) ≡ true → IsNonDecreasingBy (λ (x : Change). x.at) history
       → IsLeast (λ k. (from ≤ k) × (loaded_by k true history ≡ false)) (Some since)
   away-found away ordered =
-      let both = and-true (not loaded) (nat_lt since (get_or history i d).at) away in
+      let both = and_both (not loaded) (nat_lt since (get_or history i d).at) away in
       let gone : loaded ≡ false = not-true loaded both.0 in
       let later : since < (get_or history i d).at = ltb-true since (get_or history i d).at both.1 in
       let here : loaded_by since true history ≡ false = rest since (omega arith) ∙ still-rest since loaded history i d ordered inside later ∙ gone in (

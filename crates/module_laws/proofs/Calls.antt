@@ -10,13 +10,13 @@ use Rattle.ft_base.specs.declared.item.Item.TheVariants.{Enter, Body}
 use Rattle.ft_base.specs.Items.{call_of}
 use Rattle.ft_base.specs.Job.{Job}
 use Rattle.ft_base.specs.Desk.{spec_at, plain_spec}
-use Rattle.ft_base.proofs.Small.{==-refl, each-get}
+use Rattle.ft_base.proofs.Small.{each-get}
 use Rattle.ft_hist.specs.Past.{is_of, done, begun, Entered, entry_of, Visit, visits}
 use Rattle.ft_hist.specs.Plain.{PlainTask, Frame, plain, after_next, at_start}
 use Rattle.ft_hist.specs.Rules.{IsLegal, IsLegalPast, acts_passed, replacement, backs_with_replacement}
 use Rattle.ft_hist.specs.Finished.{acts_done}
 use Rattle.ft_hist.proofs.Finishing.{passed-is}
-use Rattle.ft_hist.proofs.Laws.{entry_of-enter}
+use Rattle.ft_hist.proofs.Laws.{entry_of-enter, own-item}
 use Rattle.ft_hist.proofs.Numbers.{enters-fresh, some-run}
 use Rattle.ft_hist.proofs.RunLaws.{some_inj, calls_on, sound}
 use Rattle.ft_hist.proofs.Splitting.{splits}
@@ -72,9 +72,6 @@ module _ (job : Job) (apart : AreActsApart job) where
               going-later job t (named (item ∷ past)) (done past) (done (item ∷ past)) s (done-more item past)
               (goes job t (done past) (named (item ∷ past)) apart p s (renamed t item past p l here (before p here)) item own (enter-named item past) y).0
       by false other x before = going-later job t (named (item ∷ past)) (done past) (done (item ∷ past)) s (done-more item past) (renamed t item past s l x (before s x))
-
-  own-item : (item : Item) (call : CallNo) → call_of item ≡ Some call → is_of call.task.0 item ≡ true
-  own-item item call is = rw is (==-refl call.task.0)
 
   claims : (item : Item) (past : List Item) (call : CallNo) → IsLegalPast job (item ∷ past) → call_of item ≡ Some call
       → Claims job call.task.0 (done past) (acts_done job call.task.0 past) (named (item ∷ past) call)

@@ -1,19 +1,17 @@
 -- A command begins only when the waits before it are met: so no more commands have begun than stand above control's first wait for
 -- more acts than a task has done.
 use Rattle.std.proofs.Common.{cond, ◌≡◌, ℕ, zero, suc, ◌+◌, ◌<◌, ◌≤◌, Bool, true, false, ◌&&◌, ◌==◌, List, [], ◌∷◌, length, Option, refl, ap, ◌∙◌, subst, arith, eqb-true, nat_le, leb-true}
-use Rattle.std.specs.Prelude.{get_or, IfSome}
+use Rattle.std.specs.Prelude.{IfSome}
 use Rattle.std.specs.List.{AllByRecursion as Each}
 use Rattle.ft_base.specs.declared.item.Item.{Item}
-use Rattle.ft_base.specs.declared.item.Item.TheVariants.{Begin, Body, Ret}
-use Rattle.ft_base.specs.declared.task.TaskAct.{TaskAct}
-use Rattle.ft_base.specs.declared.task.TaskAct.TheVariants.{Call, Ret as RetAct, Raise, Lower, After}
-use Rattle.ft_base.specs.Job.{Job, Ctl, Run, Until, commands_in, no_task}
+use Rattle.ft_base.specs.declared.item.Item.TheVariants.{Begin}
+use Rattle.ft_base.specs.Job.{Job, Ctl, Run, Until, commands_in}
 use Rattle.ft_base.proofs.Small.{and_both, Each-weaker}
 use Rattle.ft_hist.specs.Past.{begun}
 use Rattle.ft_hist.specs.Plain.{PlainTask, plain}
 use Rattle.ft_hist.specs.Rules.{IsLegalPast, HasWaited, acts_passed, waits_before}
-use Rattle.ft_hist.specs.Finished.{acts_done, finished, is_scripted, longest_with}
-use Rattle.ft_hist.proofs.Finishing.{passed-is}
+use Rattle.ft_hist.specs.Finished.{acts_done}
+use Rattle.ft_hist.proofs.Finishing.{passed-is, acts_done-more}
 use Rattle.ft_hist.proofs.Numbers.{some-run}
 use Rattle.module_coverage.specs.Covered.{commands_until}
 
@@ -45,31 +43,7 @@ until-after t n k (suc b) (Run c ∷ ctls) waits lt = let le = until-after t n (
 
 -- ## the acts that a task has done
 
-longest-more : (acts : List TaskAct) (n m : ℕ) → n ≤ m → longest_with acts n ≤ longest_with acts m
-longest-more [] n m le = omega arith
-longest-more (Call f ∷ acts) zero m le = omega arith
-longest-more (Call f ∷ acts) (suc n) zero le = absurd (omega (arith, le))
-longest-more (Call f ∷ acts) (suc n) (suc m) le = let more = longest-more acts n m (omega (arith, le)) in omega (arith, more)
-longest-more (RetAct ∷ acts) zero m le = omega arith
-longest-more (RetAct ∷ acts) (suc n) zero le = absurd (omega (arith, le))
-longest-more (RetAct ∷ acts) (suc n) (suc m) le = let more = longest-more acts n m (omega (arith, le)) in omega (arith, more)
-longest-more (Raise c ∷ acts) n m le = let more = longest-more acts n m le in omega (arith, more)
-longest-more (Lower ∷ acts) n m le = let more = longest-more acts n m le in omega (arith, more)
-longest-more (After k ∷ acts) n m le = let more = longest-more acts n m le in omega (arith, more)
-
-one-more : (b : Bool) (n : ℕ) → n ≤ cond b (suc n) n
-one-more true n = omega arith
-one-more false n = omega arith
-
-finished-more : (t : ℕ) (item : Item) (past : List Item) → finished t past ≤ finished t (item ∷ past)
-finished-more t (Body c g ran) past = one-more ((c.task.0 == t) && is_scripted c past) (finished t past)
-finished-more t (Ret c to) past = one-more ((c.task.0 == t) && is_scripted c past) (finished t past)
-finished-more t _ past = omega arith
-
 module _ (job : Job) (t : ℕ) where
-  done-more : (item : Item) (past : List Item) → acts_done job t past ≤ acts_done job t (item ∷ past)
-  done-more item past = longest-more (get_or job.tasks t no_task).acts (finished t past) (finished t (item ∷ past)) (finished-more t item past)
-
   -- the waits that are met before a command are for no more acts than the task has done
   waits-few : (n : ℕ) (past : List Item) → IsLegalPast job past → acts_done job t past < n → HasWaited job past → Each (λ w. w.0 ≡ t → w.1 < n) (waits_before (begun past) job.ctls)
   waits-few n past l lt h = Each-weaker (λ (w : ℕ × ℕ). IfSome (plain job w.0 past) (λ s. w.1 ≤ acts_passed s)) (λ (w : ℕ × ℕ). w.0 ≡ t → w.1 < n) (waits_before (begun past) job.ctls) one h
@@ -85,4 +59,4 @@ module _ (job : Job) (t : ℕ) where
   unfolding IsLegalPast
   begun-few [] l n lt = omega arith
   begun-few (Begin k ∷ past) l n lt = let le = until-after t n 0 (begun past) job.ctls (waits-few n past l.1 lt l.0.rule.1) l.0.rule.0.stands in omega (arith, le)
-  begun-few (item ∷ past) l n lt = let more = done-more item past in begun-few past l.1 n (omega (arith, more, lt))
+  begun-few (item ∷ past) l n lt = let more = acts_done-more job t item past in begun-few past l.1 n (omega (arith, more, lt))

@@ -1,22 +1,17 @@
 -- What holds between lines holds after a load or an unload.
-use Rattle.std.proofs.Common.{◌≡◌, ℕ, zero, suc, ◌+◌, ◌<◌, Bool, true, false, ◌&&◌, List, [], ◌∷◌, ◌++◌, length, get_or, set, Option, Some, None, is_some, refl, sym, ap, ◌∙◌, subst, arith}
+use Rattle.std.proofs.Common.{◌≡◌, ℕ, suc, ◌+◌, ◌<◌, Bool, true, false, ◌&&◌, List, [], ◌∷◌, ◌++◌, length, get_or, set, Option, Some, None, is_some, refl, sym, ap, ◌∙◌, subst, arith}
 use Rattle.ft_base.specs.declared.item.Answer.TheVariants.{Accepted}
 use Rattle.ft_base.specs.Marks.{Marks, holds, is_empty, union}
 use Rattle.ft_base.specs.Job.{Job, Command, MaxDepth}
-use Rattle.ft_base.specs.Desk.{Desk, UserState, unseen, user_at, spec_at, is_matching, matches_by, is_accepted, lowest, busy_or, after}
+use Rattle.ft_base.specs.Desk.{Desk, UserState, user_at, spec_at, is_matching, matches_by, is_accepted, lowest, busy_or, after}
 use Rattle.ft_base.proofs.Small.{false_true, and_both}
+use Rattle.ft_base.proofs.Modifiers.{registered-within}
 use Rattle.ft_desk.specs.Declarations.{job_of}
 use Rattle.module_table.specs.Lines.{Between, own_of, hidden, hidden_now, masks_from, desk_after, replaces, clash, holder_of, holder_at}
 use Rattle.module_table.specs.Reached.{IsReached, IsSafe, is_replaced, moving, moved, kept_back}
 use Rattle.module_table.proofs.LowestLaws.{lowest-some, lowest-none, two-apart}
 use Rattle.module_table.proofs.HiddenLaws.{holds-hidden, length-hidden, hidden-load, hidden-unload, matches-fewer, union-fewer}
 use Rattle.module_table.proofs.MaskLaws.{IsUnderway, IsMasked, masks-run, with_notrace}
-
--- a user that is registered is one of the users
-pub within : (us : List UserState) (v : ℕ) → (get_or us v (unseen 0)).registered ≡ true → v < length us
-within [] v e = false_true e
-within (x ∷ us) zero e = omega arith
-within (x ∷ us) (suc v) e = let l = within us v e in omega arith
 
 -- setting the depth is the last that is done
 pub depth-last : (job : Job) (desk : Desk) (k x : ℕ) (cs : List Command) → desk_after job desk k (cs ++ MaxDepth x ∷ []) ≡ record (desk_after job desk k cs) { depth = x }
@@ -69,7 +64,7 @@ module _ (b : Between) (is : IsReached b) (loaded : List Bool) (safe : IsSafe b 
   bound-within : (u : ℕ) → ((user_at now u).registered && is_some (spec_at (job_of b.declared) u).ipmodify) ≡ true → u < length b.declared.specs
   bound-within u e =
       let r = and_both (user_at now u).registered (is_some (spec_at (job_of b.declared) u).ipmodify) e in
-      let l = within now.users u r.0 in
+      let l = registered-within now.users u r.0 in
       let s = run.users in
       let t = is.users in
       omega arith
@@ -113,7 +108,7 @@ module _ (b : Between) (is : IsReached b) where
   replaces-within h f u e =
       let a = and_both ((user_at b.desk u).registered && is_some (spec_at (job_of b.declared) u).ipmodify) (matches_by (user_at b.desk u).filter (union (own_of b u) h) f) e in
       let r = and_both (user_at b.desk u).registered (is_some (spec_at (job_of b.declared) u).ipmodify) a.0 in
-      let l = within b.desk.users u r.0 in
+      let l = registered-within b.desk.users u r.0 in
       let s = is.users in
       omega arith
 

@@ -10,6 +10,7 @@ use Rattle.std.proofs.lemmas.Slice.Eq.{bytes_eq-Decides}
 use Rattle.ft_base.specs.Job.{Func}
 use Rattle.module_table.specs.Made.{noted}
 use Rattle.func_table.specs.Modules.{modules_in, with_module, number_among}
+use Rattle.func_table.proofs.RowLemmas.{same-name}
 
 -- ## a new name goes last
 
@@ -17,9 +18,6 @@ use Rattle.func_table.specs.Modules.{modules_in, with_module, number_among}
 abbrev pub noted_if : List (List ℕ) → Option (List ℕ) → List (List ℕ)
 noted_if names None = names
 noted_if names (Some name) = noted names name
-
-same-bytes : (a b : List ℕ) → bytes_eq a b ≡ true → a ≡ b
-same-bytes a b e = (bytes_eq-Decides a b).0 e
 
 bytes-same : (a : List ℕ) → bytes_eq a a ≡ true
 bytes-same a = (bytes_eq-Decides a a).1 refl
@@ -31,8 +29,8 @@ bytes-turned a b = by (bytes_eq a b) (bytes_eq b a) refl refl
     by : (x y : Bool) → bytes_eq a b ≡ x → bytes_eq b a ≡ y → x ≡ y
     by true true p q = refl
     by false false p q = refl
-    by true false p q = sym (ap (λ c. bytes_eq b c) (same-bytes a b p) ∙ bytes-same b) ∙ q
-    by false true p q = sym p ∙ ap (λ c. bytes_eq a c) (same-bytes b a q) ∙ bytes-same a
+    by true false p q = sym (ap (λ c. bytes_eq b c) (same-name a b p) ∙ bytes-same b) ∙ q
+    by false true p q = sym p ∙ ap (λ c. bytes_eq a c) (same-name b a q) ∙ bytes-same a
 
 filter-push : (p : List ℕ → Bool) (xs : List (List ℕ)) (x : List ℕ) → filter p (xs ++ x ∷ []) ≡ cond (p x) (filter p xs ++ x ∷ []) (filter p xs)
 filter-push p [] x = refl
@@ -51,7 +49,7 @@ any-filter name other [] e = refl
 any-filter name other (x ∷ xs) e = by (bytes_eq name x) refl (any-filter name other xs e)
   where
     differs : bytes_eq name x ≡ true → bytes_eq other x ≡ false
-    differs h = ap (λ y. bytes_eq other y) (sym (same-bytes name x h)) ∙ bytes-turned other name ∙ e
+    differs h = ap (λ y. bytes_eq other y) (sym (same-name name x h)) ∙ bytes-turned other name ∙ e
 
     by : (a : Bool) → bytes_eq name x ≡ a → list_any (bytes_eq other) (filter (λ x. not (bytes_eq name x)) xs) ≡ list_any (bytes_eq other) xs
         → list_any (bytes_eq other) (cond (not a) (x ∷ filter (λ x. not (bytes_eq name x)) xs) (filter (λ x. not (bytes_eq name x)) xs)) ≡ list_any (bytes_eq other) (x ∷ xs)

@@ -8,6 +8,7 @@ use Rattle.ft_base.specs.Marks.{Marks, holds, union, empty}
 use Rattle.ft_base.specs.Job.{Spec, Func, MaxDepth, funcs}
 use Rattle.ft_base.specs.Desk.{Desk, UserState, unseen, user_at, spec_at, is_matching, matches_by, is_accepted, opening}
 use Rattle.ft_base.proofs.Small.{false_true, and_both}
+use Rattle.ft_base.proofs.Modifiers.{registered-within}
 use Rattle.ft_desk.specs.Declarations.{Declared, job_of}
 use Rattle.ft_desk.proofs.ClaimLaws.{funcs-is}
 use Rattle.site_set.proofs.MarksLemmas.{length-empty, holds-empty, length-union, holds-union, same_members}
@@ -16,7 +17,7 @@ use Rattle.module_table.specs.Lines.{Between, Line, Plain, Load, Unload, own_of,
 use Rattle.module_table.specs.Reached.{IsReached, IsLineIn, HidesFunctions}
 use Rattle.module_table.proofs.HiddenLaws.{holds-hidden, length-hidden, matches-union}
 use Rattle.module_table.proofs.MaskLaws.{IsUnderway, IsMasked, masks-run, with_notrace}
-use Rattle.module_table.proofs.MovedLaws.{within, safe-load, safe-unload, reached-moved, reached-kept}
+use Rattle.module_table.proofs.MovedLaws.{safe-load, safe-unload, reached-moved, reached-kept}
 use Rattle.module_table.proofs.CommandLaws.{reached-command}
 
 -- ## the opening
@@ -80,7 +81,7 @@ module _ (d : Declared) where
 
     now-off : (u : ℕ) → (user_at now u).registered ≡ true → {A : Type 0} → A
     now-off u e {A} =
-        let l = within now.users u e in
+        let l = registered-within now.users u e in
         let s = run.users in
         let t : length fresh.users ≡ n = length-map d.specs (λ s. unseen (funcs (job_of d))) in
         false_true (ap (λ (s : UserState). s.registered) (sym (user-now u (omega arith))) ∙ e)

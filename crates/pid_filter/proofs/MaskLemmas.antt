@@ -8,6 +8,7 @@ use Rattle.std.proofs.lemmas.List.Folds.{list_any_at}
 use Rattle.std.proofs.lemmas.List.FromFn.{length-map-range_with_len, get_or-map-range_with_len}
 use Rattle.std.proofs.lemmas.Nat.Bits.{bit_at-lt, bit_at-zero, bit_at_and, bit_at_not, bit_at_ones, bit_at_ones_above, same_from_bits}
 use Rattle.ft_base.specs.Marks.{Marks, holds, empty, is_empty}
+use Rattle.ft_base.proofs.Bits.{tests_and_not}
 use Rattle.pid_filter.specs.Lists.{tasks_in, allows}
 
 -- ## the empty set
@@ -102,18 +103,11 @@ module _ (n m a l : ℕ) (all : a ≡ 2 ^ n - 1) (listed : IsListed m a l) where
 
 -- ## less the tasks of the other list
 
-both_bits : (a b : ℕ) → a < 2 → b < 2 → (min a (1 - b) == 1) ≡ ((a == 1) && not (b == 1))
-both_bits zero b h k = let e : min 0 (1 - b) ≡ 0 = omega arith in ap (λ a. a == 1) e
-both_bits (suc zero) zero h k = refl
-both_bits (suc zero) (suc zero) h k = refl
-both_bits (suc zero) (suc (suc b)) h k = absurd (omega arith)
-both_bits (suc (suc a)) b h k = absurd (omega arith)
-
 module _ (n m k a l : ℕ) (fits : k < 2 ^ 64) (few : n ≤ 64) (all : a ≡ 2 ^ n - 1) (listed : IsListed m a l) where
   pub bit-allowed : (t : ℕ) → t < n → (bit_at (bit_and l (2 ^ 64 - 1 - k)) t == 1) ≡ allows (record { pids = tasks_in n m; nopids = tasks_in n k }) t
   bit-allowed t h =
       ap (λ b. b == 1) (bit_at_and l (2 ^ 64 - 1 - k) t ∙ ap (min (bit_at l t)) (bit_at_not w64 k t fits (omega arith)))
-      ∙ both_bits (bit_at l t) (bit_at k t) (bit_at-lt l t) (bit_at-lt k t)
+      ∙ tests_and_not (bit_at l t) (bit_at k t) (bit_at-lt l t) (bit_at-lt k t)
       ∙ ap₂ (λ b d. b && not d) (listed-inside n m a l all listed t h) (sym (holds-tasks_in n k t h))
 
   pub bit-none : (t : ℕ) → n ≤ t → bit_at (bit_and l (2 ^ 64 - 1 - k)) t ≡ 0

@@ -23,7 +23,7 @@ use Rattle.ft_hist.specs.Past.{done, is_of}
 use Rattle.ft_hist.specs.Plain.{plain, after_item, after_next, PlainTask, Frame, Phase, Owed, Dispatch as InDispatch, InBack, Running, Leaving, InExit, Ahead, on_call, on_top, in_phase, after_back, after_back_end, after_miss, after_refusal, after_body, after_leave, after_leave_ahead, after_scripted_leave, after_exit, after_exit_end, after_ret, after_enter, after_enter_ahead, after_owed_enter, after_scripted_enter, ahead, owed_by, below_top, top_call, same_top}
 use Rattle.ft_hist.specs.Rules.{IsLegal}
 use Rattle.ft_hist.proofs.Numbers.{some-run}
-use Rattle.ft_hist.proofs.Nesting.{same_top-eq}
+use Rattle.ft_hist.proofs.Nesting.{same_top-eq, top-of-frames}
 use Rattle.ft_hist.proofs.RunLaws.{calls_on, if_some, some_inj, same_call-eq}
 use Rattle.plain_grammar.specs.Grammar.{Stamped, at, items_of, top_of, call_in, Exits, no_exit, one_exit, Return, returns, no_try, one_try, refused, called, missed, ActOf, no_act, no_interrupt, by_call, by_interrupt, Dispatch, dispatch, Run, call, ret, raise, lower, after, IsRunOf}
 use Rattle.plain_grammar.proofs.Rest.{ToBody, ToRet, ToExitEnd, Owing, ToBackEnd, InCallback, InBody, InPhase, RestOf, ends}
@@ -37,10 +37,6 @@ IsQuiet (f ∷ below) = (f.scripted ≡ true) × (f.phase ≡ Running)
 abbrev pub IsSettled : List Frame → Type 0
 IsSettled [] = Unit {0}
 IsSettled (f ∷ below) = (f.scripted ≡ true → IsQuiet below) × IsSettled below
-
-top-frames : (fs : List Frame) → top_call fs ≡ top_of (calls_on fs)
-top-frames [] = refl
-top-frames (f ∷ fs) = refl
 
 module _ (job : Job) (t : ℕ) where
   -- what is to come for a task
@@ -284,7 +280,7 @@ module _ (job : Job) (t : ℕ) where
     leaves-script f below set scripted (RetAct ∷ rest) xs m e =
         subst (λ (z : PlainTask). IsSettled z.stack × ((items : List Stamped) → Rest z items → Run job t (RetAct ∷ rest) xs (f.call ∷ calls_on below) n (at k (Leave f.call) ∷ items)))
         (some_inj _ s' e)
-        (set, λ items h. ret (returns (subst (λ (o : Option CallNo). Exits f.call items (at h.returned (Ret f.call o) ∷ h.rest)) (top-frames below) h.exits)) (quiet-run rest xs below n h.rest (set.0 scripted) h.goes_on))
+        (set, λ items h. ret (returns (subst (λ (o : Option CallNo). Exits f.call items (at h.returned (Ret f.call o) ∷ h.rest)) (top-of-frames below) h.exits)) (quiet-run rest xs below n h.rest (set.0 scripted) h.goes_on))
     leaves-script f below set scripted [] xs m e = absurd cc
     leaves-script f below set scripted (Call g ∷ rest) xs m e = absurd cc
     leaves-script f below set scripted (Raise c ∷ rest) xs m e = absurd cc
@@ -337,7 +333,7 @@ module _ (job : Job) (t : ℕ) where
         let both = and_both (g.0 == f.0) (same_ctx x (context xs)) y.0 in
         subst (λ (z : PlainTask). IsSettled z.stack × ((items : List Stamped) → Rest z items → Run job t (Call g ∷ rest) xs (calls_on stack) n (at k (Enter c x f caller) ∷ items)))
         (some_inj _ s' y.1)
-        ((λ _. quiet, set), λ items h. makes-run rest xs (calls_on stack) g c x f caller ec (sym (same_ctx-eq x (context xs) both.1)) (func-of g f both.0) (sym (eo ∙ top-frames stack)) items h)
+        ((λ _. quiet, set), λ items h. makes-run rest xs (calls_on stack) g c x f caller ec (sym (same_ctx-eq x (context xs) both.1)) (func-of g f both.0) (sym (eo ∙ top-of-frames stack)) items h)
     enters-script stack c x f caller ec eo set quiet [] xs m e = absurd cc
     enters-script stack c x f caller ec eo set quiet (RetAct ∷ rest) xs m e = absurd cc
     enters-script stack c x f caller ec eo set quiet (Raise w ∷ rest) xs m e = absurd cc

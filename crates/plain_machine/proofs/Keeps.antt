@@ -1,9 +1,9 @@
 -- The other rows, the steps, and the law: every history is legal, and whole where all are at their ends.
-use Rattle.std.proofs.Common.{cond, ◌≡◌, ℕ, zero, suc, ◌+◌, ◌<◌, ◌≤◌, Bool, true, false, not, ◌||◌, nat_le, List, [], ◌∷◌, ◌++◌, length, get_or, set, map, reverse, Option, Some, None, IsSome, IfSome, refl, sym, ap, ◌∙◌, subst, arith, leb-true}
+use Rattle.std.proofs.Common.{cond, ◌≡◌, ℕ, zero, suc, ◌+◌, ◌<◌, ◌≤◌, Bool, true, false, not, ◌||◌, nat_le, List, [], ◌∷◌, ◌++◌, length, get_or, set, reverse, Option, Some, None, IsSome, IfSome, refl, sym, ap, ◌∙◌, subst, arith, leb-true}
 use Rattle.std.specs.Prelude.{slice_get}
 use Rattle.std.proofs.lemmas.Option.{slice_get_within}
 use Rattle.std.proofs.lemmas.List.{reverse-reverse}
-use Rattle.std.specs.List.{list_any, AllByRecursion as Each}
+use Rattle.std.specs.List.{list_any}
 use Rattle.ft_base.specs.declared.number.CallNo.{CallNo}
 use Rattle.ft_base.specs.declared.context.Ctx.{Ctx}
 use Rattle.ft_base.specs.declared.item.Item.{Item}
@@ -11,15 +11,15 @@ use Rattle.ft_base.specs.declared.item.Item.TheVariants.{Begin, Return, Leave, R
 use Rattle.ft_base.specs.declared.item.Answer.{Answer}
 use Rattle.ft_base.specs.declared.task.TaskAct.{TaskAct}
 use Rattle.ft_base.specs.declared.task.TaskAct.TheVariants.{Call, Ret as RetAct, Raise, Lower, After}
-use Rattle.ft_base.specs.Job.{Job, Task, Spec, Command, Unregister, Disable, commands, commands_in, Ctl, Run, Until, funcs, no_task}
-use Rattle.ft_base.specs.Desk.{desk, answer_on, unseen}
+use Rattle.ft_base.specs.Job.{Job, Task, Command, Unregister, Disable, commands, commands_in, Ctl, Run, Until, funcs, no_task}
+use Rattle.ft_base.specs.Desk.{desk, answer_on}
 use Rattle.ft_base.proofs.DeskLaws.{length-desk, desk-suc}
 use Rattle.ft_base.specs.declared.turn.Actor.{Actor}
 use Rattle.ft_base.specs.declared.turn.Actor.TheVariants.{Control, Cpu}
 use Rattle.ft_base.specs.WellFormed.{IsWellFormed, IsNamed, IsScript}
-use Rattle.ft_base.proofs.Small.{false_true, Each-weaker, Each-snoc, or-false_both, and_both, each-get}
+use Rattle.ft_base.proofs.Small.{false_true, Each-weaker, Each-snoc, or-false_both, and_both, each-get, each-all}
 use Rattle.ft_base.proofs.Order.{after_command}
-use Rattle.ft_base.proofs.Modifiers.{named-at}
+use Rattle.ft_base.proofs.Modifiers.{named-at, start-registered, start-since}
 use Rattle.ft_hist.specs.Past.{done, begun, visits}
 use Rattle.ft_hist.specs.Plain.{plain, after_item, PlainTask, Frame, Running, Leaving, ahead, Ahead, top_call, below_top, in_phase, at_start}
 use Rattle.ft_hist.specs.Rules.{IsLegal, IsWhole, HasEnded, IsLegalPast, MayFollow, IsStill, acts_passed, waits_before, HasWaited}
@@ -273,10 +273,6 @@ module _ (job : Job) (is : IsWellFormed job) where
       untouched s b c = untouched-trans job c s.past (Begin (suc s.commands_done) ∷ s.past) (Return (suc s.commands_done) b ∷ Begin (suc s.commands_done) ∷ s.past)
           (untouched-item job c s.past (Begin (suc s.commands_done)) refl) (untouched-item job c (Begin (suc s.commands_done) ∷ s.past) (Return (suc s.commands_done) b) refl)
 
-      each-all : {X : Type 0} (P : X → Type 0) (xs : List X) → ((x : X) → P x) → Each P xs
-      each-all P [] f = tt
-      each-all P (x ∷ xs) f = (f x, each-all P xs f)
-
       task_after : (s : State) (t : ℕ) (b : Answer) → TaskOk job s.past t (task_at s t) → TaskOk job (Return (suc s.commands_done) b ∷ Begin (suc s.commands_done) ∷ s.past) t (task_at s t)
       task_after s t b ok = record {
         run = record {
@@ -343,16 +339,6 @@ module _ (job : Job) (is : IsWellFormed job) where
   tasks-start (t ∷ ts) n (suc i) e = let s : suc n + i ≡ n + suc i = omega arith in
       tasks-start ts (suc n) i (e ∙ ap (λ m. (get_or job.tasks m no_task).acts) (sym s)) ∙ ap (λ m. (let x : TaskState = record { run = at_start job m; frames = [] } in x)) s
 
-  start-registered : (us : List Spec) (u : ℕ) → (get_or (map (λ s. unseen (funcs job)) us) u (unseen 0)).registered ≡ false
-  start-registered [] u = refl
-  start-registered (x ∷ us) zero = refl
-  start-registered (x ∷ us) (suc u) = start-registered us u
-
-  start-since : (us : List Spec) (u : ℕ) → (get_or (map (λ s. unseen (funcs job)) us) u (unseen 0)).since ≡ 0
-  start-since [] u = refl
-  start-since (x ∷ us) zero = refl
-  start-since (x ∷ us) (suc u) = start-since us u
-
   task-start : (t : ℕ) → TaskOk job [] t (record { run = at_start job t; frames = [] })
   unfolding plain
   task-start t = record {
@@ -374,7 +360,7 @@ module _ (job : Job) (is : IsWellFormed job) where
     still = refl;
     misses = λ t. refl;
     tasks = λ t. rw (tasks-start job.tasks 0 t (ap (λ m. (get_or job.tasks m no_task).acts) (sym (zero-plus t))), zero-plus t) (task-start t);
-    order = record { members = λ u. sym (start-registered job.users u); falling = tt; recent = λ u. rw (start-since job.users u) (omega arith) };
+    order = record { members = λ u. sym (start-registered (funcs job) job.users u); falling = tt; recent = λ u. rw (start-since (funcs job) job.users u) (omega arith) };
     control = record { waits = []; met = tt; before = λ n. ap (λ m. waits_before m job.ctls) (zero-plus n); most = omega arith; commands = λ n. ap (λ m. slice_get (commands job) m) (zero-plus n) };
   }
 

@@ -47,13 +47,6 @@ map-at f [] c x d e = absurd (none-some x e)
 map-at f (y ∷ ys) zero x d e = ap f (same_Some y x e)
 map-at f (y ∷ ys) (suc c) x d e = map-at f ys c x d e
 
-pub push-each : {A : Type 0} (P : ℕ → A → Type 0) (xs : List A) (x : A) → ((k : ℕ) (y : A) → slice_get xs k ≡ Some y → P k y) → P (length xs) x
-    → (k : ℕ) (y : A) → slice_get (xs ++ x ∷ []) k ≡ Some y → P k y
-push-each P [] x h px zero y e = subst (P 0) (same_Some x y e) px
-push-each P [] x h px (suc k) y e = absurd (none-some y e)
-push-each P (z ∷ zs) x h px zero y e = h zero y e
-push-each P (z ∷ zs) x h px (suc k) y e = push-each (λ i. P (suc i)) zs x (λ i. h (suc i)) px k y e
-
 pub get-middle : {A : Type 0} (xs : List A) (y : A) (zs : List A) → slice_get (xs ++ y ∷ zs) (length xs) ≡ Some y
 get-middle [] y zs = refl
 get-middle (x ∷ xs) y zs = get-middle xs y zs

@@ -12,7 +12,8 @@ use Rattle.ring_table.specs.declared.view.Part.{Part}
 use Rattle.ring_table.specs.declared.view.View.{View}
 use Rattle.ring_table.specs.Seats.{AreAt, AreCounted, IsCounted, SeatPlace, Shares, parts_of, shares_of}
 use Rattle.ring_table.specs.Views.{cpu, cpu_view, joined, part, view}
-use Rattle.ring_table.proofs.Closing.{get-middle, made_by, parts-snoc, push-each}
+use Rattle.ring_table.proofs.Closing.{get-middle, made_by, parts-snoc}
+use Rattle.ft_base.proofs.Small.{each-pushed}
 
 -- the present seat is one of the table's
 pub next-at : (table : TableId) (plan : TracePlan) (done left all : List SeatPlace) (s : SeatPlace) → AreAt table plan all → done ++ s ∷ left ≡ all
@@ -35,7 +36,7 @@ joined-more me me' other plan q split c x0 ss k s is theirs same new =
 pub counted-more : (plan q : TracePlan) (ss : List SeatPlace) (s0 s : SeatPlace) → AreCounted plan ss → IsCounted q s0 → s0 ≡ s → q ≡ plan
     → AreCounted plan (ss ++ s ∷ [])
 counted-more plan q ss s0 s all own is same =
-    push-each (λ c u. IsCounted plan u) ss s all (subst (λ (z : TracePlan × SeatPlace). IsCounted z.0 z.1) (λ j. (same j, is j)) own)
+    each-pushed (λ c u. IsCounted plan u) ss s all (subst (λ (z : TracePlan × SeatPlace). IsCounted z.0 z.1) (λ j. (same j, is j)) own)
 
 -- what the last seat knew first, it knows first then too
 abbrev first_in : Part → List Part → Part

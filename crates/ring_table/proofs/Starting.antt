@@ -3,7 +3,7 @@ use Rattle.std.proofs.Common.{◌≡◌, ℕ, ◌+◌, ◌-◌, List, [], ◌∷
 use Rattle.std.specs.Prelude.{slice_index}
 use Rattle.std.proofs.lemmas.List.{length-replicate}
 use Rattle.atomic_table.specs.Seated.{TableId}
-use Rattle.ft_base.proofs.Small.{false_true}
+use Rattle.ft_base.proofs.Small.{false_true, each-pushed}
 use Rattle.circular_buffer.specs.Buffer.{keep_last}
 use Rattle.ring_rules.specs.Plan.{TracePlan}
 use Rattle.ring_rules.specs.Hits.{has}
@@ -11,7 +11,6 @@ use Rattle.ring_rules.specs.Legal.{EachOnce}
 use Rattle.ring_rules.proofs.Lists.{drop-none, not-nil}
 use Rattle.ring_rules.proofs.Numbers.{at-none, at-zero}
 use Rattle.ring_table.specs.Seats.{AreFresh, AreNew, Board, IsNew, SeatHas, SeatPlace, fresh}
-use Rattle.ring_table.proofs.Closing.{push-each}
 
 none-kept : (n : ℕ) → keep_last {X = ℕ} n [] ≡ []
 none-kept n = drop-none (0 - n)
@@ -56,6 +55,6 @@ fresh-more table t id plan rooms room n seats seats' s f is room-is same more =
     subst (λ l. AreFresh table plan rooms l (n + 1)) (sym more)
     record {
       count = (let e = length-append seats (s ∷ []) in let m = f.count in omega (arith, e, m));
-      each = push-each (λ c u. (d : ℕ) × (u ≡ fresh table d plan c (slice_index rooms c))) seats s f.each
+      each = each-pushed (λ c u. (d : ℕ) × (u ≡ fresh table d plan c (slice_index rooms c))) seats s f.each
           (id, is ∙ (λ j. fresh (same j) id plan n (room-is j)) ∙ ap (λ m. fresh table id plan m (slice_index rooms m)) (sym f.count));
     }

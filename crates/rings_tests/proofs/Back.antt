@@ -3,7 +3,7 @@ use Rattle.std.proofs.Common.{◌≡◌, ℕ, List, [], ◌∷◌, ◌++◌, len
 use Rattle.std.specs.Prelude.{slice_get}
 use Rattle.ring_rules.proofs.Lists.{get-last, get-more}
 use Rattle.ring_table.specs.Seats.{AreNew, Board, SeatPlace, SitsAt}
-use Rattle.ring_table.proofs.Closing.{push-each}
+use Rattle.ft_base.proofs.Small.{each-pushed}
 
 -- these are seats of a table by the numbers of their CPUs, from 0 on
 abbrev pub AreFrom : Board → List SeatPlace → Type 0
@@ -25,7 +25,7 @@ pub put-back : (b : Board) (old front front' new : List SeatPlace) (s t : SeatPl
     → AreFrom b front' × (length front' ≡ length front) → SitsAt b t × (t.number ≡ s.number) → AreFrom b new × (length new ≡ length old)
 put-back b old front front' new s t was now all (before, many) (sits, number) = (
   subst (AreFrom b) (sym now)
-      (push-each (λ c u. SitsAt b u × (u.number ≡ c)) front' t before (sits, number ∙ (taken-out b old front s was all).1.1 ∙ sym many)),
+      (each-pushed (λ c u. SitsAt b u × (u.number ≡ c)) front' t before (sits, number ∙ (taken-out b old front s was all).1.1 ∙ sym many)),
   (let m = ap (λ (seats : List SeatPlace). length seats) was in
       let n = ap (λ (seats : List SeatPlace). length seats) now in
       let l = length-append front (s ∷ []) in

@@ -31,6 +31,7 @@ use Rattle.ft_hist.specs.Plain.{Owed, Phase, Dispatch, InBack, Running, Leaving,
 use Rattle.ft_hist.specs.Rules.{AtReturnedOrBegun, backs_with_replacement, replacement, IsLegalPast, IsLegal}
 use Rattle.ft_hist.proofs.RunLaws.{if_some, some_inj, same_call-eq, on_call-inv}
 use Rattle.ft_hist.proofs.Numbers.{some-run, unmoved}
+use Rattle.ft_hist.proofs.WindowLaws.{few-begun}
 use Rattle.word_machine_laws.proofs.DeskNumbers.{registered-inside}
 use Rattle.word_machine_laws.proofs.There.{sited-inside}
 use Rattle.trace_lines.specs.LogItems.{IsCallOf, IsCallerOf, IsRanOf, IsAnswerOf, IsItemOf}
@@ -140,11 +141,6 @@ module _ (job : Job) where
 -- ## what a past tells
 
 module _ (job : Job) where
-  begun-few : (past : List Item) → begun past ≤ length past
-  begun-few [] = omega arith
-  begun-few (Begin k ∷ past) = (let h = begun-few past in omega (arith, h))
-  begun-few (_ ∷ past) = (let h = begun-few past in omega (arith, h))
-
   visits-placed : (past : List Item) → Each (λ m. m.place < length past) (all_visits job past)
   unfolding all_visits
   visits-placed [] = tt
@@ -479,13 +475,13 @@ module _ (job : Job) (ok : IsWellFormed job) (replaced : Each (IsReplacedIn (fun
   past-of (Begin k ∷ past) l short =
       let h = past-of past l.1 (omega (arith, short)) in
       let number = l.0.rule.0.number in
-      let few = begun-few job past in
+      let few = few-begun past in
       after-item (Begin k) past l short h (omega (arith, number, few, short))
   past-of (Return k a ∷ past) l short =
       let h = past-of past l.1 (omega (arith, short)) in
       let number = l.0.rule.number in
       let follows = l.0.rule.follows in
-      let few = begun-few job past in
+      let few = few-begun past in
       let c = l.0.rule.command in
       after-item (Return k a) past l short h (omega (arith, number, follows, few, short), subst (IsAnswerOf job) (sym c.2) (answer-is job (desk job (done past)) c.0))
   past-of (Enter call x f caller ∷ past) l short = by-task (Enter call x f caller) past l short (past-of past l.1 (omega (arith, short))) call.task.0 (==-refl call.task.0)

@@ -1,5 +1,5 @@
 -- Two sets word by word, against their marks.
-use Rattle.std.proofs.Common.{Vec, ◌≡◌, ℕ, ◌+◌, ◌-◌, ◌*◌, ◌/◌, ◌%◌, ◌^◌, ◌<◌, ◌≤◌, ◌==◌, ◌&&◌, ◌||◌, not, min, zero, suc, Bool, true, false, List, length, get_or, map, bit_or, bit_and, w64, refl, sym, ap, ap₂, subst, ◌∙◌, inl, inr, arith, ext_get_or}
+use Rattle.std.proofs.Common.{Vec, ◌≡◌, ℕ, ◌+◌, ◌-◌, ◌*◌, ◌/◌, ◌%◌, ◌^◌, ◌<◌, ◌≤◌, ◌==◌, ◌&&◌, ◌||◌, not, min, Bool, true, false, List, length, get_or, map, bit_or, bit_and, w64, refl, sym, ap, ap₂, subst, ◌∙◌, inl, inr, arith, ext_get_or}
 use Rattle.std.specs.List.{zip}
 use Rattle.std.specs.Vec.{with_items}
 use Rattle.std.proofs.lemmas.List.{with_items_is}
@@ -8,7 +8,7 @@ use Rattle.std.proofs.lemmas.Bool.{cases_lt}
 use Rattle.std.proofs.lemmas.List.{get_or_read, get_or-map, length-map}
 use Rattle.std.proofs.lemmas.Slice.Zip.{length-zip, get_or-zip}
 use Rattle.std.proofs.lemmas.Nat.Bits.{bit_at-lt, bit_at-zero, bit_at_and, bit_at_not}
-use Rattle.ft_base.proofs.Bits.{or_test, and_test}
+use Rattle.ft_base.proofs.Bits.{or_test, and_test, tests_and_not}
 use Rattle.site_set.specs.Packed.{has_bit, marks_of, IsPacked, IsLowestBit}
 use Rattle.ft_base.specs.Marks.{Marks, holds, union, difference}
 use Rattle.site_set.specs.Marks.{AreDisjoint, IsLeastCommon}
@@ -16,15 +16,6 @@ use Rattle.site_set.proofs.PackedLemmas.{length-marks_of, holds-marks_of, holds-
 use Rattle.site_set.proofs.MarksLemmas.{and_first, and_second, length-union, holds-union, length-difference, holds-difference}
 
 -- ---- a bit of `|` and of `& !`
-
-tests_and_not : (a b : ℕ) → a < 2 → b < 2 → (min a (1 - b) == 1) ≡ ((a == 1) && not (b == 1))
-tests_and_not zero zero h k = refl
-tests_and_not zero (suc zero) h k = refl
-tests_and_not (suc zero) zero h k = refl
-tests_and_not (suc zero) (suc zero) h k = refl
-tests_and_not zero (suc (suc b)) h k = absurd (omega arith)
-tests_and_not (suc zero) (suc (suc b)) h k = absurd (omega arith)
-tests_and_not (suc (suc a)) b h k = absurd (omega arith)
 
 pub bit_or_test : (a b k : ℕ) → b < 2 ^ 64 → k < 64 → (bit_at (bit_or a b) k == 1) ≡ ((bit_at a k == 1) || (bit_at b k == 1))
 bit_or_test a b k fits h = or_test a b k

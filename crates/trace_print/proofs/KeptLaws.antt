@@ -6,6 +6,7 @@ use Rattle.ft_base.specs.Desk.{desk}
 use Rattle.ft_base.specs.Job.{Job, funcs}
 use Rattle.ft_hist.specs.Past.{done}
 use Rattle.ft_hist.specs.Rules.{IsLegalPast}
+use Rattle.ft_hist.proofs.WindowLaws.{few-done}
 use Rattle.word_machine.specs.Limits.{IsLimited}
 use Rattle.ft_words.specs.declared.order.Form.{Form}
 use Rattle.ft_words.specs.declared.order.Form.TheVariants as forms
@@ -20,7 +21,7 @@ use Rattle.trace_views.specs.ProfileText.{fprobe_line, profile_text, user_profil
 use Rattle.trace_views.specs.ProfileViews.{HasProfile}
 use Rattle.trace_views.specs.Returned.{done_with}
 use Rattle.trace_views.specs.Words.{item_texts, last_line, lines_text, numbered_texts}
-use Rattle.trace_views.proofs.ReturnedLaws.{done-le, done-more}
+use Rattle.trace_views.proofs.ReturnedLaws.{done-more}
 use Rattle.trace_print.specs.declared.kept.Kept.{Kept}
 use Rattle.trace_print.specs.declared.kept.Kept.TheVariants.{History, Function, Profile, Returned, Nothing, Totals}
 use Rattle.trace_print.specs.Kept.{Has, IsKeptOf}
@@ -29,7 +30,7 @@ use Rattle.trace_print.specs.Texts.{text_of}
 -- one more item
 module _ (job : Job) (limited : IsLimited job) (past : List Item) (item : Item) (legal : IsLegalPast job (item ∷ past)) where
   pub returned-few : (n : ℕ) → n ≡ done past → n + 1 < 2 ^ 32
-  returned-few n is = let few = past-few job limited (item ∷ past) legal in let le = done-le past in omega (arith, is, few, le)
+  returned-few n is = let few = past-few job limited (item ∷ past) legal in let le = few-done past in omega (arith, is, few, le)
 
   pub totals-few : length (reverse past) + 1 < 2 ^ 32
   totals-few = let few = past-few job limited (item ∷ past) legal in let same = length-reverse past in omega (arith, few, same)

@@ -9,13 +9,13 @@ use Rattle.ft_base.specs.declared.context.Ctx.{Ctx}
 use Rattle.ft_base.specs.declared.item.Item.{Item}
 use Rattle.ft_base.specs.declared.item.Item.TheVariants.{Enter, Back, Ret}
 use Rattle.ft_base.specs.Same.{same_call}
-use Rattle.ft_base.proofs.Small.{and_both, Each-weaker, Each-filter}
+use Rattle.ft_base.proofs.Small.{and_both, Each-weaker, Each-filter, filter-all}
 use Rattle.ft_hist.specs.Past.{is_open, calls}
 use Rattle.ft_hist.specs.Telling.{open_calls}
 use Rattle.ft_hist.proofs.Laws.{same_call-refl}
 use Rattle.trace_views.specs.GraphText.{called, level}
 use Rattle.trace_views.specs.GraphWalks.{is_open_in, backs_in, backs_open, IsFresh, IsTop, Nests}
-use Rattle.trace_views.proofs.GraphLevels.{AreApart, apart-filter, filter-everything, filter-nothing, same_call-turned, pick-enter, pick-ret, pick-ret-other, level-shape, level-is}
+use Rattle.trace_views.proofs.GraphLevels.{AreApart, apart-filter, filter-nothing, same_call-turned, pick-enter, pick-ret, pick-ret-other, level-shape, level-is}
 
 by_task : {A : Type 0} (a : Bool) (x y : A) → cond (a && true) x y ≡ cond a x y
 by_task true x y = refl
@@ -68,7 +68,7 @@ open-ret tasks t call to past h top = by (call.task.0 == t) refl
   where
     own : open_calls call.task.0 (Ret call to ∷ past) ≡ drop 1 (open_calls call.task.0 past)
     own =
-        let others = filter-everything (λ c. not (same_call call c)) top.1 (Each-weaker (λ c. same_call call c ≡ false) (λ c. not (same_call call c) ≡ true) top.1 (λ c e. rw e refl) (below-apart tasks call past top h)) in
+        let others = filter-all (λ c. not (same_call call c)) top.1 (Each-weaker (λ c. same_call call c ≡ false) (λ c. not (same_call call c) ≡ true) top.1 (λ c e. rw e refl) (below-apart tasks call past top h)) in
         pick-ret call.task.0 call to past (calls past) ∙ ap (λ cs. filter (λ c. not (same_call call c)) cs) top.2 ∙ rw (same_call-refl call, top.2) others
 
     by : (b : Bool) → (call.task.0 == t) ≡ b → open_calls t (Ret call to ∷ past) ≡ cond b (drop 1 (open_calls t past)) (open_calls t past)

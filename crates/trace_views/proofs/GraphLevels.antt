@@ -9,7 +9,7 @@ use Rattle.ft_base.specs.declared.context.Ctx.{Ctx}
 use Rattle.ft_base.specs.declared.item.Item.{Item}
 use Rattle.ft_base.specs.declared.item.Item.TheVariants.{Enter, Back, Ret}
 use Rattle.ft_base.specs.Same.{same_call}
-use Rattle.ft_base.proofs.Small.{==-refl, and-false, Each-weaker, Each-filter}
+use Rattle.ft_base.proofs.Small.{==-refl, and-false, Each-weaker, Each-filter, filter-ext}
 use Rattle.ft_hist.specs.Past.{is_open}
 use Rattle.ft_hist.proofs.Laws.{same_call-refl}
 use Rattle.ft_hist.proofs.RunLaws.{same_call-eq}
@@ -33,10 +33,6 @@ other-task call c t other own = let e : t ≡ c.task.0 = sym (eqb-true c.task.0 
 
 -- ## lists of calls
 
-pub filter-each : {X : Type 0} (p q : X → Bool) (xs : List X) → Each (λ x. p x ≡ q x) xs → filter p xs ≡ filter q xs
-filter-each p q [] h = refl
-filter-each p q (x ∷ xs) h = rw h.0 (ap (λ ys. cond (q x) (x ∷ ys) ys) (filter-each p q xs h.1))
-
 filter-twice : {X : Type 0} (p q : X → Bool) (xs : List X) → filter (λ x. q x && p x) xs ≡ filter q (filter p xs)
 filter-twice p q [] = refl
 filter-twice {X = X} p q (x ∷ xs) =
@@ -47,10 +43,6 @@ filter-twice {X = X} p q (x ∷ xs) =
       ]
       | false ↦ rw (and-false (q x)) (filter-twice p q xs)
     ]
-
-pub filter-everything : {X : Type 0} (p : X → Bool) (xs : List X) → Each (λ x. p x ≡ true) xs → filter p xs ≡ xs
-filter-everything p [] h = refl
-filter-everything {X = X} p (x ∷ xs) h = rw h.0 (ap (λ (ys : List X). x ∷ ys) (filter-everything p xs h.1))
 
 pub filter-nothing : {X : Type 0} (p : X → Bool) (xs : List X) → Each (λ x. p x ≡ false) xs → filter p xs ≡ []
 filter-nothing p [] h = refl
@@ -100,7 +92,7 @@ count-split call p (c ∷ cs) h = by (same_call c call) refl (count-split call p
 pub pick-enter : (t : ℕ) (call : CallNo) (ctx : Ctx) (f : FuncNo) (caller : Option CallNo) (past : List Item) (cs : List CallNo) → IsFresh call cs
     → filter (is_open_in t (Enter call ctx f caller ∷ past)) cs ≡ filter (is_open_in t past) cs
 pick-enter t call ctx f caller past cs h =
-    filter-each (is_open_in t (Enter call ctx f caller ∷ past)) (is_open_in t past) cs
+    filter-ext (is_open_in t (Enter call ctx f caller ∷ past)) (is_open_in t past) cs
     (Each-weaker (λ c. same_call call c ≡ false) (λ c. is_open_in t (Enter call ctx f caller ∷ past) c ≡ is_open_in t past c) cs (λ c e. rw e refl) h)
 
 -- a Ret leaves the calls of other tasks open

@@ -12,11 +12,11 @@ use Rattle.ft_base.specs.declared.item.Item.{Item}
 use Rattle.ft_base.specs.declared.item.Item.TheVariants.{Enter, Back, Body, Exit, Ret}
 use Rattle.ft_base.specs.Same.{same_call}
 use Rattle.ft_base.specs.Job.{Job}
-use Rattle.ft_base.proofs.Small.{==-refl, and_both, or-false_both, Each-weaker}
+use Rattle.ft_base.proofs.Small.{==-refl, and_both, or-false_both, Each-weaker, map-ext}
 use Rattle.ft_hist.specs.Past.{is_open, is_dispatched, entry_of, done, Entered}
 use Rattle.ft_hist.specs.Rules.{IsLegalPast}
 use Rattle.ft_hist.specs.Telling.{open_calls}
-use Rattle.ft_hist.proofs.Laws.{same_call-refl, entry_of-enter}
+use Rattle.ft_hist.proofs.Laws.{same_call-refl, entry_of-enter, other-task}
 use Rattle.ft_hist.proofs.Nesting.{top_of}
 use Rattle.ft_hist.proofs.Numbers.{moved, some-run}
 use Rattle.ft_hist.proofs.RunLaws.{some_inj, sound}
@@ -28,18 +28,11 @@ use Rattle.trace_views.specs.Words.{function_word}
 use Rattle.trace_views.specs.TaskStacks.{stack_at, with_top}
 use Rattle.trace_views.proofs.TopCalls.{put, fresh-open, taken, top-body, IsTop, others, of-task, below-other, named, top-back, top-exit, Linked, linked}
 
-map-ext : {A B : Type 0} (f g : A → B) (xs : List A) → Each (λ x. f x ≡ g x) xs → map f xs ≡ map g xs
-map-ext f g [] h = refl
-map-ext f g (x ∷ xs) h = λ i. h.0 i ∷ map-ext f g xs h.1 i
-
 -- a call whose dispatch isn't over has no Body
 no-body : (call : CallNo) (past : List Item) → is_dispatched call past ≡ false → body_of call past ≡ None
 no-body call [] d = refl
 no-body call (Body c g ran ∷ past) d = let both = or-false_both (same_call c call) (is_dispatched call past) d in rw both.0 (no-body call past both.1)
 no-body call (_ ∷ past) d = no-body call past d
-
-apart-task : (t : ℕ) (call c : CallNo) → (call.task.0 == t) ≡ false → c.task.0 ≡ t → same_call call c ≡ false
-apart-task t call c other e = let x : (call.task.0 == c.task.0) ≡ false = rw e other in rw x refl
 
 -- what is kept of a call, by its Enter and its Body
 abbrev kept_as : Entered → Option ℕ → OpenCall
@@ -110,7 +103,7 @@ module _ (job : Job) (past : List Item) (stacks : List (List OpenCall)) (told : 
       ∙ ap (λ (o : OpenCall). record o { body = Some g } ∷ map (kept_call past) w.below) top_is
       ∙ sym (ap (λ (cs : List CallNo). map (kept_call past') cs) w.after ∙ rw (same_call-refl call) (ap (λ (os : List OpenCall). record (kept_call past call) { body = Some g } ∷ os) below_is)))
       (λ t other. kept-there t past' (Each-weaker (λ c. ((c.task.0 == t) && is_open c past) ≡ true) (λ c. kept_call past' c ≡ kept_call past c) (open_calls t past)
-      (λ c own. kept-body c call g ran past (apart-task t call c other (eqb-true c.task.0 t (and_both (c.task.0 == t) (is_open c past) own).0))) (of-task job t past)))
+      (λ c own. kept-body c call g ran past (other-task t call c other (eqb-true c.task.0 t (and_both (c.task.0 == t) (is_open c past) own).0))) (of-task job t past)))
 
   pub told-ret : (call : CallNo) (to : Option CallNo) → IsLegalPast job (Ret call to ∷ past)
       → HasOpenCalls job (Ret call to ∷ past) (set stacks call.task.0 (drop 1 (stack_at stacks call.task.0)))

@@ -1,5 +1,5 @@
 -- How many commands have returned, item by item.
-use Rattle.std.proofs.Common.{◌≡◌, ℕ, ◌+◌, ◌≤◌, List, [], ◌∷◌, length, refl, arith}
+use Rattle.std.proofs.Common.{◌≡◌, ℕ, ◌+◌, ◌≤◌, List, ◌∷◌, refl, arith}
 use Rattle.ft_base.specs.declared.item.Item.{Item}
 use Rattle.ft_base.specs.declared.item.Item.TheVariants.{Return}
 use Rattle.ft_hist.specs.Past.{done}
@@ -12,12 +12,3 @@ done-more _ past = refl
 pub done-with-le : (item : Item) (n : ℕ) → done_with item n ≤ n + 1
 done-with-le (Return k answer) n = omega arith
 done-with-le _ n = omega arith
-
--- no more commands have returned than there are items
-pub done-le : (past : List Item) → done past ≤ length past
-done-le [] = omega arith
-done-le (item ∷ past) =
-    let more = done-more item past in
-    let le = done-with-le item (done past) in
-    let rest = done-le past in
-    omega (arith, more, le, rest)

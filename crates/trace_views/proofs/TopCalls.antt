@@ -16,12 +16,12 @@ use Rattle.ft_base.specs.declared.task.TaskAct.{TaskAct}
 use Rattle.ft_base.specs.declared.item.Item.TheVariants.{Begin, Return, Enter, Back, Body, Exit, Ret}
 use Rattle.ft_base.specs.Same.{same_call}
 use Rattle.ft_base.specs.Job.{Job, Task, no_task}
-use Rattle.ft_base.proofs.Small.{false_true, ==-refl, and_both, and-false, Each-weaker, Each-filter, Contains-head, Contains-more}
+use Rattle.ft_base.proofs.Small.{false_true, ==-refl, and_both, Each-weaker, Each-filter, Contains-head, Contains-more}
 use Rattle.ft_hist.specs.Past.{is_of, done, is_open, calls, entry_of, Entered}
 use Rattle.ft_hist.specs.Plain.{plain, after_item, after_next, PlainTask, at_start, same_top, after_enter}
 use Rattle.ft_hist.specs.Rules.{IsLegalPast}
 use Rattle.ft_hist.specs.Telling.{open_calls}
-use Rattle.ft_hist.proofs.HeldLaws.{Falls, opens}
+use Rattle.ft_hist.proofs.HeldLaws.{Falls, opens, not_same}
 use Rattle.ft_hist.proofs.Laws.{entry_of-enter}
 use Rattle.ft_hist.proofs.WindowLaws.{is_enter, entry_of-more}
 use Rattle.std.proofs.Math.ListN.{get_or-eq_default}
@@ -29,11 +29,6 @@ use Rattle.ft_hist.proofs.Nesting.{top_of, entering}
 use Rattle.ft_hist.proofs.Numbers.{moved, unmoved, some-run}
 use Rattle.ft_hist.proofs.RunLaws.{same_call-eq, calls_on, Moves, Keeps}
 use Rattle.ft_hist.proofs.Since.{IsOlder, apart}
-
-pub lower-other : (call c : CallNo) → c.n < call.n → same_call call c ≡ false
-lower-other call c lt =
-    let ne : (call.n == c.n) ≡ false = elim (eqb_tells call.n c.n) [ inl x ↦ (let y : call.n ≡ c.n = x.1 in absurd (omega arith)) | inr x ↦ x.0 ] in
-    rw (ne, and-false (call.task.0 == c.task.0)) refl
 
 module _ (job : Job) where
   -- the open calls of a task are those of its plain run
@@ -130,7 +125,7 @@ module _ (job : Job) where
   pub below-other : (t : ℕ) (call : CallNo) (below : List CallNo) (past : List Item) → IsLegalPast job past → open_calls t past ≡ call ∷ below → Each (λ c. same_call call c ≡ false) below
   below-other t call below past l e =
       let f = subst (λ (cs : List CallNo). Falls cs) e (falls t past l) in
-      Each-weaker (λ c. c.n < call.n) (λ c. same_call call c ≡ false) below (λ c lt. lower-other call c lt) f.0
+      Each-weaker (λ c. c.n < call.n) (λ c. same_call call c ≡ false) below (λ c lt. not_same call c lt) f.0
 
   -- ## a call is there if it is of the task and open
 

@@ -1,6 +1,5 @@
 -- What is kept of each task, over one more item.
 use Rattle.std.proofs.Common.{cond, ◌≡◌, ℕ, Bool, true, false, ◌==◌, List, [], ◌∷◌, map, drop, Option, refl, sym, ap, ◌∙◌, subst, eqb-true}
-use Rattle.std.specs.List.{AllByRecursion as Each}
 use Rattle.std.proofs.lemmas.List.{drop-map}
 use Rattle.ft_base.specs.declared.number.CallNo.{CallNo}
 use Rattle.ft_base.specs.declared.number.FuncNo.{FuncNo}
@@ -9,7 +8,7 @@ use Rattle.ft_base.specs.declared.context.Ctx.{Ctx}
 use Rattle.ft_base.specs.declared.item.Item.{Item}
 use Rattle.ft_base.specs.declared.item.Item.TheVariants.{Enter, Back, Ret}
 use Rattle.ft_base.specs.Same.{same_call}
-use Rattle.ft_base.proofs.Small.{and_both, Each-weaker, Each-filter}
+use Rattle.ft_base.proofs.Small.{and_both, Each-weaker, Each-filter, map-ext}
 use Rattle.ft_hist.specs.Past.{is_open, calls}
 use Rattle.ft_hist.specs.Telling.{open_calls}
 use Rattle.ft_hist.proofs.Laws.{same_call-refl}
@@ -21,10 +20,6 @@ use Rattle.trace_views.proofs.GraphItems.{passes-open, below-apart, open-enter, 
 
 -- ## the open calls of a task
 
-map-each : {A B : Type 0} (f g : A → B) (xs : List A) → Each (λ x. f x ≡ g x) xs → map f xs ≡ map g xs
-map-each f g [] h = refl
-map-each f g (x ∷ xs) h = rw h.0 (ap (λ ys. g x ∷ ys) (map-each f g xs h.1))
-
 -- a call that is entered is put on its task's
 pub calls-enter : (tasks u t : ℕ) (call : CallNo) (ctx : Ctx) (f : FuncNo) (caller : Option CallNo) (past : List Item) → Nests tasks past → IsFresh call (calls past)
     → graph_calls u t (Enter call ctx f caller ∷ past) ≡ cond (call.task.0 == t) (record { func = f; backs = 0 } ∷ graph_calls u t past) (graph_calls u t past)
@@ -33,7 +28,7 @@ calls-enter tasks u t call ctx f caller past nests fresh =
   where
     others : map (graph_call u (Enter call ctx f caller ∷ past)) (open_calls t past) ≡ graph_calls u t past
     others =
-        map-each (graph_call u (Enter call ctx f caller ∷ past)) (graph_call u past) (open_calls t past)
+        map-ext (graph_call u (Enter call ctx f caller ∷ past)) (graph_call u past) (open_calls t past)
         (Each-weaker (λ c. same_call call c ≡ false) (λ c. graph_call u (Enter call ctx f caller ∷ past) c ≡ graph_call u past c) (open_calls t past) (λ c e. rw e refl)
         (Each-filter (λ c. same_call call c ≡ false) (is_open_in t past) (calls past) fresh))
 
@@ -60,7 +55,7 @@ calls-back tasks u t call v past nests top own = by (call.task.0 == t) refl
   where
     same : (cs : List CallNo) → IsFresh call cs → map (graph_call u (Back call v ∷ past)) cs ≡ map (graph_call u past) cs
     same cs fresh =
-        map-each (graph_call u (Back call v ∷ past)) (graph_call u past) cs
+        map-ext (graph_call u (Back call v ∷ past)) (graph_call u past) cs
         (Each-weaker (λ c. same_call call c ≡ false) (λ c. graph_call u (Back call v ∷ past) c ≡ graph_call u past c) cs (λ c e. ap (λ n. record { func = (graph_call u past c).func; backs = n }) (backs-others u call v past own c e)) fresh)
 
     first : graph_call u (Back call v ∷ past) call ≡ with_back (graph_call u past call)

@@ -4,11 +4,12 @@ use Rattle.std.proofs.Common.{cond, ◌≡◌, ◌≢◌, ℕ, zero, suc, ◌+�
 use Rattle.std.specs.Prelude.{slice_get, ◌⊎◌}
 use Rattle.std.proofs.lemmas.Bool.{cases_eq}
 use Rattle.ft_base.specs.Job.{Job, Spec, funcs, Command, Register, Unregister, Filter, Notrace, Pid, NoPid, Enable, Disable, MaxDepth, commands}
-use Rattle.ft_base.specs.Desk.{Desk, unseen, UserState, desk, user_at, answer_on, is_accepted, register_answer, switch_answer, changed, registered_as, unregistered_as, with_user}
+use Rattle.ft_base.specs.Desk.{Desk, unseen, UserState, desk, user_at, answer_on, is_accepted, switch_answer, changed, registered_as, unregistered_as, with_user}
 use Rattle.ft_base.specs.WellFormed.{IsWellFormed, IsNamed}
 use Rattle.ft_base.proofs.Small.{false_true}
 use Rattle.ft_base.proofs.DeskLaws.{length-desk, user_at-same, user_at-other}
 use Rattle.ft_base.proofs.Modifiers.{named-at}
+use Rattle.ft_base.proofs.Order.{not-registered}
 use Rattle.word_machine.specs.Commands.{Effect, Adds, Removes, Edits, Enables, Disables, Lists, Levels, Nothing, effect_by, edits_or, effect, subject, subject_of, state_of, command}
 use Rattle.word_machine.specs.Progress.{is_lists, is_levels}
 
@@ -39,13 +40,6 @@ pub record Changed (job : Job) (k u : ℕ) (z : Effect) (d d' : Desk) : Type 0 w
 
 rest-same : (s : UserState) → KeepsRest s s
 rest-same s = record { registered = refl; reg = refl; since = refl; enabled = refl; slot = refl }
-
-not-registered : (job : Job) (d : Desk) (u : ℕ) → is_accepted (register_answer job d u) ≡ true → (user_at d u).registered ≡ false
-not-registered job d u e = by (user_at d u).registered refl
-  where
-    by : (b : Bool) → (user_at d u).registered ≡ b → (user_at d u).registered ≡ false
-    by true x = false_true (rw x at e)
-    by false x = x
 
 switches : (job : Job) (d : Desk) (u : ℕ) → is_accepted (switch_answer job d u) ≡ true → (user_at d u).registered ≡ true
 switches job d u e = by (user_at d u).registered refl

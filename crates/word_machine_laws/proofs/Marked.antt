@@ -115,7 +115,7 @@ module _ (job : Job) (ok : IsWordJob job) (s : World) (k : MachineRule job s) (c
 
 -- ## marks of control
 
-relink-marks : (z : Effect) (u : ℕ) (order : List ℕ) (item : Item) → relink_op z u order ≡ Mark item → ⊥
+pub relink-marks : (z : Effect) (u : ℕ) (order : List ℕ) (item : Item) → relink_op z u order ≡ Mark item → ⊥
 relink-marks Removes u order item e = absurd cc
 relink-marks _ u order item e = absurd cc
 

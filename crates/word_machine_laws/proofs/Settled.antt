@@ -11,7 +11,6 @@ use Rattle.word_machine.specs.Rule.{MachineRule}
 use Rattle.word_machine.specs.Laws.{HasTarget, IsSettled}
 use Rattle.word_machine_laws.proofs.Seen.{selected-underway}
 use Rattle.word_machine_laws.proofs.Effects.{late}
-use Rattle.std.proofs.lemmas.Bool.{cases_lt}
 
 module _ (job : Job) (s : World) (kept : MachineRule job s) (f : ℕ) (inside : f < funcs job) where
   site : SiteAt (stage job s.control.commands_done s.control.position f) f (insn job s.control.commands_done f) (insn job (suc s.control.commands_done) f)

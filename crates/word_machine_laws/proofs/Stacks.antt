@@ -9,12 +9,11 @@ use Rattle.ft_base.specs.declared.context.Ctx.{Ctx}
 use Rattle.ft_base.specs.declared.item.Item.{Item}
 use Rattle.ft_base.specs.Same.{same_call, same_ctx}
 use Rattle.ft_base.specs.Job.{Job}
-use Rattle.ft_base.proofs.Small.{and-false}
 use Rattle.ft_hist.specs.Past.{Callback, callbacks, is_ctx, open_callbacks, held}
 use Rattle.ft_hist.proofs.RunLaws.{calls_on}
 use Rattle.ft_hist.specs.Known.{holds}
 use Rattle.ft_hist.proofs.Since.{Untouched, untouched-item, touches, holding}
-use Rattle.ft_hist.proofs.HeldLaws.{opens as opens-law, Opens, held-is}
+use Rattle.ft_hist.proofs.HeldLaws.{opens as opens-law, Opens, held-is, not_same}
 use Rattle.plain_machine.specs.State.{held_levels}
 use Rattle.word_machine.specs.Task.{OpenCall, TaskState, Moment, guards_under, level_of, around, user_of}
 use Rattle.word_machine.specs.Verdicts.{Here}
@@ -40,9 +39,6 @@ opens-of job past t x r =
 
 ne_n : (a b : ℕ) → a < b → (b == a) ≡ false
 ne_n a b lt = elim (eqb_tells b a) [ inl x ↦ (let y : b ≡ a = x.1 in absurd (omega arith)) | inr x ↦ x.0 ]
-
-pub not_same : (call c : CallNo) → c.n < call.n → same_call call c ≡ false
-not_same call c lt = rw (ne_n c.n call.n lt) (and-false (call.task.0 == c.task.0))
 
 -- an item of a call with a greater number leaves these calls alone
 pub older_untouched : (job : Job) (past : List Item) (call : CallNo) (item : Item) (stack : List OpenCall)

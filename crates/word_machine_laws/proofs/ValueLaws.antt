@@ -32,7 +32,7 @@ module _ (job : Job) where
       → tasks_in job (slice_set tasks t x) ≡ at_put (tasks_in job tasks) t x
   tasks-put tasks t x lt = λ i k. put-at tasks t x (task_start job) k lt i
 
-copy-start : (n u : ℕ) → copies_in (replicate n 0) u ≡ 0
+pub copy-start : (n u : ℕ) → copies_in (replicate n 0) u ≡ 0
 copy-start zero u = refl
 copy-start (suc n) zero = refl
 copy-start (suc n) (suc u) = copy-start n u

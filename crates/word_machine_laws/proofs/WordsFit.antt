@@ -50,7 +50,6 @@ use Rattle.word_machine.specs.Progress.{underway}
 use Rattle.ft_base.specs.declared.task.TaskAct.{TaskAct}
 use Rattle.ft_base.specs.declared.task.TaskAct.TheVariants.{Call, Ret as RetAct, Raise, Lower, After}
 use Rattle.word_machine_laws.proofs.Limited.{limited, few-commands}
-use Rattle.std.proofs.lemmas.List.FromFn.{length-range_with_len}
 use Rattle.word_machine_laws.proofs.Waits.{waits-got}
 
 -- ## a store

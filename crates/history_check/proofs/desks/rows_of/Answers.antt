@@ -7,13 +7,14 @@ use Rattle.ft_desk.specs.declared.command.Ctl.TheVariants.{Run, Until}
 use Rattle.ft_desk.specs.Commands.{command_of}
 use Rattle.ft_desk.specs.Declarations.{Declared, IsOf}
 use Rattle.ft_base.specs.Desk.{Desk, answer_on}
+use Rattle.ft_base.proofs.Small.{each-pushed}
 use Rattle.ft_desk.proofs.JobLaws.{answer-is}
 use Rattle.ft_desk.proofs.LineLaws.{line-at, planned}
 use Rattle.history_check.specs.declared.desks.Row.{Row}
 use Rattle.history_check.specs.KeptDesks.{IsRowOf}
 use Rattle.history_check.specs.KeptTold.{IsTold}
 use Rattle.ft_job.proofs.DeskLaws.{command-next, commands-next, counted-next, counted-over, counted-wait, declared-next, few-planned, new-commands, new-state, state-next}
-use Rattle.history_check.proofs.KeptDesks.{each-pushed, first-made, next-made}
+use Rattle.history_check.proofs.KeptDesks.{first-made, next-made}
 use Rattle.history_check.proofs.ToldLaws.{told-after}
 use Rattle.history_check.proofs.desks.rows_of.Goals as goal
 use Rattle.history_check.proofs.desks.rows_of.Goals.{in-Run+in_ok-next+in_ok-map_err-2, in_default}

@@ -5,11 +5,12 @@ use Rattle.ft_base.specs.declared.limits.Limits.{Limits}
 use Rattle.ft_base.specs.Job.{Job, Spec}
 use Rattle.ft_base.specs.Versions.{levels, limits_of}
 use Rattle.ft_base.proofs.Versions.{few-largest, levels-most}
+use Rattle.ft_base.proofs.Small.{each-pushed}
 use Rattle.user_specs.specs.Bound.{call_bound_in, call_bound_of}
 use Rattle.user_specs.specs.Plain.{cpu_of, spec_of}
 use Rattle.word_machine.specs.Laws.{room_on}
 use Rattle.trace_rings.proofs.Plans.{cpu-count}
-use Rattle.machine_core.proofs.Plans.{push-each, room-most}
+use Rattle.machine_core.proofs.Plans.{room-most}
 use Rattle.live_threads.proofs.RingRooms.{few-acts, few-tasks, room-is, rooms-are}
 use Rattle.live_threads.proofs.ring_rooms.ring_rooms.Goals.{After-calls_of}
 use Rattle.live_threads.proofs.ring_rooms.ring_rooms.Goals as goal
@@ -64,7 +65,7 @@ loop-plan-preserved c = record {
       let x = c.call_bound-bound.result * c.calls_of.result in
       let own : x ≡ room_on job (length c.loop-plan.rooms.items) =
       is-room (goal.at.loop-plan-preserved c).After-calls_of ∙ ap (room_on job) (sym had.count) in
-      push-each (λ n z. z ≡ room_on job n) c.loop-plan.rooms.items x had.rooms own k y
+      each-pushed (λ n z. z ≡ room_on job n) c.loop-plan.rooms.items x had.rooms own k y
       (ap (λ (xs : List ℕ). slice_get xs k) (sym c.push_reserved.ensures.items) ∙ at));
   count = search rules;
   room = search rules;

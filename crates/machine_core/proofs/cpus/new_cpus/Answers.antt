@@ -5,8 +5,8 @@ use Rattle.user_specs.specs.declared.plan.CpuPlan.{CpuPlan}
 use Rattle.word_map.specs.declared.shape.Shape.{Shape}
 use Rattle.cpu_core.specs.declared.parts.Parts.{Parts}
 use Rattle.machine_core.specs.Starts.{IsFirst}
-use Rattle.machine_core.proofs.Plans.{push-each}
 use Rattle.machine_core.proofs.cpus.new_cpus.Goals as goal
+use Rattle.ft_base.proofs.Small.{each-pushed}
 
 pub new_cpu-requires : goal.new_cpu-requires
 new_cpu-requires c =
@@ -25,7 +25,7 @@ loop-c-preserved c =
     record {
       first = λ job is k y e.
           let made : IsFirst c.args.rooms job c.loop-c.c c.in_ok-new_cpu.field-0 = c.in_ok-new_cpu.ensures {u = tt} job (is.each c.loop-c.c c.index-plans-c.result at) in
-          push-each (λ n (x : Parts). IsFirst c.args.rooms job n x) c.loop-c.cpus.items c.in_ok-new_cpu.field-0 (c.loop-c.invariant.first job is)
+          each-pushed (λ n (x : Parts). IsFirst c.args.rooms job n x) c.loop-c.cpus.items c.in_ok-new_cpu.field-0 (c.loop-c.invariant.first job is)
           (subst (λ n. IsFirst c.args.rooms job n c.in_ok-new_cpu.field-0) (sym c.loop-c.invariant.count) made) k y
           (ap (λ (xs : List Parts). slice_get xs k) (sym c.push_reserved.ensures.items) ∙ e);
       count = search rules;

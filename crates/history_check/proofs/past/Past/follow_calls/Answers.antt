@@ -6,8 +6,8 @@ use Rattle.std.proofs.lemmas.Option.{slice_get_read}
 use Rattle.std.proofs.lemmas.Result.{on_ok_weaker}
 use Rattle.history_check.specs.declared.task_past.TaskPast.{TaskPast}
 use Rattle.history_check.proofs.FollowPast.{calls-of-task, no-task-there, tasks-set, tasks-still}
-use Rattle.history_check.proofs.OpenStacks.{of-own-task}
 use Rattle.history_check.proofs.past.Past.follow_calls.Goals as goal
+use Rattle.ft_hist.proofs.Laws.{own-item}
 
 pub returns-in_default-clause-told : goal.returns-in_default-clause-told
 returns-in_default-clause-told c = λ job past users d tasks goes within by due.
@@ -32,7 +32,7 @@ returns-in-Some-get_mut-clause-told c = λ job past users d tasks goes within by
     let run = ap (λ (y : TaskPast). y.run) c.follow.ensures.rest in
     let owed = ap (λ (y : TaskPast). y.due) c.follow.ensures.rest in
     on_ok_weaker c.follow.result (λ after. tasks-set job past item xs tasks call is x at new run (λ e f. ap (option_map due_of) owed ∙ due e f) after)
-    (c.follow.ensures.told job past call.task.0 users k (of-own-task item call is) (goes call.task.0) by d)
+    (c.follow.ensures.told job past call.task.0 users k (own-item item call is) (goes call.task.0) by d)
 
 pub returns-in-None-clause-told : goal.returns-in-None-clause-told
 returns-in-None-clause-told c = λ job past users d tasks goes within by due.

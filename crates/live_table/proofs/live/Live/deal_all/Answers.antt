@@ -2,10 +2,10 @@
 use Rattle.std.proofs.Common.{rules, ◌≡◌, ◌+◌, ◌++◌, ◌∷◌, [], List, length, slice_get, vec_len, sym, ap, ◌∙◌, arith, subst, append_assoc, length-append}
 use Rattle.std.specs.Vec.Iter.{into_iter_items}
 use Rattle.cpu_core.specs.declared.parts.Parts.{Parts as CpuParts}
-use Rattle.machine_core.proofs.Plans.{push-each}
 use Rattle.live_table.specs.Seats.{ControlPlace, CpuPlace, IsNewCpu}
 use Rattle.live_table.proofs.Dealt.{next-first}
 use Rattle.live_table.proofs.live.Live.deal_all.Goals as goal
+use Rattle.ft_base.proofs.Small.{each-pushed}
 
 pub deal-requires-clause-first : goal.deal-requires-clause-first
 deal-requires-clause-first c =
@@ -32,7 +32,7 @@ loop-cpu-preserved c =
       count = (let e = ap length p.items in let more = length-append c.loop-cpu.seats.items (c.deal.result ∷ []) in let n = i.count in omega (arith, e, more, n, one));
       room = p.capacity ∙ i.room;
       each = λ k s at.
-          push-each (λ n (t : CpuPlace). IsNewCpu c.args.self.now t n) c.loop-cpu.seats.items c.deal.result i.each
+          each-pushed (λ n (t : CpuPlace). IsNewCpu c.args.self.now t n) c.loop-cpu.seats.items c.deal.result i.each
           (subst (λ n. IsNewCpu c.args.self.now c.deal.result n) (c.len.ensures ∙ sym many) d.seat)
           k s (ap (λ (l : List CpuPlace). slice_get l k) (sym p.items) ∙ at);
       rest = append_assoc done (c.in-Some.cpu ∷ []) left ∙ ap (λ (l : List CpuParts). done ++ l) (sym c.in-Some.ensures.steps.0) ∙ i.rest;
