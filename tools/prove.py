@@ -6,8 +6,9 @@ checked there by `rt ci`: side by side if they don't wait for each other, on all
 is kept on this machine, so after an interruption the next ./prove goes on where this one was. The program then stands in
 crates/PROGRAM/out/PROGRAM, where ./PROGRAM finds it. While a newer source is there, it counts as not built.
 
-On a terminal each crate that is proved gives a line, otherwise each half minute does. The status is 0 if the program is
-there, 1 if something isn't proved (which is named, with the log), and 2 if nothing could be tried.
+On a terminal each crate that is proved gives a line, otherwise each half minute does. The first crate that isn't proved is
+named when that is known, and at the end. The status is 0 if the program is there, 1 if something isn't proved (which is named,
+with the log), and 2 if nothing could be tried.
 """
 import argparse
 import os
@@ -95,8 +96,8 @@ class Progress:
 class Check:
     """A run of `rt ci` in a copy, whose lines are read as they come and kept in a log."""
 
-    def __init__(self, room, names, words):
-        self.progress, self.is_told, self.failed = Progress(names), sys.stdout.isatty(), None
+    def __init__(self, room, names, words, log_path):
+        self.progress, self.is_told, self.log_path, self.failed = Progress(names), sys.stdout.isatty(), log_path, None
         how = {"stdout": subprocess.PIPE, "stderr": subprocess.STDOUT, "stdin": subprocess.DEVNULL}
         self.process = subprocess.Popen(["rt", "ci", *words], cwd=room, text=True, errors="replace", start_new_session=True, **how)
 
@@ -111,20 +112,31 @@ class Check:
             if self.process.poll() is None:
                 print(self.progress.line(self.now()), flush=True)
 
-    def read(self, log):
+    def note(self, line):
+        """Takes in a line of the run. The first crate that isn't proved is said at once, since the others may take long."""
+        ended, failed = ENDED.match(line), FAILED.match(line)
+        if ended:
+            self.progress.note(ended[1], ended[2] != "proved")
+            if self.is_told:
+                print(self.progress.line(self.now()), flush=True)
+        elif failed and not self.failed:
+            self.failed = failed[1]
+            print(f"prove: {self.fault()}; crates that don't stand on it go on", flush=True)
+
+    def read(self):
         """Reads the lines of the run to their end, and gives its status."""
         if not self.is_told:
             threading.Thread(target=self.tell, daemon=True).start()
-        for line in self.process.stdout:
-            log.write(line)
-            log.flush()
-            ended, failed = ENDED.match(line), FAILED.match(line)
-            if ended:
-                self.progress.note(ended[1], ended[2] != "proved")
-                if self.is_told:
-                    print(self.progress.line(self.now()), flush=True)
-            self.failed = self.failed or failed and failed[1]
+        with open(self.log_path, "w") as log:
+            for line in self.process.stdout:
+                log.write(line)
+                log.flush()
+                self.note(line)
         return self.process.wait()
+
+    def fault(self):
+        """Which crate isn't proved first, and where."""
+        return f"{self.failed} isn't proved: {fault_of(self.failed, self.log_path.read_text())}" if self.failed else "nothing was built"
 
     def stop(self):
         """Ends the run and what it has started."""
@@ -151,15 +163,13 @@ def prove(program, words):
     with tempfile.TemporaryDirectory(prefix="prove-") as folder:
         room = pathlib.Path(folder) / "copy"
         names = crate_list.copy_repository(room, [program])
-        check = Check(room, names, words)
+        check = Check(room, names, words, log_path)
         try:
-            with open(log_path, "w") as log:
-                status = check.read(log)
+            status = check.read()
         finally:
             check.stop()
         if status:
-            what = f"{check.failed} isn't proved: {fault_of(check.failed, log_path.read_text())}" if check.failed else "nothing was built"
-            print(f"prove: {what}; the whole log is {log_path}", flush=True)
+            print(f"prove: {check.fault()}; the whole log is {log_path}", flush=True)
             return 1
         new = out / f"{program}.new"
         shutil.copy(room / "crates" / program / "out" / program, new)

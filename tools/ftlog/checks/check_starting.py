@@ -103,8 +103,10 @@ def check_unproved(rows, copy):
 def check_prove(rows, copy):
     """What ./prove says and leaves, and ./ftcore after it."""
     rows.row("no rt", same(copy.call("prove", has_rt=False), 2, b"", b"prove: rt, the command of the Rattle kit, isn't on the path\n"))
-    failed = b"prove: ftcore isn't proved: fn ftcore::main, crates/ftcore/src/main.rt:7; the whole log is "
-    rows.row("a proof fails", ends_with(copy.call("prove", how="no proof"), 1, failed))
+    failed = b"prove: ftcore isn't proved: fn ftcore::main, crates/ftcore/src/main.rt:7; "
+    came = copy.call("prove", how="no proof")
+    rows.row("a proof fails", ends_with(came, 1, failed + b"the whole log is "))
+    rows.row("it is said at once", ends_with(came, 1, failed + b"crates that don't stand on it go on\n"))
     rows.row("the log", [] if (copy.top / "crates/ftcore/out/prove.log").read_text().endswith("1 failed\n") else ["it isn't that of the run"])
     rows.row("a proved program", ends_with(copy.call("prove"), 0, b"prove: the proved program is there, after 1 minute: ./ftcore runs it\n"))
     rows.row("it is run, and nothing is said", same(copy.call("ftcore", "replay", "a b"), 5, b"replay,a b," + SCRIPT, b""))
