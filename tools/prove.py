@@ -23,7 +23,7 @@ import threading
 import time
 
 sys.dont_write_bytecode = True
-from ftlog.proving import cost_table, crate_list, rattle_processes  # noqa: E402
+from ftlog.proving import cost_table, crate_list, rattle_processes, side_by_side  # noqa: E402
 
 EVERY = 30  # seconds between two lines if nobody sits at a terminal
 ENDED = re.compile(r"rt: (\w+) (proved|is kept)\b")
@@ -98,7 +98,7 @@ class Check:
 
     def __init__(self, room, names, words, log_path):
         self.progress, self.is_told, self.log_path, self.failed = Progress(names), sys.stdout.isatty(), log_path, None
-        how = {"stdout": subprocess.PIPE, "stderr": subprocess.STDOUT, "stdin": subprocess.DEVNULL}
+        how = {"stdout": subprocess.PIPE, "stderr": subprocess.STDOUT, "stdin": subprocess.DEVNULL, "env": side_by_side.environment()}
         self.process = subprocess.Popen(["rt", "ci", *words], cwd=room, text=True, errors="replace", start_new_session=True, **how)
 
     def now(self):

@@ -1,19 +1,9 @@
 """The prover by itself, for what `rt` has no command for: some functions of a crate, over the libraries that `rt ci` has built."""
-import os
 import pathlib
-import re
 import shutil
 import subprocess
 
 from ftlog.proving import crate_list
-
-MEMORY = 3.5e9  # bytes that a prover may want
-
-
-def lanes():
-    """How many provers may run side by side, by the processors and the memory that is free."""
-    free = int(re.search(r"MemAvailable: *(\d+) kB", pathlib.Path("/proc/meminfo").read_text())[1]) * 1024
-    return max(1, min(len(os.sched_getaffinity(0)), int(free / MEMORY)))
 
 
 def library_words(top, name):

@@ -21,7 +21,7 @@ import tempfile
 
 from ftlog import runs
 from ftlog.fault import Fault
-from ftlog.proving import crate_list, edits, prover
+from ftlog.proving import crate_list, edits, prover, side_by_side
 
 RESULT = re.compile(r"rt: (?:must-fail )?(\w+/[\w.-]+\.edit): (.*)")
 NOT_PROVED = re.compile(r"rt: \w+ NOT PROVED")
@@ -97,7 +97,8 @@ def try_bodies(room, name):
 def by_rt_ci(room):
     """Runs `rt ci` in a copy, says the results of edits as they come, and gives them by edit."""
     said = {}
-    with subprocess.Popen(["rt", "ci"], cwd=room, stdout=subprocess.PIPE, stderr=subprocess.STDOUT, text=True) as tried:
+    how = {"env": side_by_side.environment(), "stdout": subprocess.PIPE, "stderr": subprocess.STDOUT, "text": True}
+    with subprocess.Popen(["rt", "ci"], cwd=room, **how) as tried:
         for line in tried.stdout:
             found = RESULT.match(line)
             if found:
@@ -126,7 +127,7 @@ def try_edits(names, room):
     crate_list.copy_repository(room / "proved", names, extra=["further"])
     by_rt_ci(room / "proved")
     said = {}
-    with concurrent.futures.ThreadPoolExecutor(prover.lanes()) as pool:
+    with concurrent.futures.ThreadPoolExecutor(side_by_side.provers()) as pool:
         for found in pool.map(lambda name: try_bodies(room / "proved", name), names):
             said.update(found)
             for edit, text in found.items():
