@@ -23,7 +23,8 @@ import threading
 import time
 
 sys.dont_write_bytecode = True
-from ftlog.proving import cost_table, crate_list, rattle_processes, side_by_side  # noqa: E402
+from ftlog.proving import crate_list, rattle_processes, side_by_side  # noqa: E402
+from ftlog.proving.progress import Progress, minutes  # noqa: E402
 
 EVERY = 30  # seconds between two lines if nobody sits at a terminal
 ENDED = re.compile(r"rt: (\w+) (proved|is kept)\b")
@@ -48,49 +49,6 @@ def is_built(program):
         for part in crate_list.PARTS:
             files += (crate_list.TOP / "crates" / name / part).rglob("*")
     return all(it.stat().st_mtime_ns <= built for it in files)
-
-
-def minutes(seconds):
-    """These seconds in words, one minute at least."""
-    number = max(1, round(seconds / 60))
-    return f"{number} minute{'s' * (number > 1)}"
-
-
-def longest_chain(crates, seconds):
-    """The most seconds that crates take of which each waits for the one before."""
-    taken = {}
-    for name in crates:  # in the order of crates.txt, where a crate comes after those it stands on
-        taken[name] = seconds.get(name, 0) + max((taken.get(it, 0) for it in crates[name][1]), default=0)
-    return max(taken.values(), default=0)
-
-
-class Progress:
-    """How far the proofs are: which crates are done, and how fast the seconds of docs/COST.md go by on this machine."""
-
-    def __init__(self, names):
-        self.crates = {name: told for name, told in crate_list.read_crates().items() if name in names}
-        known = {name: row.proof for name, row in cost_table.read().items() if name in names and row.proof}
-        usual = sum(known.values()) / len(known) if known else 60.0  # of a crate that isn't in the table yet
-        self.seconds = {name: known.get(name, usual) for name in names}
-        self.done, self.proved, self.begun = set(), 0.0, time.monotonic()
-
-    def note(self, name, is_kept):
-        """This crate is proved, now or by an earlier run."""
-        self.done.add(name)
-        self.proved += 0 if is_kept else self.seconds.get(name, 0.0)
-
-    def seconds_left(self):
-        """About how long the rest will take."""
-        left = {name: self.seconds[name] for name in self.crates if name not in self.done}
-        processors = len(os.sched_getaffinity(0))
-        taken = time.monotonic() - self.begun
-        speed = self.proved / taken if self.proved > 60 else processors  # seconds of the table, in a second
-        return max(sum(left.values()) / max(speed, 0.1), longest_chain(self.crates, left))
-
-    def line(self, now):
-        """The line that tells it; `now` are the crates that are being proved."""
-        doing = ", ".join(sorted(now)) or "the program"
-        return f"prove: {len(self.done)} of {len(self.crates)} crates; {doing}; about {minutes(self.seconds_left())} left"
 
 
 class Check:

@@ -16,8 +16,8 @@ import tempfile
 from ftlog import runs
 
 FILES = ("ftcore", "prove", "tools/start.sh", "tools/prove.py", "tools/ftlog/__init__.py", "tools/ftlog/proving/__init__.py",
-         "tools/ftlog/proving/crate_list.py", "tools/ftlog/proving/cost_table.py", "tools/ftlog/proving/rattle_processes.py",
-         "tools/ftlog/proving/side_by_side.py")
+         "tools/ftlog/proving/crate_list.py", "tools/ftlog/proving/cost_table.py", "tools/ftlog/proving/progress.py",
+         "tools/ftlog/proving/rattle_processes.py", "tools/ftlog/proving/side_by_side.py")
 CRATES = "ft_base:\nother_tests: ft_base\nftcore: ft_base\n"
 SCRIPT = b"ftrace 1\n\x00\xff no line feed"
 UNPROVED = b"ftcore: this answer is of an unproved build with run-time checks, which takes a minute or two; ./prove builds the proved program\n"
