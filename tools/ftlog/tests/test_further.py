@@ -119,6 +119,19 @@ class Further(unittest.TestCase):
         self.assertEqual(told["list::Served::serve_twice"], "refused, as it must be: list::Served::serve_twice is not proved")
         self.assertEqual([told[it] for it in ("list::List::is_full", "list::KeptTaker::take", "list::lists_are_short")], ["", "", ""])
 
+    def test_methods_of_another_file(self):
+        """A method is told by the module of its type; if there are several of that type's name and its own, by its whole name alone."""
+        body = [("src/walk.rt", functions.Function("walk::List::next", 0, 0, 2))]
+        for refused, lines in (
+            (True, ["short::list::List::next: not proved"]),
+            (True, ["short::list::fn::List::next::map: not proved", "short::list::List::next: proved"]),
+            (False, ["short::list::List::next: proved", "short::list::List::next_one: not proved", "short::list::OtherList::next: not proved"]),
+            (False, ["short::list::List::next: not proved", "short::walk::List::next: proved"]),
+            (True, ["short::list::List::next: proved", "short::walk::List::next: not proved"]),
+        ):
+            said = further.said_of(body, "".join(f"fn {line}\n" for line in lines))
+            self.assertEqual(said.startswith(further.REFUSED), refused, lines)
+
 
 if __name__ == "__main__":
     unittest.main()

@@ -50,12 +50,21 @@ def batches_of(room, name):
     return batches
 
 
+def told_of(name, told):
+    """What the prover told of a function and of those within it. A method is told by the module of its type, whatever file it stands in: so
+    by its type's name and its own, and if there are several of these, by its whole name."""
+    short = "::".join(name.split("::")[-2:])
+    own = [it for it in told if f"::{it[0]}".endswith(f"::{short}")]
+    if len({found for found, _ in own}) > 1:
+        return [text for found, text in own if f"::{found}".endswith(f"::{name}")]
+    return [text for found, text in told if (found, text) in own or f"::fn::{short}::" in f"::{found}"]
+
+
 def said_of(bodies, output):
     """What the prover said of an edit whose bodies these are: where it refuses it, or nothing."""
+    told = FUNCTION.findall(output)
     for path, it in bodies:
-        own = f"::{it.name}"
-        told = [text for found, text in FUNCTION.findall(output) if f"::{found}".endswith(own) or f"::fn{own}::" in f"::{found}"]
-        if any(OPEN.match(text) for text in told):
+        if any(OPEN.match(text) for text in told_of(it.name, told)):
             where = (f"{at}:{line}: {text}" for at, line, text in PLACE.findall(output) if at == path and it.first < int(line) <= it.last + 1)
             return f"{REFUSED}: {next(where, f'{it.name} is not proved')[:160]}"
     return ""
