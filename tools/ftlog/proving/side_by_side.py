@@ -1,6 +1,6 @@
 """How many provers may run side by side on this machine, by its processors and by the memory that is free.
 
-`rt ci` begins a check if what it reckons for it is free, and it reckons one of a crate high up at 4 to 5 GB, by lines; none has taken
+`rt ci` begins a check if what it reckons for it is free, and it reckons one of a crate high up at 4 to 7 GB, by lines; none has taken
 more than 3.3 GB (docs/COST.md). So on a machine with 8 GB it would leave a second processor idle for most of the time. RT_JOBS in its
 environment says how many to run, whatever they are reckoned at.
 """
