@@ -9,7 +9,7 @@
 - the blocks of README.md and of each page of docs/ that are scripts or commands.
 
 The programs of docs/LIBRARY.md aren't run here, but by `rt ci`: the page has to have the bytes of the one's source, and of the output
-that is stored beside each.
+that is stored beside each. docs/SIGNATURES.md has to be what `tools/ft signatures` prints.
 
 A block is lines of a page that begin with four blanks, with no other line between them.
 
@@ -46,6 +46,7 @@ import tempfile
 
 from ftlog import runs
 from ftlog.checks import judging, page_names
+from ftlog.upkeep import signatures
 
 REFUSED = re.compile(rb"line [1-9][0-9]*: [a-z]+\n")
 ENDS = (b"end\n", b"stopped\n")
@@ -214,6 +215,12 @@ def show_library(rows, page, crate, what):
         rows.row(f"{page.name}, {path} of {crate.name}", [fault] if fault else [])
 
 
+def show_signatures(rows, top):
+    """One row: the page of signatures is what the sources give."""
+    fault = runs.other_text((top / "docs" / "SIGNATURES.md").read_bytes(), signatures.page(top).encode())
+    rows.row("SIGNATURES.md", [fault] if fault else [])
+
+
 def commands(number, block):
     """The commands of a block: of each the number of its line, that line, and what is said to be printed."""
     found = []
@@ -365,6 +372,7 @@ def run(words):
     show_table_rows(rows, words.program, words.top / "docs" / "LANGUAGE.md")
     for crate, what in PROGRAMS.items():
         show_library(rows, words.top / "docs" / "LIBRARY.md", words.top / "crates" / crate, what)
+    show_signatures(rows, words.top)
     pages = [words.top / "README.md", *sorted((words.top / "docs").glob("*.md"))]
     page_names.check(rows, words.top, pages)
     for path in pages:

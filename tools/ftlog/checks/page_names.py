@@ -1,5 +1,6 @@
-"""What the pages name has to be there: links with their anchors, files, crates, functions, laws and edits; and a figure that
-stands on several pages is the same on each. check_docs.py counts what is found here."""
+"""What the pages name has to be there: links with their anchors, files, crates, functions, laws and edits; a figure that stands on
+several pages is the same on each; and README.md's list of what is trusted has the crates of the kit that ours stand on, and the files
+whose constants definitions take, and no others. check_docs.py counts what is found here."""
 import re
 
 from ftlog.proving import crate_list
@@ -11,6 +12,8 @@ FILE = re.compile(r"(?:tools|docs|examples|crates|\.ci)/[\w./-]*\w")
 PATH = re.compile(r"(\w+)((?:::\w+)+)")
 EDIT = re.compile(r"(\w+)/(\w+)")
 NOT_THERE = re.compile(r"NAME|CRATE|/[A-Z]\b|crates/bench\b")  # what stands for any name, and a crate that BENCH.md tells how to make
+LISTED = re.compile(r"of the crates ((?:`\w+`(?:, | and )?)+)")
+CONSTANTS = re.compile(r"Rattle\.(\w+)\.specs\.declared\.([\w.]+)\.TheConstants")
 DEFINED = re.compile(r"\b(?:fn|struct|enum|trait|type|const|static|mod)\s+(\w+)|\b(?:pub )?use [^;]*?(\w+)[;,}]")
 FIGURES = {
     "the minutes of ./prove": r"\babout (\d+) minutes on four processors",
@@ -97,6 +100,19 @@ def contracts(path, names):
                 yield f"{crate} has no {name}"
 
 
+def trusted(text, names):
+    """What README.md's list of what is trusted hasn't, or has and shouldn't."""
+    part = text.partition("## What is trusted\n")[2]
+    kit = {name for line, _ in names.crates.values() for name in line.partition(":")[2].split()} - names.crates.keys()
+    specs = [path.read_text() for path in sorted((names.top / "crates").glob("*/specs/**/*.antt"))]
+    files = {f"{crate}/src/{file.replace('.', '/')}.rt" for spec in specs for crate, file in CONSTANTS.findall(spec)}
+    listed = LISTED.search(part)
+    said = set(CODE.findall(listed[1])) if listed else set()
+    for what, wanted, named in (("a crate of the kit", kit, said), ("a file of constants", files, {it for it in CODE.findall(part) if it.endswith(".rt")})):
+        yield from (f"{name} isn't named, {what}" for name in sorted(wanted - named))
+        yield from (f"{name} isn't {what} that is trusted" for name in sorted(named - wanted))
+
+
 def figures(pages):
     """What is wrong with the figures that several pages have."""
     for what, form in FIGURES.items():
@@ -106,10 +122,11 @@ def figures(pages):
 
 
 def check(rows, top, pages):
-    """A row for each page, one for the rows of contracts, and one for the figures."""
+    """A row for each page, one for the rows of contracts, one for what is trusted, and one for the figures."""
     names = Names(top)
     for path in pages:
         codes = CODE.findall(BLOCK.sub("", path.read_text()))
         rows.row(f"{path.name}: what it names", [*links(path, top), *filter(None, map(names.fault, codes))])
     rows.row("CONTRACTS.md: its rows", list(contracts(top / "docs" / "CONTRACTS.md", names)))
+    rows.row("README.md: what is trusted", list(trusted((top / "README.md").read_text(), names)))
     rows.row("figures of several pages", list(figures(pages)))
