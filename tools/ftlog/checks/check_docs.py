@@ -33,9 +33,8 @@ Other blocks are left alone: pictures, and commands of other programs. But no co
 
 - If its lines begin with `./ftcore`, they are commands that a reader types: each is run and has to end with 0. What stands after
   two blanks says what it does.
-- If it begins with `head` or `printf`, it is for the reader's shell. It is run as a whole: FILE is an example, N the line of
-  its first call, and what stands after four blanks in a line says what that line prints. It has to end with 0, print something, and say nothing
-  on standard error.
+- If it begins with `printf`, it is for the reader's shell. It is run as a whole, and has to end with 0, print something, and say nothing on
+  standard error.
 
 page_names.py looks whether what a page names is there. The last line is `docs: N passed, M failed`, and the status is 0 if
 nothing failed.
@@ -53,14 +52,12 @@ ENDS = (b"end\n", b"stopped\n")
 FORMS = {form: ["replay", "--print", form] for form in ("function", "graph", "profile", "enabled", "modules", "rings")}
 FORMS["log"] = ["replay"]
 COMMAND = re.compile(rb"\$ ftcore((?: [\w=.-]+)*)(?: < (examples/[\w.]+\.ft))?\n")
-RECIPE = (b"head -n N FILE", b"printf ")
 TOOL = runs.TOP / "tools" / "ft"
 LITMUS = "litmus"  # the folder of examples/ whose scripts docs/OUTCOMES.md is about
 OUTCOMES = runs.TOP / "crates" / "ftoutcomes" / "out" / "ftoutcomes"
 STATUS = re.compile(rb"status ([0-9]+)\n\Z")  # the last line of what a tool writes, on a page
 JUDGED = "judged"  # the folder of examples/ that has the logs to be judged
 TOLD = re.compile(r"(\w+): (whole|legal|line [0-9]+: (plain run|[a-z]+))(?: \((\w+)\))?")  # a line of verdicts.txt
-EXAMPLE = "examples/realistic.ft"  # what recipes are tried on
 TYPED = re.compile(rb"\./ftcore((?: [\w=.-]+)*)(?: < (examples/[\w.]+\.ft))?(?:  .*)?\n")
 IS_COMMAND = re.compile(r"[\s>*+-]*\$\s*\S*ftcore\b")
 PROGRAMS = {"step_by_step": [(b"rust", "src/main.rt"), (b"text", "stdout")], "ring_runs": [(b"text", "stdout")]}  # what of them docs/LIBRARY.md has
@@ -232,11 +229,6 @@ def commands(number, block):
     return found
 
 
-def first_call(script):
-    """The number of the first line of a script in which a task calls a function."""
-    return next(number for number, line in enumerate(script.read_text().splitlines(), 1) if line.split()[:1] == ["call"])
-
-
 class Page:
     """A page whose blocks are run one by one: the nearest script, with the number of its line, and the lines that were run."""
 
@@ -312,12 +304,9 @@ class Page:
                 self.rows.row(self.name(at), runs.faults(came, 0))
 
     def recipe(self, number, block):
-        """One row: the lines of a block for the shell, tried on an example."""
-        example = self.top / EXAMPLE
-        text = re.sub(r"(?<=\S) {4,}\w.*", "", block.decode()).replace("./ftcore", str(self.program))
-        text = re.sub(r"\bFILE\b", str(example), text).replace("-n N ", f"-n {first_call(example)} ")
+        """One row: the lines of a block for the shell."""
         with tempfile.TemporaryDirectory() as room:
-            came = runs.answer(["bash", "-c", text], cwd=room)
+            came = runs.answer(["bash", "-c", block.decode().replace("./ftcore", str(self.program))], cwd=room)
         self.rows.row(self.name(number), runs.faults(came, 0) + ([] if came.out else ["it prints nothing"]))
 
     def show(self):
@@ -337,7 +326,7 @@ class Page:
                 self.judge(number, block)
             elif block.startswith(b"./ftcore"):
                 self.type(number, block)
-            elif block.startswith(RECIPE):
+            elif block.startswith(b"printf "):
                 self.recipe(number, block)
             elif is_below:
                 self.ran.add(self.scripts[-1])
