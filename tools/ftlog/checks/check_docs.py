@@ -291,7 +291,7 @@ class Page:
             return
         status, text = STATUS.search(wanted), STATUS.sub(b"", wanted)
         came = runs.answer([TOOL, *shlex.split(line.decode())[2:]], self.script or b"", seconds=60, cwd=self.top)
-        both = came._replace(out=came.out + came.err, err=b"")
+        both = came._replace(out=came.out + came.err, err=b"") if came.status is not None else came
         self.rows.row(self.name(number), runs.faults(both, int(status[1]) if status else 0, text), came.seconds)
 
     def type(self, number, block):
