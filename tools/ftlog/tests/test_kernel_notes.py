@@ -1,8 +1,9 @@
 """kernel-notes: each row of the table of differences is a row of docs/KERNEL.md, and each is found in a script that has it."""
 import re
 
-from ftlog import differing_lines, given_logs
-from ftlog.kernel_differences import BOTH, DIFFERENCES, GLOBS
+from ftlog import given_logs
+from ftlog.commands.kernel_notes import Finder
+from ftlog.kernel_differences import DIFFERENCES, GLOBS, KERNELS
 from ftlog.tests import wrong_logs
 from ftlog.tests.runs_in_process import EXAMPLES, Case, answer, lines
 
@@ -15,6 +16,7 @@ FOUND = {
     "refused write": ("func a; user t function; ctl filter t > z; ctl filter t >> z; ctl filter t > a", [4]),
     "twice": ("func a; user t function; ctl register t; ctl register t; ctl unregister t; ctl unregister t", [5, 7]),
     "fprobe twice": ("func a; user t fprobe; ctl register t; ctl register t", [5]),
+    "no fprobe": ("func a; user t fprobe; ctl unregister t", [4]),
     "octal": ("func a; func b; user t function; ctl filter t > 02; ctl filter t >> !01; ctl filter t > 2", [5, 6]),
     "no number": ("func a; user t function; ctl filter t > 2; ctl notrace t >> 0", [4, 5]),
     "no module": ("func a m; user t function; ctl filter t > *:mod:; ctl filter t > :mod:!", [4, 5]),
@@ -29,7 +31,18 @@ FOUND = {
                       "ctl notrace t > a; ctl filter s > a; ctl register t; ctl register s", [11]),
     "recursion": ("func a; user t function call a; user s function irq a", [3]),
     "missed entry": ("func a; depth 1; user p fprobe exit; " + TASK.replace("ret; ", "call a; ret; ret; "), [4]),
+    "refused registration": ("func a; func b; user t function regs ipmodify b; user s function regs ipmodify b; ctl filter t > a; "
+                             "ctl filter s > a; ctl register t; ctl register s; ctl filter t >> b", [9]),
     "order of fprobes": ("func a; user p fprobe exit; user q fprobe exit; ctl register p; ctl register q; ctl filter p > a", [6]),
+    "block of fprobes": ("func a; func b; user s function; user t function; user p fprobe exit; user q fprobe exit; ctl filter p > b; "
+                         "ctl register s; ctl register p; ctl register t; ctl register q; ctl unregister p; ctl register p", [12, 14]),
+    "former graph user": ("func a; user g graph; user h graph; ctl register g; ctl unregister g; ctl register h; ctl register h", [7]),
+    "former fprobe": ("func a; user p fprobe exit; user q fprobe exit; ctl register p; ctl unregister p; ctl register q; ctl register p; "
+                      "ctl unregister p; ctl register p; ctl unregister p; ctl unregister q; ctl register q; ctl register p", [10]),
+    "slot 0": ("func a; func b; user g graph; user h graph; ctl filter g > a; ctl filter h > a; ctl register g; ctl register h; "
+               "ctl filter h >> b; ctl filter h > b; ctl unregister g; ctl register g", [10]),
+    "slot 0 of fprobes": ("func a; func b; user g graph; user p fprobe exit; user q fprobe exit; ctl filter p > a; ctl filter q > b; "
+                          "ctl register p; ctl register q; ctl register g; ctl unregister q", [12]),
     "order of graphs": ("func a; user p graph; user q profile; ctl register p; ctl register q", [6]),
     "frames": ("func a; depth 4; user g graph", [3]),
     "page of frames": ("func a; user g graph; cpu 0 quantum 9; task 10 cpu 0; " + "call a; " * 52 + "ret; " * 51 + "ret", [56]),
@@ -37,7 +50,8 @@ FOUND = {
     "second graph": ("func a; user p graph; user q profile; ctl register p; ctl register q; ctl unregister p; ctl unregister q; "
                      "ctl register p", [6]),
     "one graph ops": ("func a; user p graph; user q profile; ctl register p; ctl register q", [6]),
-    "filter's wait": ("func a; user t function; ctl filter t > a; ctl register t; ctl filter t >", [6]),
+    "filter's wait": ("func a; func b; user t function; ctl filter t > a; ctl register t; ctl filter t >; ctl filter t >> a; "
+                      "ctl filter t >> b; ctl notrace t > a; ctl notrace t >; ctl filter t > b", [8, 10, 12]),
     "pids' wait": ("func a; user t function pid; " + TASK + "ctl pid 10; ctl register t; ctl nopid 10", [11]),
     "depth's wait": ("func a; user g graph; ctl maxdepth 2; ctl register g; ctl maxdepth 1", [6]),
     "live patches": ("func a; func b; user t function regs ipmodify b; user s function regs ipmodify b; ctl filter t > a; "
@@ -90,12 +104,12 @@ class KernelNotes(Case):
         self.assertEqual(set(DIFFERENCES), set(FOUND))
         for name, (script, wanted) in FOUND.items():
             text, read = given_logs.read_script(self.write("x.ft", lines("ftrace 1; " + script)))
-            found = [note.number for note in differing_lines.Finder(read).found() if note.name == name]
+            found = [note.number for note in Finder(read).found() if note.name == name]
             self.assertEqual(wanted, found, name)
 
     def test_a_kernel_has_its_own_differences(self):
         for name, difference in DIFFERENCES.items():
-            for kernel in BOTH:
+            for kernel in KERNELS:
                 told = f"{kernel}: {difference.there} (KERNEL.md, {difference.section}: {difference.row})"
                 self.assertEqual(kernel in difference.kernels, told in self.notes(FOUND[name][0], kernel), name)
 
@@ -113,7 +127,7 @@ class KernelNotes(Case):
 
     def test_each_example(self):
         for path in EXAMPLES.glob("*.ft"):
-            for kernel in BOTH:
+            for kernel in KERNELS:
                 self.assertEqual(0, answer("kernel-notes", path, "--kernel", kernel)[0], path)
 
     def test_wrong_inputs(self):
