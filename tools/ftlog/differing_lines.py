@@ -56,7 +56,11 @@ class Finder:
         self.control = control_lines.Control(script)
         self.desk = self.control.desk
         self.triggers = iter(script.triggers)
-        self.sharing = set()  # the pairs of users that were noted for the order of their callbacks
+        self.fprobe_names, self.graph_names = self.fprobes(), self.kinds(*ON_GRAPH)
+        self.ever = []  # the exit fprobes and graph users, in the order in which they were first registered
+        self.stayed = {}  # of each of them that was unregistered: those of its kind that have been registered ever since
+        self.older = set()  # the registered users that were so before any exit fprobe
+        self.sharing = set()  # the pairs of users that were noted for their callbacks, by the name of the difference
         self.notes, self.number, self.words = [], 0, []
 
     def note(self, name, here):
@@ -227,9 +231,13 @@ class Finder:
         if word in script_lines.SET_WORDS:
             self.edit(word, answer, here, user, *words)
         elif answer == "already" or (word, answer) == ("unregister", "not-there"):
-            self.note("fprobe twice" if is_fprobe and answer == "already" else "twice", here)
+            self.note(("fprobe twice" if answer == "already" else "no fprobe") if is_fprobe else "twice", here)
         elif (word, answer) == ("register", "ok"):
             self.register(user, here)
+        elif word == "register" and answer.startswith("busy"):
+            self.note("refused registration", f"{here}, and {user} isn't called back")
+        elif (word, answer) == ("unregister", "ok") and self.kind_of(user):
+            self.unregister(user, self.kind_of(user))
         elif (word, answer) == ("disable", "ok") and is_fprobe:
             self.note("disable", "none of its callbacks is running when it returns")
         self.replaces(word, answer, here, user, *words)
@@ -241,6 +249,27 @@ class Finder:
             self.note("one graph ops", f"{here}, and each graph user counts by itself")
         if sum(self.desk.registered.values()) >= self.script.slots:
             self.note("trampoline", "no slot is free, so the list caller calls it")
+        if self.kind_of(user):
+            self.again(user, self.kind_of(user))
+
+    def kind_of(self, user):
+        """The users whose exits may be mistaken for this one's: all exit fprobes, or all graph users; None if it is neither."""
+        return next((names for names in (self.fprobe_names, self.graph_names) if user in names), None)
+
+    def again(self, user, kind):
+        """A registration of a user of this kind; there may have been others before."""
+        if kind is self.graph_names and any(name in self.stayed for name in kind):
+            self.note("former graph user", "a call that was entered under a registration that has ended gets no exit")
+        if kind is self.fprobe_names and self.stayed.get(user):
+            self.note("former fprobe", f"a call that was entered under the former registration of {user} gets no exit")
+        if user not in self.ever:
+            self.ever.append(user)
+
+    def unregister(self, user, kind):
+        """An unregistration of a user of this kind."""
+        for names in self.stayed.values():
+            names.discard(user)
+        self.stayed[user] = {name for name in kind if name in self.desk.registered and name != user}
 
     def edit(self, word, answer, here, user, mode, text=None):
         """A change of a filter or a notrace set."""
@@ -251,7 +280,8 @@ class Finder:
             self.note("missing module", here)
         elif word == "filter" and mode == ">" and answer == "no-match" and user in self.by_file():
             self.note("refused write", f"{here}, and nothing changes")
-        if answer == "ok" and user in self.desk.registered:
+        changed = {word: self.desk.edited(word, user, mode, *([] if text is None else [text]))}
+        if answer == "ok" and user in self.desk.registered and self.desk.matching(user) - self.desk.matching(user, **changed):
             self.note("filter's wait", "no callback that the new set excludes runs when the command has returned")
 
     def by_file(self):
@@ -293,10 +323,37 @@ class Finder:
                 self.note("filters alone", f"{here}, since a notrace set keeps them apart")
 
     def orders(self):
-        """Notes the users whose callbacks a kernel gives another order, at the line after which they share a function."""
-        fprobes = [name for name in self.fprobes() if not self.users[name].cancels]
-        for name, users in [("order of fprobes", fprobes), ("order of graphs", self.kinds(*ON_GRAPH))]:
+        """Notes the users whose callbacks a kernel gives another order or other calls, at the line after which that shows."""
+        fprobes = [name for name in self.fprobe_names if not self.users[name].cancels]
+        for name, users in [("order of fprobes", fprobes), ("order of graphs", self.graph_names)]:
             for pair in itertools.combinations([user for user in users if user in self.desk.matched], 2):
-                if pair not in self.sharing and self.desk.matched[pair[0]] & self.desk.matched[pair[1]]:
-                    self.sharing.add(pair)
-                    self.note(name, f"the exits of {pair[0]} and {pair[1]} come in the order of their entries, the latest registered first")
+                if self.desk.matched[pair[0]] & self.desk.matched[pair[1]]:
+                    self.once(name, *pair, f"the exits of {pair[0]} and {pair[1]} come in the order of their entries, the latest registered first")
+        self.blocks()
+        for users in (self.graph_names, self.ever):
+            first = next((user for user in self.ever if user in users), None)
+            if first is not None and first not in self.stayed:
+                self.slot_0(first)
+
+    def blocks(self):
+        """Notes the users that were registered between two exit fprobes: these are called back together."""
+        registered = list(self.desk.registered)
+        self.older = self.older & set(registered) if set(registered) & set(self.fprobe_names) else set(registered)
+        for user, fprobe in itertools.combinations(registered, 2):  # the one that was registered earlier comes first
+            is_between = fprobe in self.fprobe_names and not {user} & {*self.fprobe_names, *self.older}
+            if is_between and self.desk.matched[user] & self.desk.matched[fprobe]:
+                self.once("block of fprobes", user, fprobe, f"{fprobe} is called back before {user}, which was registered before it")
+
+    def slot_0(self, first):
+        """Notes the graph users that match other functions than the one that has slot 0; all fprobes share a slot."""
+        name, sharing = ("slot 0 of fprobes", self.fprobe_names) if first in self.fprobe_names else ("slot 0", [first])
+        own = set().union(*(self.desk.matched.get(user, set()) for user in sharing))
+        for user in self.graph_names:
+            if user != first and self.desk.matched.get(user, set()) - own:
+                self.once(name, first, user, f"{first} gets no exit of a call that only {user} matches")
+
+    def once(self, name, one, other, here):
+        """Notes a difference of two users, if it wasn't noted for them before."""
+        if (name, one, other) not in self.sharing:
+            self.sharing.add((name, one, other))
+            self.note(name, here)

@@ -2,7 +2,7 @@
 import re
 
 from ftlog import given_logs
-from ftlog.commands.kernel_notes import Finder
+from ftlog.differing_lines import Finder
 from ftlog.kernel_differences import DIFFERENCES, GLOBS, KERNELS
 from ftlog.tests import wrong_logs
 from ftlog.tests.runs_in_process import EXAMPLES, Case, answer, lines
