@@ -90,6 +90,7 @@ class Above:
     def __init__(self):
         self.version = limits.VERSION_1
         self.version_below = None  # the line that says the version, if line 1 doesn't
+        self.is_log = False  # whether a log has begun, as in an input of ftjudge
         self.rank, self.first_of_rank = 0, {}
         self.sizes: Dict[str, Line] = {}
         self.slots: Optional[int] = None

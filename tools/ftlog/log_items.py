@@ -39,6 +39,7 @@ class Task:
     def __init__(self, pid, cpu):
         self.pid, self.cpu, self.calls = pid, cpu, 0
         self.open = []  # of each what it is, its call, the called function, the context and the user
+        self.owed = {}  # of each open call the places of the entry callbacks whose exits haven't come
 
 
 class Items:
@@ -48,6 +49,7 @@ class Items:
         self.script, self.turns = script, Turns(script)
         self.functions = {function.name for function in script.functions}
         self.kinds = {user.name: user.kind for user in script.users.values()}
+        self.with_exit = {user.name for user in script.users.values() if user.takes_frame and not user.cancels}
         self.tasks = {str(pid): Task(pid, cpu) for pid, cpu in script.tasks.items()}
         self.begun, self.command = 0, None  # how many commands have begun, and the fields of the one that is under way
         self.number = None  # of the latest command that has begun, from 0, in the order of the script
@@ -133,6 +135,7 @@ class Items:
         self.require(caller == (task.open[-1][1] if task.open else "-"), "that call isn't the innermost open one")
         fields["context"], fields["function"], fields["caller"] = context, function, None if caller == "-" else caller
         task.open.append(("call", call, function, context, None))
+        task.owed[call] = []
 
     def in_call(self, fields, task, words):
         """An item of the innermost open call."""
@@ -153,6 +156,20 @@ class Items:
         if item in OPENS:
             task.open.append((OPENS[item], call, function, context, fields.get("user")))
         self.more(fields, task, item, words)
+        self.owe(fields, task.owed, item, call)
+
+    def owe(self, fields, owed, item, call):
+        """Which exits are to come: an entry callback may set one up, a miss says that it found no room, and an exit is one of them."""
+        if item == "back" and fields["user"] in self.with_exit:
+            owed[call].append(self.place)
+        elif item == "miss" and fields["user"] in self.with_exit:
+            owed[call].pop()
+        elif item == "exit" and fields["entry"] in owed[call]:
+            owed[call].remove(fields["entry"])
+        elif item == "ret":
+            lost = owed.pop(call)
+            if lost:
+                fields["lost"] = lost
 
     def more(self, fields, task, item, words):
         """What only some items have."""

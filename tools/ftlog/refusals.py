@@ -14,6 +14,7 @@ from ftlog.script_limits import first
 from ftlog.script_lines import ACTS, ODD_BYTE, SKIP, WRITTEN, Line, here, last_acts, lines_of, quoted, shown
 
 
+LOG = "log"  # the line between a script and its log in an input of ftjudge
 NOT_ENDED, NO_FORM, WRONG_PLACE = "the last line isn't ended", "no such form", "in the wrong place"
 
 
@@ -21,7 +22,7 @@ NOT_ENDED, NO_FORM, WRONG_PLACE = "the last line isn't ended", "no such form", "
 class Refusal:
     """A line that is refused. `kind` says which of several things of one cause it is.
 
-    Where there are too many of something, all the lines that are too many are one refusal: `further` of them, down to the line `last`.
+    If lines of one kind are refused for one reason, as all that are too many, they are one refusal: `further` of them, down to the line `last`.
     """
 
     line: Line
@@ -29,7 +30,7 @@ class Refusal:
     kind: str
     facts: List[str]
     fix: str
-    too_many: str = ""  # what there are too many of
+    too_many: str = ""  # what there are too many of, or what else many lines are refused for
     further: int = 0
     last: int = 0
     name: str = ""  # what isn't declared
@@ -38,7 +39,7 @@ class Refusal:
     def mending(self):
         """How to fix it. Whether a name is like one that there is, is looked up only here, since it takes long."""
         if self.kind == NO_FORM:
-            return self.line.reason.mending()
+            return self.fix or self.line.reason.mending()
         found = difflib.get_close_matches(self.name, list(self.names), 1)
         return f"`{found[0]}` may be meant; or {self.fix}" if found else self.fix
 
@@ -66,7 +67,10 @@ def no_form(above, line):
     facts.append(f"word {reason.at + 1}" + (f", {quoted(word)}" if word is not None and quoted(word) not in reason.why else "")
                  + f": {reason.why}")
     facts += [f"the form is {' or '.join(f'`{form}`' for form in WRITTEN[line.key])}"] if line.key in WRITTEN else []
-    return Refusal(line, "syntax", NO_FORM, facts, "")
+    if above.is_log or line.words == [LOG]:
+        facts = [f"a script with a line `{LOG}` and a log below it is what ftjudge reads"]
+        return Refusal(line, "syntax", NO_FORM, facts, "give it to ftjudge, or leave out this line and all below it", LOG)
+    return Refusal(line, "syntax", NO_FORM, facts, "", "carriage returns" if line.text.endswith("\r") else "")
 
 
 def misplaced(above, line):
@@ -333,7 +337,17 @@ def refusals_at(above, line, is_last):
     else:
         causes = (misplaced, past_limit, duplicate, not_declared, unreadable_text)
         found = first(cause(above, line) for cause in causes) or unbalanced(above, line, is_last)
+        if found and found.kind == WRONG_PLACE:
+            told_besides(above, line, found)
     return [one for one in (ended, found) if one]
+
+
+def told_besides(above, line, found):
+    """What else is wrong with a line in the wrong place, wherever it is put: a number past its limit, or a text that can't be read."""
+    other = first(cause(above, line) for cause in (past_limit, unreadable_text))
+    if other and not other.too_many:
+        found.facts.append(f"in its place it is refused, too: {other.cause}: {other.facts[0]}")
+        found.fix += f", and then: {other.fix}"
 
 
 def take_version(above, text):
@@ -354,6 +368,7 @@ def take(above, line, found):
     """One more line is above, refused or not."""
     causes = [one for one in found if one.kind != NOT_ENDED]
     if line.form is None:
+        above.is_log = above.is_log or line.words == [LOG]
         declare_unread(above, line)
     elif causes and causes[0].too_many:
         declare_too_many(above, line)

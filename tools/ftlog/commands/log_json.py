@@ -30,6 +30,7 @@ FIELDS = {
     "body": "the function whose body runs: the called one or its replacement",
     "ran": "what the call's site called: nop, list or own",
     "entry": "the place of the entry callback that the exit belongs to",
+    "lost": "the places of the call's entry callbacks whose exits didn't come",
     "last": "how the log ends: end or stopped",
     "items": "how many items there are",
 }

@@ -48,9 +48,9 @@ def head_of(refusal):
 
 
 def further_of(refusal):
-    """What is told of later lines that are too many as well."""
+    """What is told of later lines that are refused for the same."""
     if refusal.further == 1:
-        return f"line {refusal.last} is one more too many"
+        return f"so is line {refusal.last}"
     return f"so are {refusal.further:,} more lines, down to line {refusal.last}"
 
 

@@ -28,6 +28,8 @@ SYNTAX = [
     (b"ftrace 1\nfunc a", "line 2: syntax", "the last line isn't ended", "end it with a line feed"),
     (b"ftrace 3", "line 1: syntax", "the last line isn't ended", "end it with a line feed"),
     # 2. Is it in the wrong place?
+    ("ftrace 2; func a; user t function; ring 0", "line 4: syntax", "in its place it is refused, too: limit", "put it above line 3, and then: "),
+    ("ftrace 2; func a; user t function; trigger a:traceoff:5000000", "line 4: syntax", "too: pattern: the trigger's text"),
     ("ftrace 1; user t function; func a", "line 3: syntax", "in the wrong place",
      "functions come above users, and line 2, `user t function`", "put it above line 2"),
     (f"{TASK}; ctl register t; after 1", "line 7: syntax", "put it above line 6, below the acts of its task"),
@@ -39,6 +41,8 @@ SYNTAX = [
     ("ftrace 1; ring 4; ring 5", "line 3: syntax", "line 2, `ring 4`, says it already"),
     ("ftrace 1; tracing off; tracing off", "line 3: syntax", "line 2, `tracing off`, says it already"),
     ("ftrace 1; func a; ftrace 2", "line 3: syntax", "the version is on line 1 alone"),
+    (b"ftrace 1\nfunc a\r\nfunc b\r\nfunc c\r\n", "line 2: syntax", "is a carriage return", "so are 2 more lines, down to line 4"),
+    (b"ftrace 1\nfunc a\nlog\n0 begin 1\nend\n", "line 3: syntax", "is what ftjudge reads", "so are 2 more lines, down to line 5"),
     ("ftrace 1; ctl maxdepth 1; lane 0", "line 3: syntax", "line 2, `ctl maxdepth 1`, is above it and belongs to no lane",
      "put `lane 0` above line 2"),
     (f"{TASK}; irq; iret; ctl until 10 1; lane 0", "line 9: syntax", "line 8, `ctl until 10 1`, is above it",
