@@ -1,13 +1,10 @@
-"""The table of docs/COST.md: what the check of each crate costs. It is read here, and written by `ft cost`."""
-import re
+"""What the check of each crate costs: costs.txt, beside this file, has a line for each. It is read here, and written by `ft cost`."""
+import pathlib
 from typing import NamedTuple
 
-from ftlog.proving import crate_list
-
-PAGE = crate_list.TOP / "docs" / "COST.md"
-HEAD = "| crate | proof | tests | edits | how many | memory |"
-RULE = "|---|---|---|---|---|---|"
-ROW = re.compile(r"\| (\w+) \| (\d+|-) \| (\d+|-) \| (\d+|-) \| (\d+|-) \| ([\d.]+|-) \|")
+COSTS = pathlib.Path(__file__).with_name("costs.txt")
+HEAD = "# crate, processor seconds of its proof, tests and edits, how many edits, the most memory of one process in 10^9 bytes\n"
+TABLE = "| crate | proof | tests | edits | how many | memory |\n|---|---|---|---|---|---|\n"
 
 
 class Row(NamedTuple):
@@ -25,35 +22,31 @@ class Row(NamedTuple):
         return self.proof + self.tests + self.edits
 
 
-def number(cell):
-    """The number of a cell, in which `-` is none."""
-    return 0 if cell == "-" else float(cell)
-
-
-def read(page=None):
-    """The rows of the page by crate; none if there is no page."""
-    path = page or PAGE
+def read(path=COSTS):
+    """The rows of the file by crate; none if there is no file."""
     lines = path.read_text().splitlines() if path.is_file() else []
-    found = (ROW.fullmatch(line) for line in lines)
-    return {it[1]: Row(*map(number, it.groups()[1:])) for it in found if it}
+    found = (line.split() for line in lines if not line.startswith("#"))
+    return {name: Row(*map(float, numbers)) for name, *numbers in found}
+
+
+def dearest_first(rows):
+    """The crates with their rows, in the order in which they are written."""
+    return sorted(rows.items(), key=lambda it: (-it[1].whole(), it[0]))
+
+
+def write(rows, path=COSTS):
+    """Writes these rows in the place of those that the file has."""
+    lines = [f"{name} {it.proof:.0f} {it.tests:.0f} {it.edits:.0f} {it.tried:.0f} {it.memory:.1f}\n" for name, it in dearest_first(rows)]
+    path.write_text(HEAD + "".join(lines))
 
 
 def line_of(name, row):
-    """The line of a crate."""
+    """The line of a crate in a table for who reads; nothing is `-` there."""
     cells = [f"{it:.0f}" if it else "-" for it in row[:4]] + [f"{row.memory:.1f}" if row.memory else "-"]
-    return f"| {name} | {' | '.join(cells)} |"
+    return f"| {name} | {' | '.join(cells)} |\n"
 
 
-def write(rows, page=None):
-    """Puts these rows in the place of those that the page has, the dearest crate first, with a line for all of them."""
-    path = page or PAGE
-    before, head, rest = path.read_text().partition(HEAD + "\n")
-    if not head:
-        raise ValueError(f"{path} has no line {HEAD}")
-    after = rest.splitlines(keepends=True)
-    while after and after[0].startswith("|"):
-        after.pop(0)
-    lines = [line_of(name, row) for name, row in sorted(rows.items(), key=lambda it: (-it[1].whole(), it[0]))]
+def table(rows):
+    """The rows as a table, with a line for all of them at its end."""
     every = Row(*[sum(it) for it in list(zip(*rows.values()))[:4]], max((it.memory for it in rows.values()), default=0))
-    lines.append(line_of("all", every).replace("| all |", "| **all** |"))
-    path.write_text(before + head + RULE + "\n" + "".join(line + "\n" for line in lines) + "".join(after))
+    return TABLE + "".join(line_of(*it) for it in dearest_first(rows)) + line_of("**all**", every)

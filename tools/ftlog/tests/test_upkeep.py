@@ -5,6 +5,7 @@ import unittest
 
 from ftlog import runs
 from ftlog.make import bulk_script, script_forms, viewed_scripts
+from ftlog.proving import cost_table, crate_list
 from ftlog.tests import wrong_logs
 from ftlog.tests.called import FT, ft
 from ftlog.tests.runs_in_process import EXAMPLES, Case
@@ -24,7 +25,7 @@ WRONG = [
     ["long", NOTHING, "--minutes", "1"], ["long", sys.executable], ["long", sys.executable, "--minutes", "1", "--program", NOTHING],
     ["make", "plain"], ["make", "plain", "--seed", "x"], ["make", "viewed", "--seed", "1", "--lanes", "--rings"], ["make", "others"],
     ["samples", "plain", NOTHING, "rows", "FILE"], ["samples", "word", sys.executable, "more", "FILE"], ["samples", "plain", sys.executable],
-    ["further", "nothing"], ["cost", NOTHING], ["definitions", "--all"], ["definitions", "nothing"], ["views", "x.ft", "x.log", "log"], ["nothing"],
+    ["further", "nothing"], ["cost", NOTHING], ["cost", "--write"], ["definitions", "--all"], ["definitions", "nothing"], ["views", "x.ft", "x.log", "log"], ["nothing"],
 ]
 
 
@@ -79,6 +80,22 @@ class Makers(unittest.TestCase):
         """A script of standard input gets another schedule."""
         text = (EXAMPLES / "first_path.ft").read_bytes()
         self.assertEqual(ft("make", "plain", "--seed", "3", "--step", text=text).out.encode(), script_forms.stepped(text, 3))
+
+
+class Costs(Case):
+    def test_table(self):
+        """Without a command what is known is printed: a line for each crate, and one for all."""
+        _, _, *rows, every = ft("cost").out.splitlines()
+        self.assertEqual({row.split()[1] for row in rows}, set(cost_table.read()))
+        self.assertEqual(every.split()[1], "**all**")
+
+    def test_file(self):
+        """What is written is what was read, and every crate of it is there."""
+        rows, path = cost_table.read(), self.folder / "costs.txt"
+        cost_table.write(rows, path)
+        self.assertEqual(path.read_text(), cost_table.COSTS.read_text())
+        self.assertLessEqual(set(rows), set(crate_list.read_crates()))
+        self.assertEqual(cost_table.read(self.folder / "none"), {})
 
 
 class Views(Case):

@@ -1,16 +1,19 @@
 """Tells what a run of the check costs, crate by crate, and what has grown.
 
-Runs COMMAND (`rt ci` if there is none; put `--` before one that has options), and adds up meanwhile what its provers take: for
-each crate the proof, the tests, and the must-fail edits with the check that they begin with. At the end it compares that with
-the table of docs/COST.md, and says what takes more than a fifth and five seconds more than there. What is kept from an earlier
-run on this machine takes no time and isn't compared, so a crate is looked at by itself by
+Without COMMAND it prints what is known, as a table: processor seconds of each crate's proof, of its tests, and of its must-fail edits with
+the check that they begin with, how many edits there are, and the most memory that one process took, in 10^9 bytes. That is the file
+tools/ftlog/proving/costs.txt.
+
+With COMMAND (put `--` before one that has options) it runs that, adds up meanwhile what its provers take, and says at the end what takes
+more than a fifth and five seconds more than the file has. What is kept from an earlier run on this machine takes no time and isn't
+compared, so a crate is looked at by itself by
 
     tools/ft cost rt ci NAME
 
 after it has changed. A processor second is worth less while other work runs: then all crates seem to have grown alike.
---write puts what was measured into the table, and takes crates out of it that are no longer there.
+--write puts what was measured into the file, and takes crates out of it that are no longer there.
 
-The last line is `cost: N crates, M processor minutes, K grew`, and the status is that of COMMAND.
+The last line is then `cost: N crates, M processor minutes, K grew`, and the status is that of COMMAND.
 """
 import collections
 import subprocess
@@ -53,9 +56,9 @@ def grown(rows, before):
         for part in ("proof", "tests", "edits") if old else ():
             now, then = getattr(row, part), getattr(old, part)
             if then and now > GROWN * then and now > then + LEAST:
-                yield f"cost: {name}: its {part} take {now:.0f} s, and {then:.0f} s in docs/COST.md"
+                yield f"cost: {name}: its {part} take {now:.0f} s, and {then:.0f} s in {cost_table.COSTS.name}"
         if old is None:
-            yield f"cost: {name} isn't in docs/COST.md: {row.whole():.0f} s in all"
+            yield f"cost: {name} isn't in {cost_table.COSTS.name}: {row.whole():.0f} s in all"
 
 
 def joined(old, new):
@@ -66,17 +69,23 @@ def joined(old, new):
 
 def add_words(parser):
     """Adds the words of this tool."""
-    parser.add_argument("--write", action="store_true", help="put what was measured into docs/COST.md")
-    parser.add_argument("command", nargs="*", default=["rt", "ci"], metavar="COMMAND")
+    parser.add_argument("--write", action="store_true", help="put what was measured into costs.txt")
+    parser.add_argument("command", nargs="*", metavar="COMMAND")
 
 
 def run(words):
-    """Runs the command, and compares what it cost with the table."""
+    """Runs the command, and compares what it cost with what is known; without a command, prints that."""
+    before = cost_table.read()
+    if not words.command:
+        if words.write:
+            raise Fault("--write takes a COMMAND that is measured")
+        print(cost_table.table(before), end="")
+        return 0
     try:
         process = subprocess.Popen(words.command, cwd=crate_list.TOP)
     except OSError as error:
         raise Fault(f"{words.command[0]} can't be run: {error.strerror}") from None
-    rows, before = rows_of(watch(process)), cost_table.read()
+    rows = rows_of(watch(process))
     told = list(grown(rows, before))
     print("".join(line + "\n" for line in told), end="")
     if words.write and not process.returncode:
