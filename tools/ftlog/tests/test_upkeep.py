@@ -82,6 +82,16 @@ class Makers(unittest.TestCase):
         self.assertEqual(ft("make", "plain", "--seed", "3", "--step", text=text).out.encode(), script_forms.stepped(text, 3))
 
 
+class Layers(unittest.TestCase):
+    def test_crates(self):
+        """crates/README.md has the layers of crates.txt, each with its crates."""
+        listed = (runs.TOP / "crates.txt").read_text().split("\n\n")[1:]
+        wanted = [{line.split(":")[0].split()[0] for line in part.splitlines()[1:]} for part in listed]
+        drawn = re.split(r"\n    (?=\S)", (runs.TOP / "crates" / "README.md").read_text())[1:]
+        layers = [set(" ".join(part.splitlines()[1:]).replace(",", " ").split()) for part in drawn]
+        self.assertEqual(layers[-2::-1] + layers[-1:], wanted)
+
+
 class Costs(Case):
     def test_table(self):
         """Without a command what is known is printed: a line for each crate, and one for all."""
