@@ -4,7 +4,7 @@ If none did, nothing would notice the change. The changes are in definitions.txt
 for the changes below it. A change is a line with the definition's name and, after a colon, where the
 prover refuses the change; then `old: ` with a text that comes once in that file; then `new: ` with what
 is put in its place. Both texts may go on over several lines. A definition that decides nothing by itself
-says why after `not refused`.
+says why after `not refused`. Lines that begin with `-- `, apart from these, are for who reads.
 
 Each change is made in a copy of the repository, and `rt check` is run in the file's crate and in the
 crates above it that CRATES names, until one isn't proved. That takes some minutes a change, on one
@@ -30,7 +30,11 @@ FIRST_FAULT = re.compile(r"(?:proofs|specs|src)/[\w/]*\.(?:antt|rt)(?=:\d+:\d+: 
 
 
 def read_changes(text):
-    """The changes of a text: file, name, where it is refused, the old text and the new one."""
+    """The changes of a text: file, name, where it is refused, the old text and the new one.
+
+    >>> read_changes("# F\\n\\n-- why\\nname: place\\nold: a\\nnew: b\\n-- c\\n")
+    [{'file': 'F', 'name': 'name', 'place': 'place', 'old': 'a', 'new': 'b\\n-- c'}]
+    """
     found, file, part = [], None, None
     for line in text.splitlines():
         if line.startswith("# "):
@@ -42,7 +46,7 @@ def read_changes(text):
             part = None
         elif part:
             found[-1][part] += "\n" + line
-        else:
+        elif not line.startswith("-- "):
             name, _, place = line.partition(": ")
             found.append({"file": file, "name": name, "place": place})
     return found
