@@ -5,6 +5,7 @@ import re
 import subprocess
 from typing import NamedTuple
 
+from ftlog import programs
 from ftlog.fault import Fault
 
 PARTS = 16  # of the replays at random, each with a seed of its own: as many on every machine, so that one seed gives one output
@@ -12,7 +13,6 @@ SEEDS = 4_096  # that belong to one seed
 ALL_SWITCHES = 4_294_967_295  # that many no schedule has
 OUTCOME = re.compile(r"([0-9]+) (.+)\n(sched(?: (?:k|all|[0-7])(?:\*[0-9]+)?)+)\n")
 LAST = re.compile(r"[0-9]+ outcomes in ([0-9]+) replays(, and there are (no )?more to try)?\n")
-STATUSES = {4: "it couldn't read the script", 5: "it couldn't write", 6: "out of memory", 7: "the script is too long"}
 
 
 class Shown(NamedTuple):
@@ -68,7 +68,7 @@ def run(program, words, script):
     if done.returncode == 3:
         raise Fault(f"the script is refused: {done.stdout.decode(errors='replace').strip()}")
     if done.returncode:
-        raise Fault(f"{program}: {STATUSES.get(done.returncode, f'it ended with status {done.returncode}')}")
+        raise Fault(f"{program}: {programs.STATUSES.get(done.returncode, f'it ended with status {done.returncode}')}")
     return done.stdout.decode(errors="replace")
 
 

@@ -7,7 +7,6 @@ from ftlog import runs
 from ftlog.fault import Fault
 from ftlog.script_lines import quoted
 
-PROGRAM = runs.TOP / "crates" / "ftsteps" / "out" / "ftsteps"
 SECONDS = 60  # that a run may take
 OPERATIONS = ("load", "store", "mark")
 LAST = ("end", "stopped")

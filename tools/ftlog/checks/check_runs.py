@@ -109,7 +109,7 @@ def keep(options, done):
 
 
 def add_words(parser):
-    """Adds the words of `ft judge runs`."""
+    """Adds the words of `ft check runs`."""
     parser.add_argument("program", metavar="PROGRAM", help="the program, as crates/ftcore/out/ftcore")
     judging.add_option(parser)
     parser.add_argument("--reference", metavar="REFERENCE", help="the other program, for scripts that it generates and a second opinion; else none")

@@ -1,7 +1,7 @@
 """Compares the verdicts of ftjudge with those of another program's `check`, on random logs, half of them changed at one place.
 
 REFERENCE is a program that was written from the same rules by other hands, and isn't part of this repository. A number, the seed, gives a
-row of scripts: those of `ft compare scripts` and of `ft judge runs`, of either version, with rings, with modules that come and go and with lanes.
+row of scripts: those of `ft compare scripts` and of `ft check runs`, of either version, with rings, with modules that come and go and with lanes.
 Each that is accepted gives two logs: that of a replay or of random steps by REFERENCE, and the same changed by one of the named changes
 of changed_logs.py. N logs are judged by both. They agree if of the log
 

@@ -130,7 +130,7 @@ def keep(options, tried):
 
 
 def add_words(parser):
-    """Adds the words of `ft judge hostile`."""
+    """Adds the words of `ft check hostile`."""
     judging.add_option(parser)
     parser.add_argument("--count", type=int, required=True, metavar="N", help="inputs")
     parser.add_argument("--seed", type=int, default=0, metavar="S", help="which ones, else 0")

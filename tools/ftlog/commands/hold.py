@@ -8,7 +8,7 @@ a word, as `tail a`, or `mark` and the beginning of an item, as `mark back 10.1 
 import pathlib
 import sys
 
-from ftlog import files, holds, refusals, steps
+from ftlog import files, holds, programs, refusals, steps
 from ftlog.fault import Fault
 from ftlog.limits import LIMITS
 from ftlog.planner import Planner, text_of
@@ -18,8 +18,7 @@ from ftlog.script_lines import SKIP, here, line_of, texts_of
 def add_words(parser):
     """Adds the words of this tool."""
     files.add_script(parser)
-    parser.add_argument("--steps", type=pathlib.Path, default=steps.PROGRAM, metavar="PATH",
-                        help="the program that tells the steps of a script; else crates/ftsteps/out/ftsteps")
+    parser.add_argument("--steps", type=pathlib.Path, metavar="PATH", help="the program ftsteps, if it stands elsewhere")
 
 
 def read_lines(text):
@@ -39,7 +38,7 @@ def require_accepted(text):
     """A script that is refused has no steps."""
     found = refusals.all_of(text, 1).kept
     if found:
-        raise Fault(f"the script is refused: line {found[0].line.number}: {found[0].cause}; tools/ft why tells more")
+        raise Fault(f"the script is refused: line {found[0].line.number}: {found[0].cause}; {programs.FT} why tells more")
 
 
 def require_place(lines):
@@ -96,7 +95,8 @@ def run(options):
     for line in lines:
         if holds.holds_in(line.text) is not None:
             holds.parts_of(line.number, holds.holds_in(line.text), names)  # what can't be read is told before anything is run
-    planner = Planner(steps.Program(options.steps).steps, head_of(lines), names.CPU)
+    program = steps.Program(options.steps or programs.for_tool("ftsteps"))
+    planner = Planner(program.steps, head_of(lines), names.CPU)
     found = scheduled(lines, planner, names)
     sys.stdout.buffer.write("".join(line + "\n" for line in found).encode("latin-1"))
     return 0

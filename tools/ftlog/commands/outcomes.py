@@ -5,15 +5,14 @@ so many times. For each outcome (who was called back, missed and refused in whic
 it tells how often it came at random, and a short schedule that shows it. The status is 1 if an outcome matches a --never pattern, or one
 doesn't match an --always pattern; the script with the schedule that shows it is then written, ready to replay.
 """
-import os
 import re
 import shlex
 import sys
 
-from ftlog import files, outcome_runs, runs
+from ftlog import files, outcome_runs, programs
 from ftlog.fault import Fault
 
-PROGRAM = runs.TOP / "crates" / "ftoutcomes" / "out" / "ftoutcomes"
+PROGRAM = programs.built("ftoutcomes")
 TRIES = 20_000
 SWITCHES = 4
 MOST_TRIES = 1_000_000_000
@@ -68,10 +67,11 @@ def patterns(option, words):
 
 def program_of(options):
     """The program, which has to be there."""
-    program = options.program or str(PROGRAM)
-    if not os.access(program, os.X_OK) or os.path.isdir(program):
-        raise Fault(f"{program} isn't there; ./prove ftoutcomes builds it" if options.program is None else f"{program}: it isn't a program")
-    return program
+    if options.program is None:
+        return programs.for_tool("ftoutcomes")
+    if not programs.is_program(options.program):
+        raise Fault(f"{options.program}: it isn't a program")
+    return options.program
 
 
 def is_broken(option, pattern, outcome):

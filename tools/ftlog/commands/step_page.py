@@ -4,15 +4,12 @@ It reads the script and its step trace, which the program ftsteps makes if --ste
 the file of --out, and then says in a line what is in it. The page needs no server and no network. It links the pages of docs/ by --docs,
 a folder or an address; else by the way from the page's folder to those of this repository.
 """
-import os
 import pathlib
 import sys
 
-from ftlog import files, given_logs, runs, step_data, step_trace
+from ftlog import files, given_logs, programs, runs, step_data, step_trace
 from ftlog.fault import Fault
 
-STEPS = runs.TOP / "crates" / "ftsteps" / "out" / "ftsteps"
-STARTER = runs.TOP / "ftsteps"  # gives the same by an unproved build, as long as the program isn't built
 SECONDS = 900  # that it may take
 REFUSED = 3  # its status for a script that is refused
 
@@ -27,12 +24,7 @@ def add_words(parser):
 
 def trace_text(text):
     """The step trace of a script, by the program."""
-    program = next((path for path in (STEPS, STARTER) if os.access(path, os.X_OK)), None)
-    if program is None:
-        raise Fault("there is no program ftsteps here; --steps names a step trace that it has made elsewhere")
-    if program == STARTER:
-        print("ft step-page: ftsteps isn't built; an unproved build makes the steps, which takes a minute or two", file=sys.stderr)
-    came = runs.answer([str(program)], text, SECONDS)
+    came = runs.answer([programs.for_tool("ftsteps")], text, SECONDS)
     if came.status not in (0, REFUSED):
         raise Fault(f"ftsteps gave no step trace: {came.err.decode() if came.status is None else f'status {came.status}'}")
     return came.out

@@ -4,12 +4,11 @@ A line is told as the program tells it, `line N: CAUSE`, with its text, the fact
 one that the program answers; what comes after it is told as if each refused line said what it was meant to say. The status is 0 if the
 script is accepted, and 1 if it is refused. If the program answers otherwise than the first refusal, that is said, with the status 2.
 """
-import os
 import pathlib
 import re
 import sys
 
-from ftlog import files, refusals, runs
+from ftlog import files, programs, refusals, runs
 from ftlog.fault import Fault
 from ftlog.limits import LIMITS
 from ftlog.script_lines import quoted
@@ -24,13 +23,12 @@ def add_words(parser):
     """Adds the words of this tool."""
     files.add_script(parser)
     parser.add_argument("--most", type=int, default=MOST, metavar="N", help=f"how many refusals are told; {MOST} if it isn't given")
-    parser.add_argument("--program", type=pathlib.Path, default=runs.PROGRAM, metavar="PATH",
-                        help="the program; else the one that ./ftcore builds")
+    parser.add_argument("--program", type=pathlib.Path, default=runs.PROGRAM, metavar="PATH", help="the program ftcore, if it stands elsewhere")
 
 
 def answer_of(program, text):
     """What the program says of a script: `accepted`, or the line of the refusal. None if there is no program."""
-    if not os.access(program, os.X_OK) or program.is_dir():
+    if not programs.is_program(program):
         return None
     came = runs.answer([program.resolve(), "replay", "--print", "modules"], text, SECONDS)
     if came.status == 0:
@@ -88,7 +86,7 @@ def run(options):
     if answer not in (None, ours):
         raise Fault(f"this tool and the program differ: the program says `{answer}`, and this tool `{ours}`; the program is right")
     if answer is None:
-        print(f"ft why: not compared with the program: there is no program {options.program}; ./ftcore builds one", file=sys.stderr)
+        print(f"ft why: not compared with the program: there is no program {options.program}; {programs.way_to('ftcore')}", file=sys.stderr)
     if not found.kept:
         print(ACCEPTED)
         return 0

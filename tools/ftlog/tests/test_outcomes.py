@@ -317,14 +317,10 @@ class WrongInputs(unittest.TestCase):
                 self.check("--program", fake(room, text), given=TINY, told="isn't what ftoutcomes writes")
 
     def test_how_the_program_ends(self):
-        ends = {3: "refused: line 2: syntax", 4: "couldn't read", 5: "couldn't write", 6: "out of memory", 7: "too long", 9: "status 9"}
+        ends = {3: "refused: line 2: syntax", 4: "can't be read", 5: "can't be written", 6: "out of memory", 7: "too long", 9: "status 9"}
         for status, told in ends.items():
             with tempfile.TemporaryDirectory() as room:
                 self.check("--program", fake(room, "line 2: syntax\n", status), given=b"\xff\0", told=told)
-
-    @unittest.skipIf(IS_BUILT, "ftoutcomes is built")
-    def test_program_that_isnt_built(self):
-        self.check(given=TINY, told="./prove ftoutcomes builds it")
 
 
 if __name__ == "__main__":

@@ -7,7 +7,7 @@ import shutil
 import unittest
 from unittest import mock
 
-from ftlog import given_logs, runs, step_data, step_kinds, step_tasks, step_trace
+from ftlog import given_logs, programs, runs, step_data, step_kinds, step_tasks, step_trace
 from ftlog.checks import page_names
 from ftlog.commands import step_page
 from ftlog.tests import browser
@@ -228,7 +228,7 @@ class StepPage(Pages):
         data = self.data(self.page(self.write("x.ft", b"ftrace 1\n"), self.write("x.steps", b"end\n")))
         self.assertEqual(([], [], "end"), (data["steps"]["turn"], data["items"], data["last"]))
 
-    @unittest.skipUnless(step_page.STEPS.exists(), "ftsteps isn't built")
+    @unittest.skipUnless(programs.built("ftsteps").exists(), "ftsteps isn't built")
     def test_the_program_makes_these_traces(self):
         for name in NAMES:
             self.assertEqual(self.files(name)[1].read_bytes(), step_page.trace_text(self.files(name)[0].read_bytes()))
@@ -276,20 +276,20 @@ class StepPage(Pages):
         self.assert_told("a script that is cut", answer("step-page", self.write("cut.ft", SCRIPT[:-1]), "--steps", steps))
         self.assert_told("a script that isn't one", answer("step-page", self.write("not.ft", b"\x00\n"), "--steps", steps))
         self.assert_told("an option that there isn't", answer("step-page", script, "--step", steps))
-        with mock.patch.object(step_page, "STEPS", self.folder / "none"), mock.patch.object(step_page, "STARTER", self.folder / "none"):
+        with mock.patch.object(runs, "TOP", self.folder):
             self.assert_told("no trace and no program", answer("step-page", script))
 
     def test_the_program_gives_the_trace(self):
         script, steps = self.files("first_path")
         program = self.write("ftsteps", f"#!/bin/sh\ncat > /dev/null\ncat {steps}\n".encode())
         program.chmod(0o755)
-        with mock.patch.object(step_page, "STEPS", program):
+        with mock.patch.object(programs, "built", lambda name: program):
             self.assertIn('"last":"end"', answer("step-page", script)[1])
         program.write_bytes(b"#!/bin/sh\nexit 6\n")
-        with mock.patch.object(step_page, "STEPS", program):
+        with mock.patch.object(programs, "built", lambda name: program):
             self.assert_told("a program that fails", answer("step-page", script))
         program.write_bytes(b"#!/bin/sh\necho line 3: duplicate\nexit 3\n")
-        with mock.patch.object(step_page, "STEPS", program):
+        with mock.patch.object(programs, "built", lambda name: program):
             self.assert_told("a script that is refused", answer("step-page", script))
 
 

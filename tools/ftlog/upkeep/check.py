@@ -1,4 +1,4 @@
-"""Checks the repository: its pages, programs, pictures, rings and tools, and how they start."""
+"""Checks the repository: its pages, programs, pictures, rings and tools, how they start, and ftjudge on runs and hostile inputs."""
 
 PARTS = {
     "starting": "ftlog.checks.check_starting",
@@ -7,5 +7,7 @@ PARTS = {
     "pictures": "ftlog.checks.check_pictures",
     "rings": "ftlog.checks.check_rings",
     "tools": "ftlog.checks.check_tools",
+    "runs": "ftlog.checks.check_runs",
+    "hostile": "ftlog.checks.hostile_logs",
     "allocations": "ftlog.checks.refused_allocations",
 }

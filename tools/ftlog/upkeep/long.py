@@ -5,7 +5,7 @@ number, the seed, gives a row of scripts, the same ones in the same order each t
 the minutes. Each is one of
 
     plain, mutated, viewed, laned, ringed, loading, uncovered, generated   those of `ft compare scripts`
-    crowded                                                                those of `ft judge runs`, with the most CPUs and tasks
+    crowded                                                                those of `ft check runs`, with the most CPUs and tasks
 
 Half of them get quanta from 1 to 20. Half get another schedule: one of single steps, or a hostile one, which holds an
 actor after some steps, in the midst of a command or a call, while another goes on. Each script is
