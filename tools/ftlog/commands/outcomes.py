@@ -2,14 +2,15 @@
 
 It replays the script by very many schedules: at random, and all those in which the turn is taken from an actor that could go on at most
 so many times. For each outcome (who was called back, missed and refused in which call, what each body ran, which commands were refused)
-it tells how often it came at random, and a short schedule that shows it. The status is 1 if an outcome matches a --never pattern, or one
-doesn't match an --always pattern; the script with the schedule that shows it is then written, ready to replay.
+it tells how often it came at random, and a short schedule that shows it. The commands of lanes go in the order of their lines. The status
+is 1 if an outcome matches a --never pattern, or one doesn't match an --always pattern; the script with the schedule that shows it is then
+written, ready to replay.
 """
 import re
 import shlex
 import sys
 
-from ftlog import files, outcome_runs, programs
+from ftlog import files, lane_orders, outcome_runs, programs
 from ftlog.fault import Fault
 
 PROGRAM = programs.built("ftoutcomes")
@@ -92,6 +93,16 @@ def with_schedule(script, line, comments):
     return b"".join(it + b"\n" for it in kept + added)
 
 
+def lanes_told(script):
+    """In which order the commands of several lanes went, of all those in which they could go; nothing if there is one order alone."""
+    lane, having = -1, []
+    for line in script.splitlines():
+        lane += bool(lane_orders.LANE.match(line))
+        if lane_orders.CONTROL.match(line) and lane >= 0 and lane not in having:
+            having.append(lane)
+    return f", in one order of the lanes: {', then '.join(f'lane {lane}' for lane in having)}" if len(having) > 1 else ""
+
+
 def heading(found, switches):
     """The first line: how many outcomes there are, and how they were looked for."""
     parts = [f"{found.tries:,} replays at random"] if found.tries else []
@@ -102,9 +113,9 @@ def heading(found, switches):
     return f"{count:,} outcome{'s' * (count != 1)} by {' and '.join(parts) or 'no replay'}"
 
 
-def table(found, switches):
-    """The lines that tell what was found."""
-    yield heading(found, switches)
+def table(script, found, switches):
+    """The lines that tell what was found of a script."""
+    yield heading(found, switches) + lanes_told(script)
     width = max([len(f"{it.times:,}") for it in found.outcomes], default=0)
     for it in found.outcomes:
         yield f"{it.times:>{width},}  {it.text}"
@@ -133,7 +144,7 @@ def run(options):
     program = program_of(options)
     script = files.read(options.script)
     found = outcome_runs.find(program, script, seed, tries, switches, tries)
-    sys.stdout.writelines(line + "\n" for line in table(found, switches))
+    sys.stdout.writelines(line + "\n" for line in table(script, found, switches))
     broken = breaks(wanted, found.outcomes)
     if broken is None:
         return 0

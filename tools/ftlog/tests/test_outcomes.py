@@ -118,6 +118,11 @@ class Merging(unittest.TestCase):
         self.assertEqual((found.is_whole, found.searched), (False, 7))
         self.assertEqual(outcomes.heading(found, 2), "0 outcomes by a search with 2 switches, cut off after 7 replays")
 
+    def test_lanes(self):
+        for script, told in [(b"lane 0\nctl pid\n", ""), (b"ctl pid\nctl pid\n", ""), (b"lane 0\nctl pid\nlane 1\n", ""),
+                             (b" lane 0\nctl pid\nctl pid\nlane 1\nlane 2\n# lane\n\tctl pid\n", ", in one order of the lanes: lane 0, then lane 2")]:
+            self.assertEqual(outcomes.lanes_told(script), told)
+
     def test_patterns(self):
         wanted = outcomes.patterns("--never", ["body nop"]) + outcomes.patterns("--always", ["10.1"])
         short, long = outcome_runs.shown("sched all*9"), outcome_runs.shown("sched k*2 all*9")
