@@ -1,17 +1,16 @@
-"""Installs the proved programs, the tools, the manual page and the editors' files below PREFIX.
+"""Installs the proved programs, the tools, their manual pages and the editors' files below PREFIX.
 
-The programs go into PREFIX/bin, as far as ./prove has built them; without ftcore nothing is installed. With --remove exactly what earlier
+The programs go into PREFIX/bin, as far as they are proved and built; without ftcore nothing is installed. With --remove exactly what earlier
 installs have put there is taken away. Nothing that isn't of an earlier install is overwritten.
 """
 import os
 import pathlib
 import sys
 
-from ftlog import installed_files, runs
+from ftlog import installed_files, programs, runs
 from ftlog.fault import Fault
 from ftlog.installed_files import FILE, LINK, Entry
 
-PROGRAMS = ("ftcore", "ftjudge", "ftsteps", "ftoutcomes")  # the first one has to be there
 TOOLS = runs.TOP / "tools"
 SHARE = "share/ftcore"
 LIMITS = "crates/ft_base/src/limits.rt"  # from which ftlog/limits.py takes the limits
@@ -28,11 +27,6 @@ def add_words(parser):
     parser.add_argument("--remove", action="store_true", help="take away what earlier installs have put there")
 
 
-def program_of(name):
-    """Where a program is built."""
-    return runs.TOP / "crates" / name / "out" / name
-
-
 def is_built(name):
     """Whether a program is proved, built, and no older than its sources."""
     return runs.answer([sys.executable, "-B", str(TOOLS / "prove.py"), "--is-built", name], seconds=SECONDS).status == 0
@@ -44,37 +38,37 @@ def tool_files():
     return sorted([TOOLS / "ft", *package])
 
 
-def copies(programs):
+def copies(names):
     """The path below PREFIX of each file that is copied, with the file."""
-    yield from ((f"bin/{name}", program_of(name)) for name in programs)
-    yield "share/man/man1/ftcore.1", runs.TOP / "docs" / "ftcore.1"
+    yield from ((f"bin/{name}", programs.built(name)) for name in names)
+    yield from ((f"share/man/man1/{path.name}", path) for path in sorted((runs.TOP / "docs" / "man").glob("*.1")))
     yield from ((path, runs.TOP / file) for file, path in EDITORS.items())
     yield from ((f"{SHARE}/{path.relative_to(runs.TOP).as_posix()}", path) for path in [*tool_files(), runs.TOP / LIMITS])
 
 
-def links(programs):
+def links(names):
     """The links that are made: ft itself, and where the tools look for the programs, which is the place that these have in a repository."""
     yield Entry(LINK, f"../{SHARE}/tools/ft", "bin/ft")
-    yield from (Entry(LINK, f"../../../../../bin/{name}", f"{SHARE}/crates/{name}/out/{name}") for name in programs)
+    yield from (Entry(LINK, f"../../../../../bin/{name}", f"{SHARE}/crates/{name}/out/{name}") for name in names)
 
 
 def install(prefix):
     """Installs all that is there, and says it."""
-    if not (TOOLS / "prove.py").is_file():
+    if programs.IS_INSTALLED:
         raise Fault("these tools are installed ones; programs are installed from the repository")
-    programs = [name for name in PROGRAMS if is_built(name)]
-    if PROGRAMS[0] not in programs:
+    names = [name for name in programs.NAMES if is_built(name)]
+    if programs.NAMES[0] not in names:
         raise Fault("ftcore isn't proved and built, or a source of it has changed since; ./prove does that")
-    texts = {path: (file.read_bytes(), 0o755 if os.access(file, os.X_OK) else 0o644) for path, file in copies(programs)}
+    texts = {path: (file.read_bytes(), 0o755 if os.access(file, os.X_OK) else 0o644) for path, file in copies(names)}
     wanted = [Entry(FILE, installed_files.hash_of(text), path) for path, (text, _) in texts.items()]
-    installed_files.add(prefix, [*wanted, *links(programs)], texts)
+    installed_files.add(prefix, [*wanted, *links(names)], texts)
     for path in texts:
         if not path.startswith((f"{SHARE}/tools/", f"{SHARE}/crates/")):
             print(path)
     print(f"bin/ft, with {SHARE}/tools")
-    for name in PROGRAMS:
-        if name not in programs:
-            print(f"left out: {name}, which isn't built; ./prove {name} builds it")
+    for name in programs.NAMES:
+        if name not in names:
+            print(f"left out: {name}, which isn't built; {programs.way_to(name)}")
 
 
 def remove(prefix):

@@ -12,7 +12,7 @@ from ftlog.fault import Fault
 
 def add_words(parser):
     """Adds the words of this tool."""
-    parser.add_argument("script", nargs="?", default=files.STANDARD, metavar="SCRIPT", help="the script, or script and log; - or none: standard input")
+    parser.add_argument("script", nargs="?", default=files.STANDARD, metavar="SCRIPT", help="the script, or both; - or none: standard input")
     parser.add_argument("log", nargs="?", metavar="LOG", help="its log; - is standard input")
 
 

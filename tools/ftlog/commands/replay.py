@@ -9,7 +9,8 @@ def add_words(parser):
     """Adds the words of this tool."""
     files.add_script(parser)
     forms = ["log", *views_of_log.VIEWS]
-    parser.add_argument("--print", dest="form", metavar="FORM", choices=forms, default="log", help=f"how it is printed: {', '.join(forms)}; log if it isn't given")
+    told = f"how it is printed: {', '.join(forms)}; log if it isn't given"
+    parser.add_argument("--print", dest="form", metavar="FORM", choices=forms, default="log", help=told)
 
 
 def run(options):

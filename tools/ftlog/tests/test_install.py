@@ -6,9 +6,8 @@ import tempfile
 import unittest
 from unittest import mock
 
-from ftlog import installed_files, runs
+from ftlog import installed_files, programs, runs
 from ftlog.commands import install
-from ftlog.tests import test_manual_page
 from ftlog.tests.called import ft, program
 
 FILES = install.tool_files()
@@ -32,14 +31,15 @@ class InstallTest(unittest.TestCase):
         """Makes a folder for PREFIX and stand-ins for the programs; those in `built` count as built."""
         room = tempfile.TemporaryDirectory()
         self.addCleanup(room.cleanup)
-        self.room, self.built = pathlib.Path(room.name), set(install.PROGRAMS)
+        self.room, self.built = pathlib.Path(room.name), set(programs.NAMES)
         self.prefix = self.room / "prefix"
         (self.room / "built").mkdir()
-        for name in install.PROGRAMS:
+        for name in programs.NAMES:
             program(self.room / "built", f"cat > /dev/null; echo end; # {name}", name)
-        stand_ins = {"is_built": lambda name: name in self.built, "program_of": lambda name: self.room / "built" / name, "tool_files": lambda: FILES}
-        for name, stand_in in stand_ins.items():
-            patch = mock.patch.object(install, name, stand_in)
+        stand_ins = [(install, "is_built", lambda name: name in self.built), (install, "tool_files", lambda: FILES),
+                     (programs, "built", lambda name: self.room / "built" / name)]
+        for stand_in in stand_ins:
+            patch = mock.patch.object(*stand_in)
             patch.start()
             self.addCleanup(patch.stop)
 
@@ -81,15 +81,8 @@ class InstallTest(unittest.TestCase):
             if (self.prefix / path).is_file() and not (self.prefix / path).is_symlink():
                 if path.startswith("bin/") or path.endswith(("tools/ft", ".1", ".vim")):
                     self.assertEqual((self.prefix / path).stat().st_mode & 0o777, 0o644 if path.endswith((".1", ".vim")) else 0o755, path)
-        self.assertEqual(there["share/man/man1/ftcore.1"], (runs.TOP / "docs" / "ftcore.1").read_bytes())
-
-    def test_manual_page(self):
-        """Its part on files has what is there."""
-        self.install()
-        page = test_manual_page.ManualPageTest()
-        page.setUp()
-        for name in page.heads("FILES"):
-            self.assertTrue((self.prefix / name.partition("/")[2]).exists(), name)
+        for name in ("ft", *programs.NAMES):
+            self.assertEqual(there[f"share/man/man1/{name}.1"], (runs.TOP / "docs" / "man" / f"{name}.1").read_bytes())
 
     def test_page(self):
         """docs/TOOLS.md has what is said."""
@@ -98,7 +91,8 @@ class InstallTest(unittest.TestCase):
         self.assertEqual(re.sub("^    ", "", shown, flags=re.M), self.install())
 
     def test_tools_run(self):
-        """From anywhere the tools run, and find the program that stands beside them."""
+        """From anywhere the tools run, and find the programs that stand beside them. Nothing that they say is about the repository's own words."""
+        self.built.remove("ftoutcomes")
         self.install()
         (self.room / "x.ft").write_bytes(SCRIPT)
         moved = self.prefix.rename(self.room / "moved")
@@ -109,9 +103,15 @@ class InstallTest(unittest.TestCase):
 
         came = run("why", "x.ft")
         self.assertEqual((came.status, came.out, came.err), (0, b"accepted\n", b""))
+        for words in (["replay", "x.ft"], ["run", "x.ft"], ["bulk"], ["judge", "x.ft", "x.ft"], ["steps", "x.ft"]):
+            self.assertEqual(run(*words)[:3], (0, b"end\n", b""))
+        self.assertEqual(run("outcomes", "x.ft")[2], b"ft outcomes: the program ftoutcomes isn't there: install it from the repository\n")
+        said = [run(), run("x.ft"), run("nothing"), run("replay", "--frob")]
         for path in (moved / "share/ftcore/tools/ftlog/commands").glob("[a-z]*.py"):
-            came = run(path.stem.replace("_", "-"), "--help")
-            self.assertEqual((came.status, came.err), (0, b""), path.stem)
+            said.append(run("help", path.stem.replace("_", "-")))
+            self.assertEqual((said[-1].status, said[-1].err), (0, b""), path.stem)
+        for came in said:
+            self.assertNotRegex(came.out + came.err, rb"tools/ft|\./(prove|ft)")
         came = run("install", "third")
         self.assertEqual((came.status, came.err.count(b"\n")), (2, 1))
         self.assertIn(b"from the repository", came.err)

@@ -23,7 +23,7 @@ WRONG = [
     ["compare", "verdicts", NOTHING, "--count", "1"], ["compare", "verdicts", sys.executable, "--count", "1", "--judge", NOTHING],
     ["check", "runs", NOTHING, "--count", "1"], ["check", "hostile", "--count", "1", "--judge", NOTHING], ["check", "hostile"], ["check", "other"],
     ["long", NOTHING, "--minutes", "1"], ["long", sys.executable], ["long", sys.executable, "--minutes", "1", "--program", NOTHING],
-    ["make", "plain"], ["make", "plain", "--seed", "x"], ["make", "viewed", "--seed", "1", "--lanes", "--rings"], ["make", "others"],
+    ["make", "plain"], ["make", "plain", "--seed", "x"], ["make", "manuals", "x"], ["make", "viewed", "--seed", "1", "--lanes", "--rings"], ["make", "others"],
     ["samples", "plain", NOTHING, "rows", "FILE"], ["samples", "word", sys.executable, "more", "FILE"], ["samples", "plain", sys.executable],
     ["further", "nothing"], ["cost", NOTHING], ["cost", "--write"], ["definitions", "--all"], ["definitions", "nothing"], ["views", "x.ft", "x.log", "log"], ["nothing"],
 ]

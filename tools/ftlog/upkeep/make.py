@@ -1,8 +1,9 @@
-"""Writes a random script to standard output."""
+"""Writes a random script to standard output, or the manual pages to docs/man."""
 
 PARTS = {
     "plain": "ftlog.make.script_forms",
     "broken": "ftlog.make.broken_scripts",
     "viewed": "ftlog.make.viewed_scripts",
     "bulk": "ftlog.make.bulk_script",
+    "manuals": "ftlog.make.manuals",
 }
