@@ -363,7 +363,8 @@ def run(words):
         show_library(rows, words.top / "docs" / "LIBRARY.md", words.top / "crates" / crate, what)
     show_signatures(rows, words.top)
     pages = [words.top / "README.md", *sorted((words.top / "docs").glob("*.md"))]
-    page_names.check(rows, words.top, pages)
+    layers = words.top / "crates" / "README.md"
+    page_names.check(rows, words.top, [*pages, layers])
     for path in pages:
         if not Page(rows, words, path).show() and path.name in NOT_EMPTY:
             rows.row(path.name, ["no example"])

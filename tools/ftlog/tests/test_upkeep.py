@@ -11,7 +11,7 @@ from ftlog.tests.called import FT, ft
 from ftlog.tests.runs_in_process import EXAMPLES, Case
 
 PARTS = [[name, part] for name in ("check", "compare", "make", "samples") for part in FT.importlib.import_module(f"ftlog.upkeep.{name}").PARTS]
-TOOLS = [[name] for name in ("cost", "definitions", "further", "long", "provers", "views")] + PARTS
+TOOLS = [[name] for name in ("cost", "definitions", "further", "long", "provers", "signatures", "views")] + PARTS
 NOTHING = "/nowhere/program"
 # Words that none of these tools can do anything for.
 WRONG = [
