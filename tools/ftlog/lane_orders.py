@@ -10,22 +10,12 @@ CONTROL = re.compile(rb"[ \t]*ctl[ \t]")
 BEGIN = re.compile(rb"^(\d+ begin (\d+))( lane \d+)?$", re.M)
 
 
-def has_lanes(text):
-    """Whether a script has a line `lane N`."""
-    return any(map(LANE.match, text.splitlines()))
-
-
 def in_order(text, order):
     """The script with these bytes without its lanes, its commands in this order; they are numbered from 0."""
     lines = [line for line in text.splitlines(keepends=True) if not LANE.match(line)]
     commands = [line for line in lines if CONTROL.match(line)]
     turns = iter(order)
     return b"".join(commands[next(turns)] if CONTROL.match(line) else line for line in lines)
-
-
-def without_lanes(log):
-    """A log that doesn't name the lanes of its commands."""
-    return BEGIN.sub(rb"\1", log)
 
 
 def with_lanes(log, lanes, order):

@@ -36,13 +36,6 @@ def answer(command, text=b"", seconds=SECONDS, **how):
         return Answer(None, b"", str(error).encode(), time.monotonic() - begun)
 
 
-def features(seed):
-    """The features with which the other program generates a script of this seed: every third and fourth one is of version 2, the second
-    four of each eight may have lanes, the second eight of each sixteen modules that come and go, and the second sixteen of each thirty-two
-    rings."""
-    return ",".join(["v2"] * (seed // 2 % 2) + ["lanes"] * (seed // 4 % 2) + ["modules"] * (seed // 8 % 2) + ["rings"] * (seed // 16 % 2)) or "none"
-
-
 def names_of(known):
     """What reads a list of these names, with commas between them, as a word of the command."""
 

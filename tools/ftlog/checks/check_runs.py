@@ -7,8 +7,6 @@ The N scripts of each source have the seeds from S on:
     laned      the same with lanes
     ringed     the same with rings and triggers
     loading    the same with modules that come and go
-    generated  `REFERENCE gen`, half of them of version 2, half of them with lanes, half of them with modules, and half of them with rings;
-               only if REFERENCE is given
     crowded    `ft make plain`, with a task of calls more on each of the most CPUs, up to the most tasks;
                half of those without modules that come and go have lanes
 
@@ -16,8 +14,6 @@ Each script that `PROGRAM replay` accepts goes through `PROGRAM run`, which has 
 status 0 and write nothing to standard error; and ftjudge has to call each log whole, that of a script with lanes in the order that it
 tells. So many runs of a script are made as --times says. The last line says how many runs there were, how many scripts had more than one
 log, and what was found; the status is 1 if anything was. What is wrong is kept in FOLDER.
-REFERENCE is a program that was written from the same rules by other hands, and isn't part of this repository. If it is given, its `check`
-is asked for a second opinion (second_opinion.py): it has to call each log whole, too.
 Two runs go on at a time, each with threads of its own.
 """
 import concurrent.futures
@@ -27,8 +23,7 @@ import tempfile
 from typing import NamedTuple
 
 from ftlog import control_lines, runs
-from ftlog.checks import judging, second_opinion
-from ftlog.fault import Fault
+from ftlog.checks import judging
 from ftlog.make import script_forms, viewed_scripts
 
 FOLDER = pathlib.Path(tempfile.gettempdir()) / "run-faults"
@@ -36,7 +31,7 @@ WORKERS = 2
 SECONDS = 120
 VIEWED = ["viewed", "laned", "ringed", "loading"]
 HEAD = ["func", "depth", "tramps", "absent", "ring", "tracing", "trigger", "user"]  # the lines of a script that `crowded` keeps
-SOURCES = ["plain", *VIEWED, "generated", "crowded"]
+SOURCES = ["plain", *VIEWED, "crowded"]
 
 
 class Ran(NamedTuple):
@@ -72,28 +67,20 @@ def crowded(seed):
     return ("\n".join([*head, *cpus, *tasks, *map(" ".join, control)]) + "\n").encode()
 
 
-def text_of(source, seed, reference):
+def text_of(source, seed):
     """The script of this source and seed."""
-    if source == "generated":
-        size = "medium" if seed % 8 == 7 else "small"
-        return runs.answer([reference, "gen", "--seed", str(seed), "--size", size, "--features", runs.features(seed)], b"", SECONDS).out
     return {"plain": script_forms.script, "crowded": crowded, **viewed_scripts.SOURCES}[source](seed)
-
-
-def opinions(text, logs, reference):
-    """What the other program, if there is one, finds wrong with logs of runs of this script."""
-    return [fault for log in logs if reference for fault in second_opinion.faults(text, log, reference)]
 
 
 def try_script(job):
     """The script of this source and seed, with its runs, each of whose logs is judged once."""
     options, source, seed = job
-    text = text_of(source, seed, options.reference)
+    text = text_of(source, seed)
     accepted = runs.answer([options.program, "replay"], text, SECONDS).status == 0
     answers = [runs.answer([options.program, "run"], text, SECONDS) for _ in range(options.times if accepted else 0)]
     faults = [fault for came in answers for fault in runs.faults(came, 0)]
     logs = {came.out for came in answers if not runs.faults(came, 0)}
-    faults += judging.faults_of_runs(text, logs, options.judge) + opinions(text, logs, options.reference)
+    faults += judging.faults_of_runs(text, logs, options.judge)
     return Ran(source, seed, text, accepted, {came.out for came in answers}, faults)
 
 
@@ -112,27 +99,17 @@ def add_words(parser):
     """Adds the words of `ft check runs`."""
     parser.add_argument("program", metavar="PROGRAM", help="the program, as crates/ftcore/out/ftcore")
     judging.add_option(parser)
-    parser.add_argument("--reference", metavar="REFERENCE", help="the other program, for scripts that it generates and a second opinion; else none")
     parser.add_argument("--count", type=int, required=True, metavar="N", help="scripts of each source")
     parser.add_argument("--times", type=int, default=1, metavar="K", help="runs of each script, else 1")
     parser.add_argument("--seed", type=int, default=0, metavar="S", help="the first seed, else 0")
-    parser.add_argument("--sources", type=runs.names_of(SOURCES), metavar="SOURCE,..", help="the sources, else all that there are")
+    parser.add_argument("--sources", type=runs.names_of(SOURCES), default=SOURCES, metavar="SOURCE,..", help="the sources, else all")
     parser.add_argument("--keep", type=pathlib.Path, default=FOLDER, metavar="FOLDER", help=f"where scripts with faults are kept, else {FOLDER}")
-
-
-def check_options(options):
-    """Says so if a program isn't there, and takes the sources that there are if none is named."""
-    judging.want_judge(options.judge)
-    runs.want_words(*[options.program] + [options.reference] * (options.reference is not None))
-    if options.sources is None:
-        options.sources = [source for source in SOURCES if options.reference or source != "generated"]
-    if "generated" in options.sources and not options.reference:
-        raise Fault("for scripts of the source generated say --reference REFERENCE")
 
 
 def run(options):
     """Runs the scripts, and tells what came of them."""
-    check_options(options)
+    judging.want_judge(options.judge)
+    runs.want_words(options.program)
     jobs = [(options, source, seed) for source in options.sources for seed in range(options.seed, options.seed + options.count)]
     accepted, several, wrong = dict.fromkeys(options.sources, 0), 0, 0
     with concurrent.futures.ThreadPoolExecutor(WORKERS) as workers:

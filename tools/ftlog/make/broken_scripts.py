@@ -3,7 +3,7 @@
     tools/ft make broken --seed N
 
 One seed gives one script. Each function changes the lines of a script in place, or does nothing if it finds no line to
-change; what they put in is in odd_lines.py. `ft compare scripts` and `ft check program` take `script` from here.
+change; what they put in is in odd_lines.py. `ft check program` takes `script` from here.
 """
 import random
 

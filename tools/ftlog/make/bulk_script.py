@@ -3,7 +3,7 @@
     tools/ft make bulk --seed N
 
 `bulk` prints a summary alone; this script, given to `ftcore replay`, has the history that was summed up. It is written
-a second time here, by the rule of docs/LANGUAGE.md, so that `ft compare scripts` and `ft check program` can compare the two.
+a second time here, by the rule of docs/LANGUAGE.md, so that `ft check program` can compare the two.
 """
 from ftlog import files
 

@@ -4,7 +4,7 @@
     tools/ft make plain --seed N --step < SCRIPT   that script, with a schedule of single steps in place of its own
 
 One seed gives one script. The limits are those of crates/ft_base/src/limits.rt. broken_scripts.py breaks these
-scripts; `ft compare scripts` and `ft check program` take `script` from here.
+scripts; `ft check program` takes `script` from here.
 """
 import random
 

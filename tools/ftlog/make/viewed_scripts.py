@@ -10,8 +10,7 @@ Of the scripts of script_forms.py most print nothing in some form: no user of it
 a function, a graph and a profile user at least, nearly all users are registered before the tasks go on, and the calls
 nest. Users are unregistered, registered again and given other sets while calls are open.
 
-One seed gives one script, which is accepted; of those that are uncovered most are refused. compare_scripts.py takes `script`, `laned`,
-`ringed`, `loading` and `uncovered` from here.
+One seed gives one script, which is accepted; of those that are uncovered most are refused.
 """
 import random
 

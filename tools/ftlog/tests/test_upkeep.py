@@ -10,19 +10,15 @@ from ftlog.tests import wrong_logs
 from ftlog.tests.called import FT, ft
 from ftlog.tests.runs_in_process import EXAMPLES, Case
 
-PARTS = [[name, part] for name in ("check", "compare", "make", "samples") for part in FT.importlib.import_module(f"ftlog.upkeep.{name}").PARTS]
-TOOLS = [[name] for name in ("cost", "definitions", "further", "long", "provers", "signatures", "views")] + PARTS
+PARTS = [[name, part] for name in ("check", "make", "samples") for part in FT.importlib.import_module(f"ftlog.upkeep.{name}").PARTS]
+TOOLS = [[name] for name in ("cost", "definitions", "further", "provers", "signatures", "views")] + PARTS
 NOTHING = "/nowhere/program"
 # Words that none of these tools can do anything for.
 WRONG = [
     ["check", "docs", "--program", NOTHING], ["check", "program", "--program", NOTHING], ["check", "allocations", "--program", NOTHING],
     ["check", "docs", "--program", "/"], ["check", "docs", "more"], ["check", "rings", "--count", "1", "--runs", NOTHING],
     ["check", "rings", "--rows", "1", "--program", NOTHING], ["check", "rings", "--count", "x"], ["check", "rings", "--judge", NOTHING, NOTHING],
-    ["check", "pages"], ["compare", "scripts"], ["compare", "scripts", NOTHING, NOTHING, "--count", "1"],
-    ["compare", "scripts", sys.executable, sys.executable, "--count", "1", "--sources", "others"],
-    ["compare", "verdicts", NOTHING, "--count", "1"], ["compare", "verdicts", sys.executable, "--count", "1", "--judge", NOTHING],
-    ["check", "runs", NOTHING, "--count", "1"], ["check", "hostile", "--count", "1", "--judge", NOTHING], ["check", "hostile"], ["check", "other"],
-    ["long", NOTHING, "--minutes", "1"], ["long", sys.executable], ["long", sys.executable, "--minutes", "1", "--program", NOTHING],
+    ["check", "pages"], ["check", "runs", NOTHING, "--count", "1"], ["check", "runs", sys.executable, "--count", "1", "--sources", "others"], ["check", "hostile", "--count", "1", "--judge", NOTHING], ["check", "hostile"], ["check", "other"],
     ["make", "plain"], ["make", "plain", "--seed", "x"], ["make", "manuals", "x"], ["make", "viewed", "--seed", "1", "--lanes", "--rings"], ["make", "others"],
     ["samples", "plain", NOTHING, "rows", "FILE"], ["samples", "word", sys.executable, "more", "FILE"], ["samples", "plain", sys.executable],
     ["further", "nothing"], ["cost", NOTHING], ["cost", "--write"], ["definitions", "--all"], ["definitions", "nothing"], ["views", "x.ft", "x.log", "log"], ["nothing"],
@@ -36,7 +32,7 @@ class Words(unittest.TestCase):
             came = ft(*words, "--help")
             self.assertEqual((came.status, came.err), (0, ""), words)
             self.assertTrue(came.out.startswith(f"usage: tools/ft {' '.join(words)} "), words)
-        for name in ("check", "compare", "make", "samples"):
+        for name in ("check", "make", "samples"):
             told = ft(name).out
             for part in FT.importlib.import_module(f"ftlog.upkeep.{name}").PARTS:
                 self.assertIn(f"\n    {part} ", told)
