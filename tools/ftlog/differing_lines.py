@@ -234,8 +234,6 @@ class Finder:
             self.note(("fprobe twice" if answer == "already" else "no fprobe") if is_fprobe else "twice", here)
         elif (word, answer) == ("register", "ok"):
             self.register(user, here)
-        elif word == "register" and answer.startswith("busy"):
-            self.note("refused registration", f"{here}, and {user} isn't called back")
         elif (word, answer) == ("unregister", "ok") and self.kind_of(user):
             self.unregister(user, self.kind_of(user))
         elif (word, answer) == ("disable", "ok") and is_fprobe:
@@ -312,6 +310,8 @@ class Finder:
             return
         if answer.startswith("busy"):
             self.note("live patches", here)
+            if word == "register":
+                self.note("refused registration", f"{here}, and {user} isn't called back")
         if word == "notrace":
             self.note("notrace", here)
         elif (word, answer) == ("register", "invalid") and not told.has_regs and self.desk.sets["filter"][user]:
