@@ -1,10 +1,11 @@
 #!/usr/bin/env python3
-"""Proves a program's crates and builds the program: ./prove [PROGRAM], ftcore, ftjudge, ftsteps or ftoutcomes; ftcore if none is named
+"""Proves a program's crates and builds the program: ./prove [PROGRAM], ftcore, ftjudge, ftsteps or ftoutcomes, or all; ftcore if none is named
 
 The crates that the program stands on, without tests and without must-fail edits, are copied to a folder of their own and
 checked there by `rt ci`: side by side if they don't wait for each other, on all processors, as memory allows. What is proved
 is kept on this machine, so after an interruption the next ./prove goes on where this one was. The program then stands in
-crates/PROGRAM/out/PROGRAM, where ./PROGRAM finds it. While a newer source is there, it counts as not built.
+crates/PROGRAM/out/PROGRAM, where ./PROGRAM finds it, with a mark of what was proved: it counts as long as the sources and the
+kit are those. `all` proves the crates of all four programs at once.
 
 On a terminal each crate that is proved gives a line, otherwise each half minute does. The first crate that isn't proved is
 named when that is known, and at the end. The status is 0 if the program is there, 1 if something isn't proved (which is named,
@@ -23,7 +24,8 @@ import threading
 import time
 
 sys.dont_write_bytecode = True
-from ftlog.proving import crate_list, rattle_processes, side_by_side  # noqa: E402
+from ftlog.proving import crate_list, marks, rattle_processes, side_by_side  # noqa: E402
+from ftlog.proving.marks import PROVED  # noqa: E402
 from ftlog.proving.progress import Progress, minutes  # noqa: E402
 
 EVERY = 30  # seconds between two lines if nobody sits at a terminal
@@ -31,24 +33,6 @@ ENDED = re.compile(r"rt: (\w+) (proved|is kept)\b")
 FAILED = re.compile(r"rt: (\w+)(?:: its tests are)? NOT PROVED")
 FUNCTION = re.compile(r"fn (\S+): not proved")
 PLACE = re.compile(r"(?:note: )?(?:\./)?((?:src|specs|proofs)/\S+?:\d+):\d+:")
-
-
-def out_of(program):
-    """Where a program is built."""
-    return crate_list.TOP / "crates" / program / "out"
-
-
-def is_built(program):
-    """Whether a program is there, and no source of it is newer."""
-    path = out_of(program) / program
-    if not os.access(path, os.X_OK):
-        return False
-    crates, built = crate_list.read_crates(), path.stat().st_mtime_ns
-    files = [crate_list.TOP / "crates.txt"]
-    for name in crate_list.with_those_below(crates, [program]):
-        for part in crate_list.PARTS:
-            files += (crate_list.TOP / "crates" / name / part).rglob("*")
-    return all(it.stat().st_mtime_ns <= built for it in files)
 
 
 class Check:
@@ -112,15 +96,24 @@ def fault_of(name, text):
     return ", ".join(said) or "no function is named"
 
 
-def prove(program, words):
-    """Proves the crates of a program and puts it in its place; gives the status."""
-    begun, started = time.time_ns(), time.monotonic()
-    out = out_of(program)
-    log_path = out / "prove.log"
-    out.mkdir(parents=True, exist_ok=True)
+def place(program, room):
+    """Puts a program that has been proved in this copy in its place."""
+    to = marks.program_of(program, PROVED)
+    new = to.with_name(f"{program}.new")
+    to.parent.mkdir(parents=True, exist_ok=True)
+    shutil.copy(room / "crates" / program / "out" / program, new)
+    new.rename(to)
+    marks.write(program, PROVED, marks.sum_of(program, room))
+
+
+def prove(programs, words):
+    """Proves the crates of these programs and puts the programs in their places; gives the status."""
+    started = time.monotonic()
+    log_path = marks.out_of(programs[0]) / "prove.log"
+    log_path.parent.mkdir(parents=True, exist_ok=True)
     with tempfile.TemporaryDirectory(prefix="prove-") as folder:
         room = pathlib.Path(folder) / "copy"
-        names = crate_list.copy_repository(room, [program])
+        names = crate_list.copy_repository(room, programs)
         check = Check(room, names, words, log_path)
         try:
             status = check.read()
@@ -129,12 +122,23 @@ def prove(program, words):
         if status:
             print(f"prove: {check.fault()}; the whole log is {log_path}", flush=True)
             return 1
-        new = out / f"{program}.new"
-        shutil.copy(room / "crates" / program / "out" / program, new)
-    os.utime(new, ns=(begun, begun))  # a source that has changed meanwhile counts as newer
-    new.rename(out / program)
-    print(f"prove: the proved program is there, after {minutes(time.monotonic() - started)}: ./{program} runs it", flush=True)
+        for program in programs:
+            place(program, room)
+            print(f"prove: the proved program is there, after {minutes(time.monotonic() - started)}: ./{program} runs it", flush=True)
     return 0
+
+
+def mark(since):
+    """Marks each program that `rt ci` at the top has proved and built since this file was written, if no source has changed since."""
+    crates, is_newer = crate_list.read_crates(), lambda path: path.stat().st_ctime_ns > since.stat().st_mtime_ns
+    changed = next(filter(is_newer, marks.sources_of(crates)), None)
+    if changed:
+        print(f"prove: {changed.relative_to(crate_list.TOP)} has changed since `rt ci` began; nothing is marked as proved")
+        return
+    for name in crates:
+        program = marks.program_of(name, PROVED)
+        if program.is_file() and is_newer(program):
+            marks.write(name, PROVED, marks.sum_of(name))
 
 
 def main():
@@ -142,18 +146,27 @@ def main():
     parser = argparse.ArgumentParser(prog="prove", description=__doc__, formatter_class=argparse.RawDescriptionHelpFormatter)
     parser.add_argument("--anew", action="store_true", help="prove all again, whatever this machine has kept")
     parser.add_argument("--is-built", action="store_true", help="only tell, by the status, whether the proved program is there")
-    parser.add_argument("program", nargs="?", choices=crate_list.PROGRAMS, default=crate_list.PROGRAMS[0], help="the program; ftcore if none is named")
+    parser.add_argument("--mark", type=pathlib.Path, metavar="FILE", help="prove nothing; what `rt ci` at the top has built since FILE was written is marked as proved")
+    parser.add_argument("program", nargs="?", choices=[*crate_list.PROGRAMS, "all"], default=crate_list.PROGRAMS[0], help="the program; ftcore if none is named")
     words = parser.parse_args()
+    if words.mark:
+        mark(words.mark)
+        return 0
+    programs = crate_list.PROGRAMS if words.program == "all" else (words.program,)
+    built = [it for it in programs if marks.is_current(it, PROVED)]
     if words.is_built:
-        return 0 if is_built(words.program) else 1
-    if is_built(words.program) and not words.anew:
-        print(f"prove: the proved program is there: ./{words.program} runs it")
+        return 0 if len(built) == len(programs) else 1
+    to_prove = [it for it in programs if words.anew or it not in built]
+    for program in programs:
+        if program not in to_prove:
+            print(f"prove: the proved program is there: ./{program} runs it")
+    if not to_prove:
         return 0
     if not shutil.which("rt"):
         parser.exit(2, "prove: rt, the command of the Rattle kit, isn't on the path\n")
     signal.signal(signal.SIGTERM, lambda number, _: sys.exit(128 + number))
     try:
-        return prove(words.program, ["--anew"] if words.anew else [])
+        return prove(to_prove, ["--anew"] if words.anew else [])
     except KeyboardInterrupt:
         print("prove: broken off; what is proved is kept, and the next ./prove goes on there")
         return 130
