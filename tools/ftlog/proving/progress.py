@@ -41,7 +41,7 @@ def least_time(crates, seconds, provers):
 
 
 class Progress:
-    """Which crates are done, and how fast the seconds of docs/COST.md go by on this machine."""
+    """Which crates are done, and how fast the seconds of costs.txt go by on this machine."""
 
     def __init__(self, names):
         known = {name: row.proof for name, row in cost_table.read().items() if name in names and row.proof}
