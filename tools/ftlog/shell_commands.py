@@ -1,9 +1,10 @@
 """The commands of a shell's text, one after the other, as far as they can be known without running them.
 
 Quotes, variables that the text sets, `for` over words, groups, pipes and here-documents are followed. What stands within `if`, `while`,
-`until`, `case`, a function or after `||` may run or not: such commands say so. What a `$(..)` or an unknown variable gives isn't known: it
-stands in a word between two UNKNOWN marks, as it is written.
+`until`, `case`, a function, after `||`, or after a test with `&&` may run or not: such commands say so, and what they set a variable to isn't
+known. What a `$(..)` or an unknown variable gives isn't known: it stands in a word between two UNKNOWN marks, as it is written.
 """
+import itertools
 import re
 from typing import NamedTuple, Optional
 
@@ -29,10 +30,11 @@ TOKEN = re.compile(
 PART = re.compile(
     rf"(?P<double>{DOUBLE})|(?P<single>{SINGLE})|(?P<escaped>\\[\s\S])|(?P<called>{CALLED})|(?P<variable>{VARIABLE})|(?P<plain>[\s\S])"
 )
-ASSIGNED = re.compile(r"([A-Za-z_]\w*)=([\s\S]*)")
+ASSIGNED = re.compile(r"([A-Za-z_]\w*)(\+?)=([\s\S]*)")
 DEFAULT = re.compile(r"\$\{([A-Za-z_]\w*)(?::?[-=]([\s\S]*))?\}")
 ENDS = {"then", "elif", "else", "fi", "do", "done", "esac", "}", ")", ";;", ";&", ";;&"}
 DECLARING = {"export", "local", "readonly", "declare", "typeset"}
+TESTS = {"[", "[[", "test", "grep"}
 
 
 class Token(NamedTuple):
@@ -147,19 +149,21 @@ class Parser:
             self.at += 1
 
     def commands(self):
-        """Those up to the next word that ends a compound, or to the end. What follows `||` may run or not."""
-        found = []
+        """Those up to the next word that ends a compound, or to the end. What follows `||`, or a test with `&&`, may run or not."""
+        found, doubt = [], None
         self.skip("\n", ";", "&")
         while self.text() is not None and self.text() not in ENDS:
-            line, is_after = self.line(), self.at and self.pieces[self.at - 1].text == "||"
-            pipe = self.pipe()
-            found.append(Compound(line, "||", [pipe]) if is_after else pipe)
-            if self.text() in ("&&", "||"):
+            line, pipe = self.line(), self.pipe()
+            found.append(Compound(line, doubt, [pipe]) if doubt else pipe)
+            word = self.text()
+            if word in ("&&", "||"):
                 self.at += 1
-                while self.text() == "\n":
-                    self.at += 1
+                self.skip("\n")
+                is_test = isinstance(pipe, Simple) and pipe.words[:1] and pipe.words[0] in TESTS
+                doubt = "||" if word == "||" else "&&" if is_test or doubt == "&&" else None
             else:
                 self.skip("\n", ";", "&")
+                doubt = None
         return found
 
     def pipe(self):
@@ -330,6 +334,10 @@ class Words:
             return self.variables[name]
         return self.one(default) if default else f"{UNKNOWN}{text}{UNKNOWN}"
 
+    def forget(self, name):
+        """What a variable has isn't known from here on."""
+        self.variables[name] = f"{UNKNOWN}${name}{UNKNOWN}"
+
     def double(self, text):
         """What stands between double quotes, or in a here-document."""
         found = []
@@ -411,6 +419,8 @@ class Follower:
         for word in [text for written in node.words for text in self.words.many(written)]:
             self.words.variables[node.name] = word
             yield from self.follow(node.body, doubt, redirects)
+        if doubt:
+            self.words.forget(node.name)
 
     def pipe(self, node, doubt, redirects):
         """The commands of a pipe; each is fed by the one before it."""
@@ -434,25 +444,28 @@ class Follower:
         self.count += 1
         if self.count > COMMANDS:
             raise Fault(f"line {node.line}: more than {COMMANDS} commands to follow")
-        written = list(node.words)
-        while written and ASSIGNED.fullmatch(written[0]):
-            self.assign(written.pop(0), node.line)
+        written = list(itertools.dropwhile(ASSIGNED.fullmatch, node.words))
         words = [text for word in written for text in self.words.many(word)]
-        if words and words[0] in DECLARING:
-            for word in written[1:]:
-                if ASSIGNED.fullmatch(word):
-                    self.assign(word, node.line)
-            return
         own = self.replaced(node.redirects)
-        if words or own:
+        is_declaring = bool(words) and words[0] in DECLARING
+        if is_declaring or not words:  # otherwise the command alone has them
+            for word in filter(ASSIGNED.fullmatch, node.words):
+                self.assign(word, node.line, doubt)
+        if words[:1] in (["read"], ["unset"]):
+            for word in words[1:]:
+                self.words.forget(word)
+        if own or words and not is_declaring:
             yield Command(node.line, words, [*redirects, *own], doubt)
 
-    def assign(self, word, line):
-        """Sets a variable."""
-        name, value = ASSIGNED.fullmatch(word).groups()
-        self.words.variables[name] = self.words.one(value)
+    def assign(self, word, line, doubt):
+        """Sets a variable. If it isn't known whether that happens, neither is what it has."""
+        name, plus, value = ASSIGNED.fullmatch(word).groups()
+        before = self.words.variable(f"${name}") if plus else ""
+        self.words.variables[name] = before + self.words.one(value)
         if len(self.words.variables[name]) > BYTES:
             raise Fault(f"line {line}: {name} has more than {BYTES:,} bytes")
+        if doubt:
+            self.words.forget(name)
 
 
 def commands(text, first=1, follower=None):

@@ -188,7 +188,7 @@ def bare(words):
 
 def within(doubt):
     """What a command that may run or not is within, in words."""
-    return {"||": "what comes after `||`", "function": "a function"}.get(doubt, f"`{doubt}`")
+    return {"||": "what comes after `||`", "&&": "what comes after a test with `&&`", "function": "a function"}.get(doubt, f"`{doubt}`")
 
 
 def text_of(command, name, words):

@@ -263,6 +263,11 @@ class Shells(unittest.TestCase):
             ("echo \"a$(b \"c\")\"", ["a\0$(b \"c\")\0"]),
             ("! echo a", ["a"]),
             ("A= echo ''", [""]),
+            ("A=1; A=2 x; A+=3; echo $A", ["13"]),
+            ("A=1; if x; then A=2; fi; echo $A", ["\0$A\0"]),
+            ("A=1; [ x ] && A=2; echo $A", ["\0$A\0"]),
+            ("A=1; read A; echo $A", ["\0$A\0"]),
+            ("if x; then for a in b c; do :; done; fi; echo $a", ["\0$a\0"]),
         ]:
             with self.subTest(shell):
                 self.assertEqual(list(shell_commands.commands(shell))[-1].words, ["echo", *wanted])
@@ -297,9 +302,18 @@ class Shells(unittest.TestCase):
             "for i; do echo $i > set_ftrace_filter; done",
             "echo 0 > /proc/sys/kernel/ftrace_enabled",
             "rmmod ext4",
+            "[ -f x ] && echo nop > current_tracer",
         ]:
             with self.subTest(shell):
                 self.assertEqual(len(written(shell)[1]), 1)
+
+
+    def test_choices(self):
+        """A tracer that is set within `if` isn't known; a folder that isn't is taken for tracefs."""
+        script, told, _ = written("t=function\nif [ -n \"$1\" ]; then t=function_graph; fi\necho $t > current_tracer")
+        self.assertEqual((script, told), ("ftrace 1\n", ["line 3: current_tracer: $t isn't known"]))
+        shell = "if [ -d /sys/kernel/tracing ]; then T=/sys/kernel/tracing; else T=/sys/kernel/debug/tracing; fi; echo function > $T/current_tracer"
+        self.assertEqual(controls(shell), ["register fn"])
 
 
 class Tools(unittest.TestCase):
