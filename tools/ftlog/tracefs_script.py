@@ -104,20 +104,28 @@ class Chooser:
         return None
 
 
+def is_cleared(steps):
+    """Whether the trace is cleared before anything else runs."""
+    return next((step.what for step in steps if step.what in ("clear", "pause")), None) == "clear"
+
+
 def rounds(steps):
     """Before which steps the tasks make their calls.
 
-    It is when something else runs while somebody is registered, if there was a command since the last calls; before a user goes that has
-    seen no calls; and at the end, if there was more than that users went.
+    It is when something else runs while somebody is registered, if there was a command since the last calls; before a user goes, or tracing
+    does, that has seen no calls, unless the trace is cleared then; and at the end, if there was more than that users went.
     """
-    found, users, fresh, is_changed, is_more = [], frozenset(), set(), False, False
+    found, users, fresh, is_changed, is_more, is_on, is_due = [], frozenset(), set(), False, False, True, False
     for number, step in enumerate(steps):
-        if step.what == "pause" and users and is_changed or step.what == "ctl" and fresh & (users - step.users):
+        is_off = step.what == "switch" and is_on and not step.words and is_due and not is_cleared(steps[number:])
+        if users and (step.what == "pause" and is_changed or is_off) or step.what == "ctl" and fresh & (users - step.users):
             found.append(number)
-            fresh, is_changed, is_more = set(), False, False
-        if step.what == "ctl":
+            fresh, is_changed, is_more, is_due = set(), False, False, False
+        if step.what == "switch":
+            is_on, is_due = step.words, is_due or step.words
+        elif step.what == "ctl":
             fresh |= step.users - users
-            is_changed, is_more = True, is_more or not users - step.users
+            is_changed, is_more, is_due = True, is_more or not users - step.users, is_due or bool(step.users - users)
             users = step.users
     if users and is_more or not found:
         found.append(len(steps))

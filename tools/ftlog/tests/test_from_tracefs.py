@@ -315,6 +315,19 @@ class Shells(unittest.TestCase):
         shell = "if [ -d /sys/kernel/tracing ]; then T=/sys/kernel/tracing; else T=/sys/kernel/debug/tracing; fi; echo function > $T/current_tracer"
         self.assertEqual(controls(shell), ["register fn"])
 
+    def test_tracing_goes_off(self):
+        """Calls are made before it does, whatever ran, unless the trace is cleared."""
+        begun = "echo vfs_read > set_ftrace_filter; echo function > current_tracer; "
+        for shell, calls, held in [
+            ("echo 1 > tracing_on; ls; echo 0 > tracing_on; cat trace", 1, 1), ("echo 0 > tracing_on; echo > trace; cat trace", 1, 0),
+            ("./work; echo 0 > tracing_on; echo 1 > tracing_on; echo 0 > tracing_on", 2, 2), ("./work; echo 0 > tracing_on; cat trace", 1, 1),
+        ]:
+            with self.subTest(shell):
+                script, told, _ = written(begun + shell)
+                self.assertEqual((script.count("call vfs_read"), told), (calls, []))
+                came = replayed(script, "rings")
+                self.assertEqual(came is None or came.out.count(b" vfs_read <-"), came is None or held)
+
 
 class Tools(unittest.TestCase):
     def test_begun(self):
