@@ -104,6 +104,11 @@ class Chooser:
         return None
 
 
+def is_module(words):
+    """Whether a command loads or unloads a module."""
+    return isinstance(words, str) and words.startswith(("load ", "unload "))
+
+
 def is_cleared(steps):
     """Whether the trace is cleared before anything else runs."""
     return next((step.what for step in steps if step.what in ("clear", "pause")), None) == "clear"
@@ -112,13 +117,14 @@ def is_cleared(steps):
 def rounds(steps):
     """Before which steps the tasks make their calls.
 
-    It is when something else runs while somebody is registered, if there was a command since the last calls; before a user goes, or tracing
-    does, that has seen no calls, unless the trace is cleared then; and at the end, if there was more than that users went.
+    It is when something else runs or a module goes while somebody is registered, if there was a command since the last calls; before a user
+    goes, or tracing does, that has seen no calls, unless the trace is cleared then; and at the end, if there was more than that users went.
     """
     found, users, fresh, is_changed, is_more, is_on, is_due = [], frozenset(), set(), False, False, True, False
     for number, step in enumerate(steps):
+        is_other = step.what == "pause" or is_module(step.words) and step.words.startswith("unload")
         is_off = step.what == "switch" and is_on and not step.words and is_due and not is_cleared(steps[number:])
-        if users and (step.what == "pause" and is_changed or is_off) or step.what == "ctl" and fresh & (users - step.users):
+        if users and (is_other and is_changed or is_off) or step.what == "ctl" and fresh & (users - step.users):
             found.append(number)
             fresh, is_changed, is_more, is_due = set(), False, False, False
         if step.what == "switch":
@@ -222,7 +228,9 @@ class Writer:
         self.users = list(state.flags)
         self.called = sorted(set(called) & set(self.kept.numbers)) if called else self.kept.numbers
         self.commands, self.numbers, self.parts = 0, set(self.kept.numbers), []
-        self.count, self.sets = self.call_count(), {}
+        self.sets, self.missing, self.calls = {}, {}, self.calls_of_rounds()
+        self.modules = {state.functions.functions[number].module for number in self.numbers}
+        self.absent = sorted(state.absent_at_first & self.modules)
 
     def needs_other(self):
         """Whether a user with an empty filter is registered when calls are made: it traces functions that no text selects."""
@@ -240,8 +248,12 @@ class Writer:
             line = next(step.line for step in self.steps if step.what == "ctl" and user in step.words)
             self.tell(line, f"{user}: a script has at most {version.users} users")
         self.users = self.users[: version.users]
+        loads = sum(is_module(step.words) for step in self.steps) + bool(self.absent)
+        self.room = MOST["COMMANDS"] - loads * (len(self.users) + 1)
         control = self.control()
-        lines = [f"ftrace {version.number}", *self.functions(), *self.tracing_lines()]
+        for (line, user), texts in self.missing.items():
+            self.tell(line, f"{some(texts)}: none of the functions that {'it selects' if len(texts) == 1 else 'they select'} is in the script")
+        lines = [f"ftrace {version.number}", *self.functions(), *(f"absent {name}" for name in self.absent), *self.tracing_lines()]
         return "\n".join([*lines, *self.user_lines(), *self.task_lines(), *control, *self.schedule(), ""])
 
     def functions(self):
@@ -273,7 +285,7 @@ class Writer:
         for number, step in enumerate([*self.steps, None]):
             if number in self.at:
                 self.parts.append(self.commands)
-                is_waiting = self.count > 0
+                is_waiting = bool(self.calls[len(self.parts) - 1])
             text = self.command(step) if step and step.what == "ctl" else None
             if text is None:
                 continue
@@ -295,9 +307,15 @@ class Writer:
             return None
         if word in SETS:
             text = self.edit(step, word, *others)
-        if text is not None and self.commands == MOST["COMMANDS"]:
+        if is_module(text):
+            if others[0] in self.modules:
+                return text
+            self.tell(step.line, f"{text}: none of the functions of the module is in the script")
+            return None
+        if text is not None and self.room < 1:
             self.tell(step.line, f"a script has at most {MOST['COMMANDS']:,} commands")
             return None
+        self.room -= text is not None
         return text
 
     def list_of_pids(self, step):
@@ -314,7 +332,7 @@ class Writer:
         """
         chosen = (step.chosen or frozenset()) & self.numbers
         if text is not None and not chosen:
-            self.tell(step.line, f"{text}: none of the functions that it selects is in the script")
+            self.missing.setdefault((step.line, user), []).append(text)
             text = None
             if mode == ">>":
                 return None
@@ -333,37 +351,38 @@ class Writer:
 
     # Tasks.
 
-    def call_count(self):
-        """How many calls a task makes in each round: all functions, or as many as there is room for."""
+    def calls_of_rounds(self):
+        """Which functions a task calls in each round: all that are there then, or as many as there is room for."""
         room = MOST["ACTS"] // (len(self.at) * len(self.tasks.all())) - 1
         count = min(len(self.called), max(room // 2, 0))
         if count < len(self.called):
             self.kept.told.append(f"{count:,} of {len(self.called):,} functions are called: a script has at most {MOST['ACTS']:,} acts")
-        return count
+        functions = self.state.functions.functions
+        absent = [self.steps[number - 1].absent if number else self.state.absent_at_first for number in self.at]
+        return [[functions[it].name for it in self.called[:count] if functions[it].module not in gone] for gone in absent]
 
     def acts(self):
         """How many acts a task has made after the rounds so far."""
-        return sum(2 * self.count + (commands > 0) for commands in self.parts)
+        return sum(2 * len(calls) + (commands > 0) for commands, calls in zip(self.parts, self.calls) if calls)
 
     def task_lines(self):
         """The lines of the CPU and of its tasks, each with its calls in each round."""
-        if not self.count and not self.tasks.pids:
+        if not any(self.calls) and not self.tasks.pids:
             return
-        names = [self.state.functions.functions[number].name for number in self.called[: self.count]]
         yield f"cpu 0 quantum {QUANTUM}"
         for pid, process in self.tasks.all():
             if process:
                 yield f"# {process}"
             yield f"task {pid} cpu 0"
-            for commands in self.parts:
-                if commands:
+            for commands, calls in zip(self.parts, self.calls):
+                if commands and calls:
                     yield f"after {commands}"
-                for name in names:
+                for name in calls:
                     yield f"call {name}"
                     yield "ret"
 
     def schedule(self):
         """A longer schedule than the usual one, if the calls need it."""
         call, user = STEPS_OF_CALL
-        calls = len(self.at) * len(self.tasks.all()) * self.count
+        calls = sum(map(len, self.calls)) * len(self.tasks.all())
         return [f"sched all*{MOST['STEPS'] // 2}"] if calls * (call + user * len(self.users)) > LONG else []

@@ -29,10 +29,12 @@ LEFT = {
     "snapshot": "a ring can't be taken while it is written",
     "ftrace_enabled": "nothing in a script switches all of ftrace off",
 }
+AT_FIRST = {"events": "0", "tracing_thresh": "0", "snapshot": "0", "ftrace_enabled": "1"}  # what these, or all below them, have at first
+NOT_YET = "it selects functions of a module that isn't loaded yet, and a script has no text that does what the kernel does"
 TRIGGERS = {"traceon", "traceoff"}
 METHODS = {
     "current_tracer": "tracer", "function_profile_enabled": "profile", "max_graph_depth": "depth", "tracing_on": "switch", "trace": "clear",
-    "rmdir": "remove", "trace_clock": "clock",
+    "rmdir": "remove", "trace_clock": "clock", "modprobe": "module", "rmmod": "module",
 }  # which method of State takes a write to a file
 WORDS = re.compile(r"[ \t\n\v\f\r]+")
 MOST_COUNT = limits.LIMITS["TRIGGER_LIMIT"]
@@ -57,7 +59,8 @@ class Step(NamedTuple):
 
     `what` is `ctl`, with the command's text in `words`, or its word and pids; `switch`, with whether tracing is on; `on` and `off`, with a
     trigger; `clear` or `pause`. Of an edit `chosen` has the functions that its text selects, and `is_empty` says whether the set has none
-    after it. `users` are those that are registered after the step, and `is_open` says whether one of them has an empty filter.
+    after it. `users` are those that are registered after the step, and `is_open` says whether one of them has an empty filter. `absent` are
+    the modules that aren't loaded after it.
     """
 
     line: int
@@ -67,6 +70,7 @@ class Step(NamedTuple):
     users: frozenset = frozenset()
     is_open: bool = False
     is_empty: bool = False
+    absent: frozenset = frozenset()
 
 
 class Instance:
@@ -91,12 +95,15 @@ def number_of(text):
 
 
 class Survey:
-    """Which users a script needs, by the tracers that each instance has at some time, and which instance's pid lists it has."""
+    """Which users a script needs, by the tracers that each instance has at some time, which instance's pid lists it has, and which modules
+    are loaded before they are unloaded, and so aren't there at first."""
 
     def __init__(self, events):
-        self.kinds, self.pid_owner, self.tracing = {}, None, set()
+        self.kinds, self.pid_owner, self.tracing, self.modules = {}, None, set(), {}
         writes = [write for event in events for write in (event.writes if isinstance(event, Undo) else [event]) if isinstance(write, Write)]
         for write in writes:
+            if write.file in ("modprobe", "rmmod"):
+                self.modules.setdefault(write.text, write.file)
             kinds = self.kinds.setdefault(write.instance, [])
             kind = TRACERS.get(write.text.strip()) if write.file == "current_tracer" else None
             if write.file == "function_profile_enabled" and not write.instance and number_of(write.text):
@@ -119,6 +126,8 @@ class State:
         self.functions, self.survey = functions, Survey(events)
         self.instances, self.steps, self.told, self.undo = {}, [], [], []
         self.names, self.flags, self.has_depth = set(), {}, False
+        first = self.survey.modules.items()
+        self.absent = self.absent_at_first = frozenset(it for it, file in first if file == "modprobe" and it in functions.modules)
         for name, kinds in self.survey.kinds.items():
             if kinds:
                 self.instance(name)
@@ -160,7 +169,7 @@ class State:
             own = {it.users[kind] for kind in [it.tracer] if kind} | ({it.users["pr"]} if it.is_profiling else set())
             users |= own
             is_open = is_open or bool(own) and not it.sets["filter"]
-        self.steps.append(Step(line, what, words, chosen, frozenset(users), is_open, is_empty))
+        self.steps.append(Step(line, what, words, chosen, frozenset(users), is_open, is_empty, self.absent))
 
     def take(self, event):
         """One event. What a tool takes back when it ends matters only if something is written after it."""
@@ -204,9 +213,10 @@ class State:
             getattr(self, METHODS.get(file, "left"))(write, it)
 
     def left(self, write, it):
-        """A write to a file that nothing in a script is like."""
-        front = write.file.split("/")[0]
-        self.tell(write.line, f"{it.shown}{write.file}: {LEFT.get(write.file) or LEFT.get(front, 'it has no counterpart')}")
+        """A write to a file that nothing in a script is like, unless it makes the file what it is at first."""
+        front, text = write.file.split("/")[0], write.text.strip()
+        if text and text != AT_FIRST.get(front):
+            self.tell(write.line, f"{it.shown}{write.file}: {LEFT.get(write.file) or LEFT.get(front, 'it has no counterpart')}")
 
     def clock(self, write, it):
         """The clock: a script has that of `counter`."""
@@ -281,6 +291,42 @@ class State:
             if it.pids[word]:
                 self.pids(write._replace(file=file, text="", is_appended=False), it)
 
+    def module(self, write, it):
+        """modprobe, insmod and rmmod. The first function of the module is in the script, so that this has the module."""
+        name, is_loaded = write.text, write.file == "modprobe"
+        own = self.functions.modules.get(name)
+        if not own:
+            self.tell(write.line, f"{write.file} {name}: no function of the list is in this module")
+        elif is_loaded == (name in self.absent):
+            self.absent ^= {name}
+            was_there = is_loaded and any(step.words == f"unload {name}" for step in self.steps)
+            if was_there and any(edited & set(own) for it in self.instances.values() for edited in it.sets.values()):
+                self.tell(write.line, f"modprobe {name}: its functions are in lists from which the kernel took them when it was unloaded")
+            self.step(write.line, "ctl", f"{'' if is_loaded else 'un'}load {name}", frozenset(own[:1]))
+
+    def hidden(self):
+        """The functions that aren't there, as their modules aren't loaded."""
+        return {number for name in self.absent for number in self.functions.modules[name]}
+
+    def there(self, text, chosen):
+        """What the kernel selects while modules aren't there, and a text by which a script selects the same; None if there is no such text.
+
+        The kernel keeps a text that names such a module until this is loaded, and the script selects its functions at once. A text that takes
+        one off takes off what is kept.
+        """
+        now = chosen - self.hidden()
+        if now == chosen or text.module in self.absent and not (now or text.is_outside):
+            return chosen, None if now != chosen and text.is_removing else text
+        for name in self.absent:
+            other = text._replace(module=name, is_outside=True)
+            if text.module is None and now and self.functions.selected(other) == now:
+                return now, other
+        return now, None
+
+    def none_there(self):
+        """Why the kernel refuses a text that selects nothing."""
+        return f"it selects no function of the list{' whose module is loaded' if self.absent else ''}, so the kernel refuses it"
+
     # The pid lists.
 
     def pids(self, write, it):
@@ -329,7 +375,8 @@ class State:
                 self.edit(write.line, it, name, ">")
             if why:
                 rest = words[number + 1 :]
-                also = f"; nor is what follows it taken: {' '.join(rest)}" if rest else ""
+                more = f" and {len(rest) - 5:,} more" if len(rest) > 5 else ""
+                also = f"; nor is what follows it taken: {' '.join(rest[:5])}{more}" if rest else ""
                 self.tell(write.line, f"{it.shown}{write.file}: {word}: {why}{also}")
                 return
             mode = ">>" if is_edit else mode
@@ -344,16 +391,19 @@ class State:
         if fault:
             self.tell(write.line, f"{it.shown}{write.file}: {word}: {fault}")
             return False, None
-        chosen = self.functions.selected(text)
+        chosen, other = self.there(text, self.functions.selected(text))
         if not chosen:
             is_awaited = text.module is not None and not text.is_outside and not self.functions.within(text)
             if is_awaited:
                 why = "no module of the list has this name; the kernel keeps the text until one is loaded"
                 self.tell(write.line, f"{it.shown}{write.file}: {word}: {why}")
                 return False, None
-            return False, "it selects no function of the list, so the kernel refuses it"
+            return False, self.none_there()
+        if other is None:
+            self.tell(write.line, f"{it.shown}{write.file}: {word}: {NOT_YET}")
+            return False, None
         mark = "!" if text.is_removing else ""
-        shown = self.functions.functions[min(chosen)].name if self.functions.is_number(text) else text.word
+        shown = self.functions.functions[min(chosen)].name if self.functions.is_number(text) else other.word
         self.edit(write.line, it, name, mode, mark + shown, chosen)
         return True, None
 
@@ -375,10 +425,11 @@ class State:
 
     def put_on(self, write, it, word, trigger):
         """Adds a trigger, and gives why the kernel refuses it."""
-        chosen = self.functions.named(trigger.glob)
-        if not chosen:
-            return "it selects no function of the list, so the kernel refuses it"
-        fault = fault_of(read_text(trigger.glob))
+        chosen, fault = self.functions.named(trigger.glob), fault_of(read_text(trigger.glob))
+        now = chosen - self.hidden()
+        if not now:
+            return self.none_there()
+        fault = fault or (NOT_YET if now != chosen else None)
         if fault:
             self.tell(write.line, f"{it.shown}{write.file}: {word}: {fault}")
         elif self.survey.tracing - {it.name}:

@@ -49,7 +49,7 @@ def run(options):
     text = files.read(options.shell).decode("latin-1")
     functions = read_list(options.list, files.read(options.list))
     try:
-        events = tracefs_writes.events(text)
+        events = tracefs_writes.events(text, functions)
     except Fault as fault:
         raise Fault(one_line(f"{options.shell}: {fault}")) from None
     if all(isinstance(event, (Begun, Pause)) for event in events):

@@ -30,7 +30,7 @@ def cases():
 def written(shell, functions=LIST, **how):
     """The script of a shell's text, and what is told of its lines and of the list."""
     listed = filter_texts.read_list("list", functions)
-    writer = tracefs_script.Writer(tracefs_state.State(listed, tracefs_writes.events(shell)), **how)
+    writer = tracefs_script.Writer(tracefs_state.State(listed, tracefs_writes.events(shell, listed)), **how)
     text = writer.text()
     told = sorted(dict.fromkeys(writer.told))
     return text, [f"line {line}: {tracefs_script.one_line(why)}" for line, why in told], writer.kept.told
@@ -168,7 +168,8 @@ class Cases(unittest.TestCase):
 def kernel_and_script(shell):
     """What the lists of the kernel are after a shell's text, with the list of NAMES, and the script."""
     functions = "".join(f"{name}{' [ext4]' if name.startswith('ext4') else ''}\n" for name in NAMES)
-    state = tracefs_state.State(filter_texts.read_list("list", functions.encode()), tracefs_writes.events(shell))
+    listed = filter_texts.read_list("list", functions.encode())
+    state = tracefs_state.State(listed, tracefs_writes.events(shell, listed))
     return state, tracefs_script.Writer(state).text()
 
 
@@ -287,7 +288,7 @@ class Shells(unittest.TestCase):
             ("cd /sys/kernel/debug; cd tracing; cd /; cd -; echo 0 >| tracing_on", ["", "tracing_on"]), ("echo x > out.txt", []),
         ]:
             with self.subTest(shell):
-                found = [event for event in tracefs_writes.events(shell) if isinstance(event, tracefs_writes.Write)]
+                found = [event for event in tracefs_writes.events(shell, None) if isinstance(event, tracefs_writes.Write)]
                 self.assertEqual([part for event in found for part in event[1:3]], wanted)
 
     def test_not_known(self):
@@ -301,8 +302,11 @@ class Shells(unittest.TestCase):
             "case $1 in a) echo 0 > tracing_on;; esac",
             "for i; do echo $i > set_ftrace_filter; done",
             "echo 0 > /proc/sys/kernel/ftrace_enabled",
-            "rmmod ext4",
+            "rmmod xfs",
+            "if true; then modprobe ext4; fi",
             "[ -f x ] && echo nop > current_tracer",
+            "grep -c read available_filter_functions > set_ftrace_filter",
+            "grep -E '(' available_filter_functions > set_ftrace_filter",
         ]:
             with self.subTest(shell):
                 self.assertEqual(len(written(shell)[1]), 1)
@@ -327,6 +331,69 @@ class Shells(unittest.TestCase):
                 self.assertEqual((script.count("call vfs_read"), told), (calls, []))
                 came = replayed(script, "rings")
                 self.assertEqual(came is None or came.out.count(b" vfs_read <-"), came is None or held)
+
+    def test_prompts(self):
+        """They are taken off if each line has one."""
+        self.assertEqual(controls("# cd /sys/kernel/tracing\n\n  $ echo function > current_tracer\n"), ["register fn"])
+        self.assertEqual(controls("# set_ftrace_pid >\necho function > current_tracer\n"), ["register fn"])
+
+    def test_files_and_grep(self):
+        """A file that is there, and the list. What grep prints becomes a glob if this selects the same, at the end of a pipe alone."""
+        with tempfile.TemporaryDirectory() as folder:
+            pathlib.Path(folder, "names").write_text("vfs_read\nsched_fork\n")
+            for shell, wanted in [
+                (f"cat {folder}/names > set_ftrace_filter", ["> vfs_read", ">> sched_fork"]),
+                (f"cd {folder}; cat < names > $T/set_ftrace_filter", ["> vfs_read", ">> sched_fork"]),
+                ("grep ^vfs available_filter_functions > set_ftrace_filter", ["> vfs*"]),
+                ("grep read $T/available_filter_functions | sudo tee -a set_ftrace_filter", [">> ksys_read", ">> vfs_read", ">> ext4_read"]),
+                ("cat available_filter_functions | grep read | grep -v k | cut -d' ' -f1 > set_ftrace_filter", ["> vfs_read", ">> ext4_read"]),
+                ("grep -wi -e VFS_READ -e sched_fork available_filter_functions > set_ftrace_filter", ["> vfs_read", ">> sched_fork"]),
+                ("grep -Ex '(k|v).*d' available_filter_functions >> set_ftrace_filter", [">> ksys_read", ">> vfs_read"]),
+                ("grep -F 'f*' available_filter_functions > set_ftrace_filter", [">"]),
+            ]:
+                with self.subTest(shell):
+                    self.assertEqual(controls(shell), [f"filter fn {text}" for text in wanted])
+
+
+class Modules(unittest.TestCase):
+    """Modules that come and go: the list has all their functions."""
+
+    def test_worked(self):
+        """What is written before a module is there names its functions if it names the module."""
+        for shell, absent, wanted, told in [
+            ("echo :mod:ext4 > set_ftrace_filter; modprobe ext4", True, ["filter fn > :mod:ext4", "load ext4"], 0),
+            ("echo '*_read' > set_ftrace_filter; insmod ./ext4.ko.xz", True, ["filter fn > *_read:mod:!ext4", "load ext4"], 0),
+            ("echo 'ext4_read vfs_read' > set_ftrace_filter; modprobe ext4", True, ["load ext4"], 1),
+            ("echo ext4_read:traceoff > set_ftrace_filter; modprobe ext4", True, ["load ext4"], 1),
+            ("modprobe ext4; echo 'ext4*' > set_ftrace_filter; modprobe ext4", True, ["load ext4", "filter fn > ext4*"], 0),
+            ("echo 'e*' > set_ftrace_filter; sudo rmmod ext4; modprobe ext4", False, ["filter fn > e*", "unload ext4", "load ext4"], 1),
+            ("modprobe -r ext4; modprobe xfs", False, ["unload ext4"], 1),
+            ("echo '!*:mod:ext4' >> set_ftrace_filter; modprobe ext4", True, ["load ext4"], 1),
+        ]:
+            with self.subTest(shell):
+                script, found, _ = written(shell)
+                self.assertEqual(("absent ext4\n" in script, controls(shell), len(found)), (absent, wanted, told))
+
+    def test_calls(self):
+        """They are made while their module is there, and before it goes."""
+        shell = "echo :mod:ext4 > set_ftrace_filter; echo function > current_tracer; modprobe ext4; rmmod ext4; ./work; modprobe ext4"
+        script, told, _ = written(shell)
+        self.assertEqual((script.count("call ext4_"), len(told)), (4, 1))
+        self.assertIn("load ext4\nctl until 10 5\nctl unload ext4\nctl load ext4\n", script)
+
+    def test_random(self):
+        """Each script is one that the program takes."""
+        rng = random.Random(8)
+        for _ in range(20):
+            lines = random_shell(rng).split("\n")
+            for _ in range(4):
+                lines.insert(rng.randint(0, len(lines)), rng.choice(["modprobe ext4", "rmmod ext4", "insmod vfs.ko", "modprobe -r vfs"]))
+            modules = {name: name.split("_")[0] for name in NAMES if not name.startswith("do")}
+            functions = "".join(f"{name} [{modules[name]}]\n" if name in modules else f"{name}\n" for name in NAMES)
+            came = replayed(written("\n".join(lines), functions.encode())[0])
+            if came is None:
+                self.skipTest("there is no program")
+            self.assertEqual((came.status, came.out.splitlines()[-1:]), (0, [b"end"]), lines)
 
 
 class Tools(unittest.TestCase):
