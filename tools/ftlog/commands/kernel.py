@@ -7,6 +7,7 @@ excused, and 0 otherwise. A run that wasn't recorded, since the guest broke off,
 import gzip
 import os
 import pathlib
+import sys
 import tempfile
 
 from ftlog import files, runs
@@ -44,8 +45,8 @@ def judge_by(program):
 
     def judge(text):
         came = runs.answer([program.resolve()], text, SECONDS)
-        if came.status not in (0, 1, 3):
-            raise Fault(f"ftjudge gave no verdict: {came.err.decode('latin-1').strip() or came.status}")
+        if came.status not in (0, 1):
+            raise Fault(f"ftjudge gives no verdict: {(came.out or came.err).decode('latin-1').strip() or came.status}")
         return came.out.decode("latin-1").strip()
 
     return judge
@@ -70,6 +71,8 @@ class Recordings:
     def booted(self, text, why, cpus, names):
         """Judges what one boot has recorded; `names` has what its runs are called, by their seeds."""
         found = {run.given["seed"]: run for run in convert.read(text) if not convert.is_cut_off(run)}
+        if len(found) == len(names) and why != boot.NOTHING:
+            print(f"ft kernel: the guest that made the runs from {min(names)} on said: {why}", file=sys.stderr)
         for seed, name in names.items():
             if seed in found:
                 self.add(found[seed], f"{seed}: {name}")
@@ -130,7 +133,7 @@ def record(options, room):
         names = {seed: boot.parameters(seed, options.cpus, has_fprobes) for seed in seeds if first <= seed < first + EACH}
         given = [words for _, words in names.values()]
         if options.here:
-            text, why = "".join(boot.here(built, words) for words in given), "nothing was recorded"
+            text, why = "".join(boot.here(built, words) for words in given), boot.NOTHING
         else:
             text, why = boot.boot(image, accelerator, archive, options.cpus, given, room, options.limit)
         recordings.booted(text, why, options.cpus, {seed: name for seed, (name, _) in names.items()})

@@ -13,7 +13,6 @@ from ftlog.recorded.control import FUNCTIONS, OPS, REPLACEMENT, Control, name_of
 CONTEXTS = ("normal", "softirq", "irq")
 IRQ = 2
 LEVELS = 2  # callbacks of a task and context that a guard lets be open, in version 2 of the language
-CPUS = 8  # of a script
 
 
 class Event(NamedTuple):
@@ -123,14 +122,12 @@ class Writer:
     """Writes the items of a run, and the acts of its tasks."""
 
     def __init__(self, run, control, events):
-        self.control, self.calls = control, calls_of(events, control)
-        tasks = range(run.given["threads"])
-        self.items, self.places, self.counts = [], {}, Counter(calls=len(self.calls))
-        self.acts, self.open = {task: [] for task in tasks}, {task: [] for task in tasks}
-        writes = {"b": self.begin, "r": self.returns, "e": self.enter, "k": self.back, "K": self.ends, "x": self.refused, "y": self.body,
-                  "l": self.leave, "m": self.exit, "M": self.ends, "t": self.ret}
+        self.control, self.calls, self.items, self.places = control, calls_of(events, control), [], {}
+        self.acts, self.open = ({task: [] for task in range(run.given["threads"])} for _ in range(2))  # and who is called back now
+        kinds = Counter(event.kind for event in run.events)
+        self.counts = Counter({"calls": kinds["e"], "callbacks": kinds["k"], "exits": kinds["m"], "refusals seen": kinds["x"]})
         for event in events:
-            writes[event.kind](event)
+            self.tell(event)
 
     def item(self, *words):
         """Adds an item."""
@@ -140,30 +137,45 @@ class Writer:
         """The name of a call in the log; `-` for none."""
         return f"{10 + task}.{call}" if call else "-"
 
-    def begin(self, event):
-        """A command begins, and so do those that it comes to."""
-        first, last = self.control.spans[event.call]
-        for number in range(first, last):
-            self.item("begin", number)
-            self.item("return", number, self.control.answers[number - 1])
-        self.item("begin", last)
-
-    def returns(self, event):
-        """A command returns."""
-        last = self.control.spans[event.call][1]
-        self.item("return", last, self.control.answers[last - 1])
-
     def is_interrupt(self, task, call):
         """Whether a call is the first one of an interrupt."""
         this = self.calls[task, call]
         return this.context == IRQ and not (this.caller and self.calls[task, this.caller].context == IRQ)
 
-    def enter(self, event):
-        """A call is entered: it is an act of its task if no callback makes it."""
-        task, call = event.task, event.call
-        if not self.open[task]:
-            self.acts[task] += ["irq"] * self.is_interrupt(task, call) + [f"call ftr_f{event.a}"]
-        self.item("enter", self.name(task, call), CONTEXTS[event.c], f"ftr_f{event.a}", self.name(task, event.b))
+    def tell(self, event):
+        """Writes the item of an event."""
+        kind, task, call, user = event[:4]
+        key, name = (task, call), self.name(task, call)
+        if kind in "br":
+            first, last = self.control.spans[call]
+            for number in range(first, last) if kind == "b" else ():
+                self.item("begin", number)
+                self.item("return", number, self.control.answers[number - 1])
+            self.item(*(("begin", last) if kind == "b" else ("return", last, self.control.answers[last - 1])))
+        elif kind == "e":
+            if not self.open[task]:  # no callback makes it: it is an act of the task
+                self.acts[task] += ["irq"] * self.is_interrupt(*key) + [f"call ftr_f{event.a}"]
+            self.item("enter", name, CONTEXTS[event.c], f"ftr_f{event.a}", self.name(task, event.b))
+        elif kind in "kx":
+            self.fill_refusals(event, self.since(self.calls[key], user))
+            self.places[task, call, user] = len(self.items)
+            self.item("back" if kind == "k" else "refuse", name, name_of(user), *["recursion"] * (kind == "x"))
+        elif kind in "KM":
+            self.item("back-end" if kind == "K" else "exit-end", name, name_of(user))
+            self.open[task].remove((call, user))
+        elif kind == "y":
+            self.fill_refusals(event)
+            self.item("body", name, f"ftr_f{event.a}", self.ran(self.calls[key]))
+        elif kind == "l":
+            self.item("leave", name)
+        elif kind == "m":
+            self.item("exit", name, name_of(user), self.places.get((task, call, user), 0))
+        elif kind == "t":
+            self.item("ret", name, self.name(task, event.a))
+            if not self.open[task]:
+                self.acts[task] += ["ret"] + ["iret"] * self.is_interrupt(*key)
+        if kind in "km":
+            self.open[task].append((call, user))
 
     def since(self, call, user):
         """Which command registered the user that is visited in this call."""
@@ -172,79 +184,35 @@ class Writer:
     def fill_refusals(self, event, after=-1):
         """Writes the refusals that no callback saw: if the guard is full, of each user registered later than `after` that was on all along
         and wasn't visited, the latest registered first."""
-        call, levels = self.calls[event.task, event.call], self.open[event.task]
-        if sum(self.calls[event.task, number].context == call.context for number, _ in levels) < LEVELS:
+        call = self.calls[event.task, event.call]
+        if sum(self.calls[event.task, number].context == call.context for number, _ in self.open[event.task]) < LEVELS:
             return
-        since = lambda user: self.since(call, user)
-        for user in sorted(self.control.users, key=since, reverse=True):
+        for user in sorted(self.control.users, key=lambda user: self.since(call, user), reverse=True):
             is_on = all(self.control.desks[number][user].on(call.function) for number in call.window())
-            if is_on and since(user) > after and user not in call.visited:
+            if is_on and self.since(call, user) > after and user not in call.visited:
                 self.item("refuse", self.name(event.task, event.call), name_of(user), "recursion")
                 call.visited.append(user)
                 self.counts["refusals filled in"] += 1
 
-    def visit(self, event, word, *more):
-        """A user is visited, after those that are to be visited before it."""
-        self.fill_refusals(event, self.since(self.calls[event.task, event.call], event.a))
-        self.places[event.task, event.call, event.a] = len(self.items)
-        self.item(word, self.name(event.task, event.call), name_of(event.a), *more)
-
-    def back(self, event):
-        """A callback begins."""
-        self.visit(event, "back")
-        self.open[event.task].append((event.call, event.a))
-        self.counts["callbacks"] += 1
-
-    def refused(self, event):
-        """A user finds its guard taken."""
-        self.visit(event, "refuse", "recursion")
-        self.counts["refusals seen"] += 1
-
-    def ends(self, event):
-        """A callback or an exit handler ends."""
-        self.item("back-end" if event.kind == "K" else "exit-end", self.name(event.task, event.call), name_of(event.a))
-        self.open[event.task].remove((event.call, event.a))
-
-    def body(self, event):
-        """A body begins: that is where the call site's word is told."""
-        self.fill_refusals(event)
-        call = self.calls[event.task, event.call]
+    def ran(self, call):
+        """What a call found at its site."""
         self.counts["calls under a race"] += call.begun > call.done
         if call.seen:
-            ran = max(call.seen)  # of `list` and a user's own, that which lets in fewer
             self.counts["sites seen"] += 1
-        else:
-            held = [target(self.control.desks[number], call.function) for number in call.window()]
-            visited = {name_of(user) for user in call.visited}
-            ran = next((word for word in held if word == "list" or visited <= set(word.split()[1:])), held[0])
-            self.counts["sites filled in"] += 1
-        self.item("body", self.name(event.task, event.call), f"ftr_f{event.a}", ran)
-
-    def leave(self, event):
-        """A body is about to end."""
-        self.item("leave", self.name(event.task, event.call))
-
-    def exit(self, event):
-        """An exit handler begins."""
-        place = self.places.get((event.task, event.call, event.a), 0)
-        self.item("exit", self.name(event.task, event.call), name_of(event.a), place)
-        self.open[event.task].append((event.call, event.a))
-        self.counts["exits"] += 1
-
-    def ret(self, event):
-        """A call has returned."""
-        self.item("ret", self.name(event.task, event.call), self.name(event.task, event.a))
-        if not self.open[event.task]:
-            self.acts[event.task] += ["ret"] + ["iret"] * self.is_interrupt(event.task, event.call)
+            return max(call.seen)  # of `list` and a user's own, that which lets in fewer
+        self.counts["sites filled in"] += 1
+        held = [target(self.control.desks[number], call.function) for number in call.window()]
+        visited = {name_of(user) for user in call.visited}
+        return next((word for word in held if word == "list" or visited <= set(word.split()[1:])), held[0])
 
     def script(self):
         """The lines of the script."""
-        calls = lambda user: " call ftr_f0" * (user == 0 and self.control.acts)
-        replaces = lambda user: f" regs ipmodify ftr_f{REPLACEMENT}" * (user in self.control.replacing)
         lines = ["ftrace 2"] + [f"func ftr_f{function}" for function in FUNCTIONS]
         for user in self.control.users:
-            lines.append(f"user {name_of(user)} " + ("fprobe exit" if user >= OPS else "function" + replaces(user)) + calls(user))
-        lines += [f"cpu {number} quantum 100" for number in range(min(len(self.acts), CPUS))]
+            replaces = f" regs ipmodify ftr_f{REPLACEMENT}" * (user in self.control.replacing)
+            calls = " call ftr_f0" * (user == 0 and self.control.acts)
+            lines.append(f"user {name_of(user)} " + ("fprobe exit" if user >= OPS else "function" + replaces) + calls)
+        lines += [f"cpu {number} quantum 100" for number in range(len(self.acts))]
         for task, acts in self.acts.items():
-            lines += [f"task {10 + task} cpu {task % CPUS}"] + acts
+            lines += [f"task {10 + task} cpu {task}"] + acts
         return lines + ["ctl " + line for line in self.control.lines]
