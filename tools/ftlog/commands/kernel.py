@@ -26,7 +26,7 @@ def add_words(parser):
     told = "the kernel: vmlinuz or bzImage; else the newest one in /boot that has headers, or that of the build tree"
     parser.add_argument("--image", **path, help=told)
     parser.add_argument("--headers", **path, help="its headers or build tree; else /usr/src/linux-headers-RELEASE")
-    parser.add_argument("--cpus", type=int, default=2, metavar="N", help="processors of the guest, 1 to 8; else 2")
+    parser.add_argument("--cpus", type=int, default=2, metavar="N", help="processors of the guest, and threads that call, 1 to 8; else 2")
     parser.add_argument("--seed", type=int, default=1, metavar="N", help="the seed of the first run; else 1")
     parser.add_argument("--runs", type=int, default=4, metavar="N", help="runs, each with a seed of its own; else 4")
     parser.add_argument("--known", default=known.KNOWN, metavar="FILE", help="what kernels are known to do; else kernel/known.txt")
@@ -44,6 +44,7 @@ def judge_by(program):
         raise Fault(f"there is no program {program}; ./prove ftjudge builds one")
 
     def judge(text):
+        """What it says of this input."""
         came = runs.answer([program.resolve()], text, SECONDS)
         if came.status not in (0, 1):
             raise Fault(f"ftjudge gives no verdict: {(came.out or came.err).decode('latin-1').strip() or came.status}")
@@ -65,7 +66,7 @@ class Recordings:
         """Judges a run."""
         verdict = known.judged(run, self.known, self.judge)
         if self.keep and verdict.is_new():
-            (self.keep / f"{run.given['seed']}.judge").write_bytes(known.converted(run, tuple(verdict.excused)).judged())
+            (self.keep / f"{run.given['seed']}.judge").write_bytes(convert.converted(run, known=verdict.excused).judged())
         self.table.add(run, name, verdict)
 
     def booted(self, text, why, cpus, names):
@@ -77,7 +78,7 @@ class Recordings:
             if seed in found:
                 self.add(found[seed], f"{seed}: {name}")
             else:
-                self.table.missing("", cpus, f"{seed}: {name}", why)
+                self.table.missing(cpus, f"{seed}: {name}", why)
         if self.keep:
             (self.keep / f"{min(names)}.events.gz").write_bytes(gzip.compress(text.encode()))
 

@@ -5,8 +5,8 @@ from ftlog.recorded import known
 
 FILLED = ("sites filled in", "refusals filled in", "filter of an fprobe", "function and user of a refusal")
 COUNTED = ("calls", "commands", "calls under a race", *FILLED)
-HEAD = "| kernel | CPUs | run | calls | commands | under a race | filled in | verdict |\n|---|---|---|---|---|---|---|---|"
-SUMS = "| kernel | CPUs | runs | calls | commands | under a race | filled in | whole | excused | new |\n|---|---|---|---|---|---|---|---|---|---|"
+HEAD = f"| kernel | threads | run | calls | commands | under a race | filled in | verdict |\n|{'---|' * 8}"
+SUMS = f"| kernel | threads | runs | calls | commands | under a race | filled in | whole | excused | new |\n|{'---|' * 10}"
 
 
 def numbers(counts):
@@ -25,7 +25,7 @@ def excuses(counts):
 
 
 class Table:
-    """Prints a line for each run as it comes, and the sums for each kernel and number of CPUs in the end."""
+    """Prints a line for each run as it comes, and the sums for each kernel and number of threads in the end."""
 
     def __init__(self):
         self.groups = {}
@@ -50,15 +50,15 @@ class Table:
         self.new += verdict.is_new()
         self.judged += 1
 
-    def missing(self, kernel, cpus, name, why):
+    def missing(self, threads, name, why):
         """A run that came to nothing, which is no verdict."""
-        self.tell(kernel, cpus, name, "", "", "", "", f"no boot: {why}")
+        self.tell("", threads, name, "", "", "", "", f"no boot: {why}")
 
     def sums(self):
         """Prints the sums."""
         print("\n" + SUMS)
-        for (kernel, cpus), group in self.groups.items():
+        for (kernel, threads), group in self.groups.items():
             rows = {key[1]: number for key, number in group.items() if isinstance(key, tuple)}
             excused = group["runs"] - group["whole"] - group["new"]
             excused = f"{excused}: {excuses(rows)}" if excused else 0
-            print(line(kernel, cpus, group["runs"], *numbers(group), group["whole"], excused, group["new"]))
+            print(line(kernel, threads, group["runs"], *numbers(group), group["whole"], excused, group["new"]))
