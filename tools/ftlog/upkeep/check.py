@@ -1,4 +1,4 @@
-"""Checks the repository: its pages, programs, pictures, rings and tools, how they start, and ftjudge on runs and hostile inputs."""
+"""Checks the repository: its pages, programs, pictures, rings, recordings and tools, how they start, and ftjudge on runs and hostile inputs."""
 
 PARTS = {
     "starting": "ftlog.checks.check_starting",
@@ -6,6 +6,7 @@ PARTS = {
     "program": "ftlog.checks.check_program",
     "pictures": "ftlog.checks.check_pictures",
     "rings": "ftlog.checks.check_rings",
+    "recorded": "ftlog.checks.check_recorded",
     "tools": "ftlog.checks.check_tools",
     "runs": "ftlog.checks.check_runs",
     "hostile": "ftlog.checks.hostile_logs",
