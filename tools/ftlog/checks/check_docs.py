@@ -57,6 +57,7 @@ LITMUS = "litmus"  # the folder of examples/ whose scripts docs/OUTCOMES.md is a
 OUTCOMES = runs.TOP / "crates" / "ftoutcomes" / "out" / "ftoutcomes"
 STATUS = re.compile(rb"status ([0-9]+)\n\Z")  # the last line of what a tool writes, on a page
 JUDGED = "judged"  # the folder of examples/ that has the logs to be judged
+RECORDED = "recorded"  # and that of recordings, which `ft check recorded` judges
 TOLD = re.compile(r"(\w+): (whole|legal|line [0-9]+: (plain run|[a-z]+))(?: \((\w+)\))?")  # a line of verdicts.txt
 TYPED = re.compile(rb"\./ftcore((?: [\w=.-]+)*)(?: < (examples/[\w.]+\.ft))?(?:  .*)?\n")
 IS_COMMAND = re.compile(r"[\s>*+-]*\$\s*\S*ftcore\b")
@@ -84,7 +85,7 @@ def show(rows, program, name, script, wanted, words=("replay",)):
 
 def show_examples(rows, program, folder):
     """Each text of the folder, beside the script of the same name; a script without a log, and any other file, counts as failed."""
-    paths = sorted(path for path in folder.iterdir() if path.name not in (JUDGED, LITMUS))
+    paths = sorted(path for path in folder.iterdir() if path.name not in (JUDGED, LITMUS, RECORDED))
     for path in paths:
         name, script, form = f"examples/{path.name}", path.with_suffix(".ft"), path.suffix[1:]
         if path == script:
