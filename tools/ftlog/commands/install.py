@@ -14,6 +14,7 @@ from ftlog.installed_files import FILE, LINK, Entry
 TOOLS = runs.TOP / "tools"
 SHARE = "share/ftcore"
 LIMITS = "crates/ft_base/src/limits.rt"  # from which ftlog/limits.py takes the limits
+RECORDER = ("ftrec.c", "Kbuild", "init", "known.txt")  # files of kernel/ that `ft kernel` builds and reads
 EDITORS = {"editors/vim/syntax/ftcore.vim": "share/vim/vimfiles/syntax/ftcore.vim",
            "editors/vim/ftdetect/ftcore.vim": "share/vim/vimfiles/ftdetect/ftcore.vim",
            "editors/ftcore.tmLanguage.json": f"{SHARE}/ftcore.tmLanguage.json"}
@@ -33,9 +34,9 @@ def is_built(name):
 
 
 def tool_files():
-    """The files that tools/ft needs: itself, and the package without what is for who works on the repository."""
+    """The files that tools/ft needs: itself, the package without what is for who works on the repository, the limits, and the recorder."""
     package = [path for path in (TOOLS / "ftlog").rglob("*") if path.is_file() and not NOT_NEEDED & set(path.relative_to(TOOLS).parts)]
-    return sorted([TOOLS / "ft", *package])
+    return sorted([TOOLS / "ft", *package, runs.TOP / LIMITS, *(runs.TOP / "kernel" / name for name in RECORDER)])
 
 
 def copies(names):
@@ -43,7 +44,7 @@ def copies(names):
     yield from ((f"bin/{name}", programs.built(name)) for name in names)
     yield from ((f"share/man/man1/{path.name}", path) for path in sorted((runs.TOP / "docs" / "man").glob("*.1")))
     yield from ((path, runs.TOP / file) for file, path in EDITORS.items())
-    yield from ((f"{SHARE}/{path.relative_to(runs.TOP).as_posix()}", path) for path in [*tool_files(), runs.TOP / LIMITS])
+    yield from ((f"{SHARE}/{path.relative_to(runs.TOP).as_posix()}", path) for path in tool_files())
 
 
 def links(names):
@@ -63,7 +64,7 @@ def install(prefix):
     wanted = [Entry(FILE, installed_files.hash_of(text), path) for path, (text, _) in texts.items()]
     installed_files.add(prefix, [*wanted, *links(names)], texts)
     for path in texts:
-        if not path.startswith((f"{SHARE}/tools/", f"{SHARE}/crates/")):
+        if not path.startswith((f"{SHARE}/tools/", f"{SHARE}/crates/", f"{SHARE}/kernel/")):
             print(path)
     print(f"bin/ft, with {SHARE}/tools")
     for name in programs.NAMES:

@@ -10,12 +10,11 @@ import pathlib
 import sys
 import tempfile
 
-from ftlog import files, runs
+from ftlog import files, programs, runs
 from ftlog.fault import Fault
 from ftlog.recorded import boot, convert, known
 from ftlog.recorded.table import Table
 
-JUDGE = runs.TOP / "crates" / "ftjudge" / "out" / "ftjudge"
 EACH = 4  # runs of one boot
 SECONDS = 300  # that the judge may take
 
@@ -35,13 +34,14 @@ def add_words(parser):
     parser.add_argument("--keep", **path, help="a folder for the recordings, and for what ftjudge was told of a new verdict")
     parser.add_argument("--here", action="store_true", help="this machine's own kernel, without qemu; for root")
     parser.add_argument("--events", nargs="+", metavar="FILE", help="recordings that are there, .events or .events.gz; nothing is booted")
-    parser.add_argument("--judge", **path, default=JUDGE, help="ftjudge; else the one that ./prove ftjudge builds")
+    parser.add_argument("--judge", **path, help="the program ftjudge, if it stands elsewhere")
 
 
 def judge_by(program):
     """What gives ftjudge's words for an input."""
-    if not os.access(program, os.X_OK) or program.is_dir():
-        raise Fault(f"there is no program {program}; ./prove ftjudge builds one")
+    program = pathlib.Path(program or programs.for_tool("ftjudge"))
+    if not programs.is_program(program):
+        raise Fault(f"there is no program {program}; {programs.way_to('ftjudge')}")
 
     def judge(text):
         """What it says of this input."""
