@@ -2,7 +2,7 @@
 
 The first line says the format, its version, what each field is, and what the script declares; then comes a line for each
 item, and the last line says how the log ends. The log is read line by line, so its length makes no difference to the
-memory that is taken. docs/TOOLS.md has a table of the fields.
+memory that is taken.
 """
 import json
 import sys
