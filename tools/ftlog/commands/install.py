@@ -1,18 +1,21 @@
 """Installs the proved programs, the tools, their manual pages and the editors' files below PREFIX.
 
-The programs go into PREFIX/bin, as far as they are proved and built; without ftcore nothing is installed. With --remove exactly what earlier
-installs have put there is taken away. Nothing that isn't of an earlier install is overwritten.
+The programs go into PREFIX/bin, as far as they are proved and built; without ftcore nothing is installed. The list PREFIX/share/ftcore/installed
+has what was put there: --remove takes that away, another install replaces it, and nothing else is overwritten.
 """
+import contextlib
 import os
 import pathlib
+import shutil
 import sys
 
-from ftlog import installed_files, programs, runs
+from ftlog import programs, runs
 from ftlog.fault import Fault
-from ftlog.installed_files import FILE, LINK, Entry
 
 TOOLS = runs.TOP / "tools"
 SHARE = "share/ftcore"
+LIST = f"{SHARE}/installed"
+HEAD = "# What tools/ft install has put here\n"
 LIMITS = "crates/ft_base/src/limits.rt"  # from which ftlog/limits.py takes the limits
 RECORDER = ("ftrec.c", "Kbuild", "init", "known.txt")  # files of kernel/ that `ft kernel` builds and reads
 EDITORS = {"editors/vim/syntax/ftcore.vim": "share/vim/vimfiles/syntax/ftcore.vim",
@@ -39,18 +42,48 @@ def tool_files():
     return sorted([TOOLS / "ft", *package, runs.TOP / LIMITS, *(runs.TOP / "kernel" / name for name in RECORDER)])
 
 
-def copies(names):
-    """The path below PREFIX of each file that is copied, with the file."""
-    yield from ((f"bin/{name}", programs.built(name)) for name in names)
-    yield from ((f"share/man/man1/{path.name}", path) for path in sorted((runs.TOP / "docs" / "man").glob("*.1")))
-    yield from ((path, runs.TOP / file) for file, path in EDITORS.items())
-    yield from ((f"{SHARE}/{path.relative_to(runs.TOP).as_posix()}", path) for path in tool_files())
+def wanted(names):
+    """What is installed with these programs: of each path below PREFIX the file that is copied there, or the text of a link. The links are ft
+    itself, and where the tools look for the programs, which is the place that these have in a repository."""
+    found = {f"bin/{name}": programs.built(name) for name in names}
+    found.update((f"share/man/man1/{path.name}", path) for path in sorted((runs.TOP / "docs" / "man").glob("*.1")))
+    found.update((path, runs.TOP / file) for file, path in EDITORS.items())
+    found.update((f"{SHARE}/{path.relative_to(runs.TOP).as_posix()}", path) for path in tool_files())
+    found["bin/ft"] = f"../{SHARE}/tools/ft"
+    found.update((f"{SHARE}/crates/{name}/out/{name}", f"../../../../../bin/{name}") for name in names)
+    return found
 
 
-def links(names):
-    """The links that are made: ft itself, and where the tools look for the programs, which is the place that these have in a repository."""
-    yield Entry(LINK, f"../{SHARE}/tools/ft", "bin/ft")
-    yield from (Entry(LINK, f"../../../../../bin/{name}", f"{SHARE}/crates/{name}/out/{name}") for name in names)
+def listed(prefix):
+    """The paths that the list has; none if there is no list."""
+    place = prefix / LIST
+    if not os.path.lexists(place):
+        return []
+    text = place.read_bytes().decode("utf-8", "replace") if place.is_file() else ""
+    paths = text[len(HEAD):].splitlines()
+    if not text.startswith(HEAD) or any(not path or path.startswith("/") or ".." in path.split("/") for path in paths):
+        raise Fault(f"{place} isn't a list that an install has written")
+    return paths
+
+
+def take(prefix, paths):
+    """Takes files and links away, and the folders that are empty then."""
+    for path in paths:
+        (prefix / path).unlink(missing_ok=True)
+        for folder in [*pathlib.PurePosixPath(path).parents]:
+            with contextlib.suppress(OSError):
+                (prefix / folder).rmdir()
+
+
+def put(place, what):
+    """Puts a copy of a file, or a link, in the place of what is there; a program that is running goes on with the old one."""
+    place.parent.mkdir(parents=True, exist_ok=True)
+    place.unlink(missing_ok=True)
+    if isinstance(what, str):
+        place.symlink_to(what)
+    else:
+        shutil.copyfile(what, place)
+        place.chmod(0o755 if os.access(what, os.X_OK) else 0o644)
 
 
 def install(prefix):
@@ -60,11 +93,19 @@ def install(prefix):
     names = [name for name in programs.NAMES if is_built(name)]
     if programs.NAMES[0] not in names:
         raise Fault("ftcore isn't proved and built, or a source of it has changed since; ./prove does that")
-    texts = {path: (file.read_bytes(), 0o755 if os.access(file, os.X_OK) else 0o644) for path, file in copies(names)}
-    wanted = [Entry(FILE, installed_files.hash_of(text), path) for path, (text, _) in texts.items()]
-    installed_files.add(prefix, [*wanted, *links(names)], texts)
-    for path in texts:
-        if not path.startswith((f"{SHARE}/tools/", f"{SHARE}/crates/", f"{SHARE}/kernel/")):
+    new, old = wanted(names), listed(prefix)
+    others = [path for path in new if path not in old and os.path.lexists(prefix / path)]
+    if others:
+        raise Fault(f"{prefix / others[0]} is there and isn't of an earlier install; nothing is copied")
+    prefix.mkdir(exist_ok=True)
+    (prefix / SHARE).mkdir(parents=True, exist_ok=True)
+    (prefix / LIST).write_text(HEAD + "".join(f"{path}\n" for path in sorted({*old, *new})))  # first, so that one that breaks off can be removed
+    take(prefix, [path for path in old if path not in new])
+    for path, what in new.items():
+        put(prefix / path, what)
+    (prefix / LIST).write_text(HEAD + "".join(f"{path}\n" for path in sorted(new)))
+    for path, what in new.items():
+        if not path.startswith((f"{SHARE}/tools/", f"{SHARE}/crates/", f"{SHARE}/kernel/")) and not isinstance(what, str):
             print(path)
     print(f"bin/ft, with {SHARE}/tools")
     for name in programs.NAMES:
@@ -74,15 +115,11 @@ def install(prefix):
 
 def remove(prefix):
     """Takes away what is installed, and says it."""
-    entries = installed_files.read(prefix)
-    if entries is None:
-        raise Fault(f"nothing is installed in {prefix}: there is no {installed_files.LIST}")
-    gone, others = installed_files.take(prefix, entries)
-    (prefix / installed_files.LIST).unlink()
-    installed_files.take_folders(prefix, entries)
-    for path in others:
-        print(f"left: {path}, which has been changed since")
-    print(f"removed: {len(gone)} files and links")
+    paths = listed(prefix)
+    if not paths:
+        raise Fault(f"nothing is installed in {prefix}: there is no {LIST}")
+    take(prefix, [*paths, LIST])
+    print(f"removed: {len(paths)} files and links")
 
 
 def run(options):
