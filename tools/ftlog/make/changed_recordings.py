@@ -1,7 +1,7 @@
 """Recorded logs that are broken at one place, as a tracer at fault would do it, or changed so that nothing is broken.
 
-Unlike the changes of changed_logs.py it is known of each of these whether it has to be found: a callback that is missing, or that comes
-before another one, breaks a rule unless a command was under way that may have had its user on, or off.
+Of each it is known whether it has to be found: a callback that is missing, or that comes before another one, breaks a rule unless a
+command was under way that may have had its user on, or off.
 """
 from ftlog.recorded.control import Control, name_of
 from ftlog.recorded.convert import calls_of
