@@ -7,9 +7,9 @@ use Rattle.ft_base.specs.declared.task.TaskAct.{TaskAct}
 use Rattle.ft_base.specs.declared.task.TaskAct.TheVariants.{Raise, Lower}
 use Rattle.ft_base.specs.Job.{Job}
 use Rattle.ft_base.specs.Versions.{levels}
+use Rattle.ft_base.specs.Tasks.{has_acts}
 use Rattle.ft_hist.specs.Plain.{below_top}
 use Rattle.return_stack.specs.Calls.{top_users}
-use Rattle.plain_machine.specs.State.{has_acts}
 use Rattle.word_machine.specs.Task.{begun_act}
 use Rattle.word_machine.specs.Task as machine
 use Rattle.task_core.specs.declared.moment.Moment.TheVariants.{Polling}

@@ -2,8 +2,8 @@
 use Rattle.std.proofs.Common.{◌≡◌, ℕ, suc, ◌≤◌, length, set, slice_get, Some, refl, sym, ap, ◌∙◌, arith}
 use Rattle.ft_base.specs.declared.limits.TheConstants.{ITEMS}
 use Rattle.ft_base.specs.Job.{Job}
+use Rattle.ft_base.specs.Tasks.{tasks_of}
 use Rattle.ft_base.proofs.Small.{Each-weaker}
-use Rattle.plain_machine.specs.State.{tasks_of}
 use Rattle.word_map.specs.Words.{at_put}
 use Rattle.word_machine.specs.Cpu.{Cpu, StoringQuiet, any_has_more}
 use Rattle.cpu_core.specs.declared.parts.Parts.{Parts}

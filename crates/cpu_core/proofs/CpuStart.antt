@@ -10,7 +10,7 @@ use Rattle.ft_base.specs.Job.{Job, Task as DeclaredTask, no_task}
 use Rattle.ft_base.specs.Versions.{levels}
 use Rattle.ft_base.specs.WellFormed.{IsScript}
 use Rattle.ft_base.specs.Acts.{AreRaised}
-use Rattle.plain_machine.specs.State.{tasks_from, tasks_of}
+use Rattle.ft_base.specs.Tasks.{tasks_from, tasks_of}
 use Rattle.recursion_guard.specs.Guards.{held_in, unheld}
 use Rattle.user_specs.specs.declared.plan.CpuPlan.{CpuPlan}
 use Rattle.user_specs.specs.declared.plan.TaskPlan.{TaskPlan}

@@ -5,7 +5,7 @@ use Rattle.ft_base.specs.Job.{Job}
 use Rattle.ft_base.specs.Same.{rank, context}
 use Rattle.ft_base.proofs.Small.{==-refl}
 use Rattle.ft_base.proofs.Versions.{few-largest}
-use Rattle.plain_machine.specs.State.{held_levels}
+use Rattle.ft_hist.specs.Dispatch.{held_levels}
 use Rattle.ops_list.specs.declared.walker.WalkPhase.{WalkPhase}
 use Rattle.ops_list.specs.declared.walker.WalkPhase.TheVariants.{Starting, At, Ended as WalkEnded}
 use Rattle.ops_list.specs.Walks.{walk_at}

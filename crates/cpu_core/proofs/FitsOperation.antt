@@ -9,7 +9,7 @@ use Rattle.ft_base.specs.Job.{Job}
 use Rattle.ft_base.specs.Same.{rank, context}
 use Rattle.ft_base.specs.Versions.{levels}
 use Rattle.ft_base.specs.WellFormed.{IsScript}
-use Rattle.plain_machine.specs.State.{has_acts}
+use Rattle.ft_base.specs.Tasks.{has_acts}
 use Rattle.return_stack.specs.Calls.{StackedCall, top_users}
 use Rattle.word_machine.specs.Laws.{PresentTakes}
 use Rattle.word_machine.specs.Limits.{IsLimited}

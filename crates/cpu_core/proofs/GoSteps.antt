@@ -6,8 +6,8 @@ use Rattle.std.proofs.lemmas.List.{length-map}
 use Rattle.std.proofs.lemmas.Option.{slice_get_within}
 use Rattle.ft_base.specs.declared.limits.TheConstants.{TASKS}
 use Rattle.ft_base.specs.Job.{Job, Task as JobTask}
+use Rattle.ft_base.specs.Tasks.{tasks_from}
 use Rattle.ft_base.proofs.Small.{false_true}
-use Rattle.plain_machine.specs.State.{tasks_from}
 use Rattle.word_machine.specs.Cpu.{cpu_next, phase_op}
 use Rattle.word_machine.specs.Limits.{IsLimited}
 use Rattle.cpu_core.specs.declared.parts.Parts.{Parts}

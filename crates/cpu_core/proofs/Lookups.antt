@@ -8,8 +8,8 @@ use Rattle.std.proofs.lemmas.List.{drop-map}
 use Rattle.std.proofs.lemmas.Option.{none-some, slice_get-map}
 use Rattle.ft_base.specs.declared.task.TaskAct.{TaskAct}
 use Rattle.ft_base.specs.Job.{Job}
+use Rattle.ft_base.specs.Tasks.{has_acts, tasks_of}
 use Rattle.grace_core.specs.Views.{has_told}
-use Rattle.plain_machine.specs.State.{has_acts, tasks_of}
 use Rattle.return_stack.specs.Calls.{top_users}
 use Rattle.word_map.specs.Words.{at_put}
 use Rattle.word_machine.specs.Task.{TaskState, task_start, viewed}

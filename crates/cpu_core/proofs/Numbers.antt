@@ -4,8 +4,8 @@ use Rattle.std.specs.List.{list_any, AllByRecursion as Each}
 use Rattle.std.proofs.lemmas.Bool.{eq-eqb, ne_eqb}
 use Rattle.std.proofs.lemmas.Option.{none-some, same_Some}
 use Rattle.ft_base.specs.Job.{Task as DeclaredTask}
+use Rattle.ft_base.specs.Tasks.{tasks_from}
 use Rattle.ft_base.proofs.Small.{Each-weaker}
-use Rattle.plain_machine.specs.State.{tasks_from}
 use Rattle.task_core.specs.declared.task.Task.{Task}
 use Rattle.cpu_core.specs.Cpus.{number_or, numbered, numbers}
 

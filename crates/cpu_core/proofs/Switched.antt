@@ -4,8 +4,8 @@ use Rattle.std.proofs.Math.Bool.{or_assoc}
 use Rattle.std.proofs.lemmas.Bool.{not-false}
 use Rattle.std.specs.Prelude.{Option, IsSome, IsSomeAnd, slice_get}
 use Rattle.ft_base.specs.Job.{Job}
+use Rattle.ft_base.specs.Tasks.{tasks_of}
 use Rattle.ft_base.proofs.Small.{false_true, or-false_both}
-use Rattle.plain_machine.specs.State.{tasks_of}
 use Rattle.word_map.specs.Words.{at_put}
 use Rattle.word_machine.specs.Cpu.{Cpu, has_more, next_task, switched as machine_switched}
 use Rattle.word_machine.proofs.Small.{if_case}

@@ -3,8 +3,8 @@ use Rattle.std.proofs.Common.{cond, ◌≡◌, ℕ, suc, ◌+◌, ◌<◌, Bool,
 use Rattle.std.specs.List.{AllByRecursion as Each}
 use Rattle.std.proofs.lemmas.Option.{none-some, same_Some}
 use Rattle.ft_base.specs.Job.{Job}
+use Rattle.ft_base.specs.Tasks.{tasks_of}
 use Rattle.grace_core.specs.Views.{has_told}
-use Rattle.plain_machine.specs.State.{tasks_of}
 use Rattle.word_map.specs.Contents.{halves}
 use Rattle.word_map.specs.Ops.{Load}
 use Rattle.word_map.specs.Words.{Want}

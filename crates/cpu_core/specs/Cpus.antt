@@ -3,7 +3,7 @@ use Rattle.std.specs.Prelude.{ℕ, suc, ◌+◌, ◌-◌, ◌≡◌, ◌<◌, �
 use Rattle.std.specs.List.{AllByRecursion as Each}
 use Rattle.ft_base.specs.declared.limits.TheConstants.{ITEMS, QUANTUM}
 use Rattle.ft_base.specs.Job.{Job}
-use Rattle.plain_machine.specs.State.{tasks_of}
+use Rattle.ft_base.specs.Tasks.{tasks_of}
 use Rattle.word_machine.specs.Cpu.{Cpu, Phase, Going, StoringAck, StoringQuiet, Over}
 use Rattle.word_machine.specs.Task.{TaskState, task_start}
 use Rattle.cpu_core.specs.declared.parts.Parts.{Parts}

@@ -3,7 +3,7 @@ use Rattle.std.specs.Prelude.{ℕ, ◌≡◌, List, get_or, map, IsSome}
 use Rattle.std.specs.List.{AllByRecursion as Each}
 use Rattle.ft_base.specs.Job.{Job, no_task}
 use Rattle.ft_base.specs.Versions.{levels as levels_of}
-use Rattle.plain_machine.specs.State.{tasks_of}
+use Rattle.ft_base.specs.Tasks.{tasks_of}
 use Rattle.user_specs.specs.declared.plan.CpuPlan.{CpuPlan}
 use Rattle.user_specs.specs.declared.plan.TaskPlan.{TaskPlan}
 use Rattle.user_specs.specs.declared.spec.Spec.{Spec}

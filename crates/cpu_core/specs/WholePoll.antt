@@ -1,8 +1,8 @@
 -- A whole poll of the machine's CPU: where it begins, which words it stores, and what comes of it.
 use Rattle.std.specs.Prelude.{ℕ, suc, ◌+◌, ◌≡◌, ◌==◌, Bool, true, false, List, [], ◌∷◌, Option, Some, if◌then◌else◌}
 use Rattle.ft_base.specs.Job.{Job}
+use Rattle.ft_base.specs.Tasks.{tasks_of}
 use Rattle.grace_core.specs.Views.{has_told}
-use Rattle.plain_machine.specs.State.{tasks_of}
 use Rattle.word_map.specs.Ops.{WordOp, Store}
 use Rattle.word_map.specs.Words.{Ack, Quiet, at_put}
 use Rattle.word_machine.specs.Task.{TaskState, Polling, viewed}

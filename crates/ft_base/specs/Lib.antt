@@ -3,6 +3,7 @@ pub mod Same
 pub mod Marks
 pub mod Address
 pub mod Job
+pub mod Tasks
 pub mod Versions
 pub mod Kinds
 pub mod Items

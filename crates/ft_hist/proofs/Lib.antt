@@ -7,6 +7,7 @@ pub mod Since
 pub mod HeldLaws
 pub mod Lists
 pub mod Visiting
+pub mod CallSo
 pub mod Exits
 pub mod WordLaws
 pub mod Splitting
@@ -30,3 +31,7 @@ pub mod Shadow
 pub mod ExitLevels
 pub mod Placing
 pub mod Written
+pub mod SmallJobs
+pub mod NotLegal
+pub mod NotLegalClauses
+pub mod ToldSamples

@@ -6,9 +6,9 @@ use Rattle.std.proofs.lemmas.Option.{slice_get-map, get_or_from_slice_get}
 use Rattle.std.proofs.lemmas.Simd.{map-map}
 use Rattle.ft_base.specs.declared.limits.TheConstants.{QUANTUM}
 use Rattle.ft_base.specs.Job.{Job, Task, no_task}
+use Rattle.ft_base.specs.Tasks.{tasks_of as numbers_on, tasks_from}
 use Rattle.ft_base.proofs.Modifiers.{named-at}
 use Rattle.ft_base.proofs.Small.{Each-weaker}
-use Rattle.plain_machine.specs.State.{tasks_of as numbers_on, tasks_from}
 use Rattle.user_specs.specs.Plain.{DeclaredTask, DeclaredCpu, task_of, cpu_of}
 use Rattle.user_specs.specs.declared.plan.TaskPlan.{TaskPlan}
 use Rattle.user_specs.specs.declared.plan.CpuPlan.{CpuPlan}

@@ -1,13 +1,23 @@
--- Each replay is a run of a beginning of its actors, and all actors are at their ends exactly if each is.
+-- Every interleaving is that of some schedule, each replay is a run of a beginning of its actors, and all actors are at their ends
+-- exactly if each is.
 use Rattle.std.proofs.Common.{cond, ◌≡◌, ℕ, zero, suc, ◌+◌, ◌<◌, ◌↔◌, Bool, true, false, List, [], ◌∷◌, length, refl, ap, arith, inl, inr}
+use Rattle.std.specs.Prelude.{map}
 use Rattle.ft_base.specs.declared.turn.Actor.{Actor}
 use Rattle.ft_base.specs.declared.turn.Actor.TheVariants.{Control, Cpu}
 use Rattle.ft_base.specs.Job.{Job}
-use Rattle.ft_base.specs.Schedule.{IsActor}
+use Rattle.ft_base.specs.Schedule.{IsActor, actors_in, repeated, turn_for}
 use Rattle.ft_base.proofs.Small.{and_both}
 use Rattle.word_machine.specs.Cpu.{Cpu as CpuState}
 use Rattle.word_machine.specs.Machine.{World, all_end, control_is_done, cpus_end, is_at_end, is_end, played, run, step}
 use Rattle.ft_machine.specs.Replays.{StopsAt}
+
+-- ## schedules
+
+pub one-by-one : (cpus : ℕ) (actors : List Actor) → actors_in cpus (map turn_for actors) ≡ actors
+unfolding repeated
+one-by-one cpus [] = refl
+one-by-one cpus (Control ∷ actors) = ap (λ (xs : List Actor). Control ∷ xs) (one-by-one cpus actors)
+one-by-one cpus (Cpu c ∷ actors) = ap (λ (xs : List Actor). Cpu c ∷ xs) (one-by-one cpus actors)
 
 -- ## replays
 

@@ -1,10 +1,10 @@
 //! Laws of replays and of sites.
 
-ghost use Rattle.std.specs.Prelude.{◌≡◌, ◌↔◌, ◌<◌, ℕ, true, List, [], length, None, Some};
+ghost use Rattle.std.specs.Prelude.{◌≡◌, ◌↔◌, ◌<◌, ℕ, true, List, [], length, map, None, Some};
 ghost use Rattle.ft_base.specs.declared.item.Item.{Item};
 ghost use Rattle.ft_base.specs.Desk.{desk, sited};
 ghost use Rattle.ft_base.specs.Job.{Job as PlainJob};
-ghost use Rattle.ft_base.specs.Schedule.{IsActor, actors_of};
+ghost use Rattle.ft_base.specs.Schedule.{IsActor, actors_in, actors_of, turn_for};
 ghost use Rattle.ft_base.specs.declared.turn.Actor.{Actor};
 ghost use Rattle.ft_hist.specs.Past.{begun, done};
 ghost use Rattle.word_map.specs.Ops.{WordOp};
@@ -15,6 +15,11 @@ ghost use Rattle.site_bytes.specs.declared.insn.Insn.TheVariants.{Nop};
 ghost use Rattle.word_machine.specs.Machine.{World, all_end, is_at_end, past_after, play, run, start, step, words_after};
 ghost use Rattle.ft_machine.specs.Fed.{control_fed, control_takes, cpu_fed, cpu_takes};
 ghost use Rattle.ft_machine.specs.Replays.{StopsAt};
+
+/// Each list of actors is that of some schedule: so "every schedule" speaks of every interleaving.
+pub fn every_interleaving_is_a_schedule()
+    ensures { (cpus : ℕ) (actors : List Actor) → actors_in cpus (map turn_for actors) ≡ actors }
+{}
 
 /// The replay of a job's schedule is a run of a beginning of the schedule's actors, and stops only
 /// if all actors are at their ends or the schedule is used up.

@@ -21,7 +21,7 @@ mod world;
 
 pub use laws::{
     a_step_makes_the_next_operation, all_end_if_each_does, each_actor_is_fed_its_values,
-    every_replay_is_a_run, sites_of_nobody_are_nops,
+    every_interleaving_is_a_schedule, every_replay_is_a_run, sites_of_nobody_are_nops,
 };
 pub use machine::Machine;
 pub use play::{Outcome, replay, replay_into};

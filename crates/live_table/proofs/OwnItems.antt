@@ -12,9 +12,10 @@ use Rattle.ft_base.specs.declared.task.TaskAct.{TaskAct}
 use Rattle.ft_base.specs.declared.task.TaskAct.TheVariants.{Call, Ret as RetAct, Raise, Lower, After}
 use Rattle.ft_base.specs.Job.{Job, Ctl, Run, Until}
 use Rattle.ft_base.specs.Same.{context}
+use Rattle.ft_base.specs.Tasks.{has_acts, tasks_of}
 use Rattle.ft_base.proofs.Small.{Each-filter}
 use Rattle.ft_hist.specs.Frames.{is_nil}
-use Rattle.plain_machine.specs.State.{call_of as call_at, has_acts, tasks_of}
+use Rattle.ft_hist.specs.Dispatch.{call_of as call_at}
 use Rattle.word_map.specs.Contents.{returned_at}
 use Rattle.word_map.specs.Ops.{WordOp, Load, Store, Mark}
 use Rattle.word_map.specs.Words.{Want, at_put}

@@ -7,7 +7,7 @@ use Rattle.std.proofs.lemmas.List.Sums.{sum_by-cons}
 use Rattle.std.proofs.lemmas.Option.{none-some, same_Some, slice_get-get_or, slice_get_read}
 use Rattle.ft_base.specs.declared.limits.TheConstants.{ACTS, ITEMS, TASKS}
 use Rattle.ft_base.specs.Job.{Job, Task, no_task}
-use Rattle.plain_machine.specs.State.{tasks_from}
+use Rattle.ft_base.specs.Tasks.{tasks_from}
 use Rattle.user_specs.specs.declared.plan.CpuPlan.{CpuPlan}
 use Rattle.user_specs.specs.declared.plan.TaskPlan.{TaskPlan}
 use Rattle.user_specs.specs.Bound.{call_bound_in}

@@ -9,7 +9,7 @@ use Rattle.ft_base.proofs.Versions.{few-largest, levels-most}
 use Rattle.machine_core.specs.declared.cpus.CpuRoom.{CpuRoom}
 use Rattle.machine_core.specs.declared.cpus.TaskLimits.{TaskLimits}
 use Rattle.ft_base.specs.Job.{Job, Task, no_task}
-use Rattle.plain_machine.specs.State.{tasks_from, tasks_of}
+use Rattle.ft_base.specs.Tasks.{tasks_from, tasks_of}
 use Rattle.user_specs.specs.declared.plan.CpuPlan.{CpuPlan}
 use Rattle.user_specs.specs.declared.plan.TaskPlan.{TaskPlan}
 use Rattle.user_specs.specs.declared.spec.Spec.{Spec}

@@ -7,7 +7,7 @@ use Rattle.std.proofs.lemmas.Bool.Decides.{eqb_tells, nat_tests}
 use Rattle.std.proofs.lemmas.List.Sums.{sum_by-cons}
 use Rattle.ft_base.specs.declared.limits.TheConstants.{ITEMS}
 use Rattle.ft_base.specs.Job.{Job, Task, no_task}
-use Rattle.plain_machine.specs.State.{tasks_from}
+use Rattle.ft_base.specs.Tasks.{tasks_from}
 use Rattle.user_specs.specs.Bound.{call_bound_in}
 use Rattle.history_bound.specs.Bound.{all_calls, calls_in, calls_of}
 use Rattle.word_machine.specs.Laws.{room_on}

@@ -1,6 +1,6 @@
 -- Samples: a module that is loaded before a call and unloaded after its return; and neighbours in which a call or a body doesn't
--- find its module. But for those in which a command is under way the histories are the plain machine's, so they are legal.
-use Rattle.std.proofs.Common.{◌≡◌, ℕ, zero, suc, ◌≤◌, true, false, List, [], ◌∷◌, ◌++◌, Some, None, codes, refl, ap, ◌∙◌, subst, arith, rules}
+-- find its module. But for those in which a command is under way the histories are the word machine's, so they are legal.
+use Rattle.std.proofs.Common.{◌≡◌, ℕ, zero, suc, ◌≤◌, Bool, true, false, List, [], ◌∷◌, ◌++◌, Some, None, codes, refl, ap, ◌∙◌, subst, inl, arith, rules}
 use Rattle.std.specs.Prelude.{slice_get}
 use Rattle.ft_base.specs.declared.number.FuncNo.{FuncNo}
 use Rattle.ft_base.specs.declared.number.UserNo.{UserNo}
@@ -12,25 +12,34 @@ use Rattle.ft_base.specs.declared.item.Item.{Item}
 use Rattle.ft_base.specs.declared.item.Item.TheVariants.{Begin, Return, Enter, Back, BackEnd, Refuse, Body, Leave, Ret}
 use Rattle.ft_base.specs.declared.task.TaskAct.{TaskAct}
 use Rattle.ft_base.specs.declared.task.TaskAct.TheVariants.{Call, Ret as RetAct, After}
-use Rattle.ft_base.specs.declared.turn.Who.TheVariants.{Control as OfControl, Cpu as OfCpu, All}
-use Rattle.ft_base.specs.declared.turn.Turn.{Turn}
+use Rattle.ft_base.specs.declared.turn.Who.TheVariants.{All}
 use Rattle.ft_base.specs.declared.user.Act.TheVariants.{CallIn}
 use Rattle.ft_base.specs.declared.user.Kind.TheVariants.{Function}
 use Rattle.ft_base.specs.Desk.{desk}
 use Rattle.ft_base.specs.Job.{Job, Func, Spec, Edit, Ctl, Register, Filter, Notrace, MaxDepth, Run, Until, usual_rings}
 use Rattle.ft_base.specs.Schedule.{actors_of, repeated}
-use Rattle.ft_base.specs.WellFormed.{IsWellFormed}
 use Rattle.ft_base.proofs.Small.{false_true}
 use Rattle.ft_hist.specs.Rules.{IsLegal}
 use Rattle.ft_hist.proofs.RunLaws.{some_inj}
-use Rattle.plain_machine.specs.State.{start, played, play, all_end, step, whole}
-use Rattle.plain_machine.proofs.Plays.{Plays, named, call_in, legal-of}
+use Rattle.ft_hist.proofs.SmallJobs.{named, call_in}
+use Rattle.word_machine.specs.Commands.{insn, moves}
+use Rattle.word_machine.specs.Control.{control_next, control_got}
+use Rattle.word_machine.specs.Cpu.{cpu_next, cpu_got}
+use Rattle.word_machine.specs.Machine.{start, step, run, played, play, all_end}
+use Rattle.word_machine.specs.Limits.{IsLimited}
+use Rattle.word_machine.proofs.Plays.{Plays}
+use Rattle.word_machine_laws.proofs.Limited.{limited}
+use Rattle.word_machine_laws.proofs.Ends.{every_play_is_legal}
 use Rattle.func_table.specs.Modules.{module_of}
 use Rattle.module_coverage.specs.Covered.{AreCovered, acts_of, from_command, to_command}
 use Rattle.module_coverage.specs.Loaded.{is_loaded}
 use Rattle.module_laws.specs.Apart.{AreActsApart, AreReplacementsApart}
 use Rattle.module_laws.specs.Kept.{KeepsLoaded, RunsLoaded}
 use Rattle.module_laws.proofs.Calls.{keeps, runs}
+
+-- what the replay of a job gives is legal
+legal-of : (job : Job) (items : List Item) (ended : Bool) → IsLimited job → Plays job items ended → IsLegal job items
+legal-of job items ended ok plays = subst (λ (xs : List Item). IsLegal job xs) plays.0 (every_play_is_legal job (limited job ok))
 
 -- a function outside of all modules, and one in a module
 abbrev outside : FuncNo
@@ -55,18 +64,19 @@ hides = record { append = false; remove = false; clear = false; set = false ∷ 
 abbrev shows : Edit
 shows = record { append = false; remove = false; clear = true; set = false ∷ false ∷ [] }
 
--- a task calls a function of a module that is absent at first, after the commands that load it; the unload waits for so many acts
-abbrev loading : ℕ → List Turn → Job
-loading n schedule = record {
+-- a task calls a function of a module that is absent at first, after the commands that load it, and then makes these acts; the unload
+-- waits for so many acts
+abbrev loading : List TaskAct → ℕ → Job
+loading acts n = record {
   version = 1;
   functions = functions;
   users = record { name = codes "t"; kind = Function; regs = false; ipmodify = None; pid = false; act = None } ∷ [];
   frames = 50;
   tramps = 16;
   quanta = 100 ∷ [];
-  tasks = record { pid = 10; cpu = 0; acts = After 4 ∷ Call in_module ∷ RetAct ∷ [] } ∷ [];
+  tasks = record { pid = 10; cpu = 0; acts = After 4 ∷ Call in_module ∷ acts } ∷ [];
   ctls = Run (Notrace 0 hides) ∷ Run (Register 0) ∷ Run (Notrace 0 shows) ∷ Run (MaxDepth 0) ∷ Until 0 n ∷ Run (Notrace 0 hides) ∷ Run (MaxDepth 0) ∷ [];
-  schedule = schedule;
+  schedule = record { who = All; count = 400 } ∷ [];
   lines = record {
     lanes = [];
     absent = 0 ∷ [];
@@ -90,20 +100,32 @@ the_unload = Begin 5 ∷ Return 5 Accepted ∷ Begin 6 ∷ Return 6 Accepted ∷
 -- ### it waits for the return
 
 abbrev after_the_return : Job
-after_the_return = loading 3 (record { who = All; count = 60 } ∷ [])
+after_the_return = loading (RetAct ∷ []) 3
 
 abbrev after_the_return-items : List Item
 after_the_return-items = before_the_call ++ (to_the_body ++ (the_return ++ the_unload))
 
 after_the_return-plays : Plays after_the_return after_the_return-items true
-unfolding actors_of repeated start played play all_end step whole desk
+unfolding actors_of repeated start step run played play all_end control_next control_got cpu_next cpu_got insn moves desk
 after_the_return-plays = (refl, refl)
 
-after_the_return-job : IsWellFormed after_the_return
-after_the_return-job = record { commands = search (arith, rules); acts = search (arith, rules); tasks = search (arith, rules) }
+after_the_return-limited : IsLimited after_the_return
+after_the_return-limited = record {
+  version = inl refl;
+  job' = record { commands = search (arith, rules); acts = search (arith, rules); tasks = search (arith, rules) };
+  placed = (omega arith, tt);
+  waits = search (arith, rules);
+  raised = (tt, tt);
+  ctls = omega arith;
+  counts = record { few_functions = omega arith; few_users = omega arith; few_tasks = omega arith; few_tramps = omega arith };
+  frames = omega arith;
+  levels = search (arith, rules);
+  acts = omega arith;
+  items = omega arith;
+}
 
 after_the_return-legal : IsLegal after_the_return after_the_return-items
-after_the_return-legal = legal-of after_the_return after_the_return-items true after_the_return-job after_the_return-plays
+after_the_return-legal = legal-of after_the_return after_the_return-items true after_the_return-limited after_the_return-plays
 
 -- the call is covered: it is under way after 4 commands alone, and the module is loaded then
 after_the_return-covered : AreCovered after_the_return
@@ -124,23 +146,35 @@ after_the_return-covered = by
 after_the_return-keeps : KeepsLoaded after_the_return after_the_return-items
 after_the_return-keeps = keeps after_the_return (tt, tt) after_the_return-covered after_the_return-items after_the_return-legal
 
--- ### it waits for the body
+-- ### it waits for the body, and the return for it
 
 abbrev after_the_body : Job
-after_the_body = loading 2 (record { who = OfControl; count = 4 } ∷ record { who = OfCpu (record { 0 = 0 }); count = 2 } ∷ record { who = OfControl; count = 3 } ∷ record { who = All; count = 60 } ∷ [])
+after_the_body = loading (After 6 ∷ RetAct ∷ []) 2
 
 abbrev after_the_body-items : List Item
 after_the_body-items = before_the_call ++ (to_the_body ++ (the_unload ++ the_return))
 
 after_the_body-plays : Plays after_the_body after_the_body-items true
-unfolding actors_of repeated start played play all_end step whole desk
+unfolding actors_of repeated start step run played play all_end control_next control_got cpu_next cpu_got insn moves desk
 after_the_body-plays = (refl, refl)
 
-after_the_body-job : IsWellFormed after_the_body
-after_the_body-job = record { commands = search (arith, rules); acts = search (arith, rules); tasks = search (arith, rules) }
+after_the_body-limited : IsLimited after_the_body
+after_the_body-limited = record {
+  version = inl refl;
+  job' = record { commands = search (arith, rules); acts = search (arith, rules); tasks = search (arith, rules) };
+  placed = (omega arith, tt);
+  waits = search (arith, rules);
+  raised = (tt, tt);
+  ctls = omega arith;
+  counts = record { few_functions = omega arith; few_users = omega arith; few_tasks = omega arith; few_tramps = omega arith };
+  frames = omega arith;
+  levels = search (arith, rules);
+  acts = omega arith;
+  items = omega arith;
+}
 
 after_the_body-legal : IsLegal after_the_body after_the_body-items
-after_the_body-legal = legal-of after_the_body after_the_body-items true after_the_body-job after_the_body-plays
+after_the_body-legal = legal-of after_the_body after_the_body-items true after_the_body-limited after_the_body-plays
 
 -- the Leave doesn't find the module
 after_the_body-refused : KeepsLoaded after_the_body after_the_body-items → ⊥
@@ -178,7 +212,7 @@ of_user spec first ctls = record {
   quanta = 100 ∷ [];
   tasks = record { pid = 10; cpu = 0; acts = first ∷ Call outside ∷ RetAct ∷ [] } ∷ [];
   ctls = ctls;
-  schedule = record { who = All; count = 60 } ∷ [];
+  schedule = record { who = All; count = 400 } ∷ [];
   lines = record { lanes = []; absent = 0 ∷ []; modules = [] };
   rings = usual_rings;
 }
@@ -194,11 +228,26 @@ act_reaches_in-items =
     ∷ Body (call_in 0 2) in_module (Own user) ∷ Leave (call_in 0 2) ∷ Ret (call_in 0 2) (Some (call_in 0 1)) ∷ BackEnd (call_in 0 1) user ∷ Body (call_in 0 1) outside (Own user) ∷ the_return
 
 act_reaches_in-plays : Plays act_reaches_in act_reaches_in-items true
-unfolding actors_of repeated start played play all_end step whole desk
+unfolding actors_of repeated start step run played play all_end control_next control_got cpu_next cpu_got insn moves desk
 act_reaches_in-plays = (refl, refl)
 
+act_reaches_in-limited : IsLimited act_reaches_in
+act_reaches_in-limited = record {
+  version = inl refl;
+  job' = record { commands = search (arith, rules); acts = search (arith, rules); tasks = search (arith, rules) };
+  placed = (omega arith, tt);
+  waits = search (arith, rules);
+  raised = (tt, tt);
+  ctls = omega arith;
+  counts = record { few_functions = omega arith; few_users = omega arith; few_tasks = omega arith; few_tramps = omega arith };
+  frames = omega arith;
+  levels = search (arith, rules);
+  acts = omega arith;
+  items = omega arith;
+}
+
 act_reaches_in-legal : IsLegal act_reaches_in act_reaches_in-items
-act_reaches_in-legal = legal-of act_reaches_in act_reaches_in-items true (record { commands = search (arith, rules); acts = search (arith, rules); tasks = search (arith, rules) }) act_reaches_in-plays
+act_reaches_in-legal = legal-of act_reaches_in act_reaches_in-items true act_reaches_in-limited act_reaches_in-plays
 
 -- the calls of the script are covered
 act_reaches_in-covered : AreCovered act_reaches_in
@@ -238,11 +287,26 @@ abbrev replacement_is_in-items : List Item
 replacement_is_in-items = Begin 1 ∷ Return 1 Accepted ∷ Begin 2 ∷ Return 2 Accepted ∷ Enter (call_in 0 1) Normal outside None ∷ Back (call_in 0 1) user ∷ BackEnd (call_in 0 1) user ∷ Body (call_in 0 1) in_module (Own user) ∷ the_return
 
 replacement_is_in-plays : Plays replacement_is_in replacement_is_in-items true
-unfolding actors_of repeated start played play all_end step whole desk
+unfolding actors_of repeated start step run played play all_end control_next control_got cpu_next cpu_got insn moves desk
 replacement_is_in-plays = (refl, refl)
 
+replacement_is_in-limited : IsLimited replacement_is_in
+replacement_is_in-limited = record {
+  version = inl refl;
+  job' = record { commands = search (arith, rules); acts = search (arith, rules); tasks = search (arith, rules) };
+  placed = (omega arith, tt);
+  waits = search (arith, rules);
+  raised = (tt, tt);
+  ctls = omega arith;
+  counts = record { few_functions = omega arith; few_users = omega arith; few_tasks = omega arith; few_tramps = omega arith };
+  frames = omega arith;
+  levels = search (arith, rules);
+  acts = omega arith;
+  items = omega arith;
+}
+
 replacement_is_in-legal : IsLegal replacement_is_in replacement_is_in-items
-replacement_is_in-legal = legal-of replacement_is_in replacement_is_in-items true (record { commands = search (arith, rules); acts = search (arith, rules); tasks = search (arith, rules) }) replacement_is_in-plays
+replacement_is_in-legal = legal-of replacement_is_in replacement_is_in-items true replacement_is_in-limited replacement_is_in-plays
 
 replacement_is_in-covered : AreCovered replacement_is_in
 replacement_is_in-covered = by

@@ -10,7 +10,7 @@ use Rattle.ft_base.specs.Job.{Job}
 use Rattle.ft_base.specs.Kinds.{cancels, has_depth, has_exit, is_fprobe}
 use Rattle.ft_base.proofs.Small.{false_true}
 use Rattle.ft_hist.specs.Frames.{FrameUser}
-use Rattle.plain_machine.specs.State.{takes_frame}
+use Rattle.ft_hist.specs.Dispatch.{takes_frame}
 use Rattle.return_stack.specs.declared.shadow.FrameUser.{FrameUser as OwedUser}
 use Rattle.return_stack.specs.Calls.{StackedCall, is_full, with_hook, with_user}
 use Rattle.fprobe.specs.declared.entry.Probe.TheVariants.{Plain, Wanted, Cancelled, Missed}

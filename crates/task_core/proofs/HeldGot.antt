@@ -9,7 +9,7 @@ use Rattle.ft_base.specs.declared.task.TaskAct.TheVariants.{Call, Ret as RetAct,
 use Rattle.ft_base.specs.Job.{Job}
 use Rattle.ft_base.specs.Same.{context}
 use Rattle.ft_base.proofs.Small.{false_true}
-use Rattle.plain_machine.specs.State.{held_levels}
+use Rattle.ft_hist.specs.Dispatch.{held_levels}
 use Rattle.recursion_guard.specs.Guards.{held_in}
 use Rattle.return_stack.specs.declared.shadow.FrameUser.{FrameUser}
 use Rattle.return_stack.specs.Calls.{StackedCall, top_users}

@@ -10,7 +10,7 @@ use Rattle.ft_base.specs.Kinds.{has_depth, is_fprobe}
 use Rattle.ft_base.specs.Same.{same_ctx, context}
 use Rattle.ft_hist.specs.Frames.{runs_after}
 use Rattle.ft_hist.specs.Plain.{Owed, owed_by}
-use Rattle.plain_machine.specs.State.{held_levels}
+use Rattle.ft_hist.specs.Dispatch.{held_levels}
 use Rattle.recursion_guard.specs.Guards.{GuardState, held_in, left}
 use Rattle.return_stack.specs.declared.shadow.FrameUser.{FrameUser}
 use Rattle.return_stack.specs.Calls.{CallStack, StackedCall, if_used, is_full, with_hook, with_user}

@@ -9,7 +9,7 @@ use Rattle.ft_base.specs.Kinds.{has_depth, has_exit, is_fprobe}
 use Rattle.ft_base.proofs.Small.{false_true}
 use Rattle.ft_hist.specs.Frames.{FrameUser, runs_after}
 use Rattle.ft_hist.specs.Plain.{owed_by}
-use Rattle.plain_machine.specs.State.{misses_frame}
+use Rattle.ft_hist.specs.Dispatch.{misses_frame}
 use Rattle.return_stack.specs.declared.shadow.FrameUser.{FrameUser as OwedUser}
 use Rattle.return_stack.specs.Calls.{CallStack, StackedCall, is_full, with_hook, with_user}
 use Rattle.fprobe.specs.Entry.{calls_after}

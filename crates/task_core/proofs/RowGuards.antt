@@ -7,7 +7,7 @@ use Rattle.ft_base.specs.Desk.{spec_at}
 use Rattle.ft_base.specs.Job.{Job}
 use Rattle.ft_base.specs.Kinds.{has_depth}
 use Rattle.ft_base.specs.Same.{context}
-use Rattle.plain_machine.specs.State.{is_full}
+use Rattle.ft_hist.specs.Dispatch.{is_full}
 use Rattle.recursion_guard.specs.Guards.{entered, held_in}
 use Rattle.recursion_guard.specs.Guards as guards
 use Rattle.return_stack.specs.Calls.{StackedCall}

@@ -8,7 +8,7 @@ use Rattle.ft_base.specs.declared.number.TaskNo.{TaskNo}
 use Rattle.ft_base.specs.declared.number.UserNo.{UserNo}
 use Rattle.ft_base.specs.Desk.{spec_at}
 use Rattle.ft_base.specs.Job.{Job}
-use Rattle.plain_machine.specs.State.{is_full}
+use Rattle.ft_hist.specs.Dispatch.{is_full}
 use Rattle.recursion_guard.specs.Guards.{left}
 use Rattle.recursion_guard.specs.Guards as guards
 use Rattle.hash_pages.specs.declared.reader.ReadPhase.{ReadPhase}

@@ -10,7 +10,7 @@ use Rattle.ft_base.specs.Job.{Job}
 use Rattle.ft_base.specs.Same.{same_ctx}
 use Rattle.ft_hist.specs.Frames.{FrameUser}
 use Rattle.ft_hist.specs.Plain.{Owed}
-use Rattle.plain_machine.specs.State.{call_of}
+use Rattle.ft_hist.specs.Dispatch.{call_of}
 use Rattle.return_stack.specs.Calls.{StackedCall}
 use Rattle.word_map.specs.declared.shape.Shape.{Shape}
 use Rattle.word_machine.specs.Task.{act_in, after_user, at_moment, opened}

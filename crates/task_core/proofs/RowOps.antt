@@ -8,7 +8,7 @@ use Rattle.ft_base.specs.Job.{Job}
 use Rattle.ft_base.specs.WellFormed.{IsScript}
 use Rattle.ft_base.proofs.Small.{false_true}
 use Rattle.ft_hist.specs.Frames.{FrameUser}
-use Rattle.plain_machine.specs.State.{call_of}
+use Rattle.ft_hist.specs.Dispatch.{call_of}
 use Rattle.hash_pages.specs.declared.reader.ReadPhase.{ReadPhase}
 use Rattle.hash_pages.specs.declared.reader.ReadPhase.TheVariants.{AtSel, AtFilter, AtNotrace, Ended as ReadEnded}
 use Rattle.hash_pages.specs.Reads.{Read, read_op}

@@ -5,7 +5,7 @@ use Rattle.std.proofs.lemmas.Bool.Decides.{nat_tests}
 use Rattle.ft_base.specs.Desk.{spec_at}
 use Rattle.ft_base.specs.Job.{Job}
 use Rattle.ft_base.specs.Kinds.{has_exit}
-use Rattle.plain_machine.specs.State.{misses_frame}
+use Rattle.ft_hist.specs.Dispatch.{misses_frame}
 use Rattle.return_stack.specs.Calls.{frames_in, is_full}
 use Rattle.word_machine.specs.Task.{OpenCall, around, level_of}
 use Rattle.task_core.specs.Framed.{AreFramed, owed_user, stack_of, stacked}

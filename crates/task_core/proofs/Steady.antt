@@ -8,9 +8,10 @@ use Rattle.ft_base.specs.declared.task.TaskAct.TheVariants.{Call, Ret as RetAct,
 use Rattle.ft_base.specs.Job.{Job}
 use Rattle.ft_base.specs.WellFormed.{IsScript}
 use Rattle.ft_base.specs.Acts.{AreRaised}
+use Rattle.ft_base.specs.Tasks.{has_acts}
 use Rattle.ft_base.proofs.Small.{false_true}
 use Rattle.ft_hist.specs.Frames.{FrameUser}
-use Rattle.plain_machine.specs.State.{has_acts, is_full}
+use Rattle.ft_hist.specs.Dispatch.{is_full}
 use Rattle.word_machine.specs.Task.{OpenCall, TaskState, Moment, Polling, First, Leaving, AtExit, Exiting, EndingExit, Returning, guards_under, is_quiet, with_top}
 use Rattle.word_machine.specs.Tasks.{StandsIn, acts_by, is_returning, open_by}
 use Rattle.word_machine_laws.proofs.Told.{first-loud}

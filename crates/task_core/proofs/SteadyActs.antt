@@ -6,10 +6,10 @@ use Rattle.ft_base.specs.declared.task.TaskAct.TheVariants.{Call, Ret as RetAct,
 use Rattle.ft_base.specs.Job.{Job, no_task}
 use Rattle.ft_base.specs.WellFormed.{IsScript}
 use Rattle.ft_base.specs.Acts.{AreRaised}
+use Rattle.ft_base.specs.Tasks.{has_acts}
 use Rattle.ft_base.proofs.Small.{false_true}
 use Rattle.ft_hist.specs.Frames.{FrameUser}
 use Rattle.ft_hist.specs.Plain.{below_top}
-use Rattle.plain_machine.specs.State.{has_acts}
 use Rattle.word_map.specs.Contents.{returned_at}
 use Rattle.word_machine.specs.Cpu.{with_word}
 use Rattle.word_machine.specs.Task.{OpenCall, TaskState, Moment, Polling, First, at_moment, begun_act, finished, first_got, is_quiet, next_exit, task_start}

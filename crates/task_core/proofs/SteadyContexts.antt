@@ -9,7 +9,7 @@ use Rattle.ft_base.specs.Same.{rank, same_ctx, context}
 use Rattle.ft_base.specs.Versions.{levels}
 use Rattle.ft_base.proofs.Small.{==-refl, false_true}
 use Rattle.ft_hist.specs.Plain.{Owed}
-use Rattle.plain_machine.specs.State.{held_levels}
+use Rattle.ft_hist.specs.Dispatch.{held_levels}
 use Rattle.word_machine.specs.Calls.{under_by, under_call}
 use Rattle.word_machine.specs.Task.{OpenCall, TaskState, Moment, Acting, Ending, guards_under}
 use Rattle.task_core.specs.Steady.{AreSteady, IsActContext, IsCalled, IsSteady, IsSteadyCall, act_calls, act_raised, ground_context, holds_guard, is_acted, is_dispatching, raised_over}

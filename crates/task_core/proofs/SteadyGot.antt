@@ -4,7 +4,7 @@ use Rattle.std.specs.List.{AllByRecursion as Each}
 use Rattle.ft_base.specs.declared.task.TaskAct.{TaskAct}
 use Rattle.ft_base.specs.Job.{Job, no_task}
 use Rattle.ft_base.specs.WellFormed.{IsActNamed}
-use Rattle.plain_machine.specs.State.{has_acts}
+use Rattle.ft_base.specs.Tasks.{has_acts}
 use Rattle.word_machine.specs.Cpu.{with_word}
 use Rattle.word_machine.specs.Laws.{PresentTakes}
 use Rattle.word_machine.specs.Task.{OpenCall, TaskState, Moment, Polling, First, Fetch, GotHead, GotBreak, InTramp, OwnSel, AtFirst, TestSel, TestFilter, TestNotrace, AtPids, AtDepth, Refusing, Calling, Missing, Acting, Ending, AtLink, Closing, Leaving, AtExit, Exiting, EndingExit, Returning, begun_act, task_got, task_start}

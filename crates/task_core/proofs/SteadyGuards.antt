@@ -14,7 +14,7 @@ use Rattle.ft_base.specs.Same.{same_ctx, context}
 use Rattle.ft_base.proofs.Small.{false_true}
 use Rattle.ft_hist.specs.Frames.{FrameUser, is_nil}
 use Rattle.ft_hist.specs.Plain.{Owed, owed_by}
-use Rattle.plain_machine.specs.State.{call_of, held_levels, is_full, misses_frame}
+use Rattle.ft_hist.specs.Dispatch.{call_of, held_levels, is_full, misses_frame}
 use Rattle.word_map.specs.Contents.{is_marked, returned_at, sel_empty, sel_on, stands}
 use Rattle.word_map.specs.Instructions.{decode}
 use Rattle.word_machine.specs.Task.{OpenCall, TaskState, Moment, Polling, First, Fetch, GotHead, GotBreak, InTramp, OwnSel, AtFirst, TestSel, TestFilter, TestNotrace, AtPids, AtDepth, Refusing, Calling, Missing, Acting, Ending, AtLink, Closing, Leaving, AtExit, Exiting, EndingExit, Returning, act_in, after_user, around, at_moment, closed, depth_in, exit_in, fetched, finished, first_got, guard_in, guard_test, guards_under, head_in, miss_in, next_exit, opened, passes_in, returned, task_got, tests_in, user_of, walks_to, with_top}

@@ -9,7 +9,7 @@ use Rattle.ft_base.specs.Desk.{spec_at}
 use Rattle.ft_base.specs.Job.{Job}
 use Rattle.ft_base.specs.Kinds.{has_depth}
 use Rattle.ft_base.proofs.Small.{==-refl, false_true, or-false_both}
-use Rattle.plain_machine.specs.State.{is_full}
+use Rattle.ft_hist.specs.Dispatch.{is_full}
 use Rattle.word_map.specs.Contents.{is_marked, sel_copy, sel_empty, sel_on, stands, tramp_user, tramp_word, high}
 use Rattle.word_map.specs.Instructions.{decode, head_of, tail_of}
 use Rattle.word_machine.specs.Laws.{CallTakes}

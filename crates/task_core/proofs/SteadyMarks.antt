@@ -15,7 +15,7 @@ use Rattle.ft_base.specs.WellFormed.{IsActNamed}
 use Rattle.ft_base.proofs.Small.{Each-snoc, false_true, or-true_either, and_both, each-get}
 use Rattle.ft_hist.specs.Frames.{FrameUser}
 use Rattle.ft_hist.specs.Plain.{Owed, owed_by}
-use Rattle.plain_machine.specs.State.{is_full, misses_frame, takes_frame}
+use Rattle.ft_hist.specs.Dispatch.{is_full, misses_frame, takes_frame}
 use Rattle.word_map.specs.Contents.{low}
 use Rattle.word_machine.specs.Task.{OpenCall, TaskState, Moment, Refusing, Calling, Missing, Acting, Ending, act_in, after_user, around, call_got, called_back, guards_under, level_of, miss_in, with_top}
 use Rattle.task_core.specs.Framed.{AreFramed}

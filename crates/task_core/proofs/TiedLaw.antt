@@ -7,7 +7,7 @@ use Rattle.ft_base.specs.declared.item.Ran.{Ran}
 use Rattle.ft_base.specs.declared.number.TaskNo.{TaskNo}
 use Rattle.ft_base.specs.Job.{Job, no_task}
 use Rattle.ft_base.specs.Versions.{levels}
-use Rattle.plain_machine.specs.State.{has_acts}
+use Rattle.ft_base.specs.Tasks.{has_acts}
 use Rattle.ops_list.specs.declared.walker.WalkPhase.{WalkPhase}
 use Rattle.return_stack.specs.Calls.{StackedCall, top_users}
 use Rattle.word_map.specs.declared.shape.Shape.{Shape}

@@ -2,9 +2,9 @@
 use Rattle.std.proofs.Common.{◌≡◌, ℕ, zero, suc, ◌<◌, true, false, List, [], ◌∷◌, drop, length, refl, sym, ap, subst, ◌∙◌, arith}
 use Rattle.ft_base.specs.declared.task.TaskAct.{TaskAct}
 use Rattle.ft_base.specs.Job.{Job}
+use Rattle.ft_base.specs.Tasks.{has_acts}
 use Rattle.ft_base.proofs.Small.{false_true}
 use Rattle.ft_hist.specs.Frames.{FrameUser}
-use Rattle.plain_machine.specs.State.{has_acts}
 use Rattle.return_stack.specs.Calls.{top_users}
 use Rattle.word_machine.specs.Task.{OpenCall, is_quiet as is_machine_quiet}
 use Rattle.word_machine.specs.Tasks.{FirstAt, IsToDo, StandsIn}

@@ -12,7 +12,7 @@ use Rattle.ft_base.specs.Kinds.{has_depth}
 use Rattle.ft_base.specs.WellFormed.{IsScript}
 use Rattle.ft_base.specs.Acts.{AreRaised}
 use Rattle.ft_hist.specs.Plain.{owed_by}
-use Rattle.plain_machine.specs.State.{is_full}
+use Rattle.ft_hist.specs.Dispatch.{is_full}
 use Rattle.word_machine.specs.Task.{OpenCall, TaskState, Moment, Polling, First, InTramp, OwnSel, TestSel, TestFilter, TestNotrace, AtPids, AtDepth, Refusing, Calling, Missing, Acting, Ending, AtLink, Leaving, AtExit, Exiting, EndingExit, Returning, guards_under, level_of, is_quiet}
 use Rattle.word_machine.specs.Tasks.{FirstAt, StandsIn, acts_by, is_returning, open_by}
 use Rattle.word_machine.specs.Calls.{under_call}

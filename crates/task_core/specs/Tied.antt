@@ -9,7 +9,7 @@ use Rattle.ft_base.specs.declared.number.TaskNo.{TaskNo}
 use Rattle.ft_base.specs.Job.{Job, no_task}
 use Rattle.ft_base.specs.Versions.{levels}
 use Rattle.ft_hist.specs.Frames.{FrameUser}
-use Rattle.plain_machine.specs.State.{held_levels}
+use Rattle.ft_hist.specs.Dispatch.{held_levels}
 use Rattle.hash_pages.specs.declared.reader.ReadPhase.{ReadPhase}
 use Rattle.hash_pages.specs.declared.reader.ReadPhase.TheVariants.{Ended as ReadEnded}
 use Rattle.hash_pages.specs.Reads.{Read}

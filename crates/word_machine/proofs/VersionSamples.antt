@@ -9,7 +9,7 @@ use Rattle.ft_base.specs.declared.item.Item.TheVariants.{Begin, Return, Enter, B
 use Rattle.ft_base.specs.Job.{Job}
 use Rattle.ft_base.specs.Desk.{desk}
 use Rattle.ft_base.specs.Schedule.{actors_of, repeated}
-use Rattle.plain_machine.proofs.Plays.{call_in}
+use Rattle.ft_hist.proofs.SmallJobs.{call_in}
 use Rattle.word_machine.specs.Commands.{insn, moves}
 use Rattle.word_machine.specs.Control.{control_next, control_got}
 use Rattle.word_machine.specs.Cpu.{cpu_next, cpu_got}

@@ -4,7 +4,7 @@ use Rattle.std.specs.List.{filter, list_any}
 use Rattle.ft_base.specs.declared.task.TaskAct.{TaskAct}
 use Rattle.ft_base.specs.declared.task.TaskAct.TheVariants.{After}
 use Rattle.ft_base.specs.Job.{Job}
-use Rattle.plain_machine.specs.State.{has_acts, tasks_of}
+use Rattle.ft_base.specs.Tasks.{has_acts, tasks_of}
 use Rattle.word_map.specs.Words.{Want, Ack, Quiet, at_put}
 use Rattle.word_map.specs.Contents.{returned_at}
 use Rattle.word_map.specs.Ops.{WordOp, Load, Store}

@@ -8,9 +8,9 @@ use Rattle.ft_base.specs.declared.task.TaskAct.TheVariants.{Call, Ret as RetAct,
 use Rattle.ft_base.specs.Job.{Job, no_task}
 use Rattle.ft_base.specs.WellFormed.{IsScript}
 use Rattle.ft_base.specs.Desk.{spec_at}
+use Rattle.ft_base.specs.Tasks.{has_acts}
 use Rattle.ft_hist.specs.Past.{done, Callback, callbacks, miss_due}
 use Rattle.ft_hist.specs.Plain.{plain, PlainTask, Frame, Phase, Dispatch, InBack, Running, Leaving as InReturn, InExit, owed_by, ahead}
-use Rattle.plain_machine.specs.State.{has_acts}
 use Rattle.word_map.specs.Contents.{low, high, greatest_half}
 use Rattle.word_machine.specs.Commands.{effect}
 use Rattle.word_machine.specs.Task.{OpenCall, TaskState, Moment, Polling, First, Missing, Acting, Ending, Leaving, AtExit, Exiting, EndingExit, Returning, is_quiet, level_of, rest_acts}

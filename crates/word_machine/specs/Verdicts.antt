@@ -14,8 +14,7 @@ use Rattle.ft_base.specs.Kinds.{has_depth}
 use Rattle.ft_hist.specs.Past.{Visit, visits}
 use Rattle.ft_hist.specs.Rules.{InWindow, OnlyThose}
 use Rattle.ft_hist.specs.Plain.{owed_by}
-use Rattle.plain_machine.specs.State.{Walk, is_full, misses_frame}
-use Rattle.plain_machine.specs.Dispatching.{CallSo}
+use Rattle.ft_hist.specs.Dispatch.{Walk, is_full, misses_frame, CallSo}
 use Rattle.word_machine.specs.Commands.{insn, effect, state_of}
 use Rattle.word_machine.specs.Control.{Position}
 use Rattle.word_machine.specs.Task.{OpenCall, Moment, Fetch, GotHead, GotBreak, InTramp, OwnSel, AtFirst, TestSel, TestFilter, TestNotrace, AtPids, AtDepth, Refusing, Calling, Missing, Acting, Ending, AtLink, Closing, around, level_of}
@@ -193,7 +192,7 @@ DispatchAt job h past ack q c below ms _ = ⊥
 
 -- what the history's own words need to know of an open call
 abbrev pub walk_of : OpenCall → Walk
-walk_of c = record { past = []; next = 0; runs = c.runs; framed = c.framed; users = c.users }
+walk_of c = record { runs = c.runs; framed = c.framed; users = c.users }
 
 -- A call between its Enter and its Body.
 --   from, caller   what its Enter tells: how many commands had returned, and which call made it

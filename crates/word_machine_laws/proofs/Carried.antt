@@ -9,7 +9,7 @@ use Rattle.ft_hist.specs.Rules.{InWindow}
 use Rattle.ft_hist.specs.Frames.{FrameUser}
 use Rattle.ft_hist.proofs.Since.{Untouched, holds-untouched, entry-untouched}
 use Rattle.ft_hist.proofs.Exits.{exits-untouched}
-use Rattle.plain_machine.proofs.CallSo.{so-untouched}
+use Rattle.ft_hist.proofs.CallSo.{so-untouched}
 use Rattle.word_machine.specs.Task.{OpenCall, TaskState, Moment, Polling, First, Fetch, GotHead, GotBreak, InTramp, OwnSel, AtFirst, TestSel, TestFilter, TestNotrace, AtPids, AtDepth, Refusing, Calling, Missing, Acting, Ending, AtLink, Closing, Leaving, AtExit, Exiting, EndingExit, Returning, is_quiet}
 use Rattle.word_machine.specs.Verdicts.{Here, DispatchAt, Dispatches}
 use Rattle.word_machine.specs.Calls.{BodyRuns, Leaves, Opened, CallAt, Calls, under_call}

@@ -7,12 +7,12 @@ use Rattle.ft_base.specs.declared.context.Ctx.{Ctx}
 use Rattle.ft_base.specs.declared.task.TaskAct.{TaskAct}
 use Rattle.ft_base.specs.declared.turn.Actor.{Actor}
 use Rattle.ft_base.specs.Job.{Job, Command, Ctl, no_task, commands, commands_in}
+use Rattle.ft_base.specs.Tasks.{has_acts}
 use Rattle.ft_base.proofs.Small.{false_true, and_both}
 use Rattle.ft_hist.specs.Past.{done}
 use Rattle.ft_hist.specs.Plain.{plain, PlainTask, Ahead}
 use Rattle.ft_hist.specs.Rules.{IsLegal, IsLegalPast, IsWhole, HasEnded}
 use Rattle.ft_hist.specs.Frames.{is_nil}
-use Rattle.plain_machine.specs.State.{has_acts}
 use Rattle.word_machine.specs.Control.{Control, Position, Line, Take}
 use Rattle.word_machine.specs.Task.{OpenCall, TaskState, Moment, Polling, First}
 use Rattle.word_machine.specs.Cpu.{Cpu, Phase, Going, StoringAck, StoringQuiet, Over, any_has_more, has_more}

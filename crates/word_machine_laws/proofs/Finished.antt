@@ -5,10 +5,10 @@ use Rattle.ft_base.specs.declared.task.TaskAct.TheVariants.{Call, Ret as RetAct,
 use Rattle.word_machine.specs.Task.{OpenCall, TaskState, Polling, first_got, finished, Leaving, closed, user_of, Ending, returned, Moment, Closing, Returning, call_got, stack_got, First, task_got, begun_act, is_fetching, task_op}
 use Rattle.ft_hist.specs.Frames.{is_nil}
 use Rattle.ft_base.specs.Job.{Job}
+use Rattle.ft_base.specs.Tasks.{tasks_of}
 use Rattle.word_map.specs.Words.{at_put}
 use Rattle.word_machine.proofs.Small.{put_case}
 use Rattle.word_machine.specs.Cpu.{next_task, Cpu, has_more, switched, moved, Going, Over, any_has_more, polled, quiet_in, quiet_next, poll_on, StoringAck, ack_value, polling, present_got, present_op, is_unmet}
-use Rattle.plain_machine.specs.State.{tasks_of}
 use Rattle.word_machine_laws.proofs.TaskSteps.{is_polling}
 use Rattle.ft_base.proofs.Small.{false_true}
 

@@ -21,7 +21,7 @@ use Rattle.ft_hist.specs.Past.{Entered, Visit, visit, all_visits, visits, entry_
 use Rattle.ft_hist.specs.Frames.{FrameUser, IsOwed, Rises, FrameOf}
 use Rattle.ft_hist.specs.Rules.{IsLegalPast, IsUnvisited, MayVisit}
 use Rattle.ft_hist.proofs.RunLaws.{same_call-eq}
-use Rattle.plain_machine.proofs.CallSo.{entry-is}
+use Rattle.ft_hist.proofs.CallSo.{entry-is}
 use Rattle.word_machine.specs.Task.{OpenCall, Calling, around}
 use Rattle.word_machine.specs.UserList.{list_desk}
 use Rattle.word_machine.specs.Verdicts.{Here, Dispatches}

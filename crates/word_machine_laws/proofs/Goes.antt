@@ -9,11 +9,11 @@ use Rattle.ft_base.specs.declared.item.Reason.{Reason}
 use Rattle.ft_base.specs.declared.item.Reason.TheVariants.{Pid as ByPid, Recursion, Depth as ByDepth}
 use Rattle.ft_base.specs.Job.{Job, funcs}
 use Rattle.ft_base.specs.Desk.{UserState, desk, is_allowed, is_matching}
+use Rattle.ft_base.specs.Tasks.{has_acts}
 use Rattle.ft_base.proofs.Small.{and_both, Each-weaker}
 use Rattle.ft_hist.specs.Past.{begun, visits, Visit, entry_of}
 use Rattle.ft_hist.specs.Frames.{FrameUser}
 use Rattle.ft_hist.specs.Known.{Watches}
-use Rattle.plain_machine.specs.State.{has_acts}
 use Rattle.word_map.specs.Contents.{low, greatest_half, all_ones}
 use Rattle.word_machine.specs.Commands.{effect, state_of}
 use Rattle.word_machine.specs.Task.{OpenCall, TaskState, Moment, Polling, First, Fetch, GotHead, GotBreak, InTramp, OwnSel, AtFirst, TestSel, TestFilter, TestNotrace, AtPids, AtDepth, Refusing, Calling, Missing, Acting, Ending, AtLink, Closing, Leaving, AtExit, Exiting, EndingExit, Returning, is_quiet, level_of, user_of}

@@ -11,9 +11,8 @@ use Rattle.ft_base.proofs.Small.{false_true}
 use Rattle.ft_hist.specs.Past.{Entered, Callback, done, visits, entry_of}
 use Rattle.ft_hist.specs.Plain.{Phase, Dispatch, Leaving as InReturn, ahead}
 use Rattle.ft_hist.specs.Known.{Watches}
-use Rattle.plain_machine.specs.State.{Walk, Around, has_acts, is_full}
-use Rattle.plain_machine.specs.Dispatching.{CallSo}
-use Rattle.plain_machine.proofs.CallSo.{entry-is}
+use Rattle.ft_hist.specs.Dispatch.{Walk, Around, is_full, CallSo}
+use Rattle.ft_hist.proofs.CallSo.{entry-is}
 use Rattle.word_map.specs.Contents.{low}
 use Rattle.word_machine.specs.Task.{OpenCall, Moment, Polling, First, Missing, Acting, Ending, Leaving, AtExit, Exiting, EndingExit, Returning, around, is_quiet, allowed_in, begin_call, depth_in, fetched, guard_in, head_in, own_in, passes_in, tests_in, walks_to, pid_in, exit_in, guard_test}
 use Rattle.word_machine.specs.UserList.{since_of, list_desk}
@@ -23,6 +22,7 @@ use Rattle.word_machine.specs.Tasks.{TaskRule, StandsIn, plain_phase, plain_stac
 use Rattle.ft_hist.specs.Frames.{FrameUser}
 use Rattle.ft_base.specs.Kinds.{has_depth}
 use Rattle.ft_base.specs.Desk.{spec_at}
+use Rattle.ft_base.specs.Tasks.{has_acts}
 use Rattle.word_machine_laws.proofs.MarkDispatch.{task}
 use Rattle.word_machine_laws.proofs.Told.{first-loud}
 

@@ -13,7 +13,7 @@ use Rattle.ft_base.specs.Kinds.{has_depth}
 use Rattle.ft_base.proofs.Small.{false_true, Each-weaker}
 use Rattle.ft_hist.specs.Past.{begun, visits, entry_of, Visit}
 use Rattle.ft_hist.specs.Known.{Watches, WasOff}
-use Rattle.plain_machine.specs.State.{is_full}
+use Rattle.ft_hist.specs.Dispatch.{is_full}
 use Rattle.word_map.specs.Contents.{high, sel_on, sel_copy, sel_empty, is_marked}
 use Rattle.word_machine.specs.Commands.{effect, state_of, set_words}
 use Rattle.word_machine.specs.Task.{OpenCall, Moment, TestFilter, TestNotrace, AtPids, AtDepth, Refusing, Calling, AtLink, around, level_of, is_too_deep, tests_in, passes_in, allowed_in, depth_in, begin_call, guard_test, guard_in, pid_in}

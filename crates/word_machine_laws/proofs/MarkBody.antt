@@ -12,6 +12,7 @@ use Rattle.ft_base.specs.declared.task.TaskAct.{TaskAct}
 use Rattle.ft_base.specs.Job.{Job}
 use Rattle.ft_base.specs.Desk.{UserState, desk, spec_at, user_at, is_on, is_sited, is_matching, target}
 use Rattle.ft_base.specs.Kinds.{cancels}
+use Rattle.ft_base.specs.Tasks.{has_acts}
 use Rattle.ft_base.proofs.Small.{false_true, ==-refl, and_both, Each-weaker}
 use Rattle.ft_base.proofs.Modifiers.{one_modifies}
 use Rattle.ft_hist.specs.Past.{done, Entered, entry_of, Visit, visits, all_visits}
@@ -23,7 +24,7 @@ use Rattle.ft_hist.proofs.WindowLaws.{begun-more}
 use Rattle.ft_hist.proofs.Visiting.{MetOf, at_most_one}
 use Rattle.ft_hist.specs.Known.{holds}
 use Rattle.ft_hist.proofs.Since.{holds-by}
-use Rattle.plain_machine.proofs.CallSo.{entry-is}
+use Rattle.ft_hist.proofs.CallSo.{entry-is}
 use Rattle.word_map.specs.Contents.{low, greatest_half}
 use Rattle.word_machine.specs.Commands.{effect, subject, state_of, Effect}
 use Rattle.word_machine.specs.Task.{OpenCall, TaskState, Polling, Closing, Leaving, around, level_of, rest_acts, closed}
@@ -40,7 +41,6 @@ use Rattle.word_machine_laws.proofs.Marks.{follows, mid_kept}
 use Rattle.word_machine_laws.proofs.MarkDispatch.{task, few-below}
 use Rattle.ft_base.proofs.Targets.{sited_own, sited_nop, off_unsited}
 use Rattle.word_machine_laws.proofs.Told.{told-fewer, one-done}
-use Rattle.plain_machine.specs.State.{has_acts}
 
 -- ## what a target says of users
 

@@ -27,9 +27,8 @@ use Rattle.ft_hist.proofs.Laws.{same_call-refl}
 use Rattle.ft_hist.proofs.WindowLaws.{begun-more, InWindow-more, visits-more}
 use Rattle.ft_hist.specs.Known.{holds}
 use Rattle.ft_hist.proofs.Since.{untouched-item, touches, holds-by}
-use Rattle.plain_machine.specs.State.{Walk, Around, takes_frame, misses_frame, held_levels, joined}
-use Rattle.plain_machine.specs.Dispatching.{CallSo}
-use Rattle.plain_machine.proofs.CallSo.{so-untouched, so-refused, so-called, visits-refuse, visits-back, entry-is}
+use Rattle.ft_hist.specs.Dispatch.{Walk, Around, takes_frame, misses_frame, held_levels, joined, CallSo}
+use Rattle.ft_hist.proofs.CallSo.{so-untouched, so-refused, so-called, visits-refuse, visits-back, entry-is}
 use Rattle.word_map.specs.Contents.{low}
 use Rattle.word_machine.specs.Task.{OpenCall, TaskState, Moment, Refusing, Calling, Missing, Acting, Ending, AtLink, Closing, is_quiet, around, level_of, after_user, called_back, act_in, miss_in}
 use Rattle.word_machine.specs.Progress.{SeenAt, underway, selected, pids_stored, depth_stored}
@@ -44,7 +43,7 @@ use Rattle.word_machine_laws.proofs.Stacks.{calls_of, opens-of, older_untouched,
 use Rattle.word_machine_laws.proofs.Seen.{either_of, selected-underway, pids-underway, depth-underway}
 use Rattle.word_machine_laws.proofs.DeskChanges.{since-unique, numbers-kept}
 use Rattle.word_machine_laws.proofs.Visiting.{may_meet, walk-since, read-numbers, read-reg}
-use Rattle.word_machine_laws.proofs.Marks.{follows, so_walk, mid_kept}
+use Rattle.word_machine_laws.proofs.Marks.{follows, mid_kept}
 use Rattle.ft_hist.proofs.Carries.{of_task}
 
 -- a call in its dispatch holds a frame if its walk says so
@@ -239,9 +238,8 @@ module _ (job : Job) (ok : IsWordJob job) (h : Here) (ack word clock : ℕ) (pas
           let f = follows job past item t k.run.at k.run.at (λ v. refl) runs k.run.is
           (reads-refuse (done past) k.run.at (plain_stack job false (under_call c below) below) u reason k.run.stack)
           (may, may_refuse u reason d.at.3 guard level, k.miss) in
-          let so = so_walk job (around c below) c.call e _ (may_come since c.ran m') (item ∷ past) [] 0
-          (so-refused job (around c below) c.call e (walk_of c) u (may_come since c.ran (Refusing u reg reason)) (may_come since c.ran m') past may.order
-          (takes d.at.1) d.so reason) in
+          let so = so-refused job (around c below) c.call e (walk_of c) u (may_come since c.ran (Refusing u reg reason)) (may_come since c.ran m') past may.order
+          (takes d.at.1) d.so reason in
           let more = visits-refuse job (around c below) c.call e u past reason in
           let ranis : RanIs job (item ∷ past) c = InWindow-more c.call item past _ refl d.at.0 in
           let after : AfterVisit job h q c.ran u (visits job c.call (item ∷ past)) = subst (λ (ms : List Visit). AfterVisit job h q c.ran u ms) (sym more)

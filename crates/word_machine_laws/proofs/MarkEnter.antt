@@ -21,8 +21,7 @@ use Rattle.ft_hist.proofs.Laws.{same_call-refl}
 use Rattle.ft_hist.proofs.WindowLaws.{begun-more}
 use Rattle.ft_hist.proofs.RunLaws.{sound, Sound, calls_on}
 use Rattle.ft_hist.proofs.Lists.{none_visited}
-use Rattle.plain_machine.specs.State.{call_of}
-use Rattle.plain_machine.specs.Dispatching.{CallSo}
+use Rattle.ft_hist.specs.Dispatch.{call_of, CallSo}
 use Rattle.word_map.specs.Contents.{low}
 use Rattle.word_machine.specs.Task.{OpenCall, TaskState, First, Fetch, Acting, opened, top_of, around}
 use Rattle.word_machine.specs.Verdicts.{Here, Dispatches, walk_of, may_come}

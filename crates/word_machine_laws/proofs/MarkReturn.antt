@@ -7,6 +7,7 @@ use Rattle.ft_base.specs.declared.task.TaskAct.{TaskAct}
 use Rattle.ft_base.specs.declared.task.TaskAct.TheVariants.{Ret as RetAct}
 use Rattle.ft_base.specs.Job.{Job}
 use Rattle.ft_base.specs.Desk.{desk, is_live}
+use Rattle.ft_base.specs.Tasks.{has_acts}
 use Rattle.ft_base.proofs.Small.{false_true, ==-refl}
 use Rattle.ft_hist.specs.Past.{done, Callback, callbacks, visits, all_visits}
 use Rattle.ft_hist.specs.Plain.{plain, after_item, PlainTask, Frame, Phase, Running, Leaving as InReturn, InExit, ahead, Ahead, top_call}
@@ -30,7 +31,6 @@ use Rattle.word_machine_laws.proofs.Marks.{follows, mid_kept}
 use Rattle.word_machine_laws.proofs.MarkDispatch.{task, few-below, ended-own}
 use Rattle.word_machine_laws.proofs.MarkEnter.{open_first}
 use Rattle.word_machine_laws.proofs.Told.{told-fewer, first-loud, one-done}
-use Rattle.plain_machine.specs.State.{has_acts}
 
 -- what all places between the exits have
 pub record ReturnsAt (job : Job) (c : OpenCall) (below : List OpenCall) (m : Moment) : Type 0 where

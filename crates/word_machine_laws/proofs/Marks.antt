@@ -1,6 +1,5 @@
 -- Marks of a task: how the rule goes on over an item of its top call.
 use Rattle.std.proofs.Common.{◌≡◌, ℕ, ◌≤◌, Bool, false, ◌==◌, List, ◌∷◌, Some, IsSome, refl, sym, ◌∙◌, subst}
-use Rattle.ft_base.specs.declared.number.CallNo.{CallNo}
 use Rattle.ft_base.specs.declared.context.Ctx.{Ctx}
 use Rattle.ft_base.specs.declared.item.Item.{Item}
 use Rattle.ft_base.specs.declared.task.TaskAct.{TaskAct}
@@ -9,8 +8,6 @@ use Rattle.ft_hist.specs.Past.{is_of, done, callbacks, miss_due}
 use Rattle.ft_hist.specs.Plain.{plain, after_item, PlainTask}
 use Rattle.ft_hist.specs.Rules.{MayFollow, MayStand}
 use Rattle.ft_hist.proofs.Laws.{run_more}
-use Rattle.plain_machine.specs.State.{Walk}
-use Rattle.plain_machine.specs.Dispatching.{CallSo}
 use Rattle.word_map.specs.Contents.{low}
 use Rattle.word_machine.specs.Task.{OpenCall, Moment, is_quiet, level_of}
 use Rattle.word_machine.specs.Verdicts.{Here}
@@ -26,23 +23,6 @@ pub follows : (job : Job) (past : List Item) (item : Item) (t : ℕ) (at at' : P
     → MayFollow job past item × (plain job t (item ∷ past) ≡ Some at')
 follows job past item t at at' own runs here next may =
     let w = run_more job past item t at at' own runs here next in (record { run = w.0; rule = may }, w.1)
-
--- what is known of a call does not speak of the items of a walk
-pub so_walk : (job : Job) (a : _) (call : CallNo) (e : _) (w : Walk) (todo : ℕ → Bool) (past p : List Item) (n : ℕ) → CallSo job a call e w todo past
-    → CallSo job a call e (record w { past = p; next = n }) todo past
-so_walk job a call e w todo past p n h = record {
-  known = h.known;
-  opened = h.opened;
-  undone = h.undone;
-  unexited = h.unexited;
-  sinks = h.sinks;
-  watch = h.watch;
-  runs = h.runs;
-  framed = h.framed;
-  frame = h.frame;
-  places = h.places;
-  room = h.room;
-}
 
 module _ (job : Job) (h : Here) (ack word t : ℕ) where
   -- a step within an act, with or without an item: the acts to come stay

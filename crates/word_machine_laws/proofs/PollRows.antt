@@ -8,10 +8,10 @@ use Rattle.ft_base.specs.declared.item.Item.{Item}
 use Rattle.ft_base.specs.declared.item.Item.TheVariants.{Begin, Return}
 use Rattle.ft_base.specs.declared.task.TaskAct.{TaskAct}
 use Rattle.ft_base.specs.Job.{Job, no_task}
+use Rattle.ft_base.specs.Tasks.{has_acts, tasks_of}
 use Rattle.ft_base.proofs.Small.{false_true, ==-refl, Each-weaker}
 use Rattle.ft_hist.specs.Past.{is_of, done, begun}
 use Rattle.ft_hist.specs.Rules.{IsLegalPast, MayFollow}
-use Rattle.plain_machine.specs.State.{has_acts, tasks_of}
 use Rattle.word_map.specs.Words.{Clock, Want, Ack, Quiet, at_put}
 use Rattle.word_map.specs.Contents.{low, half_size, halves, greatest_half, all_ones}
 use Rattle.word_machine.specs.Commands.{effect}

@@ -9,9 +9,9 @@ use Rattle.ft_base.specs.declared.task.TaskAct.TheVariants.{Call, Ret as RetAct,
 use Rattle.ft_base.specs.Job.{Job}
 use Rattle.ft_base.proofs.Small.{false_true, or-false_both, Each-filter}
 use Rattle.ft_base.specs.WellFormed.{IsScript}
+use Rattle.ft_base.specs.Tasks.{has_acts, tasks_of}
 use Rattle.ft_hist.specs.Past.{done}
 use Rattle.ft_hist.specs.Plain.{below_top, ahead}
-use Rattle.plain_machine.specs.State.{has_acts, tasks_of}
 use Rattle.word_map.specs.Words.{at_put}
 use Rattle.word_map.specs.Contents.{low, greatest_half, all_ones}
 use Rattle.word_machine.specs.Task.{OpenCall, TaskState, Moment, Polling, First, is_quiet, is_fetching, quiet_word, begun_act}

@@ -5,10 +5,10 @@ use Rattle.std.specs.List.{AllByRecursion as Each}
 use Rattle.ft_base.specs.Job.{Job, Task, no_task, commands}
 use Rattle.ft_base.specs.Desk.{desk}
 use Rattle.ft_base.specs.WellFormed.{IsScript}
+use Rattle.ft_base.specs.Tasks.{tasks_of, tasks_from}
 use Rattle.ft_base.proofs.Small.{false_true, each-get}
 use Rattle.ft_hist.specs.Plain.{plain, at_start}
 use Rattle.ft_hist.specs.Rules.{IsLegalPast, waits_before}
-use Rattle.plain_machine.specs.State.{tasks_of, tasks_from}
 use Rattle.word_machine.specs.Commands.{insn, changes}
 use Rattle.word_machine.specs.Control.{Line}
 use Rattle.word_machine.specs.Task.{task_start}

@@ -33,9 +33,10 @@ use Rattle.word_machine_laws.proofs.MarkBody.{body_row}
 use Rattle.word_machine_laws.proofs.MarkReturn.{leave_row, leave_act_row, exit_row, exit_end_row, ret_row, polling_stack, polling_callbacks, polling_calls}
 use Rattle.ft_base.specs.declared.item.Ran.{Ran}
 use Rattle.word_machine.proofs.Small.{if_case}
-use Rattle.plain_machine.specs.State.{is_full, has_acts}
+use Rattle.ft_hist.specs.Dispatch.{is_full}
 use Rattle.ft_base.specs.Kinds.{has_depth}
 use Rattle.ft_base.specs.Desk.{spec_at}
+use Rattle.ft_base.specs.Tasks.{has_acts}
 use Rattle.word_machine_laws.proofs.Told.{told-fewer}
 
 -- a clock tells how many commands have returned

@@ -2,7 +2,7 @@
 use Rattle.std.proofs.Common.{◌≡◌, ℕ, suc, ◌+◌, ◌≤◌, Bool, true, false, List, [], ◌∷◌, length, ◌∙◌, sym, inl, inr, arith}
 use Rattle.ft_base.proofs.Small.{false_true}
 use Rattle.ft_base.specs.declared.task.TaskAct.{TaskAct}
-use Rattle.plain_machine.specs.State.{has_acts}
+use Rattle.ft_base.specs.Tasks.{has_acts}
 use Rattle.word_machine.specs.Task.{Moment, Polling, First, is_quiet, rest_acts}
 use Rattle.word_machine.specs.Tasks.{HasTold, FirstAt}
 

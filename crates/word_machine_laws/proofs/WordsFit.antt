@@ -21,7 +21,6 @@ use Rattle.ft_base.proofs.Modifiers.{named-at}
 use Rattle.ft_base.proofs.Versions.{few-largest}
 use Rattle.ft_base.specs.Marks.{Marks}
 use Rattle.site_set.specs.Marks.{number_with_bits, word_of}
-use Rattle.plain_machine.specs.State.{has_acts}
 use Rattle.word_map.specs.Words.{Word, Words, Clock, Want, First as ListHead, Pids, Depth, Head, Tail, Next, Ack, Quiet, Tramp, Link, Sel, Bits, put, bits_put}
 use Rattle.word_map.specs.Contents.{low, halves, half_size, greatest_half, all_ones, sel_of, set_word, mask_of}
 use Rattle.word_map.specs.Instructions.{head_of, tail_of}
@@ -49,6 +48,7 @@ use Rattle.word_machine_laws.proofs.Start.{opens}
 use Rattle.word_machine.specs.Progress.{underway}
 use Rattle.ft_base.specs.declared.task.TaskAct.{TaskAct}
 use Rattle.ft_base.specs.declared.task.TaskAct.TheVariants.{Call, Ret as RetAct, Raise, Lower, After}
+use Rattle.ft_base.specs.Tasks.{has_acts}
 use Rattle.word_machine_laws.proofs.Limited.{limited, few-commands}
 use Rattle.word_machine_laws.proofs.Waits.{waits-got}
 

@@ -15,7 +15,7 @@ use Rattle.ft_base.specs.declared.turn.Who.TheVariants.{Control as OfControl, Cp
 use Rattle.ft_base.specs.Job.{usual_lines, usual_rings, Job, Register, Unregister, Filter, Notrace, Enable, Disable, Pid, NoPid, MaxDepth, Run, Until}
 use Rattle.ft_base.specs.Desk.{desk}
 use Rattle.ft_base.specs.Schedule.{actors_of, repeated}
-use Rattle.plain_machine.proofs.Plays.{named, call_in}
+use Rattle.ft_hist.proofs.SmallJobs.{named, call_in}
 use Rattle.word_machine.specs.Commands.{insn, moves}
 use Rattle.word_machine.specs.Control.{control_next, control_got}
 use Rattle.word_machine.specs.Cpu.{cpu_next, cpu_got}

@@ -1,4 +1,4 @@
-use Rattle.plain_machine.specs.State.{tasks_of}
+use Rattle.ft_base.specs.Tasks.{tasks_of}
 use Rattle.cpu_core.proofs.WholePoll.{asks, each-told, over, stores}
 use Rattle.cpu_core.proofs.laws.a_poll_ends_once_all_have_told.Goals as goal
 

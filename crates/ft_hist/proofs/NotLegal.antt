@@ -1,4 +1,4 @@
--- Histories that differ from those of the worked examples in one place, and are not legal: one for each part of legality.
+-- Histories of small jobs that go wrong in one place, and are not legal: one for each part of legality.
 use Rattle.std.proofs.Common.{◌≡◌, ℕ, ◌≤◌, true, false, List, [], ◌∷◌, ◌++◌, Some, None, reverse, refl, sym, subst, arith, inl, inr, ap}
 use Rattle.std.specs.Prelude.{Contains, slice_index_or}
 use Rattle.ft_base.specs.declared.context.Ctx.TheVariants.{Normal}
@@ -14,8 +14,7 @@ use Rattle.ft_hist.specs.Past.{all_visits, Visit}
 use Rattle.ft_hist.specs.Plain.{plain, after_item}
 use Rattle.ft_hist.specs.Rules.{IsLegal, MayFollow, IsStill}
 use Rattle.ft_hist.proofs.Splitting.{splits}
-use Rattle.plain_machine.proofs.Plays.{call_in}
-use Rattle.plain_machine.proofs.RowSamples.{first_path, recursion, full_shadow_stack, registered_again, two_cpus, unregistered_in_call}
+use Rattle.ft_hist.proofs.SmallJobs.{call_in, first_path, unordered, recursion, full_shadow_stack, registered_again, unregistered_in_call}
 
 -- the one number between two bounds that are the same
 pub between : (P : ℕ → Type 0) (n k : ℕ) → n ≤ k → k ≤ n → P k → P n
@@ -51,10 +50,10 @@ wrong_ran legal =
     absurd (cc)
 
 -- callbacks: a user that is off is called back
-pub callback_while_off : IsLegal two_cpus (Enter (call_in 1 1) Normal (record { 0 = 1 }) None ∷ Back (call_in 1 1) (record { 0 = 0 }) ∷ []) → ⊥
+pub callback_while_off : IsLegal unordered (Enter (call_in 0 1) Normal (record { 0 = 0 }) None ∷ Back (call_in 0 1) (record { 0 = 0 }) ∷ []) → ⊥
 unfolding desk all_visits
 callback_while_off legal =
-    elim ((last two_cpus (Enter (call_in 1 1) Normal (record { 0 = 1 }) None ∷ []) (Back (call_in 1 1) (record { 0 = 0 })) legal).rule.0.visit.on) [
+    elim ((last unordered (Enter (call_in 0 1) Normal (record { 0 = 0 }) None ∷ []) (Back (call_in 0 1) (record { 0 = 0 })) legal).rule.0.visit.on) [
       | inl on ↦ false_true on
       | inr on ↦ false_true on
     ]

@@ -6,19 +6,16 @@ use Rattle.ft_base.specs.declared.item.Reason.{Reason}
 use Rattle.ft_base.specs.declared.item.Item.{Item}
 use Rattle.ft_base.specs.declared.item.Item.TheVariants.{Back, Refuse}
 use Rattle.ft_base.specs.Job.{Job}
-use Rattle.ft_base.specs.Desk.{desk, is_on, user_at, spec_at}
-use Rattle.ft_base.specs.Order.{IsFalling}
+use Rattle.ft_base.specs.Desk.{spec_at}
 use Rattle.ft_base.proofs.Small.{Each-weaker, Each-snoc, or-false_both}
 use Rattle.ft_base.specs.Kinds.{cancels}
-use Rattle.ft_hist.specs.Past.{Entered, done, begun, entered, entry_of, all_visits, visit, Visit, visits, held}
-use Rattle.ft_hist.specs.Rules.{MayVisit}
+use Rattle.ft_hist.specs.Past.{Entered, begun, entered, entry_of, all_visits, visit, Visit, visits, held}
 use Rattle.ft_hist.proofs.Laws.{same_call-refl}
 use Rattle.ft_hist.specs.Known.{Watches}
 use Rattle.ft_hist.specs.Frames.{FrameUser, runs_after, keeps_frame, FrameOf}
 use Rattle.ft_hist.proofs.Since.{Untouched, watches-untouched}
-use Rattle.ft_hist.proofs.Visiting.{MetOf, registration_at-same, unmet, runs-back, runs-refuse, frame-none, frame-joined}
-use Rattle.plain_machine.specs.State.{Walk, Around, takes_frame, joined, refused}
-use Rattle.plain_machine.specs.Dispatching.{CallSo}
+use Rattle.ft_hist.proofs.Visiting.{runs-back, runs-refuse, frame-none, frame-joined}
+use Rattle.ft_hist.specs.Dispatch.{Walk, Around, CallSo, takes_frame, joined}
 
 -- how it goes on: nothing here speaks of one desk
 module _ (job : Job) (a : Around) (call : CallNo) (e : Entered) where
@@ -75,7 +72,7 @@ module _ (job : Job) (a : Around) (call : CallNo) (e : Entered) where
     places-more : Each (λ x. x.entry < suc (length past)) w.users
     places-more = Each-weaker (λ x. x.entry < length past) (λ x. x.entry < suc (length past)) w.users (λ x lt. omega arith) h.places
 
-    pub so-refused : (r : Reason) → CallSo job a call e (refused call u r w) todo' (Refuse call (record { 0 = u }) r ∷ past)
+    pub so-refused : (r : Reason) → CallSo job a call e w todo' (Refuse call (record { 0 = u }) r ∷ past)
     so-refused r = record {
       known = h.known;
       opened = h.opened;
@@ -141,31 +138,3 @@ module _ (job : Job) (a : Around) (call : CallNo) (e : Entered) where
         places = rw us' places;
         room = rw f room;
       }
-
--- on one desk: those visited so far are on there, and registered after each of those to come
-abbrev pub VisitedSo : Job → ℕ → CallNo → ℕ → List ℕ → List Item → Type 0
-VisitedSo job k call f todo past = Each (MetOf (desk job k) f todo) (visits job call past)
-
-module _ (job : Job) (k : ℕ) (a : Around) (call : CallNo) (e : Entered) (u : ℕ) (us : List ℕ) (past : List Item) (d : done past ≡ k) (b : begun past ≡ k)
-    (on : is_on (desk job k) u e.func ≡ true) (h : VisitedSo job k call e.func (u ∷ us) past) where
-  pub order-now : Each (λ m. (met_now job a call e u past true).since < m.since) (visits job call past)
-  order-now = rw (registration_at-same job call u k past d b)
-      (Each-weaker (MetOf (desk job k) e.func (u ∷ us)) (λ m. (user_at (desk job k) u).since < m.since) (visits job call past) (λ m x. rw x.since x.below.0) h)
-
-  -- the next user may be visited
-  pub may_visit : entered call past ≡ Some e → MayVisit job past call u
-  may_visit known = record {
-    on = inl (rw (d, entry-is job a call e past known) on);
-    once = unmet (desk job k) e.func u us (visits job call past) h;
-    order = order-now;
-  }
-
-  pub visits-more' : IsFalling (desk job k) (u ∷ us) → (back : Bool) → Each (MetOf (desk job k) e.func us) (met_now job a call e u past back ∷ visits job call past)
-  visits-more' falls back = (
-    record { since = rw (registration_at-same job call u k past d b) refl; on = on; below = falls.0 },
-    Each-weaker (MetOf (desk job k) e.func (u ∷ us)) (MetOf (desk job k) e.func us) (visits job call past)
-        (λ m x. record { since = x.since; on = x.on; below = x.below.1 }) h,
-  )
-
-  pub reg-now : (met_now job a call e u past true).reg ≡ (user_at (desk job k) u).reg
-  reg-now = ap (λ (x : ℕ). (user_at (desk job x) u).reg) (registration_at-same job call u k past d b)

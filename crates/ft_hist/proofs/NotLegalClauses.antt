@@ -1,46 +1,22 @@
--- One history for each clause of legality that no history of NotLegal speaks of: it is that of an example, or of a small job, up to an item that breaks
--- this clause.
-use Rattle.std.proofs.Common.{◌≡◌, ℕ, ◌<◌, ◌≤◌, ◌⊎◌, true, false, List, [], ◌∷◌, ◌++◌, Some, None, reverse, codes, refl, sym, ap, ◌∙◌, subst, arith, inl, inr}
+-- One history of a small job for each clause of legality that no history of NotLegal speaks of: up to an item that breaks this clause.
+use Rattle.std.proofs.Common.{◌≡◌, ℕ, ◌<◌, ◌≤◌, ◌⊎◌, true, false, List, [], ◌∷◌, ◌++◌, Some, None, reverse, refl, sym, ap, ◌∙◌, subst, arith, inl, inr}
 use Rattle.ft_base.specs.declared.context.Ctx.TheVariants.{Normal}
 use Rattle.ft_base.specs.declared.item.Ran.TheVariants.{Nop, List as ByList, Own}
 use Rattle.ft_base.specs.declared.item.Reason.TheVariants.{Pid as ByPid, Recursion, Depth}
 use Rattle.ft_base.specs.declared.item.Answer.TheVariants.{Accepted}
 use Rattle.ft_base.specs.declared.item.Item.{Item}
 use Rattle.ft_base.specs.declared.item.Item.TheVariants.{Begin, Return, Enter, Back, BackEnd, Refuse, Miss, Body, Leave, Exit, ExitEnd, Ret}
-use Rattle.ft_base.specs.declared.user.Kind.{Kind}
 use Rattle.ft_base.specs.declared.user.Kind.TheVariants.{Function, Graph}
 use Rattle.ft_base.specs.declared.user.Act.TheVariants.{CallIn}
-use Rattle.ft_base.specs.declared.task.TaskAct.TheVariants.{Call, Ret as RetAct}
-use Rattle.ft_base.specs.Job.{usual_lines, usual_rings, Job, Spec, Ctl, Command, Register, Unregister, Disable, MaxDepth, Pid, Run, Until}
+use Rattle.ft_base.specs.Job.{Job, Command, Register, Unregister, Disable, MaxDepth, Pid, Run, Until}
 use Rattle.ft_base.specs.Desk.{desk, is_live, answer_at, spec_at}
 use Rattle.ft_base.specs.Kinds.{cancels}
 use Rattle.ft_base.proofs.Small.{false_true}
 use Rattle.ft_hist.specs.Past.{all_visits, Visit}
 use Rattle.ft_hist.specs.Plain.{plain, after_item}
 use Rattle.ft_hist.specs.Rules.{IsLegal, IsWhole, IsStill}
-use Rattle.plain_machine.proofs.Plays.{call_in, named}
-use Rattle.plain_machine.proofs.NotLegal.{last, between, only, before_body, before_refusal}
-use Rattle.plain_machine.proofs.RowSamples.{first_path, list_then_own, repeated_commands, two_ipmodify_users, recursion, full_shadow_stack, fprobe_misses, fprobe_cancels, registered_again, pids, disabled_fprobe, profile_user}
-use Rattle.plain_machine.proofs.LevelSamples.{two_levels}
-
-abbrev plain_user : Kind → Spec
-plain_user kind = record { name = codes "u"; kind = kind; regs = false; ipmodify = None; pid = false; act = None }
-
--- one task that calls `a` and returns, while control goes through these lines
-abbrev one_call : List Spec → List Ctl → Job
-one_call users ctls = record {
-  version = 1;
-  functions = named (codes "a") None ∷ named (codes "b") None ∷ [];
-  users = users;
-  frames = 50;
-  tramps = 16;
-  quanta = 100 ∷ [];
-  tasks = record { pid = 10; cpu = 0; acts = Call (record { 0 = 0 }) ∷ Call (record { 0 = 1 }) ∷ RetAct ∷ RetAct ∷ [] } ∷ [];
-  ctls = ctls;
-  schedule = [];
-  lines = usual_lines;
-  rings = usual_rings;
-}
+use Rattle.ft_hist.proofs.NotLegal.{last, between, only, before_body, before_refusal}
+use Rattle.ft_hist.proofs.SmallJobs.{call_in, plain_user, one_task, two_calls, first_path, list_then_own, repeated_commands, two_ipmodify_users, recursion, two_levels, full_shadow_stack, fprobe_misses, fprobe_cancels, registered_again, pids, disabled_fprobe, profile_user}
 
 -- ## callbacks
 
@@ -73,7 +49,7 @@ open_at_disabling legal =
 
 -- an unregistration returns within an exit callback
 abbrev unregistered : Job
-unregistered = one_call (plain_user Graph ∷ []) (Run (Register 0) ∷ Run (Unregister 0) ∷ [])
+unregistered = one_task (plain_user Graph ∷ []) two_calls (Run (Register 0) ∷ Run (Unregister 0) ∷ [])
 
 abbrev before_unregistered : List Item
 before_unregistered =
@@ -191,7 +167,7 @@ callback_without_frame legal =
 
 -- and though they reach the graph depth
 abbrev shallow : Job
-shallow = one_call (plain_user Graph ∷ []) (Run (MaxDepth 1) ∷ Run (Register 0) ∷ [])
+shallow = one_task (plain_user Graph ∷ []) two_calls (Run (MaxDepth 1) ∷ Run (Register 0) ∷ [])
 
 abbrev before_deep : List Item
 before_deep =
@@ -211,7 +187,7 @@ callback_below_graph_depth legal =
 
 -- a user is called back in a call that fetched the nop, while its registration is under way
 abbrev under_way : Job
-under_way = one_call (plain_user Function ∷ []) (Run (Register 0) ∷ [])
+under_way = one_task (plain_user Function ∷ []) two_calls (Run (Register 0) ∷ [])
 
 abbrev before_nop : List Item
 before_nop = Enter (call_in 0 1) Normal (record { 0 = 0 }) None ∷ Begin 1 ∷ Back (call_in 0 1) (record { 0 = 0 }) ∷ BackEnd (call_in 0 1) (record { 0 = 0 }) ∷ []
@@ -222,7 +198,7 @@ callback_at_nop legal = let none = (last under_way before_nop (Body (call_in 0 1
 
 -- and in a call that fetched another user's trampoline
 abbrev one_of_two : Job
-one_of_two = one_call (plain_user Function ∷ plain_user Function ∷ []) (Run (Register 0) ∷ Run (Register 1) ∷ Run (Unregister 0) ∷ [])
+one_of_two = one_task (plain_user Function ∷ plain_user Function ∷ []) two_calls (Run (Register 0) ∷ Run (Register 1) ∷ Run (Unregister 0) ∷ [])
 
 abbrev before_own : List Item
 before_own =

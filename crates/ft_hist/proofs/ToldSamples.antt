@@ -1,12 +1,12 @@
 -- Samples of the words in which the laws of histories are told, which no code and no other definition cites; and a history in which an act's call
 -- comes where a Miss is due.
-use Rattle.std.proofs.Common.{◌≡◌, ℕ, ◌≤◌, true, false, List, [], ◌∷◌, ◌++◌, Some, None, codes, refl, sym, arith, inl, inr}
+use Rattle.std.proofs.Common.{◌≡◌, ◌≤◌, true, false, List, [], ◌∷◌, ◌++◌, Some, None, codes, refl, sym, arith, inl, inr}
 use Rattle.ft_base.specs.declared.context.Ctx.TheVariants.{Normal}
 use Rattle.ft_base.specs.declared.item.Ran.TheVariants.{Own}
 use Rattle.ft_base.specs.declared.item.Reason.TheVariants.{Recursion}
 use Rattle.ft_base.specs.declared.item.Answer.TheVariants.{Accepted}
 use Rattle.ft_base.specs.declared.item.Item.{Item}
-use Rattle.ft_base.specs.declared.item.Item.TheVariants.{Begin, Return, Enter, Back, BackEnd, Refuse, Miss, Body, Leave, Exit, ExitEnd, Ret}
+use Rattle.ft_base.specs.declared.item.Item.TheVariants.{Begin, Return, Enter, Back, BackEnd, Refuse, Body, Leave, Exit, ExitEnd, Ret}
 use Rattle.ft_base.specs.declared.user.Kind.TheVariants.{Fprobe}
 use Rattle.ft_base.specs.declared.user.Act.TheVariants.{CallIn}
 use Rattle.ft_base.specs.Job.{Job}
@@ -15,9 +15,8 @@ use Rattle.ft_base.proofs.Small.{false_true}
 use Rattle.ft_hist.specs.Past.{all_visits}
 use Rattle.ft_hist.specs.Rules.{IsLegal}
 use Rattle.ft_hist.specs.Telling.{is_begin_by, is_end_by, is_exit_for, is_ret_of, is_command, is_return_of, MayLackExit}
-use Rattle.plain_machine.proofs.Plays.{call_in}
-use Rattle.plain_machine.proofs.NotLegal.{last, between, before_body}
-use Rattle.plain_machine.proofs.RowSamples.{fprobe_misses}
+use Rattle.ft_hist.proofs.SmallJobs.{call_in, fprobe_misses}
+use Rattle.ft_hist.proofs.NotLegal.{last, between, before_body}
 
 -- ## which items are meant
 

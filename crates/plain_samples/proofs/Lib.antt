@@ -1,4 +1,0 @@
-pub mod RandomSamples1
-pub mod RandomSamples2
-pub mod RandomSamples3
-pub mod ToldSamples
