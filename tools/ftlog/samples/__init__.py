@@ -1,1 +1,1 @@
-"""Samples of the two machines, written as proof files."""
+"""Samples of the word machine, written as proof files."""

@@ -5,7 +5,7 @@ of a script on its word machine (`REFERENCE --machine e2 --features none replay 
 part of this repository. Each script becomes a job, its printed history a list of items, and the
 proof says by computation that the definition of the word machine gives that history and that end.
 
-The rows are worked examples, with those of `ft samples plain`. The runs are ones in which a machine
+The rows are worked examples. The runs are ones in which a machine
 goes wrong that leaves something out, which the name says; docs/PROTOCOL.md tells each. The random
 scripts are those of it with schedules of single steps: turns of one actor each, some
 long enough for a whole command or call, some of one step. A random script that REFERENCE refuses,
@@ -25,11 +25,10 @@ import random
 
 from ftlog import runs
 from ftlog.fault import Fault
-from ftlog.samples import plain_samples
-from ftlog.samples.plain_samples import HEAD, imports_of, log_of, random_script, sample
+from ftlog.samples.sample_scripts import HEAD, ROWS, random_script
+from ftlog.samples.sample_text import imports_of, log_of, sample
 
 FULL_TURNS = 300  # enough to end each script
-OWN_STEPS = ("two_cpus", "stopped_early", "three_cpus", "stopped_in_a_call")  # their schedules count the steps of the plain machine
 PATCHED = f"ftrace 1;func a;user tr function;{HEAD};call a;ret;ctl register tr"
 USERS = "ftrace 1;func a;user t1 function;user t2 function;user t3 function"
 REGISTERED = "ctl register t1;ctl register t2;ctl register t3"
@@ -93,16 +92,6 @@ RUNS = {
     "exit_by_registration_bit": f"ftrace 1;func a;user g graph;{HEAD};after 1;call a;after 3;ret;"
     "ctl register g;ctl until 10 2;ctl unregister g;ctl register g",
 }
-UNFOLDED = "actors_of repeated start step run played play all_end control_next control_got cpu_next cpu_got insn desk"
-IMPORTS = plain_samples.IMPORTS.partition("use Rattle.plain_machine.specs.State")[0] + (
-    "use Rattle.plain_machine.proofs.Plays.{named, call_in}\n"
-    "use Rattle.word_machine.specs.Commands.{insn}\n"
-    "use Rattle.word_machine.specs.Control.{control_next, control_got}\n"
-    "use Rattle.word_machine.specs.Cpu.{cpu_next, cpu_got}\n"
-    "use Rattle.word_machine.specs.Machine.{start, step, run, played, play, all_end}\n"
-    "use Rattle.word_machine.proofs.Plays.{Plays}\n"
-)
-
 
 def stepped_schedule(rng, cpus):
     """Turns of one actor each, then full turns."""
@@ -140,12 +129,6 @@ def stepped_script(rng):
     return "\n".join(lines + [stepped_schedule(rng, cpus)]) + "\n"
 
 
-def all_rows():
-    """The worked examples, each with a schedule."""
-    plain = {**plain_samples.ROWS, **plain_samples.MORE}
-    return {**STEPPED, **{name: script for name, script in plain.items() if name not in OWN_STEPS}}
-
-
 def text_of(script):
     """A script of the tables above as a text; with no schedule of its own all actors take turns."""
     turns = "" if "sched" in script else f";sched all*{FULL_TURNS}"
@@ -157,10 +140,10 @@ def tabled(program, table):
     body = ""
     for name, script in table.items():
         text = text_of(script)
-        log = log_of(program, text, "e2")
+        log = log_of(program, text)
         if not log:
             raise Fault(f"{program} prints no history for {name}")
-        body += sample(name, text, log, UNFOLDED)
+        body += sample(name, text, log)
     return body
 
 
@@ -171,9 +154,9 @@ def random_of(program, first, count):
         if seed - first > 100 + 10 * count:
             raise Fault(f"{program} prints too few histories")
         text = stepped_script(random.Random(seed))
-        log = log_of(program, text, "e2")
+        log = log_of(program, text)
         if log and len(log) >= 12:
-            body += sample(f"job_{seed}", text, log, UNFOLDED)
+            body += sample(f"job_{seed}", text, log)
             done += 1
         seed += 1
     return body
@@ -196,7 +179,7 @@ def run(options):
     """Writes the file."""
     runs.want_words(options.reference)
     if options.kind == "rows":
-        words, jobs, body = "rows", "worked examples", tabled(options.reference, all_rows())
+        words, jobs, body = "rows", "worked examples", tabled(options.reference, {**STEPPED, **ROWS})
     elif options.kind == "runs":
         words, jobs, body = "runs", "runs in which a machine goes wrong that leaves something out", tabled(options.reference, RUNS)
     else:
@@ -204,4 +187,4 @@ def run(options):
         body = random_of(options.reference, options.first, options.count)
     head = f"-- Written by tools/ft samples word REFERENCE {words} FILE\n"
     head += f"-- The word machine at {jobs}, beside the histories that another program printed,\n-- which was written from the same rules.\n"
-    options.file.write_text(head + imports_of(body, IMPORTS) + "\n" + body.rstrip("\n") + "\n")
+    options.file.write_text(head + imports_of(body) + "\n" + body.rstrip("\n") + "\n")

@@ -20,7 +20,7 @@ WRONG = [
     ["check", "rings", "--rows", "1", "--program", NOTHING], ["check", "rings", "--count", "x"], ["check", "rings", "--judge", NOTHING, NOTHING],
     ["check", "pages"], ["check", "runs", NOTHING, "--count", "1"], ["check", "runs", sys.executable, "--count", "1", "--sources", "others"], ["check", "hostile", "--count", "1", "--judge", NOTHING], ["check", "hostile"], ["check", "other"],
     ["make", "plain"], ["make", "plain", "--seed", "x"], ["make", "manuals", "x"], ["make", "viewed", "--seed", "1", "--lanes", "--rings"], ["make", "others"],
-    ["samples", "plain", NOTHING, "rows", "FILE"], ["samples", "word", sys.executable, "more", "FILE"], ["samples", "plain", sys.executable],
+    ["samples", "word", NOTHING, "rows", "FILE"], ["samples", "word", sys.executable, "more", "FILE"], ["samples", "word", sys.executable],
     ["further", "nothing"], ["cost", NOTHING], ["cost", "--write"], ["definitions", "--all"], ["definitions", "nothing"], ["views", "x.ft", "x.log", "log"], ["nothing"],
 ]
 
