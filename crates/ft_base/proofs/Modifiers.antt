@@ -2,11 +2,12 @@
 use Rattle.std.proofs.Common.{cond, ◌≡◌, ◌≢◌, ℕ, zero, suc, ◌+◌, ◌<◌, ◌≤◌, Bool, true, false, not, ◌||◌, ◌&&◌, ◌==◌, List, [], ◌∷◌, length, get_or, map, Option, Some, None, is_some, refl, sym, ap, ◌∙◌, subst, arith, inl, inr, nat_lt, ltb-true, ltb-false}
 use Rattle.std.specs.Prelude.{slice_get}
 use Rattle.std.specs.List.{AllByRecursion as Each}
+use Rattle.std.specs.Option.{option_and_then}
 use Rattle.std.proofs.lemmas.Bool.Decides.{eqb_tells}
 use Rattle.ft_base.specs.declared.item.Answer.TheVariants.{Accepted, Already, Invalid, NoMatch}
 use Rattle.ft_base.specs.Marks.{Marks, is_empty}
 use Rattle.ft_base.specs.Job.{Job, Spec, Edit, Command, Register, Unregister, Filter, Notrace, Pid, NoPid, Enable, Disable, MaxDepth, commands, funcs}
-use Rattle.ft_base.specs.Desk.{Desk, UserState, desk, after, changed, user_at, unseen, spec_at, is_matching, matches_by, is_sited, answer_on, is_accepted, with_user, lowest, conflicts, other_modifier, holder_at, busy_or, claim, register_answer, edit_answer, edited, registered_as, unregistered_as}
+use Rattle.ft_base.specs.Desk.{Desk, UserState, desk, after, changed, user_at, unseen, spec_at, is_matching, matches_by, is_sited, answer_on, is_accepted, with_user, lowest, other_modifier, holder, busy_or, claim, register_answer, edit_answer, edited, registered_as, unregistered_as}
 use Rattle.ft_base.proofs.DeskLaws.{user_at-same, user_at-other, length-desk}
 use Rattle.ft_base.specs.WellFormed.{IsNamed, IsWellFormed}
 use Rattle.ft_base.specs.Order.{OneModifies}
@@ -41,6 +42,14 @@ lowest-none p from (suc n) e i le lt =
         ] refl
 
 -- ## what an accepted claim says
+
+-- a user with these sets matches the function, and the function has a holder
+abbrev pub conflicts : Job → Desk → ℕ → Marks → Marks → ℕ → Bool
+conflicts job d u filter notrace f = matches_by filter notrace f && is_some (holder job d u f)
+
+-- the holder of a function, if there is a function
+abbrev pub holder_at : Job → Desk → ℕ → Option ℕ → Option ℕ
+holder_at job d u o = option_and_then (holder job d u) o
 
 module _ (job : Job) (d : Desk) (u : ℕ) (filter notrace : Marks) where
   claim-free : is_accepted (claim job d u filter notrace) ≡ true → (f v : ℕ) → f < funcs job → matches_by filter notrace f ≡ true → v < length job.users → other_modifier job d u f v ≡ false

@@ -1,13 +1,14 @@
 -- The desk: the users' state after the first commands of a job, and the answer of each command.
-use Rattle.std.specs.Prelude.{ℕ, zero, suc, Bool, true, false, not, ◌||◌, ◌&&◌, ◌==◌, List, [], ◌∷◌, get_or, set, length, map, Option, Some, None, is_some, if◌then◌else◌, slice_get}
+use Rattle.std.specs.Prelude.{ℕ, zero, suc, Bool, true, false, not, ◌||◌, ◌&&◌, ◌==◌, List, [], ◌∷◌, get_or, set, length, map, Option, Some, None, is_some, if◌then◌else◌}
 use Rattle.std.specs.List.{list_any}
+use Rattle.std.specs.Option.{option_and_then}
 use Rattle.ft_base.specs.declared.item.Ran.{Ran}
 use Rattle.ft_base.specs.declared.item.Ran.TheVariants.{Nop, List as ByList, Own}
 use Rattle.ft_base.specs.declared.item.Answer.{Answer}
 use Rattle.ft_base.specs.declared.item.Answer.TheVariants.{Accepted, Already, NotThere, Invalid, NoMatch, Busy}
 use Rattle.ft_base.specs.declared.user.Kind.TheVariants.{Function}
 use Rattle.ft_base.specs.Marks.{Marks, holds, is_empty, union, difference, empty}
-use Rattle.ft_base.specs.Job.{Spec, Edit, Command, Register, Unregister, Filter, Notrace, Pid, NoPid, Enable, Disable, MaxDepth, Job, commands, funcs}
+use Rattle.ft_base.specs.Job.{Spec, Edit, Command, Register, Unregister, Filter, Notrace, Pid, NoPid, Enable, Disable, MaxDepth, Job, command_at, funcs}
 use Rattle.ft_base.specs.Kinds.{is_fprobe}
 
 -- one user on a desk: whether it is registered, its registration number, the number of its last accepted register
@@ -76,6 +77,10 @@ abbrev pub lowest : (ℕ → Bool) → ℕ → ℕ → Option ℕ
 lowest p from zero = None
 lowest p from (suc n) = if p from then Some from else lowest p (suc from) n
 
+-- the lowest number below n that passes
+abbrev pub lowest_below : (ℕ → Bool) → ℕ → Option ℕ
+lowest_below p n = lowest p 0 n
+
 -- the users sited at f, of the first n, the lowest first
 abbrev pub sited_from : Desk → ℕ → ℕ → List UserState → List ℕ
 sited_from desk f u [] = []
@@ -107,26 +112,21 @@ edited size old e =
 abbrev pub other_modifier : Job → Desk → ℕ → ℕ → ℕ → Bool
 other_modifier job desk u f v = not (v == u) && (user_at desk v).registered && is_some (spec_at job v).ipmodify && is_matching (user_at desk v) f
 
--- `Busy` for the function and its first holder, if there is one
+-- `Busy` for the function and its holder, if there are both
 abbrev pub busy_or : Option ℕ → Option ℕ → Answer → Answer
 busy_or (Some f) (Some v) otherwise = Busy (record { 0 = f }) (record { 0 = v })
 busy_or _ _ otherwise = otherwise
 
--- the first such user at a function
-abbrev pub holder_at : Job → Desk → ℕ → Option ℕ → Option ℕ
-holder_at job desk u None = None
-holder_at job desk u (Some f) = lowest (other_modifier job desk u f) 0 (length job.users)
+-- who holds a function against a user: the first other registered user that replaces functions and matches it
+abbrev pub holder : Job → Desk → ℕ → ℕ → Option ℕ
+holder job desk u f = lowest_below (other_modifier job desk u f) (length job.users)
 
--- a user with these sets matches the function, and another that replaces functions does too
-abbrev pub conflicts : Job → Desk → ℕ → Marks → Marks → ℕ → Bool
-conflicts job desk u filter notrace f = matches_by filter notrace f && is_some (lowest (other_modifier job desk u f) 0 (length job.users))
-
--- what stands in the way of a user that replaces functions and has these sets: the lowest function that another one holds,
--- and that one (ftrace-uses.rst, The ftrace FLAGS: FTRACE_OPS_FL_IPMODIFY)
+-- what stands in the way of a user that replaces functions and has these sets: the lowest function that they match and that has a
+-- holder, with its holder (ftrace-uses.rst, The ftrace FLAGS: FTRACE_OPS_FL_IPMODIFY)
 abbrev pub claim : Job → Desk → ℕ → Marks → Marks → Answer
 claim job desk u filter notrace =
-    let f = lowest (conflicts job desk u filter notrace) 0 (funcs job) in
-    busy_or f (holder_at job desk u f) Accepted
+    let held = lowest_below (λ f. matches_by filter notrace f && is_some (holder job desk u f)) (funcs job) in
+    busy_or held (option_and_then (holder job desk u) held) Accepted
 
 -- the answer to register: a user that replaces functions needs the regs flag and a filter that is not empty
 -- (ftrace-uses.rst, The ftrace FLAGS: IPMODIFY requires SAVE_REGS)
@@ -181,7 +181,7 @@ with_user desk u s = record desk { users = set desk.users u s }
 -- a user that the k-th command registers: its registration number goes up by 1, it is enabled, and takes the lowest free
 -- trampoline slot, or none if none is free
 abbrev pub registered_as : Job → Desk → ℕ → UserState → UserState
-registered_as job desk k s = record s { registered = true; reg = suc s.reg; since = k; enabled = true; slot = lowest (is_free desk) 0 job.tramps }
+registered_as job desk k s = record s { registered = true; reg = suc s.reg; since = k; enabled = true; slot = lowest_below (is_free desk) job.tramps }
 
 -- a user that is unregistered: its slot is free again. Its registration number stays, and so do its sets
 abbrev pub unregistered_as : UserState → UserState
@@ -209,6 +209,10 @@ abbrev pub after : Job → Desk → ℕ → Option Command → Desk
 after job desk k None = desk
 after job desk k (Some c) = if is_accepted (answer_on job desk c) then changed job desk k c else desk
 
+-- the desk after the job's command of this number, from the desk before it
+abbrev pub after_command : Job → ℕ → Desk → Desk
+after_command job k before = after job before k (command_at job k)
+
 -- the desk before any command: nobody is registered, all lists and sets are empty, and there is no limit of depth
 abbrev pub opening : Job → Desk
 opening job = record {
@@ -221,7 +225,7 @@ opening job = record {
 -- the desk after the first k commands of the job
 unfoldable pub desk : Job → ℕ → Desk
 desk job zero = opening job
-desk job (suc k) = after job (desk job k) (suc k) (slice_get (commands job) k)
+desk job (suc k) = after_command job (suc k) (desk job k)
 
 -- the answer of the command at this index, on the desk before it
 abbrev pub answer_at : Job → ℕ → Command → Answer

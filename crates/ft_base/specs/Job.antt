@@ -1,5 +1,5 @@
 -- A job as plain data: what a script declares, as lists, sets and numbers.
-use Rattle.std.specs.Prelude.{ℕ, Bool, true, List, [], ◌∷◌, length, Option, Some, None}
+use Rattle.std.specs.Prelude.{ℕ, zero, suc, Bool, true, List, [], ◌∷◌, length, Option, Some, None, slice_get}
 use Rattle.ft_base.specs.Marks.{Marks}
 use Rattle.ft_base.specs.declared.limits.TheConstants.{USUAL_RING}
 use Rattle.ft_base.specs.declared.number.FuncNo.{FuncNo}
@@ -157,3 +157,15 @@ commands_in (Until t n ∷ rest) = commands_in rest
 -- the commands of a job, which are numbered from 1
 abbrev pub commands : Job → List Command
 commands job = commands_in job.ctls
+
+-- the command of a number, from 1, if there is one
+abbrev pub command_at : Job → ℕ → Option Command
+command_at job zero = None
+command_at job (suc k) = slice_get (commands job) k
+
+-- the waits of control that stand before its command of this number, from 0
+abbrev pub waits_before : ℕ → List Ctl → List (ℕ × ℕ)
+waits_before n [] = []
+waits_before n (Until t acts ∷ rest) = (t, acts) ∷ waits_before n rest
+waits_before zero (Run c ∷ rest) = []
+waits_before (suc n) (Run c ∷ rest) = waits_before n rest

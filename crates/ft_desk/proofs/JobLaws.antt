@@ -6,7 +6,8 @@ use Rattle.ft_base.specs.declared.item.Answer.TheVariants.{Accepted, Already, No
 use Rattle.ft_base.specs.Marks.{Marks, empty, is_empty}
 use Rattle.ft_base.specs.Job.{Job, Spec, Task, Edit, Command, Register, Unregister, Filter, Notrace, Pid, NoPid, Enable, Disable, MaxDepth, funcs, no_func, no_task}
 use Rattle.ft_base.specs.Kinds.{is_fprobe}
-use Rattle.ft_base.specs.Desk.{Desk, UserState, answer_on, busy_or, changed, claim, conflicts, edited, edit_answer, holder_at, is_free, is_matching, lowest, matches_by, opening, other_modifier, plain_spec, register_answer, spec_at, switch_answer, unseen, user_at, with_user}
+use Rattle.ft_base.specs.Desk.{Desk, UserState, answer_on, busy_or, changed, claim, edited, edit_answer, is_free, is_matching, lowest, matches_by, opening, other_modifier, plain_spec, register_answer, spec_at, switch_answer, unseen, user_at, with_user}
+use Rattle.ft_base.proofs.Modifiers.{conflicts, holder_at}
 use Rattle.ipmodify.proofs.LowestLemmas.{lowest-same}
 use Rattle.ft_desk.specs.Declarations.{Declared, IsOf, bare, job_of}
 use Rattle.ft_desk.proofs.ClaimLaws.{funcs-is}

@@ -75,7 +75,7 @@ module _ (job : Job) where
     roomy-own (Back call u) own l m h =
         let run : plain job call.task.0 past ≡ Some p = subst (λ n. plain job n past ≡ Some p) (sym (eqb-true call.task.0 t own)) here in
         let top : standing p.stack ≡ stands call m.ctx None ∷ m.below = m.was ∙ ap (λ u. stands call m.ctx u ∷ m.below) m.turns.0 in
-        let free = rw (opens-below job call m.ctx m.below past p run top) at l.0.rule.0.free in
+        let free = rw (opens-below job call m.ctx m.below past p run top) at l.0.refusals.free in
         roomy-top (Back call u) call (λ c e. e) m (λ room back. free) h
     roomy-own (Refuse call u reason) own l m h = roomy-top (Refuse call u reason) call (λ c e. e) m (λ room back. room (rw (same_call-refl call) at back)) h
     roomy-own (BackEnd call u) own l m h = roomy-top (BackEnd call u) call (λ c e. refl) m (λ room. room) h
@@ -112,7 +112,7 @@ module _ (job : Job) where
       let w = stepped job call.task.0 (Exit call u entry) past r.0 (==-refl call.task.0) r.1 in
       let m : Turned (Exit call u entry) call (standing w.0.stack) (standing r.0.stack) = w.2 in
       let room = (rw m.was at (roomy call.task.0 past w.0 l.1 w.1)).0 in
-      let may = l.0.rule.0 in
+      let may = l.0.exits.0 in
       let back = list_any_at (λ (x : Visit). x.back) (visits job call past) may.of.1.0 may.of.0 may.of.1.1 (subst (λ (x : Visit). x.back ≡ true) (sym may.of.1.2) may.of.4.0) in
       let top : standing w.0.stack ≡ stands call m.ctx None ∷ m.below = m.was ∙ ap (λ u. stands call m.ctx u ∷ m.below) m.turns.0 in
       rw (opens-below job call m.ctx m.below past w.0 w.1 top) (room back)

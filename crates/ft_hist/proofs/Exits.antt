@@ -8,11 +8,11 @@ use Rattle.ft_base.specs.Job.{Job}
 use Rattle.ft_base.specs.Desk.{desk, is_live}
 use Rattle.ft_base.proofs.Small.{false_true, and_both, Each-weaker, or-true}
 use Rattle.ft_hist.specs.Past.{begun, exits, visits, Visit}
-use Rattle.ft_hist.specs.Rules.{AtReturnedOrBegun, MayExit, LacksOnlyDead, HasExit}
+use Rattle.ft_hist.specs.Rules.{AtReturnedOrBegun, MayExit, AreExitsDone, IsExitDone, IsDead, HasExit}
 use Rattle.ft_hist.proofs.Laws.{same_call-refl}
 use Rattle.ft_hist.proofs.WindowLaws.{visits-more}
 use Rattle.ft_hist.specs.Frames.{FrameUser, is_user_of, is_among, FrameOf}
-use Rattle.ft_hist.specs.Known.{IsDead, Fate, ExitsSo}
+use Rattle.ft_hist.specs.Known.{Fate, ExitsSo}
 use Rattle.ft_hist.proofs.Since.{Untouched}
 
 module _ (job : Job) (call : CallNo) (ms : List Visit) where
@@ -88,14 +88,13 @@ module _ (job : Job) (call : CallNo) (ms : List Visit) where
       later m (inr (inl a)) = inr (inl (rw u.exits a))
       later m (inr (inr d)) = inr (inr (d.0, rw u.left d.1, (let b = d.2 in omega (arith, b, le)), d.3))
 
-  -- with nobody to come, only exits of dead registrations are lacking
-  pub exits-lacks : (past : List Item) → ExitsSo job call ms past [] → LacksOnlyDead job past call
-  exits-lacks past h = rw h.those (Each-weaker (λ m. HasExit job m → Fate job call m [] past) _ ms (λ m g i lack. dead m lack (g i)) h.all)
+  -- with nobody to come, all exits are done
+  pub exits-done : (past : List Item) → ExitsSo job call ms past [] → AreExitsDone job past call
+  exits-done past h = rw h.those (Each-weaker (λ m. HasExit job m → Fate job call m [] past) (λ m. HasExit job m → IsExitDone job call m past) ms (λ m g i. done m (g i)) h.all)
     where
-      dead : (m : Visit) → list_any (λ e. e == m.place) (exits call past) ≡ false → Fate job call m [] past → IsDead job call m.user m.reg past
-      dead m lack (inl a) = false_true a
-      dead m lack (inr (inl a)) = false_true (sym lack ∙ a)
-      dead m lack (inr (inr d)) = d
+      done : (m : Visit) → Fate job call m [] past → IsExitDone job call m past
+      done m (inl a) = false_true a
+      done m (inr d) = d
 
 -- at the Leave all users of the frame are owed
 pub exits-start : (job : Job) (call : CallNo) (past : List Item) (users : List FrameUser) → FrameOf job (visits job call past) users → exits call past ≡ []

@@ -9,14 +9,14 @@ use Rattle.ft_base.specs.declared.item.Item.TheVariants.{Begin, Return, Enter, B
 use Rattle.ft_base.specs.declared.task.TaskAct.{TaskAct}
 use Rattle.ft_base.specs.declared.task.TaskAct.TheVariants.{Call, Ret as RetAct, Raise, Lower, After}
 use Rattle.ft_base.specs.Same.{same_call}
-use Rattle.ft_base.specs.Job.{Job, no_task}
+use Rattle.ft_base.specs.Job.{Job, no_task, waits_before}
 use Rattle.ft_base.specs.Desk.{spec_at}
 use Rattle.ft_base.proofs.Small.{false_true, and_both, and-false, Each-weaker}
 use Rattle.ft_hist.specs.Past.{is_of, done, begun, Callback, callbacks}
 use Rattle.ft_hist.specs.Plain.{plain, after_item, after_next, at_start, PlainTask, Frame, Phase, Owed, Dispatch, InBack, Running, Leaving, InExit, on_call, on_top, in_phase, after_back, after_back_end, after_miss, after_refusal, after_body, after_leave, after_leave_ahead, after_scripted_leave, after_exit, after_exit_end, after_ret, after_enter, after_enter_ahead, after_owed_enter, after_scripted_enter, ahead, below_top, owed_by, same_top, top_call}
-use Rattle.ft_hist.specs.Rules.{IsLegal, HasEnded, HasWaited, acts_passed, waits_before}
+use Rattle.ft_hist.specs.Rules.{IsLegal, HasEnded, HasWaited, acts_passed}
 use Rattle.ft_hist.specs.Finished.{is_in_callback, is_scripted, finished, calls_and_returns, longest_with, acts_done, AreWaitsMet}
-use Rattle.ft_hist.proofs.Laws.{same_call-refl}
+use Rattle.ft_hist.proofs.Laws.{same_call-refl, nothing-ahead}
 use Rattle.ft_hist.proofs.RunLaws.{if_some, some_inj, calls_on, on_call-inv, moves, sound}
 use Rattle.ft_hist.proofs.HeldLaws.{not_same}
 use Rattle.ft_hist.proofs.Numbers.{some-run}
@@ -435,7 +435,7 @@ module _ (job : Job) (t : ℕ) where
   pub finished-all : (past : List Item) (s : PlainTask) → plain job t past ≡ Some s → HasEnded (done past) s → finished t past ≡ calls_and_returns script
   finished-all past s here ended =
       let w = did-ahead (finished t past) script (done past) s.acts s.contexts s.gone (subst (λ (st : List Frame). Did (is_quiet st) (finished t past) script s.acts s.gone) ended.1 (does past s here).0) in
-      let all : script ≡ w.0 = w.1 ∙ ap (λ xs. w.0 ++ xs) ended.0 ∙ append-nil w.0 in
+      let all : script ≡ w.0 = w.1 ∙ ap (λ xs. w.0 ++ xs) (nothing-ahead (done past) s.acts s.contexts s.gone ended.0) ∙ append-nil w.0 in
       sym w.3 ∙ ap (λ xs. calls_and_returns xs) (sym all)
     where
       append-nil : (xs : List TaskAct) → xs ++ [] ≡ xs

@@ -69,7 +69,7 @@ module _ (job : Job) (items first rest : List Item) (call : CallNo) (user : User
     where
       by : (b : Bool) → has_depth (spec_at job user.0).kind ≡ b → has_depth (spec_at job user.0).kind ≡ false
       by false q = q
-      by true q = let lt = (splits job items first (Back call user) rest legal e).rule.0.room q in absurd (omega (arith, lt, full))
+      by true q = let lt = (splits job items first (Back call user) rest legal e).refusals.room q in absurd (omega (arith, lt, full))
 
   -- so this callback wants no frame
   no-frame : gets_frame job call user.0 (reverse first) (all_visits job (reverse first)) ≡ false
@@ -91,7 +91,7 @@ module _ (job : Job) (items first rest : List Item) (call : CallNo) (user : User
           let past = reverse (first ++ Back call user ∷ xs) in
           let split : past ≡ reverse xs ++ Back call user ∷ reverse first = split-reverse first (Back call user) xs in
           let at : items ≡ first ++ Back call user ∷ (xs ++ Exit call v (length first) ∷ ys) = e ∙ ap (λ (zs : List Item). first ++ Back call user ∷ zs) there in
-          let of = (later_at job items first xs ys (Back call user) (Exit call v (length first)) legal at).rule.0.of in
+          let of = (later_at job items first xs ys (Back call user) (Exit call v (length first)) legal at).exits.0.of in
           let m = of.0 in
           let has : HasBack job call m past = each-of (λ w. w.back ≡ true → HasBack job call w past) (visits job call past) m of.1 (told job call past) of.4.0 in
           let older = has.1 in
@@ -117,21 +117,7 @@ module _ (job : Job) (items first rest : List Item) (call : CallNo) (user : User
 -- items of others leave a miss due
 due-kept : (job : Job) (t : ℕ) (newer past : List Item) → list_any (is_of t) newer ≡ false → miss_due job t (newer ++ past) ≡ miss_due job t past
 due-kept job t [] past none = refl
-due-kept job t (x ∷ newer) past none = let both = or-false_both (is_of t x) (list_any (is_of t) newer) none in by x both.0 (due-kept job t newer past both.1)
-  where
-    by : (z : Item) → is_of t z ≡ false → miss_due job t (newer ++ past) ≡ miss_due job t past → miss_due job t (z ∷ (newer ++ past)) ≡ miss_due job t past
-    by (Begin k) q more = more
-    by (Return k a) q more = more
-    by (Enter c z f caller) q more = rw q more
-    by (Back c v) q more = rw q more
-    by (BackEnd c v) q more = rw q more
-    by (Refuse c v reason) q more = rw q more
-    by (Miss c v) q more = rw q more
-    by (Body c g ran) q more = rw q more
-    by (Leave c) q more = rw q more
-    by (Exit c v entry) q more = rw q more
-    by (ExitEnd c v) q more = rw q more
-    by (Ret c to) q more = rw q more
+due-kept job t (x ∷ newer) past none = let both = or-false_both (is_of t x) (list_any (is_of t) newer) none in rw both.0 (due-kept job t newer past both.1)
 
 module _ (job : Job) (items first mid rest : List Item) (call : CallNo) (user : UserNo) (x : Item) (legal : IsLegal job items) (e : items ≡ first ++ Back call user ∷ (mid ++ x ∷ rest))
     (full : held job call (reverse first) ≡ job.frames) (exits : has_exit (spec_at job user.0).kind ≡ true) where
@@ -163,16 +149,16 @@ module _ (job : Job) (items first mid rest : List Item) (call : CallNo) (user : 
           → miss_due job call.task.0 (reverse (first ++ Back call user ∷ mid)) ≡ Some (record { call = call; user = user.0; ctx = None }) → z ≡ Miss call user
       by (Begin k) f q d = false_true q
       by (Return k a) f q d = false_true q
-      by (Enter c z g caller) f q d = absurd (none-due c q f.rule d)
-      by (Back c v) f q d = absurd (none-due c q f.rule.1 d)
-      by (BackEnd c v) f q d = absurd (none-due c q f.rule d)
-      by (Refuse c v reason) f q d = absurd (none-due c q f.rule.2 d)
-      by (Miss c v) f q d = is-due c v q f.rule d
-      by (Body c g ran) f q d = absurd (none-due c q f.rule.1 d)
-      by (Leave c) f q d = absurd (none-due c q f.rule d)
-      by (Exit c v entry) f q d = absurd (none-due c q f.rule.1 d)
-      by (ExitEnd c v) f q d = absurd (none-due c q f.rule d)
-      by (Ret c to) f q d = absurd (none-due c q f.rule.1 d)
+      by (Enter c z g caller) f q d = absurd (none-due c q f.exits d)
+      by (Back c v) f q d = absurd (none-due c q f.exits d)
+      by (BackEnd c v) f q d = absurd (none-due c q f.exits d)
+      by (Refuse c v reason) f q d = absurd (none-due c q f.exits d)
+      by (Miss c v) f q d = is-due c v q f.exits d
+      by (Body c g ran) f q d = absurd (none-due c q f.exits d)
+      by (Leave c) f q d = absurd (none-due c q f.exits d)
+      by (Exit c v entry) f q d = absurd (none-due c q f.exits.1 d)
+      by (ExitEnd c v) f q d = absurd (none-due c q f.exits d)
+      by (Ret c to) f q d = absurd (none-due c q f.exits.1 d)
 
 module _ (job : Job) (t : ℕ) (m : Callback) where
   -- a miss that is due comes of a callback that found the stack full, after which the task has had no item
@@ -220,7 +206,7 @@ module _ (job : Job) (t : ℕ) (m : Callback) where
 pub missed : (job : Job) (items first rest : List Item) (call : CallNo) (user : UserNo) → IsLegal job items → items ≡ first ++ Miss call user ∷ rest
     → (a : List Item) × (b : List Item) × (first ≡ a ++ Back call user ∷ b) × (list_any (is_of call.task.0) b ≡ false)
     × (has_exit (spec_at job user.0).kind ≡ true) × (held job call (reverse a) ≡ job.frames)
-missed job items first rest call user legal e = of (miss_due job call.task.0 (reverse first)) refl (splits job items first (Miss call user) rest legal e).rule
+missed job items first rest call user legal e = of (miss_due job call.task.0 (reverse first)) refl (splits job items first (Miss call user) rest legal e).exits
   where
     of : (o : Option Callback) → miss_due job call.task.0 (reverse first) ≡ o → IfSome o (λ m. (m.call ≡ call) × (m.user ≡ user.0)) × IsSome o
         → (a : List Item) × (b : List Item) × (first ≡ a ++ Back call user ∷ b) × (list_any (is_of call.task.0) b ≡ false)

@@ -1,5 +1,5 @@
 -- Laws of the words on a past.
-use Rattle.std.proofs.Common.{◌≡◌, ℕ, suc, ◌≤◌, true, false, ◌==◌, List, [], ◌∷◌, ◌++◌, reverse, Option, Some, None, rules, cond, nat_le, leb-true, le-leb, IsSome, eqb-true, refl, sym, ap, ◌∙◌, subst, arith}
+use Rattle.std.proofs.Common.{◌≡◌, ℕ, suc, ◌≤◌, Bool, true, false, ◌==◌, List, [], ◌∷◌, ◌++◌, reverse, Option, Some, None, rules, cond, nat_le, leb-true, le-leb, IsSome, eqb-true, refl, sym, ap, ◌∙◌, subst, arith}
 use Rattle.std.proofs.lemmas.List.{reverse-append}
 use Rattle.ft_base.specs.declared.number.CallNo.{CallNo}
 use Rattle.ft_base.specs.declared.context.Ctx.{Ctx}
@@ -14,7 +14,7 @@ use Rattle.ft_base.proofs.Small.{==-refl}
 use Rattle.ft_base.specs.Items.{call_of}
 use Rattle.ft_hist.specs.Plain.{plain, after_item, PlainTask, same_top, ahead, Ahead, below_top}
 use Rattle.ft_hist.specs.Past.{is_of, done, entry_of}
-use Rattle.ft_hist.specs.Rules.{IsLegal, IsLegalPast, MayFollow}
+use Rattle.ft_hist.specs.Rules.{IsLegal, IsLegalPast, MayFollow, GiveNoItems}
 
 -- a call is the same as itself
 pub same_call-refl : (c : CallNo) → same_call c c ≡ true
@@ -103,3 +103,26 @@ ahead-again d (After n ∷ rest) cs gone =
 -- what is the same ahead stays so when one more command has returned
 pub ahead-more : (d : ℕ) (xs ys : List TaskAct) (cs es : List Ctx) (m n : ℕ) → ahead d xs cs m ≡ ahead d ys es n → ahead (suc d) xs cs m ≡ ahead (suc d) ys es n
 ahead-more d xs ys cs es m n e = sym (ahead-again d xs cs m) ∙ ap (λ (a : Ahead). on_from (suc d) a) e ∙ ahead-again d ys es n
+
+-- of acts that give no items, and whose waits are met, nothing is left ahead
+pub nothing-ahead : (returned : ℕ) (acts : List TaskAct) (cs : List Ctx) (gone : ℕ) → GiveNoItems returned acts → (ahead returned acts cs gone).acts ≡ []
+nothing-ahead returned [] cs gone h = refl
+nothing-ahead returned (Call f ∷ rest) cs gone h = absurd h
+nothing-ahead returned (RetAct ∷ rest) cs gone h = absurd h
+nothing-ahead returned (Raise c ∷ rest) cs gone h = nothing-ahead returned rest (c ∷ cs) (suc gone) h
+nothing-ahead returned (Lower ∷ rest) cs gone h = nothing-ahead returned rest (below_top cs) (suc gone) h
+nothing-ahead returned (After n ∷ rest) cs gone h = rw (le-leb n returned h.0) (nothing-ahead returned rest cs (suc gone) h.1)
+
+-- and of no others
+pub ahead-nothing : (returned : ℕ) (acts : List TaskAct) (cs : List Ctx) (gone : ℕ) → (ahead returned acts cs gone).acts ≡ [] → GiveNoItems returned acts
+ahead-nothing returned [] cs gone e = tt
+ahead-nothing returned (Call f ∷ rest) cs gone e = absurd cc
+ahead-nothing returned (RetAct ∷ rest) cs gone e = absurd cc
+ahead-nothing returned (Raise c ∷ rest) cs gone e = ahead-nothing returned rest (c ∷ cs) (suc gone) e
+ahead-nothing returned (Lower ∷ rest) cs gone e = ahead-nothing returned rest (below_top cs) (suc gone) e
+ahead-nothing returned (After n ∷ rest) cs gone e = by (nat_le n returned) refl e (λ x. ahead-nothing returned rest cs (suc gone) x)
+  where
+    by : (b : Bool) → nat_le n returned ≡ b → (cond b (ahead returned rest cs (suc gone)) (record { acts = After n ∷ rest; contexts = cs; gone = gone })).acts ≡ []
+        → ((ahead returned rest cs (suc gone)).acts ≡ [] → GiveNoItems returned rest) → (n ≤ returned) × GiveNoItems returned rest
+    by true q x more = (leb-true n returned q, more x)
+    by false q x more = absurd cc

@@ -28,6 +28,7 @@ pub mod OpenBacks
 pub mod Finishing
 pub mod Wholes
 pub mod Shadow
+pub mod FrameLimit
 pub mod ExitLevels
 pub mod Placing
 pub mod Written
@@ -35,3 +36,4 @@ pub mod SmallJobs
 pub mod NotLegal
 pub mod NotLegalClauses
 pub mod ToldSamples
+pub mod OldRules

@@ -18,7 +18,7 @@ use Rattle.ft_base.specs.Job.{Job, Command, commands}
 use Rattle.ft_base.specs.Desk.{spec_at, answer_at}
 use Rattle.ft_base.proofs.Small.{false_true, and_both, or-true, ==-refl}
 use Rattle.ft_hist.specs.Past.{done, begun, entry_of, Visit, visit, visits, all_visits}
-use Rattle.ft_hist.specs.Rules.{IsLegal, IsLegalPast, MayFollow, MayVisit, MayBody, backs_with_replacement, replacement}
+use Rattle.ft_hist.specs.Rules.{IsLegal, IsLegalPast, MayFollow, MayVisit, IsFetched, backs_with_replacement, replacement}
 use Rattle.ft_hist.specs.Telling.{is_visit_by, is_command, is_return_of, since_at}
 use Rattle.ft_hist.proofs.Splitting.{splits, split-reverse}
 use Rattle.ft_hist.proofs.Laws.{same_call-refl}
@@ -31,10 +31,10 @@ use Rattle.ft_hist.proofs.Told.{later_at, legal-to, at_x, func_is}
 visit-may : (job : Job) (past : List Item) (y : Item) (call : CallNo) (v : ℕ) → is_visit_by call v y ≡ true → MayFollow job past y → MayVisit job past call v
 visit-may job past (Back c w) call v h f =
     let both = and_both (same_call c call) (w.0 == v) h in
-    subst (λ (d : CallNo). MayVisit job past d v) (same_call-eq c call both.0) (subst (λ (n : ℕ). MayVisit job past c n) (eqb-true w.0 v both.1) f.rule.0.visit)
+    subst (λ (d : CallNo). MayVisit job past d v) (same_call-eq c call both.0) (subst (λ (n : ℕ). MayVisit job past c n) (eqb-true w.0 v both.1) f.callbacks)
 visit-may job past (Refuse c w reason) call v h f =
     let both = and_both (same_call c call) (w.0 == v) h in
-    subst (λ (d : CallNo). MayVisit job past d v) (same_call-eq c call both.0) (subst (λ (n : ℕ). MayVisit job past c n) (eqb-true w.0 v both.1) f.rule.0)
+    subst (λ (d : CallNo). MayVisit job past d v) (same_call-eq c call both.0) (subst (λ (n : ℕ). MayVisit job past c n) (eqb-true w.0 v both.1) f.callbacks)
 visit-may job past _ call v h f = false_true h
 
 -- whoever is visited later in a call was registered earlier
@@ -88,7 +88,7 @@ pub replaced : (job : Job) (items first mid rest : List Item) (call : CallNo) (u
     → items ≡ first ++ Back call user ∷ (mid ++ Body call g ran ∷ rest) → (spec_at job user.0).ipmodify ≡ Some h → g ≡ h
 replaced job items first mid rest call user g h ran legal e has =
     let past = reverse (first ++ Back call user ∷ mid) in
-    let may : MayBody job past call g.0 ran = (later_at job items first mid rest (Back call user) (Body call g ran) legal e).rule.0 in
+    let may : IsFetched job past call g.0 ran = (later_at job items first mid rest (Back call user) (Body call g ran) legal e).fetches in
     let b = back-among job call user (reverse mid) (reverse first) in
     let is : visits job call past ≡ b.0 ++ b.1 ∷ b.2 = ap (λ (xs : List Item). visits job call xs) (split-reverse first (Back call user) mid) ∙ b.3 in
     let passes : replaces job b.1 ≡ true = rw (b.4, b.5, has) refl in
@@ -117,8 +117,8 @@ module _ (job : Job) (items a b c d : List Item) (call : CallNo) (u v : UserNo) 
   split : items ≡ upto ++ Back call v ∷ (c ++ Body call g ran ∷ d)
   split = e ∙ sym (append_assoc a (Back call u ∷ b) (Back call v ∷ (c ++ Body call g ran ∷ d)))
 
-  may : MayBody job at_end call g.0 ran
-  may = (later_at job items upto c d (Back call v) (Body call g ran) legal split).rule.0
+  may : IsFetched job at_end call g.0 ran
+  may = (later_at job items upto c d (Back call v) (Body call g ran) legal split).fetches
 
   pub replaced-once : is_some (spec_at job u.0).ipmodify ≡ true → is_some (spec_at job v.0).ipmodify ≡ false
   replaced-once first = by (is_some (spec_at job v.0).ipmodify) refl
@@ -160,7 +160,7 @@ module _ (job : Job) (items before mid rest : List Item) (call : CallNo) (ctx : 
 
   pub unreplaced : g ≡ f
   unreplaced =
-      let m = (at_x job items before mid rest call ctx f caller (Body call g ran) legal e).rule.0 in
+      let m = (at_x job items before mid rest call ctx f caller (Body call g ran) legal e).fetches in
       func_no g f (m.runs ∙ ap (λ ms. replacement job (entry_of call at_body).func ms) (nobody (visits job call at_body) (told job call at_body)) ∙ func_is job items before mid rest call ctx f caller (Body call g ran) legal e)
 
 -- ## who is let in
@@ -174,7 +174,7 @@ none-through job items first second rest x call u g legal e = by (is_visit_by ca
     by false q = q
     by true q =
         let past = reverse (first ++ x ∷ second) in
-        let none : visits job call past ≡ [] = (later_at job items first second rest x (Body call g Nop) legal e).rule.0.only in
+        let none : visits job call past ≡ [] = (later_at job items first second rest x (Body call g Nop) legal e).fetches.only in
         let seen : list_any (λ m. m.user == u) (visits job call past) ≡ true =
         subst (λ xs. list_any (λ m. m.user == u) (visits job call xs) ≡ true) (sym (split-reverse first x second)) (visited-since job call u (reverse second) x (reverse first) q) in
         false_true (rw none at seen)
@@ -183,7 +183,7 @@ none-through job items first second rest x call u g legal e = by (is_visit_by ca
 pub own-through : (job : Job) (items first second rest : List Item) (x : Item) (call : CallNo) (u : ℕ) (g : FuncNo) (user : UserNo) → IsLegal job items
     → items ≡ first ++ x ∷ (second ++ Body call g (Own user) ∷ rest) → is_visit_by call u x ≡ true → u ≡ user.0
 own-through job items first second rest x call u g user legal e there =
-    let only = (later_at job items first second rest x (Body call g (Own user)) legal e).rule.0.only in
+    let only = (later_at job items first second rest x (Body call g (Own user)) legal e).fetches.only in
     let all = subst (λ (past : List Item). Each (λ m. m.user ≡ user.0) (visits job call past)) (split-reverse first x second) only in
     (of-visit job call (λ m. m.user ≡ user.0) u x (reverse second) (reverse first) there all).1
 
@@ -192,7 +192,7 @@ own-through job items first second rest x call u g user legal e there =
 pub begins-next : (job : Job) (items first rest : List Item) (k : ℕ) → IsLegal job items → items ≡ first ++ Begin k ∷ rest
     → (begun (reverse first) ≡ done (reverse first)) × (k ≡ suc (done (reverse first))) × (k ≤ length (commands job))
 begins-next job items first rest k legal e =
-    let m = (splits job items first (Begin k) rest legal e).rule.0 in
+    let m = (splits job items first (Begin k) rest legal e).commands.0 in
     let n = m.number in
     let follows = m.follows in
     let stands = m.stands in
@@ -206,12 +206,12 @@ under-way : (job : Job) (past : List Item) → IsLegalPast job past → begun pa
 unfolding IsLegalPast
 under-way job [] l e = absurd (omega (arith, e))
 under-way job (Begin k ∷ past) l e =
-    let m = l.0.rule.0 in
+    let m = l.0.commands.0 in
     let n = m.number in
     let follows = m.follows in
     let k_is : k ≡ suc (done past) = omega (arith, n, follows) in
     ([], past, ap (λ (j : ℕ). Begin j ∷ past) k_is, refl)
-under-way job (Return k a ∷ past) l e = let follows = l.0.rule.follows in absurd (omega (arith, e, follows))
+under-way job (Return k a ∷ past) l e = let follows = l.0.commands.follows in absurd (omega (arith, e, follows))
 under-way job (x ∷ past) l e = further x past refl refl (under-way job past l.1 e)
   where
     further : (x : Item) (past : List Item) → is_command x ≡ false → done (x ∷ past) ≡ done past → UnderWay past → UnderWay (x ∷ past)
@@ -222,7 +222,7 @@ pub returns-it : (job : Job) (items first rest : List Item) (k : ℕ) (answer : 
     → (a : List Item) × (b : List Item) × (first ≡ a ++ Begin k ∷ b) × (list_any is_command b ≡ false)
     × (c : Command) × (k ≡ suc (done (reverse first))) × (slice_get (commands job) (done (reverse first)) ≡ Some c) × (answer ≡ answer_at job (done (reverse first)) c)
 returns-it job items first rest k answer legal e =
-    let m = (splits job items first (Return k answer) rest legal e).rule in
+    let m = (splits job items first (Return k answer) rest legal e).commands in
     let w = under-way job (reverse first) (legal-to job items first (Return k answer ∷ rest) legal e) m.follows in
     let shape : first ≡ reverse w.1 ++ Begin k ∷ reverse w.0 =
     sym (reverse-reverse first) ∙ ap (λ (xs : List Item). reverse xs) (w.2 ∙ ap (λ (j : ℕ). w.0 ++ Begin j ∷ w.1) (sym m.number)) ∙ split-reverse w.0 (Begin k) w.1 in
@@ -233,7 +233,7 @@ pub has-return : (job : Job) (past : List Item) (k : ℕ) → IsLegalPast job pa
 unfolding IsLegalPast
 has-return job [] k l lt = absurd (omega (arith, lt))
 has-return job (Return n a ∷ past) k l lt =
-    let number = l.0.rule.number in
+    let number = l.0.commands.number in
     elim (cases_lt k (done past)) [
       | inl below ↦ rw (has-return job past k l.1 below) (or-true (n == suc k))
       | inr above ↦ (let same : n ≡ suc k = omega (arith, number, lt, above) in rw same (rw (==-refl (suc k)) refl))

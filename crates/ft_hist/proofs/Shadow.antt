@@ -19,7 +19,7 @@ use Rattle.ft_base.specs.Kinds.{has_depth, has_exit, cancels}
 use Rattle.ft_base.proofs.Small.{false_true, ==-refl, and_both, or-false_both, Each-weaker, each-all}
 use Rattle.ft_hist.specs.Past.{is_of, done, is_open, is_dispatched, all_visits, visits, Visit, visit, has_frame_user, held, gets_frame, calls}
 use Rattle.ft_hist.specs.Plain.{plain, after_item, after_next, at_start, PlainTask, Frame, Phase, Owed, Dispatch, InBack, Running, Leaving, InExit, on_call, on_top, in_phase, after_back, after_back_end, after_miss, after_refusal, after_body, after_leave, after_leave_ahead, after_scripted_leave, after_exit, after_exit_end, after_ret, after_enter, after_owed_enter, after_scripted_enter, ahead, owed_by, same_top, top_call}
-use Rattle.ft_hist.specs.Rules.{IsLegal}
+use Rattle.ft_hist.specs.Rules.{IsLegal, IsLegalPast}
 use Rattle.ft_hist.specs.Known.{holds}
 use Rattle.ft_hist.specs.ShadowStack.{Framed, without, is_kept, gets, with_user, after, shadow_stack}
 use Rattle.ft_hist.proofs.Laws.{same_call-refl, plain-own}
@@ -493,9 +493,12 @@ shown job t (item ∷ past) s e = by (is_of t item) refl e (λ p here. shown job
         (undone-other job t item past other s.stack so.task h.0, rw other (h.1 ∙ sym same))
 
 -- so the frames that other calls of a task hold are the others on its shadow stack
+pub held-past : (job : Job) (past : List Item) (call : CallNo) → IsLegalPast job past → held job call past ≡ length (without call (shadow_stack job call.task.0 past))
+held-past job past call legal =
+    let r = some-run job call.task.0 past legal in
+    held-on job past r.0 call r.1
+    ∙ sym (ap (λ fs. length (without call fs)) (shown job call.task.0 past r.0 r.1).1 ∙ length-without call (λ c. holds job past c) (λ c. keeps job past c) (calls_on r.0.stack))
+
 pub held-shown : (job : Job) (items : List Item) (call : CallNo) → IsLegal job items → held job call (reverse items) ≡ length (without call (shadow_stack job call.task.0 (reverse items)))
 unfolding IsLegal
-held-shown job items call legal =
-    let r = some-run job call.task.0 (reverse items) legal in
-    held-on job (reverse items) r.0 call r.1
-    ∙ sym (ap (λ fs. length (without call fs)) (shown job call.task.0 (reverse items) r.0 r.1).1 ∙ length-without call (λ c. holds job (reverse items) c) (λ c. keeps job (reverse items) c) (calls_on r.0.stack))
+held-shown job items call legal = held-past job (reverse items) call legal

@@ -4,7 +4,7 @@ use Rattle.std.proofs.lemmas.Bool.Decides.{eqb_tells}
 use Rattle.std.specs.List.{filter, list_any, AllByRecursion as Each}
 use Rattle.ft_base.specs.declared.number.CallNo.{CallNo}
 use Rattle.ft_base.specs.declared.item.Item.{Item}
-use Rattle.ft_base.specs.declared.item.Item.TheVariants.{Begin, Return, Enter, Back, BackEnd, Refuse, Miss, Body, Leave, Exit, ExitEnd, Ret}
+use Rattle.ft_base.specs.declared.item.Item.TheVariants.{Enter, Back, Refuse, Body, Leave, Exit, Ret}
 use Rattle.ft_base.specs.Same.{same_call}
 use Rattle.ft_base.specs.Job.{Job}
 use Rattle.ft_base.specs.Desk.{spec_at}
@@ -105,18 +105,7 @@ apart t n call c own le old =
     ]
 
 pub misses-other : (job : Job) (v : ℕ) (item : Item) (past : List Item) → is_of v item ≡ false → miss_due job v (item ∷ past) ≡ miss_due job v past
-misses-other job v (Back c u) past e = rw e refl
-misses-other job v (Begin k) past e = refl
-misses-other job v (Return k a) past e = refl
-misses-other job v (Enter c x f caller) past e = rw e refl
-misses-other job v (BackEnd c u) past e = rw e refl
-misses-other job v (Refuse c u r) past e = rw e refl
-misses-other job v (Miss c u) past e = rw e refl
-misses-other job v (Body c g r) past e = rw e refl
-misses-other job v (Leave c) past e = rw e refl
-misses-other job v (Exit c u p) past e = rw e refl
-misses-other job v (ExitEnd c u) past e = rw e refl
-misses-other job v (Ret c to) past e = rw e refl
+misses-other job v item past e = rw e refl
 
 pub since-item : (job : Job) (t n : ℕ) (call : CallNo) (item : Item) (past : List Item) → call.task.0 ≡ t → n ≤ call.n
     → ((v : ℕ) → is_of v item ≡ (call.task.0 == v)) → ((c : CallNo) → same_call call c ≡ false → touches c item ≡ false)

@@ -57,8 +57,8 @@ module _ (job : Job) (items first second third : List Item) (x y : Item) (legal 
           (subst (λ (d : CallNo). list_any (λ m. m.user == v) (visits job d (reverse (first ++ x ∷ second))) ≡ false) is none)) ∙ seen)
 
       by : (z : Item) → MayFollow job (reverse (first ++ x ∷ second)) z → y ≡ z → is_visit_by call u z ≡ false
-      by (Back c v) f q = apart c v.0 f.rule.0.visit.once (same_call c call && (v.0 == u)) refl
-      by (Refuse c v reason) f q = apart c v.0 f.rule.0.once (same_call c call && (v.0 == u)) refl
+      by (Back c v) f q = apart c v.0 f.callbacks.once (same_call c call && (v.0 == u)) refl
+      by (Refuse c v reason) f q = apart c v.0 f.callbacks.once (same_call c call && (v.0 == u)) refl
       by (Begin k) f q = refl
       by (Return k a) f q = refl
       by (Enter c z f' caller) f q = refl
@@ -151,7 +151,7 @@ module _ (job : Job) (items before mid rest : List Item) (call : CallNo) (ctx : 
       by : (b : Bool) → list_any (λ m. m.user == u) (visits job call (reverse until)) ≡ b → list_any (is_visit_by call u) mid ≡ true
       by true q = visited_item job items before mid rest call ctx f caller (Body call g ran) legal e u q
       by false q =
-          let off = (at_x job items before mid rest call ctx f caller (Body call g ran) legal e).rule.0.silent u within q in
+          let off = (at_x job items before mid rest call ctx f caller (Body call g ran) legal e).silence u within q in
           let w = in-window job items before mid rest call ctx f caller (Body call g ran) legal e (λ k. is_on (desk job k) u (entry_of call (reverse until)).func ≡ false) off in
           let there : is_on (desk job w.0) u f.0 ≡ false = subst (λ h. is_on (desk job w.0) u h ≡ false) (func_is job items before mid rest call ctx f caller (Body call g ran) legal e) w.3 in
           false_true (sym there ∙ on w.0 w.1 w.2)
@@ -161,4 +161,4 @@ module _ (job : Job) (items before mid rest : List Item) (call : CallNo) (ctx : 
   ran-target =
       let m = at_x job items before mid rest call ctx f caller (Body call g ran) legal e in
       in-window job items before mid rest call ctx f caller (Body call g ran) legal e (λ k. ran ≡ target (desk job k) f.0)
-      (subst (λ h. InWindow call (reverse until) (λ k. ran ≡ target (desk job k) h)) (func_is job items before mid rest call ctx f caller (Body call g ran) legal e) m.rule.0.fetched)
+      (subst (λ h. InWindow call (reverse until) (λ k. ran ≡ target (desk job k) h)) (func_is job items before mid rest call ctx f caller (Body call g ran) legal e) m.fetches.fetched)

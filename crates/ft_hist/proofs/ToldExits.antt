@@ -10,17 +10,18 @@ use Rattle.ft_base.specs.declared.item.Answer.TheVariants.{Accepted}
 use Rattle.ft_base.specs.declared.item.Item.{Item}
 use Rattle.ft_base.specs.declared.item.Item.TheVariants.{Begin, Return, Enter, Back, BackEnd, Refuse, Miss, Body, Leave, Exit, ExitEnd, Ret}
 use Rattle.ft_base.specs.Job.{Job, Command, commands}
-use Rattle.ft_base.specs.Desk.{desk, is_live, is_accepted, spec_at, user_at}
+use Rattle.ft_base.specs.Desk.{desk, is_live, spec_at}
 use Rattle.ft_base.specs.Same.{same_call}
 use Rattle.ft_base.specs.Kinds.{has_depth, has_exit, cancels}
 use Rattle.ft_base.proofs.Small.{false_true}
-use Rattle.ft_hist.specs.Past.{done, begun, callbacks, is_called, held, registration_at, visit, visits, all_visits, exits, done_at_leave}
-use Rattle.ft_hist.specs.Rules.{IsLegal, HasExit, AtReturnedOrBegun, IsStill}
+use Rattle.ft_hist.specs.Past.{callbacks, is_called, held, AreFramesHeld, Visit, user_now, visit, visits, all_visits, exits}
+use Rattle.ft_hist.specs.Rules.{IsLegal, HasExit, IsExitDone, AtReturnedOrBegun, IsStill}
 use Rattle.ft_hist.specs.Telling.{is_begin_by, is_end_by, is_exit_for, TakesOff, MayLackExit}
 use Rattle.ft_hist.proofs.Laws.{same_call-refl}
 use Rattle.ft_hist.proofs.Splitting.{splits, split-reverse}
 use Rattle.ft_hist.proofs.ByItems.{any-reverse, opened-since, opened-now, opened-called, HasBack, told, of-back, exit-item}
-use Rattle.ft_hist.proofs.Told.{later_at}
+use Rattle.ft_hist.proofs.Told.{later_at, legal-to}
+use Rattle.ft_hist.proofs.FrameLimit.{frames-within}
 
 -- ## no callback is open where its user's unregistration or disabling returns
 
@@ -35,13 +36,8 @@ module _ (job : Job) (items a b rest : List Item) (x : Item) (k : ℕ) (call : C
       by : (t : Bool) → list_any (is_end_by call u) b ≡ t → list_any (is_end_by call u) b ≡ true
       by true q = q
       by false q =
-          let r = (splits job items (a ++ x ∷ b) (Return (suc k) Accepted) rest legal e).rule in
-          let returned : done (reverse (a ++ x ∷ b)) ≡ k = (let n = r.number in omega arith) in
-          let there : slice_get (commands job) k ≡ Some r.command.0 = subst (λ n. slice_get (commands job) n ≡ Some r.command.0) returned r.command.1 in
-          let same : Some r.command.0 ≡ Some c = sym there ∙ command in
-          let c_is : r.command.0 ≡ c = cc in
-          let accepted = ap (λ z. is_accepted z) (sym r.command.2) in
-          let quiet = subst (λ d. is_accepted Accepted ≡ true → IsStill (reverse (a ++ x ∷ b)) d) c_is r.command.3 refl in
+          let r = splits job items (a ++ x ∷ b) (Return (suc k) Accepted) rest legal e in
+          let quiet : IsStill (reverse (a ++ x ∷ b)) c = subst (λ (o : Option Command). IfSome o (IsStill (reverse (a ++ x ∷ b)))) command (r.callbacks refl) in
           let opened = opened-called call u (callbacks (reverse b ++ x ∷ reverse a))
           (opened-since call u (reverse b) (x ∷ reverse a) (any-reverse (is_end_by call u) b ∙ q) (opened-now call u x (reverse a) begins)) in
           false_true (sym (still c off quiet) ∙ subst (λ past. is_called u past ≡ true) (sym (split-reverse a x b)) opened)
@@ -63,9 +59,9 @@ user_no user v e = rw e refl
 module _ (job : Job) (items first rest : List Item) (call : CallNo) (user : UserNo) (entry : ℕ) (legal : IsLegal job items) (e : items ≡ first ++ Exit call user entry ∷ rest) where
   -- the exit of a call's frame belongs to the Back at its entry, and that Back's registration is live
   pub exit-of : (a : List Item) × (b : List Item) × (first ≡ a ++ Back call user ∷ b) × (length a ≡ entry)
-      × AtReturnedOrBegun (reverse first) (λ k. is_live (desk job k) user.0 (user_at (desk job (registration_at job call user.0 (reverse a))) user.0).reg ≡ true)
+      × AtReturnedOrBegun (reverse first) (λ k. is_live (desk job k) user.0 (user_now job call user.0 (reverse a)).reg ≡ true)
   exit-of =
-      let of = (splits job items first (Exit call user entry) rest legal e).rule.0.of in
+      let of = (splits job items first (Exit call user entry) rest legal e).exits.0.of in
       let m = of.0 in
       let has : HasBack job call m (reverse first) = each-of (λ v. v.back ≡ true → HasBack job call v (reverse first)) (visits job call (reverse first)) m of.1 (told job call (reverse first)) of.4.0 in
       let older = has.1 in
@@ -73,8 +69,8 @@ module _ (job : Job) (items first rest : List Item) (call : CallNo) (user : User
       let shape : first ≡ reverse older ++ Back call user ∷ reverse has.0 =
       sym (reverse-reverse first) ∙ ap (λ (xs : List Item). reverse xs) (has.2 ∙ ap (λ (z : Item). has.0 ++ z ∷ older) back) ∙ split-reverse has.0 (Back call user) older in
       let place : length (reverse older) ≡ entry = length-reverse older ∙ sym has.3 ∙ of.3 in
-      let reg : m.reg ≡ (user_at (desk job (registration_at job call user.0 (reverse (reverse older)))) user.0).reg =
-      has.4 ∙ ap (λ (v : ℕ). (user_at (desk job (registration_at job call v older)) v).reg) of.2 ∙ ap (λ (xs : List Item). (user_at (desk job (registration_at job call user.0 xs)) user.0).reg) (sym (reverse-reverse older)) in
+      let reg : m.reg ≡ (user_now job call user.0 (reverse (reverse older))).reg =
+      has.4 ∙ ap (λ (v : ℕ). (user_now job call v older).reg) of.2 ∙ ap (λ (xs : List Item). (user_now job call user.0 xs).reg) (sym (reverse-reverse older)) in
       (reverse older, reverse has.0, shape, place, subst (λ r. AtReturnedOrBegun (reverse first) (λ k. is_live (desk job k) user.0 r ≡ true)) reg of.5)
 
 -- a later exit belongs to a later Back
@@ -100,7 +96,7 @@ exits-since call user entry P (Ret c to ∷ newer) past h = exits-since call use
 pub exit-after : (job : Job) (items a b c : List Item) (call : CallNo) (user user' : UserNo) (entry entry' : ℕ) → IsLegal job items
     → items ≡ a ++ Exit call user entry ∷ (b ++ Exit call user' entry' ∷ c) → entry < entry'
 exit-after job items a b c call user user' entry entry' legal e =
-    let order = (later_at job items a b c (Exit call user entry) (Exit call user' entry') legal e).rule.0.order in
+    let order = (later_at job items a b c (Exit call user entry) (Exit call user' entry') legal e).exits.0.order in
     exits-since call user entry (λ n. n < entry') (reverse b) (reverse a)
     (subst (λ (past : List Item). Each (λ n. n < entry') (exits call past)) (split-reverse a (Exit call user entry) b) order)
 
@@ -112,25 +108,31 @@ module _ (job : Job) (items first second rest : List Item) (call : CallNo) (user
   pub exit-or-why : (list_any (is_exit_for call (length first)) to_ret ≡ true) ⊎ MayLackExit job first second call user
   exit-or-why =
       let past_is : reverse to_ret ≡ reverse second ++ Back call user ∷ reverse first = split-reverse first (Back call user) second in
-      let lacks = (later_at job items first second rest (Back call user) (Ret call to) legal e).rule.0 in
-      let lacks' = subst (λ vs. Each (λ m. HasExit job m → list_any (λ x. x == m.place) (exits call (reverse to_ret)) ≡ false
-      → (k : ℕ) × (done_at_leave call (reverse to_ret) ≤ k) × (k ≤ begun (reverse to_ret)) × (is_live (desk job k) m.user m.reg ≡ false)) vs) (ap (λ (past : List Item). visits job call past) past_is) lacks in
-      let own = of-back job call (λ m. HasExit job m → list_any (λ x. x == m.place) (exits call (reverse to_ret)) ≡ false
-      → (k : ℕ) × (done_at_leave call (reverse to_ret) ≤ k) × (k ≤ begun (reverse to_ret)) × (is_live (desk job k) m.user m.reg ≡ false)) (reverse second) (reverse first) user lacks' in
-      by (list_any (λ x. x == length (reverse first)) (exits call (reverse to_ret))) refl (cancels (spec_at job user.0).kind) refl (has_depth (spec_at job user.0).kind) refl (has_exit (spec_at job user.0).kind) refl own
+      let done = (later_at job items first second rest (Back call user) (Ret call to) legal e).exits.0 in
+      let done' = subst (λ vs. Each (λ m. HasExit job m → IsExitDone job call m (reverse to_ret)) vs) (ap (λ (past : List Item). visits job call past) past_is) done in
+      let own = of-back job call (λ m. HasExit job m → IsExitDone job call m (reverse to_ret)) (reverse second) (reverse first) user done' in
+      by (cancels (spec_at job user.0).kind) refl (has_depth (spec_at job user.0).kind) refl (has_exit (spec_at job user.0).kind) refl own
     where
-      by : (had : Bool) → list_any (λ x. x == length (reverse first)) (exits call (reverse to_ret)) ≡ had
-          → (c : Bool) → cancels (spec_at job user.0).kind ≡ c → (d : Bool) → has_depth (spec_at job user.0).kind ≡ d → (x : Bool) → has_exit (spec_at job user.0).kind ≡ x
-          → (HasExit job (visit job call user.0 (reverse first) (all_visits job (reverse first)) true) → list_any (λ y. y == length (reverse first)) (exits call (reverse to_ret)) ≡ false
-          → (k : ℕ) × (done_at_leave call (reverse to_ret) ≤ k) × (k ≤ begun (reverse to_ret)) × (is_live (desk job k) user.0 (user_at (desk job (registration_at job call user.0 (reverse first))) user.0).reg ≡ false))
-          → (list_any (is_exit_for call (length first)) to_ret ≡ true) ⊎ MayLackExit job first second call user
-      by true had c ce d de x xe own = inl (
+      -- the visit of the Back
+      own_visit : Visit
+      own_visit = visit job call user.0 (reverse first) (all_visits job (reverse first)) true
+
+      why : IsExitDone job call own_visit (reverse to_ret) → (list_any (is_exit_for call (length first)) to_ret ≡ true) ⊎ MayLackExit job first second call user
+      why (inl had) = inl (
           sym (any-reverse (is_exit_for call (length first)) to_ret)
           ∙ exit-item job call (length first) (reverse to_ret) (subst (λ n. list_any (λ y. y == n) (exits call (reverse to_ret)) ≡ true) (length-reverse first) had))
-      by false had true ce d de x xe own = inr (inr (inl ce))
-      by false had false ce true de x xe own = inr (inr (inr (inr (own (refl, rw de refl, ce) had))))
-      by false had false ce false de false xe own = inr (inl (de, xe))
-      by false had false ce false de true xe own = elim (cases_lt (held job call (reverse first)) job.frames) [
-        | inl lt ↦ inr (inr (inr (inr (own (refl, rw (de, xe, lt-ltb (held job call (reverse first)) job.frames lt) refl, ce) had))))
-        | inr ge ↦ inr (inr (inr (inl (de, ge))))
+      why (inr dead) = inr (inr (inr (inr dead)))
+
+      full : job.frames ≤ held job call (reverse first) → AreFramesHeld job (reverse first) call
+      full ge = let le = frames-within job call (reverse first) (legal-to job items first (Back call user ∷ (second ++ Ret call to ∷ rest)) legal e) in omega (arith, ge, le)
+
+      by : (c : Bool) → cancels (spec_at job user.0).kind ≡ c → (d : Bool) → has_depth (spec_at job user.0).kind ≡ d → (x : Bool) → has_exit (spec_at job user.0).kind ≡ x
+          → (HasExit job own_visit → IsExitDone job call own_visit (reverse to_ret))
+          → (list_any (is_exit_for call (length first)) to_ret ≡ true) ⊎ MayLackExit job first second call user
+      by true ce d de x xe own = inr (inr (inl ce))
+      by false ce true de x xe own = why (own (refl, rw de refl, ce))
+      by false ce false de false xe own = inr (inl (de, xe))
+      by false ce false de true xe own = elim (cases_lt (held job call (reverse first)) job.frames) [
+        | inl lt ↦ why (own (refl, rw (de, xe, lt-ltb (held job call (reverse first)) job.frames lt) refl, ce))
+        | inr ge ↦ inr (inr (inr (inl (de, full ge))))
       ]

@@ -30,14 +30,14 @@ module _ (job : Job) (items before mid rest : List Item) (call : CallNo) (ctx : 
   pub pid-cause : (e : items ≡ before ++ Enter call ctx f caller ∷ (mid ++ Refuse call user ByPid ∷ rest))
       → ((spec_at job user.0).pid ≡ true) × AtSomeCommand before (before ++ Enter call ctx f caller ∷ mid) (λ k. is_allowed (desk job k) call.task.0 ≡ false)
   pid-cause e =
-      let m = (at_x job items before mid rest call ctx f caller (Refuse call user ByPid) legal e).rule.1 in
+      let m = (at_x job items before mid rest call ctx f caller (Refuse call user ByPid) legal e).refusals in
       (m.0, from-now job items before mid rest call ctx f caller (Refuse call user ByPid) legal e (λ k. is_allowed (desk job k) call.task.0 ≡ false) m.1)
 
   -- as all levels of the guard are held
   pub recursion-cause : (e : items ≡ before ++ Enter call ctx f caller ∷ (mid ++ Refuse call user Recursion ∷ rest))
       → levels job ≤ open_callbacks call.task.0 ctx (reverse (before ++ Enter call ctx f caller ∷ mid))
   recursion-cause e =
-      let m = (at_x job items before mid rest call ctx f caller (Refuse call user Recursion) legal e).rule.1 in
+      let m = (at_x job items before mid rest call ctx f caller (Refuse call user Recursion) legal e).refusals in
       subst (λ c. levels job ≤ open_callbacks call.task.0 c (reverse (before ++ Enter call ctx f caller ∷ mid))) (ctx_is job items before mid rest call ctx f caller (Refuse call user Recursion) legal e) m.1
 
   -- for depth
@@ -48,7 +48,7 @@ module _ (job : Job) (items before mid rest : List Item) (call : CallNo) (ctx : 
       ⊎ AtSomeCommand before (before ++ Enter call ctx f caller ∷ mid) (λ k. (0 < (desk job k).depth) × ((desk job k).depth ≤ held job call (reverse (before ++ Enter call ctx f caller ∷ mid)))))
   depth-cause e =
       let past = reverse (before ++ Enter call ctx f caller ∷ mid) in
-      let m = (at_x job items before mid rest call ctx f caller (Refuse call user Depth) legal e).rule.1 in (
+      let m = (at_x job items before mid rest call ctx f caller (Refuse call user Depth) legal e).refusals in (
         subst (λ c. open_callbacks call.task.0 c past < levels job) (ctx_is job items before mid rest call ctx f caller (Refuse call user Depth) legal e) m.1,
         m.2,
         elim m.3 [
@@ -60,14 +60,14 @@ module _ (job : Job) (items before mid rest : List Item) (call : CallNo) (ctx : 
   -- at a callback a level of the guard is free
   pub back-free : (e : items ≡ before ++ Enter call ctx f caller ∷ (mid ++ Back call user ∷ rest)) → open_callbacks call.task.0 ctx (reverse (before ++ Enter call ctx f caller ∷ mid)) < levels job
   back-free e =
-      let m = (at_x job items before mid rest call ctx f caller (Back call user) legal e).rule.0 in
+      let m = (at_x job items before mid rest call ctx f caller (Back call user) legal e).refusals in
       subst (λ c. open_callbacks call.task.0 c (reverse (before ++ Enter call ctx f caller ∷ mid)) < levels job) (ctx_is job items before mid rest call ctx f caller (Back call user) legal e) m.free
 
   -- and its user passed the pid rule, and the graph depth
   pub back-allowed : (e : items ≡ before ++ Enter call ctx f caller ∷ (mid ++ Back call user ∷ rest)) → (spec_at job user.0).pid ≡ true
       → AtSomeCommand before (before ++ Enter call ctx f caller ∷ mid) (λ k. is_allowed (desk job k) call.task.0 ≡ true)
   back-allowed e flag =
-      let m = (at_x job items before mid rest call ctx f caller (Back call user) legal e).rule.0 in
+      let m = (at_x job items before mid rest call ctx f caller (Back call user) legal e).refusals in
       from-now job items before mid rest call ctx f caller (Back call user) legal e (λ k. is_allowed (desk job k) call.task.0 ≡ true) (m.pid flag)
 
   pub back-shallow : (e : items ≡ before ++ Enter call ctx f caller ∷ (mid ++ Back call user ∷ rest)) → has_depth (spec_at job user.0).kind ≡ true
@@ -75,7 +75,7 @@ module _ (job : Job) (items before mid rest : List Item) (call : CallNo) (ctx : 
       × AtSomeCommand before (before ++ Enter call ctx f caller ∷ mid) (λ k. ((desk job k).depth ≡ 0) ⊎ (held job call (reverse (before ++ Enter call ctx f caller ∷ mid)) < (desk job k).depth))
   back-shallow e kind =
       let past = reverse (before ++ Enter call ctx f caller ∷ mid) in
-      let m = (at_x job items before mid rest call ctx f caller (Back call user) legal e).rule.0 in
+      let m = (at_x job items before mid rest call ctx f caller (Back call user) legal e).refusals in
       (m.room kind, from-now job items before mid rest call ctx f caller (Back call user) legal e (λ k. ((desk job k).depth ≡ 0) ⊎ (held job call past < (desk job k).depth)) (m.level kind))
 
 -- ## returns

@@ -79,11 +79,11 @@ module _ (job : Job) where
     split = e ∙ sym (append_assoc first (Return (suc k) Accepted ∷ second) (item ∷ third))
 
     returned : done (reverse first) ≡ k
-    returned = let n = (splits job items first (Return (suc k) Accepted) (second ++ item ∷ third) legal e).rule.number in omega arith
+    returned = let n = (splits job items first (Return (suc k) Accepted) (second ++ item ∷ third) legal e).commands.number in omega arith
 
     off-there : (user_at (desk job (suc k)) user.0).registered ≡ false
     off-there =
-        let c = (splits job items first (Return (suc k) Accepted) (second ++ item ∷ third) legal e).rule.command in
+        let c = (splits job items first (Return (suc k) Accepted) (second ++ item ∷ third) legal e).commands.command in
         let there : slice_get (commands job) k ≡ Some c.0 = subst (λ n. slice_get (commands job) n ≡ Some c.0) returned c.1 in
         let same : Some c.0 ≡ Some (Unregister user.0) = sym there ∙ command in
         let c_is : c.0 ≡ Unregister user.0 = cc in
@@ -132,7 +132,7 @@ module _ (job : Job) where
     no_callback e none =
         let past = reverse (first ++ Return (suc k) Accepted ∷ second) in
         let off = off-now is items first second third k user (Back call user) legal e command none in
-        elim (rule_at is items first second third k user (Back call user) legal e command).rule.0.visit.on [
+        elim (rule_at is items first second third k user (Back call user) legal e command).callbacks.on [
           | inl x ↦ off-not-on (desk job (done past)) (entry_of call past).func off.0 x
           | inr x ↦ off-not-on (desk job (begun past)) (entry_of call past).func off.1 x
         ]
@@ -141,7 +141,7 @@ module _ (job : Job) where
     no_exit entry e none =
         let past = reverse (first ++ Return (suc k) Accepted ∷ second) in
         let off = off-now is items first second third k user (Exit call user entry) legal e command none in
-        let of = (rule_at is items first second third k user (Exit call user entry) legal e command).rule.0.of in
+        let of = (rule_at is items first second third k user (Exit call user entry) legal e command).exits.0.of in
         elim of.5 [
           | inl x ↦ off-not-live (desk job (done past)) of.0.reg off.0 x
           | inr x ↦ off-not-live (desk job (begun past)) of.0.reg off.1 x

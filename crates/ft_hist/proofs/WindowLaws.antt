@@ -67,7 +67,7 @@ pub legal-counts : (job : Job) (past : List Item) → IsLegalPast job past → (
 unfolding IsLegalPast
 legal-counts job [] l = (omega arith, omega arith)
 legal-counts job (Begin k ∷ past) l =
-    let e : begun past ≡ done past = l.0.rule.0.follows in (omega arith, omega arith)
+    let e : begun past ≡ done past = l.0.commands.0.follows in (omega arith, omega arith)
 legal-counts job (Return k a ∷ past) l =
-    let e : begun past ≡ suc (done past) = l.0.rule.follows in (omega arith, omega arith)
+    let e : begun past ≡ suc (done past) = l.0.commands.follows in (omega arith, omega arith)
 legal-counts job (_ ∷ past) l = legal-counts job past l.1

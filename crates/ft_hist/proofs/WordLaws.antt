@@ -141,7 +141,7 @@ module _ (job : Job) (is : IsWellFormed job) where
   visits-read call [] l = tt
   visits-read call (Begin k ∷ past) l = more-read (entry_of call past).func (done past) (begun past) (done past) (suc (begun past)) (visits job call past) (omega arith) (λ j v a b. b) (visits-read call past l.1)
   visits-read call (Return k a ∷ past) l =
-      let follows = l.0.rule.follows in
+      let follows = l.0.commands.follows in
       more-read (entry_of call past).func (done past) (begun past) (suc (done past)) (begun past) (visits job call past) (omega arith) (λ j v x b. inl (omega arith)) (visits-read call past l.1)
   visits-read call (Enter c x f caller ∷ past) l =
       elim (same_call c call) as (λ b. same_call c call ≡ b → Reads call (Enter c x f caller ∷ past)) [
@@ -235,8 +235,8 @@ module _ (job : Job) (is : IsWellFormed job) where
   pub visits-distinct : (call : CallNo) (past : List Item) → IsLegalPast job past → Distinct (visits job call past)
   unfolding IsLegalPast all_visits
   visits-distinct call [] l = tt
-  visits-distinct call (Back c u ∷ past) l = distinct-one call c u.0 past true l.0.rule.0.visit.once (visits-distinct call past l.1)
-  visits-distinct call (Refuse c u reason ∷ past) l = distinct-one call c u.0 past false l.0.rule.0.once (visits-distinct call past l.1)
+  visits-distinct call (Back c u ∷ past) l = distinct-one call c u.0 past true l.0.callbacks.once (visits-distinct call past l.1)
+  visits-distinct call (Refuse c u reason ∷ past) l = distinct-one call c u.0 past false l.0.callbacks.once (visits-distinct call past l.1)
   visits-distinct call (_ ∷ past) l = visits-distinct call past l.1
 
   abbrev replaces : Visit → Bool

@@ -8,9 +8,8 @@ use Rattle.ft_base.specs.declared.item.Item.TheVariants.{Enter, Body, Ret}
 use Rattle.ft_base.specs.declared.task.TaskAct.{TaskAct}
 use Rattle.ft_base.specs.declared.task.TaskAct.TheVariants.{Call, Ret as RetAct}
 use Rattle.ft_base.specs.Same.{same_call}
-use Rattle.ft_base.specs.Job.{Job, no_task}
+use Rattle.ft_base.specs.Job.{Job, no_task, waits_before}
 use Rattle.ft_hist.specs.Past.{begun, callbacks}
-use Rattle.ft_hist.specs.Rules.{waits_before}
 
 -- a callback of the task is open
 abbrev pub is_in_callback : ℕ → List Item → Bool

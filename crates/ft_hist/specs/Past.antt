@@ -1,5 +1,5 @@
 -- What a history tells at a place. Each definition takes the items before that place, the latest first: its past.
-use Rattle.std.specs.Prelude.{ℕ, suc, Bool, true, false, not, ◌||◌, ◌&&◌, ◌==◌, nat_lt, List, [], ◌∷◌, length, count_by, Option, Some, None, if◌then◌else◌}
+use Rattle.std.specs.Prelude.{ℕ, suc, ◌≡◌, ◌<◌, Bool, true, false, not, ◌||◌, ◌&&◌, ◌==◌, nat_lt, List, [], ◌∷◌, length, count_by, Option, Some, None, if◌then◌else◌}
 use Rattle.std.specs.List.{list_any, filter}
 use Rattle.ft_base.specs.declared.number.CallNo.{CallNo}
 use Rattle.ft_base.specs.declared.context.Ctx.{Ctx}
@@ -9,7 +9,7 @@ use Rattle.ft_base.specs.declared.item.Item.TheVariants.{Begin, Return, Enter, B
 use Rattle.ft_base.specs.Same.{same_call, same_ctx}
 use Rattle.ft_base.specs.Items.{call_of, is_task}
 use Rattle.ft_base.specs.Job.{Job}
-use Rattle.ft_base.specs.Desk.{spec_at, desk, is_on, user_at}
+use Rattle.ft_base.specs.Desk.{UserState, spec_at, desk, is_on, user_at}
 use Rattle.ft_base.specs.Kinds.{has_depth, has_exit, cancels}
 
 -- an item of the task: one of its calls
@@ -153,10 +153,18 @@ gets_frame job call u past ms =
 abbrev pub registration_at : Job → CallNo → ℕ → List Item → ℕ
 registration_at job call u past = if is_on (desk job (done past)) u (entry_of call past).func then done past else begun past
 
+-- a user as a Back or a Refuse of it in a call finds it
+abbrev pub user_now : Job → CallNo → ℕ → List Item → UserState
+user_now job call u past = user_at (desk job (registration_at job call u past)) u
+
+-- the number of the command that registered it
+abbrev pub since_now : Job → CallNo → ℕ → List Item → ℕ
+since_now job call u past = (user_now job call u past).since
+
 -- what a Back or a Refuse of a user in a call is, on the past before it
 abbrev pub visit : Job → CallNo → ℕ → List Item → List Visit → Bool → Visit
 visit job call u past ms back =
-    let s = user_at (desk job (registration_at job call u past)) u in
+    let s = user_now job call u past in
     record { call = call; user = u; reg = s.reg; since = s.since; place = length past; back = back; framed = back && gets_frame job call u past ms }
 
 -- the entry callbacks and refusals, the latest first
@@ -170,20 +178,28 @@ all_visits job (_ ∷ past) = all_visits job past
 abbrev pub held : Job → CallNo → List Item → ℕ
 held job call past = held_after job call past (all_visits job past)
 
+-- a frame is left for the call
+abbrev pub IsFrameLeft : Job → List Item → CallNo → Type 0
+IsFrameLeft job past call = held job call past < job.frames
+
+-- all frames are held by other calls
+abbrev pub AreFramesHeld : Job → List Item → CallNo → Type 0
+AreFramesHeld job past call = held job call past ≡ job.frames
+
 -- those of one call
 abbrev pub visits : Job → CallNo → List Item → List Visit
 visits job call past = filter (λ m. same_call m.call call) (all_visits job past)
 
--- the Miss that has to be the task's next item: that of an fprobe with an exit whose latest Back found no room for a frame
+-- the Miss that comes after an item: after the Back of an fprobe with an exit, if all frames are held
+abbrev pub miss_after : Job → Item → List Item → Option Callback
+miss_after job (Back c u) past =
+    if has_exit (spec_at job u.0).kind && (held job c past == job.frames) then Some (record { call = c; user = u.0; ctx = None }) else None
+miss_after job _ past = None
+
+-- the Miss that has to be the task's next item: that which comes after its latest
 abbrev pub miss_due : Job → ℕ → List Item → Option Callback
 miss_due job t [] = None
-miss_due job t (Back c u ∷ past) =
-    if c.task.0 == t
-    then (if has_exit (spec_at job u.0).kind && (held job c past == job.frames) then Some (record { call = c; user = u.0; ctx = None }) else None)
-    else miss_due job t past
-miss_due job t (Begin k ∷ past) = miss_due job t past
-miss_due job t (Return k a ∷ past) = miss_due job t past
-miss_due job t (item ∷ past) = if is_of t item then None else miss_due job t past
+miss_due job t (item ∷ past) = if is_of t item then miss_after job item past else miss_due job t past
 
 -- the places of the Backs whose exits the call has had, the latest first
 abbrev pub exits : CallNo → List Item → List ℕ

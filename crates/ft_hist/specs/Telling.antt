@@ -7,9 +7,10 @@ use Rattle.ft_base.specs.declared.item.Item.TheVariants.{Begin, Return, Back, Ba
 use Rattle.ft_base.specs.Same.{same_call}
 use Rattle.ft_base.specs.declared.number.UserNo.{UserNo}
 use Rattle.ft_base.specs.Job.{Job, Command, takes_off}
-use Rattle.ft_base.specs.Desk.{desk, is_live, spec_at, user_at}
+use Rattle.ft_base.specs.Desk.{spec_at}
 use Rattle.ft_base.specs.Kinds.{has_depth, has_exit, cancels}
-use Rattle.ft_hist.specs.Past.{done, begun, calls, done_at_leave, held, is_open, registration_at}
+use Rattle.ft_hist.specs.Past.{done, begun, calls, AreFramesHeld, is_open, since_now, user_now}
+use Rattle.ft_hist.specs.Rules.{IsDead}
 
 -- the items before a place, the latest first
 abbrev pub past_at : ℕ → List Item → List Item
@@ -60,7 +61,7 @@ is_return_of n _ = false
 
 -- the number of the command that registered the user, as a callback or a refusal in the call reads it after these items
 abbrev pub since_at : Job → CallNo → ℕ → List Item → ℕ
-since_at job call u items = (user_at (desk job (registration_at job call u (reverse items))) u).since
+since_at job call u items = since_now job call u (reverse items)
 
 -- a fact after some command of the window: from the commands that had returned after the items of `start`, to those that had
 -- begun after the items of `end'`
@@ -81,6 +82,5 @@ abbrev pub MayLackExit : Job → List Item → List Item → CallNo → UserNo �
 MayLackExit job first second call user =
     ((has_depth (spec_at job user.0).kind ≡ false) × (has_exit (spec_at job user.0).kind ≡ false))
     ⊎ ((cancels (spec_at job user.0).kind ≡ true)
-    ⊎ (((has_depth (spec_at job user.0).kind ≡ false) × (job.frames ≤ held job call (reverse first)))
-    ⊎ ((k : ℕ) × (done_at_leave call (reverse (first ++ Back call user ∷ second)) ≤ k) × (k ≤ begun (reverse (first ++ Back call user ∷ second)))
-    × (is_live (desk job k) user.0 (user_at (desk job (registration_at job call user.0 (reverse first))) user.0).reg ≡ false))))
+    ⊎ (((has_depth (spec_at job user.0).kind ≡ false) × AreFramesHeld job (reverse first) call)
+    ⊎ IsDead job call user.0 (user_now job call user.0 (reverse first)).reg (reverse (first ++ Back call user ∷ second))))

@@ -12,7 +12,7 @@ ghost use Rattle.std.specs.Prelude.{◌≡◌, ◌≢◌, ◌↔◌, ◌⊎◌, 
 ghost use Rattle.std.specs.List.{list_any};
 ghost use Rattle.ft_base.specs.Job.{Job as PlainJob, Command, Register, Unregister, commands};
 ghost use Rattle.ft_base.specs.Versions.{levels};
-ghost use Rattle.ft_base.specs.Desk.{desk, is_on, is_allowed, is_live, spec_at, target, user_at};
+ghost use Rattle.ft_base.specs.Desk.{desk, is_on, is_allowed, is_live, spec_at, target};
 ghost use Rattle.ft_base.specs.Kinds.{has_depth, has_exit};
 ghost use Rattle.ft_base.specs.Items.{call_of};
 ghost use Rattle.ft_base.specs.WellFormed.{IsWellFormed};
@@ -26,7 +26,7 @@ ghost use Rattle.ft_base.specs.declared.item.Reason.{Reason};
 ghost use Rattle.ft_base.specs.declared.item.Reason.TheVariants.{Pid as ByPid, Recursion, Depth};
 ghost use Rattle.ft_base.specs.declared.item.Item.{Item};
 ghost use Rattle.ft_base.specs.declared.item.Item.TheVariants.{Return, Enter, Back, Refuse, Miss, Body, Exit, Ret};
-ghost use Rattle.ft_hist.specs.Past.{begun, held, is_of, open_callbacks, registration_at};
+ghost use Rattle.ft_hist.specs.Past.{begun, held, is_of, open_callbacks, user_now};
 ghost use Rattle.ft_hist.specs.Rules.{AtReturnedOrBegun, IsLegal, MayFollow};
 ghost use Rattle.ft_hist.specs.Telling.{AtEachCommand, AtSomeCommand, MayLackExit, TakesOff, is_begin_by, is_end_by, is_exit_for, is_ret_of, is_visit_by, open_calls};
 
@@ -141,7 +141,7 @@ pub fn exits_belong_to_their_registration()
     ensures { (job : PlainJob) (items first rest : List Item) (call : CallNo) (user : UserNo) (entry : ℕ)
         → IsLegal job items → items ≡ first ++ Exit call user entry ∷ rest
         → (a : List Item) × (b : List Item) × (first ≡ a ++ Back call user ∷ b) × (length a ≡ entry)
-        × AtReturnedOrBegun (reverse first) (λ k. is_live (desk job k) user.0 (user_at (desk job (registration_at job call user.0 (reverse a))) user.0).reg ≡ true) }
+        × AtReturnedOrBegun (reverse first) (λ k. is_live (desk job k) user.0 (user_now job call user.0 (reverse a)).reg ≡ true) }
 {}
 
 /// An entry callback has at most one exit, and exits come in the order of their entry callbacks.
@@ -166,6 +166,11 @@ pub fn exits_lack_only_for_a_reason()
     ensures { (job : PlainJob) (items first second rest : List Item) (call : CallNo) (user : UserNo) (to : Option CallNo)
         → IsLegal job items → items ≡ first ++ Back call user ∷ (second ++ Ret call to ∷ rest)
         → (list_any (is_exit_for call (length first)) (first ++ Back call user ∷ second) ≡ true) ⊎ MayLackExit job first second call user }
+{}
+
+/// A task never has more frames than there are: its other calls hold at most these.
+pub fn frames_are_never_exceeded()
+    ensures { (job : PlainJob) (items : List Item) (call : CallNo) → IsLegal job items → held job call (reverse items) ≤ job.frames }
 {}
 
 /// "a full shadow stack leaves that call without an exit": if the task's other calls hold all frames

@@ -6,7 +6,8 @@ use Rattle.std.proofs.lemmas.Option.{slice_get_cases}
 use Rattle.ft_base.specs.declared.item.Answer.TheVariants.{Accepted, Busy}
 use Rattle.ft_base.specs.Marks.{Marks}
 use Rattle.ft_base.specs.Job.{Job, funcs}
-use Rattle.ft_base.specs.Desk.{Desk, user_at, spec_at, is_matching, lowest, other_modifier, holder_at, conflicts, busy_or, claim}
+use Rattle.ft_base.specs.Desk.{Desk, user_at, spec_at, is_matching, lowest, other_modifier, busy_or, claim}
+use Rattle.ft_base.proofs.Modifiers.{holder_at, conflicts}
 use Rattle.ipmodify.specs.declared.conflicts.Holder.{Holder}
 use Rattle.ipmodify.specs.Conflicts.{is_in_way, first_in_way, is_contested, conflict_at, conflict_of}
 use Rattle.ipmodify.specs.OnDesk.{answer_of, IsMatched, AreHolders}

@@ -6,7 +6,8 @@ use Rattle.std.proofs.lemmas.List.{length-set}
 use Rattle.ft_base.specs.declared.item.Answer.TheVariants.{Accepted, Invalid, NoMatch}
 use Rattle.ft_base.specs.Marks.{Marks, holds, is_empty, union}
 use Rattle.ft_base.specs.Job.{Job, funcs}
-use Rattle.ft_base.specs.Desk.{Desk, UserState, user_at, spec_at, is_matching, matches_by, conflicts, other_modifier, holder_at, busy_or, claim, edited, edit_answer, answer_on, is_accepted, with_user, after}
+use Rattle.ft_base.specs.Desk.{Desk, UserState, user_at, spec_at, is_matching, matches_by, other_modifier, busy_or, claim, edited, edit_answer, answer_on, is_accepted, with_user, after}
+use Rattle.ft_base.proofs.Modifiers.{conflicts, holder_at}
 use Rattle.ft_base.proofs.Small.{false_true, and_both}
 use Rattle.ft_base.proofs.DeskLaws.{user_at-same, user_at-other}
 use Rattle.ft_base.proofs.Order.{user-part}

@@ -21,7 +21,8 @@ use Rattle.ft_base.specs.declared.user.Act.TheVariants.{CallIn, IrqIn}
 use Rattle.ft_base.specs.Marks.{Marks, is_empty}
 use Rattle.ft_base.specs.Same.{same_call, same_ctx, context}
 use Rattle.ft_base.specs.Job.{Job, Spec, Task, Edit, Command, Register, Unregister, Filter, Notrace, Pid, NoPid, Enable, Disable, MaxDepth, no_task, funcs}
-use Rattle.ft_base.specs.Desk.{Desk, UserState, plain_spec, spec_at, user_at, desk, sited, sited_from, is_matching, is_on, is_live, target, target_by, lowest, other_modifier, conflicts, holder_at, busy_or, claim, edited, register_answer, edit_answer, switch_answer, answer_on}
+use Rattle.ft_base.specs.Desk.{Desk, UserState, plain_spec, spec_at, user_at, desk, sited, sited_from, is_matching, is_on, is_live, target, target_by, lowest, other_modifier, busy_or, claim, edited, register_answer, edit_answer, switch_answer, answer_on}
+use Rattle.ft_base.proofs.Modifiers.{conflicts, holder_at}
 use Rattle.ft_base.specs.Kinds.{is_fprobe}
 use Rattle.ft_base.specs.WellFormed.{IsActNamed, IsScript, IsWellFormed}
 use Rattle.ft_base.proofs.Small.{false_true, and_both, ==-refl, Each-filter, Each-weaker, each-get}
