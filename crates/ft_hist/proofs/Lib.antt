@@ -29,6 +29,7 @@ pub mod Finishing
 pub mod Wholes
 pub mod Shadow
 pub mod FrameLimit
+pub mod ItemParts
 pub mod ExitLevels
 pub mod Placing
 pub mod Written

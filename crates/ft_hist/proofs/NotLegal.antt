@@ -35,8 +35,7 @@ before_body = Begin 1 ∷ Return 1 Accepted ∷ Enter (call_in 0 1) Normal (reco
 pub callback_left_out : IsLegal first_path (before_body ++ Body (call_in 0 1) (record { 0 = 0 }) (Own (record { 0 = 0 })) ∷ []) → ⊥
 unfolding desk all_visits
 callback_left_out legal =
-    let rule = (last first_path before_body (Body (call_in 0 1) (record { 0 = 0 }) (Own (record { 0 = 0 }))) legal).rule in
-    let w = rule.0.silent 0 (omega arith) refl in
+    let w = (last first_path before_body (Body (call_in 0 1) (record { 0 = 0 }) (Own (record { 0 = 0 }))) legal).silence 0 (omega arith) refl in
     let off : is_on (desk first_path 1) 0 0 ≡ false = between (λ k. is_on (desk first_path k) 0 0 ≡ false) 1 w.0 w.1 w.2 w.3 in
     false_true (sym off)
 
@@ -45,7 +44,7 @@ pub wrong_ran : IsLegal first_path ((before_body ++ Back (call_in 0 1) (record {
 unfolding desk all_visits
 wrong_ran legal =
     let before = before_body ++ Back (call_in 0 1) (record { 0 = 0 }) ∷ BackEnd (call_in 0 1) (record { 0 = 0 }) ∷ [] in
-    let w = (last first_path before (Body (call_in 0 1) (record { 0 = 0 }) Nop) legal).rule.0.fetched in
+    let w = (last first_path before (Body (call_in 0 1) (record { 0 = 0 }) Nop) legal).fetches.fetched in
     let same : Nop ≡ target (desk first_path 1) 0 = between (λ k. Nop ≡ target (desk first_path k) 0) 1 w.0 w.1 w.2 w.3 in
     absurd (cc)
 
@@ -53,7 +52,7 @@ wrong_ran legal =
 pub callback_while_off : IsLegal unordered (Enter (call_in 0 1) Normal (record { 0 = 0 }) None ∷ Back (call_in 0 1) (record { 0 = 0 }) ∷ []) → ⊥
 unfolding desk all_visits
 callback_while_off legal =
-    elim ((last unordered (Enter (call_in 0 1) Normal (record { 0 = 0 }) None ∷ []) (Back (call_in 0 1) (record { 0 = 0 })) legal).rule.0.visit.on) [
+    elim ((last unordered (Enter (call_in 0 1) Normal (record { 0 = 0 }) None ∷ []) (Back (call_in 0 1) (record { 0 = 0 })) legal).callbacks.on) [
       | inl on ↦ false_true on
       | inr on ↦ false_true on
     ]
@@ -63,9 +62,7 @@ pub open_at_return : IsLegal unregistered_in_call ((before_body ++ Back (call_in
 unfolding desk all_visits
 open_at_return legal =
     let before = before_body ++ Back (call_in 0 1) (record { 0 = 0 }) ∷ Begin 2 ∷ [] in
-    let c = (last unregistered_in_call before (Return 2 Accepted) legal).rule.command in
-    let is : Unregister 0 ≡ c.0 = cc in
-    let still : IsStill (reverse before) (Unregister 0) = subst (λ (x : Command). IsStill (reverse before) x) (sym is) (c.3 refl) in
+    let still : IsStill (reverse before) (Unregister 0) = (last unregistered_in_call before (Return 2 Accepted) legal).callbacks refl in
     false_true (sym still)
 
 -- refusals: the reason is not the right one
@@ -75,7 +72,7 @@ before_refusal = before_body ++ Back (call_in 0 1) (record { 0 = 0 }) ∷ Enter 
 pub wrong_reason : IsLegal recursion (before_refusal ++ Refuse (call_in 0 2) (record { 0 = 0 }) Depth ∷ []) → ⊥
 unfolding desk all_visits
 wrong_reason legal =
-    let free = (last recursion before_refusal (Refuse (call_in 0 2) (record { 0 = 0 }) Depth) legal).rule.1.1 in
+    let free = (last recursion before_refusal (Refuse (call_in 0 2) (record { 0 = 0 }) Depth) legal).refusals.1 in
     absurd (omega (arith, free))
 
 -- exits: one is called for a registration that is gone
@@ -87,7 +84,7 @@ before_exit =
 pub exit_for_old_frame : IsLegal registered_again (before_exit ++ Exit (call_in 0 1) (record { 0 = 0 }) 3 ∷ []) → ⊥
 unfolding desk all_visits
 exit_for_old_frame legal =
-    let of = (last registered_again before_exit (Exit (call_in 0 1) (record { 0 = 0 }) 3) legal).rule.0.of in
+    let of = (last registered_again before_exit (Exit (call_in 0 1) (record { 0 = 0 }) 3) legal).exits.0.of in
     let m : Visit = record { call = call_in 0 1; user = 0; reg = 1; since = 1; place = 3; back = true; framed = true } in
     let reg : 1 ≡ of.0.reg = ap (λ (x : Visit). x.reg) (only m of.0 of.1) in
     elim of.5 [

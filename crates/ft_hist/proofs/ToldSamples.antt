@@ -91,4 +91,4 @@ before_act =
 
 act_before_its_miss : IsLegal acting (before_act ++ Enter (call_in 0 4) Normal (record { 0 = 1 }) (Some (call_in 0 3)) ∷ []) → ⊥
 unfolding desk all_visits
-act_before_its_miss legal = let none = (last acting before_act (Enter (call_in 0 4) Normal (record { 0 = 1 }) (Some (call_in 0 3))) legal).rule in absurd (cc)
+act_before_its_miss legal = let none = (last acting before_act (Enter (call_in 0 4) Normal (record { 0 = 1 }) (Some (call_in 0 3))) legal).exits in absurd (cc)

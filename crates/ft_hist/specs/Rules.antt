@@ -1,11 +1,4 @@
--- Which item may come after a past, and which histories are legal. Each item keeps seven parts, which are those of docs/RULES.md, in its order:
---   plain run   KeepsPlainRun
---   callbacks   MayVisit, IsStill                           who is visited, and that none is open at its end
---   silence     IsSilent                                    who isn't visited
---   refusals    PassesAll, MayRefuse                        pid, recursion, depth
---   exits       NoMissDue, MayMiss, MayExit, AreExitsDone   misses, exits in order, exits that lack
---   fetches     IsFetched                                   what was fetched, whom it lets in, what runs
---   commands    MayBegin, HasWaited, IsAnswered             numbers, waits of control, answers
+-- Which item may come after a past, and which histories are legal. Each item keeps seven parts, those of docs/RULES.md in its order: `MayFollow`.
 use Rattle.std.specs.Prelude.{if◌then◌else◌, ℕ, suc, ◌≡◌, ◌<◌, ◌≤◌, ◌⊎◌, true, false, ◌&&◌, ◌==◌, List, [], ◌∷◌, length, reverse, Option, Some, None, is_some, slice_get, ◌-◌, IfSome, IsSome, Contains}
 use Rattle.std.specs.List.{list_any, AllByRecursion as Each, filter}
 use Rattle.ft_base.specs.declared.task.TaskAct.{TaskAct}
@@ -47,7 +40,7 @@ KeepsPlainRun job past item = (t : ℕ) → IsSome (plain job t (item ∷ past))
 
 -- ## callbacks
 
--- a callback or a refusal: the user is on, for the first time in the call, and was registered before those visited so far
+-- a visit: the user is on, for the first time in the call, and was registered before those visited so far
 pub record MayVisit (job : Job) (past : List Item) (call : CallNo) (u : ℕ) : Type 0 where
   pub on : AtReturnedOrBegun past (λ k. is_on (desk job k) u (entry_of call past).func ≡ true)
   pub once : IsUnvisited job call u past
@@ -57,7 +50,7 @@ pub record MayVisit (job : Job) (past : List Item) (call : CallNo) (u : ℕ) : T
 abbrev pub IsStill : List Item → Command → Type 0
 IsStill past c = IfSome (takes_off c) (λ u. is_called u past ≡ false)
 
--- whoever is visited may be, and nobody whom a command takes off is called when it returns and was accepted
+-- whoever is visited may be; and when a command was accepted and returns, the user that it takes off is still
 abbrev pub KeepsCallbacks : Job → List Item → Item → Type 0
 KeepsCallbacks job past (Back call u) = MayVisit job past call u.0
 KeepsCallbacks job past (Refuse call u reason) = MayVisit job past call u.0
@@ -71,7 +64,7 @@ abbrev pub IsSilent : Job → List Item → CallNo → Type 0
 IsSilent job past call =
     (u : ℕ) → u < length job.users → IsUnvisited job call u past → InWindow call past (λ k. is_on (desk job k) u (entry_of call past).func ≡ false)
 
--- a dispatch ends if it is silent
+-- a dispatch ends in silence
 abbrev pub KeepsSilence : Job → List Item → Item → Type 0
 KeepsSilence job past (Body call g ran) = IsSilent job past call
 KeepsSilence job past _ = Unit {0}
@@ -144,7 +137,7 @@ IsExitDone job call m past = (list_any (λ e. e == m.place) (exits call past) �
 abbrev pub AreExitsDone : Job → List Item → CallNo → Type 0
 AreExitsDone job past call = Each (λ m. HasExit job m → IsExitDone job call m past) (visits job call past)
 
--- misses come when they are due, exits may come, and all are done at the return
+-- a Miss comes when it is due, an exit may come, and all are done at the return
 abbrev pub KeepsExits : Job → List Item → Item → Type 0
 KeepsExits job past (Miss call u) = MayMiss job past call u.0
 KeepsExits job past (Exit call u entry) = MayExit job past call u.0 entry × NoMissDue job past call
@@ -184,7 +177,7 @@ pub record IsFetched (job : Job) (past : List Item) (call : CallNo) (g : ℕ) (r
   pub one : OneReplaces (backs_with_replacement job (visits job call past))
   pub runs : g ≡ replacement job (entry_of call past).func (backs_with_replacement job (visits job call past))
 
--- a Body's fetch is one
+-- a Body is of such a fetch
 abbrev pub KeepsFetches : Job → List Item → Item → Type 0
 KeepsFetches job past (Body call g ran) = IsFetched job past call g.0 ran
 KeepsFetches job past _ = Unit {0}
@@ -225,7 +218,7 @@ pub record IsAnswered (job : Job) (past : List Item) (k : ℕ) (answer : Answer)
   pub follows : begun past ≡ suc (done past)
   pub command : (c : Command) × (slice_get (commands job) (done past) ≡ Some c) × (answer ≡ answer_at job (done past) c)
 
--- commands begin and return in order, one at a time, after control's waits and with the answers of the desk
+-- commands begin after control's waits, and return with the answers of the desk
 abbrev pub KeepsCommands : Job → List Item → Item → Type 0
 KeepsCommands job past (Begin k) = MayBegin job past k × HasWaited job past
 KeepsCommands job past (Return k answer) = IsAnswered job past k answer

@@ -16,7 +16,7 @@ use Rattle.ft_base.proofs.Small.{false_true, and_both, ==-refl, Each-weaker}
 use Rattle.user_specs.specs.Bound.{acting_in, call_bound_in, nested_bound}
 use Rattle.ft_hist.specs.Past.{is_of, done, begun}
 use Rattle.ft_hist.specs.Plain.{plain, after_item, after_next, PlainTask, at_start, top_call, same_top}
-use Rattle.ft_hist.specs.Rules.{IsLegal, IsLegalPast, MayBack, MayVisit, MayExit}
+use Rattle.ft_hist.specs.Rules.{IsLegal, IsLegalPast, MayVisit, MayExit, PassesAll}
 use Rattle.ft_hist.proofs.RunLaws.{some_inj, if_some, sound}
 use Rattle.ft_hist.proofs.Since.{touches}
 use Rattle.ft_hist.proofs.WindowLaws.{legal-counts}
@@ -57,7 +57,7 @@ module _ (job : Job) (t : ℕ) where
       let w = on-call p.stack call _ s e in
       let i = back-inv job (done past) p s w.0 w.1 u.0 w.0.phase w.4 in
       let task = eqb-true call.task.0 t own in
-      at-call past p s w.0.call call (λ c. Back c u) w.3 (back-paid job t past p s w.0 w.1 u h here w.2 (ap (λ (c : CallNo). c.task.0) w.3 ∙ task) (subst (λ c. MayBack job past c u.0) (sym w.3) l.0.rule.0) i.0 i.1)
+      at-call past p s w.0.call call (λ c. Back c u) w.3 (back-paid job t past p s w.0 w.1 u h here w.2 (ap (λ (c : CallNo). c.task.0) w.3 ∙ task) (subst (λ c. MayVisit job past c u.0) (sym w.3) l.0.callbacks) (subst (λ c. PassesAll job past c u.0) (sym w.3) l.0.refusals) i.0 i.1)
   own-item past (BackEnd call u) p s own l here e h =
       let w = on-call p.stack call _ s e in
       let i = back-end-inv job (done past) p s w.0 w.1 u.0 w.0.phase w.4 in
@@ -67,7 +67,7 @@ module _ (job : Job) (t : ℕ) where
       let w = on-call p.stack call _ s e in
       let i = refusal-inv job (done past) p s w.0 w.1 w.0.phase w.4 in
       let task = eqb-true call.task.0 t own in
-      at-call past p s w.0.call call (λ c. Refuse c u reason) w.3 (refuse-paid job t past p s w.0 w.1 u reason h here w.2 (ap (λ (c : CallNo). c.task.0) w.3 ∙ task) (subst (λ c. MayVisit job past c u.0) (sym w.3) l.0.rule.0) i.0 i.1)
+      at-call past p s w.0.call call (λ c. Refuse c u reason) w.3 (refuse-paid job t past p s w.0 w.1 u reason h here w.2 (ap (λ (c : CallNo). c.task.0) w.3 ∙ task) (subst (λ c. MayVisit job past c u.0) (sym w.3) l.0.callbacks) i.0 i.1)
   own-item past (Miss call u) p s own l here e h =
       let w = on-call p.stack call _ s e in
       let i = miss-inv job (done past) p s w.0 w.1 u.0 w.0.phase w.4 in
@@ -87,7 +87,7 @@ module _ (job : Job) (t : ℕ) where
       let w = on-call p.stack call _ s e in
       let i = exit-inv job (done past) p s w.0 w.1 u.0 w.0.phase w.4 in
       let task = eqb-true call.task.0 t own in
-      at-call past p s w.0.call call (λ c. Exit c u entry) w.3 (exit-paid job t past p s w.0 w.1 u entry h here w.2 (ap (λ (c : CallNo). c.task.0) w.3 ∙ task) (subst (λ c. MayExit job past c u.0 entry) (sym w.3) l.0.rule.0) i.0 i.1)
+      at-call past p s w.0.call call (λ c. Exit c u entry) w.3 (exit-paid job t past p s w.0 w.1 u entry h here w.2 (ap (λ (c : CallNo). c.task.0) w.3 ∙ task) (subst (λ c. MayExit job past c u.0 entry) (sym w.3) l.0.exits.0) i.0 i.1)
   own-item past (ExitEnd call u) p s own l here e h =
       let w = on-call p.stack call _ s e in
       let i = exit-end-inv job (done past) p s w.0 w.1 u.0 w.0.phase w.4 in
@@ -252,7 +252,7 @@ module _ (job : Job) where
   few-commands : (past : List Item) → IsLegalPast job past → begun past ≤ length (commands job)
   unfolding IsLegalPast
   few-commands [] l = omega arith
-  few-commands (Begin k ∷ past) l = let lt = l.0.rule.0.stands in omega (arith, lt)
+  few-commands (Begin k ∷ past) l = let lt = l.0.commands.0.stands in omega (arith, lt)
   few-commands (_ ∷ past) l = few-commands past l.1
 
   -- the calls of the tasks below n

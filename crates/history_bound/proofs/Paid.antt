@@ -27,7 +27,7 @@ use Rattle.std.proofs.Math.Nat.{mul-suc}
 use Rattle.std.proofs.lemmas.List.{get_or_past}
 use Rattle.ft_hist.specs.Past.{is_of, done, begun, entry_of, Visit, visit, all_visits, visits, exits}
 use Rattle.ft_hist.specs.Plain.{plain, PlainTask, Frame, Phase, Dispatch, InBack, Running, Leaving, InExit, Owed, in_phase, owed_by}
-use Rattle.ft_hist.specs.Rules.{MayVisit, MayBack, MayExit}
+use Rattle.ft_hist.specs.Rules.{MayVisit, MayExit, PassesAll}
 use Rattle.ft_hist.proofs.Laws.{same_call-refl}
 use Rattle.ft_hist.proofs.HeldLaws.{opens}
 use Rattle.ft_hist.proofs.RunLaws.{calls_on, sound}
@@ -143,18 +143,18 @@ module _ (job : Job) (t : ℕ) where
       costs-one (suc k) = omega arith
 
   pub back-paid : (past : List Item) (p s : PlainTask) (f : Frame) (below : List Frame) (u : UserNo) → Paid past p → plain job t past ≡ Some p → p.stack ≡ f ∷ below → f.call.task.0 ≡ t
-      → MayBack job past f.call u.0 → f.phase ≡ Dispatch → Went p s f below (InBack u.0 (owed_by f.ctx (spec_at job u.0).act) true) → Paid (Back f.call u ∷ past) s
+      → MayVisit job past f.call u.0 → PassesAll job past f.call u.0 → f.phase ≡ Dispatch → Went p s f below (InBack u.0 (owed_by f.ctx (spec_at job u.0).act) true) → Paid (Back f.call u ∷ past) s
   unfolding all_visits
-  back-paid past p s f below u h here at own may ph went =
+  back-paid past p s f below u h here at own may passes ph went =
       let apart = apart-below past p f below here at in
       let guards : Guarded job (f ∷ below) = subst (λ fs. Guarded job fs) at h.guarded in
       let run : plain job f.call.task.0 past ≡ Some p = subst (λ n. plain job n past ≡ Some p) (sym own) here in
       let top : standing p.stack ≡ stands f.call f.ctx None ∷ standing below = ap standing at ∙ ap (λ q. stands f.call f.ctx (user_in q) ∷ standing below) ph in
-      let free = rw (opens-below job f.call f.ctx (standing below) past p run top) at may.free in
+      let free = rw (opens-below job f.call f.ctx (standing below) past p run top) at passes.free in
       let lev = has-level job f below guards.0.over guards.1 free in
       top-step past (Back f.call u) p s f below (InBack u.0 (owed_by f.ctx (spec_at job u.0).act) true) h at went (rw own (==-refl t))
       (Each-weaker (λ g. same_call f.call g.call ≡ false) (λ g. touches g.call (Back f.call u) ≡ false) below (λ g e. e) apart)
-      (back-less u.0 f.ctx (visits job f.call past) (exits f.call past) (visit job f.call u.0 past (all_visits job past) true) (level job (f ∷ below)) lev.0 f.phase (same_call f.call f.call) refl (visit-within past f.call u.0 may.visit) may.visit.once lev.1 ph (same_call-refl f.call))
+      (back-less u.0 f.ctx (visits job f.call past) (exits f.call past) (visit job f.call u.0 past (all_visits job past) true) (level job (f ∷ below)) lev.0 f.phase (same_call f.call f.call) refl (visit-within past f.call u.0 may) may.once lev.1 ph (same_call-refl f.call))
       (free, owed-from f.ctx (spec_at job u.0).act)
 
   pub refuse-paid : (past : List Item) (p s : PlainTask) (f : Frame) (below : List Frame) (u : UserNo) (reason : Reason) → Paid past p → plain job t past ≡ Some p → p.stack ≡ f ∷ below → f.call.task.0 ≡ t

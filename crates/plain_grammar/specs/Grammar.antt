@@ -36,7 +36,8 @@ abbrev pub items_of : ℕ → List Item → List Stamped
 items_of t [] = []
 items_of t (item ∷ past) = if is_of t item then items_of t past ++ at (done past) item ∷ [] else items_of t past
 
--- before the next of these items, if there is one, this many commands have returned; so they have before all of them
+-- before the next of these items, if there is one, this many commands have returned; so they have before all of them, since what has
+-- returned never falls
 abbrev pub HasReturned : ℕ → List Stamped → Type 0
 HasReturned m [] = Unit {0}
 HasReturned m (x ∷ rest) = m ≤ x.returned
@@ -60,6 +61,9 @@ pub data Exits (call : CallNo) : List Stamped → List Stamped → Type 0 where
 pub data Return (call : CallNo) (to : Option CallNo) : List Stamped → List Stamped → Type 0 where
   returns : {k j : ℕ} {items rest : List Stamped} → Exits call items (at j (Ret call to) ∷ rest) → Return call to (at k (Leave call) ∷ items) rest
 
+-- How a constructor is read, `one_try`: if `items` begin with a try, which leaves `between` and takes the next call's number from n to m,
+-- and `between` begins with tries, which leave `rest` and take it from m to n', then `items` begin with tries, which leave `rest` and take
+-- it from n to n'.
 module _ (job : Job) (t : ℕ) where
   mutual
     -- any number of tries in the dispatch of a call in this context
