@@ -125,4 +125,4 @@ module _ (job : Job) (apart : AreActsApart job) where
         let may = splits job items before (Body call g ran) after legal e in
         let called = keeps items legal before (Body call g ran) after call e refl in
         let past : List Item = reverse before in
-        subst (λ (n : ℕ). IsThere job n past) (sym may.rule.0.runs) (replaced others (named past call) past (backs_with_replacement job (visits job call past)) called)
+        subst (λ (n : ℕ). IsThere job n past) (sym may.fetches.runs) (replaced others (named past call) past (backs_with_replacement job (visits job call past)) called)

@@ -5,11 +5,11 @@ use Rattle.std.specs.Prelude.{IfSome}
 use Rattle.std.specs.List.{AllByRecursion as Each}
 use Rattle.ft_base.specs.declared.item.Item.{Item}
 use Rattle.ft_base.specs.declared.item.Item.TheVariants.{Begin}
-use Rattle.ft_base.specs.Job.{Job, Ctl, Run, Until, commands_in}
+use Rattle.ft_base.specs.Job.{Job, Ctl, Run, Until, commands_in, waits_before}
 use Rattle.ft_base.proofs.Small.{and_both, Each-weaker}
 use Rattle.ft_hist.specs.Past.{begun}
 use Rattle.ft_hist.specs.Plain.{PlainTask, plain}
-use Rattle.ft_hist.specs.Rules.{IsLegalPast, HasWaited, acts_passed, waits_before}
+use Rattle.ft_hist.specs.Rules.{IsLegalPast, HasWaited, acts_passed}
 use Rattle.ft_hist.specs.Finished.{acts_done}
 use Rattle.ft_hist.proofs.Finishing.{passed-is, acts_done-more}
 use Rattle.ft_hist.proofs.Numbers.{some-run}
@@ -58,5 +58,5 @@ module _ (job : Job) (t : ℕ) where
   pub begun-few : (past : List Item) → IsLegalPast job past → (n : ℕ) → acts_done job t past < n → begun past ≤ commands_until t n 0 job.ctls
   unfolding IsLegalPast
   begun-few [] l n lt = omega arith
-  begun-few (Begin k ∷ past) l n lt = let le = until-after t n 0 (begun past) job.ctls (waits-few n past l.1 lt l.0.rule.1) l.0.rule.0.stands in omega (arith, le)
+  begun-few (Begin k ∷ past) l n lt = let le = until-after t n 0 (begun past) job.ctls (waits-few n past l.1 lt l.0.commands.1) l.0.commands.0.stands in omega (arith, le)
   begun-few (item ∷ past) l n lt = let more = acts_done-more job t item past in begun-few past l.1 n (omega (arith, more, lt))

@@ -396,7 +396,7 @@ module _ (job : Job) (ok : IsWellFormed job) (replaced : Each (IsReplacedIn (fun
         ((is_call, in'.0, top-is job ok p.stack caller b.1 h.stack), in'.1)
     item-of (Back call u) l own e =
         let w = on-top call _ e in
-        let inside = on-inside job ok past u.0 _ l.0.rule.0.visit.on in
+        let inside = on-inside job ok past u.0 _ l.0.callbacks.on in
         ((w.3, inside), more-items job ok n s (back-of job ok n p s h w.0 w.1 u.0 w.0.phase w.5 w.4 inside))
     item-of (BackEnd call u) l own e =
         let w = on-top call _ e in
@@ -404,7 +404,7 @@ module _ (job : Job) (ok : IsWellFormed job) (replaced : Each (IsReplacedIn (fun
         ((w.3, r.0), more-items job ok n s r.1)
     item-of (Refuse call u reason) l own e =
         let w = on-top call _ e in
-        ((w.3, on-inside job ok past u.0 _ l.0.rule.0.on), more-items job ok n s (refusal-of job ok n p s h w.0.phase w.5))
+        ((w.3, on-inside job ok past u.0 _ l.0.callbacks.on), more-items job ok n s (refusal-of job ok n p s h w.0.phase w.5))
     item-of (Miss call u) l own e =
         let w = on-top call _ e in
         let r = miss-of job ok n p s h w.0 w.1 u.0 w.0.phase w.5 w.4 w.4.0.2 in
@@ -413,9 +413,9 @@ module _ (job : Job) (ok : IsWellFormed job) (replaced : Each (IsReplacedIn (fun
         let w = on-top call _ e in
         let inside = w.4.0.1 in
         let entry = entered-func job call past (omega (arith, inside)) items in
-        let runs = l.0.rule.0.runs in
+        let runs = l.0.fetches.runs in
         let func = subst (λ k. k < funcs job) (sym runs) (replaced-func job (entry_of call past).func (backs_with_replacement job (visits job call past)) entry replaced) in
-        let fetched = l.0.rule.0.fetched in (
+        let fetched = l.0.fetches.fetched in (
           (w.3, func, subst (IsRanOf job) (sym fetched.3) (target-is job fetched.0 (entry_of call past).func)),
           more-items job ok n s (body-of job ok n p s h w.0 w.1 w.0.phase w.5 w.4),
         )
@@ -424,7 +424,7 @@ module _ (job : Job) (ok : IsWellFormed job) (replaced : Each (IsReplacedIn (fun
         (w.3, more-items job ok n s (leave-of job ok n p s h (done past) w.0 w.1 w.0.phase w.5 w.4))
     item-of (Exit call u entry) l own e =
         let w = on-top call _ e in
-        let of = l.0.rule.0.of in
+        let of = l.0.exits.0.of in
         let inside = live-inside job past u.0 of.0.reg of.5 in
         let place = entry-placed job past call of.0 of.1 in
         let at' = of.3 in
@@ -475,15 +475,15 @@ module _ (job : Job) (ok : IsWellFormed job) (replaced : Each (IsReplacedIn (fun
   past-of [] l short = record { items = tt; tasks = λ t s e. subst (TaskOf job ok 0) (some_inj _ s e) (starts job ok t) }
   past-of (Begin k ∷ past) l short =
       let h = past-of past l.1 (omega (arith, short)) in
-      let number = l.0.rule.0.number in
+      let number = l.0.commands.0.number in
       let few = few-begun past in
       after-item (Begin k) past l short h (omega (arith, number, few, short))
   past-of (Return k a ∷ past) l short =
       let h = past-of past l.1 (omega (arith, short)) in
-      let number = l.0.rule.number in
-      let follows = l.0.rule.follows in
+      let number = l.0.commands.number in
+      let follows = l.0.commands.follows in
       let few = few-begun past in
-      let c = l.0.rule.command in
+      let c = l.0.commands.command in
       after-item (Return k a) past l short h (omega (arith, number, follows, few, short), subst (IsAnswerOf job) (sym c.2) (answer-is job (desk job (done past)) c.0))
   past-of (Enter call x f caller ∷ past) l short = by-task (Enter call x f caller) past l short (past-of past l.1 (omega (arith, short))) call.task.0 (==-refl call.task.0)
   past-of (Back call u ∷ past) l short = by-task (Back call u) past l short (past-of past l.1 (omega (arith, short))) call.task.0 (==-refl call.task.0)

@@ -38,7 +38,7 @@ begins-in job [] l i lt = absurd (omega (arith, lt))
 begins-in job (Begin k ∷ past) l i lt = elim (cases_lt i (begun past)) [
   | inl below ↦ Contains-more (Begin k) (Begin (suc i)) past (begins-in job past l.1 i below)
   | inr above ↦
-      let number = l.0.rule.0.number in
+      let number = l.0.commands.0.number in
       let is : k ≡ suc i = omega (arith, number, above, lt) in
       subst (λ (n : ℕ). Contains (Begin k ∷ past) (Begin n)) is (Contains-head (Begin k) past)
 ]

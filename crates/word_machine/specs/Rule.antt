@@ -4,11 +4,11 @@ use Rattle.std.specs.Prelude.{ℕ, ◌≡◌, ◌+◌, ◌*◌, ◌<◌, ◌≤�
 use Rattle.std.specs.List.{AllByRecursion as Each}
 use Rattle.ft_base.specs.declared.limits.TheConstants.{TASKS, FUNCS}
 use Rattle.ft_base.specs.declared.item.Item.{Item}
-use Rattle.ft_base.specs.Job.{Job, Command, Ctl, Run, Until, no_task, commands, commands_in, funcs}
+use Rattle.ft_base.specs.Job.{Job, Command, Ctl, Run, Until, no_task, commands, commands_in, funcs, waits_before}
 use Rattle.ft_base.specs.WellFormed.{IsWellFormed}
 use Rattle.ft_hist.specs.Past.{done, begun}
 use Rattle.ft_hist.specs.Plain.{plain}
-use Rattle.ft_hist.specs.Rules.{IsLegalPast, waits_before}
+use Rattle.ft_hist.specs.Rules.{IsLegalPast}
 use Rattle.user_specs.specs.Bound.{call_bound_in}
 use Rattle.history_bound.specs.Bound.{all_calls}
 use Rattle.word_map.specs.Contents.{low, half_size, halves, greatest_half, all_ones}

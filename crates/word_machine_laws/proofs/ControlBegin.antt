@@ -38,6 +38,7 @@ use Rattle.word_machine_laws.proofs.NoSwitch.{world, hereby, lines_on, under_on}
 use Rattle.word_machine_laws.proofs.DeskKept.{others_same, none_changes, rest_same, order_flips, IsSteady}
 use Rattle.word_machine_laws.proofs.TrampRows.{first_copy}
 use Rattle.word_machine_laws.proofs.Room.{HasRoomFor}
+use Rattle.ft_hist.proofs.ItemParts.{may_follow, of_begin}
 
 module _ (job : Job) (ok : IsWellFormed job) (d : ℕ) where
   -- a command that stores no user's state leaves all states
@@ -219,7 +220,7 @@ module _ (job : Job) (ok : IsWellFormed job) (ws : Words) (d : ℕ) (c : Command
       omega (arith, z)) k.sites.want b.position b.fit (inl refl)
       (λ c within s. rw (b.reaches k.base c) (omega arith)) k.sites in
       let legal : IsLegalPast job (Begin (suc d) ∷ past) =
-      (record { run = λ t. rw (plain-other job past (Begin (suc d)) t refl) (k.runs t); rule = (may_begin k, waited) }, k.legal) in
+      (may_follow job past (Begin (suc d)) (λ t. rw (plain-other job past (Begin (suc d)) t refl) (k.runs t)) (of_begin (may_begin k, waited)), k.legal) in
       record {
         base = k.base;
         counts = record {

@@ -1,16 +1,16 @@
 -- The row that marks the Return.
 use Rattle.std.proofs.Common.{cond, ◌≡◌, ℕ, suc, ◌+◌, ◌<◌, ◌≤◌, Bool, true, false, ◌&&◌, ◌==◌, List, ◌∷◌, length, get_or, Some, inl, inr, refl, sym, ap, ◌∙◌, subst, arith}
-use Rattle.std.specs.Prelude.{Option, slice_get}
+use Rattle.std.specs.Prelude.{Option, slice_get, IfSome}
 use Rattle.std.proofs.lemmas.Bool.{cases_eq, cases_lt}
 use Rattle.std.proofs.lemmas.Option.{slice_get_within}
 use Rattle.ft_base.specs.declared.item.Item.{Item}
 use Rattle.ft_base.specs.declared.item.Item.TheVariants.{Return}
-use Rattle.ft_base.specs.Job.{Job, no_task, Ctl, Run, Command, Register, Unregister, Filter, Notrace, Pid, NoPid, Enable, Disable, MaxDepth, commands}
+use Rattle.ft_base.specs.Job.{Job, no_task, Ctl, Run, Command, Register, Unregister, Filter, Notrace, Pid, NoPid, Enable, Disable, MaxDepth, commands, waits_before}
 use Rattle.ft_base.specs.Desk.{UserState, desk, is_allowed, is_accepted, is_matching, answer_on}
 use Rattle.ft_base.specs.WellFormed.{IsWellFormed}
 use Rattle.ft_base.proofs.Small.{false_true, and_both}
 use Rattle.ft_hist.specs.Past.{is_called, callbacks}
-use Rattle.ft_hist.specs.Rules.{IsLegalPast, MayReturn, IsStill, waits_before}
+use Rattle.ft_hist.specs.Rules.{IsLegalPast, IsStill, IsAnswered}
 use Rattle.ft_hist.proofs.Laws.{plain-other}
 use Rattle.word_map.specs.Words.{Words}
 use Rattle.word_map.specs.Contents.{low}
@@ -36,6 +36,7 @@ use Rattle.word_machine_laws.proofs.Effects.{passed_of}
 use Rattle.ft_hist.proofs.OpenCallbacks.{of_user, there_of, by_task, stranger_none}
 use Rattle.ft_hist.proofs.Carries.{of_task}
 use Rattle.word_machine_laws.proofs.Room.{HasRoomFor}
+use Rattle.ft_hist.proofs.ItemParts.{may_follow, of_return}
 
 -- ## tasks
 
@@ -190,18 +191,17 @@ module _ (job : Job) (ok : IsWordJob job) (ws : Words) (d : ℕ) (remaining : Li
       by_command (Enable u) is accepts = tt
       by_command (MaxDepth n) is accepts = tt
 
-  may_return : (k : At Close) → (c : Command) → slice_get (commands job) d ≡ Some c → MayReturn job past (suc d) (answer_in job d (command job d))
+  may_return : (k : At Close) → (c : Command) → slice_get (commands job) d ≡ Some c → IsAnswered job past (suc d) (answer_in job d (command job d))
   may_return k c is = record {
     number = ap (λ n. suc n) (sym k.counts.returned);
     follows = k.counts.started ∙ ap (λ n. suc n) (sym k.counts.returned);
-    command = subst (λ n. (c : Command) × (slice_get (commands job) n ≡ Some c) × (answer_in job d (command job d) ≡ answer_on job (desk job n) c)
-        × (is_accepted (answer_in job d (command job d)) ≡ true → IsStill past c)) (sym k.counts.returned) (
-          c,
-          is,
-          ap (λ (o : Option Command). answer_in job d o) is,
-          (λ e. still k c is (ap (λ (o : Option Command). is_accepted (answer_in job d o)) (sym is) ∙ e)),
-        );
+    command = subst (λ n. (c : Command) × (slice_get (commands job) n ≡ Some c) × (answer_in job d (command job d) ≡ answer_on job (desk job n) c)) (sym k.counts.returned)
+        (c, is, ap (λ (o : Option Command). answer_in job d o) is);
   }
+
+  -- and whom it takes off is still
+  still_then : (k : At Close) → (c : Command) → slice_get (commands job) d ≡ Some c → is_accepted (answer_in job d (command job d)) ≡ true → IfSome (slice_get (commands job) d) (IsStill past)
+  still_then k c is e = subst (λ (o : Option Command). IfSome o (IsStill past)) (sym is) (still k c is (ap (λ (o : Option Command). is_accepted (answer_in job d o)) (sym is) ∙ e))
 
   -- the row
   pub close_keeps : HasRoomFor job → At Close
@@ -213,10 +213,8 @@ module _ (job : Job) (ok : IsWordJob job) (ws : Words) (d : ℕ) (remaining : Li
       let pass : Passed job ws.ack d Close k.base request (suc d) Line request request ws.want ws.head ws.tail ws.next =
       passed_close job d ws.ack Line k.base request ws.want ws.head ws.tail ws.next (λ f. refl) refl (λ b c. refl) tt refl k.sites in
       let legal : IsLegalPast job (Return (suc d) (answer_in job d (command job d)) ∷ past) = (
-        record {
-          run = λ t. rw (plain-other job past (Return (suc d) (answer_in job d (command job d))) t refl) (k.runs t);
-          rule = may_return k u.0 l.0;
-        },
+        may_follow job past (Return (suc d) (answer_in job d (command job d))) (λ t. rw (plain-other job past (Return (suc d) (answer_in job d (command job d))) t refl) (k.runs t))
+            (of_return (still_then k u.0 l.0) (may_return k u.0 l.0)),
         k.legal,
       ) in
       record {

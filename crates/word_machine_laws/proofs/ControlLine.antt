@@ -7,11 +7,11 @@ use Rattle.ft_base.specs.declared.context.Ctx.{Ctx}
 use Rattle.ft_base.specs.declared.item.Item.{Item}
 use Rattle.ft_base.specs.declared.task.TaskAct.{TaskAct}
 use Rattle.ft_base.specs.declared.task.TaskAct.TheVariants.{Call, Ret as RetAct, Raise, Lower, After}
-use Rattle.ft_base.specs.Job.{Job, no_task, Ctl, Run, Until, Command}
+use Rattle.ft_base.specs.Job.{Job, no_task, Ctl, Run, Until, Command, waits_before}
 use Rattle.ft_base.proofs.Small.{false_true, Each-snoc}
 use Rattle.ft_hist.specs.Past.{done, begun}
 use Rattle.ft_hist.specs.Plain.{plain, ahead, Ahead, PlainTask, Frame, Running, below_top}
-use Rattle.ft_hist.specs.Rules.{HasWaited, acts_passed, waits_before}
+use Rattle.ft_hist.specs.Rules.{HasWaited, acts_passed}
 use Rattle.word_map.specs.Words.{Words, Quiet}
 use Rattle.word_map.specs.Contents.{high, low}
 use Rattle.word_map.specs.Ops.{Load}

@@ -23,6 +23,7 @@ use Rattle.word_machine.specs.Rule.{MachineRule, here, IsOn, IsWordJob, PollAt}
 use Rattle.word_machine_laws.proofs.Steps.{run_kept, play_kept}
 use Rattle.word_machine_laws.proofs.Room.{legal-turned}
 use Rattle.word_machine_laws.proofs.TasksOf.{task_goes_on}
+use Rattle.ft_hist.proofs.Laws.{ahead-nothing}
 
 none-past : (xs : List Command) (i : ℕ) → slice_get xs i ≡ None → length xs ≤ i
 none-past [] i e = omega arith
@@ -57,8 +58,8 @@ module _ (job : Job) (h : Here) (past : List Item) (ack word t : ℕ) where
       → (k : TaskRule job h past ack word t (record { next = next; acts = acts; gone = gone; contexts = contexts; stack = stack; word = own; moment = m }))
       → has_acts acts ≡ false → HasEnded (done past) k.run.at
   ended next (a ∷ rest) gone contexts stack own m k none = false_true (sym none)
-  ended next [] gone contexts [] own Polling k none = (ap (λ (a : Ahead). a.acts) k.run.ahead, k.run.stack)
-  ended next [] gone contexts [] own First k none = (ap (λ (a : Ahead). a.acts) k.run.ahead, k.run.stack)
+  ended next [] gone contexts [] own Polling k none = (ahead-nothing (done past) k.run.at.acts k.run.at.contexts k.run.at.gone (ap (λ (a : Ahead). a.acts) k.run.ahead), k.run.stack)
+  ended next [] gone contexts [] own First k none = (ahead-nothing (done past) k.run.at.acts k.run.at.contexts k.run.at.gone (ap (λ (a : Ahead). a.acts) k.run.ahead), k.run.stack)
   ended next [] gone contexts (c ∷ below) own Polling k none =
       absurd (let s : cond c.scripted (suc (scripted_of below)) (scripted_of below) ≡ 0 = k.script in
       let z : suc (scripted_of below) ≡ 0 = subst (λ b. cond b (suc (scripted_of below)) (scripted_of below) ≡ 0) k.calls.1.1 s in omega (arith, z))

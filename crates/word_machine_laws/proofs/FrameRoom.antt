@@ -120,8 +120,8 @@ module _ (job : Job) where
   visited-apart : (call : CallNo) (past : List Item) → IsLegalPast job past → IsDistinct eqb (users (visits job call past))
   unfolding IsLegalPast all_visits IsDistinct
   visited-apart call [] l = tt
-  visited-apart call (Back c u ∷ past) l = apart-one call c u.0 past true l.0.rule.0.visit.once (visited-apart call past l.1)
-  visited-apart call (Refuse c u reason ∷ past) l = apart-one call c u.0 past false l.0.rule.0.once (visited-apart call past l.1)
+  visited-apart call (Back c u ∷ past) l = apart-one call c u.0 past true l.0.callbacks.once (visited-apart call past l.1)
+  visited-apart call (Refuse c u reason ∷ past) l = apart-one call c u.0 past false l.0.callbacks.once (visited-apart call past l.1)
   visited-apart call (_ ∷ past) l = visited-apart call past l.1
 
 -- ## so there is room

@@ -17,7 +17,7 @@ use Rattle.ft_base.proofs.Small.{false_true, ==-refl, and_both, Each-weaker}
 use Rattle.ft_base.proofs.Modifiers.{one_modifies}
 use Rattle.ft_hist.specs.Past.{done, Entered, entry_of, Visit, visits, all_visits}
 use Rattle.ft_hist.specs.Plain.{plain, after_item, PlainTask, Frame, Dispatch, Running}
-use Rattle.ft_hist.specs.Rules.{MayFollow, MayBody, InWindow}
+use Rattle.ft_hist.specs.Rules.{MayFollow, InWindow, IsSilent, IsFetched}
 use Rattle.ft_hist.specs.Frames.{is_nil, keeps_frame}
 use Rattle.ft_hist.proofs.Laws.{same_call-refl}
 use Rattle.ft_hist.proofs.WindowLaws.{begun-more}
@@ -41,6 +41,7 @@ use Rattle.word_machine_laws.proofs.Marks.{follows, mid_kept}
 use Rattle.word_machine_laws.proofs.MarkDispatch.{task, few-below}
 use Rattle.ft_base.proofs.Targets.{sited_own, sited_nop, off_unsited}
 use Rattle.word_machine_laws.proofs.Told.{told-fewer, one-done}
+use Rattle.ft_hist.proofs.ItemParts.{of_body}
 
 -- ## what a target says of users
 
@@ -150,12 +151,13 @@ module _ (job : Job) (ok : IsWordJob job) (h : Here) (ack word clock : ℕ) (pas
         not_sited false y = y
         not_sited true y = sited_nop (desk job wd.0) c.func u (sym wd.3) y
 
-    pub may_body : MayBody job past c.call c.runs.0 c.ran
-    may_body =
+    whole_window : IsSilent job past c.call
+    whole_window u within un = subst (λ (x : Entered). InWindow c.call past (λ j. is_on (desk job j) u x.func ≡ false)) (sym known) (silent c.ran d.at.0 u (d.so.watch u un))
+
+    fetches : IsFetched job past c.call c.runs.0 c.ran
+    fetches =
         let one = met_at_one job ok h q c.func (visits job c.call past) d.on in
         record {
-          silent = λ u within un. subst (λ (x : Entered). InWindow c.call past (λ j. is_on (desk job j) u x.func ≡ false)) (sym known)
-              (silent c.ran d.at.0 u (d.so.watch u un));
           fetched = subst (λ (x : Entered). InWindow c.call past (λ j. c.ran ≡ target (desk job j) x.func)) (sym known) d.at.0;
           only = d.at.1;
           one = at_most_one job (desk job one.0) c.func (visits job c.call past) (λ x y. one_modifies job ok.job' one.0 c.func x y k.calls.0.inside)
@@ -205,7 +207,7 @@ module _ (job : Job) (ok : IsWordJob job) (h : Here) (ack word clock : ℕ) (pas
     at' = record k.run.at { stack = frame_of c Running ∷ under }
 
     followed : MayFollow job past body × (plain job t (body ∷ past) ≡ Some at')
-    followed = follows job past body t k.run.at at' (λ v. refl) runs k.run.is (reads-body (done past) k.run.at under k.run.stack) (may_body, k.miss)
+    followed = follows job past body t k.run.at at' (λ v. refl) runs k.run.is (reads-body (done past) k.run.at under k.run.stack) (of_body whole_window k.miss fetches)
 
     pub body_row : Row body t (closed (task n gone acts cs (c ∷ below) w Closing) c below)
     body_row = (followed.0, by c.scripted refl)

@@ -22,7 +22,7 @@ use Rattle.ft_base.specs.Order.{IsOrder}
 use Rattle.ft_base.proofs.Small.{false_true, ==-refl, and_both, Each-weaker, full}
 use Rattle.ft_hist.specs.Past.{done, begun, Entered, entered, entry_of, Callback, callbacks, ended, open_callbacks, all_visits, visit, Visit, visits, held}
 use Rattle.ft_hist.specs.Plain.{plain, after_item, PlainTask, Frame, Phase, Dispatch, InBack, Owed, owed_by}
-use Rattle.ft_hist.specs.Rules.{IsLegalPast, MayFollow, MayVisit, MayRefuse, MayBack, IsFree, PassesPid}
+use Rattle.ft_hist.specs.Rules.{IsLegalPast, MayFollow, MayVisit, MayRefuse, IsFree, PassesPid, PassesAll}
 use Rattle.ft_hist.proofs.Laws.{same_call-refl}
 use Rattle.ft_hist.proofs.WindowLaws.{begun-more, InWindow-more, visits-more}
 use Rattle.ft_hist.specs.Known.{holds}
@@ -45,6 +45,7 @@ use Rattle.word_machine_laws.proofs.DeskChanges.{since-unique, numbers-kept}
 use Rattle.word_machine_laws.proofs.Visiting.{may_meet, walk-since, read-numbers, read-reg}
 use Rattle.word_machine_laws.proofs.Marks.{follows, mid_kept}
 use Rattle.ft_hist.proofs.Carries.{of_task}
+use Rattle.ft_hist.proofs.ItemParts.{of_visit, of_exits}
 
 -- a call in its dispatch holds a frame if its walk says so
 pub so-holds : (job : Job) (a : Around) (call : CallNo) (e : Entered) (w : Walk) (todo : ℕ → Bool) (past : List Item) → CallSo job a call e w todo past
@@ -196,11 +197,10 @@ module _ (job : Job) (ok : IsWordJob job) (h : Here) (ack word clock : ℕ) (pas
       ],
     )
 
-    may_back : (u : ℕ) → MayVisit job past c.call u → PidSeen job h q u t → GuardIs job c below false → LevelSeen job h q u (level_of below)
+    may_back : (u : ℕ) → PidSeen job h q u t → GuardIs job c below false → LevelSeen job h q u (level_of below)
         → open_callbacks t (entry_of c.call past).ctx past ≡ held_levels (around c below).guards c.ctx → held job c.call past ≡ level_of below
-        → MayBack job past c.call u
-    may_back u visit pid free room guard level = record {
-      visit = visit;
+        → PassesAll job past c.call u
+    may_back u pid free room guard level = record {
       pid = passes_pid c.call u pid;
       free = is_free free guard;
       room = λ e. rw level (room e).0;
@@ -237,7 +237,7 @@ module _ (job : Job) (ok : IsWordJob job) (h : Here) (ack word clock : ℕ) (pas
           let guard = the_guard (Refusing u reg reason) k k.opens e d.so.known refl in
           let f = follows job past item t k.run.at k.run.at (λ v. refl) runs k.run.is
           (reads-refuse (done past) k.run.at (plain_stack job false (under_call c below) below) u reason k.run.stack)
-          (may, may_refuse u reason d.at.3 guard level, k.miss) in
+          (of_visit may (may_refuse u reason d.at.3 guard level) k.miss) in
           let so = so-refused job (around c below) c.call e (walk_of c) u (may_come since c.ran (Refusing u reg reason)) (may_come since c.ran m') past may.order
           (takes d.at.1) d.so reason in
           let more = visits-refuse job (around c below) c.call e u past reason in
@@ -339,7 +339,7 @@ module _ (job : Job) (ok : IsWordJob job) (h : Here) (ack word clock : ℕ) (pas
           let under : List Frame = plain_stack job false (under_call c below) below in
           let at : PlainTask = record k.run.at { stack = frame_of c (InBack u (owed' u) true) ∷ under } in
           let f = follows job past item t k.run.at at (λ v. refl) runs k.run.is (reads-back (done past) k.run.at under u k.run.stack)
-          (may_back u may d.at.3 d.at.4 d.at.5 guard level, k.miss) in
+          (of_visit may (may_back u d.at.3 d.at.4 d.at.5 guard level) k.miss) in
           let of_reg = read-reg job ok h q clock past counts legal ord c.call u reg c.func d.at.2 in
           let so = so-called job (around c below) c.call e (walk_of c) u (may_come since c.ran (Calling u reg)) (may_come since c.ran m') past may.order
           (λ v ne le. sym (watch v) ∙ takes_after c.ran u (visits job c.call past) d.at.1 v ne le) d.so level (takes-room u d.at.5) reg of_reg
@@ -438,7 +438,7 @@ module _ (job : Job) (ok : IsWordJob job) (h : Here) (ack word clock : ℕ) (pas
           let under : List Frame = plain_stack job false (under_call c below) below in
           let at : PlainTask = record k.run.at { stack = frame_of c (InBack u (owed' u) false) ∷ under } in
           let f = follows job past item t k.run.at at (λ v. refl) runs k.run.is (reads-miss (done past) k.run.at under u (owed' u) k.run.stack)
-          (rw k.miss ((refl, refl), refl)) in
+          (of_exits (rw k.miss ((refl, refl), refl))) in
           let same : visits job c.call (item ∷ past) ≡ visits job c.call past = visits-more job c.call item past refl in
           let ranis : RanIs job (item ∷ past) c = InWindow-more c.call item past _ refl d.at.0 in
           let dispatch = dispatch_on (Missing u) m' c item k refl d (λ v. watch v)
@@ -476,7 +476,7 @@ module _ (job : Job) (ok : IsWordJob job) (h : Here) (ack word clock : ℕ) (pas
           let item : Item = BackEnd c.call (record { 0 = u }) in
           let under : List Frame = plain_stack job false (under_call c below) below in
           let at : PlainTask = record k.run.at { stack = frame_of c Dispatch ∷ under } in
-          let f = follows job past item t k.run.at at (λ v. refl) runs k.run.is (reads-back_end (done past) k.run.at under u k.run.fresh k.run.stack) k.miss in
+          let f = follows job past item t k.run.at at (λ v. refl) runs k.run.is (reads-back_end (done past) k.run.at under u k.run.fresh k.run.stack) (of_exits k.miss) in
           let same : visits job c.call (item ∷ past) ≡ visits job c.call past = visits-more job c.call item past refl in
           let ranis : RanIs job (item ∷ past) c = InWindow-more c.call item past _ refl d.at.0 in
           let dispatch = dispatch_on (Ending u) m' c item k refl d (λ v. watch v)

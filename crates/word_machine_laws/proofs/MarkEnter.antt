@@ -33,6 +33,7 @@ use Rattle.word_machine_laws.proofs.Carried.{calls_carried, call_carried, opened
 use Rattle.word_machine_laws.proofs.Stacks.{opens-of, older_untouched}
 use Rattle.word_machine_laws.proofs.Marks.{follows, mid_kept}
 use Rattle.word_machine_laws.proofs.MarkDispatch.{task, so-holds}
+use Rattle.ft_hist.proofs.ItemParts.{of_exits}
 
 -- an act's function is one of the job's
 named : (job : Job) (x : Ctx) (act : Option Act) (o : Owed) → owed_by x act ≡ Some o → IsActNamed job act → o.func < funcs job
@@ -154,7 +155,7 @@ module _ (job : Job) (h : Here) (ack word clock : ℕ) (past : List Item) (count
         stack = record { call = call_of (record { 0 = t }) n; ctx = context cs; func = f; scripted = true; phase = Dispatch } ∷ k.run.at.stack;
       } in
       let fo = follows job past item t k.run.at at (λ v. refl) runs k.run.is
-      (reads-enter (done past) t n f gone rest cs k.run.at k.run.fresh stack ack q k.run.stack k.run.next k.run.ahead k.calls) k.miss in
+      (reads-enter (done past) t n f gone rest cs k.run.at k.run.fresh stack ack q k.run.stack k.run.next k.run.ahead k.calls) (of_exits k.miss) in
       let new = fresh_call t n (context cs) f (top_of stack) true stack k.script.0 k.run.at k.run.is k.run.next in (
         fo.0,
         record {
@@ -232,7 +233,7 @@ module _ (job : Job) (h : Here) (ack word clock : ℕ) (past : List Item) (count
           } ∷ frame_of c (InBack u None false) ∷ under;
         } in
         let fo = follows job past item t k.run.at at (λ v. refl) runs k.run.is
-        (reads-owed (done past) k.run.at under k.run.fresh k.run.stack k.run.next) k.miss in
+        (reads-owed (done past) k.run.at under k.run.fresh k.run.stack k.run.next) (of_exits k.miss) in
         let inside : o.func < funcs job =
         named job c.ctx (spec_at job u).act o k.calls.1.at.2 (each-get (λ s. IsActNamed job s.act) job.users u plain_spec tt ok.job'.acts) in
         let new = fresh_call t n o.ctx o.func (Some c.call) false (record c { user = u } ∷ below) inside k.run.at k.run.is k.run.next in

@@ -15,7 +15,7 @@ use Rattle.ft_hist.specs.Rules.{MayFollow}
 use Rattle.ft_hist.specs.Frames.{FrameUser}
 use Rattle.ft_hist.proofs.Laws.{same_call-refl, same_top-refl}
 use Rattle.ft_hist.proofs.WindowLaws.{begun-more}
-use Rattle.ft_hist.proofs.Exits.{exits-start, exits-may, exits-after, exits-lacks}
+use Rattle.ft_hist.proofs.Exits.{exits-start, exits-may, exits-after, exits-done}
 use Rattle.ft_hist.proofs.Since.{untouched-item, holds-by}
 use Rattle.word_map.specs.Contents.{low, greatest_half}
 use Rattle.word_machine.specs.Task.{OpenCall, TaskState, Moment, Polling, First, Leaving, Exiting, EndingExit, Returning, Ending, next_exit, returned, user_of, top_of, level_of, is_quiet, rest_acts}
@@ -31,6 +31,7 @@ use Rattle.word_machine_laws.proofs.Marks.{follows, mid_kept}
 use Rattle.word_machine_laws.proofs.MarkDispatch.{task, few-below, ended-own}
 use Rattle.word_machine_laws.proofs.MarkEnter.{open_first}
 use Rattle.word_machine_laws.proofs.Told.{told-fewer, first-loud, one-done}
+use Rattle.ft_hist.proofs.ItemParts.{of_exits}
 
 -- what all places between the exits have
 pub record ReturnsAt (job : Job) (c : OpenCall) (below : List OpenCall) (m : Moment) : Type 0 where
@@ -119,7 +120,7 @@ module _ (job : Job) (h : Here) (ack word clock : ℕ) (past : List Item) (count
         let b : BodyRuns job past c = k.calls.1.0 in
         let sc : c.scripted ≡ true = k.calls.1.1 in
         let at : PlainTask = record { next = k.run.at.next; acts = rest; gone = suc gone; contexts = cs; stack = frame_of c InReturn ∷ under } in
-        let f = follows job past leave t k.run.at at (λ v. refl) runs k.run.is (reads-leave (done past) rest k.run.at k.run.stack sc k.run.ahead) k.miss in
+        let f = follows job past leave t k.run.at at (λ v. refl) runs k.run.is (reads-leave (done past) rest k.run.at k.run.stack sc k.run.ahead) (of_exits k.miss) in
         let r = at_exit job c below c.users in (
           f.0,
           record {
@@ -167,7 +168,7 @@ module _ (job : Job) (h : Here) (ack word clock : ℕ) (past : List Item) (count
         let b : BodyRuns job past c = k.calls.1.0 in
         let sc : c.scripted ≡ false = k.calls.1.1 in
         let at : PlainTask = record k.run.at { stack = frame_of c InReturn ∷ under } in
-        let f = follows job past leave t k.run.at at (λ v. refl) runs k.run.is (reads-leave' (done past) k.run.at k.run.stack sc) k.miss in
+        let f = follows job past leave t k.run.at at (λ v. refl) runs k.run.is (reads-leave' (done past) k.run.at k.run.stack sc) (of_exits k.miss) in
         let r = at_exit job c below c.users in (
           f.0,
           mid_kept job h ack word t past (leave ∷ past) n n gone acts cs w (c ∷ below) Leaving
@@ -208,11 +209,11 @@ module _ (job : Job) (h : Here) (ack word clock : ℕ) (past : List Item) (count
       exit_row k =
           let l : Leaves job past h.d c (m ∷ rest) = k.calls.1.0 in
           let at : PlainTask = record k.run.at { stack = frame_of c (InExit m.user) ∷ under } in
-          let f = follows job past exit t k.run.at at (λ v. refl) runs k.run.is (reads-exit (done past) k.run.at k.run.stack) (
+          let f = follows job past exit t k.run.at at (λ v. refl) runs k.run.is (reads-exit (done past) k.run.at k.run.stack) (of_exits (
             exits-may job c.call l.ms m rest past (either_of job h q clock past (selected h.p) (λ j. is_live (desk job j) m.user m.reg ≡ true) counts
                 (selected-underway h.p) k.calls.1.1) l.so,
             k.miss,
-          ) in (
+          )) in (
             f.0,
             mid_kept job h ack word t past (exit ∷ past) n n gone acts cs w (c ∷ below) (Exiting m rest)
                 (EndingExit m rest) c below refl refl k false at f.1 k.run.next refl refl refl refl refl
@@ -237,7 +238,7 @@ module _ (job : Job) (h : Here) (ack word clock : ℕ) (past : List Item) (count
       exit_end_row k =
           let l : Leaves job past h.d c rest = k.calls.1.0 in
           let at : PlainTask = record k.run.at { stack = frame_of c InReturn ∷ under } in
-          let f = follows job past exit_end t k.run.at at (λ v. refl) runs k.run.is (reads-exit_end (done past) k.run.at k.run.stack) k.miss in
+          let f = follows job past exit_end t k.run.at at (λ v. refl) runs k.run.is (reads-exit_end (done past) k.run.at k.run.stack) (of_exits k.miss) in
           let r = at_exit job c below rest in
           let u = untouched-item job c.call past exit_end refl in (
             f.0,
@@ -274,7 +275,7 @@ module _ (job : Job) (h : Here) (ack word clock : ℕ) (past : List Item) (count
 
         go : MayFollow job past ret × (plain job t (ret ∷ past) ≡ Some at)
         go = follows job past ret t k.run.at at (λ v. refl) runs k.run.is (reads-ret (done past) k.run.at k.run.stack)
-            (exits-lacks job c.call k.calls.1.ms past k.calls.1.so, k.miss)
+            (of_exits (exits-done job c.call k.calls.1.ms past k.calls.1.so, k.miss))
 
         rest-on : Calls job h (ret ∷ past) ack q t (under_call c below) below
         rest-on = calls_carried job h past (ret ∷ past) (begun-more ret past) (omega arith) ack q t (under_call c below) below

@@ -6,7 +6,7 @@ use Rattle.ft_base.specs.declared.task.TaskAct.{TaskAct}
 use Rattle.ft_base.specs.Job.{Job}
 use Rattle.ft_hist.specs.Past.{is_of, done, callbacks, miss_due}
 use Rattle.ft_hist.specs.Plain.{plain, after_item, PlainTask}
-use Rattle.ft_hist.specs.Rules.{MayFollow, MayStand}
+use Rattle.ft_hist.specs.Rules.{MayFollow}
 use Rattle.ft_hist.proofs.Laws.{run_more}
 use Rattle.word_map.specs.Contents.{low}
 use Rattle.word_machine.specs.Task.{OpenCall, Moment, is_quiet, level_of}
@@ -15,14 +15,15 @@ use Rattle.word_machine.specs.Calls.{Calls}
 use Rattle.word_machine.specs.Tasks.{Grounded, TaskRule, StandsIn, plain_stack, callbacks_at, miss_at, open_by, is_returning}
 use Rattle.ft_hist.proofs.Carries.{of_task}
 use Rattle.word_machine_laws.proofs.Told.{first-loud}
+use Rattle.ft_hist.proofs.ItemParts.{KeepsOthers, may_follow}
 
 -- one more item of a task: it may come, and the task goes on
 pub follows : (job : Job) (past : List Item) (item : Item) (t : ℕ) (at at' : PlainTask) → ((v : ℕ) → is_of v item ≡ (t == v))
     → ((v : ℕ) → IsSome (plain job v past))
-    → plain job t past ≡ Some at → after_item job (done past) at item ≡ Some at' → MayStand job past item
+    → plain job t past ≡ Some at → after_item job (done past) at item ≡ Some at' → KeepsOthers job past item
     → MayFollow job past item × (plain job t (item ∷ past) ≡ Some at')
 follows job past item t at at' own runs here next may =
-    let w = run_more job past item t at at' own runs here next in (record { run = w.0; rule = may }, w.1)
+    let w = run_more job past item t at at' own runs here next in (may_follow job past item w.0 may, w.1)
 
 module _ (job : Job) (h : Here) (ack word t : ℕ) where
   -- a step within an act, with or without an item: the acts to come stay

@@ -2,13 +2,13 @@
 use Rattle.std.proofs.Common.{◌≡◌, ℕ, suc, ◌+◌, Bool, true, false, List, [], ◌∷◌, length, get_or, cond, refl, sym, ap, ◌∙◌, subst, arith, eqb-true, inl}
 use Rattle.std.specs.Prelude.{slice_get, ◌==◌}
 use Rattle.std.specs.List.{AllByRecursion as Each}
-use Rattle.ft_base.specs.Job.{Job, Task, no_task, commands}
+use Rattle.ft_base.specs.Job.{Job, Task, no_task, commands, waits_before}
 use Rattle.ft_base.specs.Desk.{desk}
 use Rattle.ft_base.specs.WellFormed.{IsScript}
 use Rattle.ft_base.specs.Tasks.{tasks_of, tasks_from}
 use Rattle.ft_base.proofs.Small.{false_true, each-get}
 use Rattle.ft_hist.specs.Plain.{plain, at_start}
-use Rattle.ft_hist.specs.Rules.{IsLegalPast, waits_before}
+use Rattle.ft_hist.specs.Rules.{IsLegalPast}
 use Rattle.word_machine.specs.Commands.{insn, changes}
 use Rattle.word_machine.specs.Control.{Line}
 use Rattle.word_machine.specs.Task.{task_start}

@@ -8,14 +8,14 @@ use Rattle.ft_base.specs.declared.item.Item.TheVariants.{Back, Refuse}
 use Rattle.ft_base.specs.declared.item.Ran.TheVariants.{List as ByList}
 use Rattle.ft_base.specs.declared.task.TaskAct.{TaskAct}
 use Rattle.ft_base.specs.declared.task.TaskAct.TheVariants.{Call, Ret as RetAct, Raise, Lower, After}
-use Rattle.ft_base.specs.Job.{Job, Ctl, Run, Until, funcs}
+use Rattle.ft_base.specs.Job.{Job, Ctl, Run, Until, funcs, waits_before}
 use Rattle.ft_base.specs.Same.{same_call}
 use Rattle.ft_base.specs.WellFormed.{IsWellFormed}
 use Rattle.ft_base.specs.Desk.{UserState, desk, user_at, is_on, is_sited, is_matching}
 use Rattle.ft_base.specs.Order.{has}
 use Rattle.ft_base.proofs.Small.{false_true, and_both, or-true, ==-refl}
 use Rattle.ft_hist.specs.Past.{Visit, visit, all_visits, visits, done, begun, entry_of}
-use Rattle.ft_hist.specs.Rules.{AtReturnedOrBegun, IsLegalPast, waits_before}
+use Rattle.ft_hist.specs.Rules.{AtReturnedOrBegun, IsLegalPast}
 use Rattle.word_map.specs.Words.{Word, Want, First as ListHead, Link}
 use Rattle.word_map.specs.Contents.{low}
 use Rattle.word_machine.specs.Commands.{Effect, Adds, Removes, Edits, Enables, Disables, Lists, Levels, Nothing, effect, subject, state_of, set_words}
@@ -84,10 +84,10 @@ module _ (job : Job) (ok : IsWellFormed job) where
   visited-inside call [] l = tt
   visited-inside call (Back c u ∷ past) l =
       one-inside call c (visit job c u.0 past (all_visits job past) true) (visits job call past)
-      (either-inside past u.0 (entry_of c past).func l.0.rule.0.visit.on) (visited-inside call past l.1)
+      (either-inside past u.0 (entry_of c past).func l.0.callbacks.on) (visited-inside call past l.1)
   visited-inside call (Refuse c u reason ∷ past) l =
       one-inside call c (visit job c u.0 past (all_visits job past) false) (visits job call past)
-      (either-inside past u.0 (entry_of c past).func l.0.rule.0.on) (visited-inside call past l.1)
+      (either-inside past u.0 (entry_of c past).func l.0.callbacks.on) (visited-inside call past l.1)
   visited-inside call (_ ∷ past) l = visited-inside call past l.1
 
 each-contains : {A : Type 0} (P : A → Type 0) (xs : List A) (x : A) → Each P xs → Contains xs x → P x
