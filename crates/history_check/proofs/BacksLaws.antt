@@ -18,13 +18,13 @@ use Rattle.ft_base.specs.Same.{same_call}
 use Rattle.ft_base.specs.Job.{Job}
 use Rattle.ft_base.specs.Desk.{desk, is_on, user_at}
 use Rattle.ft_base.proofs.Small.{Each-weaker}
-use Rattle.ft_hist.specs.Past.{Visit, all_visits, ctx_of, entered, entry_of, visit, visits}
+use Rattle.ft_hist.specs.Past.{Visit, all_visits, ctx_of, entered, entry_of, visit, visits, since_now}
 use Rattle.ft_hist.specs.Rules.{MayVisit}
 use Rattle.ft_hist.proofs.RunLaws.{same_call-eq, some_inj}
 use Rattle.history_check.specs.declared.backs.Check.{Check}
 use Rattle.history_check.specs.declared.backs.Entry.{Entry}
 use Rattle.history_check.specs.Backs.{KeepsBacks}
-use Rattle.history_check.specs.KeptBacks.{AreCalls, HasEntered, HasVisited, IsCheck, IsEntry, entry_at, is_before, is_visited, no_entry, since_at, with_latest}
+use Rattle.history_check.specs.KeptBacks.{AreCalls, HasEntered, HasVisited, IsCheck, IsEntry, entry_at, is_before, is_visited, no_entry, with_latest}
 use Rattle.history_check.specs.KeptCalls.{IsContextOf}
 use Rattle.history_check.proofs.VisitLaws as law
 
@@ -140,30 +140,30 @@ module _ (job : Job) (past : List Item) (old new : Check) (k : IsCheck job past 
     more : (c : CallNo) → visits job c (item ∷ past) ≡ cond (same_call call c) (v ∷ visits job c past) (visits job c past)
 
   module _ (call : CallNo) (u : ℕ) (may : MayVisit job past call u) (h : HasVisited job past call u old new) (item : Item) (v : Visit) (is : Visits call item v)
-      (user : v.user ≡ u) (since : v.since ≡ since_at job call u past) where
+      (user : v.user ≡ u) (since : v.since ≡ since_now job call u past) where
     -- the visits of a call, with one more if it is this one
     visited-one : (c : CallNo) (w : ℕ) (b : Bool) → ((b && (u == w)) || has_user w (visits job c past)) ≡ has_user w (cond b (v ∷ visits job c past) (visits job c past))
     visited-one c w true = rw user refl
     visited-one c w false = refl
 
     -- all are registered after the new one
-    later : (s : ℕ) (ms : List Visit) → s < since_at job call u past → Each (λ m. since_at job call u past < m.since) ms → Each (λ m. s < m.since) ms
-    later s ms lt each = Each-weaker (λ m. since_at job call u past < m.since) (λ m. s < m.since) ms (λ m le. omega (arith, lt, le)) each
+    later : (s : ℕ) (ms : List Visit) → s < since_now job call u past → Each (λ m. since_now job call u past < m.since) ms → Each (λ m. s < m.since) ms
+    later s ms lt each = Each-weaker (λ m. since_now job call u past < m.since) (λ m. s < m.since) ms (λ m le. omega (arith, lt, le)) each
 
-    order-one : (c : CallNo) → same_call call c ≡ true → (s : ℕ) → IsTrue (is_before s (Some (since_at job call u past))) ↔ Each (λ m. s < m.since) (v ∷ visits job c past)
+    order-one : (c : CallNo) → same_call call c ≡ true → (s : ℕ) → IsTrue (is_before s (Some (since_now job call u past))) ↔ Each (λ m. s < m.since) (v ∷ visits job c past)
     order-one c same s = (
-      λ lt. (let below = ltb-true s (since_at job call u past) lt in (rw since below, subst (λ d. Each (λ m. s < m.since) (visits job d past)) (same_call-eq call c same) (later s (visits job call past) below may.order))),
-      λ each. lt-ltb s (since_at job call u past) (subst (λ n. s < n) since each.0),
+      λ lt. (let below = ltb-true s (since_now job call u past) lt in (rw since below, subst (λ d. Each (λ m. s < m.since) (visits job d past)) (same_call-eq call c same) (later s (visits job call past) below may.order))),
+      λ each. lt-ltb s (since_now job call u past) (subst (λ n. s < n) since each.0),
     )
 
-    entry-one : (c : CallNo) (b : Bool) → same_call call c ≡ b → IsEntry job (item ∷ past) c (cond b (with_latest (since_at job call u past) (entry_at old call)) (entry_at old c))
+    entry-one : (c : CallNo) (b : Bool) → same_call call c ≡ b → IsEntry job (item ∷ past) c (cond b (with_latest (since_now job call u past) (entry_at old call)) (entry_at old c))
     entry-one c true same =
         let e = subst (λ d. IsEntry job past d (entry_at old call)) (same_call-eq call c same) (k.calls.entries call) in
         record {
           ctx = rw (is.same c) e.ctx;
           func = rw (is.same c) e.func;
           from = rw (is.same c) e.from;
-          order = λ s. subst (λ (ms : List Visit). IsTrue (is_before s (Some (since_at job call u past))) ↔ Each (λ m. s < m.since) ms)
+          order = λ s. subst (λ (ms : List Visit). IsTrue (is_before s (Some (since_now job call u past))) ↔ Each (λ m. s < m.since) ms)
               (sym (is.more c ∙ ap (λ d. cond d (v ∷ visits job c past) (visits job c past)) same)) (order-one c same s);
         }
     entry-one c false other =

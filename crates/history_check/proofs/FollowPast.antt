@@ -20,7 +20,7 @@ use Rattle.ft_hist.specs.Past.{Callback, all_visits, begun, callbacks, done, get
 use Rattle.ft_hist.specs.Past as told
 use Rattle.ft_hist.specs.Known.{holds}
 use Rattle.ft_hist.specs.Plain.{plain}
-use Rattle.ft_hist.specs.Rules.{MayFollow}
+use Rattle.ft_hist.specs.Rules.{MayFollow, KeepsPlainRun}
 use Rattle.ft_hist.proofs.Laws.{plain-other, same_call-refl, own-item}
 use Rattle.ft_hist.proofs.RunLaws.{some_inj}
 use Rattle.ft_hist.proofs.Since.{misses-other}
@@ -34,7 +34,6 @@ use Rattle.history_check.specs.declared.past.Past.{Past}
 use Rattle.history_check.specs.KeptCallbacks.{callbacks_of}
 use Rattle.history_check.specs.KeptCalls.{AreCallsOf, AreStacked, AreTasksOf, HasRoom, IsContextOf, IsDueBy, IsOfJob, IsTaskPast, IsTop, IsVisitBy, due_of, visit_of}
 use Rattle.history_check.specs.KeptPast.{IsMet, IsPast, IsPastAt, IsTopOf, is_enter, lines_after, waits_passed}
-use Rattle.history_check.specs.Parts.{KeepsPlainRun}
 use Rattle.history_check.proofs.FollowRuns.{all-met, of-job}
 use Rattle.history_check.proofs.FollowTask.{not-enter, top-of}
 use Rattle.history_check.proofs.OpenStacks.{after-other, few-calls, few-left, of-own}
@@ -293,7 +292,7 @@ lines-more (suc k) (PlainUntil t m ∷ ctls) = lines-more (suc k) ctls
 lines-more (suc k) (PlainRun x ∷ ctls) = lines-more k ctls
 
 pub waits-now : (job : Job) (past : List Item) (item : Item) → MayFollow job past item → Each (IsMet job past) (waits_passed (begun past) job.ctls) → Each (IsMet job past) (waits_passed (begun (item ∷ past)) job.ctls)
-waits-now job past (Begin k) may waited = may.rule.1
+waits-now job past (Begin k) may waited = may.commands.1
 waits-now job past _ may waited = waited
 
 -- ## room

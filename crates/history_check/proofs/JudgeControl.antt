@@ -6,7 +6,7 @@ use Rattle.std.proofs.lemmas.List.{get_or_past, drop_more}
 use Rattle.ft_base.specs.declared.item.Answer.{Answer}
 use Rattle.ft_base.specs.declared.item.Item.{Item}
 use Rattle.ft_base.specs.declared.number.TaskNo.{TaskNo}
-use Rattle.ft_base.specs.Job.{Job, Command, Ctl as PlainCtl, Run as PlainRun, Until as PlainUntil, commands, no_task}
+use Rattle.ft_base.specs.Job.{Job, Command, Ctl as PlainCtl, Run as PlainRun, Until as PlainUntil, commands, no_task, waits_before}
 use Rattle.ft_base.specs.Desk.{answer_at}
 use Rattle.ft_desk.specs.declared.command.Command.{Command as Code}
 use Rattle.ft_desk.specs.declared.command.Ctl.{Ctl}
@@ -14,11 +14,10 @@ use Rattle.ft_desk.specs.declared.command.Ctl.TheVariants.{Run, Until}
 use Rattle.ft_desk.specs.Lines.{lines_of}
 use Rattle.ft_hist.specs.Past.{begun, done}
 use Rattle.ft_hist.specs.Plain.{at_start}
-use Rattle.ft_hist.specs.Rules.{HasWaited, MayBegin, acts_passed, waits_before}
+use Rattle.ft_hist.specs.Rules.{HasWaited, MayBegin, acts_passed, IsAnswered}
 use Rattle.history_check.specs.declared.past.Past.{Past}
 use Rattle.history_check.specs.declared.task_past.TaskPast.{TaskPast}
 use Rattle.history_check.specs.KeptPast.{IsMet, IsPast, lines_after, waits_passed}
-use Rattle.history_check.specs.Parts.{IsAnswered}
 use Rattle.history_check.specs.TakenOff.{answer_of}
 use Rattle.history_check.proofs.FollowPast.{get-none}
 

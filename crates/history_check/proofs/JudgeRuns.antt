@@ -14,7 +14,7 @@ use Rattle.ft_base.specs.Items.{call_of, is_task}
 use Rattle.ft_base.specs.Job.{Job, commands}
 use Rattle.ft_base.proofs.Small.{false_true}
 use Rattle.ft_hist.specs.Past.{done, is_of}
-use Rattle.ft_hist.specs.Rules.{HasEnded}
+use Rattle.ft_hist.specs.Rules.{HasEnded, KeepsPlainRun}
 use Rattle.ft_hist.specs.Plain.{PlainTask, after_item, after_next, at_start, plain}
 use Rattle.ft_hist.proofs.Laws.{plain-other, plain-own, own-item}
 use Rattle.ft_hist.proofs.RunLaws.{Moves, moves, some_inj}
@@ -22,7 +22,6 @@ use Rattle.history_check.specs.declared.past.Past.{Past}
 use Rattle.history_check.specs.declared.task_past.TaskPast.{TaskPast}
 use Rattle.history_check.specs.KeptCalls.{IsTaskPast}
 use Rattle.history_check.specs.KeptPast.{IsAtEnd, IsPast, IsPastAt}
-use Rattle.history_check.specs.Parts.{KeepsPlainRun}
 use Rattle.history_check.proofs.FollowPast.{set-each}
 use Rattle.history_check.proofs.OpenStacks.{of-own}
 

@@ -4,7 +4,6 @@ pub mod BacksLaws
 pub mod SilentLaws
 pub mod VisitLaws
 pub mod PastLaws
-pub mod PartLaws
 pub mod VerdictLaws
 pub mod ToldLaws
 pub mod JudgeControl

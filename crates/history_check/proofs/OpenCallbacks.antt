@@ -9,7 +9,7 @@ use Rattle.std.proofs.lemmas.List.Sums.{sum_by-cons}
 use Rattle.ft_base.specs.declared.number.CallNo.{CallNo}
 use Rattle.ft_base.specs.declared.item.Item.{Item}
 use Rattle.ft_base.specs.Same.{same_call}
-use Rattle.ft_base.specs.Job.{Job, Command, Unregister, Disable}
+use Rattle.ft_base.specs.Job.{Job, Command, Unregister, Disable, command_at}
 use Rattle.ft_base.proofs.Small.{false_true}
 use Rattle.ft_hist.specs.Past.{callbacks, ended, is_called}
 use Rattle.ft_hist.specs.Past as told
@@ -17,7 +17,7 @@ use Rattle.ft_hist.specs.Rules.{IsStill}
 use Rattle.ft_hist.proofs.RunLaws.{some_inj}
 use Rattle.history_check.specs.declared.callbacks.Callback.{Callback}
 use Rattle.history_check.specs.KeptCallbacks.{callback_of}
-use Rattle.history_check.specs.TakenOff.{command_at, taken_by, taken_off}
+use Rattle.history_check.specs.TakenOff.{taken_by, taken_off}
 
 pub any-told : (test : told.Callback → Bool) (bs : List Callback) → list_any (λ b. test (callback_of b)) bs ≡ list_any test (map callback_of bs)
 any-told test [] = refl

@@ -1,16 +1,12 @@
 -- Items of a history, one after the other.
-use Rattle.std.proofs.Common.{◌≡◌, ℕ, ◌+◌, ◌<◌, ◌≤◌, List, [], ◌∷◌, ◌++◌, length, reverse, take, drop, slice_get, Some, true, sym, ap, ◌∙◌, subst, arith}
-use Rattle.std.specs.Prelude.{IfSome}
+use Rattle.std.proofs.Common.{◌≡◌, ℕ, ◌+◌, ◌<◌, ◌≤◌, List, [], ◌∷◌, ◌++◌, length, reverse, take, drop, slice_get, Some, sym, ap, ◌∙◌, subst, arith}
 use Rattle.std.proofs.lemmas.List.{reverse-append, take-append-drop, length-take-le, length-reverse, take_all}
-use Rattle.ft_base.specs.declared.item.Answer.{Answer}
 use Rattle.ft_base.specs.declared.item.Item.{Item}
 use Rattle.ft_base.specs.declared.item.Item.TheVariants.{Return, Back, Refuse, Body}
 use Rattle.ft_base.specs.Job.{Job}
-use Rattle.ft_base.specs.Desk.{is_accepted}
 use Rattle.ft_hist.specs.Past.{begun, done}
-use Rattle.ft_hist.specs.Rules.{IsLegal, IsLegalPast, IsStill, MayFollow, MayReturn}
+use Rattle.ft_hist.specs.Rules.{IsLegal, IsLegalPast, MayFollow}
 use Rattle.ft_hist.proofs.Splitting.{past-more}
-use Rattle.history_check.specs.TakenOff.{command_at}
 use Rattle.history_check.specs.Backs.{AreBacksLegal, AreBacksLegalPast, KeepsBacks}
 use Rattle.ft_hist.specs.Telling.{past_at}
 use Rattle.ft_hist.proofs.WindowLaws.{few-done, few-begun}
@@ -80,17 +76,11 @@ all-keep job items k over all = subst (λ (xs : List Item). AreBacksLegalPast jo
 
 -- ## legal histories
 
-still-kept : (job : Job) (past : List Item) (n : ℕ) (answer : Answer) → MayReturn job past n answer → is_accepted answer ≡ true → IfSome (command_at job n) (IsStill past)
-still-kept job past n answer may accepted =
-    let c = may.command in
-    let at : command_at job n ≡ Some c.0 = ap (command_at job) may.number ∙ c.1 in
-    rw at (c.3 accepted)
-
 follow-keeps : (job : Job) (past : List Item) (item : Item) → MayFollow job past item → KeepsBacks job past item
-follow-keeps job past (Back call u) may = may.rule.0.visit
-follow-keeps job past (Refuse call u reason) may = may.rule.0
-follow-keeps job past (Body call g ran) may = may.rule.0.silent
-follow-keeps job past (Return n answer) may = still-kept job past n answer may.rule
+follow-keeps job past (Back call u) may = may.callbacks
+follow-keeps job past (Refuse call u reason) may = may.callbacks
+follow-keeps job past (Body call g ran) may = may.silence
+follow-keeps job past (Return n answer) may = may.callbacks
 follow-keeps job past _ may = tt
 
 legal-past-keeps : (job : Job) (past : List Item) → IsLegalPast job past → AreBacksLegalPast job past

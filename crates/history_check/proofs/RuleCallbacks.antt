@@ -1,4 +1,4 @@
--- What a judge asks of the visits of a call, and of the command under way.
+-- What a judge asks of the visits of a call.
 use Rattle.std.proofs.Common.{◌≡◌, ℕ, suc, ◌+◌, ◌<◌, Bool, true, nat_lt, List, [], ◌∷◌, map, Option, Some, None, refl, sym, ap, ◌∙◌, subst, add-one}
 use Rattle.std.specs.Prelude.{IfSome, IsTrue, ◌↔◌, slice_get}
 use Rattle.std.specs.List.{list_all, AllByRecursion as Each}
@@ -6,14 +6,13 @@ use Rattle.std.specs.Cmp.Derive.{both_true}
 use Rattle.std.proofs.lemmas.Bool.{lt-ltb, ltb-true}
 use Rattle.ft_base.specs.declared.number.CallNo.{CallNo}
 use Rattle.ft_base.specs.declared.item.Item.{Item}
-use Rattle.ft_base.specs.Job.{Job, Command, commands}
+use Rattle.ft_base.specs.Job.{Job, Command, commands, command_at}
 use Rattle.ft_base.proofs.Small.{and_both}
 use Rattle.ft_hist.specs.Past.{done, visits}
 use Rattle.ft_hist.specs.Rules.{IsStill}
 use Rattle.ft_hist.proofs.RunLaws.{some_inj}
 use Rattle.history_check.specs.declared.open_call.OpenCall.{OpenCall}
 use Rattle.history_check.specs.declared.open_call.Visit.{Visit}
-use Rattle.history_check.specs.TakenOff.{command_at}
 use Rattle.history_check.specs.KeptCalls.{IsTop, visit_of}
 use Rattle.history_check.proofs.RuleCalls.{visits-are}
 
@@ -32,21 +31,3 @@ before-all call s (m ∷ ms) h = both_true (lt-ltb s m.since h.0) (before-all ca
 pub order-is : (job : Job) (items : List Item) (call : CallNo) (t : OpenCall) → IsTop job items call t → (s : ℕ)
     → IsTrue (list_all (λ m. nat_lt s m.since) t.visits.items) ↔ Each (λ m. s < m.since) (visits job call items)
 order-is job items call t k s = rw (sym (visits-are job items call t k)) (all-before call s t.visits.items, before-all call s t.visits.items)
-
--- ## a command that takes a user off
-
--- what is asked of the command of a number is asked of the one under way, if that is its number
-pub still-now : (job : Job) (items : List Item) (n : ℕ) → n ≡ done items → (b : Bool) → (IsTrue b ↔ IfSome (command_at job (n + 1)) (IsStill items))
-    → IsTrue b ↔ ((c : Command) → slice_get (commands job) (done items) ≡ Some c → IsStill items c)
-still-now job items n same b is =
-    let here : IsTrue b ↔ IfSome (slice_get (commands job) (done items)) (IsStill items) =
-    subst (λ m. IsTrue b ↔ IfSome (command_at job m) (IsStill items)) (add-one n ∙ ap suc same) is in
-    (λ t. each (slice_get (commands job) (done items)) (here.0 t), λ h. here.1 (one (slice_get (commands job) (done items)) h))
-  where
-    each : (o : Option Command) → IfSome o (IsStill items) → (c : Command) → o ≡ Some c → IsStill items c
-    each None h c e = absurd cc
-    each (Some x) h c e = subst (λ y. IsStill items y) (some_inj x c e) h
-
-    one : (o : Option Command) → ((c : Command) → o ≡ Some c → IsStill items c) → IfSome o (IsStill items)
-    one None h = tt
-    one (Some x) h = h x refl

@@ -1,5 +1,5 @@
 -- Which exits a call may have and which it lacks, by what is kept of it; and which miss is due.
-use Rattle.std.proofs.Common.{◌≡◌, ℕ, zero, suc, ◌+◌, ◌<◌, ◌≤◌, true, false, ◌==◌, nat_lt, List, [], ◌∷◌, ◌++◌, length, map, take, get_or, refl, sym, ap, ◌∙◌, subst, arith}
+use Rattle.std.proofs.Common.{◌≡◌, ℕ, zero, suc, ◌+◌, ◌<◌, ◌≤◌, ◌⊎◌, true, false, ◌==◌, nat_lt, List, [], ◌∷◌, ◌++◌, length, map, take, get_or, refl, sym, ap, ◌∙◌, subst, arith, inl, inr}
 use Rattle.std.specs.Prelude.{Contains, IsTrue, ◌↔◌}
 use Rattle.std.specs.List.{list_all, list_any, AllByRecursion as Each}
 use Rattle.std.specs.Cmp.Derive.{both_true}
@@ -11,7 +11,7 @@ use Rattle.ft_base.specs.Job.{Job}
 use Rattle.ft_base.specs.Desk.{desk, is_live}
 use Rattle.ft_base.proofs.Small.{false_true, and_both, Contains-head, Contains-more, Each-snoc}
 use Rattle.ft_hist.specs.Past.{Visit as Told, begun, done_at_leave, exits, visits}
-use Rattle.ft_hist.specs.Rules.{AtReturnedOrBegun, HasExit, LacksOnlyDead, MayExit}
+use Rattle.ft_hist.specs.Rules.{AtReturnedOrBegun, HasExit, AreExitsDone, IsExitDone, MayExit}
 use Rattle.history_check.specs.declared.open_call.OpenCall.{OpenCall}
 use Rattle.history_check.specs.declared.open_call.Visit.{Visit}
 use Rattle.history_check.specs.KeptCalls.{IsTop, visit_of}
@@ -54,11 +54,11 @@ abbrev pub MayEnd : Job → List Item → CallNo → ℕ → ℕ → Visit → T
 MayEnd job items call u entry m =
     (m.user.0 ≡ u) × (m.place ≡ entry) × HasExit job (visit_of call m) × AtReturnedOrBegun items (λ n. is_live (desk job n) m.user.0 m.reg ≡ true)
 
--- a visit without an exit that had none only for a registration that was not live
+-- a visit whose exit, if it set one up, is done
 abbrev pub IsSettled : Job → List Item → CallNo → OpenCall → Visit → Type 0
 IsSettled job items call t m =
-    HasExit job (visit_of call m) → list_any (λ e. e == m.place) t.exits.items ≡ false
-    → (n : ℕ) × (t.left ≤ n) × (n ≤ begun items) × (is_live (desk job n) m.user.0 m.reg ≡ false)
+    HasExit job (visit_of call m) → (list_any (λ e. e == m.place) t.exits.items ≡ true)
+    ⊎ ((n : ℕ) × (t.left ≤ n) × (n ≤ begun items) × (is_live (desk job n) m.user.0 m.reg ≡ false))
 
 module _ (job : Job) (items : List Item) (call : CallNo) (t : OpenCall) (k : IsTop job items call t) where
   -- ## an exit
@@ -111,21 +111,21 @@ module _ (job : Job) (items : List Item) (call : CallNo) (t : OpenCall) (k : IsT
   -- ## exits that lack
 
   abbrev IsSettledTold : Told → Type 0
-  IsSettledTold m =
-      HasExit job m → list_any (λ e. e == m.place) (exits call items) ≡ false
-      → (n : ℕ) × (done_at_leave call items ≤ n) × (n ≤ begun items) × (is_live (desk job n) m.user m.reg ≡ false)
+  IsSettledTold m = HasExit job m → IsExitDone job call m items
 
   settled-told : (m : Visit) → IsSettled job items call t m → IsSettledTold (visit_of call m)
-  settled-told m h exit lacks =
-      let w = h exit (ap (λ (xs : List ℕ). list_any (λ e. e == m.place) xs) (exits-are job items call t k) ∙ lacks) in
-      (w.0, subst (λ n. n ≤ w.0) (left-is job items call t k) w.1, w.2, w.3)
+  settled-told m h exit = elim (h exit) [
+    | inl had ↦ inl (ap (λ (xs : List ℕ). list_any (λ e. e == m.place) xs) (sym (exits-are job items call t k)) ∙ had)
+    | inr w ↦ inr (w.0, subst (λ n. n ≤ w.0) (left-is job items call t k) w.1, w.2, w.3)
+  ]
 
   told-settled : (m : Visit) → IsSettledTold (visit_of call m) → IsSettled job items call t m
-  told-settled m h exit lacks =
-      let w = h exit (ap (λ (xs : List ℕ). list_any (λ e. e == m.place) xs) (sym (exits-are job items call t k)) ∙ lacks) in
-      (w.0, subst (λ n. n ≤ w.0) (sym (left-is job items call t k)) w.1, w.2, w.3)
+  told-settled m h exit = elim (h exit) [
+    | inl had ↦ inl (ap (λ (xs : List ℕ). list_any (λ e. e == m.place) xs) (exits-are job items call t k) ∙ had)
+    | inr w ↦ inr (w.0, subst (λ n. n ≤ w.0) (sym (left-is job items call t k)) w.1, w.2, w.3)
+  ]
 
-  pub all-settled : Each (IsSettled job items call t) t.visits.items → IsTrue true ↔ LacksOnlyDead job items call
+  pub all-settled : Each (IsSettled job items call t) t.visits.items → IsTrue true ↔ AreExitsDone job items call
   all-settled h =
       yes (subst (λ (xs : List Told). Each IsSettledTold xs) (visits-are job items call t k) (each-map (visit_of call) IsSettledTold t.visits.items (all t.visits.items h)))
     where
@@ -133,7 +133,7 @@ module _ (job : Job) (items : List Item) (call : CallNo) (t : OpenCall) (k : IsT
       all [] x = tt
       all (m ∷ ms) x = (settled-told m x.0, all ms x.1)
 
-  pub not-settled : (i : ℕ) (m : Visit) → i < length t.visits.items → m ≡ get_or t.visits.items i m → (IsSettled job items call t m → ⊥) → IsTrue false ↔ LacksOnlyDead job items call
+  pub not-settled : (i : ℕ) (m : Visit) → i < length t.visits.items → m ≡ get_or t.visits.items i m → (IsSettled job items call t m → ⊥) → IsTrue false ↔ AreExitsDone job items call
   not-settled i m lt here none =
       no (λ all.
       none (told-settled m

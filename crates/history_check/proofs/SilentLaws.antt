@@ -8,8 +8,7 @@ use Rattle.ft_base.specs.Job.{Job}
 use Rattle.ft_base.specs.Desk.{desk, is_on}
 use Rattle.ft_base.proofs.Small.{false_true}
 use Rattle.ft_hist.specs.Past.{begun, entry_of, visits}
-use Rattle.ft_hist.specs.Rules.{InWindow}
-use Rattle.history_check.specs.Backs.{IsSilent}
+use Rattle.ft_hist.specs.Rules.{InWindow, IsSilent}
 use Rattle.history_check.specs.KeptDesks.{WasOff}
 
 -- each of the first n users was visited or off

@@ -1,10 +1,10 @@
--- There is one verdict at most on a history.
+-- An item may follow exactly if it keeps each part, and there is one verdict at most on a history.
 use Rattle.std.proofs.Common.{◌≡◌, ◌⊎◌, ℕ, zero, suc, ◌-◌, ◌<◌, List, [], ◌∷◌, ◌++◌, take, drop, Some, refl, sym, ap, ◌∙◌, subst, arith, inl, inr}
 use Rattle.std.specs.Prelude.{slice_get}
 use Rattle.std.specs.List.{AllByRecursion as Each}
 use Rattle.ft_base.specs.declared.item.Item.{Item}
 use Rattle.ft_base.specs.Job.{Job}
-use Rattle.ft_hist.specs.Rules.{IsLegal}
+use Rattle.ft_hist.specs.Rules.{IsLegal, MayFollow}
 use Rattle.ft_hist.specs.Telling.{past_at}
 use Rattle.ft_hist.proofs.RunLaws.{some_inj}
 use Rattle.ft_hist.proofs.Splitting.{splits}
@@ -14,7 +14,21 @@ use Rattle.history_check.specs.declared.verdict.Verdict.{Verdict}
 use Rattle.history_check.specs.declared.verdict.Verdict.TheVariants.{Whole, Legal, Broken}
 use Rattle.history_check.specs.Parts.{BreaksFirst, Keeps, rank, rules}
 use Rattle.history_check.specs.Verdicts.{IsBroken, IsVerdict}
-use Rattle.history_check.proofs.PartLaws.{all-parts}
+
+-- ## legality is its parts
+
+module _ (job : Job) (past : List Item) (item : Item) where
+  pub all-parts : MayFollow job past item → (rule : Rule) → Keeps rule job past item
+  all-parts m PlainRun = m.run
+  all-parts m Callbacks = m.callbacks
+  all-parts m Silence = m.silence
+  all-parts m Refusals = m.refusals
+  all-parts m Exits = m.exits
+  all-parts m Fetches = m.fetches
+  all-parts m Commands = m.commands
+
+  pub of-parts : ((rule : Rule) → Keeps rule job past item) → MayFollow job past item
+  of-parts k = record { run = k PlainRun; callbacks = k Callbacks; silence = k Silence; refusals = k Refusals; exits = k Exits; fetches = k Fetches; commands = k Commands }
 
 -- ## parts in their order
 

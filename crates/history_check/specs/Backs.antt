@@ -1,18 +1,10 @@
 -- The rules of callbacks and of silence, alone: what a history keeps of them, legal or not.
-use Rattle.std.specs.Prelude.{ℕ, ◌≡◌, ◌<◌, true, false, List, [], ◌∷◌, length, reverse, IfSome}
-use Rattle.ft_base.specs.declared.number.CallNo.{CallNo}
+use Rattle.std.specs.Prelude.{◌≡◌, true, List, [], ◌∷◌, reverse, IfSome}
 use Rattle.ft_base.specs.declared.item.Item.{Item}
 use Rattle.ft_base.specs.declared.item.Item.TheVariants.{Return, Back, Refuse, Body}
-use Rattle.ft_base.specs.Job.{Job}
-use Rattle.ft_base.specs.Desk.{desk, is_on, is_accepted}
-use Rattle.ft_hist.specs.Past.{entry_of}
-use Rattle.ft_hist.specs.Rules.{InWindow, IsStill, IsUnvisited, MayVisit}
-use Rattle.history_check.specs.TakenOff.{command_at}
-
--- each user that was not visited in the call was off at some command of the window
-abbrev pub IsSilent : Job → List Item → CallNo → Type 0
-IsSilent job past call =
-    (u : ℕ) → u < length job.users → IsUnvisited job call u past → InWindow call past (λ k. is_on (desk job k) u (entry_of call past).func ≡ false)
+use Rattle.ft_base.specs.Job.{Job, command_at}
+use Rattle.ft_base.specs.Desk.{is_accepted}
+use Rattle.ft_hist.specs.Rules.{IsSilent, IsStill, MayVisit}
 
 -- what an item keeps of the rules, after its past: a callback or a refusal is of a user that is on, for the first time in its call, and
 -- registered before those visited so far; a dispatch ends if all others were off; and no callback of a user is open when a command that

@@ -9,7 +9,7 @@ use Rattle.ft_base.specs.declared.item.Item.{Item}
 use Rattle.ft_base.specs.Same.{same_call}
 use Rattle.ft_base.specs.Job.{Job}
 use Rattle.ft_base.specs.Desk.{desk, user_at}
-use Rattle.ft_hist.specs.Past.{begun, callbacks, ctx_of, done, entry_of, registration_at, visits}
+use Rattle.ft_hist.specs.Past.{begun, callbacks, ctx_of, done, entry_of, visits, since_now}
 use Rattle.history_check.specs.declared.backs.Check.{Check}
 use Rattle.history_check.specs.declared.backs.Entry.{Entry}
 use Rattle.history_check.specs.Backs.{KeepsBacks}
@@ -63,17 +63,13 @@ is_visit_in s call u = contains same_visit s (call.task.0, call.n, u)
 abbrev pub is_visited : Check → CallNo → ℕ → Bool
 is_visited c call u = is_visit_in c.visited call u
 
--- the command that registered a user that is visited
-abbrev pub since_at : Job → CallNo → ℕ → List Item → ℕ
-since_at job call u past = (user_at (desk job (registration_at job call u past)) u).since
-
 -- the same call, in which a user was visited that this command registered
 abbrev pub with_latest : ℕ → Entry → Entry
 with_latest since e = record e { latest = Some since }
 
 -- one visit more is kept, and the others as they were
 pub record HasVisited (job : Job) (past : List Item) (call : CallNo) (u : ℕ) (old new : Check) : Type 0 where
-  pub entries : (c : CallNo) → entry_at new c ≡ (if same_call call c then with_latest (since_at job call u past) (entry_at old call) else entry_at old c)
+  pub entries : (c : CallNo) → entry_at new c ≡ (if same_call call c then with_latest (since_now job call u past) (entry_at old call) else entry_at old c)
   pub visited : (c : CallNo) (v : ℕ) → is_visited new c v ≡ (same_call call c && (u == v)) || is_visited old c v
 
 -- ## all

@@ -5,13 +5,13 @@ use Rattle.ft_base.specs.declared.number.CallNo.{CallNo}
 use Rattle.ft_base.specs.declared.item.Item.{Item}
 use Rattle.ft_base.specs.declared.item.Item.TheVariants.{Enter}
 use Rattle.ft_base.specs.Items.{call_of}
-use Rattle.ft_base.specs.Job.{Job, Ctl, Run, Until, commands}
+use Rattle.ft_base.specs.Job.{Job, Ctl, Run, Until, commands, waits_before}
 use Rattle.ft_base.specs.Versions.{levels}
 use Rattle.user_specs.specs.Plain.{spec_of}
 use Rattle.ft_desk.specs.Lines.{lines_of}
 use Rattle.ft_hist.specs.Past.{begun, callbacks, done}
 use Rattle.ft_hist.specs.Plain.{at_start, plain}
-use Rattle.ft_hist.specs.Rules.{HasEnded, MayFollow, acts_passed, waits_before}
+use Rattle.ft_hist.specs.Rules.{HasEnded, MayFollow, acts_passed}
 use Rattle.history_check.specs.declared.open_call.OpenCall.{OpenCall}
 use Rattle.history_check.specs.declared.task_past.TaskPast.{TaskPast}
 use Rattle.history_check.specs.declared.past.Past.{Past}

@@ -2,12 +2,7 @@
 use Rattle.std.specs.Prelude.{ℕ, zero, suc, Option, Some, None, option_map, slice_get}
 use Rattle.ft_base.specs.declared.item.Answer.{Answer}
 use Rattle.ft_base.specs.Desk.{answer_at}
-use Rattle.ft_base.specs.Job.{Job, Command, commands, takes_off}
-
--- the command of a number, from 1
-abbrev pub command_at : Job → ℕ → Option Command
-command_at job zero = None
-command_at job (suc k) = slice_get (commands job) k
+use Rattle.ft_base.specs.Job.{Job, Command, commands, command_at, takes_off}
 
 -- the user that a command takes off if it is accepted, if there is a command
 abbrev pub taken_by : Option Command → Option ℕ

@@ -4,13 +4,12 @@
 ghost use Rattle.std.specs.Prelude.{◌≡◌, ℕ, ◌+◌, ◌<◌, ◌^◌, ◌==◌, ◌||◌, ◌&&◌, true, not, List, [], ◌∷◌, IfOk, OnOk, IfSome, IsTrue, ◌↔◌, if◌then◌else◌};
 ghost use Rattle.ft_base.specs.declared.item.Item.{Item};
 ghost use Rattle.ft_base.specs.declared.number.CallNo.{CallNo};
-ghost use Rattle.ft_base.specs.Job.{Job as PlainJob};
+ghost use Rattle.ft_base.specs.Job.{Job as PlainJob, command_at};
 ghost use Rattle.ft_base.specs.Desk.{is_accepted};
 ghost use Rattle.ft_base.specs.Same.{same_call};
 ghost use Rattle.ft_hist.specs.Past.{begun, done};
-ghost use Rattle.ft_hist.specs.Rules.{IsStill, MayVisit};
-ghost use Rattle.history_check.specs.TakenOff.{command_at};
-ghost use Rattle.history_check.specs.Backs.{AreBacksLegal, IsSilent, KeepsBacks};
+ghost use Rattle.ft_hist.specs.Rules.{IsStill, MayVisit, IsSilent};
+ghost use Rattle.history_check.specs.Backs.{AreBacksLegal, KeepsBacks};
 ghost use Rattle.history_check.specs.KeptBacks.{AreCalls, HasEntered, HasVisited, IsCheck, IsNoted, entry_at, entry_in, is_before, is_visit_in, is_visited};
 ghost use Rattle.history_check.specs.KeptCalls.{IsContextOf};
 

@@ -4,13 +4,12 @@ ghost use Rattle.std.specs.Prelude.{◌≡◌, ◌==◌, ◌&&◌, List, [], ◌
 ghost use Rattle.std.specs.List.{list_any};
 ghost use Rattle.ft_base.specs.declared.item.Item.{Item};
 ghost use Rattle.ft_base.specs.Same.{same_call};
-ghost use Rattle.ft_base.specs.Job.{Job as PlainJob};
+ghost use Rattle.ft_base.specs.Job.{Job as PlainJob, command_at};
 ghost use Rattle.ft_hist.specs.Past.{callbacks, ended, is_at, is_ctx};
 ghost use Rattle.ft_hist.specs.Rules.{IsStill};
 ghost use Rattle.history_check.specs.KeptCallbacks.{callback_of, callbacks_of};
 ghost use Rattle.history_check.specs.KeptCalls.{IsContextOf};
 ghost use Rattle.history_check.specs.KeptDesks.{AreOf};
-ghost use Rattle.history_check.specs.TakenOff.{command_at};
 
 use crate::desks::Desks;
 use ft_base::{CallNo, Ctx, Item, NoMemory, TaskNo, UserNo};

@@ -2,6 +2,7 @@
 
 ghost use Rattle.std.specs.Prelude.{◌≡◌, ◌+◌, ◌<◌, ◌^◌, [], length, OnOk, Some, None, IsTrue, ◌↔◌, if◌then◌else◌};
 ghost use Rattle.ft_hist.specs.Plain.{ahead};
+ghost use Rattle.ft_hist.specs.Rules.{GiveNoItems};
 ghost use Rattle.ft_base.specs.Same.{context};
 ghost use Rattle.task_runs.specs.Kept.{ahead_of, called, past_silent, returned};
 
@@ -119,7 +120,7 @@ impl<'a> Acts<'a> {
     /// Whether only acts are left that give no items, and their waits are met by this many commands that
     /// have returned.
     pub(crate) fn are_over(&self, returned: u32) -> bool
-        ensures { IsTrue result ↔ ((ahead returned self.now.rest.now self.now.contexts.items self.now.gone).acts ≡ []) }
+        ensures { IsTrue result ↔ GiveNoItems returned self.now.rest.now }
     {
         self.rest.iter().all(|act| match act {
             TaskAct::Call(_) | TaskAct::Ret => false,

@@ -2,16 +2,15 @@
 //! registration is live; and none lacks but of a registration that was not.
 
 ghost use Rattle.std.specs.List.{list_any};
-ghost use Rattle.std.specs.Prelude.{◌≡◌, ◌==◌, ◌+◌, ◌<◌, ◌≤◌, ◌^◌, ℕ, List, length, None, true, false, option_map, IsTrue, ◌↔◌};
+ghost use Rattle.std.specs.Prelude.{◌≡◌, ◌⊎◌, ◌==◌, ◌+◌, ◌<◌, ◌≤◌, ◌^◌, ℕ, List, length, None, true, false, option_map, IsTrue, ◌↔◌};
 ghost use Rattle.ft_base.specs.declared.item.Item.{Item};
 ghost use Rattle.ft_base.specs.declared.number.CallNo.{CallNo};
 ghost use Rattle.ft_base.specs.Desk.{desk, is_live};
 ghost use Rattle.ft_base.specs.Job.{Job as PlainJob};
 ghost use Rattle.ft_hist.specs.Past.{begun, miss_due};
-ghost use Rattle.ft_hist.specs.Rules.{AtReturnedOrBegun, HasExit, LacksOnlyDead, MayExit, MayMiss};
+ghost use Rattle.ft_hist.specs.Rules.{AtReturnedOrBegun, HasExit, AreExitsDone, MayExit, MayMiss, KeepsExits};
 ghost use Rattle.history_check.specs.KeptCalls.{IsTop, visit_of};
 ghost use Rattle.history_check.specs.KeptPast.{IsPast, IsTopOf};
-ghost use Rattle.history_check.specs.Parts.{KeepsExits};
 
 use crate::open_call::{OpenCall, Visit};
 use crate::past::Past;
@@ -33,7 +32,7 @@ pub(crate) fn keeps_exits(past: &Past<'_>, top: Option<&OpenCall>, item: &Item) 
             may_exit(past, top, user, entry) && is_none_due(past, call.task)
         }
         (Item::Ret { .. }, Some(top)) => {
-            lacks_only_dead(past, top) && is_none_due(past, call.task)
+            are_exits_done(past, top) && is_none_due(past, call.task)
         }
         _ => is_none_due(past, call.task),
     }
@@ -100,10 +99,10 @@ fn is_at(visit: &Visit, user: UserNo, place: u32) -> bool
 
 /// Whether all entry callbacks of a call that set up an exit have had it, but for those whose registration
 /// was not live at some time since the body was over.
-fn lacks_only_dead(past: &Past<'_>, top: &OpenCall) -> bool
+fn are_exits_done(past: &Past<'_>, top: &OpenCall) -> bool
     requires { past.now.begun + 1 < 2 ^ 32 }
     ensures { (job : PlainJob) (items : List Item) → IsPast job items past.now → IsTop job items top.now.call top.now
-        → IsTrue result ↔ LacksOnlyDead job items top.now.call }
+        → IsTrue result ↔ AreExitsDone job items top.now.call }
 {
     for at in 0..top.visits.len() {
         let visit = top.visits[at];
@@ -119,8 +118,8 @@ fn lacks_only_dead(past: &Past<'_>, top: &OpenCall) -> bool
 fn is_settled(past: &Past<'_>, top: &OpenCall, visit: &Visit) -> bool
     requires { past.now.begun + 1 < 2 ^ 32 }
     ensures { (job : PlainJob) (items : List Item) → IsPast job items past.now
-        → IsTrue result ↔ (HasExit job (visit_of top.now.call visit.now) → list_any (λ e. e == visit.now.place) top.now.exits.items ≡ false
-        → (k : ℕ) × (top.now.left ≤ k) × (k ≤ begun items) × (is_live (desk job k) visit.now.user.0 visit.now.reg ≡ false)) }
+        → IsTrue result ↔ (HasExit job (visit_of top.now.call visit.now) → (list_any (λ e. e == visit.now.place) top.now.exits.items ≡ true)
+        ⊎ ((k : ℕ) × (top.now.left ≤ k) × (k ≤ begun items) × (is_live (desk job k) visit.now.user.0 visit.now.reg ≡ false))) }
 {
     if !has_exit(past, visit) {
         return true;

@@ -1,4 +1,4 @@
-use Rattle.history_check.proofs.PartLaws.{all-parts, of-parts}
+use Rattle.history_check.proofs.VerdictLaws.{all-parts, of-parts}
 use Rattle.history_check.proofs.laws.legality_is_its_parts.Goals as goal
 
 pub returns : goal.returns

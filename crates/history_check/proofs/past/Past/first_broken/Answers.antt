@@ -1,5 +1,4 @@
 use Rattle.std.proofs.lemmas.Bool.{iff_false}
-use Rattle.history_check.proofs.PartLaws.{to-stand}
 use Rattle.history_check.proofs.past.Past.first_broken.Goals as goal
 
 pub returns-then-not-keeps_callbacks : goal.returns-then-not-keeps_callbacks
@@ -56,4 +55,4 @@ returns c = λ job past is run.
     let exits = (c.keeps_exits.ensures job past is at).0 c.if-not-keeps_exits.false in
     let fetches = (c.keeps_fetches.ensures job past is at).0 c.if-not-keeps_fetches.false in
     let commands = (c.keeps_commands.ensures job past is).0 c.if-not-keeps_commands.false in
-    record { run = run; rule = to-stand job past c.args.item.now (callbacks, silence, refusals, exits, fetches, commands) }
+    record { run = run; callbacks = callbacks; silence = silence; refusals = refusals; exits = exits; fetches = fetches; commands = commands }

@@ -2,7 +2,7 @@ use Rattle.std.proofs.Common.{◌≡◌, ◌∙◌, Some, None, length, refl, ru
 use Rattle.std.specs.Prelude.{IsTrue, ◌↔◌}
 use Rattle.std.proofs.lemmas.Option.{slice_get_past, slice_get_read}
 use Rattle.ft_hist.specs.Plain.{after_item}
-use Rattle.history_check.specs.Parts.{KeepsPlainRun}
+use Rattle.ft_hist.specs.Rules.{KeepsPlainRun}
 use Rattle.history_check.proofs.FollowPast.{no-task}
 use Rattle.history_check.proofs.JudgeRuns.{few-calls, free-keeps, free-kept, ok-more, run-kept, run-told}
 use Rattle.history_check.proofs.past.Past.goes_on.Goals as goal

@@ -8,5 +8,5 @@ use Rattle.task_runs.proofs.acts.Acts.are_over.Goals as goal
 pub returns : goal.returns
 returns c =
     let acts = c.args.self.now.rest.now in
-    over-is c.args.returned acts c.args.self.now.contexts.items c.args.self.now.gone c.all.result
+    over-is c.args.returned acts c.all.result
     (all_from_yields_List (is_silent c.args.returned) _ _ c.all.result c.all.ensures.ran (YieldsList-from_slice acts cc) (λ x b q k. search (rules, tests)))

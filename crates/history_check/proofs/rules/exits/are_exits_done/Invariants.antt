@@ -4,7 +4,7 @@ use Rattle.ft_base.specs.declared.item.Item.{Item}
 use Rattle.ft_base.specs.Job.{Job}
 use Rattle.history_check.specs.KeptPast.{IsPast}
 use Rattle.history_check.proofs.RuleExits.{IsSettled}
-use Rattle.history_check.proofs.rules.exits.lacks_only_dead.Given as goal
+use Rattle.history_check.proofs.rules.exits.are_exits_done.Given as goal
 
 -- no visit so far lacks its exit without a reason
 abbrev pub invariant-loop-at : goal.invariant-loop-at

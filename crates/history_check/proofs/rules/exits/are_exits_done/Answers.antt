@@ -2,7 +2,7 @@
 use Rattle.std.proofs.Common.{arith}
 use Rattle.history_check.proofs.RuleExits.{IsSettled, all-settled, each-all, each-more, not-settled}
 use Rattle.history_check.proofs.RuleTests.{fails}
-use Rattle.history_check.proofs.rules.exits.lacks_only_dead.Goals as goal
+use Rattle.history_check.proofs.rules.exits.are_exits_done.Goals as goal
 
 pub returns-then-not-is_settled : goal.returns-then-not-is_settled
 returns-then-not-is_settled c = λ job items k top.
