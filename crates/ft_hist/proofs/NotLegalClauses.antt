@@ -391,4 +391,4 @@ whole_too_early w = let same : 0 ≡ 1 = w.returned in absurd (omega (arith, sam
 -- a task is not at its end
 pub whole_without_calls : IsWhole first_path (Begin 1 ∷ Return 1 Accepted ∷ []) → ⊥
 unfolding plain after_item
-whole_without_calls w = absurd ((w.tasks 0 (omega arith)).0)
+whole_without_calls w = absurd ((w.tasks 0 (omega arith)).0.1)

@@ -70,7 +70,7 @@ exit_is_owed why = elim why [
   | inr more ↦ elim more [
     | inl cancels ↦ false_true cancels
     | inr more' ↦ elim more' [
-      | inl full ↦ (let le : 1 ≤ 0 = full.1 in absurd (omega (arith, le)))
+      | inl full ↦ (let same : 0 ≡ 1 = full.1 in absurd (omega (arith, same)))
       | inr dead ↦ (let off : is_live (desk fprobe_misses 1) 0 1 ≡ false = between (λ k. is_live (desk fprobe_misses k) 0 1 ≡ false) 1 dead.0 dead.1 dead.2 dead.3 in false_true (sym off))
     ]
   ]

@@ -26,7 +26,7 @@ ghost use Rattle.ft_base.specs.declared.item.Reason.{Reason};
 ghost use Rattle.ft_base.specs.declared.item.Reason.TheVariants.{Pid as ByPid, Recursion, Depth};
 ghost use Rattle.ft_base.specs.declared.item.Item.{Item};
 ghost use Rattle.ft_base.specs.declared.item.Item.TheVariants.{Return, Enter, Back, Refuse, Miss, Body, Exit, Ret};
-ghost use Rattle.ft_hist.specs.Past.{begun, held, is_of, open_callbacks, user_now};
+ghost use Rattle.ft_hist.specs.Past.{begun, held, is_of, open_callbacks, user_now, AreFramesHeld, IsFrameLeft};
 ghost use Rattle.ft_hist.specs.Rules.{AtReturnedOrBegun, IsLegal, MayFollow};
 ghost use Rattle.ft_hist.specs.Telling.{AtEachCommand, AtSomeCommand, MayLackExit, TakesOff, is_begin_by, is_end_by, is_exit_for, is_ret_of, is_visit_by, open_calls};
 
@@ -54,7 +54,7 @@ pub fn visits_are_once_each()
 pub fn visits_whoever_was_on()
     ensures { (job : PlainJob) (items before mid rest : List Item) (call : CallNo) (ctx : Ctx) (f : FuncNo) (caller : Option CallNo) (g : FuncNo) (ran : Ran) (u : ℕ)
         → IsLegal job items → items ≡ before ++ Enter call ctx f caller ∷ (mid ++ Body call g ran ∷ rest) → u < length job.users
-        → AtEachCommand before (before ++ Enter call ctx f caller ∷ mid) (λ k. is_on (desk job k) u f.0 ≡ true)
+        → let here = before ++ Enter call ctx f caller ∷ mid in AtEachCommand before here (λ k. is_on (desk job k) u f.0 ≡ true)
         → list_any (is_visit_by call u) mid ≡ true }
 {}
 
@@ -63,10 +63,10 @@ pub fn visits_whoever_was_on()
 pub fn visits_nobody_who_was_off()
     ensures back { (job : PlainJob) (items before mid rest : List Item) (call : CallNo) (ctx : Ctx) (f : FuncNo) (caller : Option CallNo) (user : UserNo)
         → IsLegal job items → items ≡ before ++ Enter call ctx f caller ∷ (mid ++ Back call user ∷ rest)
-        → AtSomeCommand before (before ++ Enter call ctx f caller ∷ mid) (λ k. is_on (desk job k) user.0 f.0 ≡ true) }
+        → let here = before ++ Enter call ctx f caller ∷ mid in AtSomeCommand before here (λ k. is_on (desk job k) user.0 f.0 ≡ true) }
     ensures refuse { (job : PlainJob) (items before mid rest : List Item) (call : CallNo) (ctx : Ctx) (f : FuncNo) (caller : Option CallNo) (user : UserNo) (reason : Reason)
         → IsLegal job items → items ≡ before ++ Enter call ctx f caller ∷ (mid ++ Refuse call user reason ∷ rest)
-        → AtSomeCommand before (before ++ Enter call ctx f caller ∷ mid) (λ k. is_on (desk job k) user.0 f.0 ≡ true) }
+        → let here = before ++ Enter call ctx f caller ∷ mid in AtSomeCommand before here (λ k. is_on (desk job k) user.0 f.0 ≡ true) }
 {}
 
 /// "save those refused by a named .. pid .. rule": the user has the pid flag, and the task was not
@@ -74,7 +74,7 @@ pub fn visits_nobody_who_was_off()
 pub fn refused_for_its_pid()
     ensures { (job : PlainJob) (items before mid rest : List Item) (call : CallNo) (ctx : Ctx) (f : FuncNo) (caller : Option CallNo) (user : UserNo)
         → IsLegal job items → items ≡ before ++ Enter call ctx f caller ∷ (mid ++ Refuse call user ByPid ∷ rest)
-        → ((spec_at job user.0).pid ≡ true) × AtSomeCommand before (before ++ Enter call ctx f caller ∷ mid) (λ k. is_allowed (desk job k) call.task.0 ≡ false) }
+        → let here = before ++ Enter call ctx f caller ∷ mid in ((spec_at job user.0).pid ≡ true) × AtSomeCommand before here (λ k. is_allowed (desk job k) call.task.0 ≡ false) }
 {}
 
 /// Whoever is called back passed these rules: after some command of the window the task was allowed,
@@ -83,11 +83,11 @@ pub fn refused_for_its_pid()
 pub fn called_back_within_the_rules()
     ensures pid { (job : PlainJob) (items before mid rest : List Item) (call : CallNo) (ctx : Ctx) (f : FuncNo) (caller : Option CallNo) (user : UserNo)
         → IsLegal job items → items ≡ before ++ Enter call ctx f caller ∷ (mid ++ Back call user ∷ rest) → (spec_at job user.0).pid ≡ true
-        → AtSomeCommand before (before ++ Enter call ctx f caller ∷ mid) (λ k. is_allowed (desk job k) call.task.0 ≡ true) }
+        → let here = before ++ Enter call ctx f caller ∷ mid in AtSomeCommand before here (λ k. is_allowed (desk job k) call.task.0 ≡ true) }
     ensures depth { (job : PlainJob) (items before mid rest : List Item) (call : CallNo) (ctx : Ctx) (f : FuncNo) (caller : Option CallNo) (user : UserNo)
         → IsLegal job items → items ≡ before ++ Enter call ctx f caller ∷ (mid ++ Back call user ∷ rest) → has_depth (spec_at job user.0).kind ≡ true
-        → (held job call (reverse (before ++ Enter call ctx f caller ∷ mid)) < job.frames)
-        × AtSomeCommand before (before ++ Enter call ctx f caller ∷ mid) (λ k. ((desk job k).depth ≡ 0) ⊎ (held job call (reverse (before ++ Enter call ctx f caller ∷ mid)) < (desk job k).depth)) }
+        → let here = before ++ Enter call ctx f caller ∷ mid in IsFrameLeft job (reverse here) call
+        × AtSomeCommand before here (λ k. ((desk job k).depth ≡ 0) ⊎ (held job call (reverse here) < (desk job k).depth)) }
 {}
 
 /// "save those refused by a named recursion .. rule": all levels of the guard are held there, by as
@@ -96,10 +96,10 @@ pub fn called_back_within_the_rules()
 pub fn refused_in_a_callback()
     ensures refuse { (job : PlainJob) (items before mid rest : List Item) (call : CallNo) (ctx : Ctx) (f : FuncNo) (caller : Option CallNo) (user : UserNo)
         → IsLegal job items → items ≡ before ++ Enter call ctx f caller ∷ (mid ++ Refuse call user Recursion ∷ rest)
-        → levels job ≤ open_callbacks call.task.0 ctx (reverse (before ++ Enter call ctx f caller ∷ mid)) }
+        → let here = before ++ Enter call ctx f caller ∷ mid in levels job ≤ open_callbacks call.task.0 ctx (reverse here) }
     ensures back { (job : PlainJob) (items before mid rest : List Item) (call : CallNo) (ctx : Ctx) (f : FuncNo) (caller : Option CallNo) (user : UserNo)
         → IsLegal job items → items ≡ before ++ Enter call ctx f caller ∷ (mid ++ Back call user ∷ rest)
-        → open_callbacks call.task.0 ctx (reverse (before ++ Enter call ctx f caller ∷ mid)) < levels job }
+        → let here = before ++ Enter call ctx f caller ∷ mid in open_callbacks call.task.0 ctx (reverse here) < levels job }
 {}
 
 /// "save those refused by a named .. depth rule": a graph or profile user, a level of the guard of the
@@ -108,10 +108,10 @@ pub fn refused_in_a_callback()
 pub fn refused_for_depth()
     ensures { (job : PlainJob) (items before mid rest : List Item) (call : CallNo) (ctx : Ctx) (f : FuncNo) (caller : Option CallNo) (user : UserNo)
         → IsLegal job items → items ≡ before ++ Enter call ctx f caller ∷ (mid ++ Refuse call user Depth ∷ rest)
-        → (open_callbacks call.task.0 ctx (reverse (before ++ Enter call ctx f caller ∷ mid)) < levels job)
+        → let here = before ++ Enter call ctx f caller ∷ mid in (open_callbacks call.task.0 ctx (reverse here) < levels job)
         × (has_depth (spec_at job user.0).kind ≡ true)
-        × ((held job call (reverse (before ++ Enter call ctx f caller ∷ mid)) ≡ job.frames)
-        ⊎ AtSomeCommand before (before ++ Enter call ctx f caller ∷ mid) (λ k. (0 < (desk job k).depth) × ((desk job k).depth ≤ held job call (reverse (before ++ Enter call ctx f caller ∷ mid))))) }
+        × (AreFramesHeld job (reverse here) call
+        ⊎ AtSomeCommand before here (λ k. (0 < (desk job k).depth) × ((desk job k).depth ≤ held job call (reverse here)))) }
 {}
 
 /// "no callback begins after its user's unregistration has returned, unless a new registration has
@@ -156,7 +156,7 @@ pub fn exits_come_in_order()
 pub fn exits_find_a_level()
     ensures { (job : PlainJob) (items before mid rest : List Item) (call : CallNo) (ctx : Ctx) (f : FuncNo) (caller : Option CallNo) (user : UserNo) (entry : ℕ)
         → IsLegal job items → items ≡ before ++ Enter call ctx f caller ∷ (mid ++ Exit call user entry ∷ rest)
-        → open_callbacks call.task.0 ctx (reverse (before ++ Enter call ctx f caller ∷ mid)) < levels job }
+        → let here = before ++ Enter call ctx f caller ∷ mid in open_callbacks call.task.0 ctx (reverse here) < levels job }
 {}
 
 /// An exit is lacking only for a reason: at a call's Ret, each entry callback of it has had its
@@ -179,18 +179,18 @@ pub fn frames_are_never_exceeded()
 /// there alone.
 pub fn a_full_stack_leaves_no_exit()
     ensures kind { (job : PlainJob) (items first rest : List Item) (call : CallNo) (user : UserNo)
-        → IsLegal job items → items ≡ first ++ Back call user ∷ rest → held job call (reverse first) ≡ job.frames
+        → IsLegal job items → items ≡ first ++ Back call user ∷ rest → AreFramesHeld job (reverse first) call
         → has_depth (spec_at job user.0).kind ≡ false }
     ensures exit { (job : PlainJob) (items first rest : List Item) (call : CallNo) (user : UserNo)
-        → IsLegal job items → items ≡ first ++ Back call user ∷ rest → held job call (reverse first) ≡ job.frames
+        → IsLegal job items → items ≡ first ++ Back call user ∷ rest → AreFramesHeld job (reverse first) call
         → list_any (is_exit_for call (length first)) rest ≡ false }
     ensures miss { (job : PlainJob) (items first mid rest : List Item) (call : CallNo) (user : UserNo) (x : Item)
-        → IsLegal job items → items ≡ first ++ Back call user ∷ (mid ++ x ∷ rest) → held job call (reverse first) ≡ job.frames
+        → IsLegal job items → items ≡ first ++ Back call user ∷ (mid ++ x ∷ rest) → AreFramesHeld job (reverse first) call
         → has_exit (spec_at job user.0).kind ≡ true → list_any (is_of call.task.0) mid ≡ false → is_of call.task.0 x ≡ true → x ≡ Miss call user }
     ensures alone { (job : PlainJob) (items first rest : List Item) (call : CallNo) (user : UserNo)
         → IsLegal job items → items ≡ first ++ Miss call user ∷ rest
         → (a : List Item) × (b : List Item) × (first ≡ a ++ Back call user ∷ b) × (list_any (is_of call.task.0) b ≡ false)
-        × (has_exit (spec_at job user.0).kind ≡ true) × (held job call (reverse a) ≡ job.frames) }
+        × (has_exit (spec_at job user.0).kind ≡ true) × AreFramesHeld job (reverse a) call }
 {}
 
 /// Each call is entered once, before its other items, and these come before it has returned.
@@ -233,5 +233,5 @@ pub fn calls_nest()
 pub fn fetches_a_target()
     ensures { (job : PlainJob) (items before mid rest : List Item) (call : CallNo) (ctx : Ctx) (f : FuncNo) (caller : Option CallNo) (g : FuncNo) (ran : Ran)
         → IsLegal job items → items ≡ before ++ Enter call ctx f caller ∷ (mid ++ Body call g ran ∷ rest)
-        → AtSomeCommand before (before ++ Enter call ctx f caller ∷ mid) (λ k. ran ≡ target (desk job k) f.0) }
+        → let here = before ++ Enter call ctx f caller ∷ mid in AtSomeCommand before here (λ k. ran ≡ target (desk job k) f.0) }
 {}

@@ -149,8 +149,8 @@ lanes-so_far : (job : Job) (past : List Item) → IsLegalPast job past → lengt
 unfolding IsLegalPast
 lanes-so_far job [] l each = (omega arith, refl)
 lanes-so_far job (Begin k ∷ past) l each =
-    let number = l.0.rule.0.number in
-    let stands = l.0.rule.0.stands in
+    let number = l.0.commands.0.number in
+    let stands = l.0.commands.0.stands in
     let n = begun past in
     let is : k ≡ suc n = omega (arith, number) in
     let low : n < length job.lines.lanes = omega (arith, stands, each) in
