@@ -37,4 +37,3 @@ pub mod SmallJobs
 pub mod NotLegal
 pub mod NotLegalClauses
 pub mod ToldSamples
-pub mod OldRules
