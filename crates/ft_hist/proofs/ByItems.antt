@@ -5,7 +5,7 @@ use Rattle.std.proofs.lemmas.List.{reverse-append}
 use Rattle.std.specs.List.{list_any, AllByRecursion as Each}
 use Rattle.ft_base.specs.declared.number.CallNo.{CallNo}
 use Rattle.ft_base.specs.declared.item.Item.{Item}
-use Rattle.ft_base.specs.declared.item.Item.TheVariants.{Begin, Return, Enter, Back, BackEnd, Refuse, Miss, Body, Leave, Exit, ExitEnd, Ret}
+use Rattle.ft_base.specs.declared.item.Item.TheVariants.{Back, BackEnd, Refuse, Exit, ExitEnd}
 use Rattle.ft_base.specs.Same.{same_call}
 use Rattle.ft_base.specs.declared.number.UserNo.{UserNo}
 use Rattle.ft_base.specs.Job.{Job}
@@ -40,31 +40,13 @@ module _ (job : Job) (call : CallNo) (u : ℕ) where
   unfolding all_visits
   visited-more (Back c v) past h = one-more (visit job c v.0 past (all_visits job past) true) (same_call c call) (visits job call past) h
   visited-more (Refuse c v reason) past h = one-more (visit job c v.0 past (all_visits job past) false) (same_call c call) (visits job call past) h
-  visited-more (Begin k) past h = h
-  visited-more (Return k a) past h = h
-  visited-more (Enter c x f caller) past h = h
-  visited-more (BackEnd c v) past h = h
-  visited-more (Miss c v) past h = h
-  visited-more (Body c g ran) past h = h
-  visited-more (Leave c) past h = h
-  visited-more (Exit c v e) past h = h
-  visited-more (ExitEnd c v) past h = h
-  visited-more (Ret c to) past h = h
+  visited-more _ past h = h
 
   pub visited-now : (item : Item) (past : List Item) → is_visit_by call u item ≡ true → Visited (item ∷ past)
   unfolding all_visits
   visited-now (Back c v) past h = let both = and_both (same_call c call) (v.0 == u) h in rw (both.0, both.1) refl
   visited-now (Refuse c v reason) past h = let both = and_both (same_call c call) (v.0 == u) h in rw (both.0, both.1) refl
-  visited-now (Begin k) past h = false_true h
-  visited-now (Return k a) past h = false_true h
-  visited-now (Enter c x f caller) past h = false_true h
-  visited-now (BackEnd c v) past h = false_true h
-  visited-now (Miss c v) past h = false_true h
-  visited-now (Body c g ran) past h = false_true h
-  visited-now (Leave c) past h = false_true h
-  visited-now (Exit c v e) past h = false_true h
-  visited-now (ExitEnd c v) past h = false_true h
-  visited-now (Ret c to) past h = false_true h
+  visited-now _ past h = false_true h
 
   pub visited-since : (newer : List Item) (item : Item) (past : List Item) → is_visit_by call u item ≡ true → Visited (newer ++ item ∷ past)
   visited-since [] item past h = visited-now item past h
@@ -86,16 +68,7 @@ module _ (job : Job) (call : CallNo) (u : ℕ) where
       by-one (visit job c v.0 (newer ++ past) (all_visits job (newer ++ past)) true) (same_call c call) v.0 (visits job call (newer ++ past)) (list_any (is_visit_by call u) newer) refl h (visited-by-item newer past none)
   visited-by-item (Refuse c v reason ∷ newer) past none h =
       by-one (visit job c v.0 (newer ++ past) (all_visits job (newer ++ past)) false) (same_call c call) v.0 (visits job call (newer ++ past)) (list_any (is_visit_by call u) newer) refl h (visited-by-item newer past none)
-  visited-by-item (Begin k ∷ newer) past none h = visited-by-item newer past none h
-  visited-by-item (Return k a ∷ newer) past none h = visited-by-item newer past none h
-  visited-by-item (Enter c x f caller ∷ newer) past none h = visited-by-item newer past none h
-  visited-by-item (BackEnd c v ∷ newer) past none h = visited-by-item newer past none h
-  visited-by-item (Miss c v ∷ newer) past none h = visited-by-item newer past none h
-  visited-by-item (Body c g ran ∷ newer) past none h = visited-by-item newer past none h
-  visited-by-item (Leave c ∷ newer) past none h = visited-by-item newer past none h
-  visited-by-item (Exit c v e ∷ newer) past none h = visited-by-item newer past none h
-  visited-by-item (ExitEnd c v ∷ newer) past none h = visited-by-item newer past none h
-  visited-by-item (Ret c to ∷ newer) past none h = visited-by-item newer past none h
+  visited-by-item (_ ∷ newer) past none h = visited-by-item newer past none h
 
 -- ## callbacks that are open
 
@@ -128,14 +101,7 @@ module _ (call : CallNo) (u : ℕ) where
   opened-more (Exit c v e) past other h = rw h (or-true _)
   opened-more (BackEnd c v) past other h = one-less c v.0 (callbacks past) other h
   opened-more (ExitEnd c v) past other h = one-less c v.0 (callbacks past) other h
-  opened-more (Begin k) past other h = h
-  opened-more (Return k a) past other h = h
-  opened-more (Enter c x f caller) past other h = h
-  opened-more (Refuse c v reason) past other h = h
-  opened-more (Miss c v) past other h = h
-  opened-more (Body c g ran) past other h = h
-  opened-more (Leave c) past other h = h
-  opened-more (Ret c to) past other h = h
+  opened-more _ past other h = h
 
   -- a callback that has begun and has no end yet is open
   pub opened-since : (newer past : List Item) → list_any (is_end_by call u) newer ≡ false → Opened past → Opened (newer ++ past)
@@ -157,16 +123,7 @@ module _ (call : CallNo) (u : ℕ) where
   pub opened-now : (item : Item) (past : List Item) → is_begin_by call u item ≡ true → list_any (is_open_by call u) (callbacks (item ∷ past)) ≡ true
   opened-now (Back c v) past h = rw h refl
   opened-now (Exit c v e) past h = rw h refl
-  opened-now (Begin k) past h = false_true h
-  opened-now (Return k a) past h = false_true h
-  opened-now (Enter c x f caller) past h = false_true h
-  opened-now (BackEnd c v) past h = false_true h
-  opened-now (Refuse c v reason) past h = false_true h
-  opened-now (Miss c v) past h = false_true h
-  opened-now (Body c g ran) past h = false_true h
-  opened-now (Leave c) past h = false_true h
-  opened-now (ExitEnd c v) past h = false_true h
-  opened-now (Ret c to) past h = false_true h
+  opened-now _ past h = false_true h
 
 -- ## entry callbacks and their exits
 
@@ -205,16 +162,7 @@ module _ (job : Job) (call : CallNo) where
   told (Back c v ∷ past) = told-visit (Back c v) c (visit job c v.0 past (all_visits job past) true) past (visits job call past)
       (λ e b. let is : c ≡ call = same_call-eq c call e in ([], past, ap (λ (d : CallNo). Back d v ∷ past) is, refl, ap (λ (d : CallNo). (user_at (desk job (registration_at job d v.0 past)) v.0).reg) is, ap (λ (d : CallNo). gets_frame job d v.0 past (all_visits job past)) is)) (told past)
   told (Refuse c v reason ∷ past) = told-visit (Refuse c v reason) c (visit job c v.0 past (all_visits job past) false) past (visits job call past) (λ e b. false_true b) (told past)
-  told (Begin k ∷ past) = told-more (Begin k) past (visits job call past) (told past)
-  told (Return k a ∷ past) = told-more (Return k a) past (visits job call past) (told past)
-  told (Enter c x f caller ∷ past) = told-more (Enter c x f caller) past (visits job call past) (told past)
-  told (BackEnd c v ∷ past) = told-more (BackEnd c v) past (visits job call past) (told past)
-  told (Miss c v ∷ past) = told-more (Miss c v) past (visits job call past) (told past)
-  told (Body c g ran ∷ past) = told-more (Body c g ran) past (visits job call past) (told past)
-  told (Leave c ∷ past) = told-more (Leave c) past (visits job call past) (told past)
-  told (Exit c v e ∷ past) = told-more (Exit c v e) past (visits job call past) (told past)
-  told (ExitEnd c v ∷ past) = told-more (ExitEnd c v) past (visits job call past) (told past)
-  told (Ret c to ∷ past) = told-more (Ret c to) past (visits job call past) (told past)
+  told (item ∷ past) = told-more item past (visits job call past) (told past)
 
   -- the visits of an older past are among those of a later one
   pub visits-older : (newer past : List Item) → (later : List Visit) × (visits job call (newer ++ past) ≡ later ++ visits job call past)
@@ -258,14 +206,4 @@ module _ (job : Job) (call : CallNo) where
           → ((b && (e == entry)) || list_any (is_exit_for call entry) past) ≡ true
       by true x more = elim (or-true_either (e == entry) (list_any (λ y. y == entry) (exits call past)) x) [ inl q ↦ rw q refl | inr q ↦ rw (more q) (or-true (e == entry)) ]
       by false x more = more x
-  exit-item entry (Begin k ∷ past) h = exit-item entry past h
-  exit-item entry (Return k a ∷ past) h = exit-item entry past h
-  exit-item entry (Enter c x f caller ∷ past) h = exit-item entry past h
-  exit-item entry (Back c v ∷ past) h = exit-item entry past h
-  exit-item entry (BackEnd c v ∷ past) h = exit-item entry past h
-  exit-item entry (Refuse c v reason ∷ past) h = exit-item entry past h
-  exit-item entry (Miss c v ∷ past) h = exit-item entry past h
-  exit-item entry (Body c g ran ∷ past) h = exit-item entry past h
-  exit-item entry (Leave c ∷ past) h = exit-item entry past h
-  exit-item entry (ExitEnd c v ∷ past) h = exit-item entry past h
-  exit-item entry (Ret c to ∷ past) h = exit-item entry past h
+  exit-item entry (_ ∷ past) h = exit-item entry past h

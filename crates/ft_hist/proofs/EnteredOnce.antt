@@ -7,16 +7,16 @@ use Rattle.ft_base.specs.declared.number.CallNo.{CallNo}
 use Rattle.ft_base.specs.declared.number.FuncNo.{FuncNo}
 use Rattle.ft_base.specs.declared.context.Ctx.{Ctx}
 use Rattle.ft_base.specs.declared.item.Item.{Item}
-use Rattle.ft_base.specs.declared.item.Item.TheVariants.{Begin, Return, Enter, Back, BackEnd, Refuse, Miss, Body, Leave, Exit, ExitEnd, Ret}
+use Rattle.ft_base.specs.declared.item.Item.TheVariants.{Begin, Return, Enter, Ret}
 use Rattle.ft_base.specs.Items.{call_of}
 use Rattle.ft_base.specs.Same.{same_call}
 use Rattle.ft_base.specs.Job.{Job}
-use Rattle.ft_base.proofs.Small.{false_true, ==-refl, and_both}
+use Rattle.ft_base.proofs.Small.{false_true, and_both}
 use Rattle.ft_hist.specs.Past.{is_of, is_open, calls}
 use Rattle.ft_hist.specs.Plain.{plain, PlainTask}
 use Rattle.ft_hist.specs.Rules.{IsLegal, IsLegalPast, MayFollow}
 use Rattle.ft_hist.specs.Telling.{is_ret_of, open_calls}
-use Rattle.ft_hist.proofs.Laws.{same_call-refl}
+use Rattle.ft_hist.proofs.Laws.{same_call-refl, own-item}
 use Rattle.ft_hist.proofs.RunLaws.{same_call-eq, calls_on, Keeps, Moves}
 use Rattle.ft_hist.proofs.HeldLaws.{opens}
 use Rattle.ft_hist.proofs.Splitting.{splits, split-reverse, legal-older}
@@ -67,16 +67,7 @@ module _ (call : CallNo) where
   was-entered [] h = absurd cc
   was-entered (Enter c ctx f caller ∷ past) h = at-enter c ctx f caller past (same_call c call) refl h (was-entered past)
   was-entered (Ret c to ∷ past) h = at-ret c to past (same_call c call) refl h (was-entered past)
-  was-entered (Begin k ∷ past) h = after (Begin k) past refl (was-entered past h)
-  was-entered (Return k a ∷ past) h = after (Return k a) past refl (was-entered past h)
-  was-entered (Back c v ∷ past) h = after (Back c v) past refl (was-entered past h)
-  was-entered (BackEnd c v ∷ past) h = after (BackEnd c v) past refl (was-entered past h)
-  was-entered (Refuse c v reason ∷ past) h = after (Refuse c v reason) past refl (was-entered past h)
-  was-entered (Miss c v ∷ past) h = after (Miss c v) past refl (was-entered past h)
-  was-entered (Body c g ran ∷ past) h = after (Body c g ran) past refl (was-entered past h)
-  was-entered (Leave c ∷ past) h = after (Leave c) past refl (was-entered past h)
-  was-entered (Exit c v entry ∷ past) h = after (Exit c v entry) past refl (was-entered past h)
-  was-entered (ExitEnd c v ∷ past) h = after (ExitEnd c v) past refl (was-entered past h)
+  was-entered (x ∷ past) h = after x past refl (was-entered past h)
 
 -- whether an item is an Enter
 abbrev is_enter_item : Item → Bool
@@ -85,17 +76,7 @@ is_enter_item _ = false
 
 no-enter : (call : CallNo) (x : Item) → call_of x ≡ Some call → ((ctx : Ctx) (f : FuncNo) (caller : Option CallNo) → x ≢ Enter call ctx f caller) → is_enter_item x ≡ false
 no-enter call (Enter c ctx f caller) is other = let same : c ≡ call = cc in absurd (other ctx f caller (ap (λ (d : CallNo). Enter d ctx f caller) same))
-no-enter call (Begin k) is other = refl
-no-enter call (Return k a) is other = refl
-no-enter call (Back c v) is other = refl
-no-enter call (BackEnd c v) is other = refl
-no-enter call (Refuse c v reason) is other = refl
-no-enter call (Miss c v) is other = refl
-no-enter call (Body c g ran) is other = refl
-no-enter call (Leave c) is other = refl
-no-enter call (Exit c v entry) is other = refl
-no-enter call (ExitEnd c v) is other = refl
-no-enter call (Ret c to) is other = refl
+no-enter call _ is other = refl
 
 module _ (job : Job) (call : CallNo) (past : List Item) where
   -- the call on top of its task's stack is open
@@ -112,25 +93,15 @@ module _ (job : Job) (call : CallNo) (past : List Item) where
       let k = top m.0 r.0 m.2 in
       open-on-top m.0 k.0 m.1 k.1
 
-  own : (c : CallNo) → c ≡ call → (c.task.0 == call.task.0) ≡ true
-  own c same = subst (λ (d : CallNo). (d.task.0 == call.task.0) ≡ true) (sym same) (==-refl call.task.0)
-
-  on-top : (p s : PlainTask) (c : CallNo) → c ≡ call → Keeps p s c → (below : List CallNo) × (calls_on p.stack ≡ call ∷ below)
-  on-top p s c same k = (k.top.0, k.top.1 ∙ ap (λ (d : CallNo). d ∷ k.top.0) same)
+  on-top : (p s : PlainTask) (c : CallNo) → Keeps p s c → c ≡ call → (below : List CallNo) × (calls_on p.stack ≡ call ∷ below)
+  on-top p s c k same = (k.top.0, k.top.1 ∙ ap (λ (d : CallNo). d ∷ k.top.0) same)
 
   pub open-at : (x : Item) → call_of x ≡ Some call → is_enter_item x ≡ false → IsLegalPast job (x ∷ past) → is_open call past ≡ true
   open-at (Begin k) is other l = absurd cc
   open-at (Return k a) is other l = absurd cc
   open-at (Enter c ctx f caller) is other l = absurd cc
-  open-at (Back c v) is other l = let same : c ≡ call = cc in kept-open (Back c v) (own c same) (λ p s m. on-top p s c same m) l
-  open-at (BackEnd c v) is other l = let same : c ≡ call = cc in kept-open (BackEnd c v) (own c same) (λ p s m. on-top p s c same m) l
-  open-at (Refuse c v reason) is other l = let same : c ≡ call = cc in kept-open (Refuse c v reason) (own c same) (λ p s m. on-top p s c same m) l
-  open-at (Miss c v) is other l = let same : c ≡ call = cc in kept-open (Miss c v) (own c same) (λ p s m. on-top p s c same m) l
-  open-at (Body c g ran) is other l = let same : c ≡ call = cc in kept-open (Body c g ran) (own c same) (λ p s m. on-top p s c same m) l
-  open-at (Leave c) is other l = let same : c ≡ call = cc in kept-open (Leave c) (own c same) (λ p s m. on-top p s c same m) l
-  open-at (Exit c v entry) is other l = let same : c ≡ call = cc in kept-open (Exit c v entry) (own c same) (λ p s m. on-top p s c same m) l
-  open-at (ExitEnd c v) is other l = let same : c ≡ call = cc in kept-open (ExitEnd c v) (own c same) (λ p s m. on-top p s c same m) l
-  open-at (Ret c to) is other l = let same : c ≡ call = cc in kept-open (Ret c to) (own c same) (λ p s m. (calls_on s.stack, m.calls ∙ ap (λ (d : CallNo). d ∷ calls_on s.stack) same)) l
+  open-at (Ret c to) is other l = let same : c ≡ call = cc in kept-open (Ret c to) (own-item (Ret c to) call is) (λ p s m. (calls_on s.stack, m.calls ∙ ap (λ (d : CallNo). d ∷ calls_on s.stack) same)) l
+  open-at x is other l = kept-open x (own-item x call is) (λ p s m. on-top p s _ m cc) l
 
 pub enters-first : (job : Job) (items first rest : List Item) (call : CallNo) (x : Item) → IsLegal job items → items ≡ first ++ x ∷ rest → call_of x ≡ Some call
     → ((ctx : Ctx) (f : FuncNo) (caller : Option CallNo) → x ≢ Enter call ctx f caller)

@@ -1,23 +1,23 @@
 -- What a task has finished, counted by its items, is what its plain run has done.
-use Rattle.std.proofs.Common.{cond, ◌≡◌, ℕ, zero, suc, ◌+◌, ◌<◌, ◌≤◌, Bool, true, false, not, ◌&&◌, ◌==◌, List, [], ◌∷◌, ◌++◌, length, reverse, Option, Some, None, refl, sym, ap, ◌∙◌, subst, arith, eqb-true, nat_le, append_assoc}
+use Rattle.std.proofs.Common.{cond, ◌≡◌, ℕ, zero, suc, ◌+◌, ◌<◌, ◌≤◌, Bool, true, false, not, ◌&&◌, ◌==◌, List, [], ◌∷◌, ◌++◌, length, reverse, Option, Some, refl, sym, ap, ◌∙◌, subst, arith, eqb-true, nat_le, append_assoc}
 use Rattle.std.specs.Prelude.{get_or, IfSome, ◌-◌}
 use Rattle.std.specs.List.{filter, list_any, AllByRecursion as Each}
 use Rattle.ft_base.specs.declared.number.CallNo.{CallNo}
 use Rattle.ft_base.specs.declared.context.Ctx.{Ctx}
 use Rattle.ft_base.specs.declared.item.Item.{Item}
-use Rattle.ft_base.specs.declared.item.Item.TheVariants.{Begin, Return, Enter, Back, BackEnd, Refuse, Miss, Body, Leave, Exit, ExitEnd, Ret}
+use Rattle.ft_base.specs.declared.item.Item.TheVariants.{Enter, Body, Ret}
 use Rattle.ft_base.specs.declared.task.TaskAct.{TaskAct}
 use Rattle.ft_base.specs.declared.task.TaskAct.TheVariants.{Call, Ret as RetAct, Raise, Lower, After}
 use Rattle.ft_base.specs.Same.{same_call}
 use Rattle.ft_base.specs.Job.{Job, no_task, waits_before}
-use Rattle.ft_base.specs.Desk.{spec_at}
 use Rattle.ft_base.proofs.Small.{false_true, and_both, and-false, Each-weaker}
 use Rattle.ft_hist.specs.Past.{is_of, done, begun, Callback, callbacks}
-use Rattle.ft_hist.specs.Plain.{plain, after_item, after_next, at_start, PlainTask, Frame, Phase, Owed, Dispatch, InBack, Running, Leaving, InExit, on_call, on_top, in_phase, after_back, after_back_end, after_miss, after_refusal, after_body, after_leave, after_leave_ahead, after_scripted_leave, after_exit, after_exit_end, after_ret, after_enter, after_enter_ahead, after_owed_enter, after_scripted_enter, ahead, below_top, owed_by, same_top, top_call}
+use Rattle.ft_hist.specs.Plain.{plain, PlainTask, Frame, Phase, Dispatch, InBack, Running, Leaving, InExit, on_top, in_phase, ahead, below_top}
 use Rattle.ft_hist.specs.Rules.{IsLegal, HasEnded, HasWaited, acts_passed}
 use Rattle.ft_hist.specs.Finished.{is_in_callback, is_scripted, finished, calls_and_returns, longest_with, acts_done, AreWaitsMet}
 use Rattle.ft_hist.proofs.Laws.{same_call-refl, nothing-ahead}
-use Rattle.ft_hist.proofs.RunLaws.{if_some, some_inj, calls_on, on_call-inv, moves, sound}
+use Rattle.ft_hist.proofs.RunLaws.{calls_on, sound}
+use Rattle.ft_hist.proofs.Steps.{Step, step_enter, step_act, step_body, step_leave, step_ret, IsQuiet, acts_ahead, run-holds}
 use Rattle.ft_hist.proofs.HeldLaws.{not_same}
 use Rattle.ft_hist.proofs.Numbers.{some-run}
 use Rattle.ft_hist.proofs.OpenBacks.{opened, standing, stands, open_on, user_in}
@@ -108,6 +108,10 @@ abbrev is_quiet : List Frame → Bool
 is_quiet [] = true
 is_quiet (f ∷ below) = f.scripted && runs f.phase
 
+quiet-is : (fs : List Frame) → IsQuiet fs → is_quiet fs ≡ true
+quiet-is [] q = refl
+quiet-is (f ∷ below) q = rw (q.0, q.1) refl
+
 -- below a scripted call the stack is quiet, and below another it is not
 abbrev Settled : List Frame → Type 0
 Settled [] = Unit {0}
@@ -125,173 +129,36 @@ quiet-none (f ∷ below) s q = let both = and_both f.scripted (runs f.phase) q i
     by Leaving e m = false_true e
     by (InExit u) e m = false_true e
 
-any-nil : {X : Type 0} (p : X → Bool) (xs : List X) → filter p xs ≡ [] → list_any p xs ≡ false
-any-nil p [] e = refl
-any-nil p (x ∷ xs) e = by (p x) refl e (any-nil p xs)
-  where
-    by : (b : Bool) → p x ≡ b → cond b (x ∷ filter p xs) (filter p xs) ≡ [] → (filter p xs ≡ [] → list_any p xs ≡ false) → list_any p (x ∷ xs) ≡ false
-    by true q z more = absurd cc
-    by false q z more = rw q (more z)
+-- whether a list holds anything
+abbrev is_some_in : {X : Type 0} → List X → Bool
+is_some_in [] = false
+is_some_in (x ∷ xs) = true
 
-any-cons : {X : Type 0} (p : X → Bool) (xs : List X) (y : X) (ys : List X) → filter p xs ≡ y ∷ ys → list_any p xs ≡ true
-any-cons p [] y ys e = absurd cc
-any-cons p (x ∷ xs) y ys e = by (p x) refl e (any-cons p xs y ys)
+any-is : {X : Type 0} (p : X → Bool) (xs ys : List X) → filter p xs ≡ ys → list_any p xs ≡ is_some_in ys
+any-is p [] ys e = ap is_some_in e
+any-is p (x ∷ xs) ys e = by (p x) refl e (any-is p xs ys)
   where
-    by : (b : Bool) → p x ≡ b → cond b (x ∷ filter p xs) (filter p xs) ≡ y ∷ ys → (filter p xs ≡ y ∷ ys → list_any p xs ≡ true) → list_any p (x ∷ xs) ≡ true
-    by true q z more = rw q refl
+    by : (b : Bool) → p x ≡ b → cond b (x ∷ filter p xs) (filter p xs) ≡ ys → (filter p xs ≡ ys → list_any p xs ≡ is_some_in ys) → list_any p (x ∷ xs) ≡ is_some_in ys
+    by true q z more = rw q (ap is_some_in z)
     by false q z more = rw q (more z)
 
 -- what is kept along the plain run: the acts done, the order of the stack, and which of its calls are the script's
 abbrev Doing : List TaskAct → ℕ → (CallNo → Bool) → PlainTask → Type 0
 Doing all n scr s = Did (is_quiet s.stack) n all s.acts s.gone × Settled s.stack × Each (λ f. f.scripted ≡ scr f.call) s.stack
 
-module _ (job : Job) (d : ℕ) (all : List TaskAct) (n : ℕ) (scr : CallNo → Bool) (p s : PlainTask) (h : Doing all n scr p) where
-  -- the top call in another phase, over which no other act begins than before
-  record Moved (f : Frame) (below : List Frame) (from : Phase) : Type 0 where
-    phase : Phase
-    stack : s.stack ≡ in_phase f phase ∷ below
-    acts : s.acts ≡ p.acts
-    gone : s.gone ≡ p.gone
-    same : runs phase ≡ runs from
+and-true : (b : Bool) → (b && true) ≡ b
+and-true true = refl
+and-true false = refl
 
-  moved : (f : Frame) (below : List Frame) (from to : Phase) → runs to ≡ runs from → Some (on_top p (in_phase f to) below) ≡ Some s → Moved f below from
-  moved f below from to same e =
-      let is = some_inj (on_top p (in_phase f to) below) s e in
-      record { phase = to; stack = sym (ap (λ (y : PlainTask). y.stack) is); acts = sym (ap (λ (y : PlainTask). y.acts) is); gone = sym (ap (λ (y : PlainTask). y.gone) is); same = same }
+-- an act of the script is over, if it is a scripted call that was in it
+did-over : (n : ℕ) (all acts : List TaskAct) (gone : ℕ) (b : Bool) → Did (b && false) n all acts gone → Did b (cond b (suc n) n) all acts gone
+did-over n all acts gone true x = did-finish n all acts gone x
+did-over n all acts gone false x = x
 
-  m_back : (u : ℕ) (f : Frame) (below : List Frame) (ph : Phase) → after_back job p f below u ph ≡ Some s → Moved f below ph
-  m_back u f below Dispatch e = moved f below Dispatch (InBack u (owed_by f.ctx (spec_at job u).act) true) refl e
-  m_back u f below _ e = absurd cc
-
-  m_back_end : (u : ℕ) (f : Frame) (below : List Frame) (ph : Phase) → after_back_end p f below u ph ≡ Some s → Moved f below ph
-  m_back_end u f below (InBack v None fresh) e = moved f below (InBack v None fresh) Dispatch refl (if_some (u == v) _ s e).1
-  m_back_end u f below _ e = absurd cc
-
-  m_miss : (u : ℕ) (f : Frame) (below : List Frame) (ph : Phase) → after_miss p f below u ph ≡ Some s → Moved f below ph
-  m_miss u f below (InBack v owed true) e = moved f below (InBack v owed true) (InBack v owed false) refl (if_some (u == v) _ s e).1
-  m_miss u f below _ e = absurd cc
-
-  m_exit : (u : ℕ) (f : Frame) (below : List Frame) (ph : Phase) → after_exit p f below u ph ≡ Some s → Moved f below ph
-  m_exit u f below Leaving e = moved f below Leaving (InExit u) refl e
-  m_exit u f below _ e = absurd cc
-
-  m_exit_end : (u : ℕ) (f : Frame) (below : List Frame) (ph : Phase) → after_exit_end p f below u ph ≡ Some s → Moved f below ph
-  m_exit_end u f below (InExit v) e = moved f below (InExit v) Leaving refl (if_some (u == v) _ s e).1
-  m_exit_end u f below _ e = absurd cc
-
-  m_refuse : (ph : Phase) → after_refusal p ph ≡ Some s → p ≡ s
-  m_refuse Dispatch e = some_inj p s e
-  m_refuse _ e = absurd cc
-
-  -- what is known of the top call
-  module _ (f : Frame) (below : List Frame) (top : p.stack ≡ f ∷ below) where
-    did-at : Did (f.scripted && runs f.phase) n all p.acts p.gone
-    did-at = subst (λ (st : List Frame). Did (is_quiet st) n all p.acts p.gone) top h.0
-
-    settled-at : Settled (f ∷ below)
-    settled-at = subst (λ (st : List Frame). Settled st) top h.1
-
-    script-at : Each (λ g. g.scripted ≡ scr g.call) (f ∷ below)
-    script-at = subst (λ (st : List Frame). Each (λ g. g.scripted ≡ scr g.call) st) top h.2
-
-    over-moved : Moved f below f.phase → Doing all n scr s
-    over-moved m = (
-      rw (m.stack, m.acts, m.gone) (subst (λ (b : Bool). Did (f.scripted && b) n all p.acts p.gone) (sym m.same) did-at),
-      rw m.stack (settled-at.0, settled-at.1),
-      rw m.stack (script-at.0, script-at.1),
-    )
-
-    -- its act is finished, if it is a scripted call
-    did-over : (b : Bool) → Did (b && false) n all p.acts p.gone → Did b (cond b (suc n) n) all p.acts p.gone
-    did-over true x = did-finish n all p.acts p.gone x
-    did-over false x = x
-
-    and-true : (b : Bool) → (b && true) ≡ b
-    and-true true = refl
-    and-true false = refl
-
-    over-body : (ph : Phase) → f.phase ≡ ph → after_body p f below ph ≡ Some s → Doing all (cond f.scripted (suc n) n) scr s
-    over-body Dispatch is e =
-        subst (λ (y : PlainTask). Doing all (cond f.scripted (suc n) n) scr y) (some_inj _ s e) (
-          subst (λ (b : Bool). Did b (cond f.scripted (suc n) n) all p.acts p.gone) (sym (and-true f.scripted)) (did-over f.scripted (rw is at did-at)),
-          (settled-at.0, settled-at.1),
-          (script-at.0, script-at.1),
-        )
-    over-body _ is e = absurd cc
-
-    over-ret : (to : Option CallNo) (ph : Phase) → f.phase ≡ ph → after_ret p below to ph ≡ Some s → Doing all (cond f.scripted (suc n) n) scr s
-    over-ret to Leaving is e =
-        subst (λ (y : PlainTask). Doing all (cond f.scripted (suc n) n) scr y) (some_inj _ s (if_some (same_top to (top_call below)) _ s e).1) (
-          subst (λ (b : Bool). Did b (cond f.scripted (suc n) n) all p.acts p.gone) (sym settled-at.0) (did-over f.scripted (rw is at did-at)),
-          settled-at.1,
-          script-at.1,
-        )
-    over-ret to _ is e = absurd cc
-
-    over-leave-script : (acts : List TaskAct) (cs : List Ctx) (gone : ℕ) → f.scripted ≡ true → Did true n all acts gone → after_scripted_leave p f below acts cs gone ≡ Some s → Doing all n scr s
-    over-leave-script (RetAct ∷ rest) cs gone scripted x e =
-        subst (λ (y : PlainTask). Doing all n scr y) (some_inj _ s e) (rw scripted (did-begin n all RetAct rest gone refl x), (settled-at.0, settled-at.1), (script-at.0, script-at.1))
-    over-leave-script _ cs gone scripted x e = absurd cc
-
-    over-leave : (ph : Phase) → f.phase ≡ ph → after_leave d p f below ph ≡ Some s → Doing all n scr s
-    over-leave Running is e = by f.scripted refl e
-      where
-        by : (b : Bool) → f.scripted ≡ b → cond b (after_leave_ahead p f below (ahead d p.acts p.contexts p.gone)) (Some (on_top p (in_phase f Leaving) below)) ≡ Some s → Doing all n scr s
-        by true scripted x =
-            let a = ahead d p.acts p.contexts p.gone in
-            over-leave-script a.acts a.contexts a.gone scripted (did-ahead n all d p.acts p.contexts p.gone (rw (scripted, is) at did-at)) x
-        by false other x =
-            subst (λ (y : PlainTask). Doing all n scr y) (some_inj _ s x) (rw other (rw other at did-at), (settled-at.0, settled-at.1), (script-at.0, script-at.1))
-    over-leave _ is e = absurd cc
-
-  -- a call that is entered
-  module _ (call : CallNo) (apart : Each (λ f. same_call call f.call ≡ false) p.stack) (inside : Bool) where
-    abbrev scr' : CallNo → Bool
-    scr' c = cond (same_call call c) (not inside) (scr c)
-
-    old-script : (fs : List Frame) → Each (λ f. same_call call f.call ≡ false) fs → Each (λ f. f.scripted ≡ scr f.call) fs → Each (λ f. f.scripted ≡ scr' f.call) fs
-    old-script [] a x = tt
-    old-script (f ∷ fs) a x = (rw a.0 x.0, old-script fs a.1 x.1)
-
-    over-new : (made : PlainTask) → Doing all n scr' made → Some made ≡ Some s → Doing all n scr' s
-    over-new made x e = subst (λ (y : PlainTask). Doing all n scr' y) (some_inj made s e) x
-
-    abbrev new : Ctx → ℕ → Bool → Frame
-    new x f scripted = record { call = call; ctx = x; func = f; scripted = scripted; phase = Dispatch }
-
-    by-script : (acts : List TaskAct) (cs : List Ctx) (gone : ℕ) (x : Ctx) (f : ℕ) → is_quiet p.stack ≡ true → inside ≡ false → Did true n all acts gone → after_scripted_enter p acts cs gone call x f ≡ Some s → Doing all n scr' s
-    by-script (Call g ∷ rest) cs gone x f quiet none did e =
-        over-new (record { next = suc p.next; acts = rest; gone = suc gone; contexts = cs; stack = new x f true ∷ p.stack })
-        (did-begin n all (Call g) rest gone refl did, (quiet, h.1), (rw (same_call-refl call, none) refl, old-script p.stack apart h.2)) (if_some _ _ s e).1
-    by-script _ cs gone x f quiet none did e = absurd cc
-
-    by-ahead : (x : Ctx) (f : ℕ) → is_quiet p.stack ≡ true → inside ≡ false → after_enter_ahead p (ahead d p.acts p.contexts p.gone) call x f ≡ Some s → Doing all n scr' s
-    by-ahead x f quiet none e =
-        let a = ahead d p.acts p.contexts p.gone in
-        by-script a.acts a.contexts a.gone x f quiet none (did-ahead n all d p.acts p.contexts p.gone (subst (λ (b : Bool). Did b n all p.acts p.gone) quiet h.0)) e
-
-    by-owed : (g : Frame) (below : List Frame) (v : ℕ) (owed : Option Owed) (fresh : Bool) (x : Ctx) (f : ℕ) → p.stack ≡ g ∷ below → g.phase ≡ InBack v owed fresh → inside ≡ true → after_owed_enter p g below v owed call x f ≡ Some s → Doing all n scr' s
-    by-owed g below v None fresh x f top ph in' e = absurd cc
-    by-owed g below v (Some o) fresh x f top ph in' e =
-        let did = rw (ph, and-false g.scripted) at (did-at g below top) in
-        let set = settled-at g below top in
-        let old = old-script (g ∷ below) (subst (λ (st : List Frame). Each (λ k. same_call call k.call ≡ false) st) top apart) (script-at g below top) in
-        over-new (record p { next = suc p.next; stack = new x f false ∷ in_phase g (InBack v None false) ∷ below })
-        (did, (and-false g.scripted, (set.0, set.1)), (rw (same_call-refl call, in') refl, (old.0, old.1))) (if_some _ _ s e).1
-
-    over-enter : (stack : List Frame) (x : Ctx) (f : ℕ) → p.stack ≡ stack → (is_quiet p.stack ≡ true → inside ≡ false)
-        → ((g : Frame) (below : List Frame) (v : ℕ) (owed : Option Owed) (fresh : Bool) → p.stack ≡ g ∷ below → g.phase ≡ InBack v owed fresh → inside ≡ true)
-        → after_enter d p stack call x f ≡ Some s → Doing all n scr' s
-    over-enter [] x f top none some e = let quiet : is_quiet p.stack ≡ true = rw top refl in by-ahead x f quiet (none quiet) e
-    over-enter (g ∷ below) x f top none some e = by g.phase refl e
-      where
-        by : (ph : Phase) → g.phase ≡ ph → after_enter d p (in_phase g ph ∷ below) call x f ≡ Some s → Doing all n scr' s
-        by Running q y =
-            let w = if_some g.scripted _ s y in
-            let quiet : is_quiet p.stack ≡ true = rw (top, w.0, q) refl in
-            by-ahead x f quiet (none quiet) w.1
-        by (InBack v owed fresh) q y = by-owed g below v owed fresh x f top q (some g below v owed fresh top q) y
-        by _ q y = absurd cc
+-- which calls are scripted stays so when another is entered
+old-script : (scr : CallNo → Bool) (call : CallNo) (b : Bool) (fs : List Frame) → Each (λ c. c.n < call.n) (calls_on fs) → Each (λ f. f.scripted ≡ scr f.call) fs → Each (λ f. f.scripted ≡ cond (same_call call f.call) b (scr f.call)) fs
+old-script scr call b [] lower x = tt
+old-script scr call b (f ∷ fs) lower x = (rw (not_same call f.call lower.0) x.0, old-script scr call b fs lower.1 x.1)
 
 -- ## along the plain run
 
@@ -302,59 +169,48 @@ module _ (job : Job) (t : ℕ) where
   abbrev Does : List Item → PlainTask → Type 0
   Does past s = Doing script (finished t past) (λ c. is_scripted c past) s
 
-  module _ (past : List Item) (p s : PlainTask) (here : plain job t past ≡ Some p) (h : Does past p) where
-    abbrev n : ℕ
-    n = finished t past
+  -- whether a call is entered in a callback of its task is told by the stack
+  inside-is : (past : List Item) (call : CallNo) (fs : List Frame) (bs : List Callback) → (call.task.0 == t) ≡ true → filter (λ (b : Callback). b.call.task.0 == t) (callbacks past) ≡ open_on (standing fs) → open_on (standing fs) ≡ bs
+      → is_in_callback call.task.0 past ≡ is_some_in bs
+  inside-is past call fs bs own opens is = ap (λ v. is_in_callback v past) (eqb-true call.task.0 t own) ∙ any-is (λ (b : Callback). b.call.task.0 == t) (callbacks past) bs (opens ∙ is)
 
-    abbrev scr : CallNo → Bool
-    scr c = is_scripted c past
-
-    -- an item of the top call that begins and finishes no act
-    quietly : (call : CallNo) (next : Frame → List Frame → Option PlainTask) → ((f : Frame) (below : List Frame) → next f below ≡ Some s → Moved job (done past) script n scr p s h f below f.phase)
-        → on_call p.stack call next ≡ Some s → Does past s
-    quietly call next k e =
-        let w = on_call-inv p.stack call next s e in
-        over-moved job (done past) script n scr p s h w.0 w.1 w.2 (k w.0 w.1 w.4)
-
-    is-script : (call : CallNo) → (call.task.0 == t) ≡ true → (f : Frame) (below : List Frame) → p.stack ≡ f ∷ below → f.call ≡ call → ((call.task.0 == t) && is_scripted call past) ≡ f.scripted
-    is-script call own f below top is =
-        rw own (subst (λ (c : CallNo). is_scripted c past ≡ f.scripted) is (sym (script-at job (done past) script n scr p s h f below top).0))
-
-    apart-frames : (call : CallNo) (fs : List Frame) → Each (λ c. c.n < call.n) (calls_on fs) → Each (λ f. same_call call f.call ≡ false) fs
-    apart-frames call [] lt = tt
-    apart-frames call (f ∷ fs) lt = (not_same call f.call lt.0, apart-frames call fs lt.1)
-
-    own-item : (item : Item) → is_of t item ≡ true → after_item job (done past) p item ≡ Some s → Does (item ∷ past) s
-    unfolding after_item
-    own-item (Begin k) own e = false_true own
-    own-item (Return k a) own e = false_true own
-    own-item (Enter call x f caller) own e =
-        let m = moves job (done past) p s (Enter call x f caller) e in
-        let so = sound job t past p here in
-        let opens = (opened job t past p here).opens in
-        let inside : is_in_callback call.task.0 past ≡ is_in_callback t past = ap (λ v. is_in_callback v past) (eqb-true call.task.0 t own) in
-        over-enter job (done past) script n scr p s h call (apart-frames call p.stack (rw m.number so.number)) (is_in_callback call.task.0 past) p.stack x f.0 refl
-        (λ quiet. inside ∙ any-nil (λ (b : Callback). b.call.task.0 == t) (callbacks past) (opens ∙ quiet-none p.stack h.1 quiet))
-        (λ g below v owed fresh top q. inside ∙ any-cons (λ (b : Callback). b.call.task.0 == t) (callbacks past) (record { call = g.call; user = v; ctx = Some g.ctx }) (open_on (standing below))
-        (opens ∙ ap (λ fs. open_on (standing fs)) top ∙ ap (λ ph. open_on (stands g.call g.ctx (user_in ph) ∷ standing below)) q))
-        (if_some _ _ s e).1
-    own-item (Back call u) own e = quietly call _ (λ f below y. m_back job (done past) script n scr p s h u.0 f below f.phase y) e
-    own-item (BackEnd call u) own e = quietly call _ (λ f below y. m_back_end job (done past) script n scr p s h u.0 f below f.phase y) e
-    own-item (Miss call u) own e = quietly call _ (λ f below y. m_miss job (done past) script n scr p s h u.0 f below f.phase y) e
-    own-item (Exit call u entry) own e = quietly call _ (λ f below y. m_exit job (done past) script n scr p s h u.0 f below f.phase y) e
-    own-item (ExitEnd call u) own e = quietly call _ (λ f below y. m_exit_end job (done past) script n scr p s h u.0 f below f.phase y) e
-    own-item (Refuse call u reason) own e =
-        let w = on_call-inv p.stack call _ s e in
-        subst (λ (y : PlainTask). Does past y) (m_refuse job (done past) script n scr p s h w.0.phase w.4) h
-    own-item (Leave call) own e =
-        let w = on_call-inv p.stack call _ s e in
-        over-leave job (done past) script n scr p s h w.0 w.1 w.2 w.0.phase refl w.4
-    own-item (Body call g ran) own e =
-        let w = on_call-inv p.stack call _ s e in
-        subst (λ (b : Bool). Doing script (cond b (suc n) n) scr s) (sym (is-script call own w.0 w.1 w.2 w.3)) (over-body job (done past) script n scr p s h w.0 w.1 w.2 w.0.phase refl w.4)
-    own-item (Ret call to) own e =
-        let w = on_call-inv p.stack call _ s e in
-        subst (λ (b : Bool). Doing script (cond b (suc n) n) scr s) (sym (is-script call own w.0 w.1 w.2 w.3)) (over-ret job (done past) script n scr p s h w.0 w.1 w.2 to w.0.phase refl w.4)
+  -- one more item of the task
+  own-item : (past : List Item) (p s : PlainTask) (item : Item) → plain job t past ≡ Some p → is_of t item ≡ true → Step job (done past) p s item → Does past p → Does (item ∷ past) s
+  own-item past p s item here own (step_enter {call = call} {f = f} {rest = rest} it quiet acts is) h =
+      let d = done past in
+      let n = finished t past in
+      let a = acts_ahead d p in
+      let lower : Each (λ c. c.n < call.n) (calls_on p.stack) = rw it.number (sound job t past p here).number in
+      let now = quiet-is p.stack quiet in
+      let outside : is_in_callback call.task.0 past ≡ false = inside-is past call p.stack [] own (opened job t past p here).opens (quiet-none p.stack h.1 now) in
+      let did = did-ahead n script d p.acts p.contexts p.gone (subst (λ (b : Bool). Did b n script p.acts p.gone) now h.0) in (
+        did-begin n script (Call f) rest a.gone refl (subst (λ xs. Did true n script xs a.gone) acts did),
+        (now, h.1),
+        (rw (same_call-refl call, outside) refl, old-script (λ c. is_scripted c past) call (not (is_in_callback call.task.0 past)) p.stack lower h.2),
+      )
+  own-item past p s item here own (step_act q g below {u = u} {fresh = fresh} {call = call} {x = x} {f = f} it) h =
+      let top : Frame = in_phase g (InBack u (Some (record { ctx = x; func = f.0 })) fresh) in
+      let numbers = (sound job t past _ here).number in
+      let lower : Each (λ c. c.n < call.n) (calls_on (top ∷ below)) = subst (λ m. Each (λ c. c.n < m) (calls_on (top ∷ below))) (sym it.number) numbers in
+      let inside : is_in_callback call.task.0 past ≡ true = inside-is past call (top ∷ below) (open_on (standing (top ∷ below))) own (opened job t past _ here).opens refl in
+      let old = old-script (λ c. is_scripted c past) call (not (is_in_callback call.task.0 past)) (top ∷ below) lower h.2 in
+      (rw (and-false g.scripted) at h.0, (and-false g.scripted, (h.1.0, h.1.1)), (rw (same_call-refl call, inside) refl, (old.0, old.1)))
+  own-item past p s item here own (step_body q f below) h =
+      let n = finished t past in
+      let scripted : ((f.call.task.0 == t) && is_scripted f.call past) ≡ f.scripted = rw own (sym h.2.0) in
+      subst (λ (b : Bool). Doing script (cond b (suc n) n) (λ c. is_scripted c past) (on_top q (in_phase f Running) below)) (sym scripted)
+      (subst (λ (b : Bool). Did b (cond f.scripted (suc n) n) script q.acts q.gone) (sym (and-true f.scripted)) (did-over n script q.acts q.gone f.scripted h.0), h.1, h.2)
+  own-item past p s item here own (step_ret q f below) h =
+      let n = finished t past in
+      let scripted : ((f.call.task.0 == t) && is_scripted f.call past) ≡ f.scripted = rw own (sym h.2.0) in
+      subst (λ (b : Bool). Doing script (cond b (suc n) n) (λ c. is_scripted c past) (record q { stack = below })) (sym scripted)
+      (subst (λ (b : Bool). Did b (cond f.scripted (suc n) n) script q.acts q.gone) (sym h.1.0) (did-over n script q.acts q.gone f.scripted h.0), h.1.1, h.2.1)
+  own-item past p s item here own (step_leave q f below {rest = rest} acts) h =
+      let d = done past in
+      let n = finished t past in
+      let a = acts_ahead d q in
+      (did-begin n script RetAct rest a.gone refl (subst (λ xs. Did true n script xs a.gone) acts (did-ahead n script d q.acts q.contexts q.gone h.0)), h.1, h.2)
+  own-item past p s item here own _ h = h
 
   -- an item of another
   finished-other : (item : Item) (past : List Item) → is_of t item ≡ false → finished t (item ∷ past) ≡ finished t past
@@ -372,19 +228,9 @@ module _ (job : Job) (t : ℕ) where
   scripts-other item past other (f ∷ fs) own h = (h.0 ∙ sym (script-other item past other f.call own.0), scripts-other item past other fs own.1 h.1)
 
   pub does : (past : List Item) (s : PlainTask) → plain job t past ≡ Some s → Does past s
-  unfolding plain
-  does [] s e = subst (λ (x : PlainTask). Does [] x) (some_inj (at_start job t) s e) (([], refl, refl, refl), tt, tt)
-  does (item ∷ past) s e = by (is_of t item) refl e (λ p here. does past p here)
-    where
-      by : (b : Bool) → is_of t item ≡ b → cond b (after_next job (done past) item (plain job t past)) (plain job t past) ≡ Some s → ((p : PlainTask) → plain job t past ≡ Some p → Does past p) → Does (item ∷ past) s
-      by true own x before = of (plain job t past) refl x
-        where
-          of : (q : Option PlainTask) → plain job t past ≡ q → after_next job (done past) item q ≡ Some s → Does (item ∷ past) s
-          of None here y = absurd cc
-          of (Some p) here y = own-item past p s here (before p here) item own y
-      by false other x before =
-          let h = before s x in
-          (rw (finished-other item past other) h.0, h.1, scripts-other item past other s.stack (sound job t past s x).task h.2)
+  does = run-holds job t (λ past s. Does past s) (([], refl, refl, refl), tt, tt)
+      (λ item past p s own here k h. own-item past p s item here own k h)
+      (λ item past s other here h. (rw (finished-other item past other) h.0, h.1, scripts-other item past other s.stack (sound job t past s here).task h.2))
 
   -- ## how many acts that is
 
@@ -395,9 +241,7 @@ module _ (job : Job) (t : ℕ) where
   silent gone [] = omega arith
   silent gone (Call f ∷ rest) = omega arith
   silent gone (RetAct ∷ rest) = omega arith
-  silent gone (Raise c ∷ rest) = let e = silent (suc gone) rest in omega (arith, e)
-  silent gone (Lower ∷ rest) = let e = silent (suc gone) rest in omega (arith, e)
-  silent gone (After m ∷ rest) = let e = silent (suc gone) rest in omega (arith, e)
+  silent gone (_ ∷ rest) = let e = silent (suc gone) rest in omega (arith, e)
 
   passed-quiet : (k : ℕ) (acts : List TaskAct) (gone : ℕ) → Did true k script acts gone → acts_passed (alone gone acts) ≡ longest_with script k
   passed-quiet k acts gone d =

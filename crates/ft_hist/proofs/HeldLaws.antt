@@ -1,20 +1,21 @@
 -- The open calls of a task are its plain stack, and so the frames held are counted on that stack.
-use Rattle.std.proofs.Common.{cond, ◌≡◌, ℕ, ◌<◌, Bool, true, false, not, ◌&&◌, ◌||◌, ◌==◌, List, [], ◌∷◌, length, Some, None, refl, sym, ap, ◌∙◌, subst, arith, eqb-true, inl, inr}
+use Rattle.std.proofs.Common.{cond, ◌≡◌, ℕ, ◌<◌, Bool, true, false, not, ◌&&◌, ◌||◌, ◌==◌, List, [], ◌∷◌, length, Some, refl, sym, ap, ◌∙◌, subst, arith, eqb-true, inl, inr}
 use Rattle.std.proofs.lemmas.Bool.Decides.{eqb_tells}
 use Rattle.std.specs.List.{filter, AllByRecursion as Each}
 use Rattle.ft_base.specs.declared.number.CallNo.{CallNo}
 use Rattle.ft_base.specs.declared.item.Item.{Item}
-use Rattle.ft_base.specs.declared.item.Item.TheVariants.{Begin, Return, Enter, Back, BackEnd, Refuse, Miss, Body, Leave, Exit, ExitEnd, Ret}
+use Rattle.ft_base.specs.declared.item.Item.TheVariants.{Begin, Return, Enter, Ret}
 use Rattle.ft_base.specs.Same.{same_call}
 use Rattle.ft_base.specs.Job.{Job}
 use Rattle.ft_base.specs.Desk.{spec_at}
 use Rattle.ft_base.proofs.Small.{false_true, ==-refl, and-false, Each-weaker, each-all, filter-all, filter-ext}
 use Rattle.ft_base.specs.Kinds.{cancels}
 use Rattle.ft_hist.specs.Past.{is_of, done, is_open, calls, held, all_visits, is_dispatched, has_frame_user}
-use Rattle.ft_hist.specs.Plain.{plain, after_next, PlainTask, at_start}
+use Rattle.ft_hist.specs.Plain.{plain, PlainTask}
 use Rattle.ft_hist.specs.Telling.{open_calls}
 use Rattle.ft_hist.proofs.Laws.{same_call-refl}
-use Rattle.ft_hist.proofs.RunLaws.{some_inj, calls_on, Keeps, Moves, moves}
+use Rattle.ft_hist.proofs.RunLaws.{calls_on, Keeps, Moves, step-moves}
+use Rattle.ft_hist.proofs.Steps.{run-holds}
 use Rattle.ft_hist.specs.Known.{holds}
 use Rattle.ft_hist.proofs.Since.{IsOlder, apart, holding}
 
@@ -110,14 +111,7 @@ module _ (t : ℕ) (past : List Item) where
             ∙ rw (same_call-refl call) (filter-all (λ c. not (same_call call c)) (calls_on s'.stack)
             (Each-weaker (λ d. d.n < call.n) (λ d. not (same_call call d) ≡ true) (calls_on s'.stack) (λ d lt. rw (not_same call d lt) refl) falls.0));
       }
-  opens-own s s' (Back call u) own m h = kept s s' call (Back call u) refl refl m h
-  opens-own s s' (BackEnd call u) own m h = kept s s' call (BackEnd call u) refl refl m h
-  opens-own s s' (Refuse call u reason) own m h = kept s s' call (Refuse call u reason) refl refl m h
-  opens-own s s' (Miss call u) own m h = kept s s' call (Miss call u) refl refl m h
-  opens-own s s' (Body call g ran) own m h = kept s s' call (Body call g ran) refl refl m h
-  opens-own s s' (Leave call) own m h = kept s s' call (Leave call) refl refl m h
-  opens-own s s' (Exit call u entry) own m h = kept s s' call (Exit call u entry) refl refl m h
-  opens-own s s' (ExitEnd call u) own m h = kept s s' call (ExitEnd call u) refl refl m h
+  opens-own s s' item own m h = kept s s' _ item refl refl m h
 
   -- and after one of another task
   foreign : (call : CallNo) → (call.task.0 == t) ≡ false → (c : CallNo) (b : Bool) → ((c.task.0 == t) && (same_call call c || b)) ≡ ((c.task.0 == t) && b)
@@ -150,16 +144,9 @@ module _ (t : ℕ) (past : List Item) where
   opens-other next stack _ other h = record { number = h.number; falls = h.falls; made = h.made; open' = h.open' }
 
 pub opens : (job : Job) (t : ℕ) (past : List Item) (s : PlainTask) → plain job t past ≡ Some s → Opens t past s.next (calls_on s.stack)
-unfolding plain
-opens job t [] s e = subst (λ (x : PlainTask). Opens t [] x.next (calls_on x.stack)) (some_inj (at_start job t) s e) (record { number = tt; falls = tt; made = tt; open' = refl })
-opens job t (item ∷ past) s e =
-    elim (is_of t item) as (λ b. is_of t item ≡ b → cond b (after_next job (done past) item (plain job t past)) (plain job t past) ≡ Some s → Opens t (item ∷ past) s.next (calls_on s.stack)) [
-      | true ↦ λ own x. elim (plain job t past) as (λ o. plain job t past ≡ o → after_next job (done past) item o ≡ Some s → Opens t (item ∷ past) s.next (calls_on s.stack)) [
-        | None ↦ λ here y. absurd cc
-        | Some p ↦ λ here y. opens-own t past p s item own (moves job (done past) p s item y) (opens job t past p here)
-      ] refl x
-      | false ↦ λ other x. opens-other t past s.next (calls_on s.stack) item other (opens job t past s x)
-    ] refl e
+opens job t = run-holds job t (λ past s. Opens t past s.next (calls_on s.stack)) (record { number = tt; falls = tt; made = tt; open' = refl })
+    (λ item past p s own here k h. opens-own t past p s item own (step-moves job (done past) p s item k) h)
+    (λ item past s other here h. opens-other t past s.next (calls_on s.stack) item other h)
 
 -- the frames that a task's other calls hold are those of the calls on its stack
 pub held-on : (job : Job) (past : List Item) (s : PlainTask) (call : CallNo) → plain job call.task.0 past ≡ Some s

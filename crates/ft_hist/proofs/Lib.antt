@@ -1,7 +1,7 @@
 pub mod Laws
-pub mod StackLaws
 pub mod WindowLaws
 pub mod DispatchLaws
+pub mod Steps
 pub mod RunLaws
 pub mod Since
 pub mod HeldLaws

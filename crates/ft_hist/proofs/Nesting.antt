@@ -1,22 +1,22 @@
 -- Calls nest: while a call has not returned, what was below it on its task's stack stays there, so its return reaches its caller.
-use Rattle.std.proofs.Common.{◌≡◌, ◌<◌, Bool, true, false, ◌&&◌, ◌==◌, List, [], ◌∷◌, ◌++◌, Option, Some, None, refl, sym, ap, ◌∙◌, subst, arith, append_assoc}
+use Rattle.std.proofs.Common.{◌≡◌, ◌<◌, Bool, true, false, List, [], ◌∷◌, ◌++◌, Option, Some, None, refl, sym, ap, ◌∙◌, subst, arith, append_assoc}
 use Rattle.std.specs.List.{list_any, AllByRecursion as Each}
 use Rattle.ft_base.specs.declared.number.CallNo.{CallNo}
 use Rattle.ft_base.specs.declared.number.FuncNo.{FuncNo}
 use Rattle.ft_base.specs.declared.context.Ctx.{Ctx}
 use Rattle.ft_base.specs.declared.item.Item.{Item}
-use Rattle.ft_base.specs.declared.item.Item.TheVariants.{Begin, Return, Enter, Back, BackEnd, Refuse, Miss, Body, Leave, Exit, ExitEnd, Ret}
+use Rattle.ft_base.specs.declared.item.Item.TheVariants.{Begin, Return, Enter, Ret}
 use Rattle.ft_base.specs.Same.{same_call}
 use Rattle.ft_base.specs.Job.{Job}
-use Rattle.ft_base.proofs.Small.{false_true, ==-refl, and_both, or-false_both, Each-weaker}
+use Rattle.ft_base.proofs.Small.{false_true, ==-refl, or-false_both, Each-weaker}
 use Rattle.ft_hist.specs.Past.{is_of}
-use Rattle.ft_hist.specs.Plain.{plain, after_item, PlainTask, Frame, Phase, Leaving, on_call, after_ret, top_call, same_top}
+use Rattle.ft_hist.specs.Plain.{plain, PlainTask, Frame, top_call}
 use Rattle.ft_hist.specs.Rules.{IsLegalPast}
 use Rattle.ft_hist.specs.Telling.{is_ret_of}
 use Rattle.ft_hist.proofs.Laws.{same_call-refl}
 use Rattle.ft_hist.proofs.HeldLaws.{Falls, opens}
 use Rattle.ft_hist.proofs.Numbers.{moved, unmoved, some-run}
-use Rattle.ft_hist.proofs.RunLaws.{some_inj, if_some, same_call-eq, calls_on, Moves}
+use Rattle.ft_hist.proofs.RunLaws.{some_inj, same_call-eq, calls_on, Moves}
 use Rattle.ft_hist.proofs.Splitting.{legal-older}
 
 -- the first call of a stack
@@ -27,12 +27,6 @@ top_of (c ∷ cs) = Some c
 pub top-of-frames : (fs : List Frame) → top_call fs ≡ top_of (calls_on fs)
 top-of-frames [] = refl
 top-of-frames (f ∷ fs) = refl
-
-pub same_top-eq : (a b : Option CallNo) → same_top a b ≡ true → a ≡ b
-same_top-eq None None e = refl
-same_top-eq (Some a) (Some b) e = ap (λ (c : CallNo). Some c) (same_call-eq a b e)
-same_top-eq None (Some b) e = false_true e
-same_top-eq (Some a) None e = false_true e
 
 -- a call that is below others has a lower number than the top one
 below-lower : (upper : List CallNo) (x call : CallNo) (tail : List CallNo) → Each (λ d. d.n < x.n) (upper ++ call ∷ tail) → call.n < x.n
@@ -61,19 +55,12 @@ module _ (job : Job) (call : CallNo) (tail : List CallNo) where
   stands-moved p s (Begin k) m own other upper e = false_true own
   stands-moved p s (Return k a) m own other upper e = false_true own
   stands-moved p s (Enter c x f caller) m own other upper e = (c ∷ upper, m.calls ∙ ap (λ cs. c ∷ cs) e)
-  stands-moved p s (Back c u) m own other upper e = (upper, m.calls ∙ e)
-  stands-moved p s (BackEnd c u) m own other upper e = (upper, m.calls ∙ e)
-  stands-moved p s (Refuse c u reason) m own other upper e = (upper, m.calls ∙ e)
-  stands-moved p s (Miss c u) m own other upper e = (upper, m.calls ∙ e)
-  stands-moved p s (Body c g ran) m own other upper e = (upper, m.calls ∙ e)
-  stands-moved p s (Leave c) m own other upper e = (upper, m.calls ∙ e)
-  stands-moved p s (Exit c u entry) m own other upper e = (upper, m.calls ∙ e)
-  stands-moved p s (ExitEnd c u) m own other upper e = (upper, m.calls ∙ e)
   stands-moved p s (Ret c to) m own other upper e = by upper (sym m.calls ∙ e)
     where
       by : (xs : List CallNo) → c ∷ calls_on s.stack ≡ xs ++ call ∷ tail → (above : List CallNo) × (calls_on s.stack ≡ above ++ call ∷ tail)
       by [] q = let is : c ≡ call = cc in false_true (sym other ∙ subst (λ (d : CallNo). same_call d call ≡ true) (sym is) (same_call-refl call))
       by (x ∷ xs) q = let rest : calls_on s.stack ≡ xs ++ call ∷ tail = cc in (xs, rest)
+  stands-moved p s _ m own other upper e = (upper, m.calls ∙ e)
 
   stands-more : (item : Item) (past : List Item) → IsLegalPast job (item ∷ past) → is_ret_of call item ≡ false → Stands past → Stands (item ∷ past)
   stands-more item past l other h =
@@ -99,28 +86,14 @@ module _ (job : Job) (call : CallNo) (tail : List CallNo) where
 
   -- its return leaves the tail
   pub returns-to-tail : (to : Option CallNo) (past : List Item) → IsLegalPast job (Ret call to ∷ past) → Stands past → to ≡ top_of tail
-  unfolding plain after_item
   returns-to-tail to past l h =
       let r = some-run job call.task.0 (Ret call to ∷ past) l in
-      by h.run h.is (rw (==-refl call.task.0, h.is) at r.1) h.stack
-    where
-      by : (p : PlainTask) → plain job call.task.0 past ≡ Some p → on_call p.stack call (λ t below. after_ret p below to t.phase) ≡ Some (some-run job call.task.0 (Ret call to ∷ past) l).0
-          → calls_on p.stack ≡ h.upper ++ call ∷ tail → to ≡ top_of tail
-      by p here e stack = of p.stack refl e
-        where
-          of : (fs : List Frame) → p.stack ≡ fs → on_call fs call (λ t below. after_ret p below to t.phase) ≡ Some (some-run job call.task.0 (Ret call to ∷ past) l).0 → to ≡ top_of tail
-          of [] at x = absurd cc
-          of (t ∷ below) at x =
-              let w = if_some (same_call t.call call) (after_ret p below to t.phase) _ x in
-              let is : t.call ≡ call = same_call-eq t.call call w.0 in
-              let falls = (opens job call.task.0 past p here).falls in
-              let shape : h.upper ++ call ∷ tail ≡ call ∷ calls_on below = sym stack ∙ ap calls_on at ∙ ap (λ (c : CallNo). c ∷ calls_on below) is in
-              let rest : tail ≡ calls_on below = alone h.upper call tail (calls_on below) (subst (λ cs. Falls cs) stack falls) shape in
-              phase t.phase w.1 ∙ top-of-frames below ∙ ap top_of (sym rest)
-            where
-              phase : (q : Phase) → after_ret p below to q ≡ Some (some-run job call.task.0 (Ret call to ∷ past) l).0 → to ≡ top_call below
-              phase Leaving y = same_top-eq to (top_call below) (if_some (same_top to (top_call below)) _ _ y).0
-              phase _ y = absurd cc
+      let m = moved job call.task.0 (Ret call to) past r.0 (==-refl call.task.0) r.1 in
+      let k = m.2 in
+      let same : h.run ≡ m.0 = some_inj h.run m.0 (sym h.is ∙ m.1) in
+      let stack = subst (λ (p : PlainTask). calls_on p.stack ≡ h.upper ++ call ∷ tail) same h.stack in
+      let falls = subst (λ cs. Falls cs) stack (opens job call.task.0 past m.0 m.1).falls in
+      k.to_is ∙ top-of-frames r.0.stack ∙ ap top_of (sym (alone h.upper call tail (calls_on r.0.stack) falls (sym stack ∙ k.calls)))
 
 -- at its Enter a call stands over the stack, whose top is its caller
 pub record Entering (job : Job) (call : CallNo) (caller : Option CallNo) (past : List Item) (item : Item) : Type 0 where
@@ -130,18 +103,14 @@ pub record Entering (job : Job) (call : CallNo) (caller : Option CallNo) (past :
   pub stands : Stands job call (calls_on run.stack) (item ∷ past)
 
 pub entering : (job : Job) (call : CallNo) (ctx : Ctx) (f : FuncNo) (caller : Option CallNo) (past : List Item) → IsLegalPast job (Enter call ctx f caller ∷ past) → Entering job call caller past (Enter call ctx f caller)
-unfolding plain after_item
 entering job call ctx f caller past l =
     let r = some-run job call.task.0 (Enter call ctx f caller ∷ past) l in
     let m = moved job call.task.0 (Enter call ctx f caller) past r.0 (==-refl call.task.0) r.1 in
     let k = m.2 in
-    let e = rw (==-refl call.task.0, m.1) at r.1 in
-    let tests = (if_some ((call.n == m.0.next) && same_top caller (top_call m.0.stack)) _ _ e).0 in
-    let top = same_top-eq caller (top_call m.0.stack) (and_both (call.n == m.0.next) (same_top caller (top_call m.0.stack)) tests).1 in
     record {
       run = m.0;
       run_is = m.1;
-      caller_is = top ∙ top-of-frames m.0.stack;
+      caller_is = k.from ∙ top-of-frames m.0.stack;
       stands = record { run = r.0; is = r.1; upper = []; stack = k.calls };
     }
 
@@ -164,14 +133,7 @@ module _ (job : Job) (call : CallNo) where
       let k = m.next in
       (omega (arith, k, lt), rw m.calls ((λ e. absurd (omega (arith, n, lt, e))), h))
   away-moved p s (Ret c to) m own lt h = let k = m.next in (omega (arith, k, lt), (rw m.calls at h).1)
-  away-moved p s (Back c u) m own lt h = let k = m.next in (omega (arith, k, lt), rw m.calls h)
-  away-moved p s (BackEnd c u) m own lt h = let k = m.next in (omega (arith, k, lt), rw m.calls h)
-  away-moved p s (Refuse c u reason) m own lt h = let k = m.next in (omega (arith, k, lt), rw m.calls h)
-  away-moved p s (Miss c u) m own lt h = let k = m.next in (omega (arith, k, lt), rw m.calls h)
-  away-moved p s (Body c g ran) m own lt h = let k = m.next in (omega (arith, k, lt), rw m.calls h)
-  away-moved p s (Leave c) m own lt h = let k = m.next in (omega (arith, k, lt), rw m.calls h)
-  away-moved p s (Exit c u entry) m own lt h = let k = m.next in (omega (arith, k, lt), rw m.calls h)
-  away-moved p s (ExitEnd c u) m own lt h = let k = m.next in (omega (arith, k, lt), rw m.calls h)
+  away-moved p s _ m own lt h = let k = m.next in (omega (arith, k, lt), rw m.calls h)
 
   returned-more : (item : Item) (past : List Item) → IsLegalPast job (item ∷ past) → HasReturned past → HasReturned (item ∷ past)
   returned-more item past l h = by (is_of call.task.0 item) refl (some-run job call.task.0 (item ∷ past) l)
@@ -217,17 +179,7 @@ module _ (job : Job) (call : CallNo) where
 
   ret-is : (item : Item) → is_ret_of call item ≡ true → (to : Option CallNo) × (item ≡ Ret call to)
   ret-is (Ret c to) e = (to, ap (λ (d : CallNo). Ret d to) (same_call-eq c call e))
-  ret-is (Begin k) e = false_true e
-  ret-is (Return k a) e = false_true e
-  ret-is (Enter c x f caller) e = false_true e
-  ret-is (Back c u) e = false_true e
-  ret-is (BackEnd c u) e = false_true e
-  ret-is (Refuse c u reason) e = false_true e
-  ret-is (Miss c u) e = false_true e
-  ret-is (Body c g ran) e = false_true e
-  ret-is (Leave c) e = false_true e
-  ret-is (Exit c u entry) e = false_true e
-  ret-is (ExitEnd c u) e = false_true e
+  ret-is _ e = false_true e
 
   again : (to : Option CallNo) (ys : List Item) (to' : Option CallNo) (rest : List Item) → IsLegalPast job (Ret call to ∷ (ys ++ Ret call to' ∷ rest)) → ⊥
   unfolding IsLegalPast

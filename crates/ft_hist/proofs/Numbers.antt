@@ -5,7 +5,7 @@ use Rattle.ft_base.specs.declared.number.CallNo.{CallNo}
 use Rattle.ft_base.specs.declared.number.FuncNo.{FuncNo}
 use Rattle.ft_base.specs.declared.context.Ctx.{Ctx}
 use Rattle.ft_base.specs.declared.item.Item.{Item}
-use Rattle.ft_base.specs.declared.item.Item.TheVariants.{Begin, Return, Enter, Back, BackEnd, Refuse, Miss, Body, Leave, Exit, ExitEnd, Ret}
+use Rattle.ft_base.specs.declared.item.Item.TheVariants.{Begin, Return, Enter, Ret}
 use Rattle.ft_base.specs.Same.{same_call}
 use Rattle.ft_base.specs.Job.{Job}
 use Rattle.ft_base.proofs.Small.{false_true, ==-refl}
@@ -14,24 +14,16 @@ use Rattle.ft_hist.specs.Plain.{plain, after_item, after_next, PlainTask, at_sta
 use Rattle.ft_hist.specs.Rules.{IsLegalPast}
 use Rattle.ft_hist.proofs.Laws.{entry_of-enter}
 use Rattle.ft_hist.proofs.Lists.{none_visited}
-use Rattle.ft_hist.proofs.RunLaws.{some_inj, same_call-eq, Moves, moves, sound}
+use Rattle.ft_hist.proofs.RunLaws.{some_inj, same_call-eq, Moves, step-moves, moves, sound}
+pub use Rattle.ft_hist.proofs.Steps.{unmoved}
+use Rattle.ft_hist.proofs.Steps.{own-step}
 use Rattle.ft_hist.proofs.WindowLaws.{entry_of-more, is_enter}
 
 module _ (job : Job) where
   -- an own item of a task moves its run from where it was
   pub moved : (t : ℕ) (item : Item) (past : List Item) (s : PlainTask) → is_of t item ≡ true → plain job t (item ∷ past) ≡ Some s
       → (p : PlainTask) × (plain job t past ≡ Some p) × Moves p s item
-  unfolding plain
-  moved t item past s own e = by (plain job t past) refl (rw own at e)
-    where
-      by : (o : Option PlainTask) → plain job t past ≡ o → after_next job (done past) item o ≡ Some s → (p : PlainTask) × (plain job t past ≡ Some p) × Moves p s item
-      by None here x = absurd cc
-      by (Some p) here x = (p, here, moves job (done past) p s item x)
-
-  -- and another's leaves it
-  pub unmoved : (t : ℕ) (item : Item) (past : List Item) (s : PlainTask) → is_of t item ≡ false → plain job t (item ∷ past) ≡ Some s → plain job t past ≡ Some s
-  unfolding plain
-  unmoved t item past s other e = rw other at e
+  moved t item past s own e = let w = own-step job t item past s own e in (w.0, w.1, step-moves job (done past) w.0 s item w.2)
 
   -- a legal past has a plain run of each task
   pub some-run : (t : ℕ) (past : List Item) → IsLegalPast job past → (s : PlainTask) × (plain job t past ≡ Some s)
@@ -48,14 +40,7 @@ module _ (job : Job) where
   next-moved p s (Return k a) m t own = false_true own
   next-moved p s (Enter call x f caller) m t own = let e = m.next in omega (arith, e)
   next-moved p s (Ret call to) m t own = let e = m.next in omega (arith, e)
-  next-moved p s (Back call u) m t own = let e = m.next in omega (arith, e)
-  next-moved p s (BackEnd call u) m t own = let e = m.next in omega (arith, e)
-  next-moved p s (Refuse call u reason) m t own = let e = m.next in omega (arith, e)
-  next-moved p s (Miss call u) m t own = let e = m.next in omega (arith, e)
-  next-moved p s (Body call g ran) m t own = let e = m.next in omega (arith, e)
-  next-moved p s (Leave call) m t own = let e = m.next in omega (arith, e)
-  next-moved p s (Exit call u entry) m t own = let e = m.next in omega (arith, e)
-  next-moved p s (ExitEnd call u) m t own = let e = m.next in omega (arith, e)
+  next-moved p s _ m t own = let e = m.next in omega (arith, e)
 
   -- the number of a task's next call never falls, and is above that of a call that was entered
   abbrev pub IsPast : CallNo → List Item → Type 0
@@ -81,7 +66,7 @@ module _ (job : Job) where
           let le = next-moved m.0 r.0 item m.2 call.task.0 own in
           (r.0, r.1, omega (arith, lt, le))
       by false other r =
-          let same : h.0 ≡ r.0 = some_inj h.0 r.0 (sym h.1 ∙ unmoved call.task.0 item past r.0 other r.1) in
+          let same : h.0 ≡ r.0 = some_inj h.0 r.0 (sym h.1 ∙ unmoved job call.task.0 item past r.0 other r.1) in
           (r.0, r.1, subst (λ (p : PlainTask). call.n < p.next) same h.2)
 
   -- a call that was entered isn't entered again

@@ -1,24 +1,22 @@
 -- The open callbacks of a task are those of the calls on its stack, so how many are open in a context is counted there.
-use Rattle.std.proofs.Common.{cond, if◌then◌else◌, ◌≡◌, ℕ, suc, ◌+◌, ◌<◌, Bool, true, false, ◌&&◌, ◌==◌, List, [], ◌∷◌, Option, Some, None, is_some, refl, sym, ap, ◌∙◌, subst, arith, eqb-true, inl, inr}
+use Rattle.std.proofs.Common.{cond, if◌then◌else◌, ◌≡◌, ℕ, suc, ◌+◌, ◌<◌, Bool, true, false, ◌&&◌, ◌==◌, List, [], ◌∷◌, Option, Some, None, is_some, refl, sym, ap, ◌∙◌, subst, arith, inl, inr}
 use Rattle.std.specs.Prelude.{count_by}
 use Rattle.std.specs.List.{AllByRecursion as Each}
 use Rattle.std.proofs.lemmas.Bool.Decides.{eqb_tells}
 use Rattle.std.proofs.lemmas.List.Sums.{sum_by-cons}
 use Rattle.ft_base.specs.declared.number.CallNo.{CallNo}
-use Rattle.ft_base.specs.declared.number.UserNo.{UserNo}
 use Rattle.ft_base.specs.declared.number.FuncNo.{FuncNo}
 use Rattle.ft_base.specs.declared.context.Ctx.{Ctx}
 use Rattle.ft_base.specs.declared.item.Item.{Item}
-use Rattle.ft_base.specs.declared.item.Item.TheVariants.{Begin, Return, Enter, Back, BackEnd, Refuse, Miss, Body, Leave, Exit, ExitEnd, Ret}
-use Rattle.ft_base.specs.declared.task.TaskAct.{TaskAct}
-use Rattle.ft_base.specs.declared.task.TaskAct.TheVariants.{Call, Ret as RetAct}
+use Rattle.ft_base.specs.declared.item.Item.TheVariants.{Enter}
 use Rattle.ft_base.specs.Same.{same_call, same_ctx}
 use Rattle.ft_base.specs.Job.{Job}
-use Rattle.ft_base.proofs.Small.{false_true, ==-refl, and_both, and-false, Each-weaker}
+use Rattle.ft_base.proofs.Small.{==-refl, and_both, and-false, Each-weaker}
 use Rattle.ft_hist.specs.Past.{is_of, done, Entered, entered, entry_of, ctx_of, Callback, callbacks, ended, is_at, is_ctx, open_callbacks}
-use Rattle.ft_hist.specs.Plain.{plain, after_item, after_next, at_start, PlainTask, Frame, Phase, Owed, Dispatch, InBack, Running, Leaving, InExit, on_call, on_top, in_phase, after_back, after_back_end, after_miss, after_refusal, after_body, after_leave, after_leave_ahead, after_scripted_leave, after_exit, after_exit_end, after_ret, after_enter, after_owed_enter, after_scripted_enter, ahead, top_call, same_top}
+use Rattle.ft_hist.specs.Plain.{plain, PlainTask, Frame, Phase, InBack, InExit, in_phase}
 use Rattle.ft_hist.proofs.Laws.{same_call-refl}
-use Rattle.ft_hist.proofs.RunLaws.{if_some, some_inj, same_call-eq, calls_on, on_call-inv, sound}
+use Rattle.ft_hist.proofs.RunLaws.{some_inj, same_call-eq, calls_on, sound}
+use Rattle.ft_hist.proofs.Steps.{Step, step_enter, step_act, step_back, step_back_end, step_exit, step_exit_end, step_ret, run-holds}
 use Rattle.ft_hist.proofs.Carries.{of_task, carries_item}
 
 -- ## what stands on a stack
@@ -70,151 +68,6 @@ lower-apart call cs h = Each-weaker (λ c. c.n < call.n) (λ c. same_call call c
       | inr e ↦ rw (e.0, and-false (call.task.0 == c.task.0)) refl
     ]
 
--- ## how an item changes what stands on its task's stack
-
--- the users in whose callbacks the top call is before and after an item of it
-abbrev pub Turns : Item → Option ℕ → Option ℕ → Type 0
-Turns (Back call u) from to = (from ≡ None) × (to ≡ Some u.0)
-Turns (Exit call u entry) from to = (from ≡ None) × (to ≡ Some u.0)
-Turns (BackEnd call u) from to = (from ≡ Some u.0) × (to ≡ None)
-Turns (ExitEnd call u) from to = (from ≡ Some u.0) × (to ≡ None)
-Turns _ from to = to ≡ from
-
-pub record Turned (item : Item) (call : CallNo) (old new : List Standing) : Type 0 where
-  pub ctx : Ctx
-  pub from : Option ℕ
-  pub to : Option ℕ
-  pub below : List Standing
-  pub was : old ≡ stands call ctx from ∷ below
-  pub is : new ≡ stands call ctx to ∷ below
-  pub turns : Turns item from to
-
--- a new call is none of those on the stack
-abbrev pub Changes : List Standing → List Standing → Item → Type 0
-Changes old new (Begin k) = Unit {0}
-Changes old new (Return k a) = Unit {0}
-Changes old new (Enter call x f caller) = (new ≡ stands call x None ∷ old) × Each (λ s. same_call call s.call ≡ false) old
-Changes old new (Back call u) = Turned (Back call u) call old new
-Changes old new (BackEnd call u) = Turned (BackEnd call u) call old new
-Changes old new (Refuse call u reason) = Turned (Refuse call u reason) call old new
-Changes old new (Miss call u) = Turned (Miss call u) call old new
-Changes old new (Body call g ran) = Turned (Body call g ran) call old new
-Changes old new (Leave call) = Turned (Leave call) call old new
-Changes old new (Exit call u entry) = Turned (Exit call u entry) call old new
-Changes old new (ExitEnd call u) = Turned (ExitEnd call u) call old new
-Changes old new (Ret call to) = (x : Ctx) × (old ≡ stands call x None ∷ new)
-
-module _ (job : Job) (d : ℕ) (p s : PlainTask) where
-  abbrev Goes : Item → Frame → List Frame → Phase → Type 0
-  Goes item f below ph = (to : Option ℕ) × Turns item (user_in ph) to × (standing s.stack ≡ stands f.call f.ctx to ∷ standing below)
-
-  goes : (f : Frame) (below : List Frame) (to : Phase) (x : PlainTask) → x.stack ≡ in_phase f to ∷ below → Some x ≡ Some s → standing s.stack ≡ stands f.call f.ctx (user_in to) ∷ standing below
-  goes f below to x is e = subst (λ (y : PlainTask). standing y.stack ≡ stands f.call f.ctx (user_in to) ∷ standing below) (some_inj x s e) (ap standing is)
-
-  g_back : (call : CallNo) (u : UserNo) (f : Frame) (below : List Frame) (ph : Phase) → after_back job p f below u.0 ph ≡ Some s → Goes (Back call u) f below ph
-  g_back call u f below Dispatch e = (Some u.0, (refl, refl), goes f below _ _ refl e)
-  g_back call u f below _ e = absurd cc
-
-  g_back_end : (call : CallNo) (u : UserNo) (f : Frame) (below : List Frame) (ph : Phase) → after_back_end p f below u.0 ph ≡ Some s → Goes (BackEnd call u) f below ph
-  g_back_end call u f below (InBack v None fresh) e =
-      let w = if_some (u.0 == v) _ s e in
-      (None, (ap (λ n. Some n) (sym (eqb-true u.0 v w.0)), refl), goes f below Dispatch _ refl w.1)
-  g_back_end call u f below _ e = absurd cc
-
-  g_miss : (call : CallNo) (u : UserNo) (f : Frame) (below : List Frame) (ph : Phase) → after_miss p f below u.0 ph ≡ Some s → Goes (Miss call u) f below ph
-  g_miss call u f below (InBack v owed true) e = (Some v, refl, goes f below (InBack v owed false) _ refl (if_some (u.0 == v) _ s e).1)
-  g_miss call u f below _ e = absurd cc
-
-  g_leave_script : (call : CallNo) (f : Frame) (below : List Frame) (acts : List TaskAct) (cs : List Ctx) (gone : ℕ) → after_scripted_leave p f below acts cs gone ≡ Some s → standing s.stack ≡ stands f.call f.ctx None ∷ standing below
-  g_leave_script call f below (RetAct ∷ rest) cs gone e = goes f below Leaving _ refl e
-  g_leave_script call f below _ cs gone e = absurd cc
-
-  g_leave : (call : CallNo) (f : Frame) (below : List Frame) (ph : Phase) → after_leave d p f below ph ≡ Some s → Goes (Leave call) f below ph
-  g_leave call f below Running e = (None, refl, by f.scripted e)
-    where
-      by : (b : Bool) → cond b (after_leave_ahead p f below (ahead d p.acts p.contexts p.gone)) (Some (on_top p (in_phase f Leaving) below)) ≡ Some s → standing s.stack ≡ stands f.call f.ctx None ∷ standing below
-      by true x = let a = ahead d p.acts p.contexts p.gone in g_leave_script call f below a.acts a.contexts a.gone x
-      by false x = goes f below Leaving _ refl x
-  g_leave call f below _ e = absurd cc
-
-  g_body : (call : CallNo) (f : Frame) (below : List Frame) (ph : Phase) → after_body p f below ph ≡ Some s → (to : Option ℕ) × (to ≡ user_in ph) × (standing s.stack ≡ stands f.call f.ctx to ∷ standing below)
-  g_body call f below Dispatch e = (None, refl, goes f below Running _ refl e)
-  g_body call f below _ e = absurd cc
-
-  g_refuse : (f : Frame) (below : List Frame) (ph : Phase) → p.stack ≡ f ∷ below → after_refusal p ph ≡ Some s → standing s.stack ≡ stands f.call f.ctx (user_in f.phase) ∷ standing below
-  g_refuse f below Dispatch at e = subst (λ (y : PlainTask). standing y.stack ≡ stands f.call f.ctx (user_in f.phase) ∷ standing below) (some_inj p s e) (ap standing at)
-  g_refuse f below _ at e = absurd cc
-
-  g_exit : (call : CallNo) (u : UserNo) (entry : ℕ) (f : Frame) (below : List Frame) (ph : Phase) → after_exit p f below u.0 ph ≡ Some s → Goes (Exit call u entry) f below ph
-  g_exit call u entry f below Leaving e = (Some u.0, (refl, refl), goes f below (InExit u.0) _ refl e)
-  g_exit call u entry f below _ e = absurd cc
-
-  g_exit_end : (call : CallNo) (u : UserNo) (f : Frame) (below : List Frame) (ph : Phase) → after_exit_end p f below u.0 ph ≡ Some s → Goes (ExitEnd call u) f below ph
-  g_exit_end call u f below (InExit v) e =
-      let w = if_some (u.0 == v) _ s e in
-      (None, (ap (λ n. Some n) (sym (eqb-true u.0 v w.0)), refl), goes f below Leaving _ refl w.1)
-  g_exit_end call u f below _ e = absurd cc
-
-  g_ret : (below : List Frame) (to : Option CallNo) (ph : Phase) → after_ret p below to ph ≡ Some s → (user_in ph ≡ None) × (standing s.stack ≡ standing below)
-  g_ret below to Leaving e = (refl, subst (λ (y : PlainTask). standing y.stack ≡ standing below) (some_inj _ s (if_some (same_top to (top_call below)) _ s e).1) refl)
-  g_ret below to _ e = absurd cc
-
-  turned : (item : Item) (call : CallNo) (next : Frame → List Frame → Option PlainTask) → ((f : Frame) (below : List Frame) → p.stack ≡ f ∷ below → next f below ≡ Some s → Goes item f below f.phase)
-      → on_call p.stack call next ≡ Some s → Turned item call (standing p.stack) (standing s.stack)
-  turned item call next k e =
-      let w = on_call-inv p.stack call next s e in
-      let g = k w.0 w.1 w.2 w.4 in
-      record {
-        ctx = w.0.ctx;
-        from = user_in w.0.phase;
-        to = g.0;
-        below = standing w.1;
-        was = ap standing w.2 ∙ ap (λ (c : CallNo). stands c w.0.ctx (user_in w.0.phase) ∷ standing w.1) w.3;
-        is = g.2 ∙ ap (λ (c : CallNo). stands c w.0.ctx g.0 ∷ standing w.1) w.3;
-        turns = g.1;
-      }
-
-  g_script : (acts : List TaskAct) (cs : List Ctx) (gone : ℕ) (call : CallNo) (x : Ctx) (f : ℕ) → after_scripted_enter p acts cs gone call x f ≡ Some s → standing s.stack ≡ stands call x None ∷ standing p.stack
-  g_script (Call g ∷ rest) cs gone call x f e = subst (λ (y : PlainTask). standing y.stack ≡ stands call x None ∷ standing p.stack) (some_inj _ s (if_some _ _ s e).1) refl
-  g_script _ cs gone call x f e = absurd cc
-
-  g_owed : (g : Frame) (below : List Frame) (u : ℕ) (owed : Option Owed) (fresh : Bool) (call : CallNo) (x : Ctx) (f : ℕ) → p.stack ≡ g ∷ below → g.phase ≡ InBack u owed fresh → after_owed_enter p g below u owed call x f ≡ Some s
-      → standing s.stack ≡ stands call x None ∷ standing p.stack
-  g_owed g below u None fresh call x f at ph e = absurd cc
-  g_owed g below u (Some o) fresh call x f at ph e =
-      let old : standing p.stack ≡ stands g.call g.ctx (Some u) ∷ standing below = ap standing at ∙ ap (λ q. stands g.call g.ctx (user_in q) ∷ standing below) ph in
-      subst (λ (y : PlainTask). standing y.stack ≡ stands call x None ∷ standing p.stack) (some_inj _ s (if_some _ _ s e).1) (sym (ap (λ ss. stands call x None ∷ ss) old))
-
-  g_over : (stack : List Frame) (call : CallNo) (x : Ctx) (f : ℕ) → p.stack ≡ stack → after_enter d p stack call x f ≡ Some s → standing s.stack ≡ stands call x None ∷ standing p.stack
-  g_over [] call x f at e = let a = ahead d p.acts p.contexts p.gone in g_script a.acts a.contexts a.gone call x f e
-  g_over (g ∷ below) call x f at e = by g.phase refl e
-    where
-      by : (ph : Phase) → g.phase ≡ ph → after_enter d p (in_phase g ph ∷ below) call x f ≡ Some s → standing s.stack ≡ stands call x None ∷ standing p.stack
-      by Running q y = let a = ahead d p.acts p.contexts p.gone in g_script a.acts a.contexts a.gone call x f (if_some g.scripted _ s y).1
-      by (InBack u owed fresh) q y = g_owed g below u owed fresh call x f at q y
-      by _ q y = absurd cc
-
-  changes : (item : Item) → after_item job d p item ≡ Some s → Each (λ c. c.n < p.next) (calls_on p.stack) → Changes (standing p.stack) (standing s.stack) item
-  unfolding after_item
-  changes (Begin k) e n = tt
-  changes (Return k a) e n = tt
-  changes (Enter call x f caller) e n =
-      let w = if_some _ _ s e in
-      let is : call.n ≡ p.next = eqb-true call.n p.next (and_both (call.n == p.next) _ w.0).0 in
-      (g_over p.stack call x f.0 refl w.1, each-standing (λ c. same_call call c ≡ false) p.stack (lower-apart call (calls_on p.stack) (rw is n)))
-  changes (Back call u) e n = turned (Back call u) call _ (λ f below at y. g_back call u f below f.phase y) e
-  changes (BackEnd call u) e n = turned (BackEnd call u) call _ (λ f below at y. g_back_end call u f below f.phase y) e
-  changes (Refuse call u reason) e n = turned (Refuse call u reason) call _ (λ f below at y. (user_in f.phase, refl, g_refuse f below f.phase at y)) e
-  changes (Miss call u) e n = turned (Miss call u) call _ (λ f below at y. g_miss call u f below f.phase y) e
-  changes (Body call g ran) e n = turned (Body call g ran) call _ (λ f below at y. g_body call f below f.phase y) e
-  changes (Leave call) e n = turned (Leave call) call _ (λ f below at y. g_leave call f below f.phase y) e
-  changes (Exit call u entry) e n = turned (Exit call u entry) call _ (λ f below at y. g_exit call u entry f below f.phase y) e
-  changes (ExitEnd call u) e n = turned (ExitEnd call u) call _ (λ f below at y. g_exit_end call u f below f.phase y) e
-  changes (Ret call to) e n =
-      let w = on_call-inv p.stack call _ s e in
-      let g = g_ret w.1 to w.0.phase w.4 in
-      (w.0.ctx, ap standing w.2 ∙ ap (λ (c : CallNo). stands c w.0.ctx (user_in w.0.phase) ∷ standing w.1) w.3 ∙ rw (g.0, g.1) refl)
-
 -- ## the callbacks that are open
 
 ended-own : (t : ℕ) (call : CallNo) (u : ℕ) (bs : List Callback) → (call.task.0 == t) ≡ true → of_task t (ended call u bs) ≡ ended call u (of_task t bs)
@@ -241,56 +94,35 @@ pub record Opened (t : ℕ) (past : List Item) (ss : List Standing) : Type 0 whe
   pub opens : of_task t (callbacks past) ≡ open_on ss
   pub ctxs : Each (HasCtx past) ss
 
-module _ (t : ℕ) (past : List Item) (old new : List Standing) (h : Opened t past old) where
-  module _ (item : Item) (call : CallNo) (own : (call.task.0 == t) ≡ true) (k : Turned item call old new) where
-    ctxs-on : Each (HasCtx past) new
-    ctxs-on = rw k.is (rw k.was at h.ctxs)
+module _ (t : ℕ) (past : List Item) where
+  -- the callback that the top call is in ends
+  ended-top : (call : CallNo) (x : Ctx) (u : ℕ) (below : List Standing) → (call.task.0 == t) ≡ true → of_task t (callbacks past) ≡ record { call = call; user = u; ctx = Some x } ∷ open_on below
+      → of_task t (ended call u (callbacks past)) ≡ open_on below
+  ended-top call x u below own h = ended-own t call u (callbacks past) own ∙ rw (h, same_call-refl call, ==-refl u) refl
 
-    begins : (u : ℕ) → (k.from ≡ None) → (k.to ≡ Some u) → of_task t (record { call = call; user = u; ctx = ctx_of call past } ∷ callbacks past) ≡ open_on new
-    begins u from to =
-        let at = (rw k.was at h.ctxs).0 in
-        let opens = rw (k.was, from) at h.opens in
-        rw (own, k.is, to, at, opens) refl
+  entered-apart : (call : CallNo) (x : Ctx) (f : FuncNo) (caller : Option CallNo) (ss : List Standing) → Each (λ s. same_call call s.call ≡ false) ss → Each (HasCtx past) ss → Each (HasCtx (Enter call x f caller ∷ past)) ss
+  entered-apart call x f caller [] apart c = tt
+  entered-apart call x f caller (s ∷ ss) apart c = (rw apart.0 c.0, entered-apart call x f caller ss apart.1 c.1)
 
-    ends : (u : ℕ) → (k.from ≡ Some u) → (k.to ≡ None) → of_task t (ended call u (callbacks past)) ≡ open_on new
-    ends u from to =
-        let opens = rw (k.was, from) at h.opens in
-        ended-own t call u (callbacks past) own ∙ rw (opens, same_call-refl call, ==-refl u, k.is, to) refl
-
-    stays : k.to ≡ k.from → of_task t (callbacks past) ≡ open_on new
-    stays same = rw (k.is, same) (rw k.was at h.opens)
-
-  opened-own : (item : Item) → is_of t item ≡ true → Changes old new item → Opened t (item ∷ past) new
-  opened-own (Begin k) own m = false_true own
-  opened-own (Return k a) own m = false_true own
-  opened-own (Enter call x f caller) own m = record {
-    opens = rw m.0 h.opens;
-    ctxs = rw m.0 (rw (same_call-refl call) refl, entered-apart call x f caller old m.1 h.ctxs);
+  -- a call is entered over this stack
+  opened-enter : (call : CallNo) (x : Ctx) (f : FuncNo) (caller : Option CallNo) (fs : List Frame) (next : ℕ) → call.n ≡ next → Each (λ c. c.n < next) (calls_on fs) → Opened t past (standing fs)
+      → Opened t (Enter call x f caller ∷ past) (stands call x None ∷ standing fs)
+  opened-enter call x f caller fs next number lower h = record {
+    opens = h.opens;
+    ctxs = (rw (same_call-refl call) refl, entered-apart call x f caller (standing fs) (each-standing (λ c. same_call call c ≡ false) fs (lower-apart call (calls_on fs) (rw number lower))) h.ctxs);
   }
-    where
-      entered-apart : (call : CallNo) (x : Ctx) (f : FuncNo) (caller : Option CallNo) (ss : List Standing) → Each (λ s. same_call call s.call ≡ false) ss → Each (HasCtx past) ss → Each (HasCtx (Enter call x f caller ∷ past)) ss
-      entered-apart call x f caller [] apart c = tt
-      entered-apart call x f caller (s ∷ ss) apart c = (rw apart.0 c.0, entered-apart call x f caller ss apart.1 c.1)
-  opened-own (Back call u) own m = record { opens = begins (Back call u) call own m u.0 m.turns.0 m.turns.1; ctxs = ctxs-on (Back call u) call own m }
-  opened-own (Exit call u entry) own m = record { opens = begins (Exit call u entry) call own m u.0 m.turns.0 m.turns.1; ctxs = ctxs-on (Exit call u entry) call own m }
-  opened-own (BackEnd call u) own m = record { opens = ends (BackEnd call u) call own m u.0 m.turns.0 m.turns.1; ctxs = ctxs-on (BackEnd call u) call own m }
-  opened-own (ExitEnd call u) own m = record { opens = ends (ExitEnd call u) call own m u.0 m.turns.0 m.turns.1; ctxs = ctxs-on (ExitEnd call u) call own m }
-  opened-own (Refuse call u reason) own m = record { opens = stays (Refuse call u reason) call own m m.turns; ctxs = ctxs-on (Refuse call u reason) call own m }
-  opened-own (Miss call u) own m = record { opens = stays (Miss call u) call own m m.turns; ctxs = ctxs-on (Miss call u) call own m }
-  opened-own (Body call g ran) own m = record { opens = stays (Body call g ran) call own m m.turns; ctxs = ctxs-on (Body call g ran) call own m }
-  opened-own (Leave call) own m = record { opens = stays (Leave call) call own m m.turns; ctxs = ctxs-on (Leave call) call own m }
-  opened-own (Ret call to) own m = record { opens = rw m.1 at h.opens; ctxs = (rw m.1 at h.ctxs).1 }
 
--- ## along the plain run
-
-pub stepped : (job : Job) (t : ℕ) (item : Item) (past : List Item) (s : PlainTask) → is_of t item ≡ true → plain job t (item ∷ past) ≡ Some s
-    → (p : PlainTask) × (plain job t past ≡ Some p) × Changes (standing p.stack) (standing s.stack) item
-unfolding plain
-stepped job t item past s own e = by (plain job t past) refl (rw own at e)
-  where
-    by : (o : Option PlainTask) → plain job t past ≡ o → after_next job (done past) item o ≡ Some s → (p : PlainTask) × (plain job t past ≡ Some p) × Changes (standing p.stack) (standing s.stack) item
-    by None here x = absurd cc
-    by (Some p) here x = (p, here, changes job (done past) p s item x (sound job t past p here).number)
+opened-own : (job : Job) (d t : ℕ) (past : List Item) (p s : PlainTask) (item : Item) → is_of t item ≡ true → Step job d p s item → Each (λ c. c.n < p.next) (calls_on p.stack)
+    → Opened t past (standing p.stack) → Opened t (item ∷ past) (standing s.stack)
+opened-own job d t past p s item own (step_enter {call = call} {x = x} {f = f} {caller = caller} it quiet acts is) n h = opened-enter t past call x f caller p.stack p.next it.number n h
+opened-own job d t past p s item own (step_act q g below {u = u} {fresh = fresh} {call = call} {x = x} {f = f} {caller = caller} it) n h =
+    opened-enter t past call x f caller (in_phase g (InBack u (Some (record { ctx = x; func = f.0 })) fresh) ∷ below) q.next it.number n h
+opened-own job d t past p s item own (step_back q f below) n h = record { opens = rw (own, h.ctxs.0, h.opens) refl; ctxs = h.ctxs }
+opened-own job d t past p s item own (step_exit q f below) n h = record { opens = rw (own, h.ctxs.0, h.opens) refl; ctxs = h.ctxs }
+opened-own job d t past p s item own (step_back_end q f below {u = u}) n h = record { opens = ended-top t past f.call f.ctx u.0 (standing below) own h.opens; ctxs = h.ctxs }
+opened-own job d t past p s item own (step_exit_end q f below {u = u}) n h = record { opens = ended-top t past f.call f.ctx u.0 (standing below) own h.opens; ctxs = h.ctxs }
+opened-own job d t past p s item own (step_ret q f below) n h = record { opens = h.opens; ctxs = h.ctxs.1 }
+opened-own job d t past p s item own _ n h = record { opens = h.opens; ctxs = h.ctxs }
 
 opened-other : (job : Job) (t : ℕ) (item : Item) (past : List Item) (s : PlainTask) → is_of t item ≡ false → Each (λ f. f.call.task.0 ≡ t) (standing s.stack) → Opened t past (standing s.stack) → Opened t (item ∷ past) (standing s.stack)
 opened-other job t item past s other own h =
@@ -302,17 +134,9 @@ opened-other job t item past s other own h =
     ctxs (s ∷ ss) own h = (rw ((carries_item job t item past other).calls s.call own.0).entered h.0, ctxs ss own.1 h.1)
 
 pub opened : (job : Job) (t : ℕ) (past : List Item) (s : PlainTask) → plain job t past ≡ Some s → Opened t past (standing s.stack)
-unfolding plain
-opened job t [] s e = subst (λ (x : PlainTask). Opened t [] (standing x.stack)) (some_inj (at_start job t) s e) (record { opens = refl; ctxs = tt })
-opened job t (item ∷ past) s e = by (is_of t item) refl (λ p here. opened job t past p here)
-  where
-    by : (b : Bool) → is_of t item ≡ b → ((p : PlainTask) → plain job t past ≡ Some p → Opened t past (standing p.stack)) → Opened t (item ∷ past) (standing s.stack)
-    by true own before =
-        let w = stepped job t item past s own e in
-        opened-own t past (standing w.0.stack) (standing s.stack) (before w.0 w.1) item own w.2
-    by false other before =
-        let same = rw other at e in
-        opened-other job t item past s other (each-standing (λ c. c.task.0 ≡ t) s.stack (sound job t past s same).task) (before s same)
+opened job t = run-holds job t (λ past s. Opened t past (standing s.stack)) (record { opens = refl; ctxs = tt })
+    (λ item past p s own here k h. opened-own job (done past) t past p s item own k (sound job t past p here).number h)
+    (λ item past s other here h. opened-other job t item past s other (each-standing (λ c. c.task.0 ≡ t) s.stack (sound job t past s here).task) h)
 
 -- ## counts
 

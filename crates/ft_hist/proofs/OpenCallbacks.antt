@@ -4,13 +4,15 @@ use Rattle.std.specs.Prelude.{Option, IsSome, get_or}
 use Rattle.std.specs.List.{list_any, AllByRecursion as Each}
 use Rattle.ft_base.specs.declared.number.CallNo.{CallNo}
 use Rattle.ft_base.specs.declared.item.Item.{Item}
-use Rattle.ft_base.specs.declared.item.Item.TheVariants.{Begin, Return, Enter, Back, BackEnd, Refuse, Miss, Body, Leave, Exit, ExitEnd, Ret}
+use Rattle.ft_base.specs.declared.item.Item.TheVariants.{Back, BackEnd, Refuse, Exit, ExitEnd}
+use Rattle.ft_base.specs.declared.task.TaskAct.TheVariants.{Call}
 use Rattle.ft_base.specs.Same.{same_call}
 use Rattle.ft_base.specs.Job.{Job, Task, no_task}
 use Rattle.ft_base.proofs.Small.{false_true, ==-refl, or-true, or-true_either, or-false_both}
 use Rattle.ft_hist.specs.Past.{is_of, done, Callback, callbacks, ended, Visit, visit, all_visits, visits, exits}
-use Rattle.ft_hist.specs.Plain.{plain, after_next, after_item, at_start, PlainTask}
+use Rattle.ft_hist.specs.Plain.{plain, at_start, PlainTask}
 use Rattle.ft_hist.proofs.Carries.{of_task, carries_item}
+use Rattle.ft_hist.proofs.Steps.{Step, step_begin, step_return, step_enter, acts_ahead, own-step, run-holds}
 
 -- past the end of a list there is nothing
 pub beyond : {A : Type 0} (xs : List A) (i : ℕ) (x : A) → length xs ≤ i → get_or xs i x ≡ x
@@ -77,13 +79,7 @@ module _ (job : Job) (call : CallNo) (u : ℕ) where
   called_visited (BackEnd c v ∷ past) none e = called_visited past none (called_less call c u v.0 (callbacks past) e)
   called_visited (ExitEnd c v ∷ past) none e = called_visited past none (called_less call c u v.0 (callbacks past) e)
   called_visited (Exit c v p ∷ past) none e = let x = exit_other c v.0 p past none e in called_visited past x.0 x.1
-  called_visited (Begin k ∷ past) none e = called_visited past none e
-  called_visited (Return k a ∷ past) none e = called_visited past none e
-  called_visited (Enter c x f caller ∷ past) none e = called_visited past none e
-  called_visited (Miss c v ∷ past) none e = called_visited past none e
-  called_visited (Body c g ran ∷ past) none e = called_visited past none e
-  called_visited (Leave c ∷ past) none e = called_visited past none e
-  called_visited (Ret c to ∷ past) none e = called_visited past none e
+  called_visited (_ ∷ past) none e = called_visited past none e
 
 pub each_any : (P : Visit → Type 0) (u : ℕ) (ms : List Visit) → Each P ms → meets u ms ≡ true → (m : Visit) × P m × (m.user ≡ u)
 each_any P u [] all e = false_true e
@@ -123,54 +119,37 @@ by_task u (b ∷ bs) none =
     less t true e = (or-false_both (b.user == u) (of_user u (of_task t bs)) e).1
     less t false e = e
 
+-- a task that has nothing to do
 abbrev no_run : PlainTask
 no_run = record { next = 1; acts = []; gone = 0; contexts = []; stack = [] }
 
-abbrev nothing : Option PlainTask
-nothing = None
+some-none : {A : Type 0} (x : A) (xs : List A) → x ∷ xs ≡ [] → ⊥
+some-none x xs e = absurd cc
 
-some_of : (b : Bool) → IsSome (cond b nothing nothing) → ⊥
-some_of true h = false_true h
-some_of false h = false_true h
-
-no_read : (job : Job) (r t : ℕ) (item : Item) → is_of t item ≡ true → IsSome (after_item job r no_run item) → ⊥
-unfolding after_item
-no_read job r t (Begin k) own h = false_true own
-no_read job r t (Return k a) own h = false_true own
-no_read job r t (Enter call ctx f caller) own h = some_of _ h
-no_read job r t (Back call v) own h = false_true h
-no_read job r t (BackEnd call v) own h = false_true h
-no_read job r t (Refuse call v reason) own h = false_true h
-no_read job r t (Miss call v) own h = false_true h
-no_read job r t (Body call g ran) own h = false_true h
-no_read job r t (Leave call) own h = false_true h
-no_read job r t (Exit call v p) own h = false_true h
-no_read job r t (ExitEnd call v) own h = false_true h
-no_read job r t (Ret call to) own h = false_true h
+-- it makes no step
+no-step : (job : Job) (d t : ℕ) (p s : PlainTask) (item : Item) → is_of t item ≡ true → Step job d p s item → p ≡ no_run → ⊥
+no-step job d t p s item own step_begin is = false_true own
+no-step job d t p s item own step_return is = false_true own
+no-step job d t p s item own (step_enter {f = f} {rest = rest} it quiet acts x) is = some-none (Call f) rest (sym (subst (λ (q : PlainTask). (acts_ahead d q).acts ≡ Call f ∷ rest) is acts))
+no-step job d t p s item own _ is = some-none _ _ (ap (λ (q : PlainTask). q.stack) is)
 
 module _ (job : Job) (t : ℕ) (out : length job.tasks ≤ t) where
   start_none : at_start job t ≡ no_run
   start_none = ap (λ (x : Task). (let y : PlainTask = record { next = 1; acts = x.acts; gone = 0; contexts = []; stack = [] } in y))
       (beyond job.tasks t no_task out)
 
-  pub stranger : (past : List Item) → IsSome (plain job t past) → (plain job t past ≡ Some no_run) × (of_task t (callbacks past) ≡ [])
-  unfolding plain
-  stranger [] h = (ap (λ (x : PlainTask). Some x) start_none, refl)
-  stranger (item ∷ past) h = by_own (is_of t item) refl h (λ x. stranger past x)
-    where
-      by_plain : (o : Option PlainTask) → plain job t past ≡ o → IsSome (after_next job (done past) item o)
-          → (IsSome (plain job t past) → (plain job t past ≡ Some no_run) × (of_task t (callbacks past) ≡ [])) → is_of t item ≡ true → ⊥
-      by_plain None e s more own = false_true s
-      by_plain (Some x) e s more own =
-          let y = more (subst (λ (o : Option PlainTask). IsSome o) (sym e) refl) in
-          no_read job (done past) t item own (subst (λ (o : Option PlainTask). IsSome (after_next job (done past) item o)) (sym e ∙ y.0) s)
+  pub stranger : (past : List Item) (s : PlainTask) → plain job t past ≡ Some s → (s ≡ no_run) × (of_task t (callbacks past) ≡ [])
+  stranger = run-holds job t (λ past s. (s ≡ no_run) × (of_task t (callbacks past) ≡ [])) (start_none, refl)
+      (λ item past p s own here k h. absurd (no-step job (done past) t p s item own k h.0))
+      (λ item past s other here h. (h.0, (carries_item job t item past other).opens ∙ h.1))
 
-      by_own : (b : Bool) → is_of t item ≡ b → IsSome (cond b (after_next job (done past) item (plain job t past)) (plain job t past))
-          → (IsSome (plain job t past) → (plain job t past ≡ Some no_run) × (of_task t (callbacks past) ≡ []))
-          → (cond (is_of t item) (after_next job (done past) item (plain job t past)) (plain job t past) ≡ Some no_run)
-          × (of_task t (callbacks (item ∷ past)) ≡ [])
-      by_own true own s more = absurd (by_plain (plain job t past) refl s more own)
-      by_own false own s more = let y = more s in (rw own y.0, (carries_item job t item past own).opens ∙ y.1)
+  -- no item is of it
+  pub no-item : (item : Item) (past : List Item) (s : PlainTask) → is_of t item ≡ true → plain job t (item ∷ past) ≡ Some s → ⊥
+  no-item item past s own e = let w = own-step job t item past s own e in no-step job (done past) t w.0 s item own w.2 (stranger past w.0 w.1).0
 
   pub stranger_none : (past : List Item) (u : ℕ) → IsSome (plain job t past) → of_user u (of_task t (callbacks past)) ≡ false
-  stranger_none past u h = subst (λ (bs : List Callback). of_user u bs ≡ false) (sym (stranger past h).1) refl
+  stranger_none past u h = by (plain job t past) refl h
+    where
+      by : (o : Option PlainTask) → plain job t past ≡ o → IsSome o → of_user u (of_task t (callbacks past)) ≡ false
+      by None e h = false_true h
+      by (Some s) e h = subst (λ (bs : List Callback). of_user u bs ≡ false) (sym (stranger past s e).1) refl

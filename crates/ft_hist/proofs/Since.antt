@@ -1,10 +1,11 @@
 -- What items leave alone: the words on a call over items that don't touch it, and all that is older than a call.
-use Rattle.std.proofs.Common.{cond, ◌≡◌, ℕ, suc, ◌<◌, ◌≤◌, Bool, true, false, not, ◌&&◌, ◌||◌, ◌==◌, List, [], ◌∷◌, length, refl, sym, ap, ◌∙◌, arith, inl, inr}
+use Rattle.std.proofs.Common.{cond, ◌≡◌, ℕ, suc, ◌<◌, ◌≤◌, Bool, true, false, not, ◌&&◌, ◌||◌, ◌==◌, List, [], ◌∷◌, length, Some, subst, refl, sym, ap, ◌∙◌, arith, inl, inr}
 use Rattle.std.proofs.lemmas.Bool.Decides.{eqb_tells}
 use Rattle.std.specs.List.{filter, list_any, AllByRecursion as Each}
 use Rattle.ft_base.specs.declared.number.CallNo.{CallNo}
 use Rattle.ft_base.specs.declared.item.Item.{Item}
 use Rattle.ft_base.specs.declared.item.Item.TheVariants.{Enter, Back, Refuse, Body, Leave, Exit, Ret}
+use Rattle.ft_base.specs.Items.{call_of}
 use Rattle.ft_base.specs.Same.{same_call}
 use Rattle.ft_base.specs.Job.{Job}
 use Rattle.ft_base.specs.Desk.{spec_at}
@@ -56,6 +57,20 @@ untouched-item job c past (Leave call) e = record { entered = refl; open' = refl
 untouched-item job c past (Exit call u entry) e = record { entered = refl; open' = refl; dispatched = refl; visits = refl; exits = rw e refl; left = refl }
 untouched-item job c past (Ret call to) e = record { entered = refl; open' = rw e refl; dispatched = refl; visits = refl; exits = refl; left = refl }
 untouched-item job c past _ e = record { entered = refl; open' = refl; dispatched = refl; visits = refl; exits = refl; left = refl }
+
+apart-from : (x call c : CallNo) → Some x ≡ Some call → same_call call c ≡ false → same_call x c ≡ false
+apart-from x call c is other = let same : call ≡ x = cc in subst (λ (d : CallNo). same_call d c ≡ false) same other
+
+-- an item touches no call but its own
+pub touches-none : (item : Item) (call c : CallNo) → call_of item ≡ Some call → same_call call c ≡ false → touches c item ≡ false
+touches-none (Enter x ctx f caller) call c is other = apart-from x call c is other
+touches-none (Back x u) call c is other = apart-from x call c is other
+touches-none (Refuse x u reason) call c is other = apart-from x call c is other
+touches-none (Body x g ran) call c is other = apart-from x call c is other
+touches-none (Leave x) call c is other = apart-from x call c is other
+touches-none (Exit x u entry) call c is other = apart-from x call c is other
+touches-none (Ret x to) call c is other = apart-from x call c is other
+touches-none _ call c is other = refl
 
 -- ## what is older
 

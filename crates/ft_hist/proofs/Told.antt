@@ -6,7 +6,7 @@ use Rattle.ft_base.specs.declared.number.FuncNo.{FuncNo}
 use Rattle.ft_base.specs.declared.context.Ctx.{Ctx}
 use Rattle.ft_base.specs.declared.item.Ran.{Ran}
 use Rattle.ft_base.specs.declared.item.Item.{Item}
-use Rattle.ft_base.specs.declared.item.Item.TheVariants.{Begin, Return, Enter, Back, BackEnd, Refuse, Miss, Body, Leave, Exit, ExitEnd, Ret}
+use Rattle.ft_base.specs.declared.item.Item.TheVariants.{Enter, Back, Refuse, Body}
 use Rattle.ft_base.specs.Same.{same_call}
 use Rattle.ft_base.specs.Job.{Job}
 use Rattle.ft_base.specs.Desk.{desk, is_on, target}
@@ -59,16 +59,7 @@ module _ (job : Job) (items first second third : List Item) (x y : Item) (legal 
       by : (z : Item) → MayFollow job (reverse (first ++ x ∷ second)) z → y ≡ z → is_visit_by call u z ≡ false
       by (Back c v) f q = apart c v.0 f.callbacks.once (same_call c call && (v.0 == u)) refl
       by (Refuse c v reason) f q = apart c v.0 f.callbacks.once (same_call c call && (v.0 == u)) refl
-      by (Begin k) f q = refl
-      by (Return k a) f q = refl
-      by (Enter c z f' caller) f q = refl
-      by (BackEnd c v) f q = refl
-      by (Miss c v) f q = refl
-      by (Body c g ran) f q = refl
-      by (Leave c) f q = refl
-      by (Exit c v entry) f q = refl
-      by (ExitEnd c v) f q = refl
-      by (Ret c to) f q = refl
+      by _ f q = refl
 
 -- ## an item of a call after its Enter
 

@@ -8,7 +8,7 @@ use Rattle.ft_base.specs.declared.number.CallNo.{CallNo}
 use Rattle.ft_base.specs.declared.number.UserNo.{UserNo}
 use Rattle.ft_base.specs.declared.item.Answer.TheVariants.{Accepted}
 use Rattle.ft_base.specs.declared.item.Item.{Item}
-use Rattle.ft_base.specs.declared.item.Item.TheVariants.{Begin, Return, Enter, Back, BackEnd, Refuse, Miss, Body, Leave, Exit, ExitEnd, Ret}
+use Rattle.ft_base.specs.declared.item.Item.TheVariants.{Return, Back, Exit, Ret}
 use Rattle.ft_base.specs.Job.{Job, Command, commands}
 use Rattle.ft_base.specs.Desk.{desk, is_live, spec_at}
 use Rattle.ft_base.specs.Same.{same_call}
@@ -81,17 +81,7 @@ exits-since call user entry P (Exit c v n ∷ newer) past h = exits-since call u
     rest : (b : Bool) (n : ℕ) (es : List ℕ) → Each P (cond b (n ∷ es) es) → Each P es
     rest true n es k = k.1
     rest false n es k = k
-exits-since call user entry P (Begin k ∷ newer) past h = exits-since call user entry P newer past h
-exits-since call user entry P (Return k a ∷ newer) past h = exits-since call user entry P newer past h
-exits-since call user entry P (Enter c x f caller ∷ newer) past h = exits-since call user entry P newer past h
-exits-since call user entry P (Back c v ∷ newer) past h = exits-since call user entry P newer past h
-exits-since call user entry P (BackEnd c v ∷ newer) past h = exits-since call user entry P newer past h
-exits-since call user entry P (Refuse c v reason ∷ newer) past h = exits-since call user entry P newer past h
-exits-since call user entry P (Miss c v ∷ newer) past h = exits-since call user entry P newer past h
-exits-since call user entry P (Body c g ran ∷ newer) past h = exits-since call user entry P newer past h
-exits-since call user entry P (Leave c ∷ newer) past h = exits-since call user entry P newer past h
-exits-since call user entry P (ExitEnd c v ∷ newer) past h = exits-since call user entry P newer past h
-exits-since call user entry P (Ret c to ∷ newer) past h = exits-since call user entry P newer past h
+exits-since call user entry P (_ ∷ newer) past h = exits-since call user entry P newer past h
 
 pub exit-after : (job : Job) (items a b c : List Item) (call : CallNo) (user user' : UserNo) (entry entry' : ℕ) → IsLegal job items
     → items ≡ a ++ Exit call user entry ∷ (b ++ Exit call user' entry' ∷ c) → entry < entry'

@@ -7,7 +7,7 @@ use Rattle.ft_base.specs.declared.number.UserNo.{UserNo}
 use Rattle.ft_base.specs.declared.item.Answer.TheVariants.{Accepted}
 use Rattle.ft_base.specs.declared.item.Item.{Item}
 use Rattle.ft_base.specs.declared.item.Item.TheVariants.{Return, Back, Exit}
-use Rattle.ft_base.specs.Job.{Job, Command, Register, Unregister, Filter, Notrace, Pid, NoPid, Enable, Disable, MaxDepth, commands}
+use Rattle.ft_base.specs.Job.{Job, Command, Register, Unregister, Filter, Notrace, Enable, Disable, commands}
 use Rattle.ft_base.specs.Desk.{Desk, UserState, desk, after, changed, user_at, is_on, is_sited, is_matching, is_live, is_accepted, answer_on, registered_as, unregistered_as}
 use Rattle.ft_base.specs.WellFormed.{IsWellFormed, IsNamed}
 use Rattle.ft_base.proofs.Small.{false_true, and_both}
@@ -34,9 +34,7 @@ module _ (job : Job) where
   off-changed d k u (Notrace v x) size named other off = user-part (λ (s : UserState). s.registered) d v _ (rw size named) refl u ∙ off
   off-changed d k u (Enable v) size named other off = user-part (λ (s : UserState). s.registered) d v _ (rw size named) refl u ∙ off
   off-changed d k u (Disable v) size named other off = user-part (λ (s : UserState). s.registered) d v _ (rw size named) refl u ∙ off
-  off-changed d k u (Pid only) size named other off = off
-  off-changed d k u (NoPid only) size named other off = off
-  off-changed d k u (MaxDepth n) size named other off = off
+  off-changed d k u _ size named other off = off
 
   module _ (is : IsWellFormed job) (u : ℕ) where
     off-after : (d : Desk) (k : ℕ) (c : Option Command) → length d.users ≡ length job.users → ((x : Command) → c ≡ Some x → IsNamed job x) → (c ≡ Some (Register u) → ⊥)

@@ -1,6 +1,6 @@
 -- The laws of whole histories: every command has returned, and nothing is left open.
 use Rattle.std.proofs.Common.{cond, ◌≡◌, ℕ, suc, ◌<◌, Bool, true, false, ◌==◌, List, [], ◌∷◌, ◌++◌, length, reverse, Option, Some, refl, sym, ap, ◌∙◌, subst, arith, inl, inr}
-use Rattle.std.specs.Prelude.{IfSome, IsSome, get_or}
+use Rattle.std.specs.Prelude.{IfSome, get_or}
 use Rattle.std.specs.List.{list_any}
 use Rattle.std.proofs.lemmas.Bool.{cases_lt}
 use Rattle.ft_base.specs.declared.number.CallNo.{CallNo}
@@ -49,8 +49,8 @@ module _ (job : Job) (items : List Item) (whole : IsWhole job items) where
       elim (cases_lt t (length job.tasks)) [
         | inl within ↦ (r.0, r.1, (subst (λ (o : Option PlainTask). IfSome o (HasEnded (done (reverse items)))) r.1 (whole.tasks t within)).1)
         | inr beyond ↦ (
-            let s = stranger job t (let b = beyond in omega (arith, b)) (reverse items) (subst (λ (o : Option PlainTask). IsSome o) (sym r.1) refl) in
-            (r.0, r.1, ap (λ (p : PlainTask). p.stack) (some_inj r.0 _ (sym r.1 ∙ s.0)))
+            let s = stranger job t (let b = beyond in omega (arith, b)) (reverse items) r.0 r.1 in
+            (r.0, r.1, ap (λ (p : PlainTask). p.stack) s.0)
             )
       ]
 

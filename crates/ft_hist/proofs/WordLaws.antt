@@ -7,7 +7,7 @@ use Rattle.ft_base.specs.declared.number.CallNo.{CallNo}
 use Rattle.ft_base.specs.declared.item.Item.{Item}
 use Rattle.ft_base.specs.declared.item.Item.TheVariants.{Begin, Return, Enter, Back, Refuse}
 use Rattle.ft_base.specs.Same.{same_call}
-use Rattle.ft_base.specs.Job.{Job, Command, Register, Unregister, Filter, Notrace, Pid, NoPid, Enable, Disable, MaxDepth, commands, funcs}
+use Rattle.ft_base.specs.Job.{Job, Command, Register, Unregister, Filter, Notrace, Enable, Disable, commands, funcs}
 use Rattle.ft_base.specs.Desk.{Desk, UserState, desk, after, changed, user_at, with_user, is_on, is_accepted, answer_on, is_matching, spec_at, registered_as, unregistered_as, edited}
 use Rattle.ft_base.proofs.DeskLaws.{length-desk, user_at-same, user_at-other}
 use Rattle.ft_base.specs.WellFormed.{IsWellFormed, IsNamed}
@@ -47,9 +47,7 @@ module _ (job : Job) (is : IsWellFormed job) where
   grows d k (Notrace u x) size r w = let l = r u in grows-with d k u _ (rw size w) (omega arith) (omega arith) r
   grows d k (Enable u) size r w = let l = r u in grows-with d k u _ (rw size w) (omega arith) (omega arith) r
   grows d k (Disable u) size r w = let l = r u in grows-with d k u _ (rw size w) (omega arith) (omega arith) r
-  grows d k (Pid only) size r w = same-since d k r
-  grows d k (NoPid only) size r w = same-since d k r
-  grows d k (MaxDepth n) size r w = same-since d k r
+  grows d k _ size r w = same-since d k r
 
   after-grows : (k : ℕ) (c : Option Command) → slice_get (commands job) k ≡ c → IsRecent (desk job k) k → (v : ℕ) → Grows (desk job k) (after job (desk job k) (suc k) c) k v
   after-grows k None e r v = same-since (desk job k) k r v
@@ -174,9 +172,7 @@ module _ (job : Job) (is : IsWellFormed job) where
   changes-one d k (Notrace u e) = (u, λ v ne. user_at-other d u v (record (user_at d u) { notrace = edited (funcs job) (user_at d u).notrace e }) ne)
   changes-one d k (Enable u) = (u, λ v ne. user_at-other d u v (record (user_at d u) { enabled = true }) ne)
   changes-one d k (Disable u) = (u, λ v ne. user_at-other d u v (record (user_at d u) { enabled = false }) ne)
-  changes-one d k (Pid only) = (0, λ v ne. refl)
-  changes-one d k (NoPid only) = (0, λ v ne. refl)
-  changes-one d k (MaxDepth n) = (0, λ v ne. refl)
+  changes-one d k _ = (0, λ v ne. refl)
 
   after-one : (d : Desk) (k : ℕ) (c : Option Command) → (w : ℕ) × ((v : ℕ) → v ≢ w → user_at (after job d k c) v ≡ user_at d v)
   after-one d k None = (0, λ v ne. refl)
