@@ -12,7 +12,7 @@ use Rattle.ft_base.specs.Same.{same_call}
 use Rattle.ft_base.specs.Job.{Job, no_task, waits_before}
 use Rattle.ft_base.proofs.Small.{false_true, and_both, and-false, Each-weaker}
 use Rattle.ft_hist.specs.Past.{is_of, done, begun, Callback, callbacks}
-use Rattle.ft_hist.specs.Plain.{plain, PlainTask, Frame, Phase, Dispatch, InBack, Running, Leaving, InExit, on_top, in_phase, ahead, below_top}
+use Rattle.ft_hist.specs.Plain.{plain, PlainTask, Frame, Phase, InBack, Running, on_top, in_phase, ahead, below_top}
 use Rattle.ft_hist.specs.Rules.{IsLegal, HasEnded, HasWaited, acts_passed}
 use Rattle.ft_hist.specs.Finished.{is_in_callback, is_scripted, finished, calls_and_returns, longest_with, acts_done, AreWaitsMet}
 use Rattle.ft_hist.proofs.Laws.{same_call-refl, nothing-ahead}
@@ -54,12 +54,10 @@ counts-snoc (x ∷ xs) a = by x (gives a) (counts-snoc xs a)
     by (Call f) false e = ap suc e
     by RetAct true e = ap suc e
     by RetAct false e = ap suc e
-    by (Raise c) true e = e
     by (Raise c) false e = e
-    by Lower true e = e
     by Lower false e = e
-    by (After m) true e = e
     by (After m) false e = e
+    by _ true e = e
 
 -- the act under way is finished
 did-finish : (n : ℕ) (all acts : List TaskAct) (gone : ℕ) → Did false n all acts gone → Did true (suc n) all acts gone
@@ -92,10 +90,7 @@ did-ahead n all d (After m ∷ rest) cs gone h = by (nat_le m d) (did-ahead n al
 longest-of : (xs ys : List TaskAct) → longest_with (xs ++ ys) (calls_and_returns xs) ≡ length xs + longest_with ys 0
 longest-of [] ys = omega arith
 longest-of (Call f ∷ xs) ys = let e = longest-of xs ys in omega (arith, e)
-longest-of (RetAct ∷ xs) ys = let e = longest-of xs ys in omega (arith, e)
-longest-of (Raise c ∷ xs) ys = let e = longest-of xs ys in omega (arith, e)
-longest-of (Lower ∷ xs) ys = let e = longest-of xs ys in omega (arith, e)
-longest-of (After m ∷ xs) ys = let e = longest-of xs ys in omega (arith, e)
+longest-of (_ ∷ xs) ys = let e = longest-of xs ys in omega (arith, e)
 
 -- ## the stack
 
@@ -124,10 +119,7 @@ quiet-none (f ∷ below) s q = let both = and_both f.scripted (runs f.phase) q i
   where
     by : (ph : Phase) → runs ph ≡ true → open_on (standing below) ≡ [] → open_on (stands f.call f.ctx (user_in ph) ∷ standing below) ≡ []
     by Running e m = m
-    by Dispatch e m = false_true e
-    by (InBack u o fresh) e m = false_true e
-    by Leaving e m = false_true e
-    by (InExit u) e m = false_true e
+    by _ e m = false_true e
 
 -- whether a list holds anything
 abbrev is_some_in : {X : Type 0} → List X → Bool
@@ -256,9 +248,7 @@ module _ (job : Job) (t : ℕ) where
       none : (a : TaskAct) → gives a ≡ true → longest_with (a ∷ acts) 0 ≡ 0
       none (Call f) e = refl
       none RetAct e = refl
-      none (Raise c) e = false_true e
-      none Lower e = false_true e
-      none (After m) e = false_true e
+      none _ e = false_true e
 
   passed-at : (k : ℕ) (s : PlainTask) (stack : List Frame) → s.stack ≡ stack → Did (is_quiet stack) k script s.acts s.gone → acts_passed s ≡ longest_with script k
   passed-at k s [] e d = let same : acts_passed s ≡ acts_passed (alone s.gone s.acts) = rw e refl in same ∙ passed-quiet k s.acts s.gone d
@@ -267,10 +257,7 @@ module _ (job : Job) (t : ℕ) where
       by : (b : Bool) (ph : Phase) → f.scripted ≡ b → f.phase ≡ ph → Did (b && runs ph) k script s.acts s.gone → acts_passed s ≡ longest_with script k
       by true Running eb ep x = let same : acts_passed s ≡ acts_passed (alone s.gone s.acts) = rw (e, ep, eb) refl in same ∙ passed-quiet k s.acts s.gone x
       by false Running eb ep x = let same : acts_passed s ≡ s.gone - 1 = rw (e, ep, eb) refl in same ∙ passed-busy k s.acts s.gone x
-      by b Dispatch eb ep x = let same : acts_passed s ≡ s.gone - 1 = rw (e, ep) refl in same ∙ passed-busy k s.acts s.gone (rw (and-false b) at x)
-      by b (InBack u o fresh) eb ep x = let same : acts_passed s ≡ s.gone - 1 = rw (e, ep) refl in same ∙ passed-busy k s.acts s.gone (rw (and-false b) at x)
-      by b Leaving eb ep x = let same : acts_passed s ≡ s.gone - 1 = rw (e, ep) refl in same ∙ passed-busy k s.acts s.gone (rw (and-false b) at x)
-      by b (InExit u) eb ep x = let same : acts_passed s ≡ s.gone - 1 = rw (e, ep) refl in same ∙ passed-busy k s.acts s.gone (rw (and-false b) at x)
+      by b _ eb ep x = let same : acts_passed s ≡ s.gone - 1 = rw (e, ep) refl in same ∙ passed-busy k s.acts s.gone (subst (λ c. Did c k script s.acts s.gone) (and-false b) x)
 
   pub passed-is : (past : List Item) (s : PlainTask) → plain job t past ≡ Some s → acts_passed s ≡ acts_done job t past
   passed-is past s here = passed-at (finished t past) s s.stack refl (does past s here).0

@@ -44,17 +44,7 @@ exit-there call n (x ∷ items) h = by x (is_exit_for call n x) refl (λ q. exit
   where
     found : (x : Item) → is_exit_for call n x ≡ true → (v : UserNo) × (x ≡ Exit call v n)
     found (Exit c v e) q = let both = and_both (same_call c call) (e == n) q in (v, ap (λ (d : CallNo). Exit d v e) (same_call-eq c call both.0) ∙ ap (λ (k : ℕ). Exit call v k) (eqb-true e n both.1))
-    found (Begin k) q = false_true q
-    found (Return k a) q = false_true q
-    found (Enter c z f caller) q = false_true q
-    found (Back c v) q = false_true q
-    found (BackEnd c v) q = false_true q
-    found (Refuse c v reason) q = false_true q
-    found (Miss c v) q = false_true q
-    found (Body c g ran) q = false_true q
-    found (Leave c) q = false_true q
-    found (ExitEnd c v) q = false_true q
-    found (Ret c to) q = false_true q
+    found _ q = false_true q
 
     by : (z : Item) (b : Bool) → is_exit_for call n z ≡ b → (list_any (is_exit_for call n) items ≡ true → (xs : List Item) × (v : UserNo) × (ys : List Item) × (items ≡ xs ++ Exit call v n ∷ ys))
         → list_any (is_exit_for call n) (z ∷ items) ≡ true → (xs : List Item) × (v : UserNo) × (ys : List Item) × (z ∷ items ≡ xs ++ Exit call v n ∷ ys)
@@ -191,16 +181,8 @@ module _ (job : Job) (t : ℕ) (m : Callback) where
   due-from [] h = absurd cc
   due-from (Begin k ∷ past) q = after (Begin k) past refl (due-from past q)
   due-from (Return k a ∷ past) q = after (Return k a) past refl (due-from past q)
-  due-from (Enter c x f caller ∷ past) q = of-other (Enter c x f caller) past (c.task.0 == t) refl q (due-from past)
   due-from (Back c v ∷ past) q = of-back c v past (c.task.0 == t) refl q (due-from past)
-  due-from (BackEnd c v ∷ past) q = of-other (BackEnd c v) past (c.task.0 == t) refl q (due-from past)
-  due-from (Refuse c v reason ∷ past) q = of-other (Refuse c v reason) past (c.task.0 == t) refl q (due-from past)
-  due-from (Miss c v ∷ past) q = of-other (Miss c v) past (c.task.0 == t) refl q (due-from past)
-  due-from (Body c g ran ∷ past) q = of-other (Body c g ran) past (c.task.0 == t) refl q (due-from past)
-  due-from (Leave c ∷ past) q = of-other (Leave c) past (c.task.0 == t) refl q (due-from past)
-  due-from (Exit c v entry ∷ past) q = of-other (Exit c v entry) past (c.task.0 == t) refl q (due-from past)
-  due-from (ExitEnd c v ∷ past) q = of-other (ExitEnd c v) past (c.task.0 == t) refl q (due-from past)
-  due-from (Ret c to ∷ past) q = of-other (Ret c to) past (c.task.0 == t) refl q (due-from past)
+  due-from (z ∷ past) q = of-other z past (is_of t z) refl q (due-from past)
 
 -- so a miss comes directly after such a callback
 pub missed : (job : Job) (items first rest : List Item) (call : CallNo) (user : UserNo) → IsLegal job items → items ≡ first ++ Miss call user ∷ rest

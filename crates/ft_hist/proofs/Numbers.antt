@@ -10,11 +10,11 @@ use Rattle.ft_base.specs.Same.{same_call}
 use Rattle.ft_base.specs.Job.{Job}
 use Rattle.ft_base.proofs.Small.{false_true, ==-refl}
 use Rattle.ft_hist.specs.Past.{is_of, done, entry_of, all_visits, visits}
-use Rattle.ft_hist.specs.Plain.{plain, after_item, after_next, PlainTask, at_start}
+use Rattle.ft_hist.specs.Plain.{plain, PlainTask, at_start}
 use Rattle.ft_hist.specs.Rules.{IsLegalPast}
 use Rattle.ft_hist.proofs.Laws.{entry_of-enter}
 use Rattle.ft_hist.proofs.Lists.{none_visited}
-use Rattle.ft_hist.proofs.RunLaws.{some_inj, same_call-eq, Moves, step-moves, moves, sound}
+use Rattle.ft_hist.proofs.RunLaws.{some_inj, same_call-eq, Moves, step-moves, sound}
 pub use Rattle.ft_hist.proofs.Steps.{unmoved}
 use Rattle.ft_hist.proofs.Steps.{own-step}
 use Rattle.ft_hist.proofs.WindowLaws.{entry_of-more, is_enter}
@@ -35,7 +35,7 @@ module _ (job : Job) where
       of None e h = false_true h
       of (Some s) e h = (s, e)
 
-  next-moved : (p s : PlainTask) (item : Item) → Moves p s item → (t : ℕ) → is_of t item ≡ true → p.next ≤ s.next
+  pub next-moved : (p s : PlainTask) (item : Item) → Moves p s item → (t : ℕ) → is_of t item ≡ true → p.next ≤ s.next
   next-moved p s (Begin k) m t own = false_true own
   next-moved p s (Return k a) m t own = false_true own
   next-moved p s (Enter call x f caller) m t own = let e = m.next in omega (arith, e)
@@ -110,16 +110,11 @@ module _ (job : Job) where
 
   -- a call that is entered now has visited nobody
   pub none-before : (call : CallNo) (x : Ctx) (f : FuncNo) (caller : Option CallNo) (past : List Item) → IsSome (plain job call.task.0 (Enter call x f caller ∷ past)) → visits job call past ≡ []
-  unfolding plain
-  none-before call x f caller past some = by (plain job call.task.0 past) refl (rw (==-refl call.task.0) at some)
+  none-before call x f caller past some = of (plain job call.task.0 (Enter call x f caller ∷ past)) refl some
     where
-      by : (o : Option PlainTask) → plain job call.task.0 past ≡ o → IsSome (after_next job (done past) (Enter call x f caller) o) → visits job call past ≡ []
-      by None here q = false_true q
-      by (Some p) here q = of-some (after_item job (done past) p (Enter call x f caller)) refl q
-        where
-          of-some : (o : Option PlainTask) → after_item job (done past) p (Enter call x f caller) ≡ o → IsSome o → visits job call past ≡ []
-          of-some None e r = false_true r
-          of-some (Some p') e r =
-              let m = moves job (done past) p p' (Enter call x f caller) e in
-              let so = sound job call.task.0 past p here in
-              none_visited call (all_visits job past) (rw m.number so.visits)
+      of : (o : Option PlainTask) → plain job call.task.0 (Enter call x f caller ∷ past) ≡ o → IsSome o → visits job call past ≡ []
+      of None e h = false_true h
+      of (Some s) e h =
+          let m = moved call.task.0 (Enter call x f caller) past s (==-refl call.task.0) e in
+          let k = m.2 in
+          none_visited call (all_visits job past) (rw k.number (sound job call.task.0 past m.0 m.1).visits)

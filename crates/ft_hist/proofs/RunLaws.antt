@@ -11,9 +11,9 @@ use Rattle.ft_base.specs.Same.{same_call}
 use Rattle.ft_base.specs.Job.{Job}
 use Rattle.ft_base.proofs.Small.{false_true, ==-refl, and-false, Each-weaker}
 use Rattle.ft_hist.specs.Past.{is_of, done, all_visits, Visit, is_dispatched, exits}
-use Rattle.ft_hist.specs.Plain.{plain, after_item, PlainTask, Frame, top_call}
+use Rattle.ft_hist.specs.Plain.{plain, PlainTask, Frame, top_call}
 use Rattle.ft_hist.proofs.Laws.{other-task}
-use Rattle.ft_hist.proofs.Steps.{Step, step_begin, step_return, step_enter, step_act, step_back, step_refuse, step_body, step_exit, step_ret, step, run-holds}
+use Rattle.ft_hist.proofs.Steps.{Step, step_begin, step_return, step_enter, step_act, step_back, step_refuse, step_body, step_exit, step_ret, run-holds}
 pub use Rattle.ft_hist.proofs.Steps.{if_some, some_inj, same_call-eq}
 
 -- the calls of a stack
@@ -60,9 +60,6 @@ module _ (job : Job) (d : ℕ) where
   step-moves p s item (step_act q g below it) = record { number = it.number; from = it.from; next = refl; calls = refl }
   step-moves p s item (step_ret q f below) = record { to_is = refl; next = refl; calls = refl }
   step-moves p s item _ = record { next = refl; calls = refl; top = (_, refl) }
-
-  pub moves : (p s : PlainTask) (item : Item) → after_item job d p item ≡ Some s → Moves p s item
-  moves p s item e = step-moves p s item (step job d p s item e)
 
 ne_b : (a b : ℕ) → a < b → (a == b) ≡ false
 ne_b a b lt = elim (eqb_tells a b) [ inl x ↦ (let y : a ≡ b = x.1 in absurd (omega arith)) | inr x ↦ x.0 ]

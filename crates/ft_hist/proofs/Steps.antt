@@ -75,7 +75,7 @@ pub record IsNext (p : PlainTask) (call : CallNo) (caller : Option CallNo) : Typ
   pub from : caller ≡ top_call p.stack
 
 -- the task goes from one state to another by an item of it: its top call goes to another phase, the script or an act enters a call, or
--- it returns
+-- it returns. Here p is the task but for its stack, and f the top call but for its phase
 pub data Step (job : Job) (d : ℕ) : PlainTask → PlainTask → Item → Type 0 where
   step_begin : {p : PlainTask} {k : ℕ} → Step job d p p (Begin k)
   step_return : {p : PlainTask} {k : ℕ} {a : Answer} → Step job d p p (Return k a)
