@@ -2,7 +2,7 @@
 use Rattle.std.proofs.Common.{cond, ◌≡◌, ℕ, Bool, true, false, ◌==◌, List, [], ◌∷◌, Option, Some, None, refl, sym, ap, ◌∙◌}
 use Rattle.ft_base.specs.declared.number.CallNo.{CallNo}
 use Rattle.ft_base.specs.declared.item.Item.{Item}
-use Rattle.ft_base.specs.declared.item.Item.TheVariants.{Begin, Return, Enter, Back, BackEnd, Refuse, Miss, Body, Leave, Exit, ExitEnd, Ret}
+use Rattle.ft_base.specs.declared.item.Item.TheVariants.{Back, BackEnd, Refuse, Miss, Body, Exit, ExitEnd}
 use Rattle.ft_base.specs.declared.item.Ran.{Ran}
 use Rattle.ft_base.specs.declared.item.Reason.{Reason}
 use Rattle.ft_base.specs.declared.number.FuncNo.{FuncNo}
@@ -10,7 +10,7 @@ use Rattle.ft_base.specs.declared.number.UserNo.{UserNo}
 use Rattle.ft_base.specs.Items.{call_of}
 use Rattle.ft_base.specs.Job.{Job}
 use Rattle.ft_base.specs.Same.{same_call}
-use Rattle.ft_hist.specs.Plain.{PlainTask, Frame, Phase, Dispatch, InBack, Running, Leaving, InExit, on_call, in_phase, after_back, after_back_end, after_miss, after_refusal, after_body, after_exit, after_exit_end, after_item}
+use Rattle.ft_hist.specs.Plain.{PlainTask, Frame, Phase, Dispatch, InBack, Leaving, InExit, on_call, in_phase, after_back, after_back_end, after_miss, after_refusal, after_body, after_exit, after_exit_end, after_item}
 use Rattle.ft_hist.proofs.RunLaws.{some_inj}
 use Rattle.task_runs.specs.Kept.{IsStep, moved, phase_after, top_if}
 
@@ -47,18 +47,14 @@ module _ (job : Job) (returned : ℕ) (s : PlainTask) (call : CallNo) where
   -- no item of a call that isn't on the top may come, but an Enter
   pub of-none : (item : Item) → top_if s.stack call ≡ None → call_of item ≡ Some call → IsStep item → after_item job returned s item ≡ None
   unfolding after_item
-  of-none (Begin k) e c step = absurd step
-  of-none (Return k a) e c step = absurd step
-  of-none (Enter d x f to) e c step = absurd step
   of-none (Back d u) e c step = at-none d _ c e
   of-none (BackEnd d u) e c step = at-none d _ c e
   of-none (Refuse d u r) e c step = at-none d _ c e
   of-none (Miss d u) e c step = at-none d _ c e
   of-none (Body d g r) e c step = at-none d _ c e
-  of-none (Leave d) e c step = absurd step
   of-none (Exit d u p) e c step = at-none d _ c e
   of-none (ExitEnd d u) e c step = at-none d _ c e
-  of-none (Ret d to) e c step = absurd step
+  of-none _ e c step = absurd step
 
   -- what each item makes of the top call
   module _ (t : Frame) (top : IsTop s call t) where
@@ -81,66 +77,39 @@ module _ (job : Job) (returned : ℕ) (s : PlainTask) (call : CallNo) where
 
     back : (c : CallNo) (u : UserNo) (p : Phase) → Moves (Back c u) p (after_back job s t below u.0 p)
     back c u Dispatch = refl
-    back c u (InBack v o fr) = refl
-    back c u Running = refl
-    back c u Leaving = refl
-    back c u (InExit v) = refl
+    back c u _ = refl
 
     miss : (c : CallNo) (u : UserNo) (p : Phase) → Moves (Miss c u) p (after_miss s t below u.0 p)
-    miss c u Dispatch = refl
     miss c u (InBack v o true) = if-same (u.0 == v) (InBack v o false)
-    miss c u (InBack v o false) = refl
-    miss c u Running = refl
-    miss c u Leaving = refl
-    miss c u (InExit v) = refl
+    miss c u _ = refl
 
     back-end : (c : CallNo) (u : UserNo) (p : Phase) → Moves (BackEnd c u) p (after_back_end s t below u.0 p)
-    back-end c u Dispatch = refl
     back-end c u (InBack v None fr) = if-same (u.0 == v) Dispatch
-    back-end c u (InBack v (Some o) fr) = refl
-    back-end c u Running = refl
-    back-end c u Leaving = refl
-    back-end c u (InExit v) = refl
+    back-end c u _ = refl
 
     refusal : (c : CallNo) (u : UserNo) (r : Reason) (p : Phase) → p ≡ t.phase → Moves (Refuse c u r) p (after_refusal s p)
     refusal c u r Dispatch is = ap (λ ts. Some (record s { stack = ts })) (top.stack ∙ ap (λ q. in_phase t q ∷ below) (sym is))
-    refusal c u r (InBack v o fr) is = refl
-    refusal c u r Running is = refl
-    refusal c u r Leaving is = refl
-    refusal c u r (InExit v) is = refl
+    refusal c u r _ is = refl
 
     body : (c : CallNo) (g : FuncNo) (r : Ran) (p : Phase) → Moves (Body c g r) p (after_body s t below p)
     body c g r Dispatch = refl
-    body c g r (InBack v o fr) = refl
-    body c g r Running = refl
-    body c g r Leaving = refl
-    body c g r (InExit v) = refl
+    body c g r _ = refl
 
     exit : (c : CallNo) (u : UserNo) (e : ℕ) (p : Phase) → Moves (Exit c u e) p (after_exit s t below u.0 p)
     exit c u e Dispatch = refl
-    exit c u e (InBack v o fr) = refl
-    exit c u e Running = refl
-    exit c u e Leaving = refl
-    exit c u e (InExit v) = refl
+    exit c u e _ = refl
 
     exit-end : (c : CallNo) (u : UserNo) (p : Phase) → Moves (ExitEnd c u) p (after_exit_end s t below u.0 p)
-    exit-end c u Dispatch = refl
-    exit-end c u (InBack v o fr) = refl
-    exit-end c u Running = refl
-    exit-end c u Leaving = refl
     exit-end c u (InExit v) = if-same (u.0 == v) Leaving
+    exit-end c u _ = refl
 
     pub step-is : (item : Item) → call_of item ≡ Some call → IsStep item → after_item job returned s item ≡ moved s t below (phase_after job t item)
     unfolding after_item
-    step-is (Begin k) c step = absurd step
-    step-is (Return k a) c step = absurd step
-    step-is (Enter d x f to) c step = absurd step
     step-is (Back d u) c step = at-top d _ c ∙ back d u t.phase
     step-is (BackEnd d u) c step = at-top d _ c ∙ back-end d u t.phase
     step-is (Refuse d u r) c step = at-top d _ c ∙ refusal d u r t.phase refl
     step-is (Miss d u) c step = at-top d _ c ∙ miss d u t.phase
     step-is (Body d g r) c step = at-top d _ c ∙ body d g r t.phase
-    step-is (Leave d) c step = absurd step
     step-is (Exit d u p) c step = at-top d _ c ∙ exit d u p t.phase
     step-is (ExitEnd d u) c step = at-top d _ c ∙ exit-end d u t.phase
-    step-is (Ret d to) c step = absurd step
+    step-is _ c step = absurd step
