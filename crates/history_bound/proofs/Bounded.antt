@@ -1,31 +1,29 @@
 -- So a task has no more items than the bound of a call for each call of its script, and a history no more than these and two a command.
-use Rattle.std.proofs.Common.{cond, if◌then◌else◌, ◌≡◌, ℕ, zero, suc, ◌+◌, ◌*◌, ◌<◌, ◌≤◌, Bool, true, false, ◌&&◌, ◌==◌, List, [], ◌∷◌, ◌++◌, length, reverse, Option, Some, None, is_some, refl, sym, ap, ap₂, ◌∙◌, subst, arith, inl, inr, eqb-true, mul-zero}
+use Rattle.std.proofs.Common.{cond, if◌then◌else◌, ◌≡◌, ℕ, zero, suc, ◌+◌, ◌*◌, ◌<◌, ◌≤◌, Bool, true, false, ◌==◌, List, [], ◌∷◌, ◌++◌, length, reverse, Some, is_some, refl, sym, ap, ap₂, ◌∙◌, subst, arith, inl, inr, mul-zero}
 use Rattle.std.specs.Prelude.{get_or, count_by}
 use Rattle.std.proofs.Math.Nat.{suc-mul, mul-suc}
 use Rattle.std.proofs.lemmas.Bool.{cases_lt}
 use Rattle.std.proofs.lemmas.Bool.Decides.{eqb_tells}
 use Rattle.std.proofs.lemmas.List.{get_or_past, reverse-append, length-reverse}
 use Rattle.std.proofs.lemmas.List.Sums.{sum_by-cons}
-use Rattle.ft_base.specs.declared.number.CallNo.{CallNo}
 use Rattle.ft_base.specs.declared.item.Item.{Item}
-use Rattle.ft_base.specs.declared.item.Item.TheVariants.{Begin, Return, Enter, Back, BackEnd, Refuse, Miss, Body, Leave, Exit, ExitEnd, Ret}
+use Rattle.ft_base.specs.declared.item.Item.TheVariants.{Begin, Return}
 use Rattle.ft_base.specs.Versions.{levels}
 use Rattle.ft_base.specs.Job.{Job, Task, Spec, no_task, commands}
 use Rattle.ft_base.specs.Desk.{plain_spec}
-use Rattle.ft_base.proofs.Small.{false_true, and_both, ==-refl, Each-weaker}
+use Rattle.ft_base.proofs.Small.{==-refl, Each-weaker}
 use Rattle.user_specs.specs.Bound.{acting_in, call_bound_in, nested_bound}
 use Rattle.ft_hist.specs.Past.{is_of, done, begun}
-use Rattle.ft_hist.specs.Plain.{plain, after_item, after_next, PlainTask, at_start, top_call, same_top}
-use Rattle.ft_hist.specs.Rules.{IsLegal, IsLegalPast, MayVisit, MayExit, PassesAll}
-use Rattle.ft_hist.proofs.RunLaws.{some_inj, if_some, sound}
+use Rattle.ft_hist.specs.Plain.{plain, PlainTask}
+use Rattle.ft_hist.specs.Rules.{IsLegal, IsLegalPast}
+use Rattle.ft_hist.proofs.Steps.{run-holds}
 use Rattle.ft_hist.proofs.Since.{touches}
 use Rattle.ft_hist.proofs.WindowLaws.{legal-counts}
-use Rattle.ft_hist.proofs.Numbers.{none-before, some-run}
+use Rattle.ft_hist.proofs.Numbers.{some-run}
 use Rattle.history_bound.specs.Bound.{items_of, calls_in, calls_of, all_calls}
 use Rattle.history_bound.proofs.Credit.{has_act, sum_of, cost_with, bound}
 use Rattle.ft_hist.proofs.Carries.{touches-other}
-use Rattle.history_bound.proofs.Inversions.{on-call, back-inv, back-end-inv, miss-inv, refusal-inv, body-inv, leave-inv, exit-inv, exit-end-inv, ret-inv, enter-inv}
-use Rattle.history_bound.proofs.Paid.{B, Paid, paid-other, own-task, back-paid, refuse-paid, miss-paid, back-end-paid, body-paid, leave-paid, exit-paid, exit-end-paid, ret-paid, script-paid, act-paid}
+use Rattle.history_bound.proofs.Paid.{B, Paid, paid-other, paid-own, own-task}
 
 module _ (job : Job) (t : ℕ) where
   -- ## an item of another actor
@@ -34,88 +32,16 @@ module _ (job : Job) (t : ℕ) where
   other-item past item s other here h =
       paid-other job t past item s other (Each-weaker (λ f. f.call.task.0 ≡ t) (λ f. touches f.call item ≡ false) s.stack (λ f own. touches-other t item f.call other own) (own-task job t past s here)) h
 
-  -- ## an item of the task
-
-  at-call : (past : List Item) (p s : PlainTask) (c call : CallNo) (item : CallNo → Item) → c ≡ call → Paid job t (item c ∷ past) s → Paid job t (item call ∷ past) s
-  at-call past p s c call item is h = subst (λ k. Paid job t (item k ∷ past) s) is h
-
-  own-item : (past : List Item) (item : Item) (p s : PlainTask) → is_of t item ≡ true → IsLegalPast job (item ∷ past) → plain job t past ≡ Some p → after_item job (done past) p item ≡ Some s → Paid job t past p → Paid job t (item ∷ past) s
-  unfolding IsLegalPast after_item
-  own-item past (Begin k) p s own l here e h = false_true own
-  own-item past (Return k a) p s own l here e h = false_true own
-  own-item past (Enter call x f caller) p s own l here e h =
-      let w = if_some ((call.n == p.next) && same_top caller (top_call p.stack)) _ s e in
-      let n = eqb-true call.n p.next (and_both (call.n == p.next) (same_top caller (top_call p.stack)) w.0).0 in
-      let task = eqb-true call.task.0 t own in
-      let none = none-before job call x f caller past (l.0.run call.task.0) in
-      let fresh = ((sound job t past p here).fresh call task (omega (arith, n))).1 in
-      elim (enter-inv (done past) p s call x f.0 p.stack refl w.1) [
-        | inl by ↦ script-paid job t past p s call x f caller h here task n none fresh by
-        | inr by ↦ act-paid job t past p s call x f caller h here task n none fresh by
-      ]
-  own-item past (Back call u) p s own l here e h =
-      let w = on-call p.stack call _ s e in
-      let i = back-inv job (done past) p s w.0 w.1 u.0 w.0.phase w.4 in
-      let task = eqb-true call.task.0 t own in
-      at-call past p s w.0.call call (λ c. Back c u) w.3 (back-paid job t past p s w.0 w.1 u h here w.2 (ap (λ (c : CallNo). c.task.0) w.3 ∙ task) (subst (λ c. MayVisit job past c u.0) (sym w.3) l.0.callbacks) (subst (λ c. PassesAll job past c u.0) (sym w.3) l.0.refusals) i.0 i.1)
-  own-item past (BackEnd call u) p s own l here e h =
-      let w = on-call p.stack call _ s e in
-      let i = back-end-inv job (done past) p s w.0 w.1 u.0 w.0.phase w.4 in
-      let task = eqb-true call.task.0 t own in
-      at-call past p s w.0.call call (λ c. BackEnd c u) w.3 (back-end-paid job t past p s w.0 w.1 u i.0 i.1 h here w.2 (ap (λ (c : CallNo). c.task.0) w.3 ∙ task) i.2 i.3)
-  own-item past (Refuse call u reason) p s own l here e h =
-      let w = on-call p.stack call _ s e in
-      let i = refusal-inv job (done past) p s w.0 w.1 w.0.phase w.4 in
-      let task = eqb-true call.task.0 t own in
-      at-call past p s w.0.call call (λ c. Refuse c u reason) w.3 (refuse-paid job t past p s w.0 w.1 u reason h here w.2 (ap (λ (c : CallNo). c.task.0) w.3 ∙ task) (subst (λ c. MayVisit job past c u.0) (sym w.3) l.0.callbacks) i.0 i.1)
-  own-item past (Miss call u) p s own l here e h =
-      let w = on-call p.stack call _ s e in
-      let i = miss-inv job (done past) p s w.0 w.1 u.0 w.0.phase w.4 in
-      let task = eqb-true call.task.0 t own in
-      at-call past p s w.0.call call (λ c. Miss c u) w.3 (miss-paid job t past p s w.0 w.1 u i.0 i.1 h here w.2 (ap (λ (c : CallNo). c.task.0) w.3 ∙ task) i.2 i.3)
-  own-item past (Body call g ran) p s own l here e h =
-      let w = on-call p.stack call _ s e in
-      let i = body-inv job (done past) p s w.0 w.1 w.0.phase w.4 in
-      let task = eqb-true call.task.0 t own in
-      at-call past p s w.0.call call (λ c. Body c g ran) w.3 (body-paid job t past p s w.0 w.1 g ran h here w.2 (ap (λ (c : CallNo). c.task.0) w.3 ∙ task) i.0 i.1)
-  own-item past (Leave call) p s own l here e h =
-      let w = on-call p.stack call _ s e in
-      let i = leave-inv job (done past) p s w.0 w.1 w.0.phase w.4 in
-      let task = eqb-true call.task.0 t own in
-      at-call past p s w.0.call call (λ c. Leave c) w.3 (leave-paid job t past p s w.0 w.1 h here w.2 (ap (λ (c : CallNo). c.task.0) w.3 ∙ task) i.0 i.1)
-  own-item past (Exit call u entry) p s own l here e h =
-      let w = on-call p.stack call _ s e in
-      let i = exit-inv job (done past) p s w.0 w.1 u.0 w.0.phase w.4 in
-      let task = eqb-true call.task.0 t own in
-      at-call past p s w.0.call call (λ c. Exit c u entry) w.3 (exit-paid job t past p s w.0 w.1 u entry h here w.2 (ap (λ (c : CallNo). c.task.0) w.3 ∙ task) (subst (λ c. MayExit job past c u.0 entry) (sym w.3) l.0.exits.0) i.0 i.1)
-  own-item past (ExitEnd call u) p s own l here e h =
-      let w = on-call p.stack call _ s e in
-      let i = exit-end-inv job (done past) p s w.0 w.1 u.0 w.0.phase w.4 in
-      let task = eqb-true call.task.0 t own in
-      at-call past p s w.0.call call (λ c. ExitEnd c u) w.3 (exit-end-paid job t past p s w.0 w.1 u i.0 h here w.2 (ap (λ (c : CallNo). c.task.0) w.3 ∙ task) i.1 i.2)
-  own-item past (Ret call to) p s own l here e h =
-      let w = on-call p.stack call _ s e in
-      let i = ret-inv job (done past) p s w.0 w.1 to w.0.phase w.4 in
-      let task = eqb-true call.task.0 t own in
-      at-call past p s w.0.call call (λ c. Ret c to) w.3 (ret-paid job t past p s w.0 w.1 to h here w.2 (ap (λ (c : CallNo). c.task.0) w.3 ∙ task) i.0 i.1 i.2)
-
-  pub paid-for : (past : List Item) (s : PlainTask) → IsLegalPast job past → plain job t past ≡ Some s → Paid job t past s
-  unfolding IsLegalPast plain
-  paid-for [] s l e = subst (λ (x : PlainTask). Paid job t [] x) (some_inj (at_start job t) s e) (record { paid = omega arith; guarded = tt })
-  paid-for (item ∷ past) s l e = by (is_of t item) refl e (λ p here. paid-for past p l.1 here)
-    where
-      by : (b : Bool) → is_of t item ≡ b → cond b (after_next job (done past) item (plain job t past)) (plain job t past) ≡ Some s → ((p : PlainTask) → plain job t past ≡ Some p → Paid job t past p) → Paid job t (item ∷ past) s
-      by false other x more = other-item past item s other x (more s x)
-      by true own x more = at (plain job t past) refl x
-        where
-          at : (o : Option PlainTask) → plain job t past ≡ o → after_next job (done past) item o ≡ Some s → Paid job t (item ∷ past) s
-          at None here y = absurd cc
-          at (Some p) here y = own-item past item p s own l here y (more p here)
+  pub paid-for : (past : List Item) (s : PlainTask) → plain job t past ≡ Some s → IsLegalPast job past → Paid job t past s
+  unfolding IsLegalPast
+  paid-for = run-holds job t (λ past s. IsLegalPast job past → Paid job t past s) (λ l. record { paid = omega arith; guarded = tt })
+      (λ item past p s own here k h l. paid-own job t past item p s own l here k (h l.1))
+      (λ item past s other here h l. other-item past item s other here (h l.1))
 
   pub items-paid : (past : List Item) → IsLegalPast job past → items_of t past ≤ B job t * calls_of job t
   items-paid past l =
       let r = some-run job t past l in
-      let h = (paid-for past r.0 l r.1).paid in
+      let h = (paid-for past r.0 r.1 l).paid in
       omega (arith, h)
 
 -- ## the bound is that of the script's limit
@@ -238,16 +164,7 @@ module _ (job : Job) where
       by (suc n) = let h = by n in omega (arith, h)
   counted (Begin k ∷ past) l = let h = counted past l.1 in let s = still (Begin k) past (λ n. refl) (length job.tasks) in omega (arith, h, s)
   counted (Return k a ∷ past) l = let h = counted past l.1 in let s = still (Return k a) past (λ n. refl) (length job.tasks) in omega (arith, h, s)
-  counted (Enter call x f caller ∷ past) l = task-item (Enter call x f caller) past call.task.0 (λ k. refl) refl refl l (counted past l.1)
-  counted (Back call u ∷ past) l = task-item (Back call u) past call.task.0 (λ k. refl) refl refl l (counted past l.1)
-  counted (BackEnd call u ∷ past) l = task-item (BackEnd call u) past call.task.0 (λ k. refl) refl refl l (counted past l.1)
-  counted (Refuse call u reason ∷ past) l = task-item (Refuse call u reason) past call.task.0 (λ k. refl) refl refl l (counted past l.1)
-  counted (Miss call u ∷ past) l = task-item (Miss call u) past call.task.0 (λ k. refl) refl refl l (counted past l.1)
-  counted (Body call g ran ∷ past) l = task-item (Body call g ran) past call.task.0 (λ k. refl) refl refl l (counted past l.1)
-  counted (Leave call ∷ past) l = task-item (Leave call) past call.task.0 (λ k. refl) refl refl l (counted past l.1)
-  counted (Exit call u entry ∷ past) l = task-item (Exit call u entry) past call.task.0 (λ k. refl) refl refl l (counted past l.1)
-  counted (ExitEnd call u ∷ past) l = task-item (ExitEnd call u) past call.task.0 (λ k. refl) refl refl l (counted past l.1)
-  counted (Ret call to ∷ past) l = task-item (Ret call to) past call.task.0 (λ k. refl) refl refl l (counted past l.1)
+  counted (item ∷ past) l = task-item item past _ (λ k. refl) refl refl l (counted past l.1)
 
   few-commands : (past : List Item) → IsLegalPast job past → begun past ≤ length (commands job)
   unfolding IsLegalPast
