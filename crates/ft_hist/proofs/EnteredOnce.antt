@@ -1,7 +1,7 @@
 -- Each call is entered once, from the latest open call of its task, and before its other items, which come while it is open.
-use Rattle.std.proofs.Common.{◌≡◌, Bool, true, false, not, ◌&&◌, ◌||◌, ◌==◌, List, [], ◌∷◌, ◌++◌, reverse, Option, Some, refl, sym, ap, ◌∙◌, subst, cond, append_assoc}
+use Rattle.std.proofs.Common.{◌≡◌, Bool, true, false, not, ◌&&◌, ◌||◌, List, [], ◌∷◌, ◌++◌, reverse, Option, Some, refl, sym, ap, ◌∙◌, subst, append_assoc}
 use Rattle.std.specs.Prelude.{◌≢◌, slice_get}
-use Rattle.std.specs.List.{list_any, filter, AllByRecursion as Each}
+use Rattle.std.specs.List.{list_any}
 use Rattle.std.proofs.lemmas.List.{reverse-reverse}
 use Rattle.ft_base.specs.declared.number.CallNo.{CallNo}
 use Rattle.ft_base.specs.declared.number.FuncNo.{FuncNo}
@@ -11,24 +11,19 @@ use Rattle.ft_base.specs.declared.item.Item.TheVariants.{Begin, Return, Enter, R
 use Rattle.ft_base.specs.Items.{call_of}
 use Rattle.ft_base.specs.Same.{same_call}
 use Rattle.ft_base.specs.Job.{Job}
-use Rattle.ft_base.proofs.Small.{false_true, and_both}
-use Rattle.ft_hist.specs.Past.{is_of, is_open, calls}
-use Rattle.ft_hist.specs.Plain.{plain, PlainTask}
+use Rattle.ft_base.proofs.Small.{false_true}
+use Rattle.ft_hist.specs.Past.{is_of, is_open}
+use Rattle.ft_hist.specs.Plain.{PlainTask}
 use Rattle.ft_hist.specs.Rules.{IsLegal, IsLegalPast, MayFollow}
 use Rattle.ft_hist.specs.Telling.{is_ret_of, open_calls}
 use Rattle.ft_hist.proofs.Laws.{same_call-refl, own-item}
 use Rattle.ft_hist.proofs.RunLaws.{same_call-eq, calls_on, Keeps, Moves}
-use Rattle.ft_hist.proofs.HeldLaws.{opens}
+use Rattle.ft_hist.proofs.HeldLaws.{opens, top-open}
 use Rattle.ft_hist.proofs.Splitting.{splits, split-reverse, legal-older}
 use Rattle.ft_hist.proofs.Numbers.{moved, some-run, enters-fresh, past-enter, past-through}
 use Rattle.ft_hist.proofs.Nesting.{top_of, entering}
 use Rattle.ft_hist.proofs.ByItems.{any-reverse}
 use Rattle.ft_hist.proofs.Told.{legal-to}
-
--- what is left of a list by a test passes it
-passes : {A : Type 0} (p : A → Bool) (xs : List A) → Each (λ x. p x ≡ true) (filter p xs)
-passes p [] = tt
-passes p (x ∷ xs) = elim (p x) as (λ b. p x ≡ b → Each (λ y. p y ≡ true) (cond b (x ∷ filter p xs) (filter p xs))) [ true ↦ λ e. (e, passes p xs) | false ↦ λ e. passes p xs ] refl
 
 -- ## the Enter of a call names the latest open call of its task
 
@@ -79,19 +74,12 @@ no-enter call (Enter c ctx f caller) is other = let same : c ≡ call = cc in ab
 no-enter call _ is other = refl
 
 module _ (job : Job) (call : CallNo) (past : List Item) where
-  -- the call on top of its task's stack is open
-  open-on-top : (p : PlainTask) (below : List CallNo) → plain job call.task.0 past ≡ Some p → calls_on p.stack ≡ call ∷ below → is_open call past ≡ true
-  open-on-top p below here top =
-      let o = opens job call.task.0 past p here in
-      let all = subst (λ (cs : List CallNo). Each (λ c. ((c.task.0 == call.task.0) && is_open c past) ≡ true) cs) (o.open' ∙ top) (passes (λ c. (c.task.0 == call.task.0) && is_open c past) (calls past)) in
-      (and_both (call.task.0 == call.task.0) (is_open call past) all.0).1
-
   kept-open : (x : Item) → is_of call.task.0 x ≡ true → ((p s : PlainTask) → Moves p s x → (below : List CallNo) × (calls_on p.stack ≡ call ∷ below)) → IsLegalPast job (x ∷ past) → is_open call past ≡ true
   kept-open x own top l =
       let r = some-run job call.task.0 (x ∷ past) l in
       let m = moved job call.task.0 x past r.0 own r.1 in
       let k = top m.0 r.0 m.2 in
-      open-on-top m.0 k.0 m.1 k.1
+      top-open job call.task.0 past m.0 call k.0 m.1 k.1
 
   on-top : (p s : PlainTask) (c : CallNo) → Keeps p s c → c ≡ call → (below : List CallNo) × (calls_on p.stack ≡ call ∷ below)
   on-top p s c k same = (k.top.0, k.top.1 ∙ ap (λ (d : CallNo). d ∷ k.top.0) same)

@@ -8,7 +8,7 @@ use Rattle.ft_base.specs.declared.item.Item.TheVariants.{Begin, Return, Enter, R
 use Rattle.ft_base.specs.Same.{same_call}
 use Rattle.ft_base.specs.Job.{Job}
 use Rattle.ft_base.specs.Desk.{spec_at}
-use Rattle.ft_base.proofs.Small.{false_true, ==-refl, and-false, Each-weaker, each-all, filter-all, filter-ext}
+use Rattle.ft_base.proofs.Small.{false_true, ==-refl, and_both, and-false, Each-weaker, each-all, filter-all, filter-ext}
 use Rattle.ft_base.specs.Kinds.{cancels}
 use Rattle.ft_hist.specs.Past.{is_of, done, is_open, calls, held, all_visits, is_dispatched, has_frame_user}
 use Rattle.ft_hist.specs.Plain.{plain, PlainTask}
@@ -147,6 +147,20 @@ pub opens : (job : Job) (t : ℕ) (past : List Item) (s : PlainTask) → plain j
 opens job t = run-holds job t (λ past s. Opens t past s.next (calls_on s.stack)) (record { number = tt; falls = tt; made = tt; open' = refl })
     (λ item past p s own here k h. opens-own t past p s item own (step-moves job (done past) p s item k) h)
     (λ item past s other here h. opens-other t past s.next (calls_on s.stack) item other h)
+
+-- the first that passes a test does
+first-passes : {X : Type 0} (p : X → Bool) (xs : List X) (y : X) (ys : List X) → filter p xs ≡ y ∷ ys → p y ≡ true
+first-passes p [] y ys e = absurd cc
+first-passes p (x ∷ xs) y ys e = by (p x) refl e (first-passes p xs y ys)
+  where
+    by : (b : Bool) → p x ≡ b → cond b (x ∷ filter p xs) (filter p xs) ≡ y ∷ ys → (filter p xs ≡ y ∷ ys → p y ≡ true) → p y ≡ true
+    by true q z more = let is : x ≡ y = cc in subst (λ (w : _). p w ≡ true) is q
+    by false q z more = more z
+
+-- the top call of a task's stack is open
+pub top-open : (job : Job) (t : ℕ) (past : List Item) (s : PlainTask) (call : CallNo) (below : List CallNo) → plain job t past ≡ Some s → calls_on s.stack ≡ call ∷ below → is_open call past ≡ true
+top-open job t past s call below here top =
+    (and_both (call.task.0 == t) (is_open call past) (first-passes (λ c. (c.task.0 == t) && is_open c past) (calls past) call below ((opens job t past s here).open' ∙ top))).1
 
 -- the frames that a task's other calls hold are those of the calls on its stack
 pub held-on : (job : Job) (past : List Item) (s : PlainTask) (call : CallNo) → plain job call.task.0 past ≡ Some s

@@ -8,14 +8,14 @@ use Rattle.ft_base.specs.declared.item.Item.{Item}
 use Rattle.ft_base.specs.declared.item.Item.TheVariants.{Begin, Return, Enter, Ret}
 use Rattle.ft_base.specs.Same.{same_call}
 use Rattle.ft_base.specs.Job.{Job}
-use Rattle.ft_base.proofs.Small.{false_true, ==-refl, or-false_both, Each-weaker}
+use Rattle.ft_base.proofs.Small.{false_true, ==-refl, Each-weaker}
 use Rattle.ft_hist.specs.Past.{is_of}
 use Rattle.ft_hist.specs.Plain.{plain, PlainTask, Frame, top_call}
 use Rattle.ft_hist.specs.Rules.{IsLegalPast}
 use Rattle.ft_hist.specs.Telling.{is_ret_of}
 use Rattle.ft_hist.proofs.Laws.{same_call-refl}
 use Rattle.ft_hist.proofs.HeldLaws.{Falls, opens}
-use Rattle.ft_hist.proofs.Numbers.{moved, unmoved, some-run}
+use Rattle.ft_hist.proofs.Numbers.{moved, some-run, holds-through, none-any}
 use Rattle.ft_hist.proofs.RunLaws.{some_inj, same_call-eq, calls_on, Moves}
 use Rattle.ft_hist.proofs.Splitting.{legal-older}
 
@@ -62,27 +62,11 @@ module _ (job : Job) (call : CallNo) (tail : List CallNo) where
       by (x ∷ xs) q = let rest : calls_on s.stack ≡ xs ++ call ∷ tail = cc in (xs, rest)
   stands-moved p s _ m own other upper e = (upper, m.calls ∙ e)
 
-  stands-more : (item : Item) (past : List Item) → IsLegalPast job (item ∷ past) → is_ret_of call item ≡ false → Stands past → Stands (item ∷ past)
-  stands-more item past l other h =
-      let r = some-run job call.task.0 (item ∷ past) l in
-      by (is_of call.task.0 item) refl r
-    where
-      by : (b : Bool) → is_of call.task.0 item ≡ b → (s : PlainTask) × (plain job call.task.0 (item ∷ past) ≡ Some s) → Stands (item ∷ past)
-      by true own r =
-          let m = moved job call.task.0 item past r.0 own r.1 in
-          let same : h.run ≡ m.0 = some_inj h.run m.0 (sym h.is ∙ m.1) in
-          let now = stands-moved m.0 r.0 item m.2 own other h.upper (subst (λ (p : PlainTask). calls_on p.stack ≡ h.upper ++ call ∷ tail) same h.stack) in
-          record { run = r.0; is = r.1; upper = now.0; stack = now.1 }
-      by false foreign r =
-          let same : h.run ≡ r.0 = some_inj h.run r.0 (sym h.is ∙ unmoved job call.task.0 item past r.0 foreign r.1) in
-          record { run = r.0; is = r.1; upper = h.upper; stack = subst (λ (p : PlainTask). calls_on p.stack ≡ h.upper ++ call ∷ tail) same h.stack }
-
   pub stands-through : (newer past : List Item) → IsLegalPast job (newer ++ past) → list_any (is_ret_of call) newer ≡ false → Stands past → Stands (newer ++ past)
-  unfolding IsLegalPast
-  stands-through [] past l none h = h
-  stands-through (x ∷ newer) past l none h =
-      let both = or-false_both (is_ret_of call x) (list_any (is_ret_of call) newer) none in
-      stands-more x (newer ++ past) l both.0 (stands-through newer past l.1 both.1 h)
+  stands-through newer past l none h =
+      let r = holds-through job call.task.0 (λ s. (upper : List CallNo) × (calls_on s.stack ≡ upper ++ call ∷ tail)) (is_ret_of call) (λ p s item m own other u. stands-moved p s item m own other u.0 u.1) newer past l none
+      (record { run = h.run; is = h.is; holds = (h.upper, h.stack) }) in
+      record { run = r.run; is = r.is; upper = r.holds.0; stack = r.holds.1 }
 
   -- its return leaves the tail
   pub returns-to-tail : (to : Option CallNo) (past : List Item) → IsLegalPast job (Ret call to ∷ past) → Stands past → to ≡ top_of tail
@@ -135,23 +119,11 @@ module _ (job : Job) (call : CallNo) where
   away-moved p s (Ret c to) m own lt h = let k = m.next in (omega (arith, k, lt), (rw m.calls at h).1)
   away-moved p s _ m own lt h = let k = m.next in (omega (arith, k, lt), rw m.calls h)
 
-  returned-more : (item : Item) (past : List Item) → IsLegalPast job (item ∷ past) → HasReturned past → HasReturned (item ∷ past)
-  returned-more item past l h = by (is_of call.task.0 item) refl (some-run job call.task.0 (item ∷ past) l)
-    where
-      by : (b : Bool) → is_of call.task.0 item ≡ b → (s : PlainTask) × (plain job call.task.0 (item ∷ past) ≡ Some s) → HasReturned (item ∷ past)
-      by true own r =
-          let m = moved job call.task.0 item past r.0 own r.1 in
-          let same : h.run ≡ m.0 = some_inj h.run m.0 (sym h.is ∙ m.1) in
-          let now = away-moved m.0 r.0 item m.2 own (subst (λ (p : PlainTask). call.n < p.next) same h.number) (subst (λ (p : PlainTask). Each (λ d. d.n ≡ call.n → ⊥) (calls_on p.stack)) same h.away) in
-          record { run = r.0; is = r.1; number = now.0; away = now.1 }
-      by false foreign r =
-          let same : h.run ≡ r.0 = some_inj h.run r.0 (sym h.is ∙ unmoved job call.task.0 item past r.0 foreign r.1) in
-          record { run = r.0; is = r.1; number = subst (λ (p : PlainTask). call.n < p.next) same h.number; away = subst (λ (p : PlainTask). Each (λ d. d.n ≡ call.n → ⊥) (calls_on p.stack)) same h.away }
-
   returned-through : (newer past : List Item) → IsLegalPast job (newer ++ past) → HasReturned past → HasReturned (newer ++ past)
-  unfolding IsLegalPast
-  returned-through [] past l h = h
-  returned-through (x ∷ newer) past l h = returned-more x (newer ++ past) l (returned-through newer past l.1 h)
+  returned-through newer past l h =
+      let r = holds-through job call.task.0 (λ s. (call.n < s.next) × Each (λ d. d.n ≡ call.n → ⊥) (calls_on s.stack)) (λ x. false) (λ p s item m own one u. away-moved p s item m own u.0 u.1) newer past l (none-any newer)
+      (record { run = h.run; is = h.is; holds = (h.number, h.away) }) in
+      record { run = r.run; is = r.is; number = r.holds.0; away = r.holds.1 }
 
   pub has-returned : (to : Option CallNo) (past : List Item) → IsLegalPast job (Ret call to ∷ past) → HasReturned (Ret call to ∷ past)
   has-returned to past l =

@@ -1,6 +1,7 @@
 -- The calls of a task are numbered as they are entered, so each is entered once, and what its Enter tells stays.
 use Rattle.std.proofs.Common.{◌≡◌, ℕ, ◌<◌, ◌≤◌, Bool, true, false, ◌==◌, List, [], ◌∷◌, ◌++◌, Option, Some, None, refl, sym, ◌∙◌, subst, arith}
 use Rattle.std.specs.Prelude.{IsSome}
+use Rattle.std.specs.List.{list_any}
 use Rattle.ft_base.specs.declared.number.CallNo.{CallNo}
 use Rattle.ft_base.specs.declared.number.FuncNo.{FuncNo}
 use Rattle.ft_base.specs.declared.context.Ctx.{Ctx}
@@ -8,7 +9,7 @@ use Rattle.ft_base.specs.declared.item.Item.{Item}
 use Rattle.ft_base.specs.declared.item.Item.TheVariants.{Begin, Return, Enter, Ret}
 use Rattle.ft_base.specs.Same.{same_call}
 use Rattle.ft_base.specs.Job.{Job}
-use Rattle.ft_base.proofs.Small.{false_true, ==-refl}
+use Rattle.ft_base.proofs.Small.{false_true, ==-refl, or-false_both}
 use Rattle.ft_hist.specs.Past.{is_of, done, entry_of, all_visits, visits}
 use Rattle.ft_hist.specs.Plain.{plain, PlainTask, at_start}
 use Rattle.ft_hist.specs.Rules.{IsLegalPast}
@@ -18,6 +19,10 @@ use Rattle.ft_hist.proofs.RunLaws.{some_inj, same_call-eq, Moves, step-moves, so
 pub use Rattle.ft_hist.proofs.Steps.{unmoved}
 use Rattle.ft_hist.proofs.Steps.{own-step}
 use Rattle.ft_hist.proofs.WindowLaws.{entry_of-more, is_enter}
+
+pub none-any : (items : List Item) → list_any (λ (x : Item). false) items ≡ false
+none-any [] = refl
+none-any (x ∷ items) = none-any items
 
 module _ (job : Job) where
   -- an own item of a task moves its run from where it was
@@ -34,6 +39,27 @@ module _ (job : Job) where
       of : (o : Option PlainTask) → plain job t (item ∷ past) ≡ o → IsSome o → (s : PlainTask) × (plain job t (item ∷ past) ≡ Some s)
       of None e h = false_true h
       of (Some s) e h = (s, e)
+
+  -- a property of a task's run holds at a past
+  pub record HoldsAt (t : ℕ) (P : PlainTask → Type 0) (past : List Item) : Type 0 where
+    pub run : PlainTask
+    pub is : plain job t past ≡ Some run
+    pub holds : P run
+
+  -- so it does after more items, if the task's moves keep it
+  pub holds-through : (t : ℕ) (P : PlainTask → Type 0) (ends : Item → Bool) → ((p s : PlainTask) (item : Item) → Moves p s item → is_of t item ≡ true → ends item ≡ false → P p → P s)
+      → (newer past : List Item) → IsLegalPast job (newer ++ past) → list_any ends newer ≡ false → HoldsAt t P past → HoldsAt t P (newer ++ past)
+  unfolding IsLegalPast
+  holds-through t P ends keeps [] past l none h = h
+  holds-through t P ends keeps (x ∷ newer) past l none h =
+      let both = or-false_both (ends x) (list_any ends newer) none in
+      by (is_of t x) refl (some-run t (x ∷ (newer ++ past)) l) both.0 (holds-through t P ends keeps newer past l.1 both.1 h)
+    where
+      by : (b : Bool) → is_of t x ≡ b → (s : PlainTask) × (plain job t (x ∷ (newer ++ past)) ≡ Some s) → ends x ≡ false → HoldsAt t P (newer ++ past) → HoldsAt t P (x ∷ (newer ++ past))
+      by true own r one h =
+          let m = moved t x (newer ++ past) r.0 own r.1 in
+          record { run = r.0; is = r.1; holds = keeps m.0 r.0 x m.2 own one (subst P (some_inj h.run m.0 (sym h.is ∙ m.1)) h.holds) }
+      by false other r one h = record { run = r.0; is = r.1; holds = subst P (some_inj h.run r.0 (sym h.is ∙ unmoved job t x (newer ++ past) r.0 other r.1)) h.holds }
 
   pub next-moved : (p s : PlainTask) (item : Item) → Moves p s item → (t : ℕ) → is_of t item ≡ true → p.next ≤ s.next
   next-moved p s (Begin k) m t own = false_true own
@@ -52,22 +78,6 @@ module _ (job : Job) where
       let m = moved call.task.0 (Enter call ctx f caller) past r.0 (==-refl call.task.0) r.1 in
       let k = m.2 in
       (r.0, r.1, (let a = k.number in let b = k.next in omega (arith, a, b)))
-
-  past-more : (call : CallNo) (item : Item) (past : List Item) → IsLegalPast job (item ∷ past) → IsPast call past → IsPast call (item ∷ past)
-  past-more call item past l h =
-      let r = some-run call.task.0 (item ∷ past) l in
-      by (is_of call.task.0 item) refl r
-    where
-      by : (b : Bool) → is_of call.task.0 item ≡ b → (s : PlainTask) × (plain job call.task.0 (item ∷ past) ≡ Some s) → IsPast call (item ∷ past)
-      by true own r =
-          let m = moved call.task.0 item past r.0 own r.1 in
-          let same : h.0 ≡ m.0 = some_inj h.0 m.0 (sym h.1 ∙ m.1) in
-          let lt : call.n < m.0.next = subst (λ (p : PlainTask). call.n < p.next) same h.2 in
-          let le = next-moved m.0 r.0 item m.2 call.task.0 own in
-          (r.0, r.1, omega (arith, lt, le))
-      by false other r =
-          let same : h.0 ≡ r.0 = some_inj h.0 r.0 (sym h.1 ∙ unmoved job call.task.0 item past r.0 other r.1) in
-          (r.0, r.1, subst (λ (p : PlainTask). call.n < p.next) same h.2)
 
   -- a call that was entered isn't entered again
   pub enters-fresh : (call : CallNo) (item : Item) (past : List Item) → IsLegalPast job (item ∷ past) → IsPast call past → is_enter call item ≡ false
@@ -88,9 +98,10 @@ module _ (job : Job) where
   enters-fresh call _ past l h = refl
 
   pub past-through : (call : CallNo) (newer past : List Item) → IsLegalPast job (newer ++ past) → IsPast call past → IsPast call (newer ++ past)
-  unfolding IsLegalPast
-  past-through call [] past l h = h
-  past-through call (x ∷ newer) past l h = past-more call x (newer ++ past) l (past-through call newer past l.1 h)
+  past-through call newer past l h =
+      let r = holds-through call.task.0 (λ s. call.n < s.next) (λ x. false) (λ p s item m own one lt. let le = next-moved p s item m call.task.0 own in omega (arith, lt, le)) newer past l (none-any newer)
+      (record { run = h.0; is = h.1; holds = h.2 }) in
+      (r.run, r.is, r.holds)
 
   -- so what the Enter of a call tells stays
   pub entry-through : (call : CallNo) (newer past : List Item) → IsLegalPast job (newer ++ past) → IsPast call past → entry_of call (newer ++ past) ≡ entry_of call past

@@ -13,8 +13,8 @@ use Rattle.ft_base.specs.Same.{same_call}
 use Rattle.ft_base.specs.Job.{Job}
 use Rattle.ft_base.specs.Desk.{spec_at}
 use Rattle.ft_base.specs.Kinds.{has_depth, has_exit, cancels}
-use Rattle.ft_base.proofs.Small.{false_true, and_both, or-false_both, Each-weaker, each-all}
-use Rattle.ft_hist.specs.Past.{is_of, done, is_open, is_dispatched, all_visits, visits, Visit, visit, has_frame_user, held, gets_frame, calls}
+use Rattle.ft_base.proofs.Small.{false_true, or-false_both, Each-weaker, each-all}
+use Rattle.ft_hist.specs.Past.{is_of, done, is_open, is_dispatched, all_visits, visits, Visit, visit, has_frame_user, held, gets_frame}
 use Rattle.ft_hist.specs.Plain.{plain, PlainTask, Frame, Phase, Dispatch, InBack, top_call}
 use Rattle.ft_hist.specs.Rules.{IsLegal, IsLegalPast}
 use Rattle.ft_hist.specs.Known.{holds}
@@ -24,7 +24,7 @@ use Rattle.ft_hist.proofs.Lists.{none_visited}
 use Rattle.ft_hist.proofs.RunLaws.{calls_on, sound}
 use Rattle.ft_hist.proofs.Steps.{Step, step_begin, step_return, step_enter, step_act, step_back, step_back_end, step_refuse, step_miss, step_body, step_ret, run-holds}
 use Rattle.ft_hist.proofs.Since.{Untouched, untouched-item, touches, holds-untouched, holds_by, holds-by, any-filter}
-use Rattle.ft_hist.proofs.HeldLaws.{Opens, opens, held-on, not_same, not_same'}
+use Rattle.ft_hist.proofs.HeldLaws.{Opens, opens, held-on, not_same, not_same', top-open}
 use Rattle.ft_hist.proofs.Carries.{carries_item}
 use Rattle.ft_hist.proofs.Numbers.{some-run}
 
@@ -138,15 +138,6 @@ same-on job past past' cs u =
     frames-ext (λ c. holds job past c) (λ c. keeps job past c) (λ c. holds job past' c) (λ c. keeps job past' c) cs
     (Each-weaker (λ c. Untouched job c past past') (λ c. (holds job past' c ≡ holds job past c) × (keeps job past' c ≡ keeps job past c)) cs (λ c x. (holds-untouched job c past past' x, keeps-untouched job c past past' x)) u)
 
--- the first that passes does
-passes : {X : Type 0} (p : X → Bool) (xs : List X) (y : X) (ys : List X) → filter p xs ≡ y ∷ ys → p y ≡ true
-passes p [] y ys e = absurd cc
-passes p (x ∷ xs) y ys e = by (p x) refl e (passes p xs y ys)
-  where
-    by : (b : Bool) → p x ≡ b → cond b (x ∷ filter p xs) (filter p xs) ≡ y ∷ ys → (filter p xs ≡ y ∷ ys → p y ≡ true) → p y ≡ true
-    by true q z more = let is : x ≡ y = cc in subst (λ (w : _). p w ≡ true) is q
-    by false q z more = more z
-
 module _ (job : Job) (t : ℕ) (past : List Item) (p : PlainTask) (here : plain job t past ≡ Some p) (frames : shadow_stack job t past ≡ frames_on job past (calls_on p.stack)) where
   o : Opens t past p.next (calls_on p.stack)
   o = opens job t past p here
@@ -163,7 +154,7 @@ module _ (job : Job) (t : ℕ) (past : List Item) (p : PlainTask) (here : plain 
     others' = Each-weaker (λ c. c.n < call.n) (λ c. same_call call c ≡ false) below (λ c lt. not_same call c lt) lower
 
     is-open : is_open call past ≡ true
-    is-open = (and_both (call.task.0 == t) (is_open call past) (passes (λ c. (c.task.0 == t) && is_open c past) (calls past) call below (o.open' ∙ top))).1
+    is-open = top-open job t past p call below here top
 
     abbrev any : Bool
     any = has_frame_user call (λ m. true) (all_visits job past)
