@@ -35,10 +35,7 @@ module _ {A : Type 0} where
 waits-append : (n : ℕ) (xs ys : List TaskAct) → last_after n (xs ++ ys) ≡ last_after (last_after n xs) ys
 waits-append n [] ys = refl
 waits-append n (After k ∷ xs) ys = waits-append (cond (nat_le n k) k n) xs ys
-waits-append n (Call f ∷ xs) ys = waits-append n xs ys
-waits-append n (RetAct ∷ xs) ys = waits-append n xs ys
-waits-append n (Raise c ∷ xs) ys = waits-append n xs ys
-waits-append n (Lower ∷ xs) ys = waits-append n xs ys
+waits-append n (_ ∷ xs) ys = waits-append n xs ys
 
 -- the greater of two numbers is within their bound
 greater : (n k r : ℕ) (b : Bool) → n ≤ r → k ≤ r → cond b k n ≤ r

@@ -1,5 +1,5 @@
 -- In a legal history each call finds its module, and so does each body.
-use Rattle.std.proofs.Common.{cond, ◌≡◌, ℕ, ◌≤◌, ◌<◌, Bool, true, false, List, [], ◌∷◌, reverse, Option, Some, None, refl, sym, ap, ◌∙◌, subst, arith, inl, inr}
+use Rattle.std.proofs.Common.{◌≡◌, ℕ, ◌≤◌, ◌<◌, List, [], ◌∷◌, reverse, Option, Some, None, refl, sym, ap, ◌∙◌, subst, arith, inl, inr}
 use Rattle.std.specs.Prelude.{IfSome}
 use Rattle.std.specs.List.{AllByRecursion as Each}
 use Rattle.ft_base.specs.declared.number.CallNo.{CallNo}
@@ -11,14 +11,15 @@ use Rattle.ft_base.specs.Items.{call_of}
 use Rattle.ft_base.specs.Job.{Job}
 use Rattle.ft_base.specs.Desk.{spec_at, plain_spec}
 use Rattle.ft_base.proofs.Small.{each-get}
-use Rattle.ft_hist.specs.Past.{is_of, done, begun, Entered, entry_of, Visit, visits}
-use Rattle.ft_hist.specs.Plain.{PlainTask, Frame, plain, after_next, at_start}
+use Rattle.ft_hist.specs.Past.{done, begun, Entered, entry_of, Visit, visits}
+use Rattle.ft_hist.specs.Plain.{PlainTask, Frame, plain}
 use Rattle.ft_hist.specs.Rules.{IsLegal, IsLegalPast, acts_passed, replacement, backs_with_replacement}
 use Rattle.ft_hist.specs.Finished.{acts_done}
 use Rattle.ft_hist.proofs.Finishing.{passed-is}
 use Rattle.ft_hist.proofs.Laws.{entry_of-enter, own-item}
 use Rattle.ft_hist.proofs.Numbers.{enters-fresh, some-run}
-use Rattle.ft_hist.proofs.RunLaws.{some_inj, calls_on, sound}
+use Rattle.ft_hist.proofs.RunLaws.{calls_on, sound}
+use Rattle.ft_hist.proofs.Steps.{own-step, run-holds}
 use Rattle.ft_hist.proofs.Splitting.{splits}
 use Rattle.ft_hist.proofs.Told.{legal-to}
 use Rattle.ft_hist.proofs.WindowLaws.{done-more, entry_of-more, legal-counts}
@@ -55,37 +56,26 @@ module _ (job : Job) (apart : AreActsApart job) where
       let so = sound job t past s here in
       record { script = h.script; calls = h.calls; names = names-kept t item past s l here s.stack so.task so.number h.names }
 
-  going : (t : ℕ) (past : List Item) (s : PlainTask) → IsLegalPast job past → plain job t past ≡ Some s → Going job t (named past) (done past) s
-  unfolding plain IsLegalPast
-  going t [] s l e =
-      subst (λ (y : PlainTask). Going job t (named []) 0 y) (some_inj (at_start job t) s e)
-      (record { script = record { front = []; whole = refl; count = refl; waited = omega arith }; calls = tt; names = tt })
-  going t (item ∷ past) s l e = by (is_of t item) refl e (λ p here. going t past p l.1 here)
-    where
-      by : (b : Bool) → is_of t item ≡ b → cond b (after_next job (done past) item (plain job t past)) (plain job t past) ≡ Some s
-          → ((p : PlainTask) → plain job t past ≡ Some p → Going job t (named past) (done past) p) → Going job t (named (item ∷ past)) (done (item ∷ past)) s
-      by true own x before = of (plain job t past) refl x
-        where
-          of : (q : Option PlainTask) → plain job t past ≡ q → after_next job (done past) item q ≡ Some s → Going job t (named (item ∷ past)) (done (item ∷ past)) s
-          of None here y = absurd cc
-          of (Some p) here y =
-              going-later job t (named (item ∷ past)) (done past) (done (item ∷ past)) s (done-more item past)
-              (goes job t (done past) (named (item ∷ past)) apart p s (renamed t item past p l here (before p here)) item own (enter-named item past) y).0
-      by false other x before = going-later job t (named (item ∷ past)) (done past) (done (item ∷ past)) s (done-more item past) (renamed t item past s l x (before s x))
+  going : (t : ℕ) (past : List Item) (s : PlainTask) → plain job t past ≡ Some s → IsLegalPast job past → Going job t (named past) (done past) s
+  unfolding IsLegalPast
+  going t = run-holds job t (λ past s. IsLegalPast job past → Going job t (named past) (done past) s)
+      (λ l. record { script = record { front = []; whole = refl; count = refl; waited = omega arith }; calls = tt; names = tt })
+      (λ item past p s own here k h l.
+      going-later job t (named (item ∷ past)) (done past) (done (item ∷ past)) s (done-more item past)
+      (goes job t (done past) (named (item ∷ past)) apart p s item own (enter-named item past) k (renamed t item past p l here (h l.1))).0)
+      (λ item past s other here h l. going-later job t (named (item ∷ past)) (done past) (done (item ∷ past)) s (done-more item past) (renamed t item past s l here (h l.1)))
 
   claims : (item : Item) (past : List Item) (call : CallNo) → IsLegalPast job (item ∷ past) → call_of item ≡ Some call
       → Claims job call.task.0 (done past) (acts_done job call.task.0 past) (named (item ∷ past) call)
-  unfolding plain IsLegalPast
-  claims item past call l is = let r = some-run job call.task.0 (item ∷ past) l in of r.0 (plain job call.task.0 past) refl (rw (own-item item call is) at r.1)
-    where
-      of : (s : PlainTask) (q : Option PlainTask) → plain job call.task.0 past ≡ q → after_next job (done past) item q ≡ Some s
-          → Claims job call.task.0 (done past) (acts_done job call.task.0 past) (named (item ∷ past) call)
-      of s None here y = absurd cc
-      of s (Some p) here y =
-          let before = renamed call.task.0 item past p l here (going call.task.0 past p l.1 here) in
-          let now = goes job call.task.0 (done past) (named (item ∷ past)) apart p s before item (own-item item call is) (enter-named item past) y in
-          subst (λ (k : ℕ). Claims job call.task.0 (done past) k (named (item ∷ past) call)) (passed-is job call.task.0 past p here)
-          (subst (λ (o : Option CallNo). IfSome o (λ c. Claims job call.task.0 (done past) (acts_passed p) (named (item ∷ past) c))) is now.1)
+  unfolding IsLegalPast
+  claims item past call l is =
+      let own = own-item item call is in
+      let r = some-run job call.task.0 (item ∷ past) l in
+      let w = own-step job call.task.0 item past r.0 own r.1 in
+      let before = renamed call.task.0 item past w.0 l w.1 (going call.task.0 past w.0 w.1 l.1) in
+      let now = goes job call.task.0 (done past) (named (item ∷ past)) apart w.0 r.0 item own (enter-named item past) w.2 before in
+      subst (λ (k : ℕ). Claims job call.task.0 (done past) k (named (item ∷ past) call)) (passed-is job call.task.0 past w.0 w.1)
+      (subst (λ (o : Option CallNo). IfSome o (λ c. Claims job call.task.0 (done past) (acts_passed w.0) (named (item ∷ past) c))) is now.1)
 
   -- ## the modules
 
