@@ -1,8 +1,7 @@
 -- A legal history of a well-formed job has rows: each callback is of the top call of its task, which was entered in a function of the job.
-use Rattle.std.proofs.Common.{cond, ◌≡◌, ℕ, ◌<◌, ◌≤◌, true, false, not, ◌&&◌, ◌||◌, ◌==◌, List, [], ◌∷◌, ◌++◌, length, reverse, Option, Some, None, IsSomeAnd, sym, ap, ◌∙◌, subst, arith, append_assoc}
+use Rattle.std.proofs.Common.{cond, ◌≡◌, ℕ, ◌<◌, ◌≤◌, true, false, not, ◌||◌, List, [], ◌∷◌, ◌++◌, length, reverse, Option, Some, None, IsSomeAnd, sym, ap, ◌∙◌, subst, arith, append_assoc}
 use Rattle.std.specs.List.{AllByRecursion as Each}
 use Rattle.std.proofs.lemmas.List.{reverse-append, length-append}
-use Rattle.std.proofs.lemmas.List.Elements.{filter_passes, recursion_from_All}
 use Rattle.ft_base.specs.declared.number.CallNo.{CallNo}
 use Rattle.ft_base.specs.declared.number.UserNo.{UserNo}
 use Rattle.ft_base.specs.declared.item.Item.{Item}
@@ -11,17 +10,17 @@ use Rattle.ft_base.specs.Same.{same_call}
 use Rattle.ft_base.specs.Job.{Job, funcs}
 use Rattle.ft_base.specs.WellFormed.{IsWellFormed}
 use Rattle.ft_base.proofs.Small.{false_true, ==-refl, and_both}
-use Rattle.ft_hist.specs.Past.{Entered, entered, done, is_open, calls}
+use Rattle.ft_hist.specs.Past.{Entered, entered, done, is_open}
 use Rattle.ft_hist.specs.Plain.{plain, PlainTask}
 use Rattle.ft_hist.specs.Rules.{IsLegal, IsLegalPast}
-use Rattle.ft_hist.specs.Telling.{open_calls}
-use Rattle.ft_hist.proofs.HeldLaws.{opens}
+use Rattle.ft_hist.proofs.HeldLaws.{top-open}
 use Rattle.ft_hist.proofs.Numbers.{moved, some-run}
-use Rattle.ft_hist.proofs.RunLaws.{calls_on, Keeps}
+use Rattle.ft_hist.proofs.RunLaws.{Keeps}
 use Rattle.ft_hist.proofs.Told.{legal-to}
 use Rattle.ft_hist.proofs.ToldExits.{exit-of}
 use Rattle.func_profile.specs.Rows.{IsEntered, HasRows}
 use Rattle.ft_hist.proofs.Named.{EnterNamed, enter-named}
+use Rattle.ft_hist.proofs.Steps.{own-step}
 
 -- each call was entered in a function below n
 abbrev EntersNamed : ℕ → List Item → Type 0
@@ -38,20 +37,12 @@ open-entered n call (Enter c ctx f caller ∷ past) h o =
 open-entered n call (Ret c to ∷ past) h o = open-entered n call past h.1 (and_both (not (same_call c call)) (is_open call past) o).1
 open-entered n call (_ ∷ past) h o = open-entered n call past h.1 o
 
--- the top call of a task's stack is open
-top-open : (job : Job) (t : ℕ) (past : List Item) (s : PlainTask) (call : CallNo) (rest : List CallNo) → plain job t past ≡ Some s → calls_on s.stack ≡ call ∷ rest → is_open call past ≡ true
-top-open job t past s call rest here top =
-    let all = recursion_from_All (λ c. ((c.task.0 == t) && is_open c past) ≡ true) (open_calls t past) (filter_passes (λ c. (c.task.0 == t) && is_open c past) (calls past)) in
-    let shape : open_calls t past ≡ call ∷ rest = (opens job t past s here).open' ∙ top in
-    (and_both (call.task.0 == t) (is_open call past) (subst (λ cs. Each (λ (c : CallNo). ((c.task.0 == t) && is_open c past) ≡ true) cs) shape all).0).1
-
 module _ (job : Job) (is : IsWellFormed job) where
   item-named : (item : Item) (past : List Item) → IsLegalPast job (item ∷ past) → EnterNamed (funcs job) item
-  unfolding plain
   item-named (Enter call ctx f caller) past l =
       let r = some-run job call.task.0 (Enter call ctx f caller ∷ past) l in
-      let m = moved job call.task.0 (Enter call ctx f caller) past r.0 (==-refl call.task.0) r.1 in
-      enter-named job is past m.0 r.0 call.task.0 (Enter call ctx f caller) m.1 (rw (==-refl call.task.0, m.1) at r.1)
+      let w = own-step job call.task.0 (Enter call ctx f caller) past r.0 (==-refl call.task.0) r.1 in
+      enter-named job is past w.0 r.0 call.task.0 (Enter call ctx f caller) w.1 w.2
   item-named _ past l = tt
 
   enters-named : (past : List Item) → IsLegalPast job past → EntersNamed (funcs job) past
