@@ -1,6 +1,6 @@
 -- How the items of a legal history move the open calls of its tasks: a call is put on top at its Enter, goes at its Ret, and is the top one at
 -- each other item of its own.
-use Rattle.std.proofs.Common.{cond, ◌≢◌, ◌⊎◌, get_or, ◌≡◌, ℕ, ◌<◌, ◌≤◌, Bool, true, false, not, ◌&&◌, ◌||◌, ◌==◌, List, [], ◌∷◌, length, Option, Some, None, refl, sym, ap, ◌∙◌, subst, inl, inr, arith}
+use Rattle.std.proofs.Common.{cond, ◌≢◌, ◌⊎◌, ◌≡◌, ℕ, ◌<◌, ◌≤◌, Bool, true, false, not, ◌&&◌, ◌||◌, ◌==◌, List, [], ◌∷◌, length, Option, Some, refl, sym, ap, ◌∙◌, subst, inl, inr, arith}
 use Rattle.std.specs.List.{filter, AllByRecursion as Each}
 use Rattle.std.specs.Prelude.{Contains}
 use Rattle.std.proofs.lemmas.Bool.{cases_lt}
@@ -12,21 +12,20 @@ use Rattle.ft_base.specs.declared.number.UserNo.{UserNo}
 use Rattle.ft_base.specs.declared.item.Ran.{Ran}
 use Rattle.ft_base.specs.declared.context.Ctx.{Ctx}
 use Rattle.ft_base.specs.declared.item.Item.{Item}
-use Rattle.ft_base.specs.declared.task.TaskAct.{TaskAct}
-use Rattle.ft_base.specs.declared.item.Item.TheVariants.{Begin, Return, Enter, Back, Body, Exit, Ret}
+use Rattle.ft_base.specs.declared.item.Item.TheVariants.{Enter, Back, Body, Exit, Ret}
 use Rattle.ft_base.specs.Same.{same_call}
-use Rattle.ft_base.specs.Job.{Job, Task, no_task}
+use Rattle.ft_base.specs.Job.{Job}
 use Rattle.ft_base.proofs.Small.{false_true, ==-refl, and_both, Each-weaker, Each-filter, Contains-head, Contains-more}
-use Rattle.ft_hist.specs.Past.{is_of, done, is_open, calls, entry_of, Entered}
-use Rattle.ft_hist.specs.Plain.{plain, after_item, after_next, PlainTask, at_start, same_top, after_enter}
+use Rattle.ft_hist.specs.Past.{is_of, is_open, calls, entry_of, Entered}
+use Rattle.ft_hist.specs.Plain.{plain, PlainTask}
 use Rattle.ft_hist.specs.Rules.{IsLegalPast}
 use Rattle.ft_hist.specs.Telling.{open_calls}
 use Rattle.ft_hist.proofs.HeldLaws.{Falls, opens, not_same}
 use Rattle.ft_hist.proofs.Laws.{entry_of-enter}
 use Rattle.ft_hist.proofs.WindowLaws.{is_enter, entry_of-more}
-use Rattle.std.proofs.Math.ListN.{get_or-eq_default}
 use Rattle.ft_hist.proofs.Nesting.{top_of, entering}
 use Rattle.ft_hist.proofs.Numbers.{moved, unmoved, some-run}
+use Rattle.ft_hist.proofs.OpenCallbacks.{no-item}
 use Rattle.ft_hist.proofs.RunLaws.{same_call-eq, calls_on, Moves, Keeps}
 use Rattle.ft_hist.proofs.Since.{IsOlder, apart}
 
@@ -196,43 +195,7 @@ module _ (job : Job) where
 
   -- ## items come only of the job's tasks
 
-  abbrev Idle : PlainTask
-  Idle = record { next = 1; acts = []; gone = 0; contexts = []; stack = [] }
-
-  idle-none : (t returned : ℕ) (item : Item) → is_of t item ≡ true → after_item job returned Idle item ≡ None
-  unfolding after_item
-  idle-none t d (Begin k) own = false_true own
-  idle-none t d (Return k a) own = false_true own
-  idle-none t d (Enter call ctx f caller) own = by ((call.n == 1) && same_top caller None)
-    where
-      by : (b : Bool) → cond b (after_enter d Idle [] call ctx f.0) None ≡ None
-      by true = refl
-      by false = refl
-  idle-none t d _ own = refl
-
-  no_acts : (ts : List Task) (t : ℕ) → length ts ≤ t → (get_or ts t no_task).acts ≡ []
-  no_acts ts t le = ap (λ (x : Task). x.acts) (get_or-eq_default ts no_task le)
-
-  starts-idle : (t : ℕ) → length job.tasks ≤ t → at_start job t ≡ Idle
-  starts-idle t le = ap (λ (acts : List TaskAct). record { next = 1; acts = acts; gone = 0; contexts = []; stack = [] }) (no_acts job.tasks t le)
-
-  no-item : (t : ℕ) (item : Item) (past : List Item) → is_of t item ≡ true → plain job t past ≡ Some Idle → IsLegalPast job (item ∷ past) → ⊥
-  unfolding plain
-  no-item t item past own here l =
-      let r = some-run job t (item ∷ past) l in
-      let e : None ≡ Some r.0 = rw (own, here, idle-none t (done past) item own) at r.1 in
-      absurd cc
-
-  idle : (t : ℕ) (past : List Item) → length job.tasks ≤ t → IsLegalPast job past → plain job t past ≡ Some Idle
-  unfolding IsLegalPast plain
-  idle t [] le l = ap (λ (s : PlainTask). Some s) (starts-idle t le)
-  idle t (item ∷ past) le l =
-      let here = idle t past le l.1 in
-      elim (is_of t item) as (λ b. is_of t item ≡ b → cond b (after_next job (done past) item (plain job t past)) (plain job t past) ≡ Some Idle) [
-        | true ↦ λ own. absurd (no-item t item past own here l)
-        | false ↦ λ other. here
-      ] refl
-
   pub named : (t : ℕ) (item : Item) (past : List Item) → is_of t item ≡ true → IsLegalPast job (item ∷ past) → t < length job.tasks
-  unfolding IsLegalPast
-  named t item past own l = elim (cases_lt t (length job.tasks)) [ inl lt ↦ lt | inr le ↦ absurd (no-item t item past own (idle t past le l.1) l) ]
+  named t item past own l =
+      let r = some-run job t (item ∷ past) l in
+      elim (cases_lt t (length job.tasks)) [ inl lt ↦ lt | inr le ↦ absurd (no-item job t le item past r.0 own r.1) ]
