@@ -1,6 +1,6 @@
 -- Each item of a legal history has numbers that the job has: tasks, functions and users of the job, and counts that are no longer than the
 -- history. A task's plain run tells it of its calls, and the rules of items and the desk of the rest.
-use Rattle.std.proofs.Common.{cond, ◌≡◌, ℕ, zero, suc, ◌+◌, ◌<◌, ◌≤◌, ◌^◌, ◌&&◌, ◌||◌, not, ◌==◌, nat_le, Bool, true, false, List, [], ◌∷◌, length, reverse, Option, Some, None, is_some, refl, sym, subst, inl, inr, arith, eqb-true, if◌then◌else◌}
+use Rattle.std.proofs.Common.{cond, ◌≡◌, ℕ, zero, suc, ◌+◌, ◌<◌, ◌≤◌, ◌^◌, ◌&&◌, ◌||◌, not, ◌==◌, Bool, true, false, List, [], ◌∷◌, length, reverse, Option, Some, None, is_some, refl, sym, subst, inl, inr, arith, if◌then◌else◌}
 use Rattle.std.specs.Prelude.{IfSome, Contains}
 use Rattle.std.specs.List.{AllByRecursion as Each, filter}
 use Rattle.std.proofs.lemmas.List.{reverse-reverse, length-reverse}
@@ -8,29 +8,26 @@ use Rattle.std.proofs.lemmas.List.Elements.{All-from_recursion}
 use Rattle.ft_base.specs.declared.number.CallNo.{CallNo}
 use Rattle.ft_base.specs.declared.number.FuncNo.{FuncNo}
 use Rattle.ft_base.specs.declared.context.Ctx.{Ctx}
-use Rattle.ft_base.specs.declared.context.Ctx.TheVariants.{Normal, Softirq, Irq, Nmi}
 use Rattle.ft_base.specs.declared.item.Answer.{Answer}
 use Rattle.ft_base.specs.declared.item.Answer.TheVariants.{Accepted, Already, NotThere, Invalid, NoMatch}
 use Rattle.ft_base.specs.declared.item.Ran.TheVariants.{List as ByList, Own}
 use Rattle.ft_base.specs.declared.item.Item.{Item}
-use Rattle.ft_base.specs.declared.item.Item.TheVariants.{Begin, Return, Enter, Back, BackEnd, Refuse, Miss, Body, Leave, Exit, ExitEnd, Ret}
-use Rattle.ft_base.specs.declared.task.TaskAct.{TaskAct}
-use Rattle.ft_base.specs.declared.task.TaskAct.TheVariants.{Call, Ret as RetAct, Raise, Lower, After}
-use Rattle.ft_base.specs.declared.user.Act.{Act}
-use Rattle.ft_base.specs.declared.user.Act.TheVariants.{CallIn, IrqIn}
+use Rattle.ft_base.specs.declared.item.Item.TheVariants.{Begin, Return, Enter, Back, Refuse}
 use Rattle.ft_base.specs.Marks.{Marks, is_empty}
-use Rattle.ft_base.specs.Same.{same_call, same_ctx, context}
-use Rattle.ft_base.specs.Job.{Job, Spec, Task, Edit, Command, Register, Unregister, Filter, Notrace, Pid, NoPid, Enable, Disable, MaxDepth, no_task, funcs}
+use Rattle.ft_base.specs.Same.{same_call}
+use Rattle.ft_base.specs.Job.{Job, Spec, Edit, Command, Register, Unregister, Filter, Notrace, Enable, Disable, funcs}
 use Rattle.ft_base.specs.Desk.{Desk, UserState, plain_spec, spec_at, user_at, desk, sited, sited_from, is_matching, is_on, is_live, target, target_by, lowest, other_modifier, busy_or, claim, edited, register_answer, edit_answer, switch_answer, answer_on}
 use Rattle.ft_base.proofs.Modifiers.{conflicts, holder_at}
 use Rattle.ft_base.specs.Kinds.{is_fprobe}
-use Rattle.ft_base.specs.WellFormed.{IsActNamed, IsScript, IsWellFormed}
+use Rattle.ft_base.specs.WellFormed.{IsWellFormed}
 use Rattle.ft_base.proofs.Small.{false_true, and_both, ==-refl, Each-filter, Each-weaker, each-get}
 use Rattle.ft_base.proofs.DeskLaws.{length-desk}
 use Rattle.ft_hist.specs.Past.{is_of, done, begun, entry_of, Visit, all_visits, visits}
-use Rattle.ft_hist.specs.Plain.{Owed, Phase, Dispatch, InBack, Running, Leaving, InExit, Frame, PlainTask, ahead, below_top, top_call, same_top, owed_by, in_phase, on_top, on_call, after_scripted_enter, after_enter_ahead, after_owed_enter, after_enter, after_back, after_miss, after_back_end, after_refusal, after_body, after_scripted_leave, after_leave_ahead, after_leave, after_exit, after_exit_end, after_ret, after_item, after_next, at_start, plain}
+use Rattle.ft_hist.specs.Plain.{Phase, Dispatch, InBack, Running, Leaving, InExit, Frame, PlainTask, top_call, in_phase, on_top, plain}
 use Rattle.ft_hist.specs.Rules.{AtReturnedOrBegun, backs_with_replacement, replacement, IsLegalPast, IsLegal}
-use Rattle.ft_hist.proofs.RunLaws.{if_some, some_inj, same_call-eq, on_call-inv}
+use Rattle.ft_hist.proofs.RunLaws.{some_inj}
+use Rattle.ft_hist.proofs.Steps.{Step, step_begin, step_return, step_enter, step_act, step_back, step_back_end, step_refuse, step_miss, step_body, step_leave, step_act_leave, step_exit, step_exit_end, step_ret, in_body, own-step}
+use Rattle.ft_hist.proofs.Named.{EnterNamed, enter-named}
 use Rattle.ft_hist.proofs.Numbers.{some-run, unmoved}
 use Rattle.ft_hist.proofs.WindowLaws.{few-begun}
 use Rattle.word_machine_laws.proofs.DeskNumbers.{registered-inside}
@@ -108,11 +105,9 @@ module _ (job : Job) where
   answer-is d (Unregister u) = either (user_at d u).registered Accepted NotThere tt tt
   answer-is d (Filter u e) = edit-is d u e (edited (funcs job) (user_at d u).filter e) (user_at d u).notrace
   answer-is d (Notrace u e) = edit-is d u e (user_at d u).filter (edited (funcs job) (user_at d u).notrace e)
-  answer-is d (Pid pids) = tt
-  answer-is d (NoPid nopids) = tt
   answer-is d (Enable u) = switch-is d u
   answer-is d (Disable u) = switch-is d u
-  answer-is d (MaxDepth depth) = tt
+  answer-is d _ = tt
 
   sited-below : (d : Desk) (f base : ℕ) (states : List UserState) → Each (λ u. u < base + length states) (sited_from d f base states)
   sited-below d f base [] = tt
@@ -191,19 +186,10 @@ module _ (job : Job) where
 
 -- ## what a task's plain run tells
 
-module _ (job : Job) (ok : IsWellFormed job) where
-  -- an act calls a function of the job
-  abbrev ActOf : TaskAct → Type 0
-  ActOf (Call f) = f.0 < funcs job
-  ActOf _ = Unit {0}
-
-  -- a call that is owed is of a function of the job
-  abbrev OwedOf : Option Owed → Type 0
-  OwedOf o = IfSome o (λ w. w.func < funcs job)
-
+module _ (job : Job) where
   -- an open callback is of a user of the job
   abbrev PhaseOf : Phase → Type 0
-  PhaseOf (InBack u owed fresh) = (u < length job.users) × OwedOf owed
+  PhaseOf (InBack u owed fresh) = u < length job.users
   PhaseOf (InExit u) = u < length job.users
   PhaseOf _ = Unit {0}
 
@@ -213,266 +199,93 @@ module _ (job : Job) (ok : IsWellFormed job) where
   -- a task after so many items
   record TaskOf (n : ℕ) (s : PlainTask) : Type 0 where
     pub next : s.next ≤ suc n
-    pub acts : Each ActOf s.acts
     pub stack : Each FrameOf s.stack
 
-  script-acts : (n : ℕ) (acts : List TaskAct) → IsScript job n acts → Each ActOf acts
-  script-acts n [] h = tt
-  script-acts n (Call f ∷ rest) h = (h.0, script-acts (suc n) rest h.1)
-  script-acts zero (RetAct ∷ rest) h = absurd h
-  script-acts (suc n) (RetAct ∷ rest) h = (tt, script-acts n rest h)
-  script-acts n (Raise c ∷ rest) h = (tt, script-acts n rest h)
-  script-acts n (Lower ∷ rest) h = (tt, script-acts n rest h)
-  script-acts n (After k ∷ rest) h = (tt, script-acts n rest h)
-
-  starts : (t : ℕ) → TaskOf 0 (at_start job t)
-  starts t = record {
-    next = omega arith;
-    acts = each-get (λ (x : Task). Each ActOf x.acts) job.tasks t no_task tt (Each-weaker _ _ job.tasks (λ (x : Task) h. script-acts 0 x.acts h) ok.tasks);
-    stack = tt;
-  }
-
   more-items : (n : ℕ) (s : PlainTask) → TaskOf n s → TaskOf (suc n) s
-  more-items n s h = record { next = (let k = h.next in omega (arith, k)); acts = h.acts; stack = h.stack }
-
-  ahead-acts : (d : ℕ) (acts : List TaskAct) (cs : List Ctx) (gone : ℕ) → Each ActOf acts → Each ActOf (ahead d acts cs gone).acts
-  ahead-acts d [] cs gone h = tt
-  ahead-acts d (Call f ∷ rest) cs gone h = h
-  ahead-acts d (RetAct ∷ rest) cs gone h = h
-  ahead-acts d (Raise c ∷ rest) cs gone h = ahead-acts d rest (c ∷ cs) (suc gone) h.1
-  ahead-acts d (Lower ∷ rest) cs gone h = ahead-acts d rest (below_top cs) (suc gone) h.1
-  ahead-acts d (After n ∷ rest) cs gone h = by (nat_le n d) (ahead-acts d rest cs (suc gone) h.1)
-    where
-      by : (b : Bool) → Each ActOf (ahead d rest cs (suc gone)).acts
-          → Each ActOf (cond b (ahead d rest cs (suc gone)) (record { acts = After n ∷ rest; contexts = cs; gone = gone })).acts
-      by true k = k
-      by false k = h
-
-  owed-act : (x : Ctx) (act : Option Act) → IsActNamed job act → OwedOf (owed_by x act)
-  owed-act x None h = tt
-  owed-act x (Some (CallIn f)) h = h
-  owed-act Normal (Some (IrqIn f)) h = h
-  owed-act Softirq (Some (IrqIn f)) h = h
-  owed-act Irq (Some (IrqIn f)) h = tt
-  owed-act Nmi (Some (IrqIn f)) h = tt
-
-  own-act : (u : ℕ) → IsActNamed job (spec_at job u).act
-  own-act u = each-get (λ (s : Spec). IsActNamed job s.act) job.users u plain_spec tt ok.acts
+  more-items n s h = record { next = (let k = h.next in omega (arith, k)); stack = h.stack }
 
   -- the top of a stack is a caller
-  top-is : (stack : List Frame) (caller : Option CallNo) → same_top caller (top_call stack) ≡ true → Each FrameOf stack → IsCallerOf job caller
-  top-is stack None e h = tt
-  top-is [] (Some c) e h = false_true e
-  top-is (t ∷ below) (Some c) e h = subst (IsCallOf job) (sym (same_call-eq c t.call e)) h.0.0
+  top-is : (stack : List Frame) → Each FrameOf stack → IsCallerOf job (top_call stack)
+  top-is [] h = tt
+  top-is (t ∷ below) h = h.0.0
 
-  module _ (n : ℕ) (p s : PlainTask) (h : TaskOf n p) where
-    -- the top call in another phase
-    went : (t : Frame) (below : List Frame) (to : Phase) → Each FrameOf (t ∷ below) → PhaseOf to → Some (on_top p (in_phase t to) below) ≡ Some s → TaskOf n s
-    went t below to k phase e = subst (TaskOf n) (some_inj _ s e) (record { next = h.next; acts = h.acts; stack = ((k.0.0, k.0.1, phase), k.1) })
-
-    back-of : (t : Frame) (below : List Frame) (u : ℕ) (ph : Phase) → after_back job p t below u ph ≡ Some s → Each FrameOf (t ∷ below) → u < length job.users → TaskOf n s
-    back-of t below u Dispatch e k lt = went t below _ k (lt, owed-act t.ctx (spec_at job u).act (own-act u)) e
-    back-of t below u _ e k lt = absurd cc
-
-    miss-of : (t : Frame) (below : List Frame) (u : ℕ) (ph : Phase) → after_miss p t below u ph ≡ Some s → Each FrameOf (t ∷ below) → PhaseOf ph
-        → (u < length job.users) × TaskOf n s
-    miss-of t below u (InBack v owed true) e k phase =
-        let w = if_some (u == v) _ s e in let is = eqb-true u v w.0 in
-        let lt = phase.0 in (omega (arith, is, lt), went t below (InBack v owed false) k phase w.1)
-    miss-of t below u _ e k phase = absurd cc
-
-    back-end-of : (t : Frame) (below : List Frame) (u : ℕ) (ph : Phase) → after_back_end p t below u ph ≡ Some s → Each FrameOf (t ∷ below) → PhaseOf ph
-        → (u < length job.users) × TaskOf n s
-    back-end-of t below u (InBack v None fresh) e k phase =
-        let w = if_some (u == v) _ s e in let is = eqb-true u v w.0 in
-        let lt = phase.0 in (omega (arith, is, lt), went t below Dispatch k tt w.1)
-    back-end-of t below u _ e k phase = absurd cc
-
-    refusal-of : (ph : Phase) → after_refusal p ph ≡ Some s → TaskOf n s
-    refusal-of Dispatch e = subst (TaskOf n) (some_inj p s e) h
-    refusal-of _ e = absurd cc
-
-    body-of : (t : Frame) (below : List Frame) (ph : Phase) → after_body p t below ph ≡ Some s → Each FrameOf (t ∷ below) → TaskOf n s
-    body-of t below Dispatch e k = went t below Running k tt e
-    body-of t below _ e k = absurd cc
-
-    script-leave-of : (t : Frame) (below : List Frame) (acts : List TaskAct) (cs : List Ctx) (gone : ℕ) → after_scripted_leave p t below acts cs gone ≡ Some s
-        → Each FrameOf (t ∷ below) → Each ActOf acts → TaskOf n s
-    script-leave-of t below (RetAct ∷ rest) cs gone e k acts =
-        subst (TaskOf n) (some_inj _ s e) (record { next = h.next; acts = acts.1; stack = ((k.0.0, k.0.1, tt), k.1) })
-    script-leave-of t below _ cs gone e k acts = absurd cc
-
-    leave-of : (d : ℕ) (t : Frame) (below : List Frame) (ph : Phase) → after_leave d p t below ph ≡ Some s → Each FrameOf (t ∷ below) → TaskOf n s
-    leave-of d t below Running e k = by t.scripted e
-      where
-        by : (b : Bool) → cond b (after_leave_ahead p t below (ahead d p.acts p.contexts p.gone)) (Some (on_top p (in_phase t Leaving) below)) ≡ Some s → TaskOf n s
-        by true x = script-leave-of t below _ _ _ x k (ahead-acts d p.acts p.contexts p.gone h.acts)
-        by false x = went t below Leaving k tt x
-    leave-of d t below _ e k = absurd cc
-
-    exit-of : (t : Frame) (below : List Frame) (u : ℕ) (ph : Phase) → after_exit p t below u ph ≡ Some s → Each FrameOf (t ∷ below) → u < length job.users → TaskOf n s
-    exit-of t below u Leaving e k lt = went t below (InExit u) k lt e
-    exit-of t below u _ e k lt = absurd cc
-
-    exit-end-of : (t : Frame) (below : List Frame) (u : ℕ) (ph : Phase) → after_exit_end p t below u ph ≡ Some s → Each FrameOf (t ∷ below) → PhaseOf ph
-        → (u < length job.users) × TaskOf n s
-    exit-end-of t below u (InExit v) e k phase =
-        let w = if_some (u == v) _ s e in let is = eqb-true u v w.0 in (omega (arith, is, phase), went t below Leaving k tt w.1)
-    exit-end-of t below u _ e k phase = absurd cc
-
-    ret-of : (below : List Frame) (to : Option CallNo) (ph : Phase) → after_ret p below to ph ≡ Some s → Each FrameOf below → IsCallerOf job to × TaskOf n s
-    ret-of below to Leaving e k =
-        let w = if_some (same_top to (top_call below)) _ s e in
-        (top-is below to w.0 k, subst (TaskOf n) (some_inj _ s w.1) (record { next = h.next; acts = h.acts; stack = k }))
-    ret-of below to _ e k = absurd cc
-
-    -- ## an Enter
-
-    module _ (call : CallNo) (x : Ctx) (f : ℕ) (is_call : IsCallOf job call) where
-      script-of : (acts : List TaskAct) (cs : List Ctx) (gone : ℕ) → after_scripted_enter p acts cs gone call x f ≡ Some s → Each ActOf acts
-          → (f < funcs job) × TaskOf (suc n) s
-      script-of (Call g ∷ rest) cs gone e acts =
-          let w = if_some ((g.0 == f) && same_ctx x (context cs)) _ s e in
-          let is = eqb-true g.0 f (and_both (g.0 == f) (same_ctx x (context cs)) w.0).0 in
-          let here = acts.0 in
-          let lt : f < funcs job = omega (arith, is, here) in
-          let next = h.next in
-          (lt, subst (TaskOf (suc n)) (some_inj _ s w.1) (record { next = omega (arith, next); acts = acts.1; stack = ((is_call, lt, tt), h.stack) }))
-      script-of _ cs gone e acts = absurd cc
-
-      ahead-of : (d : ℕ) → after_enter_ahead p (ahead d p.acts p.contexts p.gone) call x f ≡ Some s → (f < funcs job) × TaskOf (suc n) s
-      ahead-of d e = script-of _ _ _ e (ahead-acts d p.acts p.contexts p.gone h.acts)
-
-      owed-of : (t : Frame) (below : List Frame) (u : ℕ) (owed : Option Owed) → after_owed_enter p t below u owed call x f ≡ Some s → Each FrameOf (t ∷ below)
-          → u < length job.users → OwedOf owed → (f < funcs job) × TaskOf (suc n) s
-      owed-of t below u None e k inside o = absurd cc
-      owed-of t below u (Some w) e k inside here =
-          let v = if_some ((w.func == f) && same_ctx w.ctx x) _ s e in
-          let is = eqb-true w.func f (and_both (w.func == f) (same_ctx w.ctx x) v.0).0 in
-          let lt : f < funcs job = omega (arith, is, here) in
-          let next = h.next in (
-            lt,
-            subst (TaskOf (suc n)) (some_inj _ s v.1)
-                (record { next = omega (arith, next); acts = h.acts; stack = ((is_call, lt, tt), ((k.0.0, k.0.1, (inside, tt)), k.1)) }),
-          )
-
-      enter-of : (d : ℕ) (stack : List Frame) → p.stack ≡ stack → after_enter d p stack call x f ≡ Some s → Each FrameOf stack → (f < funcs job) × TaskOf (suc n) s
-      enter-of d [] at e k = ahead-of d e
-      enter-of d (t ∷ below) at e k = by t.phase refl e k.0.2
-        where
-          by : (ph : Phase) → t.phase ≡ ph → after_enter d p (in_phase t ph ∷ below) call x f ≡ Some s → PhaseOf ph → (f < funcs job) × TaskOf (suc n) s
-          by Running q y phase = ahead-of d (if_some t.scripted _ s y).1
-          by (InBack u owed fresh) q y phase = owed-of t below u owed y k phase.0 phase.1
-          by Dispatch q y phase = absurd cc
-          by Leaving q y phase = absurd cc
-          by (InExit u) q y phase = absurd cc
+  -- the top call in another phase, after one more item
+  turned : (n : ℕ) (p s : PlainTask) (f : Frame) (below : List Frame) (from to : Phase) → s.stack ≡ in_phase f to ∷ below → s.next ≡ p.next → TaskOf n (on_top p (in_phase f from) below) → PhaseOf to → TaskOf (suc n) s
+  turned n p s f below from to stack next h phase =
+      let k = h.next in
+      record { next = omega (arith, next, k); stack = rw stack ((h.stack.0.0, h.stack.0.1, phase), h.stack.1) }
 
 -- ## each item
 
 module _ (job : Job) (ok : IsWellFormed job) (replaced : Each (IsReplacedIn (funcs job)) job.users) where
-  -- an item of a task: it is of the top call, which is one of the job's, and the task goes on
-  module _ (t n : ℕ) (past : List Item) (p s : PlainTask) (h : TaskOf job ok n p) (items : Each (IsItemOf job) past) (long : n ≡ length past)
-      (short : suc n < 2 ^ 64) where
-    -- the top call
-    on-top : (call : CallNo) (next : Frame → List Frame → Option PlainTask) → on_call p.stack call next ≡ Some s
-        → (f : Frame) × (below : List Frame) × (p.stack ≡ f ∷ below) × IsCallOf job call × Each (FrameOf job ok) (f ∷ below) × (next f below ≡ Some s)
-    on-top call next e =
-        let w = on_call-inv p.stack call next s e in
-        let k = subst (λ (fs : List Frame). Each (FrameOf job ok) fs) w.2 h.stack in
-        (w.0, w.1, w.2, subst (IsCallOf job) w.3 k.0.0, k, w.4)
+  -- an item of a task: its call is one of the job's, and the task goes on
+  module _ (t n : ℕ) (past : List Item) (items : Each (IsItemOf job) past) (long : n ≡ length past) (short : suc n < 2 ^ 64) where
+    call-of : (call : CallNo) (x : Ctx) (f : FuncNo) (caller : Option CallNo) (next : ℕ) → IsLegalPast job (Enter call x f caller ∷ past) → call.n ≡ next → next ≤ suc n → IsCallOf job call
+    call-of call x f caller next l number le = (named job call.task.0 (Enter call x f caller) past (==-refl call.task.0) l, omega (arith, number, le, short))
 
-    item-of : (item : Item) → IsLegalPast job (item ∷ past) → is_of t item ≡ true → after_item job (done past) p item ≡ Some s
-        → IsItemOf job item × TaskOf job ok (suc n) s
-    unfolding after_item IsLegalPast
-    item-of (Begin k) l own e = false_true own
-    item-of (Return k a) l own e = false_true own
-    item-of (Enter call x f caller) l own e =
-        let w = if_some ((call.n == p.next) && same_top caller (top_call p.stack)) _ s e in
-        let b = and_both (call.n == p.next) (same_top caller (top_call p.stack)) w.0 in
-        let number = eqb-true call.n p.next b.0 in
+    item-of : (p s : PlainTask) (item : Item) → IsLegalPast job (item ∷ past) → is_of t item ≡ true → EnterNamed (funcs job) item → Step job (done past) p s item → TaskOf job n p
+        → IsItemOf job item × TaskOf job (suc n) s
+    unfolding IsLegalPast
+    item-of p s item l own func step_begin h = false_true own
+    item-of p s item l own func step_return h = false_true own
+    item-of p s item l own func (step_enter {call = call} {x = x} {f = f} {caller = caller} it quiet acts is) h =
         let next = h.next in
-        let is_call : IsCallOf job call = (named job call.task.0 (Enter call x f caller) past (==-refl call.task.0) l, omega (arith, number, next, short)) in
-        let in' = enter-of job ok n p s h call x f.0 is_call (done past) p.stack refl w.1 h.stack in
-        ((is_call, in'.0, top-is job ok p.stack caller b.1 h.stack), in'.1)
-    item-of (Back call u) l own e =
-        let w = on-top call _ e in
+        let is_call = call-of call x f caller p.next l it.number next in
+        ((is_call, func, subst (IsCallerOf job) (sym it.from) (top-is job p.stack h.stack)), record { next = omega (arith, next); stack = ((is_call, func, tt), h.stack) })
+    item-of p s item l own func (step_act q g below {call = call} {x = x} {f = f} {caller = caller} it) h =
+        let next = h.next in
+        let is_call = call-of call x f caller q.next l it.number next in
+        ((is_call, func, subst (IsCallerOf job) (sym it.from) h.stack.0.0), record { next = omega (arith, next); stack = ((is_call, func, tt), (h.stack.0, h.stack.1)) })
+    item-of p s item l own func (step_back q f below {u = u}) h =
         let inside = on-inside job ok past u.0 _ l.0.callbacks.on in
-        ((w.3, inside), more-items job ok n s (back-of job ok n p s h w.0 w.1 u.0 w.0.phase w.5 w.4 inside))
-    item-of (BackEnd call u) l own e =
-        let w = on-top call _ e in
-        let r = back-end-of job ok n p s h w.0 w.1 u.0 w.0.phase w.5 w.4 w.4.0.2 in
-        ((w.3, r.0), more-items job ok n s r.1)
-    item-of (Refuse call u reason) l own e =
-        let w = on-top call _ e in
-        ((w.3, on-inside job ok past u.0 _ l.0.callbacks.on), more-items job ok n s (refusal-of job ok n p s h w.0.phase w.5))
-    item-of (Miss call u) l own e =
-        let w = on-top call _ e in
-        let r = miss-of job ok n p s h w.0 w.1 u.0 w.0.phase w.5 w.4 w.4.0.2 in
-        ((w.3, r.0), more-items job ok n s r.1)
-    item-of (Body call g ran) l own e =
-        let w = on-top call _ e in
-        let inside = w.4.0.1 in
-        let entry = entered-func job call past (omega (arith, inside)) items in
-        let runs = l.0.fetches.runs in
-        let func = subst (λ k. k < funcs job) (sym runs) (replaced-func job (entry_of call past).func (backs_with_replacement job (visits job call past)) entry replaced) in
-        let fetched = l.0.fetches.fetched in (
-          (w.3, func, subst (IsRanOf job) (sym fetched.3) (target-is job fetched.0 (entry_of call past).func)),
-          more-items job ok n s (body-of job ok n p s h w.0 w.1 w.0.phase w.5 w.4),
-        )
-    item-of (Leave call) l own e =
-        let w = on-top call _ e in
-        (w.3, more-items job ok n s (leave-of job ok n p s h (done past) w.0 w.1 w.0.phase w.5 w.4))
-    item-of (Exit call u entry) l own e =
-        let w = on-top call _ e in
+        ((h.stack.0.0, inside), turned job n q _ f below Dispatch (InBack u.0 _ true) refl refl h inside)
+    item-of p s item l own func (step_back_end q f below {u = u} {fresh = fresh}) h = ((h.stack.0.0, h.stack.0.2), turned job n q _ f below (InBack u.0 None fresh) Dispatch refl refl h tt)
+    item-of p s item l own func (step_refuse q f below {u = u}) h = ((h.stack.0.0, on-inside job ok past u.0 _ l.0.callbacks.on), turned job n q _ f below Dispatch Dispatch refl refl h tt)
+    item-of p s item l own func (step_miss q f below {u = u} {owed = owed}) h =
+        ((h.stack.0.0, h.stack.0.2), turned job n q _ f below (InBack u.0 owed true) (InBack u.0 owed false) refl refl h h.stack.0.2)
+    item-of p s item l own func (step_body q f below) h =
+        let inside = h.stack.0.1 in
+        let entry = entered-func job f.call past (omega (arith, inside)) items in
+        let runs = subst (λ k. k < funcs job) (sym l.0.fetches.runs) (replaced-func job (entry_of f.call past).func (backs_with_replacement job (visits job f.call past)) entry replaced) in
+        let fetched = l.0.fetches.fetched in
+        ((h.stack.0.0, runs, subst (IsRanOf job) (sym fetched.3) (target-is job fetched.0 (entry_of f.call past).func)), turned job n q _ f below Dispatch Running refl refl h tt)
+    item-of p s item l own func (step_leave q f below acts) h = (h.stack.0.0, turned job n q _ (in_body true f) below Running Leaving refl refl h tt)
+    item-of p s item l own func (step_act_leave q f below) h = (h.stack.0.0, turned job n q _ (in_body false f) below Running Leaving refl refl h tt)
+    item-of p s item l own func (step_exit q f below {u = u}) h =
         let of = l.0.exits.0.of in
         let inside = live-inside job past u.0 of.0.reg of.5 in
-        let place = entry-placed job past call of.0 of.1 in
+        let place = entry-placed job past f.call of.0 of.1 in
         let at' = of.3 in
-        ((w.3, inside, omega (arith, place, at', long, short)), more-items job ok n s (exit-of job ok n p s h w.0 w.1 u.0 w.0.phase w.5 w.4 inside))
-    item-of (ExitEnd call u) l own e =
-        let w = on-top call _ e in
-        let r = exit-end-of job ok n p s h w.0 w.1 u.0 w.0.phase w.5 w.4 w.4.0.2 in
-        ((w.3, r.0), more-items job ok n s r.1)
-    item-of (Ret call to) l own e =
-        let w = on-top call _ e in
-        let r = ret-of job ok n p s h w.1 to w.0.phase w.5 w.4.1 in
-        ((w.3, r.0), more-items job ok n s r.1)
+        ((h.stack.0.0, inside, omega (arith, place, at', long, short)), turned job n q _ f below Leaving (InExit u.0) refl refl h inside)
+    item-of p s item l own func (step_exit_end q f below {u = u}) h = ((h.stack.0.0, h.stack.0.2), turned job n q _ f below (InExit u.0) Leaving refl refl h tt)
+    item-of p s item l own func (step_ret q f below) h =
+        let next = h.next in
+        ((h.stack.0.0, top-is job below h.stack.1), record { next = omega (arith, next); stack = h.stack.1 })
 
   -- the items of a past, and where each task is after them
   record PastOf (past : List Item) : Type 0 where
     pub items : Each (IsItemOf job) past
-    pub tasks : (t : ℕ) (s : PlainTask) → plain job t past ≡ Some s → TaskOf job ok (length past) s
-
-  -- an item of a task, by the run that it moves
-  stepped : (t : ℕ) (item : Item) (past : List Item) (s : PlainTask) → is_of t item ≡ true → plain job t (item ∷ past) ≡ Some s
-      → (p : PlainTask) × (plain job t past ≡ Some p) × (after_item job (done past) p item ≡ Some s)
-  unfolding plain
-  stepped t item past s own e = by (plain job t past) refl (rw own at e)
-    where
-      by : (o : Option PlainTask) → plain job t past ≡ o → after_next job (done past) item o ≡ Some s
-          → (p : PlainTask) × (plain job t past ≡ Some p) × (after_item job (done past) p item ≡ Some s)
-      by None here x = absurd cc
-      by (Some p) here x = (p, here, x)
+    pub tasks : (t : ℕ) (s : PlainTask) → plain job t past ≡ Some s → TaskOf job (length past) s
 
   module _ (item : Item) (past : List Item) (l : IsLegalPast job (item ∷ past)) (short : suc (length past) < 2 ^ 64) (h : PastOf past) where
-    of-task : (t : ℕ) (s : PlainTask) → is_of t item ≡ true → plain job t (item ∷ past) ≡ Some s → IsItemOf job item × TaskOf job ok (suc (length past)) s
+    of-task : (t : ℕ) (s : PlainTask) → is_of t item ≡ true → plain job t (item ∷ past) ≡ Some s → IsItemOf job item × TaskOf job (suc (length past)) s
     of-task t s own e =
-        let w = stepped t item past s own e in
-        item-of t (length past) past w.0 s (h.tasks t w.0 w.1) h.items refl short item l own w.2
+        let w = own-step job t item past s own e in
+        item-of t (length past) past h.items refl short w.0 s item l own (enter-named job ok past w.0 s t item w.1 w.2) w.2 (h.tasks t w.0 w.1)
 
     after-item : IsItemOf job item → PastOf (item ∷ past)
     after-item is = record { items = (is, h.items); tasks = λ t s e. by t s e (is_of t item) refl }
       where
-        by : (t : ℕ) (s : PlainTask) → plain job t (item ∷ past) ≡ Some s → (b : Bool) → is_of t item ≡ b → TaskOf job ok (suc (length past)) s
+        by : (t : ℕ) (s : PlainTask) → plain job t (item ∷ past) ≡ Some s → (b : Bool) → is_of t item ≡ b → TaskOf job (suc (length past)) s
         by t s e true own = (of-task t s own e).1
-        by t s e false other = more-items job ok (length past) s (h.tasks t s (unmoved job t item past s other e))
+        by t s e false other = more-items job (length past) s (h.tasks t s (unmoved job t item past s other e))
 
     by-task : (t : ℕ) → is_of t item ≡ true → PastOf (item ∷ past)
     by-task t own = let r = some-run job t (item ∷ past) l in after-item (of-task t r.0 own r.1).0
 
   past-of : (past : List Item) → IsLegalPast job past → length past < 2 ^ 64 → PastOf past
   unfolding IsLegalPast plain
-  past-of [] l short = record { items = tt; tasks = λ t s e. subst (TaskOf job ok 0) (some_inj _ s e) (starts job ok t) }
+  past-of [] l short = record { items = tt; tasks = λ t s e. subst (TaskOf job 0) (some_inj _ s e) (record { next = omega arith; stack = tt }) }
   past-of (Begin k ∷ past) l short =
       let h = past-of past l.1 (omega (arith, short)) in
       let number = l.0.commands.0.number in
@@ -485,17 +298,7 @@ module _ (job : Job) (ok : IsWellFormed job) (replaced : Each (IsReplacedIn (fun
       let few = few-begun past in
       let c = l.0.commands.command in
       after-item (Return k a) past l short h (omega (arith, number, follows, few, short), subst (IsAnswerOf job) (sym c.2) (answer-is job (desk job (done past)) c.0))
-  past-of (Enter call x f caller ∷ past) l short = by-task (Enter call x f caller) past l short (past-of past l.1 (omega (arith, short))) call.task.0 (==-refl call.task.0)
-  past-of (Back call u ∷ past) l short = by-task (Back call u) past l short (past-of past l.1 (omega (arith, short))) call.task.0 (==-refl call.task.0)
-  past-of (BackEnd call u ∷ past) l short = by-task (BackEnd call u) past l short (past-of past l.1 (omega (arith, short))) call.task.0 (==-refl call.task.0)
-  past-of (Refuse call u reason ∷ past) l short =
-      by-task (Refuse call u reason) past l short (past-of past l.1 (omega (arith, short))) call.task.0 (==-refl call.task.0)
-  past-of (Miss call u ∷ past) l short = by-task (Miss call u) past l short (past-of past l.1 (omega (arith, short))) call.task.0 (==-refl call.task.0)
-  past-of (Body call g ran ∷ past) l short = by-task (Body call g ran) past l short (past-of past l.1 (omega (arith, short))) call.task.0 (==-refl call.task.0)
-  past-of (Leave call ∷ past) l short = by-task (Leave call) past l short (past-of past l.1 (omega (arith, short))) call.task.0 (==-refl call.task.0)
-  past-of (Exit call u entry ∷ past) l short = by-task (Exit call u entry) past l short (past-of past l.1 (omega (arith, short))) call.task.0 (==-refl call.task.0)
-  past-of (ExitEnd call u ∷ past) l short = by-task (ExitEnd call u) past l short (past-of past l.1 (omega (arith, short))) call.task.0 (==-refl call.task.0)
-  past-of (Ret call to ∷ past) l short = by-task (Ret call to) past l short (past-of past l.1 (omega (arith, short))) call.task.0 (==-refl call.task.0)
+  past-of (item ∷ past) l short = by-task item past l short (past-of past l.1 (omega (arith, short))) _ (==-refl _)
 
   -- ## in the order of the history
 
