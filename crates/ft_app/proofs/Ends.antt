@@ -7,9 +7,9 @@ use Rattle.ft_words.specs.declared.order.Order.{Order}
 use Rattle.ft_words.specs.declared.order.Order.TheVariants.{Bulk}
 use Rattle.ft_words.specs.Language.{Gives, IsOneOf, Spells, Text, spellings_of, spellings_with}
 use Rattle.ft_words.proofs.Found.{one_order}
-use Rattle.ft_app.specs.declared.status.Status.{Status}
-use Rattle.ft_app.specs.declared.status.Status.TheVariants.{Done, Language, Refused, ReadFault, WriteFault, NoMemory, TooLong}
-use Rattle.ft_app.specs.Status.{code_of}
+use Rattle.ft_io.specs.declared.status.Status.{Status}
+use Rattle.ft_io.specs.declared.status.Status.TheVariants.{Done, Broken, Language, Refused, ReadFault, WriteFault, NoMemory, TooLong}
+use Rattle.ft_io.specs.Status.{code_of}
 use Rattle.ft_app.specs.Reply.{IsReplyTo, of_history, of_refusal}
 use Rattle.ft_app.specs.Ends.{Ends, IsNone, Only, Says}
 use Rattle.ft_app.specs.Main.{Answers, Gets, IsBegun, IsReplied, IsToGet}
@@ -151,6 +151,11 @@ module _ {S K : Type 0} (remaining : S → Option (List ℕ)) (read_faults : S �
                 told (subst (λ q. IsToGet q (remaining source) told) o is_told));
           }
 
+  -- a call that gives the number of a status ends as with that status
+  pub by-number : (gives : Order → Type 0) (source source' : S) (sink sink' : K) (code number : ℕ) → code ≡ number
+      → E gives number source source' sink sink' → E gives code source source' sink sink'
+  by-number gives source source' sink sink' code number same ends = subst (λ n. E gives n source source' sink sink') (sym same) ends
+
   -- ## the order that words give
 
   module _ (words : List (List ℕ)) (source source' : S) (sink sink' : K) (code : ℕ) where
@@ -159,6 +164,7 @@ module _ {S K : Type 0} (remaining : S → Option (List ℕ)) (read_faults : S �
         → Says {S = S} {K = K} remaining read_faults holds write_faults (Only order) status source source' sink sink'
         → Says {S = S} {K = K} remaining read_faults holds write_faults (Gives words) status source source' sink sink'
     says-given order gives Done says = (says.0, subst (Gives words) (sym says.1) gives, says.2)
+    says-given order gives Broken says = absurd says
     says-given order gives Language says = absurd (says.0 order refl)
     says-given order gives Refused says = (says.0, subst (Gives words) (sym says.1) gives, says.2)
     says-given order gives ReadFault says = says
@@ -211,6 +217,7 @@ module _ {S K : Type 0} (remaining : S → Option (List ℕ)) (read_faults : S �
       by : (status : Status) → Says {S = S} {K = K} remaining read_faults holds write_faults (Only order) status source source' sink sink'
           → code_of status ≡ 2 → ⊥
       by Done says e = absurd (cc)
+      by Broken says e = absurd says
       by Language says e = says.0 order refl
       by Refused says e = absurd (cc)
       by ReadFault says e = absurd (cc)

@@ -7,8 +7,8 @@ use Rattle.ft_base.specs.declared.limits.TheConstants.{INPUT_BYTES}
 use Rattle.ft_io.specs.Causes.{GaveAtMost, GaveMore}
 use Rattle.ft_words.specs.declared.order.Order.{Order}
 use Rattle.ft_words.specs.declared.order.Order.TheVariants.{Replay, Run, Bulk}
-use Rattle.ft_app.specs.declared.status.Status.{Status}
-use Rattle.ft_app.specs.Status.{code_of}
+use Rattle.ft_io.specs.declared.status.Status.{Status}
+use Rattle.ft_io.specs.Status.{code_of}
 use Rattle.ft_app.specs.Main.{ReadWhole, Gets, IsToGet, IsReplied, Answers}
 use Rattle.ft_app.proofs.Replies.{reply-answers}
 

@@ -9,9 +9,9 @@ use Rattle.ring_rules.specs.Fold.{Rings}
 use Rattle.ft_script.specs.declared.faults.ScriptFault.{ScriptFault}
 use Rattle.ft_script.specs.Script.{IsJobOf, IsRefusalOf, IsFaultOf, no_memory}
 use Rattle.ft_script.proofs.Answered.{not_both, one_job, one_fault}
-use Rattle.ft_app.specs.declared.status.Status.{Status}
-use Rattle.ft_app.specs.declared.status.Status.TheVariants.{Done, Refused}
-use Rattle.ft_app.specs.Status.{code_of}
+use Rattle.ft_io.specs.declared.status.Status.{Status}
+use Rattle.ft_io.specs.declared.status.Status.TheVariants.{Done, Refused}
+use Rattle.ft_io.specs.Status.{code_of}
 use Rattle.ft_app.specs.Reply.{IsReplyTo, of_history, of_refusal, IsCarriedOut, printed, refusal_text}
 use Rattle.ft_app.proofs.Histories.{finds-modules}
 use Rattle.ft_app.specs.Main.{HasPrinted, IsReplied, IsBegun, Answers}

@@ -4,9 +4,9 @@ use Rattle.ft_base.specs.declared.limits.TheConstants.{INPUT_BYTES}
 use Rattle.ft_io.specs.Causes.{GaveAtMost, GaveMore, Rose}
 use Rattle.ft_words.specs.declared.order.Order.{Order}
 use Rattle.ft_words.specs.declared.order.Order.TheVariants.{Bulk}
-use Rattle.ft_app.specs.declared.status.Status.{Status}
-use Rattle.ft_app.specs.declared.status.Status.TheVariants.{Done, Language, Refused, ReadFault, WriteFault, NoMemory, TooLong}
-use Rattle.ft_app.specs.Status.{code_of}
+use Rattle.ft_io.specs.declared.status.Status.{Status}
+use Rattle.ft_io.specs.declared.status.Status.TheVariants.{Done, Broken, Language, Refused, ReadFault, WriteFault, NoMemory, TooLong}
+use Rattle.ft_io.specs.Status.{code_of}
 use Rattle.ft_app.specs.Main.{Answers, HasBegun, HasRefused, HasRun, IsToGet}
 
 -- this order, and no other
@@ -22,6 +22,7 @@ module _ {S K : Type 0} (remaining : S → Option (List ℕ)) (read_faults : S �
   -- What a status says of the order that is given, and of the source and the sink before and after.
   --   0   what the order prints of a history of its script's job was written: of its replay, or of running threads, which lead the commands
   --       of lanes in an order of these
+  --   1   it is no status of these orders
   --   2   no order is given; nothing was read, and nothing written
   --   3   the line was written that says where and why the order's script is refused
   --   4   the source failed; nothing was written
@@ -31,6 +32,7 @@ module _ {S K : Type 0} (remaining : S → Option (List ℕ)) (read_faults : S �
   abbrev pub Says : (Order → Type 0) → Status → S → S → K → K → Type 0
   Says gives Done source source' sink sink' =
       (order : Order) × gives order × HasRun order (remaining source) (remaining source') (holds sink) (holds sink')
+  Says gives Broken source source' sink sink' = ⊥
   Says gives Language source source' sink sink' = IsNone gives × (source' ≡ source) × (sink' ≡ sink)
   Says gives Refused source source' sink sink' =
       (order : Order) × gives order × HasRefused order (remaining source) (remaining source') (holds sink) (holds sink')

@@ -1,4 +1,3 @@
-pub mod Status
 pub mod Reply
 pub mod Main
 pub mod Ends

@@ -12,9 +12,9 @@ use Rattle.ft_words.specs.declared.order.Order.TheVariants.{Replay, Run, Bulk}
 use Rattle.ft_schedule.specs.Bulk.{bulk_text}
 use Rattle.ft_script.specs.declared.faults.ScriptFault.{ScriptFault}
 use Rattle.ft_script.specs.Script.{IsJobOf, IsRefusalOf}
-use Rattle.ft_app.specs.declared.status.Status.{Status}
-use Rattle.ft_app.specs.declared.status.Status.TheVariants.{Done, Refused, NoMemory}
-use Rattle.ft_app.specs.Status.{code_of}
+use Rattle.ft_io.specs.declared.status.Status.{Status}
+use Rattle.ft_io.specs.declared.status.Status.TheVariants.{Done, Refused, NoMemory}
+use Rattle.ft_io.specs.Status.{code_of}
 use Rattle.ft_app.specs.Reply.{IsReplyTo, IsCarriedOut, FindsModules, printed, refusal_text}
 
 -- the order is carried out without running threads

@@ -23,8 +23,8 @@ use Rattle.trace_print.specs.Kept.{IsAllAnd, IsEnoughFor, IsForSummary, IsKeptOf
 use Rattle.trace_print.specs.Texts.{text_of}
 use Rattle.trace_print.specs.SummaryText.{summary_text}
 use Rattle.ft_app.specs.declared.carried_out.CarriedOut.{CarriedOut}
-use Rattle.ft_app.specs.declared.status.Status.{Status}
-use Rattle.ft_app.specs.declared.status.Status.TheVariants.{Done, Refused}
+use Rattle.ft_io.specs.declared.status.Status.{Status}
+use Rattle.ft_io.specs.declared.status.Status.TheVariants.{Done, Refused}
 
 -- the items of the replay of a job
 abbrev pub history_of : Job → List Item

@@ -3,6 +3,7 @@
 ghost use Rattle.std.specs.Prelude.{◌≡◌, ◌≢◌, ◌≤◌, ℕ, length, IfOk, IfErr};
 ghost use Rattle.std.specs.Fn.{FnOnceReturns};
 ghost use Rattle.ft_io.specs.Causes.{Rose, GaveMore, GaveAtMost};
+ghost use Rattle.ft_io.specs.Status.{code_of};
 ghost use Rattle.ft_words.specs.declared.order.Order.TheVariants.{Bulk};
 ghost use Rattle.ft_app.specs.Reply.{Serves};
 ghost use Rattle.ft_app.specs.Ends.{Ends, Only};
@@ -10,39 +11,38 @@ ghost use Rattle.ft_app.specs.Main.{Gets};
 
 use crate::carried_out::CarriedOut;
 use crate::reply::{ReplyFail, write_reply};
-use crate::status::Status;
 use ft_base::NoMemory;
 use ft_base::limits::INPUT_BYTES;
-use ft_io::{ReadFail, Sink, Source, read_all};
+use ft_io::{ReadFail, Sink, Source, Status, read_all};
 use ft_job::Job;
 use ft_schedule::bulk_script;
 use ft_words::Order;
 use std::alloc::Global;
 
-/// Carries an order out; `carry_out` does so with the script's job. It gives the number of the
-/// [`Status`].
+/// Carries an order out; `carry_out` does so with the script's job. It gives the
+/// status.
 pub(crate) fn answer<C: FnOnce(Job) -> Result<CarriedOut, NoMemory> + Drop, S: Source, K: Sink>(
     alloc: Global,
     order: &Order,
     carry_out: C,
     source: &mut S,
     sink: &mut K,
-) -> u8
+) -> Status
     requires callable { C.IsAlwaysCallable carry_out }
     requires serves { Serves order.now (λ job made. FnOnceReturns C.FnOnce carry_out (job, tt) made) }
     ensures { Ends S.remaining S.faults K.holds K.faults (Only order.now)
-        result source.old source.new sink.old sink.new }
+        (code_of result) source.old source.new sink.old sink.new }
 {
     let script = match script_for(alloc, order, source) {
         Ok(script) => script,
-        Err(ReadFail::Fault) => return Status::ReadFault.code(),
-        Err(ReadFail::TooLong) => return Status::TooLong.code(),
-        Err(ReadFail::NoMemory) => return Status::NoMemory.code(),
+        Err(ReadFail::Fault) => return Status::ReadFault,
+        Err(ReadFail::TooLong) => return Status::TooLong,
+        Err(ReadFail::NoMemory) => return Status::NoMemory,
     };
     match write_reply(alloc, *order, carry_out, &script, sink) {
-        Ok(status) => status.code(),
-        Err(ReplyFail::NoMemory) => Status::NoMemory.code(),
-        Err(ReplyFail::Sink) => Status::WriteFault.code(),
+        Ok(status) => status,
+        Err(ReplyFail::NoMemory) => Status::NoMemory,
+        Err(ReplyFail::Sink) => Status::WriteFault,
     }
 }
 

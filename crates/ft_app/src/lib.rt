@@ -36,9 +36,9 @@ mod printed;
 mod program;
 mod reply;
 mod run;
-pub mod status;
 mod top;
 
+pub use ft_io::Status;
 pub use ft_words::{Form, Order, WordsFault, read_words};
 pub use plain::ft_plain;
 pub use program::run_program;

@@ -1,14 +1,13 @@
 //! An order carried out over any source and sink, without running threads.
 
 ghost use Rattle.std.specs.Prelude.{◌≢◌};
-ghost use Rattle.ft_app.specs.Status.{code_of};
+ghost use Rattle.ft_io.specs.Status.{code_of};
 ghost use Rattle.ft_app.specs.Ends.{Ends, Only};
 ghost use Rattle.ft_app.specs.Main.{IsPlain};
 
 use crate::answer::answer;
 use crate::carried_out::replayed;
-use crate::status::Status;
-use ft_io::{Sink, Source};
+use ft_io::{Sink, Source, Status};
 use ft_words::Order;
 use std::alloc::Global;
 
@@ -38,4 +37,5 @@ pub fn ft_plain<S: Source, K: Sink>(
         source,
         sink,
     )
+    .code()
 }

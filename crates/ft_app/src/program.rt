@@ -4,9 +4,8 @@ ghost use Rattle.std.specs.Prelude.{ℕ, List};
 ghost use Rattle.ft_words.specs.Language.{Gives};
 ghost use Rattle.ft_app.specs.Ends.{Ends};
 
-use crate::status::Status;
 use crate::top::ft_main;
-use ft_io::{OpenGate, Sink, Source};
+use ft_io::{OpenGate, Sink, Source, Status};
 use std::env;
 use std::io::ErrorKind;
 use std::rt::Env;

@@ -11,10 +11,9 @@ ghost use Rattle.ft_app.specs.Main.{IsReplied, IsBegun};
 
 use crate::carried_out::CarriedOut;
 use crate::printed::write_printed;
-use crate::status::Status;
 use ft_base::NoMemory;
 use ft_base::limits::INPUT_BYTES;
-use ft_io::{Sink, write_all};
+use ft_io::{Sink, Status, write_all};
 use ft_job::Job;
 use ft_script::{Cause, ScriptFault, read_script};
 use ft_words::Order;

@@ -7,8 +7,7 @@ ghost use Rattle.ft_app.specs.Ends.{Ends};
 use crate::answer::answer;
 use crate::plain::ft_plain;
 use crate::run::run;
-use crate::status::Status;
-use ft_io::{Gate, Sink, Source};
+use ft_io::{Gate, Sink, Source, Status};
 use ft_words::{Order, WordsFault, read_words};
 use std::alloc::Global;
 use std::sync::Wait;
@@ -42,7 +41,7 @@ pub fn ft_main<R: Threads + Wait + Sync, S: Source, K: Sink, G: Gate>(
         Ok(order) => match order {
             Order::Run(form) => {
                 let carry_out = |job| run(rt, alloc, job, form, gate);
-                answer(alloc, &order, carry_out, source, sink)
+                answer(alloc, &order, carry_out, source, sink).code()
             }
             _ => ft_plain(alloc, &order, source, sink),
         },

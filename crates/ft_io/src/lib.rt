@@ -10,6 +10,8 @@
 //! which gathers them into large writes; no count of faults falls, and a failure comes only if it
 //! rose. The ends in memory are known byte for byte.
 //!
+//! How a call over a source and a sink ended is a [`Status`], which all programs share.
+//!
 //! Only tested, in `ends_tests`: that the adapters over a reader and a writer ask for many bytes at
 //! a time, flush after each write, and try nothing a second time. What a standard stream gives or
 //! shows is not said.
@@ -24,6 +26,7 @@ mod pieces;
 mod sink;
 mod source;
 mod standard;
+mod status;
 
 pub use gate::{Gate, OpenGate};
 pub use memory_sink::MemSink;
@@ -32,3 +35,4 @@ pub use pieces::Pieces;
 pub use sink::{Sink, WriteFail, write_all};
 pub use source::{Failed, ReadFail, Source, read_all};
 pub use standard::{StdSink, StdSource};
+pub use status::Status;

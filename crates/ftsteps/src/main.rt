@@ -10,13 +10,11 @@
 
 mod names;
 mod numbers;
-mod status;
 mod trace;
 
-use crate::status::Status;
 use crate::trace::write_trace;
 use ft_base::limits::INPUT_BYTES;
-use ft_io::{ReadFail, Sink, Source, StdSink, StdSource, read_all, write_all};
+use ft_io::{ReadFail, Sink, Source, Status, StdSink, StdSource, read_all, write_all};
 use ft_script::{Cause, ScriptFault, read_script};
 use std::alloc::Global;
 use std::env;

@@ -2,9 +2,8 @@
 
 use crate::names::Names;
 use crate::numbers::{put_decimal, put_hexadecimal};
-use crate::status::Status;
 use ft_base::{Actor, NoMemory};
-use ft_io::{Pieces, Sink};
+use ft_io::{Pieces, Sink, Status};
 use ft_job::Job;
 use ft_machine::{Machine, replay};
 use ft_schedule::Player;

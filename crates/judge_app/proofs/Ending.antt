@@ -3,7 +3,7 @@ use Rattle.std.proofs.Common.{ℕ, Bool, true, false, List, Option}
 use Rattle.std.specs.Io.KnownBytes.{Appends}
 use Rattle.history_check.specs.declared.verdict.Verdict.{Verdict}
 use Rattle.history_check.specs.declared.verdict.Verdict.TheVariants.{Whole, Legal, Broken}
-use Rattle.judge_app.specs.declared.status.Status.{Status}
+use Rattle.ft_io.specs.declared.status.Status.{Status}
 use Rattle.judge_app.specs.Ends.{Ends, HasReplied, ReadWhole}
 use Rattle.judge_app.specs.Reply.{IsReplyTo, of_log, of_missing, of_refusal, of_verdict, status_of}
 

@@ -35,8 +35,8 @@ use Rattle.log_reader.proofs.NeverRefused.{never-refused}
 use Rattle.script_jobs.proofs.Logs.{items_are_the_jobs}
 use Rattle.script_jobs.proofs.Names.{accepted_named}
 use Rattle.script_jobs.proofs.OrderedLogs.{are-items, count-commands, count-lanes, named}
-use Rattle.judge_app.specs.declared.status.Status.{Status}
-use Rattle.judge_app.specs.declared.status.Status.TheVariants as ends
+use Rattle.ft_io.specs.declared.status.Status.{Status}
+use Rattle.ft_io.specs.declared.status.Status.TheVariants as ends
 use Rattle.judge_app.specs.Cut.{IsCut, log_line}
 use Rattle.judge_app.specs.Lanes.{IsToldBy, told_order}
 use Rattle.judge_app.specs.Reply.{IsReplyTo, of_log, of_missing, of_refusal, of_verdict, status_of, verdict_text}
@@ -99,17 +99,17 @@ module _ (input script : List ℕ) (first : ℕ) (job led : Job) (items : List I
   judged-so status text (of_missing next uncut) = absurd (uncut.none script (log_text led items ended) cut.here)
 
   -- the verdict on items that are legal
-  pub legal-judged : IsLegal led items → (ended ≡ true → IsWhole led items) → (status : Status) (text : List ℕ) → IsJudged status text → status ≡ ends.Legal
+  pub legal-judged : IsLegal led items → (ended ≡ true → IsWhole led items) → (status : Status) (text : List ℕ) → IsJudged status text → status ≡ ends.Done
   legal-judged legal whole status text (judged Whole v n) = refl
   legal-judged legal whole status text (judged Legal v n) = by ended refl
     where
-      by : (e : Bool) → ended ≡ e → status_of e Legal ≡ ends.Legal
+      by : (e : Bool) → ended ≡ e → status_of e Legal ≡ ends.Done
       by true over = absurd (v.1 (whole over))
       by false over = refl
   legal-judged legal whole status text (judged (Broken p r) v n) = absurd (never-broken led items legal p r v)
 
   -- and on items that are whole
-  pub whole-judged : IsWhole led items → (status : Status) (text : List ℕ) → IsJudged status text → (status ≡ ends.Legal) × (text ≡ codes "whole\n")
+  pub whole-judged : IsWhole led items → (status : Status) (text : List ℕ) → IsJudged status text → (status ≡ ends.Done) × (text ≡ codes "whole\n")
   whole-judged whole status text (judged Whole v n) = (refl, refl)
   whole-judged whole status text (judged Legal v n) = absurd (v.1 whole)
   whole-judged whole status text (judged (Broken p r) v n) = absurd (never-broken led items whole.legal p r v)
@@ -118,7 +118,7 @@ module _ (input script : List ℕ) (first : ℕ) (job led : Job) (items : List I
 
 pub printed-legal : (input script : List ℕ) (first : ℕ) (job : Job) (items : List Item) (ended : Bool) (status : Status) (text : List ℕ) → length input < 2 ^ 64
     → IsJobOf script job → job.lines.lanes ≡ [] → IsLegal job items → (ended ≡ true → IsWhole job items) → Each IsShort items
-    → IsCut input script (log_text job items ended) first → IsReplyTo input status text → status ≡ ends.Legal
+    → IsCut input script (log_text job items ended) first → IsReplyTo input status text → status ≡ ends.Done
 printed-legal input script first job items ended status text size is none legal whole short cut reply =
     let numbered = each-numbered job items (items_are_the_jobs script job items is legal) short in
     let apart = accepted_named script job is in
@@ -216,7 +216,7 @@ told-run script job order items ended is has lanes whole numbered other told = b
 
 pub printed-run : (input script : List ℕ) (first : ℕ) (job : Job) (order : List ℕ) (items : List Item) (status : Status) (text : List ℕ) → length input < 2 ^ 64
     → IsJobOf script job → HasLanes job → IsLaneOrder job.lines.lanes order → IsWhole (in_order job order) items → Each IsShort items
-    → IsCut input script (log_text (in_order job order) items true) first → IsReplyTo input status text → (status ≡ ends.Legal) × (text ≡ codes "whole\n")
+    → IsCut input script (log_text (in_order job order) items true) first → IsReplyTo input status text → (status ≡ ends.Done) × (text ≡ codes "whole\n")
 printed-run input script first job order items status text size is has lanes whole short cut reply =
     let led = in_order job order in
     let numbered = each-numbered led items (are-items script job is has order items lanes whole.legal) short in

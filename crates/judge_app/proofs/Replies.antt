@@ -15,8 +15,8 @@ use Rattle.log_reader.specs.Refused.{IsNumbered, IsRefusedAt}
 use Rattle.log_reader.proofs.ReadLines.{lines-long}
 use Rattle.trace_views.specs.LogText.{log_lines, log_text}
 use Rattle.trace_views.specs.Words.{last_line}
-use Rattle.judge_app.specs.declared.status.Status.{Status}
-use Rattle.judge_app.specs.declared.status.Status.TheVariants as ends
+use Rattle.ft_io.specs.declared.status.Status.{Status}
+use Rattle.ft_io.specs.declared.status.Status.TheVariants as ends
 use Rattle.judge_app.specs.Cut.{IsCut, IsUncut, is_feed}
 use Rattle.judge_app.specs.Cut.{log_line as cut_line}
 use Rattle.judge_app.specs.Lanes.{IsToldBy}

@@ -3,10 +3,10 @@ use Rattle.std.specs.Prelude.{ℕ, ◌≡◌, ◌≤◌, ◌⊎◌, List, Option
 use Rattle.std.specs.Io.KnownBytes.{Appends, Consumes, IsAtEnd}
 use Rattle.ft_io.specs.Causes.{AppendsFront, GaveMore, Rose}
 use Rattle.judge_app.specs.declared.app.TheConstants.{JUDGED_BYTES}
-use Rattle.judge_app.specs.declared.status.Status.{Status}
-use Rattle.judge_app.specs.declared.status.Status.TheVariants.{Legal, Broken, Language, Refused, ReadFault, WriteFault, NoMemory, TooLong}
+use Rattle.ft_io.specs.declared.status.Status.{Status}
+use Rattle.ft_io.specs.declared.status.Status.TheVariants.{Done, Broken, Language, Refused, ReadFault, WriteFault, NoMemory, TooLong}
 use Rattle.judge_app.specs.Reply.{IsLong, IsReplyTo}
-use Rattle.judge_app.specs.Status.{code_of}
+use Rattle.ft_io.specs.Status.{code_of}
 
 -- a source was read to its end, and gave this input, which isn't too long
 pub record ReadWhole (remaining remaining' : Option (List ℕ)) (input : List ℕ) : Type 0 where
@@ -41,7 +41,7 @@ module _ {S K : Type 0} (remaining : S → Option (List ℕ)) (read_faults : S �
   --   6         out of memory; nothing was written
   --   7         the source gave one byte more than an input may have, at least, or the script has more than one may have; nothing was written
   abbrev pub Ends : Status → S → S → K → K → Type 0
-  Ends Legal source source' sink sink' = HasReplied Legal (remaining source) (remaining source') (holds sink) (holds sink')
+  Ends Done source source' sink sink' = HasReplied Done (remaining source) (remaining source') (holds sink) (holds sink')
   Ends Broken source source' sink sink' = HasReplied Broken (remaining source) (remaining source') (holds sink) (holds sink')
   Ends Refused source source' sink sink' = HasReplied Refused (remaining source) (remaining source') (holds sink) (holds sink')
   Ends Language source source' sink sink' = (source' ≡ source) × (sink' ≡ sink)

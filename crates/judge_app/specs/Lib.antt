@@ -1,4 +1,3 @@
-pub mod Status
 pub mod Cut
 pub mod Lanes
 pub mod Reply

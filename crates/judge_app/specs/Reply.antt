@@ -16,8 +16,8 @@ use Rattle.ft_script.specs.FaultText.{fault_text}
 use Rattle.ft_script.specs.Script.{IsJobOf, IsRefusalOf}
 use Rattle.log_reader.specs.Refused.{IsNumbered, IsRefusedAt}
 use Rattle.trace_views.specs.LogText.{log_text}
-use Rattle.judge_app.specs.declared.status.Status.{Status}
-use Rattle.judge_app.specs.declared.status.Status.TheVariants as Ends
+use Rattle.ft_io.specs.declared.status.Status.{Status}
+use Rattle.ft_io.specs.declared.status.Status.TheVariants as Ends
 use Rattle.judge_app.specs.Cut.{IsCut, IsUncut}
 use Rattle.judge_app.specs.Lanes.{IsToldBy}
 
@@ -47,9 +47,9 @@ verdict_text first count ended (Broken place rule) = line_text (first + place) (
 
 -- its status
 abbrev pub status_of : Bool → Verdict → Status
-status_of ended Whole = Ends.Legal
+status_of ended Whole = Ends.Done
 status_of true Legal = Ends.Broken
-status_of false Legal = Ends.Legal
+status_of false Legal = Ends.Done
 status_of ended (Broken place rule) = Ends.Broken
 
 -- the line that says where an input is refused, and why

@@ -3,8 +3,7 @@
 ghost use Rattle.judge_app.specs.Ends.{Ends};
 
 use crate::reply::{Reply, ReplyFail, answer};
-use crate::status::Status;
-use ft_io::{ReadFail, Sink, Source, read_all, write_all};
+use ft_io::{ReadFail, Sink, Source, Status, read_all, write_all};
 use std::alloc::Global;
 
 /// The most bytes of an input, 1 GiB: a script has 16 MiB at most, and a log about 40 bytes for each of

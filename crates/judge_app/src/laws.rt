@@ -11,8 +11,8 @@ ghost use Rattle.led_jobs.specs.Led.{in_order};
 ghost use Rattle.led_jobs.specs.Orders.{IsLaneOrder};
 ghost use Rattle.log_reader.specs.Refused.{IsShort};
 ghost use Rattle.trace_views.specs.LogText.{log_text};
-ghost use Rattle.judge_app.specs.declared.status.Status.{Status};
-ghost use Rattle.judge_app.specs.declared.status.Status.TheVariants.{Legal};
+ghost use Rattle.ft_io.specs.declared.status.Status.{Status};
+ghost use Rattle.ft_io.specs.declared.status.Status.TheVariants.{Done};
 ghost use Rattle.judge_app.specs.Cut.{IsCut};
 ghost use Rattle.judge_app.specs.Reply.{IsReplyTo};
 
@@ -22,7 +22,7 @@ ghost use Rattle.judge_app.specs.Reply.{IsReplyTo};
 pub fn printed_logs_are_judged_legal()
     ensures { (input script : List ℕ) (first : ℕ) (job : PlainJob) (items : List Item) (ended : Bool) (status : Status) (text : List ℕ)
         → length input < 2 ^ 64 → IsJobOf script job → job.lines.lanes ≡ [] → IsLegal job items → (ended ≡ true → IsWhole job items) → Each IsShort items
-        → IsCut input script (log_text job items ended) first → IsReplyTo input status text → status ≡ Legal }
+        → IsCut input script (log_text job items ended) first → IsReplyTo input status text → status ≡ Done }
 {}
 
 /// And what is printed of a run of lanes is judged whole, in whatever order their commands went: the order is
@@ -31,5 +31,5 @@ pub fn printed_runs_of_lanes_are_judged_whole()
     ensures { (input script : List ℕ) (first : ℕ) (job : PlainJob) (order : List ℕ) (items : List Item) (status : Status) (text : List ℕ)
         → length input < 2 ^ 64 → IsJobOf script job → HasLanes job → IsLaneOrder job.lines.lanes order → IsWhole (in_order job order) items → Each IsShort items
         → IsCut input script (log_text (in_order job order) items true) first → IsReplyTo input status text
-        → (status ≡ Legal) × (text ≡ codes "whole\n") }
+        → (status ≡ Done) × (text ≡ codes "whole\n") }
 {}

@@ -17,9 +17,8 @@ mod lanes;
 pub mod laws;
 mod program;
 mod reply;
-mod status;
 
 pub use app::{JUDGED_BYTES, judge_input};
+pub use ft_io::Status;
 pub use program::run_program;
 pub use reply::{Reply, ReplyFail, answer};
-pub use status::Status;

@@ -3,8 +3,7 @@
 ghost use Rattle.judge_app.specs.Ends.{EndsWith};
 
 use crate::app::judge_input;
-use crate::status::Status;
-use ft_io::{Sink, Source};
+use ft_io::{Sink, Source, Status};
 use std::env;
 use std::io::ErrorKind;
 use std::rt::Env;

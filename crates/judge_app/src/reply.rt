@@ -5,16 +5,16 @@ ghost use Rattle.ft_base.specs.declared.limits.TheConstants.{INPUT_BYTES};
 ghost use Rattle.ft_base.specs.Job.{Job as PlainJob};
 ghost use Rattle.ft_script.specs.Script.{IsJobOf, no_memory};
 ghost use Rattle.trace_lines.specs.LogItems.{IsNamedApart};
-ghost use Rattle.judge_app.specs.declared.status.Status.TheVariants.{Broken, Legal, Refused};
+ghost use Rattle.ft_io.specs.declared.status.Status.TheVariants.{Broken, Done, Refused};
 ghost use Rattle.judge_app.specs.Cut.{IsCut};
 ghost use Rattle.judge_app.specs.Lanes.{IsToldBy};
 ghost use Rattle.judge_app.specs.Reply.{IsLong, IsReplyTo, IsWithin, line_text, refusal_text, rule_word, status_of, syntax_at, verdict_text};
 
 use crate::cut::{Parts, cut};
 use crate::lanes::led_by;
-use crate::status::Status;
 use ft_base::NoMemory;
 use ft_base::limits::INPUT_BYTES;
+use ft_io::Status;
 use ft_job::Job;
 use ft_script::{Cause, ScriptFault, read_script};
 use history_check::{Rule, Verdict, judge};
@@ -144,11 +144,11 @@ fn judged(
 
 /// A log that is legal.
 fn legal(alloc: Global, text: &str) -> Result<Reply, NoMemory>
-    ensures { IfOk result (λ r. (r.status ≡ Legal) × (r.text.items ≡ text.now)) }
+    ensures { IfOk result (λ r. (r.status ≡ Done) × (r.text.items ≡ text.now)) }
 {
     match String::from_str(alloc, text) {
         Ok(text) => Ok(Reply {
-            status: Status::Legal,
+            status: Status::Done,
             text: text.into_bytes(),
         }),
         Err(_) => Err(NoMemory),

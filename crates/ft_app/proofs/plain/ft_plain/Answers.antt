@@ -2,7 +2,7 @@ use Rattle.std.proofs.Common.{◌≡◌, None, rules}
 use Rattle.std.specs.Prelude.{IfOk}
 use Rattle.trace_print.specs.Kept.{IsKeptOf}
 use Rattle.ft_app.specs.Reply.{IsEnough, IsReplayOf, history_of}
-use Rattle.ft_app.proofs.Ends.{spoken}
+use Rattle.ft_app.proofs.Ends.{by-number, spoken}
 use Rattle.ft_app.proofs.KeptRings.{plain-made}
 use Rattle.ft_app.proofs.plain.ft_plain.Goals as goal
 
@@ -16,5 +16,10 @@ answer-requires-clause-serves g c = λ job made ran.
     let none : IfOk made (λ c. c.rings ≡ None) = search rules in
     plain-made order c.requires job made same kept enough replay none
 
+pub returns-clause-ends : goal.returns-clause-ends
+returns-clause-ends g c =
+    by-number g.S.Source.remaining g.S.Source.faults g.K.Sink.holds g.K.Sink.faults _ _ _ _ _ _ _ c.code.ensures c.answer.ensures
+
 pub returns-clause-spoken : goal.returns-clause-spoken
-returns-clause-spoken g c = spoken g.S.Source.remaining g.S.Source.faults g.K.Sink.holds g.K.Sink.faults _ _ _ _ _ _ c.answer.ensures
+returns-clause-spoken g c =
+    spoken g.S.Source.remaining g.S.Source.faults g.K.Sink.holds g.K.Sink.faults _ _ _ _ _ _ (by-number g.S.Source.remaining g.S.Source.faults g.K.Sink.holds g.K.Sink.faults _ _ _ _ _ _ _ c.code.ensures c.answer.ensures)

@@ -6,7 +6,7 @@ use Rattle.ft_words.specs.Language.{Gives}
 use Rattle.trace_print.specs.Kept.{IsAllAnd}
 use Rattle.ft_app.specs.Reply.{IsKeptFor, IsMergeOf, IsRunOf}
 use Rattle.ft_app.proofs.KeptRings.{run-made}
-use Rattle.ft_app.proofs.Ends.{given, no-memory-for-words, no-order}
+use Rattle.ft_app.proofs.Ends.{by-number, given, no-memory-for-words, no-order}
 use Rattle.ft_app.proofs.top.ft_main.Goals as goal
 
 -- ## no order was carried out
@@ -33,7 +33,8 @@ answer-requires-clause-serves g c = λ job made ran.
 pub returns-in-Run : goal.returns-in-Run
 returns-in-Run g c =
     given g.S.Source.remaining g.S.Source.faults g.K.Sink.holds g.K.Sink.faults _ _ _ _ _ _ (Run c.in-Run.form)
-    (subst (Gives (map (λ word. word.now) c.args.words.now)) c.in-Run.is c.in-Ok.ensures.gives) c.answer.ensures
+    (subst (Gives (map (λ word. word.now) c.args.words.now)) c.in-Run.is c.in-Ok.ensures.gives)
+    (by-number g.S.Source.remaining g.S.Source.faults g.K.Sink.holds g.K.Sink.faults _ _ _ _ _ _ _ c.code.ensures c.answer.ensures)
 
 pub returns-in_default : goal.returns-in_default
 returns-in_default g c =

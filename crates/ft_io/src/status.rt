@@ -1,16 +1,19 @@
-//! The statuses of the top call.
+//! How a call over a source and a sink ended.
 
 ghost use Rattle.std.specs.Prelude.{◌≡◌};
-ghost use Rattle.ft_app.specs.Status.{code_of};
+ghost use Rattle.ft_io.specs.Status.{code_of};
 
-/// How the top call ended. The program ends with the number as its exit status.
+/// How a call ended that reads a source and writes a sink. A program ends with the number as its exit
+/// status. Which of them a call gives, and when, its contract says.
 #[derive(Clone, Copy, Debug, PartialEq, Eq)]
 pub enum Status {
-    /// The source was read to its end, and the text was written in full.
+    /// The source was read to its end, and what was asked for was written in full.
     Done = 0,
+    /// A log was judged: it is broken at the line that was written.
+    Broken = 1,
     /// The words aren't in the command's language. Nothing was read or written.
     Language = 2,
-    /// The source was read to its end, the script is refused, and the line that says where and why
+    /// The source was read to its end, what it gave is refused, and the line that says where and why
     /// was written in full.
     Refused = 3,
     /// The source failed. Nothing was written.
@@ -19,7 +22,7 @@ pub enum Status {
     WriteFault = 5,
     /// Out of memory. Nothing was written.
     NoMemory = 6,
-    /// The source gave more bytes than a script may have. Nothing was written.
+    /// The source gave more bytes than the input may have. Nothing was written.
     TooLong = 7,
 }
 
