@@ -14,8 +14,8 @@ use Rattle.ft_desk.specs.Declarations.{IsOf, declared_by}
 use Rattle.ft_desk.specs.Seen.{Seen, opened}
 use Rattle.word_machine.specs.Limits.{IsLimited}
 use Rattle.cpu_core.specs.Taken.{IsCpuOf}
-use Rattle.machine_core.specs.declared.cpus.TaskLimits.{TaskLimits}
-use Rattle.machine_core.specs.Worlds.{Declares, IsFor, Parts}
+use Rattle.ft_machine.specs.declared.cpus.TaskLimits.{TaskLimits}
+use Rattle.ft_machine.specs.Worlds.{Declares, IsFor, Parts}
 
 abbrev pub small : Job
 small = record { version = 1; functions = no_func ∷ []; users = []; frames = 1; tramps = 1; quanta = 1 ∷ []; tasks = []; ctls = Run (MaxDepth 1) ∷ []; lines = usual_lines; rings = usual_rings; schedule = [] }

@@ -15,8 +15,8 @@ use Rattle.ft_desk.specs.Lines.{lines_of}
 use Rattle.ft_desk.specs.Seen.{Seen, opened}
 use Rattle.word_machine.specs.Limits.{IsLimited}
 use Rattle.control_core.specs.Plans.{IsDeclaredIn}
-use Rattle.machine_core.specs.declared.cpus.TaskLimits.{TaskLimits}
-use Rattle.machine_core.specs.Worlds.{Declares}
+use Rattle.ft_machine.specs.declared.cpus.TaskLimits.{TaskLimits}
+use Rattle.ft_machine.specs.Worlds.{Declares}
 use Rattle.ft_job.specs.Parts.{quanta_of, cpus_from}
 use Rattle.ft_machine.proofs.OnCpu.{own-quantum, own-numbers, own-acts, quick}
 

@@ -7,7 +7,7 @@ use Rattle.ft_base.specs.Job.{Job}
 use Rattle.word_map.specs.Ops.{WordOp}
 use Rattle.word_machine.specs.Cpu.{cpu_next}
 use Rattle.word_machine.specs.Machine.{World, control_moved, cpu_moved, past_after, step, words_after}
-use Rattle.machine_core.specs.Nexts.{next_op}
+use Rattle.ft_machine.specs.Nexts.{next_op}
 
 -- an actor makes this operation, if it is one
 abbrev by : Job → Actor → World → Option WordOp → World

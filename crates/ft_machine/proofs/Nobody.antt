@@ -4,7 +4,7 @@ use Rattle.ft_base.specs.declared.item.Item.{Item}
 use Rattle.ft_base.specs.Desk.{desk, sited, target_by}
 use Rattle.ft_base.specs.Job.{Job}
 use Rattle.ft_hist.specs.Past.{begun, done}
-use Rattle.machine_core.specs.Sites.{IsWhole}
+use Rattle.ft_machine.specs.Sites.{IsWhole}
 use Rattle.site_bytes.specs.Bytes.{bytes_of}
 use Rattle.site_bytes.specs.declared.insn.Insn.TheVariants.{Nop}
 use Rattle.word_map.specs.Instructions.{insn_at, insn_of}

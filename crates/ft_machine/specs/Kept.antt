@@ -9,8 +9,8 @@ use Rattle.user_specs.specs.Bound.{call_bound_in}
 use Rattle.word_machine.specs.Laws.{Runs}
 use Rattle.word_machine.specs.Limits.{IsLimited}
 use Rattle.word_machine.specs.Machine.{World}
-use Rattle.machine_core.specs.declared.cpus.TaskLimits.{TaskLimits}
-use Rattle.machine_core.specs.Worlds.{IsFor, Parts, world_of}
+use Rattle.ft_machine.specs.declared.cpus.TaskLimits.{TaskLimits}
+use Rattle.ft_machine.specs.Worlds.{IsFor, Parts, world_of}
 
 -- how many items the job can make
 abbrev pub most_items : Job → ℕ

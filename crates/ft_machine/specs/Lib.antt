@@ -2,3 +2,9 @@ pub mod Kept
 pub mod Machines
 pub mod Replays
 pub mod Fed
+pub mod Tables
+pub mod Sites
+pub mod Worlds
+pub mod Nexts
+pub mod Starts
+pub mod Fields

@@ -1,7 +1,7 @@
 -- Of which job a machine is.
 use Rattle.ft_base.specs.Job.{Job}
 use Rattle.word_machine.specs.Machine.{World}
-use Rattle.machine_core.specs.Worlds.{world_of}
+use Rattle.ft_machine.specs.Worlds.{world_of}
 use Rattle.ft_machine.specs.declared.machine.Machine.{Machine}
 use Rattle.ft_machine.specs.Kept.{IsMachineOf, past_in}
 

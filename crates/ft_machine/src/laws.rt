@@ -8,8 +8,8 @@ ghost use Rattle.ft_base.specs.Schedule.{IsActor, actors_in, actors_of, turn_for
 ghost use Rattle.ft_base.specs.declared.turn.Actor.{Actor};
 ghost use Rattle.ft_hist.specs.Past.{begun, done};
 ghost use Rattle.word_map.specs.Ops.{WordOp};
-ghost use Rattle.machine_core.specs.Nexts.{next_op};
-ghost use Rattle.machine_core.specs.Sites.{IsWhole as IsWholeSite};
+ghost use Rattle.ft_machine.specs.Nexts.{next_op};
+ghost use Rattle.ft_machine.specs.Sites.{IsWhole as IsWholeSite};
 ghost use Rattle.site_bytes.specs.Bytes.{bytes_of};
 ghost use Rattle.site_bytes.specs.declared.insn.Insn.TheVariants.{Nop};
 ghost use Rattle.word_machine.specs.Machine.{World, all_end, is_at_end, past_after, play, run, start, step, words_after};

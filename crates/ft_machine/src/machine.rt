@@ -2,11 +2,12 @@
 
 ghost use Rattle.ft_machine.specs.Kept.{IsMachine};
 
-use crate::world::{new_history, new_world};
+use crate::cpus::CpuRoom;
+use crate::start::{new_history, new_world};
+use crate::world::World;
 use ft_base::{Actor, FuncNo, NoMemory};
 use ft_hist::History;
 use ft_job::Job;
-use machine_core::{CpuRoom, World};
 use std::alloc::Global;
 use word_map::{Op, WordMap};
 
@@ -29,8 +30,8 @@ impl Machine {
     ghost use Rattle.word_map.specs.Shapes.{shape_of};
     ghost use Rattle.word_map.specs.Words.{Word, read};
     ghost use Rattle.word_machine.specs.Machine.{all_end, is_at_end, start, step};
-    ghost use Rattle.machine_core.specs.Nexts.{next_op};
-    ghost use Rattle.machine_core.specs.Sites.{IsWhole as IsWholeSite, site_of};
+    ghost use Rattle.ft_machine.specs.Nexts.{next_op};
+    ghost use Rattle.ft_machine.specs.Sites.{IsWhole as IsWholeSite, site_of};
     ghost use Rattle.ft_machine.specs.Machines.{IsOf, state_of};
 
     /// The machine of a job before its first step, with room for all items that the job can make. Its

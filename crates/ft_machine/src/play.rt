@@ -7,13 +7,14 @@ ghost use Rattle.ft_base.specs.Job.{Job as PlainJob};
 ghost use Rattle.word_machine.specs.Machine.{World as State, all_end, play, played, step};
 ghost use Rattle.ft_machine.specs.Kept.{IsAt};
 
+use crate::cpus::CpuRoom;
+use crate::start::new_world;
 use crate::taker::Taker;
-use crate::world::new_world;
+use crate::world::World;
 use ft_base::{Actor, NoMemory};
 use ft_hist::History;
 use ft_job::Job;
 use ft_schedule::Player;
-use machine_core::{CpuRoom, World};
 use std::alloc::Global;
 
 /// What a replay came to.

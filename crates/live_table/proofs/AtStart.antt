@@ -24,9 +24,9 @@ use Rattle.control_core.proofs.Leading.{all-led, none-led}
 use Rattle.control_core.proofs.Led.{withheld-starts}
 use Rattle.cpu_core.specs.declared.parts.Parts.{Parts as CpuParts}
 use Rattle.cpu_core.specs.Marks.{Marks}
-use Rattle.machine_core.specs.declared.cpus.CpuRoom.TheVariants.{ForAll}
-use Rattle.machine_core.specs.Starts.{IsFirst}
-use Rattle.machine_core.specs.Worlds.{IsFor, Parts, words_of, world_of}
+use Rattle.ft_machine.specs.declared.cpus.CpuRoom.TheVariants.{ForAll}
+use Rattle.ft_machine.specs.Starts.{IsFirst}
+use Rattle.ft_machine.specs.Worlds.{IsFor, Parts, words_of, world_of}
 use Rattle.ft_machine.specs.Fed.{control_fed}
 use Rattle.ft_job.specs.Plans.{AreLinesPlanned}
 use Rattle.live_table.specs.declared.view.View.{View}

@@ -19,7 +19,7 @@ use Rattle.word_machine_laws.proofs.Marked.{control-mark}
 use Rattle.word_machine_laws.proofs.There.{control-there}
 use Rattle.word_machine_laws.proofs.WordsFit.{control-row-runs}
 use Rattle.control_core.specs.Steps.{marks_in as control_marks_in}
-use Rattle.machine_core.proofs.Made.{IsOpThere, of-job}
+use Rattle.ft_machine.proofs.Made.{IsOpThere, of-job}
 use Rattle.ft_machine.specs.Fed.{control_fed, control_items}
 use Rattle.ft_machine.proofs.FedLaws.{control_after-append}
 use Rattle.live_table.specs.Recorded.{IsRecorded, lists}

@@ -14,8 +14,8 @@ use Rattle.word_machine.specs.Control.{Control, control_got, control_next, contr
 use Rattle.word_machine.specs.Laws.{IsOnWord}
 use Rattle.control_core.specs.Seated.{IsFor, Seated, control_of}
 use Rattle.control_core.specs.Steps.{marks_in}
-use Rattle.machine_core.proofs.Chosen.{Chosen, chosen, none-next}
-use Rattle.machine_core.proofs.Made.{IsOpThere, of-job}
+use Rattle.ft_machine.proofs.Chosen.{Chosen, chosen, none-next}
+use Rattle.ft_machine.proofs.Made.{IsOpThere, of-job}
 use Rattle.ft_machine.specs.Fed.{control_fed, control_items}
 use Rattle.ft_machine.proofs.FedLaws.{control_after-append}
 use Rattle.live_table.specs.declared.live.Going.TheVariants.{End, More}

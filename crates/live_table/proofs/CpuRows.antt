@@ -26,7 +26,7 @@ use Rattle.word_machine_laws.proofs.There.{cpu-there}
 use Rattle.word_machine_laws.proofs.WordsFit.{cpu-row-runs}
 use Rattle.cpu_core.specs.CpuSteps.{marks_in}
 use Rattle.task_core.specs.TaskOps.{item_in}
-use Rattle.machine_core.proofs.Made.{IsOpThere, of-job}
+use Rattle.ft_machine.proofs.Made.{IsOpThere, of-job}
 use Rattle.ft_machine.specs.Fed.{cpu_fed, cpu_items}
 use Rattle.ft_machine.proofs.FedLaws.{cpu_after-append}
 use Rattle.live_table.specs.Recorded.{IsRecorded, cpu, lists}

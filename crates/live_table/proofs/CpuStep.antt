@@ -16,9 +16,9 @@ use Rattle.cpu_core.specs.CpuSteps.{marks_in}
 use Rattle.cpu_core.specs.Cpus.{IsFor, cpu_of}
 use Rattle.cpu_core.specs.Taken.{IsTaken}
 use Rattle.task_core.specs.TaskOps.{item_in}
-use Rattle.machine_core.proofs.Chosen.{Chosen, chosen, none-next}
-use Rattle.machine_core.proofs.Made.{IsOpThere, of-job}
-use Rattle.machine_core.proofs.Plans.{room-most}
+use Rattle.ft_machine.proofs.Chosen.{Chosen, chosen, none-next}
+use Rattle.ft_machine.proofs.Made.{IsOpThere, of-job}
+use Rattle.ft_machine.proofs.Plans.{room-most}
 use Rattle.ft_machine.specs.Fed.{cpu_fed, cpu_items}
 use Rattle.ft_machine.proofs.FedLaws.{cpu_after-append}
 use Rattle.live_table.specs.declared.live.Going.TheVariants.{End, More}

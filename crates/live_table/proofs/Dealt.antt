@@ -5,8 +5,8 @@ use Rattle.ft_base.specs.Job.{Job}
 use Rattle.word_machine.specs.Limits.{IsLimited}
 use Rattle.control_core.specs.Seated.{Seated}
 use Rattle.cpu_core.specs.declared.parts.Parts.{Parts as CpuParts}
-use Rattle.machine_core.specs.declared.cpus.CpuRoom.TheVariants.{ForAll}
-use Rattle.machine_core.specs.Starts.{AreFirst, IsFirst}
+use Rattle.ft_machine.specs.declared.cpus.CpuRoom.TheVariants.{ForAll}
+use Rattle.ft_machine.specs.Starts.{AreFirst, IsFirst}
 use Rattle.live_table.specs.declared.view.View.{View}
 use Rattle.live_table.specs.Seats.{ControlSits, CpuSits}
 use Rattle.live_table.specs.Views.{cpu_view, dealer, dealt, view}

@@ -20,8 +20,8 @@ use Rattle.word_machine.specs.Limits.{IsLimited}
 use Rattle.word_machine.specs.Machine.{opening_words, run, start}
 use Rattle.word_machine_laws.proofs.WordsFit.{start-runs}
 use Rattle.control_core.proofs.Leading.{none-led}
-use Rattle.machine_core.specs.Worlds.{words_of}
-use Rattle.machine_core.proofs.Opening.{none-on}
+use Rattle.ft_machine.specs.Worlds.{words_of}
+use Rattle.ft_machine.proofs.Opening.{none-on}
 use Rattle.live_table.specs.declared.view.View.{View}
 use Rattle.live_table.specs.Recorded.{IsRecorded, cpu_lists}
 use Rattle.live_table.specs.Rule.{Fits, HasSeat, LiveRule, RunsOn, StandsFor, StandsIn, world_with}

@@ -17,7 +17,7 @@ use Rattle.word_machine.specs.Machine.{World, past_after, taken}
 use Rattle.word_machine.specs.Rule.{MachineRule}
 use Rattle.control_core.specs.Steps.{marks_in as control_marks_in}
 use Rattle.cpu_core.specs.CpuSteps.{marks_in}
-use Rattle.machine_core.proofs.Made.{past-counted}
+use Rattle.ft_machine.proofs.Made.{past-counted}
 use Rattle.ft_machine.specs.Fed.{control_items, cpu_items}
 use Rattle.live_table.specs.Recorded.{cpu, cpu_lists, lists}
 

@@ -15,9 +15,9 @@ use Rattle.word_map.specs.declared.shape.Shape.{Shape}
 use Rattle.word_map.proofs.PlaceLaws.{is_map}
 use Rattle.word_machine.specs.Laws.{AllFit}
 use Rattle.word_machine.specs.Machine.{taken, words_after}
-use Rattle.machine_core.specs.Tables.{HasRoomAt, gives, made}
-use Rattle.machine_core.specs.Worlds.{words_of}
-use Rattle.machine_core.proofs.Made.{IsOpThere, gives-is, made-is, room-is}
+use Rattle.ft_machine.specs.Tables.{HasRoomAt, gives, made}
+use Rattle.ft_machine.specs.Worlds.{words_of}
+use Rattle.ft_machine.proofs.Made.{IsOpThere, gives-is, made-is, room-is}
 use Rattle.live_table.specs.Operations.{op_after, op_gives, op_word}
 
 -- what the operation gives, and the words after it

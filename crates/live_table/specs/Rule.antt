@@ -15,7 +15,7 @@ use Rattle.word_map.specs.Shapes.{shape_of}
 use Rattle.word_machine.specs.Laws.{Runs}
 use Rattle.word_machine.specs.Limits.{IsLimited}
 use Rattle.word_machine.specs.Machine.{World, run, start}
-use Rattle.machine_core.specs.Worlds.{words_of}
+use Rattle.ft_machine.specs.Worlds.{words_of}
 use Rattle.ft_machine.specs.Fed.{control_fed, control_items, cpu_fed}
 use Rattle.live_table.specs.declared.view.Part.{Part}
 use Rattle.live_table.specs.declared.view.View.{View}

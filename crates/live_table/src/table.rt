@@ -9,7 +9,7 @@ ghost use Rattle.word_map.specs.Places.{len};
 ghost use Rattle.word_map.specs.Shapes.{shape_of};
 ghost use Rattle.word_machine.specs.Limits.{IsLimited};
 ghost use Rattle.word_machine.specs.Machine.{start};
-ghost use Rattle.machine_core.specs.Worlds.{words_of};
+ghost use Rattle.ft_machine.specs.Worlds.{words_of};
 ghost use Rattle.word_machine.specs.Machine.{opening_words};
 ghost use Rattle.live_table.specs.declared.view.View.{View as SeatView};
 ghost use Rattle.live_table.specs.AtomicSteps.{MakesOp};

@@ -15,7 +15,7 @@ use Rattle.user_specs.specs.Plain.{DeclaredTask, DeclaredCpu, task_of, cpu_of}
 use Rattle.history_bound.specs.Bound.{calls_in, calls_of}
 use Rattle.word_machine.specs.Laws.{room_on}
 use Rattle.word_machine.specs.Limits.{IsLimited}
-use Rattle.machine_core.proofs.Plans.{Stands, own-on, room-most, stands-head, stands-tail}
+use Rattle.ft_machine.proofs.Plans.{Stands, own-on, room-most, stands-head, stands-tail}
 use Rattle.ft_job.specs.Parts.{tasks_on, cpus_with, cpus_from}
 use Rattle.live_seats.specs.Traced.{AreRooms}
 

@@ -6,7 +6,7 @@ ghost use Rattle.live_seats.specs.Traced.{AreRooms};
 use ft_base::NoMemory;
 use ft_base::limits::Limits;
 use ft_job::Job;
-use machine_core::calls_of;
+use ft_machine::calls_of;
 use std::alloc::Global;
 use user_specs::call_bound;
 

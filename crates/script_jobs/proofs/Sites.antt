@@ -6,7 +6,7 @@ use Rattle.ft_base.specs.Job.{Job}
 use Rattle.ft_base.proofs.DeskLaws.{length-desk}
 use Rattle.ft_base.proofs.Small.{and-false}
 use Rattle.ft_hist.specs.Past.{begun, done}
-use Rattle.machine_core.specs.Sites.{IsWhole}
+use Rattle.ft_machine.specs.Sites.{IsWhole}
 use Rattle.site_bytes.specs.Bytes.{bytes_of}
 use Rattle.site_bytes.specs.declared.insn.Insn.TheVariants.{Nop}
 use Rattle.ft_machine.proofs.Nobody.{nobody-nop}

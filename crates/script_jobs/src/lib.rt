@@ -21,7 +21,7 @@ ghost use Rattle.ft_hist.specs.Rules.{IsLegal, IsWhole};
 ghost use Rattle.ft_job.specs.Plans.{HasLanes};
 ghost use Rattle.ft_script.specs.Hidden.{known_after, is_there};
 ghost use Rattle.ft_script.specs.Script.{declared_in, IsJobOf};
-ghost use Rattle.machine_core.specs.Sites.{IsWhole as IsWholeSite};
+ghost use Rattle.ft_machine.specs.Sites.{IsWhole as IsWholeSite};
 ghost use Rattle.module_laws.specs.Kept.{KeepsLoaded, RunsLoaded};
 ghost use Rattle.site_bytes.specs.Bytes.{bytes_of};
 ghost use Rattle.site_bytes.specs.declared.insn.Insn.TheVariants.{Nop};

@@ -1,9 +1,9 @@
-//! [`machine_core::World`]: a machine of one function, one CPU without tasks, and a command. The memory
+//! [`ft_machine::World`]: a machine of one function, one CPU without tasks, and a command. The memory
 //! that it takes is found, and its actors step to their ends.
 
 use ft_base::{Actor, Answer, CpuNo, FuncNo, Item};
 use ft_desk::{Command, Ctl, Desk};
-use machine_core::{CpuRoom, TaskLimits, World};
+use ft_machine::{CpuRoom, TaskLimits, World};
 use std::test::Fail;
 use user_specs::CpuPlan;
 use word_map::{Shape, WordMap};

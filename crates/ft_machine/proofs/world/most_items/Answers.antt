@@ -1,30 +1,17 @@
-use Rattle.std.proofs.Common.{length, map, refl}
-use Rattle.ft_base.specs.Job.{Job, funcs}
-use Rattle.word_map.specs.Shapes.{shape_of}
-use Rattle.ft_desk.specs.Declarations.{Declared, bare}
-use Rattle.ft_desk.specs.Seen.{opened}
-use Rattle.machine_core.specs.Starts.{AreListsOf}
-use Rattle.machine_core.proofs.Opening.{declared-lists}
-use Rattle.ft_machine.specs.Kept.{limits_for}
-use Rattle.ft_machine.proofs.Declared.{declares}
+-- The lines are at most as many as a script may have, and the rooms of the CPUs are those of all items.
+use Rattle.std.proofs.Common.{arith}
+use Rattle.word_machine_laws.proofs.Limited.{few-commands}
 use Rattle.ft_machine.proofs.world.most_items.Goals as goal
-use Rattle.ft_machine.proofs.world.most_items.Goals.{After-task_limits}
 
--- what the job's desk declares
-abbrev declared_for : Job → Declared
-declared_for job = record { specs = map bare job.users; funcs = funcs job; tasks = length job.tasks; tramps = job.tramps }
-
-lists : (c : After-task_limits) → AreListsOf c.args.job.now c.ctls.result.now c.cpus.result.now c.specs.result.now c.task_limits.result
-lists c =
-    let job = c.args.job.now in
-    rw c.task_limits.ensures
-    (declared-lists job (opened (declared_for job)) c.ctls.result.now c.cpus.result.now c.specs.result.now (limits_for job) (shape_of job)
-    (declares job (opened (declared_for job)) c.ctls.result.now c.cpus.result.now c.specs.result.now (limits_for job)
-    c.shape-shape.ensures.limited refl (record { specs = refl; funcs = refl; tasks = refl; tramps = refl }) c.ctls.ensures c.cpus.ensures.quanta c.cpus.ensures.tasks
-    c.cpus.ensures.quick c.specs.ensures refl refl))
-
-pub most_items-requires : goal.most_items-requires
-most_items-requires c = (c.args.job.now, lists (goal.at.most_items-requires c).After-task_limits)
+pub overflow_add-result : goal.overflow_add-result
+overflow_add-result c =
+    let r = c.requires in
+    let rooms = c.all_rooms.ensures r.0 r.1.shape r.1.limited r.1.declared in
+    omega (arith, rooms, r.1.lines, r.1.limited.ctls, r.1.limited.items)
 
 pub returns : goal.returns
-returns c = c.most_items.ensures c.args.job.now (lists (goal.at.returns c).After-task_limits)
+returns c = λ job is.
+    (let rooms = c.all_rooms.ensures job is.shape is.limited is.declared in
+    let few = few-commands job.ctls in
+    let same = is.lines in
+    omega (arith, rooms, few, same))

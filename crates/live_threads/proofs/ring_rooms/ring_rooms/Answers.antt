@@ -10,7 +10,7 @@ use Rattle.user_specs.specs.Bound.{call_bound_in, call_bound_of}
 use Rattle.user_specs.specs.Plain.{cpu_of, spec_of}
 use Rattle.word_machine.specs.Laws.{room_on}
 use Rattle.trace_rings.proofs.Plans.{cpu-count}
-use Rattle.machine_core.proofs.Plans.{room-most}
+use Rattle.ft_machine.proofs.Plans.{room-most}
 use Rattle.live_threads.proofs.RingRooms.{few-acts, few-tasks, room-is, rooms-are}
 use Rattle.live_threads.proofs.ring_rooms.ring_rooms.Goals.{After-calls_of}
 use Rattle.live_threads.proofs.ring_rooms.ring_rooms.Goals as goal

@@ -1,7 +1,7 @@
 use Rattle.std.proofs.Common.{List, ℕ, ◌<◌, sym, subst}
 use Rattle.word_map.specs.declared.shape.Shape.{Shape}
-use Rattle.machine_core.specs.Sites.{IsWhole}
-use Rattle.machine_core.proofs.SiteLaws.{whole-site}
+use Rattle.ft_machine.specs.Sites.{IsWhole}
+use Rattle.ft_machine.proofs.SiteLaws.{whole-site}
 use Rattle.ft_machine.specs.Machines.{state_of}
 use Rattle.ft_machine.proofs.machine.Machine.site.Goals as goal
 

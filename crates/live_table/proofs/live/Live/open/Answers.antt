@@ -5,9 +5,9 @@ use Rattle.word_map.specs.Places.{len}
 use Rattle.word_map.specs.Shapes.{shape_of}
 use Rattle.word_machine.specs.Limits.{IsLimited}
 use Rattle.word_machine.specs.Machine.{opening_words}
-use Rattle.machine_core.specs.declared.cpus.CpuRoom.TheVariants.{ForAll}
-use Rattle.machine_core.specs.Starts.{AreFirst}
-use Rattle.machine_core.specs.Worlds.{words_of}
+use Rattle.ft_machine.specs.declared.cpus.CpuRoom.TheVariants.{ForAll}
+use Rattle.ft_machine.specs.Starts.{AreFirst}
+use Rattle.ft_machine.specs.Worlds.{words_of}
 use Rattle.live_table.specs.Seats.{withheld_if}
 use Rattle.live_table.specs.Views.{control_view, led_first}
 use Rattle.live_table.proofs.AtStart.{opens-control, opens-place, opens-table, opens-words}

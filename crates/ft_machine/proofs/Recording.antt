@@ -1,0 +1,92 @@
+-- What an operation marks, and what is told of it: the world's items go on with that.
+use Rattle.std.proofs.Common.{◌≡◌, ◌≢◌, ℕ, suc, ◌-◌, ◌<◌, Bool, List, [], ◌∷◌, get_or, length, map, Option, Some, None, IsSome, refl, sym, ap, ◌∙◌, subst, arith}
+use Rattle.ft_base.specs.declared.item.Item.{Item}
+use Rattle.ft_base.specs.declared.item.Stamped.{Stamped}
+use Rattle.word_map.specs.declared.op.Op.{Op}
+use Rattle.word_map.specs.declared.op.Op.TheVariants.{Mark as CodeMark}
+use Rattle.word_map.specs.declared.shape.Shape.{Shape}
+use Rattle.word_map.specs.Ops.{WordOp, Load, Store, Mark, placed}
+use Rattle.word_machine.specs.Machine.{past_after}
+use Rattle.cpu_core.specs.Marks.{Marks, handed_on}
+use Rattle.task_core.specs.TaskOps.{item_in}
+use Rattle.ft_machine.specs.Worlds.{marked_on}
+
+-- ## what is marked
+
+-- what an actor with an empty list has in it after an operation
+abbrev pub IsMarked : WordOp → List Stamped → Type 0
+IsMarked (Mark item) items = (s : Stamped) × (items ≡ s ∷ []) × (s.item ≡ item)
+IsMarked _ items = items ≡ []
+
+-- what is told of an operation: the item that it has marked
+abbrev pub IsTold : WordOp → Option Item → Type 0
+IsTold (Mark item) o = o ≡ Some item
+IsTold _ o = o ≡ None
+
+-- how many items are left to mark after an operation
+abbrev pub IsLeft : WordOp → ℕ → ℕ → Type 0
+IsLeft (Mark item) left left' = suc left' ≡ left
+IsLeft _ left left' = left' ≡ left
+
+-- ## as code has the operation
+
+-- what it leaves
+module _ (shape : Shape) (command : Bool) (items : List Stamped) where
+  pub mark-one : (op : WordOp) → placed shape op ≡ CodeMark command → IsMarked op items → length items ≡ 1
+  mark-one (Load w) e m = absurd cc
+  mark-one (Store w x) e m = absurd cc
+  mark-one (Mark item) e m = ap (λ (xs : List Stamped). length xs) m.1
+
+  pub mark-told : (op : WordOp) → placed shape op ≡ CodeMark command → IsMarked op items → (told : Item)
+      → map (λ (s : Stamped). s.item) items ≡ told ∷ [] → IsTold op (Some told)
+  mark-told (Load w) e m told one = absurd cc
+  mark-told (Store w x) e m told one = absurd cc
+  mark-told (Mark item) e m told one = ap (λ (i : Item). Some i)
+      (ap (λ (xs : List Item). get_or xs 0 told) (sym one ∙ ap (λ (xs : List Stamped). map (λ (s : Stamped). s.item) xs) m.1) ∙ m.2)
+
+-- any other operation leaves all as it was
+module _ (shape : Shape) (code : Op) (other : (command : Bool) → code ≢ CodeMark command) where
+  pub none-marked : (op : WordOp) → placed shape op ≡ code → (items : List Stamped) → IsMarked op items → items ≡ []
+  none-marked (Load w) e items m = m
+  none-marked (Store w x) e items m = m
+  none-marked (Mark item) e items m = absurd (other _ (sym e))
+
+  pub none-told : (op : WordOp) → placed shape op ≡ code → IsTold op None
+  none-told (Load w) e = refl
+  none-told (Store w x) e = refl
+  none-told (Mark item) e = absurd (other _ (sym e))
+
+-- ## what a CPU hands on
+
+-- what an operation marks is told
+pub is-told : (op : WordOp) (o : Option Item) → o ≡ item_in (Some op) → IsTold op o
+is-told (Load w) o e = e
+is-told (Store w x) o e = e
+is-told (Mark item) o e = e
+
+-- its list stays empty, and keeps its room
+pub handed-none : (o : Option Item) (m n : Marks) → n ≡ handed_on o m → m.items ≡ [] → n.items ≡ []
+handed-none None m n is none = ap (λ (k : Marks). k.items) is ∙ none
+handed-none (Some item) m n is none = ap (λ (k : Marks). k.items) is ∙ none
+
+pub handed-room : (o : Option Item) (m n : Marks) → n ≡ handed_on o m → n.room ≡ m.room
+handed-room None m n is = ap (λ (k : Marks). k.room) is
+handed-room (Some item) m n is = ap (λ (k : Marks). k.room) is
+
+-- and a mark takes one of those that are left
+pub handed-left : (op : WordOp) (o : Option Item) → o ≡ item_in (Some op) → (m n : Marks) → n ≡ handed_on o m → (IsSome o → 0 < m.left)
+    → IsLeft op m.left n.left
+handed-left (Load w) o e m n is some = ap (λ (k : Marks). k.left) (is ∙ ap (λ p. handed_on p m) e)
+handed-left (Store w x) o e m n is some = ap (λ (k : Marks). k.left) (is ∙ ap (λ p. handed_on p m) e)
+handed-left (Mark item) o e m n is some =
+    let left : n.left ≡ m.left - 1 = ap (λ (k : Marks). k.left) (is ∙ ap (λ p. handed_on p m) e) in
+    let had = some (subst (λ p. IsSome p) (sym e) refl) in
+    omega (arith, left, had)
+
+-- ## the items so far
+
+-- they go on with the world's
+pub told-past : (op : WordOp) (o : Option Item) → IsTold op o → (past : List Item) → marked_on o past ≡ past_after op past
+told-past (Load w) o same past = ap (λ (x : Option Item). marked_on x past) same
+told-past (Store w x) o same past = ap (λ (x : Option Item). marked_on x past) same
+told-past (Mark item) o same past = ap (λ (x : Option Item). marked_on x past) same

@@ -1,7 +1,0 @@
--- The calls so far.
-use Rattle.std.proofs.Common.{◌≡◌, ◌≤◌, take}
-use Rattle.history_bound.specs.Bound.{calls_in}
-use Rattle.machine_core.proofs.cpus.calls_in.Given as goal
-
-abbrev pub invariant-loop-act : goal.invariant-loop-act
-invariant-loop-act l = record { calls : l.calls ≡ calls_in (take l.act-index l.acts); few : l.calls ≤ l.act-index }

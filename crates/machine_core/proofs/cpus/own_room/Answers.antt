@@ -1,4 +1,0 @@
-use Rattle.machine_core.proofs.cpus.own_room.Goals as goal
-
-pub room_of-requires : goal.room_of-requires
-room_of-requires c = c.requires
