@@ -5,8 +5,8 @@ use Rattle.ft_base.specs.declared.item.Item.{Item}
 use Rattle.ft_base.specs.Job.{Job, ModuleRow}
 use Rattle.ft_base.proofs.Small.{false_true}
 use Rattle.ft_hist.specs.Rules.{IsLegal}
-use Rattle.module_laws.specs.Apart.{IsApart}
-use Rattle.module_laws.proofs.Still.{there}
+use Rattle.module_coverage.specs.Apart.{IsApart}
+use Rattle.module_coverage.proofs.Still.{there}
 use Rattle.ft_words.specs.declared.order.Order.{Order}
 use Rattle.ft_words.specs.declared.order.Order.TheVariants.{Replay, Run, Bulk}
 use Rattle.ring_rules.specs.Fold.{Rings}

@@ -6,7 +6,7 @@ use Rattle.ft_base.specs.Job.{Job}
 use Rattle.ft_hist.specs.Rules.{IsLegal, IsWhole}
 use Rattle.led_jobs.specs.Led.{in_order}
 use Rattle.led_jobs.specs.Orders.{IsLaneOrder}
-use Rattle.module_laws.specs.Kept.{KeepsLoaded, RunsLoaded}
+use Rattle.module_coverage.specs.Found.{KeepsLoaded, RunsLoaded}
 use Rattle.word_machine.specs.Machine.{play, all_end}
 use Rattle.ft_words.specs.declared.order.Form.TheVariants as Form
 use Rattle.ft_words.specs.declared.order.Order.{Order}

@@ -5,3 +5,10 @@ pub mod Places
 pub mod Steps
 pub mod Calls
 pub mod Least
+pub mod Still
+pub mod ActNumbers
+pub mod Waits
+pub mod FoundPlaces
+pub mod FoundSteps
+pub mod FoundCalls
+pub mod Samples

@@ -6,3 +6,5 @@ pub mod Uncovered
 pub mod Reading
 pub mod Histories
 pub mod Walks
+pub mod Apart
+pub mod Found

@@ -6,11 +6,13 @@
 //! the module of its function is loaded after each number of commands in its span.
 //!
 //! `lowest_uncovered` gives the lowest line of a call that isn't covered, if there is one; out of memory is its one error. A law,
-//! `uncovered_lines_are_those_of_the_job`, says what the answer means for the job. Only tested, in `scripts_tests`: that memory is
+//! `uncovered_lines_are_those_of_the_job`, says what the answer means for the job; others, what coverage is for: in every legal history
+//! of a job whose calls are covered, each call finds the module of its function loaded. Only tested, in `scripts_tests`: that memory is
 //! found when there is some, and that the largest scripts take no long time.
 #![tactic(auto)]
 
 mod change;
+mod found;
 mod history;
 mod laws;
 mod span;
@@ -19,5 +21,8 @@ mod until;
 mod walk;
 
 pub use change::{Change, are_in_order};
+pub use found::{
+    bodies_find_their_modules, calls_find_their_modules, modules_that_no_line_names_stay,
+};
 pub use laws::uncovered_lines_are_those_of_the_job;
 pub use uncovered::lowest_uncovered;

@@ -16,9 +16,9 @@ use Rattle.module_coverage.specs.Plan.{ModulePlan}
 use Rattle.module_coverage.specs.Reading.{wait_of, changes_of}
 use Rattle.module_coverage.specs.Spans.{waits_in}
 use Rattle.module_coverage.proofs.Known.{call-is, none-left}
-use Rattle.module_laws.specs.Apart.{IsActApart, AreActsApart, AreReplacementsApart}
-use Rattle.module_laws.specs.Kept.{KeepsLoaded, RunsLoaded}
-use Rattle.module_laws.proofs.Calls.{keeps, runs}
+use Rattle.module_coverage.specs.Apart.{IsActApart, AreActsApart, AreReplacementsApart}
+use Rattle.module_coverage.specs.Found.{KeepsLoaded, RunsLoaded}
+use Rattle.module_coverage.proofs.FoundCalls.{keeps, runs}
 use Rattle.script_waits.specs.declared.script.ControlLine.{ControlLine}
 use Rattle.script_waits.specs.declared.script.Wait.{Wait}
 use Rattle.script_waits.specs.Tasks.{tracks_of}

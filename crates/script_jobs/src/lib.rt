@@ -3,7 +3,7 @@
 //!
 //! `ft_script` says which texts are scripts and what their jobs are (`IsJobOf`). `word_machine` says
 //! of which jobs its laws speak (`IsLimited`), `trace_lines` of which jobs and items the log tells
-//! everything (`IsNamedApart`, `IsItemOf`), and `module_laws` in which histories no call reaches a module
+//! everything (`IsNamedApart`, `IsItemOf`), and `module_coverage` in which histories no call reaches a module
 //! that isn't loaded (`KeepsLoaded`). The reader of scripts shows that what a text declares keeps
 //! to the limits, line by line, since the machine asks for it; here that is said of whole texts, and
 //! that names and pids differ besides, which the machine has no need of. So it holds of each script by
@@ -22,7 +22,7 @@ ghost use Rattle.ft_job.specs.Plans.{HasLanes};
 ghost use Rattle.ft_script.specs.Hidden.{known_after, is_there};
 ghost use Rattle.ft_script.specs.Script.{declared_in, IsJobOf};
 ghost use Rattle.ft_machine.specs.Sites.{IsWhole as IsWholeSite};
-ghost use Rattle.module_laws.specs.Kept.{KeepsLoaded, RunsLoaded};
+ghost use Rattle.module_coverage.specs.Found.{KeepsLoaded, RunsLoaded};
 ghost use Rattle.site_bytes.specs.Bytes.{bytes_of};
 ghost use Rattle.site_bytes.specs.declared.insn.Insn.TheVariants.{Nop};
 ghost use Rattle.led_jobs.specs.Led.{in_order};

@@ -10,8 +10,8 @@ use Rattle.ft_base.specs.declared.task.TaskAct.TheVariants.{Call}
 use Rattle.ft_base.specs.Job.{Job}
 use Rattle.ft_hist.specs.Plain.{PlainTask, Frame, Phase, InBack, Leaving, InExit}
 use Rattle.module_coverage.specs.Covered.{acts_of, from_command, return_number}
-use Rattle.module_laws.specs.Apart.{IsApart}
-use Rattle.module_laws.proofs.ActNumbers.{Gone, gone-later}
+use Rattle.module_coverage.specs.Apart.{IsApart}
+use Rattle.module_coverage.proofs.ActNumbers.{Gone, gone-later}
 
 -- the return of a call has begun
 abbrev pub leaves : Phase → Bool

@@ -25,12 +25,12 @@ use Rattle.ft_hist.proofs.Told.{legal-to}
 use Rattle.ft_hist.proofs.WindowLaws.{done-more, entry_of-more, legal-counts}
 use Rattle.func_table.specs.Modules.{module_of}
 use Rattle.module_coverage.specs.Covered.{AreCovered, commands_until, to_command}
-use Rattle.module_laws.specs.Apart.{IsApart, AreActsApart, AreReplacementsApart}
-use Rattle.module_laws.specs.Kept.{IsLoadedNow, IsThere, KeepsLoaded, RunsLoaded}
-use Rattle.module_laws.proofs.Still.{there}
-use Rattle.module_laws.proofs.Waits.{begun-few}
-use Rattle.module_laws.proofs.Places.{Going, going-later, Claims}
-use Rattle.module_laws.proofs.Steps.{goes}
+use Rattle.module_coverage.specs.Apart.{IsApart, AreActsApart, AreReplacementsApart}
+use Rattle.module_coverage.specs.Found.{IsLoadedNow, IsThere, KeepsLoaded, RunsLoaded}
+use Rattle.module_coverage.proofs.Still.{there}
+use Rattle.module_coverage.proofs.Waits.{begun-few}
+use Rattle.module_coverage.proofs.FoundPlaces.{Going, going-later, Claims}
+use Rattle.module_coverage.proofs.FoundSteps.{goes}
 
 -- ## along the plain run
 

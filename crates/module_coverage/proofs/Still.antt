@@ -9,8 +9,8 @@ use Rattle.ft_base.proofs.Small.{or-false_both}
 use Rattle.ft_hist.specs.Past.{done, begun}
 use Rattle.func_table.specs.Modules.{module_of}
 use Rattle.module_coverage.specs.Loaded.{is_absent, is_changing, is_loaded, loaded_after}
-use Rattle.module_laws.specs.Apart.{IsApart}
-use Rattle.module_laws.specs.Kept.{IsThere, IsLoadedNow}
+use Rattle.module_coverage.specs.Apart.{IsApart}
+use Rattle.module_coverage.specs.Found.{IsThere, IsLoadedNow}
 
 -- lines of other modules change nothing
 still : (m k : ℕ) (was : Bool) (rows : List ModuleRow) → list_any (λ row. row.owner == m) rows ≡ false → loaded_after m k was rows ≡ was

@@ -1,4 +1,4 @@
-//! Calls never reach code that isn't there. A call is *covered* (`module_coverage`) if the module of
+//! Calls never reach code that isn't there. A call is *covered* if the module of
 //! its function is loaded at each number of commands at which the script lets the call be under way:
 //! it says so of the script alone, line by line. Here are the laws that say so of every legal
 //! history, whatever the order in which its actors made it. They are definitions and laws; there is
@@ -7,7 +7,6 @@
 //! A history is legal for the job whose commands load and unload the modules. Nothing is asked of
 //! the job besides what the clauses name: its calls may lack their returns, and the lines of its
 //! modules may come in any order.
-#![tactic(auto)]
 
 ghost use Rattle.std.specs.Prelude.{◌≡◌, ℕ, true, false, List};
 ghost use Rattle.ft_base.specs.Job.{Job as PlainJob, LinePlan};
@@ -15,8 +14,8 @@ ghost use Rattle.ft_base.specs.declared.item.Item.{Item};
 ghost use Rattle.ft_hist.specs.Rules.{IsLegal};
 ghost use Rattle.module_coverage.specs.Covered.{AreCovered};
 ghost use Rattle.module_coverage.specs.Loaded.{is_changing, is_loaded};
-ghost use Rattle.module_laws.specs.Apart.{AreActsApart, AreReplacementsApart};
-ghost use Rattle.module_laws.specs.Kept.{KeepsLoaded, RunsLoaded};
+ghost use Rattle.module_coverage.specs.Apart.{AreActsApart, AreReplacementsApart};
+ghost use Rattle.module_coverage.specs.Found.{KeepsLoaded, RunsLoaded};
 
 /// Where the script's calls are covered, and no user's act calls a function of a module that comes
 /// and goes, each item of a call finds the module of its function loaded, after the commands that

@@ -21,9 +21,9 @@ use Rattle.ft_hist.specs.Plain.{PlainTask, Frame, Phase, Owed, Dispatch, InBack,
 use Rattle.ft_hist.specs.Rules.{acts_passed}
 use Rattle.ft_hist.proofs.Steps.{Step, step_begin, step_return, step_enter, step_act, step_back, step_back_end, step_refuse, step_miss, step_body, step_leave, step_act_leave, step_exit, step_exit_end, step_ret, IsQuiet, acts_ahead}
 use Rattle.module_coverage.specs.Covered.{acts_of, last_after, return_number}
-use Rattle.module_laws.specs.Apart.{IsActApart, AreActsApart}
-use Rattle.module_laws.proofs.ActNumbers.{get-between, take-front, drop-between, Gone, gone-more, gone-ahead, return-call, return-least, return-ahead, starts, alone, passed-ahead}
-use Rattle.module_laws.proofs.Places.{leaves, under, returns_from, IsPlaced, OfCall, Owes, Below, Top, to-below, to-top, below-same, Going, Claims}
+use Rattle.module_coverage.specs.Apart.{IsActApart, AreActsApart}
+use Rattle.module_coverage.proofs.ActNumbers.{get-between, take-front, drop-between, Gone, gone-more, gone-ahead, return-call, return-least, return-ahead, starts, alone, passed-ahead}
+use Rattle.module_coverage.proofs.FoundPlaces.{leaves, under, returns_from, IsPlaced, OfCall, Owes, Below, Top, to-below, to-top, below-same, Going, Claims}
 
 at-least : (b : Bool) (gone n : ℕ) → gone ≤ n → gone ≤ cond b gone n
 at-least true gone n le = omega arith

@@ -33,9 +33,9 @@ use Rattle.word_machine_laws.proofs.Ends.{every_play_is_legal}
 use Rattle.func_table.specs.Modules.{module_of}
 use Rattle.module_coverage.specs.Covered.{AreCovered, acts_of, from_command, to_command}
 use Rattle.module_coverage.specs.Loaded.{is_loaded}
-use Rattle.module_laws.specs.Apart.{AreActsApart, AreReplacementsApart}
-use Rattle.module_laws.specs.Kept.{KeepsLoaded, RunsLoaded}
-use Rattle.module_laws.proofs.Calls.{keeps, runs}
+use Rattle.module_coverage.specs.Apart.{AreActsApart, AreReplacementsApart}
+use Rattle.module_coverage.specs.Found.{KeepsLoaded, RunsLoaded}
+use Rattle.module_coverage.proofs.FoundCalls.{keeps, runs}
 
 -- what the replay of a job gives is legal
 legal-of : (job : Job) (items : List Item) (ended : Bool) → IsLimited job → Plays job items ended → IsLegal job items
