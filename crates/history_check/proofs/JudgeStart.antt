@@ -6,7 +6,7 @@ use Rattle.std.proofs.lemmas.Option.{get_or_from_slice_get}
 use Rattle.ft_base.specs.declared.task.TaskAct.{TaskAct}
 use Rattle.ft_base.specs.Job.{Job, Task, no_task}
 use Rattle.ft_hist.specs.Plain.{plain}
-use Rattle.task_runs.specs.Kept.{starting}
+use Rattle.history_check.specs.KeptRuns.{starting}
 use Rattle.history_check.specs.declared.task_past.TaskPast.{TaskPast}
 use Rattle.history_check.specs.KeptCalls.{AreStacked, IsTaskPast}
 

@@ -23,3 +23,5 @@ pub mod FollowRuns
 pub mod FollowPast
 pub mod OpenHolds
 pub mod OpenCallbacks
+pub mod RunEnds
+pub mod RunSteps

@@ -8,3 +8,4 @@ pub mod KeptTold
 pub mod KeptCalls
 pub mod KeptCallbacks
 pub mod KeptPast
+pub mod KeptRuns

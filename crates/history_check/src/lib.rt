@@ -10,14 +10,17 @@
 //! Only tested, in the crate `ft_machine_tests`: that it tells made up histories from legal ones.
 #![tactic(auto)]
 
+mod acts;
 mod backs;
 mod callbacks;
 mod desks;
+mod frame;
 mod judging;
 mod laws;
 mod open_call;
 mod past;
 mod rules;
+mod run;
 mod take_in;
 mod task_past;
 mod told;

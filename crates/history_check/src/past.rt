@@ -14,6 +14,7 @@ use crate::callbacks::Callbacks;
 use crate::desks::Desks;
 use crate::open_call::OpenCall;
 use crate::rules;
+use crate::run::TaskRun;
 use crate::task_past::{Due, TaskPast};
 use crate::verdict::Rule;
 use ft_base::limits::Limits;
@@ -22,7 +23,6 @@ use ft_desk::Ctl;
 use ft_job::Job;
 use std::alloc::Global;
 use std::collections::VecDeque;
-use task_runs::TaskRun;
 use user_specs::Spec;
 
 /// What is kept of the items so far.

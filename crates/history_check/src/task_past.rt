@@ -9,10 +9,10 @@ ghost use Rattle.history_check.specs.KeptCalls.{AreCallsOf, HasRoom, IsVisitBy, 
 ghost use Rattle.user_specs.specs.Plain.{spec_of};
 
 use crate::open_call::{OpenCall, Visit};
+use crate::run::TaskRun;
 use ft_base::{CallNo, Item, NoMemory, UserNo};
 use std::alloc::Global;
 use std::collections::VecDeque;
-use task_runs::TaskRun;
 use user_specs::Spec;
 
 /// A miss that has to be the next item of its task.

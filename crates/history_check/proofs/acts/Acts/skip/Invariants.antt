@@ -1,6 +1,6 @@
 use Rattle.std.proofs.Common.{◌≡◌, ◌+◌, length}
 use Rattle.ft_hist.specs.Plain.{ahead}
-use Rattle.task_runs.proofs.acts.Acts.skip.Given as goal
+use Rattle.history_check.proofs.acts.Acts.skip.Given as goal
 
 -- from here on it goes to the same act, and no act is lost
 abbrev pub invariant-loop-act : goal.invariant-loop-act

@@ -1,9 +1,9 @@
 use Rattle.std.proofs.Common.{rules, tests}
 use Rattle.std.proofs.lemmas.Iterator.{YieldsList-from_slice}
 use Rattle.std.proofs.lemmas.Iterator.Search.{all_from_yields_List}
-use Rattle.task_runs.specs.Kept.{is_silent}
-use Rattle.task_runs.proofs.Ends.{over-is}
-use Rattle.task_runs.proofs.acts.Acts.are_over.Goals as goal
+use Rattle.history_check.specs.KeptRuns.{is_silent}
+use Rattle.history_check.proofs.RunEnds.{over-is}
+use Rattle.history_check.proofs.acts.Acts.are_over.Goals as goal
 
 pub returns : goal.returns
 returns c =

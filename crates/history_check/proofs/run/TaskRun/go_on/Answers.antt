@@ -1,9 +1,9 @@
 use Rattle.std.proofs.Common.{◌∙◌, ◌∷◌, sym, ap, drop, Some, option_map}
 use Rattle.ft_hist.specs.Plain.{PlainTask, in_phase}
-use Rattle.task_runs.specs.Kept.{frame_of, moved, phase_of}
-use Rattle.task_runs.specs.declared.frame.Frame.{Frame}
-use Rattle.task_runs.proofs.Stepping.{is-top, of-none, step-is}
-use Rattle.task_runs.proofs.run.TaskRun.go_on.Goals as goal
+use Rattle.history_check.specs.KeptRuns.{frame_of, moved, phase_of}
+use Rattle.history_check.specs.declared.frame.Frame.{Frame}
+use Rattle.history_check.proofs.RunSteps.{is-top, of-none, step-is}
+use Rattle.history_check.proofs.run.TaskRun.go_on.Goals as goal
 
 pub returns-in_default : goal.returns-in_default
 returns-in_default c = λ job returned is step.

@@ -11,11 +11,11 @@ use Rattle.ft_base.specs.Job.{Job}
 use Rattle.ft_base.specs.Same.{same_call, same_ctx, context}
 use Rattle.ft_hist.specs.Plain as plain
 use Rattle.ft_hist.specs.Plain.{Ahead, PlainTask, in_phase, on_top, Dispatch, InBack, Running, Leaving, InExit, owed_by}
-use Rattle.task_runs.specs.declared.acts.Acts.{Acts}
-use Rattle.task_runs.specs.declared.frame.Owed.{Owed}
-use Rattle.task_runs.specs.declared.frame.Phase.{Phase}
-use Rattle.task_runs.specs.declared.frame.Phase.TheVariants as kept
-use Rattle.task_runs.specs.declared.frame.Frame.{Frame}
+use Rattle.history_check.specs.declared.acts.Acts.{Acts}
+use Rattle.history_check.specs.declared.frame.Owed.{Owed}
+use Rattle.history_check.specs.declared.frame.Phase.{Phase}
+use Rattle.history_check.specs.declared.frame.Phase.TheVariants as kept
+use Rattle.history_check.specs.declared.frame.Frame.{Frame}
 
 -- what is owed
 abbrev pub owed_of : Owed → plain.Owed

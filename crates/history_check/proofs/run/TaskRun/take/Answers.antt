@@ -1,7 +1,7 @@
 use Rattle.std.proofs.Common.{◌≡◌, sym, subst, Bool, Some, None, IfOk, if◌then◌else◌}
 use Rattle.ft_base.specs.declared.item.Item.{Item}
 use Rattle.ft_hist.specs.Plain.{after_item}
-use Rattle.task_runs.proofs.run.TaskRun.take.Goals as goal
+use Rattle.history_check.proofs.run.TaskRun.take.Goals as goal
 
 pub returns-in-Enter : goal.returns-in-Enter
 returns-in-Enter c = λ job is.

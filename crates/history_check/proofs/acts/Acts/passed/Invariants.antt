@@ -1,6 +1,6 @@
 use Rattle.std.proofs.Common.{◌≡◌, ◌+◌, drop}
-use Rattle.task_runs.specs.Kept.{past_silent}
-use Rattle.task_runs.proofs.acts.Acts.passed.Given as goal
+use Rattle.history_check.specs.KeptRuns.{past_silent}
+use Rattle.history_check.proofs.acts.Acts.passed.Given as goal
 
 -- so far each act gave no items, and from here on it goes to the same count
 abbrev pub invariant-loop-act : goal.invariant-loop-act
