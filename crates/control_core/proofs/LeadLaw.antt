@@ -4,9 +4,9 @@ use Rattle.std.proofs.lemmas.List.{drop-append-le, take-append-le}
 use Rattle.std.proofs.lemmas.Option.{slice_get_within}
 use Rattle.ft_base.specs.Job.{Job, Ctl, LinePlan, Run, Until, commands, commands_in}
 use Rattle.ft_desk.specs.Declarations.{Declared, IsOf}
-use Rattle.led_jobs.specs.Led.{later, more_to_come, with_lines}
-use Rattle.led_jobs.proofs.Desks.{same_command, same_desk}
-use Rattle.led_jobs.proofs.Lists.{get_front}
+use Rattle.word_machine_laws.specs.Led.{later, more_to_come, with_lines}
+use Rattle.word_machine_laws.proofs.LedDesks.{same_command, same_desk}
+use Rattle.word_machine_laws.proofs.LedLists.{get_front}
 use Rattle.control_core.specs.declared.phase.Phase.{Phase}
 use Rattle.control_core.specs.declared.phase.Phase.TheVariants as phase
 use Rattle.control_core.specs.Seated.{Seated, Fits, IsDeskOf, IsFor, IsUnder, control_of, position_of}

@@ -7,9 +7,9 @@ use Rattle.ft_desk.specs.Commands.{ctl_of}
 use Rattle.ft_desk.specs.Declarations.{IsOf}
 use Rattle.ft_desk.specs.Seen.{Seen}
 use Rattle.word_machine.specs.Control.{control_start}
-use Rattle.led_jobs.specs.Led.{with_lines}
-use Rattle.led_jobs.specs.Orders.{AreLed, IsLed, picked}
-use Rattle.led_jobs.proofs.Lists.{picked_append}
+use Rattle.word_machine_laws.specs.Led.{with_lines}
+use Rattle.word_machine_laws.specs.Orders.{AreLed, IsLed, picked}
+use Rattle.word_machine_laws.proofs.LedLists.{picked_append}
 use Rattle.control_core.specs.declared.phase.Phase.{Phase}
 use Rattle.control_core.specs.declared.phase.Phase.TheVariants as phase
 use Rattle.control_core.specs.declared.control.Control.TheInside.{Inside}

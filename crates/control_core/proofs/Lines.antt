@@ -17,7 +17,7 @@ use Rattle.ft_desk.specs.Commands.{IsInShape, command_of, ctl_of}
 use Rattle.ft_desk.specs.Declarations.{Declared, job_of}
 use Rattle.ft_desk.specs.Plans.{PlainPlan}
 use Rattle.ft_desk.specs.Seen.{Seen, after_command, answer}
-use Rattle.led_jobs.specs.Orders.{picked}
+use Rattle.word_machine_laws.specs.Orders.{picked}
 use Rattle.control_core.specs.declared.phase.Phase.{Phase}
 use Rattle.control_core.specs.declared.phase.Phase.TheVariants as phase
 use Rattle.control_core.specs.declared.control.Control.TheInside.{Inside}

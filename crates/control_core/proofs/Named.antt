@@ -7,7 +7,7 @@ use Rattle.ft_desk.specs.declared.command.Ctl.{Ctl}
 use Rattle.ft_desk.specs.declared.command.Ctl.TheVariants.{Run, Until}
 use Rattle.ft_desk.specs.Commands.{ctl_of}
 use Rattle.ft_desk.specs.Declarations.{Declared}
-use Rattle.led_jobs.specs.Orders.{picked}
+use Rattle.word_machine_laws.specs.Orders.{picked}
 use Rattle.ft_desk.specs.Lines.{IsLineIn, lines_of}
 use Rattle.control_core.specs.Lines.{IsNamedLine}
 use Rattle.control_core.specs.Plans.{IsDeclaredIn}

@@ -19,8 +19,8 @@ use Rattle.ft_desk.specs.Seen.{Seen, opened}
 use Rattle.ft_desk.proofs.ClaimLaws.{funcs-is}
 use Rattle.control_core.specs.declared.phase.Phase.TheVariants as phase
 use Rattle.control_core.specs.declared.control.Control.TheInside.{Inside}
-use Rattle.led_jobs.specs.Orders.{AreLed, picked}
-use Rattle.led_jobs.proofs.Lists.{picked_all as picked-whole}
+use Rattle.word_machine_laws.specs.Orders.{AreLed, picked}
+use Rattle.word_machine_laws.proofs.LedLists.{picked_all as picked-whole}
 use Rattle.ft_desk.specs.Lines.{IsLineIn, lines_of}
 use Rattle.control_core.specs.Plans.{IsDeclaredIn, IsDeskIn, IsPlanIn}
 use Rattle.control_core.specs.Kept.{HasLeft, IsKept, asked, busy, seated_of}

@@ -6,7 +6,7 @@ use Rattle.std.proofs.lemmas.Bool.{eq-eqb, or_left, or_right}
 use Rattle.std.proofs.lemmas.List.Elements.{All-cons, All-nil}
 use Rattle.std.proofs.lemmas.List.Folds.{list_any_at}
 use Rattle.std.proofs.lemmas.Option.{get_or_from_slice_get, slice_get-map, slice_get_within}
-use Rattle.led_jobs.specs.Orders.{IsLed, before_all, picked}
+use Rattle.word_machine_laws.specs.Orders.{IsLed, before_all, picked}
 
 -- these are numbers of n lines
 abbrev pub AreBelow : ℕ → List ℕ → Type 0

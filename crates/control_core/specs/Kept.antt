@@ -4,7 +4,7 @@ use Rattle.ft_base.specs.declared.limits.TheConstants.{COMMANDS, FUNCS, UNTILS}
 use Rattle.word_map.specs.Shapes.{IsShape}
 use Rattle.word_map.specs.Places.{words_for}
 use Rattle.grace_core.specs.declared.waiter.WaitPhase.{WaitPhase}
-use Rattle.led_jobs.specs.Orders.{AreLed, picked}
+use Rattle.word_machine_laws.specs.Orders.{AreLed, picked}
 use Rattle.ft_desk.specs.Lines.{IsLineIn, lines_of}
 use Rattle.control_core.specs.Lines.{IsNamedLine}
 use Rattle.control_core.specs.Phases.{is_asking}

@@ -6,7 +6,7 @@ ghost use Rattle.word_map.specs.Places.{words_for};
 ghost use Rattle.word_map.specs.Ops.{placed};
 ghost use Rattle.grace_core.specs.Waits.{wait_got};
 ghost use Rattle.ft_desk.specs.Seen.{opened};
-ghost use Rattle.led_jobs.specs.Orders.{AreLed, IsLed, picked};
+ghost use Rattle.word_machine_laws.specs.Orders.{AreLed, IsLed, picked};
 ghost use Rattle.ft_desk.specs.Declarations.{IsOf};
 ghost use Rattle.ft_desk.specs.Lines.{IsLineIn, lines_of};
 ghost use Rattle.word_map.specs.Shapes.{shape_of};
@@ -70,7 +70,7 @@ impl Model for Control {
 impl Control {
     ghost use Rattle.word_machine.specs.Control.{control_got, control_next, control_start};
     ghost use Rattle.ft_base.specs.Job.{Job, LinePlan};
-    ghost use Rattle.led_jobs.specs.Led.{later, more_to_come, with_lines};
+    ghost use Rattle.word_machine_laws.specs.Led.{later, more_to_come, with_lines};
     ghost use Rattle.control_core.specs.Seated.{IsFor, IsOpening, LeadsAll, control_of};
     ghost use Rattle.control_core.specs.Kept.{IsSafe, busy, asked, moves};
     ghost use Rattle.control_core.specs.Steps.{at_phase, closed, line_after, linked, linked_after, listed, marks_in, moved, op_of, page_after, stepped, wrote};

@@ -6,7 +6,7 @@ ghost use Rattle.word_map.specs.Ops.{placed};
 ghost use Rattle.patch_core.specs.Moves.{batch_next};
 ghost use Rattle.ft_desk.specs.Commands.{ctl_of};
 ghost use Rattle.ft_desk.specs.Plans.{plain_plan};
-ghost use Rattle.led_jobs.specs.Orders.{AreLed, picked};
+ghost use Rattle.word_machine_laws.specs.Orders.{AreLed, picked};
 ghost use Rattle.control_core.specs.Plans.{IsPlanIn};
 ghost use Rattle.control_core.specs.Steps.{depth_next, line_next, patch_next, pids_next, release_next, select_next, take_next, write_next};
 ghost use Rattle.control_core.specs.Lines.{IsTaskIn};

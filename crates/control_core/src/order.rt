@@ -2,7 +2,7 @@
 
 ghost use Rattle.std.specs.Prelude.{◌≡◌, ◌<◌, length, option_map, slice_get, IfOk, IfSome};
 ghost use Rattle.std.specs.List.{range_with_len};
-ghost use Rattle.led_jobs.specs.Orders.{AreLed, picked};
+ghost use Rattle.word_machine_laws.specs.Orders.{AreLed, picked};
 
 use ft_base::NoMemory;
 use ft_desk::Ctl;

@@ -4,8 +4,8 @@ use Rattle.std.specs.Prelude.{◌==◌}
 use Rattle.ft_base.specs.declared.item.Item.{Item}
 use Rattle.ft_base.specs.Job.{Job}
 use Rattle.ft_hist.specs.Rules.{IsWhole}
-use Rattle.led_jobs.specs.Led.{in_order}
-use Rattle.led_jobs.specs.Orders.{IsLaneOrder}
+use Rattle.word_machine_laws.specs.Led.{in_order}
+use Rattle.word_machine_laws.specs.Orders.{IsLaneOrder}
 use Rattle.script_jobs.proofs.LaneOrders.{no-lanes, some-lanes}
 use Rattle.ft_app.specs.Reply.{IsMergeOf, IsRunOf}
 

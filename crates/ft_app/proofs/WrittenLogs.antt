@@ -6,7 +6,7 @@ use Rattle.std.proofs.lemmas.List.{append_cancel_left, append_cancel_right}
 use Rattle.ft_base.specs.declared.item.Item.{Item}
 use Rattle.ft_base.specs.Job.{Job}
 use Rattle.ft_hist.specs.Rules.{IsLegal, IsWhole}
-use Rattle.led_jobs.specs.Led.{in_order}
+use Rattle.word_machine_laws.specs.Led.{in_order}
 use Rattle.ft_job.specs.Plans.{HasLanes}
 use Rattle.ft_words.specs.declared.order.Form.TheVariants.{Log}
 use Rattle.ft_words.specs.declared.order.Order.{Order}

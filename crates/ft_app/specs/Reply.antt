@@ -4,8 +4,8 @@ use Rattle.ft_base.specs.declared.item.Item.{Item}
 use Rattle.ft_base.specs.declared.memory.NoMemory.{NoMemory}
 use Rattle.ft_base.specs.Job.{Job}
 use Rattle.ft_hist.specs.Rules.{IsLegal, IsWhole}
-use Rattle.led_jobs.specs.Led.{in_order}
-use Rattle.led_jobs.specs.Orders.{IsLaneOrder}
+use Rattle.word_machine_laws.specs.Led.{in_order}
+use Rattle.word_machine_laws.specs.Orders.{IsLaneOrder}
 use Rattle.module_coverage.specs.Found.{KeepsLoaded, RunsLoaded}
 use Rattle.word_machine.specs.Machine.{play, all_end}
 use Rattle.ft_words.specs.declared.order.Form.TheVariants as Form

@@ -10,9 +10,9 @@ use Rattle.ft_base.specs.Job.{Job, Ctl, Run, Until, commands_in}
 use Rattle.ft_desk.specs.Lines.{IsLineIn}
 use Rattle.ft_desk.specs.declared.command.Ctl.{Ctl as DeskCtl}
 use Rattle.ft_desk.specs.Commands.{ctl_of}
-use Rattle.led_jobs.specs.Led.{in_order}
-use Rattle.led_jobs.specs.Orders.{before_all, picked, AreLed}
-use Rattle.led_jobs.proofs.Limits.{each_picked, limited_in_order}
+use Rattle.word_machine_laws.specs.Led.{in_order}
+use Rattle.word_machine_laws.specs.Orders.{before_all, picked, AreLed}
+use Rattle.word_machine_laws.proofs.LedLimits.{each_picked, limited_in_order}
 use Rattle.word_machine.specs.Limits.{IsLimited}
 use Rattle.ft_job.specs.Parts.{Parts, task_count, declared_of, IsWithin, job_of}
 use Rattle.ft_job.specs.Plans.{IsCommand, HasLanes, AreLinesPlanned}

@@ -1,7 +1,7 @@
 //! Lines of control and their lanes in another order.
 
 ghost use Rattle.std.specs.Prelude.{◌≡◌, IfOk};
-ghost use Rattle.led_jobs.specs.Orders.{picked};
+ghost use Rattle.word_machine_laws.specs.Orders.{picked};
 
 use crate::parts::JobParts;
 use ft_base::NoMemory;

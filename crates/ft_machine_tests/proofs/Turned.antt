@@ -3,7 +3,7 @@ use Rattle.std.proofs.Common.{◌<◌, ℕ, List, [], ◌∷◌, refl, subst, ar
 use Rattle.std.specs.Prelude.{eqb}
 use Rattle.std.specs.List.{list_any, AllByRecursion as Each, IsDistinct}
 use Rattle.ft_base.proofs.Small.{false_true, or-true_either}
-use Rattle.led_jobs.specs.Orders.{IsLed, AreAllLed}
+use Rattle.word_machine_laws.specs.Orders.{IsLed, AreAllLed}
 
 below : (n : ℕ) (order : List ℕ) → Each (λ k. k < n) order → (k : ℕ) → IsLed order k → k < n
 below n [] h k led = false_true led

@@ -11,7 +11,7 @@ use Rattle.std.proofs.lemmas.List.Sorted.{IsPermutation-refl, IsPermutation-tran
 use Rattle.std.proofs.lemmas.Map.Keys.{IsDistinct-IsPermutation}
 use Rattle.ft_base.proofs.Small.{==-refl, false_true}
 use Rattle.control_core.proofs.Leading.{all-led}
-use Rattle.led_jobs.specs.Orders.{AreLed, IsLaneOrder, picked, lane_of, in_lane}
+use Rattle.word_machine_laws.specs.Orders.{AreLed, IsLaneOrder, picked, lane_of, in_lane}
 use Rattle.script_jobs.proofs.LaneOrders.{each-led, own-lane, other-lane, picked-first}
 use Rattle.judge_app.specs.Lanes.{found_after, first_of, goes, told, told_order}
 

@@ -11,10 +11,10 @@ use Rattle.ft_base.specs.Job.{Job, commands}
 use Rattle.ft_hist.specs.Past.{begun}
 use Rattle.ft_hist.specs.Rules.{IsLegal, IsLegalPast, IsWhole}
 use Rattle.ft_hist.proofs.WindowLaws.{legal-counts}
-use Rattle.led_jobs.specs.Led.{in_order}
-use Rattle.led_jobs.specs.Orders.{IsLaneOrder, picked}
-use Rattle.led_jobs.proofs.Limits.{each_picked}
-use Rattle.led_jobs.proofs.Orders.{whole as all-in-order}
+use Rattle.word_machine_laws.specs.Led.{in_order}
+use Rattle.word_machine_laws.specs.Orders.{IsLaneOrder, picked}
+use Rattle.word_machine_laws.proofs.LedLimits.{each_picked}
+use Rattle.word_machine_laws.proofs.LedOrders.{whole as all-in-order}
 use Rattle.ft_job.specs.Plans.{HasLanes}
 use Rattle.ft_job.proofs.Ordered.{all-commands}
 use Rattle.history_check.specs.declared.verdict.Rule.{Rule}

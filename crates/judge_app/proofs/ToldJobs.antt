@@ -3,9 +3,9 @@ use Rattle.std.proofs.Common.{◌≡◌, ◌≢◌, ◌<◌, ◌^◌, ℕ, List,
 use Rattle.ft_base.specs.Job.{Job}
 use Rattle.ft_job.specs.Plans.{AreLinesPlanned}
 use Rattle.ft_job.proofs.Ordered.{all-commands}
-use Rattle.led_jobs.specs.Led.{in_order}
-use Rattle.led_jobs.specs.Orders.{AreAllLed}
-use Rattle.led_jobs.proofs.Limits.{each_picked}
+use Rattle.word_machine_laws.specs.Led.{in_order}
+use Rattle.word_machine_laws.specs.Orders.{AreAllLed}
+use Rattle.word_machine_laws.proofs.LedLimits.{each_picked}
 use Rattle.trace_lines.specs.LogItems.{IsNamedApart}
 use Rattle.word_machine.specs.Limits.{IsLimited}
 use Rattle.log_reader.specs.Lanes.{NamesLanes}

@@ -2,8 +2,8 @@
 use Rattle.std.specs.Prelude.{ℕ, ◌≡◌, ◌≢◌, ◌==◌, List, [], ◌∷◌, length, Option, Some, None, if◌then◌else◌}
 use Rattle.std.specs.List.{range_with_len}
 use Rattle.ft_base.specs.Job.{Job}
-use Rattle.led_jobs.specs.Led.{in_order}
-use Rattle.led_jobs.specs.Orders.{lane_of}
+use Rattle.word_machine_laws.specs.Led.{in_order}
+use Rattle.word_machine_laws.specs.Orders.{lane_of}
 use Rattle.log_reader.specs.Lanes.{NamesLanes}
 
 -- a line that was found after these, and the others

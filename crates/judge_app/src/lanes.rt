@@ -2,7 +2,7 @@
 
 ghost use Rattle.std.specs.Prelude.{◌≡◌, ◌<◌, ◌^◌, ◌==◌, length, position, IfOk, IfSome, IfNone, Some, None};
 ghost use Rattle.std.specs.List.{range_with_len};
-ghost use Rattle.led_jobs.specs.Orders.{lane_of};
+ghost use Rattle.word_machine_laws.specs.Orders.{lane_of};
 ghost use Rattle.judge_app.specs.Lanes.{IsToldBy, first_of, told_order};
 
 use ft_base::NoMemory;

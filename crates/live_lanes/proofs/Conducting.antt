@@ -4,7 +4,7 @@ use Rattle.std.specs.Prelude.{slice_get, slice_index}
 use Rattle.std.specs.List.{AllByRecursion as Each}
 use Rattle.ft_base.specs.Job.{Command, Ctl, Job, Run, Until}
 use Rattle.desk_lock.specs.Journals.{IsInOrder, done_of}
-use Rattle.led_jobs.specs.Orders.{IsLed, lane_of}
+use Rattle.word_machine_laws.specs.Orders.{IsLed, lane_of}
 use Rattle.word_machine.specs.Control.{control_next}
 use Rattle.ft_job.specs.Plans.{HasLanes, IsCommand}
 use Rattle.ft_job.proofs.Ordered.{all-commands}

@@ -6,7 +6,7 @@ use Rattle.std.proofs.lemmas.Bool.Decides.{nat_tests}
 use Rattle.std.proofs.lemmas.List.{take_all, take_more}
 use Rattle.std.proofs.lemmas.List.Sums.{sum_by-cons}
 use Rattle.live_lanes.specs.LaneItems.{AreCounts, count_in}
-use Rattle.led_jobs.specs.Orders.{lane_of}
+use Rattle.word_machine_laws.specs.Orders.{lane_of}
 use Rattle.live_lanes.proofs.Orders.{differ}
 
 -- so many lanes, from the b-th on, have so many commands

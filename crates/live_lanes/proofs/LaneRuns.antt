@@ -5,7 +5,7 @@ use Rattle.std.proofs.lemmas.Slice.Zip.{AllZip-long}
 use Rattle.ft_base.specs.declared.limits.TheConstants.{COMMANDS, LANES, UNTILS}
 use Rattle.ft_base.specs.Job.{Job}
 use Rattle.desk_lock.specs.Journals.{IsMerge}
-use Rattle.led_jobs.specs.Orders.{AreAllLed, AreLed, IsLaneOrder}
+use Rattle.word_machine_laws.specs.Orders.{AreAllLed, AreLed, IsLaneOrder}
 use Rattle.word_machine.specs.Control.{control_next}
 use Rattle.word_machine.specs.Limits.{IsLimited}
 use Rattle.ft_job.specs.Plans.{HasLanes}

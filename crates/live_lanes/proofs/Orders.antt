@@ -14,7 +14,7 @@ use Rattle.ft_base.proofs.Small.{==-refl}
 use Rattle.desk_lock.specs.declared.served.Served1.{Served1}
 use Rattle.desk_lock.specs.Journals.{IsMerge, items_of}
 use Rattle.desk_lock.proofs.Keeping.{same_or_not}
-use Rattle.led_jobs.specs.Orders.{AreLed, IsLaneOrder, IsLed, in_lane, lane_of}
+use Rattle.word_machine_laws.specs.Orders.{AreLed, IsLaneOrder, IsLed, in_lane, lane_of}
 use Rattle.live_lanes.specs.LaneItems.{AreCounts, as_item, as_items, count_in, rank}
 
 -- ## counting

@@ -6,7 +6,7 @@ use Rattle.std.proofs.lemmas.List.{map-append}
 use Rattle.desk_lock.specs.declared.served.Served1.{Served1}
 use Rattle.desk_lock.specs.Journals.{IsInOrder, done_of, pair}
 use Rattle.desk_lock.proofs.Keeping.{in_order}
-use Rattle.led_jobs.specs.Orders.{IsLed, in_lane, lane_of}
+use Rattle.word_machine_laws.specs.Orders.{IsLed, in_lane, lane_of}
 use Rattle.live_lanes.specs.LaneItems.{as_item, as_items, rank}
 use Rattle.live_lanes.proofs.Orders.{items_are, lane_has, member_first, member_here, member_of, range_below}
 

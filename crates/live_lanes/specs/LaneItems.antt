@@ -2,7 +2,7 @@
 use Rattle.std.specs.Prelude.{ℕ, suc, ◌≡◌, ◌<◌, ◌==◌, if◌then◌else◌, List, [], ◌∷◌, length, map, take, slice_index}
 use Rattle.desk_lock.specs.declared.served.Served1.{Served1}
 use Rattle.desk_lock.specs.Journals.{IsMerge, pair}
-use Rattle.led_jobs.specs.Orders.{lane_of}
+use Rattle.word_machine_laws.specs.Orders.{lane_of}
 
 -- how often a lane stands among these
 abbrev pub count_in : ℕ → List ℕ → ℕ

@@ -2,7 +2,7 @@
 
 ghost use Rattle.std.specs.Prelude.{◌≡◌, ◌∷◌, ◌++◌, [], slice_get, Some, None};
 ghost use Rattle.ft_base.specs.Job.{Command, Run};
-ghost use Rattle.led_jobs.specs.Orders.{IsLed};
+ghost use Rattle.word_machine_laws.specs.Orders.{IsLed};
 ghost use Rattle.word_machine.specs.Control.{control_next};
 ghost use Rattle.live_table.specs.Seats.{ControlSitsAt, control_at};
 ghost use Rattle.live_seats.specs.AnySeats.{AreSameSeats, AreSeatsOf, without_rings};

@@ -3,7 +3,7 @@
 ghost use Rattle.std.specs.Prelude.{◌≡◌, ◌+◌, ◌<◌, ◌≤◌, length, sum, IfOk};
 ghost use Rattle.std.specs.List.{AllByRecursion as Each};
 ghost use Rattle.ft_base.specs.declared.limits.TheConstants.{COMMANDS, LANES, UNTILS};
-ghost use Rattle.led_jobs.specs.Orders.{lane_of};
+ghost use Rattle.word_machine_laws.specs.Orders.{lane_of};
 ghost use Rattle.live_lanes.specs.LaneItems.{AreCounts, count_in, rank};
 
 use std::alloc::{AllocError, Global};

@@ -3,8 +3,8 @@
 ghost use Rattle.std.specs.Prelude.{ℕ, List, ◌≡◌, ◌≤◌, ◌+◌, ◌∷◌, [], length, vec_capacity, IfOk, IfErr, None};
 ghost use Rattle.ft_hist.specs.Rules.{IsWhole};
 ghost use Rattle.desk_lock.specs.Journals.{IsMerge};
-ghost use Rattle.led_jobs.specs.Led.{in_order};
-ghost use Rattle.led_jobs.specs.Orders.{IsLaneOrder};
+ghost use Rattle.word_machine_laws.specs.Led.{in_order};
+ghost use Rattle.word_machine_laws.specs.Orders.{IsLaneOrder};
 ghost use Rattle.word_machine.specs.Control.{control_next};
 ghost use Rattle.ft_job.specs.Plans.{HasLanes};
 ghost use Rattle.live_table.specs.Seats.{AreAtEnd, AreSeats, ControlSitsAt, IsMadeByTurns, control_at};

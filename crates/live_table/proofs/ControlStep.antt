@@ -3,8 +3,8 @@ use Rattle.std.proofs.Common.{◌≡◌, ℕ, ◌<◌, [], ◌∷◌, ◌++◌, 
 use Rattle.atomic_table.specs.Seated.{TableId}
 use Rattle.atomic_table.specs.Table.{Me, Allows}
 use Rattle.ft_base.specs.Job.{Job}
-use Rattle.led_jobs.specs.Led.{in_order}
-use Rattle.led_jobs.specs.Orders.{AreLed}
+use Rattle.word_machine_laws.specs.Led.{in_order}
+use Rattle.word_machine_laws.specs.Orders.{AreLed}
 use Rattle.word_map.specs.declared.op.Op.{Op}
 use Rattle.word_map.specs.declared.shape.Shape.{Shape}
 use Rattle.word_map.specs.Ops.{placed}

@@ -6,8 +6,8 @@ use Rattle.ft_base.specs.declared.turn.Actor.{Actor}
 use Rattle.ft_base.specs.declared.turn.Actor.TheVariants.{Control as ByControl}
 use Rattle.ft_base.specs.Job.{Job, Ctl, LinePlan}
 use Rattle.ft_hist.specs.Placing.{ArePlaced, past_below}
-use Rattle.led_jobs.specs.Led.{later, more_to_come, with_lines}
-use Rattle.led_jobs.proofs.Controls.{got_kept, next_kept}
+use Rattle.word_machine_laws.specs.Led.{later, more_to_come, with_lines}
+use Rattle.word_machine_laws.proofs.LedControls.{got_kept, next_kept}
 use Rattle.word_map.specs.Ops.{WordOp, placed}
 use Rattle.word_map.specs.Places.{len}
 use Rattle.word_map.specs.Shapes.{shape_of}

@@ -5,11 +5,11 @@ use Rattle.atomic_table.specs.Seated.{TableId}
 use Rattle.atomic_table.specs.Table.{Me, Allows}
 use Rattle.ft_base.specs.declared.turn.Actor.TheVariants.{Control as ByControl}
 use Rattle.ft_base.specs.Job.{Job, Command, Ctl, LinePlan, Run}
-use Rattle.led_jobs.specs.Led.{in_order, later, more_to_come, with_next}
-use Rattle.led_jobs.specs.Orders.{AreLed, IsLed, picked}
-use Rattle.led_jobs.proofs.Limits.{limited_in_order}
-use Rattle.led_jobs.proofs.Lists.{get_within}
-use Rattle.led_jobs.proofs.Orders.{grown}
+use Rattle.word_machine_laws.specs.Led.{in_order, later, more_to_come, with_next}
+use Rattle.word_machine_laws.specs.Orders.{AreLed, IsLed, picked}
+use Rattle.word_machine_laws.proofs.LedLimits.{limited_in_order}
+use Rattle.word_machine_laws.proofs.LedLists.{get_within}
+use Rattle.word_machine_laws.proofs.LedOrders.{grown}
 use Rattle.word_map.specs.declared.op.Op.TheVariants.{Mark as MarkOp}
 use Rattle.word_machine.specs.Control.{control_got, control_next}
 use Rattle.word_machine.specs.Laws.{IsOnWord}

@@ -5,8 +5,8 @@ use Rattle.ft_base.specs.declared.item.Stamped.{Stamped}
 use Rattle.ft_base.specs.declared.turn.Actor.{Actor}
 use Rattle.ft_base.specs.Job.{Job, Ctl, LinePlan}
 use Rattle.ft_hist.specs.Placing.{AreCounted}
-use Rattle.led_jobs.specs.Led.{later, more_to_come, with_lines}
-use Rattle.led_jobs.proofs.Cpus.{same_got, same_next}
+use Rattle.word_machine_laws.specs.Led.{later, more_to_come, with_lines}
+use Rattle.word_machine_laws.proofs.LedCpus.{same_got, same_next}
 use Rattle.word_map.specs.Contents.{low}
 use Rattle.word_machine.specs.Control.{Control}
 use Rattle.word_machine.specs.Cpu.{Cpu, cpu_got, cpu_next, cpu_start}

@@ -8,9 +8,9 @@ use Rattle.ft_base.specs.declared.item.Item.TheVariants.{Begin}
 use Rattle.ft_base.specs.declared.turn.Actor.{Actor}
 use Rattle.ft_base.specs.declared.turn.Actor.TheVariants.{Control as ByControl, Cpu as ByCpu}
 use Rattle.ft_base.specs.Job.{Job, Command, Ctl, LinePlan, Run}
-use Rattle.led_jobs.specs.Led.{later, more_to_come, with_lines, with_next}
-use Rattle.led_jobs.specs.Orders.{before_all, picked}
-use Rattle.led_jobs.proofs.Controls.{begins}
+use Rattle.word_machine_laws.specs.Led.{later, more_to_come, with_lines, with_next}
+use Rattle.word_machine_laws.specs.Orders.{before_all, picked}
+use Rattle.word_machine_laws.proofs.LedControls.{begins}
 use Rattle.word_map.specs.declared.op.Op.{Op}
 use Rattle.word_map.specs.declared.op.Op.TheVariants.{Mark as MarkOp}
 use Rattle.word_map.specs.Ops.{WordOp, Mark, placed}

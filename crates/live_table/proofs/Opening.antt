@@ -9,8 +9,8 @@ use Rattle.ft_base.specs.declared.turn.Actor.TheVariants.{Control as ByControl, 
 use Rattle.ft_base.specs.Desk.{desk}
 use Rattle.ft_base.specs.Job.{Job, Ctl, LinePlan}
 use Rattle.ft_hist.specs.Placing.{AreCounted, total}
-use Rattle.led_jobs.specs.Led.{with_lines}
-use Rattle.led_jobs.proofs.Limits.{limited_in_order}
+use Rattle.word_machine_laws.specs.Led.{with_lines}
+use Rattle.word_machine_laws.proofs.LedLimits.{limited_in_order}
 use Rattle.word_map.specs.Contents.{mask_of}
 use Rattle.word_map.specs.Places.{len, words_in}
 use Rattle.word_map.specs.Shapes.{shape_of}

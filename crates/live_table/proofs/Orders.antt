@@ -7,8 +7,8 @@ use Rattle.std.proofs.lemmas.Cmp.{nat_eq_equiv}
 use Rattle.std.proofs.lemmas.Map.Made.{is_member-filter, length-le_from_is_member}
 use Rattle.ft_base.specs.Job.{Ctl, Run, Until, commands_in}
 use Rattle.ft_base.proofs.Small.{and_both}
-use Rattle.led_jobs.specs.Orders.{AreLed, before_all, picked}
-use Rattle.led_jobs.proofs.Lists.{picked_all}
+use Rattle.word_machine_laws.specs.Orders.{AreLed, before_all, picked}
+use Rattle.word_machine_laws.proofs.LedLists.{picked_all}
 
 -- a number is one of those below n
 in-range : (n from k : ℕ) → from ≤ k → k < from + n → list_any (eqb k) (range_with_len from n) ≡ true

@@ -9,7 +9,7 @@ use Rattle.ft_base.specs.declared.item.Item.{Item}
 use Rattle.ft_base.specs.declared.turn.Actor.{Actor}
 use Rattle.ft_base.specs.declared.turn.Actor.TheVariants.{Control as ByControl, Cpu as ByCpu}
 use Rattle.ft_base.specs.Job.{Job, Ctl, LinePlan}
-use Rattle.led_jobs.specs.Led.{later, more_to_come, with_lines}
+use Rattle.word_machine_laws.specs.Led.{later, more_to_come, with_lines}
 use Rattle.word_map.specs.Places.{len}
 use Rattle.word_map.specs.Shapes.{shape_of}
 use Rattle.word_machine.specs.Laws.{Runs}

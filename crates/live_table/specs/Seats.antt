@@ -8,8 +8,8 @@ use Rattle.ft_base.specs.declared.limits.TheConstants.{ITEMS}
 use Rattle.ft_base.specs.declared.turn.Actor.{Actor}
 use Rattle.ft_base.specs.Job.{Job}
 use Rattle.ft_hist.specs.Placing.{by_place}
-use Rattle.led_jobs.specs.Led.{in_order}
-use Rattle.led_jobs.specs.Orders.{AreLed}
+use Rattle.word_machine_laws.specs.Led.{in_order}
+use Rattle.word_machine_laws.specs.Orders.{AreLed}
 use Rattle.word_map.specs.Places.{len}
 use Rattle.word_map.specs.Shapes.{shape_of}
 use Rattle.word_machine.specs.Control.{Control, control_next}

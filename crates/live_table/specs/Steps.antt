@@ -2,7 +2,7 @@
 use Rattle.std.specs.Prelude.{ℕ, suc, ◌≡◌, [], ◌∷◌, ◌++◌, Option, Some, None}
 use Rattle.ft_base.specs.declared.item.Item.TheVariants.{Begin}
 use Rattle.ft_base.specs.Job.{Job}
-use Rattle.led_jobs.specs.Led.{with_next}
+use Rattle.word_machine_laws.specs.Led.{with_next}
 use Rattle.word_map.specs.Ops.{WordOp, Mark, placed}
 use Rattle.word_map.specs.Shapes.{shape_of}
 use Rattle.word_machine.specs.Control.{control_next}

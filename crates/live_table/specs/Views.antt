@@ -8,7 +8,7 @@ use Rattle.ft_base.specs.declared.turn.Actor.{Actor}
 use Rattle.ft_base.specs.declared.turn.Actor.TheVariants.{Control as ByControl, Cpu as ByCpu}
 use Rattle.ft_base.specs.Job.{usual_lines, usual_rings, Job}
 use Rattle.ft_hist.specs.Placing.{AreCounted}
-use Rattle.led_jobs.specs.Led.{in_order, with_next}
+use Rattle.word_machine_laws.specs.Led.{in_order, with_next}
 use Rattle.word_map.specs.Contents.{low}
 use Rattle.word_map.specs.Ops.{WordOp, Mark}
 use Rattle.word_machine.specs.Control.{control_next}

@@ -5,7 +5,7 @@ ghost use Rattle.ft_base.specs.declared.turn.Actor.TheVariants as Actor;
 ghost use Rattle.ft_base.specs.Job.{Command, Run};
 ghost use Rattle.ft_hist.specs.Placing.{ArePlaced, items_of};
 ghost use Rattle.ft_hist.specs.Rules.{IsLegal, IsWhole};
-ghost use Rattle.led_jobs.specs.Orders.{IsLed};
+ghost use Rattle.word_machine_laws.specs.Orders.{IsLed};
 ghost use Rattle.word_machine.specs.Control.{control_next};
 ghost use Rattle.control_core.specs.Seated.{IsOpening};
 ghost use Rattle.ft_machine.specs.declared.cpus.CpuRoom.TheVariants.{ForAll};

@@ -1,8 +1,8 @@
 //! The seats of the actors.
 
 ghost use Rattle.std.specs.Prelude.{◌≡◌, ◌≤◌, length, option_map};
-ghost use Rattle.led_jobs.specs.Led.{in_order};
-ghost use Rattle.led_jobs.specs.Orders.{AreLed};
+ghost use Rattle.word_machine_laws.specs.Led.{in_order};
+ghost use Rattle.word_machine_laws.specs.Orders.{AreLed};
 ghost use Rattle.word_machine.specs.Laws.{room_on};
 ghost use Rattle.live_table.specs.Seats.{IsRising, control_items_at, items_at, last_at};
 

@@ -4,7 +4,7 @@ use Rattle.std.specs.Prelude.{slice_get, eqb}
 use Rattle.std.specs.List.{list_any, AllByRecursion as Each}
 use Rattle.ft_base.specs.Job.{Job}
 use Rattle.ft_base.proofs.Small.{==-refl, or-true}
-use Rattle.led_jobs.specs.Orders.{before_all, picked, IsLed, lane_of, in_lane, IsLaneOrder}
+use Rattle.word_machine_laws.specs.Orders.{before_all, picked, IsLed, lane_of, in_lane, IsLaneOrder}
 
 -- ## lists by their elements
 

@@ -12,9 +12,9 @@ use Rattle.ft_base.proofs.Small.{Contains-head, Contains-more}
 use Rattle.ft_hist.specs.Past.{begun}
 use Rattle.ft_hist.specs.Rules.{IsLegal, IsLegalPast, IsWhole}
 use Rattle.ft_hist.proofs.WindowLaws.{legal-counts}
-use Rattle.led_jobs.specs.Led.{in_order}
-use Rattle.led_jobs.specs.Orders.{picked, AreLed, IsLaneOrder}
-use Rattle.led_jobs.proofs.Limits.{each_picked, limited_in_order}
+use Rattle.word_machine_laws.specs.Led.{in_order}
+use Rattle.word_machine_laws.specs.Orders.{picked, AreLed, IsLaneOrder}
+use Rattle.word_machine_laws.proofs.LedLimits.{each_picked, limited_in_order}
 use Rattle.ft_job.specs.Plans.{IsCommand, HasLanes}
 use Rattle.ft_job.proofs.Ordered.{all-commands}
 use Rattle.ft_script.specs.Script.{IsJobOf}

@@ -79,3 +79,9 @@ pub mod Stops
 pub mod ValueLaws
 -- a worked example, of which the laws speak
 mod Sample
+pub mod LedLists
+pub mod LedDesks
+pub mod LedControls
+pub mod LedCpus
+pub mod LedLimits
+pub mod LedOrders

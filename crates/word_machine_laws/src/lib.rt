@@ -1,7 +1,9 @@
 //! The laws of the word machine, as functions with empty bodies: the rule that holds between any two steps, that every history is legal,
 //! that every call site is whole or has a breakpoint, and that each loaded value fits. They hold for every job within the limits of
-//! scripts and under every list of actors. `word_machine` has the definitions, and says what control, CPUs, polls and syncs are.
+//! scripts and under every list of actors. While lines are led one by one, what comes later is read by nobody (`led`). `word_machine` has the definitions, and says what control, CPUs, polls and syncs are.
 #![tactic(auto)]
+
+mod led;
 
 ghost use Rattle.std.specs.Prelude.{ℕ, suc, ◌≡◌, ◌≢◌, ◌↔◌, ◌+◌, ◌*◌, ◌<◌, ◌≤◌, true, List, ◌∷◌, reverse, length, map, replicate, slice_set, Some, None};
 ghost use Rattle.std.specs.List.{range_with_len};
@@ -24,6 +26,11 @@ ghost use Rattle.word_machine.specs.Values.{tasks_in, copies_in};
 ghost use Rattle.word_machine.specs.Rule.{MachineRule, IsWordJob};
 ghost use Rattle.word_machine.specs.Limits.{IsLimited};
 ghost use Rattle.word_machine.specs.Laws.{HasRoom, AllFit, IsSettled, IsAt, IsHeldFor, Takes, CpuTakes, IsOnWord, IsLinking, IsWriting, walked, copy_read, items_on, room_on, Runs};
+
+pub use led::{
+    a_command_that_is_led_begins, led_jobs_are_limited, lines_to_come_change_nothing,
+    no_cpu_reads_lines, orders_grow_line_by_line,
+};
 
 /// The rule holds before the first step.
 pub fn the_rule_holds_at_the_start()

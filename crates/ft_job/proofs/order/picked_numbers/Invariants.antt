@@ -1,5 +1,5 @@
 use Rattle.std.proofs.Common.{◌≡◌, ◌≤◌, ◌++◌, ◌+◌, length, drop, vec_capacity, vec_len}
-use Rattle.led_jobs.specs.Orders.{picked}
+use Rattle.word_machine_laws.specs.Orders.{picked}
 use Rattle.ft_job.proofs.order.picked_numbers.Given as goal
 
 -- what was picked, and what is still to be picked; there is room for all of it

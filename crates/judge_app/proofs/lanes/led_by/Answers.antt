@@ -1,6 +1,6 @@
 use Rattle.std.proofs.Common.{◌≡◌, ◌<◌, ◌^◌, ℕ, List, length, refl, sym, ap, ap₂, ◌∙◌, subst}
-use Rattle.led_jobs.specs.Led.{in_order}
-use Rattle.led_jobs.specs.Orders.{AreAllLed}
+use Rattle.word_machine_laws.specs.Led.{in_order}
+use Rattle.word_machine_laws.specs.Orders.{AreAllLed}
 use Rattle.word_machine.specs.Limits.{IsLimited}
 use Rattle.script_jobs.proofs.LaneOrders.{no-lanes, some-lanes}
 use Rattle.judge_app.specs.Lanes.{told_order}

@@ -1,6 +1,6 @@
 use Rattle.std.proofs.Common.{◌≡◌, ◌<◌, ℕ, List, ◌==◌, length, position, get_or, Some, None, refl, sym, ap, ap₂, ◌∙◌, subst}
 use Rattle.std.proofs.lemmas.List.{get_or_read}
-use Rattle.led_jobs.specs.Orders.{lane_of}
+use Rattle.word_machine_laws.specs.Orders.{lane_of}
 use Rattle.judge_app.proofs.LaneOrders.{a-place, no-place}
 use Rattle.judge_app.proofs.lanes.take_first.Goals as goal
 

@@ -1,8 +1,8 @@
 use Rattle.std.proofs.Common.{ℕ, List, ◌≡◌, ◌∙◌, length, ap, sym, subst}
 use Rattle.ft_base.specs.Job.{Job}
 use Rattle.ft_hist.specs.Rules.{IsWhole}
-use Rattle.led_jobs.specs.Led.{in_order}
-use Rattle.led_jobs.specs.Orders.{AreAllLed, IsLaneOrder}
+use Rattle.word_machine_laws.specs.Led.{in_order}
+use Rattle.word_machine_laws.specs.Orders.{AreAllLed, IsLaneOrder}
 use Rattle.live_table.specs.Seats.{IsMadeByTurns}
 use Rattle.live_lanes.proofs.LaneRuns.{all_led, led_merge}
 use Rattle.live_lanes.proofs.run.gathered.Goals as goal

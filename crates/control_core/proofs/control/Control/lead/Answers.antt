@@ -1,6 +1,6 @@
 use Rattle.std.proofs.Common.{[], ◌∷◌, ◌++◌, sym, ap, ◌∙◌, subst, arith}
-use Rattle.led_jobs.specs.Led.{later}
-use Rattle.led_jobs.specs.Orders.{picked}
+use Rattle.word_machine_laws.specs.Led.{later}
+use Rattle.word_machine_laws.specs.Orders.{picked}
 use Rattle.control_core.specs.Seated.{IsFor, control_of}
 use Rattle.control_core.proofs.LeadLaw.{control-longer, for-longer}
 use Rattle.control_core.proofs.Led.{lead-kept, lead-room, led-seen, line-within}

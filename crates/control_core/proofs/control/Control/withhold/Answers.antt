@@ -1,5 +1,5 @@
 use Rattle.std.proofs.Common.{[], sym, subst, arith}
-use Rattle.led_jobs.specs.Led.{with_lines}
+use Rattle.word_machine_laws.specs.Led.{with_lines}
 use Rattle.control_core.specs.Seated.{IsFor}
 use Rattle.control_core.proofs.Led.{withheld-kept, withheld-seen, withheld-starts}
 use Rattle.control_core.proofs.control.Control.withhold.Goals as goal

@@ -1,5 +1,5 @@
 use Rattle.std.proofs.Common.{ℕ, [], ◌∷◌, sym, subst}
-use Rattle.led_jobs.specs.Orders.{AreAllLed}
+use Rattle.word_machine_laws.specs.Orders.{AreAllLed}
 use Rattle.ft_machine_tests.proofs.Turned.{last_first}
 use Rattle.ft_machine_tests.proofs.tests.ordered.last_first.Goals as goal
 

@@ -2,7 +2,7 @@
 use Rattle.std.proofs.Common.{◌≡◌, ℕ, zero, suc, ◌+◌, ◌<◌, ◌≤◌, List, [], ◌∷◌, ◌++◌, length, slice_get, Some, None, Option, refl, ap, ◌∙◌, arith}
 use Rattle.std.specs.List.{range_with_len}
 use Rattle.ft_base.specs.Job.{Ctl, Run, Until, commands_in}
-use Rattle.led_jobs.specs.Orders.{before_all, picked}
+use Rattle.word_machine_laws.specs.Orders.{before_all, picked}
 
 -- ## lists
 

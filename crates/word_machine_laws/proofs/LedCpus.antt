@@ -2,7 +2,7 @@
 use Rattle.std.proofs.Common.{◌≡◌, ℕ, List, refl}
 use Rattle.ft_base.specs.Job.{Job, Ctl, LinePlan}
 use Rattle.word_machine.specs.Cpu.{Cpu, cpu_next, cpu_got}
-use Rattle.led_jobs.specs.Led.{with_lines}
+use Rattle.word_machine_laws.specs.Led.{with_lines}
 
 pub same_next : (job : Job) (ctls : List Ctl) (plan : LinePlan) (me : Cpu) → cpu_next (with_lines job ctls plan) me ≡ cpu_next job me
 unfolding cpu_next

@@ -13,9 +13,9 @@ use Rattle.patch_core.specs.Moves.{Move, Done}
 use Rattle.word_machine.specs.Commands.{Effect, Adds, Removes, Edits, command, effect, moves, subject}
 use Rattle.word_machine.specs.Control.{Control, Position, Line, Take, Copy, Select, Push, Relink, StorePids, StoreDepth, Patch, Awaited, Ask, Await, Cpus, Tasks, Release, Close, next_in, got_in, control_next, control_got, answer_in, line_op, line_got, rest_lines, begin_in, before_moves, batch_first, selected_in, released_in, wait_for, in_wait, at_position, asked, copy_after, relinked}
 use Rattle.word_machine.specs.Rule.{ControlLines, UnderAt}
-use Rattle.led_jobs.specs.Led.{later, more_to_come}
-use Rattle.led_jobs.proofs.Desks.{same_command, same_desk, same_effect, same_moves}
-use Rattle.led_jobs.proofs.Lists.{get_within}
+use Rattle.word_machine_laws.specs.Led.{later, more_to_come}
+use Rattle.word_machine_laws.proofs.LedDesks.{same_command, same_desk, same_effect, same_moves}
+use Rattle.word_machine_laws.proofs.LedLists.{get_within}
 
 -- ## where control stands
 

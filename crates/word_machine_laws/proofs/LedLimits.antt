@@ -6,9 +6,9 @@ use Rattle.std.proofs.lemmas.Map.Steps.{length-le_from_distinct_below}
 use Rattle.ft_base.specs.Job.{Job, Command, Ctl, Run, Until, commands_in}
 use Rattle.ft_base.specs.WellFormed.{IsNamed}
 use Rattle.word_machine.specs.Limits.{IsLevel, IsLimited, WaitsFor}
-use Rattle.led_jobs.specs.Led.{in_order}
-use Rattle.led_jobs.specs.Orders.{AreLed, before_all, picked}
-use Rattle.led_jobs.proofs.Lists.{picked_few}
+use Rattle.word_machine_laws.specs.Led.{in_order}
+use Rattle.word_machine_laws.specs.Orders.{AreLed, before_all, picked}
+use Rattle.word_machine_laws.proofs.LedLists.{picked_few}
 
 -- ## what holds of each thing holds of each that is picked
 

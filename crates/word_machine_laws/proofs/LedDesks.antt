@@ -5,8 +5,8 @@ use Rattle.ft_base.specs.Desk.{Desk, desk, after, answer_on, target, is_accepted
 use Rattle.word_map.specs.Instructions.{code_by}
 use Rattle.patch_core.specs.Moves.{batch}
 use Rattle.word_machine.specs.Commands.{Nothing, effect_by, changed_from, command, effect, effect_in, insn, moves}
-use Rattle.led_jobs.specs.Led.{later}
-use Rattle.led_jobs.proofs.Lists.{commands_append, get_front}
+use Rattle.word_machine_laws.specs.Led.{later}
+use Rattle.word_machine_laws.proofs.LedLists.{commands_append, get_front}
 
 module _ (job : Job) (more : List Ctl) (plan : LinePlan) where
   abbrev longer : Job

@@ -6,7 +6,6 @@
 //! by nobody: control that isn't at its end does and becomes the same whatever lines come after those
 //! that were led, and a CPU reads no line at all. Each law is a function with an empty body, whose
 //! clauses say it.
-#![tactic(auto)]
 
 ghost use Rattle.std.specs.Prelude.{◌≡◌, ◌≤◌, ℕ, suc, List, [], ◌∷◌, ◌++◌, length, Some, None};
 ghost use Rattle.std.specs.List.{range_with_len};
@@ -18,8 +17,8 @@ ghost use Rattle.word_machine.specs.Control.{Control, Line, control_got, control
 ghost use Rattle.word_machine.specs.Cpu.{Cpu, cpu_got, cpu_next, cpu_start};
 ghost use Rattle.word_machine.specs.Limits.{IsLimited};
 ghost use Rattle.word_machine.specs.Rule.{ControlLines};
-ghost use Rattle.led_jobs.specs.Led.{in_order, later, more_to_come, with_lines, with_next};
-ghost use Rattle.led_jobs.specs.Orders.{AreLed};
+ghost use Rattle.word_machine_laws.specs.Led.{in_order, later, more_to_come, with_lines, with_next};
+ghost use Rattle.word_machine_laws.specs.Orders.{AreLed};
 
 /// Whatever lines come, control starts as it does without them. While it isn't at its end its next
 /// operation is the same, and so is what it becomes, with these lines to come. The desk after commands

@@ -2,8 +2,8 @@
 use Rattle.std.proofs.Common.{◌≡◌, ℕ, ◌≤◌, List, [], ◌∷◌, ◌++◌, length, arith}
 use Rattle.std.specs.List.{range_with_len}
 use Rattle.ft_base.specs.Job.{Job}
-use Rattle.led_jobs.specs.Led.{in_order, with_lines, with_next}
-use Rattle.led_jobs.proofs.Lists.{picked_all, picked_append}
+use Rattle.word_machine_laws.specs.Led.{in_order, with_lines, with_next}
+use Rattle.word_machine_laws.proofs.LedLists.{picked_all, picked_append}
 
 pub grown : (job : Job) (order : List ℕ) (k : ℕ) → in_order job (order ++ k ∷ []) ≡ with_next job (in_order job order) k
 grown job order k =

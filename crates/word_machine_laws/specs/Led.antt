@@ -2,7 +2,7 @@
 use Rattle.std.specs.Prelude.{ℕ, List, [], ◌∷◌, ◌++◌}
 use Rattle.ft_base.specs.Job.{Job, Ctl, LinePlan}
 use Rattle.word_machine.specs.Control.{Control}
-use Rattle.led_jobs.specs.Orders.{picked}
+use Rattle.word_machine_laws.specs.Orders.{picked}
 
 -- ## jobs with other lines
 
