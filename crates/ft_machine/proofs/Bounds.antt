@@ -3,7 +3,7 @@ use Rattle.std.proofs.Common.{◌<◌, ◌^◌, List, length, arith}
 use Rattle.ft_base.specs.declared.item.Item.{Item}
 use Rattle.ft_base.specs.Job.{Job}
 use Rattle.ft_hist.specs.Rules.{IsLegalPast}
-use Rattle.history_bound.proofs.Bounded.{history-most}
+use Rattle.history_laws.proofs.Bounded.{history-most}
 use Rattle.word_machine.specs.Limits.{IsLimited}
 use Rattle.word_machine_laws.proofs.Limited.{few-commands}
 

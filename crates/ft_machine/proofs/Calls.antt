@@ -4,7 +4,7 @@ use Rattle.std.proofs.lemmas.List.{take_more}
 use Rattle.ft_base.specs.declared.number.FuncNo.{FuncNo}
 use Rattle.ft_base.specs.declared.task.TaskAct.{TaskAct}
 use Rattle.ft_base.specs.declared.task.TaskAct.TheVariants.{Call, Ret, Raise, Lower, After}
-use Rattle.history_bound.specs.Bound.{calls_in}
+use Rattle.history_laws.specs.Bound.{calls_in}
 
 calls-append : (xs ys : List TaskAct) → calls_in (xs ++ ys) ≡ calls_in xs + calls_in ys
 calls-append [] ys = omega arith

@@ -6,7 +6,7 @@ use Rattle.ft_base.specs.declared.turn.Actor.{Actor}
 use Rattle.ft_base.specs.Job.{Job}
 use Rattle.ft_hist.specs.Rules.{IsLegal, IsLegalPast, IsWhole}
 use Rattle.ft_hist.specs.Shown.{Shown}
-use Rattle.history_bound.proofs.Bounded.{history-most}
+use Rattle.history_laws.proofs.Bounded.{history-most}
 use Rattle.word_machine.specs.Laws.{Runs}
 use Rattle.word_machine.specs.Limits.{IsLimited}
 use Rattle.word_machine.specs.Machine.{World, all_end, start, step}

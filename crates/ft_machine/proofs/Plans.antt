@@ -15,7 +15,7 @@ use Rattle.user_specs.specs.declared.plan.TaskPlan.{TaskPlan}
 use Rattle.user_specs.specs.declared.spec.Spec.{Spec}
 use Rattle.user_specs.specs.Plain.{spec_of}
 use Rattle.user_specs.specs.Bound.{call_bound_in, call_bound_of}
-use Rattle.history_bound.specs.Bound.{all_calls, calls_in, calls_of}
+use Rattle.history_laws.specs.Bound.{all_calls, calls_in, calls_of}
 use Rattle.word_map.specs.declared.shape.Shape.{Shape}
 use Rattle.word_machine.specs.Cpu.{cpu_start}
 use Rattle.word_machine.specs.Laws.{room_on, tasks_on}

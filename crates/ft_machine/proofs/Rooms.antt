@@ -9,7 +9,7 @@ use Rattle.ft_base.specs.declared.limits.TheConstants.{ITEMS}
 use Rattle.ft_base.specs.Job.{Job, Task, no_task}
 use Rattle.ft_base.specs.Tasks.{tasks_from}
 use Rattle.user_specs.specs.Bound.{call_bound_in}
-use Rattle.history_bound.specs.Bound.{all_calls, calls_in, calls_of}
+use Rattle.history_laws.specs.Bound.{all_calls, calls_in, calls_of}
 use Rattle.word_machine.specs.Laws.{room_on}
 use Rattle.word_machine.specs.Limits.{IsLimited}
 use Rattle.ft_machine.proofs.Plans.{Stands, own-on, stands-head, stands-tail}

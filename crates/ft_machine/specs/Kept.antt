@@ -4,7 +4,7 @@ use Rattle.ft_base.specs.declared.item.Item.{Item}
 use Rattle.ft_base.specs.Job.{Job, commands}
 use Rattle.ft_base.specs.Versions.{levels as levels_of}
 use Rattle.ft_hist.specs.Shown.{Shown}
-use Rattle.history_bound.specs.Bound.{all_calls}
+use Rattle.history_laws.specs.Bound.{all_calls}
 use Rattle.user_specs.specs.Bound.{call_bound_in}
 use Rattle.word_machine.specs.Laws.{Runs}
 use Rattle.word_machine.specs.Limits.{IsLimited}

@@ -6,7 +6,7 @@ ghost use Rattle.ft_base.specs.declared.limits.TheConstants.{ACTS, TASKS};
 ghost use Rattle.ft_base.specs.Job.{Job};
 ghost use Rattle.user_specs.specs.declared.plan.TaskPlan.{TaskPlan as DeclaredPlan};
 ghost use Rattle.user_specs.specs.Bound.{call_bound_in};
-ghost use Rattle.history_bound.specs.Bound.{all_calls, calls_in};
+ghost use Rattle.history_laws.specs.Bound.{all_calls, calls_in};
 ghost use Rattle.word_map.specs.declared.shape.Shape.{Shape};
 ghost use Rattle.word_machine.specs.Cpu.{cpu_next};
 ghost use Rattle.word_machine.specs.Laws.{room_on};

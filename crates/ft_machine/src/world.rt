@@ -5,7 +5,7 @@ ghost use Rattle.ft_base.specs.declared.item.Item.{Item};
 ghost use Rattle.ft_base.specs.declared.turn.Actor.TheVariants as Actor;
 ghost use Rattle.ft_base.specs.Desk.{desk};
 ghost use Rattle.ft_base.specs.Job.{Job, commands};
-ghost use Rattle.history_bound.specs.Bound.{all_calls};
+ghost use Rattle.history_laws.specs.Bound.{all_calls};
 ghost use Rattle.user_specs.specs.Bound.{call_bound_in};
 ghost use Rattle.word_map.specs.Contents.{mask_of};
 ghost use Rattle.word_map.specs.Ops.{placed};

@@ -8,7 +8,7 @@ use Rattle.ft_base.specs.declared.context.Ctx.{Ctx}
 use Rattle.ft_base.specs.declared.task.TaskAct.{TaskAct}
 use Rattle.ft_base.specs.declared.task.TaskAct.TheVariants.{Call, Ret, Raise, Lower, After}
 use Rattle.ft_base.specs.Acts.{Leads, Raises}
-use Rattle.history_bound.specs.Bound.{calls_in}
+use Rattle.history_laws.specs.Bound.{calls_in}
 use Rattle.script_waits.specs.declared.script.LinedAct.{LinedAct}
 use Rattle.script_waits.specs.Tasks.{LinedTask}
 use Rattle.ft_script.specs.Expansion.{act_in_job}

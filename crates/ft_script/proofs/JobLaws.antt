@@ -17,7 +17,7 @@ use Rattle.ft_desk.specs.Declarations.{Declared, bare}
 use Rattle.ft_desk.specs.Lines.{IsLineIn, lines_of}
 use Rattle.user_specs.specs.Plain.{DeclaredCpu}
 use Rattle.user_specs.specs.Bound.{call_bound_of}
-use Rattle.history_bound.specs.Bound.{calls_in, all_calls}
+use Rattle.history_laws.specs.Bound.{calls_in, all_calls}
 use Rattle.word_machine.specs.Limits.{WaitsFor, IsLevel, IsLimited}
 use Rattle.ft_job.specs.Parts.{Parts, quanta_of, cpus_with, tasks_of, task_count, declared_of, job_of as parts_job, IsWithin}
 use Rattle.ft_job.specs.Plans.{HasLanes, AreLinesPlanned, AreRingsPlanned}

@@ -10,7 +10,7 @@ use Rattle.ft_base.specs.Same.{rank}
 use Rattle.ft_base.specs.Acts.{AreRaised, Leads}
 use Rattle.ft_base.specs.Job.{Task}
 use Rattle.ft_base.proofs.Small.{false_true, or-false_both, Each-snoc}
-use Rattle.history_bound.specs.Bound.{calls_in}
+use Rattle.history_laws.specs.Bound.{calls_in}
 use Rattle.script_text.specs.Lines.{Line}
 use Rattle.script_waits.specs.Tasks.{LinedTask}
 use Rattle.ft_script.specs.declared.levels.Levels.{Levels}

@@ -9,7 +9,7 @@ use Rattle.ft_base.specs.Job.{Spec, Trigger}
 use Rattle.ft_base.specs.Versions.{limits_of, IsVersion}
 use Rattle.ft_base.specs.Acts.{Leads, Raises, AreRaised}
 use Rattle.ft_base.specs.WellFormed.{IsNamedIn, IsSetIn, IsActIn}
-use Rattle.history_bound.specs.Bound.{calls_in}
+use Rattle.history_laws.specs.Bound.{calls_in}
 use Rattle.user_specs.specs.Bound.{call_bound_of}
 use Rattle.word_machine.specs.Limits.{IsLevel}
 use Rattle.ft_job.specs.Plans.{IsModule, IsTriggerOf}

@@ -12,8 +12,8 @@ use Rattle.ft_base.specs.Job.{Job, commands}
 use Rattle.ft_hist.specs.Placing.{ArePlaced, past_below, total}
 use Rattle.ft_hist.specs.Rules.{IsLegal, IsWhole}
 use Rattle.user_specs.specs.Bound.{call_bound_in}
-use Rattle.history_bound.specs.Bound.{all_calls}
-use Rattle.history_bound.proofs.Bounded.{history-most}
+use Rattle.history_laws.specs.Bound.{all_calls}
+use Rattle.history_laws.proofs.Bounded.{history-most}
 use Rattle.word_machine_laws.specs.Led.{in_order}
 use Rattle.word_machine_laws.specs.Orders.{AreLed}
 use Rattle.word_machine.specs.Control.{control_next}

@@ -18,8 +18,8 @@ use Rattle.ft_hist.specs.Placing.{AreCounted, ArePlaced, before, by_place, item_
 use Rattle.ft_hist.specs.Rules.{IsLegal, IsLegalPast}
 use Rattle.ft_hist.proofs.Placing.{same-or-not}
 use Rattle.user_specs.specs.Bound.{call_bound_in}
-use Rattle.history_bound.specs.Bound.{calls_of, items_of}
-use Rattle.history_bound.proofs.Bounded.{items-most}
+use Rattle.history_laws.specs.Bound.{calls_of, items_of}
+use Rattle.history_laws.proofs.Bounded.{items-most}
 use Rattle.word_machine.specs.Limits.{IsLimited}
 use Rattle.ring_rules.specs.Plan.{TracePlan, plan_of}
 use Rattle.ring_rules.specs.Hits.{call_on, is_of_cpu, stamp}

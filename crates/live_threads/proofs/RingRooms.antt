@@ -12,7 +12,7 @@ use Rattle.user_specs.specs.declared.plan.CpuPlan.{CpuPlan}
 use Rattle.user_specs.specs.declared.plan.TaskPlan.{TaskPlan}
 use Rattle.user_specs.specs.Bound.{call_bound_in}
 use Rattle.user_specs.specs.Plain.{DeclaredTask, DeclaredCpu, task_of, cpu_of}
-use Rattle.history_bound.specs.Bound.{calls_in, calls_of}
+use Rattle.history_laws.specs.Bound.{calls_in, calls_of}
 use Rattle.word_machine.specs.Laws.{room_on}
 use Rattle.word_machine.specs.Limits.{IsLimited}
 use Rattle.ft_machine.proofs.Plans.{Stands, own-on, room-most, stands-head, stands-tail}

@@ -5,7 +5,7 @@ use Rattle.std.specs.List.{AllByRecursion as Each}
 use Rattle.ft_base.specs.declared.item.Item.{Item}
 use Rattle.ft_base.specs.Job.{Job}
 use Rattle.ft_hist.specs.Rules.{IsLegal}
-use Rattle.history_bound.proofs.Bounded.{history-bounded}
+use Rattle.history_laws.proofs.Bounded.{history-bounded}
 use Rattle.word_machine.specs.Limits.{IsLimited}
 use Rattle.word_machine_laws.proofs.Limited.{few-commands}
 use Rattle.ft_script.specs.Script.{IsJobOf}

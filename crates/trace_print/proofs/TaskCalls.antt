@@ -5,7 +5,7 @@ use Rattle.std.proofs.lemmas.List.Sums.{get_or-le-sum_by}
 use Rattle.ft_base.specs.declared.task.TaskAct.{TaskAct}
 use Rattle.ft_base.specs.declared.task.TaskAct.TheVariants.{Call}
 use Rattle.ft_base.specs.Job.{Task, no_task}
-use Rattle.history_bound.specs.Bound.{calls_in}
+use Rattle.history_laws.specs.Bound.{calls_in}
 
 -- the script of a task that there is
 pub acts-at : (ts : List Task) (t : ℕ) (acts : List TaskAct) → Some acts ≡ option_map (λ x. x.acts) (slice_get ts t) → acts ≡ (get_or ts t no_task).acts

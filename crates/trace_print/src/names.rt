@@ -3,7 +3,7 @@
 ghost use Rattle.std.specs.Prelude.{◌≡◌, ◌+◌, ◌*◌, ◌≤◌, IfOk};
 ghost use Rattle.ft_base.specs.declared.limits.TheConstants.{ACTS};
 ghost use Rattle.ft_base.specs.Versions.{levels};
-ghost use Rattle.history_bound.specs.Bound.{calls_of};
+ghost use Rattle.history_laws.specs.Bound.{calls_of};
 ghost use Rattle.trace_print.specs.TaskNames.{name_at};
 ghost use Rattle.word_machine.specs.Limits.{IsLimited};
 

@@ -19,8 +19,8 @@ use Rattle.ft_base.proofs.Small.{==-refl}
 use Rattle.ft_hist.specs.Past.{is_of}
 use Rattle.ft_hist.specs.Rules.{IsLegal, IsLegalPast}
 use Rattle.ft_hist.specs.Telling.{open_calls, past_at}
-use Rattle.history_bound.specs.Bound.{calls_of}
-use Rattle.history_bound.proofs.Stacks.{stack-bounded}
+use Rattle.history_laws.specs.Bound.{calls_of}
+use Rattle.history_laws.proofs.Stacks.{stack-bounded}
 use Rattle.trace_views.specs.declared.open_calls.OpenCall.{OpenCall}
 use Rattle.trace_views.specs.declared.open_calls.OpenCalls.{OpenCalls}
 use Rattle.trace_views.specs.KeptCalls.{HasOpenCalls, IsFollowed, kept_call, rooms_in, stacks_in}

@@ -11,7 +11,7 @@ use Rattle.ft_hist.specs.Telling.{open_calls}
 use Rattle.trace_views.specs.declared.function.FunctionLine.{FunctionLine}
 use Rattle.trace_views.specs.declared.open_calls.OpenCall.{OpenCall}
 use Rattle.trace_views.specs.declared.open_calls.OpenCalls.{OpenCalls}
-use Rattle.history_bound.specs.Bound.{calls_of}
+use Rattle.history_laws.specs.Bound.{calls_of}
 use Rattle.trace_views.specs.FunctionText.{body_of, context_letter}
 use Rattle.trace_views.specs.TaskStacks.{stack_at}
 use Rattle.trace_views.specs.Words.{function_word, user_word, pid_at, cpu_at, right_in, zeros_in}

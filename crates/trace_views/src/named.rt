@@ -19,7 +19,7 @@ pub trait Named {
     ghost use Rattle.ft_base.specs.Job.{Job, funcs};
     ghost use Rattle.ft_base.specs.Versions.{levels};
     ghost use Rattle.ft_base.specs.WellFormed.{IsWellFormed};
-    ghost use Rattle.history_bound.specs.Bound.{calls_of};
+    ghost use Rattle.history_laws.specs.Bound.{calls_of};
     ghost use Rattle.trace_views.specs.ModulesText.{module_word};
     ghost use Rattle.trace_views.specs.Words.{function_word, user_word, pid_at, cpu_at, lane_at};
 

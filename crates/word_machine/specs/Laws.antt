@@ -6,7 +6,7 @@ use Rattle.ft_base.specs.Job.{Job, no_task}
 use Rattle.ft_hist.specs.Past.{done, begun}
 use Rattle.ft_hist.specs.Rules.{IsUnvisited}
 use Rattle.user_specs.specs.Bound.{call_bound_in}
-use Rattle.history_bound.specs.Bound.{items_of, calls_of}
+use Rattle.history_laws.specs.Bound.{items_of, calls_of}
 use Rattle.site_bytes.specs.Bytes.{breakpoint}
 use Rattle.word_map.specs.Words.{Word, Words, read}
 use Rattle.word_map.specs.Contents.{half_size, greatest_half, tramp_word, other_copy}

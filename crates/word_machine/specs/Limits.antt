@@ -7,7 +7,7 @@ use Rattle.ft_base.specs.Versions.{IsVersion, limits_of, IsFew}
 use Rattle.ft_base.specs.Acts.{AreRaised}
 use Rattle.ft_base.specs.WellFormed.{IsWellFormed}
 use Rattle.user_specs.specs.Bound.{call_bound_in}
-use Rattle.history_bound.specs.Bound.{all_calls}
+use Rattle.history_laws.specs.Bound.{all_calls}
 
 -- the task that control waits for is one of this many
 abbrev pub WaitsFor : ℕ → Ctl → Type 0

@@ -10,7 +10,7 @@ use Rattle.ft_hist.specs.Past.{done, begun}
 use Rattle.ft_hist.specs.Plain.{plain}
 use Rattle.ft_hist.specs.Rules.{IsLegalPast}
 use Rattle.user_specs.specs.Bound.{call_bound_in}
-use Rattle.history_bound.specs.Bound.{all_calls}
+use Rattle.history_laws.specs.Bound.{all_calls}
 use Rattle.word_map.specs.Contents.{low, half_size, halves, greatest_half, all_ones}
 use Rattle.word_machine.specs.Control.{Position, Line}
 use Rattle.word_machine.specs.Task.{TaskState, Polling, is_fetching}

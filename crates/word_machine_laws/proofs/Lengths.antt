@@ -7,8 +7,8 @@ use Rattle.ft_base.specs.Job.{Job}
 use Rattle.ft_hist.specs.Rules.{IsLegal, IsLegalPast}
 use Rattle.ft_base.specs.declared.item.Item.{Item}
 use Rattle.user_specs.specs.Bound.{call_bound_in}
-use Rattle.history_bound.specs.Bound.{items_of, calls_of}
-use Rattle.history_bound.proofs.Bounded.{items-most, task-bounded}
+use Rattle.history_laws.specs.Bound.{items_of, calls_of}
+use Rattle.history_laws.proofs.Bounded.{items-most, task-bounded}
 use Rattle.word_machine.specs.Laws.{tasks_on, items_on, room_on}
 
 -- terms that are at most b times others have a sum that is at most b times theirs

@@ -13,7 +13,7 @@ use Rattle.ft_base.proofs.Small.{==-refl, Each-filter, Each-weaker}
 use Rattle.ft_hist.specs.Past.{is_of}
 use Rattle.ft_hist.proofs.Lists.{Each-passes}
 use Rattle.ft_hist.specs.Rules.{IsLegalPast, MayFollow}
-use Rattle.history_bound.specs.Bound.{items_of}
+use Rattle.history_laws.specs.Bound.{items_of}
 use Rattle.word_map.specs.Ops.{Mark}
 use Rattle.word_machine.specs.Commands.{Effect, Removes, effect, command}
 use Rattle.word_machine.specs.Control.{Control, Position, Line, Relink, Close, answer_in, line_op, relink_op, next_in, control_next}

@@ -4,7 +4,7 @@ use Rattle.std.proofs.lemmas.List.{reverse-reverse, length-reverse}
 use Rattle.ft_base.specs.declared.item.Item.{Item}
 use Rattle.ft_base.specs.Job.{Job}
 use Rattle.ft_hist.specs.Rules.{IsLegal, IsLegalPast}
-use Rattle.history_bound.proofs.Bounded.{history-bounded}
+use Rattle.history_laws.proofs.Bounded.{history-bounded}
 use Rattle.word_map.specs.Contents.{half_size}
 use Rattle.word_machine.specs.Rule.{IsWordJob}
 

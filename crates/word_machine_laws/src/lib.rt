@@ -15,7 +15,7 @@ ghost use Rattle.ft_base.specs.declared.turn.Actor.TheVariants.{Control as ByCon
 ghost use Rattle.ft_base.specs.Job.{Job as PlainJob, commands, funcs};
 ghost use Rattle.ft_hist.specs.Rules.{IsLegal, IsWhole};
 ghost use Rattle.user_specs.specs.Bound.{call_bound_in};
-ghost use Rattle.history_bound.specs.Bound.{items_of, calls_of, all_calls};
+ghost use Rattle.history_laws.specs.Bound.{items_of, calls_of, all_calls};
 ghost use Rattle.word_map.specs.Words.{at_put};
 ghost use Rattle.word_map.specs.Ops.{WordOp, Mark};
 ghost use Rattle.word_machine.specs.Control.{control_next};

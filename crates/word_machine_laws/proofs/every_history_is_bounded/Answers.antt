@@ -1,4 +1,4 @@
-use Rattle.history_bound.proofs.Bounded.{task-bounded, history-bounded}
+use Rattle.history_laws.proofs.Bounded.{task-bounded, history-bounded}
 use Rattle.word_machine_laws.proofs.every_history_is_bounded.Goals as goal
 use Rattle.word_machine_laws.proofs.Limited.{limited}
 use Rattle.word_machine_laws.proofs.Lengths.{on-cpu}

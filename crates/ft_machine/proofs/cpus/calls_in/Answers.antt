@@ -1,7 +1,7 @@
 -- The act that is looked at adds one if it is a call.
 use Rattle.std.proofs.Common.{◌≡◌, [], ◌∷◌, ap, get_or, arith}
 use Rattle.ft_base.specs.declared.task.TaskAct.TheVariants.{Call}
-use Rattle.history_bound.specs.Bound.{calls_in}
+use Rattle.history_laws.specs.Bound.{calls_in}
 use Rattle.ft_machine.proofs.Calls.{calls-more, no-call}
 use Rattle.ft_machine.proofs.cpus.calls_in.Goals.{in-Call, in_default}
 use Rattle.ft_machine.proofs.cpus.calls_in.Goals as goal

@@ -1,6 +1,6 @@
 -- The calls so far.
 use Rattle.std.proofs.Common.{◌≡◌, ◌≤◌, take}
-use Rattle.history_bound.specs.Bound.{calls_in}
+use Rattle.history_laws.specs.Bound.{calls_in}
 use Rattle.ft_machine.proofs.cpus.calls_in.Given as goal
 
 abbrev pub invariant-loop-act : goal.invariant-loop-act

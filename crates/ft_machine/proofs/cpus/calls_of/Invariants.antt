@@ -2,7 +2,7 @@
 use Rattle.std.proofs.Common.{◌≡◌, ◌≤◌, ◌*◌, sum_by, take}
 use Rattle.ft_base.specs.declared.limits.TheConstants.{ACTS}
 use Rattle.user_specs.specs.declared.plan.TaskPlan.{TaskPlan}
-use Rattle.history_bound.specs.Bound.{calls_in}
+use Rattle.history_laws.specs.Bound.{calls_in}
 use Rattle.ft_machine.proofs.cpus.calls_of.Given as goal
 
 abbrev pub invariant-loop-task : goal.invariant-loop-task

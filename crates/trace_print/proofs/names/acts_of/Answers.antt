@@ -2,7 +2,7 @@ use Rattle.std.proofs.Common.{List, sym, ap, ◌∙◌, arith}
 use Rattle.std.specs.Prelude.{option_map}
 use Rattle.ft_base.specs.declared.limits.TheConstants.{ACTS}
 use Rattle.ft_base.specs.declared.task.TaskAct.{TaskAct}
-use Rattle.history_bound.specs.Bound.{calls_in}
+use Rattle.history_laws.specs.Bound.{calls_in}
 use Rattle.trace_print.proofs.TaskCalls.{acts-at, acts-few, calls-few, no-acts}
 use Rattle.trace_print.proofs.names.acts_of.Goals as goal
 

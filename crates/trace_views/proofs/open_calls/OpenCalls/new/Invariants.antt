@@ -1,7 +1,7 @@
 use Rattle.std.proofs.Common.{◌≡◌, ℕ, ◌+◌, ◌*◌, ◌<◌, ◌≤◌, [], replicate, vec_len}
 use Rattle.std.specs.Prelude.{map, reverse, get_or, vec_capacity}
 use Rattle.ft_base.specs.Versions.{levels}
-use Rattle.history_bound.specs.Bound.{calls_of}
+use Rattle.history_laws.specs.Bound.{calls_of}
 use Rattle.trace_views.proofs.open_calls.OpenCalls.new.Given as goal
 
 abbrev pub invariant-loop-t : goal.invariant-loop-t

@@ -1,0 +1,9 @@
+pub mod Credit
+pub mod Guarded
+pub mod Paid
+pub mod Bounded
+pub mod Stacks
+pub mod Sound
+pub mod Rest
+pub mod Complete
+pub mod Stamps

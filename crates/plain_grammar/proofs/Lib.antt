@@ -1,4 +1,0 @@
-pub mod Sound
-pub mod Rest
-pub mod Complete
-pub mod Stamps

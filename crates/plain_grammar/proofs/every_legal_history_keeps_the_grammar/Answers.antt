@@ -1,5 +1,0 @@
-use Rattle.plain_grammar.proofs.every_legal_history_keeps_the_grammar.Goals as goal
-use Rattle.plain_grammar.proofs.Complete.{run-if-legal}
-
-pub returns : goal.returns
-returns c = λ job items t legal. run-if-legal job t items legal
