@@ -4,5 +4,6 @@ mod batches;
 mod pages;
 mod places;
 mod sites;
+mod stacks;
 mod waits;
 mod walks;

@@ -117,7 +117,7 @@ def try_words(rows, program, example, name, words, order):
 
 def check(rows, program, top):
     """A row for each list of words."""
-    lists = [*page_words(rows, top / "docs" / "LANGUAGE.md"), *test_words(rows, top / "crates" / "ends_tests" / "src" / "words.rt"), *other_words()]
+    lists = [*page_words(rows, top / "docs" / "LANGUAGE.md"), *test_words(rows, top / "crates" / "vocabulary_tests" / "src" / "words.rt"), *other_words()]
     for where, words, order in lists:
         said = " ".join(words) if where != "not text" else repr(b" ".join(words))
         try_words(rows, program, top / "examples" / EXAMPLE, f"words: {said[:80] or 'none'} ({where})", words, order)

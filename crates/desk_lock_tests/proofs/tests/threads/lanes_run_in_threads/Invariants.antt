@@ -1,6 +1,0 @@
-use Rattle.std.proofs.Common.{[]}
-use Rattle.desk_lock_tests.proofs.tests.threads.lanes_run_in_threads.Given as goal
-
--- the counts of the test
-abbrev pub ghosts-run_lanes : goal.ghosts-run_lanes
-ghosts-run_lanes g a = record { counts = a.counts.now; name = [] }
