@@ -31,3 +31,4 @@ pub mod Opening
 pub mod StartLaw
 pub mod LeadLaw
 pub mod Led
+pub mod HandedOn

@@ -162,6 +162,33 @@ impl Control {
         self.step(value);
     }
 
+    /// The same of control that keeps no items: if the operation was a mark, its item is the answer, and
+    /// isn't kept. A machine that keeps all items in one history need not keep each of them twice.
+    pub fn take(&mut self, value: u64) -> Option<Item>
+        requires { self.old.items ≡ [] }
+        ensures of { (job : Job) → IsFor job self.old → IsFor job self.new }
+        ensures control { (job : Job) → IsFor job self.old → control_of self.new ≡ control_got job (control_of self.old) value }
+        ensures item { (job : Job) → IsFor job self.old
+            → result ≡ option_map (λ s. s.item) (slice_get (marks_in (control_next job (control_of self.old)) value) 0) }
+        ensures none { self.new.items ≡ [] }
+    {
+        self.got(value);
+        self.hand_on()
+    }
+
+    /// Empties its list, and gives the first item of it.
+    fn hand_on(&mut self) -> Option<Item>
+        ensures item { result ≡ option_map (λ s. s.item) (slice_get self.old.items 0) }
+        ensures emptied { self.new ≡ record self.old { items = [] } }
+    {
+        let item = match self.items.first() {
+            Some(stamped) => Some(stamped.item),
+            None => None,
+        };
+        self.items.clear();
+        item
+    }
+
     /// Changes nothing: what each control keeps.
     fn keeps(&self)
         ensures { IsSafe self.now }
@@ -231,14 +258,6 @@ impl Control {
         ensures { result.now ≡ self.now.items }
     {
         self.items.as_slice()
-    }
-
-    /// Empties the list of what it has marked, once its caller has noted that elsewhere: a machine
-    /// that keeps all items in one history need not keep each of them twice.
-    pub fn forget_items(&mut self)
-        ensures { self.new ≡ record self.old { items = [] } }
-    {
-        self.items.clear();
     }
 
     /// What it has marked, in the order of the places; control is used up.

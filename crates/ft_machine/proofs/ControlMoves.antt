@@ -1,13 +1,12 @@
 -- A step of control: the word machine's row.
-use Rattle.std.proofs.Common.{◌≡◌, ℕ, ◌+◌, ◌++◌, option_map, List, [], length, Option, Some, None, refl, sym, ap, ◌∙◌, subst}
+use Rattle.std.proofs.Common.{◌≡◌, ℕ, ◌+◌, option_map, List, [], length, Option, Some, None, refl, sym, ap, ◌∙◌, subst}
 use Rattle.ft_base.specs.declared.item.Item.{Item}
-use Rattle.ft_base.specs.declared.item.Stamped.{Stamped}
 use Rattle.ft_base.specs.declared.turn.Actor.TheVariants as actor
 use Rattle.ft_base.specs.Desk.{desk}
 use Rattle.ft_base.specs.Job.{Job}
 use Rattle.word_map.specs.declared.op.Op.{Op}
 use Rattle.word_map.specs.declared.shape.Shape.{Shape}
-use Rattle.word_map.specs.Contents.{low, mask_of}
+use Rattle.word_map.specs.Contents.{mask_of}
 use Rattle.word_map.specs.Ops.{WordOp, Load, Store, Mark, placed}
 use Rattle.word_map.specs.Shapes.{shape_of}
 use Rattle.word_machine.specs.Control.{control_got, control_next}
@@ -25,7 +24,7 @@ use Rattle.ft_machine.specs.Worlds.{IsFor, Parts, marked_on, world_of}
 use Rattle.ft_machine.proofs.Chosen.{Chosen, chosen, none-next}
 use Rattle.ft_machine.proofs.Made.{IsOpThere, gives-is, made-is, made-length, of-job, on-is, room-is}
 use Rattle.ft_machine.proofs.Moved.{HasMoved}
-use Rattle.ft_machine.proofs.Recording.{IsMarked, IsTold, told-past}
+use Rattle.ft_machine.proofs.Recording.{IsTold, first-told, first_in, told-past}
 
 -- the words, control and CPUs after a step of control
 abbrev pub controlled : Parts → List ℕ → Seated → Parts
@@ -52,12 +51,6 @@ module _ (job : Job) (past : List Item) (limited : IsLimited job) (w : Parts) (k
 
     room : HasRoomAt w.words (placed (shape_of job) op)
     room = room-is (shape_of job) (mask_of (desk job 0) (length job.tasks)) w.words k.count op runs-on.fits
-
-    -- its list was empty
-    marked : (o : WordOp) (v : ℕ) (items : List Stamped) → items ≡ w.control.items ++ marks_in (Some o) v → IsMarked o items
-    marked (Load x) v items e = e ∙ ap (λ (had : List Stamped). had ++ []) k.none
-    marked (Store x y) v items e = e ∙ ap (λ (had : List Stamped). had ++ []) k.none
-    marked (Mark item) v items e = (record { place = low v; item = item }, e ∙ ap (λ (had : List Stamped). had ++ marks_in (Some (Mark item)) v) k.none, refl)
 
     module _ (d : Seated) (is_for : IsControlFor job d) (none : d.items ≡ [])
         (is : control_of d ≡ control_got job (control_of w.control) (gives (placed (shape_of job) op) w.words))
@@ -108,9 +101,9 @@ module _ (job : Job) (past : List Item) (limited : IsLimited job) (w : Parts) (k
   pub control-room : HasRoomAt w.words code
   control-room = subst (λ o. HasRoomAt w.words o) x.placed' (room job past limited w k r x.op x.is)
 
-  -- what it has marked, before its list is emptied
-  pub control-marked : (v : ℕ) (items : List Stamped) → items ≡ w.control.items ++ marks_in (control_next job (control_of w.control)) v → IsMarked x.op items
-  control-marked v items e = marked job past limited w k r x.op x.is x.op v items (e ∙ ap (λ o. w.control.items ++ marks_in o v) x.is)
+  -- what it hands over
+  pub control-told : (v : ℕ) (o : Option Item) → o ≡ first_in (marks_in (control_next job (control_of w.control)) v) → IsTold x.op o
+  control-told v o e = first-told x.op v o (e ∙ ap (λ next. first_in (marks_in next v)) x.is)
 
   stepped : control_row job (world_of job past w) x.op ≡ step job actor.Control (world_of job past w)
   unfolding step

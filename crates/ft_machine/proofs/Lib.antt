@@ -14,7 +14,6 @@ pub mod Masks
 pub mod Opening
 pub mod Chosen
 pub mod Recording
-pub mod Forgotten
 pub mod Moved
 pub mod ControlMoves
 pub mod CpuMoves

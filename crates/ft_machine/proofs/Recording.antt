@@ -1,22 +1,15 @@
 -- What an operation marks, and what is told of it: the world's items go on with that.
-use Rattle.std.proofs.Common.{◌≡◌, ◌≢◌, ℕ, suc, ◌-◌, ◌<◌, Bool, List, [], ◌∷◌, get_or, length, map, Option, Some, None, IsSome, refl, sym, ap, ◌∙◌, subst, arith}
+use Rattle.std.proofs.Common.{◌≡◌, ℕ, suc, ◌-◌, ◌<◌, List, [], option_map, slice_get, Option, Some, None, IsSome, refl, sym, ap, ◌∙◌, subst, arith}
 use Rattle.ft_base.specs.declared.item.Item.{Item}
 use Rattle.ft_base.specs.declared.item.Stamped.{Stamped}
-use Rattle.word_map.specs.declared.op.Op.{Op}
-use Rattle.word_map.specs.declared.op.Op.TheVariants.{Mark as CodeMark}
-use Rattle.word_map.specs.declared.shape.Shape.{Shape}
-use Rattle.word_map.specs.Ops.{WordOp, Load, Store, Mark, placed}
+use Rattle.word_map.specs.Ops.{WordOp, Load, Store, Mark}
 use Rattle.word_machine.specs.Machine.{past_after}
+use Rattle.control_core.specs.Steps.{marks_in}
 use Rattle.cpu_core.specs.Marks.{Marks, handed_on}
 use Rattle.task_core.specs.TaskOps.{item_in}
 use Rattle.ft_machine.specs.Worlds.{marked_on}
 
 -- ## what is marked
-
--- what an actor with an empty list has in it after an operation
-abbrev pub IsMarked : WordOp → List Stamped → Type 0
-IsMarked (Mark item) items = (s : Stamped) × (items ≡ s ∷ []) × (s.item ≡ item)
-IsMarked _ items = items ≡ []
 
 -- what is told of an operation: the item that it has marked
 abbrev pub IsTold : WordOp → Option Item → Type 0
@@ -28,33 +21,17 @@ abbrev pub IsLeft : WordOp → ℕ → ℕ → Type 0
 IsLeft (Mark item) left left' = suc left' ≡ left
 IsLeft _ left left' = left' ≡ left
 
--- ## as code has the operation
+-- ## what control hands on
 
--- what it leaves
-module _ (shape : Shape) (command : Bool) (items : List Stamped) where
-  pub mark-one : (op : WordOp) → placed shape op ≡ CodeMark command → IsMarked op items → length items ≡ 1
-  mark-one (Load w) e m = absurd cc
-  mark-one (Store w x) e m = absurd cc
-  mark-one (Mark item) e m = ap (λ (xs : List Stamped). length xs) m.1
+-- the first item of a list
+abbrev pub first_in : List Stamped → Option Item
+first_in items = option_map (λ (s : Stamped). s.item) (slice_get items 0)
 
-  pub mark-told : (op : WordOp) → placed shape op ≡ CodeMark command → IsMarked op items → (told : Item)
-      → map (λ (s : Stamped). s.item) items ≡ told ∷ [] → IsTold op (Some told)
-  mark-told (Load w) e m told one = absurd cc
-  mark-told (Store w x) e m told one = absurd cc
-  mark-told (Mark item) e m told one = ap (λ (i : Item). Some i)
-      (ap (λ (xs : List Item). get_or xs 0 told) (sym one ∙ ap (λ (xs : List Stamped). map (λ (s : Stamped). s.item) xs) m.1) ∙ m.2)
-
--- any other operation leaves all as it was
-module _ (shape : Shape) (code : Op) (other : (command : Bool) → code ≢ CodeMark command) where
-  pub none-marked : (op : WordOp) → placed shape op ≡ code → (items : List Stamped) → IsMarked op items → items ≡ []
-  none-marked (Load w) e items m = m
-  none-marked (Store w x) e items m = m
-  none-marked (Mark item) e items m = absurd (other _ (sym e))
-
-  pub none-told : (op : WordOp) → placed shape op ≡ code → IsTold op None
-  none-told (Load w) e = refl
-  none-told (Store w x) e = refl
-  none-told (Mark item) e = absurd (other _ (sym e))
+-- what an operation marks is told
+pub first-told : (op : WordOp) (v : ℕ) (o : Option Item) → o ≡ first_in (marks_in (Some op) v) → IsTold op o
+first-told (Load w) v o e = e
+first-told (Store w x) v o e = e
+first-told (Mark item) v o e = e
 
 -- ## what a CPU hands on
 

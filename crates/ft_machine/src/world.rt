@@ -1,6 +1,6 @@
 //! The words, control and the CPUs, one step at a time.
 
-ghost use Rattle.std.specs.Prelude.{List, ◌≡◌, [], ◌∷◌, ◌<◌, ◌≤◌, ◌+◌, ◌*◌, length, map, option_map, All, IfOk};
+ghost use Rattle.std.specs.Prelude.{List, ◌≡◌, [], ◌<◌, ◌≤◌, ◌+◌, ◌*◌, length, option_map, All, IfOk};
 ghost use Rattle.ft_base.specs.declared.item.Item.{Item};
 ghost use Rattle.ft_base.specs.declared.turn.Actor.TheVariants as Actor;
 ghost use Rattle.ft_base.specs.Desk.{desk};
@@ -25,7 +25,7 @@ use crate::cpus::{CpuRoom, TaskLimits, all_rooms, has_ended, new_cpus};
 use crate::table::Table;
 use control_core::Control;
 use cpu_core::Cpu;
-use ft_base::{Actor, CpuNo, FuncNo, Item, NoMemory, Stamped};
+use ft_base::{Actor, CpuNo, FuncNo, Item, NoMemory};
 use ft_desk::{Ctl, Desk};
 use pid_filter::Pids;
 use std::alloc::Global;
@@ -125,12 +125,7 @@ impl World {
     {
         if let Some(op) = self.control.next() {
             let value = self.table.make(op);
-            self.control.got(value);
-            if let Op::Mark { .. } = op {
-                let item = only(self.control.items());
-                self.control.forget_items();
-                return Some(item);
-            }
+            return self.control.take(value);
         }
         None
     }
@@ -238,14 +233,6 @@ impl World {
             cpus,
         }
     }
-}
-
-/// The one item that an actor has marked.
-fn only(marked: &[Stamped]) -> Item
-    requires { length marked.now ≡ 1 }
-    ensures { map (λ s. s.item) marked.now ≡ result ∷ [] }
-{
-    marked[0].item
 }
 
 /// For how many items there has to be room: two for each line of control, and what the calls of all tasks

@@ -1,4 +1,4 @@
--- Control that has forgotten what it marked is the same control.
+-- Control that has handed on what it marked is the same control.
 use Rattle.std.proofs.Common.{◌≡◌, [], refl, sym, ap, ◌∙◌, subst}
 use Rattle.ft_base.specs.Job.{Job}
 use Rattle.control_core.specs.declared.phase.Phase.{Phase}
