@@ -23,42 +23,23 @@ use Rattle.ring_rules.proofs.Numbers.{no-quota}
 use Rattle.ring_rules.proofs.Parts.{fired-count, fired-is}
 use Rattle.ring_rules.proofs.Totals.{total-same}
 use Rattle.ring_table.specs.declared.view.Known.{Known}
-use Rattle.ring_table.specs.declared.view.Part.{Part}
-use Rattle.ring_table.specs.declared.view.View.{View}
+use Rattle.ring_table.specs.Views.{Part, View, view}
 use Rattle.ring_table.specs.Rule.{RingRule}
 use Rattle.ring_table.specs.Seats.{AreCounted, HaveItems, SeatPlace, parts_of}
 use Rattle.ring_table.specs.Tally.{fired_of, hits_of, saw}
-use Rattle.ring_table.specs.Views.{cpu, part, view}
+use Rattle.dealt_seats.specs.Views.{cpu, part}
+use Rattle.dealt_seats.proofs.Parts.{seat-at}
 
 same_Some : {A : Type 0} (x y : A) → Some x ≡ Some y → x ≡ y
 same_Some x y e = same-value (Some x) x y refl e
 
 -- ## lists of seats
 
--- there is a seat at each place below the length
-pub seat-at : {A : Type 0} (xs : List A) (c : ℕ) → c < length xs → (x : A) × (slice_get xs c ≡ Some x)
-seat-at [] c lt = absurd (omega (arith, lt))
-seat-at (x ∷ xs) zero lt = (x, refl)
-seat-at (x ∷ xs) (suc c) lt = seat-at xs c (omega (arith, lt))
-
 -- the value of a function at it
 pub map-at : {A B : Type 0} (f : A → B) (xs : List A) (c : ℕ) (x : A) (d : B) → slice_get xs c ≡ Some x → get_or (map f xs) c d ≡ f x
 map-at f [] c x d e = absurd (none-some x e)
 map-at f (y ∷ ys) zero x d e = ap f (same_Some y x e)
 map-at f (y ∷ ys) (suc c) x d e = map-at f ys c x d e
-
-pub get-middle : {A : Type 0} (xs : List A) (y : A) (zs : List A) → slice_get (xs ++ y ∷ zs) (length xs) ≡ Some y
-get-middle [] y zs = refl
-get-middle (x ∷ xs) y zs = get-middle xs y zs
-
-pub parts-snoc : (ss : List SeatPlace) (s : SeatPlace) → parts_of (ss ++ s ∷ []) ≡ parts_of ss ++ part (cpu s.number) s.known ∷ []
-parts-snoc [] s = refl
-parts-snoc (x ∷ xs) s = ap (λ (l : List Part). part (cpu x.number) x.known ∷ l) (parts-snoc xs s)
-
-parts-at : (ss : List SeatPlace) (c : ℕ) (s : SeatPlace) → slice_get ss c ≡ Some s → get_elem? (parts_of ss) c ≡ some (part (cpu s.number) s.known)
-parts-at [] c s e = absurd (none-some s e)
-parts-at (x ∷ xs) zero s e = ap (λ (u : SeatPlace). some (part (cpu u.number) u.known)) (same_Some x s e)
-parts-at (x ∷ xs) (suc c) s e = parts-at xs c s e
 
 -- ## the places of all CPUs
 

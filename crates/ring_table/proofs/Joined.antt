@@ -8,11 +8,12 @@ use Rattle.ring_rules.specs.Plan.{TracePlan}
 use Rattle.ring_rules.specs.Fold.{Ring, Rings}
 use Rattle.ring_rules.specs.Gathered.{all_fired}
 use Rattle.ring_table.specs.declared.view.Known.{Known}
-use Rattle.ring_table.specs.declared.view.Part.{Part}
-use Rattle.ring_table.specs.declared.view.View.{View}
+use Rattle.ring_table.specs.Views.{Part, View, cpu_view, view}
 use Rattle.ring_table.specs.Seats.{AreAt, AreCounted, IsCounted, SeatPlace, Shares, parts_of, shares_of}
-use Rattle.ring_table.specs.Views.{cpu, cpu_view, joined, part, view}
-use Rattle.ring_table.proofs.Closing.{get-middle, made_by, parts-snoc}
+use Rattle.dealt_seats.specs.Views.{cpu, joined, part}
+use Rattle.ring_table.proofs.Closing.{made_by}
+use Rattle.dealt_seats.proofs.Parts.{get-middle}
+use Rattle.dealt_seats.proofs.Parts as seats
 use Rattle.ft_base.proofs.Small.{each-pushed}
 
 -- the present seat is one of the table's
@@ -27,10 +28,9 @@ pub joined-more : {S : Type 0} (me me' : Me S View) (other : Me S View) (plan q 
     → me ≡ (view plan split (x0 ∷ parts_of ss), []) → other ≡ (cpu_view q c k, []) → part (cpu c) k ≡ part (cpu s.number) s.known
     → me' ≡ (joined me.0 other.0, me.1) → me' ≡ (view plan split (x0 ∷ parts_of (ss ++ s ∷ [])), [])
 joined-more me me' other plan q split c x0 ss k s is theirs same new =
-    new
-    ∙ (λ j. (joined (is j).0 (theirs j).0, (is j).1))
-    ∙ ap (λ (p : Part). (view plan split (x0 ∷ parts_of ss ++ p ∷ []), [])) same
-    ∙ ap (λ (l : List Part). (view plan split (x0 ∷ l), [])) (sym (parts-snoc ss s))
+    let v = seats.joined-more (λ (u : SeatPlace). u.number) (λ u. u.known) me.0 other.0 plan tt split x0 ss q tt c k s (ap (λ m. m.0) is)
+    (ap (λ m. m.0) theirs) same in
+    new ∙ (λ j. (v j, (is j).1))
 
 -- its fired places are counted too
 pub counted-more : (plan q : TracePlan) (ss : List SeatPlace) (s0 s : SeatPlace) → AreCounted plan ss → IsCounted q s0 → s0 ≡ s → q ≡ plan

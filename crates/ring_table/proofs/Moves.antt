@@ -1,51 +1,28 @@
 -- Drawing a ticket, switching tracing and looking at it keep the rule of the table.
-use Rattle.std.proofs.Common.{◌≡◌, ◌≢◌, ℕ, zero, suc, ◌+◌, ◌%◌, ◌^◌, ◌<◌, ◌≤◌, Bool, List, [], ◌∷◌, length, set, get_or, ⊎_elim, refl, sym, ap, ◌∙◌, subst, arith, length-set}
+use Rattle.std.proofs.Common.{◌≡◌, ◌≢◌, ℕ, suc, ◌+◌, ◌%◌, ◌^◌, ◌<◌, ◌≤◌, Bool, [], length, set, get_or, refl, sym, ap, ◌∙◌, subst, arith, length-set}
 use Rattle.std.specs.Prelude.{◌-◌}
 use Rattle.std.proofs.lemmas.List.{set-get_or}
-use mathlib.Core.Option.{some, some-ne-none, some-injective}
+use mathlib.Core.Option.{some}
 use lib.ListN.{get_elem?}
 use Rattle.atomic_table.specs.Table.{Me, State, keeps, Allows, stepped}
-use Rattle.atomic_table.proofs.Lists.{at_set}
 use Rattle.ft_base.specs.declared.limits.TheConstants.{ITEMS}
-use Rattle.ft_base.specs.declared.turn.Actor.{Actor}
 use Rattle.ring_rules.specs.Plan.{TracePlan}
 use Rattle.ring_rules.specs.Hits.{trigger}
 use Rattle.ring_table.specs.declared.view.Known.{Known}
-use Rattle.ring_table.specs.declared.view.Part.{Part}
-use Rattle.ring_table.specs.declared.view.View.{View}
+use Rattle.ring_table.specs.Views.{View, cpu_view, draws, hits_by, is_one, looks, nothing, switches}
 use Rattle.ring_table.specs.Tally.{IsTally, bit, drawn, fired_of, hits_of, looked, switched_to}
-use Rattle.ring_table.specs.Rule.{Covers, Fits, RingRule, StandsAt}
-use Rattle.ring_table.specs.Views.{cpu, cpu_view, draws, hits_by, is_one, looks, part, switches}
-use Rattle.ring_table.proofs.Knows.{at_cpu, at_cpu-else, at_cpu-other, at_cpu-same}
+use Rattle.ring_table.specs.Rule.{RingRule}
+use Rattle.dealt_seats.specs.Covers.{Fits}
+use Rattle.dealt_seats.proofs.Moves.{covers-more}
+use Rattle.dealt_seats.specs.Views.{cpu, part}
+use Rattle.dealt_seats.proofs.Actors.{at_cpu, at_cpu-else, at_cpu-other, at_cpu-same}
 use Rattle.ring_table.proofs.Tallies.{drawn-keeps, drawn-small, is-bit, own-below, look-keeps, switch-keeps}
-
--- ## views
-
--- what is said of the only part of a view is said of each
-pub one-part : (P : Part → Type 0) (x : Part) → P x → (k : ℕ) (y : Part) → get_elem? (x ∷ []) k ≡ some y → P y
-one-part P x here zero y e = subst P (some-injective x y e) here
-one-part P x here (suc k) y e = absurd (some-ne-none y (sym e))
-
--- each part of a view fits
-abbrev pub PartsFit : TracePlan → (Actor → Known) → (Actor → ℕ) → ℕ → ℕ → View → Type 0
-PartsFit plan knows seat split id v = (k : ℕ) (x : Part) → get_elem? v.parts k ≡ some x → Fits plan knows seat split id v x
-
--- so do those of all views after one seat has another
-pub fits-set : (plan : TracePlan) (views : List View) (knows : Actor → Known) (seat : Actor → ℕ) (split id : ℕ) (w : View)
-    → ((j : ℕ) (v : View) → j ≢ id → get_elem? views j ≡ some v → PartsFit plan knows seat split j v)
-    → PartsFit plan knows seat split id w
-    → (j : ℕ) (v : View) → get_elem? (set views id w) j ≡ some v → PartsFit plan knows seat split j v
-fits-set plan views knows seat split id w others mine j v at =
-    ⊎_elim
-    (λ (t : (j ≡ id) × (w ≡ v)). subst (λ (u : ℕ × View). PartsFit plan knows seat split u.0 u.1) (λ i. (sym t.0 i, t.1 i)) mine)
-    (λ (t : (j ≢ id) × (get_elem? views j ≡ some v)). others j v t.0 t.1)
-    (at_set views id j w v at)
 
 -- ## one step
 
 module _ {S : Type 0} (plan : TracePlan) (id c : ℕ) (k : Known) (t : State S View) (r : RingRule plan t)
     (at : get_elem? t.views id ≡ some (cpu_view plan c k)) where
-  mine : Fits plan r.knows r.seat r.split id (cpu_view plan c k) (part (cpu c) k)
+  mine : Fits plan tt r.knows r.seat r.split id (cpu_view plan c k) (part (cpu c) k)
   mine = r.covers.fits id (cpu_view plan c k) at 0 (part (cpu c) k) refl
 
   pub has-known : k ≡ r.knows (cpu c)
@@ -54,29 +31,7 @@ module _ {S : Type 0} (plan : TracePlan) (id c : ℕ) (k : Known) (t : State S V
   pub is-inside : c < plan.cpus
   is-inside = let lt = mine.stands in let most = r.covers.within in omega (arith, lt, most)
 
-  -- it was split off
-  apart : (d : ℕ) → r.split ≤ d → cpu d ≡ cpu c → ⊥
-  apart d le e = let lt : d < r.split = subst (λ (x : Actor). StandsAt r.split 0 x) (sym e) mine.stands in omega (arith, lt, le)
-
-  -- CPU c knows more
-  pub covers-more : (k' : Known) → Covers plan (set t.views id (cpu_view plan c k')) (at_cpu r.knows c k') r.seat r.split
-  covers-more k' = record {
-    fits = fits-set plan t.views (at_cpu r.knows c k') r.seat r.split id (cpu_view plan c k')
-        (λ j u ne e n x has.
-        let f = r.covers.fits j u e n x has in
-        record {
-          plan' = f.plan';
-          seated = f.seated;
-          has = f.has ∙ sym (at_cpu-else r.knows c k' x.actor (λ same. ne (sym f.seated ∙ ap r.seat same ∙ mine.seated)));
-          stands = f.stands;
-        })
-        (one-part (λ x. Fits plan (at_cpu r.knows c k') r.seat r.split id (cpu_view plan c k') x) (part (cpu c) k')
-        record { plan' = refl; seated = mine.seated; has = sym (at_cpu-same r.knows c k'); stands = mine.stands });
-    unsplit = λ d le. at_cpu-else r.knows c k' (cpu d) (apart d le) ∙ r.covers.unsplit d le;
-    within = r.covers.within;
-  }
-
-  -- the rule after a step that keeps the tally
+  -- the rule after a step that keeps the tally: CPU c knows more
   pub rule-after : (w x : ℕ) (k' : Known) → IsTally plan (set t.words w x) (λ d. at_cpu r.knows c k' (cpu d))
       → RingRule plan (stepped t w x id [] (cpu_view plan c k') keeps)
   rule-after w x k' tally = record {
@@ -86,7 +41,8 @@ module _ {S : Type 0} (plan : TracePlan) (id c : ℕ) (k : Known) (t : State S V
     split = r.split;
     count = length-set t.words w x ∙ r.count;
     tally = tally;
-    covers = covers-more k';
+    covers = covers-more plan plan.cpus (nothing plan) tt t.views r.knows r.seat r.split r.covers id 0 tt (cpu c) k at tt tt (at_cpu r.knows c k') k'
+        (at_cpu-same r.knows c k') (at_cpu-else r.knows c k') (λ own here x ne stands. stands) mine.stands;
   }
 
 -- ## each kind of step

@@ -16,15 +16,14 @@ use Rattle.ring_rules.specs.Legal.{fired_at}
 use Rattle.ring_rules.proofs.Lists.{equal, has-snoc}
 use Rattle.ring_rules.proofs.Totals.{same-or}
 use Rattle.ring_table.specs.declared.view.Known.{Known}
-use Rattle.ring_table.specs.declared.view.View.{View}
+use Rattle.ring_table.specs.Views.{View, cpu_view, known_of}
 use Rattle.ring_table.specs.Seats.{Hits, IsCounted, SeatGood, SeatPlace, SeatSits, looked_with, spaces_of, with_known}
 use Rattle.ring_table.specs.Tally.{drawn, fired_of, hits_of, looked, switched_to}
-use Rattle.ring_table.specs.Views.{cpu_view, known_of}
 
 -- ## seats and their views
 
 -- what a seat knows, of a plan that is its own
-pub view-at : {S : Type 0} (me : Me S View) (plan : TracePlan) (known : Known) (c : ℕ) → me ≡ (cpu_view me.0.plan c known, []) → me.0.plan ≡ plan
+pub view-at : {S : Type 0} (me : Me S View) (plan : TracePlan) (known : Known) (c : ℕ) → me ≡ (cpu_view me.0.job c known, []) → me.0.job ≡ plan
     → me ≡ (cpu_view plan c known, [])
 view-at me plan known c is same = is ∙ ap (λ p. (cpu_view p c known, [])) same
 
@@ -211,7 +210,7 @@ hit-drawn plan i n x s t same hit fire is =
 
 -- ## from a seat's own plan to the table's
 
-pub drawn-me : {S : Type 0} (me me1 : Me S View) (key plan : TracePlan) (c i n : ℕ) (k : Known) → me ≡ (cpu_view me.0.plan c k, []) → me.0.plan ≡ plan
+pub drawn-me : {S : Type 0} (me me1 : Me S View) (key plan : TracePlan) (c i n : ℕ) (k : Known) → me ≡ (cpu_view me.0.job c k, []) → me.0.job ≡ plan
     → key ≡ plan
     → ((c' : ℕ) (k' : Known) → me ≡ (cpu_view key c' k', []) → me1 ≡ (cpu_view key c' (drawn key i n k'), []))
     → me1 ≡ (cpu_view plan c (drawn plan i n k), [])
@@ -225,8 +224,8 @@ pub switched-me : {S : Type 0} (me1 me2 : Me S View) (key plan : TracePlan) (c :
 switched-me me1 me2 key plan c k on is same step =
     step c k (is ∙ ap (λ p. (cpu_view p c k, [])) (sym same)) ∙ ap (λ p. (cpu_view p c (switched_to on k), [])) same
 
-pub looked-me : {S : Type 0} (me me1 : Me S View) (key plan : TracePlan) (c : ℕ) (k : Known) (on : Bool) → me ≡ (cpu_view me.0.plan c k, [])
-    → me.0.plan ≡ plan → key ≡ plan
+pub looked-me : {S : Type 0} (me me1 : Me S View) (key plan : TracePlan) (c : ℕ) (k : Known) (on : Bool) → me ≡ (cpu_view me.0.job c k, [])
+    → me.0.job ≡ plan → key ≡ plan
     → ((c' : ℕ) (k' : Known) → me ≡ (cpu_view key c' k', []) → me1 ≡ (cpu_view key c' (looked on k'), [])) → me1 ≡ (cpu_view plan c (looked on k), [])
 looked-me me me1 key plan c k on is own same step =
     step c k (view-at me key k c is (own ∙ sym same)) ∙ ap (λ p. (cpu_view p c (looked on k), [])) same
@@ -250,7 +249,7 @@ pub value-as : {S : Type 0} (me : Me S View) (plan : TracePlan) (c : ℕ) (k : K
     → record {
       table_id = tid;
       id = id;
-      plan = me.0.plan;
+      plan = me.0.job;
       number = s.number;
       known = known_of me.0;
       ring = s.ring;
@@ -264,7 +263,7 @@ value-as me plan c k is tid id s tids ids own f f' same =
     λ j. record {
       table_id = tids j;
       id = ids j;
-      plan = (ap (λ m. m.0.plan) is ∙ sym own) j;
+      plan = (ap (λ m. m.0.job) is ∙ sym own) j;
       number = s.number;
       known = ap (λ m. known_of m.0) is j;
       ring = s.ring;
@@ -280,7 +279,7 @@ pub looked-as : {S : Type 0} (me : Me S View) (plan : TracePlan) (c : ℕ) (on :
     → record {
       table_id = tid;
       id = id;
-      plan = me.0.plan;
+      plan = me.0.job;
       number = s.number;
       known = known_of me.0;
       ring = ring;
@@ -294,7 +293,7 @@ looked-as me plan c on p s is tid id tids ids own ring rings =
     λ j. record {
       table_id = tids j;
       id = ids j;
-      plan = (ap (λ m. m.0.plan) is ∙ sym own) j;
+      plan = (ap (λ m. m.0.job) is ∙ sym own) j;
       number = s.number;
       known = ap (λ m. known_of m.0) is j;
       ring = (rings ∙ ap (λ q. ring_after q on p s.ring) (sym own)) j;

@@ -13,10 +13,9 @@ use Rattle.ring_rules.specs.Legal.{fired_at, items_on, switched}
 use Rattle.ring_rules.specs.Kept.{HasKept, ring_after}
 use Rattle.ring_rules.specs.Gathered.{RingBox, lists_of, no_lists}
 use Rattle.ring_table.specs.declared.view.Known.{Known}
-use Rattle.ring_table.specs.declared.view.Part.{Part}
-use Rattle.ring_table.specs.declared.view.View.{View}
+use Rattle.ring_table.specs.Views.{Part, View, cpu_view, nothing}
 use Rattle.ring_table.specs.Tally.{drawn, fired_of, hits_of, looked, saw, switched_to}
-use Rattle.ring_table.specs.Views.{cpu, cpu_view, nothing, part}
+use Rattle.dealt_seats.specs.Views as seats
 
 -- ## the table
 
@@ -77,8 +76,8 @@ pub record SeatGood (plan : TracePlan) (known : Known) (ring : RingBox) (fired :
 
 -- A seat knows what its CPU has done, and nothing else; and the numbers fit.
 pub record SeatSits {S : Type 0} (me : Me S View) (known : Known) (c : ℕ) (ring : RingBox) (fired : List (Vec ℕ)) (next room left : ℕ) : Type 0 where
-  pub view' : me ≡ (cpu_view me.0.plan c known, [])
-  pub good : SeatGood me.0.plan known ring fired next room left
+  pub view' : me ≡ (cpu_view me.0.job c known, [])
+  pub good : SeatGood me.0.job known ring fired next room left
 
 -- These are the items that were offered to a seat.
 --   made      it has made of them what a CPU has to
@@ -238,8 +237,7 @@ shares_of seats room = record { rings = map (λ s. s.ring) seats; fired = map (�
 
 -- what the seats know of their CPUs
 abbrev pub parts_of : List SeatPlace → List Part
-parts_of [] = []
-parts_of (s ∷ ss) = part (cpu s.number) s.known ∷ parts_of ss
+parts_of ss = seats.parts_of (λ (s : SeatPlace). s.number) (λ s. s.known) ss
 
 -- The fired places of a seat are as many as its CPU has counted, and not many.
 pub record IsCounted (plan : TracePlan) (s : SeatPlace) : Type 0 where

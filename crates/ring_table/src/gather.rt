@@ -4,7 +4,8 @@ ghost use Rattle.std.specs.Prelude.{◌≡◌, ℕ, ◌+◌, ◌≤◌, ◌∷�
 ghost use Rattle.ft_base.specs.declared.limits.TheConstants.{ITEMS};
 ghost use Rattle.ring_table.specs.declared.view.Known.{Known as SeatKnown};
 ghost use Rattle.ring_table.specs.Seats.{AreAt, AreCounted, AreFresh, parts_of, shares_of};
-ghost use Rattle.ring_table.specs.Views.{cpu, cpu_view, first_view, part, view};
+ghost use Rattle.ring_table.specs.Views.{cpu_view, first_view, view};
+ghost use Rattle.dealt_seats.specs.Views.{cpu, part};
 
 use crate::collected::Collected;
 use crate::rule::Rules;

@@ -51,7 +51,8 @@ impl Play<(), View> for Looks {
 pub struct Deals;
 
 impl Split<View> for Deals {
-    ghost use Rattle.ring_table.specs.Views.{dealer, dealt};
+    ghost use Rattle.ring_table.specs.Views.{dealt};
+    ghost use Rattle.dealt_seats.specs.Views.{dealer};
 
     ghost left = { dealer };
 
@@ -62,7 +63,8 @@ impl Split<View> for Deals {
 pub struct Gathers;
 
 impl Join<View> for Gathers {
-    ghost use Rattle.ring_table.specs.Views.{joined, spent};
+    ghost use Rattle.ring_table.specs.Views.{spent};
+    ghost use Rattle.dealt_seats.specs.Views.{joined};
 
     ghost both = { joined };
 

@@ -40,7 +40,7 @@ impl Model for RingSeat {
 
     ghost Value = { SeatPlace };
 
-    ghost view = { λ s. record { table_id = s.seat.table_id; id = s.seat.id; plan = s.seat.me.0.plan; number = s.number.0; known = known_of s.seat.me.0; ring = s.ring.ring; fired = lists_of s.fired.items; next = s.next; room = s.room; left = s.left } };
+    ghost view = { λ s. record { table_id = s.seat.table_id; id = s.seat.id; plan = s.seat.me.0.job; number = s.number.0; known = known_of s.seat.me.0; ring = s.ring.ring; fired = lists_of s.fired.items; next = s.next; room = s.room; left = s.left } };
 
     ghost invariant = { λ s. SeatSits s.seat.me (known_of s.seat.me.0) s.number.0 s.ring s.fired.items s.next s.room s.left };
 }

@@ -8,11 +8,10 @@ ghost use Rattle.ft_base.specs.declared.limits.TheConstants.{ITEMS};
 ghost use Rattle.ring_rules.specs.Hits.{trigger};
 ghost use Rattle.ring_rules.specs.Plan.{IsPlan};
 ghost use Rattle.ring_table.specs.declared.view.Known.{Known as SeatKnown};
-ghost use Rattle.ring_table.specs.declared.view.View.{View as SeatView};
+ghost use Rattle.ring_table.specs.Views.{View as SeatView, cpu_view, first_view, nothing, view, Part as SeatPart};
 ghost use Rattle.ring_table.specs.Rule.{RingRule};
 ghost use Rattle.ring_table.specs.Tally.{bit, drawn, fired_of, hits_of, looked, switched_to};
-ghost use Rattle.ring_table.specs.Views.{cpu_view, first_view, joined, nothing, view};
-ghost use Rattle.ring_table.specs.declared.view.Part.{Part as SeatPart};
+ghost use Rattle.dealt_seats.specs.Views.{joined};
 
 use crate::rule::{Deals, Draws, Gathers, Looks, Rules, Switches};
 use crate::view::View;

@@ -1,6 +1,5 @@
 //! What a seat knows. No value of these types is ever made: contracts alone speak of them.
 
-use ft_base::Actor;
 use ring_rules::TracePlan;
 use std::collections::LinkedList;
 
@@ -20,17 +19,7 @@ pub struct Known {
 
 /// A CPU, and what it has done. Control stands for the seat from which the CPUs' are split off, which
 /// does nothing.
-pub struct Part {
-    pub actor: Actor,
-    pub known: Known,
-}
+pub type Part = dealt_seats::Part<Known>;
 
-/// What a seat knows.
-pub struct View {
-    /// What a job says of rings.
-    pub plan: TracePlan,
-    /// In the first seat, how many CPUs were split off from it; 0 in a CPU's.
-    pub split: u32,
-    /// The seat's own part, and after it those of the seats that joined it.
-    pub parts: LinkedList<Part>,
-}
+/// What a seat knows, of what a job says of rings. Nothing more is told of that later.
+pub type View = dealt_seats::View<TracePlan, (), Known>;

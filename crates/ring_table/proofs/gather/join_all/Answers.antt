@@ -3,7 +3,8 @@ use Rattle.std.proofs.Common.{◌++◌, ◌∷◌, [], List, refl, sym, ap, ◌�
 use Rattle.std.specs.Vec.Iter.{into_iter_items}
 use Rattle.ring_table.specs.contracts.seats.RingSeat.{the_view}
 use Rattle.ring_table.specs.Seats.{SeatPlace}
-use Rattle.ring_table.specs.Views.{cpu, known_of, part}
+use Rattle.ring_table.specs.Views.{known_of}
+use Rattle.dealt_seats.specs.Views.{cpu, part}
 use Rattle.ring_table.proofs.Joined.{counted-more, joined-more, next-at, shares-more}
 use Rattle.ring_table.proofs.Steps.{good-counted, view-at}
 use Rattle.ring_table.proofs.gather.join_all.Goals as goal

@@ -3,7 +3,8 @@ use Rattle.std.proofs.Common.{◌≡◌, ℕ, ◌+◌, ◌∷◌, ◌++◌, [], 
 use Rattle.std.specs.Vec.Iter.{into_iter_items}
 use Rattle.ring_table.specs.declared.view.Known.{Known}
 use Rattle.ring_table.specs.Seats.{AreCounted, parts_of, shares_of}
-use Rattle.ring_table.specs.Views.{cpu, cpu_view, part, view}
+use Rattle.ring_table.specs.Views.{cpu_view, view}
+use Rattle.dealt_seats.specs.Views.{cpu, part}
 use Rattle.ring_table.proofs.gather.join_all.Given as goal
 
 abbrev pub invariant-loop-joining : goal.invariant-loop-joining

@@ -6,8 +6,10 @@ use Rattle.ring_rules.specs.Plan.{IsPlan, TracePlan}
 use Rattle.ring_rules.proofs.Lists.{get-more}
 use Rattle.ring_table.specs.contracts.seats.RingSeat.{the_view}
 use Rattle.ring_table.specs.Seats.{AreCounted, Board, SeatPlace, Shares, SitsAt, shares_of}
-use Rattle.ring_table.specs.Views.{cpu, known_of, part}
-use Rattle.ring_table.proofs.Closing.{closed-as, closed-none, few-all, get-middle, none-few}
+use Rattle.ring_table.specs.Views.{known_of}
+use Rattle.dealt_seats.specs.Views.{cpu, part}
+use Rattle.ring_table.proofs.Closing.{closed-as, closed-none, few-all, none-few}
+use Rattle.dealt_seats.proofs.Parts.{get-middle}
 use Rattle.ring_table.proofs.Joined.{counted-more, last-parts, made-as, shares-more}
 use Rattle.ring_table.proofs.Steps.{good-counted, view-at}
 use Rattle.ring_table.proofs.ring.RingTable.close.Goals as goal
@@ -69,7 +71,7 @@ push-requires c =
     omega (arith, kept, room, many)
 
 -- the last seat is of the table's plan
-own : (c : After-push) → c.last.inside.seat.me.0.plan ≡ c.self.inside.table.shared.key
+own : (c : After-push) → c.last.inside.seat.me.0.job ≡ c.self.inside.table.shared.key
 own c =
     let m = (c.requires.each (length c.pop.new.self.items) c.in-Some.last
     (ap (λ (l : List SeatPlace). slice_get l (length c.pop.new.self.items)) c.in-Some.ensures.items

@@ -9,7 +9,7 @@ use Rattle.ring_table.proofs.ring.RingTable.hit.Goals as goal
 use Rattle.ring_table.proofs.ring.RingTable.hit.Goals.{After-draw-ticket, After-switch}
 
 -- the seat is of the table's plan
-own : (c : After-draw-ticket) → c.seat.inside.seat.me.0.plan ≡ c.self.inside.plan
+own : (c : After-draw-ticket) → c.seat.inside.seat.me.0.job ≡ c.self.inside.plan
 own c = ap (λ (s : SeatPlace). s.plan) c.seat.view_is ∙ c.requires.table.1 ∙ sym (ap (λ (b : Board). b.plan) c.self.view_is)
 
 within : (c : After-draw-ticket) → c.args.i < length c.self.inside.plan.triggers

@@ -8,7 +8,7 @@ use Rattle.ring_table.proofs.Steps.{good-looked, looked-as, looked-at, looked-me
 use Rattle.ring_table.proofs.ring.RingTable.trace.Goals as goal
 use Rattle.ring_table.proofs.ring.RingTable.trace.Goals.{After-look}
 
-own : (c : After-look) → c.seat.inside.seat.me.0.plan ≡ c.self.inside.plan
+own : (c : After-look) → c.seat.inside.seat.me.0.job ≡ c.self.inside.plan
 own c = ap (λ (s : SeatPlace). s.plan) c.seat.view_is ∙ c.requires.table.1 ∙ sym (ap (λ (b : Board). b.plan) c.self.view_is)
 
 good : (c : After-look)

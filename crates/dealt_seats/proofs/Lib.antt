@@ -1,0 +1,3 @@
+pub mod Actors
+pub mod Parts
+pub mod Moves
