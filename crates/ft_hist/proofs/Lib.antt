@@ -37,3 +37,4 @@ pub mod SmallJobs
 pub mod NotLegal
 pub mod NotLegalClauses
 pub mod ToldSamples
+pub mod DispatchSamples

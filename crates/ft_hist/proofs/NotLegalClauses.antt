@@ -355,6 +355,11 @@ exit_of_missed_entry legal =
 
 -- ## calls
 
+-- another function is entered than that of the script's act
+pub another_function : IsLegal first_path ((Begin 1 ∷ Return 1 Accepted ∷ []) ++ Enter (call_in 0 1) Normal (record { 0 = 1 }) None ∷ []) → ⊥
+unfolding plain after_item
+another_function legal = false_true ((last first_path (Begin 1 ∷ Return 1 Accepted ∷ []) (Enter (call_in 0 1) Normal (record { 0 = 1 }) None) legal).run 0)
+
 -- a call is entered from another than the latest one that is open
 abbrev before_enter : List Item
 before_enter =

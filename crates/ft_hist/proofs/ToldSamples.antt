@@ -12,10 +12,10 @@ use Rattle.ft_base.specs.declared.user.Act.TheVariants.{CallIn}
 use Rattle.ft_base.specs.Job.{Job}
 use Rattle.ft_base.specs.Desk.{desk, is_live}
 use Rattle.ft_base.proofs.Small.{false_true}
-use Rattle.ft_hist.specs.Past.{all_visits}
-use Rattle.ft_hist.specs.Rules.{IsLegal}
+use Rattle.ft_hist.specs.Past.{all_visits, done_at_leave}
+use Rattle.ft_hist.specs.Rules.{IsLegal, waits_before}
 use Rattle.ft_hist.specs.Telling.{is_begin_by, is_end_by, is_exit_for, is_ret_of, is_command, is_return_of, MayLackExit}
-use Rattle.ft_hist.proofs.SmallJobs.{call_in, fprobe_misses}
+use Rattle.ft_hist.proofs.SmallJobs.{call_in, fprobe_misses, registered_again}
 use Rattle.ft_hist.proofs.NotLegal.{last, between, before_body}
 
 -- ## which items are meant
@@ -57,7 +57,17 @@ marks = (refl, refl, refl)
 return_of_its_number : (is_return_of 1 (Return 1 Accepted) ≡ true) × (is_return_of 2 (Return 1 Accepted) ≡ false) × (is_return_of 1 (Begin 1) ≡ false)
 return_of_its_number = (refl, refl, refl)
 
+-- ## which waits a command has
+
+-- those above it, and not those below
+waits_above : (waits_before 0 registered_again.ctls ≡ []) × (waits_before 1 registered_again.ctls ≡ (0, 2) ∷ [])
+waits_above = (refl, refl)
+
 -- ## why an exit may lack
+
+-- what has returned by the call's Leave, and not what has begun
+returned_at_leave : done_at_leave (call_in 0 1) (Leave (call_in 0 1) ∷ Begin 2 ∷ Return 1 Accepted ∷ Begin 1 ∷ []) ≡ 1
+returned_at_leave = refl
 
 -- not while a frame is free and the registration is live
 abbrev after_back : List Item

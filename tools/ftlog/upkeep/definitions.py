@@ -21,10 +21,9 @@ from ftlog.fault import Fault
 
 CHANGES = pathlib.Path(__file__).with_suffix(".txt")
 CRATES = {
-    "ft_base": ["ft_base", "ft_hist", "plain_machine", "plain_samples", "word_machine", "word_machine_laws"],
-    "ft_hist": ["ft_hist", "plain_machine", "plain_samples"],
-    "plain_machine": ["plain_machine", "plain_samples"],
-    "word_machine": ["word_machine", "word_machine_laws"],
+    "ft_base": ["ft_base", "ft_hist", "word_machine", "word_samples", "word_machine_laws"],
+    "ft_hist": ["ft_hist", "word_machine", "word_samples", "word_machine_laws"],
+    "word_machine": ["word_machine", "word_samples", "word_machine_laws"],
 }
 FIRST_FAULT = re.compile(r"(?:proofs|specs|src)/[\w/]*\.(?:antt|rt)(?=:\d+:\d+: error)")
 
