@@ -7,7 +7,7 @@ use Rattle.ft_base.specs.declared.item.Reason.TheVariants.{Depth}
 use Rattle.ft_base.specs.declared.item.Answer.TheVariants.{Accepted}
 use Rattle.ft_base.specs.declared.item.Item.{Item}
 use Rattle.ft_base.specs.declared.item.Item.TheVariants.{Begin, Return, Enter, Back, BackEnd, Refuse, Body, Leave, Exit, Ret}
-use Rattle.ft_base.specs.Job.{Job, Command, Unregister}
+use Rattle.ft_base.specs.Job.{Job, Unregister}
 use Rattle.ft_base.specs.Desk.{desk, is_on, is_live, target}
 use Rattle.ft_base.proofs.Small.{false_true}
 use Rattle.ft_hist.specs.Past.{all_visits, Visit}

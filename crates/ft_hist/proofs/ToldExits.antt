@@ -1,5 +1,5 @@
 -- The laws of exits and of what is open at an unregistration, by items.
-use Rattle.std.proofs.Common.{IfSome, ◌≡◌, ℕ, zero, suc, ◌<◌, ◌≤◌, ◌⊎◌, Bool, true, false, ◌==◌, List, [], ◌∷◌, ◌++◌, length, reverse, Option, Some, refl, sym, ap, ◌∙◌, subst, arith, cond, inl, inr, lt-ltb}
+use Rattle.std.proofs.Common.{IfSome, ◌≡◌, ℕ, zero, suc, ◌<◌, ◌≤◌, ◌⊎◌, Bool, true, false, ◌==◌, List, [], ◌∷◌, ◌++◌, length, reverse, Option, Some, refl, sym, ap, ◌∙◌, subst, arith, cond, inl, inr, lt-ltb, ◌||◌, ◌&&◌, nat_lt, ltb-true, append_assoc}
 use Rattle.std.specs.Prelude.{slice_get, get_or, Contains}
 use Rattle.std.specs.List.{list_any, AllByRecursion as Each}
 use Rattle.std.proofs.lemmas.List.{reverse-reverse, length-reverse}
@@ -12,9 +12,9 @@ use Rattle.ft_base.specs.declared.item.Item.TheVariants.{Return, Back, Exit, Ret
 use Rattle.ft_base.specs.Job.{Job, Command, commands}
 use Rattle.ft_base.specs.Desk.{desk, is_live, spec_at}
 use Rattle.ft_base.specs.Same.{same_call}
-use Rattle.ft_base.specs.Kinds.{has_depth, has_exit, cancels}
+use Rattle.ft_base.specs.Kinds.{has_depth, has_exit, cancels, wants_frame}
 use Rattle.ft_base.proofs.Small.{false_true}
-use Rattle.ft_hist.specs.Past.{callbacks, is_called, held, AreFramesHeld, Visit, user_now, visit, visits, all_visits, exits}
+use Rattle.ft_hist.specs.Past.{callbacks, is_called, held, AreFramesHeld, Visit, user_now, visit, visits, all_visits, exits, gets_frame, IsFrameLeft}
 use Rattle.ft_hist.specs.Rules.{IsLegal, HasExit, IsExitDone, AtReturnedOrBegun, IsStill}
 use Rattle.ft_hist.specs.Telling.{is_begin_by, is_end_by, is_exit_for, TakesOff, MayLackExit}
 use Rattle.ft_hist.proofs.Laws.{same_call-refl}
@@ -72,6 +72,31 @@ module _ (job : Job) (items first rest : List Item) (call : CallNo) (user : User
       let reg : m.reg ≡ (user_now job call user.0 (reverse (reverse older))).reg =
       has.4 ∙ ap (λ (v : ℕ). (user_now job call v older).reg) of.2 ∙ ap (λ (xs : List Item). (user_now job call user.0 xs).reg) (sym (reverse-reverse older)) in
       (reverse older, reverse has.0, shape, place, subst (λ r. AtReturnedOrBegun (reverse first) (λ k. is_live (desk job k) user.0 r ≡ true)) reg of.5)
+
+  -- and its user has an exit and doesn't cancel it, and its Back found a frame
+  pub exit-set-up : (wants_frame (spec_at job user.0).kind ≡ true) × (cancels (spec_at job user.0).kind ≡ false)
+      × (a : List Item) × (b : List Item) × (first ≡ a ++ Back call user ∷ b) × (length a ≡ entry) × IsFrameLeft job (reverse a) call
+  exit-set-up =
+      let of = (splits job items first (Exit call user entry) rest legal e).exits.0.of in
+      let m = of.0 in
+      let has : HasBack job call m (reverse first) = each-of (λ v. v.back ≡ true → HasBack job call v (reverse first)) (visits job call (reverse first)) m of.1 (told job call (reverse first)) of.4.0 in
+      let older = has.1 in
+      let back : Back call (record { 0 = m.user }) ≡ Back call user = ap (λ (v : UserNo). Back call v) (user_no user m.user of.2) in
+      let shape : first ≡ reverse older ++ Back call user ∷ reverse has.0 =
+      sym (reverse-reverse first) ∙ ap (λ (xs : List Item). reverse xs) (has.2 ∙ ap (λ (z : Item). has.0 ++ z ∷ older) back) ∙ split-reverse has.0 (Back call user) older in
+      let place : length (reverse older) ≡ entry = length-reverse older ∙ sym has.3 ∙ of.3 in
+      let gets : gets_frame job call user.0 older (all_visits job older) ≡ true = subst (λ (v : ℕ). gets_frame job call v older (all_visits job older) ≡ true) of.2 (sym has.5 ∙ of.4.1) in
+      let before : items ≡ reverse older ++ Back call user ∷ (reverse has.0 ++ Exit call user entry ∷ rest) =
+      e ∙ ap (λ (xs : List Item). xs ++ Exit call user entry ∷ rest) shape ∙ append_assoc (reverse older) (Back call user ∷ reverse has.0) (Exit call user entry ∷ rest) in
+      let passes = (splits job items (reverse older) (Back call user) (reverse has.0 ++ Exit call user entry ∷ rest) legal before).refusals in
+      let w = by older (has_depth (spec_at job user.0).kind) refl passes.room (has_exit (spec_at job user.0).kind) gets in
+      (w.0, subst (λ (v : ℕ). cancels (spec_at job v).kind ≡ false) of.2 of.4.2, reverse older, reverse has.0, shape, place, w.1)
+    where
+      by : (older : List Item) (d : Bool) → has_depth (spec_at job user.0).kind ≡ d → (has_depth (spec_at job user.0).kind ≡ true → IsFrameLeft job (reverse (reverse older)) call) → (x : Bool)
+          → (d || (x && nat_lt (held job call older) job.frames)) ≡ true → ((d || x) ≡ true) × IsFrameLeft job (reverse (reverse older)) call
+      by older true de room x g = (refl, room de)
+      by older false de room true g = (refl, subst (λ (xs : List Item). IsFrameLeft job xs call) (sym (reverse-reverse older)) (ltb-true (held job call older) job.frames g))
+      by older false de room false g = false_true g
 
 -- a later exit belongs to a later Back
 exits-since : (call : CallNo) (user : UserNo) (entry : ℕ) (P : ℕ → Type 0) (newer past : List Item) → Each P (exits call (newer ++ Exit call user entry ∷ past)) → P entry

@@ -1,6 +1,6 @@
 -- Samples of the words in which the laws of histories are told, which no code and no other definition cites; and a history in which an act's call
 -- comes where a Miss is due.
-use Rattle.std.proofs.Common.{◌≡◌, ◌≤◌, true, false, List, [], ◌∷◌, ◌++◌, Some, None, codes, refl, sym, arith, inl, inr}
+use Rattle.std.proofs.Common.{◌≡◌, true, false, List, [], ◌∷◌, ◌++◌, Some, None, codes, refl, sym, arith, inl, inr}
 use Rattle.ft_base.specs.declared.context.Ctx.TheVariants.{Normal}
 use Rattle.ft_base.specs.declared.item.Ran.TheVariants.{Own}
 use Rattle.ft_base.specs.declared.item.Reason.TheVariants.{Recursion}

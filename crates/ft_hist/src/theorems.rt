@@ -13,7 +13,7 @@ ghost use Rattle.std.specs.List.{list_any};
 ghost use Rattle.ft_base.specs.Job.{Job as PlainJob, Command, Register, Unregister, commands};
 ghost use Rattle.ft_base.specs.Versions.{levels};
 ghost use Rattle.ft_base.specs.Desk.{desk, is_on, is_allowed, is_live, spec_at, target};
-ghost use Rattle.ft_base.specs.Kinds.{has_depth, has_exit};
+ghost use Rattle.ft_base.specs.Kinds.{cancels, has_depth, has_exit, wants_frame};
 ghost use Rattle.ft_base.specs.Items.{call_of};
 ghost use Rattle.ft_base.specs.WellFormed.{IsWellFormed};
 ghost use Rattle.ft_base.specs.declared.context.Ctx.{Ctx};
@@ -142,6 +142,14 @@ pub fn exits_belong_to_their_registration()
         → IsLegal job items → items ≡ first ++ Exit call user entry ∷ rest
         → (a : List Item) × (b : List Item) × (first ≡ a ++ Back call user ∷ b) × (length a ≡ entry)
         × AtReturnedOrBegun (reverse first) (λ k. is_live (desk job k) user.0 (user_now job call user.0 (reverse a)).reg ≡ true) }
+{}
+
+/// The user of an exit has one and doesn't cancel it, and its entry callback found a frame.
+pub fn exits_are_set_up()
+    ensures { (job : PlainJob) (items first rest : List Item) (call : CallNo) (user : UserNo) (entry : ℕ)
+        → IsLegal job items → items ≡ first ++ Exit call user entry ∷ rest
+        → (wants_frame (spec_at job user.0).kind ≡ true) × (cancels (spec_at job user.0).kind ≡ false)
+        × (a : List Item) × (b : List Item) × (first ≡ a ++ Back call user ∷ b) × (length a ≡ entry) × IsFrameLeft job (reverse a) call }
 {}
 
 /// An entry callback has at most one exit, and exits come in the order of their entry callbacks.
