@@ -10,7 +10,7 @@ use Rattle.ft_base.proofs.Small.{==-refl}
 use Rattle.ft_hist.specs.Rules.{IsLegal, IsLegalPast}
 use Rattle.ft_hist.specs.Telling.{open_calls}
 use Rattle.ft_hist.proofs.ToldExits.{exit-of}
-use Rattle.trace_views.specs.GraphWalks.{Goes, Nests}
+use Rattle.trace_views.specs.GraphWalks.{Goes}
 use Rattle.trace_views.proofs.TopCalls.{named, fresh, taken, top-back, top-exit}
 
 module _ (job : Job) where
@@ -28,7 +28,7 @@ module _ (job : Job) where
       let e = of.3 in
       omega (arith, a, b, d, e)
 
-  goes : (item : Item) (past : List Item) → IsLegalPast job (item ∷ past) → Goes (length job.tasks) past item
+  pub goes : (item : Item) (past : List Item) → IsLegalPast job (item ∷ past) → Goes (length job.tasks) past item
   goes (Enter call ctx f caller) past l = (named job call.task.0 (Enter call ctx f caller) past (==-refl call.task.0) l, fresh job call ctx f caller past l)
   goes (Back call v) past l = let top = top-back job call v past l in (named job call.task.0 (Back call v) past (==-refl call.task.0) l, top.below, top.before)
   goes (Exit call v entry) past l =
@@ -36,12 +36,3 @@ module _ (job : Job) where
       ((named job call.task.0 (Exit call v entry) past (==-refl call.task.0) l, top.below, top.before), exit-later call v entry past l)
   goes (Ret call to) past l = (named job call.task.0 (Ret call to) past (==-refl call.task.0) l, open_calls call.task.0 (Ret call to ∷ past), taken job call to past l)
   goes _ past l = tt
-
-  nests : (past : List Item) → IsLegalPast job past → Nests (length job.tasks) past
-  unfolding IsLegalPast
-  nests [] l = tt
-  nests (item ∷ past) l = (goes item past l, nests past l.1)
-
-  pub legal-nests : (items : List Item) → IsLegal job items → Nests (length job.tasks) (reverse items)
-  unfolding IsLegal
-  legal-nests items l = nests (reverse items) l

@@ -9,7 +9,7 @@ use Rattle.ft_base.specs.declared.context.Ctx.{Ctx}
 use Rattle.ft_base.specs.declared.item.Item.{Item}
 use Rattle.ft_base.specs.declared.item.Item.TheVariants.{Enter, Back, Ret}
 use Rattle.ft_base.specs.Same.{same_call}
-use Rattle.ft_base.proofs.Small.{==-refl, and-false, Each-weaker, Each-filter, filter-ext}
+use Rattle.ft_base.proofs.Small.{==-refl, and-false, Each-weaker, filter-ext}
 use Rattle.ft_hist.specs.Past.{is_open}
 use Rattle.ft_hist.proofs.Laws.{same_call-refl}
 use Rattle.ft_hist.proofs.RunLaws.{same_call-eq}
@@ -53,16 +53,6 @@ filter-short p [] = omega arith
 filter-short p (x ∷ xs) =
     let h = filter-short p xs in
     elim (p x) as (λ b. length (cond b (x ∷ filter p xs) (filter p xs)) ≤ suc (length xs)) [ true ↦ omega (arith, h) | false ↦ omega (arith, h) ]
-
--- calls of which no two are the same
-abbrev pub AreApart : List CallNo → Type 0
-AreApart [] = Unit {0}
-AreApart (c ∷ cs) = IsFresh c cs × AreApart cs
-
-pub apart-filter : (p : CallNo → Bool) (cs : List CallNo) → AreApart cs → AreApart (filter p cs)
-apart-filter p [] h = tt
-apart-filter p (c ∷ cs) h =
-    elim (p c) as (λ b. AreApart (cond b (c ∷ filter p cs) (filter p cs))) [ true ↦ (Each-filter (λ d. same_call c d ≡ false) p cs h.0, apart-filter p cs h.1) | false ↦ apart-filter p cs h.1 ]
 
 -- those that pass are the call's and the others that pass
 abbrev Splits : CallNo → (CallNo → Bool) → List CallNo → CallNo → Type 0

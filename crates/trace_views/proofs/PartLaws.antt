@@ -20,7 +20,7 @@ use Rattle.trace_views.specs.GraphText.{latest, leaf_exit, is_here, level, calle
 use Rattle.trace_views.specs.GraphWalks.{IsTop}
 use Rattle.trace_views.specs.GraphLines.{entry_text, exit_text, first_leaf, is_at, time_to, top_at}
 use Rattle.trace_views.proofs.ItemTexts.{part-is}
-use Rattle.trace_views.proofs.WalkLaws.{Walking, nests-here, place-is, walk-here, top-is, level-shown}
+use Rattle.trace_views.proofs.WalkLaws.{Walking, goes-here, place-is, walk-here, top-is, level-shown}
 
 -- an exit that makes a leaf isn't before the items among which it is
 sooner : (o : Option ℕ) (p : ℕ) → IfSome o (λ exit. suc p ≤ exit) → IfSome o (λ exit. p ≤ exit)
@@ -54,7 +54,7 @@ ends-is u call entry past = by (latest u call.task.0 past) refl
 
 -- ## the next leaf is that of an entry callback
 
-module _ {u tasks place : ℕ} {items : List Item} {w : Walk} (call : CallNo) (v : UserNo) (k : Walking u tasks place items w (Back call v)) (own : (v.0 == u) ≡ true) where
+module _ {of : Job} {u place : ℕ} {items : List Item} {w : Walk} (call : CallNo) (v : UserNo) (k : Walking of u place items w (Back call v)) (own : (v.0 == u) ≡ true) where
   leaf-is : first_leaf w.leaves.items ≡ leaf_exit u call.task.0 (length (past_at place items)) (suc (length (past_at place items))) (drop (suc place) items)
   leaf-is =
       let x : Option ℕ = leaf_exit u call.task.0 (length (past_at place items)) (suc (length (past_at place items))) (drop (suc place) items) in
@@ -71,9 +71,9 @@ module _ {u tasks place : ℕ} {items : List Item} {w : Walk} (call : CallNo) (v
 
 -- ## lines
 
-module _ {u tasks place : ℕ} {items : List Item} {w : Walk} (job : Job) (call : CallNo) (shown : Shown) (task : shown.task ≡ call.task)
+module _ {of : Job} {u place : ℕ} {items : List Item} {w : Walk} (job : Job) (call : CallNo) (shown : Shown) (task : shown.task ≡ call.task)
     (func : shown.func ≡ (top_at w.open call.task.0).func) (lvl : shown.level ≡ get_or w.levels.items call.task.0 0 - (top_at w.open call.task.0).backs) where
-  module _ {item : Item} (k : Walking u tasks place items w item) (top : IsTop tasks call (past_at place items)) where
+  module _ {item : Item} (k : Walking of u place items w item) (top : IsTop (length of.tasks) call (past_at place items)) where
     task-is : shown.task.0 ≡ call.task.0
     task-is = ap (λ (t : TaskNo). t.0) task
 
@@ -84,12 +84,12 @@ module _ {u tasks place : ℕ} {items : List Item} {w : Walk} (job : Job) (call 
     level-is = lvl ∙ level-shown k call top
 
   -- that of an entry callback
-  pub back-line : (v : UserNo) (k : Walking u tasks place items w (Back call v)) → (v.0 == u) ≡ true → (time : Option ℕ) → time ≡ time_to place (first_leaf w.leaves.items)
+  pub back-line : (v : UserNo) (k : Walking of u place items w (Back call v)) → (v.0 == u) ≡ true → (time : Option ℕ) → time ≡ time_to place (first_leaf w.leaves.items)
       → entry_text job shown.task.0 shown.level (function_word job shown.func.0) time ≡ part_at (graph_part job u) place items
   back-line v k own time is =
       let past : List Item = past_at place items in
       let x : Option ℕ = leaf_exit u call.task.0 (length past) (suc (length past)) (drop (suc place) items) in
-      let top = (nests-here k).0 in
+      let top = goes-here k in
       let timed : time ≡ time_to (length past) x = is ∙ ap (λ n. time_to n (first_leaf w.leaves.items)) (sym (place-is k)) ∙ ap (λ o. time_to (length past) o) (leaf-is call v k own) in
       let part : part_at (graph_part job u) place items ≡ entry_line job u call past x = part-is items place (Back call v) k.here (graph_part job u) ∙ rw own refl in
       ap (λ t. entry_text job t shown.level (function_word job shown.func.0) time) (task-is k top)
@@ -99,11 +99,11 @@ module _ {u tasks place : ℕ} {items : List Item} {w : Walk} (job : Job) (call 
       ∙ entry-is job u call past x ∙ sym part
 
   -- that of an exit callback
-  pub exit-line : (v : UserNo) (entry : ℕ) (k : Walking u tasks place items w (Exit call v entry)) → (v.0 == u) ≡ true → is_at entry (get_or w.latest.items call.task.0 None) ≡ false
+  pub exit-line : (v : UserNo) (entry : ℕ) (k : Walking of u place items w (Exit call v entry)) → (v.0 == u) ≡ true → is_at entry (get_or w.latest.items call.task.0 None) ≡ false
       → exit_text job shown.task.0 shown.level (function_word job shown.func.0) (place - entry) ≡ part_at (graph_part job u) place items
   exit-line v entry k own other =
       let past : List Item = past_at place items in
-      let top = (nests-here k).0.0 in
+      let top = (goes-here k).0 in
       let h = walk-here k in
       let ends : ends_leaf u call entry past ≡ false = sym (ends-is u call entry past) ∙ ap (λ o. is_at entry o) (sym (h.latest'.each call.task.0 top.0)) ∙ other in
       let part : part_at (graph_part job u) place items ≡ exit_line job u call entry past = part-is items place (Exit call v entry) k.here (graph_part job u) ∙ by (v.0 == u) (ends_leaf u call entry past) [] (exit_line job u call entry past) [] own ends in

@@ -34,6 +34,11 @@ module _ (job : Job) where
   pub open-is : (t : ℕ) (past : List Item) (s : PlainTask) → plain job t past ≡ Some s → open_calls t past ≡ calls_on s.stack
   open-is t past s e = (opens job t past s e).open'
 
+  -- what is legal with one item more is so without it
+  pub older : (item : Item) (past : List Item) → IsLegalPast job (item ∷ past) → IsLegalPast job past
+  unfolding IsLegalPast
+  older item past l = l.1
+
   -- ## an Enter
 
   pub put : (call : CallNo) (ctx : Ctx) (f : FuncNo) (caller : Option CallNo) (past : List Item) → IsLegalPast job (Enter call ctx f caller ∷ past)

@@ -5,6 +5,7 @@ use Rattle.ft_base.specs.declared.number.CallNo.{CallNo}
 use Rattle.ft_base.specs.declared.item.Item.{Item}
 use Rattle.ft_base.specs.Job.{Job}
 use Rattle.ft_hist.specs.Past.{entry_of}
+use Rattle.ft_hist.specs.Rules.{IsLegal}
 use Rattle.ft_hist.specs.Telling.{past_at, open_calls}
 use Rattle.trace_views.specs.declared.graph.GraphCall.{GraphCall}
 use Rattle.trace_views.specs.declared.graph.Walk.{Walk}
@@ -15,7 +16,7 @@ use Rattle.trace_views.specs.TaskStacks.{stack_at}
 use Rattle.trace_views.specs.ByTask.{IsByTask}
 use Rattle.trace_views.specs.Leaves.{leaf_exits}
 use Rattle.trace_views.specs.GraphText.{latest, time_column, graph_line}
-use Rattle.trace_views.specs.GraphWalks.{backs_in, backs_open, Nests}
+use Rattle.trace_views.specs.GraphWalks.{backs_in, backs_open}
 
 -- ## a user's walk
 
@@ -34,10 +35,10 @@ pub record IsWalk (u tasks : ℕ) (past rest : List Item) (walk : Walk) : Type 0
   pub latest' : IsByTask tasks None (λ t. latest u t past) walk.latest.items
   pub leaves : walk.leaves.items ≡ reverse (leaf_exits u (length past) rest)
 
--- what is kept at a place of a history whose items go with the calls that are open
-pub record IsWalkAt (u tasks place : ℕ) (items : List Item) (walk : Walk) : Type 0 where
-  pub nests : Nests tasks (reverse items)
-  pub kept : IsWalk u tasks (past_at place items) (drop place items) walk
+-- what is kept at a place of a legal history of a job
+pub record IsWalkAt (job : Job) (u place : ℕ) (items : List Item) (walk : Walk) : Type 0 where
+  pub legal : IsLegal job items
+  pub kept : IsWalk u (length job.tasks) (past_at place items) (drop place items) walk
 
 -- no call
 abbrev pub no_call : GraphCall

@@ -1,6 +1,6 @@
 -- Where a user is in a history: its open calls, and how often it was called back in them. What is told at a place takes the items
 -- before it, the latest first: its past.
-use Rattle.std.specs.Prelude.{ℕ, ◌≡◌, ◌<◌, Bool, false, ◌&&◌, ◌==◌, List, [], ◌∷◌, length, filter}
+use Rattle.std.specs.Prelude.{ℕ, ◌≡◌, ◌<◌, Bool, false, ◌&&◌, ◌==◌, List, ◌∷◌, length, filter}
 use Rattle.std.specs.List.{AllByRecursion as Each}
 use Rattle.ft_base.specs.declared.number.CallNo.{CallNo}
 use Rattle.ft_base.specs.declared.item.Item.{Item}
@@ -32,15 +32,11 @@ IsFresh call cs = Each (λ c. same_call call c ≡ false) cs
 abbrev pub IsTop : ℕ → CallNo → List Item → Type 0
 IsTop tasks call past = (call.task.0 < tasks) × (below : List CallNo) × (open_calls call.task.0 past ≡ call ∷ below)
 
--- a call is entered once, and returns and is called back for as the latest open one; an exit comes after its entry callback
+-- an item of a legal history: a call is entered once, and returns and is called back for as the latest open one; an exit comes after its
+-- entry callback
 abbrev pub Goes : ℕ → List Item → Item → Type 0
 Goes tasks past (Enter call ctx f caller) = (call.task.0 < tasks) × IsFresh call (calls past)
 Goes tasks past (Back call v) = IsTop tasks call past
 Goes tasks past (Exit call v entry) = IsTop tasks call past × (entry < length past)
 Goes tasks past (Ret call to) = IsTop tasks call past
 Goes tasks past _ = Unit {0}
-
--- each item goes with those before it
-abbrev pub Nests : ℕ → List Item → Type 0
-Nests tasks [] = Unit {0}
-Nests tasks (item ∷ past) = Goes tasks past item × Nests tasks past

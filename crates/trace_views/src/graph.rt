@@ -159,8 +159,9 @@ impl Walk {
     fn follow(&mut self, history: &History, place: u32, user: UserNo) -> Result<(), NoMemory>
         requires place { place < length history.now.items }
         requires size { length history.now.items < 2 ^ 32 }
-        requires so_far { IsWalkAt user.0 (length self.old.open) place history.now.items self.old }
-        ensures { OnOk result (IsWalkAt user.0 (length self.old.open) (place + 1) history.now.items self.new) }
+        requires so_far { (job : PlainJob) × IsWalkAt job user.0 place history.now.items self.old }
+        ensures { OnOk result ((job : PlainJob) → IsWalkAt job user.0 place history.now.items self.old
+            → IsWalkAt job user.0 (place + 1) history.now.items self.new) }
     {
         match *history.item(place) {
             Item::Enter { call, func, .. } => {
@@ -208,7 +209,7 @@ fn add_part(
     walk: &Walk,
 ) -> Result<(), NoMemory>
     requires place { place < length history.now.items }
-    requires so_far { IsWalkAt user.0 (length walk.now.open) place history.now.items walk.now }
+    requires so_far { (job : PlainJob) × IsWalkAt job user.0 place history.now.items walk.now }
     ensures { OnOk result ((job : PlainJob) → lines_text (graph_line_text job) lines.new.items
         ≡ lines_text (graph_line_text job) lines.old.items ++ part_at (graph_part job user.0) place history.now.items) }
 {

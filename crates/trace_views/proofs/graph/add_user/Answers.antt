@@ -1,7 +1,6 @@
-use Rattle.std.proofs.Common.{◌+◌, refl, sym, subst, arith}
+use Rattle.std.proofs.Common.{refl, sym, subst, arith}
 use Rattle.trace_views.specs.Leaves.{AreInTasks}
 use Rattle.trace_views.specs.GraphText.{graph_part}
-use Rattle.trace_views.specs.GraphLines.{IsWalkAt}
 use Rattle.trace_views.proofs.GraphUsers.{tasks-in, walk-start, texts-next}
 use Rattle.trace_views.proofs.ItemTexts.{texts-all}
 use Rattle.trace_views.proofs.graph.add_user.Goals as goal
@@ -18,18 +17,14 @@ loop-place-init g c = record {
 }
 
 pub add_part-requires-clause-so_far : goal.add_part-requires-clause-so_far
-add_part-requires-clause-so_far g c =
-    let kept = c.loop-place.invariant.kept in
-    subst (λ n. IsWalkAt c.args.user.0 n c.loop-place.place c.args.history.now.items c.loop-place.walk) (sym kept.kept.open'.tasks') kept
+add_part-requires-clause-so_far g c = (g.N.Named.job c.args.names.now, c.loop-place.invariant.kept)
 
 pub follow-requires-clause-so_far : goal.follow-requires-clause-so_far
-follow-requires-clause-so_far g c =
-    let kept = c.loop-place.invariant.kept in
-    subst (λ n. IsWalkAt c.args.user.0 n c.loop-place.place c.args.history.now.items c.loop-place.walk) (sym kept.kept.open'.tasks') kept
+follow-requires-clause-so_far g c = (g.N.Named.job c.args.names.now, c.loop-place.invariant.kept)
 
 pub loop-place-preserved : goal.loop-place-preserved
 loop-place-preserved g c = record {
-  kept = subst (λ n. IsWalkAt c.args.user.0 n (c.loop-place.place + 1) c.args.history.now.items c.follow.new.self) c.loop-place.invariant.kept.kept.open'.tasks' c.in_ok-follow.ensures;
+  kept = c.in_ok-follow.ensures (g.N.Named.job c.args.names.now) c.loop-place.invariant.kept;
   so_far = texts-next (graph_part (g.N.Named.job c.args.names.now) c.args.user.0) c.args.history.now.items c.loop-place.place _ _ _ (omega arith)
       (c.in_ok-add_part.ensures (g.N.Named.job c.args.names.now)) c.loop-place.invariant.so_far;
 }
