@@ -9,11 +9,11 @@ use Rattle.ft_base.specs.declared.item.Item.{Item}
 use Rattle.ft_base.specs.declared.item.Item.TheVariants.{Begin, Return, Enter, Back, BackEnd, Refuse, Body, Leave, Exit, ExitEnd, Ret}
 use Rattle.ft_base.specs.declared.user.Kind.TheVariants.{Fprobe}
 use Rattle.ft_base.specs.declared.user.Act.TheVariants.{CallIn}
-use Rattle.ft_base.specs.Job.{Job}
+use Rattle.ft_base.specs.Job.{Job, waits_before}
 use Rattle.ft_base.specs.Desk.{desk, is_live}
 use Rattle.ft_base.proofs.Small.{false_true}
 use Rattle.ft_hist.specs.Past.{all_visits, done_at_leave}
-use Rattle.ft_hist.specs.Rules.{IsLegal, waits_before}
+use Rattle.ft_hist.specs.Rules.{IsLegal}
 use Rattle.ft_hist.specs.Telling.{is_begin_by, is_end_by, is_exit_for, is_ret_of, is_command, is_return_of, MayLackExit}
 use Rattle.ft_hist.proofs.SmallJobs.{call_in, fprobe_misses, registered_again}
 use Rattle.ft_hist.proofs.NotLegal.{last, between, before_body}
