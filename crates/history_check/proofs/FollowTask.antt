@@ -6,7 +6,7 @@ use Rattle.ft_base.specs.declared.number.CallNo.{CallNo}
 use Rattle.ft_base.specs.declared.number.FuncNo.{FuncNo}
 use Rattle.ft_base.specs.declared.context.Ctx.{Ctx}
 use Rattle.ft_base.specs.declared.item.Item.{Item}
-use Rattle.ft_base.specs.declared.item.Item.TheVariants.{Begin, Return, Enter, Back, BackEnd, Refuse, Miss, Body, Leave, Exit, ExitEnd, Ret}
+use Rattle.ft_base.specs.declared.item.Item.TheVariants.{Begin, Return, Enter, Leave, Ret}
 use Rattle.ft_base.specs.Items.{call_of}
 use Rattle.ft_base.specs.Same.{same_call}
 use Rattle.ft_base.specs.Job.{Job}
@@ -16,7 +16,7 @@ use Rattle.ft_hist.specs.Past.{all_visits, done, done_at_leave, exits, held, is_
 use Rattle.ft_hist.specs.Plain.{PlainTask, plain}
 use Rattle.ft_hist.proofs.HeldLaws.{held-is, not_same, not_same'}
 use Rattle.ft_hist.proofs.Laws.{plain-other, same_call-refl}
-use Rattle.ft_hist.proofs.Numbers.{moved, none-before}
+use Rattle.ft_hist.proofs.Numbers.{moved, next-moved, none-before}
 use Rattle.ft_hist.proofs.RunLaws.{Keeps, Moves, calls_on, some_inj, sound}
 use Rattle.ft_hist.proofs.Since.{touches}
 use Rattle.history_check.specs.declared.open_call.OpenCall.{OpenCall}
@@ -26,21 +26,6 @@ use Rattle.history_check.proofs.OpenCalls.{calls-stay, holding-stays, stacked-st
 use Rattle.history_check.proofs.OpenStacks.{call_in, calls-same, each-call, holding-calls, keeps-of, moved-on, next-run, none-on-top, on-stack, on-top, own-call, uncons-head}
 
 -- ## a call that is still to come
-
--- the number of a task's next call never falls
-next-rises : (t : ℕ) (p s : PlainTask) (item : Item) → Moves p s item → is_of t item ≡ true → p.next ≤ s.next
-next-rises t p s (Begin k) m mine = false_true mine
-next-rises t p s (Return k a) m mine = false_true mine
-next-rises t p s (Enter call x f caller) m mine = let e = m.next in omega (arith, e)
-next-rises t p s (Back call u) m mine = let e = m.next in omega (arith, e)
-next-rises t p s (BackEnd call u) m mine = let e = m.next in omega (arith, e)
-next-rises t p s (Refuse call u reason) m mine = let e = m.next in omega (arith, e)
-next-rises t p s (Miss call u) m mine = let e = m.next in omega (arith, e)
-next-rises t p s (Body call g ran) m mine = let e = m.next in omega (arith, e)
-next-rises t p s (Leave call) m mine = let e = m.next in omega (arith, e)
-next-rises t p s (Exit call u entry) m mine = let e = m.next in omega (arith, e)
-next-rises t p s (ExitEnd call u) m mine = let e = m.next in omega (arith, e)
-next-rises t p s (Ret call to) m mine = let e = m.next in omega (arith, e)
 
 -- a call that leaves has a lower number than one that is still to come
 left-number : (p s : PlainTask) (c call : CallNo) → Each (λ d. d.n < p.next) (calls_on p.stack) → Keeps p s c → p.next ≤ call.n → c.n < call.n
@@ -68,7 +53,7 @@ module _ (job : Job) (t : ℕ) (call : CallNo) (own : call.task.0 ≡ t) where
       by : (b : Bool) → is_of t item ≡ b → ((p : PlainTask) → plain job t past ≡ Some p → p.next ≤ call.n → done_at_leave call past ≡ 0) → done_at_leave call (item ∷ past) ≡ 0
       by true mine before =
           let m = moved job t item past s mine here in
-          let up = next-rises t m.0 s item m.2 mine in
+          let up = next-moved job m.0 s item m.2 t mine in
           let so = (sound job t past m.0 m.1).number in
           step item (λ c e same. left-number m.0 s c call so (subst (λ (i : Item). Moves m.0 s i) e m.2) (omega (arith, up, le))) (before m.0 m.1 (omega (arith, up, le)))
       by false other before =
@@ -182,16 +167,7 @@ module _ (job : Job) (past : List Item) (t : ℕ) where
   pub of-call : (item : Item) → is_of t item ≡ true → (call : CallNo) × (call_of item ≡ Some call)
   of-call (Begin k) mine = false_true mine
   of-call (Return k a) mine = false_true mine
-  of-call (Enter call x f caller) mine = (call, refl)
-  of-call (Back call u) mine = (call, refl)
-  of-call (BackEnd call u) mine = (call, refl)
-  of-call (Refuse call u reason) mine = (call, refl)
-  of-call (Miss call u) mine = (call, refl)
-  of-call (Body call g ran) mine = (call, refl)
-  of-call (Leave call) mine = (call, refl)
-  of-call (Exit call u entry) mine = (call, refl)
-  of-call (ExitEnd call u) mine = (call, refl)
-  of-call (Ret call to) mine = (call, refl)
+  of-call _ mine = (_, refl)
 
   pub enter-item : (cs : List OpenCall) → AreCallsOf job past t cs → (item : Item) → is_of t item ≡ true → IsSome (plain job t (item ∷ past)) → (call : CallNo) (x : Ctx) (f : FuncNo) (caller : Option CallNo) → item ≡ Enter call x f caller
       → (new : OpenCall) → called new call x f.0 (done past) (holding job past cs) → (xs : List OpenCall) → xs ≡ new ∷ cs → AreCallsOf job (item ∷ past) t xs

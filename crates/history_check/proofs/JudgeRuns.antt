@@ -8,16 +8,17 @@ use Rattle.std.proofs.lemmas.List.{length-set}
 use Rattle.std.proofs.lemmas.Option.{slice_get_cases, slice_get_read, slice_get_within}
 use Rattle.ft_base.specs.declared.number.CallNo.{CallNo}
 use Rattle.ft_base.specs.declared.item.Item.{Item}
-use Rattle.ft_base.specs.declared.item.Item.TheVariants.{Begin, Return, Enter, Back, BackEnd, Refuse, Miss, Body, Leave, Exit, ExitEnd, Ret}
+use Rattle.ft_base.specs.declared.item.Item.TheVariants.{Begin, Return, Enter}
 use Rattle.ft_base.specs.declared.memory.NoMemory.{NoMemory}
 use Rattle.ft_base.specs.Items.{call_of, is_task}
 use Rattle.ft_base.specs.Job.{Job, commands}
 use Rattle.ft_base.proofs.Small.{false_true}
 use Rattle.ft_hist.specs.Past.{done, is_of}
 use Rattle.ft_hist.specs.Rules.{HasEnded, KeepsPlainRun}
-use Rattle.ft_hist.specs.Plain.{PlainTask, after_item, after_next, at_start, plain}
+use Rattle.ft_hist.specs.Plain.{PlainTask, after_item, at_start, plain}
 use Rattle.ft_hist.proofs.Laws.{plain-other, plain-own, own-item}
-use Rattle.ft_hist.proofs.RunLaws.{Moves, moves, some_inj}
+use Rattle.ft_hist.proofs.RunLaws.{Moves, step-moves, some_inj}
+use Rattle.ft_hist.proofs.Steps.{run-holds}
 use Rattle.history_check.specs.declared.past.Past.{Past}
 use Rattle.history_check.specs.declared.task_past.TaskPast.{TaskPast}
 use Rattle.history_check.specs.KeptCalls.{IsTaskPast}
@@ -32,28 +33,13 @@ number-moves : (s s' : PlainTask) (item : Item) (t : ℕ) → is_of t item ≡ t
 number-moves s s' (Begin k) t e m = false_true e
 number-moves s s' (Return k a) t e m = false_true e
 number-moves s s' (Enter call x f caller) t e m = let h = m.next in omega (arith, h)
-number-moves s s' (Back call u) t e m = let h = m.next in omega (arith, h)
-number-moves s s' (BackEnd call u) t e m = let h = m.next in omega (arith, h)
-number-moves s s' (Refuse call u reason) t e m = let h = m.next in omega (arith, h)
-number-moves s s' (Miss call u) t e m = let h = m.next in omega (arith, h)
-number-moves s s' (Body call g ran) t e m = let h = m.next in omega (arith, h)
-number-moves s s' (Leave call) t e m = let h = m.next in omega (arith, h)
-number-moves s s' (Exit call u entry) t e m = let h = m.next in omega (arith, h)
-number-moves s s' (ExitEnd call u) t e m = let h = m.next in omega (arith, h)
-number-moves s s' (Ret call to) t e m = let h = m.next in omega (arith, h)
+number-moves s s' _ t e m = let h = m.next in omega (arith, h)
 
 -- so there are no more than items
 pub few-calls : (job : Job) (t : ℕ) (past : List Item) (s : PlainTask) → plain job t past ≡ Some s → s.next ≤ suc (length past)
-unfolding plain
-few-calls job t [] s e = subst (λ (x : PlainTask). x.next ≤ 1) (some_inj (at_start job t) s e) (omega arith)
-few-calls job t (item ∷ past) s e =
-    elim (is_of t item) as (λ b. is_of t item ≡ b → cond b (after_next job (done past) item (plain job t past)) (plain job t past) ≡ Some s → s.next ≤ suc (length (item ∷ past))) [
-      | true ↦ λ mine x. elim (plain job t past) as (λ o. plain job t past ≡ o → after_next job (done past) item o ≡ Some s → s.next ≤ suc (length (item ∷ past))) [
-        | None ↦ λ here y. absurd cc
-        | Some p ↦ λ here y. (let h = few-calls job t past p here in let more = number-moves p s item t mine (moves job (done past) p s item y) in omega (arith, h, more))
-      ] refl x
-      | false ↦ λ theirs x. (let h = few-calls job t past s x in omega (arith, h))
-    ] refl e
+few-calls job t = run-holds job t (λ past s. s.next ≤ suc (length past)) (omega arith)
+    (λ item past p s own here k h. let more = number-moves p s item t own (step-moves job (done past) p s item k) in omega (arith, h, more))
+    (λ item past s other here h. omega (arith, h))
 
 -- ## results
 

@@ -5,7 +5,7 @@ use Rattle.std.proofs.lemmas.List.{length-map}
 use Rattle.std.specs.List.{filter, AllByRecursion as Each}
 use Rattle.ft_base.specs.declared.number.CallNo.{CallNo}
 use Rattle.ft_base.specs.declared.item.Item.{Item}
-use Rattle.ft_base.specs.declared.item.Item.TheVariants.{Begin, Return, Enter, Back, BackEnd, Refuse, Miss, Body, Leave, Exit, ExitEnd, Ret}
+use Rattle.ft_base.specs.declared.item.Item.TheVariants.{Begin, Return, Enter, Ret}
 use Rattle.ft_base.specs.Items.{call_of, is_task}
 use Rattle.ft_base.specs.Job.{Job}
 use Rattle.ft_base.proofs.Small.{false_true, Each-weaker}
@@ -70,30 +70,16 @@ pub of-top : (p s : PlainTask) (item : Item) (call : CallNo) → Moves p s item 
 of-top p s (Begin k) call m is out = absurd cc
 of-top p s (Return k a) call m is out = absurd cc
 of-top p s (Enter c x f caller) call m is out = absurd cc
-of-top p s (Back c u) call m is out = (m.top.0, m.top.1 ∙ ap (λ (d : CallNo). d ∷ m.top.0) (some_inj c call is))
-of-top p s (BackEnd c u) call m is out = (m.top.0, m.top.1 ∙ ap (λ (d : CallNo). d ∷ m.top.0) (some_inj c call is))
-of-top p s (Refuse c u reason) call m is out = (m.top.0, m.top.1 ∙ ap (λ (d : CallNo). d ∷ m.top.0) (some_inj c call is))
-of-top p s (Miss c u) call m is out = (m.top.0, m.top.1 ∙ ap (λ (d : CallNo). d ∷ m.top.0) (some_inj c call is))
-of-top p s (Body c g ran) call m is out = (m.top.0, m.top.1 ∙ ap (λ (d : CallNo). d ∷ m.top.0) (some_inj c call is))
-of-top p s (Leave c) call m is out = (m.top.0, m.top.1 ∙ ap (λ (d : CallNo). d ∷ m.top.0) (some_inj c call is))
-of-top p s (Exit c u entry) call m is out = (m.top.0, m.top.1 ∙ ap (λ (d : CallNo). d ∷ m.top.0) (some_inj c call is))
-of-top p s (ExitEnd c u) call m is out = (m.top.0, m.top.1 ∙ ap (λ (d : CallNo). d ∷ m.top.0) (some_inj c call is))
 of-top p s (Ret c to) call m is out = (calls_on s.stack, m.calls ∙ ap (λ (d : CallNo). d ∷ calls_on s.stack) (some_inj c call is))
+of-top p s _ call m is out = (m.top.0, m.top.1 ∙ ap (λ (d : CallNo). d ∷ m.top.0) (some_inj _ call is))
 
 -- an item in a call leaves each call of the stack
 pub keeps-of : (p s : PlainTask) (item : Item) (call : CallNo) → Moves p s item → call_of item ≡ Some call → is_inside item ≡ true → Keeps p s call
 keeps-of p s (Begin k) call m is inside = absurd cc
 keeps-of p s (Return k a) call m is inside = absurd cc
 keeps-of p s (Enter c x f caller) call m is inside = false_true inside
-keeps-of p s (Back c u) call m is inside = subst (λ (d : CallNo). Keeps p s d) (some_inj c call is) m
-keeps-of p s (BackEnd c u) call m is inside = subst (λ (d : CallNo). Keeps p s d) (some_inj c call is) m
-keeps-of p s (Refuse c u reason) call m is inside = subst (λ (d : CallNo). Keeps p s d) (some_inj c call is) m
-keeps-of p s (Miss c u) call m is inside = subst (λ (d : CallNo). Keeps p s d) (some_inj c call is) m
-keeps-of p s (Body c g ran) call m is inside = subst (λ (d : CallNo). Keeps p s d) (some_inj c call is) m
-keeps-of p s (Leave c) call m is inside = subst (λ (d : CallNo). Keeps p s d) (some_inj c call is) m
-keeps-of p s (Exit c u entry) call m is inside = subst (λ (d : CallNo). Keeps p s d) (some_inj c call is) m
-keeps-of p s (ExitEnd c u) call m is inside = subst (λ (d : CallNo). Keeps p s d) (some_inj c call is) m
 keeps-of p s (Ret c to) call m is inside = false_true inside
+keeps-of p s _ call m is inside = subst (λ (d : CallNo). Keeps p s d) (some_inj _ call is) m
 
 -- an item is of the task of its call
 pub of-own : (t : ℕ) (item : Item) (call : CallNo) → call_of item ≡ Some call → is_of t item ≡ (call.task.0 == t)
