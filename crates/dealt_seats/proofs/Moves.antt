@@ -10,7 +10,7 @@ use Rattle.dealt_seats.specs.declared.view.View.{View}
 use Rattle.dealt_seats.specs.Covers.{Covers, Fits, HasSeat, StandsAt, StandsIn}
 use Rattle.dealt_seats.specs.Views.{cpu, cpu_view, first_view, joined, part, spent_view, view}
 use Rattle.dealt_seats.proofs.Actors.{at_cpu, at_cpu-else, at_cpu-kept, at_cpu-same, one-or, still-seated}
-use Rattle.dealt_seats.proofs.Parts.{PartsFit, at-end, fits-set, only-one, only-there, put-here, stands-last, stands-longer, stands-set}
+use Rattle.dealt_seats.proofs.Parts.{PartsFit, each-added, each-set, only-one, only-there, put-here, stands-last, stands-longer, stands-set}
 
 -- ## the first seat
 
@@ -51,7 +51,7 @@ module _ {J L K : Type 0} (job : J) (cpus : ℕ) (nothing : K) (led : L) (views 
         → Stays led led' split a → StandsAt led' split own' here a
         → Covers job cpus nothing led' (set views id (view job own' here (part a more ∷ []))) knows' seat split
     covers-more led' own' knows' more taken others stay there = record {
-      fits = fits-set job led' knows' seat split views id (view job own' here (part a more ∷ []))
+      fits = each-set (PartsFit job led' knows' seat split) views id (view job own' here (part a more ∷ []))
           (λ j u ne e n x has.
           let f = covers.fits j u e n x has in
           let other : x.actor ≡ a → ⊥ = λ same. ne (sym f.seated ∙ ap seat same ∙ mine.seated) in
@@ -113,31 +113,26 @@ module _ {J L K : Type 0} (job : J) (cpus : ℕ) (nothing : K) (led : L) (views 
 
     pub covers-dealt : Covers job cpus nothing led (set views id left ++ right ∷ []) knows dealt_at (here + 1)
     covers-dealt = record {
-      fits = λ j v e.
-          ⊎_elim
-          (λ old. fits-set job led knows dealt_at (here + 1) views id left
-          (λ j' u apart e' n x has.
-          let f = covers.fits j' u e' n x has in
+      fits = each-added (PartsFit job led knows dealt_at (here + 1)) (set views id left) right
+          (each-set (PartsFit job led knows dealt_at (here + 1)) views id left
+          (λ j u apart e n x has.
+          let f = covers.fits j u e n x has in
           record {
             job' = f.job';
-            seated = seated j' u e' n x has;
+            seated = seated j u e n x has;
             has = f.has;
             stands = subst (λ z. StandsAt led (z + 1) u.led u.split x.actor) (sym first.stands.1)
                 (raised u.led u.split x.actor (λ same. apart (sym f.seated ∙ ap seat same ∙ first.seated)) f.stands);
           })
           (only-one (λ n x. Fits job led knows dealt_at (here + 1) id left x) (part ByFirst k)
-          record { job' = refl; seated = seated id (first_view job own here k) at 0 (part ByFirst k) refl; has = first.has; stands = (first.stands.0, refl) })
-          j v old)
-          (λ (new : (j ≡ length (set views id left)) × (right ≡ v)).
-          subst (λ (u : ℕ × View J L K). PartsFit job led knows dealt_at (here + 1) u.0 u.1) (λ i. (sym new.0 i, new.1 i))
+          record { job' = refl; seated = seated id (first_view job own here k) at 0 (part ByFirst k) refl; has = first.has; stands = (first.stands.0, refl) }))
           (only-one (λ n x. Fits job led knows dealt_at (here + 1) (length (set views id left)) right x) (part (cpu here) nothing)
           record {
             job' = refl;
             seated = at_cpu-same seat here (length (set views id left));
             has = sym (covers.unsplit here (let e = first.stands.1 in omega (arith, e)));
             stands = omega arith;
-          }))
-          (at-end (set views id left) right v j e);
+          });
       stood = stood;
       unsplit = λ c low. covers.unsplit c (let e = first.stands.1 in omega (arith, e, low));
       within = omega (arith, room);
@@ -200,19 +195,18 @@ module _ {J L K : Type 0} (job : J) (cpus : ℕ) (nothing : K) (led : L) (views 
 
       pub covers-joined : Covers job cpus nothing led ends knows (at_cpu seat c id) split
       covers-joined = record {
-        fits = fits-set job led knows (at_cpu seat c id) split (set views id both) other (spent_view gone nowhere)
+        fits = each-set (PartsFit job led knows (at_cpu seat c id) split) (set views id both) other (spent_view gone nowhere)
             (λ j u not-other e.
-            ⊎_elim
-            (λ (z : (j ≡ id) × (both ≡ u)). subst (λ (y : ℕ × View J L K). PartsFit job led knows (at_cpu seat c id) split y.0 y.1) (λ i. (sym z.0 i, z.1 i)) all-mine)
-            (λ (z : (j ≢ id) × (get_elem? views j ≡ some u)). λ (n : ℕ) (x : Part K) has.
-            let f = covers.fits j u z.1 n x has in
+            each-set (λ i z. i ≢ other → PartsFit job led knows (at_cpu seat c id) split i z) views id both
+            (λ i z ne e' not n x has.
+            let f = covers.fits i z e' n x has in
             record {
               job' = f.job';
-              seated = at_cpu-else seat c id x.actor (λ same. not-other (sym f.seated ∙ ap seat same ∙ theirs.seated)) ∙ f.seated;
+              seated = at_cpu-else seat c id x.actor (λ same. not (sym f.seated ∙ ap seat same ∙ theirs.seated)) ∙ f.seated;
               has = f.has;
               stands = f.stands;
             })
-            (at_set views id j both u e))
+            (λ not. all-mine) j u e not-other)
             (λ n x has. absurd (some-ne-none x (sym has)));
         stood = stood-in;
         unsplit = covers.unsplit;

@@ -18,11 +18,20 @@ pub only-one : {A : Type 0} (P : ℕ → A → Type 0) (x : A) → P 0 x → (k 
 only-one P x here zero y e = subst (P 0) (some-injective x y e) here
 only-one P x here (suc k) y e = absurd (some-ne-none y (sym e))
 
-pub at-end : {A : Type 0} (l : List A) (a b : A) (j : ℕ) → get_elem? (l ++ a ∷ []) j ≡ some b → (get_elem? l j ≡ some b) ⊎ ((j ≡ length l) × (a ≡ b))
-at-end [] a b zero e = inr (refl, some-injective a b e)
-at-end [] a b (suc j) e = absurd (some-ne-none b (sym e))
-at-end (x ∷ xs) a b zero e = inl e
-at-end (x ∷ xs) a b (suc j) e = ⊎_elim (λ t. inl t) (λ t. inr (ap suc t.0, t.1)) (at-end xs a b j e)
+-- what is said of each element is said of one that is added, and of each after one is set
+pub each-added : {A : Type 0} (P : ℕ → A → Type 0) (l : List A) (a : A) → ((j : ℕ) (x : A) → get_elem? l j ≡ some x → P j x) → P (length l) a
+    → (j : ℕ) (x : A) → get_elem? (l ++ a ∷ []) j ≡ some x → P j x
+each-added P [] a old here j x e = only-one P a here j x e
+each-added P (y ∷ ys) a old here zero x e = old zero x e
+each-added P (y ∷ ys) a old here (suc j) x e = each-added (λ i z. P (suc i) z) ys a (λ i z f. old (suc i) z f) here j x e
+
+pub each-set : {A : Type 0} (P : ℕ → A → Type 0) (l : List A) (i : ℕ) (a : A) → ((j : ℕ) (x : A) → j ≢ i → get_elem? l j ≡ some x → P j x) → P i a
+    → (j : ℕ) (x : A) → get_elem? (set l i a) j ≡ some x → P j x
+each-set {A} P l i a others here j x e =
+    ⊎_elim
+    (λ (t : (j ≡ i) × (a ≡ x)). subst (λ (u : ℕ × A). P u.0 u.1) (λ k. (sym t.0 k, t.1 k)) here)
+    (λ (t : (j ≢ i) × (get_elem? l j ≡ some x)). others j x t.0 t.1)
+    (at_set l i j a x e)
 
 pub put-here : {A : Type 0} (l : List A) (i : ℕ) (a b : A) → get_elem? l i ≡ some a → get_elem? (set l i b) i ≡ some b
 put-here [] i a b e = absurd (some-ne-none a (sym e))
@@ -62,21 +71,9 @@ module _ {A K : Type 0} (number : A → ℕ) (known : A → K) where
 
 -- ## parts that fit
 
-module _ {J L K : Type 0} (job : J) (led : L) (knows : Actor → K) (seat : Actor → ℕ) (split : ℕ) where
-  -- each part of a view fits
-  abbrev pub PartsFit : ℕ → View J L K → Type 0
-  PartsFit id v = (k : ℕ) (x : Part K) → get_elem? v.parts k ≡ some x → Fits job led knows seat split id v x
-
-  -- so do those of all views after one seat has another
-  pub fits-set : (views : List (View J L K)) (id : ℕ) (w : View J L K)
-      → ((j : ℕ) (v : View J L K) → j ≢ id → get_elem? views j ≡ some v → PartsFit j v)
-      → PartsFit id w
-      → (j : ℕ) (v : View J L K) → get_elem? (set views id w) j ≡ some v → PartsFit j v
-  fits-set views id w others mine j v at =
-      ⊎_elim
-      (λ (t : (j ≡ id) × (w ≡ v)). subst (λ (u : ℕ × View J L K). PartsFit u.0 u.1) (λ i. (sym t.0 i, t.1 i)) mine)
-      (λ (t : (j ≢ id) × (get_elem? views j ≡ some v)). others j v t.0 t.1)
-      (at_set views id j w v at)
+-- each part of a view fits
+abbrev pub PartsFit : {J L K : Type 0} → J → L → (Actor → K) → (Actor → ℕ) → ℕ → ℕ → View J L K → Type 0
+PartsFit {J} {L} {K} job led knows seat split id v = (k : ℕ) (x : Part K) → get_elem? v.parts k ≡ some x → Fits job led knows seat split id v x
 
 -- ## where actors stand
 

@@ -11,7 +11,7 @@ use Rattle.live_table.specs.declared.live.Going.{Going}
 use Rattle.live_table.specs.declared.live.Going.TheVariants.{End, More}
 use Rattle.live_table.specs.Seats.{CpuPlace, IsRising, items_at, last_at}
 use Rattle.live_table.specs.Steps.{CpuSteps, with_value}
-use Rattle.live_table.proofs.Dealt.{get-middle}
+use Rattle.dealt_seats.proofs.Parts.{get-middle}
 use Rattle.live_table.proofs.Lasts.{value-marks}
 use Rattle.live_seats.specs.Ends.{IsSameCpu}
 use Rattle.live_seats.specs.Traced.{IsTraced, ring_name}

@@ -29,9 +29,8 @@ use Rattle.ft_machine.specs.Starts.{IsFirst}
 use Rattle.ft_machine.specs.Worlds.{IsFor, Parts, words_of, world_of}
 use Rattle.ft_machine.specs.Fed.{control_fed}
 use Rattle.ft_job.specs.Plans.{AreLinesPlanned}
-use Rattle.live_table.specs.declared.view.View.{View}
+use Rattle.live_table.specs.Views.{View, control_view, cpu_view, led_first, order_first, values_of}
 use Rattle.live_table.specs.Seats.{Board, ControlPlace, ControlSits, CpuSits, IsOpen, IsRising, IsTable, control_at, withheld_if}
-use Rattle.live_table.specs.Views.{control_view, cpu_view, led_first, order_first, values_of}
 use Rattle.live_table.proofs.ControlStep.{control_place_of}
 use Rattle.live_table.proofs.Opening.{first-limited}
 

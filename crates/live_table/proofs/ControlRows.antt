@@ -27,7 +27,8 @@ use Rattle.live_table.specs.Rule.{world_with}
 use Rattle.live_table.specs.Views.{ControlTold}
 use Rattle.live_table.proofs.Recording.{Tells, control-follows, items-on, placed-on, tells}
 use Rattle.live_table.proofs.Tables.{changed, changed-named, gave, gave-named}
-use Rattle.live_table.proofs.Values.{control_marks-snoc, control_values}
+use Rattle.live_table.proofs.Values.{control_marks-snoc}
+use Rattle.dealt_seats.proofs.Actors.{at_first}
 
 module _ (job : Job) (limited : IsLimited job) (words : List ℕ) (values : Actor → List ℕ) (past : List Item)
     (count : length words ≡ len (shape_of job)) (runs : Runs job (world_with job words values past)) where
@@ -48,7 +49,7 @@ module _ (job : Job) (limited : IsLimited job) (words : List ℕ) (values : Acto
 
     -- what all have taken then, and the state
     abbrev values' : Actor → List ℕ
-    values' = control_values values more
+    values' = at_first values more
 
     abbrev after : World
     after = world_with job (words' op) values' (past_after op past)

@@ -19,13 +19,12 @@ use Rattle.ft_machine.proofs.Made.{IsOpThere, of-job}
 use Rattle.ft_machine.specs.Fed.{control_fed, control_items}
 use Rattle.ft_machine.proofs.FedLaws.{control_after-append}
 use Rattle.live_table.specs.declared.live.Going.TheVariants.{End, More}
-use Rattle.live_table.specs.declared.view.View.{View}
+use Rattle.live_table.specs.Views.{View, ControlTold, ToldIn, control_view, took, values_of}
 use Rattle.live_table.specs.AtomicSteps.{AtomicStep, MakesOp}
 use Rattle.live_table.specs.Operations.{op_after, op_gives, op_word}
 use Rattle.live_table.specs.Rule.{LiveRule}
 use Rattle.live_table.specs.Seats.{ControlPlace, ControlSits, IsRising}
 use Rattle.live_table.specs.Steps.{ControlSteps, given_by}
-use Rattle.live_table.specs.Views.{ControlTold, ToldIn, control_view, took, values_of}
 use Rattle.live_table.proofs.Moves.{control_allowed}
 use Rattle.live_table.proofs.Rising.{control-rising-more}
 use Rattle.live_table.proofs.Tables.{op-within}

@@ -29,12 +29,14 @@ use Rattle.task_core.specs.TaskOps.{item_in}
 use Rattle.ft_machine.proofs.Made.{IsOpThere, of-job}
 use Rattle.ft_machine.specs.Fed.{cpu_fed, cpu_items}
 use Rattle.ft_machine.proofs.FedLaws.{cpu_after-append}
-use Rattle.live_table.specs.Recorded.{IsRecorded, cpu, lists}
+use Rattle.live_table.specs.Recorded.{IsRecorded, lists}
+use Rattle.dealt_seats.specs.Views.{cpu}
 use Rattle.live_table.specs.Rule.{world_with}
 use Rattle.live_table.specs.Views.{CpuTold}
 use Rattle.live_table.proofs.Recording.{Tells, at-cpu, cpu-follows, items-on, placed-on, tells}
 use Rattle.live_table.proofs.Tables.{changed, changed-named, gave, gave-named}
-use Rattle.live_table.proofs.Values.{cpu_marks-snoc, cpu_values, cpu_values-other, cpu_values-same}
+use Rattle.live_table.proofs.Values.{cpu_marks-snoc}
+use Rattle.dealt_seats.proofs.Actors.{at_cpu, at_cpu-other, at_cpu-same}
 
 module _ (job : Job) (limited : IsLimited job) (words : List ℕ) (values : Actor → List ℕ) (past : List Item)
     (count : length words ≡ len (shape_of job)) (runs : Runs job (world_with job words values past)) where
@@ -55,7 +57,7 @@ module _ (job : Job) (limited : IsLimited job) (words : List ℕ) (values : Acto
 
     -- what all have taken then, and the state
     abbrev values' : Actor → List ℕ
-    values' = cpu_values values c more
+    values' = at_cpu values c more
 
     abbrev after : World
     after = world_with job (words' op) values' (past_after op past)
@@ -103,7 +105,7 @@ module _ (job : Job) (limited : IsLimited job) (words : List ℕ) (values : Acto
     -- what the CPU has marked then
     marked : cpu_items job c (values' (cpu c)) ≡ cpu_items job c (values (cpu c)) ++ marks_in (Some op) (value op)
     marked =
-        ap (cpu_items job c) (cpu_values-same values c more) ∙ cpu_marks-snoc job (cpu_start job c) (values (cpu c)) (value op)
+        ap (cpu_items job c) (at_cpu-same values c more) ∙ cpu_marks-snoc job (cpu_start job c) (values (cpu c)) (value op)
         ∙ ap (λ o. cpu_items job c (values (cpu c)) ++ marks_in o (value op)) next
 
     at : Tells op (value op) (length past)
@@ -129,13 +131,13 @@ module _ (job : Job) (limited : IsLimited job) (words : List ℕ) (values : Acto
       counts d within = elim (cases_eq d c) [
         | inl e ↦ subst (λ n. length (cpu_items job n (values' (cpu n))) ≡ items_on job n (past_after op past)) (sym e)
             (ap (λ (xs : List Stamped). length xs) marked ∙ own-count op next (value op))
-        | inr ne ↦ ap (λ vs. length (cpu_items job d vs)) (cpu_values-other values c more d ne) ∙ recorded.own d within ∙ sym (other-count d ne op next)
+        | inr ne ↦ ap (λ vs. length (cpu_items job d vs)) (at_cpu-other values c more d ne) ∙ recorded.own d within ∙ sym (other-count d ne op next)
       ]
 
       -- so is it of the items
       pub cpu-recorded : IsRecorded job values' (past_after op past)
       cpu-recorded =
-          let follows = cpu-follows job values values' c (λ d ne. cpu_values-other values c more d ne) op (value op) inside refl marked in
+          let follows = cpu-follows job values values' c (λ d ne. at_cpu-other values c more d ne) op (value op) inside refl marked in
           record {
             placed = placed-on (lists job values) (lists job values') past op (value op) at follows recorded.placed;
             items = items-on (lists job values) (lists job values') past op (value op) at follows recorded.placed.below recorded.items;
@@ -163,7 +165,7 @@ module _ (job : Job) (limited : IsLimited job) (words : List ℕ) (values : Acto
         room = λ some. has-room op next (subst (λ o. IsSome (item_in o)) next some);
         told = record {
           rising = λ item e. rising item (sym next ∙ e);
-          next' = subst (λ vs. IsOnWord job (cpu_next job (cpu_fed job c vs))) (cpu_values-same values c more)
+          next' = subst (λ vs. IsOnWord job (cpu_next job (cpu_fed job c vs))) (at_cpu-same values c more)
               (cpu-there job (word-job job limited) after c inside cpu-runs.kept);
         };
       }

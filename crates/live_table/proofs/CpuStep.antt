@@ -22,13 +22,12 @@ use Rattle.ft_machine.proofs.Plans.{room-most}
 use Rattle.ft_machine.specs.Fed.{cpu_fed, cpu_items}
 use Rattle.ft_machine.proofs.FedLaws.{cpu_after-append}
 use Rattle.live_table.specs.declared.live.Going.TheVariants.{End, More}
-use Rattle.live_table.specs.declared.view.View.{View}
+use Rattle.live_table.specs.Views.{View, CpuTold, ToldIn, cpu_view, took, values_of}
 use Rattle.live_table.specs.AtomicSteps.{AtomicStep, MakesOp}
 use Rattle.live_table.specs.Operations.{op_after, op_gives, op_word}
 use Rattle.live_table.specs.Rule.{LiveRule}
 use Rattle.live_table.specs.Seats.{CpuPlace, CpuSits, IsLast, IsRising, last_mark}
 use Rattle.live_table.specs.Steps.{CpuSteps, given_by}
-use Rattle.live_table.specs.Views.{CpuTold, ToldIn, cpu_view, took, values_of}
 use Rattle.live_table.proofs.Lasts.{few-more, last-more, last_mark-snoc}
 use Rattle.live_table.proofs.Moves.{cpu_allowed}
 use Rattle.live_table.proofs.Rising.{rising-more}

@@ -1,5 +1,5 @@
 -- Seats after one more CPU was split off from control's.
-use Rattle.std.proofs.Common.{◌≡◌, ℕ, ◌+◌, ◌<◌, false, List, [], ◌∷◌, ◌++◌, length, slice_get, Some, refl, sym, ap, ◌∙◌, subst}
+use Rattle.std.proofs.Common.{◌≡◌, ℕ, ◌+◌, ◌<◌, false, List, [], ◌∷◌, ◌++◌, length, slice_get, refl, sym, ap, ◌∙◌, subst}
 use Rattle.atomic_table.specs.Table.{Me}
 use Rattle.ft_base.specs.Job.{Job}
 use Rattle.word_machine.specs.Limits.{IsLimited}
@@ -7,16 +7,13 @@ use Rattle.control_core.specs.Seated.{Seated}
 use Rattle.cpu_core.specs.declared.parts.Parts.{Parts as CpuParts}
 use Rattle.ft_machine.specs.declared.cpus.CpuRoom.TheVariants.{ForAll}
 use Rattle.ft_machine.specs.Starts.{AreFirst, IsFirst}
-use Rattle.live_table.specs.declared.view.View.{View}
+use Rattle.live_table.specs.Views.{View, cpu_view, dealt}
 use Rattle.live_table.specs.Seats.{ControlSits, CpuSits}
-use Rattle.live_table.specs.Views.{cpu_view, dealer, dealt, view}
+use Rattle.dealt_seats.specs.Views.{dealer, view}
 use Rattle.live_table.proofs.AtStart.{cpu-first}
+use Rattle.dealt_seats.proofs.Parts.{get-middle}
 
 -- ## the next CPU
-
-pub get-middle : {A : Type 0} (xs : List A) (y : A) (zs : List A) → slice_get (xs ++ y ∷ zs) (length xs) ≡ Some y
-get-middle [] y zs = refl
-get-middle (x ∷ xs) y zs = get-middle xs y zs
 
 -- it has not stepped
 pub next-first : (job q : Job) (done left all : List CpuParts) (x : CpuParts) (n : ℕ) → AreFirst ForAll job all → done ++ x ∷ left ≡ all → q ≡ job → n ≡ length done

@@ -1,7 +1,6 @@
 -- All seats together: what their actors have marked is the history of which the rule speaks.
-use Rattle.std.proofs.Common.{◌≡◌, ℕ, zero, suc, ◌+◌, ◌*◌, ◌^◌, ◌<◌, ◌≤◌, List, [], ◌∷◌, ◌++◌, length, map, reverse, slice_get, Some, None, refl, sym, ap, ◌∙◌, subst, arith}
+use Rattle.std.proofs.Common.{◌≡◌, ℕ, suc, ◌+◌, ◌*◌, ◌^◌, ◌<◌, ◌≤◌, List, [], ◌∷◌, length, map, reverse, slice_get, Some, None, refl, sym, ap, ◌∙◌, subst, arith}
 use Rattle.std.proofs.lemmas.List.{length-reverse}
-use Rattle.std.proofs.lemmas.Option.{same_Some}
 use mathlib.Core.Option.{some}
 use lib.ListN.{get_elem?}
 use Rattle.atomic_table.specs.Table.{State}
@@ -23,29 +22,19 @@ use Rattle.word_machine_laws.proofs.Ends.{whole}
 use Rattle.word_machine_laws.proofs.Limited.{few-commands, limited as word-job}
 use Rattle.word_machine_laws.proofs.Room.{legal-turned}
 use Rattle.ft_machine.specs.Fed.{control_fed, control_items, cpu_fed, cpu_items}
-use Rattle.live_table.specs.declared.view.Part.{Part}
-use Rattle.live_table.specs.declared.view.View.{View}
+use Rattle.live_table.specs.Views.{View}
 use Rattle.live_table.specs.Laws.{IsAlwaysLegal, IsAlwaysReached}
-use Rattle.live_table.specs.Recorded.{cpu, cpu_lists, lists}
+use Rattle.live_table.specs.Recorded.{cpu_lists, lists}
+use Rattle.dealt_seats.specs.Views.{cpu, part, view}
 use Rattle.live_table.specs.Rule.{LiveRule, StandsFor, led_at, world_with}
 use Rattle.live_table.specs.Seats.{AreAtEnd, AreSeats, Board, ControlPlace, CpuPlace, IsMadeByTurns, history_of, items_at, lists_at, parts_of}
-use Rattle.live_table.specs.Views.{part, view}
+use Rattle.dealt_seats.proofs.Parts.{parts-at, seat-at}
 use Rattle.live_table.proofs.Ends.{all-ended}
 use Rattle.live_table.proofs.Later.{stands-now}
 use Rattle.live_table.proofs.Lines.{cpu-lists-same, cpu-next-same}
 use Rattle.live_table.proofs.Orders.{commands-picked}
 
 -- ## lists of seats
-
-parts-at : (ss : List CpuPlace) (k : ℕ) (s : CpuPlace) → slice_get ss k ≡ Some s → get_elem? (parts_of ss) k ≡ some (part (cpu s.number) s.values)
-parts-at [] k s e = absurd (cc)
-parts-at (x ∷ xs) zero s e = ap (λ (z : CpuPlace). some (part (cpu z.number) z.values)) (same_Some x s e)
-parts-at (x ∷ xs) (suc k) s e = parts-at xs k s e
-
-seat-at : (ss : List CpuPlace) (k : ℕ) → k < length ss → (s : CpuPlace) × (slice_get ss k ≡ Some s)
-seat-at [] k lt = absurd (omega (arith, lt))
-seat-at (x ∷ xs) zero lt = (x, refl)
-seat-at (x ∷ xs) (suc k) lt = seat-at xs k (omega (arith, lt))
 
 lists-from : (job : Job) (values : Actor → List ℕ) (ss : List CpuPlace) (c : ℕ)
     → ((k : ℕ) (s : CpuPlace) → slice_get ss k ≡ Some s → cpu_items job (c + k) (values (cpu (c + k))) ≡ items_at s)
@@ -58,11 +47,6 @@ lists-from job values (s ∷ ss) c same = λ i. here i ∷ lists-from job values
 
     later : (k : ℕ) → cpu_items job (suc c + k) (values (cpu (suc c + k))) ≡ cpu_items job (c + suc k) (values (cpu (c + suc k)))
     later k = let e : suc c + k ≡ c + suc k = omega arith in ap (λ n. cpu_items job n (values (cpu n))) e
-
--- one more seat that is joined
-pub parts-more : (ss : List CpuPlace) (s : CpuPlace) → parts_of (ss ++ s ∷ []) ≡ parts_of ss ++ part (cpu s.number) s.values ∷ []
-parts-more [] s = refl
-parts-more (x ∷ xs) s = ap (λ (l : List Part). part (cpu x.number) x.values ∷ l) (parts-more xs s)
 
 -- ## the history
 
@@ -113,7 +97,7 @@ module _ {S : Type 0} (b : Board) (control : ControlPlace) (cpus : List CpuPlace
 
   cpu-has : (k : ℕ) (x : CpuPlace) → slice_get cpus k ≡ Some x → x.values ≡ r.values (cpu k)
   cpu-has k x e =
-      (r.covers.fits id all at (suc k) (part (cpu x.number) x.values) (parts-at cpus k x e)).has ∙ ap (λ c. r.values (cpu c)) (seats.each k x e).1
+      (r.covers.fits id all at (suc k) (part (cpu x.number) x.values) (parts-at (λ (u : CpuPlace). u.number) (λ u. u.values) cpus k x e)).has ∙ ap (λ c. r.values (cpu c)) (seats.each k x e).1
 
   -- the lists of the rule are those of the seats
   lists-are : lists led r.values ≡ lists_at control cpus

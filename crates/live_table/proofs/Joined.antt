@@ -8,13 +8,11 @@ use Rattle.word_map.specs.declared.shape.Shape.{Shape}
 use Rattle.word_map.specs.Places.{len}
 use Rattle.word_map.specs.Words.{Clock}
 use Rattle.word_map.proofs.PlaceLaws.{is_map}
-use Rattle.live_table.specs.declared.view.Part.{Part}
-use Rattle.live_table.specs.declared.view.View.{View}
-use Rattle.live_table.specs.Recorded.{cpu}
+use Rattle.live_table.specs.Views.{Part, View, cpu_view}
+use Rattle.dealt_seats.specs.Views.{cpu, joined, part, view}
 use Rattle.live_table.specs.Seats.{AreSeats, Board, ControlPlace, CpuPlace, SitsAt, control_items_at, items_at, lists_at, parts_of}
-use Rattle.live_table.specs.Views.{cpu_view, joined, part, view}
-use Rattle.live_table.proofs.Dealt.{get-middle}
-use Rattle.live_table.proofs.Gathering.{parts-more}
+use Rattle.dealt_seats.proofs.Parts.{get-middle}
+use Rattle.dealt_seats.proofs.Parts as seats
 
 -- there is a clock
 pub has-clock : (shape : Shape) → 0 < len shape
@@ -34,9 +32,7 @@ pub joined-more : (v w : View) (job led : Job) (split : ℕ) (x0 : Part) (ss : L
     → v ≡ view job led split (x0 ∷ parts_of ss) → w ≡ cpu_view q c values → part (cpu c) values ≡ part (cpu s.number) s.values
     → joined v w ≡ view job led split (x0 ∷ parts_of (ss ++ s ∷ []))
 joined-more v w job led split x0 ss q c values s is other same =
-    (λ i. joined (is i) (other i))
-    ∙ ap (λ (p : Part). view job led split (x0 ∷ parts_of ss ++ p ∷ [])) same
-    ∙ ap (λ (l : List Part). view job led split (x0 ∷ l)) (sym (parts-more ss s))
+    seats.joined-more (λ (u : CpuPlace). u.number) (λ u. u.values) v w job led split x0 ss q q c values s is other same
 
 -- ## lists
 

@@ -20,15 +20,17 @@ use Rattle.word_machine.specs.Rule.{ControlLines, task_in}
 use Rattle.control_core.specs.Steps.{marks_in as control_marks_in}
 use Rattle.ft_machine.specs.Fed.{control_fed, control_items, cpu_fed}
 use Rattle.ft_machine.proofs.FedLaws.{control_after-append}
-use Rattle.live_table.specs.Recorded.{IsRecorded, cpu, lists}
+use Rattle.live_table.specs.Recorded.{IsRecorded, lists}
+use Rattle.dealt_seats.specs.Views.{cpu}
 use Rattle.live_table.specs.Rule.{RunsOn, StandsFor, world_with}
 use Rattle.live_table.specs.Views.{ControlTold, CpuTold}
 use Rattle.live_table.proofs.ControlRows.{control-recorded, control-row, control-runs, control-told}
 use Rattle.live_table.proofs.CpuRows.{cpu-recorded, cpu-row, cpu-runs, cpu-told}
 use Rattle.live_table.proofs.Lines.{cpu-items-same, cpu-lists-same, cpu-next-same, more-more, none-later}
-use Rattle.live_table.proofs.Stands.{reached-more}
+use Rattle.live_table.proofs.Reached.{reached-more}
 use Rattle.live_table.proofs.Tables.{changed, gave}
-use Rattle.live_table.proofs.Values.{control_marks-snoc, control_values, cpu_values, cpu_values-same}
+use Rattle.live_table.proofs.Values.{control_marks-snoc}
+use Rattle.dealt_seats.proofs.Actors.{at_first, at_cpu, at_cpu-same}
 
 -- ## one job
 
@@ -76,12 +78,12 @@ module _ (led : Job) (limited : IsLimited led) (words : List ℕ) (values : Acto
     next-in : (more : List Ctl) (plan : LinePlan) → cpu_next (later led more plan) (cpu_fed (later led more plan) c (values (cpu c))) ≡ Some op
     next-in more plan = cpu-next-same led (led.ctls ++ more) plan c (values (cpu c)) ∙ next
 
-    pub cpu-goes-on : RunsOn led (words' op) (cpu_values values c cpu-more) (past_after op past)
+    pub cpu-goes-on : RunsOn led (words' op) (at_cpu values c cpu-more) (past_after op past)
     cpu-goes-on = record {
       stands = λ more plan l.
           let job : Job = later led more plan in
           let st = on.stands more plan l in
-          stands-more job words (words' op) values (cpu_values values c cpu-more) past (past_after op past) (cpu c) (value op) (cpu_values-same values c cpu-more)
+          stands-more job words (words' op) values (at_cpu values c cpu-more) past (past_after op past) (cpu c) (value op) (at_cpu-same values c cpu-more)
           (cpu-row job l words values past count st.runs c inside op (next-in more plan))
           (cpu-runs job l words values past count st.runs c inside op (next-in more plan)) st;
       control = on.control;
@@ -90,7 +92,7 @@ module _ (led : Job) (limited : IsLimited led) (words : List ℕ) (values : Acto
     }
 
     -- it is the machine's
-    pub cpu-is-row : world_with led (words' op) (cpu_values values c cpu-more) (past_after op past) ≡ step led (cpu c) (world_with led words values past)
+    pub cpu-is-row : world_with led (words' op) (at_cpu values c cpu-more) (past_after op past) ≡ step led (cpu c) (world_with led words values past)
     cpu-is-row = cpu-row led limited words values past count now.runs c inside op next
 
     -- what it tells
@@ -133,12 +135,12 @@ module _ (led : Job) (limited : IsLimited led) (words : List ℕ) (values : Acto
         ∙ (λ i. on.marked more plan i ++ control_marks_in (same i) (value op))
         ∙ sym (control_marks-snoc led (control_start led) vs (value op))
 
-    pub control-goes-on : RunsOn led (words' op) (control_values values more-taken) (past_after op past)
+    pub control-goes-on : RunsOn led (words' op) (at_first values more-taken) (past_after op past)
     control-goes-on = record {
       stands = λ more plan l.
           let job : Job = later led more plan in
           let st = on.stands more plan l in
-          stands-more job words (words' op) values (control_values values more-taken) past (past_after op past) ByControl (value op) refl
+          stands-more job words (words' op) values (at_first values more-taken) past (past_after op past) ByControl (value op) refl
           (control-row job l words values past count st.runs op (next-later more plan))
           (control-runs job l words values past count st.runs op (next-later more plan)) st;
       control = control-later;
@@ -147,7 +149,7 @@ module _ (led : Job) (limited : IsLimited led) (words : List ℕ) (values : Acto
     }
 
     -- it is the machine's
-    pub control-is-row : world_with led (words' op) (control_values values more-taken) (past_after op past) ≡ step led ByControl s
+    pub control-is-row : world_with led (words' op) (at_first values more-taken) (past_after op past) ≡ step led ByControl s
     control-is-row = control-row led limited words values past count now.runs op next
 
     -- what it tells

@@ -4,7 +4,7 @@ pub mod Recording
 pub mod Tables
 pub mod CpuRows
 pub mod ControlRows
-pub mod Stands
+pub mod Reached
 pub mod Lines
 pub mod Later
 pub mod Moves

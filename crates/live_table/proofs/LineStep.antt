@@ -18,13 +18,14 @@ use Rattle.control_core.specs.Seated.{IsFor, Seated, control_of}
 use Rattle.control_core.specs.Steps.{marks_in}
 use Rattle.control_core.proofs.Leading.{one-more}
 use Rattle.ft_machine.specs.Fed.{control_fed, control_items}
-use Rattle.live_table.specs.declared.view.View.{View}
+use Rattle.live_table.specs.Views.{View, ControlTold, ToldIn, control_view, leading, took, values_of}
 use Rattle.live_table.specs.AtomicSteps.{AtomicStep, MakesOp}
 use Rattle.live_table.specs.Operations.{op_after}
-use Rattle.live_table.specs.Rule.{Fits, LiveRule, led_at}
+use Rattle.live_table.specs.Rule.{LiveRule, led_at}
+use Rattle.dealt_seats.specs.Covers.{Fits}
 use Rattle.live_table.specs.Seats.{Board, ControlPlace, ControlSits, ControlSitsAt, IsRising, control_at}
 use Rattle.live_table.specs.Steps.{ControlLeads}
-use Rattle.live_table.specs.Views.{ControlTold, ToldIn, control_view, leading, part, took, values_of}
+use Rattle.dealt_seats.specs.Views.{part}
 use Rattle.live_table.proofs.ControlStep.{control_place_of, sits-more}
 use Rattle.live_table.proofs.Moves.{begin_after, line_allowed, next-begins, plan-with}
 

@@ -14,7 +14,8 @@ use Rattle.word_machine.specs.Laws.{CpuTakes, IsOnWord, room_on}
 use Rattle.cpu_core.specs.CpuSteps.{marks_in}
 use Rattle.task_core.specs.TaskOps.{item_in}
 use Rattle.ft_machine.specs.Fed.{cpu_after, cpu_fed, cpu_items, cpu_marks}
-use Rattle.live_table.specs.Recorded.{cpu, cpu_lists}
+use Rattle.live_table.specs.Recorded.{cpu_lists}
+use Rattle.dealt_seats.specs.Views.{cpu}
 use Rattle.live_table.specs.Views.{CpuTold}
 
 -- ## a CPU reads no line

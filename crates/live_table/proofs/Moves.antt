@@ -1,12 +1,11 @@
 -- An operation that is the next one of a seat's actor keeps the rule of the table, and so does a line that is led.
-use Rattle.std.proofs.Common.{◌≡◌, ◌≢◌, ℕ, zero, suc, ◌<◌, ◌≤◌, ◌^◌, true, List, [], ◌∷◌, ◌++◌, length, set, get_or, slice_get, Option, Some, None, ⊎_elim, refl, sym, ap, ◌∙◌, subst, arith, length-set}
-use mathlib.Core.Option.{some, some-ne-none, some-injective}
+use Rattle.std.proofs.Common.{◌≡◌, ℕ, suc, ◌<◌, ◌^◌, true, List, [], ◌∷◌, ◌++◌, length, get_or, slice_get, Option, Some, None, refl, sym, ap, ◌∙◌, subst, arith, length-set}
+use mathlib.Core.Option.{some}
 use lib.ListN.{get_elem?}
 use Rattle.atomic_table.specs.Table.{State, Act, keeps, Valid, Allows, carried_after, stepped}
-use Rattle.atomic_table.proofs.Lists.{at_set}
 use Rattle.ft_base.specs.declared.item.Item.TheVariants.{Begin}
 use Rattle.ft_base.specs.declared.turn.Actor.{Actor}
-use Rattle.ft_base.specs.declared.turn.Actor.TheVariants.{Control as ByControl, Cpu as ByCpu}
+use Rattle.ft_base.specs.declared.turn.Actor.TheVariants.{Control as ByControl}
 use Rattle.ft_base.specs.Job.{Job, Command, Ctl, LinePlan, Run}
 use Rattle.word_machine_laws.specs.Led.{later, more_to_come, with_lines, with_next}
 use Rattle.word_machine_laws.specs.Orders.{before_all, picked}
@@ -20,76 +19,17 @@ use Rattle.word_machine.specs.Cpu.{cpu_next}
 use Rattle.word_machine.specs.Limits.{IsLimited}
 use Rattle.word_machine.specs.Machine.{past_after, step}
 use Rattle.ft_machine.specs.Fed.{control_fed, cpu_fed}
-use Rattle.live_table.specs.declared.view.Part.{Part}
-use Rattle.live_table.specs.declared.view.View.{View}
+use Rattle.live_table.specs.Views.{View, ToldAt, control_view, cpu_view, led_on}
 use Rattle.live_table.specs.AtomicSteps.{MakesOp}
 use Rattle.live_table.specs.Operations.{op_after, op_word}
-use Rattle.live_table.specs.Recorded.{cpu}
-use Rattle.live_table.specs.Rule.{Covers, Fits, LiveRule, RunsOn, StandsAt, led_at, state_for, world_with}
-use Rattle.live_table.specs.Views.{ToldAt, control_view, cpu_view, led_on, part, view}
+use Rattle.dealt_seats.specs.Views.{cpu, part, view}
+use Rattle.live_table.specs.Rule.{LiveRule, RunsOn, led_at, state_for, world_with}
+use Rattle.dealt_seats.specs.Covers.{StandsAt}
+use Rattle.dealt_seats.proofs.Moves.{Stays, covers-more, others-stay}
 use Rattle.live_table.proofs.Later.{control-goes-on, control-is-row, control-tells, cpu-goes-on, cpu-is-row, cpu-tells, lines-go-on}
 use Rattle.live_table.proofs.Lines.{cpu-next-same, cpu-told-same}
-use Rattle.live_table.proofs.Stands.{only-there, stands-set}
 use Rattle.live_table.proofs.Tables.{changed, gave}
-use Rattle.live_table.proofs.Values.{control_values, control_values-else, cpu_values, cpu_values-else, cpu_values-same}
-
--- ## views
-
--- what is said of the only part of a view is said of each
-pub one-part : (P : Part → Type 0) (x : Part) → P x → (k : ℕ) (y : Part) → get_elem? (x ∷ []) k ≡ some y → P y
-one-part P x here zero y e = subst P (some-injective x y e) here
-one-part P x here (suc k) y e = absurd (some-ne-none y (sym e))
-
--- each part of a view fits
-abbrev pub PartsFit : Job → Job → (Actor → List ℕ) → (Actor → ℕ) → ℕ → ℕ → View → Type 0
-PartsFit job led values seat split id v = (k : ℕ) (x : Part) → get_elem? v.parts k ≡ some x → Fits job led values seat split id v x
-
--- so do those of all views after one seat has another
-pub fits-set : (job led : Job) (views : List View) (values : Actor → List ℕ) (seat : Actor → ℕ) (split id : ℕ) (w : View)
-    → ((j : ℕ) (v : View) → j ≢ id → get_elem? views j ≡ some v → PartsFit job led values seat split j v)
-    → PartsFit job led values seat split id w
-    → (j : ℕ) (v : View) → get_elem? (set views id w) j ≡ some v → PartsFit job led values seat split j v
-fits-set job led views values seat split id w others mine j v at =
-    ⊎_elim
-    (λ (t : (j ≡ id) × (w ≡ v)). subst (λ (u : ℕ × View). PartsFit job led values seat split u.0 u.1) (λ i. (sym t.0 i, t.1 i)) mine)
-    (λ (t : (j ≢ id) × (get_elem? views j ≡ some v)). others j v t.0 t.1)
-    (at_set views id j w v at)
-
--- an actor stands where it stood, if it is not control, or if the lines that are led stay the same
-abbrev Stays : Job → Job → ℕ → Actor → Type 0
-Stays led led' split a = (own : Job) (here : ℕ) (x : Actor) → (x ≡ a → ⊥) → StandsAt led split own here x → StandsAt led' split own here x
-
-others-stay : (led led' : Job) (split : ℕ) → Stays led led' split ByControl
-others-stay led led' split own here ByControl ne at = absurd (ne refl)
-others-stay led led' split own here (ByCpu c) ne at = at
-
--- the actor of a seat has taken more, and may have led a line
-module _ (job led led' : Job) (views : List View) (values values' : Actor → List ℕ) (seat : Actor → ℕ) (split id here : ℕ) (own own' : Job) (a : Actor)
-    (more : List ℕ) (covers : Covers job led views values seat split) (at : get_elem? views id ≡ some (view job own here (part a (values a) ∷ [])))
-    (taken : values' a ≡ more) (others : (x : Actor) → (x ≡ a → ⊥) → values' x ≡ values x)
-    (stay : Stays led led' split a) (there : StandsAt led' split own' here a) where
-  mine : Fits job led values seat split id (view job own here (part a (values a) ∷ [])) (part a (values a))
-  mine = covers.fits id (view job own here (part a (values a) ∷ [])) at 0 (part a (values a)) refl
-
-  -- it was split off
-  apart : (c : ℕ) → split ≤ c → cpu c ≡ a → ⊥
-  apart c le e = let lt : c < split = subst (λ (x : Actor). StandsAt led' split own' here x) (sym e) there in omega (arith, le, lt)
-
-  pub covers-more : Covers job led' (set views id (view job own' here (part a more ∷ []))) values' seat split
-  covers-more = record {
-    fits = fits-set job led' views values' seat split id (view job own' here (part a more ∷ []))
-        (λ j u ne e k x has.
-        let f = covers.fits j u e k x has in
-        let other : x.actor ≡ a → ⊥ = λ same. ne (sym f.seated ∙ ap seat same ∙ mine.seated) in
-        record { job' = f.job'; seated = f.seated; has = f.has ∙ sym (others x.actor other); stands = stay u.led u.split x.actor other f.stands })
-        (one-part (λ x. Fits job led' values' seat split id (view job own' here (part a more ∷ [])) x) (part a more)
-        record { job' = refl; seated = mine.seated; has = sym taken; stands = there });
-    stood = λ x has.
-        stands-set views id (seat x) (view job own' here (part a more ∷ [])) x (covers.stood x has)
-        (λ v e had. (0, part a more, refl, only-there job own here (part a (values a)) views id at x v e had));
-    unsplit = λ c le. others (cpu c) (apart c le) ∙ covers.unsplit c le;
-    within = covers.within;
-  }
+use Rattle.dealt_seats.proofs.Actors.{at_first, at_first-else, at_cpu, at_cpu-else, at_cpu-same}
 
 -- ## one step
 
@@ -128,8 +68,8 @@ module _ (job : Job) (line : Option ℕ) (id here : ℕ) (own : Job) (a : Actor)
       past = past_after op r.past;
       count = length-set t.words (op_word code) (op_after code (get_or t.words (op_word code) 0)) ∙ r.count;
       runs = runs;
-      covers = covers-more job (led_at r) (with_lines job ctls' plan') t.views r.values values' r.seat r.split id here own (led_on job own line) a
-          (r.values a ++ gave t.words code ∷ []) r.covers at taken others stay there;
+      covers = covers-more job (length job.quanta) [] (led_at r) t.views r.values r.seat r.split r.covers id here own a (r.values a) at
+          (with_lines job ctls' plan') (led_on job own line) values' (r.values a ++ gave t.words code ∷ []) taken others stay there;
     }
 
     pub comes : ToldAt (led_on job own line) (gave t.words code) (r.values a) a → Comes (r.values a)
@@ -158,8 +98,8 @@ cpu_allowed job slots id c vs op is t r homes at small =
     let next : cpu_next led (cpu_fed led c (r.values (cpu c))) ≡ Some op = cpu-next-same job r.ctls r.plan c (r.values (cpu c)) ∙ own in
     let more : List ℕ = r.values (cpu c) ++ gave t.words (placed (shape_of job) op) ∷ [] in
     subst (Comes job None id 0 job (cpu c) op t r) (sym has)
-    (comes job None id 0 job (cpu c) op t r r.ctls r.plan (cpu_values r.values c more) (at ∙ ap (λ l. some (cpu_view job c l)) has) small
-    (cpu_values-same r.values c more) (cpu_values-else r.values c more) r.led refl
+    (comes job None id 0 job (cpu c) op t r r.ctls r.plan (at_cpu r.values c more) (at ∙ ap (λ l. some (cpu_view job c l)) has) small
+    (at_cpu-same r.values c more) (at_cpu-else r.values c more) r.led refl
     (cpu-is-row led r.led t.words r.values r.past r.count r.runs c inside op next)
     (cpu-goes-on led r.led t.words r.values r.past r.count r.runs c inside op next)
     (λ o h x ne at'. at') mine.stands
@@ -178,8 +118,8 @@ control_allowed job led slots id split vs op is t r homes at small =
     let next : control_next now (control_fed now (r.values ByControl)) ≡ Some op = (λ i. control_next (sym knew i) (control_fed (sym knew i) (sym has i))) ∙ is in
     let more : List ℕ = r.values ByControl ++ gave t.words (placed (shape_of job) op) ∷ [] in
     subst (λ (u : Job × List ℕ). Comes job None id split u.0 ByControl op t r u.1) (λ i. (sym knew i, sym has i))
-    (comes job None id split now ByControl op t r r.ctls r.plan (control_values r.values more)
-    (at ∙ (λ i. some (control_view job (knew i) split (has i)))) small refl (control_values-else r.values more) r.led refl
+    (comes job None id split now ByControl op t r r.ctls r.plan (at_first r.values more)
+    (at ∙ (λ i. some (control_view job (knew i) split (has i)))) small refl (at_first-else r.values more) r.led refl
     (control-is-row now r.led t.words r.values r.past r.count r.runs op next)
     (control-goes-on now r.led t.words r.values r.past r.count r.runs op next)
     (λ o h x ne at'. at') (refl, mine.stands.1)
@@ -225,8 +165,8 @@ line_allowed job led slots id split vs k c is over limited t r homes at small =
     next-begins job now (r.values ByControl) k c is ended (r.runs.control (picked job.ctls (k ∷ [])) (plan-with job r.plan k)) in
     let more : List ℕ = r.values ByControl ++ gave t.words (MarkOp true) ∷ [] in
     subst (λ (u : Job × List ℕ). Comes job (Some k) id split u.0 ByControl op t r u.1) (λ i. (sym knew i, sym has i))
-    (comes job (Some k) id split now ByControl op t r (r.ctls ++ picked job.ctls (k ∷ [])) (plan-with job r.plan k) (control_values r.values more)
-    (at ∙ (λ i. some (control_view job (knew i) split (has i)))) small refl (control_values-else r.values more) limited' refl
+    (comes job (Some k) id split now ByControl op t r (r.ctls ++ picked job.ctls (k ∷ [])) (plan-with job r.plan k) (at_first r.values more)
+    (at ∙ (λ i. some (control_view job (knew i) split (has i)))) small refl (at_first-else r.values more) limited' refl
     (control-is-row led' limited' t.words r.values r.past r.count on op next)
     (control-goes-on led' limited' t.words r.values r.past r.count on op next)
     (others-stay now led' r.split) (refl, mine.stands.1)

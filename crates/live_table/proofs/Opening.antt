@@ -1,11 +1,8 @@
 -- The rule of the table holds of the words of a job before its first step, with control's seat.
-use Rattle.std.proofs.Common.{◌≡◌, ℕ, zero, suc, Bool, true, false, List, [], ◌∷◌, ◌++◌, length, refl, sym, ap, ◌∙◌, subst, arith}
+use Rattle.std.proofs.Common.{◌≡◌, ℕ, zero, suc, Bool, true, false, List, [], ◌++◌, length, refl, sym, ap, ◌∙◌, subst, arith}
 use Rattle.std.specs.List.{AllByRecursion as Each}
-use mathlib.Core.Option.{some, some-ne-none, some-injective}
-use lib.ListN.{get_elem?}
 use Rattle.atomic_table.specs.Table as table
 use Rattle.ft_base.specs.declared.turn.Actor.{Actor}
-use Rattle.ft_base.specs.declared.turn.Actor.TheVariants.{Control as ByControl, Cpu as ByCpu}
 use Rattle.ft_base.specs.Desk.{desk}
 use Rattle.ft_base.specs.Job.{Job, Ctl, LinePlan}
 use Rattle.ft_hist.specs.Placing.{AreCounted, total}
@@ -22,11 +19,10 @@ use Rattle.word_machine_laws.proofs.WordsFit.{start-runs}
 use Rattle.control_core.proofs.Leading.{none-led}
 use Rattle.ft_machine.specs.Worlds.{words_of}
 use Rattle.ft_machine.proofs.Opening.{none-on}
-use Rattle.live_table.specs.declared.view.View.{View}
+use Rattle.live_table.specs.Views.{control_view, led_first}
 use Rattle.live_table.specs.Recorded.{IsRecorded, cpu_lists}
-use Rattle.live_table.specs.Rule.{Fits, HasSeat, LiveRule, RunsOn, StandsFor, StandsIn, world_with}
-use Rattle.live_table.specs.Views.{control_view, led_first, part}
-use Rattle.live_table.proofs.Moves.{PartsFit, one-part}
+use Rattle.live_table.specs.Rule.{LiveRule, RunsOn, StandsFor, world_with}
+use Rattle.dealt_seats.proofs.Moves.{covers-first}
 
 -- ## nothing is marked
 
@@ -52,17 +48,6 @@ none-recorded job = record {
   items = refl;
   own = λ c inside. sym (none-on job c);
 }
-
--- ## the table
-
-one-view : (P : ℕ → View → Type 0) (x : View) → P 0 x → (id : ℕ) (v : View) → get_elem? (x ∷ []) id ≡ some v → P id v
-one-view P x here zero v e = subst (P 0) (some-injective x v e) here
-one-view P x here (suc id) v e = absurd (some-ne-none v (sym e))
-
--- control alone has a seat
-control-stands : (job led : Job) (a : Actor) → HasSeat 0 a → StandsIn (control_view job led 0 [] ∷ []) 0 a
-control-stands job led ByControl has = (control_view job led 0 [], refl, (0, part ByControl [], refl, refl))
-control-stands job led (ByCpu c) has = absurd (omega (arith, has))
 
 -- ## the machine
 
@@ -121,14 +106,7 @@ opens-with {S} job ctls plan limited led words count is = record {
   past = [];
   count = count;
   runs = runs-first job ctls plan words is;
-  covers = record {
-    fits = one-view (λ id v. PartsFit job (with_lines job ctls plan) none (λ a. 0) 0 id v) (control_view job (with_lines job ctls plan) 0 [])
-        (one-part (λ x. Fits job (with_lines job ctls plan) none (λ a. 0) 0 0 (control_view job (with_lines job ctls plan) 0 []) x) (part ByControl [])
-        record { job' = refl; seated = refl; has = refl; stands = (refl, refl) });
-    stood = control-stands job (with_lines job ctls plan);
-    unsplit = λ c low. refl;
-    within = omega arith;
-  };
+  covers = covers-first job (length job.quanta) [] (with_lines job ctls plan);
 }
 
 -- the lines that are led at first are within the limits

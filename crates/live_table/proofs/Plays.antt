@@ -4,7 +4,7 @@ use Rattle.atomic_table.specs.Table.{Allows, Me, State, carried_after}
 use Rattle.word_map.specs.declared.op.Op.{Op}
 use Rattle.word_map.specs.declared.op.Op.TheVariants.{Load, Store, Mark}
 use Rattle.word_map.specs.Contents.{mark_weight}
-use Rattle.live_table.specs.declared.view.View.{View}
+use Rattle.live_table.specs.Views.{View}
 use Rattle.live_table.specs.AtomicSteps.{MakesOp, MakesStep}
 use Rattle.live_table.specs.Operations.{op_after, op_gives, op_word}
 

@@ -19,7 +19,8 @@ use Rattle.control_core.specs.Steps.{marks_in as control_marks_in}
 use Rattle.cpu_core.specs.CpuSteps.{marks_in}
 use Rattle.ft_machine.proofs.Made.{past-counted}
 use Rattle.ft_machine.specs.Fed.{control_items, cpu_items}
-use Rattle.live_table.specs.Recorded.{cpu, cpu_lists, lists}
+use Rattle.live_table.specs.Recorded.{cpu_lists, lists}
+use Rattle.dealt_seats.specs.Views.{cpu}
 
 -- ## an item more
 

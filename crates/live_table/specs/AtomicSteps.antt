@@ -8,11 +8,9 @@ use Rattle.ft_base.specs.declared.turn.Actor.TheVariants.{Control as ByControl}
 use Rattle.ft_base.specs.Job.{Job}
 use Rattle.word_map.specs.declared.op.Op.{Op}
 use Rattle.word_machine.specs.Machine.{step}
-use Rattle.live_table.specs.declared.view.Part.{Part}
-use Rattle.live_table.specs.declared.view.View.{View}
+use Rattle.live_table.specs.Views.{Part, View, TakesOne, leading, led_on}
 use Rattle.live_table.specs.Operations.{op_after, op_gives, op_word}
 use Rattle.live_table.specs.Rule.{LiveRule, led_at, state_at, state_for}
-use Rattle.live_table.specs.Views.{TakesOne, leading, led_on}
 
 -- the seat's own actor
 abbrev pub actor_of : List Part → Actor

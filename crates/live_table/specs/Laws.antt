@@ -9,8 +9,7 @@ use Rattle.ft_hist.specs.Rules.{IsLegal}
 use Rattle.word_machine.specs.Cpu.{cpu_start}
 use Rattle.word_machine.specs.Machine.{start}
 use Rattle.word_machine.specs.Rule.{MachineRule}
-use Rattle.live_table.specs.declared.view.Part.{Part}
-use Rattle.live_table.specs.declared.view.View.{View}
+use Rattle.live_table.specs.Views.{Part, View}
 use Rattle.live_table.specs.Rule.{IsReached, LiveRule, led_at, state_at}
 
 -- no actor stands in two views

@@ -1,13 +1,11 @@
 -- The rule of the table: at any moment between two atomic steps, whoever makes them, the words and what the seats know make up a state of
 -- the word machine that keeps that machine's rule. While control's lines are led one by one, that is said of each job that may still come of
 -- those that were led so far; if all were led at the start, it is said of the job itself in the same words.
-use Rattle.std.specs.Prelude.{ℕ, ◌≡◌, ◌<◌, ◌≤◌, List, [], length}
-use mathlib.Core.Option.{some}
-use lib.ListN.{get_elem?}
+use Rattle.std.specs.Prelude.{ℕ, ◌≡◌, List, [], length}
 use Rattle.atomic_table.specs.Table.{State}
 use Rattle.ft_base.specs.declared.item.Item.{Item}
 use Rattle.ft_base.specs.declared.turn.Actor.{Actor}
-use Rattle.ft_base.specs.declared.turn.Actor.TheVariants.{Control as ByControl, Cpu as ByCpu}
+use Rattle.ft_base.specs.declared.turn.Actor.TheVariants.{Control as ByControl}
 use Rattle.ft_base.specs.Job.{Job, Ctl, LinePlan}
 use Rattle.word_machine_laws.specs.Led.{later, more_to_come, with_lines}
 use Rattle.word_map.specs.Places.{len}
@@ -17,9 +15,10 @@ use Rattle.word_machine.specs.Limits.{IsLimited}
 use Rattle.word_machine.specs.Machine.{World, run, start}
 use Rattle.ft_machine.specs.Worlds.{words_of}
 use Rattle.ft_machine.specs.Fed.{control_fed, control_items, cpu_fed}
-use Rattle.live_table.specs.declared.view.Part.{Part}
-use Rattle.live_table.specs.declared.view.View.{View}
-use Rattle.live_table.specs.Recorded.{IsRecorded, cpu}
+use Rattle.dealt_seats.specs.Covers.{Covers}
+use Rattle.live_table.specs.Views.{View}
+use Rattle.live_table.specs.Recorded.{IsRecorded}
+use Rattle.dealt_seats.specs.Views.{cpu}
 
 -- the state that the words, the values that each actor has taken, and the items so far make up
 abbrev pub world_with : Job → List ℕ → (Actor → List ℕ) → List Item → World
@@ -29,46 +28,6 @@ world_with job words values past = record {
   cpus = λ c. cpu_fed job c (values (cpu c));
   past = past;
 }
-
--- control's view has the lines that are led so far, and counts the CPUs that were split off; and no other CPU has a view
-abbrev pub StandsAt : Job → ℕ → Job → ℕ → Actor → Type 0
-StandsAt led split own here ByControl = (own ≡ led) × (here ≡ split)
-StandsAt led split own here (ByCpu c) = c.0 < split
-
--- control has a seat, and so has each CPU that was split off
-abbrev pub HasSeat : ℕ → Actor → Type 0
-HasSeat split ByControl = Unit {0}
-HasSeat split (ByCpu c) = c.0 < split
-
--- a view has a part of this actor
-abbrev pub HasPart : View → Actor → Type 0
-HasPart v a = (k : ℕ) × (x : Part) × (get_elem? v.parts k ≡ some x) × (x.actor ≡ a)
-
--- the view of the seat of this id has one
-abbrev pub StandsIn : List View → ℕ → Actor → Type 0
-StandsIn views id a = (v : View) × (get_elem? views id ≡ some v) × HasPart v a
-
--- What holds of a part of the view of the seat of this id.
---   job'     it is of the job
---   seated   its actor stands in no other seat
---   has      it has all values that its actor has taken
---   stands   its actor was split off, and control's view has the lines that are led
-pub record Fits (job led : Job) (values : Actor → List ℕ) (seat : Actor → ℕ) (split id : ℕ) (v : View) (x : Part) : Type 0 where
-  pub job' : v.job ≡ job
-  pub seated : seat x.actor ≡ id
-  pub has : x.values ≡ values x.actor
-  pub stands : StandsAt led split v.led v.split x.actor
-
--- What holds of all views.
---   fits      each of their parts fits
---   stood     control, and each CPU that was split off, has a part in the view of its seat. So the views tell what these have taken
---   unsplit   a CPU that was not split off has not stepped
---   within    no more CPUs were split off than the job has
-pub record Covers (job led : Job) (views : List View) (values : Actor → List ℕ) (seat : Actor → ℕ) (split : ℕ) : Type 0 where
-  pub fits : (id : ℕ) (v : View) → get_elem? views id ≡ some v → (k : ℕ) (x : Part) → get_elem? v.parts k ≡ some x → Fits job led values seat split id v x
-  pub stood : (a : Actor) → HasSeat split a → StandsIn views (seat a) a
-  pub unsplit : (c : ℕ) → split ≤ c → values (cpu c) ≡ []
-  pub within : split ≤ length job.quanta
 
 -- the word machine comes to this state from its start, by the steps of some actors one after the other
 abbrev pub IsReached : Job → World → Type 0
@@ -115,7 +74,7 @@ pub record LiveRule {S : Type 0} (job : Job) (t : State S View) : Type 0 where
   pub past : List Item
   pub count : length t.words ≡ len (shape_of job)
   pub runs : RunsOn (with_lines job ctls plan) t.words values past
-  pub covers : Covers job (with_lines job ctls plan) t.views values seat split
+  pub covers : Covers job (length job.quanta) [] (with_lines job ctls plan) t.views values seat split
 
 -- the job with the lines that are led so far, at a moment of which the rule holds
 abbrev pub led_at : {S : Type 0} {job : Job} {t : State S View} → LiveRule job t → Job

@@ -24,10 +24,8 @@ use Rattle.cpu_core.specs.Cpus.{cpu_of}
 use Rattle.cpu_core.specs.Cpus as cpu
 use Rattle.cpu_core.specs.CpuSteps.{marks_in}
 use Rattle.ft_machine.specs.Fed.{control_fed, control_items, cpu_fed, cpu_items}
-use Rattle.live_table.specs.declared.view.Part.{Part}
-use Rattle.live_table.specs.declared.view.View.{View}
-use Rattle.live_table.specs.Recorded.{cpu as cpu_actor}
-use Rattle.live_table.specs.Views.{control_view, cpu_view, led_first, order_first, part, values_of}
+use Rattle.live_table.specs.Views.{Part, View, control_view, cpu_view, led_first, order_first, values_of}
+use Rattle.dealt_seats.specs.Views as seats
 
 -- ## the table
 
@@ -183,8 +181,7 @@ pub record AreSeats (b : Board) (cpus : List CpuPlace) : Type 0 where
 
 -- what they know of their actors
 abbrev pub parts_of : List CpuPlace → List Part
-parts_of [] = []
-parts_of (s ∷ ss) = part (cpu_actor s.number) s.values ∷ parts_of ss
+parts_of ss = seats.parts_of (λ (s : CpuPlace). s.number) (λ s. s.values) ss
 
 -- what all have marked
 abbrev pub lists_at : ControlPlace → List CpuPlace → List (List Stamped)

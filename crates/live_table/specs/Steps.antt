@@ -10,11 +10,10 @@ use Rattle.word_machine.specs.Cpu.{cpu_next}
 use Rattle.word_machine.specs.Laws.{CpuTakes}
 use Rattle.live_table.specs.declared.live.Going.{Going}
 use Rattle.live_table.specs.declared.live.Going.TheVariants.{More, End}
-use Rattle.live_table.specs.declared.view.View.{View}
+use Rattle.live_table.specs.Views.{View, control_view, cpu_view}
 use Rattle.live_table.specs.AtomicSteps.{AtomicStep}
 use Rattle.live_table.specs.Operations.{op_after, op_gives, op_word}
 use Rattle.live_table.specs.Seats.{ControlPlace, CpuPlace, control_at, cpu_at}
-use Rattle.live_table.specs.Views.{control_view, cpu_view}
 
 -- a CPU's seat after one more value
 abbrev pub with_value : CpuPlace → ℕ → CpuPlace

@@ -16,27 +16,28 @@ use Rattle.word_machine.specs.Cpu.{cpu_next}
 use Rattle.word_machine.specs.Laws.{CpuTakes, IsOnWord, room_on}
 use Rattle.task_core.specs.TaskOps.{item_in}
 use Rattle.ft_machine.specs.Fed.{control_fed, control_items, cpu_fed, cpu_items}
-use Rattle.live_table.specs.declared.view.Part.{Part}
-use Rattle.live_table.specs.declared.view.View.{View}
-use Rattle.live_table.specs.Recorded.{cpu}
+use Rattle.dealt_seats.specs.declared.view.Part.{Part as SeatPart}
+use Rattle.dealt_seats.specs.declared.view.View.{View as SeatView}
+use Rattle.dealt_seats.specs.Views.{change, known_in, view}
+use Rattle.dealt_seats.specs.Views as seats
 
 -- ## views
 
 -- an actor, with the values that it has taken
-abbrev pub part : Actor → List ℕ → Part
-part a values = record { actor = a; values = values }
+abbrev pub Part : Type 0
+Part = SeatPart (List ℕ)
 
--- a seat's view: the job, the job by which its own actor goes, how many CPUs were split off, that actor, and those of the seats that joined it
-abbrev pub view : Job → Job → ℕ → List Part → View
-view job led split parts = record { job = job; led = led; split = split; parts = parts }
+-- what a seat knows: the job, and with the lines that are led that by which its own actor goes
+abbrev pub View : Type 0
+View = SeatView Job Job (List ℕ)
 
 -- control's, after so many CPUs were split off: control goes by the job with the lines that were led so far
 abbrev pub control_view : Job → Job → ℕ → List ℕ → View
-control_view job led split values = view job led split (part ByControl values ∷ [])
+control_view job led split values = seats.first_view job led split values
 
 -- CPU c's, which goes by the whole job
 abbrev pub cpu_view : Job → ℕ → List ℕ → View
-cpu_view job c values = view job job 0 (part (cpu c) values ∷ [])
+cpu_view job c values = seats.cpu_view job job c values
 
 -- a job of nobody
 abbrev pub no_job : Job
@@ -44,12 +45,11 @@ no_job = record { version = 1; functions = []; users = []; frames = 0; tramps = 
 
 -- the view of a seat that has joined another
 abbrev pub spent : View
-spent = view no_job no_job 0 []
+spent = seats.spent_view no_job no_job
 
 -- the values of the seat's own actor
 abbrev pub values_of : List Part → List ℕ
-values_of [] = []
-values_of (x ∷ xs) = x.values
+values_of parts = known_in [] parts
 
 -- ## lines that are led
 
@@ -72,26 +72,13 @@ leading line w = view w.job (led_on w.job w.led line) w.split w.parts
 
 -- ## moves
 
--- the first of these takes a value
-abbrev pub took_in : ℕ → List Part → List Part
-took_in v [] = []
-took_in v (x ∷ xs) = part x.actor (x.values ++ v ∷ []) ∷ xs
-
 -- the seat's own actor takes a value
 abbrev pub took : View → ℕ → View
-took w v = view w.job w.led w.split (took_in v w.parts)
+took w v = change (λ values. values ++ v ∷ []) w
 
--- control's view after one more CPU was split off
-abbrev pub dealer : View → View
-dealer v = view v.job v.led (v.split + 1) v.parts
-
--- the view of that CPU
+-- the view of the CPU that is split off next
 abbrev pub dealt : View → View
 dealt v = cpu_view v.job v.split []
-
--- the view of a seat that another joined
-abbrev pub joined : View → View → View
-joined v w = view v.job v.led v.split (v.parts ++ w.parts)
 
 -- ## what a step tells
 
@@ -121,7 +108,7 @@ ToldAt job v values (ByCpu c) = CpuTold job c.0 v values
 -- of the seat's own actor's
 abbrev pub ToldIn : Job → ℕ → List Part → Type 0
 ToldIn job v [] = ⊥
-ToldIn job v (x ∷ xs) = ToldAt job v x.values x.actor
+ToldIn job v (x ∷ xs) = ToldAt job v x.known x.actor
 
 -- the seat's own actor takes a value, and what is told of it
 abbrev pub TakesOne : {S : Type 0} → Me S View → ℕ → Me S View → Type 0

@@ -12,7 +12,7 @@ ghost use Rattle.ft_machine.specs.declared.cpus.CpuRoom.TheVariants.{ForAll};
 ghost use Rattle.ft_machine.specs.Starts.{AreFirst, IsFirst};
 ghost use Rattle.live_table.specs.Seats.{AreAtEnd, AreNew, AreSeats, ControlSitsAt, IsDealt, IsMadeByTurns, IsNewCpu, IsOpen, SitsAt, control_at, history_of, lists_at, parts_of, withheld_if};
 ghost use Rattle.live_table.specs.Steps.{ControlLeads, ControlSteps, CpuSteps};
-ghost use Rattle.live_table.specs.Views.{part, view};
+ghost use Rattle.dealt_seats.specs.Views.{part, view};
 
 use crate::rooms::rooms_for;
 use crate::rule::{Deals, Gathers, Key, Rules};

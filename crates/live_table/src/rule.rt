@@ -76,7 +76,8 @@ impl<N: NextLine> Play<(), View> for Leads<N> {
 pub struct Deals;
 
 impl Split<View> for Deals {
-    ghost use Rattle.live_table.specs.Views.{dealer, dealt};
+    ghost use Rattle.live_table.specs.Views.{dealt};
+    ghost use Rattle.dealt_seats.specs.Views.{dealer};
 
     ghost left = { dealer };
 
@@ -87,7 +88,8 @@ impl Split<View> for Deals {
 pub struct Gathers;
 
 impl Join<View> for Gathers {
-    ghost use Rattle.live_table.specs.Views.{joined, spent};
+    ghost use Rattle.live_table.specs.Views.{spent};
+    ghost use Rattle.dealt_seats.specs.Views.{joined};
 
     ghost both = { joined };
 

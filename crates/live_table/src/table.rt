@@ -8,14 +8,12 @@ ghost use Rattle.word_map.specs.declared.op.Op.TheVariants.{Mark};
 ghost use Rattle.word_map.specs.Places.{len};
 ghost use Rattle.word_map.specs.Shapes.{shape_of};
 ghost use Rattle.word_machine.specs.Limits.{IsLimited};
-ghost use Rattle.word_machine.specs.Machine.{start};
+ghost use Rattle.word_machine.specs.Machine.{start, opening_words};
 ghost use Rattle.ft_machine.specs.Worlds.{words_of};
-ghost use Rattle.word_machine.specs.Machine.{opening_words};
-ghost use Rattle.live_table.specs.declared.view.View.{View as SeatView};
+ghost use Rattle.live_table.specs.Views.{View as SeatView, control_view, led_first};
 ghost use Rattle.live_table.specs.AtomicSteps.{MakesOp};
 ghost use Rattle.live_table.specs.Operations.{op_after, op_gives, op_word};
 ghost use Rattle.live_table.specs.Rule.{LiveRule};
-ghost use Rattle.live_table.specs.Views.{control_view, led_first};
 
 use crate::rule::{Key, Leads, NextLine, Puts, Rules, Takes};
 use crate::view::View;

@@ -5,7 +5,7 @@
 //!
 //! Promised: whether a user wants a frame of the shadow stack, whether the graph depth holds for it,
 //! and `call_bound`, a number by formula. That no scripted call of a legal history has more items
-//! than `call_bound` is a law of `history_bound`. A copy of users is of equal users; that the memory
+//! than `call_bound` is a law of `history_laws`. A copy of users is of equal users; that the memory
 //! for it is found is only tested, in `ft_machine_tests`.
 #![tactic(auto)]
 

@@ -3,10 +3,9 @@ use Rattle.std.proofs.Common.{◌++◌, ◌∷◌, [], List, length, sym, ap, �
 use Rattle.std.specs.Vec.Iter.{into_iter_items}
 use lib.ListN.{get_elem?}
 use Rattle.word_map.specs.Shapes.{shape_of}
-use Rattle.live_table.specs.declared.view.View.{View}
-use Rattle.live_table.specs.Recorded.{cpu}
+use Rattle.live_table.specs.Views.{View}
+use Rattle.dealt_seats.specs.Views.{cpu, part}
 use Rattle.live_table.specs.Seats.{Board, CpuPlace, items_at}
-use Rattle.live_table.specs.Views.{part}
 use Rattle.live_table.proofs.Joined.{has-clock, joined-more, listed-more, next-sits}
 use Rattle.live_table.proofs.Seating.{joins}
 use Rattle.live_table.proofs.live.Live.join_all.Goals as goal

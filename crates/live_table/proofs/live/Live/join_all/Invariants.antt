@@ -4,7 +4,7 @@ use Rattle.std.specs.Vec.Iter.{into_iter_items}
 use Rattle.ft_base.specs.declared.turn.Actor.TheVariants.{Control as ByControl}
 use Rattle.ft_hist.specs.Placing.{items_of}
 use Rattle.live_table.specs.Seats.{lists_at, parts_of}
-use Rattle.live_table.specs.Views.{part, view}
+use Rattle.dealt_seats.specs.Views.{part, view}
 use Rattle.live_table.proofs.live.Live.join_all.Given as goal
 
 abbrev pub invariant-loop-joining : goal.invariant-loop-joining
