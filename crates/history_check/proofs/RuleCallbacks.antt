@@ -1,16 +1,14 @@
 -- What a judge asks of the visits of a call.
-use Rattle.std.proofs.Common.{◌≡◌, ℕ, suc, ◌+◌, ◌<◌, Bool, true, nat_lt, List, [], ◌∷◌, map, Option, Some, None, refl, sym, ap, ◌∙◌, subst, add-one}
-use Rattle.std.specs.Prelude.{IfSome, IsTrue, ◌↔◌, slice_get}
+use Rattle.std.proofs.Common.{◌≡◌, ℕ, ◌<◌, true, nat_lt, List, [], ◌∷◌, map, refl, sym}
+use Rattle.std.specs.Prelude.{IsTrue, ◌↔◌}
 use Rattle.std.specs.List.{list_all, AllByRecursion as Each}
 use Rattle.std.specs.Cmp.Derive.{both_true}
 use Rattle.std.proofs.lemmas.Bool.{lt-ltb, ltb-true}
 use Rattle.ft_base.specs.declared.number.CallNo.{CallNo}
 use Rattle.ft_base.specs.declared.item.Item.{Item}
-use Rattle.ft_base.specs.Job.{Job, Command, commands, command_at}
+use Rattle.ft_base.specs.Job.{Job}
 use Rattle.ft_base.proofs.Small.{and_both}
-use Rattle.ft_hist.specs.Past.{done, visits}
-use Rattle.ft_hist.specs.Rules.{IsStill}
-use Rattle.ft_hist.proofs.RunLaws.{some_inj}
+use Rattle.ft_hist.specs.Past.{visits}
 use Rattle.history_check.specs.declared.open_call.OpenCall.{OpenCall}
 use Rattle.history_check.specs.declared.open_call.Visit.{Visit}
 use Rattle.history_check.specs.KeptCalls.{IsTop, visit_of}

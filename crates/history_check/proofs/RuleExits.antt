@@ -10,7 +10,7 @@ use Rattle.ft_base.specs.declared.item.Item.{Item}
 use Rattle.ft_base.specs.Job.{Job}
 use Rattle.ft_base.specs.Desk.{desk, is_live}
 use Rattle.ft_base.proofs.Small.{false_true, and_both, Contains-head, Contains-more, Each-snoc}
-use Rattle.ft_hist.specs.Past.{Visit as Told, begun, done_at_leave, exits, visits}
+use Rattle.ft_hist.specs.Past.{Visit as Told, begun, visits}
 use Rattle.ft_hist.specs.Rules.{AtReturnedOrBegun, HasExit, AreExitsDone, IsExitDone, MayExit}
 use Rattle.history_check.specs.declared.open_call.OpenCall.{OpenCall}
 use Rattle.history_check.specs.declared.open_call.Visit.{Visit}

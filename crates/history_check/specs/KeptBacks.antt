@@ -8,7 +8,6 @@ use Rattle.ft_base.specs.declared.context.Ctx.{Ctx}
 use Rattle.ft_base.specs.declared.item.Item.{Item}
 use Rattle.ft_base.specs.Same.{same_call}
 use Rattle.ft_base.specs.Job.{Job}
-use Rattle.ft_base.specs.Desk.{desk, user_at}
 use Rattle.ft_hist.specs.Past.{begun, callbacks, ctx_of, done, entry_of, visits, since_now}
 use Rattle.history_check.specs.declared.backs.Check.{Check}
 use Rattle.history_check.specs.declared.backs.Entry.{Entry}

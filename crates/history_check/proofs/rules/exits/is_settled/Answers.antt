@@ -13,8 +13,10 @@ returns-then-had c = λ job items k. yes (λ exit. inl (sym c.has_exit-had.ensur
 pub returns : goal.returns
 returns c = λ job items k.
     let exit = (c.has_exit.ensures job items c.args.top.now.call k).0 c.if-not-has_exit.false in
-    let dead = c.was_dead.ensures job items k in
-    (λ e x. inr (dead.0 e), λ h. elim (h exit) [
-      | inl had ↦ false_true (sym (sym c.has_exit-had.ensures ∙ c.if-had.false) ∙ had)
-      | inr gone ↦ dead.1 gone
-    ])
+    let dead = c.was_dead.ensures job items k in (
+      λ e x. inr (dead.0 e),
+      λ h. elim (h exit) [
+        | inl had ↦ false_true (sym (sym c.has_exit-had.ensures ∙ c.if-had.false) ∙ had)
+        | inr gone ↦ dead.1 gone
+      ],
+    )
