@@ -14,7 +14,7 @@
 //! no turns, and the value comes back. All memory is taken before the first turn, so none is taken
 //! while the lock is held.
 //!
-//! Only tested, in `desk_lock_tests`: that a turn serves an item. Other threads may change what is
+//! Only tested, in `threads_tests`: that a turn serves an item. Other threads may change what is
 //! under a lock as soon as it is free, so no clause of [`Turns::turn`] tells what it did there. A turn
 //! that does nothing would meet each clause, since `finish` serves what is left; the test
 //! `the_turns_make_the_order` refuses it, which compares the journal with the order of its turns.

@@ -12,9 +12,9 @@
 //!
 //! How a call over a source and a sink ended is a [`Status`], which all programs share.
 //!
-//! Only tested, in `ends_tests`: that the adapters over a reader and a writer ask for many bytes at
-//! a time, flush after each write, and try nothing a second time. What a standard stream gives or
-//! shows is not said.
+//! Only tested, in `vocabulary_tests`: that the adapters over a reader and a writer ask for many
+//! bytes at a time, flush after each write, and try nothing a second time. What a standard stream
+//! gives or shows is not said.
 #![tactic(auto)]
 
 mod calls;

@@ -12,7 +12,7 @@
 //!
 //! Proved: words that are read give the order that the language gives them; they are refused only
 //! if the language gives them none; and it gives no words two orders. Only tested, in
-//! `ends_tests`: that memory is found for the parser.
+//! `vocabulary_tests`: that memory is found for the parser.
 #![tactic(auto)]
 
 mod command;

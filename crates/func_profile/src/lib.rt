@@ -9,7 +9,7 @@
 //! Promised: [`rows`] gives exactly the rows of the functions with a hit, by number, as `specs/Rows`
 //! defines them. It asks that each callback of the history is in a call that was entered before, and
 //! that each exit comes after its entry. `laws` has that each legal history keeps this, and that the
-//! hits add up to all the user's entry callbacks. Only tested, in `history_tests`: that memory
+//! hits add up to all the user's entry callbacks. Only tested, in `vocabulary_tests`: that memory
 //! is found.
 //!
 //! A history is gone through once. A map has the functions of the calls so far, and a [`Table`] the row

@@ -7,7 +7,7 @@
 //!
 //! Promised: each return reaches its true caller, whatever was hooked; a call is refused a frame
 //! exactly if it has none and all are in use, and then nothing changes. Only [`Stacks::new`] takes
-//! memory. Only tested, in `stacks_tests`: that memory is found.
+//! memory. Only tested, in `steppers_tests`: that memory is found.
 #![tactic(auto)]
 
 pub mod laws;

@@ -13,7 +13,7 @@
 //!
 //! Here is what their makers share: the plan ([`TracePlan`]), one ring ([`CpuRing`]), and all rings with
 //! the places at which triggers fired ([`Rings`]). Their contracts are exact. Only tested, in
-//! `rings_tests`: that memory is found.
+//! `threads_tests`: that memory is found.
 #![tactic(auto)]
 
 pub mod laws;

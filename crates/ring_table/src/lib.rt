@@ -19,7 +19,7 @@
 //! Promised: between any two operations of any threads the words and what the CPUs have done keep the
 //! table's rule ([`Rules`], `specs/Rule`); and the rings are legal for each history whose items on each
 //! CPU are those that were offered to its seat. Offering takes no memory and never waits. Only tested,
-//! in `rings_tests`: that memory is found. That two threads offer at the same time isn't told by any
+//! in `threads_tests`: that memory is found. That two threads offer at the same time isn't told by any
 //! contract.
 #![tactic(auto)]
 

@@ -3,7 +3,7 @@
 //!
 //! Promised: the rings are exactly those of the definition (`ring_rules`, specs' `Fold`), for any job and
 //! any history, and so they are legal; and [`trace_plan`] gives what rings need to know of a job, which
-//! `ring_table` takes too. Only tested, in `rings_tests`: that memory is found.
+//! `ring_table` takes too. Only tested, in `threads_tests`: that memory is found.
 #![tactic(auto)]
 
 mod fold;
