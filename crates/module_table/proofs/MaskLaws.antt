@@ -60,7 +60,7 @@ module _ (job : Job) (desk : Desk) (u : ℕ) (filter notrace : Marks) where
           → cond ((b && s) && is_empty filter) Invalid (cond (not s) NoMatch (cond b (claim job desk u filter notrace) Accepted)) ≡ Accepted
       by false b e h = false_true e
       by true false e h = refl
-      by true true e h = rw (filters h, claim-accepted (clear h)) refl
+      by true true e h = subst (λ (b : Bool). cond b Invalid (claim job desk u filter notrace) ≡ Accepted) (sym (filters h)) (claim-accepted (clear h))
 
 -- ## the masks of all users
 
