@@ -1,7 +1,7 @@
 """Runs the built program at its edges, where no proof reaches:
 
 - the words of the command, in the language and not: those of command_words.py;
-- scripts with what is printed for them, and refusals: those of script_texts.py;
+- scripts with what is printed for them, those of script_texts.py, and those that are refused or nearly so, of refused_scripts.py;
 - each status with its cause: streams that fail, too long an input, and memory from too little to begin up to ample;
 - each limit of the language reached and passed, in at most a hundred times the time that it takes now, and all at once;
 - a long history in each printed form;
@@ -18,7 +18,7 @@ import shlex
 from typing import Callable, NamedTuple, Optional
 
 from ftlog import runs
-from ftlog.checks import check_docs, command_words, full_scripts, judging, lane_runs, memory_limits, random_scripts, script_texts, text_lines
+from ftlog.checks import check_docs, command_words, full_scripts, judging, lane_runs, memory_limits, random_scripts, refused_scripts, script_texts, text_lines
 from ftlog.make import odd_lines, script_forms as forms
 
 SCRIPT = b"ftrace 1\nfunc a\nuser tr function\ncpu 0 quantum 100\ntask 10 cpu 0\nafter 1\ncall a\nret\nctl register tr\n"
@@ -567,6 +567,7 @@ def run(options):
     rows = runs.Rows("edges", options.verbose)
     command_words.check(rows, options.program, options.top)
     script_texts.check(rows, options.program)
+    refused_scripts.check(rows, options.program)
     check_streams(rows, options.program)
     check_memory(rows, options.program)
     check_limits(rows, options.program)

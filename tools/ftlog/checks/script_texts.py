@@ -10,8 +10,7 @@ import tempfile
 from typing import NamedTuple
 
 from ftlog import runs
-from ftlog.checks import check_docs, text_lines
-from ftlog.make import script_forms as forms
+from ftlog.checks import check_docs
 
 SECONDS = 60  # that a run by threads may take
 
@@ -175,29 +174,6 @@ FIRST_PATH = "ftrace 1; func a; user tr function; cpu 0 quantum 100; task 10 cpu
 FIRST_PATH_LOG = "0 begin 1; 1 return 1 ok; 2 enter 10.1 normal a -; 3 back 10.1 tr; 4 back-end 10.1 tr; 5 body 10.1 a own tr; 6 leave 10.1; 7 ret 10.1 -; end"
 LOG_WORDS = ["replay", "run", "--print=log -- run", "run --print log", "--print=log -- replay", "replay --print log", "--print log replay", "replay --"]
 
-REFUSED_IN_ANY_FORM = "ftrace 1; func read; func ext3_read ext3; func snd_play snd; user t function; ctl filter t >> !*:mod:!ext3; ctl filter t > zz*; ctl filter t > 4"
-REFUSED = [
-    ("ftrace 1; func a; func a", "line 3: duplicate"),
-    ("ftrace 1; func a23456789b23456789c23456789d23456789e23456789f23456789g234567890", "line 2: limit"),
-    ("ftrace 1; cpu 0 quantum 5; task 10 cpu 0; irq; softirq", "line 5: unbalanced"),
-    ("ftrace 1; func a; trigger a:traceoff:0", "line 3: pattern"),
-    ("ftrace 1; func a; ring 2; tracing off; ring 65537", "line 5: syntax"),
-    ("ftrace 1; ring 4294967296", "line 2: limit"),
-    ("ftrace 1; user t function; ring 2", "line 3: syntax"),
-    ("ftrace 1; func a; trigger a:traceoff:1; trigger a:traceoff:1; depth 65", "line 5: limit"),
-    ("ftrace 1; lane", "line 2: syntax"),
-    ("ftrace 1; lane 0 1", "line 2: syntax"),
-    ("ftrace 1; lane 0; lane 0", "line 3: syntax"),
-    ("ftrace 1; lane 4294967296", "line 2: syntax"),
-    ("ftrace 2; lane 0; lane 1; lane 2; lane 3; lane 4; lane 5; lane 6; lane 7; lane 9", "line 10: syntax"),
-    ("ftrace 1; sched k; lane 0", "line 3: syntax"),
-    ("ftrace 1; lane 0; ctl until 10 0", "line 3: syntax"),
-    ("ftrace 1; ctl until 10 1; lane 0", "line 2: unknown"),
-    ("ftrace 1; cpu 0 quantum 5; task 10 cpu 0; lane 0; softirq; iret", "line 5: syntax"),
-    ("ftrace 1; cpu 0 quantum 5; task 10 cpu 0; after 2; lane 0; ctl maxdepth 1; lane 1", "line 4: deadlock"),
-]
-REFUSED_BYTES = [(b"ftrace 1\n\x80\n", "line 2: syntax"), (b"ftrace 1\n# \x80\n\x80\n", "line 3: syntax")]  # a byte that only a comment may have
-
 # What follows twenty functions of the kernel proper and ten each of two modules: the users, the CPUs, and the first task up to the
 # return of its first call. Its wait for seven commands, of which there are none, is on line 49.
 AFTER_FUNCTIONS = "user fn function; user gr graph; user fp fprobe exit; user pr profile; cpu 0 quantum 7; cpu 1 quantum 11; task 10 cpu 0; after 7; "
@@ -209,15 +185,13 @@ def text(lines):
     return (lines.replace("; ", "\n") + "\n").encode()
 
 
-def told_rows():
-    """The scripts above, in each form that is told, replayed and, where that prints the same, run."""
-    for told in SCRIPTS:
+def told_rows(scripts):
+    """Scripts in each form that is told, replayed and, where that prints the same, run."""
+    for told in scripts:
         for form, printed in told.texts.items():
             for mode in ["replay", "run"] if told.is_ordered else ["replay"]:
                 words = [mode] if form == "log" else [mode, "--print", form]
                 yield f"{told.what}: {' '.join(words)}", words, text(told.script), text(printed)
-    for words in LOG_WORDS:
-        yield f"the first path: {words}", words.split(), text(FIRST_PATH), text(FIRST_PATH_LOG)
 
 
 def cut_rows():
@@ -230,21 +204,9 @@ def cut_rows():
         yield f"cut off after line {cut}", ["replay"], text("; ".join(lines[:cut])), text(printed)
 
 
-def refused_rows():
-    """Scripts that are refused: in the same words whatever the form, by odd bytes, and after more than two thousand lines."""
-    for form in text_lines.FORMS:
-        yield f"refused in the form {form}", ["replay", "--print", form], text(REFUSED_IN_ANY_FORM), text("line 8: pattern")
-    for script, line in [*[(text(lines), line) for lines, line in REFUSED], *REFUSED_BYTES]:
-        yield f"refused: {runs.brief(script)}", ["replay"], script, text(line)
-    late = b"ftrace 1\n" + b"".join(b"# function %d:\nfunc f%d\n" % (number, number) for number in range(1_025))
-    yield "refused late", ["replay"], late, text("line 2051: limit")
-    for what, count, printed in [("refused in the most bytes", forms.INPUT_BYTES, text("line 1: version")), ("refused, but too long", forms.INPUT_BYTES + 1, b"")]:
-        yield what, ["replay"], b"ftrace 3\n" + b"#" * (count - 10) + b"\n", printed
-
-
-def check(rows, program):
-    """A row for each script and each way to print it."""
-    for what, words, script, printed in [*told_rows(), *cut_rows(), *refused_rows()]:
+def check_each(rows, program, texts):
+    """A row for each of these: what it is, the words, the script, and what is printed; nothing is, if the script is too long."""
+    for what, words, script, printed in texts:
         with tempfile.TemporaryFile() as source:
             source.write(script)
             source.flush()
@@ -254,3 +216,9 @@ def check(rows, program):
             if printed and os.lseek(source.fileno(), 0, os.SEEK_CUR) != len(script):
                 found.append("the input wasn't read to its end")
         rows.row(f"scripts: {what}", found, came.seconds)
+
+
+def check(rows, program):
+    """A row for each script and each way to print it."""
+    worded = [(f"the first path: {words}", words.split(), text(FIRST_PATH), text(FIRST_PATH_LOG)) for words in LOG_WORDS]
+    check_each(rows, program, [*told_rows(SCRIPTS), *worded, *cut_rows()])
