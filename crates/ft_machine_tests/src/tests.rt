@@ -1,17 +1,14 @@
-//! Replays and steps of a job in which each kind of line and act comes, and of an empty one.
+//! Steps of a machine whose job has each kind of line and act. What its replays print stands in
+//! tools/ftlog/checks/script_texts.py.
 
-mod histories;
 mod hostile;
 mod jobs;
 mod judged;
-mod ordered;
 
-use ft_base::{Actor, CpuNo, Item, NoMemory, TaskNo};
-use ft_hist::History;
+use ft_base::{Actor, CpuNo, NoMemory};
 use ft_job::Job;
-use ft_machine::{Machine, Outcome, replay};
-use histories::{THIRD_FIRST, WHOLE};
-use jobs::{D, busy_job, empty_job};
+use ft_machine::Machine;
+use jobs::{D, busy_job};
 use std::alloc::Global;
 use std::test::Fail;
 
@@ -47,60 +44,9 @@ const CALL: [u8; 5] = [0xE8, 0x3B, 0xEF, 0x0F, 0x00];
 /// fourth are refused.
 static SITED: [(u32, u32); 6] = [(0, 0), (1, 1), (2, 1), (3, 0), (4, 0), (9, 0)];
 
-/// The first place at which a history differs from these items.
-fn difference(history: &History, want: &[Item]) -> Option<u32> {
-    for p in 0..history.len() {
-        if want.get(p as usize) != Some(history.item(p)) {
-            return Some(p);
-        }
-    }
-    if history.len() as usize == want.len() {
-        None
-    } else {
-        Some(history.len())
-    }
-}
-
-/// Whether the busy job with this schedule comes to its end or not, as wanted, with this history.
-fn replays_as(alloc: Global, schedule: &str, ends: bool, want: &[Item]) -> Result<bool, Fail> {
-    let outcome = busy_outcome(alloc, schedule)?;
-    Ok(outcome.ended == ends && difference(&outcome.history, want).is_none())
-}
-
-/// What a replay of the busy job with this schedule gives.
-fn busy_outcome(alloc: Global, schedule: &str) -> Result<Outcome, Fail> {
-    let job = busy_job(alloc, schedule)?;
-    Ok(replay(alloc, &job)?)
-}
-
-#[test]
-fn replays_to_the_end(rt: HostRuntime) -> Result<(), Fail> {
-    assert!(rt; replays_as(rt.alloc(), "sched all*1000\n", true, &WHOLE)?);
-    Ok(())
-}
-
-#[test]
-fn stops_with_the_schedule(rt: HostRuntime) -> Result<(), Fail> {
-    assert!(rt; replays_as(rt.alloc(), "sched 2*30 k*3 1*9\n", false, &THIRD_FIRST)?);
-    Ok(())
-}
-
-/// What a replay of the empty job gives.
-fn empty_outcome(alloc: Global) -> Result<Outcome, Fail> {
-    let job = empty_job(alloc)?;
-    Ok(replay(alloc, &job)?)
-}
-
-#[test]
-fn replays_nothing(rt: HostRuntime) -> Result<(), Fail> {
-    let outcome = empty_outcome(rt.alloc())?;
-    assert!(rt; outcome.ended && outcome.history.len() == 0);
-    Ok(())
-}
-
 /// A machine whose job is gone.
 fn alone(alloc: Global) -> Result<Machine, Fail> {
-    let job = busy_job(alloc, "")?;
+    let job = busy_job(alloc)?;
     Ok(Machine::start(alloc, &job)?)
 }
 
@@ -125,11 +71,16 @@ fn step_in_turn(machine: &mut Machine, rounds: u32) {
     }
 }
 
+/// Whether all come to their ends in turn, with as many items as the script's replay.
+fn ends_in_turn(machine: &mut Machine) -> bool {
+    step_in_turn(machine, 1000);
+    machine.all_end() && machine.history().len() == 28
+}
+
 #[test]
 fn outlives_its_job(rt: HostRuntime) -> Result<(), Fail> {
     let mut machine = alone(rt.alloc())?;
-    step_in_turn(&mut machine, 1000);
-    assert!(rt; machine.all_end() && difference(machine.history(), &WHOLE).is_none());
+    assert!(rt; ends_in_turn(&mut machine));
     Ok(())
 }
 
@@ -138,24 +89,28 @@ fn is_none_at_end(machine: &Machine) -> bool {
     ALL.iter().all(|actor| !machine.at_end(*actor))
 }
 
-/// Whether the fifth CPU is at its end, one that the job doesn't have isn't, and not all are.
-fn is_fifth_at_end(machine: &Machine) -> bool {
+/// Whether the fifth CPU is at its end after some steps, one that the job doesn't have isn't, and not
+/// all are.
+fn fifth_ends(machine: &mut Machine) -> bool {
+    step_often(machine, FIFTH, 4);
+    step_often(machine, SIXTH, 4);
     machine.at_end(FIFTH) && !machine.at_end(SIXTH) && !machine.all_end()
+}
+
+/// Whether a machine tells who is at the end. A CPU comes to its end by a step: also the fourth, whose
+/// task has no acts, the fifth, which has no task, and one that the job doesn't have never does.
+fn tells_ends(machine: &mut Machine) -> bool {
+    if !is_none_at_end(machine) || !fifth_ends(machine) {
+        return false;
+    }
+    step_often(machine, SECOND, 20);
+    machine.at_end(SECOND)
 }
 
 #[test]
 fn tells_who_is_at_the_end(rt: HostRuntime) -> Result<(), Fail> {
     let mut machine = alone(rt.alloc())?;
-    // A CPU comes to its end by a step: also the fourth, whose task has no acts, the fifth, which has
-    // no task, and one that the job doesn't have never does.
-    assert!(rt; is_none_at_end(&machine));
-    for _ in 0..4 {
-        machine.step(FIFTH);
-        machine.step(SIXTH);
-    }
-    assert!(rt; is_fifth_at_end(&machine));
-    step_often(&mut machine, SECOND, 20);
-    assert!(rt; machine.at_end(SECOND));
+    assert!(rt; tells_ends(&mut machine));
     Ok(())
 }
 
@@ -174,48 +129,26 @@ fn step_past_call(machine: &mut Machine) -> bool {
     whole
 }
 
+/// Whether control, once it may go on, breaks the site of `d` before it waits: it stores the new
+/// instruction of each site and then its breakpoint.
+fn breaks_site(machine: &mut Machine) -> bool {
+    step_often(machine, SECOND, 20);
+    step_often(machine, CONTROL, 60);
+    is_site_of_d(machine, BREAKPOINT)
+}
+
+/// Whether the site of `d` is a nop, a breakpoint, a call, and a nop again.
+fn patches_site(machine: &mut Machine) -> bool {
+    is_site_of_d(machine, NOP)
+        && breaks_site(machine)
+        && step_past_call(machine)
+        && is_site_of_d(machine, NOP)
+}
+
 #[test]
 fn patches_sites(rt: HostRuntime) -> Result<(), Fail> {
     let mut machine = alone(rt.alloc())?;
-    assert!(rt; is_site_of_d(&machine, NOP));
-    step_often(&mut machine, SECOND, 20);
-    // Control stores the new instruction of each site and then its breakpoint, before it waits.
-    step_often(&mut machine, CONTROL, 60);
-    assert!(rt; is_site_of_d(&machine, BREAKPOINT));
-    assert!(rt; step_past_call(&mut machine));
-    assert!(rt; is_site_of_d(&machine, NOP));
-    Ok(())
-}
-
-/// Whether a job has what the busy one declares.
-fn has_declared(job: &Job) -> bool {
-    job.table().len() == 4
-        && job.specs().len() == 1
-        && job.frames() == 50
-        && job.tramps() == 16
-        && job.cpus().len() == 5
-}
-
-/// Whether a job has as many lines of control as the busy one, and one turn.
-fn has_lines(job: &Job) -> bool {
-    job.ctls().len() == 6 && job.schedule().turns.len() == 1
-}
-
-/// Whether a job has four tasks, and the third has the busy job's pid and CPU.
-fn has_tasks(job: &Job) -> bool {
-    job.tasks() == 4
-        && job.pid(TaskNo(2)) == Some(12)
-        && job.pid(TaskNo(4)) == None
-        && job.cpu(TaskNo(2)) == Some(CpuNo(2))
-        && job.cpu(TaskNo(4)) == None
-}
-
-#[test]
-fn holds_its_parts(rt: HostRuntime) -> Result<(), Fail> {
-    let job = busy_job(rt.alloc(), "sched all*40\n")?;
-    assert!(rt; has_declared(&job));
-    assert!(rt; has_lines(&job));
-    assert!(rt; has_tasks(&job));
+    assert!(rt; patches_site(&mut machine));
     Ok(())
 }
 
@@ -228,7 +161,7 @@ fn are_sited_at_d(alloc: Global, job: &Job, k: u32, users: u32) -> Result<bool, 
 #[test]
 fn has_a_desk_after_each_command(rt: HostRuntime) -> Result<(), Fail> {
     let alloc = rt.alloc();
-    let job = busy_job(alloc, "")?;
+    let job = busy_job(alloc)?;
     for (k, users) in &SITED {
         assert!(rt; are_sited_at_d(alloc, &job, *k, *users)?, "{k}");
     }

@@ -24,6 +24,10 @@ class Told(NamedTuple):
     is_ordered: bool = True
 
 
+BUSY = "ftrace 1; func a; func b; func c m; func d; user t function; cpu 0 quantum 9; cpu 1 quantum 1; cpu 2 quantum 2; cpu 3 quantum 3; cpu 4 quantum 4; "
+BUSY += "task 10 cpu 0; after 1; call a; call b; ret; ret; task 11 cpu 1; call b; ret; task 12 cpu 2; call c; call d; after 2; ret; ret; task 13 cpu 3; "
+BUSY += "ctl until 11 2; ctl register t; ctl register t; ctl unregister t; ctl until 10 5; ctl unregister t; "
+
 SCRIPTS = [
     Told("nothing is declared",
         "ftrace 1",
@@ -164,6 +168,30 @@ SCRIPTS = [
     Told("two CPUs under a schedule that ends before the script does",
         "ftrace 1; func a; func b x; cpu 0 quantum 9; cpu 1 quantum 9; task 10 cpu 0; call a; ret; task 11 cpu 1; call b; ret; sched 1*4 0*6",
         {"log": "0 enter 11.1 normal b -; 1 enter 10.1 normal a -; 2 body 10.1 a nop; stopped"}, False),
+    Told("two CPUs that wait for commands, and control for one of them",
+        "ftrace 1; cpu 0 quantum 50; cpu 1 quantum 50; task 10 cpu 0; softirq; iret; after 2; task 11 cpu 1; after 1; irq; iret; ctl pid 10; "
+        "ctl until 11 3; ctl maxdepth 2",
+        {"log": "0 begin 1; 1 return 1 ok; 2 begin 2; 3 return 2 ok; end"}),
+    Told("two CPUs and control that wait for one another in turn",
+        "ftrace 1; func a; func b; user gr graph; cpu 0 quantum 100; cpu 1 quantum 100; task 10 cpu 0; after 1; call a; call b; ret; after 3; ret; "
+        "call a; ret; task 11 cpu 1; after 4; call b; ret; ctl register gr; ctl until 10 4; ctl unregister gr; ctl register gr; ctl until 10 8; "
+        "ctl maxdepth 1; ctl until 11 3; ctl unregister gr",
+        {"log": "0 begin 1; 1 return 1 ok; 2 enter 10.1 normal a -; 3 back 10.1 gr; 4 back-end 10.1 gr; 5 body 10.1 a own gr; 6 enter 10.2 normal b 10.1; "
+                "7 back 10.2 gr; 8 back-end 10.2 gr; 9 body 10.2 b own gr; 10 leave 10.2; 11 exit 10.2 gr 7; 12 exit-end 10.2 gr; 13 ret 10.2 10.1; "
+                "14 begin 2; 15 return 2 ok; 16 begin 3; 17 return 3 ok; 18 leave 10.1; 19 ret 10.1 -; 20 enter 10.3 normal a -; 21 back 10.3 gr; "
+                "22 back-end 10.3 gr; 23 body 10.3 a own gr; 24 leave 10.3; 25 exit 10.3 gr 21; 26 exit-end 10.3 gr; 27 ret 10.3 -; 28 begin 4; "
+                "29 return 4 ok; 30 enter 11.1 normal b -; 31 back 11.1 gr; 32 back-end 11.1 gr; 33 body 11.1 b own gr; 34 leave 11.1; 35 exit 11.1 gr 31; "
+                "36 exit-end 11.1 gr; 37 ret 11.1 -; 38 begin 5; 39 return 5 ok; end"}),
+    Told("five CPUs, of which one has a task without acts and one has none",
+        BUSY + "sched all*1000",
+        {"log": "0 enter 11.1 normal b -; 1 enter 12.1 normal c -; 2 body 11.1 b nop; 3 body 12.1 c nop; 4 leave 11.1; 5 enter 12.2 normal d 12.1; 6 ret 11.1 -; "
+                "7 body 12.2 d nop; 8 begin 1; 9 return 1 ok; 10 begin 2; 11 return 2 already; 12 begin 3; 13 enter 10.1 normal a -; 14 leave 12.2; "
+                "15 ret 12.2 12.1; 16 body 10.1 a own t; 17 leave 12.1; 18 ret 12.1 -; 19 enter 10.2 normal b 10.1; 20 body 10.2 b nop; 21 leave 10.2; "
+                "22 ret 10.2 10.1; 23 leave 10.1; 24 ret 10.1 -; 25 return 3 ok; 26 begin 4; 27 return 4 not-there; end"}, False),
+    Told("five CPUs: the third steps, then control, then the second",
+        BUSY + "sched 2*30 k*3 1*9",
+        {"log": "0 enter 12.1 normal c -; 1 body 12.1 c nop; 2 enter 12.2 normal d 12.1; 3 body 12.2 d nop; 4 enter 11.1 normal b -; 5 body 11.1 b nop; "
+                "6 leave 11.1; 7 ret 11.1 -; stopped"}, False),
     Told("a leaf, and a block in a block",
         "ftrace 1; func a; func b; user g graph; cpu 0 quantum 100; task 10 cpu 0; after 1; call a; call b; ret; call b; call a; ret; ret; ret; ctl register g",
         {"graph": "# user g;  0)      10 |          | a() {;  0)      10 |        4 |   b();;  0)      10 |          |   b() {;  0)      10 |        4 |     a();; "

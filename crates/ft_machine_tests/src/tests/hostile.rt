@@ -1,7 +1,7 @@
 //! Schedules that hold an actor at each moment, while another goes on: what a CPU sees of a command
 //! that is half carried out, and what control waits for. Each history keeps the rules of callbacks.
 
-use super::jobs::{job_of, most_users};
+use super::jobs::job_of;
 use ft_base::{CpuNo, NoMemory, Who};
 use ft_job::Job;
 use ft_machine::{Machine, replay};
@@ -196,13 +196,5 @@ fn keeps_rules_at_each_quantum(rt: HostRuntime) -> Result<(), Fail> {
     for (before, after) in &AROUND_QUANTA {
         assert!(rt; broken_quantum(alloc, before, after)? == None);
     }
-    Ok(())
-}
-
-#[test]
-fn keeps_rules_with_the_most_users(rt: HostRuntime) -> Result<(), Fail> {
-    let alloc = rt.alloc();
-    let job = most_users(alloc)?;
-    assert!(rt; replays_by_rules(alloc, &job)?);
     Ok(())
 }

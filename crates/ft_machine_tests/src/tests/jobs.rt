@@ -1,17 +1,11 @@
 //! The jobs of the tests, which are read from scripts.
 
 use ft_base::FuncNo;
-use ft_base::limits::{INPUT_BYTES, USERS};
+use ft_base::limits::INPUT_BYTES;
 use ft_job::Job;
 use ft_script::read_script;
-use std::alloc::{AllocError, Global};
+use std::alloc::Global;
 use std::test::Fail;
-
-pub const A: FuncNo = FuncNo(0);
-
-pub const B: FuncNo = FuncNo(1);
-
-pub const C: FuncNo = FuncNo(2);
 
 pub const D: FuncNo = FuncNo(3);
 
@@ -70,32 +64,7 @@ pub fn job_of(alloc: Global, text: &str) -> Result<Job, Fail> {
     }
 }
 
-/// The busy job, with this line at its end.
-pub fn busy_job(alloc: Global, schedule: &str) -> Result<Job, Fail> {
-    let text = format!(in alloc; "{BUSY}{schedule}")?;
-    job_of(alloc, text.as_str())
-}
-
-/// The text of a line for each of the most users.
-fn line_for_each(alloc: Global, before: &str, after: &str) -> Result<String, AllocError> {
-    let mut text = String::new(alloc);
-    for user in 0..USERS {
-        let line = format!(in alloc; "{before} u{user}{after}\n")?;
-        text.push_str(line.as_str())?;
-    }
-    Ok(text)
-}
-
-/// The most users, which are all registered before a task calls the function that they trace.
-pub fn most_users(alloc: Global) -> Result<Job, Fail> {
-    let users = line_for_each(alloc, "user", " function")?;
-    let commands = line_for_each(alloc, "ctl register", "")?;
-    let task = format!(in alloc; "cpu 0 quantum 100\ntask 10 cpu 0\nafter {USERS}\ncall a\nret\n")?;
-    let text = format!(in alloc; "ftrace 2\nfunc a\n{users}{task}{commands}")?;
-    job_of(alloc, text.as_str())
-}
-
-/// Nothing is declared.
-pub fn empty_job(alloc: Global) -> Result<Job, Fail> {
-    job_of(alloc, "ftrace 1\n")
+/// The busy job.
+pub fn busy_job(alloc: Global) -> Result<Job, Fail> {
+    job_of(alloc, BUSY)
 }
