@@ -21,6 +21,8 @@ REFUSED = {
 1 ftrace 3; ftrace 2
 """,
     "syntax": """
+2 ftrace 1; func .a
+2 ftrace 1; func a-b
 2 ftrace 1; ftrace 1
 2 ftrace 1; ftrace 2
 2 ftrace 2; ftrace 1
@@ -210,7 +212,7 @@ REFUSED_BYTES = [
     (b"ftrace 3", "line 1: syntax"), (b"ftrace 1\nfunc a", "line 2: syntax"), (b"ftrace 1\n# x", "line 2: syntax"), (b"ftrace 1\n ", "line 2: syntax"),
     (b"ftrace 1\nfunc a\nfunc a", "line 3: syntax"), (b"ftrace 2\ntramps 65", "line 2: syntax"),
     (b"ftrace 1\nfunc a\ncpu 0 quantum 5\ntask 10 cpu 0\ncall a\nret", "line 6: syntax"),
-    (b"ftrace 1\n\x80\n", "line 2: syntax"), (b"ftrace 1\n# \x80\n\x80\n", "line 3: syntax"),
+    (b"ftrace 1\n\x80\n", "line 2: syntax"), (b"ftrace 1\nfunc caf\xc3\xa9\n", "line 2: syntax"), (b"ftrace 1\n# \x80\n\x80\n", "line 3: syntax"),
 ]
 
 IN_ANY_FORM = "ftrace 1; func read; func ext3_read ext3; func snd_play snd; user t function; ctl filter t >> !*:mod:!ext3; ctl filter t > zz*; ctl filter t > 4"
