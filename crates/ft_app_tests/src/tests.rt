@@ -4,7 +4,6 @@
 mod ends;
 mod faults;
 mod lanes;
-mod rings;
 mod running;
 
 /// The most bytes that one call moves when the size is no matter, and room for every text here.

@@ -42,28 +42,6 @@ ctl register e
 ctl load m
 ";
 
-/// Two commands in one lane, and a third in another.
-const LANES: &str = "ftrace 1
-func a
-user t function
-user s function
-lane 0
-ctl register t
-ctl unregister t
-lane 1
-ctl register s
-";
-
-/// The log of its replay, in the order of the lines.
-const LANES_LOG: &[u8] = b"0 begin 1 lane 0
-1 return 1 ok
-2 begin 2 lane 0
-3 return 2 ok
-4 begin 3 lane 1
-5 return 3 ok
-end
-";
-
 static FORMS: [Form; 7] = [
     Form::Log,
     Form::Function,
@@ -229,15 +207,6 @@ fn a_full_sink_has_a_beginning(rt: HostRuntime) -> Result<(), Fail> {
     for form in &FORMS {
         assert!(rt; is_cut_off(alloc, &job, &outcome, *form)?);
     }
-    Ok(())
-}
-
-#[test]
-fn a_log_tells_the_lanes(rt: HostRuntime) -> Result<(), Fail> {
-    let alloc = rt.alloc();
-    let job = job_of(alloc, LANES)?;
-    let outcome = replay(alloc, &job)?;
-    assert!(rt; is_written(alloc, &job, &outcome, Form::Log, LANES_LOG)?);
     Ok(())
 }
 

@@ -155,20 +155,3 @@ fn order_of_answers(rt: HostRuntime) {
         assert!(rt; answers_so(&rt, row), "{row:?}");
     }
 }
-
-/// What is printed of the script that the number 1 gives, which comes to its end.
-const SUMMARY: &[u8] = b"seed 1\nitems 109693\ncalls 9600\nbacks 17205\nrefused 6493\n\
-    exits 15095\nmissed 0\nend\n";
-
-/// Whether these words print that; the source, which would fail, isn't asked.
-fn summarizes<R: AllocGlobal + Threads + Wait + Sync>(rt: &R, words: &[&str]) -> bool {
-    let ended = call_between(rt, words, b"not a script", by((PIECE, 1)), by((PIECE, 0)));
-    ended.is(0, SUMMARY) && ended.reader.calls == 0
-}
-
-/// A generated script is accepted and comes to its end.
-#[test]
-fn generated_scripts(rt: HostRuntime) {
-    assert!(rt; summarizes(&rt, &["bulk"]));
-    assert!(rt; summarizes(&rt, &["bulk", "--seed", "1"]));
-}

@@ -2,7 +2,7 @@
 //! their turns; a gate lets them take these in each order that is a merge of the lanes.
 
 use super::PIECE;
-use super::ends::{by, call_between, call_under};
+use super::ends::{by, call_under};
 use ft_io::Gate;
 use std::sync::Wait;
 use std::sync::atomic::{AtomicBool, AtomicU64, Ordering};
@@ -137,17 +137,4 @@ fn prints_the_order_of_turns(rt: HostRuntime) {
             "{row:?}"
         );
     }
-}
-
-/// Whether a replay prints this text.
-fn replays_so<R: AllocGlobal + Threads + Wait + Sync>(rt: &R, words: &[&str], text: &[u8]) -> bool {
-    let whole = by((PIECE, 0));
-    call_between(rt, words, TWO_TOOLS, whole, whole).is(0, text)
-}
-
-/// A replay takes the commands in the order of their lines.
-#[test]
-fn replays_the_order_of_lines(rt: HostRuntime) {
-    assert!(rt; replays_so(&rt, &["replay"], TURNED[0].1));
-    assert!(rt; replays_so(&rt, &["replay", "--print", "enabled"], STAYED));
 }
