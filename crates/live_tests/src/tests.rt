@@ -1,13 +1,9 @@
-//! Seats that step in turn, from threads of the tests, and from those that `live_threads` and
-//! `live_lanes` start.
+//! Gates that the threads of `live_threads` and `live_lanes` pass: that several come through at once, and
+//! how often each passes. What such threads print stands in rows of the pages and of
+//! tools/ftlog/checks.
 
-mod histories;
 mod jobs;
 mod lanes;
 mod meeting;
-mod order;
-mod rings;
-mod table;
 mod tally;
 mod threads;
-mod turns;

@@ -1,14 +1,13 @@
-//! A run that has one history, a run that only several threads come through, and the passes of gates.
+//! A run that only several threads come through, and the passes of gates.
 
 ghost use Rattle.live_table.specs.Seats.{AreSeats, ControlSitsAt};
 
-use super::histories::is_replays;
-use super::jobs::{calls_alone, commands_alone, one_order, three_at_once};
+use super::jobs::{CALLS, COMMANDS, THREE_AT_ONCE, job_of};
 use super::meeting::Meeting;
 use super::tally::Tally;
 use ft_base::{Actor, CpuNo, NoMemory};
 use ft_hist::History;
-use ft_io::{Gate, OpenGate};
+use ft_io::Gate;
 use ft_job::Job;
 use ft_machine::Machine;
 use live_seats::Ended;
@@ -48,38 +47,13 @@ fn gathered(alloc: Global, live: Live, ended: Ended) -> Result<History, NoMemory
     }
 }
 
-/// Whether a run of a job has so many items, and is the replay.
-fn is_replay_of<R: Threads + Wait + Sync>(
-    rt: &R,
-    alloc: Global,
-    job: &Job,
-    items: u32,
-) -> Result<bool, Fail> {
-    let history = run(rt, alloc, job, &OpenGate)?;
-    Ok(history.len() == items && is_replays(alloc, job, &history)?)
-}
-
-/// Whether that is so for the job whose items have one order.
-fn is_the_replay<R: Threads + Wait + Sync>(rt: &R, alloc: Global) -> Result<bool, Fail> {
-    let job = one_order(alloc)?;
-    // Two of each of the five commands; eight of each of the four calls, less the two of the exit that
-    // doesn't come.
-    is_replay_of(rt, alloc, &job, 40)
-}
-
-#[test]
-fn one_order_is_the_replays(rt: HostRuntime) -> Result<(), Fail> {
-    assert!(rt; is_the_replay(&rt, rt.alloc())?);
-    Ok(())
-}
-
 /// How many items a run of three actors at once has, each of which passes this gate.
 fn items_of_three<R: Threads + Wait + Sync>(
     rt: &R,
     alloc: Global,
     meeting: &Meeting,
 ) -> Result<u32, Fail> {
-    let job = three_at_once(alloc)?;
+    let job = job_of(alloc, THREE_AT_ONCE)?;
     let history = run(rt, alloc, &job, meeting)?;
     Ok(history.len())
 }
@@ -90,9 +64,9 @@ fn threads_pass_together(rt: HostRuntime) -> Result<(), Fail> {
     let items = items_of_three(&rt, rt.alloc(), &meeting)?;
     // Each came, so the gate was passed, and none gave up, so they were there together.
     assert!(rt; meeting.came() == 3 && !meeting.failed());
-    // Enter, Body, Leave and Ret of each of the 20 calls, and the command's two. Which calls are called
+    // Enter, Body, Leave and Ret of each of the six calls, and the command's two. Which calls are called
     // back is the threads' choice.
-    assert!(rt; items >= 82);
+    assert!(rt; items >= 26);
     Ok(())
 }
 
@@ -155,19 +129,19 @@ fn passes_of_cpus<R: Threads + Wait + Sync>(
 
 /// Whether control passes once a step, if no CPU is waited for.
 fn passes_with_commands<R: Threads + Wait + Sync>(rt: &R, alloc: Global) -> Result<bool, Fail> {
-    let job = commands_alone(alloc)?;
+    let job = job_of(alloc, COMMANDS)?;
     passes_of_control(rt, alloc, &job)
 }
 
 /// Whether each CPU passes once a step, if nothing is asked for and control has no step.
 fn passes_with_calls<R: Threads + Wait + Sync>(rt: &R, alloc: Global) -> Result<bool, Fail> {
-    let job = calls_alone(alloc)?;
+    let job = job_of(alloc, CALLS)?;
     passes_of_cpus(rt, alloc, &job)
 }
 
 /// How often each passes if all are under way. How often control asks is the threads' choice.
 fn passes_with_both<R: Threads + Wait + Sync>(rt: &R, alloc: Global) -> Result<[u64; 5], Fail> {
-    let job = three_at_once(alloc)?;
+    let job = job_of(alloc, THREE_AT_ONCE)?;
     passes(rt, alloc, &job)
 }
 
