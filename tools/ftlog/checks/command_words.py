@@ -1,7 +1,7 @@
 """Words of the command line, in its language and not, each run by the program.
 
-They are those of the tables of docs/LANGUAGE.md, those of the tests of ft_words, and those of the tables below, which
-have bytes and sizes that the former haven't. Words that aren't in the language give None in place of an order.
+They are those of the tables of docs/LANGUAGE.md and those of the lists below. Words that aren't in the language give None in place of
+an order.
 """
 import functools
 import os
@@ -20,9 +20,25 @@ BAD_WORDS += ["run ''", "'run '", "replay '--print= log'", "bulk --seed '1\n'", 
 NOT_TEXT = [[b"\xff"], [b"replay\xff"], [b"\xff", b"replay"], [b"replay", b"\xff"], [b"replay", b"--print", b"log\x80"]]
 NOT_TEXT += [[b"--print=log", b"--", b"replay", b"\xc3"], [b"replay", b"\xc0\xaf"], [b"replay", b"\xed\xa0\x80"], [b"bulk", b"--seed", b"1\xff"]]
 HUGE = [["replay"] * 1000, ["bulk", *["--seed", "1"] * 1000], ["replay", "x" * 100_000], ["bulk", "--seed", "0" * 100_000]]
-LISTS = re.compile(r"static (GOOD|BAD)\w*: [^\n]*?; (\d+)\] = \[\n(.*?)\n\];", re.S)
-LIST = re.compile(r'&\[((?:\s*"[^"]*",?)*)\s*\]')
-ORDER = re.compile(r"Order::(Replay|Run|Bulk)\((?:Form::)?(\w+)\)")
+GOOD = """
+replay --print=log; replay --print=function; replay --print graph; replay --print=graph; replay --print profile; replay --print enabled; replay --print=enabled
+replay --print modules; replay --print rings; replay --print=rings; --print graph replay; --print graph -- replay; --print graph replay --; replay --print graph --
+--print=enabled replay; --print=enabled -- replay; --print=enabled replay --; replay --print=enabled --; run --; run --print=log; run --print function
+run --print graph; run --print=graph; run --print=profile; run --print enabled; run --print=rings; --print graph run; --print graph -- run; --print=enabled run --
+run --print=enabled --; -- bulk; bulk --; bulk --seed=7; --seed 7 bulk; --seed 7 bulk --; bulk --seed 7 --; --seed=7 -- bulk; --seed=7 bulk --; bulk --seed=7 --
+bulk --seed=0; bulk --seed 1; bulk --seed 007; bulk --seed=007; bulk --seed 999999999; bulk --seed 1000000000; bulk --seed 1234567890; bulk --seed 0123456789
+bulk --seed 0000000000; bulk --seed=0000000001; bulk --seed 4294967295; bulk --seed=4294967295
+"""
+BAD = """
+Run; Replay; repla; Bulk; 'bulk '; --; --print log; --seed 1; replay -h; replay --help; bulk --help; run replay; run run; run --help; bulk bulk; run -- run
+-- run --; -- run --print log; replay -- replay; replay -- --; -- replay --; -- replay --print log; -- bulk --seed 1; replay -- --print=log; bulk -- --seed=1
+--seed -- bulk; replay --print -- log; bulk --seed -- 1; replay --prin log; bulk --see 1; bulk -s 1; replay --print=log --print=log; run --print=log --print=log
+replay --print log --print graph; bulk --seed=1 --seed=1; replay --print log -- -- replay; --print log -- replay -- -- --; replay a b c d e f g h i j
+replay --print ''; replay --print xml; replay --print Log; replay --print lo; replay --print logs; replay '--print=log '; replay --print==log
+replay --print functions; replay --print module; replay --print 1; run --print; run --print=; run --print xml; bulk --seed ''; bulk --seed -1; bulk --seed=+1
+bulk --seed=-1; bulk --seed '1 '; bulk --seed 0x1; bulk --seed 1_000; bulk --seed one; bulk --seed=4294967296; bulk --seed 9999999999; bulk --seed=00000000000
+bulk --seed 12345678901; bulk --seed 18446744073709551617; run --seed=1; replay --print log --seed 1; run --print log --seed 1; bulk --print=log --seed=1
+"""
 
 
 class Order(NamedTuple):
@@ -40,11 +56,6 @@ def order_of(words):
     return Order(mode, seed=int(said.get("seed", 1))) if mode == "bulk" else Order(mode, form=said.get("print", "log"))
 
 
-def test_order(mode, value):
-    """The order of a test, by its mode and by the name of its form, or by its seed."""
-    return Order("bulk", seed=int(value)) if mode == "Bulk" else Order(mode.lower(), form=value.lower())
-
-
 def page_words(rows, page):
     """The words of the page's tables with the columns `words` and `in the language`."""
     found = [row for row in check_docs.table_rows(page.read_text()) if row[1][:2] == ["words", "in the language"]]
@@ -56,18 +67,11 @@ def page_words(rows, page):
             yield f"{page.name}, line {number}", words, order_of(words) if cells[1].startswith("yes") else None
 
 
-def test_words(rows, path):
-    """The words of the lists in the tests; each list says how many it has, and each good one which order it gives."""
-    found = LISTS.findall(path.read_text())
-    if {kind for kind, _, _ in found} != {"GOOD", "BAD"}:
-        rows.row(path.name, ["it hasn't the words that are in the language and those that aren't"])
-    for kind, count, text in found:
-        lists = [re.findall(r'"([^"]*)"', words) for words in LIST.findall(text)]
-        orders = [test_order(*found) for found in ORDER.findall(text)] if kind == "GOOD" else [None] * len(lists)
-        if not len(lists) == len(orders) == int(count):
-            rows.row(path.name, [f"of {count} lists of words {len(lists)} were found, and {len(orders)} orders"])
-        for words, order in zip(lists, orders):
-            yield path.name, words, order
+def listed_words():
+    """The words of the blocks above, where `; ` or a line's end stands between two lists."""
+    for name, block in (("good", GOOD), ("bad", BAD)):
+        for words in re.split("; |\n", block.strip("\n")):
+            yield name, shlex.split(words), order_of(shlex.split(words)) if name == "good" else None
 
 
 def other_words():
@@ -117,7 +121,7 @@ def try_words(rows, program, example, name, words, order):
 
 def check(rows, program, top):
     """A row for each list of words."""
-    lists = [*page_words(rows, top / "docs" / "LANGUAGE.md"), *test_words(rows, top / "crates" / "vocabulary_tests" / "src" / "words.rt"), *other_words()]
+    lists = [*page_words(rows, top / "docs" / "LANGUAGE.md"), *listed_words(), *other_words()]
     for where, words, order in lists:
         said = " ".join(words) if where != "not text" else repr(b" ".join(words))
         try_words(rows, program, top / "examples" / EXAMPLE, f"words: {said[:80] or 'none'} ({where})", words, order)
