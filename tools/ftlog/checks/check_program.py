@@ -1,7 +1,7 @@
 """Runs the built program at its edges, where no proof reaches:
 
 - the words of the command, in the language and not: those of command_words.py;
-- scripts with what is printed for them, those of script_texts.py, and those that are refused or nearly so, of refused_scripts.py;
+- scripts with what is printed for them, those of script_texts.py, and those that are refused or nearly so, of refused_scripts.py and line_forms.py;
 - which functions a user traces, by patterns, filter texts and edits: the rows of selected_functions.py;
 - each status with its cause: streams that fail, too long an input, and memory from too little to begin up to ample;
 - each limit of the language reached and passed, in at most a hundred times the time that it takes now, and all at once;
@@ -19,7 +19,8 @@ import shlex
 from typing import Callable, NamedTuple, Optional
 
 from ftlog import runs
-from ftlog.checks import check_docs, command_words, full_scripts, judging, lane_runs, memory_limits, random_scripts, refused_scripts, script_texts, selected_functions, text_lines
+from ftlog.checks import check_docs, command_words, full_scripts, judging, lane_runs, line_forms, memory_limits, random_scripts
+from ftlog.checks import refused_scripts, script_texts, selected_functions, text_lines
 from ftlog.make import odd_lines, script_forms as forms
 
 SCRIPT = b"ftrace 1\nfunc a\nuser tr function\ncpu 0 quantum 100\ntask 10 cpu 0\nafter 1\ncall a\nret\nctl register tr\n"
@@ -569,6 +570,7 @@ def run(options):
     command_words.check(rows, options.program, options.top)
     script_texts.check(rows, options.program)
     refused_scripts.check(rows, options.program)
+    line_forms.check(rows, options.program)
     selected_functions.check(rows, options.program)
     check_streams(rows, options.program)
     check_memory(rows, options.program)
