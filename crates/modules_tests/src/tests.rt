@@ -1,4 +1,0 @@
-//! Small tables of functions, users and scripts, with what is to come of them.
-
-mod coverage;
-mod lines;
