@@ -1,5 +1,5 @@
-//! A text in memory and in a sink, of a whole history and of what is kept of it, and the log of items that are
-//! no history of a job.
+//! A text in memory and in a sink, and the log of items that are no history of a job. What is written of what a
+//! replay keeps, and to a sink that is full, is asked of the program.
 
 ghost use Rattle.ft_hist.specs.Rules.{IsLegal};
 
@@ -8,13 +8,11 @@ use ft_base::{Answer, Item, NoMemory};
 use ft_hist::History;
 use ft_io::MemSink;
 use ft_job::Job;
-use ft_machine::{Outcome, replay, replay_into};
+use ft_machine::{Outcome, replay};
 use ft_script::read_script;
 use std::alloc::Global;
 use std::test::Fail;
-use trace_print::{
-    Form, Kept, TextFail, print, print_rings, write_kept, write_log, write_rings, write_text,
-};
+use trace_print::{Form, TextFail, print, print_rings, write_log, write_rings, write_text};
 use trace_rings::fold_rings;
 
 /// Room for each text here.
@@ -133,28 +131,6 @@ fn a_sink_gets_what_is_printed(rt: HostRuntime) -> Result<(), Fail> {
     Ok(())
 }
 
-/// Whether what a replay keeps for a form comes to the text that the whole history has.
-fn is_kept(alloc: Global, job: &Job, outcome: &Outcome, form: Form) -> Result<bool, Fail>
-    requires { IsLegal job.now outcome.now.history.items }
-{
-    let mut kept = Kept::for_form(alloc, job, form)?;
-    let ended = replay_into(alloc, job, &mut kept)?;
-    let mut sink = sink_of(alloc, ROOM)?;
-    let written = write_kept(alloc, job, &kept, ended, form, &mut sink);
-    Ok(written == Ok(()) && is_written(alloc, job, outcome, form, sink.bytes())?)
-}
-
-#[test]
-fn what_is_kept_is_enough(rt: HostRuntime) -> Result<(), Fail> {
-    let alloc = rt.alloc();
-    let job = each_kind(alloc)?;
-    let outcome = replay(alloc, &job)?;
-    for form in &FORMS {
-        assert!(rt; is_kept(alloc, &job, &outcome, *form)?);
-    }
-    Ok(())
-}
-
 /// Whether rings are printed in their own text, and a sink gets it.
 fn are_printed(alloc: Global, job: &Job, outcome: &Outcome) -> Result<bool, Fail>
     requires { IsLegal job.now outcome.now.history.items }
@@ -173,40 +149,6 @@ fn rings_are_printed(rt: HostRuntime) -> Result<(), Fail> {
     let job = each_kind(alloc)?;
     let outcome = replay(alloc, &job)?;
     assert!(rt; are_printed(alloc, &job, &outcome)?);
-    Ok(())
-}
-
-/// Whether a sink that is full after three bytes gets these of a text.
-fn is_begun(
-    alloc: Global,
-    job: &Job,
-    outcome: &Outcome,
-    form: Form,
-    text: &[u8],
-) -> Result<bool, Fail>
-    requires { IsLegal job.now outcome.now.history.items }
-{
-    let mut sink = sink_of(alloc, 3)?;
-    let fault = write(alloc, job, outcome, form, &mut sink);
-    Ok(fault == Err(TextFail::Sink) && sink.bytes() == &text[..3.min(text.len())])
-}
-
-/// Whether a sink that is full gets the beginning of what a form prints.
-fn is_cut_off(alloc: Global, job: &Job, outcome: &Outcome, form: Form) -> Result<bool, Fail>
-    requires { IsLegal job.now outcome.now.history.items }
-{
-    let text = print(alloc, job, &outcome.history, outcome.ended, form)?;
-    is_begun(alloc, job, outcome, form, text.as_slice())
-}
-
-#[test]
-fn a_full_sink_has_a_beginning(rt: HostRuntime) -> Result<(), Fail> {
-    let alloc = rt.alloc();
-    let job = each_kind(alloc)?;
-    let outcome = replay(alloc, &job)?;
-    for form in &FORMS {
-        assert!(rt; is_cut_off(alloc, &job, &outcome, *form)?);
-    }
     Ok(())
 }
 
