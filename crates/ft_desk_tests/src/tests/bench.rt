@@ -7,8 +7,6 @@ ghost use Rattle.ft_desk.specs.Commands.{IsInShape};
 use ft_base::limits::{FUNCS, TRAMPS, USERS};
 use ft_base::{Answer, FuncNo, Kind, UserNo};
 use ft_desk::{Command, Desk, Plan, Shape};
-use site_bytes::Insn;
-use site_counts::Row;
 use site_set::{Edit, SiteSet};
 use std::alloc::{AllocError, Global};
 use std::marker::Model;
@@ -32,10 +30,6 @@ pub type Mark = (bool, bool, bool);
 pub const REPLACE: Mark = (false, false, false);
 
 pub const APPEND: Mark = (true, false, false);
-
-pub const REMOVE: Mark = (true, true, false);
-
-pub const REMOVE_ANEW: Mark = (false, true, false);
 
 pub const CLEAR: Mark = (false, false, true);
 
@@ -167,13 +161,6 @@ impl Bench {
         UserNo(user)
     }
 
-    fn func(&self, rt: &impl Abort, f: u32) -> FuncNo
-        ensures { result.0 < self.now.declared.funcs }
-    {
-        assert!(rt; f < self.funcs);
-        FuncNo(f)
-    }
-
     fn edit(&self, rt: &impl Abort, alloc: Global, mark: Mark, bits: u64) -> Result<Edit, Fail>
         ensures { IfOk result (λ edit. length edit.set ≡ self.now.declared.funcs) }
     {
@@ -187,32 +174,8 @@ impl Bench {
         })
     }
 
-    pub fn target(&self, rt: &impl Abort, f: u32) -> Insn {
-        self.desk.target(self.func(rt, f))
-    }
-
-    pub fn row(&self, rt: &impl Abort, f: u32) -> Row {
-        self.desk.row(self.func(rt, f))
-    }
-
-    /// The functions that a user matches, as bits.
-    pub fn matched(&self, rt: &impl Abort, user: u32) -> u64 {
-        let pair = self.desk.pair(self.user(rt, user));
-        let mut bits = 0u64;
-        for f in 0..64 {
-            if f < pair.size() && pair.matches(f) {
-                bits |= 1 << f;
-            }
-        }
-        bits
-    }
-
     pub fn last(&self) -> &Plan {
         self.desk.last()
-    }
-
-    pub fn commands(&self) -> u32 {
-        self.desk.commands()
     }
 }
 
