@@ -1,6 +1,6 @@
-//! Tests of the actors, control and the CPUs, and of the machine that they are together: a module for
-//! each crate. They have a crate of their own, since a crate is proved once more with the tests inside
-//! it.
+//! Tests of control by itself: what it stores, worked out by hand. They have a crate of their own, since a
+//! crate is proved once more with the tests inside it. CPUs and whole machines are made and stepped by each
+//! replay of a row, and by ft_machine_tests.
 #![tactic(auto)]
 
 #[cfg(test)]

@@ -1,8 +1,6 @@
-//! A module for each crate that is tested, and the user that two of them have.
+//! Control alone, and the user that it has.
 
 mod controls;
-mod cpus;
-mod worlds;
 
 use ft_base::Kind;
 use std::alloc::{AllocError, Global};
