@@ -2,7 +2,6 @@
 texts, edits one after the other, and sets at the borders of words. What the other program, which was written from the same rules by
 other hands, prints is the same.
 """
-from ftlog import runs
 from ftlog.checks import refused_scripts, script_texts
 from ftlog.make import script_forms as forms
 
