@@ -106,7 +106,7 @@ def acts_log(count):
 
 
 def check_streams(rows, program):
-    """The summary is the one that command_words counts."""
+    """A row for each stream."""
     for stream in [*replay_streams(), *bulk_streams(command_words.summary(program, 1)), *large_streams()]:
         came = runs.answer(["bash", "-c", stream.shell, "bash", program, *shlex.split(stream.words)], stream.text)
         rows.row(f"streams: {stream.what}", runs.faults(came, stream.status, stream.out), came.seconds)

@@ -4,7 +4,7 @@ import sys
 import unittest
 
 from ftlog import runs
-from ftlog.make import bulk_script, script_forms, viewed_scripts
+from ftlog.make import script_forms, viewed_scripts
 from ftlog.proving import cost_table, crate_list
 from ftlog.tests import wrong_logs
 from ftlog.tests.called import FT, ft
@@ -68,8 +68,7 @@ class Words(unittest.TestCase):
 class Makers(unittest.TestCase):
     def test_scripts(self):
         """What is written is the script of the seed."""
-        for words, wanted in [(["plain", "--seed", "7"], script_forms.script(7)), (["viewed", "--seed", "7", "--rings"], viewed_scripts.ringed(7)),
-                              (["bulk"], bulk_script.script(1))]:
+        for words, wanted in [(["plain", "--seed", "7"], script_forms.script(7)), (["viewed", "--seed", "7", "--rings"], viewed_scripts.ringed(7))]:
             self.assertEqual(ft("make", *words).out.encode("latin-1"), wanted)
 
     def test_steps(self):

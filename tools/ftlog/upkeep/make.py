@@ -4,6 +4,5 @@ PARTS = {
     "plain": "ftlog.make.script_forms",
     "broken": "ftlog.make.broken_scripts",
     "viewed": "ftlog.make.viewed_scripts",
-    "bulk": "ftlog.make.bulk_script",
     "manuals": "ftlog.make.manuals",
 }
