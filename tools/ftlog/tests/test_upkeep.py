@@ -10,8 +10,8 @@ from ftlog.tests import wrong_logs
 from ftlog.tests.called import FT, ft
 from ftlog.tests.runs_in_process import EXAMPLES, Case
 
-PARTS = [[name, part] for name in ("check", "make", "samples") for part in FT.importlib.import_module(f"ftlog.upkeep.{name}").PARTS]
-TOOLS = [[name] for name in ("cost", "definitions", "further", "provers", "signatures", "views")] + PARTS
+PARTS = [[name, part] for name in ("check", "make") for part in FT.importlib.import_module(f"ftlog.upkeep.{name}").PARTS]
+TOOLS = [[name] for name in ("cost", "definitions", "further", "provers", "samples", "signatures", "views")] + PARTS
 NOTHING = "/nowhere/program"
 # Words that none of these tools can do anything for.
 WRONG = [
@@ -20,7 +20,7 @@ WRONG = [
     ["check", "rings", "--rows", "1", "--program", NOTHING], ["check", "rings", "--count", "x"], ["check", "rings", "--judge", NOTHING, NOTHING],
     ["check", "pages"], ["check", "runs", NOTHING, "--count", "1"], ["check", "runs", sys.executable, "--count", "1", "--sources", "others"], ["check", "hostile", "--count", "1", "--judge", NOTHING], ["check", "hostile"], ["check", "other"],
     ["make", "plain"], ["make", "plain", "--seed", "x"], ["make", "manuals", "x"], ["make", "viewed", "--seed", "1", "--lanes", "--rings"], ["make", "others"],
-    ["samples", "word", NOTHING, "rows", "FILE"], ["samples", "word", sys.executable, "more", "FILE"], ["samples", "word", sys.executable],
+    ["samples"], ["samples", "more"], ["samples", "rows", "1"], ["samples", "random"], ["samples", "random", "1", "x"],
     ["further", "nothing"], ["cost", NOTHING], ["cost", "--write"], ["definitions", "--all"], ["definitions", "nothing"], ["views", "x.ft", "x.log", "log"], ["nothing"],
 ]
 
@@ -32,7 +32,7 @@ class Words(unittest.TestCase):
             came = ft(*words, "--help")
             self.assertEqual((came.status, came.err), (0, ""), words)
             self.assertTrue(came.out.startswith(f"usage: tools/ft {' '.join(words)} "), words)
-        for name in ("check", "make", "samples"):
+        for name in ("check", "make"):
             told = ft(name).out
             for part in FT.importlib.import_module(f"ftlog.upkeep.{name}").PARTS:
                 self.assertIn(f"\n    {part} ", told)

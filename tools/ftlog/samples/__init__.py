@@ -1,1 +1,0 @@
-"""Samples of the word machine, written as proof files."""
