@@ -7,7 +7,6 @@ import tempfile
 import unittest
 
 from ftlog import programs, runs
-from ftlog.commands import install
 from ftlog.tests.called import FT, ft, program
 
 ECHO = 'echo "${0##*/}" "$@"; cat'  # tells its words and its input
@@ -23,10 +22,11 @@ class Door(unittest.TestCase):
         room = tempfile.TemporaryDirectory()
         cls.addClassCleanup(room.cleanup)
         cls.top = pathlib.Path(room.name)
-        for path in (install.TOOLS / "ft", install.TOOLS / "prove.py", runs.TOP / install.LIMITS):
-            (cls.top / path.relative_to(runs.TOP)).parent.mkdir(parents=True, exist_ok=True)
-            shutil.copy(path, cls.top / path.relative_to(runs.TOP))
-        shutil.copytree(install.TOOLS / "ftlog", cls.top / "tools" / "ftlog", ignore=shutil.ignore_patterns("tests", "__pycache__"))
+        for file in ("tools/ft", "tools/prove.py", "tools/install.sh", "crates/ft_base/src/limits.rt"):
+            (cls.top / file).parent.mkdir(parents=True, exist_ok=True)
+            shutil.copy(runs.TOP / file, cls.top / file)
+        for folder in ("tools/ftlog", "docs/man", "editors", "kernel"):
+            shutil.copytree(runs.TOP / folder, cls.top / folder, ignore=shutil.ignore_patterns("tests", "__pycache__"))
         (cls.top / "x.ft").write_text(SCRIPT)
         (cls.top / "x.log").write_text(LOG)
 
@@ -87,6 +87,30 @@ class Door(unittest.TestCase):
         program(self.top, "echo ftoutcomes: no answer: why >&2; exit 1", "ftoutcomes")
         came = self.call("outcomes", "x.ft")
         self.assertEqual((came.status, came.err.splitlines()[1:]), (2, [b"ft outcomes: ftoutcomes: no answer: why"]))
+
+
+    def test_install(self):
+        """What is built is put below a folder, which can be moved; it is replaced and taken away, and nothing of others is."""
+        program(self.top, 'case $2 in ftcore | ftsteps) ;; *) exit 1 ;; esac', "prove")  # tells which programs are built
+        for name in ("ftcore", "ftsteps"):
+            (self.top / "crates" / name / "out").mkdir(parents=True, exist_ok=True)
+            program(self.top / "crates" / name / "out", ECHO, name)
+        script, prefix, moved = self.top / "tools/install.sh", self.top / "pre fix", self.top / "moved"
+        for _ in range(2):
+            came = runs.answer([script, "pre fix"], cwd=self.top)
+            self.assertEqual((came.status, came.err, came.out.count(b"left out: ")), (0, b"", 2))
+        (prefix / "bin" / "other").touch()
+        prefix.rename(moved)
+        for words, wanted in ((["replay", "x.ft"], b"ftcore replay --print log\nftrace 1\nfunc a\n"), (["steps", "x.ft"], b"ftsteps\nftrace 1\nfunc a\n")):
+            self.assertEqual(runs.answer([moved / "bin" / "ft", *words], cwd=self.top)[:3], (0, wanted, b""))
+        self.assertIn(b"install it from the repository", runs.answer([moved / "bin" / "ft", "judge", "x.ft"], cwd=self.top).err)
+        for words, said in ((["moved", "more"], b"[--remove] PREFIX"), ([""], b"is empty"), (["--remove", "."], b"nothing is installed")):
+            came = runs.answer([script, *words], cwd=self.top)
+            self.assertEqual((came.status, came.err.count(b"\n"), said in came.err), (2, 1, True), came)
+        self.assertEqual(runs.answer([script, "--remove", moved], cwd="/").status, 0)
+        self.assertEqual(sorted(path.name for path in moved.rglob("*")), ["bin", "other"])
+        (moved / "bin" / "other").rename(moved / "bin" / "ft")
+        self.assertIn(b"isn't of an earlier install", runs.answer([script, moved], cwd="/").err)
 
 
 class Help(unittest.TestCase):
