@@ -123,19 +123,6 @@ def is_carried_out(command):
     return command.note in (None, "ok") and command.words[0] in CHANGES_SITES
 
 
-def all_targets(script, commands):
-    """The targets of all functions before any command and after each one that began; one that hasn't returned counts as accepted."""
-    desk = Desk(script)
-    found = [desk.targets()]
-    for command in commands:
-        if is_carried_out(command):
-            desk.carry_out(*command.words)
-            found.append(desk.targets())
-        else:
-            found.append(found[-1])
-    return found
-
-
 class Sites:
     """Follows which users are sited at each function, command by command, so that only the sites that change are looked at.
 
