@@ -193,26 +193,3 @@ class Items:
         fields["body"], fields["ran"] = runs, ran
         if own:
             fields["user"], fields["user_kind"] = own[0], self.kinds[own[0]]
-
-
-def line_of(fields):
-    """The line of a log that an item is, by its fields.
-
-    >>> line_of({"place": 4, "item": "refuse", "pid": 10, "call": "10.1", "user": "t", "reason": "pid"})
-    '4 refuse 10.1 t pid'
-    """
-    item = fields["item"]
-    words = [fields["place"], item]
-    if item == "begin":
-        words += [fields["command"], *(["lane", fields["lane"]] if "lane" in fields else [])]
-    elif item == "return":
-        words += [fields["command"], fields["answer"], *(fields[name] for name in ("function", "user") if name in fields)]
-    elif item == "enter":
-        words += [fields["call"], fields["context"], fields["function"], fields["caller"] or "-"]
-    elif item == "body":
-        words += [fields["call"], fields["body"], fields["ran"], *([fields["user"]] if "user" in fields else [])]
-    elif item == "ret":
-        words += [fields["call"], fields["caller"] or "-"]
-    else:
-        words += [fields["call"], *(fields[name] for name in ("user", "reason", "entry") if name in fields)]
-    return " ".join(map(str, words))

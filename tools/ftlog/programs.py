@@ -10,6 +10,7 @@ from ftlog.fault import Fault
 
 NAMES = ("ftcore", "ftjudge", "ftsteps", "ftoutcomes")
 DOOR = ("replay", "run", "bulk", "judge", "steps")  # the tools that only run a program
+FORMS = ("log", "function", "graph", "profile", "enabled", "modules", "rings")  # in which ftcore prints a history
 IS_INSTALLED = not (runs.TOP / "tools" / "prove.py").is_file()
 FT = "ft" if IS_INSTALLED else "tools/ft"  # how the tools are called
 SECONDS = 1_800  # that an unproved build may take

@@ -5,11 +5,10 @@
 - which functions a user traces, by patterns, filter texts and edits, what commands are answered, and what comes of lines that load and
   unload modules: the rows of selected_functions.py, command_answers.py and module_lines.py;
 - each status with its cause: streams that fail, too long an input, and memory from too little to begin up to ample;
-- each limit of the language reached and passed, in at most a hundred times the time that it takes now, and all at once;
+- each limit of size reached and passed, in at most a hundred times the time that it takes now, and all at once;
 - a long history in each printed form;
 - runs by threads: scripts with one order only print what a replay of them prints, scripts with lanes what a replay of their commands in the
-  order of the lock prints (lane_runs.py), and others come to their ends; ftjudge calls each log of these two whole;
-- random scripts, whose forms have to follow from the log (random_scripts.py).
+  order of the lock prints (lane_runs.py), and others come to their ends; ftjudge calls each log of these two whole.
 
 Each row asks for the status and for what is written; nothing may be written to standard error.
 The last line is `edges: N passed, M failed`, and the status is 0 if nothing failed.
@@ -19,10 +18,10 @@ import resource
 import shlex
 from typing import Callable, NamedTuple, Optional
 
-from ftlog import runs
-from ftlog.checks import check_docs, command_answers, command_words, full_scripts, judging, lane_runs, line_forms, memory_limits, module_lines, random_scripts
-from ftlog.checks import refused_scripts, script_texts, selected_functions, text_lines
-from ftlog.make import odd_lines, script_forms as forms
+from ftlog import programs, runs
+from ftlog.checks import check_docs, command_answers, command_words, full_scripts, judging, lane_runs, line_forms, memory_limits, module_lines
+from ftlog.checks import refused_scripts, script_texts, selected_functions
+from ftlog.make import script_forms as forms
 
 SCRIPT = b"ftrace 1\nfunc a\nuser tr function\ncpu 0 quantum 100\ntask 10 cpu 0\nafter 1\ncall a\nret\nctl register tr\n"
 LOG = b"0 begin 1\n1 return 1 ok\n2 enter 10.1 normal a -\n3 back 10.1 tr\n4 back-end 10.1 tr\n"
@@ -193,10 +192,6 @@ def acts(count):
     return script(USER, CPU, "cpu 1 quantum 9", "task 10 cpu 0", half, "task 11 cpu 1", half, ["after 1"] * (count % 2), "ctl register t")
 
 
-def levels(count):
-    return script(USER, TASK, ["call a"] * count, ["ret"] * count, "ctl register t")
-
-
 def levels_in_contexts(count):
     """A quarter of them in each context."""
     quarter, last = ["call a"] * (count // 4), ["call a"] * (count - count // 4 * 3)
@@ -251,82 +246,9 @@ def steps_in_a_wait(count):
     return script(FUNCTION, TASK, CALL, "ctl maxdepth 1", f"sched 0*3 k*{count - 3}")
 
 
-def turns(count):
-    return script(FUNCTION, TASK, CALL, f"sched 0*{count} 0*100")
-
-
-def function_name(count):
-    return script("ftrace 1", f"func {'x' * count}", TASK, f"call {'x' * count}", "ret")
-
-
-def called_name(count):
-    return script("ftrace 1", f"func {'x' * forms.NAME_BYTES}", TASK, f"call {'x' * count}", "ret")
-
-
-def module_name(count):
-    return script("ftrace 1", f"func a {'x' * count}", TASK, CALL)
-
-
-def user_name(count):
-    return script("ftrace 1", f"user {'x' * count} function", f"ctl register {'x' * count}")
-
-
-def registered_name(count):
-    return script("ftrace 1", f"user {'x' * forms.NAME_BYTES} function", f"ctl register {'x' * count}")
-
-
-def digits(count):
-    return script(FUNCTION, f"cpu 0 quantum {9:0{count}}", "task 10 cpu 0", CALL)
-
-
-def quantum(number):
-    return script(FUNCTION, f"cpu 0 quantum {number}", "task 10 cpu 0", CALL)
-
-
-def pid(number):
-    return script(FUNCTION, CPU, f"task {number} cpu 0", CALL)
-
-
-def waited_pid(number):
-    return script(FUNCTION, CPU, f"task {forms.PID} cpu 0", CALL, f"ctl until {number} 2")
-
-
-def listed_pid(number):
-    return script(FUNCTION, CPU, f"task {forms.PID} cpu 0", "task 1 cpu 0", CALL, f"ctl pid {number}")
-
-
 def pids(count):
     """In one list, the same pid each time."""
     return script(FUNCTION, TASK, CALL, "ctl nopid" + " 10" * count)
-
-
-def after(number):
-    return script(USER, TASK, f"after {number}", CALL, "ctl register t")
-
-
-def until(number):
-    return script(FUNCTION, TASK, CALL, f"ctl until 10 {number}")
-
-
-def sized(word):
-    """Makes a script with a line of this word and a number."""
-    return lambda number: script(FUNCTION, f"{word} {number}", TASK, CALL)
-
-
-def triggers(count):
-    return script(FUNCTION, ["trigger *:traceoff"] * count, TASK, CALL)
-
-
-def trigger_limit(number):
-    return script(FUNCTION, f"trigger a:traceoff:{number}", TASK, CALL)
-
-
-def graph_depth(number):
-    return script(FUNCTION, TASK, CALL, f"ctl maxdepth {number}")
-
-
-def glob(count):
-    return script(USER, f"ctl filter t > {'?' * count}")
 
 
 def one_comment(count):
@@ -398,14 +320,11 @@ ONE, TWO = forms.VERSION_1, forms.VERSION_2
 CALLS, CALLS_IN_2 = most_calls(ONE), most_calls(TWO)
 
 LIMITS = [
-    Limit("functions", functions, ONE.funcs, "end", 9, ONE.funcs + 1, "line 1026: limit"),
     Limit("functions, version 2", in_version_2(functions), TWO.funcs, "end", 9, TWO.funcs + 1, "line 4098: limit"),
-    Limit("users", users, ONE.users, "end", 69, ONE.users + 1, "line 19: limit"),
     Limit("users, version 2", in_version_2(users), TWO.users, "end", 261, TWO.users + 1, "line 67: limit"),
     Limit("CPUs", cpus, forms.CPUS, "end", 33, forms.CPUS + 1, "line 11: limit"),
     Limit("tasks", tasks, forms.TASKS, "end", 257, forms.TASKS + 1, "line 203: limit"),
     Limit("acts", acts, forms.ACTS, "end", 59_991, forms.ACTS + 1, "line 20008: limit"),
-    Limit("open calls", levels, forms.LEVELS, "end", 3_073, forms.LEVELS + 1, "line 518: limit"),
     Limit("open calls in all contexts", levels_in_contexts, forms.LEVELS, "end", 2_049, forms.LEVELS + 1, "line 520: limit"),
     Limit("calls beside users that make calls", calls, CALLS, "end", 705_193, CALLS + 1, "line 1242: limit", 0.2),
     Limit("calls beside users that make calls, version 2", nested_calls, CALLS_IN_2, "end", 276_265, CALLS_IN_2 + 1, "line 26: limit", 0.2),
@@ -416,34 +335,6 @@ LIMITS = [
     Limit("steps", steps, forms.STEPS, "stopped", 1, forms.STEPS + 1, "line 8: limit"),
     Limit("steps, each an item", step_items, forms.STEPS, "stopped", 1, forms.STEPS + 1, "line 7: limit", 0.3),
     Limit("steps in a wait", steps_in_a_wait, forms.STEPS, "stopped", 3, forms.STEPS + 1, "line 8: limit", 0.05),
-    Limit("COUNT", turns, 1, "end", 5, 0, "line 7: limit"),
-    Limit("name of a function", function_name, forms.NAME_BYTES, "end", 5, forms.NAME_BYTES + 1, "line 2: limit"),
-    Limit("name in a call", called_name, forms.NAME_BYTES, "end", 5, forms.NAME_BYTES + 1, "line 5: limit"),
-    Limit("name of a module", module_name, forms.NAME_BYTES, "end", 5, forms.NAME_BYTES + 1, "line 2: limit"),
-    Limit("name of a user", user_name, forms.NAME_BYTES, "end", 3, forms.NAME_BYTES + 1, "line 2: limit"),
-    Limit("name in a command", registered_name, forms.NAME_BYTES, "end", 3, forms.NAME_BYTES + 1, "line 3: limit"),
-    Limit("digits", digits, forms.DIGITS, "end", 5, forms.DIGITS + 1, "line 3: syntax"),
-    Limit("number", after, odd_lines.NUMBER, "line 6: deadlock", 1, odd_lines.NUMBER + 1, "line 6: limit"),
-    Limit("quantum", quantum, forms.QUANTUM, "end", 5, forms.QUANTUM + 1, "line 3: limit"),
-    Limit("least quantum", quantum, 1, "end", 5, 0, "line 3: limit"),
-    Limit("pid", pid, forms.PID, "end", 5, forms.PID + 1, "line 4: limit"),
-    Limit("least pid", pid, 1, "end", 5, 0, "line 4: limit"),
-    Limit("pid of a wait", waited_pid, forms.PID, "end", 5, forms.PID + 1, "line 7: limit"),
-    Limit("pid of a list", listed_pid, forms.PID, "end", 7, forms.PID + 1, "line 8: limit"),
-    Limit("least pid of a list", listed_pid, 1, "end", 7, 0, "line 8: limit"),
-    Limit("N of after", after, 1, "end", 9, 0, "line 6: limit"),
-    Limit("N of until", until, 1, "end", 5, 0, "line 7: limit"),
-    Limit("depth", sized("depth"), forms.FRAMES, "end", 5, forms.FRAMES + 1, "line 3: limit"),
-    Limit("least depth", sized("depth"), 1, "end", 5, 0, "line 3: limit"),
-    Limit("tramps", sized("tramps"), ONE.tramps, "end", 5, ONE.tramps + 1, "line 3: limit"),
-    Limit("tramps, version 2", in_version_2(sized("tramps")), TWO.tramps, "end", 5, TWO.tramps + 1, "line 3: limit"),
-    Limit("ring", sized("ring"), forms.RING, "end", 5, forms.RING + 1, "line 3: limit"),
-    Limit("least ring", sized("ring"), 1, "end", 5, 0, "line 3: limit"),
-    Limit("triggers", triggers, forms.TRIGGERS, "end", 5, forms.TRIGGERS + 1, "line 11: limit"),
-    Limit("count of a trigger", trigger_limit, forms.TRIGGER_LIMIT, "end", 5, forms.TRIGGER_LIMIT + 1, "line 3: pattern"),
-    Limit("least count of a trigger", trigger_limit, 1, "end", 5, 0, "line 3: pattern"),
-    Limit("maxdepth", graph_depth, forms.GRAPH_DEPTH, "end", 7, forms.GRAPH_DEPTH + 1, "line 7: limit"),
-    Limit("glob", glob, forms.PATTERN_BYTES, "end", 3, forms.PATTERN_BYTES + 1, "line 4: pattern"),
     # the most bytes, and scripts whose time could grow faster than their size
     Limit("bytes", one_comment, forms.INPUT_BYTES, "end", 1, forms.INPUT_BYTES + 1, None, 0.03),
     Limit("bytes in short lines", comments, forms.INPUT_BYTES, "end", 1, forms.INPUT_BYTES + 1, None, 0.06),
@@ -465,7 +356,7 @@ def limit_faults(came, last, count):
         found.append(f"{len(lines) - 1} lines, not {count}")
     if lines[-2:] != [last.encode(), b""]:
         found.append(f"the last line is {runs.brief(b' '.join(lines[-2:]))}, not {last!r}")
-    return found or (text_lines.faults("log", came.out) if is_accepted else [])
+    return found
 
 
 def check_limits(rows, program):
@@ -508,7 +399,7 @@ def check_forms(rows, program):
     text = nests()
     for form, count in nests_lines().items():
         came = runs.answer([program, "replay", "--print", form], text, FORM_SECONDS)
-        found, lines = random_scripts.text_faults(came, form), came.out.count(b"\n")
+        found, lines = command_words.end_faults(came), came.out.count(b"\n")
         rows.row(f"forms: nests of calls: {form}", found + [f"{lines} lines, not {count}"] * (lines != count), came.seconds)
 
 
@@ -542,7 +433,7 @@ def check_runs(rows, program, top):
     check_calls_after_commands(rows, program, top / "examples" / "realistic.ft")
     for name in ORDERED:
         path = top / "examples" / f"{name}.ft"
-        for form in text_lines.FORMS:
+        for form in programs.FORMS:
             if path.with_suffix(f".{form}").exists():
                 came = runs.answer([program, "run", "--print", form], path.read_bytes(), RUN_SECONDS)
                 rows.row(f"runs: {path.name}: {form}", runs.faults(came, 0, path.with_suffix(f".{form}").read_bytes()), came.seconds)
@@ -582,5 +473,4 @@ def run(options):
     check_forms(rows, options.program)
     check_runs(rows, options.program, options.top)
     lane_runs.check(rows, options.program, options.top)
-    random_scripts.check(rows, options.program)
     return rows.end()

@@ -11,7 +11,7 @@ import tempfile
 from typing import NamedTuple, Optional
 
 from ftlog import runs
-from ftlog.checks import check_docs, judging, text_lines
+from ftlog.checks import check_docs, judging
 
 EXAMPLE = "realistic"  # of examples/: it has a text in each form, and these differ
 BAD_WORDS = ["''", "replay ''", "'' replay", "bulk ''", "'' bulk", "replay 'replay '", "replay --print ' log'", "replay '--print log'"]
@@ -89,12 +89,14 @@ def summary(program, seed):
     return came.out if came.out.startswith(b"seed %d\n" % seed) else b""
 
 
+def end_faults(came):
+    """What is wrong with the answer to a script that is accepted and comes to its end."""
+    return runs.faults(came, 0) or ["the last line isn't end"] * (not f"\n{came.out.decode('latin-1')}".endswith("\nend\n"))
+
+
 def run_faults(came, form, script):
-    """What is wrong with the answer to a run of a script. Its threads may go in any order, but they come to their ends, and a log is judged whole."""
-    found = runs.faults(came, 0) or text_lines.faults(form, came.out)
-    if not found and form == "log":
-        return judging.run_faults(script, came.out)
-    return found or ([] if came.out.endswith(b"end\n") else ["the last line isn't end"])
+    """The same of a run by threads, which may go in any order; a log is judged whole."""
+    return end_faults(came) or (judging.run_faults(script, came.out) if form == "log" else [])
 
 
 def try_words(rows, program, example, name, words, order):

@@ -6,7 +6,7 @@ that other rows have. Half of them have modules that come and go, whose lines ar
 """
 import itertools
 
-from ftlog import runs, views_of_log
+from ftlog import programs, runs
 from ftlog.checks import command_words, memory_limits
 from ftlog.make import script_forms as forms
 
@@ -76,15 +76,12 @@ def rest_of_control(users, commands, waits):
 
 
 def check_full(rows, program):
-    """Each form follows from the log, and a run by threads comes to its end."""
+    """Each form has its text, and a run by threads comes to its end."""
     for version, make in itertools.product(forms.VERSIONS, [script, script_with_modules]):
         text, what = make(version), f"all limits of version {version.number}" + (", modules" if make is script_with_modules else "")
-        log = runs.answer([program, "replay"], text, SECONDS)
-        found = runs.faults(log, 0) + ["it doesn't end"] * (not log.out.endswith(b"\nend\n"))
-        rows.row(f"{what}: log", found, log.seconds)
-        for form in [] if found else views_of_log.VIEWS:
+        for form in programs.FORMS:
             came = runs.answer([program, "replay", "--print", form], text, SECONDS)
-            rows.row(f"{what}: {form}", runs.faults(came, 0, views_of_log.text(form, text, log.out)), came.seconds)
+            rows.row(f"{what}: {form}", command_words.end_faults(came), came.seconds)
         form = "log" if make is script_with_modules else "rings"
         came = runs.answer([program, "run", "--print", form], text, RUN_SECONDS)
         rows.row(f"{what}: run, {form}", command_words.run_faults(came, form, text), came.seconds)

@@ -24,8 +24,8 @@ import pathlib
 import subprocess
 import tempfile
 
-from ftlog import lane_orders, runs, script_reader
-from ftlog.checks import check_program, command_words, text_lines
+from ftlog import lane_orders, programs, runs, script_reader
+from ftlog.checks import check_program, command_words
 from ftlog.fault import Fault
 
 LIBRARY = r"""
@@ -146,14 +146,14 @@ def orders(program, top):
     scripts += [(f"{name}.ft", (top / "examples" / f"{name}.ft").read_bytes(), ["replay", "run"]) for name in ("module_patched", "ring_stops")]
     scripts.append(("realistic.ft", (top / "examples" / "realistic.ft").read_bytes(), ["replay"]))
     for what, text, modes in scripts:
-        for form in text_lines.FORMS:
+        for form in programs.FORMS:
             wanted = runs.answer([program, "replay", "--print", form], text)
-            if wanted.status != 0 or wanted.err or text_lines.faults(form, wanted.out) or not wanted.out.endswith(b"end\n"):
+            if command_words.end_faults(wanted):
                 raise Fault(f"{what}: it isn't replayed to its end in the form {form}")
             for mode in modes:
                 yield what, [mode, "--print", form], text, [wanted.out]
     text = (top / "examples" / "unregistered_by_another.ft").read_bytes()
-    for form in text_lines.FORMS:
+    for form in programs.FORMS:
         yield "two lanes", ["run", "--print", form], text, texts_of_orders(program, text, form)
     yield "no bytes", ["bulk"], b"", [command_words.summary(program, 1)]
 

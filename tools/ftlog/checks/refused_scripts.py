@@ -4,8 +4,8 @@ Those of the rows of docs/LANGUAGE.md aren't repeated here; scripts at each limi
 line is a script, with `; ` for a line feed; before a refused one stands the line for which it is refused. What the other program, which was
 written from the same rules by other hands, answers is the same.
 """
-from ftlog import runs
-from ftlog.checks import script_texts, text_lines
+from ftlog import programs, runs
+from ftlog.checks import script_texts
 from ftlog.make import script_forms as forms
 
 REFUSED = {
@@ -343,7 +343,7 @@ def refused_rows():
             yield f"refused: {runs.brief(script.encode())}", ["replay"], script_texts.text(script), f"line {number}: {cause}\n".encode()
     for script, line in REFUSED_BYTES:
         yield f"refused: {runs.brief(script)}", ["replay"], script, script_texts.text(line)
-    for form in text_lines.FORMS:
+    for form in programs.FORMS:
         yield f"refused in the form {form}", ["replay", "--print", form], script_texts.text(IN_ANY_FORM), b"line 8: pattern\n"
     late = b"ftrace 1\n" + b"".join(b"# function %d:\nfunc f%d\n" % (number, number) for number in range(1_025))
     yield "refused late", ["replay"], late, b"line 2051: limit\n"

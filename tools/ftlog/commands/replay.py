@@ -2,15 +2,14 @@
 
 A script that is refused gives one line, `line N: CAUSE`, and the status 3; `ft why` tells more of it. All statuses are those of ftcore.
 """
-from ftlog import files, programs, views_of_log
+from ftlog import files, programs
 
 
 def add_words(parser):
     """Adds the words of this tool."""
     files.add_script(parser)
-    forms = ["log", *views_of_log.VIEWS]
-    told = f"how it is printed: {', '.join(forms)}; log if it isn't given"
-    parser.add_argument("--print", dest="form", metavar="FORM", choices=forms, default="log", help=told)
+    told = f"how it is printed: {', '.join(programs.FORMS)}; log if it isn't given"
+    parser.add_argument("--print", dest="form", metavar="FORM", choices=programs.FORMS, default="log", help=told)
 
 
 def run(options):

@@ -1,15 +1,14 @@
-"""Tests of the readers of scripts and logs, and the examples that stand in docstrings of the package."""
+"""Tests of the readers of scripts and logs, of filters, and the examples that stand in docstrings of the package."""
 import doctest
 import importlib
 import pkgutil
 import unittest
 
 import ftlog
-from ftlog import control_lines, covered_calls, given_logs, limits, log_desk, log_items, log_reader, rings_of_log, script_lines, script_reader
-from ftlog.checks import readings
+from ftlog import control_lines, covered_calls, filters, limits, log_desk, log_items, log_reader, rings_of_log, runs, script_reader
+from ftlog.checks import check_docs
 from ftlog.fault import Fault
 from ftlog.tests.called import lines
-from ftlog.tests.runs_in_process import EXAMPLES
 
 WITH_ALL = lines("ftrace 2; # a comment; func a; func e ext3; \tdepth  3; tramps 0; absent ext3; ring 2; tracing off; trigger e*:traceon:07; "
                  "user g graph regs pid call a; user p function regs ipmodify e; user f fprobe exit cancel irq a; cpu 0 quantum 9; cpu 1 quantum 2; "
@@ -23,6 +22,15 @@ UNREAD = ["func", "func a b c", "func 1a", "user t", "user t kprobe", "user t gr
 ITEMS = ["begin 1", "return 1 ok", "enter 10.1 normal a -", "back 10.1 g", "enter 10.2 normal a 10.1", "refuse 10.2 g recursion", "body 10.2 a own g",
          "leave 10.2", "ret 10.2 10.1", "back-end 10.1 g", "body 10.1 a own g", "leave 10.1", "exit 10.1 g 3", "exit-end 10.1 g", "ret 10.1 -"]
 CALLED = lines("ftrace 1; func a; user g graph call a; cpu 0 quantum 100; task 10 cpu 0; after 1; call a; ret; ctl register g")
+# Globs beside those of the page, a name, and whether it is matched.
+GLOBS = [("[]a]", "]", True), ("[]a]", "a", True), ("[a", "[a", True), ("[a", "a", False), ("[!]a]", "b", True), ("[!]a]", "]", False),
+         ("[!]", "[!]", True), ("[!]", "!", False), ("[a-]", "-", True), ("[--a]", "_", True), ("[!c-a]", "b", True), ("a*a*a*b", "aaaa", False),
+         ("*a" * 127 + "b", "a" * 127 + "b", True), ("*a" * 127 + "b", "a" * 200, False), ("*", "", True), ("?", "", False), ("a.b", "axb", False)]
+FUNCTIONS = [script_reader.Function(*names) for names in [("sys_read", None), ("ext3_read", "ext3"), ("ext3_write", "ext3"), ("snd_play", "snd")]]
+# What each text selects, by numbers from 0.
+SELECTED = {"ext3_read": [1], "*": [0, 1, 2, 3], "ext3_[!r]*": [2], "none": [], "2": [1], "0002": [1], "0": [], "5": [], "9" * 5000: [], ":mod:ext3": [1, 2],
+            "*read:mod:ext3": [1], ":mod:!ext3": [0, 3], ":mod:*": [1, 2, 3], ":mod:!*": [0], "*:mod:s?d": [3], ":mod:![!e]*": [0, 1, 2],
+            "!ext3_read": [1], "!:mod:ext3": [1, 2], "2:mod:ext3": [], "[a": []}
 
 
 def log_of(items, last="end"):
@@ -48,11 +56,6 @@ class Scripts(unittest.TestCase):
         self.assertEqual([line.number for line in script.said][:4], [1, 3, 4, 5])
         self.assertEqual([(line.word, line.answer) for line in script.module_lines], [("load", "ok")])
 
-    def test_what_is_usual(self):
-        for version in limits.VERSIONS:
-            script = script_reader.read_script(f"ftrace {version.number}\n".encode())
-            self.assertEqual((script.slots, script.ring, script.is_tracing), (version.tramps, limits.LIMITS["USUAL_RING"], True))
-
     def test_waits_are_no_commands(self):
         script = script_reader.read_script(CALLED + b"ctl until 10 1\nctl unregister g\n")
         self.assertEqual((len(script.control), len(script.lines), len(script.commands)), (3, 2, 2))
@@ -68,15 +71,6 @@ class Scripts(unittest.TestCase):
         for line, said in [("ctl enable x", "no such user"), ("task 10 cpu 0", "no CPU"), ("ring 0", "rings of a size"), (f"func {'x' * 64}", "a name")]:
             with self.subTest(line), self.assertRaisesRegex(Fault, said):
                 script_reader.check(script_reader.read_script(f"ftrace 1\n{line}\n".encode()))
-
-    def test_examples(self):
-        """Each example that is accepted is read, and its lines again give the same script."""
-        for path in EXAMPLES.glob("*.ft"):
-            if path.with_suffix(".log").read_bytes().startswith(b"0"):
-                text, script = given_logs.read_script(str(path))
-                again = "".join(" ".join(line.words) + "\n" for line in script.said).encode()
-                self.assertEqual(script_reader.read_script(again).commands, script.commands, path.name)
-                self.assertEqual(script_lines.line_of(1, text.split(b"\n")[0].decode(), True).key, "ftrace")
 
     def test_uncovered_calls(self):
         """The line that is refused as `unloaded`."""
@@ -116,33 +110,25 @@ class Logs(unittest.TestCase):
         self.assertEqual([turns.next(named) for named in ("lane 1", "lane 0", "lane 0", "lane 1", "lane 1", "lane 2", "")], [2, 0, 1, 3, None, None, None])
 
 
-class Readings(unittest.TestCase):
-    """What the long check asks of each script and log that it makes."""
+class Filters(unittest.TestCase):
+    def test_globs(self):
+        """Those of the page's table, and others."""
+        page = check_docs.table_rows((runs.TOP / "docs" / "LANGUAGE.md").read_text())
+        rows = [[cell.strip("`") for cell in cells] for _, head, cells in page if head == ["pattern", "name", "matches"]]
+        self.assertGreater(len(rows), 5)
+        for glob, name, answer in [*((glob, name, answer == "yes") for glob, name, answer in rows), *GLOBS]:
+            self.assertEqual(filters.fits(glob, name), answer, (glob, name))
 
-    def test_examples(self):
-        for path in EXAMPLES.glob("*.ft"):
-            text, log = path.read_bytes(), path.with_suffix(".log").read_bytes()
-            if log.startswith(b"line"):
-                self.assertEqual(readings.refusal_faults(text, log), [], path.name)
-            else:
-                self.assertEqual(readings.script_faults(text) + readings.log_faults(text, log), [], path.name)
+    def test_signs(self):
+        """Signs of regular expressions stand for themselves."""
+        for sign in ".^$+(){}|\\":
+            self.assertTrue(filters.fits(f"a{sign}*", f"a{sign}b") and not filters.fits(f"a{sign}*", "axb") and filters.fits(f"[{sign}]?", sign * 2))
 
-    def test_forms(self):
-        for path in EXAMPLES.glob("*.graph"):
-            answers = {"log": path.with_suffix(".log").read_bytes(), "graph": path.read_bytes()}
-            self.assertEqual(readings.form_faults(path.with_suffix(".ft").read_bytes(), answers), [])
-            answers["graph"] = answers["graph"].replace(b"|", b"!", 1)
-            self.assertEqual(len(readings.form_faults(path.with_suffix(".ft").read_bytes(), answers)), 1)
-
-    def test_what_is_wrong(self):
-        log = log_of(ITEMS)
-        self.assertEqual(readings.log_faults(CALLED, log), [])
-        for old, new in [(b"3 back 10.1 g", b"3 back  10.1 g"), (b"end\n", b""), (b"exit 10.1 g 3", b"exit 10.1 g 03"), (b"6 body 10.2 a own g", b"6 body 10.2 a own x")]:
-            other = log.replace(old, new)
-            self.assertEqual(len(readings.log_faults(CALLED, other)), 1, other)
-        self.assertEqual(len(readings.script_faults(CALLED + b"ctl register x\n")), 1)
-        self.assertEqual(readings.refusal_faults(CALLED + b"ctl register x\n", b"line 10: unknown\n"), [])
-        self.assertEqual(len(readings.refusal_faults(CALLED, b"line 1: version\n")), 1)
+    def test_texts(self):
+        """What each selects; without its mark it is written as it was read."""
+        for word, wanted in SELECTED.items():
+            text = filters.read_text(word)
+            self.assertEqual((sorted(filters.FunctionList(FUNCTIONS).selected(text)), text.word), (wanted, word.removeprefix("!")), word[:40])
 
 
 class Desks(unittest.TestCase):

@@ -6,22 +6,20 @@ import unittest
 from ftlog import runs
 from ftlog.make import script_forms, viewed_scripts
 from ftlog.proving import cost_table, crate_list
-from ftlog.tests import wrong_logs
-from ftlog.tests.called import FT, ft
-from ftlog.tests.runs_in_process import EXAMPLES, Case
+from ftlog.tests.called import Case, EXAMPLES, FT, ft
 
 PARTS = [[name, part] for name in ("check", "make") for part in FT.importlib.import_module(f"ftlog.upkeep.{name}").PARTS]
-TOOLS = [[name] for name in ("cost", "definitions", "further", "provers", "samples", "signatures", "views")] + PARTS
+TOOLS = [[name] for name in ("cost", "definitions", "further", "provers", "samples", "signatures")] + PARTS
 NOTHING = "/nowhere/program"
 # Words that none of these tools can do anything for.
 WRONG = [
     ["check", "docs", "--program", NOTHING], ["check", "program", "--program", NOTHING], ["check", "allocations", "--program", NOTHING],
     ["check", "docs", "--program", "/"], ["check", "docs", "more"], ["check", "rings", "--count", "1", "--runs", NOTHING],
     ["check", "rings", "--rows", "1", "--program", NOTHING], ["check", "rings", "--count", "x"], ["check", "rings", "--judge", NOTHING, NOTHING],
-    ["check", "pages"], ["check", "runs", NOTHING, "--count", "1"], ["check", "runs", sys.executable, "--count", "1", "--sources", "others"], ["check", "hostile", "--count", "1", "--judge", NOTHING], ["check", "hostile"], ["check", "other"],
+    ["check", "pages"], ["check", "runs", NOTHING, "--count", "1"], ["check", "runs", sys.executable, "--count", "1", "--sources", "others"], ["check", "other"],
     ["make", "plain"], ["make", "plain", "--seed", "x"], ["make", "manuals", "x"], ["make", "viewed", "--seed", "1", "--lanes", "--rings"], ["make", "others"],
     ["samples"], ["samples", "more"], ["samples", "rows", "1"], ["samples", "random"], ["samples", "random", "1", "x"],
-    ["further", "nothing"], ["cost", NOTHING], ["cost", "--write"], ["definitions", "--all"], ["definitions", "nothing"], ["views", "x.ft", "x.log", "log"], ["nothing"],
+    ["further", "nothing"], ["cost", NOTHING], ["cost", "--write"], ["definitions", "--all"], ["definitions", "nothing"], ["nothing"],
 ]
 
 
@@ -101,22 +99,6 @@ class Costs(Case):
         self.assertEqual(path.read_text(), cost_table.COSTS.read_text())
         self.assertLessEqual(set(rows), set(crate_list.read_crates()))
         self.assertEqual(cost_table.read(self.folder / "none"), {})
-
-
-class Views(Case):
-    def test_examples(self):
-        """The forms that the examples have."""
-        count = 0
-        for path in EXAMPLES.glob("*.*"):
-            if path.suffix[1:] in ("function", "graph", "profile", "enabled", "modules", "rings"):
-                came = ft("views", path.with_suffix(".ft"), path.with_suffix(".log"), path.suffix[1:])
-                self.assertEqual((came.status, came.out), (0, path.read_text()), path.name)
-                count += 1
-        self.assertGreater(count, 20)
-
-    def test_wrong_inputs(self):
-        for number, (what, script, log) in enumerate(wrong_logs.WRONG):
-            self.assert_told(what, ft("views", self.write(f"{number}.ft", script), self.write(f"{number}.log", log), "function"))
 
 
 if __name__ == "__main__":

@@ -1,4 +1,4 @@
-"""Checks the repository: its pages, programs, pictures, rings, recordings and tools, how they start, and ftjudge on runs and hostile inputs."""
+"""Checks the repository: its pages, programs, pictures, rings, recordings and tools, how they start, and ftjudge on runs."""
 
 PARTS = {
     "starting": "ftlog.checks.check_starting",
@@ -9,6 +9,5 @@ PARTS = {
     "recorded": "ftlog.checks.check_recorded",
     "tools": "ftlog.checks.check_tools",
     "runs": "ftlog.checks.check_runs",
-    "hostile": "ftlog.checks.hostile_logs",
     "allocations": "ftlog.checks.refused_allocations",
 }
