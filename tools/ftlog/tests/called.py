@@ -1,15 +1,18 @@
-"""Calls tools/ft within the tests."""
+"""Calls tools/ft within the process of a test, so that many calls take little time."""
 import contextlib
 import importlib.machinery
 import importlib.util
 import io
 import pathlib
 import sys
+import tempfile
+import unittest
 from typing import NamedTuple
 from unittest import mock
 
-TOOLS = pathlib.Path(__file__).resolve().parent.parent.parent
-LOADER = importlib.machinery.SourceFileLoader("ft_command", str(TOOLS / "ft"))
+TOP = pathlib.Path(__file__).resolve().parents[3]
+EXAMPLES = TOP / "examples"
+LOADER = importlib.machinery.SourceFileLoader("ft_command", str(TOP / "tools" / "ft"))
 FT = importlib.util.module_from_spec(importlib.util.spec_from_loader("ft_command", LOADER))
 LOADER.exec_module(FT)
 
@@ -35,9 +38,14 @@ def ft(*words, text=b""):
     return Came(status, out.buffer.getvalue().decode("latin-1"), err.getvalue())
 
 
+def example(name):
+    """The script and the log of an example."""
+    return [EXAMPLES / f"{name}.ft", EXAMPLES / f"{name}.log"]
+
+
 def lines(text):
     """The bytes of a script whose lines are separated by `; `."""
-    return (text.replace("; ", "\n") + "\n").encode()
+    return (text.replace("; ", "\n") + "\n").encode("latin-1")
 
 
 def program(folder, body, name="program"):
@@ -46,3 +54,30 @@ def program(folder, body, name="program"):
     path.write_text(f"#!/bin/sh\n{body}\n")
     path.chmod(0o755)
     return path
+
+
+class Case(unittest.TestCase):
+    """A test with a folder of its own."""
+
+    def setUp(self):
+        """Makes the folder, which goes when the test is over."""
+        folder = tempfile.TemporaryDirectory()
+        self.addCleanup(folder.cleanup)
+        self.folder = pathlib.Path(folder.name)
+
+    def write(self, name, text):
+        """A file of the folder with these bytes; None if there is to be none."""
+        path = self.folder / name
+        if text is not None:
+            path.write_bytes(text)
+        return path
+
+    def assert_told(self, what, came):
+        """A run ended with one plain line and status 2."""
+        status, _, err = came
+        with self.subTest(what):
+            self.assertEqual(2, status, err)
+            self.assertNotIn("Traceback", err)
+            told = [line for line in err.splitlines() if not line.startswith(("usage:", " "))]
+            self.assertEqual(1, len(told), err)
+            self.assertLess(len(err), 1200)

@@ -3,7 +3,7 @@ import re
 
 from ftlog import kernel_columns
 from ftlog.tests import wrong_logs
-from ftlog.tests.runs_in_process import EXAMPLES, Case, answer, example, lines
+from ftlog.tests.called import EXAMPLES, Case, ft, example, lines
 
 NAME = r"[A-Za-z_][\w.]*"
 SYMBOL = NAME + r"\+0x[0-9a-f]+/0x[0-9a-f]+"
@@ -24,7 +24,7 @@ ENABLED = {"6.1": re.compile(rf"{NAME}(?: \[{NAME}\])? \(\d+\)(?: R|  )(?: I|  )
 
 def text(name, file, *others, kernel="6.12"):
     """A file of an example's history."""
-    status, out, err = answer("as-kernel", *example(name), "--file", file, "--kernel", kernel, *others)
+    status, out, err = ft("as-kernel", *example(name), "--file", file, "--kernel", kernel, *others)
     assert status == 0, err
     return out
 
@@ -32,7 +32,7 @@ def text(name, file, *others, kernel="6.12"):
 class AsKernel(Case):
     """Tests of as-kernel."""
 
-    answer = staticmethod(answer)
+    answer = staticmethod(ft)
 
     def examples(self, file, kernel):
         """The file of each example that has one, by the example and the user."""
@@ -41,7 +41,7 @@ class AsKernel(Case):
             kinds = {"trace": ("function", "graph"), "trace_stat": ("profile",)}.get(file)
             chosen = [["--user", name] for name, kind in users if kind in kinds] if kinds else [[]]
             for words in chosen if path.stem != "refused" else []:
-                status, out, err = answer("as-kernel", *example(path.stem), "--file", file, "--kernel", kernel, *words)
+                status, out, err = ft("as-kernel", *example(path.stem), "--file", file, "--kernel", kernel, *words)
                 if status == 0:
                     yield path.stem, out.splitlines()
                 else:
@@ -87,7 +87,7 @@ class AsKernel(Case):
 
     def test_graph_users_are_one_in_6_12(self):
         self.assertIn("sys_0 (1)", text("realistic", "enabled_functions"))
-        self.assert_told("two graph users", answer("as-kernel", *example("realistic"), "--file", "enabled_functions", "--kernel", "6.1"))
+        self.assert_told("two graph users", ft("as-kernel", *example("realistic"), "--file", "enabled_functions", "--kernel", "6.1"))
 
     def test_profile_of_each_cpu(self):
         script = self.write("x.ft", lines("ftrace 1; func a; func b; user p profile; cpu 0 quantum 9; cpu 1 quantum 9; task 10 cpu 1; "
@@ -95,10 +95,10 @@ class AsKernel(Case):
         log = self.write("x.log", lines("0 begin 1; 1 return 1 ok; 2 enter 10.1 normal a -; 3 back 10.1 p; 4 back-end 10.1 p; "
                                         "5 body 10.1 a own p; 6 leave 10.1; 7 exit 10.1 p 3; 8 exit-end 10.1 p; 9 ret 10.1 -; end"))
         words = ["as-kernel", script, log, "--file", "trace_stat", "--kernel", "6.1", "--cpu"]
-        self.assertEqual(2, len(answer(*words, "0")[1].splitlines()))
+        self.assertEqual(2, len(ft(*words, "0")[1].splitlines()))
         line = f"  {'a':30}  {1:10}    4.000 us        4.000 us        0.000 us    \n"
-        self.assertIn(line, answer(*words, "1")[1])
-        self.assert_told("another CPU", answer(*words, "2"))
+        self.assertIn(line, ft(*words, "1")[1])
+        self.assert_told("another CPU", ft(*words, "2"))
 
     def test_durations_fill_their_column(self):
         wanted = {0: "0.000 us    ", 12_345: "12.345 us   ", 123_456_789: "123456.7 us ", 1_234_567_000: "1234567 us  ",
@@ -112,6 +112,6 @@ class AsKernel(Case):
         script, log = example("realistic")
         for words in ["trace", "trace --user nobody", "trace --user fp", "trace --cpu 0", "enabled_functions --user fn",
                       "trace_stat --cpu x", "trace_stat --cpu 9", "trace_stat --user gr", "kprobes"]:
-            self.assert_told(words, answer("as-kernel", script, log, "--kernel", "6.1", "--file", *words.split()))
-        self.assert_told("no profile", answer("as-kernel", *example("graph"), "--file", "trace_stat", "--kernel", "6.1"))
-        self.assert_told("another kernel", answer("as-kernel", script, log, "--file", "trace", "--kernel", "5.10"))
+            self.assert_told(words, ft("as-kernel", script, log, "--kernel", "6.1", "--file", *words.split()))
+        self.assert_told("no profile", ft("as-kernel", *example("graph"), "--file", "trace_stat", "--kernel", "6.1"))
+        self.assert_told("another kernel", ft("as-kernel", script, log, "--file", "trace", "--kernel", "5.10"))

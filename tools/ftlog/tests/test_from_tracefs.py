@@ -1,7 +1,5 @@
-"""Tests of tools/ft from-tracefs: worked cases, globs against the kernel's rules and those of the page, a long list, and wrong inputs."""
+"""Tests of tools/ft from-tracefs: worked cases, what texts select, a long list, and wrong inputs."""
 import contextlib
-import importlib.machinery
-import importlib.util
 import io
 import os
 import pathlib
@@ -11,8 +9,7 @@ import time
 import unittest
 
 from ftlog import filter_texts, filters, log_desk, runs, script_reader, shell_commands, tracefs_script, tracefs_state, tracefs_writes
-from ftlog.checks import check_docs
-from ftlog.tests.test_filters import plainly_fits
+from ftlog.tests.called import ft
 
 CASES = pathlib.Path(__file__).with_name("from_tracefs.txt")
 LIST = b"ksys_read\nvfs_read\nvfs_write\next4_read [ext4]\next4_write [ext4]\nsched_fork\n"
@@ -46,73 +43,6 @@ def replayed(script, form="log"):
     if not os.access(runs.PROGRAM, os.X_OK):
         return None
     return runs.answer([runs.PROGRAM, "replay", "--print", form], script.encode())
-
-
-def ft(*words):
-    """What tools/ft comes to with these words: its status, and what it writes to both streams."""
-    out, err = io.StringIO(), io.StringIO()
-    loader = importlib.machinery.SourceFileLoader("ft_main", str(runs.TOP / "tools" / "ft"))
-    module = importlib.util.module_from_spec(importlib.util.spec_from_loader(loader.name, loader))
-    loader.exec_module(module)
-    with contextlib.redirect_stdout(out), contextlib.redirect_stderr(err):
-        return module.main(list(words)), out.getvalue(), err.getvalue()
-
-
-def glob_match(glob, name):
-    """Whether a glob matches a name: the steps of glob_match in the kernel's lib/glob.c, without the backslash."""
-    at, place, back = 0, 0, None  # where to go on with one byte more in the last `*`
-    while True:
-        is_matched = False
-        byte = name[place] if place < len(name) else None
-        place += 1
-        sign = glob[at] if at < len(glob) else None
-        at += 1
-        if sign == "*":
-            if at == len(glob):
-                return True
-            back = (at, place - 1)
-            place -= 1
-            continue
-        if sign == "?" and byte is not None:
-            continue
-        if sign == "[":
-            found = in_class(glob, at, byte)
-            if found is not None:
-                is_matched, after = found
-                if is_matched:
-                    at = after
-                    continue
-            else:
-                is_matched = byte == "["
-        else:
-            is_matched = byte == sign
-        if is_matched:
-            if byte is None:
-                return True
-            continue
-        if byte is None or back is None:
-            return False
-        back = (back[0], back[1] + 1)
-        at, place = back
-
-
-def in_class(glob, at, byte):
-    """Whether a class that begins here has a byte, and where it ends; None if no `]` ends it."""
-    is_inverted = glob[at : at + 1] == "!"
-    at += is_inverted
-    is_in, first = False, True
-    while True:
-        if at >= len(glob):
-            return None
-        low = high = glob[at]
-        at += 1
-        if not first and low == "]":
-            return byte is not None and is_in != is_inverted, at
-        first = False
-        if glob[at : at + 1] == "-" and at + 1 < len(glob) and glob[at + 1] != "]":
-            high = glob[at + 1]
-            at += 2
-        is_in = is_in or (byte is not None and low <= byte <= high)
 
 
 class Cases(unittest.TestCase):
@@ -209,29 +139,6 @@ def text(rng):
 
 
 class Globs(unittest.TestCase):
-    def test_page(self):
-        """Those of the page's table, which has what each matches."""
-        page = runs.TOP / "docs" / "LANGUAGE.md"
-        rows = [cells for _, head, cells in check_docs.table_rows(page.read_text()) if head == ["pattern", "name", "matches"]]
-        self.assertGreater(len(rows), 5)
-        for glob, name, answer in rows:
-            self.assertEqual(bool(filters.pattern(glob.strip("`")).fullmatch(name.strip("`"))), answer == "yes", glob)
-
-    def test_kernel(self):
-        """Random globs, against the steps of the kernel's glob_match and the items that a script's texts have."""
-        rng = random.Random(1)
-        for _ in range(2500):
-            glob = "".join(rng.choice("ab*?[]!-c") for _ in range(rng.randint(1, 9)))
-            name = "".join(rng.choice("ab-]c!") for _ in range(rng.randint(1, 7)))
-            found = bool(filters.pattern(glob).fullmatch(name))
-            self.assertEqual((glob, name, found), (glob, name, glob_match(glob, name)))
-            self.assertEqual((glob, name, found), (glob, name, plainly_fits(filters.items(glob), name)))
-
-    def test_hostile(self):
-        begun = time.process_time()
-        self.assertIsNone(filters.pattern("*a" * 120 + "b").fullmatch("a" * 63))
-        self.assertLess(time.process_time() - begun, 2)
-
     def test_selected(self):
         """Texts with modules and numbers, against what a script's texts select."""
         listed = filter_texts.read_list("list", LIST)

@@ -1,17 +1,13 @@
-"""Tests of `ft hold`: the language of hold comments, and the schedules that they come to under a stand-in for ftsteps."""
-import pathlib
+"""Tests of `ft hold`: the language of hold comments, and the schedules that they come to. The latter are left out as long as ftsteps isn't built."""
 import tempfile
 import unittest
-from unittest import mock
 
-from ftlog import holds, runs, steps
+from ftlog import holds, programs, runs, steps
 from ftlog.fault import Fault
-from ftlog.tests import one_site_steps
 from ftlog.tests.called import ft, program
-from ftlog.tests.one_site_steps import JOB
 
-STEPS = pathlib.Path(__file__).resolve().parent / "one_site_steps.py"
-BUILT = runs.TOP / "crates" / "ftsteps" / "out" / "ftsteps"
+STEPS = programs.built("ftsteps")
+JOB = "ftrace 1\nfunc a\nuser tr function\ncpu 0 quantum 100\ntask 10 cpu 0\ncall a\nret\nctl register tr\n"
 NAMES = holds.Names(["0"], ["a", "a.b"], ["tr"], ["10"])
 
 # Hold comments below the job, and the lines that they come to.
@@ -74,27 +70,18 @@ WRONG = [
 ]
 
 
-def steps_within(self, text):
-    """What steps.Program.steps gives, without a process of its own."""
-    return [steps.step_of(0, line) for line in one_site_steps.told(text.decode("latin-1")) if line not in steps.LAST]
-
-
 def hold(text):
-    """A call of the tool with the stand-in."""
-    with mock.patch.object(steps.Program, "steps", steps_within):
-        return ft("hold", "--steps", STEPS, text=text.encode("latin-1"))
+    """A call of the tool."""
+    return ft("hold", "--steps", STEPS, text=text.encode("latin-1"))
 
 
+@unittest.skipUnless(STEPS.is_file(), "there is no ftsteps")
 class Schedules(unittest.TestCase):
     def test_each_comment_comes_to_its_line(self):
         for said, line in SCHEDULES:
             with self.subTest(said):
                 came = hold(f"{JOB}# hold: {said}\n")
                 self.assertEqual((came.status, came.out, came.err), (0, f"{JOB}# hold: {said}\n{line}\n", ""))
-
-    def test_the_steps_of_a_program(self):
-        came = ft("hold", "--steps", STEPS, text=f"{JOB}# hold: k past store head a; all to end\n".encode())
-        self.assertEqual((came.status, came.out), (0, f"{JOB}# hold: k past store head a; all to end\nsched k*9 all*20\n"))
 
     def test_a_comment_that_comes_to_no_turn_has_no_line(self):
         came = hold(f"{JOB}# hold: k until mark\nsched k*4\n# hold: k for 1; k until store bits\n")
@@ -125,7 +112,6 @@ class Schedules(unittest.TestCase):
         self.assertTrue(runs.answer([runs.PROGRAM, "replay"], less.encode()).out.endswith(b"\nstopped\n"), less)
 
 
-    @unittest.skipUnless(BUILT.is_file(), "there is no ftsteps")
     def test_examples(self):
         """The `sched` lines of the examples are those that their hold comments come to."""
         for path in sorted((runs.TOP / "examples").glob("*.ft")):
@@ -162,6 +148,7 @@ class Patterns(unittest.TestCase):
             self.assertIsNone(holds.holds_in(text))
 
 
+@unittest.skipUnless(STEPS.is_file(), "there is no ftsteps")
 class Wrong(unittest.TestCase):
     def require_fault(self, came, *parts):
         self.assertEqual((came.status, came.out), (2, ""), came)

@@ -5,7 +5,7 @@ from ftlog import given_logs
 from ftlog.differing_lines import Finder
 from ftlog.kernel_differences import DIFFERENCES, GLOBS, KERNELS
 from ftlog.tests import wrong_logs
-from ftlog.tests.runs_in_process import EXAMPLES, Case, answer, lines
+from ftlog.tests.called import EXAMPLES, Case, ft, lines
 
 PAGE = (EXAMPLES.parent / "docs" / "KERNEL.md").read_text()
 TASK = "cpu 0 quantum 9; task 10 cpu 0; after 1; call a; ret; "
@@ -87,7 +87,7 @@ class KernelNotes(Case):
     def notes(self, script, kernel):
         """What a run with this script writes."""
         path = self.write("x.ft", lines("ftrace 1; " + script))
-        status, out, err = answer("kernel-notes", path, "--kernel", kernel)
+        status, out, err = ft("kernel-notes", path, "--kernel", kernel)
         self.assertEqual(0, status, err)
         return out
 
@@ -121,14 +121,14 @@ class KernelNotes(Case):
         self.assertIn("the number is 1;", self.notes("func a; user t function; ctl filter t > " + "0" * 5000 + "1", "6.1"))
 
     def test_answers_are_those_of_the_example(self):
-        out = answer("kernel-notes", EXAMPLES / "answers.ft", "--kernel", "6.12")[1]
+        out = ft("kernel-notes", EXAMPLES / "answers.ft", "--kernel", "6.12")[1]
         self.assertIn("line 11: ctl register tr: here the answer is `already`; 6.12: -EBUSY", out)
         self.assertIn("line 26: ctl register q: here the answer is `busy a p`; 6.12: -EBUSY for two ops too", out)
 
     def test_each_example(self):
         for path in EXAMPLES.glob("*.ft"):
             for kernel in KERNELS:
-                self.assertEqual(0, answer("kernel-notes", path, "--kernel", kernel)[0], path)
+                self.assertEqual(0, ft("kernel-notes", path, "--kernel", kernel)[0], path)
 
     def test_wrong_inputs(self):
         wrong = {what: script for what, script, _ in wrong_logs.WRONG if script not in (wrong_logs.SCRIPT,)}
@@ -138,6 +138,6 @@ class KernelNotes(Case):
         wrong.update({line[:30]: lines("ftrace 1; func a; user t function; " + line) for line in more})
         for number, (what, script) in enumerate(wrong.items()):
             if what not in ("another task's log", "the log of another script"):
-                self.assert_told(what, answer("kernel-notes", self.write(f"{number}.ft", script), "--kernel", "6.1"))
-        self.assert_told("another kernel", answer("kernel-notes", EXAMPLES / "graph.ft", "--kernel", "6.6"))
-        self.assert_told("a folder", answer("kernel-notes", self.folder, "--kernel", "6.1"))
+                self.assert_told(what, ft("kernel-notes", self.write(f"{number}.ft", script), "--kernel", "6.1"))
+        self.assert_told("another kernel", ft("kernel-notes", EXAMPLES / "graph.ft", "--kernel", "6.6"))
+        self.assert_told("a folder", ft("kernel-notes", self.folder, "--kernel", "6.1"))

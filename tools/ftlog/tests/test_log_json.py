@@ -5,14 +5,14 @@ import tracemalloc
 from ftlog import given_logs, log_items
 from ftlog.commands import log_json
 from ftlog.tests import wrong_logs
-from ftlog.tests.runs_in_process import EXAMPLES, Case, answer, example, lines
+from ftlog.tests.called import EXAMPLES, Case, ft, example, lines
 
 CALL = ["enter {} normal a -", "back {} tr", "back-end {} tr", "body {} a own tr", "leave {}", "ret {} -"]  # the items of a call
 
 
 def objects(name):
     """The objects of an example's log."""
-    status, out, err = answer("log-json", *example(name))
+    status, out, err = ft("log-json", *example(name))
     assert status == 0, err
     return [json.loads(line) for line in out.splitlines()]
 
@@ -20,7 +20,7 @@ def objects(name):
 class LogJson(Case):
     """Tests of log-json."""
 
-    answer = staticmethod(answer)
+    answer = staticmethod(ft)
 
     def test_first_and_last_line(self):
         head, *items, last = objects("first_path")
@@ -63,7 +63,7 @@ class LogJson(Case):
 
     def test_stopped(self):
         script, log = self.write("x.ft", wrong_logs.SCRIPT), self.write("x.log", lines("0 begin 1; stopped"))
-        self.assertEqual({"last": "stopped", "items": 1}, json.loads(answer("log-json", script, log)[1].splitlines()[-1]))
+        self.assertEqual({"last": "stopped", "items": 1}, json.loads(ft("log-json", script, log)[1].splitlines()[-1]))
 
     def test_memory_does_not_grow(self):
         _, script = given_logs.read_script(self.write("x.ft", wrong_logs.SCRIPT))

@@ -1,23 +1,16 @@
 """Tests of tools/ft outcomes: the litmus tests against a full search, the tables of docs/OUTCOMES.md, patterns, and wrong inputs.
 
 Those that replay are left out as long as the programs aren't built."""
-import contextlib
-import importlib.machinery
-import importlib.util
-import io
 import os
 import pathlib
 import random
 import re
-import stat
-import sys
 import tempfile
 import unittest
 
-sys.dont_write_bytecode = True
-from ftlog import outcome_runs, runs  # noqa: E402
-from ftlog.commands import outcomes  # noqa: E402
-from ftlog.tests import plain_outcomes, small_scripts  # noqa: E402
+from ftlog import outcome_runs, runs
+from ftlog.commands import outcomes
+from ftlog.tests.called import ft, program
 
 PAGE = runs.TOP / "docs" / "OUTCOMES.md"
 LITMUS = runs.TOP / "examples" / "litmus"
@@ -45,23 +38,29 @@ LARGE = {  # that have too many schedules to try them all
     "control waits twice": HEAD + TWO_CALLS + b"ctl until 10 1\nctl until 10 2\nctl until 10 2\nctl register t\n",
     "two tasks": HEAD + b"task 10 cpu 0\nafter 1\ncall a\nret\ntask 11 cpu 0\nirq\ncall a\nret\niret\nctl register t\n",
 }
-FAKE = "#!/bin/sh\ncat >/dev/null\n"
+def outcome_of(log, pids):
+    """The outcome that a log tells, as ftoutcomes writes it."""
+    calls, commands = {}, []
+    *lines, last = log.splitlines()
+    for _, kind, call, *rest in map(str.split, lines):
+        if kind == "enter":
+            calls[call] = (rest[1], [])
+        elif kind in ("back", "exit", "miss", "refuse"):
+            calls[call][1].append(" ".join([kind, *rest[: 1 + (kind == "refuse")]]))
+        elif kind == "body":
+            calls[call][1].append(" ".join(["body", *([] if rest[0] == calls[call][0] else ["of", rest[0]]), *rest[1:]]))
+        elif kind == "return" and rest != ["ok"]:
+            commands.append(f"command {call}: {' '.join(rest)}")
+    order = sorted(calls, key=lambda call: (pids.index(call.split(".")[0]), int(call.split(".")[1])))
+    told = [f"{call} {calls[call][0]}:" + (" " + ", ".join(calls[call][1]) if calls[call][1] else "") for call in order]
+    return "; ".join(told + commands + ["stopped"] * (last == "stopped")) or "no calls"
 
 
-def ft(*words, given=b""):
-    """What tools/ft comes to with these words: its status, and what it writes to both streams."""
-    out, err = io.TextIOWrapper(io.BytesIO(), encoding="utf-8", write_through=True), io.StringIO()
-    loader = importlib.machinery.SourceFileLoader("ft_main", str(runs.TOP / "tools" / "ft"))
-    module = importlib.util.module_from_spec(importlib.util.spec_from_loader(loader.name, loader))
-    loader.exec_module(module)
-    before = sys.stdin
-    sys.stdin = io.TextIOWrapper(io.BytesIO(given))
-    try:
-        with contextlib.redirect_stdout(out), contextlib.redirect_stderr(err):
-            status = module.main(list(words))
-    finally:
-        sys.stdin = before
-    return status, out.buffer.getvalue().decode(), err.getvalue()
+def replayed(script, schedule):
+    """The outcome of a script with this schedule, which is a `sched` line, by one replay."""
+    lines = [line for line in script.decode().split("\n") if line.split()[:1] != ["sched"]]
+    came = runs.answer([runs.PROGRAM, "replay"], "\n".join([*lines, schedule, ""]).encode())
+    return outcome_of(came.out.decode(), [line.split()[1] for line in lines if line.split()[:1] == ["task"]])
 
 
 def full_search(script):
@@ -87,11 +86,8 @@ def sections():
 
 def fake(room, text, status=0):
     """A program in the place of ftoutcomes that writes this text whatever it is given."""
-    path = pathlib.Path(room) / "fake"
     (pathlib.Path(room) / "text").write_text(text)
-    path.write_text(f"{FAKE}cat {room}/text\nexit {status}\n")
-    path.chmod(path.stat().st_mode | stat.S_IXUSR)
-    return str(path)
+    return str(program(room, f"cat > /dev/null; cat {room}/text; exit {status}", "fake"))
 
 
 class Merging(unittest.TestCase):
@@ -137,16 +133,6 @@ class Merging(unittest.TestCase):
         wanted = b"ftrace 1\n# sched k\r sched 0\nctl maxdepth 1\n# why\nsched all*9\n"
         self.assertEqual(outcomes.with_schedule(script, "sched all*9", ["why"]), wanted)
 
-    def test_plain_outcome(self):
-        log = (
-            "0 begin 1\n1 return 1 busy a t\n2 enter 11.1 normal a -\n3 refuse 11.1 t pid\n4 enter 10.1 normal a -\n5 back 10.1 t\n"
-            "6 back-end 10.1 t\n7 body 10.1 b own t\n8 body 11.1 a nop\n9 leave 10.1\n10 exit 10.1 t 5\n11 exit-end 10.1 t\n"
-            "12 ret 10.1 -\nstopped\n"
-        )
-        wanted = "10.1 a: back t, body of b own t, exit t; 11.1 a: refuse t pid, body nop; command 1: busy a t; stopped"
-        self.assertEqual(plain_outcomes.outcome_of(log, [10, 11]), wanted)
-        self.assertEqual(plain_outcomes.outcome_of("end\n", []), "no calls")
-
 
 class Page(unittest.TestCase):
     """The tables of the page."""
@@ -179,17 +165,6 @@ class Searches(unittest.TestCase):
         for name, script in SMALL.items():
             self.assertLessEqual(random_outcomes(script), full_search(script), name)
 
-    def test_full_search_has_every_random_outcome_of_random_scripts(self):
-        whole = 0
-        for seed in range(1, 41):
-            script = small_scripts.script(seed)
-            if runs.answer([PROGRAM, "random", "1", "0"], script).status == 0:
-                found = outcome_runs.find(PROGRAM, script, 1, 0, outcome_runs.ALL_SWITCHES, 20_000)
-                if found.is_whole:
-                    whole += 1
-                    self.assertLessEqual(random_outcomes(script), {it.text for it in found.outcomes}, script)
-        self.assertGreaterEqual(whole, 20)
-
     def test_search_with_some_switches_has_every_random_outcome(self):
         for name, script in LARGE.items():
             found = outcome_runs.find(PROGRAM, script, 1, 0, 3, MANY)
@@ -218,11 +193,11 @@ class Searches(unittest.TestCase):
             self.assertNotEqual(ft("outcomes", str(path), "--tries", "300", "--seed", "8")[1], first[1])
 
     def test_standard_input(self):
-        status, out, err = ft("outcomes", "--tries", "10", "--switches", "none", given=TINY)
+        status, out, err = ft("outcomes", "--tries", "10", "--switches", "none", text=TINY)
         self.assertEqual((status, err, out.partition("\n")[0].endswith("by 10 replays at random")), (0, "", True))
 
     def test_refused_script(self):
-        self.assertEqual(ft("outcomes", given=b"ftrace 1\nfrob\n"), (2, "", "ft outcomes: the script is refused: line 2: syntax\n"))
+        self.assertEqual(ft("outcomes", text=b"ftrace 1\nfrob\n"), (2, "", "ft outcomes: the script is refused: line 2: syntax\n"))
 
     def test_words_of_the_program(self):
         for words in ("", "random", "random 1", "random x 1", "random 1 -1", "find 1 1", "search 1 12345678901", "random 1 1 1", "--help"):
@@ -244,12 +219,7 @@ class Replays(unittest.TestCase):
         scripts += [(runs.TOP / "examples" / f"{name}.ft").read_bytes() for name in EXAMPLES]
         for script in scripts:
             for it in outcome_runs.find(PROGRAM, script, 1, 64, 1, 100).outcomes:
-                self.assertEqual(plain_outcomes.replayed(runs.PROGRAM, script, it.shown.line), it.text)
-
-    def test_full_search_has_every_plain_outcome(self):
-        """All schedules of two segments, and then each actor in turn, one process each."""
-        for script in (TINY, TWO_CPUS):
-            self.assertLessEqual(set(plain_outcomes.plain_search(runs.PROGRAM, script, 2, range(1, 26, 2))), full_search(script))
+                self.assertEqual(replayed(script, it.shown.line), it.text)
 
     def test_full_search_has_every_random_outcome(self):
         chance = random.Random(3)
@@ -257,7 +227,7 @@ class Replays(unittest.TestCase):
             script, found = path.read_bytes(), full_search(path.read_bytes())
             for _ in range(60):
                 items = [f"{chance.choice('k0')}*{chance.randint(1, chance.choice((3, 12, 48)))}" for _ in range(chance.randint(1, 12))]
-                self.assertIn(plain_outcomes.replayed(runs.PROGRAM, script, f"sched {' '.join(items)} all*40000"), found, path.name)
+                self.assertIn(replayed(script, f"sched {' '.join(items)} all*40000"), found, path.name)
 
     def test_broken_pattern_gives_a_script(self):
         with tempfile.TemporaryDirectory() as room:
@@ -267,7 +237,7 @@ class Replays(unittest.TestCase):
             status, text, _ = ft(*words, "--out", str(out))
             self.assertEqual((status, text.splitlines()[-1]), (1, f"--never 'body own t' is broken; {out} has a script that shows it"))
             came = runs.answer([runs.PROGRAM, "replay"], out.read_bytes())
-            self.assertIn("body own t", plain_outcomes.outcome_of(came.out.decode(), [10]))
+            self.assertIn("body own t", outcome_of(came.out.decode(), ["10"]))
             status, text, _ = ft(*words)
             self.assertEqual(text.partition("this script shows it:\n")[2].encode(), out.read_bytes())
             self.assertEqual(ft(*words[:4], "--never", "back t, back t", "--always", "10.1 a: ")[0], 0)
@@ -277,9 +247,9 @@ class Replays(unittest.TestCase):
 class WrongInputs(unittest.TestCase):
     """Each is answered by one line and status 2."""
 
-    def check(self, *words, given=b"", told=None):
+    def check(self, *words, text=b"", told=None):
         quick = [] if any(word.startswith("--tries") for word in words) else ["--tries", "1"]
-        status, out, err = ft("outcomes", *quick, *words, given=given)
+        status, out, err = ft("outcomes", *quick, *words, text=text)
         self.assertEqual((status, out), (2, ""), words)
         self.assertRegex(err, r"\Aft outcomes: [^\n]+\n\Z", words)
         if told:
@@ -312,20 +282,20 @@ class WrongInputs(unittest.TestCase):
     def test_out(self):
         with tempfile.TemporaryDirectory() as room:
             program = ["--program", fake(room, "1 no calls\nsched all*9\n1 outcomes in 1 replays, and there are no more to try\n")]
-            status, _, err = ft("outcomes", *program, "--never", "no", "--out", room, given=TINY)
+            status, _, err = ft("outcomes", *program, "--never", "no", "--out", room, text=TINY)
             self.assertEqual((status, err.count("\n")), (2, 1))
 
     def test_what_the_program_writes(self):
         texts = ["", "x\n", "1 a\n", "1 a\nsched k\n", "1 outcomes in x replays\n", "1 a\nsched frob\n1 outcomes in 1 replays\n"]
         for text in [*texts, "1 outcomes in 1 replays"]:
             with tempfile.TemporaryDirectory() as room:
-                self.check("--program", fake(room, text), given=TINY, told="isn't what ftoutcomes writes")
+                self.check("--program", fake(room, text), text=TINY, told="isn't what ftoutcomes writes")
 
     def test_how_the_program_ends(self):
         ends = {3: "refused: line 2: syntax", 4: "can't be read", 5: "can't be written", 6: "out of memory", 7: "too long", 9: "status 9"}
         for status, told in ends.items():
             with tempfile.TemporaryDirectory() as room:
-                self.check("--program", fake(room, "line 2: syntax\n", status), given=b"\xff\0", told=told)
+                self.check("--program", fake(room, "line 2: syntax\n", status), text=b"\xff\0", told=told)
 
 
 if __name__ == "__main__":

@@ -11,7 +11,7 @@ from ftlog import given_logs, programs, runs, step_data, step_kinds, step_tasks,
 from ftlog.checks import page_names
 from ftlog.commands import step_page
 from ftlog.tests import browser
-from ftlog.tests.runs_in_process import EXAMPLES, Case, answer, lines
+from ftlog.tests.called import EXAMPLES, Case, ft, lines
 
 FOLDER = pathlib.Path(__file__).resolve().parent / "steps"
 NAMES = sorted(path.stem for path in FOLDER.glob("*.steps"))
@@ -107,7 +107,7 @@ class Pages(Case):
     def page(self, script, steps, *words):
         """The path of the page of a script and a trace."""
         path = self.folder / f"{pathlib.Path(script).stem}.html"
-        status, out, err = answer("step-page", script, "--steps", steps, "--out", path, *words)
+        status, out, err = ft("step-page", script, "--steps", steps, "--out", path, *words)
         self.assertEqual((0, ""), (status, err))
         self.assertTrue(out.startswith(f"{path}: "))
         return path
@@ -201,7 +201,7 @@ class StepPage(Pages):
             self.assertEqual(step_data.ADDRESSES[name], int(found[1].replace("_", ""), 0), name)
 
     def test_the_page_is_one_file(self):
-        status, page, err = answer("step-page", self.files("first_path")[0], "--steps", self.files("first_path")[1], "--docs",
+        status, page, err = ft("step-page", self.files("first_path")[0], "--steps", self.files("first_path")[1], "--docs",
                                    "https://example.org/docs")
         self.assertEqual((0, ""), (status, err))
         self.assertTrue(page.isascii() and page.startswith("<!doctype html>"))
@@ -262,35 +262,35 @@ class StepPage(Pages):
         for number, (what, trace) in enumerate(wrong):
             script = self.write(f"{number}.ft", SCRIPT)
             steps = self.write(f"{number}.steps", trace)
-            self.assert_told(what, answer("step-page", script, "--steps", steps, "--out", self.folder / "never.html"))
+            self.assert_told(what, ft("step-page", script, "--steps", steps, "--out", self.folder / "never.html"))
         self.assertFalse((self.folder / "never.html").exists())
 
     def test_wrong_words(self):
         script, steps = self.files("first_path")
-        self.assert_told("a folder as the trace", answer("step-page", script, "--steps", self.folder))
-        self.assert_told("a folder as the script", answer("step-page", self.folder, "--steps", steps))
-        self.assert_told("a folder as the page", answer("step-page", script, "--steps", steps, "--out", self.folder))
-        self.assert_told("a folder that isn't there", answer("step-page", script, "--steps", steps, "--out", self.folder / "no" / "x.html"))
-        self.assert_told("both from standard input", answer("step-page", "--steps", "-"))
-        self.assert_told("another example's trace", answer("step-page", EXAMPLES / "filters.ft", "--steps", steps))
-        self.assert_told("a script that is cut", answer("step-page", self.write("cut.ft", SCRIPT[:-1]), "--steps", steps))
-        self.assert_told("a script that isn't one", answer("step-page", self.write("not.ft", b"\x00\n"), "--steps", steps))
-        self.assert_told("an option that there isn't", answer("step-page", script, "--step", steps))
+        self.assert_told("a folder as the trace", ft("step-page", script, "--steps", self.folder))
+        self.assert_told("a folder as the script", ft("step-page", self.folder, "--steps", steps))
+        self.assert_told("a folder as the page", ft("step-page", script, "--steps", steps, "--out", self.folder))
+        self.assert_told("a folder that isn't there", ft("step-page", script, "--steps", steps, "--out", self.folder / "no" / "x.html"))
+        self.assert_told("both from standard input", ft("step-page", "--steps", "-"))
+        self.assert_told("another example's trace", ft("step-page", EXAMPLES / "filters.ft", "--steps", steps))
+        self.assert_told("a script that is cut", ft("step-page", self.write("cut.ft", SCRIPT[:-1]), "--steps", steps))
+        self.assert_told("a script that isn't one", ft("step-page", self.write("not.ft", b"\x00\n"), "--steps", steps))
+        self.assert_told("an option that there isn't", ft("step-page", script, "--step", steps))
         with mock.patch.object(runs, "TOP", self.folder):
-            self.assert_told("no trace and no program", answer("step-page", script))
+            self.assert_told("no trace and no program", ft("step-page", script))
 
     def test_the_program_gives_the_trace(self):
         script, steps = self.files("first_path")
         program = self.write("ftsteps", f"#!/bin/sh\ncat > /dev/null\ncat {steps}\n".encode())
         program.chmod(0o755)
         with mock.patch.object(programs, "built", lambda name: program):
-            self.assertIn('"last":"end"', answer("step-page", script)[1])
+            self.assertIn('"last":"end"', ft("step-page", script)[1])
         program.write_bytes(b"#!/bin/sh\nexit 6\n")
         with mock.patch.object(programs, "built", lambda name: program):
-            self.assert_told("a program that fails", answer("step-page", script))
+            self.assert_told("a program that fails", ft("step-page", script))
         program.write_bytes(b"#!/bin/sh\necho line 3: duplicate\nexit 3\n")
         with mock.patch.object(programs, "built", lambda name: program):
-            self.assert_told("a script that is refused", answer("step-page", script))
+            self.assert_told("a script that is refused", ft("step-page", script))
 
 
 @unittest.skipUnless(NODE, "there is no node")

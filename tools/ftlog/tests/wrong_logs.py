@@ -1,5 +1,5 @@
 """Wrong scripts and logs, each of which a tool that reads both has to answer by one line."""
-from ftlog.tests.runs_in_process import lines
+from ftlog.tests.called import lines
 
 SCRIPT = lines("ftrace 1; func a; user tr function; cpu 0 quantum 100; task 10 cpu 0; after 1; call a; ret; ctl register tr")
 ITEMS = ("0 begin 1; 1 return 1 ok; 2 enter 10.1 normal a -; 3 back 10.1 tr; 4 back-end 10.1 tr; 5 body 10.1 a own tr; 6 leave 10.1; "
