@@ -3,13 +3,10 @@
 
     tools/bench/spin_model.py edits                 does Spin find what is wrong with a model that leaves a step out?
     tools/bench/spin_model.py same --count 100      does the program print what the model does, by the same steps?
-    tools/bench/spin_model.py simulate              seconds of a simulation, and of a replay of the same steps
     tools/bench/spin_model.py search --calls 0      states, seconds and memory of a search
     tools/bench/spin_model.py ends --calls 0        the same of a search for a run in which control doesn't come to its end
-    tools/bench/spin_model.py outcomes --calls 2    the outcomes of the model, as the program ftoutcomes tells those of the script
 
-They want `spin` (Debian's package of this name) and `gcc`. `same` and `simulate` run the program of --program, or ./ftcore's
-proved one. Seconds are processor time, user and system: the least and the median of --times runs. The status is 1 if an edit
+They want `spin` (Debian's package of this name) and `gcc`. `same` runs the program of --program, or ./ftcore's proved one. Seconds are processor time, user and system: the least and the median of --times runs. The status is 1 if an edit
 or a log isn't as it is to be, and 2 if a program is missing.
 """
 import argparse
@@ -113,12 +110,6 @@ def told(seconds):
     return f"{min(seconds):.4f} to {statistics.median(seconds):.4f} s"
 
 
-def speed(count, seconds, none):
-    """How many of these a second, without what a run takes that makes none; nothing if that is most of it."""
-    least, rest = min(seconds) - min(none), statistics.median(seconds) - statistics.median(none)
-    return f"{count / rest:,.0f} to {count / least:,.0f} a second" if min(least, rest) > 0.005 else "too short to tell a speed"
-
-
 # ---- the questions ----
 
 
@@ -186,37 +177,6 @@ def same(options, folder):
     return wrong
 
 
-def rounds_to_end(options, folder):
-    """The fewest turns of each actor, one after the other, that a replay needs to come to its end."""
-    least, most = 1, 1000000
-    while least < most:
-        middle = (least + most) // 2
-        said = run([options.program, "replay"], folder, script_of(options, [f"all*{middle}"]))[0]
-        least, most = (least, middle) if said.endswith("end\n") else (middle + 1, most)
-    return least
-
-
-def timed(command, folder, options, text=None):
-    """The seconds of some runs."""
-    return [run(command, folder, text)[1] for _ in range(options.times)]
-
-
-def simulate(options, folder):
-    """Times a simulation that prints nothing, a replay of its steps, and a replay in which all have turns one after the other."""
-    steps, items = simulated(1, options, folder)
-    spin, replay = ["spin", "-T", "-b", "-n1", *defines(options)], [options.program, "replay"]
-    rounds = rounds_to_end(options, folder)
-    print(f"{len(steps):,} steps, {len(items):,} items; {3 * rounds:,} turns of all*{rounds}")
-    none = timed([*spin, "-u1", str(MODEL)], folder, options)
-    some = timed([*spin, str(MODEL)], folder, options)
-    print(f"spin -T -b: {told(some)}; with one step: {told(none)}; {speed(len(steps), some, none)}")
-    none = timed(replay, folder, options, script_of(options, ["k"]))
-    for name, turns, count in [("these steps", steps, len(steps)), (f"all*{rounds}", [f"all*{rounds}"], 3 * rounds)]:
-        some = timed(replay, folder, options, script_of(options, turns))
-        print(f"replay of {name}: {told(some)}; with one turn: {told(none)}; {speed(count, some, none)}")
-    return 0
-
-
 SAID = r"pan:1:.*|.*errors: .*|.*states, (?:stored|matched).*|.*hash factor.*|.*Search not completed.*|State-vector \d+.*"
 
 
@@ -250,45 +210,7 @@ def ends(options, folder):
     return search_for(MODEL.read_text() + never, [], ["-a", "-f"], options, folder)
 
 
-NOTED = "    came[CALLS * me + calls] = 1 + insn + 4 * visited;\n"
-LAST = """
-active proctype Last() {
-    d_step {
-        done == 4 * ROUNDS && ack[0] == ALL && ack[1] == ALL && quiet[0] == ALL && quiet[1] == ALL ->
-            c_code { printf("OUTCOME"); for (int i = 0; i < 2 * CALLS; i++) printf(" %d", now.came[i]); printf("\\n"); }
-    }
-}
-"""
-RAN = ["nop", "list", "own t1", "own t2"]
-CALLED = [[], ["back t1"], ["back t2"], ["back t2", "back t1"]]
-
-
-def outcome(numbers, calls):
-    """The words of an outcome, of what was noted of each call."""
-    told_of_calls = []
-    for place, came in enumerate(numbers):
-        words = [*CALLED[(came - 1) // 4], f"body {RAN[(came - 1) % 4]}"]
-        told_of_calls.append(f"{10 + place // calls}.{place % calls + 1} a: {', '.join(words)}")
-    return "; ".join(told_of_calls)
-
-
-def outcomes(options, folder):
-    """Prints what the calls of the model can come to: each is noted at its body, and all of them where all have come to their ends."""
-    noted = MODEL.read_text().replace("inline body() {\n", "inline body() {\n" + NOTED)
-    text = f"byte came[{2 * options.calls}];\n{noted}{LAST}".replace("2 * CALLS", str(2 * options.calls))
-    complaint = verifier(folder, text, defines(options), ["-O2", "-DSAFETY", f"-DMEMLIM={options.memory}"])
-    if complaint:
-        print(complaint)
-        return 1
-    said, seconds, _ = run(["./pan", f"-m{options.depth}", f"-w{options.bits}"], folder)
-    found = {tuple(map(int, line.split()[1:])) for line in said.splitlines() if line.startswith("OUTCOME")}
-    print("\n".join(sorted(outcome(numbers, options.calls) for numbers in found)))
-    states = number(r"([\d.e+]+) states, stored", said)
-    print(f"{len(found)} outcomes, {states:,.0f} states, {seconds:.3f} s")
-    return 0
-
-
-WORK = {"edits": edits, "same": same, "simulate": simulate, "search": search, "ends": ends, "outcomes": outcomes}
+WORK = {"edits": edits, "same": same, "search": search, "ends": ends}
 
 
 def main():
@@ -307,7 +229,7 @@ def main():
     parser.add_argument("--bits", type=int, default=22, help="of the number of places in the table of states")
     parser.add_argument("--flags", type=str.split, default=[], help="words for the verifier's compiler, as --flags='-DNOREDUCE -DCOLLAPSE'")
     options = parser.parse_args()
-    needed = ["spin", "gcc"] + ([options.program] if options.work in ("same", "simulate") else [])
+    needed = ["spin", "gcc"] + ([options.program] if options.work == "same" else [])
     missing = [name for name in needed if not shutil.which(name)]
     if missing:
         parser.exit(2, f"spin_model: there is no program {missing[0]}\n")

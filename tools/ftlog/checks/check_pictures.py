@@ -17,7 +17,7 @@ import sys
 import tempfile
 import xml.etree.ElementTree as ElementTree
 
-from ftlog import log_reader, runs, script_reader
+from ftlog import log_reader, rings_of_log, runs, script_reader
 from ftlog.draw import log_choice, log_svg, log_trace
 from ftlog.fault import Fault
 
@@ -204,7 +204,7 @@ def check_examples(rows, folder):
         for choice, calls in choices(script, history, log):
             text = log_svg.Picture(script, history, path.stem, choice).whole()
             found = picture_faults(text, log, choice.first, choice.last, calls)
-            if calls is None and len(choice.places) == len(history.lines) and rings.exists():
+            if calls is None and len(choice.places) == len(history.lines) and rings.exists() and rings_of_log.says_something(script):
                 found += ring_faults(text, rings.read_text())
             rows.row(f"{path.name}, picture of {len(choice.places)} places", found)
         rows.row(f"{path.name}, trace", trace_faults(log_trace.trace(script, history, path.stem), log))

@@ -7,21 +7,22 @@
 - each status with its cause: streams that fail, too long an input, and memory from too little to begin up to ample;
 - each limit of size reached and passed, in at most a hundred times the time that it takes now, and all at once;
 - a long history in each printed form;
-- runs by threads: scripts with one order only print what a replay of them prints, scripts with lanes what a replay of their commands in the
-  order of the lock prints (lane_runs.py), and others come to their ends; ftjudge calls each log of these two whole.
+- runs by threads: scripts with one order only print what a replay of them prints, and others, with lanes too, come to their ends; ftjudge
+  calls each log whole, of a script with lanes in the order that it tells.
 
 Each row asks for the status and for what is written; nothing may be written to standard error.
 The last line is `edges: N passed, M failed`, and the status is 0 if nothing failed.
 """
 import collections
+import random
 import resource
 import shlex
 from typing import Callable, NamedTuple, Optional
 
 from ftlog import programs, runs
-from ftlog.checks import check_docs, command_answers, command_words, full_scripts, judging, lane_runs, line_forms, memory_limits, module_lines
+from ftlog.checks import check_docs, command_answers, command_words, full_scripts, judging, line_forms, memory_limits, module_lines
 from ftlog.checks import refused_scripts, script_texts, selected_functions
-from ftlog.make import script_forms as forms
+from ftlog.make import script_forms as forms, viewed_scripts
 
 SCRIPT = b"ftrace 1\nfunc a\nuser tr function\ncpu 0 quantum 100\ntask 10 cpu 0\nafter 1\ncall a\nret\nctl register tr\n"
 LOG = b"0 begin 1\n1 return 1 ok\n2 enter 10.1 normal a -\n3 back 10.1 tr\n4 back-end 10.1 tr\n"
@@ -448,6 +449,29 @@ def check_runs(rows, program, top):
         rows.row(f"runs: nests of calls: {form}", found + [f"{lines} lines, not {count}"] * (lines != count), came.seconds)
 
 
+LANED = ["one_trampoline", "unregistered_by_another"]  # examples
+TIMES, SEEDS = 10, 20  # that each of them is run, and random scripts
+
+
+def most_lanes():
+    """As many lanes and commands as there may be: each lane registers a user of its own, and unregisters it, again and again."""
+    turns = range(forms.COMMANDS // forms.LANES)
+    control = [[f"lane {lane}", *(f"ctl {('register', 'unregister')[turn % 2]} u{lane}" for turn in turns)] for lane in range(forms.LANES)]
+    return script("ftrace 1", "func a", [f"user u{lane} function" for lane in range(forms.LANES)], "cpu 0 quantum 100", *control)
+
+
+def check_lanes(rows, program, top):
+    """Runs of scripts with lanes, the largest ones too."""
+    texts = [(name, (top / "examples" / f"{name}.ft").read_bytes()) for name in LANED for _ in range(TIMES)]
+    texts += [(f"ft make viewed --seed {seed} --lanes", viewed_scripts.laned(seed)) for seed in range(SEEDS)]
+    full = [line.split() for line in full_scripts.script(TWO).decode().splitlines()]
+    texts += [("the most lanes and commands", most_lanes())]
+    texts += [("all limits of version 2", forms.text_of(viewed_scripts.with_lanes(random.Random("full"), full, forms.LANES)))]
+    for what, text in texts:
+        came = runs.answer([program, "run"], text, full_scripts.RUN_SECONDS)
+        rows.row(f"lanes: {what}", command_words.run_faults(came, "log", text), came.seconds)
+
+
 def add_words(parser):
     """Adds the words of `ft check program`."""
     runs.add_options(parser)
@@ -472,5 +496,5 @@ def run(options):
     full_scripts.check(rows, options.program)
     check_forms(rows, options.program)
     check_runs(rows, options.program, options.top)
-    lane_runs.check(rows, options.program, options.top)
+    check_lanes(rows, options.program, options.top)
     return rows.end()

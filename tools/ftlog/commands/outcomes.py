@@ -10,7 +10,7 @@ import re
 import shlex
 import sys
 
-from ftlog import files, lane_orders, outcome_runs, programs
+from ftlog import files, outcome_runs, programs
 from ftlog.fault import Fault
 
 PROGRAM = programs.built("ftoutcomes")
@@ -96,9 +96,9 @@ def with_schedule(script, line, comments):
 def lanes_told(script):
     """In which order the commands of several lanes went, of all those in which they could go; nothing if there is one order alone."""
     lane, having = -1, []
-    for line in script.splitlines():
-        lane += bool(lane_orders.LANE.match(line))
-        if lane_orders.CONTROL.match(line) and lane >= 0 and lane not in having:
+    for line in script.split(b"\n"):
+        lane += line.split()[:1] == [b"lane"]
+        if line.split()[:1] == [b"ctl"] and lane >= 0 and lane not in having:
             having.append(lane)
     return f", in one order of the lanes: {', then '.join(f'lane {lane}' for lane in having)}" if len(having) > 1 else ""
 

@@ -13,7 +13,7 @@ TOOLS = [[name] for name in ("cost", "definitions", "further", "provers", "sampl
 NOTHING = "/nowhere/program"
 # Words that none of these tools can do anything for.
 WRONG = [
-    ["check", "docs", "--program", NOTHING], ["check", "program", "--program", NOTHING], ["check", "allocations", "--program", NOTHING],
+    ["check", "docs", "--program", NOTHING], ["check", "program", "--program", NOTHING],
     ["check", "docs", "--program", "/"], ["check", "docs", "more"], ["check", "rings", "--count", "1", "--runs", NOTHING],
     ["check", "rings", "--rows", "1", "--program", NOTHING], ["check", "rings", "--count", "x"], ["check", "rings", "--judge", NOTHING, NOTHING],
     ["check", "pages"], ["check", "runs", NOTHING, "--count", "1"], ["check", "runs", sys.executable, "--count", "1", "--sources", "others"], ["check", "other"],

@@ -9,5 +9,4 @@ PARTS = {
     "recorded": "ftlog.checks.check_recorded",
     "tools": "ftlog.checks.check_tools",
     "runs": "ftlog.checks.check_runs",
-    "allocations": "ftlog.checks.refused_allocations",
 }
