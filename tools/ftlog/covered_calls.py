@@ -2,7 +2,7 @@
 
 The acts of tasks and the lines of control are lists of words, as script_forms.py has them. A task is its pid, its CPU and its acts.
 """
-from ftlog import control_lines, script_reader
+from ftlog import control_lines
 
 
 def first_line(todo, place):
@@ -41,14 +41,3 @@ def uncovered(script, tasks, control):
             last = last_line(control, pid, return_number(todo, place))
             if any(owners[words[1]] in modules for modules in away[first_line(todo, place) : last + 1]):
                 yield words
-
-
-def lowest_line(text):
-    """The line for which a script with these bytes, if there is no other cause, is refused as `unloaded`; None if it isn't."""
-    script = script_reader.read_script(text)
-    changing = control_lines.changing(script)
-    away = {function.name for function in script.functions if function.module in changing}
-    users = {user.name for user in script.users.values() if away.intersection(user.needs)}
-    calls = {id(words) for words in uncovered(script, script.acts, script.control)} if changing else set()
-    found = (line.number for line in script.said if id(line.words) in calls or line.form.key == "user" and line.form.said["NAME"] in users)
-    return min(found, default=None)

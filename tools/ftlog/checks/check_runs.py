@@ -17,7 +17,7 @@ from ftlog.make import script_forms, viewed_scripts
 FOLDER = pathlib.Path(tempfile.gettempdir()) / "run-faults"
 WORKERS = 2
 SECONDS = 120
-SOURCES = {"plain": script_forms.script, **{name: make for name, make in viewed_scripts.SOURCES.items() if name != "uncovered"}}
+SOURCES = {"plain": script_forms.script, **viewed_scripts.SOURCES}
 
 
 def try_script(job):

@@ -8,11 +8,9 @@ scripts; `ft check program` takes `script` from here.
 """
 import random
 
-from ftlog import covered_calls, files, limits, script_lines, script_reader
+from ftlog import covered_calls, files, limits, script_reader
 from ftlog.limits import LIMITS, VERSION_1, VERSION_2, VERSIONS
 from ftlog.script_lines import CONTEXTS, DIGITS, NoForm, form_of
-
-ACT_WORDS = script_lines.ACTS
 
 # The limits that the program has, but for those that differ by version.
 CPUS = LIMITS["CPUS"]

@@ -4,13 +4,12 @@
     tools/ft make viewed --seed N --lanes        one with lanes, of other commands
     tools/ft make viewed --seed N --rings        one with rings and triggers, on up to the most CPUs
     tools/ft make viewed --seed N --modules      one with modules that come and go, many of whose functions are called
-    tools/ft make viewed --seed N --uncovered    the same, but a call may find its module unloaded
 
 Of the scripts of script_forms.py most print nothing in some form: no user of its kind is called back. Here there are
 a function, a graph and a profile user at least, nearly all users are registered before the tasks go on, and the calls
 nest. Users are unregistered, registered again and given other sets while calls are open.
 
-One seed gives one script, which is accepted; of those that are uncovered most are refused.
+One seed gives one script, which is accepted.
 """
 import random
 
@@ -147,14 +146,14 @@ def lines_of(rng, is_ringed=False):
     return lines + told + below(rng, cpus, tasks, control)
 
 
-def lines_with_modules(rng, is_covered):
-    """The lines of a script with modules that come and go. If it isn't covered, a call may find its module unloaded, or a user may need it."""
+def lines_with_modules(rng):
+    """The lines of a script with modules that come and go."""
     version, functions = rng.choice(forms.VERSIONS), rng.sample(forms.FUNCTIONS, rng.randint(3, 7))
     some = rng.sample(forms.MODULES, rng.choice([1, 1, 2]))
     owners = owners_of(rng, functions, some)
     changing = [module for module in some if module in owners.values()]
     staying = [name for name in functions if owners[name] not in changing]
-    told = users(rng, staying if is_covered or rng.random() < 0.8 else functions)
+    told = users(rng, staying)
     first, absent = opening(rng, told, functions), [module for module in changing if rng.random() < 0.7]
     if absent and rng.random() < 0.3:
         more, lines = rivals(rng, absent[0], staying)
@@ -168,8 +167,7 @@ def lines_with_modules(rng, is_covered):
     forms.without_deadlock(rng, tasks, control)
     head = [["ftrace", str(version.number)]] + [["func", name] + ([owners[name]] if owners[name] else []) for name in functions]
     head += sizes(rng) + [["absent", module] for module in absent] + told
-    if is_covered:
-        forms.cover(rng, head, tasks, control, staying)
+    forms.cover(rng, head, tasks, control, staying)
     return head + below(rng, cpus, tasks, control)
 
 
@@ -202,16 +200,10 @@ def ringed(seed):
 
 def loading(seed):
     """The text of the script with modules that come and go of this seed."""
-    return forms.text_of(lines_with_modules(random.Random(f"loading {seed}"), is_covered=True))
+    return forms.text_of(lines_with_modules(random.Random(f"loading {seed}")))
 
 
-def uncovered(seed):
-    """The text of the script of this seed in which a call may find its module unloaded."""
-    return forms.text_of(lines_with_modules(random.Random(f"uncovered {seed}"), is_covered=False))
-
-
-SOURCES = {"viewed": script, "laned": laned, "ringed": ringed, "loading": loading, "uncovered": uncovered}
-OPTIONS = {"laned": ["--lanes"], "ringed": ["--rings"], "loading": ["--modules"], "uncovered": ["--uncovered"]}  # with which one is written
+SOURCES = {"viewed": script, "laned": laned, "ringed": ringed, "loading": loading}
 
 
 def add_words(parser):
@@ -221,7 +213,6 @@ def add_words(parser):
     which.add_argument("--lanes", action="store_const", dest="make", const=laned, default=script, help="one with lanes")
     which.add_argument("--rings", action="store_const", dest="make", const=ringed, help="one with rings and triggers")
     which.add_argument("--modules", action="store_const", dest="make", const=loading, help="one with modules that come and go")
-    which.add_argument("--uncovered", action="store_const", dest="make", const=uncovered, help="the same, but a call may find its module unloaded")
 
 
 def run(options):

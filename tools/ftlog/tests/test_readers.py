@@ -5,7 +5,7 @@ import pkgutil
 import unittest
 
 import ftlog
-from ftlog import control_lines, covered_calls, filters, limits, log_desk, log_items, log_reader, rings_of_log, runs, script_reader
+from ftlog import control_lines, filters, limits, log_desk, log_items, log_reader, rings_of_log, runs, script_reader
 from ftlog.checks import check_docs
 from ftlog.fault import Fault
 from ftlog.tests.called import lines
@@ -71,12 +71,6 @@ class Scripts(unittest.TestCase):
         for line, said in [("ctl enable x", "no such user"), ("task 10 cpu 0", "no CPU"), ("ring 0", "rings of a size"), (f"func {'x' * 64}", "a name")]:
             with self.subTest(line), self.assertRaisesRegex(Fault, said):
                 script_reader.check(script_reader.read_script(f"ftrace 1\n{line}\n".encode()))
-
-    def test_uncovered_calls(self):
-        """The line that is refused as `unloaded`."""
-        text = lines("ftrace 1; func e ext3; func a; absent ext3; cpu 0 quantum 1; task 10 cpu 0; call a; ret; call e; ret; ctl load ext3")
-        self.assertEqual(covered_calls.lowest_line(text), 9)
-        self.assertIsNone(covered_calls.lowest_line(text.replace(b"call e", b"after 1\ncall e")))
 
 
 class Logs(unittest.TestCase):
