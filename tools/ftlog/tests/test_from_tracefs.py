@@ -8,7 +8,7 @@ import tempfile
 import time
 import unittest
 
-from ftlog import filter_texts, filters, log_desk, runs, script_reader, shell_commands, tracefs_script, tracefs_state, tracefs_writes
+from ftlog import filter_texts, runs, script_reader, shell_commands, tracefs_script, tracefs_state, tracefs_writes
 from ftlog.tests.called import ft
 
 CASES = pathlib.Path(__file__).with_name("from_tracefs.txt")
@@ -64,23 +64,8 @@ class Cases(unittest.TestCase):
             with self.subTest(what):
                 self.assertEqual((came.status, came.out.splitlines()[-1:]), (0, [b"end"]))
 
-    def test_users_match_what_the_kernel_traces(self):
-        """In the end each user that is registered has in the script those functions that the lists select in the whole list."""
-        rng = random.Random(5)
-        for _ in range(60):
-            shell = random_shell(rng)
-            state, text = kernel_and_script(shell)
-            script = script_reader.read_script(text.encode())
-            desk = log_desk.Desk(script)
-            for words in script.lines:
-                self.assertEqual(desk.answer(*words), "ok", shell)
-                desk.carry_out(*words)
-            names = [function.name for function in script.functions]
-            matched = {user: {names[number] for number in numbers} for user, numbers in desk.matched.items()}
-            self.assertEqual(matched, {user: own & set(names) for user, own in traced(state).items()}, shell)
-
     def test_enabled(self):
-        """The same, of the program: how many users there are at each function."""
+        """In the end there are as many users at each function as the lists and tracers of the kernel select."""
         rng = random.Random(6)
         for _ in range(30):
             shell = random_shell(rng)
@@ -139,12 +124,6 @@ def text(rng):
 
 
 class Globs(unittest.TestCase):
-    def test_selected(self):
-        """Texts with modules and numbers, against what a script's texts select."""
-        listed = filter_texts.read_list("list", LIST)
-        for text in ["vfs_*", "*:mod:ext4", ":mod:!*", "*_read:mod:!ext4", "*:mod:e?t4", "4", "6"]:
-            self.assertEqual(set(listed.selected(filters.read_text(text))), filters.FunctionList(listed.functions).selected(filters.read_text(text)), text)
-
     def test_lists_alone(self):
         """Without a tracer there is a user that isn't registered."""
         script = written("echo 'vfs_*' > set_ftrace_filter")[0]

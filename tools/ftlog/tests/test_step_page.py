@@ -76,27 +76,6 @@ def many_steps(calls):
     return "\n".join([*script, ""]).encode(), "\n".join([*found, "stopped", ""]).encode()
 
 
-def many_sites(functions):
-    """A script of so many functions in which a user is registered, and its trace: a batch of all sites."""
-    names, found, old, new = [f"f{number}" for number in range(functions)], [], 0x441F, step_data.ADDRESSES["trampoline"] - 5
-    script = ["ftrace 1", *(f"func {name}" for name in names), "user tr function", "cpu 0 quantum 9", "ctl register tr"]
-    steps = [("0", "load want 0 0"), ("0", f"store ack.0 0 {2**64 - 1}"), ("k", "mark clock 0x0 0x100000001 begin 1"),
-             ("k", "store tramp.0 0x0 0x100000001")]
-    steps += [("k", f"store bits.tr.1.{half}.{word} 0x0 0x0") for half in ("filter", "notrace") for word in range((functions + 63) // 64)]
-    steps += [("k", "store sel.tr 0x0 0x10000000f"), ("k", "store link.tr 0 0"), ("k", "store first 0 1"),
-              *(("k", f"store next.{name} 0 2") for name in names)]
-    steps += [("k", f"store head.{name} 0xf 0xcc") for name in names]
-    for request, kind in enumerate(("tail", "head", None)):
-        steps += [("k", f"store want {request} {request + 1}"), ("k", f"load ack.0 {2**64 - 1} {2**64 - 1}")]
-        for number, name in enumerate(names if kind else []):
-            tail = new - step_data.ADDRESSES["function"] - step_data.ADDRESSES["function_step"] * number
-            steps.append(("k", f"store tail.{name} {old:#x} {tail:#x}" if kind == "tail" else f"store head.{name} 0xcc 0xe8"))
-    steps.append(("k", "mark clock 0x100000001 0x200000002 return 1 ok"))
-    for turn, (actor, rest) in enumerate(steps):
-        found.append(f"{turn} {actor} {rest}")
-    return "\n".join([*script, ""]).encode(), "\n".join([*found, "end", ""]).encode()
-
-
 class Pages(Case):
     """What makes pages of examples."""
 
@@ -530,15 +509,10 @@ class InABrowser(Pages):
             self.assertLessEqual(shown.value("document.documentElement.scrollWidth"), width)
 
     def many(self, shown):
-        """Fifty thousand steps, and a batch of 1,024 sites: keys are answered at once, by the browser's own clock."""
+        """Fifty thousand steps: keys are answered at once, by the browser's own clock."""
         text, trace = many_steps(5000)
         shown.open(self.page(self.write("many.ft", text), self.write("many.steps", trace)).as_uri() + "#30000")
         self.assertEqual(30000, self.step(shown))
         took = shown.value(self.HUNDRED)
         self.assertEqual(30100, self.step(shown))
         self.assertLess(took / 100, 250, "milliseconds a key")
-        text, trace = many_sites(1024)
-        shown.open(self.page(self.write("sites.ft", text), self.write("sites.steps", trace)).as_uri() + "#3000")
-        took = shown.value(self.HUNDRED)
-        self.assertEqual(3100, self.step(shown))
-        self.assertLess(took / 100, 400, "milliseconds a key")
