@@ -2,8 +2,8 @@
 
 Each script becomes a job, and its log, which `./ftcore replay` prints, a list of items; the proof says by computation that the definition of
 the word machine gives that history and that end. samples.txt, beside this file, has the scripts of `rows`, which are worked examples, and of
-`runs`, in which a machine goes wrong that leaves something out: the name says what. Those of `random` are `ft make plain`'s with a schedule
-of single steps, from the seed FIRST on. Passed over are those that have what no sample has (version 2, lanes, modules that come and go, a
+`runs`, in which a machine goes wrong that leaves something out: the name says what. Those of `waits` take longer on a
+machine that waits for more. Those of `random` are `ft make plain`'s with a schedule of single steps, from the seed FIRST on. Passed over are those that have what no sample has (version 2, lanes, modules that come and go, a
 ring or a trigger), and those whose histories are shorter or longer than samples are.
 
 The first two are files of crates/word_machine/proofs, the others of crates/word_samples/proofs. Those that stand there have the histories
@@ -12,6 +12,7 @@ of a job changes, and then the crates are proved anew.
 
     tools/ft samples rows > RowSamples.antt
     tools/ft samples runs > RunSamples.antt
+    tools/ft samples waits > WaitSamples.antt
     tools/ft samples random 1 50 > RandomSamples1.antt
 """
 import random
@@ -23,6 +24,7 @@ from ftlog.make import script_forms as forms
 
 SCRIPTS = runs.TOP / "tools" / "ftlog" / "upkeep" / "samples.txt"
 WHAT = {"rows": "worked examples", "runs": "runs in which a machine goes wrong that leaves something out",
+        "waits": "runs that take longer on a machine that waits for more",
         "random": "random jobs under schedules of single steps"}
 FULL_TURNS = "all*300"  # enough to end each script
 ITEMS = range(11, 80)  # of a random history
