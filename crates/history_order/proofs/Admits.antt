@@ -10,14 +10,13 @@ use Rattle.ft_base.specs.declared.item.Ran.{Ran}
 use Rattle.ft_base.specs.declared.item.Ran.TheVariants.{Nop, List as ByList, Own}
 use Rattle.ft_base.specs.declared.item.Reason.{Reason}
 use Rattle.ft_base.specs.declared.item.Reason.TheVariants.{Pid as ByPid, Recursion, Depth}
-use Rattle.ft_base.specs.Items.{call_of}
 use Rattle.ft_base.specs.Job.{Job}
 use Rattle.ft_base.specs.Versions.{levels}
 use Rattle.ft_base.specs.Desk.{desk, is_on, is_live, is_allowed, spec_at, target}
 use Rattle.ft_base.proofs.Small.{false_true, ==-refl, or-true, Each-weaker, Contains-head, Contains-more}
-use Rattle.ft_hist.specs.Past.{is_of, done, begun, Callback, Entered, entered, entry_of, Visit, visits, exits, held, miss_due, open_callbacks, since_now}
+use Rattle.ft_hist.specs.Past.{is_of, begun, Callback, Entered, entered, entry_of, Visit, visits, exits, held, miss_due, open_callbacks, since_now}
 use Rattle.ft_hist.specs.Plain.{plain}
-use Rattle.ft_hist.specs.Rules.{AtReturnedOrBegun, InWindow, IsUnvisited, KeepsPlainRun, MayVisit, IsSilent, PassesAll, MayRefuse, NoMissDue, MayMiss, HasExit, MayExit, IsExitDone, AreExitsDone, OnlyThose, backs_with_replacement, replacement, IsFetched, MayFollow, IsLegalPast}
+use Rattle.ft_hist.specs.Rules.{AtReturnedOrBegun, InWindow, KeepsPlainRun, MayVisit, IsSilent, PassesAll, MayRefuse, NoMissDue, MayMiss, HasExit, MayExit, IsExitDone, AreExitsDone, OnlyThose, backs_with_replacement, replacement, IsFetched, MayFollow, IsLegalPast}
 use Rattle.ft_hist.proofs.ItemParts.{KeepsOthers, may_follow, of_visit, of_body, of_exits}
 use Rattle.ft_hist.proofs.Laws.{plain-other}
 use Rattle.ft_hist.proofs.Numbers.{some-run}
@@ -70,8 +69,8 @@ module _ (to : ℕ → ℕ) where
       let lower = each-unmap (moved job to) (λ n. n.place < to m.place) ms g.0 in (
         ((λ lt. absurd (omega (arith, lt))), Each-weaker (λ n. to n.place < to m.place) (Rises m) ms (λ n lt _. lt) lower),
         Each-weaker (λ b. (b.place < m.place) × Each (Rises b) ms) (λ b. Each (Rises b) (m ∷ ms)) ms
-        (λ b h. ((λ lt. (let below = h.0 in absurd (omega (arith, lt, below)))), h.1))
-        (each-both (λ b. b.place < m.place) (λ b. Each (Rises b) ms) ms f.0 (stays-in-order job ms f.1 g.1)),
+            (λ b h. ((λ lt. (let below = h.0 in absurd (omega (arith, lt, below)))), h.1))
+            (each-both (λ b. b.place < m.place) (λ b. Each (Rises b) ms) ms f.0 (stays-in-order job ms f.1 g.1)),
       )
 
 -- an item of a task stays one

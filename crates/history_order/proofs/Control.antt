@@ -1,5 +1,5 @@
 -- An item of a task and a neighbouring Begin or Return that change places.
-use Rattle.std.proofs.Common.{cond, ◌≡◌, ℕ, suc, ◌<◌, ◌≤◌, ◌⊎◌, Bool, true, false, ◌&&◌, ◌||◌, ◌==◌, List, [], ◌∷◌, ◌++◌, length, reverse, get_or, set, Option, Some, None, IfSome, IsSome, slice_get, refl, sym, ap, ◌∙◌, subst, arith, inl, inr, eqb-true, nat_le, leb-true, le-leb}
+use Rattle.std.proofs.Common.{cond, ◌≡◌, ℕ, suc, ◌<◌, ◌≤◌, Bool, true, false, ◌&&◌, ◌==◌, List, [], ◌∷◌, ◌++◌, length, reverse, set, Option, Some, None, IfSome, IsSome, slice_get, refl, sym, ap, ◌∙◌, subst, arith, inl, inr, nat_le, leb-true, le-leb}
 use Rattle.std.proofs.lemmas.Bool.Decides.{eqb_tells}
 use Rattle.std.proofs.lemmas.Bool.{cases_lt}
 use Rattle.std.proofs.lemmas.List.{get_or_past, length-set}
@@ -18,10 +18,10 @@ use Rattle.ft_base.specs.Desk.{Desk, UserState, unseen, after, answer_at, answer
 use Rattle.ft_base.proofs.DeskLaws.{desk-suc, user_at-same, user_at-other}
 use Rattle.ft_base.proofs.Order.{user-part, not-registered}
 use Rattle.ft_base.proofs.Small.{false_true, and_both, and-false, or-false_both, Each-weaker}
-use Rattle.ft_hist.specs.Finished.{AreWaitsMet, acts_done}
-use Rattle.ft_hist.specs.Past.{is_of, done, begun, Callback, callbacks, ended, entry_of, is_called, user_now}
-use Rattle.ft_hist.specs.Plain.{plain, PlainTask, Frame, Phase, Running, InBack, Ahead, ahead, below_top, after_item, after_next, after_enter, after_enter_ahead, after_leave, after_leave_ahead, after_scripted_enter, after_scripted_leave, in_phase, on_call, same_top, top_call}
-use Rattle.ft_hist.specs.Rules.{AtReturnedOrBegun, HasWaited, IsAnswered, IsLegal, IsLegalPast, IsStill, MayBegin, MayFollow, acts_passed}
+use Rattle.ft_hist.specs.Finished.{AreWaitsMet}
+use Rattle.ft_hist.specs.Past.{is_of, done, begun, Callback, callbacks, ended, entry_of, is_called}
+use Rattle.ft_hist.specs.Plain.{plain, PlainTask, Frame, Phase, Running, Ahead, ahead, below_top, after_item, after_next, after_enter, after_enter_ahead, after_leave, after_leave_ahead, after_scripted_enter, after_scripted_leave, in_phase, on_call, same_top, top_call}
+use Rattle.ft_hist.specs.Rules.{AtReturnedOrBegun, HasWaited, IsAnswered, IsLegal, IsLegalPast, IsStill, MayFollow, acts_passed}
 use Rattle.ft_hist.proofs.Finishing.{acts_done-more, passed-is, waits-back}
 use Rattle.ft_hist.proofs.ItemParts.{may_follow, of_begin, of_return}
 use Rattle.ft_hist.proofs.Laws.{plain-other}
@@ -38,11 +38,14 @@ module _ (job : Job) (past : List Item) where
   begin-with : (past' : List Item) (k : ℕ) → done past' ≡ done past → begun past' ≡ begun past → IsLegalPast job past' → HasWaited job past' → MayFollow job past (Begin k) → MayFollow job past' (Begin k)
   begin-with past' k d b l waited h =
       let m = h.commands.0 in
-      may_follow job past' (Begin k) (none-runs job past' (Begin k) (λ v. refl) l) (of_begin (record {
-        number = m.number ∙ ap suc (sym b);
-        follows = b ∙ m.follows ∙ sym d;
-        stands = subst (λ (n : ℕ). n < length (commands job)) (sym b) m.stands;
-      }, waited))
+      may_follow job past' (Begin k) (none-runs job past' (Begin k) (λ v. refl) l) (of_begin (
+        record {
+          number = m.number ∙ ap suc (sym b);
+          follows = b ∙ m.follows ∙ sym d;
+          stands = subst (λ (n : ℕ). n < length (commands job)) (sym b) m.stands;
+        },
+        waited,
+      ))
 
   -- waits that are met stay so over an item of a task
   waited-more : (item : Item) → begun (item ∷ past) ≡ begun past → IsLegalPast job past → IsLegalPast job (item ∷ past) → HasWaited job past → HasWaited job (item ∷ past)

@@ -1,21 +1,19 @@
 -- Two neighbours that change places leave two pasts in which every task finds the same, and so does what comes after them.
-use Rattle.std.proofs.Common.{cond, ◌≡◌, ℕ, suc, ◌<◌, ◌≤◌, Bool, true, false, ◌&&◌, ◌||◌, ◌==◌, List, [], ◌∷◌, ◌++◌, length, map, reverse, Option, Some, None, IfSome, IsSome, slice_get, refl, sym, ap, ◌∙◌, subst, arith, inl, inr, eqb-true, append_assoc}
+use Rattle.std.proofs.Common.{cond, ◌≡◌, ℕ, suc, ◌<◌, ◌≤◌, Bool, true, false, ◌==◌, List, [], ◌∷◌, ◌++◌, length, map, reverse, Option, Some, None, IfSome, IsSome, slice_get, refl, sym, ap, ◌∙◌, subst, arith, inl, inr, eqb-true, append_assoc}
 use Rattle.std.proofs.lemmas.Bool.Decides.{eqb_tells}
 use Rattle.std.proofs.lemmas.List.{reverse-append, length-reverse}
-use Rattle.std.specs.List.{list_any, AllByRecursion as Each}
+use Rattle.std.specs.List.{AllByRecursion as Each}
 use Rattle.ft_base.specs.declared.number.CallNo.{CallNo}
-use Rattle.ft_base.specs.declared.item.Answer.{Answer}
 use Rattle.ft_base.specs.declared.item.Item.{Item}
-use Rattle.ft_base.specs.declared.item.Item.TheVariants.{Begin, Return, Enter, Back, BackEnd, Refuse, Miss, Body, Leave, Exit, ExitEnd, Ret}
+use Rattle.ft_base.specs.declared.item.Item.TheVariants.{Begin, Return, Enter, Back, Refuse, Body, Leave, Exit, Ret}
 use Rattle.ft_base.specs.Job.{Job, Command, command_at, commands, takes_off, waits_before}
 use Rattle.ft_base.specs.Desk.{UserState, desk, user_at, is_on, answer_at, is_accepted}
-use Rattle.ft_base.proofs.Small.{false_true, ==-refl, or-false_both, Each-weaker}
+use Rattle.ft_base.proofs.Small.{==-refl, or-false_both, Each-weaker}
 use Rattle.ft_hist.specs.Past.{is_of, done, begun, Callback, callbacks, is_called, entry_of, user_now, visits, Visit}
 use Rattle.ft_hist.specs.Plain.{plain, PlainTask, after_item, after_next}
 use Rattle.ft_hist.specs.Rules.{KeepsPlainRun, HasWaited, HasEnded, IsAnswered, IsLegal, IsLegalPast, IsStill, IsWhole, MayBegin, MayFollow, acts_passed}
 use Rattle.ft_hist.proofs.Carries.{of_task}
 use Rattle.ft_hist.proofs.ItemParts.{may_follow, of_begin, of_return}
-use Rattle.ft_hist.proofs.Laws.{plain-other}
 use Rattle.ft_hist.proofs.Numbers.{some-run}
 use Rattle.ft_hist.proofs.OpenBacks.{opened}
 use Rattle.ft_hist.proofs.OpenCallbacks.{of_user, by_task}
@@ -177,23 +175,17 @@ module _ (job : Job) (to : ℕ → ℕ) where
 -- ## two neighbours
 
 module _ (p : ℕ) where
-  place-before : (e : ℕ) → e < p → moved_place p e ≡ e
-  place-before e lt = elim (eqb_tells e p) [
-    | inl x ↦ (let same = x.1 in absurd (omega (arith, lt, same)))
-    | inr x ↦ elim (eqb_tells e (suc p)) [
-      | inl y ↦ (let same = y.1 in absurd (omega (arith, lt, same)))
-      | inr y ↦ rw (x.0, y.0) refl
-    ]
+  elsewhere : (e : ℕ) → (e ≡ p → ⊥) → (e ≡ suc p → ⊥) → moved_place p e ≡ e
+  elsewhere e no_first no_second = elim (eqb_tells e p) [
+    | inl x ↦ absurd (no_first x.1)
+    | inr x ↦ elim (eqb_tells e (suc p)) [ inl y ↦ absurd (no_second y.1) | inr y ↦ rw (x.0, y.0) refl ]
   ]
 
+  place-before : (e : ℕ) → e < p → moved_place p e ≡ e
+  place-before e lt = elsewhere e (λ q. omega (arith, lt, q)) (λ q. omega (arith, lt, q))
+
   place-after : (e : ℕ) → suc p < e → moved_place p e ≡ e
-  place-after e lt = elim (eqb_tells e p) [
-    | inl x ↦ (let same = x.1 in absurd (omega (arith, lt, same)))
-    | inr x ↦ elim (eqb_tells e (suc p)) [
-      | inl y ↦ (let same = y.1 in absurd (omega (arith, lt, same)))
-      | inr y ↦ rw (x.0, y.0) refl
-    ]
-  ]
+  place-after e lt = elsewhere e (λ q. omega (arith, lt, q)) (λ q. omega (arith, lt, q))
 
   first-place : moved_place p p ≡ suc p
   first-place = rw (==-refl p) refl

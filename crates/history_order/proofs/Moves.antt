@@ -1,34 +1,20 @@
 -- Which neighbours may be exchanged: items of two tasks, and an item of a task with a Begin or a Return.
-use Rattle.std.proofs.Common.{cond, ◌≡◌, ◌≢◌, ℕ, suc, ◌<◌, ◌≤◌, ◌⊎◌, Bool, true, false, not, ◌&&◌, ◌||◌, ◌==◌, List, [], ◌∷◌, ◌++◌, length, reverse, get_or, Option, Some, None, IfSome, IsSome, slice_get, refl, sym, ap, ◌∙◌, subst, arith, inl, inr, eqb-true, nat_le, leb-true, le-leb}
+use Rattle.std.proofs.Common.{cond, ◌≡◌, ◌≢◌, ℕ, true, false, ◌==◌, List, ◌∷◌, ◌++◌, reverse, Option, Some, IsSome, refl, sym, ap, ◌∙◌, subst, inl, inr, eqb-true}
 use Rattle.std.proofs.lemmas.Bool.Decides.{eqb_tells}
-use Rattle.std.proofs.lemmas.Bool.{cases_lt}
-use Rattle.std.proofs.lemmas.List.{get_or_past, length-set}
-use Rattle.std.specs.List.{list_any, AllByRecursion as Each}
 use Rattle.ft_base.specs.declared.number.CallNo.{CallNo}
-use Rattle.ft_base.specs.declared.context.Ctx.{Ctx}
-use Rattle.ft_base.specs.declared.item.Answer.{Answer}
 use Rattle.ft_base.specs.declared.item.Item.{Item}
-use Rattle.ft_base.specs.declared.item.Item.TheVariants.{Begin, Return, Enter, Back, BackEnd, Refuse, Miss, Body, Leave, Exit, ExitEnd, Ret}
-use Rattle.ft_base.specs.declared.task.TaskAct.{TaskAct}
-use Rattle.ft_base.specs.declared.task.TaskAct.TheVariants.{Call, Ret as RetAct, Raise, Lower, After}
+use Rattle.ft_base.specs.declared.item.Item.TheVariants.{Begin, Return, Exit}
 use Rattle.ft_base.specs.Items.{call_of, is_task}
-use Rattle.ft_base.specs.Same.{same_call}
-use Rattle.ft_base.specs.Job.{Job, Command, Register, Unregister, Filter, Notrace, Enable, Disable, command_at, commands, takes_off}
-use Rattle.ft_base.specs.Desk.{Desk, UserState, desk, after, changed, with_user, user_at, unseen, is_on, is_sited, is_matching, is_live, is_accepted, answer_on, answer_at, register_answer, registered_as, unregistered_as}
-use Rattle.ft_base.proofs.DeskLaws.{desk-suc, user_at-same, user_at-other}
-use Rattle.ft_base.proofs.Order.{user-part, not-registered}
-use Rattle.ft_base.proofs.Small.{false_true, ==-refl, and_both, or-false_both}
-use Rattle.ft_hist.specs.Finished.{AreWaitsMet}
-use Rattle.ft_hist.specs.Past.{is_of, done, begun, Callback, callbacks, ended, entry_of, is_called, user_now}
-use Rattle.ft_hist.specs.Plain.{plain, PlainTask, Frame, Phase, Running, InBack, Ahead, ahead, below_top, after_item, after_next, after_enter, after_scripted_enter, after_leave, after_scripted_leave, in_phase, top_call, same_top}
-use Rattle.ft_hist.specs.Rules.{AtReturnedOrBegun, KeepsPlainRun, HasWaited, IsAnswered, IsLegal, IsLegalPast, IsStill, MayFollow, MayVisit}
-use Rattle.ft_hist.proofs.Finishing.{acts_done-more, waits-met, waits-back}
-use Rattle.ft_hist.proofs.ItemParts.{may_follow, of_begin, of_return}
+use Rattle.ft_base.specs.Job.{Job}
+use Rattle.ft_base.specs.Desk.{after}
+use Rattle.ft_base.proofs.Small.{false_true, ==-refl}
+use Rattle.ft_hist.specs.Past.{is_of, done, begun}
+use Rattle.ft_hist.specs.Plain.{plain, PlainTask, after_next}
+use Rattle.ft_hist.specs.Rules.{KeepsPlainRun, IsLegalPast, MayFollow}
 use Rattle.ft_hist.proofs.Laws.{plain-other}
 use Rattle.ft_hist.proofs.Numbers.{some-run}
-use Rattle.ft_hist.proofs.OpenCallbacks.{of_user}
-use Rattle.history_order.specs.Exchange.{StaysLegal, exchanged, reads_returns, waits_for_begin, with_places}
-use Rattle.history_order.proofs.Alike.{IsRead, IsSeen, Suits, On, on-same, left-other, right-other}
+use Rattle.history_order.specs.Exchange.{StaysLegal, exchanged, with_places}
+use Rattle.history_order.proofs.Alike.{Suits, On, on-same, left-other, right-other}
 use Rattle.history_order.proofs.Admits.{goes}
 use Rattle.history_order.proofs.Exchanging.{MayExchange, stays-legal, suits-same}
 

@@ -1,5 +1,5 @@
 -- The places of visits and exits: each is before the past's end, and visits stand in a past the latest first.
-use Rattle.std.proofs.Common.{cond, ◌≡◌, ℕ, ◌<◌, Bool, true, false, List, [], ◌∷◌, length, refl, subst, arith, Contains}
+use Rattle.std.proofs.Common.{cond, ◌≡◌, ◌<◌, Bool, true, false, List, [], ◌∷◌, length, refl, subst, arith, Contains}
 use Rattle.std.specs.List.{AllByRecursion as Each}
 use Rattle.ft_base.specs.declared.number.CallNo.{CallNo}
 use Rattle.ft_base.specs.declared.item.Item.{Item}

@@ -1,22 +1,22 @@
 -- What comes after what it waits for: the acts of a task below `after n`, and the commands.
-use Rattle.std.proofs.Common.{cond, ◌≡◌, ℕ, zero, suc, ◌+◌, ◌<◌, ◌≤◌, Bool, true, false, not, ◌==◌, List, [], ◌∷◌, ◌++◌, drop, reverse, get_or, Option, Some, None, IsSome, slice_get, refl, sym, ap, ◌∙◌, subst, arith, nat_le, leb-true, eqb-true, inl, inr}
+use Rattle.std.proofs.Common.{cond, ◌≡◌, ℕ, zero, suc, ◌<◌, ◌≤◌, Bool, true, false, ◌==◌, List, [], ◌∷◌, ◌++◌, drop, reverse, get_or, Option, Some, None, IsSome, slice_get, refl, sym, ap, ◌∙◌, subst, arith, nat_le, leb-true, inl, inr}
 use Rattle.std.proofs.lemmas.Bool.{cases_lt}
-use Rattle.std.specs.List.{filter, list_any, AllByRecursion as Each}
+use Rattle.std.specs.List.{filter, list_any}
 use Rattle.ft_base.specs.declared.number.CallNo.{CallNo}
 use Rattle.ft_base.specs.declared.number.FuncNo.{FuncNo}
 use Rattle.ft_base.specs.declared.context.Ctx.{Ctx}
 use Rattle.ft_base.specs.declared.item.Item.{Item}
-use Rattle.ft_base.specs.declared.item.Item.TheVariants.{Begin, Return, Enter, Leave}
+use Rattle.ft_base.specs.declared.item.Item.TheVariants.{Begin, Enter, Leave}
 use Rattle.ft_base.specs.declared.task.TaskAct.{TaskAct}
 use Rattle.ft_base.specs.declared.task.TaskAct.TheVariants.{Call, Ret as RetAct, Raise, Lower, After}
 use Rattle.ft_base.specs.Job.{Job, no_task}
 use Rattle.ft_base.proofs.Small.{false_true, ==-refl, or-false_both}
 use Rattle.ft_hist.specs.Finished.{AreWaitsMet, acts_done, is_in_callback, is_scripted}
 use Rattle.ft_hist.specs.Past.{is_of, done, Callback, callbacks}
-use Rattle.ft_hist.specs.Plain.{plain, PlainTask, Frame, Phase, Dispatch, InBack, Running, Leaving, InExit, ahead, below_top, in_phase}
+use Rattle.ft_hist.specs.Plain.{plain, PlainTask, Frame, ahead, below_top}
 use Rattle.ft_hist.specs.Rules.{IsLegal, acts_passed}
 use Rattle.ft_hist.proofs.Finishing.{does, passed-is, waits-met}
-use Rattle.ft_hist.proofs.OpenBacks.{opened, standing, open_on}
+use Rattle.ft_hist.proofs.OpenBacks.{opened}
 use Rattle.ft_hist.proofs.Splitting.{legal-front, splits}
 use Rattle.ft_hist.proofs.Steps.{Step, step_begin, step_return, step_enter, step_act, step_leave, step_act_leave, IsQuiet, acts_ahead, own-step, run-holds}
 use Rattle.ft_hist.proofs.WindowLaws.{done-more}
