@@ -1,0 +1,4 @@
+pub mod Program
+pub mod Left
+pub mod Steps
+pub mod Carried
