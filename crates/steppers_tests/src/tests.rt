@@ -1,6 +1,7 @@
 //! A module for each crate that is tested.
 
 mod batches;
+mod moves;
 mod pages;
 mod places;
 mod sites;
