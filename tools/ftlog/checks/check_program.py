@@ -1,6 +1,6 @@
 """Runs the built program at its edges, where no proof reaches:
 
-- the words of the command, in the language and not: those of command_words.py;
+- the words of the command, in the language and not: those of command_words.py, which gives ftjudge words, too;
 - scripts with what is printed for them, those of script_texts.py, and those that are refused or nearly so, of refused_scripts.py and line_forms.py;
 - which functions a user traces, by patterns, filter texts and edits, what commands are answered, and what comes of lines that load and
   unload modules: the rows of selected_functions.py, command_answers.py and module_lines.py;

@@ -99,30 +99,49 @@ def run_faults(came, form, script):
     return end_faults(came) or (judging.run_faults(script, came.out) if form == "log" else [])
 
 
+def answer_of_file(command, text):
+    """The answer to an input that is a file, and whether some of it was read."""
+    with tempfile.TemporaryFile() as source:
+        source.write(text)
+        source.flush()
+        source.seek(0)
+        came = runs.answer(command, stdin=source)
+        return came, os.lseek(source.fileno(), 0, os.SEEK_CUR) > 0
+
+
 def try_words(rows, program, example, name, words, order):
     """Words that order a replay have the script replayed in that form, and those that order a run have it run; with others nothing is
     read, and `bulk` prints its summary."""
-    with tempfile.TemporaryFile() as source:
-        source.write(example.with_suffix(".ft").read_bytes())
-        source.flush()
-        source.seek(0)
-        came = runs.answer([program, *words], stdin=source)
-        if order is None:
-            found = runs.faults(came, 2, b"")
-        elif order.mode == "run":
-            found = run_faults(came, order.form, example.with_suffix(".ft").read_bytes())
-        elif order.mode == "replay":
-            found = runs.faults(came, 0, example.with_suffix("." + order.form).read_bytes())
-        else:
-            found = runs.faults(came, 0, summary(program, order.seed))
-        if (order is None or order.mode == "bulk") and os.lseek(source.fileno(), 0, os.SEEK_CUR):
-            found.append("the input was read")
+    script = example.with_suffix(".ft").read_bytes()
+    came, was_read = answer_of_file([program, *words], script)
+    if order is None:
+        found = runs.faults(came, 2, b"")
+    elif order.mode == "run":
+        found = run_faults(came, order.form, script)
+    elif order.mode == "replay":
+        found = runs.faults(came, 0, example.with_suffix("." + order.form).read_bytes())
+    else:
+        found = runs.faults(came, 0, summary(program, order.seed))
+    if (order is None or order.mode == "bulk") and was_read:
+        found.append("the input was read")
     rows.row(name, found, came.seconds)
 
 
+def check_judge(rows, judge, example):
+    """A row for words that ftjudge is given: with any of them it ends with status 2, and reads and writes nothing."""
+    text = judging.input_of(example.with_suffix(".ft").read_bytes(), example.with_suffix(".log").read_bytes())
+    for words in [], ["--help"], [""], [b"\xff"], ["x", "y"]:
+        came, was_read = answer_of_file([judge, *words], text)
+        found = runs.faults(came, 2, b"") if words else runs.faults(came, 0, b"whole\n")
+        if was_read == bool(words):
+            found.append("the input was read" if was_read else "the input was not read")
+        rows.row(f"words of ftjudge: {words or 'none'}", found, came.seconds)
+
+
 def check(rows, program, top):
-    """A row for each list of words."""
+    """A row for each list of words, and for those of ftjudge."""
     lists = [*page_words(rows, top / "docs" / "LANGUAGE.md"), *listed_words(), *other_words()]
     for where, words, order in lists:
         said = " ".join(words) if where != "not text" else repr(b" ".join(words))
         try_words(rows, program, top / "examples" / EXAMPLE, f"words: {said[:80] or 'none'} ({where})", words, order)
+    check_judge(rows, judging.JUDGE, top / "examples" / "first_path")
