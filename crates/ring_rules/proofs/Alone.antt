@@ -1,5 +1,6 @@
--- Where no other CPU has a fired hit, a ring has the entry callbacks at which the own switch is on, and no other.
-use Rattle.std.proofs.Common.{◌≡◌, ℕ, suc, ◌<◌, Bool, true, false, List, [], ◌∷◌, ◌++◌, length, ⊎_elim, cond, refl, sym, ap, ◌∙◌, subst, arith, Some}
+-- Where no other CPU has a fired hit that switches tracing off, a ring has all entry callbacks at which the own switch is on; where none has
+-- one that switches it on, no others.
+use Rattle.std.proofs.Common.{◌≡◌, ℕ, suc, ◌<◌, Bool, true, false, List, [], ◌∷◌, ◌++◌, length, ⊎_elim, inl, inr, cond, refl, sym, ap, ◌∙◌, subst, arith, Some}
 use Rattle.std.specs.Prelude.{◌==◌, ◌||◌, ◌&&◌, slice_get}
 use Rattle.std.specs.List.{AllByRecursion as Each}
 use Rattle.ft_base.proofs.Small.{false_true, or-false_both, ==-refl, Each-weaker}
@@ -8,8 +9,8 @@ use Rattle.ft_base.specs.declared.item.Stamped.{Stamped}
 use Rattle.ring_rules.specs.Plan.{TracePlan}
 use Rattle.ring_rules.specs.Fold.{Rings}
 use Rattle.ring_rules.specs.Hits.{has, is_of_cpu, is_traced, stamp}
-use Rattle.ring_rules.specs.Legal.{IsSublist, OtherFired, RingsLegal, items_from, items_on, own_from, own_places, ring_with, switched, traced_places}
-use Rattle.ring_rules.proofs.Lists.{apart, bool_cases, each-middle}
+use Rattle.ring_rules.specs.Legal.{IsRing, IsSublist, OnlyOwnFired, OtherFired, RingsLegal, items_from, items_on, own_from, own_places, ring_with, switched, traced_places}
+use Rattle.ring_rules.proofs.Lists.{apart, bool_cases, each-middle, sub-same}
 use Rattle.ring_rules.proofs.OnCpus.{Stands, each-stands}
 
 -- ## places increase
@@ -56,16 +57,16 @@ Says plan fired items on written b =
     (before after : List Stamped) (x : Stamped) → items ≡ before ++ x ∷ after → is_traced plan x.item ≡ true → own_from plan fired before on ≡ b
     → has written x.place ≡ b
 
--- they are these places
-abbrev Exact : TracePlan → List (List ℕ) → List Stamped → Bool → Type 0
-Exact plan fired xs on =
-    (ws : List ℕ) → IsSublist ws (traced_places plan xs) → Says plan fired xs on ws true → Says plan fired xs on ws false
-    → ws ≡ own_places plan fired xs on
+-- where all of those at which the own switch is on were written, they are among the written; where no others were, the written are among them
+abbrev Between : TracePlan → List (List ℕ) → List Stamped → Bool → List ℕ → Type 0
+Between plan fired xs on ws =
+    (Says plan fired xs on ws true → IsSublist (own_places plan fired xs on) ws) × (Says plan fired xs on ws false → IsSublist ws (own_places plan fired xs on))
 
-exact : (plan : TracePlan) (fired : List (List ℕ)) (xs : List Stamped) (on : Bool) → Increases xs → Exact plan fired xs on
-exact plan fired [] on up ws sub when-on when-off = sub
-exact plan fired (x ∷ xs) on up ws sub when-on when-off =
-    by (exact plan fired xs (switched plan fired x (length plan.triggers) on) up.1) (is_traced plan x.item) refl on refl sub
+between : (plan : TracePlan) (fired : List (List ℕ)) (xs : List Stamped) (on : Bool) → Increases xs → (ws : List ℕ)
+    → IsSublist ws (traced_places plan xs) → Between plan fired xs on ws
+between plan fired [] on up ws sub = (λ says. subst (λ l. IsSublist [] l) (sym sub) refl, λ says. sub)
+between plan fired (x ∷ xs) on up ws sub =
+    by (between plan fired xs (switched plan fired x (length plan.triggers) on) up.1) (is_traced plan x.item) refl on refl sub
   where
     rest : (b : Bool) → Says plan fired (x ∷ xs) on ws b → Says plan fired xs (switched plan fired x (length plan.triggers) on) ws b
     rest b says before after y cut = says (x ∷ before) after y (ap (λ (l : List Stamped). x ∷ l) cut)
@@ -78,32 +79,70 @@ exact plan fired (x ∷ xs) on up ws sub when-on when-off =
         let ne : (x.place == y.place) ≡ false = apart x.place y.place (λ q. absurd (omega (arith, q, lt))) in
         sym (ap (λ a. a || has ws' y.place) ne) ∙ sym (ap (λ l. has l y.place) e) ∙ rest b says before after y cut traced own
 
-    by : Exact plan fired xs (switched plan fired x (length plan.triggers) on) → (t : Bool) → is_traced plan x.item ≡ t → (b : Bool) → on ≡ b
+    by : ((ws' : List ℕ) → IsSublist ws' (traced_places plan xs) → Between plan fired xs (switched plan fired x (length plan.triggers) on) ws')
+        → (t : Bool) → is_traced plan x.item ≡ t → (b : Bool) → on ≡ b
         → IsSublist ws (cond t (x.place ∷ traced_places plan xs) (traced_places plan xs))
-        → ws ≡ cond (t && b) (x.place ∷ own_places plan fired xs (switched plan fired x (length plan.triggers) on))
-        (own_places plan fired xs (switched plan fired x (length plan.triggers) on))
-    by later false traced b is s = later ws s (rest true when-on) (rest false when-off)
+        → (Says plan fired (x ∷ xs) on ws true
+        → IsSublist (cond (t && b) (x.place ∷ own_places plan fired xs (switched plan fired x (length plan.triggers) on))
+        (own_places plan fired xs (switched plan fired x (length plan.triggers) on))) ws)
+        × (Says plan fired (x ∷ xs) on ws false
+        → IsSublist ws (cond (t && b) (x.place ∷ own_places plan fired xs (switched plan fired x (length plan.triggers) on))
+        (own_places plan fired xs (switched plan fired x (length plan.triggers) on))))
+    by later false traced b is s = (λ says. (later ws s).0 (rest true says), λ says. (later ws s).1 (rest false says))
     by later true traced true is s =
         ⊎_elim
-        (λ a. false_true (sym (sub-lacks ws (traced_places plan xs) x.place a (none-lower plan x.place xs up.0)) ∙ when-on [] xs x refl traced is))
-        (λ (q : (r : List ℕ) × (ws ≡ x.place ∷ r) × IsSublist r (traced_places plan xs)).
-        q.1 ∙ ap (λ (l : List ℕ). x.place ∷ l) (later q.0 q.2 (same q.0 q.1 true when-on) (same q.0 q.1 false when-off))) s
+        (λ a. (
+          λ says. false_true (sym (sub-lacks ws (traced_places plan xs) x.place a (none-lower plan x.place xs up.0)) ∙ says [] xs x refl traced is),
+          λ says. inl ((later ws a).1 (rest false says)),
+        ))
+        (λ (q : (r : List ℕ) × (ws ≡ x.place ∷ r) × IsSublist r (traced_places plan xs)). (
+          λ says.
+              subst (IsSublist (x.place ∷ own_places plan fired xs (switched plan fired x (length plan.triggers) on))) (sym q.1)
+              (inr (own_places plan fired xs (switched plan fired x (length plan.triggers) on), refl, (later q.0 q.2).0 (same q.0 q.1 true says))),
+          λ says. inr (q.0, q.1, (later q.0 q.2).1 (same q.0 q.1 false says)),
+        )) s
     by later true traced false is s =
-        ⊎_elim (λ a. later ws a (rest true when-on) (rest false when-off))
-        (λ (q : (r : List ℕ) × (ws ≡ x.place ∷ r) × IsSublist r (traced_places plan xs)).
-        false_true (sym (when-off [] xs x refl traced is) ∙ ap (λ l. has l x.place) q.1 ∙ ap (λ a. a || has q.0 x.place) (==-refl x.place))) s
+        ⊎_elim (λ a. (λ says. (later ws a).0 (rest true says), λ says. (later ws a).1 (rest false says)))
+        (λ (q : (r : List ℕ) × (ws ≡ x.place ∷ r) × IsSublist r (traced_places plan xs)). (
+          λ says.
+              subst (IsSublist (own_places plan fired xs (switched plan fired x (length plan.triggers) on))) (sym q.1)
+              (inl ((later q.0 q.2).0 (same q.0 q.1 true says))),
+          λ says.
+              false_true (sym (says [] xs x refl traced is) ∙ ap (λ l. has l x.place) q.1 ∙ ap (λ a. a || has q.0 x.place) (==-refl x.place)),
+        )) s
 
 -- ## the ring
 
-pub alone : (plan : TracePlan) (history : List Item) (rings : Rings) (c : ℕ) → RingsLegal plan history rings → c < plan.cpus
-    → ((on : Bool) → OtherFired plan history rings.fired c on → ⊥)
-    → slice_get rings.cpus c ≡ Some (ring_with plan (own_places plan rings.fired (items_on plan c history) plan.tracing))
-alone plan history rings c legal inside none =
-    let r = legal.ring c inside in
-    let when-on : Says plan rings.fired (items_on plan c history) plan.tracing r.written true = λ before after x cut traced own.
-    ⊎_elim (λ e. e) (λ e. absurd (none false (r.missed before after x cut traced own e))) (bool_cases (has r.written x.place)) in
-    let when-off : Says plan rings.fired (items_on plan c history) plan.tracing r.written false = λ before after x cut traced own.
-    ⊎_elim (λ e. absurd (none true (r.extra before after x cut traced own e))) (λ e. e) (bool_cases (has r.written x.place)) in
-    r.keeps
-    ∙ ap (λ ws. Some (ring_with plan ws))
-    (exact plan rings.fired (items_on plan c history) plan.tracing (increases plan c 0 history) r.written r.some_of when-on when-off)
+module _ (plan : TracePlan) (history : List Item) (rings : Rings) (c : ℕ) (legal : RingsLegal plan history rings) (inside : c < plan.cpus) where
+  -- no other CPU excuses an entry
+  no-other : (b : Bool) → OnlyOwnFired plan history rings.fired c b → OtherFired plan history rings.fired c b → ⊥
+  no-other b own o = false_true (sym o.other ∙ own o.trigger' o.place o.item o.within o.switches o.fired' o.stands)
+
+  -- the entries at which the own switch is on
+  abbrev own : List ℕ
+  own = own_places plan rings.fired (items_on plan c history) plan.tracing
+
+  ring : IsRing plan history rings c
+  ring = legal.ring c inside
+
+  in-between : Between plan rings.fired (items_on plan c history) plan.tracing ring.written
+  in-between = between plan rings.fired (items_on plan c history) plan.tracing (increases plan c 0 history) ring.written ring.some_of
+
+  all-of : OnlyOwnFired plan history rings.fired c false → IsSublist own ring.written
+  all-of alone = in-between.0 (λ before after x cut traced on.
+      ⊎_elim (λ e. e) (λ e. absurd (no-other false alone (ring.missed before after x cut traced on e))) (bool_cases (has ring.written x.place)))
+
+  none-but : OnlyOwnFired plan history rings.fired c true → IsSublist ring.written own
+  none-but alone = in-between.1 (λ before after x cut traced off.
+      ⊎_elim (λ e. absurd (no-other true alone (ring.extra before after x cut traced off e))) (λ e. e) (bool_cases (has ring.written x.place)))
+
+  pub none-lost : OnlyOwnFired plan history rings.fired c false
+      → (written : List ℕ) × (slice_get rings.cpus c ≡ Some (ring_with plan written)) × IsSublist own written
+  none-lost alone = (ring.written, ring.keeps, all-of alone)
+
+  pub none-added : OnlyOwnFired plan history rings.fired c true
+      → (written : List ℕ) × (slice_get rings.cpus c ≡ Some (ring_with plan written)) × IsSublist written own
+  none-added alone = (ring.written, ring.keeps, none-but alone)
+
+  pub alone : ((on : Bool) → OnlyOwnFired plan history rings.fired c on) → slice_get rings.cpus c ≡ Some (ring_with plan own)
+  alone all = ring.keeps ∙ ap (λ ws. Some (ring_with plan ws)) (sub-same ring.written own (none-but (all true)) (all-of (all false)))

@@ -1,4 +1,5 @@
 mod Samples
+mod NotLegal
 pub mod Numbers
 pub mod Totals
 pub mod Lists
@@ -6,6 +7,7 @@ pub mod OneMore
 pub mod OnCpus
 pub mod Assembled
 pub mod Alone
+pub mod FiredPlaces
 pub mod HitAll
 pub mod FoldLegal
 pub mod Parts

@@ -1,5 +1,5 @@
 -- Lists of places and of items that get one more.
-use Rattle.std.proofs.Common.{◌≡◌, ◌≢◌, ◌⊎◌, ℕ, zero, suc, ◌+◌, ◌<◌, Bool, true, false, List, [], ◌∷◌, ◌++◌, length, inl, inr, ⊎_elim, cond, refl, sym, ap, ◌∙◌, subst, arith, Option, Some, None}
+use Rattle.std.proofs.Common.{◌≡◌, ◌≢◌, ◌⊎◌, ℕ, zero, suc, ◌+◌, ◌<◌, ◌≤◌, Bool, true, false, List, [], ◌∷◌, ◌++◌, length, inl, inr, ⊎_elim, cond, refl, sym, ap, ◌∙◌, subst, arith, Option, Some, None}
 use Rattle.std.specs.Prelude.{◌==◌, ◌||◌, ◌&&◌, if◌then◌else◌, drop, slice_get, slice_index_or}
 use Rattle.std.specs.List.{list_any, AllByRecursion as Each}
 use Rattle.std.proofs.lemmas.Bool.Decides.{nat_tests}
@@ -74,6 +74,24 @@ sub-has xs (y ∷ ys) p s h =
     (λ (b : (rest : List ℕ) × (xs ≡ y ∷ rest) × IsSublist rest ys).
     ⊎_elim (λ q. ap (λ c. c || has ys p) q) (λ q. ap (λ c. (y == p) || c) (sub-has b.0 ys p b.2 q) ∙ or-true (y == p))
     (or-true_either (y == p) (has b.0 p) (sym (ap (λ l. has l p) b.1) ∙ h))) s
+
+pub sub-length : (xs ys : List ℕ) → IsSublist xs ys → length xs ≤ length ys
+sub-length xs [] s = let e = ap length s in omega (arith, e)
+sub-length xs (y ∷ ys) s =
+    ⊎_elim (λ a. let le = sub-length xs ys a in omega (arith, le))
+    (λ (b : (rest : List ℕ) × (xs ≡ y ∷ rest) × IsSublist rest ys).
+    let e = ap length b.1 in let le = sub-length b.0 ys b.2 in omega (arith, e, le)) s
+
+-- as many of them as there are are all
+pub sub-full : (xs ys : List ℕ) → IsSublist xs ys → length ys ≤ length xs → xs ≡ ys
+sub-full xs [] s le = s
+sub-full xs (y ∷ ys) s le =
+    ⊎_elim (λ a. let less = sub-length xs ys a in absurd (omega (arith, less, le)))
+    (λ (b : (rest : List ℕ) × (xs ≡ y ∷ rest) × IsSublist rest ys).
+    let e = ap length b.1 in b.1 ∙ ap (λ (l : List ℕ). y ∷ l) (sub-full b.0 ys b.2 (omega (arith, e, le)))) s
+
+pub sub-same : (xs ys : List ℕ) → IsSublist xs ys → IsSublist ys xs → xs ≡ ys
+sub-same xs ys s t = sub-full xs ys s (sub-length ys xs t)
 
 -- ## items
 

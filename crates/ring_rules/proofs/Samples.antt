@@ -35,11 +35,11 @@ job_with users tasks quanta rings = record {
 }
 
 -- call n of a task
-call : ℕ → ℕ → CallNo
+abbrev pub call : ℕ → ℕ → CallNo
 call t n = record { task = record { 0 = t }; n = n }
 
 -- its items, if it fetches the trampoline of user u, who is called back
-one_call : ℕ → ℕ → ℕ → ℕ → List Item
+abbrev one_call : ℕ → ℕ → ℕ → ℕ → List Item
 one_call t n f u =
     Enter (call t n) Normal (record { 0 = f }) None
     ∷ Back (call t n) (record { 0 = u }) ∷ BackEnd (call t n) (record { 0 = u })
@@ -58,19 +58,19 @@ job_one t = job_with (user Function ∷ []) (task 0 ∷ []) (1 ∷ []) (record {
 -- `ring 2` and `trigger b:traceoff:1`: three entries are written, of which the ring holds the last two; the call of b, which fires, has none
 off-at-b : fold (plan_of (job_one (record { on = false; limit = Some 1; set = false ∷ true ∷ [] }))) history
     ≡ record { cpus = record { written = 3; held = 9 ∷ 15 ∷ [] } ∷ []; fired = (20 ∷ []) ∷ [] }
-unfolding history one_call job_one job_with user task call
+unfolding history job_one job_with user task
 off-at-b = refl
 
 -- `trigger a:traceoff:1` in its place: the first call of a fires, before its entry callback, and nothing is written
 off-at-a : fold (plan_of (job_one (record { on = false; limit = Some 1; set = true ∷ false ∷ [] }))) history
     ≡ record { cpus = record { written = 0; held = [] } ∷ []; fired = (2 ∷ []) ∷ [] }
-unfolding history one_call job_one job_with user task call
+unfolding history job_one job_with user task
 off-at-a = refl
 
 -- ## two CPUs
 
 -- the task of CPU 0 calls a, then that of CPU 1 calls b, where a graph user is called back, and a, and then that of CPU 0 calls a again
-two : List Item
+abbrev pub two : List Item
 two = one_call 0 1 0 0 ++ one_call 1 1 1 1 ++ one_call 1 2 0 0 ++ one_call 0 2 0 0
 
 -- rings of one entry, `tracing off`, and triggers
@@ -80,7 +80,7 @@ job_two ts = job_with (user Function ∷ user Graph ∷ []) (task 0 ∷ task 1 �
 -- `trigger b:traceon`: the entry callbacks after the call of b are written, each on its CPU, but not that of the graph user
 on-at-b : fold (plan_of (job_two (record { on = true; limit = None; set = false ∷ true ∷ [] } ∷ []))) two
     ≡ record { cpus = record { written = 1; held = 19 ∷ [] } ∷ record { written = 1; held = 13 ∷ [] } ∷ []; fired = (6 ∷ []) ∷ [] }
-unfolding two one_call job_two job_with user task call
+unfolding job_two job_with user task
 on-at-b = refl
 
 -- `trigger *:traceon` and `trigger a:traceoff:2`
@@ -90,5 +90,5 @@ both = record { on = true; limit = None; set = true ∷ true ∷ [] } ∷ record
 -- two calls of a fire both, and the later line tells; the third fires the first line alone
 in-order : fold (plan_of (job_two both)) two
     ≡ record { cpus = record { written = 1; held = 19 ∷ [] } ∷ no_ring ∷ []; fired = (0 ∷ 6 ∷ 12 ∷ 18 ∷ []) ∷ (0 ∷ 12 ∷ []) ∷ [] }
-unfolding both two one_call job_two job_with user task call
+unfolding both job_two job_with user task
 in-order = refl

@@ -100,6 +100,12 @@ pub record RingsLegal (plan : TracePlan) (history : List Item) (rings : Rings) :
 
 -- ## a CPU alone
 
+-- each fired place of a trigger that switches tracing on, or off, is that of an item of CPU c
+abbrev pub OnlyOwnFired : TracePlan → List Item → List (List ℕ) → ℕ → Bool → Type 0
+OnlyOwnFired plan history fired c on =
+    (i p : ℕ) (item : Item) → i < length plan.triggers → (trigger plan i).on ≡ on → has (fired_at fired i) p ≡ true → slice_get history p ≡ Some item
+    → is_of_cpu plan c item ≡ true
+
 -- the places of the entry callbacks among these items at which the own switch is on, if it was as told before them
 abbrev pub own_places : TracePlan → List (List ℕ) → List Stamped → Bool → List ℕ
 own_places plan fired [] on = []
