@@ -11,3 +11,4 @@ pub mod KeptLaws
 pub mod ClashLaws
 pub mod OpeningLaws
 pub mod NumberSamples
+mod AnswerSamples
