@@ -82,6 +82,16 @@ load-of-one = refl
 load-kept-out : answer_to (after_line bound (Plain (Notrace 1 (edit (false ∷ false ∷ true ∷ false ∷ []))))) (Load 0) ≡ Accepted
 load-kept-out = refl
 
+-- with both modules away: two users that replace function 3 stand in the way of its module alone
+abbrev both_away : Between
+both_away = after_lines opened (Unload 1 ∷ Plain (Filter 0 (edit (false ∷ false ∷ false ∷ true ∷ []))) ∷ Plain (Filter 1 (edit (false ∷ false ∷ false ∷ true ∷ []))) ∷ Plain (Register 0) ∷ Plain (Register 1) ∷ [])
+
+load-other : answer_to both_away (Load 0) ≡ Accepted
+load-other = refl
+
+load-last : answer_to both_away (Load 1) ≡ Busy (record { 0 = 3 }) (record { 0 = 0 })
+load-last = refl
+
 -- ## what they leave
 
 loaded-by-load : loaded_after opened (Load 0) ≡ true ∷ true ∷ []
