@@ -79,6 +79,7 @@ pub mod Stops
 pub mod ValueLaws
 -- a worked example, of which the laws speak
 mod Sample
+mod OrderSamples
 pub mod LedLists
 pub mod LedDesks
 pub mod LedControls
