@@ -29,6 +29,7 @@ no_entry = record { ctx = None; func = record { 0 = 0 }; from = 0; latest = None
 abbrev pub entry_in : {S : Type 0} → HashMap (ℕ × ℕ) Entry S → CallNo → Entry
 entry_in m call = unwrap_or (get same_key m (call.task.0, call.n)) no_entry
 
+-- what a check keeps of a call
 abbrev pub entry_at : Check → CallNo → Entry
 entry_at c call = entry_in c.entries call
 
@@ -59,6 +60,7 @@ same_visit a b = (a.0 == b.0) && (a.1 == b.1) && (a.2 == b.2)
 abbrev pub is_visit_in : {S : Type 0} → HashSet (ℕ × ℕ × ℕ) S → CallNo → ℕ → Bool
 is_visit_in s call u = contains same_visit s (call.task.0, call.n, u)
 
+-- whether a check keeps a visit of the user in the call
 abbrev pub is_visited : Check → CallNo → ℕ → Bool
 is_visited c call u = is_visit_in c.visited call u
 
