@@ -1,5 +1,5 @@
 -- The open callbacks that are kept, told one by one.
-use Rattle.std.proofs.Common.{cond, ◌≡◌, ℕ, suc, ◌+◌, ◌<◌, ◌≤◌, Bool, true, false, not, ◌&&◌, ◌||◌, ◌==◌, List, [], ◌∷◌, ◌++◌, drop, take, get_or, length, map, Option, Some, None, refl, sym, ap, ◌∙◌, arith, add-one, append_assoc}
+use Rattle.std.proofs.Common.{cond, ◌≡◌, ℕ, suc, ◌+◌, ◌<◌, ◌≤◌, Bool, true, false, not, ◌&&◌, ◌||◌, ◌==◌, List, [], ◌∷◌, ◌++◌, drop, take, get_or, length, map, Option, Some, None, refl, sym, ap, ◌∙◌, subst, arith, add-one, append_assoc}
 use Rattle.std.specs.Prelude.{count_by, IfSome, IsTrue, ◌↔◌}
 use Rattle.std.specs.Option.{IsSome, OnSome}
 use Rattle.std.specs.List.{list_any, remove}
@@ -9,12 +9,11 @@ use Rattle.std.proofs.lemmas.List.Sums.{sum_by-cons}
 use Rattle.ft_base.specs.declared.number.CallNo.{CallNo}
 use Rattle.ft_base.specs.declared.item.Item.{Item}
 use Rattle.ft_base.specs.Same.{same_call}
-use Rattle.ft_base.specs.Job.{Job, Command, Unregister, Disable, command_at}
+use Rattle.ft_base.specs.Job.{Job, Command, command_at}
 use Rattle.ft_base.proofs.Small.{false_true}
 use Rattle.ft_hist.specs.Past.{callbacks, ended, is_called}
 use Rattle.ft_hist.specs.Past as told
 use Rattle.ft_hist.specs.Rules.{IsStill}
-use Rattle.ft_hist.proofs.RunLaws.{some_inj}
 use Rattle.history_check.specs.declared.callbacks.Callback.{Callback}
 use Rattle.history_check.specs.KeptCallbacks.{callback_of}
 use Rattle.history_check.specs.TakenOff.{taken_by, taken_off}
@@ -93,13 +92,11 @@ pub still-some : (job : Job) (past : List Item) (bs : List told.Callback) → bs
     → IsTrue (not b) ↔ IfSome (command_at job n) (IsStill past)
 still-some job past bs open' n u off b is = by (command_at job n) off
   where
-    still : (v : ℕ) → Some v ≡ Some u → IsTrue (not b) ↔ (is_called v past ≡ false)
-    still v e =
-        let same : is_called v past ≡ b = ap (λ w. is_called w past) (some_inj v u e) ∙ sym (is ∙ ap (λ (cs : List told.Callback). list_any (λ c. c.user == u) cs) open') in
+    still : IsTrue (not b) ↔ (is_called u past ≡ false)
+    still =
+        let same : is_called u past ≡ b = sym (is ∙ ap (λ (cs : List told.Callback). list_any (λ c. c.user == u) cs) open') in
         (λ t. same ∙ not-true b t, λ f. ap not (sym same ∙ f))
 
     by : (o : Option Command) → taken_by o ≡ Some u → IsTrue (not b) ↔ IfSome o (IsStill past)
     by None e = absurd cc
-    by (Some (Unregister v)) e = still v e
-    by (Some (Disable v)) e = still v e
-    by (Some _) e = absurd cc
+    by (Some c) e = subst (λ (o : Option ℕ). IsTrue (not b) ↔ IfSome o (λ v. is_called v past ≡ false)) (sym e) still

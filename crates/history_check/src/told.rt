@@ -52,11 +52,7 @@ impl Told {
             Command::Pid(mask) => self.pids.set(*mask),
             Command::NoPid(mask) => self.pids.set_not(*mask),
             Command::MaxDepth(depth) => self.depth = *depth,
-            Command::Unregister(_)
-            | Command::Filter(_, _)
-            | Command::Notrace(_, _)
-            | Command::Enable(_)
-            | Command::Disable(_) => {}
+            _ => {}
         }
     }
 

@@ -6,12 +6,11 @@ use Rattle.std.specs.List.{list_any, AllByRecursion as Each}
 use Rattle.ft_base.specs.declared.item.Item.{Item}
 use Rattle.ft_base.specs.declared.number.CallNo.{CallNo}
 use Rattle.ft_base.specs.declared.item.Stamped.{Stamped}
-use Rattle.ft_base.specs.declared.item.Item.TheVariants.{Begin, Return, Enter, Back, BackEnd, Refuse, Miss, Body, Leave, Exit, ExitEnd, Ret}
+use Rattle.ft_base.specs.declared.item.Item.TheVariants.{Begin, Return}
 use Rattle.ft_base.specs.Items.{call_of}
 use Rattle.ft_base.specs.declared.task.TaskAct.{TaskAct}
 use Rattle.ft_base.specs.declared.task.TaskAct.TheVariants.{Call, Ret as RetAct, Raise, Lower, After}
 use Rattle.ft_base.specs.Job.{Job, Ctl, Run, Until}
-use Rattle.ft_base.specs.Same.{context}
 use Rattle.ft_base.specs.Tasks.{has_acts, tasks_of}
 use Rattle.ft_base.proofs.Small.{Each-filter}
 use Rattle.ft_hist.specs.Frames.{is_nil}
@@ -19,7 +18,7 @@ use Rattle.ft_hist.specs.Dispatch.{call_of as call_at}
 use Rattle.word_map.specs.Contents.{returned_at}
 use Rattle.word_map.specs.Ops.{WordOp, Load, Store, Mark}
 use Rattle.word_map.specs.Words.{Want, at_put}
-use Rattle.word_machine.specs.Task.{OpenCall, TaskState, Moment, Polling, First, GotHead, GotBreak, InTramp, Refusing, Calling, Missing, Acting, Ending, Closing, Leaving, Exiting, EndingExit, Returning, begun_act, call_got, call_op, finished, first_got, first_op, is_fetching, stack_got, stack_op, task_got, task_op, task_start, top_of, user_of}
+use Rattle.word_machine.specs.Task.{OpenCall, TaskState, Moment, Polling, First, GotHead, GotBreak, InTramp, Refusing, Calling, Missing, Acting, Ending, Closing, Leaving, Exiting, EndingExit, Returning, begun_act, call_got, call_op, finished, first_got, first_op, is_fetching, stack_got, stack_op, task_got, task_op, task_start, user_of}
 use Rattle.word_machine.specs.Commands.{effect, command}
 use Rattle.word_machine.specs.Control.{Control, Position, Line, Relink, Close, answer_in, control_got, control_next, control_start, line_op, next_in}
 use Rattle.word_machine.specs.Cpu.{Cpu, Phase, Going, StoringAck, StoringQuiet, Over, ack_value, any_has_more, cpu_got, cpu_next, cpu_start, first_of, has_more, is_unmet, moved, next_task, phase_got, phase_op, poll_on, polled, polling, present_got, present_op, quiet_in, quiet_next, switched, ticked, with_word}
@@ -58,29 +57,27 @@ record IsOwn (job : Job) (c : ℕ) (me : Cpu) : Type 0 where
 -- ## a task
 
 -- what it marks is of a call of its own
-told : (t : ℕ) (item item' : Item) → ◌≡◌ {A = Option WordOp} (Some (Mark item)) (Some (Mark item')) → OfTask t item → OfTask t item'
-told t item item' e of = let same : item ≡ item' = cc in subst (OfTask t) same of
+told : {item : Item} (t : ℕ) (item' : Item) → ◌≡◌ {A = Option WordOp} (Some (Mark item)) (Some (Mark item')) → OfTask t item → OfTask t item'
+told {item} t item' e of = let same : item ≡ item' = cc in subst (OfTask t) same of
 
 first-marks : (t : ℕ) (x : TaskState) (acts : List TaskAct) (stack : List OpenCall) (item : Item) → AreOf t stack
     → first_op t x acts stack ≡ Some (Mark item) → OfTask t item
-first-marks t x (Call f ∷ rest) stack item k e =
-    told t (Enter (call_at (record { 0 = t }) x.next) (context x.contexts) f (top_of stack)) item e (call_at (record { 0 = t }) x.next, refl, refl)
-first-marks t x (RetAct ∷ rest) (o ∷ below) item k e = told t (Leave o.call) item e (o.call, refl, k.0)
+first-marks t x (Call f ∷ rest) stack item k e = told t item e (call_at (record { 0 = t }) x.next, refl, refl)
+first-marks t x (RetAct ∷ rest) (o ∷ below) item k e = told t item e (o.call, refl, k.0)
 first-marks t x _ stack item k e = absurd cc
 
 call-marks : (t : ℕ) (x : TaskState) (o : OpenCall) (below : List OpenCall) (m : Moment) (item : Item) → o.call.task.0 ≡ t
     → call_op x o below m ≡ Some (Mark item) → OfTask t item
-call-marks t x o below (Refusing u reg reason) item k e = told t (Refuse o.call (record { 0 = u }) reason) item e (o.call, refl, k)
-call-marks t x o below (Calling u reg) item k e = told t (Back o.call (record { 0 = u })) item e (o.call, refl, k)
-call-marks t x o below (Missing u) item k e = told t (Miss o.call (record { 0 = u })) item e (o.call, refl, k)
-call-marks t x o below (Acting u a) item k e =
-    told t (Enter (call_at o.call.task x.next) a.ctx (record { 0 = a.func }) (Some o.call)) item e (call_at o.call.task x.next, refl, k)
-call-marks t x o below (Ending u) item k e = told t (BackEnd o.call (record { 0 = u })) item e (o.call, refl, k)
-call-marks t x o below Closing item k e = told t (Body o.call o.runs o.ran) item e (o.call, refl, k)
-call-marks t x o below Leaving item k e = told t (Leave o.call) item e (o.call, refl, k)
-call-marks t x o below (Exiting m rest) item k e = told t (Exit o.call (record { 0 = m.user }) m.entry) item e (o.call, refl, k)
-call-marks t x o below (EndingExit m rest) item k e = told t (ExitEnd o.call (record { 0 = m.user })) item e (o.call, refl, k)
-call-marks t x o below Returning item k e = told t (Ret o.call (top_of below)) item e (o.call, refl, k)
+call-marks t x o below (Refusing u reg reason) item k e = told t item e (o.call, refl, k)
+call-marks t x o below (Calling u reg) item k e = told t item e (o.call, refl, k)
+call-marks t x o below (Missing u) item k e = told t item e (o.call, refl, k)
+call-marks t x o below (Acting u a) item k e = told t item e (call_at o.call.task x.next, refl, k)
+call-marks t x o below (Ending u) item k e = told t item e (o.call, refl, k)
+call-marks t x o below Closing item k e = told t item e (o.call, refl, k)
+call-marks t x o below Leaving item k e = told t item e (o.call, refl, k)
+call-marks t x o below (Exiting m rest) item k e = told t item e (o.call, refl, k)
+call-marks t x o below (EndingExit m rest) item k e = told t item e (o.call, refl, k)
+call-marks t x o below Returning item k e = told t item e (o.call, refl, k)
 call-marks t x o below _ item k e = absurd cc
 
 stack-marks : (t : ℕ) (x : TaskState) (stack : List OpenCall) (m : Moment) (item : Item) → AreOf t stack
