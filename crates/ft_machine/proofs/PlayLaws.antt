@@ -1,7 +1,8 @@
 -- A replay of a schedule, actor by actor.
-use Rattle.std.proofs.Common.{cond, ◌≡◌, ℕ, Bool, true, false, List, [], ◌∷◌, drop, length, Some, refl, sym, ap, ◌∙◌}
+use Rattle.std.proofs.Common.{cond, ◌≡◌, ℕ, Bool, true, false, List, [], ◌∷◌, ◌++◌, drop, length, Option, Some, None, refl, sym, ap, ◌∙◌, append_assoc}
 use Rattle.std.specs.Prelude.{nat_lt, slice_get}
 use Rattle.std.proofs.lemmas.Bool.{ltb-true}
+use Rattle.ft_base.specs.declared.item.Item.{Item}
 use Rattle.ft_base.specs.declared.turn.Actor.{Actor}
 use Rattle.ft_base.specs.declared.turn.Actor.TheVariants.{Control, Cpu}
 use Rattle.ft_base.specs.declared.turn.Turn.{Turn}
@@ -9,10 +10,13 @@ use Rattle.ft_base.specs.Job.{Job}
 use Rattle.ft_base.specs.Schedule.{actors_in, actors_of}
 use Rattle.ft_base.proofs.Small.{false_true}
 use Rattle.word_map.specs.declared.shape.Shape.{Shape}
+use Rattle.word_map.specs.Ops.{WordOp, Load, Store, Mark}
 use Rattle.word_map.specs.Shapes.{shape_of}
 use Rattle.word_machine.specs.Cpu.{Phase, Over, cpu_next, phase_op}
-use Rattle.word_machine.specs.Machine.{World, all_end, cpu_moved, is_at_end, is_end, play, played, start, step}
+use Rattle.word_machine.specs.Control.{control_next}
+use Rattle.word_machine.specs.Machine.{World, all_end, control_moved, cpu_moved, is_at_end, is_end, past_after, play, played, start, step}
 use Rattle.word_machine_laws.proofs.Stops.{control-ends}
+use Rattle.ft_machine.specs.Replays.{IsBeginning}
 use Rattle.ft_machine.proofs.Replays.{ends-alike}
 
 played-over : (j : Job) (actors : List Actor) (s : World) → all_end j s ≡ true → played j actors s ≡ s
@@ -77,3 +81,34 @@ all-actors j turns shape same is = rw (same, is) refl
 pub play-is : (j : Job) (actors : List Actor) (s t : World) → actors ≡ actors_of j → s ≡ start j → t ≡ played j actors s → t ≡ play j
 unfolding play
 play-is j actors s t all first e = rw (all, first) at e
+
+-- ## the items that are marked stay
+
+past-grows : (op : WordOp) (past : List Item) → IsBeginning past (past_after op past)
+past-grows (Load w) past = ([], refl)
+past-grows (Store w x) past = ([], refl)
+past-grows (Mark item) past = (item ∷ [], refl)
+
+step-grows : (j : Job) (a : Actor) (s : World) → IsBeginning s.past (step j a s).past
+unfolding step
+step-grows j Control s = by (control_next j s.control)
+  where
+    by : (o : Option WordOp) → IsBeginning s.past (control_moved j s o).past
+    by None = ([], refl)
+    by (Some op) = past-grows op s.past
+step-grows j (Cpu c) s = by (nat_lt c.0 (length j.quanta)) (cpu_next j (s.cpus c.0))
+  where
+    by : (b : Bool) (o : Option WordOp) → IsBeginning s.past (cond b (cpu_moved j s c.0 o) s).past
+    by true None = ([], refl)
+    by true (Some op) = past-grows op s.past
+    by false o = ([], refl)
+
+-- what a replay has made so far is a beginning of what it makes
+pub play-grows : (j : Job) (actors : List Actor) (s : World) → IsBeginning s.past (played j actors s).past
+unfolding played
+play-grows j [] s = ([], refl)
+play-grows j (a ∷ rest) s = by (all_end j s) (play-grows j rest (step j a s)) (step-grows j a s)
+  where
+    by : (b : Bool) → IsBeginning (step j a s).past (played j rest (step j a s)).past → IsBeginning s.past (step j a s).past → IsBeginning s.past (cond b s (played j rest (step j a s))).past
+    by true m n = ([], refl)
+    by false m n = (m.0 ++ n.0, m.1 ∙ ap (λ (xs : List Item). m.0 ++ xs) n.1 ∙ sym (append_assoc m.0 n.0 s.past))

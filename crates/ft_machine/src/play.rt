@@ -6,6 +6,7 @@ ghost use Rattle.ft_hist.specs.Rules.{IsLegal, IsLegalPast, IsWhole};
 ghost use Rattle.ft_base.specs.Job.{Job as PlainJob};
 ghost use Rattle.word_machine.specs.Machine.{World as State, all_end, play, played, step};
 ghost use Rattle.ft_machine.specs.Kept.{IsAt};
+ghost use Rattle.ft_machine.specs.Replays.{IsBeginning};
 
 use crate::cpus::CpuRoom;
 use crate::start::new_world;
@@ -31,13 +32,13 @@ const TURNS_TO_ASK: u32 = 64;
 
 /// Lets the actors of a player step, up to a moment when every actor is at its end. That is asked at
 /// some turns only: steps after the end change nothing, and to ask costs as much as a step. The error
-/// says that memory ran out after some of the steps.
+/// says that memory ran out after some of the steps: their items are the first of the same replay.
 fn play<T: Taker>(world: &mut World, mut player: Player, taker: &mut T) -> Result<(), NoMemory>
     requires { (job : PlainJob) × (s : State) × (first : T) × IsAt job s world.old × T.took job s.past first taker.old }
     ensures ok { OnOk result ((job : PlainJob) (s : State) (first : T) → IsAt job s world.old → T.took job s.past first taker.old
         → IsAt job (played job player.entry s) world.new × T.took job (played job player.entry s).past first taker.new) }
     ensures err { OnErr result ((job : PlainJob) (s : State) (first : T) → IsAt job s world.old → T.took job s.past first taker.old
-        → (t : State) × IsAt job t world.new × T.took job t.past first taker.new) }
+        → (t : State) × IsAt job t world.new × T.took job t.past first taker.new × IsBeginning t.past (played job player.entry s).past) }
 {
     taker.make_room()?;
     let mut turns: u32 = 0;
@@ -72,14 +73,15 @@ fn step_into<T: Taker>(world: &mut World, actor: Actor, taker: &mut T) -> Result
 /// schedule's end. A taker takes each item when it is marked, and no item is kept beside. The answer is
 /// whether every actor is at its end. A taker may take room for an item before the step that marks it,
 /// and all else takes its memory before the first step. The only fault is out of memory: then the taker
-/// has taken the items of some of the steps, which are legal too.
+/// has taken the first items of the same replay, which are legal too.
 pub fn replay_into<T: Taker>(alloc: Global, job: &Job, taker: &mut T) -> Result<bool, NoMemory>
     requires { T.took job.now [] taker.old taker.old }
     ensures taken { IfOk result (λ _. T.took job.now (play job.now).past taker.old taker.new) }
     ensures ended { IfOk result (λ ended. ended ≡ all_end job.now (play job.now)) }
     ensures legal { IfOk result (λ _. IsLegalPast job.now (play job.now).past) }
     ensures whole { IfOk result (λ ended. ended ≡ true → IsWhole job.now (reverse (play job.now).past)) }
-    ensures fault { IfErr result (λ _. (past : List Item) × IsLegalPast job.now past × T.took job.now past taker.old taker.new) }
+    ensures fault { IfErr result (λ _. (past : List Item) × IsBeginning past (play job.now).past × IsLegalPast job.now past
+        × T.took job.now past taker.old taker.new) }
 {
     let mut world = new_world(alloc, job, CpuRoom::ForOne)?;
     let player = Player::new(job.schedule(), job.shape().cpus);

@@ -1,5 +1,5 @@
 -- The state after the replay, from what each call says.
-use Rattle.std.proofs.Common.{◌≡◌, ◌∙◌, List, [], ap, subst, sym, refl}
+use Rattle.std.proofs.Common.{◌≡◌, ◌∙◌, List, [], ap, subst, sym, refl, append-nil}
 use Rattle.ft_base.specs.declared.item.Item.{Item}
 use Rattle.ft_base.specs.declared.turn.Actor.{Actor}
 use Rattle.ft_base.specs.Job.{Job}
@@ -36,7 +36,7 @@ play-requires g c =
     )
 
 pub returns-in_err-world-clause-fault : goal.returns-in_err-world-clause-fault
-returns-in_err-world-clause-fault g c = on-err c.from_residual.result _ ([], none-legal c.args.job.now, c.requires)
+returns-in_err-world-clause-fault g c = on-err c.from_residual.result _ ([], ((play c.args.job.now).past, sym (append-nil (play c.args.job.now).past)), none-legal c.args.job.now, c.requires)
 
 pub returns-in_err-play-clause-fault : goal.returns-in_err-play-clause-fault
 returns-in_err-play-clause-fault g c =
@@ -44,7 +44,9 @@ returns-in_err-play-clause-fault g c =
     let e = c.in_err-play.ensures.err c.args.job.now (start c.args.job.now) c.args.taker.now
     (starts-at c.args.job.now c.in_ok-world.world w.limited w.of w.opening)
     (none-taken g.T.Taker.took c.args.job.now c.args.taker.now c.requires (ap (λ (s : World). s.past) w.opening)) in
-    on-err c.from_residual-in_err-play.result _ (e.0.past, e.1.runs.kept.legal, e.2)
+    let all = c.new-player.ensures ∙ all-actors c.args.job.now _ c.shape.result c.schedule.ensures c.shape.ensures.counts in
+    let is = play-is c.args.job.now _ (start c.args.job.now) _ all refl refl in
+    on-err c.from_residual-in_err-play.result _ (e.0.past, (e.3.0, ap (λ (s : World). s.past) (sym is) ∙ e.3.1), e.1.runs.kept.legal, e.2)
 
 pub returns-clause-taken : goal.returns-clause-taken
 returns-clause-taken g c =
