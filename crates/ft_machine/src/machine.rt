@@ -32,7 +32,7 @@ impl Machine {
     ghost use Rattle.word_machine.specs.Machine.{all_end, is_at_end, start, step};
     ghost use Rattle.ft_machine.specs.Nexts.{next_op};
     ghost use Rattle.ft_machine.specs.Sites.{IsWhole as IsWholeSite, site_of};
-    ghost use Rattle.ft_machine.specs.Machines.{IsOf, state_of};
+    ghost use Rattle.ft_machine.specs.Machines.{IsOf, shape_in, state_of};
 
     /// The machine of a job before its first step, with room for all items that the job can make. Its
     /// only fault is out of memory.
@@ -82,7 +82,7 @@ impl Machine {
 
     /// The place of each word that the actors share (docs/PROTOCOL.md, "Who does what").
     pub fn map(&self) -> WordMap
-        ensures shape { result ≡ self.now.world.shape }
+        ensures shape { result ≡ shape_in self.now }
         ensures job { (job : PlainJob) → IsOf job self.now → result ≡ shape_of job }
     {
         self.world.map()
@@ -99,7 +99,7 @@ impl Machine {
 
     /// How many functions have call sites: those of the job.
     pub fn functions(&self) -> u32
-        ensures sites { result ≡ self.now.world.shape.funcs }
+        ensures sites { result ≡ (shape_in self.now).funcs }
         ensures all { (job : PlainJob) → IsOf job self.now → result ≡ length job.functions }
     {
         self.world.functions()
@@ -109,7 +109,7 @@ impl Machine {
     /// the breakpoint, or are those of the site's target after the commands that have returned, or
     /// after those that have begun.
     pub fn site(&self, f: FuncNo) -> [u8; 5]
-        requires { f.0 < self.now.world.shape.funcs }
+        requires { f.0 < (shape_in self.now).funcs }
         ensures bytes { (job : PlainJob) → IsOf job self.now → result ≡ site_of (state_of job self.now).words f.0 }
         ensures whole { (job : PlainJob) → IsOf job self.now → IsWholeSite job (state_of job self.now).past f.0 result }
     {
