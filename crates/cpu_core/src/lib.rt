@@ -5,7 +5,7 @@
 //! it and what it marks are those of the word machine's CPU ([`Cpu`]). What a whole poll comes to, and
 //! what its tasks stay, is in [`laws`]. Asked: that each value fits its operation, and that there is room
 //! for what a mark adds; the word machine's laws say that both are so. Only [`Cpu::new`] takes memory;
-//! that it is found is only tested, in `actors_tests`.
+//! that it is found is only tested, by rows that the program is run on.
 #![tactic(auto)]
 
 mod cpu;

@@ -10,7 +10,7 @@
 //!
 //! Promised: `read_edit` gives the edit that the definition gives the text, or the first cause to
 //! refuse it, exactly, and so does `read_trigger` for a trigger; the forms are those of grammars.
-//! Only tested, in `sets_tests`: that memory is found.
+//! Only tested, by rows that the program is run on: that memory is found.
 #![tactic(auto)]
 
 mod edits;

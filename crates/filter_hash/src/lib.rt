@@ -6,7 +6,7 @@
 //!
 //! Promised: an edit makes of one half what the definition of the desk says, and leaves the other;
 //! a function is matched exactly if that definition says so. `laws` says what the definition of an
-//! edit makes of each function. Only tested, in `sets_tests`: that memory is found.
+//! edit makes of each function. Only tested, by rows that the program is run on: that memory is found.
 //!
 //! Its one caller is `ft_desk`, which has none itself.
 #![tactic(auto)]

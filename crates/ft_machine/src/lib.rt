@@ -13,8 +13,8 @@
 //! state is a function of the values that its own steps took, so the actors of a job's world
 //! ([`new_world`]) can be taken apart and step at the same time. Out of memory is the only fault.
 //!
-//! Only tested, in the crates `ft_machine_tests` and `actors_tests`: that a job isn't refused for its
-//! size, and that memory is found.
+//! Only tested, in the crate `ft_machine_tests` and by rows that the program is run on: that a job isn't
+//! refused for its size, and that memory is found.
 #![tactic(auto)]
 
 mod cpus;

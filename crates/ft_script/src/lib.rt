@@ -14,9 +14,9 @@
 //! has exactly one of these answers ([`a_text_has_one_answer`]); [`refusal_is_first`] and
 //! [`a_clean_text_is_a_script`] say the definitions in other words. A script that says how many
 //! trampoline slots there are has the same job in each version that accepts it
-//! ([`a_version_changes_no_more_than_limits`]). Only tested, in
-//! `ft_script_tests`: that the largest scripts are read when there is memory, and that reading takes
-//! time in proportion to the bytes and to what the lines of control plan.
+//! ([`a_version_changes_no_more_than_limits`]). Only tested, by rows that the program is run on
+//! (`tools/ft check program`): that the largest scripts are read when there is memory, and that reading
+//! takes time in proportion to the bytes and to what the lines of control plan.
 #![tactic(auto)]
 
 mod declaration;

@@ -11,8 +11,8 @@
 //! is no option for help.
 //!
 //! Proved: words that are read give the order that the language gives them; they are refused only
-//! if the language gives them none; and it gives no words two orders. Only tested, in
-//! `vocabulary_tests`: that memory is found for the parser.
+//! if the language gives them none; and it gives no words two orders. Only tested, by rows that the
+//! program is run on: that memory is found for the parser.
 #![tactic(auto)]
 
 mod command;

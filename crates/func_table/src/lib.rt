@@ -3,8 +3,8 @@
 //!
 //! Promised: names differ, so names and numbers are one to one; `find` and `name` go from one to the
 //! other; `add` says exactly when it refuses. Names are text of the form that `ft_base::is_name`
-//! tests, which the caller has tested. That memory is found is only tested, in
-//! `sets_tests`.
+//! tests, which the caller has tested. That memory is found is only tested, by
+//! rows that the program is run on.
 #![tactic(auto)]
 
 mod faults;

@@ -14,7 +14,8 @@
 //!
 //! Promised: `Pattern::read` gives the items that the grammar gives the text, or the first cause to
 //! refuse it; `Pattern::matches` passes exactly if the name can be cut in this way, and takes no
-//! memory. Only tested, in `sets_tests`: that memory is found, and that no hostile pattern takes long.
+//! memory. Only tested, by rows that the program is run on: that memory is found, and that no hostile
+//! pattern takes long.
 #![tactic(auto)]
 
 mod bits;

@@ -7,8 +7,8 @@
 //!
 //! `lowest_uncovered` gives the lowest line of a call that isn't covered, if there is one; out of memory is its one error. A law,
 //! `uncovered_lines_are_those_of_the_job`, says what the answer means for the job; others, what coverage is for: in every legal history
-//! of a job whose calls are covered, each call finds the module of its function loaded. Only tested, in `scripts_tests`: that memory is
-//! found when there is some, and that the largest scripts take no long time.
+//! of a job whose calls are covered, each call finds the module of its function loaded. Only tested, by rows that the program is
+//! run on: that memory is found when there is some, and that the largest scripts take no long time.
 #![tactic(auto)]
 
 mod change;

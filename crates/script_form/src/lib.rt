@@ -5,8 +5,8 @@
 //!
 //! Proved: [`read_line`] gives exactly the form of each line, whose names are names; a line that is
 //! skipped takes no memory; and the forms are those of a grammar with one rule for each way to write
-//! a line ([`grammar_gives_the_form`]). Only tested, in `scripts_tests`: that a line of many
-//! words is read when there is memory.
+//! a line ([`grammar_gives_the_form`]). Only tested, by rows that the program is
+//! run on: that a line of many words is read when there is memory.
 #![tactic(auto)]
 
 mod acts;

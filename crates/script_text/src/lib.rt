@@ -5,8 +5,8 @@
 //! are *names*, some are *numbers*.
 //!
 //! Proved: the first line of a text and what comes after it, which lines are skipped, which are
-//! plain, the words of a text, and what a word says as a name or a number. Only tested, in
-//! `scripts_tests`: that the words of a long line are found when there is memory. What the words
+//! plain, the words of a text, and what a word says as a name or a number. Only tested, by rows
+//! that the program is run on: that the words of a long line are found when there is memory. What the words
 //! mean is left to the crates above.
 #![tactic(auto)]
 

@@ -9,7 +9,7 @@
 //! Promised: a user that is added or dropped changes the row of each of its functions, by one in the
 //! count and in the count of each flag that it has, and no other row. So each row is its own sum over
 //! the users that have been added and not dropped, which is a law in `laws`. Only [`Counts::new`] takes
-//! memory. Only tested, in `sets_tests`: that memory is found.
+//! memory. Only tested, by rows that the program is run on: that memory is found.
 //!
 //! The calls go from member to member of a set, and pass over its empty words.
 //!

@@ -6,7 +6,7 @@
 //! Promised: each call is its operation on the marks, as an equation; a walk from member to member
 //! goes by `SiteSet::next_member`, or by `SiteSet::next_of_two` over two sets, whose answers are the
 //! lowest member from a number on, or none exactly if there is none. `SiteSet::empty` and
-//! `SiteSet::copy` alone take memory; that it is found is only tested, in `sets_tests`.
+//! `SiteSet::copy` alone take memory; that it is found is only tested, by rows that the program is run on.
 #![tactic(auto)]
 
 mod edits;

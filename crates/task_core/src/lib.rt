@@ -11,7 +11,7 @@
 //! in `proofs/RowOps`, `proofs/Rows` and `proofs/Stays`, and said of the whole CPU in `cpu_core`, whose
 //! proofs also show that each value fits its operation, which is asked here. When a task runs, and when
 //! it is polled, its CPU decides. Only [`Setup::new`] and [`Task::new`] take memory; that it is found is
-//! only tested, in `actors_tests`.
+//! only tested, by rows that the program is run on.
 #![tactic(auto)]
 
 mod acts;
