@@ -1,6 +1,6 @@
 -- Each item of a legal history has numbers that the job has: tasks, functions and users of the job, and counts that are no longer than the
--- history. A task's plain run tells it of its calls, and the rules of items and the desk of the rest.
-use Rattle.std.proofs.Common.{cond, ◌≡◌, ℕ, zero, suc, ◌+◌, ◌<◌, ◌≤◌, ◌^◌, ◌&&◌, ◌||◌, not, ◌==◌, Bool, true, false, List, [], ◌∷◌, length, reverse, Option, Some, None, is_some, refl, sym, subst, inl, inr, arith, if◌then◌else◌}
+-- history, and so have 32 bits. A task's plain run tells it of its calls, and the rules of items and the desk of the rest.
+use Rattle.std.proofs.Common.{cond, ◌≡◌, ℕ, zero, suc, ◌+◌, ◌<◌, ◌≤◌, ◌^◌, ◌&&◌, ◌||◌, not, Bool, true, false, List, [], ◌∷◌, length, reverse, Option, Some, None, is_some, refl, sym, subst, inl, inr, arith, if◌then◌else◌}
 use Rattle.std.specs.Prelude.{IfSome, Contains}
 use Rattle.std.specs.List.{AllByRecursion as Each, filter}
 use Rattle.std.proofs.lemmas.List.{reverse-reverse, length-reverse}
@@ -32,7 +32,8 @@ use Rattle.ft_hist.proofs.Numbers.{some-run, unmoved}
 use Rattle.ft_hist.proofs.WindowLaws.{few-begun}
 use Rattle.word_machine_laws.proofs.DeskNumbers.{registered-inside}
 use Rattle.word_machine_laws.proofs.There.{sited-inside}
-use Rattle.trace_lines.specs.LogItems.{IsCallOf, IsCallerOf, IsRanOf, IsAnswerOf, IsItemOf}
+use Rattle.trace_lines.specs.LogItems.{IsCallOf, IsCallerOf, IsRanOf, IsAnswerOf}
+use Rattle.log_reader.specs.Refused.{IsCallShort, IsCallerShort, IsNumbered}
 use Rattle.trace_views.proofs.TopCalls.{named}
 use Rattle.trace_views.proofs.GraphUsers.{each-turned}
 
@@ -152,12 +153,12 @@ module _ (job : Job) where
       Each-weaker (λ (m : Visit). m.place < length past) (λ (m : Visit). m.place < suc (length past)) (all_visits job past) (λ m lt. omega (arith, lt)) (visits-placed past)
 
   -- the function of a call, as its Enter told it
-  entered-func : (call : CallNo) (past : List Item) → 0 < funcs job → Each (IsItemOf job) past → (entry_of call past).func < funcs job
+  entered-func : (call : CallNo) (past : List Item) → 0 < funcs job → Each (IsNumbered job) past → (entry_of call past).func < funcs job
   entered-func call [] some h = some
   entered-func call (Enter c x f caller ∷ past) some h = by (same_call c call) refl (entered-func call past some h.1)
     where
       by : (b : Bool) → same_call c call ≡ b → (entry_of call past).func < funcs job → (entry_of call (Enter c x f caller ∷ past)).func < funcs job
-      by true e older = rw e h.0.1
+      by true e older = rw e h.0.of_job.1
       by false e older = rw e older
   entered-func call (_ ∷ past) some h = entered-func call past some h.1
 
@@ -193,8 +194,15 @@ module _ (job : Job) where
   PhaseOf (InExit u) = u < length job.users
   PhaseOf _ = Unit {0}
 
+  -- a call is one of the job's, and its number has 32 bits
+  abbrev IsCall : CallNo → Type 0
+  IsCall call = IsCallOf job call × IsCallShort call
+
+  abbrev IsCaller : Option CallNo → Type 0
+  IsCaller caller = IsCallerOf job caller × IsCallerShort caller
+
   abbrev FrameOf : Frame → Type 0
-  FrameOf t = IsCallOf job t.call × (t.func < funcs job) × PhaseOf t.phase
+  FrameOf t = IsCall t.call × (t.func < funcs job) × PhaseOf t.phase
 
   -- a task after so many items
   record TaskOf (n : ℕ) (s : PlainTask) : Type 0 where
@@ -205,8 +213,8 @@ module _ (job : Job) where
   more-items n s h = record { next = (let k = h.next in omega (arith, k)); stack = h.stack }
 
   -- the top of a stack is a caller
-  top-is : (stack : List Frame) → Each FrameOf stack → IsCallerOf job (top_call stack)
-  top-is [] h = tt
+  top-is : (stack : List Frame) → Each FrameOf stack → IsCaller (top_call stack)
+  top-is [] h = (tt, tt)
   top-is (t ∷ below) h = h.0.0
 
   -- the top call in another phase, after one more item
@@ -219,61 +227,74 @@ module _ (job : Job) where
 
 module _ (job : Job) (ok : IsWellFormed job) (replaced : Each (IsReplacedIn (funcs job)) job.users) where
   -- an item of a task: its call is one of the job's, and the task goes on
-  module _ (t n : ℕ) (past : List Item) (items : Each (IsItemOf job) past) (long : n ≡ length past) (short : suc n < 2 ^ 64) where
-    call-of : (call : CallNo) (x : Ctx) (f : FuncNo) (caller : Option CallNo) (next : ℕ) → IsLegalPast job (Enter call x f caller ∷ past) → call.n ≡ next → next ≤ suc n → IsCallOf job call
-    call-of call x f caller next l number le = (named job call.task.0 (Enter call x f caller) past (==-refl call.task.0) l, omega (arith, number, le, short))
+  module _ (t n : ℕ) (past : List Item) (items : Each (IsNumbered job) past) (long : n ≡ length past) (short : suc n < 2 ^ 32) where
+    call-of : (call : CallNo) (x : Ctx) (f : FuncNo) (caller : Option CallNo) (next : ℕ) → IsLegalPast job (Enter call x f caller ∷ past) → call.n ≡ next → next ≤ suc n → IsCall job call
+    call-of call x f caller next l number le =
+        ((named job call.task.0 (Enter call x f caller) past (==-refl call.task.0) l, omega (arith, number, le, short)), omega (arith, number, le, short))
 
     item-of : (p s : PlainTask) (item : Item) → IsLegalPast job (item ∷ past) → is_of t item ≡ true → EnterNamed (funcs job) item → Step job (done past) p s item → TaskOf job n p
-        → IsItemOf job item × TaskOf job (suc n) s
+        → IsNumbered job item × TaskOf job (suc n) s
     unfolding IsLegalPast
     item-of p s item l own func step_begin h = false_true own
     item-of p s item l own func step_return h = false_true own
     item-of p s item l own func (step_enter {call = call} {x = x} {f = f} {caller = caller} it quiet acts is) h =
         let next = h.next in
         let is_call = call-of call x f caller p.next l it.number next in
-        ((is_call, func, subst (IsCallerOf job) (sym it.from) (top-is job p.stack h.stack)), record { next = omega (arith, next); stack = ((is_call, func, tt), h.stack) })
+        let from = subst (IsCaller job) (sym it.from) (top-is job p.stack h.stack) in
+        (record { of_job = (is_call.0, func, from.0); short = (is_call.1, from.1) }, record { next = omega (arith, next); stack = ((is_call, func, tt), h.stack) })
     item-of p s item l own func (step_act q g below {call = call} {x = x} {f = f} {caller = caller} it) h =
         let next = h.next in
         let is_call = call-of call x f caller q.next l it.number next in
-        ((is_call, func, subst (IsCallerOf job) (sym it.from) h.stack.0.0), record { next = omega (arith, next); stack = ((is_call, func, tt), (h.stack.0, h.stack.1)) })
+        let from = subst (IsCaller job) (sym it.from) h.stack.0.0 in
+        (record { of_job = (is_call.0, func, from.0); short = (is_call.1, from.1) }, record { next = omega (arith, next); stack = ((is_call, func, tt), (h.stack.0, h.stack.1)) })
     item-of p s item l own func (step_back q f below {u = u}) h =
         let inside = on-inside job ok past u.0 _ l.0.callbacks.on in
-        ((h.stack.0.0, inside), turned job n q _ f below Dispatch (InBack u.0 _ true) refl refl h inside)
-    item-of p s item l own func (step_back_end q f below {u = u} {fresh = fresh}) h = ((h.stack.0.0, h.stack.0.2), turned job n q _ f below (InBack u.0 None fresh) Dispatch refl refl h tt)
-    item-of p s item l own func (step_refuse q f below {u = u}) h = ((h.stack.0.0, on-inside job ok past u.0 _ l.0.callbacks.on), turned job n q _ f below Dispatch Dispatch refl refl h tt)
+        (record { of_job = (h.stack.0.0.0, inside); short = h.stack.0.0.1 }, turned job n q _ f below Dispatch (InBack u.0 _ true) refl refl h inside)
+    item-of p s item l own func (step_back_end q f below {u = u} {fresh = fresh}) h =
+        (record { of_job = (h.stack.0.0.0, h.stack.0.2); short = h.stack.0.0.1 }, turned job n q _ f below (InBack u.0 None fresh) Dispatch refl refl h tt)
+    item-of p s item l own func (step_refuse q f below {u = u}) h =
+        (record { of_job = (h.stack.0.0.0, on-inside job ok past u.0 _ l.0.callbacks.on); short = h.stack.0.0.1 }, turned job n q _ f below Dispatch Dispatch refl refl h tt)
     item-of p s item l own func (step_miss q f below {u = u} {owed = owed}) h =
-        ((h.stack.0.0, h.stack.0.2), turned job n q _ f below (InBack u.0 owed true) (InBack u.0 owed false) refl refl h h.stack.0.2)
+        (record { of_job = (h.stack.0.0.0, h.stack.0.2); short = h.stack.0.0.1 }, turned job n q _ f below (InBack u.0 owed true) (InBack u.0 owed false) refl refl h h.stack.0.2)
     item-of p s item l own func (step_body q f below) h =
         let inside = h.stack.0.1 in
         let entry = entered-func job f.call past (omega (arith, inside)) items in
         let runs = subst (λ k. k < funcs job) (sym l.0.fetches.runs) (replaced-func job (entry_of f.call past).func (backs_with_replacement job (visits job f.call past)) entry replaced) in
         let fetched = l.0.fetches.fetched in
-        ((h.stack.0.0, runs, subst (IsRanOf job) (sym fetched.3) (target-is job fetched.0 (entry_of f.call past).func)), turned job n q _ f below Dispatch Running refl refl h tt)
-    item-of p s item l own func (step_leave q f below acts) h = (h.stack.0.0, turned job n q _ (in_body true f) below Running Leaving refl refl h tt)
-    item-of p s item l own func (step_act_leave q f below) h = (h.stack.0.0, turned job n q _ (in_body false f) below Running Leaving refl refl h tt)
+        let ran = subst (IsRanOf job) (sym fetched.3) (target-is job fetched.0 (entry_of f.call past).func) in
+        (record { of_job = (h.stack.0.0.0, runs, ran); short = h.stack.0.0.1 }, turned job n q _ f below Dispatch Running refl refl h tt)
+    item-of p s item l own func (step_leave q f below acts) h = (record { of_job = h.stack.0.0.0; short = h.stack.0.0.1 }, turned job n q _ (in_body true f) below Running Leaving refl refl h tt)
+    item-of p s item l own func (step_act_leave q f below) h = (record { of_job = h.stack.0.0.0; short = h.stack.0.0.1 }, turned job n q _ (in_body false f) below Running Leaving refl refl h tt)
     item-of p s item l own func (step_exit q f below {u = u}) h =
         let of = l.0.exits.0.of in
         let inside = live-inside job past u.0 of.0.reg of.5 in
         let place = entry-placed job past f.call of.0 of.1 in
-        let at' = of.3 in
-        ((h.stack.0.0, inside, omega (arith, place, at', long, short)), turned job n q _ f below Leaving (InExit u.0) refl refl h inside)
-    item-of p s item l own func (step_exit_end q f below {u = u}) h = ((h.stack.0.0, h.stack.0.2), turned job n q _ f below (InExit u.0) Leaving refl refl h tt)
+        let at' = of.3 in (
+          record {
+            of_job = (h.stack.0.0.0, inside, omega (arith, place, at', long, short));
+            short = (h.stack.0.0.1, omega (arith, place, at', long, short));
+          },
+          turned job n q _ f below Leaving (InExit u.0) refl refl h inside,
+        )
+    item-of p s item l own func (step_exit_end q f below {u = u}) h =
+        (record { of_job = (h.stack.0.0.0, h.stack.0.2); short = h.stack.0.0.1 }, turned job n q _ f below (InExit u.0) Leaving refl refl h tt)
     item-of p s item l own func (step_ret q f below) h =
         let next = h.next in
-        ((h.stack.0.0, top-is job below h.stack.1), record { next = omega (arith, next); stack = h.stack.1 })
+        let to = top-is job below h.stack.1 in
+        (record { of_job = (h.stack.0.0.0, to.0); short = (h.stack.0.0.1, to.1) }, record { next = omega (arith, next); stack = h.stack.1 })
 
   -- the items of a past, and where each task is after them
   record PastOf (past : List Item) : Type 0 where
-    pub items : Each (IsItemOf job) past
+    pub items : Each (IsNumbered job) past
     pub tasks : (t : ℕ) (s : PlainTask) → plain job t past ≡ Some s → TaskOf job (length past) s
 
-  module _ (item : Item) (past : List Item) (l : IsLegalPast job (item ∷ past)) (short : suc (length past) < 2 ^ 64) (h : PastOf past) where
-    of-task : (t : ℕ) (s : PlainTask) → is_of t item ≡ true → plain job t (item ∷ past) ≡ Some s → IsItemOf job item × TaskOf job (suc (length past)) s
+  module _ (item : Item) (past : List Item) (l : IsLegalPast job (item ∷ past)) (short : suc (length past) < 2 ^ 32) (h : PastOf past) where
+    of-task : (t : ℕ) (s : PlainTask) → is_of t item ≡ true → plain job t (item ∷ past) ≡ Some s → IsNumbered job item × TaskOf job (suc (length past)) s
     of-task t s own e =
         let w = own-step job t item past s own e in
         item-of t (length past) past h.items refl short w.0 s item l own (enter-named job ok past w.0 s t item w.1 w.2) w.2 (h.tasks t w.0 w.1)
 
-    after-item : IsItemOf job item → PastOf (item ∷ past)
+    after-item : IsNumbered job item → PastOf (item ∷ past)
     after-item is = record { items = (is, h.items); tasks = λ t s e. by t s e (is_of t item) refl }
       where
         by : (t : ℕ) (s : PlainTask) → plain job t (item ∷ past) ≡ Some s → (b : Bool) → is_of t item ≡ b → TaskOf job (suc (length past)) s
@@ -283,27 +304,29 @@ module _ (job : Job) (ok : IsWellFormed job) (replaced : Each (IsReplacedIn (fun
     by-task : (t : ℕ) → is_of t item ≡ true → PastOf (item ∷ past)
     by-task t own = let r = some-run job t (item ∷ past) l in after-item (of-task t r.0 own r.1).0
 
-  past-of : (past : List Item) → IsLegalPast job past → length past < 2 ^ 64 → PastOf past
+  past-of : (past : List Item) → IsLegalPast job past → length past < 2 ^ 32 → PastOf past
   unfolding IsLegalPast plain
   past-of [] l short = record { items = tt; tasks = λ t s e. subst (TaskOf job 0) (some_inj _ s e) (record { next = omega arith; stack = tt }) }
   past-of (Begin k ∷ past) l short =
       let h = past-of past l.1 (omega (arith, short)) in
       let number = l.0.commands.0.number in
       let few = few-begun past in
-      after-item (Begin k) past l short h (omega (arith, number, few, short))
+      after-item (Begin k) past l short h (record { of_job = omega (arith, number, few, short); short = omega (arith, number, few, short) })
   past-of (Return k a ∷ past) l short =
       let h = past-of past l.1 (omega (arith, short)) in
       let number = l.0.commands.number in
       let follows = l.0.commands.follows in
       let few = few-begun past in
       let c = l.0.commands.command in
-      after-item (Return k a) past l short h (omega (arith, number, follows, few, short), subst (IsAnswerOf job) (sym c.2) (answer-is job (desk job (done past)) c.0))
+      let answer = subst (IsAnswerOf job) (sym c.2) (answer-is job (desk job (done past)) c.0) in
+      after-item (Return k a) past l short h
+      (record { of_job = (omega (arith, number, follows, few, short), answer); short = omega (arith, number, follows, few, short) })
   past-of (item ∷ past) l short = by-task item past l short (past-of past l.1 (omega (arith, short))) _ (==-refl _)
 
   -- ## in the order of the history
 
-  pub legal-items : (items : List Item) → IsLegal job items → length items < 2 ^ 64 → Each (IsItemOf job) items
+  pub legal-items : (items : List Item) → IsLegal job items → length items < 2 ^ 32 → Each (IsNumbered job) items
   unfolding IsLegal
   legal-items items l short =
       let k = length-reverse items in
-      subst (Each (IsItemOf job)) (reverse-reverse items) (each-turned (IsItemOf job) (reverse items) (past-of (reverse items) l (omega (arith, k, short))).items)
+      subst (Each (IsNumbered job)) (reverse-reverse items) (each-turned (IsNumbered job) (reverse items) (past-of (reverse items) l (omega (arith, k, short))).items)

@@ -20,13 +20,14 @@ use Rattle.ft_job.proofs.Ordered.{all-commands}
 use Rattle.ft_script.specs.Script.{IsJobOf}
 use Rattle.trace_views.specs.LogText.{log_text}
 use Rattle.trace_views.proofs.GraphUsers.{each-turned}
-use Rattle.trace_lines.specs.LogItems.{IsItemOf, IsNamedApart, AreNamedAlike, AreInLanesAlike}
+use Rattle.trace_lines.specs.LogItems.{IsNamedApart, AreNamedAlike, AreInLanesAlike}
 use Rattle.trace_lines.proofs.LogTells.{same-lanes}
+use Rattle.log_reader.specs.Refused.{IsNumbered}
 use Rattle.word_machine.specs.Limits.{IsLimited}
 use Rattle.script_jobs.proofs.Texts.{accepted_limited}
 use Rattle.script_jobs.proofs.Names.{accepted_named, accepted_replaced}
 use Rattle.script_jobs.proofs.LegalItems.{legal-items}
-use Rattle.script_jobs.proofs.Logs.{short}
+use Rattle.script_jobs.proofs.Logs.{each-of, short}
 use Rattle.script_jobs.proofs.LaneOrders.{each-led, lanes-tell, picked-all, same-list}
 
 -- ## what has begun
@@ -86,11 +87,11 @@ module _ (text : List ℕ) (job : Job) (is : IsJobOf text job) (has : HasLanes j
         apart_pids = n.apart_pids;
       }
 
-  few : (order : List ℕ) (items : List Item) → Ordered order → IsLegal (in_order job order) items → length items < 2 ^ 64
+  pub few : (order : List ℕ) (items : List Item) → Ordered order → IsLegal (in_order job order) items → length items < 2 ^ 32
   few order items lanes legal = short (in_order job order) items (limited order lanes) legal
 
-  pub are-items : (order : List ℕ) (items : List Item) → Ordered order → IsLegal (in_order job order) items → Each (IsItemOf (in_order job order)) items
-  are-items order items lanes legal =
+  pub are-numbered : (order : List ℕ) (items : List Item) → Ordered order → IsLegal (in_order job order) items → Each (IsNumbered (in_order job order)) items
+  are-numbered order items lanes legal =
       let l = limited order lanes in
       legal-items (in_order job order) l.job' (accepted_replaced text job is) items legal (few order items lanes legal)
 
@@ -116,6 +117,10 @@ module _ (text : List ℕ) (job : Job) (is : IsJobOf text job) (has : HasLanes j
       → log_text (in_order job order) a x ≡ log_text (in_order job other) b y → (order ≡ other) × (a ≡ b) × (x ≡ y)
   log-tells-order order other a b x y lanes lanes' whole whole' e =
       let alike : AreNamedAlike (in_order job order) (in_order job other) = record { functions = refl; users = refl; tasks = refl } in
-      let told = same-lanes (in_order job order) (in_order job other) a b x y alike (named order) (named other)
-      (are-items order a lanes whole.legal) (are-items other b lanes' whole'.legal) (few order a lanes whole.legal) (few other b lanes' whole'.legal) e in
+      let items = each-of (in_order job order) a (are-numbered order a lanes whole.legal) in
+      let items' = each-of (in_order job other) b (are-numbered other b lanes' whole'.legal) in
+      let many = few order a lanes whole.legal in
+      let many' = few other b lanes' whole'.legal in
+      let told =
+      same-lanes (in_order job order) (in_order job other) a b x y alike (named order) (named other) items items' (omega (arith, many)) (omega (arith, many')) e in
       (one-order order other a lanes lanes' whole told.2, told.0, told.1)

@@ -3,12 +3,13 @@
 //!
 //! `ft_script` says which texts are scripts and what their jobs are (`IsJobOf`). `word_machine` says
 //! of which jobs its laws speak (`IsLimited`), `trace_lines` of which jobs and items the log tells
-//! everything (`IsNamedApart`, `IsItemOf`), and `module_coverage` in which histories no call reaches a module
+//! everything (`IsNamedApart`, `IsItemOf`), `log_reader` which items it can read (`IsShort`), and
+//! `module_coverage` in which histories no call reaches a module
 //! that isn't loaded (`KeepsLoaded`). The reader of scripts shows that what a text declares keeps
 //! to the limits, line by line, since the machine asks for it; here that is said of whole texts, and
 //! that names and pids differ besides, which the machine has no need of. So it holds of each script by
-//! what it says alone, also where there is no memory to read it. There is no code, and no definition
-//! of its own that an edit could turn.
+//! what it says alone, also where there is no memory to read it. There is no code, and of its
+//! own one definition: in which jobs the commands of a script's lanes may be led (`IsMergeOf`).
 #![tactic(auto)]
 
 ghost use Rattle.std.specs.Prelude.{ℕ, ◌≡◌, ◌≢◌, ◌<◌, ◌^◌, Bool, true, false, List, [], reverse, length};
@@ -27,6 +28,7 @@ ghost use Rattle.site_bytes.specs.Bytes.{bytes_of};
 ghost use Rattle.site_bytes.specs.declared.insn.Insn.TheVariants.{Nop};
 ghost use Rattle.word_machine_laws.specs.Led.{in_order};
 ghost use Rattle.word_machine_laws.specs.Orders.{IsLaneOrder};
+ghost use Rattle.log_reader.specs.Refused.{IsShort};
 ghost use Rattle.trace_lines.specs.LogItems.{IsItemOf, IsNamedApart};
 ghost use Rattle.trace_views.specs.LogText.{log_text};
 ghost use Rattle.word_machine.specs.Limits.{IsLimited};
@@ -57,12 +59,21 @@ pub fn accepted_jobs_are_named_apart()
 {}
 
 /// Each item of a legal history of an accepted script has numbers that the job has: tasks, functions
-/// and users, and counts of 64 bits.
+/// and users. There are fewer than 2^32 of them.
 pub fn legal_items_are_the_jobs()
     ensures items { (text : List ℕ) (job : Job) (items : List Item) → IsJobOf text job
         → IsLegal job items → Each (IsItemOf job) items }
     ensures count { (text : List ℕ) (job : Job) (items : List Item) → IsJobOf text job
-        → IsLegal job items → length items < 2 ^ 64 }
+        → IsLegal job items → length items < 2 ^ 32 }
+{}
+
+/// And the numbers of commands, calls and places in it have 32 bits, as those of an item in memory;
+/// so have those of a script in lanes, in whatever order of the lanes its commands go.
+pub fn legal_items_are_short()
+    ensures items { (text : List ℕ) (job : Job) (items : List Item) → IsJobOf text job
+        → IsLegal job items → Each IsShort items }
+    ensures ordered { (text : List ℕ) (job : Job) (order : List ℕ) (items : List Item) → IsJobOf text job
+        → HasLanes job → IsLaneOrder job.lines.lanes order → IsLegal (in_order job order) items → Each IsShort items }
 {}
 
 /// So the log of a script tells its history: two legal histories of its job with the same log, and
