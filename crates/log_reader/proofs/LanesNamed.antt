@@ -1,18 +1,21 @@
--- The lanes that a log names, line by line.
-use Rattle.std.proofs.Common.{◌≡◌, ◌<◌, ◌≤◌, ◌^◌, ℕ, zero, suc, ◌+◌, ◌-◌, ◌==◌, List, [], ◌∷◌, ◌++◌, codes, length, take, drop, position, Option, Some, None, refl, sym, ap, ◌∙◌, subst, append_assoc, append-nil, arith, length-append}
-use Rattle.std.proofs.Math.Seq.{drop-append_seam}
+-- The lanes that a text names, line by line; those of a log are the lanes of the commands that begin.
+use Rattle.std.proofs.Common.{cond, ◌≡◌, ◌<◌, ◌≤◌, ◌^◌, ℕ, zero, suc, ◌+◌, ◌-◌, ◌==◌, Bool, true, false, List, [], ◌∷◌, ◌++◌, codes, length, take, drop, position, Option, Some, None, refl, ap, ◌∙◌, append_assoc, append-nil, arith}
+use Rattle.std.proofs.Math.Seq.{drop-append-add}
 use Rattle.std.proofs.lemmas.List.{length-drop, take_all}
-use Rattle.std.specs.Prelude.{IfSome, slice_get}
+use Rattle.std.proofs.lemmas.List.Splits.{slice_split_first, slice_split_none, length-slice_split}
+use Rattle.std.proofs.lemmas.List.Sums.{fails_before_first}
+use Rattle.std.proofs.lemmas.Str.{IsUtf8-from_is_utf8, is_utf8-from_IsUtf8}
+use Rattle.std.specs.Prelude.{IfSome, slice_get, nat_lt}
 use Rattle.std.specs.Fmt.{decimal}
-use Rattle.std.specs.List.{AllByRecursion as Each}
-use Rattle.std.specs.Str.{IsUtf8}
+use Rattle.std.specs.List.{AllByRecursion as Each, position_or_len, slice_split}
+use Rattle.std.specs.Str.{IsUtf8, is_utf8}
 use Rattle.ft_base.specs.declared.item.Item.{Item}
 use Rattle.ft_base.specs.declared.item.Item.TheVariants.{Begin, Return, Enter, Back, BackEnd, Refuse, Miss, Body, Leave, Exit, ExitEnd, Ret}
 use Rattle.ft_base.specs.Job.{Job}
-use Rattle.trace_views.specs.Words.{Word, function_word, user_word, lane_at}
-use Rattle.trace_views.specs.LogText.{call_word, caller_word, context_word, reason_word, ran_words, answer_words, lane_words, item_words, joined, log_line, log_lines}
+use Rattle.trace_views.specs.Words.{Word, function_word, user_word, lane_at, last_line}
+use Rattle.trace_views.specs.LogText.{call_word, caller_word, context_word, reason_word, ran_words, answer_words, lane_words, item_words, joined, log_line, log_lines, log_text}
 use Rattle.trace_lines.specs.LogItems.{IsNamedApart}
-use Rattle.log_reader.specs.Lanes.{lane_by, lane_in, begun_lane, with_lane, lanes_begun, NamesLanes}
+use Rattle.log_reader.specs.Lanes.{lane_by, lane_in, named_in, with_lane, lanes_among, lanes_named, begun_lane, lanes_begun}
 use Rattle.log_reader.specs.Reading.{before, after}
 use Rattle.log_reader.specs.Refused.{IsNumbered}
 use Rattle.log_reader.proofs.FirstLines.{bare_line, line-then, first-line}
@@ -20,7 +23,6 @@ use Rattle.log_reader.proofs.ItemWords.{line-graphic}
 use Rattle.log_reader.proofs.LineBytes.{IsGraphic}
 use Rattle.log_reader.proofs.NumberWords.{number-again}
 use Rattle.log_reader.proofs.ReadAgain.{first-word, later-words, no-words_before}
-use Rattle.log_reader.proofs.ReadLines.{lines-long}
 
 -- ## the lane in a line
 
@@ -67,18 +69,99 @@ lane-in job apart small place item lt numbered = by item (line-graphic job apart
 
 -- ## line by line
 
--- of these items, which a text begins with, so many lines were read that these lanes were named and this is left; or all
-pub data IsAt (job : Job) (items : List Item) (rest named left : List ℕ) : Type 0 where
-  within : (front back : List Item) → items ≡ front ++ back → named ≡ lanes_begun job front → left ≡ log_lines job (length front) back ++ rest → IsAt job items rest named left
-  beyond : (more : List ℕ) → named ≡ lanes_begun job items ++ more → IsAt job items rest named left
+-- a line that is UTF-8 names what its text does, and any other names none
+pub named-text : (line : List ℕ) → IsUtf8 line → named_in line ≡ lane_in line
+named-text line utf8 = ap (λ (b : Bool). cond b (lane_in line) None) (is_utf8-from_IsUtf8 line utf8)
 
--- it is so for each job, and all items that the text may begin with
-abbrev pub AreNamedTo : List ℕ → List ℕ → List ℕ → Type 0
-AreNamedTo text named left = (job : Job) (items : List Item) (rest : List ℕ) → IsNamedApart job → Each (λ lane. lane < 2 ^ 32) job.lines.lanes
-    → Each (IsNumbered job) items → length items < 2 ^ 64 → text ≡ log_lines job 0 items ++ rest → IsAt job items rest named left
+pub named-bytes : (line : List ℕ) → (IsUtf8 line → ⊥) → named_in line ≡ None
+named-bytes line other = by (is_utf8 line) refl
+  where
+    by : (b : Bool) → is_utf8 line ≡ b → cond b (lane_in line) None ≡ None
+    by true e = absurd (other (IsUtf8-from_is_utf8 line e))
+    by false e = refl
 
-pub named-none : (text : List ℕ) → AreNamedTo text [] text
-named-none text job items rest apart small numbered lt e = within [] items refl refl e
+some-part : (line : List ℕ) (parts : List (List ℕ)) → 0 < length parts → lanes_among (line ∷ parts) ≡ with_lane (named_in line) (lanes_among parts)
+some-part line [] lt = absurd (omega (arith, lt))
+some-part line (part ∷ parts) lt = refl
+
+module _ (text : List ℕ) where
+  abbrev is_feed : ℕ → Bool
+  is_feed b = b == 10
+
+  abbrev feed : ℕ
+  feed = position_or_len is_feed text
+
+  -- a text names what its first line names, and what the lines below it do
+  pub named-line : (end : ℕ) → position is_feed text ≡ Some end → lanes_named text ≡ with_lane (named_in (take end text)) (lanes_named (drop (end + 1) text))
+  unfolding lanes_named
+  named-line end e = by (nat_lt feed (length text)) refl e
+    where
+      by : (b : Bool) → nat_lt feed (length text) ≡ b → cond b (Some feed) None ≡ Some end
+          → lanes_named text ≡ with_lane (named_in (take end text)) (lanes_named (drop (end + 1) text))
+      by false t none = absurd cc
+      by true t some =
+          let low : feed < length text = grind arith in
+          let same : feed ≡ end = cc in
+          let below = slice_split is_feed (drop (feed + 1) text) in
+          ap (λ (parts : List (List ℕ)). lanes_among parts) (slice_split_first is_feed text 0 low)
+          ∙ some-part (take feed text) below (omega (arith, length-slice_split is_feed (drop (feed + 1) text)))
+          ∙ ap (λ (n : ℕ). with_lane (named_in (take n text)) (lanes_among (slice_split is_feed (drop (n + 1) text)))) same
+
+  -- without a line it names none
+  pub no-line : position is_feed text ≡ None → lanes_named text ≡ []
+  unfolding lanes_named
+  no-line e = by (nat_lt feed (length text)) refl e
+    where
+      by : (b : Bool) → nat_lt feed (length text) ≡ b → cond b (Some feed) None ≡ None → lanes_named text ≡ []
+      by true t some = absurd cc
+      by false t none =
+          let long : length text ≤ feed = grind arith in
+          ap (λ (parts : List (List ℕ)). lanes_among parts) (slice_split_none is_feed text (λ k d lt. fails_before_first is_feed text k d (omega (arith, lt, long))))
+
+pub with-append : (lane : Option ℕ) (xs ys : List ℕ) → with_lane lane (xs ++ ys) ≡ with_lane lane xs ++ ys
+with-append None xs ys = refl
+with-append (Some n) xs ys = refl
+
+-- ## the lanes of a log
+
+-- the lines of items name the lanes of the commands that begin, and what stands below them names the rest
+pub lines-name : (job : Job) → IsNamedApart job → Each (λ lane. lane < 2 ^ 32) job.lines.lanes → (place : ℕ) (items : List Item) (rest : List ℕ)
+    → place + length items < 2 ^ 64 → Each (IsNumbered job) items → lanes_named (log_lines job place items ++ rest) ≡ lanes_begun job items ++ lanes_named rest
+lines-name job apart small place [] rest lt numbered = refl
+lines-name job apart small place (x ∷ items) rest lt numbered =
+    let after = log_lines job (suc place) items ++ rest in
+    let line = bare_line job place x in
+    let text = log_lines job place (x ∷ items) ++ rest in
+    let low : place < 2 ^ 64 = omega (arith, lt) in
+    let begins : text ≡ log_line job place x ++ after = append_assoc (log_line job place x) (log_lines job (suc place) items) rest in
+    let first = first-line job apart place x text after low numbered.0.of_job begins in
+    let read : named_in line ≡ begun_lane job x = named-text line first.utf8 ∙ lane-in job apart small place x low numbered.0 in
+    let left : drop (length line + 1) text ≡ after =
+    ap (λ (t : List ℕ). drop (length line + 1) t) (begins ∙ line-then job place x after) ∙ drop-append-add line (10 ∷ after) 1 in
+    named-line text (length line) first.place
+    ∙ ap (λ (l : List ℕ). with_lane (named_in l) (lanes_named (drop (length line + 1) text))) first.bytes
+    ∙ ap (λ (o : Option ℕ). with_lane o (lanes_named (drop (length line + 1) text))) read
+    ∙ ap (λ (t : List ℕ). with_lane (begun_lane job x) (lanes_named t)) left
+    ∙ ap (λ (ls : List ℕ). with_lane (begun_lane job x) ls) (lines-name job apart small (suc place) items rest (omega (arith, lt)) numbered.1)
+    ∙ with-append (begun_lane job x) (lanes_begun job items) (lanes_named rest)
+
+-- the last line names none
+no-lane : (b : Bool) → ◌≡◌ {A = Option ℕ} (cond b None None) None
+no-lane true = refl
+no-lane false = refl
+
+last-names-none : (ended : Bool) → lanes_named (last_line ended) ≡ []
+unfolding lanes_named lane_in before after
+last-names-none true = ap (λ (o : Option ℕ). with_lane o []) (no-lane (is_utf8 (codes "end")))
+last-names-none false = ap (λ (o : Option ℕ). with_lane o []) (no-lane (is_utf8 (codes "stopped")))
+
+pub log-names : (job : Job) (items : List Item) (ended : Bool) → IsNamedApart job → Each (λ lane. lane < 2 ^ 32) job.lines.lanes → Each (IsNumbered job) items
+    → length items < 2 ^ 64 → lanes_named (log_text job items ended) ≡ lanes_begun job items
+unfolding log_text
+log-names job items ended apart small numbered lt =
+    lines-name job apart small 0 items (last_line ended) (omega (arith, lt)) numbered
+    ∙ ap (λ (ls : List ℕ). lanes_begun job items ++ ls) (last-names-none ended)
+    ∙ append-nil (lanes_begun job items)
 
 pub begun-snoc : (job : Job) (items : List Item) (x : Item) → lanes_begun job (items ++ x ∷ []) ≡ lanes_begun job items ++ with_lane (begun_lane job x) []
 begun-snoc job [] x = refl
@@ -89,71 +172,9 @@ begun-snoc job (y ∷ ys) x = by (begun_lane job y) (begun-snoc job ys x)
     by None e = e
     by (Some n) e = ap (λ (t : List ℕ). n ∷ t) e
 
-each-back : (P : Item → Type 0) (front back : List Item) → Each P (front ++ back) → Each P back
-each-back P [] back h = h
-each-back P (x ∷ front) back h = each-back P front back h.1
-
-one-more : (n : ℕ) → suc n ≡ n + 1
-one-more n = omega arith
-
--- one more line was read
-pub named-line : (text named left : List ℕ) (end : ℕ) (lane : Option ℕ) → AreNamedTo text named left → position (λ b. b == 10) left ≡ Some end
-    → (IsUtf8 (take end left) → lane ≡ lane_in (take end left)) → AreNamedTo text (named ++ with_lane lane []) (drop (end + 1) left)
-named-line text named left end lane so_far feed reads job items rest apart small numbered lt e = by (so_far job items rest apart small numbered lt e)
-  where
-    by : IsAt job items rest named left → IsAt job items rest (named ++ with_lane lane []) (drop (end + 1) left)
-    by (beyond more is) = beyond (more ++ with_lane lane []) (ap (λ (t : List ℕ). t ++ with_lane lane []) is ∙ append_assoc (lanes_begun job items) more (with_lane lane []))
-    by (within front [] all is at) =
-        beyond (with_lane lane []) (ap (λ (t : List ℕ). t ++ with_lane lane []) (is ∙ ap (λ (t : List Item). lanes_begun job t) (sym (append-nil front) ∙ sym all)))
-    by (within front (x ∷ back) all is at) =
-        let place = length front in
-        let after = log_lines job (suc place) back ++ rest in
-        let own : Each (IsNumbered job) (x ∷ back) = each-back (IsNumbered job) front (x ∷ back) (subst (λ (t : List Item). Each (IsNumbered job) t) all numbered) in
-        let count : length items ≡ place + length (x ∷ back) = ap (λ (t : List Item). length t) all ∙ length-append front (x ∷ back) in
-        let low : place < 2 ^ 64 = omega (arith, count, lt) in
-        let line = bare_line job place x in
-        let begins : left ≡ log_line job place x ++ after = at ∙ append_assoc (log_line job place x) (log_lines job (suc place) back) rest in
-        let first = first-line job apart place x left after low own.0.of_job begins in
-        let ends : ◌≡◌ {A = Option ℕ} (Some end) (Some (length line)) = sym feed ∙ first.place in
-        let long : end ≡ length line = cc in
-        let bytes : take end left ≡ line = ap (λ (n : ℕ). take n left) long ∙ first.bytes in
-        let read : lane ≡ begun_lane job x =
-        reads (subst (λ (t : List ℕ). IsUtf8 t) (sym bytes) first.utf8) ∙ ap (λ (t : List ℕ). lane_in t) bytes ∙ lane-in job apart small place x low own.0 in
-        let cut : left ≡ (line ++ codes "\n") ++ after = begins ∙ line-then job place x after ∙ sym (append_assoc line (codes "\n") after) in
-        let size : end + 1 ≡ length (line ++ codes "\n") = ap (λ n. n + 1) long ∙ sym (length-append line (codes "\n")) in
-        let left' : drop (end + 1) left ≡ after =
-        ap (λ (n : ℕ). drop n left) size ∙ ap (λ (t : List ℕ). drop (length (line ++ codes "\n")) t) cut ∙ drop-append_seam (line ++ codes "\n") after in
-        let more : place + 1 ≡ length (front ++ x ∷ []) = sym (length-append front (x ∷ [])) in
-        within (front ++ x ∷ []) back (all ∙ sym (append_assoc front (x ∷ []) back))
-        (ap (λ (t : List ℕ). t ++ with_lane lane []) is ∙ ap (λ (l : Option ℕ). lanes_begun job front ++ with_lane l []) read ∙ sym (begun-snoc job front x))
-        (left' ∙ ap (λ (n : ℕ). log_lines job n back ++ rest) (one-more place ∙ more))
-
 -- what is left of a text from a place on
 pub left-is : (xs : List ℕ) (n : ℕ) → take (length xs - n) (drop n xs) ≡ drop n xs
 left-is xs n = let long = length-drop n xs in take_all (length xs - n) (drop n xs) (omega (arith, long))
 
 pub left-short : (xs : List ℕ) (n : ℕ) → length (drop n xs) ≤ length xs
 left-short xs n = let long = length-drop n xs in omega (arith, long)
-
--- no more lines can be read
-pub named-all : (text named left : List ℕ) → length text < 2 ^ 32 → AreNamedTo text named left → position (λ b. b == 10) left ≡ None → NamesLanes text named
-named-all text named left size so_far none job items rest apart small numbered e =
-    let long = lines-long job 0 items in
-    let is = ap (λ (t : List ℕ). length t) e in
-    let few : length items < 2 ^ 64 = omega (arith, long, is, size, length-append (log_lines job 0 items) rest) in
-    by few (so_far job items rest apart small numbered few e)
-  where
-    by : length items < 2 ^ 64 → IsAt job items rest named left → (more : List ℕ) × (named ≡ lanes_begun job items ++ more)
-    by few (beyond more is) = (more, is)
-    by few (within front [] all is at) =
-        ([], is ∙ ap (λ (t : List Item). lanes_begun job t) (sym (append-nil front) ∙ sym all) ∙ sym (append-nil (lanes_begun job items)))
-    by few (within front (x ∷ back) all is at) =
-        let place = length front in
-        let after = log_lines job (suc place) back ++ rest in
-        let own : Each (IsNumbered job) (x ∷ back) = each-back (IsNumbered job) front (x ∷ back) (subst (λ (t : List Item). Each (IsNumbered job) t) all numbered) in
-        let count : length items ≡ place + length (x ∷ back) = ap (λ (t : List Item). length t) all ∙ length-append front (x ∷ back) in
-        let low : place < 2 ^ 64 = omega (arith, count, few) in
-        let begins : left ≡ log_line job place x ++ after = at ∙ append_assoc (log_line job place x) (log_lines job (suc place) back) rest in
-        let first = first-line job apart place x left after low own.0.of_job begins in
-        let some : ◌≡◌ {A = Option ℕ} None (Some (length (bare_line job place x))) = sym none ∙ first.place in
-        absurd cc

@@ -1,8 +1,7 @@
 //! The lanes that the lines of a log name.
 
-ghost use Rattle.std.specs.Prelude.{◌≡◌, ◌<◌, ◌^◌, ℕ, List, length, IfOk};
-ghost use Rattle.std.specs.Str.{IsUtf8};
-ghost use Rattle.log_reader.specs.Lanes.{NamesLanes, lane_in};
+ghost use Rattle.std.specs.Prelude.{◌≡◌, ◌<◌, ◌^◌, length, IfOk};
+ghost use Rattle.log_reader.specs.Lanes.{lane_in, lanes_named, named_in};
 
 use crate::line::line_end;
 use crate::words::{cut, read_number};
@@ -27,16 +26,19 @@ fn read_lane(line: &str) -> Option<u32>
 
 /// The same of a line's bytes. A line that isn't UTF-8 names none.
 fn line_lane(line: &[u8]) -> Option<u32>
-    ensures { IsUtf8 line.now → result ≡ lane_in line.now }
+    ensures { result ≡ named_in line.now }
 {
-    read_lane(str::from_utf8(line).ok()?)
+    match str::from_utf8(line) {
+        Ok(text) => read_lane(text),
+        Err(_) => None,
+    }
 }
 
-/// The lanes that the lines of a log name, one for each command that begins, in order. A log of a run with lanes
-/// tells by them in which order the commands went.
+/// The lanes that the lines of a text name, in order. A log of a run with lanes names one for each command that
+/// begins, and so tells in which order the commands went ([`laws`](crate::laws)).
 pub fn read_lanes(alloc: Global, text: &[u8]) -> Result<Vec<u32>, NoMemory>
     requires { length text.now < 2 ^ 32 }
-    ensures { IfOk result (λ named. NamesLanes text.now named.items) }
+    ensures { IfOk result (λ named. named.items ≡ lanes_named text.now) }
 {
     let mut named = Vec::new(alloc);
     let mut rest = text;
