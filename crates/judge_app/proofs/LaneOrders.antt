@@ -1,10 +1,11 @@
 -- The order that names of lanes tell is one of the lanes, and names that are those of an order tell it.
-use Rattle.std.proofs.Common.{cond, ◌≡◌, ◌<◌, ℕ, suc, ◌+◌, Bool, true, false, ◌==◌, List, [], ◌∷◌, ◌++◌, length, Option, Some, None, position, get_or, drop, refl, sym, ap, ap₂, ◌∙◌, append_assoc, append-nil, subst, arith, eqb-true}
+use Rattle.std.proofs.Common.{cond, ◌≡◌, ◌<◌, ◌≤◌, ℕ, zero, suc, ◌+◌, Bool, true, false, ◌==◌, List, [], ◌∷◌, ◌++◌, length, Option, Some, None, position, get_or, drop, take, refl, sym, ap, ap₂, ◌∙◌, append_assoc, append-nil, subst, arith, eqb-true}
 use Rattle.std.specs.Prelude.{eqb}
 use Rattle.std.specs.List.{AllByRecursion as Each, position_from, range_with_len, remove}
 use Rattle.std.specs.List.Sorted.{IsPermutation}
 use Rattle.std.proofs.lemmas.Bool.Decides.{nat_tests}
 use Rattle.std.proofs.lemmas.List.{drop_more}
+use Rattle.std.proofs.Math.Seq.{take-append_seam}
 use Rattle.std.proofs.lemmas.Iterator.Adapters.{position_from-zero}
 use Rattle.std.proofs.lemmas.List.FromFn.{length-range_with_len}
 use Rattle.std.proofs.lemmas.List.Sorted.{IsPermutation-refl, IsPermutation-trans, IsPermutation-cons, IsPermutation-middle, list_any-IsPermutation, length_permutation}
@@ -12,7 +13,8 @@ use Rattle.std.proofs.lemmas.Map.Keys.{IsDistinct-IsPermutation}
 use Rattle.ft_base.proofs.Small.{==-refl, false_true}
 use Rattle.control_core.proofs.Leading.{all-led}
 use Rattle.word_machine_laws.specs.Orders.{AreLed, IsLaneOrder, picked, lane_of, in_lane}
-use Rattle.script_jobs.proofs.LaneOrders.{each-led, own-lane, other-lane, picked-first}
+use Rattle.word_machine_laws.proofs.LedLists.{picked_all, picked_append}
+use Rattle.script_jobs.proofs.LaneOrders.{each-led, own-lane, other-lane, picked-all, picked-first}
 use Rattle.judge_app.specs.Lanes.{found_after, first_of, goes, told, told_order}
 
 module _ (lanes : List ℕ) where
@@ -149,18 +151,49 @@ module _ (lanes : List ℕ) where
   no-lines (k ∷ xs) empty =
       (let some : k ∷ in_lane lanes (lane_of lanes k) xs ≡ [] = sym (own-lane lanes (lane_of lanes k) k xs (==-refl (lane_of lanes k))) ∙ empty (lane_of lanes k) in absurd cc)
 
-  told-none : (named : List ℕ) → told lanes named [] ≡ []
-  told-none [] = refl
-  told-none (l ∷ named) = told-none named
-
-  -- an order of the lanes is told by its lanes, whatever names come after them
-  pub order-told : (order more : List ℕ) → IsLaneOrder lanes order → told_order lanes (picked lanes order ++ more) ≡ order
-  order-told order more is =
+  -- an order of the lanes is told by its lanes
+  pub order-told : (order : List ℕ) → IsLaneOrder lanes order → told_order lanes (picked lanes order) ≡ order
+  order-told order is =
       let all = range_with_len 0 (length lanes) in
       let below : Each Below order = each-led Below order is.each.led.within in
-      let told' = tells-front order [] more all below (λ m. ap (λ (t : List ℕ). in_lane lanes m t) (append-nil order) ∙ is.lanes' m) in
+      let told' = tells-front order [] [] all below (λ m. ap (λ (t : List ℕ). in_lane lanes m t) (append-nil order) ∙ is.lanes' m) in
       let none : told'.0 ≡ [] = no-lines told'.0 (λ m. sym (told'.2 m)) in
-      told'.1 ∙ ap (λ (t : List ℕ). order ++ told lanes more t) none ∙ ap (λ (t : List ℕ). order ++ t) (told-none more) ∙ append-nil order
+      ap (λ (ls : List ℕ). told lanes ls all) (sym (append-nil (picked lanes order))) ∙ told'.1 ∙ ap (λ (t : List ℕ). order ++ t) none ∙ append-nil order
+
+  -- ## names that are those of the first lines
+
+  -- they tell the lines as they stand
+  told-first : (front back : List ℕ) → Each Below front → told lanes (picked lanes front) (front ++ back) ≡ front ++ back
+  told-first [] back below = refl
+  told-first (k ∷ front) back below =
+      let left = front ++ back in
+      let next = told lanes (picked lanes front) in
+      ap (λ (ls : List ℕ). told lanes ls (k ∷ left)) (picked-first lanes k front below.0)
+      ∙ ap (λ (b : Bool). goes (cond b (Some (k, left)) (found_after k (first_of lanes (lane_of lanes k) left))) next (k ∷ left)) (==-refl (lane_of lanes k))
+      ∙ ap (λ (t : List ℕ). k ∷ t) (told-first front back below.1)
+
+  split : (a k n : ℕ) → k ≤ n → (back : List ℕ) × (range_with_len a n ≡ range_with_len a k ++ back)
+  split a zero n le = (range_with_len a n, refl)
+  split a (suc k) zero le = absurd (omega (arith, le))
+  split a (suc k) (suc n) le = let more = split (a + 1) k n (omega (arith, le)) in (more.0, ap (λ (t : List ℕ). a ∷ t) more.1)
+
+  range-below : (a k : ℕ) → a + k ≤ length lanes → Each Below (range_with_len a k)
+  range-below a zero le = tt
+  range-below a (suc k) le = (omega (arith, le), range-below (a + 1) k (omega (arith, le)))
+
+  pub order-stands : (k : ℕ) → k ≤ length lanes → told_order lanes (take k lanes) ≡ range_with_len 0 (length lanes)
+  order-stands k le =
+      let n = length lanes in
+      let front = range_with_len 0 k in
+      let all = split 0 k n le in
+      let below : Each Below front = range-below 0 k (omega (arith, le)) in
+      let size : length (picked lanes front) ≡ k = picked-all lanes front below ∙ length-range_with_len 0 k in
+      let whole : lanes ≡ picked lanes front ++ picked lanes all.0 =
+      sym (picked_all lanes n (omega arith)) ∙ ap (λ (ks : List ℕ). picked lanes ks) all.1 ∙ picked_append lanes front all.0 in
+      let names : take k lanes ≡ picked lanes front =
+      ap (λ (ls : List ℕ). take k ls) whole ∙ ap (λ (m : ℕ). take m (picked lanes front ++ picked lanes all.0)) (sym size)
+      ∙ take-append_seam (picked lanes front) (picked lanes all.0) in
+      ap (λ (ls : List ℕ). told_order lanes ls) names ∙ ap (λ (ks : List ℕ). told lanes (picked lanes front) ks) all.1 ∙ told-first front all.0 below ∙ sym all.1
 
 -- ## the place of the first line
 

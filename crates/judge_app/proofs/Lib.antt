@@ -1,7 +1,9 @@
 pub mod CutLaws
+pub mod OneCut
 pub mod Replies
 pub mod Ending
 pub mod LaneOrders
 pub mod ToldJobs
-pub mod OneCut
 pub mod Printed
+pub mod OneReply
+pub mod ScriptCuts

@@ -1,6 +1,7 @@
 -- An input is cut at one place alone.
-use Rattle.std.proofs.Common.{◌≡◌, ◌≤◌, ◌<◌, ◌⊎◌, ℕ, List, [], ◌∷◌, ◌++◌, length, length-append, drop, refl, sym, ap, ◌∙◌, subst, arith, inl, inr, append-nil}
-use Rattle.judge_app.specs.Cut.{EndsLine, IsAfter, IsCut, log_line}
+use Rattle.std.proofs.Common.{◌≡◌, ◌+◌, ◌≤◌, ◌<◌, ◌⊎◌, ℕ, List, [], ◌∷◌, ◌++◌, length, length-append, drop, refl, sym, ap, ◌∙◌, subst, arith, inl, inr, append-nil}
+use Rattle.std.specs.Prelude.{count_by}
+use Rattle.judge_app.specs.Cut.{EndsLine, IsAfter, IsCut, is_feed, log_line}
 use Rattle.judge_app.proofs.CutLaws.{Beyond, beyond, ends-more}
 
 -- a text that ends with a line feed and begins with the line `log`, or is a beginning of it, has it whole
@@ -54,3 +55,7 @@ module _ (input script log script' log' : List ℕ) (first first' : ℕ) (cut : 
 
       rest-same : log_line ++ log ≡ log_line ++ log' → log ≡ log'
       rest-same e = ap (λ t. drop 4 t) e
+
+  -- and the log's first line has one number
+  pub one-first : first' ≡ first
+  one-first = cut'.number ∙ ap (λ (t : List ℕ). count_by is_feed t + 2) one-cut.0 ∙ sym cut.number

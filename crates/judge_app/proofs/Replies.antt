@@ -6,6 +6,7 @@ use Rattle.std.proofs.lemmas.Option.{slice_get_within}
 use Rattle.std.proofs.lemmas.List.Sums.{count_by-le-length}
 use Rattle.ft_base.specs.declared.item.Item.{Item}
 use Rattle.ft_base.specs.Job.{Job}
+use Rattle.ft_base.specs.declared.limits.TheConstants.{INPUT_BYTES}
 use Rattle.history_check.specs.declared.verdict.Verdict.{Verdict}
 use Rattle.history_check.specs.declared.verdict.Verdict.TheVariants.{Whole, Legal, Broken}
 use Rattle.history_check.specs.Verdicts.{IsVerdict}
@@ -19,8 +20,9 @@ use Rattle.ft_io.specs.declared.status.Status.{Status}
 use Rattle.ft_io.specs.declared.status.Status.TheVariants as ends
 use Rattle.judge_app.specs.Cut.{IsCut, IsUncut, is_feed}
 use Rattle.judge_app.specs.Cut.{log_line as cut_line}
-use Rattle.judge_app.specs.Lanes.{IsToldBy}
-use Rattle.judge_app.specs.Reply.{IsReplyTo, IsWithin, of_log, of_missing, of_refusal, of_verdict, refusal_text, status_of, syntax_at, verdict_text}
+use Rattle.judge_app.specs.Lanes.{led_by}
+use Rattle.judge_app.proofs.OneCut.{one-cut}
+use Rattle.judge_app.specs.Reply.{IsLong, IsReplyTo, IsWithin, of_log, of_missing, of_refusal, of_verdict, refusal_text, status_of, syntax_at, verdict_text}
 
 -- ## numbers
 
@@ -63,9 +65,11 @@ ok-then f (Err e) p = tt
 
 module _ (input script log : List ℕ) (first : ℕ) (cut : IsCut input script log first) where
   -- the verdict on a log
-  pub judged : (job led : Job) → IsJobOf script job → IsToldBy log job led → (items : List Item) (ended : Bool) → Each (IsNumbered led) items → log_text led items ended ≡ log → (v : Verdict) → IsVerdict led items v
+  pub judged : (job led : Job) → IsJobOf script job → led ≡ led_by log job → (items : List Item) (ended : Bool) → Each (IsNumbered led) items → log_text led items ended ≡ log → (v : Verdict) → IsVerdict led items v
       → (status : Status) (text : List ℕ) → status ≡ status_of ended v → text ≡ verdict_text first (length items) ended v → IsReplyTo input status text
-  judged job led accepted told items ended numbered read v is status text s t = rw (s, t) (of_verdict script log first cut job led accepted told items ended numbered read v is)
+  judged job led accepted told items ended numbered read v is status text s t =
+      rw (s, t) (of_verdict script log first cut job accepted items ended (subst (λ j. Each (IsNumbered j) items) told numbered)
+      (ap (λ j. log_text j items ended) (sym told) ∙ read) v (subst (λ j. IsVerdict j items v) told is))
 
   -- the script is refused
   pub script-refused : (fault : ScriptFault) → IsFaultOf script fault → (fault ≡ no_memory → ⊥) → (status : Status) (text : List ℕ) → status ≡ ends.Refused
@@ -74,18 +78,34 @@ module _ (input script log : List ℕ) (first : ℕ) (cut : IsCut input script l
   script-refused fault (inr refused) other status text s t = rw (s, t) (of_refusal script log first cut fault refused)
 
   -- the log is refused
-  pub log-refused : (job led : Job) → IsJobOf script job → IsToldBy log job led → (line : ℕ) → IsRefusedAt led log line → (status : Status) (text : List ℕ) → status ≡ ends.Refused
+  pub log-refused : (job led : Job) → IsJobOf script job → led ≡ led_by log job → (line : ℕ) → IsRefusedAt led log line → (status : Status) (text : List ℕ) → status ≡ ends.Refused
       → text ≡ refusal_text (syntax_at (first + line - 1)) → IsReplyTo input status text
   log-refused job led accepted told line refused status text s t =
       let n = length refused.items in
       let is : n + 1 ≡ line = (let c = refused.count in omega (arith, c)) in
       let same : first + line - 1 ≡ first + n = (let c = refused.count in omega (arith, c)) in
-      rw (s, t, same) (of_log script log first cut job led accepted told n (subst (IsRefusedAt led log) (sym is) refused))
+      rw (s, t, same) (of_log script log first cut job accepted n (subst (λ j. IsRefusedAt j log (n + 1)) told (subst (IsRefusedAt led log) (sym is) refused)))
 
 -- the line `log` is missing
 pub missing : (input : List ℕ) (next : ℕ) → IsUncut input next → (status : Status) (text : List ℕ) → status ≡ ends.Refused → text ≡ refusal_text (syntax_at next)
     → IsReplyTo input status text
 missing input next uncut status text s t = rw (s, t) (of_missing next uncut)
+
+-- what holds anyway holds of a value
+pub ok-anyway : {A E : Type 0} (Q : Type 0) → Q → (made : Result A E) → IfOk made (λ a. Q)
+ok-anyway Q q (Ok a) = q
+ok-anyway Q q (Err e) = tt
+
+-- ## the script isn't too long
+
+pub uncut-fits : (input : List ℕ) (next : ℕ) → IsUncut input next → IsLong input → ⊥
+uncut-fits input next uncut long = uncut.none long.0 long.1 long.3.here
+
+pub cut-fits : (input script log : List ℕ) (first : ℕ) → IsCut input script log first → length script ≤ INPUT_BYTES → IsLong input → ⊥
+cut-fits input script log first cut fits long =
+    let same = ap (λ (t : List ℕ). length t) (one-cut input script log long.0 long.1 first long.2 cut long.3).0 in
+    let over = long.4 in
+    absurd (omega (arith, same, fits, over))
 
 -- what holds of a value holds of the same value
 pub through : {A E F : Type 0} (P : A → Type 0) (made : Result A E) → IfOk made P → (out : Result A F) → IfOk out (λ a. made ≡ Ok a) → IfOk out P

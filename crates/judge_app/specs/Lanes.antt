@@ -1,10 +1,10 @@
 -- The order in which the log of a script with lanes tells that the commands went.
-use Rattle.std.specs.Prelude.{ℕ, ◌≡◌, ◌≢◌, ◌==◌, List, [], ◌∷◌, length, Option, Some, None, if◌then◌else◌}
+use Rattle.std.specs.Prelude.{ℕ, ◌==◌, List, [], ◌∷◌, length, Option, Some, None, if◌then◌else◌}
 use Rattle.std.specs.List.{range_with_len}
 use Rattle.ft_base.specs.Job.{Job}
 use Rattle.word_machine_laws.specs.Led.{in_order}
 use Rattle.word_machine_laws.specs.Orders.{lane_of}
-use Rattle.log_reader.specs.Lanes.{NamesLanes}
+use Rattle.log_reader.specs.Lanes.{lanes_named}
 
 -- a line that was found after these, and the others
 abbrev pub found_after : ℕ → Option (ℕ × List ℕ) → Option (ℕ × List ℕ)
@@ -33,6 +33,5 @@ told_order lanes named = told lanes named (range_with_len 0 (length lanes))
 
 -- The job of which a log is read and judged: the script's own if it has no lanes, else that with its commands in the order that the names in the
 -- log tell
-pub record IsToldBy (log : List ℕ) (job led : Job) : Type 0 where
-  pub alone : job.lines.lanes ≡ [] → led ≡ job
-  pub merged : job.lines.lanes ≢ [] → (named : List ℕ) × NamesLanes log named × (led ≡ in_order job (told_order job.lines.lanes named))
+abbrev pub led_by : List ℕ → Job → Job
+led_by log job = if length job.lines.lanes == 0 then job else in_order job (told_order job.lines.lanes (lanes_named log))

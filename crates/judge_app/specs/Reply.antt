@@ -19,7 +19,7 @@ use Rattle.trace_views.specs.LogText.{log_text}
 use Rattle.ft_io.specs.declared.status.Status.{Status}
 use Rattle.ft_io.specs.declared.status.Status.TheVariants as Ends
 use Rattle.judge_app.specs.Cut.{IsCut, IsUncut}
-use Rattle.judge_app.specs.Lanes.{IsToldBy}
+use Rattle.judge_app.specs.Lanes.{led_by}
 
 -- ## texts
 
@@ -76,10 +76,10 @@ IsLong input = (script log : List ℕ) × (first : ℕ) × IsCut input script lo
 -- its commands are in the order that the log tells
 pub data IsReplyTo (input : List ℕ) : Status → List ℕ → Type 0 where
   of_verdict : (script log : List ℕ) (first : ℕ) → IsCut input script log first
-      → (job led : Job) → IsJobOf script job → IsToldBy log job led → (items : List Item) (ended : Bool) → Each (IsNumbered led) items → log_text led items ended ≡ log
-      → (verdict : Verdict) → IsVerdict led items verdict → IsReplyTo input (status_of ended verdict) (verdict_text first (length items) ended verdict)
+      → (job : Job) → IsJobOf script job → (items : List Item) (ended : Bool) → Each (IsNumbered (led_by log job)) items → log_text (led_by log job) items ended ≡ log
+      → (verdict : Verdict) → IsVerdict (led_by log job) items verdict → IsReplyTo input (status_of ended verdict) (verdict_text first (length items) ended verdict)
   of_refusal : (script log : List ℕ) (first : ℕ) → IsCut input script log first
       → (fault : ScriptFault) → IsRefusalOf script fault → IsReplyTo input Ends.Refused (refusal_text fault)
   of_log : (script log : List ℕ) (first : ℕ) → IsCut input script log first
-      → (job led : Job) → IsJobOf script job → IsToldBy log job led → (n : ℕ) → IsRefusedAt led log (n + 1) → IsReplyTo input Ends.Refused (refusal_text (syntax_at (first + n)))
+      → (job : Job) → IsJobOf script job → (n : ℕ) → IsRefusedAt (led_by log job) log (n + 1) → IsReplyTo input Ends.Refused (refusal_text (syntax_at (first + n)))
   of_missing : (next : ℕ) → IsUncut input next → IsReplyTo input Ends.Refused (refusal_text (syntax_at next))

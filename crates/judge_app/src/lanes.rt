@@ -3,7 +3,7 @@
 ghost use Rattle.std.specs.Prelude.{◌≡◌, ◌<◌, ◌^◌, ◌==◌, length, position, IfOk, IfSome, IfNone, Some, None};
 ghost use Rattle.std.specs.List.{range_with_len};
 ghost use Rattle.word_machine_laws.specs.Orders.{lane_of};
-ghost use Rattle.judge_app.specs.Lanes.{IsToldBy, first_of, told_order};
+ghost use Rattle.judge_app.specs.Lanes.{first_of, led_by, told_order};
 
 use ft_base::NoMemory;
 use ft_job::Job;
@@ -14,7 +14,7 @@ use std::alloc::Global;
 /// tells.
 pub(crate) fn led_by(alloc: Global, job: Job, log: &[u8]) -> Result<Job, NoMemory>
     requires { length log.now < 2 ^ 32 }
-    ensures { IfOk result (λ led. IsToldBy log.now job led) }
+    ensures { IfOk result (λ led. led ≡ led_by log.now job) }
 {
     if job.lanes().is_empty() {
         return Ok(job);

@@ -7,7 +7,7 @@ ghost use Rattle.ft_script.specs.Script.{IsJobOf, no_memory};
 ghost use Rattle.trace_lines.specs.LogItems.{IsNamedApart};
 ghost use Rattle.ft_io.specs.declared.status.Status.TheVariants.{Broken, Done, Refused};
 ghost use Rattle.judge_app.specs.Cut.{IsCut};
-ghost use Rattle.judge_app.specs.Lanes.{IsToldBy};
+ghost use Rattle.judge_app.specs.Lanes.{led_by};
 ghost use Rattle.judge_app.specs.Reply.{IsLong, IsReplyTo, IsWithin, line_text, refusal_text, rule_word, status_of, syntax_at, verdict_text};
 
 use crate::cut::{Parts, cut};
@@ -42,6 +42,7 @@ pub enum ReplyFail {
 pub fn answer(alloc: Global, input: &[u8]) -> Result<Reply, ReplyFail>
     requires { length input.now + 2 < 2 ^ 32 }
     ensures is { IfOk result (λ r. IsReplyTo input.now r.status r.text.items) }
+    ensures fits { IfOk result (λ r. ¬ IsLong input.now) }
     ensures long { result ≡ Err ReplyFail.TooLong → IsLong input.now }
 {
     match cut(input) {
@@ -55,6 +56,7 @@ fn reply_below(alloc: Global, parts: &Parts<'_>) -> Result<Reply, ReplyFail>
     requires { parts.now.first + length parts.now.log.now + 2 < 2 ^ 32 }
     ensures is { (input : List ℕ) → IsCut input parts.now.script.now parts.now.log.now parts.now.first
         → IfOk result (λ r. IsReplyTo input r.status r.text.items) }
+    ensures fits { IfOk result (λ r. length parts.now.script.now ≤ INPUT_BYTES) }
     ensures long { result ≡ Err ReplyFail.TooLong → INPUT_BYTES < length parts.now.script.now }
 {
     if parts.script.len() > INPUT_BYTES as usize {
@@ -103,7 +105,7 @@ fn reply_for(alloc: Global, job: &Job, parts: &Parts<'_>) -> Result<Reply, NoMem
     requires named { IsNamedApart job.now }
     requires fits { parts.now.first + length parts.now.log.now + 2 < 2 ^ 32 }
     ensures { (input : List ℕ) (own : PlainJob) → IsCut input parts.now.script.now parts.now.log.now parts.now.first → IsJobOf parts.now.script.now own
-        → IsToldBy parts.now.log.now own job.now → IfOk result (λ r. IsReplyTo input r.status r.text.items) }
+        → job.now ≡ led_by parts.now.log.now own → IfOk result (λ r. IsReplyTo input r.status r.text.items) }
 {
     match read_log(alloc, job, parts.log) {
         Ok(log) => {

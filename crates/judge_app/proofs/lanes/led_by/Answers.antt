@@ -1,10 +1,11 @@
-use Rattle.std.proofs.Common.{◌≡◌, ◌<◌, ◌^◌, ℕ, List, length, refl, sym, ap, ap₂, ◌∙◌, subst}
+use Rattle.std.proofs.Common.{◌≡◌, ◌<◌, ◌^◌, ℕ, List, length, sym, ap, ap₂, ◌∙◌, subst}
 use Rattle.word_machine_laws.specs.Led.{in_order}
 use Rattle.word_machine_laws.specs.Orders.{AreAllLed}
 use Rattle.word_machine.specs.Limits.{IsLimited}
 use Rattle.script_jobs.proofs.LaneOrders.{no-lanes, some-lanes}
+use Rattle.log_reader.specs.Lanes.{lanes_named}
 use Rattle.judge_app.specs.Lanes.{told_order}
-use Rattle.judge_app.proofs.ToldJobs.{alone, merged, all-told, lanes-few}
+use Rattle.judge_app.proofs.ToldJobs.{all-told, lanes-few, led-alone, led-merged}
 use Rattle.judge_app.proofs.lanes.led_by.Goals as goal
 
 pub order_told-requires : goal.order_told-requires
@@ -23,12 +24,13 @@ in_order-requires c =
 pub returns-then-is_empty : goal.returns-then-is_empty
 returns-then-is_empty c =
     let none = no-lanes c.args.job c.lanes.result.now c.is_empty.result c.lanes.ensures.lanes c.is_empty.ensures c.if-is_empty.true in
-    alone c.args.log.now c.args.job c.args.job none refl
+    sym (led-alone c.args.log.now c.args.job none)
 
 pub returns-in-Ok : goal.returns-in-Ok
 returns-in-Ok c =
     let job = c.args.job in
     let some = some-lanes job c.lanes.result.now c.is_empty.result c.lanes.ensures.lanes c.is_empty.ensures c.if-is_empty.false in
-    let same : c.as_slice-2.result.now ≡ told_order job.lines.lanes c.in_ok-named.named.items =
-    c.as_slice-2.ensures.value ∙ c.in_ok-order.ensures ∙ ap₂ (λ (ls ns : List ℕ). told_order ls ns) c.lanes-2.ensures.lanes c.as_slice.ensures.value in
-    merged c.args.log.now job c.in-Ok.led c.in_ok-named.named.items some c.in_ok-named.ensures (c.in-Ok.ensures.ok ∙ ap (λ (o : List ℕ). in_order job o) same)
+    let same : c.as_slice-2.result.now ≡ told_order job.lines.lanes (lanes_named c.args.log.now) =
+    c.as_slice-2.ensures.value ∙ c.in_ok-order.ensures
+    ∙ ap₂ (λ (ls ns : List ℕ). told_order ls ns) c.lanes-2.ensures.lanes (c.as_slice.ensures.value ∙ c.in_ok-named.ensures) in
+    c.in-Ok.ensures.ok ∙ ap (λ (o : List ℕ). in_order job o) same ∙ sym (led-merged c.args.log.now job some)
