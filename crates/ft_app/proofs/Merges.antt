@@ -6,6 +6,7 @@ use Rattle.ft_base.specs.Job.{Job}
 use Rattle.ft_hist.specs.Rules.{IsWhole}
 use Rattle.word_machine_laws.specs.Led.{in_order}
 use Rattle.word_machine_laws.specs.Orders.{IsLaneOrder}
+use Rattle.live_table.specs.Seats.{IsMadeByTurns}
 use Rattle.script_jobs.proofs.LaneOrders.{no-lanes, some-lanes}
 use Rattle.ft_app.specs.Reply.{IsMergeOf, IsRunOf}
 
@@ -23,5 +24,6 @@ module _ (job : Job) (lanes : List ℕ) (empty : Bool) (are : lanes ≡ job.line
     merged = λ some. (order, is, same);
   }
 
-pub whole-run : (led job : Job) (items given : List Item) (ended : Bool) → led ≡ job → items ≡ given → ended ≡ true → IsWhole job given → IsRunOf led items ended
-whole-run led job items given ended same same' over whole = record { whole = rw (same, same') whole; ended' = over }
+pub whole-run : (led job : Job) (items given : List Item) (ended : Bool) → led ≡ job → items ≡ given → ended ≡ true → IsWhole job given → IsMadeByTurns job given
+    → IsRunOf led items ended
+whole-run led job items given ended same same' over whole made = record { whole = rw (same, same') whole; ended' = over; made = rw (same, same') made }

@@ -8,6 +8,7 @@ use Rattle.word_machine_laws.specs.Led.{in_order}
 use Rattle.word_machine_laws.specs.Orders.{IsLaneOrder}
 use Rattle.module_coverage.specs.Found.{KeepsLoaded, RunsLoaded}
 use Rattle.word_machine.specs.Machine.{play, all_end}
+use Rattle.live_table.specs.Seats.{IsMadeByTurns}
 use Rattle.ft_words.specs.declared.order.Form.TheVariants as Form
 use Rattle.ft_words.specs.declared.order.Order.{Order}
 use Rattle.ft_words.specs.declared.order.Order.TheVariants.{Replay, Run, Bulk}
@@ -64,10 +65,13 @@ pub record IsReplayOf (job : Job) (items : List Item) (ended : Bool) : Type 0 wh
   pub legal : IsLegal job items
   pub whole : ended ≡ true → IsWhole job items
 
--- a history of running threads, which all came to their ends: it is whole, so it is legal too
+-- A history of running threads, which all came to their ends.
+--   whole   it is whole, so it is legal too
+--   made    the word machine makes it as well, by single steps of some actors one after the other
 pub record IsRunOf (job : Job) (items : List Item) (ended : Bool) : Type 0 where
   pub whole : IsWhole job items
   pub ended' : ended ≡ true
+  pub made : IsMadeByTurns job items
 
 -- the history that an order prints
 abbrev pub IsHistoryFor : Order → Job → List Item → Bool → Type 0

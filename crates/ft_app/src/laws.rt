@@ -1,8 +1,14 @@
-//! What a written log tells.
+//! What a written log tells, and what the histories of running threads are.
 
-ghost use Rattle.std.specs.Prelude.{◌≡◌, ℕ, List, Some};
+ghost use Rattle.std.specs.Prelude.{◌≡◌, ℕ, Bool, List, length, reverse, Some};
+ghost use Rattle.ft_base.specs.declared.item.Item.{Item};
+ghost use Rattle.ft_base.specs.declared.turn.Turn.{Turn};
+ghost use Rattle.ft_base.specs.Job.{Job};
+ghost use Rattle.ft_base.specs.Schedule.{actors_in};
 ghost use Rattle.ft_words.specs.declared.order.Order.{Order};
+ghost use Rattle.word_machine.specs.Machine.{run, start};
 ghost use Rattle.ft_app.specs.Main.{IsLogged, HasRun};
+ghost use Rattle.ft_app.specs.Reply.{IsRunOf};
 
 /// A written log tells its history. The order asks for the form log, and the source and the sink tell
 /// their bytes. Then the bytes that a call of [`ft_main`](crate::ft_main) with status 0 has read and
@@ -15,4 +21,11 @@ pub fn a_written_log_tells_its_history()
         × (a.played.written.led ≡ b.played.written.led)
         × (a.played.written.items ≡ b.played.written.items)
         × (a.played.written.ended ≡ b.played.written.ended) }
+{}
+
+/// Each history of running threads is the history of a replay: the word machine makes it of the job by
+/// the turns of some schedule, each of which is a single step of one actor.
+pub fn each_run_is_a_replay()
+    ensures { (job : Job) (items : List Item) (ended : Bool) → IsRunOf job items ended
+        → (turns : List Turn) × (items ≡ reverse (run job (actors_in (length job.quanta) turns) (start job)).past) }
 {}

@@ -21,6 +21,7 @@
 //!   for a replay and for a script with lanes those of the history gone through by place. So a trigger
 //!   with a limit has fired as often as it was hit, but no more often than the limit.
 //! - A log that was written tells its history, and the order of its lanes ([`laws`]).
+//! - A history of running threads is one that the word machine makes by the turns of some schedule.
 //!
 //! With running threads this holds if the call returns: it may wait, and no proof says that it ends.
 //! Only tested, in `ft_app_tests`: that it does in some runs, that the history and the rings are those

@@ -1,7 +1,6 @@
 //! A job carried out by running threads.
 
 ghost use Rattle.std.specs.Prelude.{◌≡◌, true, [], IfOk};
-ghost use Rattle.ft_hist.specs.Rules.{IsWhole};
 ghost use Rattle.live_table.specs.Seats.{AreAtEnd, AreSeats, ControlSitsAt};
 ghost use Rattle.ft_words.specs.declared.order.Order.TheVariants.{Run};
 ghost use Rattle.trace_print.specs.Kept.{IsAllAnd};
@@ -59,7 +58,7 @@ fn run_alone<R: Threads + Wait + Sync, G: Gate>(
     gate: &G,
 ) -> Result<(History, Option<Rings>), NoMemory>
     requires lanes { job.now.lines.lanes ≡ [] }
-    ensures whole { IfOk result (λ r. IsWhole job.now r.0.items) }
+    ensures run { IfOk result (λ r. IsRunOf job.now r.0.items true) }
     ensures kept { IfOk result (λ r. IsKeptFor (Run form) job.now r.0.items r.1) }
 {
     if form == Form::Rings {
@@ -93,7 +92,7 @@ fn run_job<R: Threads + Wait + Sync, G: Gate>(
     job: &Job,
     gate: &G,
 ) -> Result<History, NoMemory>
-    ensures { IfOk result (λ h. IsWhole job.now h.items) }
+    ensures { IfOk result (λ h. IsRunOf job.now h.items true) }
 {
     let Started {
         live,
@@ -112,7 +111,7 @@ fn gathered(alloc: Global, live: Live, ended: Ended) -> Result<History, NoMemory
     requires led { ended.control.led ≡ live.job }
     requires cpus { AreSeats live ended.cpus.items }
     requires ended { AreAtEnd ended.control ended.cpus.items }
-    ensures { IfOk result (λ h. IsWhole live.job h.items) }
+    ensures { IfOk result (λ h. IsRunOf live.job h.items true) }
 {
     match live.gather(alloc, ended.control, ended.cpus) {
         Ok(history) => Ok(history),

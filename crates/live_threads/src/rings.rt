@@ -6,7 +6,7 @@ ghost use Rattle.ring_rules.specs.Legal.{RingsLegal};
 ghost use Rattle.ring_rules.specs.Plan.{plan_of};
 ghost use Rattle.ring_table.specs.Seats.{AreSeats as AreRings, SeatPlace};
 ghost use Rattle.word_machine.specs.Limits.{IsLimited};
-ghost use Rattle.live_table.specs.Seats.{AreAtEnd, AreSeats, ControlPlace, ControlSitsAt, CpuPlace};
+ghost use Rattle.live_table.specs.Seats.{AreAtEnd, AreSeats, ControlPlace, ControlSitsAt, CpuPlace, IsMadeByTurns};
 ghost use Rattle.live_seats.specs.declared.seat.AnySeat.TheVariants.{Traced};
 ghost use Rattle.live_seats.specs.AnySeats.{AreSeatsOf, all_traced, tables};
 ghost use Rattle.live_seats.specs.Ends.{AreEnded, IsEndedControl};
@@ -155,6 +155,7 @@ fn gathered(
     requires traced { AreTraced ended.cpus.items ended.rings.items }
     requires ended { AreAtEnd ended.control ended.cpus.items }
     ensures whole { IfOk result (λ r. IsWhole live.job r.history.items) }
+    ensures turns { IfOk result (λ r. IsMadeByTurns live.job r.history.items) }
     ensures legal { IfOk result (λ r. RingsLegal (plan_of live.job) r.history.items r.rings) }
 {
     let TracedEnd {
@@ -186,6 +187,7 @@ pub fn run_rings<R: Threads + Wait + Sync, G: Gate>(
     gate: &G,
 ) -> Result<RingRun, NoMemory>
     ensures whole { IfOk result (λ r. IsWhole job.now r.history.items) }
+    ensures turns { IfOk result (λ r. IsMadeByTurns job.now r.history.items) }
     ensures legal { IfOk result (λ r. RingsLegal (plan_of job.now) r.history.items r.rings) }
 {
     // For its contract alone: a job is within the limits of scripts.

@@ -30,7 +30,7 @@ returns-in-Ok-clause-run g c =
     let out = c.run_to_end-in-Ok.result in
     let same : out.job ≡ c.in-Ok.field-0.job = (let e = c.run_to_end-in-Ok.ensures.job in let f = c.in-Ok.job-is in cc) in
     all-kept out.kept c.in-Ok.field-0.history (λ (items : List Item). IsRunOf out.job items out.ended) c.run_to_end-in-Ok.ensures.items
-    (whole-run _ _ _ _ _ same refl c.run_to_end-in-Ok.ensures.ended c.in-Ok.ensures.ok.3)
+    (whole-run _ _ _ _ _ same refl c.run_to_end-in-Ok.ensures.ended c.in-Ok.ensures.ok.3 c.in-Ok.ensures.turns)
 
 pub returns-in-Ok-clause-kept : goal.returns-in-Ok-clause-kept
 returns-in-Ok-clause-kept g c =
