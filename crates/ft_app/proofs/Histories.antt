@@ -12,7 +12,8 @@ use Rattle.ft_words.specs.declared.order.Order.TheVariants.{Replay, Run, Bulk}
 use Rattle.ring_rules.specs.Fold.{Rings}
 use Rattle.ft_script.specs.Script.{IsJobOf}
 use Rattle.script_jobs.proofs.Modules.{calls-loaded, bodies-loaded, lanes-name-none}
-use Rattle.ft_app.specs.Reply.{IsMergeOf, IsLedFor, IsCarriedOut, IsHistoryFor, FindsModules}
+use Rattle.script_jobs.specs.Merges.{IsMergeOf}
+use Rattle.ft_app.specs.Reply.{IsLedFor, IsCarriedOut, IsHistoryFor, FindsModules}
 
 pub history-legal : (order : Order) (job : Job) (items : List Item) (ended : Bool) → IsHistoryFor order job items ended → IsLegal job items
 history-legal (Replay form) job items ended h = h.legal

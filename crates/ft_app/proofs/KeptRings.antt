@@ -18,7 +18,8 @@ use Rattle.trace_print.specs.Kept.{IsAllAnd, IsEnoughFor, IsKeptOf, ServesForm, 
 use Rattle.trace_print.specs.Texts.{text_of}
 use Rattle.ft_app.specs.declared.carried_out.CarriedOut.{CarriedOut}
 use Rattle.ft_app.specs.Main.{IsPlain}
-use Rattle.ft_app.specs.Reply.{IsCarriedOut, IsEnough, IsKeptFor, IsMade, IsMergeOf, IsReplayOf, IsRunOf, history_of, printed}
+use Rattle.script_jobs.specs.Merges.{IsMergeOf}
+use Rattle.ft_app.specs.Reply.{IsCarriedOut, IsEnough, IsKeptFor, IsMade, IsReplayOf, IsRunOf, history_of, printed}
 
 -- there are none
 pub none-kept : (order : Order) (led : Job) (items : List Item) (kept : Option Rings) → kept ≡ None → IsKeptFor order led items kept

@@ -8,7 +8,8 @@ use Rattle.word_machine_laws.specs.Led.{in_order}
 use Rattle.word_machine_laws.specs.Orders.{IsLaneOrder}
 use Rattle.live_table.specs.Seats.{IsMadeByTurns}
 use Rattle.script_jobs.proofs.LaneOrders.{no-lanes, some-lanes}
-use Rattle.ft_app.specs.Reply.{IsMergeOf, IsRunOf}
+use Rattle.script_jobs.specs.Merges.{IsMergeOf}
+use Rattle.ft_app.specs.Reply.{IsRunOf}
 
 -- whether there are lanes was asked
 module _ (job : Job) (lanes : List ℕ) (empty : Bool) (are : lanes ≡ job.lines.lanes) (asked : empty ≡ (length lanes == 0)) where

@@ -17,7 +17,8 @@ use Rattle.script_jobs.proofs.OrderedLogs.{log-tells-order}
 use Rattle.script_jobs.proofs.Texts.{accepted_in_lanes}
 use Rattle.trace_print.specs.Texts.{text_of}
 use Rattle.ring_rules.specs.Fold.{Rings}
-use Rattle.ft_app.specs.Reply.{IsKeptFor, IsMergeOf, printed}
+use Rattle.script_jobs.specs.Merges.{IsMergeOf}
+use Rattle.ft_app.specs.Reply.{IsKeptFor, printed}
 use Rattle.ft_app.specs.Main.{ReadWhole, IsLogged, HasRun}
 use Rattle.ft_app.proofs.KeptRings.{printed-without}
 

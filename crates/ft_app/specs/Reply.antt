@@ -1,11 +1,10 @@
 -- What is written for a script.
-use Rattle.std.specs.Prelude.{ℕ, ◌≡◌, ◌≢◌, ◌++◌, Bool, true, List, [], Option, Some, None, Result, IfOk, IfSome, codes, reverse}
+use Rattle.std.specs.Prelude.{ℕ, ◌≡◌, ◌++◌, Bool, true, List, [], Option, Some, None, Result, IfOk, IfSome, codes, reverse}
 use Rattle.ft_base.specs.declared.item.Item.{Item}
 use Rattle.ft_base.specs.declared.memory.NoMemory.{NoMemory}
 use Rattle.ft_base.specs.Job.{Job}
 use Rattle.ft_hist.specs.Rules.{IsLegal, IsWhole}
-use Rattle.word_machine_laws.specs.Led.{in_order}
-use Rattle.word_machine_laws.specs.Orders.{IsLaneOrder}
+use Rattle.script_jobs.specs.Merges.{IsMergeOf}
 use Rattle.module_coverage.specs.Found.{KeepsLoaded, RunsLoaded}
 use Rattle.word_machine.specs.Machine.{play, all_end}
 use Rattle.live_table.specs.Seats.{IsMadeByTurns}
@@ -43,12 +42,6 @@ abbrev pub refusal_text : ScriptFault → List ℕ
 refusal_text fault = fault_text fault ++ codes "\n"
 
 -- ## the job that is carried out
-
--- The job with its commands in an order in which the lock of its lanes may let them through. The order is a merge of the lanes: it has each
--- command once, and each lane's in its order. A job without lanes is itself
-pub record IsMergeOf (job led : Job) : Type 0 where
-  pub alone : job.lines.lanes ≡ [] → led ≡ job
-  pub merged : job.lines.lanes ≢ [] → (order : List ℕ) × IsLaneOrder job.lines.lanes order × (led ≡ in_order job order)
 
 -- the job as an order carries it out: as it stands, or with `Run` in an order of its lanes
 abbrev pub IsLedFor : Order → Job → Job → Type 0

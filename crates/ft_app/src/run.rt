@@ -4,7 +4,8 @@ ghost use Rattle.std.specs.Prelude.{◌≡◌, true, [], IfOk};
 ghost use Rattle.live_table.specs.Seats.{AreAtEnd, AreSeats, ControlSitsAt};
 ghost use Rattle.ft_words.specs.declared.order.Order.TheVariants.{Run};
 ghost use Rattle.trace_print.specs.Kept.{IsAllAnd};
-ghost use Rattle.ft_app.specs.Reply.{IsKeptFor, IsMergeOf, IsRunOf};
+ghost use Rattle.script_jobs.specs.Merges.{IsMergeOf};
+ghost use Rattle.ft_app.specs.Reply.{IsKeptFor, IsRunOf};
 
 use crate::carried_out::CarriedOut;
 use ft_base::NoMemory;

@@ -4,7 +4,8 @@ use Rattle.ft_base.specs.declared.item.Item.{Item}
 use Rattle.ft_words.specs.declared.order.Order.TheVariants.{Run}
 use Rattle.ft_words.specs.Language.{Gives}
 use Rattle.trace_print.specs.Kept.{IsAllAnd}
-use Rattle.ft_app.specs.Reply.{IsKeptFor, IsMergeOf, IsRunOf}
+use Rattle.script_jobs.specs.Merges.{IsMergeOf}
+use Rattle.ft_app.specs.Reply.{IsKeptFor, IsRunOf}
 use Rattle.ft_app.proofs.KeptRings.{run-made}
 use Rattle.ft_app.proofs.Ends.{by-number, given, no-memory-for-words, no-order}
 use Rattle.ft_app.proofs.top.ft_main.Goals as goal
