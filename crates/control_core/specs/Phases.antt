@@ -38,6 +38,7 @@ store_in shape p (Some u) (Some sel) = write_to shape p.pair u.0 sel
 store_in shape p (Some u) None = number_to p.pids p.depth
 store_in shape p None sel = number_to p.pids p.depth
 
+-- after the trampoline is taken, or if none is, for this plan
 abbrev pub store_to : Shape → PlainPlan → Phase
 store_to shape p = store_in shape p p.user p.sel
 
@@ -47,6 +48,7 @@ begin_in (Set slot reg) otherwise = phase.Taking
 begin_in KeepTramp otherwise = otherwise
 begin_in (Clear slot) otherwise = otherwise
 
+-- after the Begin of this plan's command
 abbrev pub begin_to : Shape → PlainPlan → Phase
 begin_to shape p = begin_in p.tramp (store_to shape p)
 
@@ -71,6 +73,7 @@ list_in shape p made request (Push first) None = batch_to shape p made request
 list_in shape p made request (Unlink before after) u = phase.Linking (record { shape = shape; phase = Unlinking before after })
 list_in shape p made request KeepList u = batch_to shape p made request
 
+-- after the user's state is stored, for this plan
 abbrev pub list_to : Shape → PlainPlan → ℕ → ℕ → Phase
 list_to shape p made request = list_in shape p made request p.list p.user
 

@@ -89,6 +89,7 @@ op_in c (phase.Quieting wait) = wait_next wait
 op_in c phase.Releasing = release_next c.desk.plan.tramp
 op_in c phase.Closing = Some (Mark (Return (suc c.commands_done) c.answer))
 
+-- the next operation of control, if it has one
 abbrev pub op_of : Seated → Option WordOp
 op_of c = op_in c c.phase
 
@@ -136,6 +137,7 @@ moved c made = record c { made = made; phase = batch_to c.shape c.desk.plan made
 abbrev pub page_after : Page → Page
 page_after page = record page { stored = suc page.stored }
 
+-- the user's sets after a store: more of them is to be written, or its state was stored last
 abbrev pub wrote : Seated → Page → Seated
 wrote c page = if is_some (write_next c.desk.state page c.desk.plan.user) then at_phase c (phase.Writing page) else listed c
 
@@ -143,6 +145,7 @@ wrote c page = if is_some (write_next c.desk.state page c.desk.plan.user) then a
 abbrev pub linked_after : Linked → Linked
 linked_after l = record l { phase = link_after l.phase }
 
+-- the list of users after a store: more of it is to be changed, or the batch begins
 abbrev pub linked : Seated → Linked → Seated
 linked c l = if is_linked_up l.phase then moved c c.made else at_phase c (phase.Linking l)
 
@@ -150,9 +153,11 @@ linked c l = if is_linked_up l.phase then moved c c.made else at_phase c (phase.
 abbrev pub requests_after : ℕ → Wait → ℕ
 requests_after request w = if is_asking w.phase then suc request else request
 
+-- a sync after an operation: it is over and the batch's next move comes, or it goes on
 abbrev pub synced : Seated → Wait → Seated
 synced c w = if is_over w.phase then moved c (suc c.made) else at_phase c (phase.Syncing w)
 
+-- a wait for quiet points after an operation: it is over, or it goes on
 abbrev pub quieted : Seated → Wait → Seated
 quieted c w = if is_over w.phase then at_phase c (release_in c.desk.plan.tramp) else at_phase c (phase.Quieting w)
 
@@ -186,5 +191,6 @@ stepped_in c (phase.Quieting wait) v = quieted (with_request c (requests_after c
 stepped_in c phase.Releasing v = at_phase c phase.Closing
 stepped_in c phase.Closing v = closed c v
 
+-- control after its next operation gave this value
 abbrev pub stepped : Seated → ℕ → Seated
 stepped c v = stepped_in c c.phase v

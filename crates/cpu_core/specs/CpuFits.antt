@@ -25,6 +25,7 @@ NextAt c (StoringAck r) = c.cpu.0 < c.setup.shape.cpus
 NextAt c (StoringQuiet r i) = IsQuietThere c i
 NextAt c Over = Unit {0}
 
+-- the word of its next operation is there, in the phase that it is in
 abbrev pub HasNext : Parts → Type 0
 HasNext c = NextAt c c.phase
 

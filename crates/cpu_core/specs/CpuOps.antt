@@ -21,6 +21,7 @@ abbrev pub runs : Option Task → Bool
 runs None = false
 runs (Some t) = not (is_polling t.moment)
 
+-- its present task makes the next operation, and not a poll
 abbrev pub is_running : Parts → Bool
 is_running c = runs (present_task c)
 

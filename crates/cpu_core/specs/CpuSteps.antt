@@ -26,6 +26,7 @@ switched_from c unmet (Some t) =
     then record c { present = next_left c.tasks c.present; count = 0 }
     else c
 
+-- the same for its present task
 abbrev pub switched : Parts → Bool → Parts
 switched c unmet = switched_from c unmet (present_task c)
 
@@ -52,6 +53,7 @@ went_by c v (Some t) =
     let c' = with_step c u (marks_in (op_of t) v) in
     if is_fetching u.moment then c' else switched c' (is_unmet t v)
 
+-- its present task's operation gave a value
 abbrev pub went : Parts → ℕ → Parts
 went c v = went_by c v (present_task c)
 
@@ -91,6 +93,7 @@ abbrev pub told_by : Parts → ℕ → ℕ → Option Task → Parts
 told_by c r i None = c
 told_by c r i (Some t) = record c { tasks = set c.tasks i (told_task r t) }
 
+-- the word of the task at an index is stored
 abbrev pub with_told : Parts → ℕ → ℕ → Parts
 with_told c r i = told_by c r i (slice_get c.tasks i)
 

@@ -37,6 +37,7 @@ abbrev pub next_by : Option ℕ → Option ℕ → ℕ → ℕ
 next_by (Some next) first present = next
 next_by None first present = unwrap_or first present
 
+-- the next task with an act left after this one, in the cyclic order, or this one if none has
 abbrev pub next_left : List Task → ℕ → ℕ
 next_left ts present = next_by (left_from ts (suc present)) (left_from ts 0) present
 

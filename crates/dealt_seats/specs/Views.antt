@@ -13,6 +13,7 @@ cpu c = ByCpu (record { 0 = c })
 abbrev pub part : {K : Type 0} → Actor → K → Part K
 part a k = record { actor = a; known = k }
 
+-- a seat's view: of which job, what was led, how many CPUs were split off, and its parts
 abbrev pub view : {J L K : Type 0} → J → L → ℕ → List (Part K) → View J L K
 view job led split parts = record { job = job; led = led; split = split; parts = parts }
 

@@ -105,12 +105,15 @@ sum_over counted from (x ∷ rest) = counted from x + sum_over counted (suc from
 abbrev pub one_at : ℕ → ℕ → User → ℕ
 one_at f u x = one_if (is_at f x)
 
+-- 1 for a user at the function that gets the registers
 abbrev pub regs_at : ℕ → ℕ → User → ℕ
 regs_at f u x = one_if (is_at f x && x.regs)
 
+-- 1 for a user at the function that replaces functions
 abbrev pub modifier_at : ℕ → ℕ → User → ℕ
 modifier_at f u x = one_if (is_at f x && is_some x.ipmodify)
 
+-- its number from 1 for a user at the function
 abbrev pub number_at : ℕ → ℕ → User → ℕ
 number_at f u x = if is_at f x then suc u else 0
 

@@ -18,6 +18,7 @@ use Rattle.trace_views.specs.Words.{Word}
 use Rattle.log_reader.specs.Lookups.{Lookups}
 
 infixl 10 ◌>>=◌
+-- what is made of a value, if there is one
 abbrev pub ◌>>=◌ : {A B : Type 0} → Option A → (A → Option B) → Option B
 o >>= f = option_and_then f o
 

@@ -32,6 +32,7 @@ Part = SeatPart Known
 abbrev pub View : Type 0
 View = SeatView TracePlan (Unit {0}) Known
 
+-- a seat's view, in which nothing is led
 abbrev pub view : TracePlan → ℕ → List Part → View
 view plan split parts = seats.view plan tt split parts
 
@@ -61,12 +62,15 @@ hits_by v i = hits_of (known_of v) i
 
 -- ## steps
 
+-- it draws ticket n of trigger i
 abbrev pub draws : View → ℕ → ℕ → View
 draws v i n = change (drawn v.job i n) v
 
+-- it switches tracing
 abbrev pub switches : View → Bool → View
 switches v on = change (switched_to on) v
 
+-- it looks whether tracing is on
 abbrev pub looks : View → Bool → View
 looks v on = change (looked on) v
 

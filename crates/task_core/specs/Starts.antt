@@ -45,5 +45,6 @@ abbrev pub is_unmet_at : Moment → Option TaskAct → ℕ → Bool
 is_unmet_at First (Some (After n)) v = nat_lt (returned_at v) n
 is_unmet_at m act v = false
 
+-- the wait that the task is at, if it is at one, is not met by this clock
 abbrev pub is_unmet : Task → ℕ → Bool
 is_unmet t v = is_unmet_at t.moment (present t) v

@@ -48,6 +48,7 @@ stack_in [] ss = []
 stack_in (o ∷ os) [] = []
 stack_in (o ∷ os) (s ∷ ss) = joined o s ∷ stack_in os ss
 
+-- all open calls of a task
 abbrev pub stack_of : Task → List OpenCall
 stack_of t = stack_in t.opens.calls t.stacks.calls
 
@@ -71,6 +72,7 @@ abbrev pub exiting : List FrameUser → Moment
 exiting [] = machine.Returning
 exiting (m ∷ rest) = machine.Exiting m rest
 
+-- in the exit callback of the first of these users
 abbrev pub ending_exit : List FrameUser → Moment
 ending_exit [] = machine.Returning
 ending_exit (m ∷ rest) = machine.EndingExit m rest
@@ -95,6 +97,7 @@ moment_at o users First = machine.First
 moment_at o users (Load load) = load_moment o users load
 moment_at o users (Mark mark) = mark_moment users mark
 
+-- the moment that a task is at
 abbrev pub moment_of : Task → Moment
 moment_of t = moment_at (top t) (users_in (top_users t.stacks.calls)) t.moment
 

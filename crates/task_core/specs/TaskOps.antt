@@ -43,6 +43,7 @@ no_user = record { user = record { 0 = 0 }; reg = 0; entry = 0 }
 abbrev pub owed_at : List StackedCall → ℕ → Option FrameUser
 owed_at calls i = option_and_then (λ users. slice_get users i) (top_users calls)
 
+-- the user at a place of the frame of a task's latest call, if there is one
 abbrev pub owed : Task → ℕ → Option FrameUser
 owed t i = owed_at t.stacks.calls i
 

@@ -61,6 +61,7 @@ finished t = record t { acts = record t.acts { gone = suc t.acts.gone }; moment 
 abbrev pub with_raised : GuardState → Ctx → GuardState
 with_raised g x = record g { raised = x ∷ g.raised }
 
+-- the latest interrupt goes
 abbrev pub without_raised : GuardState → GuardState
 without_raised g = record g { raised = drop 1 g.raised }
 
@@ -85,6 +86,7 @@ new_call call x f scripted shape = record {
   user = record { 0 = 0 };
 }
 
+-- the next call of the task is entered
 abbrev pub entered : Task → Shape → FuncNo → Ctx → Bool → Task
 entered t shape f x scripted = record t {
   next = suc t.next;
@@ -210,6 +212,7 @@ abbrev pub exit_to : ℕ → Option FrameUser → Moment
 exit_to i None = Mark Returning
 exit_to i (Some user) = Load (AtExit i)
 
+-- before the exit at this place of the frame, if there is one, or before the Ret
 abbrev pub exit_from : Task → ℕ → Task
 exit_from t i = at t (exit_to i (owed t i))
 

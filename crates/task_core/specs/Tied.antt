@@ -108,11 +108,13 @@ HasLoad shape o users (Reading r) = IsReadOf shape o r
 HasLoad shape o users (AtExit i) = i < length users
 HasLoad shape o users _ = Unit {0}
 
+-- an exit that is to be marked has its user
 abbrev pub HasMark : List FrameUser → ToMark → Type 0
 HasMark users (Exiting i) = i < length users
 HasMark users (EndingExit i) = i < length users
 HasMark users _ = Unit {0}
 
+-- what a load or a mark of a moment names is there
 abbrev pub HasMoment : Shape → CodeCall → List FrameUser → CodeMoment → Type 0
 HasMoment shape o users (Load load) = HasLoad shape o users load
 HasMoment shape o users (Mark mark) = HasMark users mark

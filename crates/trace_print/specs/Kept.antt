@@ -49,6 +49,7 @@ pub data Content : Type 0 where
   ForForm : (form : Form) → Content
   ForSummary : Content
 
+-- for what this is kept
 abbrev pub content_of : Kept → Content
 content_of (History h) = AllItems
 content_of (Function v) = ForForm forms.Function
@@ -63,6 +64,7 @@ ServesForm form AllItems = Unit {0}
 ServesForm form (ForForm own) = form ≡ own
 ServesForm form ForSummary = ⊥
 
+-- the text of a form can be made of what is kept
 abbrev pub IsEnoughFor : Form → Kept → Type 0
 IsEnoughFor form kept = ServesForm form (content_of kept)
 
@@ -72,6 +74,7 @@ ServesSummary AllItems = Unit {0}
 ServesSummary (ForForm own) = ⊥
 ServesSummary ForSummary = Unit {0}
 
+-- the summary can be made of what is kept
 abbrev pub IsForSummary : Kept → Type 0
 IsForSummary kept = ServesSummary (content_of kept)
 

@@ -72,10 +72,12 @@ numbered_texts text n (x ∷ rest) = text n x ++ numbered_texts text (suc n) res
 
 -- ## kinds of users
 
+-- the kind `graph`
 abbrev pub is_graph : Kind → Bool
 is_graph Graph = true
 is_graph _ = false
 
+-- the kind `profile`
 abbrev pub is_profile : Kind → Bool
 is_profile Profile = true
 is_profile _ = false
