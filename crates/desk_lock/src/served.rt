@@ -7,7 +7,7 @@ use std::marker::Brand;
 use std::sync::Wait;
 
 /// An item of a lane, in a list of those that were served.
-#[derive(Clone, Copy, Debug, PartialEq, Eq)]
+#[derive(Clone, Copy, PartialEq, Eq)]
 pub struct Served1 {
     /// The lane, from 0.
     pub lane: u32,

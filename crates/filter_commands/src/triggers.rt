@@ -19,7 +19,7 @@ use std::alloc::Global;
 
 /// What switches tracing on or off, and at the calls of which functions (`ftrace.rst`, "Filter
 /// commands").
-#[derive(Debug, Drop)]
+#[derive(Drop)]
 pub struct Trigger {
     /// Tracing is switched on (`traceon`), and not off (`traceoff`).
     pub on: bool,

@@ -15,7 +15,7 @@ use std::marker::Model;
 
 /// A user's filter and its notrace set: two sets of functions of one size, which is fixed when
 /// they are made.
-#[derive(Debug, Drop)]
+#[derive(Drop)]
 pub struct HashPair {
     filter: SiteSet,
     notrace: SiteSet,

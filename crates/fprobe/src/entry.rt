@@ -12,7 +12,7 @@ use return_stack::Stacks;
 use user_specs::Spec;
 
 /// What comes of an fprobe's callback at the entry of a call.
-#[derive(Clone, Copy, Debug, PartialEq, Eq)]
+#[derive(Clone, Copy, PartialEq, Eq)]
 pub enum Probe {
     /// It has no exit handler.
     Plain,

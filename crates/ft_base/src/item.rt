@@ -193,7 +193,7 @@ impl Item {
 }
 
 /// An item and its place in the history.
-#[derive(Clone, Copy, Debug, PartialEq, Eq)]
+#[derive(Clone, Copy, PartialEq, Eq)]
 pub struct Stamped {
     pub place: u32,
     pub item: Item,

@@ -101,7 +101,7 @@ pub const PATTERN_BYTES: u32 = 255;
 pub const INPUT_BYTES: u32 = 16_777_216;
 
 /// What a script of a version may have at most of what differs by version.
-#[derive(Clone, Copy, Debug, PartialEq, Eq)]
+#[derive(Clone, Copy, PartialEq, Eq)]
 pub struct Limits {
     /// Functions.
     pub funcs: u32,

@@ -10,7 +10,7 @@ pub struct FuncNo(pub u32);
 pub struct UserNo(pub u32);
 
 /// The number of a CPU.
-#[derive(Clone, Copy, Debug, PartialEq, Eq)]
+#[derive(Clone, Copy, PartialEq, Eq)]
 pub struct CpuNo(pub u32);
 
 /// The number of a task, over all CPUs. It is not the task's pid.

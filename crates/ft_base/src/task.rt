@@ -4,7 +4,7 @@ use crate::context::Ctx;
 use crate::number::FuncNo;
 
 /// One act of a task.
-#[derive(Clone, Copy, Debug, PartialEq, Eq)]
+#[derive(Clone, Copy, PartialEq, Eq)]
 pub enum TaskAct {
     /// It calls the function.
     Call(FuncNo),

@@ -3,14 +3,14 @@
 use crate::number::CpuNo;
 
 /// Who steps: control, which carries out the commands, or a CPU.
-#[derive(Clone, Copy, Debug, PartialEq, Eq)]
+#[derive(Clone, Copy, PartialEq, Eq)]
 pub enum Actor {
     Control,
     Cpu(CpuNo),
 }
 
 /// Whose turns an entry of a schedule has.
-#[derive(Clone, Copy, Debug, PartialEq, Eq)]
+#[derive(Clone, Copy, PartialEq, Eq)]
 pub enum Who {
     Control,
     Cpu(CpuNo),
@@ -19,7 +19,7 @@ pub enum Who {
 }
 
 /// An entry of a schedule: `count` turns, one after the other.
-#[derive(Clone, Copy, Debug, PartialEq, Eq)]
+#[derive(Clone, Copy, PartialEq, Eq)]
 pub struct Turn {
     pub who: Who,
     pub count: u32,

@@ -6,7 +6,7 @@ ghost use Rattle.ft_base.specs.Kinds.{is_function, is_fprobe, has_depth, has_exi
 use crate::number::FuncNo;
 
 /// The kind of a user.
-#[derive(Clone, Copy, Debug, PartialEq, Eq)]
+#[derive(Clone, Copy, PartialEq, Eq)]
 pub enum Kind {
     /// A function tracer (`ftrace.rst`, "function").
     Function,
@@ -67,7 +67,7 @@ impl Kind {
 }
 
 /// What a user does at each of its entry callbacks.
-#[derive(Clone, Copy, Debug, PartialEq, Eq)]
+#[derive(Clone, Copy, PartialEq, Eq)]
 pub enum Act {
     /// It calls the function in the same context.
     CallIn(FuncNo),
@@ -77,7 +77,7 @@ pub enum Act {
 
 /// One of a user's two sets of functions (`ftrace.rst`, `set_ftrace_filter` and
 /// `set_ftrace_notrace`).
-#[derive(Clone, Copy, Debug, PartialEq, Eq)]
+#[derive(Clone, Copy, PartialEq, Eq)]
 pub enum Half {
     Filter,
     Notrace,

@@ -83,7 +83,7 @@ impl Command {
 }
 
 /// A line of control.
-#[derive(Debug, Drop)]
+#[derive(Drop)]
 pub enum Ctl {
     /// Carries out a command.
     Run(Command),

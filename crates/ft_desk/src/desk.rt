@@ -34,7 +34,7 @@ use word_map::Shape;
 
 /// All users, with their sets and slots, the lists of tasks, the graph depth, and the plan of the
 /// last command.
-#[derive(Debug, Drop)]
+#[derive(Drop)]
 pub struct Desk {
     roster: Roster,
     /// The registered users, the latest first.

@@ -12,7 +12,7 @@ use site_bytes::SiteChange;
 use std::alloc::Global;
 
 /// What happens to a trampoline's word.
-#[derive(Clone, Copy, Debug, PartialEq, Eq)]
+#[derive(Clone, Copy, PartialEq, Eq)]
 pub enum TrampChange {
     /// Nothing is stored.
     Keep,
@@ -23,7 +23,7 @@ pub enum TrampChange {
 }
 
 /// What happens to the list of registered users, of which the latest is the first.
-#[derive(Clone, Copy, Debug, PartialEq, Eq)]
+#[derive(Clone, Copy, PartialEq, Eq)]
 pub enum ListChange {
     /// It stays.
     Keep,
@@ -39,7 +39,7 @@ pub enum ListChange {
 }
 
 /// What an accepted command stores: the values of the words that change, and what is waited for.
-#[derive(Debug, Drop)]
+#[derive(Drop)]
 pub struct Plan {
     /// The user whose words change.
     pub user: Option<UserNo>,

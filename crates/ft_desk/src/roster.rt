@@ -27,7 +27,7 @@ use std::marker::Model;
 use user_specs::Spec;
 
 /// All users. Contracts see them as a list, and the number of functions.
-#[derive(Debug, Drop)]
+#[derive(Drop)]
 pub(crate) struct Roster {
     users: Vec<User>,
     /// How many users are sited at each function.
@@ -40,7 +40,7 @@ pub(crate) struct Roster {
 }
 
 /// Sets that a command has to look at. What they hold between two commands says nothing.
-#[derive(Debug, Drop)]
+#[derive(Drop)]
 struct Room {
     /// A user's sets before an edit, or as they would be after one.
     trial: HashPair,

@@ -14,7 +14,7 @@ use user_specs::Spec;
 use word_map::Sel;
 
 /// A user: what of its declaration the desk needs, and its state.
-#[derive(Debug, Drop)]
+#[derive(Drop)]
 pub(crate) struct User {
     pub(crate) kind: Kind,
     /// Whether its callbacks are given the registers.

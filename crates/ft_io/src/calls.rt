@@ -9,7 +9,7 @@ use std::marker::Model;
 
 /// The numbers, from 1, of the calls that are to fail, and how many calls and faults there were.
 /// Calls after number `u32::MAX` are not counted and do not fail.
-#[derive(Debug, Drop)]
+#[derive(Drop)]
 pub(crate) struct PlannedCalls {
     fails: Vec<u32>,
     counted: u32,

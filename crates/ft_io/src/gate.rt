@@ -8,7 +8,7 @@ pub trait Gate: Sync {
 }
 
 /// The gate that lets every step pass at once.
-#[derive(Clone, Copy, Debug, PartialEq, Eq)]
+#[derive(Clone, Copy, PartialEq, Eq)]
 pub struct OpenGate;
 
 impl Gate for OpenGate {

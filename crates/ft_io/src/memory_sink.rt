@@ -15,7 +15,7 @@ use std::marker::Model;
 
 /// A sink in memory, which takes a few bytes at a time and fails in the calls that it is told, or
 /// when it is full.
-#[derive(Debug, Drop)]
+#[derive(Drop)]
 pub struct MemSink {
     held: Vec<u8>,
     portion: usize,

@@ -13,7 +13,7 @@ use std::marker::Model;
 
 /// A source in memory, which gives its bytes a few at a time and fails in the calls that it is
 /// told.
-#[derive(Debug, Drop)]
+#[derive(Drop)]
 pub struct MemSource {
     bytes: Vec<u8>,
     given: usize,

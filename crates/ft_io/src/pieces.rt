@@ -14,7 +14,7 @@ const PIECE_BYTES: usize = 65_536;
 /// Bytes on their way to a sink, which gets them in pieces of 65,536. All memory is taken at the
 /// start. If the sink fails, the bytes that come after are dropped, and `finish` says so, as C's
 /// stdio keeps `ferror`.
-#[derive(Debug, Drop)]
+#[derive(Drop)]
 pub struct Pieces {
     held: BytesMut,
     failed: bool,

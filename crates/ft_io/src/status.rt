@@ -5,7 +5,7 @@ ghost use Rattle.ft_io.specs.Status.{code_of};
 
 /// How a call ended that reads a source and writes a sink. A program ends with the number as its exit
 /// status. Which of them a call gives, and when, its contract says.
-#[derive(Clone, Copy, Debug, PartialEq, Eq)]
+#[derive(Clone, Copy, PartialEq, Eq)]
 pub enum Status {
     /// The source was read to its end, and what was asked for was written in full.
     Done = 0,

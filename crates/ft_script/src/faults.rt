@@ -13,7 +13,7 @@ use std::fmt;
 /// feed is reported as `Syntax` before any other.
 #[derive(Clone, Copy, Debug, PartialEq, Eq)]
 pub enum Cause {
-    /// There is no line 1, or it is neither `ftrace 1` nor `ftrace 2`.
+    /// There is no line 1, or it is none of `ftrace 1`, `ftrace 2` and `ftrace 3`.
     Version,
     /// The line has none of the forms or is in the wrong place, or no line feed ends it.
     Syntax,

@@ -8,7 +8,7 @@ ghost use Rattle.ft_words.specs.Language.{form_name, SaysForm};
 use thiserror::Error;
 
 /// What is printed of a history, or of the functions that are traced at its end.
-#[derive(Clone, Copy, Debug, PartialEq, Eq)]
+#[derive(Clone, Copy, PartialEq, Eq)]
 pub enum Form {
     /// The whole history, with a line for each item. The lines are this project's own: no tool
     /// prints the like.
@@ -42,7 +42,7 @@ pub enum Form {
 }
 
 /// What the program is to do.
-#[derive(Clone, Copy, Debug, PartialEq, Eq)]
+#[derive(Clone, Copy, PartialEq, Eq)]
 pub enum Order {
     /// Carry out the script that the source gives, and print its history in this form.
     Replay(Form),

@@ -9,7 +9,7 @@ use ft_hist::History;
 use std::alloc::Global;
 
 /// A function in whose calls a user was called back.
-#[derive(Clone, Copy, Debug, PartialEq, Eq)]
+#[derive(Clone, Copy, PartialEq, Eq)]
 pub struct ProfileRow {
     pub func: FuncNo,
     /// How often the user was called back at the entry of a call of the function.

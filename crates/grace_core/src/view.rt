@@ -6,7 +6,7 @@ ghost use Rattle.grace_core.specs.Views.{acknowledged as acknowledged_for, has_t
 use word_map::quiet;
 
 /// A task, as the poll of its CPU sees it.
-#[derive(Clone, Copy, Debug, PartialEq, Eq)]
+#[derive(Clone, Copy, PartialEq, Eq)]
 pub struct TaskView {
     /// How many acts it has finished.
     pub acts: u32,

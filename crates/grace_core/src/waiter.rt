@@ -11,7 +11,7 @@ use std::marker::Model;
 use word_map::{Op, WordMap, quiet};
 
 /// Where a wait stands.
-#[derive(Clone, Copy, Debug, PartialEq, Eq)]
+#[derive(Clone, Copy, PartialEq, Eq)]
 pub enum WaitPhase {
     /// The request is stored next.
     Asking,
@@ -24,7 +24,7 @@ pub enum WaitPhase {
 
 /// A wait: it stores a request, and then loads the word of one CPU or task after the other, each until
 /// it has reached the request.
-#[derive(Debug, Drop)]
+#[derive(Drop)]
 pub struct Waiter {
     map: WordMap,
     /// Whether it waits for tasks, and not for CPUs.

@@ -13,7 +13,7 @@ use word_map::bits::has_function;
 use word_map::{Op, Sel, WordMap};
 
 /// What a read finds.
-#[derive(Clone, Copy, Debug, PartialEq, Eq)]
+#[derive(Clone, Copy, PartialEq, Eq)]
 pub enum Verdict {
     /// Nothing yet: the read has not ended.
     Open,
@@ -26,7 +26,7 @@ pub enum Verdict {
 }
 
 /// Where a read stands.
-#[derive(Clone, Copy, Debug, PartialEq, Eq)]
+#[derive(Clone, Copy, PartialEq, Eq)]
 pub enum ReadPhase {
     /// Before the load of the user's state.
     AtSel,
@@ -39,7 +39,7 @@ pub enum ReadPhase {
 }
 
 /// A read: whether a user is on at a function.
-#[derive(Clone, Copy, Debug)]
+#[derive(Clone, Copy)]
 pub struct PageReader {
     map: WordMap,
     user: UserNo,

@@ -17,7 +17,7 @@ use word_map::{Op, SET_WORDS, WordMap};
 /// The caller sees to it that the state doesn't name this copy yet, and that no CPU reads it any more. A
 /// CPU that did would find some words of the older sets and some of the newer ones: it could call back a
 /// user at a function that neither of them matches, or pass one over that both match.
-#[derive(Clone, Copy, Debug)]
+#[derive(Clone, Copy)]
 pub struct PageWriter {
     map: WordMap,
     user: UserNo,

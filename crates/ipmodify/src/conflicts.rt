@@ -9,14 +9,14 @@ use site_set::SiteSet;
 
 /// A user and the functions that it replaces. The set is empty if the user isn't registered, or
 /// replaces none.
-#[derive(Debug, Drop)]
+#[derive(Drop)]
 pub struct Holder {
     pub user: UserNo,
     pub on: SiteSet,
 }
 
 /// A function that a holder has already.
-#[derive(Clone, Copy, Debug, PartialEq, Eq)]
+#[derive(Clone, Copy, PartialEq, Eq)]
 pub struct Conflict {
     pub func: FuncNo,
     pub holder: UserNo,

@@ -3,7 +3,7 @@
 use ft_desk::Command;
 
 /// A line of control. A module's number counts from 0 in the order of the modules' first functions.
-#[derive(Debug, Drop)]
+#[derive(Drop)]
 pub enum ModLine {
     /// A command to the tracer. An edit of a notrace set is one of the user's own set.
     Plain(Command),

@@ -13,7 +13,7 @@ use word_map::name::name_of;
 use word_map::{Op, WordMap};
 
 /// Where a change of the list stands: what its next store is.
-#[derive(Clone, Copy, Debug, PartialEq, Eq)]
+#[derive(Clone, Copy, PartialEq, Eq)]
 pub enum LinkPhase {
     /// The link of a user that is put on the list, which names the first user of the list before.
     Linking(UserNo, Option<UserNo>),
@@ -28,7 +28,7 @@ pub enum LinkPhase {
 
 /// One change of the list. The list is changed by one at a time. Contracts see the shape of the words,
 /// and where the change stands.
-#[derive(Clone, Copy, Debug)]
+#[derive(Clone, Copy)]
 pub struct Linker {
     map: WordMap,
     phase: LinkPhase,

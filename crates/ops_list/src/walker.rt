@@ -11,7 +11,7 @@ use word_map::name::named;
 use word_map::{Op, WordMap};
 
 /// Where a walk stands.
-#[derive(Clone, Copy, Debug, PartialEq, Eq)]
+#[derive(Clone, Copy, PartialEq, Eq)]
 pub enum WalkPhase {
     /// Before the list.
     Starting,
@@ -23,7 +23,7 @@ pub enum WalkPhase {
 
 /// One walk of the list, from its head on. The list may change meanwhile. Contracts see the shape of
 /// the words, and where the walk stands.
-#[derive(Clone, Copy, Debug)]
+#[derive(Clone, Copy)]
 pub struct Walker {
     map: WordMap,
     phase: WalkPhase,

@@ -9,7 +9,7 @@ use std::marker::Model;
 use word_map::{Op, WordMap, next};
 
 /// What a batch does next.
-#[derive(Clone, Copy, Debug, PartialEq, Eq)]
+#[derive(Clone, Copy, PartialEq, Eq)]
 pub enum BatchNext {
     /// One operation on the words: a store.
     Do(Op),
@@ -21,7 +21,7 @@ pub enum BatchNext {
 
 /// A batch under way: the words that it stores into, and how many of its moves were made. The sites
 /// that it changes are kept by the caller, who hands in the same ones each time.
-#[derive(Debug, Drop)]
+#[derive(Drop)]
 pub struct Batch {
     map: WordMap,
     made: u32,

@@ -11,7 +11,7 @@ use std::marker::Model;
 
 /// The pid list and the nopid list of a number of tasks. Contracts see each as marks, one for each
 /// task.
-#[derive(Debug, Drop)]
+#[derive(Drop)]
 pub struct Pids {
     tasks: u32,
     only: u64,

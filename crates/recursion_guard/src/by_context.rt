@@ -8,7 +8,7 @@ ghost use Rattle.recursion_guard.specs.Kept.{marked};
 use ft_base::Ctx;
 
 /// A mark for each context, as the kernel keeps a bit for each.
-#[derive(Debug, Drop)]
+#[derive(Drop)]
 pub(crate) struct ByContext {
     normal: bool,
     softirq: bool,

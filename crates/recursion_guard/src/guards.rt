@@ -12,7 +12,7 @@ use std::marker::Model;
 
 /// The contexts that a task is in, and their guards. Contracts see the raised contexts, the latest
 /// first, for each context how many levels of its guard are held, and how many levels a guard has.
-#[derive(Debug, Drop)]
+#[derive(Drop)]
 pub struct Guards {
     raised: ByContext,
     held: HeldLevels,

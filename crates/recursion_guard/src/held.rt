@@ -6,7 +6,7 @@ ghost use Rattle.recursion_guard.specs.Guards.{unheld, held_in, with_held};
 use ft_base::Ctx;
 
 /// How many levels of the guard of each context are held, as the kernel keeps a bit for each level.
-#[derive(Debug, Drop)]
+#[derive(Drop)]
 pub(crate) struct HeldLevels {
     normal: u8,
     softirq: u8,

@@ -12,7 +12,7 @@ use std::alloc::Global;
 use std::marker::Model;
 
 /// A user whose exit a call's frame owes.
-#[derive(Clone, Copy, Debug, PartialEq, Eq)]
+#[derive(Clone, Copy, PartialEq, Eq)]
 pub struct FrameUser {
     pub user: UserNo,
     /// The number of the registration under which it was called back at the entry.
@@ -22,7 +22,7 @@ pub struct FrameUser {
 }
 
 /// A frame, without its users.
-#[derive(Clone, Copy, Debug)]
+#[derive(Clone, Copy)]
 struct Frame {
     /// The return address that the hook has replaced.
     to: Option<CallNo>,
@@ -32,7 +32,7 @@ struct Frame {
 
 /// The frames of a task. Contracts see them with their users, the latest frame first, and how many
 /// there can be.
-#[derive(Debug, Drop)]
+#[derive(Drop)]
 pub(crate) struct ShadowStack {
     /// The frames, the earliest first.
     frames: Vec<Frame>,

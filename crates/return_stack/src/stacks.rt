@@ -11,7 +11,7 @@ use std::alloc::Global;
 use std::marker::Model;
 
 /// The return address of a call, as it is on the task's stack.
-#[derive(Clone, Copy, Debug, PartialEq, Eq)]
+#[derive(Clone, Copy, PartialEq, Eq)]
 pub enum Address {
     /// The hook, which looks up the true address in the call's frame.
     Hook,
@@ -25,7 +25,7 @@ pub struct Full;
 
 /// The stacks of a task. Contracts see its open calls, the latest first, each with the users of its
 /// frame if it has one, and how many calls and frames there can be.
-#[derive(Debug, Drop)]
+#[derive(Drop)]
 pub struct Stacks {
     /// The latest call. What the others are is told by the return addresses alone.
     running: Option<CallNo>,

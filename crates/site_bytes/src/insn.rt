@@ -3,7 +3,7 @@
 use ft_base::FuncNo;
 
 /// The instruction of a call site (`ftrace.rst`, "dynamic ftrace").
-#[derive(Clone, Copy, Debug, PartialEq, Eq)]
+#[derive(Clone, Copy, PartialEq, Eq)]
 pub enum Insn {
     /// A nop: nothing is called.
     Nop,
@@ -14,7 +14,7 @@ pub enum Insn {
 }
 
 /// A call site that is to change: its function, and the instruction that it is to have.
-#[derive(Clone, Copy, Debug, PartialEq, Eq)]
+#[derive(Clone, Copy, PartialEq, Eq)]
 pub struct SiteChange {
     pub func: FuncNo,
     pub insn: Insn,

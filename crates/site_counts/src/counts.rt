@@ -12,7 +12,7 @@ use std::alloc::Global;
 use std::marker::Model;
 
 /// A row for each function. Contracts see the rows, in the order of the functions.
-#[derive(Debug, Drop)]
+#[derive(Drop)]
 pub struct Counts {
     rows: Vec<Row>,
 }

@@ -4,7 +4,7 @@ ghost use Rattle.std.specs.Prelude.{◌≡◌};
 ghost use Rattle.site_counts.specs.Rows.{no_users, Allows, after};
 
 /// The users that are sited at a function, counted.
-#[derive(Clone, Copy, Debug, PartialEq, Eq)]
+#[derive(Clone, Copy, PartialEq, Eq)]
 pub struct Row {
     /// How many users there are.
     pub count: u32,
@@ -15,7 +15,7 @@ pub struct Row {
 }
 
 /// A user comes or goes, with its flags.
-#[derive(Clone, Copy, Debug)]
+#[derive(Clone, Copy)]
 pub(crate) enum Change {
     Add { regs: bool, ipmodify: bool },
     Drop { regs: bool, ipmodify: bool },

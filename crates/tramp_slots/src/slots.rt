@@ -9,7 +9,7 @@ use ft_base::limits::TRAMPS;
 use std::marker::Model;
 
 /// The slots of trampolines. Contracts see the holder of each, in the order of the slots.
-#[derive(Debug, Drop)]
+#[derive(Drop)]
 pub struct Slots {
     /// The holder of each slot that there can be. Those from `size` on aren't used.
     holders: [Option<UserNo>; TRAMPS as usize],

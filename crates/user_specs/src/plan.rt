@@ -3,7 +3,7 @@
 use ft_base::{TaskAct, TaskNo};
 
 /// A task as a script declares it.
-#[derive(Debug, PartialEq, Eq, Drop)]
+#[derive(PartialEq, Eq, Drop)]
 pub struct TaskPlan {
     /// Its number, over all CPUs.
     pub task: TaskNo,
@@ -14,7 +14,7 @@ pub struct TaskPlan {
 }
 
 /// A CPU as a script declares it.
-#[derive(Debug, PartialEq, Eq, Drop)]
+#[derive(PartialEq, Eq, Drop)]
 pub struct CpuPlan {
     /// The steps after which it switches to its next task.
     pub quantum: u32,

@@ -6,7 +6,7 @@ ghost use Rattle.ft_base.specs.Kinds.{has_depth, wants_frame};
 use ft_base::{Act, FuncNo, Kind};
 
 /// A user of the tracer as a script declares it (`ftrace-uses.rst`, "The ftrace FLAGS").
-#[derive(Debug, PartialEq, Eq, Drop)]
+#[derive(PartialEq, Eq, Drop)]
 pub struct Spec {
     /// Its name, by which the script names it.
     pub name: String,

@@ -15,7 +15,7 @@ use std::marker::Model;
 /// The places of the words of a shape, from 0 on. A call that is named for a word gives its place.
 /// What it is given has to be in the shape: functions, users, CPUs, tasks and trampolines are below
 /// their number there.
-#[derive(Clone, Copy, Debug)]
+#[derive(Clone, Copy)]
 pub struct WordMap {
     shape: Shape,
 }

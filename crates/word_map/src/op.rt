@@ -2,7 +2,7 @@
 
 /// One operation on the words, each a single atomic step. What it gives to the actor that makes it
 /// is its *value*.
-#[derive(Clone, Copy, Debug, PartialEq, Eq)]
+#[derive(Clone, Copy, PartialEq, Eq)]
 pub enum Op {
     /// Loads the word at this place. The value is what the word holds.
     Load { word: u32 },

@@ -7,7 +7,7 @@ use crate::halves::{halves, high};
 
 /// What the word of a user's state says: the registration number in the high half, and each of the
 /// others in a bit of the low half, in this order from bit 0 on.
-#[derive(Clone, Copy, Debug, PartialEq, Eq)]
+#[derive(Clone, Copy, PartialEq, Eq)]
 pub struct Sel {
     /// The registration number: how often the user was registered.
     pub reg: u32,

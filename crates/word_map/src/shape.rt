@@ -2,7 +2,7 @@
 
 /// How many functions, users, CPUs, tasks and trampoline slots there are. A number of one of these
 /// is *in the shape* if it is below its number here.
-#[derive(Clone, Copy, Debug, PartialEq, Eq)]
+#[derive(Clone, Copy, PartialEq, Eq)]
 pub struct Shape {
     /// At most `ft_base::limits::FUNCS`.
     pub funcs: u32,
