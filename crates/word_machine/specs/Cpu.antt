@@ -1,5 +1,5 @@
 -- A CPU: its tasks, which of them runs, its polls, its next operation, and what the value that the operation gives makes of it.
-use Rattle.std.specs.Prelude.{ℕ, suc, Bool, false, not, ◌||◌, ◌==◌, nat_lt, nat_le, List, [], ◌∷◌, ◌++◌, length, get_or, Option, Some, None, if◌then◌else◌}
+use Rattle.std.specs.Prelude.{ℕ, suc, Bool, false, not, ◌||◌, ◌&&◌, ◌==◌, nat_lt, nat_le, List, [], ◌∷◌, ◌++◌, length, get_or, Option, Some, None, if◌then◌else◌}
 use Rattle.std.specs.List.{filter, list_any}
 use Rattle.ft_base.specs.declared.task.TaskAct.{TaskAct}
 use Rattle.ft_base.specs.declared.task.TaskAct.TheVariants.{After}
@@ -9,12 +9,14 @@ use Rattle.word_map.specs.Words.{Want, Ack, Quiet, at_put}
 use Rattle.word_map.specs.Contents.{returned_at}
 use Rattle.word_map.specs.Ops.{WordOp, Load, Store}
 use Rattle.grace_core.specs.Views.{acknowledged, has_told}
-use Rattle.word_machine.specs.Task.{TaskState, Moment, Polling, First, task_op, task_got, task_start, is_fetching, viewed, quiet_word, begun_act}
+use Rattle.word_machine.specs.Task.{TaskState, Moment, Polling, First, task_op, task_got, task_start, is_fetching, viewed, quiet_word, begun_act, is_open_to_requests}
 
--- where a CPU stands: at its present task, in a poll that loaded this request (before the store of its own word, or of the word of
--- a task), or at its end
+-- where a CPU stands: at its present task; after a look that found nothing new, before the task's step; in a look that loaded this request,
+-- before its store; in a poll that loaded this request (before the store of its own word, or of the word of a task); or at its end
 pub data Phase : Type 0 where
   Going : Phase
+  Looked : Phase
+  Answering : (r : ℕ) → Phase
   StoringAck : (r : ℕ) → Phase
   StoringQuiet : (r t : ℕ) → Phase
   Over : Phase
@@ -96,6 +98,24 @@ polling job me r = if me.ack == ack_value job me r then poll_on job me r else re
 abbrev pub with_word : ℕ → TaskState → TaskState
 with_word r x = record x { word = quiet_word r x }
 
+-- ## a look
+
+-- from version 3 on a CPU answers requests before the steps of its tasks, as a kernel's CPU takes an interrupt between any two instructions
+abbrev pub takes_looks : Job → Bool
+takes_looks job = nat_le 3 job.version
+
+-- a task is at a step before which its CPU looks
+abbrev pub is_looked_before : TaskState → Bool
+is_looked_before x = is_open_to_requests x x.moment
+
+-- the CPU looks for a request before it goes on
+abbrev pub looks : Job → Cpu → Bool
+looks job me = takes_looks job && any_has_more job me && is_looked_before (me.tasks me.present)
+
+-- after a look's load: a request that is new is answered, and otherwise the task's step comes next
+abbrev pub looked : Cpu → ℕ → Cpu
+looked me r = record me { phase = if me.ack == r then Looked else Answering r }
+
 -- ## steps
 
 -- the next operation of the present task, which has an act left: a poll loads the last request
@@ -109,7 +129,9 @@ going_op job me = if any_has_more job me then present_op me (me.tasks me.present
 
 -- the next operation in a phase
 abbrev pub phase_op : Job → Cpu → Phase → Option WordOp
-phase_op job me Going = going_op job me
+phase_op job me Going = if looks job me then Some (Load Want) else going_op job me
+phase_op job me Looked = going_op job me
+phase_op job me (Answering r) = Some (Store (Ack me.number) r)
 phase_op job me (StoringAck r) = Some (Store (Ack me.number) (ack_value job me r))
 phase_op job me (StoringQuiet r t) = Some (Store (Quiet t) (quiet_word r (me.tasks t)))
 phase_op job me Over = None
@@ -131,15 +153,17 @@ present_got job me Polling v = polling job me v
 present_got job me m v =
     let x = me.tasks me.present in moved job me (is_unmet m x.acts v) (task_got job me.present x m v)
 
--- after a CPU's operation outside a poll gave a value
+-- after a CPU's operation outside a poll and a look gave a value
 abbrev pub going_got : Job → Cpu → ℕ → Cpu
 going_got job me v = if any_has_more job me then present_got job me (me.tasks me.present).moment v else polling job me v
 
--- after the operation in a phase gave a value
+-- after the operation in a phase gave a value; a look's steps don't count since the last switch
 abbrev pub phase_got : Job → Cpu → Phase → ℕ → Cpu
-phase_got job me Going v = going_got job me v
-phase_got job me (StoringAck r) v = poll_on job (record me { ack = ack_value job me r }) r
-phase_got job me (StoringQuiet r t) v = poll_on job (record me { tasks = at_put me.tasks t (with_word r (me.tasks t)) }) r
+phase_got job me Going v = if looks job me then looked me v else going_got job (ticked me) v
+phase_got job me Looked v = going_got job (record (ticked me) { phase = Going }) v
+phase_got job me (Answering r) v = record me { ack = r; phase = Going }
+phase_got job me (StoringAck r) v = poll_on job (record (ticked me) { ack = ack_value job me r }) r
+phase_got job me (StoringQuiet r t) v = poll_on job (record (ticked me) { tasks = at_put me.tasks t (with_word r (me.tasks t)) }) r
 phase_got job me Over v = me
 
 -- a CPU's next operation; none at its end
@@ -148,7 +172,7 @@ cpu_next job me = phase_op job me me.phase
 
 -- a CPU after its next operation gave this value
 unfoldable pub cpu_got : Job → Cpu → ℕ → Cpu
-cpu_got job me v = phase_got job (ticked me) me.phase v
+cpu_got job me v = phase_got job me me.phase v
 
 -- a CPU before its first step
 abbrev pub cpu_start : Job → ℕ → Cpu

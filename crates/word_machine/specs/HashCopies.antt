@@ -4,7 +4,7 @@ use Rattle.ft_base.specs.Marks.{holds, is_empty}
 use Rattle.ft_base.specs.Job.{Job}
 use Rattle.ft_base.specs.Desk.{UserState}
 use Rattle.word_map.specs.Contents.{high, sel_of, set_word, other_copy}
-use Rattle.word_machine.specs.Commands.{Effect, effect, subject, state_of, set_words}
+use Rattle.word_machine.specs.Commands.{Effect, Removes, effect, subject, state_of, set_words}
 use Rattle.word_machine.specs.Control.{Position, Copy, Select}
 use Rattle.word_machine.specs.Progress.{selected, desk_by, SeenAt, writes_copy}
 
@@ -25,14 +25,21 @@ WrittenAt job s copy z (Copy h w) = (i v : ℕ) → i < 2 → v < set_words job 
 WrittenAt job s copy z Select = writes_copy z ≡ true → HasSets job s copy
 WrittenAt job s copy z _ = Unit {0}
 
+-- The state of a user that the command takes off, from its store to the Return: the word still names the copy that has the sets of before,
+-- and says alone that the user isn't registered. Otherwise a walker that comes to a plain user would read another filter, or half of one
+abbrev pub LeftAt : Job → (d u v copy : ℕ) → (ℕ → ℕ → ℕ) → Type 0
+LeftAt job d u v copy sets = (v ≡ sel_of (state_of job (suc d) u) copy) × HasSets job (state_of job d u) sets
+
 -- The states and the copies.
 --   small     there are two copies
 --   sels      each state is that of the desk, and names a copy that has the user's sets
 --   written   the other copy is written in its order
+--   left      a user that is being taken off can still be read
 pub record HashCopies (job : Job) (d : ℕ) (p : Position) (copies : ℕ → ℕ) (sel : ℕ → ℕ) (bits : ℕ → ℕ → ℕ → ℕ → ℕ) : Type 0 where
   pub small : (u : ℕ) → copies u < 2
   pub sels : (u : ℕ) → SelIs job (state_of job (desk_by (selected p) d) u) (sel u) (copies u) (bits u)
   pub written : WrittenAt job (state_of job (suc d) (subject job d)) (bits (subject job d) (other_copy (copies (subject job d)))) (effect job d) p
+  pub left : effect job d ≡ Removes → selected p ≡ true → LeftAt job d (subject job d) (sel (subject job d)) (copies (subject job d)) (bits (subject job d) (copies (subject job d)))
 
 -- what a reader has found in a user's state: registered, enabled, its number; and the copy that is read has the sets
 pub record Reader (job : Job) (s : UserState) (copy : ℕ → ℕ → ℕ) (reg : ℕ) : Type 0 where

@@ -17,7 +17,7 @@ use Rattle.word_machine.specs.Commands.{insn, subject}
 use Rattle.word_map.specs.Ops.{WordOp, Load, Store, Mark}
 use Rattle.word_machine.specs.Control.{Position, Copy, Push, Await, Cpus, Tasks}
 use Rattle.word_machine.specs.Task.{OpenCall, TaskState, Moment, Polling, First, Fetch, GotHead, GotBreak, InTramp, AtFirst, TestSel, TestFilter, TestNotrace, AtPids, AtDepth, Refusing, Calling, Missing, Acting, Ending, AtLink}
-use Rattle.word_machine.specs.Cpu.{Cpu, Phase, Going, any_has_more}
+use Rattle.word_machine.specs.Cpu.{Cpu, Phase, Going, Looked, any_has_more, looks}
 use Rattle.word_machine.specs.Machine.{World}
 use Rattle.word_machine.specs.Verdicts.{WasTarget}
 use Rattle.word_machine.specs.Calls.{under_call}
@@ -98,14 +98,20 @@ PresentTakes job x Polling v = v < greatest_half
 PresentTakes job x First v = Unit {0}
 PresentTakes job x m v = StackTakes job x.stack m v
 
--- of a CPU's operation outside a poll's stores
+-- of a CPU's operation outside the stores of a poll and a look
 abbrev pub GoingTakes : Job → Cpu → Bool → ℕ → Type 0
 GoingTakes job me true v = PresentTakes job (me.tasks me.present) (me.tasks me.present).moment v
 GoingTakes job me false v = v < greatest_half
 
+-- of a CPU's operation at its present task: a look loads a request
+abbrev pub LookTakes : Job → Cpu → Bool → ℕ → Type 0
+LookTakes job me true v = v < greatest_half
+LookTakes job me false v = GoingTakes job me (any_has_more job me) v
+
 -- of a CPU's operation in a phase
 abbrev pub PhaseTakes : Job → Cpu → Phase → ℕ → Type 0
-PhaseTakes job me Going v = GoingTakes job me (any_has_more job me) v
+PhaseTakes job me Going v = LookTakes job me (looks job me) v
+PhaseTakes job me Looked v = GoingTakes job me (any_has_more job me) v
 PhaseTakes job me _ v = Unit {0}
 
 -- the value fits the CPU's next operation

@@ -14,7 +14,7 @@ use Rattle.history_laws.specs.Bound.{all_calls}
 use Rattle.word_map.specs.Contents.{low, half_size, halves, greatest_half, all_ones}
 use Rattle.word_machine.specs.Control.{Position, Line}
 use Rattle.word_machine.specs.Task.{TaskState, Polling, is_fetching}
-use Rattle.word_machine.specs.Cpu.{Cpu, Phase, Going, StoringAck, StoringQuiet, Over, any_has_more, has_more, ack_value}
+use Rattle.word_machine.specs.Cpu.{Cpu, Phase, Going, Looked, Answering, StoringAck, StoringQuiet, Over, any_has_more, has_more, ack_value}
 use Rattle.word_machine.specs.Machine.{World}
 use Rattle.word_machine.specs.Progress.{begun_at}
 use Rattle.word_machine.specs.Sites.{SitesInPatching, reached}
@@ -38,10 +38,12 @@ WordsBelow job c me r = (t : ℕ) → IsOn job c t → HasTold r (has_more me.ta
 abbrev pub Polls : Job → Cpu → Type 0
 Polls job me = any_has_more job me ≡ true → (me.tasks me.present).moment ≡ Polling
 
--- How far a poll is. A poll tells of no request but the one that it loaded, first of the CPU and then of its tasks; outside a poll that is
--- what the CPU's own word says, and at its end all ones
+-- How far a poll or a look is. A poll tells of no request but the one that it loaded, first of the CPU and then of its tasks; outside a poll
+-- that is what the CPU's own word says, and at its end all ones. A look tells of its request for the CPU alone
 abbrev pub PollAt : Job → ℕ → ℕ → Cpu → Phase → Type 0
 PollAt job request c me Going = (me.ack ≤ request) × WordsBelow job c me me.ack
+PollAt job request c me Looked = (me.ack ≤ request) × WordsBelow job c me me.ack
+PollAt job request c me (Answering r) = (r ≤ request) × (me.ack ≤ r) × WordsBelow job c me me.ack × (any_has_more job me ≡ true)
 PollAt job request c me (StoringAck r) = (r ≤ request) × (me.ack ≤ r) × WordsBelow job c me r × Polls job me
 PollAt job request c me (StoringQuiet r t) = (r ≤ request) × (me.ack ≡ ack_value job me r) × WordsBelow job c me r × Polls job me × IsOn job c t
 PollAt job request c me Over = (any_has_more job me ≡ false) × (me.ack ≡ all_ones)
@@ -52,7 +54,7 @@ PollAt job request c me Over = (any_has_more job me ≡ false) × (me.ack ≡ al
 --   reach            what control has seen acknowledged is so
 --   polls            how far a poll is
 --   present          the present task is on the CPU and has an act left
---   alone            nobody but the present task fetches, and no poll lies within a fetch. Otherwise an acknowledgement would come between
+--   alone            nobody but the present task fetches, and no poll or look lies within a fetch. Otherwise an acknowledgement would come between
 --                    two loads, and the second load could be of another instruction
 --   tasks            what its tasks know
 pub record CpuRule (job : Job) (h : Here) (past : List Item) (ack : ℕ) (quiet : ℕ → ℕ) (c : ℕ) (me : Cpu) : Type 0 where
