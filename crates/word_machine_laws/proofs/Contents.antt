@@ -25,13 +25,13 @@ module _ (reg copy : ℕ) (r e b : Bool) (h : copy < 2) where
   on_of : sel_on (sel_word reg r e copy b) ≡ (r && e)
   on_of = (told reg copy r e b h).0
 
-  copy_of : sel_copy (sel_word reg r e copy b) ≡ copy
+  pub copy_of : sel_copy (sel_word reg r e copy b) ≡ copy
   copy_of = (told reg copy r e b h).1
 
-  bare_of : sel_empty (sel_word reg r e copy b) ≡ b
+  pub bare_of : sel_empty (sel_word reg r e copy b) ≡ b
   bare_of = (told reg copy r e b h).2
 
-  reg_of : high (sel_word reg r e copy b) ≡ reg
+  pub reg_of : high (sel_word reg r e copy b) ≡ reg
   reg_of = (told reg copy r e b h).3
 
 even-off : (v : ℕ) → v % 2 ≡ 0 → sel_on v ≡ false

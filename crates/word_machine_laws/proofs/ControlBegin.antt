@@ -122,7 +122,7 @@ module _ (job : Job) (ok : IsWellFormed job) (d : ℕ) where
         by_list true e = (rest_same job ok d (b.list e) v).1
 
     sets_begin : (copies sel : ℕ → ℕ) (bits : ℕ → ℕ → ℕ → ℕ → ℕ) → HashCopies job d Line copies sel bits → HashCopies job d p' copies sel bits
-    sets_begin copies sel bits k = record { small = k.small; sels = λ u. by_state u (selected p') refl; written = b.written _ }
+    sets_begin copies sel bits k = record { small = k.small; sels = λ u. by_state u (selected p') refl; written = b.written _; left = λ e out. false_true (sym (b.user out) ∙ ap selects e) }
       where
         by_state : (u : ℕ) (x : Bool) → selected p' ≡ x → SelIs job (state_of job (desk_by x d) u) (sel u) (copies u) (bits u)
         by_state u false e = k.sels u

@@ -10,10 +10,10 @@ use Rattle.word_map.specs.Instructions.{head_of}
 use Rattle.word_machine.specs.Commands.{insn}
 use Rattle.word_map.specs.Ops.{WordOp, Load}
 use Rattle.word_machine.specs.Task.{OpenCall, TaskState, Moment, Polling, First, Fetch, GotHead, GotBreak, InTramp, AtFirst, Calling, AtLink, call_op, stack_op}
-use Rattle.word_machine.specs.Cpu.{Phase, Going, StoringAck, StoringQuiet, Over, any_has_more, present_op, phase_op, cpu_next}
+use Rattle.word_machine.specs.Cpu.{Phase, Going, Looked, Answering, StoringAck, StoringQuiet, Over, any_has_more, looks, present_op, going_op, phase_op, cpu_next}
 use Rattle.word_machine.specs.Machine.{World, taken}
 use Rattle.word_machine.specs.Rule.{MachineRule, here, IsWordJob}
-use Rattle.word_machine.specs.Laws.{HasTarget, OpenAt, IsAt, Names, CallTakes, StackTakes, PresentTakes, GoingTakes, PhaseTakes, CpuTakes}
+use Rattle.word_machine.specs.Laws.{HasTarget, OpenAt, IsAt, Names, CallTakes, StackTakes, PresentTakes, GoingTakes, LookTakes, PhaseTakes, CpuTakes}
 use Rattle.word_machine_laws.proofs.Settled.{settled}
 use Rattle.word_machine_laws.proofs.OpenCalls.{call-rule}
 use Rattle.word_machine_laws.proofs.PollRows.{request-small}
@@ -78,14 +78,23 @@ module _ (job : Job) (ok : IsWordJob job) (s : World) (k : MachineRule job s) (c
   present-takes m goes at' op is =
       let x = (s.cpus c).tasks (s.cpus c).present in stack-takes x x.stack m goes at' refl op is
 
-  phase-takes : (p : Phase) (op : WordOp) → phase_op job (s.cpus c) p ≡ Some op → PhaseTakes job (s.cpus c) p (taken op s.words)
-  phase-takes Going op is = by (any_has_more job (s.cpus c)) refl is
+  going-takes : (op : WordOp) → going_op job (s.cpus c) ≡ Some op → GoingTakes job (s.cpus c) (any_has_more job (s.cpus c)) (taken op s.words)
+  going-takes op is = by (any_has_more job (s.cpus c)) refl is
     where
       by : (b : Bool) → any_has_more job (s.cpus c) ≡ b
           → cond b (present_op (s.cpus c) ((s.cpus c).tasks (s.cpus c).present).moment) (Some (Load Want)) ≡ Some op
           → GoingTakes job (s.cpus c) b (taken op s.words)
       by true goes is = present-takes ((s.cpus c).tasks (s.cpus c).present).moment goes refl op is
       by false goes is = subst (λ o. taken o s.words < greatest_half) (same_Some _ op is) want-small
+
+  phase-takes : (p : Phase) (op : WordOp) → phase_op job (s.cpus c) p ≡ Some op → PhaseTakes job (s.cpus c) p (taken op s.words)
+  phase-takes Going op is = by (looks job (s.cpus c)) is
+    where
+      by : (b : Bool) → cond b (Some (Load Want)) (going_op job (s.cpus c)) ≡ Some op → LookTakes job (s.cpus c) b (taken op s.words)
+      by true is = subst (λ o. taken o s.words < greatest_half) (same_Some _ op is) want-small
+      by false is = going-takes op is
+  phase-takes Looked op is = going-takes op is
+  phase-takes (Answering r) op is = tt
   phase-takes (StoringAck r) op is = tt
   phase-takes (StoringQuiet r t) op is = tt
   phase-takes Over op is = tt

@@ -15,7 +15,7 @@ use Rattle.ft_hist.specs.Rules.{IsLegal, IsLegalPast, IsWhole, HasEnded}
 use Rattle.ft_hist.specs.Frames.{is_nil}
 use Rattle.word_machine.specs.Control.{Control, Position, Line, Take}
 use Rattle.word_machine.specs.Task.{OpenCall, TaskState, Moment, Polling, First}
-use Rattle.word_machine.specs.Cpu.{Cpu, Phase, Going, StoringAck, StoringQuiet, Over, any_has_more, has_more}
+use Rattle.word_machine.specs.Cpu.{Cpu, Phase, Over, any_has_more, has_more}
 use Rattle.word_machine.specs.Machine.{World, run, all_end, is_end, control_is_done, cpus_end, play, start}
 use Rattle.word_machine.specs.Verdicts.{Here}
 use Rattle.word_machine.specs.Tasks.{TaskRule, scripted_of}
@@ -40,9 +40,7 @@ all-of cpus c (suc n) (suc i) lt e =
 
 over-is : (ph : Phase) → is_end ph ≡ true → ph ≡ Over
 over-is Over e = refl
-over-is Going e = false_true e
-over-is (StoringAck r) e = false_true e
-over-is (StoringQuiet r t) e = false_true e
+over-is _ e = false_true e
 
 nil-is : (l : List Ctl) → is_nil l ≡ true → l ≡ []
 nil-is [] e = refl

@@ -17,7 +17,7 @@ use Rattle.ft_hist.specs.Known.{Watches}
 use Rattle.word_map.specs.Contents.{low, greatest_half, all_ones}
 use Rattle.word_machine.specs.Commands.{effect, state_of}
 use Rattle.word_machine.specs.Task.{OpenCall, TaskState, Moment, Polling, First, Fetch, GotHead, GotBreak, InTramp, OwnSel, AtFirst, TestSel, TestFilter, TestNotrace, AtPids, AtDepth, Refusing, Calling, Missing, Acting, Ending, AtLink, Closing, Leaving, AtExit, Exiting, EndingExit, Returning, is_quiet, level_of, user_of}
-use Rattle.word_machine.specs.Cpu.{Cpu, Phase, Going, StoringAck, StoringQuiet, Over, any_has_more}
+use Rattle.word_machine.specs.Cpu.{Cpu, Phase, Going, Looked, Answering, StoringAck, StoringQuiet, Over, any_has_more}
 use Rattle.word_machine.specs.Progress.{selected, pids_stored, depth_stored, quiet_reached}
 use Rattle.word_machine.specs.Sites.{reached}
 use Rattle.word_machine.specs.UserList.{since_of, list_desk}
@@ -281,6 +281,8 @@ task_goes job past h h' ack word t x begins le reach goes k = record {
 -- a poll goes on over a request that is stored meanwhile
 poll_more : (job : Job) (request request' c : ℕ) (me : Cpu) (ph : Phase) → request ≤ request' → PollAt job request c me ph → PollAt job request' c me ph
 poll_more job request request' c me Going le x = ((let a = x.0 in omega (arith, a, le)), x.1)
+poll_more job request request' c me Looked le x = ((let a = x.0 in omega (arith, a, le)), x.1)
+poll_more job request request' c me (Answering r) le x = ((let a = x.0 in omega (arith, a, le)), x.1, x.2, x.3)
 poll_more job request request' c me (StoringAck r) le x = ((let a = x.0 in omega (arith, a, le)), x.1, x.2, x.3)
 poll_more job request request' c me (StoringQuiet r t) le x = ((let a = x.0 in omega (arith, a, le)), x.1, x.2, x.3, x.4)
 poll_more job request request' c me Over le x = x

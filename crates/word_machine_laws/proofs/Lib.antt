@@ -42,6 +42,7 @@ pub mod LoadFetch
 pub mod LoadTests
 pub mod OwnWord
 pub mod LoadOwn
+pub mod PlainUsers
 pub mod LoadList
 pub mod LoadReturn
 -- each row of a CPU
@@ -49,6 +50,7 @@ pub mod TaskSteps
 pub mod Finished
 pub mod PollTasks
 pub mod PollSteps
+pub mod LookRows
 pub mod PollRows
 -- each row of control
 pub mod WaitRows

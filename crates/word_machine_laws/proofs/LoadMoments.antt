@@ -14,7 +14,7 @@ use Rattle.ft_hist.specs.Known.{Watches}
 use Rattle.ft_hist.specs.Dispatch.{Walk, Around, is_full, CallSo}
 use Rattle.ft_hist.proofs.CallSo.{entry-is}
 use Rattle.word_map.specs.Contents.{low}
-use Rattle.word_machine.specs.Task.{OpenCall, Moment, Polling, First, Missing, Acting, Ending, Leaving, AtExit, Exiting, EndingExit, Returning, around, is_quiet, allowed_in, begin_call, depth_in, fetched, guard_in, head_in, own_in, passes_in, tests_in, walks_to, pid_in, exit_in, guard_test}
+use Rattle.word_machine.specs.Task.{OpenCall, Moment, Polling, First, Missing, Acting, Ending, Leaving, AtExit, Exiting, EndingExit, Returning, around, is_quiet, allowed_in, begin_call, depth_in, fetched, guard_in, head_in, own_in, owned_in, passes_in, tests_in, walks_to, pid_in, exit_in, guard_test}
 use Rattle.word_machine.specs.UserList.{since_of, list_desk}
 use Rattle.word_machine.specs.Verdicts.{Here, DispatchAt, Dispatches, walk_of, may_come}
 use Rattle.word_machine.specs.Calls.{CallAt, under_call}
@@ -232,6 +232,10 @@ pub fetched-walks : (i : ℕ) → is_walking (fetched i) ≡ true
 fetched-walks zero = refl
 fetched-walks (suc zero) = refl
 fetched-walks (suc (suc s)) = refl
+
+pub owned-walks : (b : Bool) (u reg : ℕ) (m : Moment) → is_walking m ≡ true → is_walking (owned_in b u reg m) ≡ true
+owned-walks true u reg m e = refl
+owned-walks false u reg m e = e
 
 pub own-walks : (b : Bool) (m : Moment) → is_walking m ≡ true → is_walking (own_in b m) ≡ true
 own-walks true m e = e

@@ -134,6 +134,7 @@ sets_on job d p p' copies sel bits same written k = record {
   small = k.small;
   sels = λ u. subst (λ b. SelIs job (state_of job (desk_by b d) u) (sel u) (copies u) (bits u)) (sym same) (k.sels u);
   written = written;
+  left = λ e out. k.left e (sym same ∙ out);
 }
 
 pub limits_on : (job : Job) (d : ℕ) (p p' : Position) (pids depth : ℕ) → pids_stored p' ≡ pids_stored p → depth_stored p' ≡ depth_stored p

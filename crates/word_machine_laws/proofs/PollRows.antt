@@ -17,7 +17,7 @@ use Rattle.word_map.specs.Contents.{low, half_size, halves, greatest_half, all_o
 use Rattle.word_machine.specs.Commands.{effect}
 use Rattle.word_map.specs.Ops.{WordOp, Load, Store, Mark}
 use Rattle.word_machine.specs.Task.{OpenCall, TaskState, Moment, Polling, First, is_quiet, is_fetching, quiet_word, task_op, task_got}
-use Rattle.word_machine.specs.Cpu.{Cpu, Phase, Going, StoringAck, StoringQuiet, Over, has_more, any_has_more, ticked, ack_value, poll_on, polling, with_word, moved, is_unmet, present_op, present_got, going_op, going_got, phase_op, phase_got, cpu_next, cpu_got}
+use Rattle.word_machine.specs.Cpu.{Cpu, Phase, Going, Looked, Answering, StoringAck, StoringQuiet, Over, has_more, any_has_more, ticked, looks, looked, ack_value, poll_on, polling, with_word, moved, is_unmet, present_op, present_got, going_op, going_got, phase_op, phase_got, cpu_next, cpu_got}
 use Rattle.word_machine.specs.Machine.{World, weight, words_after, past_after, taken, cpu_row}
 use Rattle.word_machine.specs.Progress.{quiet_reached}
 use Rattle.word_machine.specs.Sites.{reached}
@@ -34,6 +34,7 @@ use Rattle.word_map.proofs.ContentLaws.{low-halves}
 use Rattle.word_machine_laws.proofs.Contents.{low-small}
 use Rattle.word_machine_laws.proofs.TasksOf.{task_goes_on}
 use Rattle.word_machine_laws.proofs.Told.{told-more}
+use Rattle.word_machine_laws.proofs.LookRows.{looked-kept, answered-kept, over-kept}
 use Rattle.word_machine_laws.proofs.Finished.{task-gone, Grows, grows-put, grows-moved, grows-on, grows-polling, present-is, present-got, polling-of}
 use Rattle.ft_hist.proofs.Carries.{carries_item}
 use Rattle.word_machine_laws.proofs.Room.{HasRoomFor, has-room}
@@ -250,6 +251,8 @@ module _ (job : Job) (ok : IsWordJob job) (s : World) (k : MachineRule job s) (c
 
   poll-tick : (me : Cpu) (p : Phase) → PollAt job h.request c me p → PollAt job h.request c (ticked me) p
   poll-tick me Going x = x
+  poll-tick me Looked x = x
+  poll-tick me (Answering r) x = x
   poll-tick me (StoringAck r) x = x
   poll-tick me (StoringQuiet r t) x = x
   poll-tick me Over x = x
@@ -358,17 +361,30 @@ module _ (job : Job) (ok : IsWordJob job) (s : World) (k : MachineRule job s) (c
         by false e = chosen false e (subst (λ o. Did o me.tasks (polling job (ticked me) (taken o s.words))) (same_Some (Load Want) op (rw e at is))
             (poll-did going (λ y. false_true (sym e ∙ y))))
 
-    pub cpu-did : (ph : Phase) → me.phase ≡ ph → (op : WordOp) → phase_op job me ph ≡ Some op → Did op me.tasks (phase_got job (ticked me) ph (taken op s.words))
-    cpu-did Going e op is = going-did e op is
+  module _ (me : Cpu) (kept : CpuRule job h past ack quiet c me) where
+    pub cpu-did : (ph : Phase) → me.phase ≡ ph → (op : WordOp) → phase_op job me ph ≡ Some op → Did op me.tasks (phase_got job me ph (taken op s.words))
+    cpu-did Going e op is = by (looks job me) refl is
+      where
+        by : (b : Bool) → looks job me ≡ b → cond b (Some (Load Want)) (going_op job me) ≡ Some op
+            → Did op me.tasks (cond b (looked me (taken op s.words)) (going_got job (ticked me) (taken op s.words)))
+        by true l is' =
+            subst (λ o. Did o me.tasks (looked me (taken o s.words))) (same_Some (Load Want) op is')
+            (subst (λ (r : ℕ). CpuRule job h past ack quiet c (looked me r) × Grows me.tasks (looked me r).tasks) (sym (want-is me kept))
+            (looked-kept job h past ack quiet c me kept e l, λ t. omega arith))
+        by false l is' = going-did me kept e op is'
+    cpu-did Looked e op is = going-did (record me { phase = Going }) (over-kept job h past ack quiet c me kept e) refl op is
+    cpu-did (Answering r) e op is =
+        subst (λ o. Did o me.tasks (phase_got job me (Answering r) (taken o s.words))) (same_Some _ op is)
+        (kept.number, answered-kept job h past ack quiet c me kept r e, λ t. omega arith)
     cpu-did (StoringAck r) e op is =
-        subst (λ o. Did o me.tasks (phase_got job (ticked me) (StoringAck r) (taken o s.words))) (same_Some _ op is) (
+        subst (λ o. Did o me.tasks (phase_got job me (StoringAck r) (taken o s.words))) (same_Some _ op is) (
           kept.number,
           ack-kept (ticked me) (tick-kept me kept) r (poll-tick me (StoringAck r) (subst (λ p. PollAt job h.request c me p) e kept.polls)),
           grows-on job (record (ticked me) { ack = ack_value job me r }) r,
         )
     cpu-did (StoringQuiet r t) e op is =
         let p = subst (λ p. PollAt job h.request c me p) e kept.polls in
-        subst (λ o. Did o me.tasks (phase_got job (ticked me) (StoringQuiet r t) (taken o s.words))) (same_Some _ op is)
+        subst (λ o. Did o me.tasks (phase_got job me (StoringQuiet r t) (taken o s.words))) (same_Some _ op is)
         (p.4, quiet-kept (ticked me) (tick-kept me kept) r t (poll-tick me (StoringQuiet r t) p), grows-both r t)
       where
         grows-both : (r t : ℕ) → Grows me.tasks (poll_on job (record (ticked me) { tasks = at_put me.tasks t (with_word r (me.tasks t)) }) r).tasks
@@ -514,5 +530,5 @@ pub cpu_keeps : (job : Job) (ok : IsWordJob job) (s : World) (c : ℕ) (op : Wor
     → cpu_next job (s.cpus c) ≡ Some op → MachineRule job (cpu_row job s c op)
 unfolding cpu_next cpu_got
 cpu_keeps job ok s c op within k is =
-    kept-did job ok s k c within op (phase_got job (ticked (s.cpus c)) (s.cpus c).phase (taken op s.words)) (has-room job ok)
+    kept-did job ok s k c within op (phase_got job (s.cpus c) (s.cpus c).phase (taken op s.words)) (has-room job ok)
     (cpu-did job ok s k c within (s.cpus c) (k.cpus c within) (s.cpus c).phase refl op is)

@@ -6,6 +6,7 @@ use Rattle.std.proofs.lemmas.Bool.Decides.{nat_tests}
 use Rattle.ft_base.specs.declared.item.Item.{Item}
 use Rattle.ft_base.specs.Job.{Job, Ctl}
 use Rattle.ft_base.specs.Desk.{UserState}
+use Rattle.ft_base.proofs.Small.{false_true}
 use Rattle.word_map.specs.Words.{Words, put, bits_put, Bits}
 use Rattle.word_map.specs.Contents.{set_word, other_copy}
 use Rattle.word_machine.specs.Commands.{effect, subject, state_of, set_words}
@@ -79,6 +80,7 @@ module _ (job : Job) (d h w : ℕ) (copies : ℕ → ℕ) (bits : ℕ → ℕ �
         subst (λ y. SelIs job (state_of job (desk_by y d) u) (sel u) (copies u) (bits' u)) (sym out)
         ((λ r. (((k.sels u).0 r).0, subst (λ y. HasSets job (state_of job d u) y) (sym same) ((k.sels u).0 r).1)), (k.sels u).1);
     written = written;
+    left = λ e s. false_true (sym out ∙ s);
   }
 
   -- what is written so far, with this word

@@ -122,6 +122,11 @@ module _ (job : Job) (ok : IsWellFormed job) (d : ℕ) (copies : ℕ → ℕ) wh
               (subst (λ t. SelIs job t (sel u) (copies u) (bits u)) (sym (others_same job ok d u ne)) (k.sels u))
         ]);
     written = written new (bits s0 (other_copy (Copies s0)));
+    left = λ e on.
+        let c = subst (λ z. SubjectBy job (desk job d) (suc d) z (state_of job d s0) new) e (between job ok d).subject in (
+          put_same sel s0 (sel_of new x) ∙ ap (λ i. sel_of new i) (sym (put_same copies s0 x)),
+          subst (λ i. HasSets job (state_of job d s0) (bits s0 i)) (sym (put_same copies s0 x ∙ ap (λ z. copy_after z (copies s0)) e)) ((k.sels s0).0 c.0).1,
+        );
   }
     where
       copied : (z : Effect) → effect job d ≡ z → selects z ≡ true → SubjectBy job (desk job d) (suc d) z (state_of job d s0) new → new.registered ≡ true

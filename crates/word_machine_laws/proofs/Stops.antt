@@ -11,7 +11,7 @@ use Rattle.word_map.specs.Words.{Want}
 use Rattle.word_map.specs.Ops.{Load}
 use Rattle.word_machine.specs.Control.{Control, Position, Line, line_op, next_in, control_next}
 use Rattle.word_machine.specs.Task.{OpenCall, TaskState, Moment, Polling, First, is_quiet, first_op, call_op, stack_op}
-use Rattle.word_machine.specs.Cpu.{Cpu, Phase, Going, StoringAck, StoringQuiet, Over, any_has_more, present_op, phase_op, cpu_next}
+use Rattle.word_machine.specs.Cpu.{Cpu, Phase, Going, Looked, Answering, StoringAck, StoringQuiet, Over, any_has_more, looks, present_op, going_op, phase_op, cpu_next}
 use Rattle.word_machine.specs.Machine.{World, is_end, control_is_done}
 use Rattle.word_machine.specs.Tasks.{StandsIn, FirstAt, open_by, is_returning, acts_by}
 use Rattle.word_machine.specs.Rule.{MachineRule}
@@ -64,16 +64,25 @@ present-goes job me First st s f e = (let x = me.tasks me.present in first-goes 
 present-goes job me m st s f e = (let x = me.tasks me.present in stack-goes x x.stack m refl st e)
 
 module _ (job : Job) (s : World) (k : MachineRule job s) (c : ℕ) (inside : c < length job.quanta) where
-  phase-ends : (p : Phase) → (is_end p ≡ true) ↔ (phase_op job (s.cpus c) p ≡ None)
-  phase-ends Going = (λ e. false_true e, λ e. by (any_has_more job (s.cpus c)) refl e)
+  going-goes : {B : Type 0} → going_op job (s.cpus c) ≡ None → B
+  going-goes e = by (any_has_more job (s.cpus c)) refl e
     where
-      by : (b : Bool) → any_has_more job (s.cpus c) ≡ b
-          → cond b (present_op (s.cpus c) ((s.cpus c).tasks (s.cpus c).present).moment) (Some (Load Want)) ≡ None → false ≡ true
+      by : {B : Type 0} (b : Bool) → any_has_more job (s.cpus c) ≡ b
+          → cond b (present_op (s.cpus c) ((s.cpus c).tasks (s.cpus c).present).moment) (Some (Load Want)) ≡ None → B
       by true goes e =
           let kc = k.cpus c inside in
           let t = kc.tasks (s.cpus c).present (kc.present goes).0 in
           present-goes job (s.cpus c) ((s.cpus c).tasks (s.cpus c).present).moment t.stands t.script t.first e
       by false goes e = some_none _ e
+
+  phase-ends : (p : Phase) → (is_end p ≡ true) ↔ (phase_op job (s.cpus c) p ≡ None)
+  phase-ends Going = (λ e. false_true e, λ e. by (looks job (s.cpus c)) e)
+    where
+      by : (b : Bool) → cond b (Some (Load Want)) (going_op job (s.cpus c)) ≡ None → false ≡ true
+      by true e = some_none _ e
+      by false e = going-goes e
+  phase-ends Looked = (λ e. false_true e, λ e. going-goes e)
+  phase-ends (Answering r) = (λ e. false_true e, λ e. some_none _ e)
   phase-ends (StoringAck r) = (λ e. false_true e, λ e. some_none _ e)
   phase-ends (StoringQuiet r t) = (λ e. false_true e, λ e. some_none _ e)
   phase-ends Over = (λ e. refl, λ e. refl)

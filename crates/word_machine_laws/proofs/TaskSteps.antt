@@ -1,5 +1,5 @@
 -- One step of a task: whichever row it is, the rule of the task goes on.
-use Rattle.std.proofs.Common.{cond, ◌≡◌, ℕ, suc, ◌+◌, ◌/◌, ◌<◌, ◌≤◌, Bool, true, false, ◌==◌, nat_le, List, [], ◌∷◌, length, Some, refl, sym, ap, ◌∙◌, subst, arith, not}
+use Rattle.std.proofs.Common.{cond, ◌≡◌, ℕ, suc, ◌+◌, ◌/◌, ◌<◌, ◌≤◌, Bool, true, false, ◌||◌, ◌==◌, nat_le, List, [], ◌∷◌, length, Some, refl, sym, ap, ◌∙◌, subst, arith, not}
 use Rattle.std.proofs.lemmas.Option.{same_Some}
 use Rattle.ft_base.specs.declared.context.Ctx.{Ctx}
 use Rattle.ft_base.specs.declared.item.Item.{Item}
@@ -12,26 +12,28 @@ use Rattle.ft_hist.specs.Past.{is_of, done}
 use Rattle.ft_hist.specs.Rules.{MayFollow}
 use Rattle.site_bytes.specs.Bytes.{breakpoint}
 use Rattle.word_map.specs.Words.{Words}
-use Rattle.word_map.specs.Contents.{low, greatest_half, half_size, halves, returned_at, stands, sel_on, sel_empty, is_marked}
+use Rattle.word_map.specs.Contents.{low, greatest_half, half_size, halves, returned_at, stands, sel_on, sel_empty, is_marked, high, tramp_user}
 use Rattle.word_map.specs.Instructions.{decode}
 use Rattle.word_map.specs.Ops.{WordOp, Load, Store, Mark}
-use Rattle.word_machine.specs.Task.{around, OpenCall, TaskState, Moment, Polling, First, Fetch, GotHead, GotBreak, InTramp, OwnSel, AtFirst, TestSel, TestFilter, TestNotrace, AtPids, AtDepth, Refusing, Calling, Missing, Acting, Ending, AtLink, Closing, Leaving, AtExit, Exiting, EndingExit, Returning, call_op, call_got, task_op, task_got, first_op, first_got, stack_op, stack_got, head_in, level_of, fetched, fetched_ran, begin_call, walks_to, tests_in, guard_test, is_too_deep, exit_in}
+use Rattle.word_machine.specs.Task.{around, OpenCall, TaskState, Moment, Polling, First, Fetch, GotHead, GotBreak, InTramp, OwnSel, AtFirst, TestSel, TestFilter, TestNotrace, AtPids, AtDepth, Refusing, Calling, Missing, Acting, Ending, AtLink, Closing, Leaving, AtExit, Exiting, EndingExit, Returning, call_op, call_got, task_op, task_got, first_op, first_got, stack_op, stack_got, head_in, level_of, fetched, fetched_ran, begin_call, walks_to, tests_in, guard_test, is_too_deep, exit_in, is_asked, owned_in}
 use Rattle.word_machine.specs.Machine.{World, taken}
 use Rattle.word_machine.specs.Progress.{underway}
 use Rattle.word_machine.specs.Verdicts.{Here, Dispatches}
 use Rattle.word_machine.specs.Tasks.{TaskRule}
 use Rattle.word_machine.specs.Rule.{MachineRule, here, IsWordJob}
 use Rattle.word_machine_laws.proofs.LoadFetch.{head_kept, tail_kept, next_kept}
-use Rattle.word_machine_laws.proofs.LoadTests.{pids_kept, depth_kept, sel_kept, filter_kept, notrace_kept}
-use Rattle.word_machine_laws.proofs.LoadOwn.{tramp_kept, own_kept}
+use Rattle.word_machine_laws.proofs.LoadTests.{pids_kept, depth_kept, filter_kept, notrace_kept}
+use Rattle.word_machine_laws.proofs.LoadOwn.{own_kept}
+use Rattle.word_machine_laws.proofs.PlainUsers.{owned_kept, plain_walk}
 use Rattle.word_machine_laws.proofs.LoadList.{first_kept, link_kept}
 use Rattle.word_machine_laws.proofs.LoadReturn.{exit_kept}
-use Rattle.word_machine_laws.proofs.LoadMoments.{task_goes, alike, alike-back, call_at, is_walking, running, begin-walks, guard-walks, head-walks, fetched-walks, own-walks, name-walks, tests-walk, passes-walk, allowed-walks, depth-walks, exit-leaves}
+use Rattle.word_machine_laws.proofs.LoadMoments.{task_goes, alike, alike-back, call_at, is_walking, running, begin-walks, guard-walks, head-walks, fetched-walks, own-walks, owned-walks, name-walks, tests-walk, passes-walk, allowed-walks, depth-walks, exit-leaves}
 use Rattle.word_machine_laws.proofs.MarkDispatch.{task, refuse_row, back_row, miss_row, end_row}
 use Rattle.word_machine_laws.proofs.MarkEnter.{enter_row, act_row}
 use Rattle.word_machine_laws.proofs.MarkBody.{body_row}
 use Rattle.word_machine_laws.proofs.MarkReturn.{leave_row, leave_act_row, exit_row, exit_end_row, ret_row, polling_stack, polling_callbacks, polling_calls}
 use Rattle.ft_base.specs.declared.item.Ran.{Ran}
+use Rattle.ft_base.specs.declared.item.Ran.TheVariants.{Own}
 use Rattle.word_machine.proofs.Small.{if_case}
 use Rattle.ft_hist.specs.Dispatch.{is_full}
 use Rattle.ft_base.specs.Kinds.{has_depth}
@@ -178,8 +180,10 @@ module _ (job : Job) (ok : IsWordJob job) (s : World) (k : MachineRule job s) (a
       (let i : ℕ = ws'.next c.func in goes GotBreak (fetched i) (fetched_ran i) refl (fetched-walks i) x
       (next_kept job ok h' past' ws'.clock k.counts ack (low word) c below ws'.want ws'.head ws'.tail ws'.next k.sites x.calls.0.inside x.calls.1))
   call_step (InTramp slot) x op is = is-op (InTramp slot) _ op is
-      (goes (InTramp slot) _ _ refl refl x
-      (tramp_kept job ok h' past' ws'.clock k.counts ack (low word) c below slot t' ws'.tramp k.tramps x.reached x.calls.1))
+      (let v : ℕ = ws'.tramp slot in let u : ℕ = tramp_user v in
+      goes (InTramp slot) (owned_in (is_asked job u) u (high v) (begin_call job c below u (high v))) (Own (record { 0 = u })) refl
+      (owned-walks (is_asked job u) u (high v) (begin_call job c below u (high v)) (begin-walks job c below u (high v))) x
+      (owned_kept job ok h' past' ws'.clock k.counts ack (low word) c below slot t' ws'.tramp k.tramps x.reached x.calls.1))
   call_step (OwnSel u reg) x op is = is-op (OwnSel u reg) _ op is
       (goes (OwnSel u reg) _ c.ran refl (own-walks (stands (ws'.sel u) reg) (begin_call job c below u reg) (begin-walks job c below u reg)) x
       (own_kept job ok h' past' ws'.clock k.counts ack (low word) c below u reg ws'.sel k.sets x.calls.1))
@@ -187,9 +191,10 @@ module _ (job : Job) (ok : IsWordJob job) (s : World) (k : MachineRule job s) (a
       (goes AtFirst (walks_to ws'.first) c.ran refl (name-walks ws'.first) x
       (first_kept job ok h' past' ws'.clock k.counts ack (low word) c below ws'.first k.list x.calls.1))
   call_step (TestSel u) x op is = is-op (TestSel u) _ op is
-      (let v : ℕ = ws'.sel u in goes (TestSel u) (tests_in (sel_on v) (sel_empty v) u v) c.ran refl (tests-walk (sel_on v) (sel_empty v) u v) x
-      (let y = x.calls.1 in sel_kept job ok h' past' ws'.clock k.counts ack (low word) c below
-      (TestSel u) y u 0 y.at.0 y.at.1 y.so.watch ws'.sel k.sets y.at.2))
+      (let v : ℕ = ws'.sel u in let on : Bool = not (is_asked job u) || sel_on v in
+      goes (TestSel u) (tests_in on (sel_empty v) u v) c.ran refl (tests-walk on (sel_empty v) u v) x
+      (let y = x.calls.1 in plain_walk job ok h' past' ws'.clock k.counts ack (low word) c below
+      (TestSel u) y u y.at.0 y.at.1 y.so.watch ws'.first ws'.link ws'.sel k.list k.sets y.at.2))
   call_step (TestFilter u copy reg) x op is = is-op (TestFilter u copy reg) _ op is
       (goes (TestFilter u copy reg) _ c.ran refl (passes-walk (is_marked (ws'.bits u copy 0 (c.func / 64)) c.func) u (TestNotrace u copy reg) refl) x
       (let y = x.calls.1 in filter_kept job ok h' past' ws'.clock k.counts ack (low word) c below

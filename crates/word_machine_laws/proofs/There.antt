@@ -22,7 +22,7 @@ use Rattle.word_machine.specs.Commands.{Effect, Adds, Removes, Edits, Enables, D
 use Rattle.word_map.specs.Ops.{Load}
 use Rattle.word_machine.specs.Control.{Position, Line, Take, Copy, Select, Push, Relink, Patch, Await, Cpus, Tasks, Release, slot_of, namer_from, relink_op, line_op, next_in, control_next}
 use Rattle.word_machine.specs.Task.{OpenCall, TaskState, Moment, Polling, First, Fetch, GotHead, GotBreak, InTramp, OwnSel, AtFirst, TestSel, TestFilter, TestNotrace, AtPids, AtDepth, Refusing, Calling, Missing, Acting, Ending, AtLink, Closing, Leaving, AtExit, Exiting, EndingExit, Returning, first_op, call_op, stack_op, task_op}
-use Rattle.word_machine.specs.Cpu.{Cpu, Phase, Going, StoringAck, StoringQuiet, Over, any_has_more, present_op, phase_op, cpu_next}
+use Rattle.word_machine.specs.Cpu.{Cpu, Phase, Going, Looked, Answering, StoringAck, StoringQuiet, Over, any_has_more, looks, present_op, going_op, phase_op, cpu_next}
 use Rattle.word_machine.specs.Machine.{World}
 use Rattle.word_machine.specs.Progress.{comes_to, is_adds, is_removes, writes_copy, relinks, selects}
 use Rattle.word_machine.specs.Sites.{PositionAt}
@@ -173,11 +173,17 @@ module _ (job : Job) (ok : IsWordJob job) (h : Here) (past : List Item) (ack fir
   present-there me q Polling k = tt
   present-there me q m k = task-there q me.present (me.tasks me.present) m k
 
+  going-there : (quiet : ℕ → ℕ) (c : ℕ) (me : Cpu) → CpuRule job h past ack quiet c me → IsOnWord job (going_op job me)
+  going-there quiet c me k =
+      if_case (IsOnWord job) (any_has_more job me) (present_op me (me.tasks me.present).moment) (Some (Load Want))
+      (λ e. present-there me (low (quiet me.present)) (me.tasks me.present).moment (k.tasks me.present (k.present e).0).calls) (λ e. tt)
+
   pub phase-there : (quiet : ℕ → ℕ) (c : ℕ) (me : Cpu) (p : Phase) → c < length job.quanta → CpuRule job h past ack quiet c me → PollAt job h.request c me p
       → IsOnWord job (phase_op job me p)
   phase-there quiet c me Going inside k at' =
-      if_case (IsOnWord job) (any_has_more job me) (present_op me (me.tasks me.present).moment) (Some (Load Want))
-      (λ e. present-there me (low (quiet me.present)) (me.tasks me.present).moment (k.tasks me.present (k.present e).0).calls) (λ e. tt)
+      if_case (IsOnWord job) (looks job me) (Some (Load Want)) (going_op job me) (λ e. tt) (λ e. going-there quiet c me k)
+  phase-there quiet c me Looked inside k at' = going-there quiet c me k
+  phase-there quiet c me (Answering r) inside k at' = (let e = k.number in omega (arith, e, inside))
   phase-there quiet c me (StoringAck r) inside k at' = (let e = k.number in omega (arith, e, inside))
   phase-there quiet c me (StoringQuiet r t) inside k at' = at'.4.0
   phase-there quiet c me Over inside k at' = tt

@@ -28,7 +28,7 @@ use Rattle.word_machine.specs.Commands.{Effect, Removes, Edits, Lists, Levels, N
 use Rattle.word_map.specs.Ops.{WordOp, Load, Store, Mark}
 use Rattle.word_machine.specs.Control.{Position, Line, Take, Copy, Select, Push, Relink, StorePids, StoreDepth, Patch, Ask, Release, next_in, line_op, relink_op, control_next, copy_after, name_of, follower}
 use Rattle.word_machine.specs.Task.{TaskState, is_quiet, quiet_word, OpenCall, Moment, Polling, First, call_op, first_op, stack_op}
-use Rattle.word_machine.specs.Cpu.{Cpu, Phase, Going, StoringAck, StoringQuiet, Over, any_has_more, ack_value, phase_op, going_op, present_op, cpu_next}
+use Rattle.word_machine.specs.Cpu.{Cpu, Phase, Going, Looked, Answering, StoringAck, StoringQuiet, Over, any_has_more, ack_value, looks, phase_op, going_op, present_op, cpu_next}
 use Rattle.word_machine.specs.Machine.{World, words_after, weight, control_moved, cpu_moved, step, run, start, taken, control_row, cpu_row}
 use Rattle.word_machine.specs.Sites.{PositionAt}
 use Rattle.word_machine.specs.UserList.{list_desk}
@@ -320,7 +320,16 @@ module _ (job : Job) (l : IsLimited job) (s : World) (k : MachineRule job s) whe
         omega (arith, le, q)) (λ e. omega arith)
 
     cpu-fit : (ph : Phase) → (s.cpus c).phase ≡ ph → (op : WordOp) → phase_op job (s.cpus c) ph ≡ Some op → FitsIn op
-    cpu-fit Going e op is = going-none job (s.cpus c) op is
+    cpu-fit Going e op is = by (looks job (s.cpus c)) is
+      where
+        by : (b : Bool) → cond b (Some (Load Want)) (going_op job (s.cpus c)) ≡ Some op → FitsIn op
+        by true is' = subst (λ o. FitsIn o) (same_Some _ op is') tt
+        by false is' = going-none job (s.cpus c) op is'
+    cpu-fit Looked e op is = going-none job (s.cpus c) op is
+    cpu-fit (Answering r) e op is =
+        let p : PollAt job s.control.request c (s.cpus c) (Answering r) = subst (λ p. PollAt job s.control.request c (s.cpus c) p) e (k.cpus c within).polls in
+        let q = request-small job (limited job l) s k in let le = p.0 in
+        subst (λ o. FitsIn o) (same_Some _ op is) (omega (arith, le, q))
     cpu-fit (StoringAck r) e op is =
         let p : PollAt job s.control.request c (s.cpus c) (StoringAck r) = subst (λ p. PollAt job s.control.request c (s.cpus c) p) e (k.cpus c within).polls in
         subst (λ o. FitsIn o) (same_Some _ op is) (ack-fits r p.0)
