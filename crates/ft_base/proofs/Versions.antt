@@ -1,6 +1,6 @@
 -- No version allows more than the layout of words, bytes and frames has room for.
-use Rattle.std.proofs.Common.{◌≡◌, ◌≤◌, ◌==◌, ℕ, Bool, true, false, refl, arith}
-use Rattle.ft_base.specs.declared.limits.TheConstants.{VERSION, GUARD_LEVELS}
+use Rattle.std.proofs.Common.{◌≡◌, ◌≤◌, nat_le, ℕ, Bool, true, false, refl, arith}
+use Rattle.ft_base.specs.declared.limits.TheConstants.{LARGEST_SINCE, GUARD_LEVELS}
 use Rattle.ft_base.specs.declared.limits.Limits.{Limits}
 use Rattle.ft_base.specs.Versions.{largest, limits_of, levels, IsFew}
 use Rattle.ft_base.specs.Job.{Job}
@@ -13,9 +13,9 @@ record AreAtMost (limits most : Limits) : Type 0 where
   levels : limits.levels ≤ most.levels
 
 at-most-largest : (version : ℕ) → AreAtMost (limits_of version) largest
-at-most-largest version = by (version == VERSION) refl
+at-most-largest version = by (nat_le LARGEST_SINCE version) refl
   where
-    by : (b : Bool) → (version == VERSION) ≡ b → AreAtMost (limits_of version) largest
+    by : (b : Bool) → (nat_le LARGEST_SINCE version) ≡ b → AreAtMost (limits_of version) largest
     by true e = rw e (record { funcs = omega arith; users = omega arith; tramps = omega arith; levels = omega arith })
     by false e = rw e (record { funcs = omega arith; users = omega arith; tramps = omega arith; levels = omega arith })
 
@@ -32,11 +32,11 @@ few-largest version few =
 
 -- each guard has a level, and at most two
 pub levels-some : (job : Job) → 1 ≤ levels job
-levels-some job = by (job.version == VERSION) refl
+levels-some job = by (nat_le LARGEST_SINCE job.version) refl
   where
-    by : (b : Bool) → (job.version == VERSION) ≡ b → 1 ≤ levels job
+    by : (b : Bool) → (nat_le LARGEST_SINCE job.version) ≡ b → 1 ≤ levels job
     by true e = rw (levels, e) (omega arith)
     by false e = rw (levels, e) (omega arith)
 
-pub levels-most : (job : Job) → levels job ≤ GUARD_LEVELS
-levels-most job = (at-most-largest job.version).levels
+pub levels-most : (version : ℕ) → (limits_of version).levels ≤ GUARD_LEVELS
+levels-most version = (at-most-largest version).levels

@@ -4,10 +4,17 @@
 //! without a version is what the layout of words, bytes and frames has room for, in all versions.
 
 ghost use Rattle.std.specs.Prelude.{◌≡◌};
-ghost use Rattle.ft_base.specs.Versions.{limits_of};
+ghost use Rattle.ft_base.specs.Versions.{has_looks, limits_of};
 
 /// The latest version of the language.
-pub const VERSION: u8 = 2;
+pub const VERSION: u8 = 3;
+
+/// From this version on a script has the largest limits.
+pub const LARGEST_SINCE: u8 = 2;
+
+/// From this version on a CPU answers requests before the steps of its tasks, and plain users aren't
+/// asked whether they are on.
+pub const LOOKS_SINCE: u8 = 3;
 
 /// CPUs.
 pub const CPUS: u32 = 8;
@@ -100,6 +107,14 @@ pub const PATTERN_BYTES: u32 = 255;
 /// Bytes of a script.
 pub const INPUT_BYTES: u32 = 16_777_216;
 
+/// Whether CPUs of this version answer requests before the steps of their tasks, and plain users aren't
+/// asked whether they are on.
+pub fn has_looks(version: u8) -> bool
+    ensures { result ≡ has_looks version }
+{
+    version >= LOOKS_SINCE
+}
+
 /// What a script of a version may have at most of what differs by version.
 #[derive(Clone, Copy, PartialEq, Eq)]
 pub struct Limits {
@@ -114,11 +129,12 @@ pub struct Limits {
 }
 
 impl Limits {
-    /// The limits of a version of the language: those of version 2, and otherwise those of version 1.
+    /// The limits of a version of the language: the largest from version 2 on, and otherwise those of
+    /// version 1.
     pub fn of(version: u8) -> Limits
         ensures { result ≡ limits_of version }
     {
-        if version == VERSION {
+        if version >= LARGEST_SINCE {
             Limits {
                 funcs: FUNCS,
                 users: USERS,

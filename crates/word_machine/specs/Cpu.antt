@@ -5,6 +5,7 @@ use Rattle.ft_base.specs.declared.task.TaskAct.{TaskAct}
 use Rattle.ft_base.specs.declared.task.TaskAct.TheVariants.{After}
 use Rattle.ft_base.specs.Job.{Job}
 use Rattle.ft_base.specs.Tasks.{has_acts, tasks_of}
+use Rattle.ft_base.specs.Versions.{has_looks}
 use Rattle.word_map.specs.Words.{Want, Ack, Quiet, at_put}
 use Rattle.word_map.specs.Contents.{returned_at}
 use Rattle.word_map.specs.Ops.{WordOp, Load, Store}
@@ -102,7 +103,7 @@ with_word r x = record x { word = quiet_word r x }
 
 -- from version 3 on a CPU answers requests before the steps of its tasks, as a kernel's CPU takes an interrupt between any two instructions
 abbrev pub takes_looks : Job → Bool
-takes_looks job = nat_le 3 job.version
+takes_looks job = has_looks job.version
 
 -- a task is at a step before which its CPU looks
 abbrev pub is_looked_before : TaskState → Bool

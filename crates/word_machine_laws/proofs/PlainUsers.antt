@@ -11,6 +11,7 @@ use Rattle.ft_base.specs.Marks.{is_empty}
 use Rattle.ft_base.specs.Kinds.{is_function, is_fprobe}
 use Rattle.ft_base.specs.Job.{Job, Command, Register, Unregister, Filter, Notrace, Pid, NoPid, Enable, Disable, MaxDepth, commands}
 use Rattle.ft_base.specs.Desk.{UserState, desk, spec_at, is_on, is_sited, is_matching, answer_on, is_accepted}
+use Rattle.ft_base.specs.Versions.{has_looks}
 use Rattle.ft_base.specs.WellFormed.{IsWellFormed}
 use Rattle.ft_base.proofs.Small.{false_true, and_both}
 use Rattle.ft_hist.specs.Past.{visits}
@@ -110,7 +111,7 @@ module _ (job : Job) (ok : IsWellFormed job) where
 
 -- who isn't asked is plain
 not-asked : (job : Job) (u : ℕ) → is_asked job u ≡ false → is_function (spec_at job u).kind ≡ true
-not-asked job u e = by (nat_le 3 job.version) (is_function (spec_at job u).kind) e
+not-asked job u e = by (has_looks job.version) (is_function (spec_at job u).kind) e
   where
     by : (a b : Bool) → not (a && b) ≡ false → b ≡ true
     by a true e = refl

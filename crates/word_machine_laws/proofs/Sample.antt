@@ -1,6 +1,6 @@
 -- A job of the worked examples is within the limits, so that the laws speak of it: its replay is legal and whole. And which interrupts are
 -- within them.
-use Rattle.std.proofs.Common.{[], ◌∷◌, inl, refl, arith, reverse}
+use Rattle.std.proofs.Common.{[], ◌∷◌, refl, arith, reverse}
 use Rattle.ft_base.specs.declared.context.Ctx.TheVariants.{Softirq, Irq}
 use Rattle.ft_base.specs.declared.task.TaskAct.TheVariants.{Call, Ret, Raise, Lower, After}
 use Rattle.ft_base.specs.Desk.{desk}
@@ -18,7 +18,7 @@ use Rattle.word_machine_laws.proofs.Ends.{every_play_is_legal, every_ended_play_
 
 is_limited : IsLimited breakpoint_is_read
 is_limited = record {
-  version = inl refl;
+  version = (omega arith, omega arith);
   job' = record { commands = (omega arith, tt); acts = (tt, tt); tasks = ((omega arith, refl), tt) };
   placed = (omega arith, tt);
   waits = (tt, tt);
