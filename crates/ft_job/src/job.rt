@@ -57,7 +57,7 @@ impl Job {
         Job { parts }
     }
 
-    /// The version of the language that the script is in, 1 or 2.
+    /// The version of the language that the script is in: 1, 2 or 3.
     #[tactic(auto, unfolding(crate::specs::Parts::job_of))]
     pub fn version(&self) -> u8
         ensures { result ≡ self.now.version }

@@ -25,7 +25,7 @@ pub struct ModRow {
 /// What a script declares. The limits are those of `ft_base::limits`.
 #[derive(Drop)]
 pub struct JobParts {
-    /// The version of the language that the script is in, 1 or 2.
+    /// The version of the language that the script is in: 1, 2 or 3.
     pub version: u8,
     /// The traceable functions.
     pub table: FuncTable,

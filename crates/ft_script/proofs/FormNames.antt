@@ -1,5 +1,5 @@
 -- What a line declares as the name of a function, its module or a user is a name, if it isn't too long, and what it says as a version is one.
-use Rattle.std.proofs.Common.{◌≡◌, ℕ, Bool, true, false, List, [], ◌∷◌, length, Option, Some, None, inl, inr, refl, subst, codes, if◌then◌else◌}
+use Rattle.std.proofs.Common.{◌≡◌, ℕ, Bool, true, false, List, [], ◌∷◌, length, Option, Some, None, refl, subst, codes, arith, if◌then◌else◌}
 use Rattle.std.specs.Prelude.{option_map}
 use Rattle.std.specs.Option.{IfSome}
 use Rattle.std.specs.Str.{bytes_eq}
@@ -73,7 +73,10 @@ in-func (_ ∷ _ ∷ _ ∷ _) = tt
 
 in-version : (args : List Word) → IfSome (form.version_form args) Named
 in-version [] = tt
-in-version (n ∷ []) = either (bytes_eq n (codes "1")) (Some (version 1)) _ (inl refl) (either (bytes_eq n (codes "2")) (Some (version 2)) None (inr refl) tt)
+in-version (n ∷ []) =
+    either (bytes_eq n (codes "1")) (Some (version 1)) _ (omega arith, omega arith)
+    (either (bytes_eq n (codes "2")) (Some (version 2)) _ (omega arith, omega arith)
+    (either (bytes_eq n (codes "3")) (Some (version 3)) None (omega arith, omega arith) tt))
 in-version (_ ∷ _ ∷ _) = tt
 
 in-tracing : (args : List Word) → IfSome (form.tracing_form args) Named

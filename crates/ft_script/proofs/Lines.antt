@@ -1,5 +1,5 @@
 -- What a line without a cause leaves: what holds of what is declared goes on holding, and what is open goes on below.
-use Rattle.std.proofs.Common.{◌≡◌, ◌&&◌, Bool, true, false, ℕ, List, [], ◌∷◌, inl, refl, sym, ◌∙◌, subst, arith}
+use Rattle.std.proofs.Common.{◌≡◌, ◌&&◌, Bool, true, false, ℕ, List, [], ◌∷◌, refl, sym, ◌∙◌, subst, arith}
 use Rattle.std.specs.Prelude.{None}
 use Rattle.ft_base.proofs.Small.{false_true, or-false_both}
 use Rattle.ft_base.specs.Versions.{IsVersion}
@@ -155,6 +155,6 @@ closed-at_end above s = elim (is_unfinished above.levels) as (λ b. is_unfinishe
 -- nothing is declared above the first line
 pub none-holds : (lines : List Line) → HoldsAbove none_above lines
 none-holds lines = record {
-  holds = empty-holds 1 0 0 (inl refl) (λ first. refl);
+  holds = empty-holds 1 0 0 (omega arith, omega arith) (λ first. refl);
   goes_on = λ running. false_true running;
 }

@@ -9,7 +9,7 @@ use Rattle.script_form.specs.Forms.{LineForm}
 use Rattle.script_form.specs.Lines.{form_of}
 use Rattle.script_form.specs.Read.{form_read}
 use Rattle.script_form.specs.Names.{is_name_or_none, IsWellNamed}
-use Rattle.script_form.specs.Grammar.{is_ipmodify, HasForm, nothing, first_version, second_version, a_function, a_module_function, a_depth, some_tramps, an_absent, a_ring, tracing_is_off, a_trigger, a_user, a_cpu, a_task, a_lane, a_call, a_ret, a_softirq, an_irq, an_nmi, an_iret, an_after, a_register, an_unregister, a_write, an_append, a_clear, only_pids, other_pids, an_enable, a_disable, a_max_depth, an_until, a_load, an_unload, a_schedule}
+use Rattle.script_form.specs.Grammar.{is_ipmodify, HasForm, nothing, first_version, second_version, third_version, a_function, a_module_function, a_depth, some_tramps, an_absent, a_ring, tracing_is_off, a_trigger, a_user, a_cpu, a_task, a_lane, a_call, a_ret, a_softirq, an_irq, an_nmi, an_iret, an_after, a_register, an_unregister, a_write, an_append, a_clear, only_pids, other_pids, an_enable, a_disable, a_max_depth, an_until, a_load, an_unload, a_schedule}
 use Rattle.script_form.proofs.GrammarRules.{form_of-rule}
 
 replaces : (kind : Kind) (ipmodify : Option Word) → is_ipmodify kind ipmodify ≡ true → is_name_or_none ipmodify ≡ true
@@ -24,6 +24,7 @@ well-named : {words : List Word} {form : LineForm} → HasForm words form → Is
 well-named nothing = tt
 well-named first_version = tt
 well-named second_version = tt
+well-named third_version = tt
 well-named (a_function name is) = (is, refl)
 well-named (a_module_function name owner is are) = (is, are)
 well-named (a_depth word n is) = tt

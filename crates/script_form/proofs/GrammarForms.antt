@@ -11,7 +11,7 @@ use Rattle.script_form.specs.Forms.{UserAct, calls, irqs, UserLine, LineForm, fu
 use Rattle.script_form.specs.Users.{flag, cancel_kind, exit_kind, kind_of, ipmodify_of, act_of, user_of, options_form, user_with, user_form}
 use Rattle.script_form.specs.Lines.{form_of}
 use Rattle.script_form.specs.Names.{is_act}
-use Rattle.script_form.specs.Grammar.{kind_words, act_words, option_words, user_words, is_kind, is_ipmodify, IsUser, HasForm, nothing, first_version, second_version, a_function, a_module_function, a_depth, some_tramps, an_absent, a_ring, tracing_is_off, a_trigger, a_user, a_cpu, a_task, a_lane, a_call, a_ret, a_softirq, an_irq, an_nmi, an_iret, an_after, a_register, an_unregister, a_write, an_append, a_clear, only_pids, other_pids, an_enable, a_disable, a_max_depth, an_until, a_load, an_unload, a_schedule}
+use Rattle.script_form.specs.Grammar.{kind_words, act_words, option_words, user_words, is_kind, is_ipmodify, IsUser, HasForm, nothing, first_version, second_version, third_version, a_function, a_module_function, a_depth, some_tramps, an_absent, a_ring, tracing_is_off, a_trigger, a_user, a_cpu, a_task, a_lane, a_call, a_ret, a_softirq, an_irq, an_nmi, an_iret, an_after, a_register, an_unregister, a_write, an_append, a_clear, only_pids, other_pids, an_enable, a_disable, a_max_depth, an_until, a_load, an_unload, a_schedule}
 
 -- ---- users
 
@@ -94,6 +94,7 @@ pub form_of-written : (words : List Word) (form : LineForm) → HasForm words fo
 form_of-written _ _ nothing = refl
 form_of-written _ _ first_version = refl
 form_of-written _ _ second_version = refl
+form_of-written _ _ third_version = refl
 form_of-written _ _ (a_function name named) = ap (option_map (λ n. func n None)) (name-is name named)
 form_of-written _ _ (a_module_function name owner named owned) = ap₂ (both (λ n o. func n (Some o))) (name-is name named) (name-is owner owned)
 form_of-written _ _ (a_depth word n is) = ap (option_map depth) is

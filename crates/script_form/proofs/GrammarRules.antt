@@ -11,7 +11,7 @@ use Rattle.script_text.specs.Names.{is_name, name_of, number_of}
 use Rattle.ft_schedule.specs.Items.{some_items_of}
 use Rattle.script_form.specs.Forms.{LineForm, skip, version, func, depth, tramps, absent, ring, tracing_off, trigger, new_cpu, new_task, new_lane, call, ret, raise, lower, after, register, unregister, write, pids, enable, disable, max_depth, until, load, unload, sched, only_name, only_number, only_word, alone, version_form, func_form, tracing_form, cpu_form, task_form, arrow_of, write_form, until_form, ctl_form}
 use Rattle.script_form.specs.Lines.{act_form, keyed_form, form_of}
-use Rattle.script_form.specs.Grammar.{half_word, HasForm, nothing, first_version, second_version, a_function, a_module_function, a_depth, some_tramps, an_absent, a_ring, tracing_is_off, a_trigger, a_cpu, a_task, a_lane, a_call, a_ret, a_softirq, an_irq, an_nmi, an_iret, an_after, a_register, an_unregister, a_write, an_append, a_clear, only_pids, other_pids, an_enable, a_disable, a_max_depth, an_until, a_load, an_unload, a_schedule}
+use Rattle.script_form.specs.Grammar.{half_word, HasForm, nothing, first_version, second_version, third_version, a_function, a_module_function, a_depth, some_tramps, an_absent, a_ring, tracing_is_off, a_trigger, a_cpu, a_task, a_lane, a_call, a_ret, a_softirq, an_irq, an_nmi, an_iret, an_after, a_register, an_unregister, a_write, an_append, a_clear, only_pids, other_pids, an_enable, a_disable, a_max_depth, an_until, a_load, an_unload, a_schedule}
 use Rattle.script_text.proofs.KeyLemmas.{is_key, at_key, named}
 use Rattle.script_text.proofs.WordLemmas.{made_of_one, made_of_both}
 use Rattle.script_form.proofs.UserRules.{user-rule}
@@ -66,7 +66,8 @@ module _ (form : LineForm) where
   version-rule (n ∷ []) e =
       at_key (Some form) (λ ws. HasForm (codes "ftrace" ∷ ws) form) n (codes "1") [] (λ is. let same : version 1 ≡ form = cc in subst (HasForm (codes "ftrace" ∷ codes "1" ∷ [])) same first_version)
       (at_key (Some form) (λ ws. HasForm (codes "ftrace" ∷ ws) form) n (codes "2") [] (λ is. let same : version 2 ≡ form = cc in subst (HasForm (codes "ftrace" ∷ codes "2" ∷ [])) same second_version)
-      (λ none. absurd (cc))) e
+      (at_key (Some form) (λ ws. HasForm (codes "ftrace" ∷ ws) form) n (codes "3") [] (λ is. let same : version 3 ≡ form = cc in subst (HasForm (codes "ftrace" ∷ codes "3" ∷ [])) same third_version)
+      (λ none. absurd (cc)))) e
   version-rule (_ ∷ _ ∷ _) e = absurd (cc)
 
   func-rule : (args : List Word) → func_form args ≡ Some form → HasForm (codes "func" ∷ args) form

@@ -81,9 +81,13 @@ alone form _ = None
 
 -- ---- declarations
 
--- `ftrace 1`, `ftrace 2`
+-- `ftrace 1`, `ftrace 2`, `ftrace 3`
 abbrev pub version_form : List Word → Option LineForm
-version_form (n ∷ []) = if bytes_eq n (codes "1") then Some (version 1) else (if bytes_eq n (codes "2") then Some (version 2) else None)
+version_form (n ∷ []) =
+    if bytes_eq n (codes "1") then Some (version 1)
+    else if bytes_eq n (codes "2") then Some (version 2)
+    else if bytes_eq n (codes "3") then Some (version 3)
+    else None
 version_form _ = None
 
 -- `func NAME`, `func NAME MODULE`

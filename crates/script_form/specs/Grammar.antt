@@ -75,6 +75,7 @@ pub data HasForm : List Word → LineForm → Type 0 where
   nothing : HasForm [] skip
   first_version : HasForm (codes "ftrace" ∷ codes "1" ∷ []) (version 1)
   second_version : HasForm (codes "ftrace" ∷ codes "2" ∷ []) (version 2)
+  third_version : HasForm (codes "ftrace" ∷ codes "3" ∷ []) (version 3)
   a_function : (name : Word) → is_name name ≡ true → HasForm (codes "func" ∷ name ∷ []) (func name None)
   a_module_function : (name owner : Word) → is_name name ≡ true → is_name owner ≡ true → HasForm (codes "func" ∷ name ∷ owner ∷ []) (func name (Some owner))
   a_depth : (word : Word) (n : ℕ) → number_of word ≡ Some n → HasForm (codes "depth" ∷ word ∷ []) (depth n)

@@ -7,13 +7,14 @@ ghost use Rattle.script_form.specs.Read.{form_read};
 use crate::form::LineForm;
 use script_text::{name, number};
 
-/// `ftrace 1` or `ftrace 2`.
+/// `ftrace 1`, `ftrace 2` or `ftrace 3`.
 pub fn read_version<'a>(args: &[&'a str]) -> Option<LineForm<'a>>
     ensures { option_map form_read result ≡ version_form (map (λ w. w.now) args.now) }
 {
     match args {
         [number] if *number == "1" => Some(LineForm::Version { number: 1 }),
         [number] if *number == "2" => Some(LineForm::Version { number: 2 }),
+        [number] if *number == "3" => Some(LineForm::Version { number: 3 }),
         _ => None,
     }
 }

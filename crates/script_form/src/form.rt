@@ -32,7 +32,7 @@ pub struct UserLine<'a> {
 pub enum LineForm<'a> {
     /// Nothing: a blank line, or a comment.
     Skip,
-    /// `ftrace 1` or `ftrace 2`: the script is in this version of the language.
+    /// `ftrace 1`, `ftrace 2` or `ftrace 3`: the script is in this version of the language.
     Version {
         number: u8,
     },

@@ -145,7 +145,7 @@ static IN_ORDER: [InOrder; 8] = [
 /// Whether the call for a script of another version ends so.
 fn answers_so<R: AllocGlobal + Threads + Wait + Sync>(rt: &R, row: &InOrder) -> bool {
     let (word, from, to, status, held, (reads, writes)) = *row;
-    let ended = call_between(rt, &[word], b"ftrace 3\n", by(from), by(to));
+    let ended = call_between(rt, &[word], b"ftrace 4\n", by(from), by(to));
     ended.is(status, held) && ended.reader.calls == reads && ended.writer.calls == writes
 }
 
