@@ -1,8 +1,9 @@
 -- Asking whether a user is on at a function, by the words alone.
-use Rattle.std.specs.Prelude.{ℕ, ◌/◌, Option, Some, None, if◌then◌else◌}
+use Rattle.std.specs.Prelude.{ℕ, ◌/◌, Bool, true, not, ◌||◌, Option, Some, None, if◌then◌else◌}
 use Rattle.word_map.specs.declared.shape.Shape.{Shape}
 use Rattle.word_map.specs.Words.{Sel, Bits}
-use Rattle.word_map.specs.Contents.{high, is_marked, sel_copy, sel_empty, sel_on}
+use Rattle.word_map.specs.declared.sel.Sel.{Sel as State}
+use Rattle.word_map.specs.Contents.{is_marked, sel_on, sel_parts}
 use Rattle.word_map.specs.Ops.{WordOp, Load}
 use Rattle.hash_pages.specs.declared.reader.ReadPhase.{ReadPhase}
 use Rattle.hash_pages.specs.declared.reader.ReadPhase.TheVariants.{AtSel, AtFilter, AtNotrace, Ended}
@@ -27,20 +28,31 @@ read_op r (Ended verdict) = None
 abbrev pub read_next : Read → Option WordOp
 read_next r = read_op r r.phase
 
--- a user that is off is not asked further; an empty filter lets every function in
+-- an empty filter lets every function in
+abbrev pub sets_read : State → ReadPhase
+sets_read s = if s.empty then AtNotrace s.copy s.reg else AtFilter s.copy s.reg
+
+-- a user that is asked whether it is on, and is off, is not asked further
+abbrev pub state_by : Bool → ℕ → ReadPhase
+state_by asked v = if not asked || sel_on v then sets_read (sel_parts v) else Ended Off
+
 abbrev pub state_read : ℕ → ReadPhase
-state_read v = if sel_on v then (if sel_empty v then AtNotrace (sel_copy v) (high v) else AtFilter (sel_copy v) (high v)) else Ended Off
+state_read v = state_by true v
 
 -- the phase after a load gave this value
-abbrev pub read_after : Read → ReadPhase → ℕ → ReadPhase
-read_after r AtSel v = state_read v
-read_after r (AtFilter copy reg) v = if is_marked v r.func then AtNotrace copy reg else Ended Apart
-read_after r (AtNotrace copy reg) v = if is_marked v r.func then Ended Apart else Ended (On reg)
-read_after r (Ended verdict) v = Ended verdict
+abbrev pub read_after : Bool → Read → ReadPhase → ℕ → ReadPhase
+read_after asked r AtSel v = state_by asked v
+read_after asked r (AtFilter copy reg) v = if is_marked v r.func then AtNotrace copy reg else Ended Apart
+read_after asked r (AtNotrace copy reg) v = if is_marked v r.func then Ended Apart else Ended (On reg)
+read_after asked r (Ended verdict) v = Ended verdict
 
--- a read after its next operation gave this value
+-- a read after its next operation gave this value: of a user that is asked, or isn't
+abbrev pub read_by : Bool → Read → ℕ → Read
+read_by asked r v = record r { phase = read_after asked r r.phase v }
+
+-- of one that is asked
 abbrev pub read_got : Read → ℕ → Read
-read_got r v = record r { phase = read_after r r.phase v }
+read_got r v = read_by true r v
 
 -- what a read has found so far
 abbrev pub verdict_of : ReadPhase → Verdict

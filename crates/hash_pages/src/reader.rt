@@ -1,10 +1,10 @@
 //! Asking by the words whether a user is on at a function.
 
-ghost use Rattle.std.specs.Prelude.{◌≡◌, ◌/◌, ◌<◌, ◌↔◌, option_map, IsSome};
+ghost use Rattle.std.specs.Prelude.{◌≡◌, false, ◌/◌, ◌<◌, ◌↔◌, option_map, IsSome};
 ghost use Rattle.word_map.specs.Words.{Bits};
 ghost use Rattle.word_map.specs.Places.{half_number};
 ghost use Rattle.word_map.specs.Ops.{Load, placed};
-ghost use Rattle.hash_pages.specs.Reads.{read_got, read_next, state_read, verdict_of};
+ghost use Rattle.hash_pages.specs.Reads.{read_by, read_got, read_next, sets_read, state_read, verdict_of};
 ghost use Rattle.hash_pages.specs.KeptRead.{IsPhase};
 
 use ft_base::{FuncNo, Half, UserNo};
@@ -113,6 +113,17 @@ impl PageReader {
         };
     }
 
+    /// The same of a user that isn't asked whether it is on: of its state only the copy, the empty filter
+    /// and the number are looked at.
+    pub fn got_unasked(&mut self, value: u64)
+        ensures { self.new ≡ read_by false self.old value }
+    {
+        match self.phase {
+            ReadPhase::AtSel => self.phase = at_sets(Sel::of(value)),
+            _ => self.got(value),
+        }
+    }
+
     /// What the read has found.
     pub fn verdict(&self) -> Verdict
         ensures found { result ≡ verdict_of self.now.phase }
@@ -145,6 +156,15 @@ fn after_state(value: u64) -> ReadPhase
     if !state.is_on() {
         return ReadPhase::Ended(Verdict::Off);
     }
+    at_sets(state)
+}
+
+/// Before the first set of a user in this state.
+fn at_sets(state: Sel) -> ReadPhase
+    requires { state.copy < 2 }
+    ensures phase { result ≡ sets_read state }
+    ensures kept { IsPhase result }
+{
     // The copy and the number come from this one load. With a load of the state before each of the two
     // sets, the filter could be that of one command and the notrace set that of the next: the user
     // could be called back at a function that it never wanted, and under a number of another time.
