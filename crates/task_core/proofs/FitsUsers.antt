@@ -5,6 +5,7 @@ use Rattle.std.specs.Int.{bit_at}
 use Rattle.std.proofs.lemmas.List.{length-map}
 use Rattle.std.proofs.Common.{length-append}
 use Rattle.ft_base.specs.declared.limits.TheConstants.{USERS}
+use Rattle.ft_base.specs.declared.item.Ran.TheVariants.{Own}
 use Rattle.ft_base.specs.declared.number.UserNo.{UserNo}
 use Rattle.ft_base.specs.declared.task.TaskAct.{TaskAct}
 use Rattle.ft_base.specs.declared.task.TaskAct.TheVariants.{Call, Ret as RetAct, Raise, Lower, After}
@@ -14,7 +15,7 @@ use Rattle.ft_base.specs.Kinds.{has_depth, is_fprobe}
 use Rattle.ft_base.proofs.Versions.{few-largest}
 use Rattle.hash_pages.specs.declared.reader.Verdict.{Verdict}
 use Rattle.hash_pages.specs.declared.reader.Verdict.TheVariants.{Open, On}
-use Rattle.hash_pages.specs.Reads.{Read, read_got, verdict_of}
+use Rattle.hash_pages.specs.Reads.{Read, read_by, verdict_of}
 use Rattle.ops_list.specs.Walks.{walk_at}
 use Rattle.recursion_guard.specs.Guards.{is_full as is_guard_full}
 use Rattle.return_stack.specs.declared.shadow.FrameUser.{FrameUser as OwedUser}
@@ -22,7 +23,7 @@ use Rattle.return_stack.specs.Calls.{CallStack, StackedCall, frames_in, if_used,
 use Rattle.fprobe.specs.declared.entry.Probe.{Probe}
 use Rattle.fprobe.specs.declared.entry.Probe.TheVariants.{Plain, Wanted, Cancelled, Missed}
 use Rattle.fprobe.specs.Entry.{calls_after}
-use Rattle.word_map.specs.Contents.{low, returned_at, stands}
+use Rattle.word_map.specs.Contents.{high, low, returned_at, stands, tramp_user}
 use Rattle.word_machine.specs.Laws.{PresentTakes}
 use Rattle.word_machine.specs.Limits.{IsLimited}
 use Rattle.word_machine.specs.Task.{is_too_deep}
@@ -30,16 +31,16 @@ use Rattle.word_machine.proofs.Small.{if_case}
 use Rattle.task_core.specs.declared.moment.Moment.{Moment}
 use Rattle.task_core.specs.declared.moment.Moment.TheVariants.{Polling, First, Load, Mark}
 use Rattle.task_core.specs.declared.moment.ToLoad.{ToLoad}
-use Rattle.task_core.specs.declared.moment.ToLoad.TheVariants.{OwnSel, Reading, AtPids, AtDepth, AtExit}
+use Rattle.task_core.specs.declared.moment.ToLoad.TheVariants.{InTramp, OwnSel, Reading, AtPids, AtDepth, AtExit}
 use Rattle.task_core.specs.declared.moment.ToMark.{ToMark}
 use Rattle.task_core.specs.declared.moment.ToMark.TheVariants.{Calling, Acting, Closing, Returning}
 use Rattle.task_core.specs.declared.open_call.OpenCall.{OpenCall as CodeCall}
 use Rattle.task_core.specs.declared.task.Task.{Task}
 use Rattle.task_core.specs.Framed.{probe_of}
-use Rattle.task_core.specs.Setups.{PlainSetup, declared_in}
+use Rattle.task_core.specs.Setups.{PlainSetup, asks, declared_in}
 use Rattle.task_core.specs.States.{mark_moment, moment_of, plain_user, state_of, users_in}
 use Rattle.task_core.specs.TaskOps.{frame_user, present, top}
-use Rattle.task_core.specs.TaskSteps.{after_at, after_first, after_load, after_mark, begun, guard_tested, judged, stacks_after, task_after, tested}
+use Rattle.task_core.specs.TaskSteps.{after_at, after_first, after_load, after_mark, asks_at, begun, guard_tested, judged, stacks_after, task_after, tested, with_latest}
 use Rattle.task_core.specs.Tied.{AreFew, IsTaskOf}
 use Rattle.task_core.proofs.FitsCalls.{none-open, users-room}
 use Rattle.task_core.proofs.RowLists.{standing}
@@ -112,15 +113,16 @@ module _ (t : Task) (setup : PlainSetup) (f : AreFew t.stacks.calls) where
   abbrev Few : Task → Type 0
   Few u = AreFew u.stacks.calls
 
-  guard-few : (spec : Spec) (u : UserNo) (reg : ℕ) → Few (guard_tested t spec u reg)
-  guard-few spec u reg = if_case Few (is_guard_full t.guards) _ _ (λ e. f) (λ e. f)
+  -- the tests of a user, whatever has changed of the top call
+  guard-few : (x : Task) → Few x → (spec : Spec) (u : UserNo) (reg : ℕ) → Few (guard_tested x spec u reg)
+  guard-few x h spec u reg = if_case Few (is_guard_full x.guards) _ _ (λ e. h) (λ e. h)
 
-  tested-few : (spec : Spec) (u : UserNo) (reg : ℕ) → Few (tested t spec u reg)
-  tested-few spec u reg = if_case Few spec.pid _ _ (λ e. f) (λ e. guard-few spec u reg)
+  tested-few : (x : Task) → Few x → (spec : Spec) (u : UserNo) (reg : ℕ) → Few (tested x spec u reg)
+  tested-few x h spec u reg = if_case Few spec.pid _ _ (λ e. h) (λ e. guard-few x h spec u reg)
 
   judged-few : (r : Read) (verdict : Verdict) (user : Option UserNo) → Few (judged t setup r verdict user)
   judged-few r Open user = f
-  judged-few r (On reg) (Some u) = tested-few (declared_in setup u.0) u reg
+  judged-few r (On reg) (Some u) = tested-few t f (declared_in setup u.0) u reg
   judged-few r _ _ = f
 
   first-few : (act : Option TaskAct) (v : ℕ) → Few (after_first t setup act v)
@@ -132,9 +134,16 @@ module _ (t : Task) (setup : PlainSetup) (f : AreFew t.stacks.calls) where
   first-few (Some (After n)) v = if_case Few (nat_le n (returned_at v)) _ _ (λ e. f) (λ e. f)
 
   load-few : (l : ToLoad) (v : ℕ) → Few (after_load t setup l v)
-  load-few (OwnSel u reg) v = if_case Few (stands v reg) _ _ (λ e. tested-few (declared_in setup u.0) u reg) (λ e. f)
-  load-few (Reading r) v = judged-few (read_got r v) (verdict_of (read_got r v).phase) (walk_at (top t).walk.phase)
-  load-few (AtPids u reg) v = if_case Few (bit_at v t.number.0 == 1) _ _ (λ e. guard-few (declared_in setup u.0) u reg) (λ e. f)
+  load-few (InTramp slot) v =
+      let u : UserNo = record { 0 = tramp_user v } in
+      let x : Task = record t { opens = with_latest t.opens (record (top t) { ran = Own u }) } in
+      if_case Few (asks setup u.0) _ _ (λ e. f) (λ e. tested-few x f (declared_in setup u.0) u (high v))
+  load-few (OwnSel u reg) v = if_case Few (stands v reg) _ _ (λ e. tested-few t f (declared_in setup u.0) u reg) (λ e. f)
+  load-few (Reading r) v =
+      let user : Option UserNo = walk_at (top t).walk.phase in
+      let r' : Read = read_by (asks_at setup user) r v in
+      judged-few r' (verdict_of r'.phase) user
+  load-few (AtPids u reg) v = if_case Few (bit_at v t.number.0 == 1) _ _ (λ e. guard-few t f (declared_in setup u.0) u reg) (λ e. f)
   load-few (AtDepth u reg) v = if_case Few (is_too_deep setup.frames v (frames_in (drop 1 t.stacks.calls))) _ _ (λ e. f) (λ e. f)
   load-few (AtExit i) v = if_case Few (stands v (frame_user t i).reg) _ _ (λ e. f) (λ e. f)
   load-few _ v = f

@@ -16,13 +16,13 @@ use Rattle.hash_pages.specs.declared.reader.ReadPhase.{ReadPhase}
 use Rattle.hash_pages.specs.declared.reader.ReadPhase.TheVariants.{AtSel, AtFilter, AtNotrace, Ended as ReadEnded}
 use Rattle.hash_pages.specs.declared.reader.Verdict.{Verdict}
 use Rattle.hash_pages.specs.declared.reader.Verdict.TheVariants.{Open, On}
-use Rattle.hash_pages.specs.Reads.{Read, read_got, verdict_of}
+use Rattle.hash_pages.specs.Reads.{Read, read_by, verdict_of}
 use Rattle.recursion_guard.specs.Guards.{GuardState, entered, is_full, left}
 use Rattle.return_stack.specs.declared.shadow.FrameUser.{FrameUser}
 use Rattle.return_stack.specs.Calls.{StackedCall, frames_in}
 use Rattle.site_bytes.specs.Bytes.{breakpoint}
 use Rattle.word_map.specs.declared.shape.Shape.{Shape}
-use Rattle.word_map.specs.Contents.{stands, tramp_user}
+use Rattle.word_map.specs.Contents.{high, stands, tramp_user}
 use Rattle.word_map.specs.Instructions.{decode}
 use Rattle.word_machine.specs.Task.{Closing as ClosingAt, fetched_ran, guards_under, is_too_deep}
 use Rattle.task_core.specs.declared.moment.Moment.{Moment as CodeMoment}
@@ -34,11 +34,11 @@ use Rattle.task_core.specs.declared.open_call.OpenCall.{OpenCall as CodeCall}
 use Rattle.task_core.specs.declared.task.Task.{Task}
 use Rattle.task_core.specs.Leads.{after_user_to, fetched_to, head_to}
 use Rattle.task_core.specs.Moments.{judged as judged_at, reading_at}
-use Rattle.task_core.specs.Setups.{PlainSetup, declared_in}
+use Rattle.task_core.specs.Setups.{PlainSetup, asks, declared_in}
 use Rattle.task_core.specs.States.{load_moment, stack_in, users_in}
 use Rattle.task_core.specs.Steady.{is_dispatching}
 use Rattle.task_core.specs.TaskOps.{frame_user, owed}
-use Rattle.task_core.specs.TaskSteps.{after_load, arrived_at, depth_tested, exit_from, exit_stated, exit_to, guard_tested, judged, own_stated, passed, pid_tested, tested}
+use Rattle.task_core.specs.TaskSteps.{after_load, arrived_at, asks_at, in_trampoline, depth_tested, exit_from, exit_stated, exit_to, guard_tested, judged, own_stated, passed, pid_tested, tested}
 use Rattle.task_core.proofs.RowLists.{standing}
 use Rattle.task_core.proofs.Held.{Guards, GuardsIn, given-apart, holding, in-call, taken-apart}
 use Rattle.task_core.proofs.SteadyGuards.{given-levels, taken-levels}
@@ -174,25 +174,42 @@ module _ (t : Task) (o : CodeCall) (os : List CodeCall) (s : StackedCall) (ss : 
       by true = goes (Mark (Exiting i)) false refl h
       by false = exit-guards m (suc i) h
 
-  -- ## a load
+-- ## a load
 
+-- a trampoline's user that is asked has its state loaded, and of any other the tests begin
+tramp-guards : (t : Task) (o : CodeCall) (os : List CodeCall) (s : StackedCall) (ss : List StackedCall) (slot : ℕ) (setup : PlainSetup) (v : ℕ)
+    → context t.guards.raised ≡ o.ctx → In t o os s ss t.guards false → Guards (in_trampoline (here t o os s ss (Load (InTramp slot))) setup v)
+tramp-guards t o os s ss slot setup v own h = by (asks setup (tramp_user v))
+  where
+    u : UserNo
+    u = record { 0 = tramp_user v }
+
+    o' : CodeCall
+    o' = record o { ran = Own u }
+
+    by : (b : Bool) → Guards (cond b (here t o' os s ss (Load (OwnSel u (high v)))) (tested (here t o' os s ss (Load (InTramp slot))) (declared_in setup u.0) u (high v)))
+    by true = in-call t.guards o' os s ss (Load (OwnSel u (high v))) false refl h
+    by false = tested-guards t o' os s ss (Load (InTramp slot)) u (high v) (declared_in setup u.0) own h
+
+module _ (t : Task) (o : CodeCall) (os : List CodeCall) (s : StackedCall) (ss : List StackedCall) where
   module _ (setup : PlainSetup) (v : ℕ) where
     -- the present context is that of the call while it is dispatched
     pub load-guards : (l : ToLoad) → (is_dispatching (load_moment o (users_in s.users) l) ≡ true → context t.guards.raised ≡ o.ctx)
-        → In t.guards (holding (Load l)) → Guards (after_load (here (Load l)) setup l v)
-    load-guards Fetch own h = goes (head_to v) false (head-free v) h
+        → In t o os s ss t.guards (holding (Load l)) → Guards (after_load (here t o os s ss (Load l)) setup l v)
+    load-guards Fetch own h = goes t o os s ss (head_to v) false (head-free v) h
     load-guards (GotHead byte) own h =
         let i : ℕ = decode o.func.0 byte v in in-call t.guards (record o { ran = fetched_ran i }) os s ss (fetched_to i) false (fetched-free i) h
     load-guards GotBreak own h = in-call t.guards (record o { ran = fetched_ran v }) os s ss (fetched_to v) false (fetched-free v) h
-    load-guards (InTramp slot) own h =
-        in-call t.guards (record o { ran = Own (record { 0 = tramp_user v }) }) os s ss _ false refl h
-    load-guards (OwnSel u reg) own h = own-guards (Load (OwnSel u reg)) u reg (declared_in setup u.0) v (own refl) h
+    load-guards (InTramp slot) own h = tramp-guards t o os s ss slot setup v (own refl) h
+    load-guards (OwnSel u reg) own h = own-guards t o os s ss (Load (OwnSel u reg)) u reg (declared_in setup u.0) v (own refl) h
     load-guards Walking own h =
         let user : Option UserNo = walk_at (walk_after o.walk.phase v) in
         in-call t.guards (record o { walk = record o.walk { phase = walk_after o.walk.phase v } }) os s ss (arrived_at setup.shape o.func user) false
         (arrived-free setup.shape o.func user) h
     load-guards (Reading r) own h =
-        read-guards (Load (Reading r)) setup (read_got r v) (verdict_of (read_got r v).phase) (walk_at o.walk.phase) (own (reading-dispatched r.user r.phase)) h
-    load-guards (AtPids u reg) own h = pid-guards (Load (AtPids u reg)) u reg (declared_in setup u.0) v (own refl) h
-    load-guards (AtDepth u reg) own h = depth-guards (Load (AtDepth u reg)) u reg setup.frames v (own refl) h
-    load-guards (AtExit i) own h = stated-guards (Load (AtExit i)) i v h
+        let user : Option UserNo = walk_at o.walk.phase in
+        let r' : Read = read_by (asks_at setup user) r v in
+        read-guards t o os s ss (Load (Reading r)) setup r' (verdict_of r'.phase) user (own (reading-dispatched r.user r.phase)) h
+    load-guards (AtPids u reg) own h = pid-guards t o os s ss (Load (AtPids u reg)) u reg (declared_in setup u.0) v (own refl) h
+    load-guards (AtDepth u reg) own h = depth-guards t o os s ss (Load (AtDepth u reg)) u reg setup.frames v (own refl) h
+    load-guards (AtExit i) own h = stated-guards t o os s ss (Load (AtExit i)) i v h

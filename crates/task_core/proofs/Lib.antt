@@ -4,6 +4,7 @@ pub mod RowLists
 pub mod RowStacks
 pub mod RowMoments
 pub mod RowOps
+pub mod RowContexts
 pub mod RowExits
 pub mod RowGuards
 pub mod RowLoads

@@ -1,8 +1,8 @@
 -- What a load makes of a task is what the machine makes of it.
-use Rattle.std.proofs.Common.{cond, ◌≡◌, ℕ, zero, suc, ◌%◌, ◌<◌, ◌≤◌, Bool, true, false, ◌==◌, not, List, ◌∷◌, length, Some, refl, sym, ap, subst, arith}
+use Rattle.std.proofs.Common.{cond, ◌≡◌, ℕ, zero, suc, ◌%◌, ◌<◌, ◌≤◌, Bool, true, false, ◌||◌, ◌==◌, not, List, ◌∷◌, length, Some, refl, sym, ap, subst, arith}
 use Rattle.std.specs.Int.{bit_at}
 use Rattle.ft_base.specs.declared.item.Ran.{Ran}
-use Rattle.ft_base.specs.declared.item.Ran.TheVariants.{List as ByList}
+use Rattle.ft_base.specs.declared.item.Ran.TheVariants.{List as ByList, Own}
 use Rattle.ft_base.specs.declared.item.Reason.TheVariants.{Pid as ByPid, Depth as ByDepth}
 use Rattle.ft_base.specs.declared.number.TaskNo.{TaskNo}
 use Rattle.ft_base.specs.declared.number.UserNo.{UserNo}
@@ -20,11 +20,11 @@ use Rattle.ops_list.specs.declared.walker.WalkPhase.TheVariants.{Starting, At, E
 use Rattle.return_stack.specs.Calls.{StackedCall, frames_in}
 use Rattle.site_bytes.specs.Bytes.{breakpoint}
 use Rattle.word_map.specs.declared.shape.Shape.{Shape}
-use Rattle.word_map.specs.Contents.{high, is_marked, sel_copy, sel_empty, sel_on, stands}
+use Rattle.word_map.specs.Contents.{high, is_marked, sel_copy, sel_empty, sel_on, stands, tramp_user}
 use Rattle.word_map.specs.Instructions.{decode}
 use Rattle.word_map.specs.Shapes.{shape_of}
 use Rattle.word_machine.specs.Limits.{IsLimited}
-use Rattle.word_machine.specs.Task.{OpenCall, allowed_in, at_moment, begin_call, depth_in, fetched_ran, guard_test, guards_under, head_in, is_too_deep, level_of, own_in, passes_in, task_got, tests_in, with_top}
+use Rattle.word_machine.specs.Task.{OpenCall, allowed_in, at_moment, begin_call, depth_in, fetched_ran, guard_test, guards_under, head_in, is_asked, is_too_deep, level_of, own_in, owned_in, passes_in, task_got, tests_in, with_top}
 use Rattle.word_machine.specs.Task as machine
 use Rattle.task_core.specs.declared.moment.Moment.TheVariants.{Load, Mark}
 use Rattle.task_core.specs.declared.moment.ToLoad.{ToLoad}
@@ -126,7 +126,7 @@ module _ (job : Job) (t : Task) (o : CodeCall) (os : List CodeCall) (s : Stacked
     read-row : (phase : ReadPhase) → IsReading phase → (let y = at (Reading (reading shape u o.func.0 phase)) ByList (at_user u) in
         state_of (code.read y (setup_in job) (reading shape u o.func.0 phase) v)
         ≡ task_got job t.number.0 (state_of y) (reading_at u (λ reg. machine.Closing) phase) v)
-    read-row AtSel k = by (sel_on v) (sel_empty v)
+    read-row AtSel k = by (not (is_asked job u) || sel_on v) (sel_empty v)
       where
         y : Task
         y = at (Reading (reading shape u o.func.0 AtSel)) ByList (at_user u)
@@ -223,6 +223,28 @@ module _ (job : Job) (t : Task) (o : CodeCall) (os : List CodeCall) (s : Stacked
         by true e = e
         by false e = refl
 
+  -- the word of a trampoline, whose user is asked or isn't
+  tramp-row : (slot : ℕ) (k : IsTaskOf job (standing t (o ∷ os) (s ∷ ss) (Load (InTramp slot)))) (v : ℕ)
+      → guards.is_full t.guards ≡ is_full job (guards_under o.scripted (stack_in os ss)) o.ctx
+      → state_of (code.in_trampoline (here (InTramp slot) k) (setup_in job) v)
+      ≡ task_got job t.number.0 (state_of (here (InTramp slot) k)) (machine.InTramp slot) v
+  tramp-row slot k v full = by (is_asked job u.0) (begin-row job t o' os s ss (Load (InTramp slot)) full u (high v))
+    where
+      u : UserNo
+      u = record { 0 = tramp_user v }
+
+      o' : CodeCall
+      o' = record o { ran = Own u }
+
+      y : Task
+      y = standing t (o' ∷ os) (s ∷ ss) (Load (InTramp slot))
+
+      by : (b : Bool) → state_of (tested y (spec_at job u.0) u (high v)) ≡ at_moment (state_of y) (begin_call job (joined o' s) (stack_in os ss) u.0 (high v))
+          → state_of (cond b (code.at y (Load (OwnSel u (high v)))) (tested y (spec_at job u.0) u (high v)))
+          ≡ at_moment (state_of y) (owned_in b u.0 (high v) (begin_call job (joined o' s) (stack_in os ss) u.0 (high v)))
+      by true e = refl
+      by false e = e
+
   -- ## any load
 
   pub load-row : (load : ToLoad) (v : ℕ) → IsLimited job → IsTaskOf job (standing t (o ∷ os) (s ∷ ss) (Load load))
@@ -231,7 +253,7 @@ module _ (job : Job) (t : Task) (o : CodeCall) (os : List CodeCall) (s : Stacked
   load-row Fetch v limited k = head-row t o os s ss v
   load-row (GotHead byte) v limited k = fetched-row t o os s ss (GotHead byte) (decode o.func.0 byte v) k.tied.0.walk
   load-row GotBreak v limited k = fetched-row t o os s ss GotBreak v k.tied.0.walk
-  load-row (InTramp slot) v limited k = refl
+  load-row (InTramp slot) v limited k = tramp-row slot k v (guard-is job t o os s ss (Load (InTramp slot)) k refl refl)
   load-row (OwnSel u reg) v limited k = own-row (OwnSel u reg) k u reg v (guard-is job t o os s ss (Load (OwnSel u reg)) k refl refl)
   load-row Walking v limited k = walk-row (shape_of job) o.walk.phase v k.moment.0
   load-row (Reading r) v limited k =

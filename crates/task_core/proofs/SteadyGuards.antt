@@ -1,5 +1,5 @@
 -- The guards that a task holds, from row to row.
-use Rattle.std.proofs.Common.{cond, ◌≡◌, ℕ, zero, suc, Bool, true, false, not, ◌+◌, ◌-◌, nat_le, List, [], ◌∷◌, Option, Some, None, refl, ap, ◌∙◌, arith}
+use Rattle.std.proofs.Common.{cond, ◌≡◌, ℕ, zero, suc, Bool, true, false, not, ◌||◌, ◌+◌, ◌-◌, nat_le, List, [], ◌∷◌, Option, Some, None, refl, ap, ◌∙◌, arith}
 use Rattle.std.proofs.lemmas.List.Sums.{sum_by-cons}
 use Rattle.ft_base.specs.declared.context.Ctx.{Ctx}
 use Rattle.ft_base.specs.declared.number.CallNo.{CallNo}
@@ -17,7 +17,7 @@ use Rattle.ft_hist.specs.Plain.{Owed, owed_by}
 use Rattle.ft_hist.specs.Dispatch.{call_of, held_levels, is_full, misses_frame}
 use Rattle.word_map.specs.Contents.{is_marked, returned_at, sel_empty, sel_on, stands}
 use Rattle.word_map.specs.Instructions.{decode}
-use Rattle.word_machine.specs.Task.{OpenCall, TaskState, Moment, Polling, First, Fetch, GotHead, GotBreak, InTramp, OwnSel, AtFirst, TestSel, TestFilter, TestNotrace, AtPids, AtDepth, Refusing, Calling, Missing, Acting, Ending, AtLink, Closing, Leaving, AtExit, Exiting, EndingExit, Returning, act_in, after_user, around, at_moment, closed, depth_in, exit_in, fetched, finished, first_got, guard_in, guard_test, guards_under, head_in, miss_in, next_exit, opened, passes_in, returned, task_got, tests_in, user_of, walks_to, with_top}
+use Rattle.word_machine.specs.Task.{OpenCall, TaskState, Moment, Polling, First, Fetch, GotHead, GotBreak, InTramp, OwnSel, AtFirst, TestSel, TestFilter, TestNotrace, AtPids, AtDepth, Refusing, Calling, Missing, Acting, Ending, AtLink, Closing, Leaving, AtExit, Exiting, EndingExit, Returning, act_in, after_user, around, at_moment, closed, depth_in, exit_in, fetched, finished, first_got, guard_in, guard_test, guards_under, head_in, is_asked, miss_in, next_exit, opened, passes_in, returned, task_got, tests_in, user_of, walks_to, with_top}
 use Rattle.task_core.specs.Steady.{guards_at, holds_guard}
 use Rattle.task_core.proofs.Steady.{standing}
 
@@ -124,6 +124,7 @@ script-back_guards c (b ∷ bb) s = rw s refl
 
 -- at these moments nobody takes a guard or gives one back
 abbrev pub guards_stay : Moment → Bool
+guards_stay (InTramp s) = false
 guards_stay (OwnSel u reg) = false
 guards_stay (TestNotrace u copy reg) = false
 guards_stay (AtPids u reg) = false
@@ -183,9 +184,10 @@ module _ (job : Job) (t v : ℕ) (x : TaskState) where
   stay-row Fetch (c ∷ below) e = guards-free (head_in _ v) c below (head-held _ v)
   stay-row (GotHead byte) (c ∷ below) e = let i : ℕ = decode c.func byte v in guards-free (fetched i) c below (fetched-held i)
   stay-row GotBreak (c ∷ below) e = guards-free (fetched v) c below (fetched-held v)
-  stay-row (InTramp s) (c ∷ below) e = refl
   stay-row AtFirst (c ∷ below) e = guards-free (walks_to v) c below (walks-held v)
-  stay-row (TestSel u) (c ∷ below) e = guards-free (tests_in (sel_on v) (sel_empty v) u v) c below (tests-held (sel_on v) (sel_empty v) u v)
+  stay-row (TestSel u) (c ∷ below) e =
+      let on : Bool = not (is_asked job u) || sel_on v in
+      guards-free (tests_in on (sel_empty v) u v) c below (tests-held on (sel_empty v) u v)
   stay-row (TestFilter u copy reg) (c ∷ below) e =
       guards-free (passes_in (is_marked v c.func) u (TestNotrace u copy reg)) c below (passes-held (is_marked v c.func) u (TestNotrace u copy reg) refl)
   stay-row (Refusing u reg reason) (c ∷ below) e = guards-free (after_user c.ran u) c below (after-held c.ran u)

@@ -1,5 +1,5 @@
 -- The moment that a load of a dispatch leads to names what is there, and its user has passed the tests before it.
-use Rattle.std.proofs.Common.{cond, ◌≡◌, ℕ, zero, suc, ◌+◌, ◌-◌, ◌/◌, ◌<◌, ◌≤◌, Bool, true, false, not, ◌==◌, List, length, nat_le, refl, sym, ◌∙◌, subst, arith}
+use Rattle.std.proofs.Common.{cond, ◌≡◌, ℕ, zero, suc, ◌+◌, ◌-◌, ◌/◌, ◌<◌, ◌≤◌, Bool, true, false, not, ◌||◌, ◌==◌, List, length, nat_le, refl, sym, ◌∙◌, subst, arith}
 use Rattle.std.proofs.lemmas.Bool.Decides.{nat_tests}
 use Rattle.ft_base.specs.declared.item.Ran.{Ran}
 use Rattle.ft_base.specs.declared.item.Ran.TheVariants.{Nop, List as ByList, Own}
@@ -13,7 +13,7 @@ use Rattle.ft_hist.specs.Dispatch.{is_full}
 use Rattle.word_map.specs.Contents.{is_marked, sel_copy, sel_empty, sel_on, stands, tramp_user, tramp_word, high}
 use Rattle.word_map.specs.Instructions.{decode, head_of, tail_of}
 use Rattle.word_machine.specs.Laws.{CallTakes}
-use Rattle.word_machine.specs.Task.{OpenCall, TaskState, Moment, Fetch, GotHead, GotBreak, InTramp, OwnSel, AtFirst, TestSel, TestFilter, TestNotrace, AtPids, AtDepth, Refusing, AtLink, Closing, after_user, allowed_in, begin_call, depth_in, fetched, guard_in, guard_test, guards_under, head_in, is_too_deep, level_of, own_in, passes_in, pid_in, tests_in, walks_to, with_top, call_got, fetched_ran}
+use Rattle.word_machine.specs.Task.{OpenCall, TaskState, Moment, Fetch, GotHead, GotBreak, InTramp, OwnSel, AtFirst, TestSel, TestFilter, TestNotrace, AtPids, AtDepth, Refusing, AtLink, Closing, after_user, allowed_in, begin_call, depth_in, fetched, guard_in, guard_test, guards_under, head_in, is_asked, is_too_deep, level_of, own_in, owned_in, passes_in, pid_in, tests_in, walks_to, with_top, call_got, fetched_ran}
 use Rattle.task_core.specs.Steady.{HasFound, NamesThere, holds_guard, is_dispatching}
 use Rattle.task_core.proofs.Steady.{Asks, Keeps, in-dispatch, moment-goes, task-goes}
 
@@ -61,6 +61,10 @@ module _ (job : Job) (c : OpenCall) (below : List OpenCall) where
   own-follows : (b : Bool) (m : Moment) → Follows m → Follows (own_in b m)
   own-follows true m h = h
   own-follows false m h = follows Closing refl refl tt tt
+
+  owned-follows : (asked : Bool) (u reg : ℕ) (m : Moment) → u < length job.users → Follows m → Follows (owned_in asked u reg m)
+  owned-follows true u reg m lt h = follows (OwnSel u reg) refl refl lt tt
+  owned-follows false u reg m lt h = h
 
   walks-follow : (v : ℕ) → v ≤ length job.users → Follows (walks_to v)
   walks-follow zero le = follows Closing refl refl tt tt
@@ -151,8 +155,9 @@ module _ (job : Job) (c : OpenCall) (below : List OpenCall) where
         → Keeps job P (call_got job (with_top x c below (InTramp s)) c below (InTramp s) v)
     tramp-row s v takes k =
         let u : ℕ = tramp_user v in
-        ran-goes (InTramp s) (OwnSel u (high v)) (Own (record { 0 = u })) refl
-        (follows (OwnSel u (high v)) refl refl (tramp-there v takes.1 takes.0 (length job.users) takes.2 takes.3) tt) k
+        let there = tramp-there v takes.1 takes.0 (length job.users) takes.2 takes.3 in
+        ran-goes (InTramp s) (owned_in (is_asked job u) u (high v) (begin_call job c below u (high v))) (Own (record { 0 = u })) refl
+        (owned-follows (is_asked job u) u (high v) (begin_call job c below u (high v)) there (begin-follows u (high v) there)) k
 
     pub own-row : (u reg v : ℕ) → Keeps job P (with_top x c below (OwnSel u reg))
         → Keeps job P (call_got job (with_top x c below (OwnSel u reg)) c below (OwnSel u reg) v)
@@ -173,7 +178,8 @@ module _ (job : Job) (c : OpenCall) (below : List OpenCall) where
     pub sel-row : (u v : ℕ) → Keeps job P (with_top x c below (TestSel u))
         → Keeps job P (call_got job (with_top x c below (TestSel u)) c below (TestSel u) v)
     sel-row u v k =
-        dispatch-goes (TestSel u) (tests_in (sel_on v) (sel_empty v) u v) refl (tests-follow (sel_on v) (sel_empty v) u v k.0.calls.0.names) k
+        let on : Bool = not (is_asked job u) || sel_on v in
+        dispatch-goes (TestSel u) (tests_in on (sel_empty v) u v) refl (tests-follow on (sel_empty v) u v k.0.calls.0.names) k
 
     pub filter-row : (u copy reg v : ℕ) → Keeps job P (with_top x c below (TestFilter u copy reg))
         → Keeps job P (call_got job (with_top x c below (TestFilter u copy reg)) c below (TestFilter u copy reg) v)

@@ -5,6 +5,7 @@ use Rattle.std.specs.Int.{bit_at}
 use Rattle.ft_base.specs.declared.context.Ctx.{Ctx}
 use Rattle.ft_base.specs.declared.number.FuncNo.{FuncNo}
 use Rattle.ft_base.specs.declared.number.TaskNo.{TaskNo}
+use Rattle.ft_base.specs.declared.item.Ran.TheVariants.{Own}
 use Rattle.ft_base.specs.declared.number.UserNo.{UserNo}
 use Rattle.ft_base.specs.declared.task.TaskAct.{TaskAct}
 use Rattle.ft_base.specs.declared.task.TaskAct.TheVariants.{Call, Ret as RetAct, Raise, Lower, After}
@@ -12,24 +13,24 @@ use Rattle.ft_base.specs.Job.{Spec}
 use Rattle.ft_base.specs.Same.{same_ctx}
 use Rattle.hash_pages.specs.declared.reader.Verdict.{Verdict}
 use Rattle.hash_pages.specs.declared.reader.Verdict.TheVariants.{Open, Off, Apart, On}
-use Rattle.hash_pages.specs.Reads.{Read, read_got, verdict_of}
+use Rattle.hash_pages.specs.Reads.{Read, read_by, verdict_of}
 use Rattle.ops_list.specs.Walks.{walk_at}
 use Rattle.recursion_guard.specs.Guards.{GuardState, is_full}
 use Rattle.return_stack.specs.Calls.{frames_in}
 use Rattle.word_map.specs.declared.shape.Shape.{Shape}
-use Rattle.word_map.specs.Contents.{returned_at, stands}
+use Rattle.word_map.specs.Contents.{high, returned_at, stands, tramp_user}
 use Rattle.word_machine.specs.Task.{is_too_deep}
 use Rattle.word_machine.proofs.Small.{if_case}
 use Rattle.task_core.specs.declared.moment.Moment.{Moment}
 use Rattle.task_core.specs.declared.moment.Moment.TheVariants.{Polling, First, Load, Mark}
 use Rattle.task_core.specs.declared.moment.ToLoad.{ToLoad}
-use Rattle.task_core.specs.declared.moment.ToLoad.TheVariants.{OwnSel, Reading, AtPids, AtDepth, AtExit}
+use Rattle.task_core.specs.declared.moment.ToLoad.TheVariants.{InTramp, OwnSel, Reading, AtPids, AtDepth, AtExit}
 use Rattle.task_core.specs.declared.moment.ToMark.{ToMark}
 use Rattle.task_core.specs.declared.moment.ToMark.TheVariants.{Acting, Ending, Closing, Returning}
 use Rattle.task_core.specs.declared.task.Task.{Task}
-use Rattle.task_core.specs.Setups.{PlainSetup, declared_in}
+use Rattle.task_core.specs.Setups.{PlainSetup, asks, declared_in}
 use Rattle.task_core.specs.TaskOps.{frame_user, present, top}
-use Rattle.task_core.specs.TaskSteps.{acted, after_at, after_first, after_load, after_mark, begun, entered, guard_tested, judged, task_after, tested, with_latest, without_raised}
+use Rattle.task_core.specs.TaskSteps.{acted, after_at, after_first, after_load, after_mark, asks_at, begun, entered, guard_tested, judged, task_after, tested, with_latest, without_raised}
 
 -- What a step and a poll keep of a task.
 --   number, acts           it is the same task, with the same acts
@@ -86,15 +87,16 @@ module _ (t : Task) where
   one-done : suc t.acts.gone ≤ suc t.acts.gone
   one-done = omega arith
 
-  guard-keeps : (spec : Spec) (u : UserNo) (reg : ℕ) → Keeps (guard_tested t spec u reg)
-  guard-keeps spec u reg = if_case Keeps (is_full t.guards) _ _ (λ e. (refl, none-done)) (λ e. (refl, none-done))
+  -- the tests of a user, whatever has changed of the top call
+  guard-keeps : (x : Task) → Keeps x → (spec : Spec) (u : UserNo) (reg : ℕ) → Keeps (guard_tested x spec u reg)
+  guard-keeps x k spec u reg = if_case Keeps (is_full x.guards) _ _ (λ e. k) (λ e. k)
 
-  tested-keeps : (spec : Spec) (u : UserNo) (reg : ℕ) → Keeps (tested t spec u reg)
-  tested-keeps spec u reg = if_case Keeps spec.pid _ _ (λ e. (refl, none-done)) (λ e. guard-keeps spec u reg)
+  tested-keeps : (x : Task) → Keeps x → (spec : Spec) (u : UserNo) (reg : ℕ) → Keeps (tested x spec u reg)
+  tested-keeps x k spec u reg = if_case Keeps spec.pid _ _ (λ e. k) (λ e. guard-keeps x k spec u reg)
 
   judged-keeps : (s : PlainSetup) (r : Read) (verdict : Verdict) (at : Option UserNo) → Keeps (judged t s r verdict at)
   judged-keeps s r Open at = (refl, none-done)
-  judged-keeps s r (On reg) (Some u) = tested-keeps (declared_in s u.0) u reg
+  judged-keeps s r (On reg) (Some u) = tested-keeps t (refl, none-done) (declared_in s u.0) u reg
   judged-keeps s r (On reg) None = (refl, none-done)
   judged-keeps s r Off at = (refl, none-done)
   judged-keeps s r Apart at = (refl, none-done)
@@ -106,10 +108,18 @@ module _ (t : Task) where
   first-keeps s _ v = (refl, none-done)
 
   load-keeps : (s : PlainSetup) (load : ToLoad) (v : ℕ) → Keeps (after_load t s load v)
-  load-keeps s (OwnSel u reg) v = if_case Keeps (stands v reg) _ _ (λ e. tested-keeps (declared_in s u.0) u reg) (λ e. (refl, none-done))
-  load-keeps s (Reading r) v = judged-keeps s (read_got r v) (verdict_of (read_got r v).phase) (walk_at (top t).walk.phase)
+  load-keeps s (InTramp slot) v =
+      let u : UserNo = record { 0 = tramp_user v } in
+      let x : Task = record t { opens = with_latest t.opens (record (top t) { ran = Own u }) } in
+      if_case Keeps (asks s u.0) _ _ (λ e. (refl, none-done)) (λ e. tested-keeps x (refl, none-done) (declared_in s u.0) u (high v))
+  load-keeps s (OwnSel u reg) v =
+      if_case Keeps (stands v reg) _ _ (λ e. tested-keeps t (refl, none-done) (declared_in s u.0) u reg) (λ e. (refl, none-done))
+  load-keeps s (Reading r) v =
+      let user : Option UserNo = walk_at (top t).walk.phase in
+      let r' : Read = read_by (asks_at s user) r v in
+      judged-keeps s r' (verdict_of r'.phase) user
   load-keeps s (AtPids u reg) v =
-      if_case Keeps (bit_at v t.number.0 == 1) _ _ (λ e. guard-keeps (declared_in s u.0) u reg) (λ e. (refl, none-done))
+      if_case Keeps (bit_at v t.number.0 == 1) _ _ (λ e. guard-keeps t (refl, none-done) (declared_in s u.0) u reg) (λ e. (refl, none-done))
   load-keeps s (AtDepth u reg) v = if_case Keeps (is_too_deep s.frames v (frames_in (drop 1 t.stacks.calls))) _ _ (λ e. (refl, none-done)) (λ e. (refl, none-done))
   load-keeps s (AtExit i) v = if_case Keeps (stands v (frame_user t i).reg) _ _ (λ e. (refl, none-done)) (λ e. (refl, none-done))
   load-keeps s _ v = (refl, none-done)

@@ -1,5 +1,5 @@
 -- Each load of the top call leaves a task tied to its stacks, where something is to come.
-use Rattle.std.proofs.Common.{◌≡◌, ℕ, zero, suc, List, ◌∷◌, drop, Some, None, refl, sym, subst}
+use Rattle.std.proofs.Common.{◌≡◌, ℕ, zero, suc, Bool, not, ◌||◌, List, ◌∷◌, drop, Some, None, refl, sym, subst}
 use Rattle.std.specs.Prelude.{◌==◌, Option}
 use Rattle.ft_base.specs.declared.item.Ran.{Ran}
 use Rattle.ft_base.specs.declared.item.Ran.TheVariants.{List as ByList, Own}
@@ -30,10 +30,10 @@ use Rattle.task_core.specs.declared.moment.ToMark.TheVariants.{Closing, Exiting}
 use Rattle.task_core.specs.declared.open_call.OpenCall.{OpenCall as CodeCall}
 use Rattle.task_core.specs.declared.task.Task.{Task}
 use Rattle.task_core.specs.Moments.{reading_at, walking_at}
-use Rattle.task_core.specs.Setups.{PlainSetup, declared_in, setup_in}
+use Rattle.task_core.specs.Setups.{PlainSetup, asks, declared_in, setup_in}
 use Rattle.task_core.specs.States.{load_moment, moment_at, users_in}
 use Rattle.task_core.specs.TaskOps.{frame_user}
-use Rattle.task_core.specs.TaskSteps.{after_load, arrived_at, fetched, judged, passed, walked}
+use Rattle.task_core.specs.TaskSteps.{after_load, arrived_at, asks_at, fetched, judged, passed, walked}
 use Rattle.task_core.specs.Tied.{HasLoad, HasMoment, IsReadOf, IsReading, IsTied, IsWalking, WalksAt, at_user}
 use Rattle.task_core.proofs.TiedParts.{AreTiedBelow, IsTiedTask, depth-tied, exit-tied, goes, passed-tied, pid-tied, tested-tied, walks-exiting, with_calls}
 
@@ -50,11 +50,11 @@ abbrev HasFound : ReadPhase → Type 0
 HasFound (ReadEnded Open) = ⊥
 HasFound _ = Unit {0}
 
-read-finds : (r : Read) (phase : ReadPhase) (v : ℕ) → IsReading phase → HasFound (read_after r phase v)
-read-finds r AtSel v k = if_case HasFound (sel_on v) _ _ (λ e. if_case HasFound (sel_empty v) _ _ (λ d. tt) (λ d. tt)) (λ e. tt)
-read-finds r (AtFilter copy reg) v k = if_case HasFound (is_marked v r.func) _ _ (λ e. tt) (λ e. tt)
-read-finds r (AtNotrace copy reg) v k = if_case HasFound (is_marked v r.func) _ _ (λ e. tt) (λ e. tt)
-read-finds r (ReadEnded verdict) v k = absurd k
+read-finds : (asked : Bool) (r : Read) (phase : ReadPhase) (v : ℕ) → IsReading phase → HasFound (read_after asked r phase v)
+read-finds asked r AtSel v k = if_case HasFound (not asked || sel_on v) _ _ (λ e. if_case HasFound (sel_empty v) _ _ (λ d. tt) (λ d. tt)) (λ e. tt)
+read-finds asked r (AtFilter copy reg) v k = if_case HasFound (is_marked v r.func) _ _ (λ e. tt) (λ e. tt)
+read-finds asked r (AtNotrace copy reg) v k = if_case HasFound (is_marked v r.func) _ _ (λ e. tt) (λ e. tt)
+read-finds asked r (ReadEnded verdict) v k = absurd k
 
 -- only of the list are users read
 reading-list : (ran : Ran) (u : ℕ) (read : ReadPhase) (walk : WalkPhase) → IsReading read
@@ -170,7 +170,10 @@ module _ (job : Job) (t : Task) (o : CodeCall) (os : List CodeCall) (s : Stacked
   load-tied GotBreak v w h = fetched-tied (Load GotBreak) v w
   load-tied (InTramp slot) v w h =
       let u : UserNo = record { 0 = tramp_user v } in
-      ran-moves (Own u) (Load (OwnSel u (high v))) (λ e. absurd cc) tt
+      if_case P (asks setup u.0) _ _
+      (λ e. ran-moves (Own u) (Load (OwnSel u (high v))) (λ e. absurd cc) tt)
+      (λ e. tested-tied shape t (with_ran (Own u)) os s ss (record { call = k.call; task = k.task; shape' = k.shape'; walk = tt }) below
+      (Load (InTramp slot)) (declared_in setup u.0) u (high v) (λ e. absurd cc))
   load-tied (OwnSel u reg) v w h =
       if_case P (stands v reg) _ _
       (λ e. tested-tied shape t o os s ss k below (Load (OwnSel u reg)) (declared_in setup u.0) u reg w)
@@ -183,4 +186,6 @@ module _ (job : Job) (t : Task) (o : CodeCall) (os : List CodeCall) (s : Stacked
       (λ e. exit-tied shape t o os s ss k below (Load (AtExit i)) (suc i))
   load-tied Walking v w h = walked-tied (Load Walking) v h.0 h.1
   load-tied (Reading r) v w h =
-      read-tied r h (reading-list o.ran r.user r.phase o.walk.phase h.open' w) (Load (Reading r)) (read_after r r.phase v) (read-finds r r.phase v h.open')
+      let asked : Bool = asks_at setup (walk_at o.walk.phase) in
+      read-tied r h (reading-list o.ran r.user r.phase o.walk.phase h.open' w) (Load (Reading r)) (read_after asked r r.phase v)
+      (read-finds asked r r.phase v h.open')

@@ -11,6 +11,7 @@ use Rattle.ops_list.specs.Walks.{walk_at}
 use Rattle.recursion_guard.specs.Guards.{IsHeld}
 use Rattle.return_stack.specs.Calls.{CallStack, frames_in, top_users}
 use Rattle.word_map.specs.declared.shape.Shape.{Shape}
+use Rattle.word_map.specs.Contents.{tramp_user}
 use Rattle.task_core.specs.declared.moment.Moment.{Moment}
 use Rattle.task_core.specs.declared.moment.Moment.TheVariants.{Polling, First, Load, Mark}
 use Rattle.task_core.specs.declared.moment.ToLoad.{ToLoad}
@@ -101,7 +102,7 @@ abbrev pub FitsLoad : PlainSetup → Task → ToLoad → ℕ → Type 0
 FitsLoad s t Fetch v = v < 256
 FitsLoad s t (GotHead byte) v = ((top t).func.0 < FUNCS) × IsFetched (top t).func.0 byte v
 FitsLoad s t GotBreak v = v < 2 + TRAMPS
-FitsLoad s t (InTramp slot) v = Unit {0}
+FitsLoad s t (InTramp slot) v = IsUser s (tramp_user v)
 FitsLoad s t (OwnSel u reg) v = IsUser s u.0
 FitsLoad s t Walking v = FitsWalk s t v
 FitsLoad s t (Reading r) v = IfSome (walk_at (top t).walk.phase) (λ u. IsUser s u.0)

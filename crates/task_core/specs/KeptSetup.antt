@@ -6,4 +6,4 @@ use Rattle.task_core.specs.Setups.{PlainSetup}
 
 -- what contracts see
 abbrev pub setup_of : Inside → PlainSetup
-setup_of d = record { shape = d.map; users = map spec_of d.users.items; frames = d.frames }
+setup_of d = record { shape = d.map; users = map spec_of d.users.items; frames = d.frames; looks = d.looks }

@@ -1,3 +1,4 @@
+pub mod Contexts
 pub mod Fits
 pub mod Framed
 pub mod KeptActs

@@ -1,6 +1,7 @@
 -- The open calls of a task, as code has them.
 use Rattle.std.specs.Prelude.{ℕ, false, List, [], ◌∷◌, Option, Some, None}
 use Rattle.ft_base.specs.declared.number.CallNo.{CallNo}
+use Rattle.ft_base.specs.declared.context.Ctx.{Ctx}
 use Rattle.ft_base.specs.declared.context.Ctx.TheVariants.{Normal}
 use Rattle.ft_base.specs.declared.item.Ran.TheVariants.{Nop}
 use Rattle.ops_list.specs.declared.walker.WalkPhase.TheVariants.{Starting}
@@ -38,3 +39,8 @@ top_of (c ∷ below) = c
 abbrev pub latest : List OpenCall → Option CallNo
 latest [] = None
 latest (c ∷ below) = Some c.call
+
+-- its context
+abbrev pub latest_ctx : List OpenCall → Option Ctx
+latest_ctx [] = None
+latest_ctx (c ∷ below) = Some c.ctx

@@ -20,7 +20,7 @@ use Rattle.ops_list.specs.Walks.{walk_after, walk_at}
 use Rattle.hash_pages.specs.declared.reader.ReadPhase.TheVariants.{AtSel}
 use Rattle.hash_pages.specs.declared.reader.Verdict.{Verdict}
 use Rattle.hash_pages.specs.declared.reader.Verdict.TheVariants.{Open, On}
-use Rattle.hash_pages.specs.Reads.{Read, read_got, verdict_of}
+use Rattle.hash_pages.specs.Reads.{Read, read_by, verdict_of}
 use Rattle.recursion_guard.specs.Guards.{GuardState, is_full as is_guard_full, entered as guard_entered, left as guard_left}
 use Rattle.return_stack.specs.declared.shadow.FrameUser.{FrameUser}
 use Rattle.return_stack.specs.Calls.{CallStack, frames_in, is_full, with_call, with_hook, with_user, without_empty}
@@ -40,7 +40,7 @@ use Rattle.task_core.specs.declared.task.Task.{Task}
 use Rattle.task_core.specs.Framed.{probe_of}
 use Rattle.task_core.specs.Leads.{act_to, after_user_to, fetched_to, head_to}
 use Rattle.task_core.specs.Opens.{Opens}
-use Rattle.task_core.specs.Setups.{PlainSetup, declared_in}
+use Rattle.task_core.specs.Setups.{PlainSetup, asks, declared_in}
 use Rattle.task_core.specs.TaskOps.{frame_user, next_call, owed, present, top}
 
 -- at another moment
@@ -99,12 +99,6 @@ entered t shape f x scripted = record t {
 abbrev pub fetched : Task → ℕ → Task
 fetched t i = record t { opens = with_latest t.opens (record (top t) { ran = fetched_ran i }); moment = fetched_to i }
 
--- the word of a trampoline is loaded
-abbrev pub in_trampoline : Task → ℕ → Task
-in_trampoline t v =
-    let u : UserNo = record { 0 = tramp_user v } in
-    record t { opens = with_latest t.opens (record (top t) { ran = Own u }); moment = Load (OwnSel u (high v)) }
-
 -- ## the tests of a user that is on
 
 -- a level of the guard is taken if one is free
@@ -128,6 +122,13 @@ depth_tested t frames u reg v =
     if is_too_deep frames v (frames_in (drop 1 t.stacks.calls))
     then record t { guards = guard_left t.guards; moment = Mark (Refusing u reg ByDepth) }
     else at t (Mark (Calling u reg))
+
+-- the word of a trampoline is loaded: a user that is asked has its state loaded, and of any other the tests begin
+abbrev pub in_trampoline : Task → PlainSetup → ℕ → Task
+in_trampoline t s v =
+    let u : UserNo = record { 0 = tramp_user v } in
+    let t' = record t { opens = with_latest t.opens (record (top t) { ran = Own u }) } in
+    if asks s u.0 then at t' (Load (OwnSel u (high v))) else tested t' (declared_in s u.0) u (high v)
 
 -- the state of a trampoline's user is loaded
 abbrev pub own_stated : Task → Spec → UserNo → ℕ → ℕ → Task
@@ -159,9 +160,17 @@ judged t s r Open at' = at t (Load (Reading r))
 judged t s r (On reg) (Some u) = tested t (declared_in s u.0) u reg
 judged t s r _ _ = passed t
 
+-- the user where a walk is, if it is at one, is asked
+abbrev pub asks_at : PlainSetup → Option UserNo → Bool
+asks_at s None = true
+asks_at s (Some u) = asks s u.0
+
 -- the read of a user has loaded a word
 abbrev pub read : Task → PlainSetup → Read → ℕ → Task
-read t s r v = judged t s (read_got r v) (verdict_of (read_got r v).phase) (walk_at (top t).walk.phase)
+read t s r v =
+    let at' = walk_at (top t).walk.phase in
+    let r' = read_by (asks_at s at') r v in
+    judged t s r' (verdict_of r'.phase) at'
 
 -- ## a callback
 
@@ -244,7 +253,7 @@ abbrev pub after_load : Task → PlainSetup → ToLoad → ℕ → Task
 after_load t s Fetch v = at t (head_to v)
 after_load t s (GotHead byte) v = fetched t (decode (top t).func.0 byte v)
 after_load t s GotBreak v = fetched t v
-after_load t s (InTramp slot) v = in_trampoline t v
+after_load t s (InTramp slot) v = in_trampoline t s v
 after_load t s (OwnSel u reg) v = own_stated t (declared_in s u.0) u reg v
 after_load t s Walking v = walked t s.shape v
 after_load t s (Reading r) v = read t s r v

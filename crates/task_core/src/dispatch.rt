@@ -7,9 +7,10 @@ ghost use Rattle.ft_base.specs.declared.item.Item.TheVariants.{Refuse, Miss, Bac
 ghost use Rattle.ft_base.specs.declared.limits.TheConstants.{TASKS, FUNCS};
 ghost use Rattle.user_specs.specs.Plain.{spec_of};
 ghost use Rattle.ops_list.specs.Walks.{walk_at};
-ghost use Rattle.hash_pages.specs.Reads.{read_got, verdict_of};
+ghost use Rattle.hash_pages.specs.Reads.{read_by, verdict_of};
 ghost use Rattle.recursion_guard.specs.Guards.{IsHeld};
 ghost use Rattle.word_map.specs.Ops.{placed};
+ghost use Rattle.word_map.specs.Contents.{tramp_user};
 ghost use Rattle.word_map.specs.Instructions.{number_of};
 ghost use Rattle.task_core.specs.Fits.{CanRaise, FitsLoad, FitsMark, FitsWalk, HasCallRoom, HasFrameRoom, IsInCall, IsLoadThere, IsUser};
 ghost use Rattle.task_core.specs.Opens.{latest};
@@ -68,7 +69,7 @@ impl Task {
                 self.fetched(insn_read(func, head, value));
             }
             ToLoad::GotBreak => self.fetched(next::insn_numbered(value)),
-            ToLoad::InTramp(_) => self.in_trampoline(value),
+            ToLoad::InTramp(_) => self.in_trampoline(setup, value),
             ToLoad::OwnSel { user, reg } => self.own_state(setup, user, reg, value),
             ToLoad::Walking => self.walked(setup, value),
             ToLoad::Reading(reader) => self.read(reader, setup, value),
@@ -116,15 +117,22 @@ impl Task {
     }
 
     /// The word of a trampoline is loaded. It names the user for which the site was patched: control
-    /// frees a trampoline only after each task was at a quiet point, and this one is in a call.
-    fn in_trampoline(&mut self, value: u64)
-        requires { IsInCall self.old }
-        ensures { self.new ≡ in_trampoline self.old value }
+    /// frees a trampoline only after each task was at a quiet point, and this one is in a call. A plain
+    /// user is in the trampoline's text: it is called back without being asked, since who is in there
+    /// when its unregistration begins is waited for.
+    fn in_trampoline(&mut self, setup: &Setup, value: u64)
+        requires call { IsInCall self.old }
+        requires user { IsUser setup.now (tramp_user value) }
+        ensures { self.new ≡ in_trampoline self.old setup.now value }
     {
         let user = tramp::user(value);
         let reg = tramp::reg(value);
         self.set_ran(Ran::Own(user));
-        self.moment = Moment::Load(ToLoad::OwnSel { user, reg });
+        if setup.is_asked(user) {
+            self.moment = Moment::Load(ToLoad::OwnSel { user, reg });
+        } else {
+            self.begin_tests(setup, user, reg);
+        }
     }
 
     /// The state of the trampoline's user is loaded. The user is called back if it is on by the
@@ -163,14 +171,20 @@ impl Task {
         });
     }
 
-    /// The read of the user where the walk is has loaded a word.
+    /// The read of the user where the walk is has loaded a word. Of a plain user the sets alone are looked
+    /// at, as the list test of its own has it. If it were asked, a walk that comes to one which is being
+    /// taken off would pass it by, and who waits for the callback would miss it.
     fn read(&mut self, mut reader: PageReader, setup: &Setup, value: u64)
         requires call { IsInCall self.old }
         requires user { IfSome (walk_at (top self.old).walk.phase) (λ u. IsUser setup.now u.0) }
         ensures { self.new ≡ read self.old setup.now reader value }
     {
-        reader.got(value);
-        match (reader.verdict(), self.opens.top().walk.at()) {
+        let at = self.opens.top().walk.at();
+        match at {
+            Some(user) if !setup.is_asked(user) => reader.got_unasked(value),
+            _ => reader.got(value),
+        }
+        match (reader.verdict(), at) {
             (Verdict::Open, _) => self.moment = Moment::Load(ToLoad::Reading(reader)),
             (Verdict::On { reg }, Some(user)) => self.begin_tests(setup, user, reg),
             _ => self.next_user(),

@@ -1,7 +1,7 @@
 //! The open calls of a task.
 
 ghost use Rattle.std.specs.Prelude.{◌≡◌, ◌<◌, ◌∷◌, [], drop, length, IfOk};
-ghost use Rattle.task_core.specs.Opens.{latest, top_of};
+ghost use Rattle.task_core.specs.Opens.{latest, latest_ctx, top_of};
 
 use ft_base::{CallNo, Ctx, FuncNo, NoMemory, Ran, UserNo};
 use ops_list::Walker;
@@ -71,6 +71,14 @@ impl OpenCalls {
     {
         let top = self.calls.last()?;
         Some(top.call)
+    }
+
+    /// The context of the latest call, if one is open.
+    pub(crate) fn latest_ctx(&self) -> Option<Ctx>
+        ensures { result ≡ latest_ctx self.now.calls }
+    {
+        let top = self.calls.last()?;
+        Some(top.ctx)
     }
 
     /// Puts this call in the place of the latest.

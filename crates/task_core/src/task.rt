@@ -6,7 +6,9 @@ ghost use Rattle.ft_base.specs.declared.limits.TheConstants.{ACTS, FRAMES, GUARD
 ghost use Rattle.ft_base.specs.Same.{same_ctx};
 ghost use Rattle.word_map.specs.Ops.{placed};
 ghost use Rattle.task_core.specs.Fits.{CanBegin, HasAct, HasCallRoom, IsInCall, IsTaskThere, FitsFirst, TaskFits};
+ghost use Rattle.task_core.specs.Contexts.{act_context, call_context, is_open_to_requests};
 ghost use Rattle.task_core.specs.Leads.{is_fetching};
+ghost use Rattle.word_machine.specs.Task.{masks_interrupts};
 ghost use Rattle.task_core.specs.Starts.{HasRoomFor, is_left, is_unmet, task_at_start, view_of};
 ghost use Rattle.task_core.specs.States.{is_polling};
 ghost use Rattle.task_core.specs.Steady.{StaysWithin};
@@ -118,6 +120,40 @@ impl Task {
         ensures { result ≡ is_fetching self.now.moment }
     {
         self.moment.is_fetching()
+    }
+
+    /// Whether its CPU answers requests before its next operation: that is none of a poll and not the
+    /// second load of a fetch, and interrupts are on in its context. Within a fetch control could change
+    /// the site before the task has loaded the rest of the instruction. With interrupts off, a kernel's
+    /// CPU answers nothing: whoever reads a history with an answer there would take it for a kernel's.
+    pub fn is_open_to_requests(&self) -> bool
+        ensures { result ≡ is_open_to_requests self.now }
+    {
+        match &self.moment {
+            Moment::Polling => false,
+            Moment::First => !masks_interrupts(self.act_context()),
+            Moment::Mark(ToMark::Acting { ctx, .. }) => !masks_interrupts(*ctx),
+            _ => !self.is_fetching() && !masks_interrupts(self.call_context()),
+        }
+    }
+
+    /// The context of the step that begins the present act: that of the call which a return closes, or
+    /// the present one.
+    fn act_context(&self) -> Ctx
+        ensures { result ≡ act_context self.now (present self.now) }
+    {
+        match self.acts.present() {
+            Some(TaskAct::Ret) => self.call_context(),
+            _ => self.guards.ctx(),
+        }
+    }
+
+    /// The context of the latest call. It is that of the call whose step comes next; without a call
+    /// it is the present one.
+    fn call_context(&self) -> Ctx
+        ensures { result ≡ call_context self.now }
+    {
+        self.opens.latest_ctx().unwrap_or(self.guards.ctx())
     }
 
     /// Whether its present operation is a test of a wait that is not met by this clock.
@@ -307,6 +343,13 @@ fn deepest(acts: &[TaskAct]) -> u32
         most = most.max(count);
     }
     most
+}
+
+/// Whether interrupts are off in a context.
+fn masks_interrupts(ctx: Ctx) -> bool
+    ensures { result ≡ masks_interrupts ctx }
+{
+    matches!(ctx, Ctx::Irq | Ctx::Nmi)
 }
 
 /// Whether two contexts are the same.
