@@ -52,6 +52,8 @@ module _ (job : Job) (c : Parts) (k : IsOwn job c) (i : ℕ) (t u : Task) (there
   -- the CPU stands where it did
   phase-stays : (p : Phase) → phase_in (set c.tasks i u) p ≡ phase_in c.tasks p
   phase-stays code.Going = refl
+  phase-stays code.Looked = refl
+  phase-stays (code.Answering r) = refl
   phase-stays (code.StoringAck r) = refl
   phase-stays (code.StoringQuiet r j) = ap (λ n. StoringQuiet r n) (number-set 0 c.tasks i j t u there same)
   phase-stays code.Over = refl

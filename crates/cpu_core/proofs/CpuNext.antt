@@ -1,5 +1,5 @@
 -- A CPU's next operation is the machine's, and its word is there.
-use Rattle.std.proofs.Common.{cond, ◌≡◌, ℕ, zero, suc, ◌<◌, Bool, true, false, not, List, [], ◌∷◌, length, slice_get, Option, Some, None, IsSomeAnd, refl, sym, ap, ap₂, ◌∙◌, subst}
+use Rattle.std.proofs.Common.{cond, ◌≡◌, ℕ, zero, suc, ◌<◌, Bool, true, false, not, ◌&&◌, List, [], ◌∷◌, length, slice_get, Option, Some, None, IsSomeAnd, refl, sym, ap, ap₂, ◌∙◌, subst}
 use Rattle.std.proofs.lemmas.Bool.{lt-ltb}
 use Rattle.std.proofs.lemmas.Option.{slice_get_within}
 use Rattle.ft_base.specs.Job.{Job}
@@ -12,7 +12,7 @@ use Rattle.word_map.specs.Words.{Ack, Quiet, Want}
 use Rattle.word_map.specs.Ops.{WordOp, Load as LoadOp, Store}
 use Rattle.word_machine.specs.Task.{Moment as MachineMoment, TaskState, is_quiet as machine_quiet, quiet_word, task_op}
 use Rattle.word_machine.specs.Task as machine
-use Rattle.word_machine.specs.Cpu.{Cpu, StoringAck, any_has_more, cpu_next, going_op, phase_op as machine_op, present_op}
+use Rattle.word_machine.specs.Cpu.{Cpu, StoringAck, any_has_more, cpu_next, going_op, is_looked_before, looks, phase_op as machine_op, present_op, takes_looks}
 use Rattle.word_machine_laws.proofs.Finished.{present-is}
 use Rattle.word_machine_laws.proofs.TaskSteps.{is_polling as polls}
 use Rattle.task_core.specs.declared.moment.Moment.{Moment}
@@ -23,8 +23,9 @@ use Rattle.cpu_core.specs.declared.parts.Phase.{Phase}
 use Rattle.cpu_core.specs.declared.parts.Phase.TheVariants as code
 use Rattle.task_core.specs.declared.task.Task.{Task}
 use Rattle.cpu_core.specs.CpuFits.{HasNext, IsQuietThere, NextAt}
-use Rattle.cpu_core.specs.CpuOps.{cpu_op, is_running, op_by, phase_op, present_task, runs, told_op}
+use Rattle.cpu_core.specs.CpuOps.{cpu_op, is_looking, is_open, is_running, op_by, phase_op, present_task, runs, told_op}
 use Rattle.cpu_core.specs.Cpus.{IsFor, IsIn, cpu_of, number_or, phase_in, tasks_by}
+use Rattle.task_core.specs.Contexts.{is_open_to_requests, open_at}
 use Rattle.task_core.specs.Fits.{IsTaskThere}
 use Rattle.task_core.specs.Setups.{PlainSetup}
 use Rattle.task_core.specs.Starts.{is_left}
@@ -37,6 +38,7 @@ use Rattle.cpu_core.proofs.FitsThere.{task-there}
 use Rattle.cpu_core.proofs.Lookups.{state-at, view-is}
 use Rattle.cpu_core.proofs.Untold.{untold-there}
 use Rattle.task_core.proofs.RowMoments.{load-loud, mark-loud}
+use Rattle.task_core.proofs.RowContexts.{open-is}
 use Rattle.task_core.proofs.RowOps.{operation-is}
 use Rattle.task_core.proofs.TiedLeft.{act-left}
 
@@ -138,6 +140,32 @@ module _ (job : Job) (c : Parts) (k : IsFor job c) where
       by true any = by_task (present_task c) refl (k.present any)
       by false none = last-op none
 
+  -- a look is next exactly if it is the machine's: whoever is open to requests has an act left
+  pub looking-is : is_looking c ≡ looks job (cpu_of job c)
+  looking-is = ap (λ (s : PlainSetup). s.looks && is_open (present_task c)) k.own.setup ∙ both (takes_looks job)
+    where
+      me : Cpu
+      me = cpu_of job c
+
+      -- who is before a poll isn't open to requests, and any other has an act left
+      shut : (t : Task) (m : Moment) → t.moment ≡ m → present_task c ≡ Some t → any_left c.tasks ≡ false → is_open_to_requests t ≡ false
+      shut t Polling m e none = ap (open_at t) m
+      shut t _ m e none =
+          let left : is_left t ≡ true = lt-ltb t.acts.gone (length t.acts.all) (act-left job t (task-for c.present t e) (ap is_polling m)) in
+          false_true (sym none ∙ left-any c.tasks c.present t e left)
+
+      by : (b : Bool) → any_left c.tasks ≡ b → (o : Option Task) → present_task c ≡ o → is_open o ≡ b && is_looked_before (me.tasks me.present)
+      by true any None e = absurd (subst (λ o. IsSomeAnd o (λ (t : Task). is_left t ≡ true)) e (k.present any))
+      by false none None e = refl
+      by true any (Some t) e =
+          let number : me.present ≡ t.number.0 = ap (λ o. number_or (length job.tasks) o) e in
+          open-is job t (task-for c.present t e) ∙ ap is_looked_before (sym (ap me.tasks number ∙ state-is c.present t e))
+      by false none (Some t) e = shut t t.moment refl e none
+
+      both : (b : Bool) → (b && is_open (present_task c)) ≡ (b && any_has_more job me && is_looked_before (me.tasks me.present))
+      both true = by (any_left c.tasks) refl (present_task c) refl ∙ ap (λ b. b && is_looked_before (me.tasks me.present)) (sym more-is)
+      both false = refl
+
   pub running-there : is_running c ≡ true → IsSomeAnd (present_task c) (IsTaskThere c.setup.shape)
   running-there r = by (present_task c) refl r
     where
@@ -169,7 +197,9 @@ module _ (job : Job) (c : Parts) (k : IsFor job c) where
   -- ## in any phase
 
   op-in : (phase : Phase) → IsIn c phase → phase_op c phase ≡ machine_op job (cpu_of job c) (phase_in c.tasks phase)
-  op-in code.Going h = going-is
+  op-in code.Going h = ap₂ (λ b op. cond b (Some (LoadOp Want)) op) looking-is going-is
+  op-in code.Looked h = going-is
+  op-in (code.Answering r) h = refl
   op-in (code.StoringAck r) h = acking-is r
   op-in (code.StoringQuiet r i) h = (let t = untold-there r c.tasks i h.1 in telling-is r i t.0 t.1)
   op-in code.Over h = refl
@@ -180,6 +210,8 @@ module _ (job : Job) (c : Parts) (k : IsFor job c) where
 
   there-in : (phase : Phase) → IsIn c phase → NextAt c phase
   there-in code.Going h = running-there
+  there-in code.Looked h = running-there
+  there-in (code.Answering r) h = subst (λ (s : PlainSetup). c.cpu.0 < s.shape.cpus) (sym k.own.setup) k.own.cpu
   there-in (code.StoringAck r) h = subst (λ (s : PlainSetup). c.cpu.0 < s.shape.cpus) (sym k.own.setup) k.own.cpu
   there-in (code.StoringQuiet r i) h = (let t = untold-there r c.tasks i h.1 in telling-there r i t.0 t.1)
   there-in code.Over h = tt

@@ -7,7 +7,7 @@ use Rattle.ft_base.specs.declared.context.Ctx.TheVariants.{Normal, Softirq, Irq,
 use Rattle.ft_base.specs.declared.limits.TheConstants.{ITEMS, QUANTUM}
 use Rattle.ft_base.specs.declared.number.CpuNo.{CpuNo}
 use Rattle.ft_base.specs.Job.{Job, Task as DeclaredTask, no_task}
-use Rattle.ft_base.specs.Versions.{levels}
+use Rattle.ft_base.specs.Versions.{has_looks, levels, limits_of}
 use Rattle.ft_base.specs.WellFormed.{IsScript}
 use Rattle.ft_base.specs.Acts.{AreRaised}
 use Rattle.ft_base.specs.Tasks.{tasks_from, tasks_of}
@@ -217,21 +217,21 @@ none-runs frames levels (p ∷ ps) [] i started = absurd started
 none-runs frames levels (p ∷ ps) (t ∷ ts) zero started = ap (λ (x : Task). not (is_polling x.moment)) started.0.start
 none-runs frames levels (p ∷ ps) (t ∷ ts) (suc i) started = none-runs frames levels ps ts i started.1
 
-module _ (plan : CpuPlan) (cpu : CpuNo) (specs : List CodeSpec) (frames guard_levels : ℕ) (shape : Shape) (room : ℕ) (c : Parts)
-    (setup : c.setup ≡ record { shape = shape; users = map spec_of specs; frames = frames }) (number : c.cpu ≡ cpu) (ack : c.ack ≡ 0)
+module _ (plan : CpuPlan) (cpu : CpuNo) (specs : List CodeSpec) (frames version guard_levels : ℕ) (shape : Shape) (room : ℕ) (c : Parts)
+    (setup : c.setup ≡ record { shape = shape; users = map spec_of specs; frames = frames; looks = has_looks version }) (of' : guard_levels ≡ (limits_of version).levels) (number : c.cpu ≡ cpu) (ack : c.ack ≡ 0)
     (quantum : c.quantum ≡ plan.quantum) (started : AreStarted frames guard_levels plan.tasks.items c.tasks) (present : c.present ≡ first_left c.tasks)
     (count : c.count ≡ 0) (phase : c.phase ≡ Going) (marked : c.marked ≡ no_marks room) where
   pub start-next : HasNext c
   start-next = subst (λ p. NextAt c p) (sym phase)
       (λ running. absurd (false≢true (sym (none-runs frames guard_levels plan.tasks.items c.tasks c.present started) ∙ running)))
 
-  module _ (job : Job) (limited : IsLimited job) (is : IsCpuOf job plan cpu.0 specs frames guard_levels shape) where
+  module _ (job : Job) (limited : IsLimited job) (is : IsCpuOf job plan cpu.0 specs frames version shape) where
     begun-all : Each (HasBegun job) c.tasks × (numbers c.tasks ≡ map (λ (p : TaskPlan). p.task.0) plan.tasks.items)
-    begun-all = begun job limited plan.tasks.items c.tasks (subst (λ (n : ℕ × ℕ). AreStarted n.0 n.1 plan.tasks.items c.tasks) (λ i. (is.frames' i, is.levels' i)) started) is.acts
+    begun-all = begun job limited plan.tasks.items c.tasks (subst (λ (n : ℕ × ℕ). AreStarted n.0 n.1 plan.tasks.items c.tasks) (λ i. (is.frames' i, (of' ∙ ap (λ v. (limits_of v).levels) is.version') i)) started) is.acts
         (subst (λ ns. Each (λ n. n < length job.tasks) ns) (sym is.numbers) (own-inside job cpu.0))
 
     same-setup : setup_in job ≡ c.setup
-    same-setup = sym (setup ∙ λ i. record { shape = is.shape' i; users = is.users i; frames = is.frames' i })
+    same-setup = sym (setup ∙ λ i. record { shape = is.shape' i; users = is.users i; frames = is.frames' i; looks = has_looks (is.version' i) })
 
     pub start-is : cpu.0 < shape.cpus → plan.quantum ≤ QUANTUM → IsFor job c × (cpu_of job c ≡ cpu_start job cpu.0)
     start-is inside quick =

@@ -38,7 +38,7 @@ module _ (c : Parts) (v : ℕ) (taken : IsTaken c v) where
     taken-is = cpu-is job c v k next limited takes
 
     pub taken-items : (stepped c v).marked.items ≡ c.marked.items ++ marks_in (cpu_next job (cpu_of job c)) v
-    taken-items = cpu-items job c v k next limited takes
+    taken-items = cpu-items job c v k
 
 -- ## room
 

@@ -34,6 +34,7 @@ use Rattle.task_core.proofs.HeldGot.{guards-of, own-is}
 use Rattle.task_core.proofs.HeldLoads.{under}
 use Rattle.task_core.proofs.RowLists.{standing}
 use Rattle.task_core.proofs.SteadyGuards.{taken-levels}
+use Rattle.task_core.proofs.SteadyLoads.{tramp-there}
 
 -- ## walks and reads
 
@@ -86,7 +87,7 @@ module _ (job : Job) (limited : IsLimited job) (v : ℕ) (t : Task) (o : CodeCal
       let i = takes.1 in
       (omega (arith, funcs, lt), (takes.0, omega (arith, tramps, i), takes.2, takes.3))
   load-fits GotBreak k takes = (let tramps = (few-largest job.version limited.counts).few_tramps in omega (arith, tramps, takes))
-  load-fits (InTramp slot) k takes = tt
+  load-fits (InTramp slot) k takes = tramp-there v takes.1 takes.0 (length job.users) takes.2 takes.3
   load-fits (OwnSel u reg) k takes = k.steady.calls.0.names
   load-fits Walking k takes = record {
     shape = k.tied.0.shape';

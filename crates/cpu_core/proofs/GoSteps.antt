@@ -98,6 +98,8 @@ count-fits job c limited k next = by c.phase k.phase' next
 
     by : (p : Phase) → IsIn c p → IsSome (phase_op job (cpu_of job c) (phase_in c.tasks p)) → suc c.count < 2 ^ 32
     by code.Going is some = omega (arith, is, fetch-step (present_task c), k.own.quick)
+    by code.Looked is some = omega (arith, is, fetch-step (present_task c), k.own.quick)
+    by (code.Answering r) is some = omega (arith, is, fetch-step (present_task c), k.own.quick)
     by (code.StoringAck r) is some = omega (arith, is.count, k.own.quick)
     by (code.StoringQuiet r i) is some =
         let t = untold-there r c.tasks i is.1 in

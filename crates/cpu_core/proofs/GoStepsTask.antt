@@ -1,6 +1,7 @@
 -- A step of a task numbers one call more at most, where an item is marked, and a fetch has two loads.
 use Rattle.std.proofs.Common.{◌≡◌, ℕ, zero, suc, ◌+◌, ◌≤◌, true, false, length, Some, None, refl, arith}
 use Rattle.std.specs.Prelude.{Option}
+use Rattle.ft_base.specs.declared.item.Ran.TheVariants.{Own}
 use Rattle.ft_base.specs.declared.number.UserNo.{UserNo}
 use Rattle.ft_base.specs.declared.task.TaskAct.{TaskAct}
 use Rattle.ft_base.specs.declared.task.TaskAct.TheVariants.{Call, Ret as RetAct, After}
@@ -9,20 +10,20 @@ use Rattle.ft_base.proofs.Small.{false_true}
 use Rattle.hash_pages.specs.declared.reader.Verdict.{Verdict}
 use Rattle.hash_pages.specs.declared.reader.Verdict.TheVariants.{Open, On}
 use Rattle.hash_pages.specs.Reads.{Read}
-use Rattle.word_map.specs.Contents.{low}
+use Rattle.word_map.specs.Contents.{high, low, tramp_user}
 use Rattle.word_machine.proofs.Small.{if_case}
 use Rattle.task_core.specs.declared.moment.Moment.{Moment}
 use Rattle.task_core.specs.declared.moment.Moment.TheVariants.{Polling, First, Load, Mark}
 use Rattle.task_core.specs.declared.moment.ToLoad.{ToLoad}
-use Rattle.task_core.specs.declared.moment.ToLoad.TheVariants.{GotHead, GotBreak, OwnSel, Reading, AtPids, AtDepth, AtExit}
+use Rattle.task_core.specs.declared.moment.ToLoad.TheVariants.{GotHead, GotBreak, InTramp, OwnSel, Reading, AtPids, AtDepth, AtExit}
 use Rattle.task_core.specs.declared.moment.ToMark.{ToMark}
 use Rattle.task_core.specs.declared.moment.ToMark.TheVariants.{Closing, Returning}
 use Rattle.task_core.specs.declared.task.Task.{Task}
 use Rattle.cpu_core.specs.CpuSteps.{marks_in}
 use Rattle.task_core.specs.Leads.{fetched_to, is_fetching}
-use Rattle.task_core.specs.Setups.{PlainSetup, declared_in}
-use Rattle.task_core.specs.TaskOps.{first_op, op_at, op_of, present}
-use Rattle.task_core.specs.TaskSteps.{after_at, after_first, after_load, after_mark, guard_tested, judged, task_after, tested}
+use Rattle.task_core.specs.Setups.{PlainSetup, asks, declared_in}
+use Rattle.task_core.specs.TaskOps.{first_op, op_at, op_of, present, top}
+use Rattle.task_core.specs.TaskSteps.{after_at, after_first, after_load, after_mark, at, guard_tested, judged, task_after, tested, with_latest}
 
 -- ## the number of the next call
 
@@ -43,6 +44,11 @@ judged-next t s r (On reg) None = refl
 judged-next t s r _ o = refl
 
 load-next : (t : Task) (s : PlainSetup) (load : ToLoad) (v : ℕ) → (after_load t s load v).next ≡ t.next
+load-next t s (InTramp slot) v =
+    let u : UserNo = record { 0 = tramp_user v } in
+    let t' : Task = record t { opens = with_latest t.opens (record (top t) { ran = Own u }) } in
+    if_case (Same t) (asks s u.0) (at t' (Load (OwnSel u (high v)))) (tested t' (declared_in s u.0) u (high v)) (λ b. refl)
+    (λ b. tested-next t' (declared_in s u.0) u (high v))
 load-next t s (OwnSel u reg) v = if_case (Same t) _ _ _ (λ b. tested-next t (declared_in s u.0) u reg) (λ b. refl)
 load-next t s (Reading r) v = judged-next t s _ _ _
 load-next t s (AtPids u reg) v = if_case (Same t) _ _ _ (λ b. guard-next t (declared_in s u.0) u reg) (λ b. refl)

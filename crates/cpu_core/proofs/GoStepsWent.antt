@@ -8,9 +8,9 @@ use Rattle.ft_base.specs.Job.{Job}
 use Rattle.ft_base.proofs.Modifiers.{named-at}
 use Rattle.ft_base.proofs.Small.{false_true}
 use Rattle.word_map.specs.Words.{at_put}
-use Rattle.word_machine.specs.Cpu.{Cpu, any_has_more, cpu_got, cpu_next, going_got, moved, phase_got, present_got, switched as machine_switched, ticked as machine_ticked}
+use Rattle.word_machine.specs.Cpu.{Cpu, any_has_more, going_got, going_op, moved, present_got, switched as machine_switched, ticked as machine_ticked}
 use Rattle.word_machine.specs.Cpu.{is_unmet as is_machine_unmet}
-use Rattle.word_machine.specs.Laws.{CpuTakes, GoingTakes, PhaseTakes, PresentTakes}
+use Rattle.word_machine.specs.Laws.{GoingTakes, PresentTakes}
 use Rattle.word_machine.specs.Limits.{IsLimited}
 use Rattle.word_machine.specs.Task.{task_got}
 use Rattle.word_machine_laws.proofs.Finished.{present-got}
@@ -21,9 +21,9 @@ use Rattle.task_core.specs.declared.moment.Moment.{Moment as CodeMoment}
 use Rattle.task_core.specs.declared.moment.Moment.TheVariants.{Polling}
 use Rattle.task_core.specs.declared.task.Task.{Task}
 use Rattle.cpu_core.specs.CpuFits.{GoFits}
-use Rattle.cpu_core.specs.CpuOps.{is_running, present_task, phase_op as phase_code_op}
+use Rattle.cpu_core.specs.CpuOps.{is_running, present_task}
 use Rattle.cpu_core.specs.CpuSteps.{marks_in, stamped, switched, ticked, went}
-use Rattle.cpu_core.specs.Cpus.{IsFor, IsOwn, all_marked, cpu_of, phase_in}
+use Rattle.cpu_core.specs.Cpus.{IsFor, IsOwn, all_marked, cpu_of}
 use Rattle.task_core.specs.Fits.{TaskFits}
 use Rattle.task_core.specs.Leads.{is_fetching}
 use Rattle.cpu_core.specs.Marks.{HasRoom, Marks}
@@ -34,7 +34,7 @@ use Rattle.task_core.specs.TaskOps.{item_in, op_of}
 use Rattle.task_core.specs.TaskSteps.{task_after}
 use Rattle.task_core.specs.Tied.{IsTaskOf}
 use Rattle.cpu_core.proofs.Changed.{changed-own, own-at, present-changed, with_task}
-use Rattle.cpu_core.proofs.CpuNext.{cpu-op-is, more-is, polls-is, task-for}
+use Rattle.cpu_core.proofs.CpuNext.{going-is as going-op-is, more-is, polls-is, task-for}
 use Rattle.cpu_core.proofs.FitsOperation.{task-fits}
 use Rattle.cpu_core.proofs.GoSteps.{going-count, running, running-any, running-left}
 use Rattle.cpu_core.proofs.GoStepsMoments.{fetching-is, unmet-is}
@@ -42,7 +42,7 @@ use Rattle.cpu_core.proofs.GoStepsTask.{fetches-once, next-within}
 use Rattle.cpu_core.proofs.Lookups.{get-set, state-at}
 use Rattle.task_core.proofs.Rows.{step-is}
 use Rattle.task_core.proofs.Stays.{stays-of}
-use Rattle.cpu_core.proofs.Switched.{moved-is, own-for, switched-for, switched-marked}
+use Rattle.cpu_core.proofs.Switched.{moved-is, own-for, switched-for}
 use Rattle.task_core.proofs.TiedKept.{got-same}
 
 -- ## what is marked has room
@@ -71,18 +71,12 @@ module _ (job : Job) (c : Parts) (k : IsFor job c) (going : c.phase ≡ code.Goi
   more : any_has_more job (cpu_of job c) ≡ true
   more = more-is job c k ∙ running-any job c k going (rw (e, other) refl)
 
-  next-op : cpu_next job (cpu_of job c) ≡ op_of t
-  next-op = sym (cpu-op-is job c k) ∙ ap (phase_code_op c) going ∙ rw (e, other) refl
+  next-op : going_op job (cpu_of job c) ≡ op_of t
+  next-op = sym (going-op-is job c k) ∙ rw (e, other) refl
 
-  module _ (v : ℕ) (limited : IsLimited job) (takes : CpuTakes job (cpu_of job c) v) where
+  module _ (v : ℕ) (limited : IsLimited job) (takes : GoingTakes job (cpu_of job c) (any_has_more job (cpu_of job c)) v) where
     takes-task : PresentTakes job (state_of t) (state_of t).moment v
-    takes-task = subst (λ x. PresentTakes job x x.moment v) state at-more
-      where
-        at-going : GoingTakes job (cpu_of job c) (any_has_more job (cpu_of job c)) v
-        at-going = subst (λ p. PhaseTakes job (cpu_of job c) (phase_in c.tasks p) v) going takes
-
-        at-more : GoingTakes job (cpu_of job c) true v
-        at-more = subst (λ b. GoingTakes job (cpu_of job c) b v) more at-going
+    takes-task = subst (λ x. PresentTakes job x x.moment v) state (subst (λ b. GoingTakes job (cpu_of job c) b v) more takes)
 
     -- the task after the step
     abbrev after : Task
@@ -105,11 +99,9 @@ module _ (job : Job) (c : Parts) (k : IsFor job c) (going : c.phase ≡ code.Goi
     abbrev stepped-one : Parts
     stepped-one = with_task (ticked c) c.present after marks
 
-    got : cpu_got job (cpu_of job c) v ≡ moved job (machine_ticked (cpu_of job c)) (is_unmet t v) (state_of after)
-    unfolding cpu_got
+    got : going_got job (machine_ticked (cpu_of job c)) v ≡ moved job (machine_ticked (cpu_of job c)) (is_unmet t v) (state_of after)
     got =
-        ap (λ p. phase_got job me (phase_in c.tasks p) v) going
-        ∙ at-moment
+        at-moment
         ∙ present-got job me (moment_of t) v (polls-is t ∙ other)
         ∙ ap (λ x. moved job me (is_machine_unmet (moment_of t) x.acts v) (task_got job me.present x (moment_of t) v)) state
         ∙ ap (λ n. moved job me (is_machine_unmet (moment_of t) (state_of t).acts v) (task_got job n (state_of t) (moment_of t) v)) present-is
@@ -155,7 +147,7 @@ module _ (job : Job) (c : Parts) (k : IsFor job c) (going : c.phase ≡ code.Goi
         (let within = going-count job c k going in
         let le : c.count ≤ c.quantum + 0 = rw (e, fetches-once t c.setup v fetching) at within in rw (there, fetching) (omega arith))
 
-    went-is : cpu_of job (went (ticked c) v) ≡ cpu_got job (cpu_of job c) v
+    went-is : cpu_of job (went (ticked c) v) ≡ going_got job (machine_ticked (cpu_of job c)) v
     went-is =
         ap (cpu_of job) went-or
         ∙ by (is_fetching after.moment)
@@ -184,27 +176,14 @@ module _ (job : Job) (c : Parts) (k : IsFor job c) (going : c.phase ≡ code.Goi
       room = rw e room;
     }
 
-    went-items : (went (ticked c) v).marked.items ≡ c.marked.items ++ marks_in (op_of t) v
-    went-items =
-        ap (λ (d : Parts). d.marked.items) went-or
-        ∙ if_case (λ (d : Parts). d.marked.items ≡ c.marked.items ++ marks_in (op_of t) v) (is_fetching after.moment) stepped-one
-        (switched stepped-one (is_unmet t v)) (λ b. refl)
-        (λ b. ap (λ (m : Marks). m.items) (switched-marked stepped-one (is_unmet t v)))
-
 -- ## whichever task is present
 
 module _ (job : Job) (c : Parts) (k : IsFor job c) (going : c.phase ≡ code.Going) (runs : is_running c ≡ true) where
-  module _ (v : ℕ) (limited : IsLimited job) (takes : CpuTakes job (cpu_of job c) v) where
-    pub going-is : cpu_of job (went (ticked c) v) ≡ cpu_got job (cpu_of job c) v
+  module _ (v : ℕ) (limited : IsLimited job) (takes : GoingTakes job (cpu_of job c) (any_has_more job (cpu_of job c)) v) where
+    pub going-is : cpu_of job (went (ticked c) v) ≡ going_got job (machine_ticked (cpu_of job c)) v
     going-is = let there = running (present_task c) runs in went-is job c k going there.task there.is there.other v limited takes
 
-    pub going-items : (went (ticked c) v).marked.items ≡ c.marked.items ++ marks_in (cpu_next job (cpu_of job c)) v
-    going-items =
-        let there = running (present_task c) runs in
-        went-items job c k going there.task there.is there.other v limited takes
-        ∙ ap (λ op. c.marked.items ++ marks_in op v) (sym (next-op job c k going there.task there.is there.other))
-
-    module _ (room : IsSome (item_in (cpu_next job (cpu_of job c))) → HasRoom c.marked) where
+    module _ (room : IsSome (item_in (going_op job (cpu_of job c))) → HasRoom c.marked) where
       pub going-for : IsFor job (went (ticked c) v)
       going-for =
           let there = running (present_task c) runs in

@@ -1,21 +1,22 @@
 -- A step but for what it marks: what is marked is added to a list that stays otherwise, or handed on.
-use Rattle.std.proofs.Common.{cond, ◌≡◌, ℕ, suc, ◌≤◌, ◌++◌, Bool, true, false, [], length, Option, Some, None, refl, sym, ap, ◌∙◌, arith}
-use Rattle.std.specs.Prelude.{slice_get}
+use Rattle.std.proofs.Common.{cond, ◌≡◌, ℕ, suc, ◌≤◌, ◌++◌, Bool, true, false, [], length, Option, Some, None, refl, sym, ap, ◌∙◌, subst, arith}
+use Rattle.std.specs.Prelude.{slice_get, IsSome, IsSomeAnd}
 use Rattle.std.proofs.lemmas.List.{append-nil}
 use Rattle.ft_base.specs.declared.item.Item.{Item}
 use Rattle.ft_base.specs.declared.limits.TheConstants.{ITEMS}
 use Rattle.ft_base.specs.Job.{Job}
 use Rattle.word_map.specs.Words.{Want}
 use Rattle.word_map.specs.Ops.{Load}
-use Rattle.ft_base.proofs.Small.{Each-weaker}
+use Rattle.ft_base.proofs.Small.{Each-weaker, false_true}
 use Rattle.cpu_core.specs.declared.parts.Parts.{Parts}
 use Rattle.cpu_core.specs.declared.parts.Phase.{Phase}
-use Rattle.cpu_core.specs.declared.parts.Phase.TheVariants.{Going, StoringAck, StoringQuiet, Over}
+use Rattle.cpu_core.specs.declared.parts.Phase.TheVariants.{Going, Looked, Answering, StoringAck, StoringQuiet, Over}
 use Rattle.task_core.specs.declared.task.Task.{Task}
-use Rattle.cpu_core.specs.CpuOps.{cpu_op, is_running, op_by, phase_op, present_task, told_op}
-use Rattle.cpu_core.specs.CpuSteps.{acked, marks_in, poll_on, polling, stamped, stepped, stepped_in, switched, ticked, unmarked, went, went_by, with_step, with_told}
+use Rattle.cpu_core.specs.CpuFits.{CpuFits, FitsIn, GoingFits}
+use Rattle.cpu_core.specs.CpuOps.{cpu_op, going_op, is_looking, is_running, op_by, phase_op, present_task, told_op}
+use Rattle.cpu_core.specs.CpuSteps.{acked, answered, gone_on, looked, marks_in, poll_on, polling, stamped, stepped, stepped_in, switched, ticked, unmarked, went, went_by, with_step, with_told}
 use Rattle.cpu_core.specs.Cpus.{IsFor, IsIn, all_marked}
-use Rattle.cpu_core.specs.Marks.{Marks, handed_on, passed}
+use Rattle.cpu_core.specs.Marks.{HasRoom, Marks, handed_on, passed}
 use Rattle.task_core.specs.Leads.{is_fetching}
 use Rattle.task_core.specs.Starts.{is_unmet}
 use Rattle.task_core.specs.TaskOps.{item_in, op_of}
@@ -55,16 +56,29 @@ module _ (c : Parts) (v : ℕ) where
   nothing : (d : Parts) (o : Option Item) → o ≡ None → d.marked ≡ c.marked → Marked d o
   nothing d o none same = same ∙ λ i. record c.marked { items = (sym (append-nil c.marked.items) ∙ ap (λ p. c.marked.items ++ stamped v p) (sym none)) i }
 
-  phase-marked : (p : Phase) → Marked (stepped_in (ticked c) p v) (item_in (phase_op c p))
-  phase-marked Going = by (is_running c)
+  -- a step that is none of a look
+  going-marked : (p : Phase) → Marked (gone_on (record (ticked c) { phase = p }) v) (item_in (going_op c))
+  going-marked p = by (is_running c)
     where
-      by : (b : Bool) → Marked (cond b (went (ticked c) v) (polling (ticked c) v)) (item_in (cond b (op_by (present_task c)) (Some (Load Want))))
-      by true = went-marked (ticked c) v (present_task c)
-      by false = nothing (polling (ticked c) v) None refl (asked-marked (ticked c) v)
+      c' : Parts
+      c' = record (ticked c) { phase = p }
+
+      by : (b : Bool) → Marked (cond b (went c' v) (polling c' v)) (item_in (cond b (op_by (present_task c)) (Some (Load Want))))
+      by true = went-marked c' v (present_task c)
+      by false = nothing (polling c' v) None refl (asked-marked c' v)
+
+  phase-marked : (p : Phase) → Marked (stepped_in c p v) (item_in (phase_op c p))
+  phase-marked Going = by (is_looking c)
+    where
+      by : (b : Bool) → Marked (cond b (looked c v) (gone_on (ticked c) v)) (item_in (cond b (Some (Load Want)) (going_op c)))
+      by true = nothing (looked c v) None refl refl
+      by false = going-marked c.phase
+  phase-marked Looked = going-marked Going
+  phase-marked (Answering r) = nothing (answered c r) None refl refl
   phase-marked (StoringAck r) = nothing (poll_on (acked (ticked c) r) r) None refl (acked-marked (ticked c) r)
   phase-marked (StoringQuiet r i) =
       nothing (poll_on (with_told (ticked c) r i) r) (item_in (told_op r (slice_get c.tasks i))) (told-none r (slice_get c.tasks i)) (told-marked (ticked c) r i)
-  phase-marked Over = nothing (ticked c) None refl refl
+  phase-marked Over = nothing c None refl refl
 
   -- what is marked comes to the list, which is as it was otherwise
   pub stepped-marked : (stepped c v).marked ≡ record c.marked { items = c.marked.items ++ marks_in (cpu_op c) v }
@@ -76,11 +90,42 @@ module _ (c : Parts) (v : ℕ) where
   stepped-from o e =
       λ i. record (stepped c v) { marked = (stepped-marked ∙ ap (λ p. record c.marked { items = c.marked.items ++ stamped v p }) (sym e)) i }
 
+-- ## room
+
+-- whoever marks an item has room for it
+pub has-room : (c : Parts) (v : ℕ) → CpuFits c v → IsSome (item_in (cpu_op c)) → HasRoom c.marked
+has-room c v fits = in-phase c.phase fits.phase'
+  where
+    at-task : (o : Option Task) → IsSomeAnd o (λ t. IsSome (item_in (op_of t)) → HasRoom c.marked) → IsSome (item_in (op_by o)) → HasRoom c.marked
+    at-task None room some = absurd room
+    at-task (Some t) room some = room some
+
+    going : GoingFits c v → IsSome (item_in (going_op c)) → HasRoom c.marked
+    going fits = by (is_running c) refl
+      where
+        by : (b : Bool) → is_running c ≡ b → IsSome (item_in (cond b (op_by (present_task c)) (Some (Load Want)))) → HasRoom c.marked
+        by true r some = at-task (present_task c) (fits.0 r).room some
+        by false r some = false_true some
+
+    in-phase : (p : Phase) → FitsIn c p v → IsSome (item_in (phase_op c p)) → HasRoom c.marked
+    in-phase Going fits some = by (is_looking c) refl some
+      where
+        by : (b : Bool) → is_looking c ≡ b → IsSome (item_in (cond b (Some (Load Want)) (going_op c))) → HasRoom c.marked
+        by true l some = false_true some
+        by false l some = going (fits.1 l) some
+    in-phase Looked fits some = going fits some
+    in-phase (Answering r) fits some = false_true some
+    in-phase (StoringAck r) fits some = false_true some
+    in-phase (StoringQuiet r i) fits some = false_true (subst (λ (o : Option Item). IsSome o) (told-none r (slice_get c.tasks i)) some)
+    in-phase Over fits some = false_true some
+
 -- ## other marks
 
 -- where the CPU stands is nothing of what it has marked
 in-kept : (c : Parts) (m : Marks) (p : Phase) → IsIn c p → IsIn (record c { marked = m }) p
 in-kept c m Going k = k
+in-kept c m Looked k = k
+in-kept c m (Answering r) k = k
 in-kept c m (StoringAck r) k = record { before = k.before; count = k.count }
 in-kept c m (StoringQuiet r i) k = (record { before = k.0.before; count = k.0.count }, k.1)
 in-kept c m Over k = k

@@ -23,5 +23,6 @@ pub mod Begun
 pub mod PollEnd
 pub mod Polls
 pub mod Handed
+pub mod LookSteps
 pub mod CpuLaw
 pub mod CpuTaken

@@ -31,7 +31,6 @@ use Rattle.cpu_core.proofs.Places.{first-case}
 use Rattle.cpu_core.proofs.PollEnd.{IsPolling, after-for, after-is, after-marked, next-act, next-state}
 use Rattle.cpu_core.proofs.Told.{at-told, left-told}
 use Rattle.cpu_core.proofs.Untold.{told-before, told-next, untold-there}
-use Rattle.cpu_core.proofs.WholePoll.{asked}
 
 -- ## what is marked
 
@@ -86,10 +85,10 @@ module _ (job : Job) (r : ℕ) (c : Parts) (k : IsPolling job c) where
       }
 
 -- the machine's CPU at a phase
-machine-at : (job : Job) (c : Parts) (v : ℕ) (x : Phase) → phase_in c.tasks c.phase ≡ x
-    → cpu_got job (cpu_of job c) v ≡ phase_got job (machine_ticked (cpu_of job c)) x v
+pub machine-at : (job : Job) (c : Parts) (v : ℕ) (x : Phase) → phase_in c.tasks c.phase ≡ x
+    → cpu_got job (cpu_of job c) v ≡ phase_got job (cpu_of job c) x v
 unfolding cpu_got
-machine-at job c v x e = ap (λ p. phase_got job (machine_ticked (cpu_of job c)) p v) e
+machine-at job c v x e = ap (λ p. phase_got job (cpu_of job c) p v) e
 
 -- ## the request is loaded
 
@@ -120,13 +119,19 @@ module _ (job : Job) (c : Parts) (v : ℕ) (k : IsFor job c) (e : c.phase ≡ Go
       ap (λ (x : TaskState). x.moment) (sym (next-state job c asks n)) ∙ before job n.task n.of' n.before
 
   -- so the machine's CPU loads the request
-  machine-asks : cpu_got job (cpu_of job c) v ≡ machine.polling job (machine_ticked (cpu_of job c)) v
-  machine-asks =
-      asked job (cpu_of job c) v
-      (record { going = ap (phase_in c.tasks) e; between = λ more. asks-moment (sym (more-left job c k.own) ∙ more) })
+  machine-asks : machine.going_got job (machine_ticked (cpu_of job c)) v ≡ machine.polling job (machine_ticked (cpu_of job c)) v
+  machine-asks = by (any_has_more job (cpu_of job c)) refl
+    where
+      me : Cpu
+      me = machine_ticked (cpu_of job c)
+
+      by : (b : Bool) → any_has_more job (cpu_of job c) ≡ b
+          → cond b (machine.present_got job me (me.tasks me.present).moment v) (machine.polling job me v) ≡ machine.polling job me v
+      by true more = rw (asks-moment (sym (more-left job c k.own) ∙ more)) refl
+      by false none = refl
 
   -- then its own word is stored, or the poll goes on
-  pub asked-is : cpu_of job (polling (ticked c) v) ≡ cpu_got job (cpu_of job c) v
+  pub asked-is : cpu_of job (polling (ticked c) v) ≡ machine.going_got job (machine_ticked (cpu_of job c)) v
   asked-is =
       by (c.ack == acknowledged (any_left c.tasks) v)
       ∙ ap (λ b. cond (c.ack == acknowledged b v) (machine.poll_on job me v) (record me { phase = machine.StoringAck v })) (sym (more-left job c k.own))

@@ -1,15 +1,16 @@
 -- A whole poll of the machine's CPU: one load, a store for each word that is to change, and the end.
-use Rattle.std.proofs.Common.{cond, ◌≡◌, ℕ, suc, ◌+◌, ◌<◌, Bool, true, false, ◌==◌, List, [], ◌∷◌, length, Option, Some, None, eq-eqb, eqb-true, refl, sym, ap, ◌∙◌, subst, arith}
+use Rattle.std.proofs.Common.{cond, ◌≡◌, ℕ, suc, ◌+◌, ◌<◌, Bool, true, false, ◌&&◌, ◌==◌, List, [], ◌∷◌, length, Option, Some, None, eq-eqb, eqb-true, refl, sym, ap, ◌∙◌, subst, arith}
 use Rattle.std.specs.List.{AllByRecursion as Each}
 use Rattle.std.proofs.lemmas.Option.{none-some, same_Some}
 use Rattle.ft_base.specs.Job.{Job}
 use Rattle.ft_base.specs.Tasks.{tasks_of}
+use Rattle.ft_base.proofs.Small.{and-false}
 use Rattle.grace_core.specs.Views.{has_told}
 use Rattle.word_map.specs.Contents.{halves}
 use Rattle.word_map.specs.Ops.{Load}
 use Rattle.word_map.specs.Words.{Want}
-use Rattle.word_machine.specs.Task.{TaskState, quiet_word, viewed}
-use Rattle.word_machine.specs.Cpu.{Cpu, StoringAck, StoringQuiet, ack_value, any_has_more, cpu_got, cpu_next, phase_got, phase_op, poll_on, polled, polling, present_got, present_op, quiet_in, quiet_next, ticked, with_word}
+use Rattle.word_machine.specs.Task.{TaskState, is_open_to_requests, quiet_word, viewed}
+use Rattle.word_machine.specs.Cpu.{Cpu, StoringAck, StoringQuiet, ack_value, any_has_more, cpu_got, cpu_next, going_got, going_op, is_looked_before, looked, looks, phase_got, phase_op, poll_on, polled, polling, present_got, present_op, quiet_in, quiet_next, takes_looks, ticked, with_word}
 use Rattle.word_machine.proofs.Small.{if_case, put_case, put_same}
 use Rattle.cpu_core.specs.WholePoll.{IsBeforePoll, all_told, cpu_past, is_telling, own_tellers, stores_of, tell, tell_each, tellers}
 use Rattle.cpu_core.proofs.Untold.{low-told}
@@ -167,11 +168,24 @@ module _ (job : Job) (r : ℕ) where
 -- ## the load, and the store of the CPU's own word
 
 module _ (job : Job) (me : Cpu) where
+  -- whoever is before a poll isn't open to requests: there is no look
+  no-look : IsBeforePoll job me → looks job me ≡ false
+  no-look k = by (any_has_more job me) refl
+    where
+      by : (b : Bool) → any_has_more job me ≡ b → looks job me ≡ false
+      by true more =
+          ap (λ m. takes_looks job && any_has_more job me && is_open_to_requests (me.tasks me.present) m) (k.between more)
+          ∙ and-false (takes_looks job && any_has_more job me)
+      by false none =
+          ap (λ b. takes_looks job && b && is_looked_before (me.tasks me.present)) none
+          ∙ ap (λ b. b && is_looked_before (me.tasks me.present)) (and-false (takes_looks job))
+
   -- a poll loads the request
   pub asks : IsBeforePoll job me → cpu_next job me ≡ Some (Load Want)
   unfolding cpu_next
   asks k =
       ap (phase_op job me) k.going
+      ∙ ap (λ b. cond b (Some (Load Want)) (going_op job me)) (no-look k)
       ∙ if_case (λ o. o ≡ Some (Load Want)) (any_has_more job me) (present_op me (me.tasks me.present).moment) (Some (Load Want))
       (λ more. ap (present_op me) (k.between more)) (λ none. refl)
 
@@ -179,7 +193,8 @@ module _ (job : Job) (me : Cpu) where
   pub asked : (v : ℕ) → IsBeforePoll job me → cpu_got job me v ≡ polling job (ticked me) v
   unfolding cpu_got
   asked v k =
-      ap (λ p. phase_got job (ticked me) p v) k.going
+      ap (λ p. phase_got job me p v) k.going
+      ∙ ap (λ b. cond b (looked me v) (going_got job (ticked me) v)) (no-look k)
       ∙ if_case (λ x. x ≡ polling job (ticked me) v) (any_has_more job me) (present_got job (ticked me) (me.tasks me.present).moment v) (polling job (ticked me) v)
       (λ more. ap (λ m. present_got job (ticked me) m v) (k.between more)) (λ none. refl)
 

@@ -3,9 +3,9 @@ use Rattle.std.specs.Prelude.{ℕ, suc, ◌≡◌, ◌<◌, ◌^◌, true, false
 use Rattle.word_map.specs.Contents.{greatest_half}
 use Rattle.cpu_core.specs.declared.parts.Parts.{Parts}
 use Rattle.cpu_core.specs.declared.parts.Phase.{Phase}
-use Rattle.cpu_core.specs.declared.parts.Phase.TheVariants.{Going, StoringAck, StoringQuiet, Over}
+use Rattle.cpu_core.specs.declared.parts.Phase.TheVariants.{Going, Looked, Answering, StoringAck, StoringQuiet, Over}
 use Rattle.task_core.specs.declared.task.Task.{Task}
-use Rattle.cpu_core.specs.CpuOps.{is_running, present_task}
+use Rattle.cpu_core.specs.CpuOps.{is_looking, is_running, present_task}
 use Rattle.cpu_core.specs.Marks.{HasRoom}
 use Rattle.task_core.specs.Fits.{CanBegin, HasAct, IsTaskThere, TaskFits}
 use Rattle.task_core.specs.TaskOps.{item_in, op_of, present}
@@ -18,9 +18,15 @@ pub record IsQuietThere (c : Parts) (i : ℕ) : Type 0 where
   pub within : i < length c.tasks
   pub number : IsSomeAnd (slice_get c.tasks i) (λ t. t.number.0 < c.setup.shape.tasks)
 
+-- the word of the present task's operation is there
+abbrev pub IsGoingThere : Parts → Type 0
+IsGoingThere c = is_running c ≡ true → IsSomeAnd (present_task c) (IsTaskThere c.setup.shape)
+
 -- the word of the next operation is there
 abbrev pub NextAt : Parts → Phase → Type 0
-NextAt c Going = is_running c ≡ true → IsSomeAnd (present_task c) (IsTaskThere c.setup.shape)
+NextAt c Going = IsGoingThere c
+NextAt c Looked = IsGoingThere c
+NextAt c (Answering r) = c.cpu.0 < c.setup.shape.cpus
 NextAt c (StoringAck r) = c.cpu.0 < c.setup.shape.cpus
 NextAt c (StoringQuiet r i) = IsQuietThere c i
 NextAt c Over = Unit {0}
@@ -61,9 +67,15 @@ pub record QuietFits (c : Parts) (r i : ℕ) : Type 0 where
   pub first : first_untold r c.tasks ≡ Some i
   pub act : CanGoOn c
 
--- in a phase
+-- an operation that is none of a look
+abbrev pub GoingFits : Parts → ℕ → Type 0
+GoingFits c v = (is_running c ≡ true → GoFits c v) × (is_running c ≡ false → StartFits c v)
+
+-- in a phase; a look loads a request
 abbrev pub FitsIn : Parts → Phase → ℕ → Type 0
-FitsIn c Going v = (is_running c ≡ true → GoFits c v) × (is_running c ≡ false → StartFits c v)
+FitsIn c Going v = (is_looking c ≡ true → v < greatest_half) × (is_looking c ≡ false → GoingFits c v)
+FitsIn c Looked v = GoingFits c v
+FitsIn c (Answering r) v = Unit {0}
 FitsIn c (StoringAck r) v = CanGoOn c
 FitsIn c (StoringQuiet r i) v = QuietFits c r i
 FitsIn c Over v = Unit {0}

@@ -7,9 +7,9 @@ use Rattle.word_map.specs.Contents.{low}
 use Rattle.word_map.specs.Ops.{WordOp}
 use Rattle.cpu_core.specs.declared.parts.Parts.{Parts}
 use Rattle.cpu_core.specs.declared.parts.Phase.{Phase}
-use Rattle.cpu_core.specs.declared.parts.Phase.TheVariants.{Going, StoringAck, StoringQuiet, Over}
+use Rattle.cpu_core.specs.declared.parts.Phase.TheVariants.{Going, Looked, Answering, StoringAck, StoringQuiet, Over}
 use Rattle.task_core.specs.declared.task.Task.{Task}
-use Rattle.cpu_core.specs.CpuOps.{is_running, present_task}
+use Rattle.cpu_core.specs.CpuOps.{is_looking, is_running, present_task}
 use Rattle.task_core.specs.Leads.{is_fetching}
 use Rattle.task_core.specs.Starts.{is_left, is_unmet}
 use Rattle.task_core.specs.TaskOps.{item_in, op_of, present}
@@ -103,16 +103,30 @@ with_told c r i = told_by c r i (slice_get c.tasks i)
 abbrev pub ticked : Parts → Parts
 ticked c = record c { count = suc c.count }
 
--- the operation in a phase
+-- an operation that is none of a look
+abbrev pub gone_on : Parts → ℕ → Parts
+gone_on c v = if is_running c then went c v else polling c v
+
+-- the load of a look: a request that is new is answered, and otherwise the task's step comes next
+abbrev pub looked : Parts → ℕ → Parts
+looked c r = record c { phase = if c.ack == r then Looked else Answering r }
+
+-- the store of a look
+abbrev pub answered : Parts → ℕ → Parts
+answered c r = record c { ack = r; phase = Going }
+
+-- the operation in a phase; the steps of a look don't count since the last switch
 abbrev pub stepped_in : Parts → Phase → ℕ → Parts
-stepped_in c Going v = if is_running c then went c v else polling c v
-stepped_in c (StoringAck r) v = poll_on (acked c r) r
-stepped_in c (StoringQuiet r i) v = poll_on (with_told c r i) r
+stepped_in c Going v = if is_looking c then looked c v else gone_on (ticked c) v
+stepped_in c Looked v = gone_on (record (ticked c) { phase = Going }) v
+stepped_in c (Answering r) v = answered c r
+stepped_in c (StoringAck r) v = poll_on (acked (ticked c) r) r
+stepped_in c (StoringQuiet r i) v = poll_on (with_told (ticked c) r i) r
 stepped_in c Over v = c
 
 -- a CPU after its next operation gave this value
 abbrev pub stepped : Parts → ℕ → Parts
-stepped c v = stepped_in (ticked c) c.phase v
+stepped c v = stepped_in c c.phase v
 
 -- a CPU but for what it has marked, which is as it was before
 abbrev pub unmarked : Parts → Parts → Parts

@@ -4,7 +4,7 @@ use Rattle.std.specs.List.{AllByRecursion as Each}
 use Rattle.ft_base.specs.declared.limits.TheConstants.{ITEMS, QUANTUM}
 use Rattle.ft_base.specs.Job.{Job}
 use Rattle.ft_base.specs.Tasks.{tasks_of}
-use Rattle.word_machine.specs.Cpu.{Cpu, Phase, Going, StoringAck, StoringQuiet, Over}
+use Rattle.word_machine.specs.Cpu.{Cpu, Phase, Going, Looked, Answering, StoringAck, StoringQuiet, Over}
 use Rattle.word_machine.specs.Task.{TaskState, task_start}
 use Rattle.cpu_core.specs.declared.parts.Parts.{Parts}
 use Rattle.cpu_core.specs.declared.parts.Phase.{Phase as CodePhase}
@@ -50,6 +50,8 @@ numbers ts = map (λ t. t.number.0) ts
 -- where the CPU stands, with these tasks
 abbrev pub phase_in : List Task → CodePhase → Phase
 phase_in ts code.Going = Going
+phase_in ts code.Looked = Looked
+phase_in ts (code.Answering r) = Answering r
 phase_in ts (code.StoringAck r) = StoringAck r
 phase_in ts (code.StoringQuiet r i) = StoringQuiet r (number_or 0 (slice_get ts i))
 phase_in ts code.Over = Over
@@ -98,9 +100,15 @@ pub record IsStoring (c : Parts) (more : ℕ) : Type 0 where
   pub before : any_left c.tasks ≡ true → IsSomeAnd (present_task c) (λ t. t.moment ≡ moment.Polling)
   pub count : c.count ≤ c.quantum + more
 
+-- within the quantum, but for the second load of a fetch
+abbrev pub IsGoing : Parts → Type 0
+IsGoing c = c.count ≤ c.quantum + fetch_step (present_task c)
+
 -- the CPU stands where its tasks do; before the store of a task's word each task before it has told at most once
 abbrev pub IsIn : Parts → CodePhase → Type 0
-IsIn c code.Going = c.count ≤ c.quantum + fetch_step (present_task c)
+IsIn c code.Going = IsGoing c
+IsIn c code.Looked = IsGoing c
+IsIn c (code.Answering r) = IsGoing c
 IsIn c (code.StoringAck r) = IsStoring c 1
 IsIn c (code.StoringQuiet r i) = IsStoring c (2 + i) × (first_untold r c.tasks ≡ Some i)
 IsIn c code.Over = any_left c.tasks ≡ false

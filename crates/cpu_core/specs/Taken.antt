@@ -2,7 +2,6 @@
 use Rattle.std.specs.Prelude.{ℕ, ◌≡◌, List, get_or, map, IsSome}
 use Rattle.std.specs.List.{AllByRecursion as Each}
 use Rattle.ft_base.specs.Job.{Job, no_task}
-use Rattle.ft_base.specs.Versions.{levels as levels_of}
 use Rattle.ft_base.specs.Tasks.{tasks_of}
 use Rattle.user_specs.specs.declared.plan.CpuPlan.{CpuPlan}
 use Rattle.user_specs.specs.declared.plan.TaskPlan.{TaskPlan}
@@ -19,11 +18,11 @@ use Rattle.cpu_core.specs.Marks.{HasRoom}
 use Rattle.task_core.specs.TaskOps.{item_in}
 
 -- what is declared for a CPU is that of this job's
-pub record IsCpuOf (job : Job) (plan : CpuPlan) (cpu : ℕ) (specs : List Spec) (frames levels : ℕ) (shape : Shape) : Type 0 where
+pub record IsCpuOf (job : Job) (plan : CpuPlan) (cpu : ℕ) (specs : List Spec) (frames version : ℕ) (shape : Shape) : Type 0 where
   pub shape' : shape ≡ shape_of job
   pub users : map spec_of specs ≡ job.users
   pub frames' : frames ≡ job.frames
-  pub levels' : levels ≡ levels_of job
+  pub version' : version ≡ job.version
   pub quantum : plan.quantum ≡ get_or job.quanta cpu 1
   pub numbers : map (λ (p : TaskPlan). p.task.0) plan.tasks.items ≡ tasks_of job cpu
   pub acts : Each (λ (p : TaskPlan). p.acts.items ≡ (get_or job.tasks p.task.0 no_task).acts) plan.tasks.items

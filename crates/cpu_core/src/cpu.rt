@@ -2,7 +2,7 @@
 
 ghost use Rattle.std.specs.Prelude.{◌≡◌, ◌<◌, ◌≤◌, [], ◌++◌, length, All, IfOk, Option};
 ghost use Rattle.std.specs.Option.{option_map};
-ghost use Rattle.ft_base.specs.declared.limits.TheConstants.{ACTS, FRAMES, GUARD_LEVELS, QUANTUM, TASKS};
+ghost use Rattle.ft_base.specs.declared.limits.TheConstants.{ACTS, FRAMES, QUANTUM, TASKS};
 ghost use Rattle.user_specs.specs.declared.plan.TaskPlan.{TaskPlan};
 ghost use Rattle.word_map.specs.Ops.{placed};
 ghost use Rattle.word_map.specs.Shapes.{shape_of};
@@ -10,9 +10,9 @@ ghost use Rattle.word_map.specs.Shapes.{shape_of};
 use crate::marked::Marked;
 use crate::parts::{Parts, Phase};
 use crate::tasks::Tasks;
+use ft_base::limits::Limits;
 use ft_base::{CpuNo, Item, NoMemory, Stamped};
 use std::alloc::Global;
-use std::fmt;
 use std::marker::Model;
 use task_core::Setup;
 use user_specs::{CpuPlan, Spec};
@@ -37,15 +37,6 @@ impl Model for Cpu {
     ghost invariant = { λ d. HasNext d.parts };
 }
 
-/// Shows what it has marked.
-impl fmt::Debug for Cpu {
-    fn fmt<W: fmt::Write>(&self, f: &mut fmt::Formatter<W>) -> fmt::Result {
-        f.debug_struct("Cpu")
-            .field("items", &self.items())
-            .finish_non_exhaustive()
-    }
-}
-
 impl Cpu {
     ghost use Rattle.ft_base.specs.Job.{Job};
     ghost use Rattle.word_machine.specs.Cpu.{cpu_got, cpu_next, cpu_start};
@@ -58,7 +49,7 @@ impl Cpu {
     ghost use Rattle.cpu_core.specs.Taken.{IsCpuOf, IsTaken};
 
     /// CPU `cpu` of a script before its first step, with these tasks and users. `frames` is how many
-    /// frames each task's shadow stack has, and `levels` how many levels each guard has, 1 or 2. It has
+    /// frames each task's shadow stack has, and `version` the version of the language: 1, 2 or 3. It has
     /// room for `room` items that it keeps, and for all else that its steps need. The error says
     /// that memory ran out.
     pub fn new(
@@ -67,7 +58,7 @@ impl Cpu {
         cpu: CpuNo,
         specs: &[Spec],
         frames: u32,
-        levels: u8,
+        version: u8,
         room: u32,
         map: WordMap,
     ) -> Result<Cpu, NoMemory>
@@ -75,15 +66,15 @@ impl Cpu {
         requires tasks { length plan.now.tasks.items ≤ TASKS }
         requires acts { All (λ (p : TaskPlan). length p.acts.items ≤ ACTS) plan.now.tasks.items }
         requires frames { frames ≤ FRAMES }
-        requires levels { levels ≤ GUARD_LEVELS }
-        ensures of { IfOk result (λ c. (job : Job) → IsLimited job → IsCpuOf job plan.now cpu.0 specs.now frames levels map → plan.now.quantum ≤ QUANTUM
+        ensures of { IfOk result (λ c. (job : Job) → IsLimited job → IsCpuOf job plan.now cpu.0 specs.now frames version map → plan.now.quantum ≤ QUANTUM
             → IsFor job c × (cpu_of job c ≡ cpu_start job cpu.0)) }
         ensures room { IfOk result (λ c. c.marked ≡ no_marks room) }
     {
+        let levels = Limits::of(version).levels;
         let tasks = Tasks::new(alloc, plan.tasks.as_slice(), frames, levels)?;
         Ok(Cpu {
             parts: Parts {
-                setup: Setup::new(alloc, specs, frames, map)?,
+                setup: Setup::new(alloc, specs, frames, version, map)?,
                 cpu,
                 ack: 0,
                 quantum: plan.quantum,

@@ -4,15 +4,21 @@
 //! request, stores the CPU's own word, which acknowledges the request, and stores the word of each task,
 //! which tells whether the task was quiet at the request. It stores only what changes. Control waits for
 //! what polls tell. A CPU that ran on without them would let it wait for ever.
+//!
+//! From version 3 on a CPU also *looks* before each step of a task that is open to requests: it loads
+//! the last request, and as long as that is a new one, stores it as its own word and looks again. A look
+//! tells of no task: one that has loaded an old word is still in its call.
 
-ghost use Rattle.std.specs.Prelude.{◌≡◌};
+ghost use Rattle.std.specs.Prelude.{◌≡◌, ◌<◌, ◌^◌, suc};
 ghost use Rattle.std.specs.Option.{option_map};
-ghost use Rattle.word_map.specs.Ops.{placed};
-ghost use Rattle.cpu_core.specs.CpuOps.{is_running, cpu_op, op_by, present_task};
-ghost use Rattle.cpu_core.specs.CpuSteps.{acked, after_poll, poll_on, polling, stepped, switched, unmarked, went, with_told};
+ghost use Rattle.word_map.specs.Contents.{greatest_half};
+ghost use Rattle.word_map.specs.Ops.{Load, Store, placed};
+ghost use Rattle.word_map.specs.Words.{Ack, Want};
+ghost use Rattle.cpu_core.specs.CpuOps.{cpu_op, going_op, is_looking, is_running, op_by, present_task};
+ghost use Rattle.cpu_core.specs.CpuSteps.{acked, after_poll, answered, gone_on, looked, poll_on, polling, stepped, switched, ticked, unmarked, went, with_told};
 ghost use Rattle.cpu_core.specs.Turns.{HaveTold};
 ghost use Rattle.task_core.specs.TaskOps.{item_in};
-ghost use Rattle.cpu_core.specs.CpuFits.{CanGoOn, CanSwitch, CpuFits, GoFits, HasNext, QuietFits, StartFits};
+ghost use Rattle.cpu_core.specs.CpuFits.{CanGoOn, CanSwitch, CpuFits, GoFits, GoingFits, HasNext, IsGoingThere, QuietFits, StartFits};
 
 use crate::marked::Marked;
 use crate::tasks::Tasks;
@@ -24,8 +30,12 @@ use word_map::{Op, clock};
 /// Where a CPU stands, as the machine's `Phase` has it. Here a task is named by its index.
 #[derive(Clone, Copy)]
 pub(crate) enum Phase {
-    /// At its present task, or before its last poll.
+    /// At its present task, before a look if one is due, or before its last poll.
     Going,
+    /// After a look that found nothing new, before the step of the present task.
+    Looked,
+    /// In a look that has loaded this request, before the store of the CPU's own word.
+    Answering(u32),
     /// In a poll that has loaded this request, before the store of the CPU's own word.
     StoringAck(u32),
     /// In a poll that has loaded this request and acknowledged it, before the store of the word of the
@@ -62,20 +72,12 @@ impl Parts {
         ensures { result ≡ option_map (placed self.now.setup.shape) (cpu_op self.now) }
     {
         match self.phase {
-            Phase::Going => {
-                if self.is_running() {
-                    self.tasks.task(self.present).op(self.setup.map())
-                } else {
-                    // The first operation of a poll. The poll itself begins when it is made.
-                    Some(Op::Load {
-                        word: self.setup.map().want(),
-                    })
-                }
+            Phase::Going if self.is_looking() => Some(self.want_load()),
+            Phase::Going | Phase::Looked => self.going_op(),
+            Phase::Answering(request) => Some(self.ack_store(u64::from(request))),
+            Phase::StoringAck(request) => {
+                Some(self.ack_store(acknowledged(self.tasks.is_any_left(), request)))
             }
-            Phase::StoringAck(request) => Some(Op::Store {
-                word: self.setup.map().ack(self.cpu),
-                value: acknowledged(self.tasks.is_any_left(), request),
-            }),
             Phase::StoringQuiet(request, i) => {
                 let task = self.tasks.task(i);
                 Some(Op::Store {
@@ -109,19 +111,102 @@ impl Parts {
         ensures parts { self.new ≡ unmarked self.old (stepped self.old value) }
         ensures item { result ≡ item_in (cpu_op self.old) }
     {
-        self.count += 1;
         match self.phase {
-            Phase::Going => {
-                if self.is_running() {
-                    return self.go(value);
-                }
-                self.begin_poll(value);
+            Phase::Going if self.is_looking() => self.look(value),
+            Phase::Going => return self.go_on(value),
+            Phase::Looked => {
+                self.phase = Phase::Going;
+                return self.go_on(value);
             }
+            Phase::Answering(request) => self.answered(request),
             Phase::StoringAck(request) => self.ack_stored(request),
             Phase::StoringQuiet(request, i) => self.quiet_stored(request, i),
             Phase::Over => {}
         }
         None
+    }
+
+    /// Whether a look is next. There is none before a poll, which answers by itself.
+    #[inline(always)]
+    fn is_looking(&self) -> bool
+        ensures { result ≡ is_looking self.now }
+    {
+        self.setup.takes_looks()
+            && self.present < self.tasks.len()
+            && self.tasks.task(self.present).is_open_to_requests()
+    }
+
+    /// The store of this value as the CPU's own word.
+    fn ack_store(&self, value: u64) -> Op
+        requires { self.now.cpu.0 < self.now.setup.shape.cpus }
+        ensures { result ≡ placed self.now.setup.shape (Store (Ack self.now.cpu.0) value) }
+    {
+        Op::Store {
+            word: self.setup.map().ack(self.cpu),
+            value,
+        }
+    }
+
+    /// The load of the last request.
+    fn want_load(&self) -> Op
+        ensures { result ≡ placed self.now.setup.shape (Load Want) }
+    {
+        Op::Load {
+            word: self.setup.map().want(),
+        }
+    }
+
+    /// The next operation that is none of a look: of the present task, or the first of a poll. The poll
+    /// itself begins when it is made.
+    #[inline(always)]
+    fn going_op(&self) -> Option<Op>
+        requires { IsGoingThere self.now }
+        ensures { result ≡ option_map (placed self.now.setup.shape) (going_op self.now) }
+    {
+        if self.is_running() {
+            self.tasks.task(self.present).op(self.setup.map())
+        } else {
+            Some(self.want_load())
+        }
+    }
+
+    /// An operation that is none of a look gave this value. It counts for the quantum. A look doesn't: a
+    /// quantum of one step would be used up by it, and the task would never make a step.
+    #[inline(always)]
+    fn go_on(&mut self, value: u64) -> Option<Item>
+        requires count { suc self.old.count < 2 ^ 32 }
+        requires fits { GoingFits self.old value }
+        ensures parts { self.new ≡ unmarked self.old (gone_on (ticked self.old) value) }
+        ensures item { result ≡ item_in (going_op self.old) }
+    {
+        self.count += 1;
+        if self.is_running() {
+            return self.go(value);
+        }
+        self.begin_poll(value);
+        None
+    }
+
+    /// A look has loaded this request. Only one that is new is stored: the look is over once it finds
+    /// nothing to store, and control doesn't wait for more.
+    fn look(&mut self, value: u64)
+        requires { value < greatest_half }
+        ensures { self.new ≡ looked self.old value }
+    {
+        self.phase = if self.ack == value {
+            Phase::Looked
+        } else {
+            Phase::Answering(value as u32)
+        };
+    }
+
+    /// The CPU's own word is stored in a look. No task's word is: the present one may have loaded who is
+    /// to be called back. Told to be quiet, it would call a user back whose unregistration has returned.
+    fn answered(&mut self, request: u32)
+        ensures { self.new ≡ answered self.old request }
+    {
+        self.ack = u64::from(request);
+        self.phase = Phase::Going;
     }
 
     /// Whether the present task makes the next operation. Otherwise a poll is next: the task stands
@@ -181,18 +266,22 @@ impl Parts {
 
     /// The CPU's own word is stored.
     fn ack_stored(&mut self, request: u32)
-        requires { CanGoOn self.old }
-        ensures { self.new ≡ poll_on (acked self.old request) request }
+        requires count { suc self.old.count < 2 ^ 32 }
+        requires act { CanGoOn self.old }
+        ensures { self.new ≡ poll_on (acked (ticked self.old) request) request }
     {
+        self.count += 1;
         self.ack = acknowledged(self.tasks.is_any_left(), request);
         self.tell(request, 0);
     }
 
     /// The word of the task at this index is stored.
     fn quiet_stored(&mut self, request: u32, i: u32)
-        requires { QuietFits self.old request i }
-        ensures { self.new ≡ poll_on (with_told self.old request i) request }
+        requires count { suc self.old.count < 2 ^ 32 }
+        requires fits { QuietFits self.old request i }
+        ensures { self.new ≡ poll_on (with_told (ticked self.old) request i) request }
     {
+        self.count += 1;
         self.tasks.tell(i, request);
         self.tell(request, i + 1);
     }

@@ -1,11 +1,18 @@
 -- The item that was taken is marked.
-use Rattle.std.proofs.Common.{◌≡◌, ◌++◌, [], ◌∷◌, Some, None, sym, ◌∙◌}
+use Rattle.std.proofs.Common.{◌≡◌, ◌++◌, [], ◌∷◌, Option, Some, None, IsSome, refl, sym, ap, ◌∙◌, subst}
 use Rattle.std.proofs.lemmas.List.{append-nil}
+use Rattle.ft_base.specs.declared.item.Item.{Item}
 use Rattle.word_map.specs.Contents.{low}
+use Rattle.cpu_core.specs.declared.parts.Parts.{Parts}
 use Rattle.cpu_core.specs.CpuSteps.{stepped, unmarked}
-use Rattle.cpu_core.specs.Marks.{Marks}
-use Rattle.cpu_core.proofs.Handed.{stepped-from}
+use Rattle.cpu_core.specs.Marks.{HasRoom, Marks}
+use Rattle.cpu_core.proofs.Handed.{has-room, stepped-from}
 use Rattle.cpu_core.proofs.parts.Parts.step.Goals as goal
+
+pub push-requires : goal.push-requires
+push-requires c =
+    subst HasRoom (sym (ap (λ (d : Parts). d.marked) c.take.ensures.parts))
+    (has-room c.args.self.now c.args.value c.requires (subst (λ (o : Option Item). IsSome o) (sym c.in-Some.is ∙ c.take.ensures.item) refl))
 
 pub returns-in-Some : goal.returns-in-Some
 returns-in-Some c =
