@@ -4,7 +4,6 @@ use Rattle.std.specs.List.{AllByRecursion as Each}
 use Rattle.std.proofs.lemmas.List.{length-map}
 use Rattle.ft_base.specs.declared.limits.TheConstants.{QUANTUM}
 use Rattle.ft_base.specs.Job.{Job, Spec as PlainSpec}
-use Rattle.ft_base.specs.Versions.{levels as levels_of}
 use Rattle.user_specs.specs.declared.plan.CpuPlan.{CpuPlan}
 use Rattle.user_specs.specs.declared.spec.Spec.{Spec}
 use Rattle.user_specs.specs.Plain.{DeclaredCpu, cpu_of, spec_of}
@@ -32,9 +31,9 @@ declared-in j d is = record {
 module _ (j : Job) (d : Seen) (ctls : List Ctl) (cpus : List CpuPlan) (specs : List Spec) (limits : TaskLimits) where
   pub declares : IsLimited j → d ≡ opened d.declared → IsOf j d.declared → lines_of d.declared.tasks ctls ≡ j.ctls
       → quanta_of (map cpu_of cpus) ≡ j.quanta → map cpu_of cpus ≡ cpus_from 0 j.quanta j.tasks → Each (λ q. q ≤ QUANTUM) j.quanta
-      → map spec_of specs ≡ j.users → limits.frames ≡ j.frames → limits.levels ≡ levels_of j
+      → map spec_of specs ≡ j.users → limits.frames ≡ j.frames → limits.version ≡ j.version
       → Declares j d ctls cpus specs limits (shape_of j)
-  declares limited new is lines quanta all within users frames levels = record {
+  declares limited new is lines quanta all within users frames version = record {
     limited = limited;
     desk' = new;
     of' = is;
@@ -46,7 +45,7 @@ module _ (j : Job) (d : Seen) (ctls : List Ctl) (cpus : List CpuPlan) (specs : L
         shape' = refl;
         users = users;
         frames' = frames;
-        levels' = levels;
+        version' = version;
         quantum = own-quantum cpus j quanta all c x at;
         numbers = own-numbers cpus j quanta all c x at;
         acts = own-acts cpus j quanta all c x at;

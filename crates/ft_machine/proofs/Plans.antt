@@ -4,8 +4,9 @@ use Rattle.std.specs.List.{AllByRecursion as Each, filter, range_with_len}
 use Rattle.std.proofs.lemmas.List.Sums.{sum_by-cons}
 use Rattle.std.proofs.lemmas.Nat.{mul-le}
 use Rattle.std.proofs.lemmas.List.{length-map}
-use Rattle.ft_base.specs.declared.limits.TheConstants.{GUARD_LEVELS, ACTS, USERS, FRAMES, ITEMS, QUANTUM, TASKS}
-use Rattle.ft_base.proofs.Versions.{few-largest, levels-most}
+use Rattle.ft_base.specs.declared.limits.TheConstants.{ACTS, USERS, FRAMES, ITEMS, QUANTUM, TASKS}
+use Rattle.ft_base.specs.Versions.{limits_of}
+use Rattle.ft_base.proofs.Versions.{few-largest}
 use Rattle.ft_machine.specs.declared.cpus.CpuRoom.{CpuRoom}
 use Rattle.ft_machine.specs.declared.cpus.TaskLimits.{TaskLimits}
 use Rattle.ft_base.specs.Job.{Job, Task, no_task}
@@ -141,21 +142,18 @@ module _ (job : Job) (p : CpuPlan) (c : ℕ) (specs : List Spec) (limits : TaskL
   pub plan-frames : limits.frames ≤ FRAMES
   plan-frames = omega (arith, is.of'.frames', is.limited.frames)
 
-  pub plan-levels : limits.levels ≤ GUARD_LEVELS
-  plan-levels = let most = levels-most job in omega (arith, is.of'.levels', most)
-
   own : sum_by (λ (t : TaskPlan). calls_in t.acts.items) p.tasks.items ≡ sum_by (λ t. calls_of job t) (tasks_of job c)
   own = plan-calls job p.tasks.items is.of'.acts ∙ ap (sum_by (λ t. calls_of job t)) is.of'.numbers
 
-  pub plan-room : call_bound_of (map spec_of specs) limits.levels * sum_by (λ (t : TaskPlan). calls_in t.acts.items) p.tasks.items ≡ room_on job c
-  plan-room = ap₂ (λ us n. us * n) (ap₂ call_bound_of is.of'.users is.of'.levels') (own ∙ ap (sum_by (λ t. calls_of job t)) (own-on job c))
+  pub plan-room : call_bound_of (map spec_of specs) (limits_of limits.version).levels * sum_by (λ (t : TaskPlan). calls_in t.acts.items) p.tasks.items ≡ room_on job c
+  plan-room = ap₂ (λ us n. us * n) (ap₂ call_bound_of is.of'.users (ap (λ v. (limits_of v).levels) is.of'.version')) (own ∙ ap (sum_by (λ t. calls_of job t)) (own-on job c))
 
   pub plan-items : room_on job c ≤ ITEMS
   plan-items = room-most job c is.limited
 
   -- a CPU that is made by the plan, with this room, is the first
   pub plan-first : (rooms : CpuRoom) (room : ℕ) (x : Parts) → room ≡ own_room rooms job c
-      → (IsLimited job → IsCpuOf job p c specs limits.frames limits.levels shape → p.quantum ≤ QUANTUM → IsFor job x × (cpu_of job x ≡ cpu_start job c))
+      → (IsLimited job → IsCpuOf job p c specs limits.frames limits.version shape → p.quantum ≤ QUANTUM → IsFor job x × (cpu_of job x ≡ cpu_start job c))
       → x.marked ≡ no_marks room → IsFirst rooms job c x
   plan-first rooms room x e of' marked =
       let made = of' is.limited is.of' is.quick in
@@ -168,7 +166,7 @@ module _ (job : Job) (p : CpuPlan) (c : ℕ) (specs : List Spec) (limits : TaskL
 -- what is made by a plan is the first for each job of which it is the plan
 pub plan-made : {E : Type 0} (p : CpuPlan) (c : ℕ) (specs : List Spec) (limits : TaskLimits) (shape : Shape) (rooms : CpuRoom) (room : ℕ) (r : Result Parts E)
     → ((job : Job) → IsPlanOf job p c specs limits shape → room ≡ own_room rooms job c)
-    → IfOk r (λ x. (job : Job) → IsLimited job → IsCpuOf job p c specs limits.frames limits.levels shape → p.quantum ≤ QUANTUM
+    → IfOk r (λ x. (job : Job) → IsLimited job → IsCpuOf job p c specs limits.frames limits.version shape → p.quantum ≤ QUANTUM
     → IsFor job x × (cpu_of job x ≡ cpu_start job c))
     → IfOk r (λ x. x.marked ≡ no_marks room)
     → IfOk r (λ x. (job : Job) → IsPlanOf job p c specs limits shape → IsFirst rooms job c x)

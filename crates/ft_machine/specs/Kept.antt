@@ -2,7 +2,6 @@
 use Rattle.std.specs.Prelude.{ℕ, ◌≡◌, ◌+◌, ◌*◌, ◌≤◌, List, length, reverse}
 use Rattle.ft_base.specs.declared.item.Item.{Item}
 use Rattle.ft_base.specs.Job.{Job, commands}
-use Rattle.ft_base.specs.Versions.{levels as levels_of}
 use Rattle.ft_hist.specs.Shown.{Shown}
 use Rattle.history_laws.specs.Bound.{all_calls}
 use Rattle.user_specs.specs.Bound.{call_bound_in}
@@ -18,7 +17,7 @@ most_items job = 2 * length (commands job) + call_bound_in job * all_calls job.t
 
 -- what each task of a job has room for
 abbrev pub limits_for : Job → TaskLimits
-limits_for job = record { frames = job.frames; levels = levels_of job }
+limits_for job = record { frames = job.frames; version = job.version }
 
 -- the items of a history, the latest first
 abbrev pub past_in : Shown → List Item

@@ -22,7 +22,7 @@ use Rattle.ft_machine.specs.declared.cpus.TaskLimits.{TaskLimits}
 pub record IsPlanOf (job : Job) (p : CpuPlan) (c : ℕ) (specs : List Spec) (limits : TaskLimits) (shape : Shape) : Type 0 where
   pub limited : IsLimited job
   pub inside : c < length job.quanta
-  pub of' : IsCpuOf job p c specs limits.frames limits.levels shape
+  pub of' : IsCpuOf job p c specs limits.frames limits.version shape
   pub quick : p.quantum ≤ QUANTUM
 
 -- what is declared for all its CPUs

@@ -106,4 +106,4 @@ pub record Declares (job : Job) (d : Seen) (ctls : List Ctl) (plans : List CpuPl
   pub shape' : shape ≡ shape_of job
   pub lines : lines_of shape.tasks ctls ≡ job.ctls
   pub cpus : length plans ≡ length job.quanta
-  pub each : (c : ℕ) (p : CpuPlan) → slice_get plans c ≡ Some p → IsCpuOf job p c specs limits.frames limits.levels shape × (p.quantum ≤ QUANTUM)
+  pub each : (c : ℕ) (p : CpuPlan) → slice_get plans c ≡ Some p → IsCpuOf job p c specs limits.frames limits.version shape × (p.quantum ≤ QUANTUM)

@@ -15,6 +15,7 @@ ghost use Rattle.cpu_core.specs.Cpus.{IsFor, cpu_of};
 ghost use Rattle.ft_machine.specs.Starts.{AreFirst, ArePlansOf, IsFirst, IsPlanOf, own_room};
 
 use cpu_core::Cpu;
+use ft_base::limits::Limits;
 use ft_base::{CpuNo, NoMemory, TaskAct};
 use std::alloc::Global;
 use user_specs::{CpuPlan, Spec, call_bound};
@@ -25,9 +26,9 @@ use word_map::WordMap;
 pub struct TaskLimits {
     /// Frames of its shadow stack.
     pub frames: u32,
-    /// Levels of each of its guards, 1 or 2: how many of its callbacks can be open at a time in one
+    /// The version of the language, which says how many of its callbacks can be open at a time in one
     /// context.
-    pub levels: u8,
+    pub version: u8,
 }
 
 /// How many items each CPU has room for.
@@ -79,7 +80,7 @@ fn new_cpu(
         cpu,
         specs,
         limits.frames,
-        limits.levels,
+        limits.version,
         room,
         map,
     )
@@ -121,7 +122,8 @@ fn room_of(plan: &CpuPlan, specs: &[Spec], limits: TaskLimits) -> u32
     requires { (job : Job) × (c : ℕ) × (shape : Shape) × IsPlanOf job plan.now c specs.now limits shape }
     ensures { (job : Job) (c : ℕ) (shape : Shape) → IsPlanOf job plan.now c specs.now limits shape → result ≡ room_on job c }
 {
-    call_bound(specs, u32::from(limits.levels)) * calls_of(plan)
+    let levels = Limits::of(limits.version).levels;
+    call_bound(specs, u32::from(levels)) * calls_of(plan)
 }
 
 /// How many calls the scripts of a CPU's tasks make.

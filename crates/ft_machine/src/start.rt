@@ -11,7 +11,6 @@ ghost use Rattle.ft_machine.specs.Kept.{limits_for, most_items};
 use crate::cpus::{CpuRoom, TaskLimits};
 use crate::world::{World, most_items as most_of};
 use ft_base::NoMemory;
-use ft_base::limits::Limits;
 use ft_hist::History;
 use ft_job::Job;
 use std::alloc::Global;
@@ -64,6 +63,6 @@ fn task_limits(job: &Job) -> TaskLimits
 {
     TaskLimits {
         frames: job.frames(),
-        levels: Limits::of(job.version()).levels,
+        version: job.version(),
     }
 }

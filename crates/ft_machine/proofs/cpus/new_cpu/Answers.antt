@@ -1,4 +1,4 @@
-use Rattle.ft_machine.proofs.Plans.{plan-all-acts, plan-cpu, plan-frames, plan-levels, plan-made, plan-tasks}
+use Rattle.ft_machine.proofs.Plans.{plan-all-acts, plan-cpu, plan-frames, plan-made, plan-tasks}
 use Rattle.ft_machine.proofs.cpus.new_cpu.Goals as goal
 
 pub own_room-room-requires : goal.own_room-room-requires
@@ -10,7 +10,6 @@ new-requires c = record {
   tasks = plan-tasks c.requires.0 c.args.plan.now c.args.cpu.0 c.args.specs.now c.args.limits c.args.map c.requires.1;
   acts = plan-all-acts c.requires.0 c.args.plan.now c.args.cpu.0 c.args.specs.now c.args.limits c.args.map c.requires.1;
   frames = plan-frames c.requires.0 c.args.plan.now c.args.cpu.0 c.args.specs.now c.args.limits c.args.map c.requires.1;
-  levels = plan-levels c.requires.0 c.args.plan.now c.args.cpu.0 c.args.specs.now c.args.limits c.args.map c.requires.1;
 }
 
 pub returns : goal.returns

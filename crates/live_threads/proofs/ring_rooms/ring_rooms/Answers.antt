@@ -25,7 +25,7 @@ call_bound-bound-requires c =
     let job = c.args.job.now in
     let few = (few-largest job.version c.users.ensures.limited.counts).few_users in
     let count = sym (length-map c.specs.result.now spec_of) ∙ ap length c.specs.ensures in
-    let most = levels-most job in
+    let most = levels-most job.version in
     let same = levels-are job c.version.ensures c.of.ensures c.from.ensures in
     record { users = omega (arith, count, few); levels = omega (arith, same, most) }
 
