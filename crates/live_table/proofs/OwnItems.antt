@@ -21,7 +21,7 @@ use Rattle.word_map.specs.Words.{Want, at_put}
 use Rattle.word_machine.specs.Task.{OpenCall, TaskState, Moment, Polling, First, GotHead, GotBreak, InTramp, Refusing, Calling, Missing, Acting, Ending, Closing, Leaving, Exiting, EndingExit, Returning, begun_act, call_got, call_op, finished, first_got, first_op, is_fetching, stack_got, stack_op, task_got, task_op, task_start, user_of}
 use Rattle.word_machine.specs.Commands.{effect, command}
 use Rattle.word_machine.specs.Control.{Control, Position, Line, Relink, Close, answer_in, control_got, control_next, control_start, line_op, next_in}
-use Rattle.word_machine.specs.Cpu.{Cpu, Phase, Going, StoringAck, StoringQuiet, Over, ack_value, any_has_more, cpu_got, cpu_next, cpu_start, first_of, has_more, is_unmet, moved, next_task, phase_got, phase_op, poll_on, polled, polling, present_got, present_op, quiet_in, quiet_next, switched, ticked, with_word}
+use Rattle.word_machine.specs.Cpu.{Cpu, Phase, Going, Looked, Answering, StoringAck, StoringQuiet, Over, ack_value, any_has_more, cpu_got, cpu_next, cpu_start, first_of, going_got, going_op, has_more, is_unmet, looked, looks, moved, next_task, phase_got, phase_op, poll_on, polled, polling, present_got, present_op, quiet_in, quiet_next, switched, ticked, with_word}
 use Rattle.word_machine.specs.Limits.{IsLimited}
 use Rattle.word_machine.specs.Rule.{IsOn}
 use Rattle.word_machine.proofs.Small.{if_case, put_case, each-append}
@@ -208,18 +208,27 @@ module _ (job : Job) (limited : IsLimited job) (c : ℕ) where
       let x = me.tasks me.present in
       moved-own me (is_unmet m x.acts v) (task_got job me.present x m v) k on (task-keeps job me.present x m v (k.calls me.present))
 
-  phase-own : (me : Cpu) (p : Phase) (v : ℕ) → IsOwn job c me → IsOwn job c (phase_got job me p v)
-  phase-own me Going v k =
+  going-own : (me : Cpu) (v : ℕ) → IsOwn job c me → IsOwn job c (going_got job me v)
+  going-own me v k =
       if_case (IsOwn job c) (any_has_more job me) (present_got job me (me.tasks me.present).moment v) (polling job me v)
       (λ any. present-own me (me.tasks me.present).moment v k (k.present' any)) (λ none. polling-own me v k)
+
+  phase-own : (me : Cpu) (p : Phase) (v : ℕ) → IsOwn job c me → IsOwn job c (phase_got job me p v)
+  phase-own me Going v k =
+      if_case (IsOwn job c) (looks job me) (looked me v) (going_got job (ticked me) v)
+      (λ looking. record { number' = k.number'; calls = k.calls; present' = k.present' }) (λ goes. going-own (ticked me) v (record { number' = k.number'; calls = k.calls; present' = k.present' }))
+  phase-own me Looked v k = going-own (record (ticked me) { phase = Going }) v (record { number' = k.number'; calls = k.calls; present' = k.present' })
+  phase-own me (Answering r) v k = record { number' = k.number'; calls = k.calls; present' = k.present' }
   phase-own me (StoringAck r) v k =
-      poll_on-own (record me { ack = ack_value job me r }) r (record { number' = k.number'; calls = k.calls; present' = k.present' })
-  phase-own me (StoringQuiet r t) v k = poll_on-own (record me { tasks = at_put me.tasks t (with_word r (me.tasks t)) }) r (stored-own me r t k)
+      poll_on-own (record (ticked me) { ack = ack_value job me r }) r (record { number' = k.number'; calls = k.calls; present' = k.present' })
+  phase-own me (StoringQuiet r t) v k =
+      let s = stored-own me r t k in
+      poll_on-own (record (ticked me) { tasks = at_put me.tasks t (with_word r (me.tasks t)) }) r (record { number' = s.number'; calls = s.calls; present' = s.present' })
   phase-own me Over v k = k
 
   got-own : (me : Cpu) (v : ℕ) → IsOwn job c me → IsOwn job c (cpu_got job me v)
   unfolding cpu_got
-  got-own me v k = phase-own (ticked me) me.phase v (record { number' = k.number'; calls = k.calls; present' = k.present' })
+  got-own me v k = phase-own me me.phase v k
 
   starts-own : IsOwn job c (cpu_start job c)
   starts-own = record {
@@ -245,7 +254,13 @@ mark-own job c me item k e = by me.phase e
     going false none is = absurd cc
 
     by : (p : Phase) → phase_op job me p ≡ Some (Mark item) → OfCpu job c item
-    by Going is = going (any_has_more job me) refl is
+
+    looking : (b : Bool) → cond b (Some (Load Want)) (going_op job me) ≡ Some (Mark item) → OfCpu job c item
+    looking true is = absurd cc
+    looking false is = going (any_has_more job me) refl is
+    by Going is = looking (looks job me) is
+    by Looked is = going (any_has_more job me) refl is
+    by (Answering r) is = absurd cc
     by (StoringAck r) is = absurd cc
     by (StoringQuiet r t) is = absurd cc
     by Over is = absurd cc

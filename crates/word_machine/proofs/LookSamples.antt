@@ -29,7 +29,6 @@ pub registered_before_the_fetch-plays : Plays registered_before_the_fetch regist
 unfolding actors_of repeated start step run played play all_end control_next control_got cpu_next cpu_got insn moves desk
 registered_before_the_fetch-plays = (refl, refl)
 
-
 abbrev pub no_look_within_a_fetch : Job
 no_look_within_a_fetch = record { version = 3; functions = named (codes "a") None ∷ []; users = record { name = codes "t"; kind = Function; regs = false; ipmodify = None; pid = false; act = None } ∷ []; frames = 50; tramps = 64; quanta = 100 ∷ []; tasks = record { pid = 10; cpu = 0; acts = Call (record { 0 = 0 }) ∷ RetAct ∷ [] } ∷ []; ctls = Run (Register 0) ∷ []; lines = usual_lines; rings = usual_rings; schedule = record { who = OfCpu (record { 0 = 0 }); count = 5 } ∷ record { who = OfControl; count = 10 } ∷ record { who = OfCpu (record { 0 = 0 }); count = 2 } ∷ record { who = OfControl; count = 10 } ∷ record { who = All; count = 100 } ∷ [] }
 
@@ -39,7 +38,6 @@ no_look_within_a_fetch-items = Enter (call_in 0 1) Normal (record { 0 = 0 }) Non
 pub no_look_within_a_fetch-plays : Plays no_look_within_a_fetch no_look_within_a_fetch-items true
 unfolding actors_of repeated start step run played play all_end control_next control_got cpu_next cpu_got insn moves desk
 no_look_within_a_fetch-plays = (refl, refl)
-
 
 abbrev pub look_before_a_fetch : Job
 look_before_a_fetch = record { version = 3; functions = named (codes "a") None ∷ []; users = record { name = codes "t"; kind = Function; regs = false; ipmodify = None; pid = false; act = None } ∷ []; frames = 50; tramps = 64; quanta = 100 ∷ []; tasks = record { pid = 10; cpu = 0; acts = Call (record { 0 = 0 }) ∷ RetAct ∷ [] } ∷ []; ctls = Run (Register 0) ∷ []; lines = usual_lines; rings = usual_rings; schedule = record { who = OfCpu (record { 0 = 0 }); count = 4 } ∷ record { who = OfControl; count = 10 } ∷ record { who = OfCpu (record { 0 = 0 }); count = 2 } ∷ record { who = OfControl; count = 10 } ∷ record { who = All; count = 100 } ∷ [] }
@@ -51,7 +49,6 @@ pub look_before_a_fetch-plays : Plays look_before_a_fetch look_before_a_fetch-it
 unfolding actors_of repeated start step run played play all_end control_next control_got cpu_next cpu_got insn moves desk
 look_before_a_fetch-plays = (refl, refl)
 
-
 abbrev pub no_look_in_irq : Job
 no_look_in_irq = record { version = 3; functions = named (codes "a") None ∷ []; users = record { name = codes "t"; kind = Function; regs = false; ipmodify = None; pid = false; act = None } ∷ []; frames = 50; tramps = 64; quanta = 100 ∷ []; tasks = record { pid = 10; cpu = 0; acts = Raise Irq ∷ Call (record { 0 = 0 }) ∷ RetAct ∷ Lower ∷ [] } ∷ []; ctls = Run (Register 0) ∷ []; lines = usual_lines; rings = usual_rings; schedule = record { who = OfCpu (record { 0 = 0 }); count = 4 } ∷ record { who = OfControl; count = 10 } ∷ record { who = OfCpu (record { 0 = 0 }); count = 2 } ∷ record { who = OfControl; count = 10 } ∷ record { who = All; count = 100 } ∷ [] }
 
@@ -61,7 +58,6 @@ no_look_in_irq-items = Enter (call_in 0 1) Irq (record { 0 = 0 }) None ∷ Begin
 pub no_look_in_irq-plays : Plays no_look_in_irq no_look_in_irq-items true
 unfolding actors_of repeated start step run played play all_end control_next control_got cpu_next cpu_got insn moves desk
 no_look_in_irq-plays = (refl, refl)
-
 
 abbrev pub looks_in_softirq : Job
 looks_in_softirq = record { version = 3; functions = named (codes "a") None ∷ []; users = record { name = codes "t"; kind = Function; regs = false; ipmodify = None; pid = false; act = None } ∷ []; frames = 50; tramps = 64; quanta = 100 ∷ []; tasks = record { pid = 10; cpu = 0; acts = Raise Softirq ∷ Call (record { 0 = 0 }) ∷ RetAct ∷ Lower ∷ [] } ∷ []; ctls = Run (Register 0) ∷ []; lines = usual_lines; rings = usual_rings; schedule = record { who = OfCpu (record { 0 = 0 }); count = 5 } ∷ record { who = OfControl; count = 10 } ∷ record { who = OfCpu (record { 0 = 0 }); count = 2 } ∷ record { who = OfControl; count = 3 } ∷ record { who = OfCpu (record { 0 = 0 }); count = 2 } ∷ record { who = OfControl; count = 3 } ∷ record { who = OfCpu (record { 0 = 0 }); count = 2 } ∷ record { who = OfControl; count = 2 } ∷ record { who = All; count = 100 } ∷ [] }
@@ -73,7 +69,6 @@ pub looks_in_softirq-plays : Plays looks_in_softirq looks_in_softirq-items true
 unfolding actors_of repeated start step run played play all_end control_next control_got cpu_next cpu_got insn moves desk
 looks_in_softirq-plays = (refl, refl)
 
-
 abbrev pub looks_use_up_no_quantum : Job
 looks_use_up_no_quantum = record { version = 3; functions = named (codes "a") None ∷ []; users = []; frames = 50; tramps = 64; quanta = 2 ∷ []; tasks = record { pid = 10; cpu = 0; acts = Call (record { 0 = 0 }) ∷ RetAct ∷ [] } ∷ record { pid = 11; cpu = 0; acts = Call (record { 0 = 0 }) ∷ RetAct ∷ [] } ∷ []; ctls = []; lines = usual_lines; rings = usual_rings; schedule = record { who = OfCpu (record { 0 = 0 }); count = 100 } ∷ [] }
 
@@ -83,7 +78,6 @@ looks_use_up_no_quantum-items = Enter (call_in 0 1) Normal (record { 0 = 0 }) No
 pub looks_use_up_no_quantum-plays : Plays looks_use_up_no_quantum looks_use_up_no_quantum-items true
 unfolding actors_of repeated start step run played play all_end control_next control_got cpu_next cpu_got insn moves desk
 looks_use_up_no_quantum-plays = (refl, refl)
-
 
 abbrev pub plain_user_in_its_trampoline : Job
 plain_user_in_its_trampoline = record { version = 3; functions = named (codes "a") None ∷ []; users = record { name = codes "t"; kind = Function; regs = false; ipmodify = None; pid = false; act = None } ∷ []; frames = 50; tramps = 64; quanta = 100 ∷ []; tasks = record { pid = 10; cpu = 0; acts = After 1 ∷ Call (record { 0 = 0 }) ∷ RetAct ∷ [] } ∷ []; ctls = Run (Register 0) ∷ Run (Unregister 0) ∷ []; lines = usual_lines; rings = usual_rings; schedule = record { who = OfCpu (record { 0 = 0 }); count = 1 } ∷ record { who = OfControl; count = 10 } ∷ record { who = OfCpu (record { 0 = 0 }); count = 2 } ∷ record { who = OfControl; count = 3 } ∷ record { who = OfCpu (record { 0 = 0 }); count = 2 } ∷ record { who = OfControl; count = 3 } ∷ record { who = OfCpu (record { 0 = 0 }); count = 2 } ∷ record { who = OfControl; count = 2 } ∷ record { who = OfCpu (record { 0 = 0 }); count = 9 } ∷ record { who = OfControl; count = 6 } ∷ record { who = OfCpu (record { 0 = 0 }); count = 2 } ∷ record { who = OfControl; count = 3 } ∷ record { who = OfCpu (record { 0 = 0 }); count = 2 } ∷ record { who = OfControl; count = 3 } ∷ record { who = OfCpu (record { 0 = 0 }); count = 2 } ∷ record { who = OfControl; count = 22 } ∷ record { who = All; count = 100 } ∷ [] }
@@ -95,7 +89,6 @@ pub plain_user_in_its_trampoline-plays : Plays plain_user_in_its_trampoline plai
 unfolding actors_of repeated start step run played play all_end control_next control_got cpu_next cpu_got insn moves desk
 plain_user_in_its_trampoline-plays = (refl, refl)
 
-
 abbrev pub graph_user_in_its_trampoline : Job
 graph_user_in_its_trampoline = record { version = 3; functions = named (codes "a") None ∷ []; users = record { name = codes "t"; kind = Graph; regs = false; ipmodify = None; pid = false; act = None } ∷ []; frames = 50; tramps = 64; quanta = 100 ∷ []; tasks = record { pid = 10; cpu = 0; acts = After 1 ∷ Call (record { 0 = 0 }) ∷ RetAct ∷ [] } ∷ []; ctls = Run (Register 0) ∷ Run (Unregister 0) ∷ []; lines = usual_lines; rings = usual_rings; schedule = record { who = OfCpu (record { 0 = 0 }); count = 1 } ∷ record { who = OfControl; count = 10 } ∷ record { who = OfCpu (record { 0 = 0 }); count = 2 } ∷ record { who = OfControl; count = 3 } ∷ record { who = OfCpu (record { 0 = 0 }); count = 2 } ∷ record { who = OfControl; count = 3 } ∷ record { who = OfCpu (record { 0 = 0 }); count = 2 } ∷ record { who = OfControl; count = 2 } ∷ record { who = OfCpu (record { 0 = 0 }); count = 9 } ∷ record { who = OfControl; count = 6 } ∷ record { who = OfCpu (record { 0 = 0 }); count = 2 } ∷ record { who = OfControl; count = 3 } ∷ record { who = OfCpu (record { 0 = 0 }); count = 2 } ∷ record { who = OfControl; count = 3 } ∷ record { who = OfCpu (record { 0 = 0 }); count = 2 } ∷ record { who = OfControl; count = 22 } ∷ record { who = All; count = 100 } ∷ [] }
 
@@ -105,7 +98,6 @@ graph_user_in_its_trampoline-items = Begin 1 ∷ Return 1 Accepted ∷ Enter (ca
 pub graph_user_in_its_trampoline-plays : Plays graph_user_in_its_trampoline graph_user_in_its_trampoline-items true
 unfolding actors_of repeated start step run played play all_end control_next control_got cpu_next cpu_got insn moves desk
 graph_user_in_its_trampoline-plays = (refl, refl)
-
 
 abbrev pub fprobe_in_its_trampoline : Job
 fprobe_in_its_trampoline = record { version = 3; functions = named (codes "a") None ∷ []; users = record { name = codes "t"; kind = Fprobe false false; regs = false; ipmodify = None; pid = false; act = None } ∷ []; frames = 50; tramps = 64; quanta = 100 ∷ []; tasks = record { pid = 10; cpu = 0; acts = After 1 ∷ Call (record { 0 = 0 }) ∷ RetAct ∷ [] } ∷ []; ctls = Run (Register 0) ∷ Run (Unregister 0) ∷ []; lines = usual_lines; rings = usual_rings; schedule = record { who = OfCpu (record { 0 = 0 }); count = 1 } ∷ record { who = OfControl; count = 10 } ∷ record { who = OfCpu (record { 0 = 0 }); count = 2 } ∷ record { who = OfControl; count = 3 } ∷ record { who = OfCpu (record { 0 = 0 }); count = 2 } ∷ record { who = OfControl; count = 3 } ∷ record { who = OfCpu (record { 0 = 0 }); count = 2 } ∷ record { who = OfControl; count = 2 } ∷ record { who = OfCpu (record { 0 = 0 }); count = 9 } ∷ record { who = OfControl; count = 6 } ∷ record { who = OfCpu (record { 0 = 0 }); count = 2 } ∷ record { who = OfControl; count = 3 } ∷ record { who = OfCpu (record { 0 = 0 }); count = 2 } ∷ record { who = OfControl; count = 3 } ∷ record { who = OfCpu (record { 0 = 0 }); count = 2 } ∷ record { who = OfControl; count = 22 } ∷ record { who = All; count = 100 } ∷ [] }
@@ -117,7 +109,6 @@ pub fprobe_in_its_trampoline-plays : Plays fprobe_in_its_trampoline fprobe_in_it
 unfolding actors_of repeated start step run played play all_end control_next control_got cpu_next cpu_got insn moves desk
 fprobe_in_its_trampoline-plays = (refl, refl)
 
-
 abbrev pub plain_user_in_a_walk : Job
 plain_user_in_a_walk = record { version = 3; functions = named (codes "a") None ∷ []; users = record { name = codes "t"; kind = Function; regs = false; ipmodify = None; pid = false; act = None } ∷ record { name = codes "s"; kind = Function; regs = false; ipmodify = None; pid = false; act = None } ∷ []; frames = 50; tramps = 64; quanta = 100 ∷ []; tasks = record { pid = 10; cpu = 0; acts = After 2 ∷ Call (record { 0 = 0 }) ∷ RetAct ∷ [] } ∷ []; ctls = Run (Register 0) ∷ Run (Register 1) ∷ Run (Unregister 0) ∷ []; lines = usual_lines; rings = usual_rings; schedule = record { who = OfCpu (record { 0 = 0 }); count = 1 } ∷ record { who = OfControl; count = 10 } ∷ record { who = OfCpu (record { 0 = 0 }); count = 2 } ∷ record { who = OfControl; count = 3 } ∷ record { who = OfCpu (record { 0 = 0 }); count = 2 } ∷ record { who = OfControl; count = 3 } ∷ record { who = OfCpu (record { 0 = 0 }); count = 2 } ∷ record { who = OfControl; count = 2 } ∷ record { who = OfControl; count = 10 } ∷ record { who = OfCpu (record { 0 = 0 }); count = 2 } ∷ record { who = OfControl; count = 3 } ∷ record { who = OfCpu (record { 0 = 0 }); count = 2 } ∷ record { who = OfControl; count = 3 } ∷ record { who = OfCpu (record { 0 = 0 }); count = 2 } ∷ record { who = OfControl; count = 2 } ∷ record { who = OfCpu (record { 0 = 0 }); count = 21 } ∷ record { who = OfControl; count = 6 } ∷ record { who = OfCpu (record { 0 = 0 }); count = 2 } ∷ record { who = OfControl; count = 3 } ∷ record { who = OfCpu (record { 0 = 0 }); count = 2 } ∷ record { who = OfControl; count = 3 } ∷ record { who = OfCpu (record { 0 = 0 }); count = 2 } ∷ record { who = OfControl; count = 22 } ∷ record { who = All; count = 100 } ∷ [] }
 
@@ -127,7 +118,6 @@ plain_user_in_a_walk-items = Begin 1 ∷ Return 1 Accepted ∷ Begin 2 ∷ Retur
 pub plain_user_in_a_walk-plays : Plays plain_user_in_a_walk plain_user_in_a_walk-items true
 unfolding actors_of repeated start step run played play all_end control_next control_got cpu_next cpu_got insn moves desk
 plain_user_in_a_walk-plays = (refl, refl)
-
 
 abbrev pub graph_user_in_a_walk : Job
 graph_user_in_a_walk = record { version = 3; functions = named (codes "a") None ∷ []; users = record { name = codes "t"; kind = Graph; regs = false; ipmodify = None; pid = false; act = None } ∷ record { name = codes "s"; kind = Function; regs = false; ipmodify = None; pid = false; act = None } ∷ []; frames = 50; tramps = 64; quanta = 100 ∷ []; tasks = record { pid = 10; cpu = 0; acts = After 2 ∷ Call (record { 0 = 0 }) ∷ RetAct ∷ [] } ∷ []; ctls = Run (Register 0) ∷ Run (Register 1) ∷ Run (Unregister 0) ∷ []; lines = usual_lines; rings = usual_rings; schedule = record { who = OfCpu (record { 0 = 0 }); count = 1 } ∷ record { who = OfControl; count = 10 } ∷ record { who = OfCpu (record { 0 = 0 }); count = 2 } ∷ record { who = OfControl; count = 3 } ∷ record { who = OfCpu (record { 0 = 0 }); count = 2 } ∷ record { who = OfControl; count = 3 } ∷ record { who = OfCpu (record { 0 = 0 }); count = 2 } ∷ record { who = OfControl; count = 2 } ∷ record { who = OfControl; count = 10 } ∷ record { who = OfCpu (record { 0 = 0 }); count = 2 } ∷ record { who = OfControl; count = 3 } ∷ record { who = OfCpu (record { 0 = 0 }); count = 2 } ∷ record { who = OfControl; count = 3 } ∷ record { who = OfCpu (record { 0 = 0 }); count = 2 } ∷ record { who = OfControl; count = 2 } ∷ record { who = OfCpu (record { 0 = 0 }); count = 21 } ∷ record { who = OfControl; count = 6 } ∷ record { who = OfCpu (record { 0 = 0 }); count = 2 } ∷ record { who = OfControl; count = 3 } ∷ record { who = OfCpu (record { 0 = 0 }); count = 2 } ∷ record { who = OfControl; count = 3 } ∷ record { who = OfCpu (record { 0 = 0 }); count = 2 } ∷ record { who = OfControl; count = 22 } ∷ record { who = All; count = 100 } ∷ [] }
@@ -139,7 +129,6 @@ pub graph_user_in_a_walk-plays : Plays graph_user_in_a_walk graph_user_in_a_walk
 unfolding actors_of repeated start step run played play all_end control_next control_got cpu_next cpu_got insn moves desk
 graph_user_in_a_walk-plays = (refl, refl)
 
-
 abbrev pub two_commands_in_a_call : Job
 two_commands_in_a_call = record { version = 3; functions = named (codes "a") None ∷ []; users = record { name = codes "old"; kind = Function; regs = false; ipmodify = None; pid = false; act = None } ∷ record { name = codes "new"; kind = Function; regs = false; ipmodify = None; pid = false; act = None } ∷ []; frames = 50; tramps = 64; quanta = 100 ∷ []; tasks = record { pid = 10; cpu = 0; acts = After 1 ∷ Call (record { 0 = 0 }) ∷ RetAct ∷ Call (record { 0 = 0 }) ∷ RetAct ∷ [] } ∷ []; ctls = Run (Register 0) ∷ Run (Register 1) ∷ Run (Unregister 0) ∷ []; lines = usual_lines; rings = usual_rings; schedule = record { who = OfCpu (record { 0 = 0 }); count = 1 } ∷ record { who = OfControl; count = 10 } ∷ record { who = OfCpu (record { 0 = 0 }); count = 2 } ∷ record { who = OfControl; count = 3 } ∷ record { who = OfCpu (record { 0 = 0 }); count = 2 } ∷ record { who = OfControl; count = 3 } ∷ record { who = OfCpu (record { 0 = 0 }); count = 2 } ∷ record { who = OfControl; count = 2 } ∷ record { who = OfCpu (record { 0 = 0 }); count = 11 } ∷ record { who = OfControl; count = 10 } ∷ record { who = OfCpu (record { 0 = 0 }); count = 2 } ∷ record { who = OfControl; count = 3 } ∷ record { who = OfCpu (record { 0 = 0 }); count = 2 } ∷ record { who = OfControl; count = 3 } ∷ record { who = OfCpu (record { 0 = 0 }); count = 2 } ∷ record { who = OfControl; count = 2 } ∷ record { who = OfControl; count = 6 } ∷ record { who = OfCpu (record { 0 = 0 }); count = 2 } ∷ record { who = OfControl; count = 3 } ∷ record { who = OfCpu (record { 0 = 0 }); count = 2 } ∷ record { who = OfControl; count = 3 } ∷ record { who = OfCpu (record { 0 = 0 }); count = 2 } ∷ record { who = OfControl; count = 22 } ∷ record { who = OfCpu (record { 0 = 0 }); count = 100 } ∷ record { who = All; count = 100 } ∷ [] }
 
@@ -149,4 +138,3 @@ two_commands_in_a_call-items = Begin 1 ∷ Return 1 Accepted ∷ Enter (call_in 
 pub two_commands_in_a_call-plays : Plays two_commands_in_a_call two_commands_in_a_call-items true
 unfolding actors_of repeated start step run played play all_end control_next control_got cpu_next cpu_got insn moves desk
 two_commands_in_a_call-plays = (refl, refl)
-

@@ -193,8 +193,11 @@ module _ (job : Job) (ok : IsWordJob job) (h : Here) (past : List Item) (clock :
         gone : (k : ℕ) → (state_of job h.d u).registered ≡ true → (state_of job (suc h.d) u).registered ≡ false → (effect job h.d ≡ Removes) × (u ≡ subject job h.d)
         gone k r o = elim (cases_eq u (subject job h.d)) [
           | inr ne ↦ false_true (sym o ∙ ap (λ (s : UserState). s.registered) ((between job ok.job' h.d).others u ne) ∙ r)
-          | inl e ↦ (by_effect (effect job h.d) (between job ok.job' h.d).subject (subst (λ v. (state_of job h.d v).registered ≡ true) e r)
-              (subst (λ v. (state_of job (suc h.d) v).registered ≡ false) e o), e)
+          | inl e ↦ (
+            by_effect (effect job h.d) (between job ok.job' h.d).subject (subst (λ v. (state_of job h.d v).registered ≡ true) e r)
+                (subst (λ v. (state_of job (suc h.d) v).registered ≡ false) e o),
+            e,
+          )
         ]
           where
             by_effect : (z : Effect) → SubjectBy job (desk job h.d) (suc h.d) z (state_of job h.d (subject job h.d)) (state_of job (suc h.d) (subject job h.d))
