@@ -19,8 +19,8 @@ def read_script(name):
     text = files.read(name)
     if len(text) > LIMITS["INPUT_BYTES"]:
         raise Fault(f"{name}: it has more bytes than a script may have, {LIMITS['INPUT_BYTES']}")
-    if text.split(b"\n", 1)[0].split() not in ([b"ftrace", b"1"], [b"ftrace", b"2"]):
-        raise Fault(f"{name}: it isn't a script: its first line is neither `ftrace 1` nor `ftrace 2`")
+    if text.split(b"\n", 1)[0].split() not in ([b"ftrace", b"1"], [b"ftrace", b"2"], [b"ftrace", b"3"]):
+        raise Fault(f"{name}: it isn't a script: its first line is none of `ftrace 1`, `ftrace 2` and `ftrace 3`")
     if not text.endswith(b"\n"):
         raise Fault(f"{name}: its last line isn't ended by a line feed, so it may have been cut")
     try:

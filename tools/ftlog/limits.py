@@ -20,7 +20,8 @@ class Version(NamedTuple):
 BY_VERSION = ["FUNCS", "USERS", "TRAMPS", "GUARD_LEVELS"]
 VERSION_1 = Version(1, *(LIMITS[f"{name}_IN_VERSION_1"] for name in BY_VERSION))
 VERSION_2 = Version(2, *(LIMITS[name] for name in BY_VERSION))
-VERSIONS = [VERSION_1, VERSION_2]
+VERSION_3 = VERSION_2._replace(number=3)
+VERSIONS = [VERSION_1, VERSION_2, VERSION_3]
 
 
 def call_bound(users, acting, version):
@@ -33,4 +34,4 @@ def call_bound(users, acting, version):
 
 def version_of(words):
     """The version that a script says whose first line has these words; version 1 if it says none."""
-    return VERSION_2 if words == ["ftrace", "2"] else VERSION_1
+    return next((version for version in VERSIONS if words == ["ftrace", str(version.number)]), VERSION_1)

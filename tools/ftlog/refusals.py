@@ -146,15 +146,15 @@ def wrong_version(above, line):
         return None
     text = quoted(line.text) if line.text.strip(" \t") else "a blank line"
     if ODD_BYTE.search(line.text) and line.reason:
-        return Refusal(line, "version", "", [f"line 1 isn't `ftrace 1` or `ftrace 2`: {line.reason.why}"], line.reason.fix)
+        return Refusal(line, "version", "", [f"line 1 isn't `ftrace 1`, `ftrace 2` or `ftrace 3`: {line.reason.why}"], line.reason.fix)
     if above.version_below:
         return Refusal(line, "version", "", [f"line 1 is {text}, and {here(above.version_below)}, is below it"],
                        f"make line {above.version_below.number} line 1")
     if line.words[:1] == ["ftrace"]:
-        return Refusal(line, "version", "", ["the words of line 1 are `ftrace` and `1`, or `ftrace` and `2`, and no others"],
-                       "write `ftrace 1` or `ftrace 2`")
-    return Refusal(line, "version", "", [f"line 1 is {text}, and not `ftrace 1` or `ftrace 2`"],
-                   "put `ftrace 1` or `ftrace 2` above it: comments too come below that")
+        return Refusal(line, "version", "", ["the words of line 1 are `ftrace` and one of `1`, `2` and `3`, and no others"],
+                       "write `ftrace 1`, `ftrace 2` or `ftrace 3`")
+    return Refusal(line, "version", "", [f"line 1 is {text}, and not `ftrace 1`, `ftrace 2` or `ftrace 3`"],
+                   "put `ftrace 1`, `ftrace 2` or `ftrace 3` above it: comments too come below that")
 
 
 # limit

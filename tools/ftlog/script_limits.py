@@ -44,7 +44,7 @@ def long_names(said):
 def by_version(above, what, have, name):
     """One too many of what differs by version."""
     most, more = getattr(above.version, name), getattr(limits.VERSION_2, name)
-    found = one_too_many(what, have, most, f"drop some; in version 2 {more:,} are allowed" if more > most else "drop some")
+    found = one_too_many(what, have, most, f"drop some; from version 2 on {more:,} are allowed" if more > most else "drop some")
     return found and (f"{found[0]} in version {above.version.number}", *found[1:])
 
 

@@ -197,9 +197,9 @@ class Words:
 # The forms, each read from the words after its key.
 
 def read_version(words):
-    """`ftrace 1` or `ftrace 2`."""
-    if words.takes("1", "2") is None:
-        words.stop("`ftrace` goes with `1` or `2`", "write `ftrace 1`")
+    """`ftrace 1`, `ftrace 2` or `ftrace 3`."""
+    if words.takes("1", "2", "3") is None:
+        words.stop("`ftrace` goes with `1`, `2` or `3`", "write `ftrace 1`")
     return {"N": words.words[1]}
 
 

@@ -13,7 +13,7 @@ that is stored beside each. docs/SIGNATURES.md has to be what `tools/ft signatur
 
 A block is lines of a page that begin with four blanks, with no other line between them.
 
-- If its first line is `ftrace 1` or `ftrace 2`, it is a script. Either the next block is its log, or a command below reads it.
+- If its first line is `ftrace 1`, `ftrace 2` or `ftrace 3`, it is a script. Either the next block is its log, or a command below reads it.
 - If its first line begins with `$ ftcore`, it is a command and, from the next line on, what that prints; more
   commands may follow in it, each with what it prints. A command is `$ ftcore` and the program's words, without
   quotes. It reads the nearest script above it on its page or, if it ends with `< examples/NAME.ft`, that one.
@@ -314,7 +314,7 @@ class Page:
         """Each script and each command, and gives how many scripts there are."""
         text, is_below = self.path.read_text(), False
         for number, block in blocks(text):
-            is_script = block.startswith((b"ftrace 1\n", b"ftrace 2\n"))
+            is_script = block.startswith((b"ftrace 1\n", b"ftrace 2\n", b"ftrace 3\n"))
             if is_script:
                 self.begin(number, block)
             elif block.startswith(b"$ ftcore"):

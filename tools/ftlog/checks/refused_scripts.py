@@ -348,7 +348,7 @@ def refused_rows():
     late = b"ftrace 1\n" + b"".join(b"# function %d:\nfunc f%d\n" % (number, number) for number in range(1_025))
     yield "refused late", ["replay"], late, b"line 2051: limit\n"
     for what, count, printed in [("refused in the most bytes", forms.INPUT_BYTES, b"line 1: version\n"), ("refused, but too long", forms.INPUT_BYTES + 1, b"")]:
-        yield what, ["replay"], b"ftrace 3\n" + b"#" * (count - 10) + b"\n", printed
+        yield what, ["replay"], b"ftrace 4\n" + b"#" * (count - 10) + b"\n", printed
 
 
 def load_rows():

@@ -10,7 +10,7 @@ import tempfile
 from typing import NamedTuple
 
 from ftlog import runs
-from ftlog.checks import check_docs
+from ftlog.checks import check_docs, look_texts
 
 SECONDS = 60  # that a run by threads may take
 
@@ -249,4 +249,5 @@ def check_each(rows, program, texts):
 def check(rows, program):
     """A row for each script and each way to print it."""
     worded = [(f"the first path: {words}", words.split(), text(FIRST_PATH), text(FIRST_PATH_LOG)) for words in LOG_WORDS]
-    check_each(rows, program, [*told_rows(SCRIPTS), *worded, *cut_rows()])
+    looks = [(f"looks: {what}", ["replay"], text(f"ftrace {version}; {script}"), text(log)) for what, version, script, log in look_texts.ROWS]
+    check_each(rows, program, [*told_rows(SCRIPTS), *worded, *looks, *cut_rows()])

@@ -84,7 +84,7 @@ def add_text(rng, lines):
 
 def change_version(rng, lines):
     """The first line."""
-    lines[:1] = [rng.choice(["ftrace 3", "ftrace", "ftrace 2 1", "ftrace 01", "# ftrace 1", "", "func a", "ftrace 1", "ftrace 2"]).split()]
+    lines[:1] = [rng.choice(["ftrace 4", "ftrace", "ftrace 2 1", "ftrace 01", "# ftrace 1", "", "func a", "ftrace 1", "ftrace 2"]).split()]
 
 
 def broken_bytes(rng, text):

@@ -24,7 +24,7 @@ PLACES = {"NAME": "vfs_read", "MODULE": "ext3", "N": "3", "M": "ext3", "CAP": "1
 # Lines that have no form, most of them of docs/LANGUAGE.md's table of those.
 NO_FORM = ["frob", "func", "func a # the first", "func 1a", "func a/b", "cpu 0 quantum 00000000005", "cpu 0 quantum +5", "user t", "user t function pid regs",
            "user t graph ipmodify a", "user f fprobe cancel", "ctl register t t", "ctl filter t >>", "ctl filter t >a", "ctl filter t > a b", "irq a", "tracing on",
-           "ring", "trigger a traceoff", "sched", "sched k * 2", "sched 8", "sched 00", "ftrace 3", "ret x", "ctl", "ctl until 10", "Func a", "lane"]
+           "ring", "trigger a traceoff", "sched", "sched k * 2", "sched 8", "sched 00", "ftrace 4", "ret x", "ctl", "ctl until 10", "Func a", "lane"]
 # Lines with words of the language in the places of names, and the group that vim has for each word.
 GROUPS = [
     ("func ret", "Declaration Function"),

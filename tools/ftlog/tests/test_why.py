@@ -101,7 +101,7 @@ SYNTAX = [
 OTHERS = [
     # version
     (b"", "line 1: version", "the script is empty"),
-    ("ftrace 3", "line 1: version", "write `ftrace 1` or `ftrace 2`"),
+    ("ftrace 4", "line 1: version", "write `ftrace 1`, `ftrace 2` or `ftrace 3`"),
     ("# x; ftrace 1", "line 1: version", "line 2, `ftrace 1`, is below it", "make line 2 line 1"),
     ("; func a", "line 1: version", "line 1 is a blank line"),
     ("ftrace 1\r; func a", "line 1: version", "a carriage return"),
@@ -111,7 +111,7 @@ OTHERS = [
     (f"ftrace 1; func a {'n' * 64}", "line 2: limit", "has 64 bytes"),
     (f"ftrace 1; ctl register {'n' * 64}", "line 2: limit", "has 64 bytes"),
     (f"ftrace 1; {repeated('func f{}', VERSION_1.funcs + 3)}", "line 1026: limit", "1,024 functions above it",
-     "in version 2 4,096 are allowed", "so are 2 more lines, down to line 1028"),
+     "from version 2 on 4,096 are allowed", "so are 2 more lines, down to line 1028"),
     (f"ftrace 2; {repeated('func f{}', VERSION_2.funcs + 1)}", "line 4098: limit", "4,096 functions above it", "fix: drop some"),
     (f"ftrace 1; {repeated('user u{} graph', 17)}", "line 18: limit", "16 users above it"),
     (f"ftrace 1; {repeated('cpu {} quantum 5', 9)}", "line 10: limit", f"{LIMITS['CPUS']} CPUs above it"),

@@ -16,7 +16,7 @@ WRONG = [
     ("a log that is cut in a line", SCRIPT, LOG[:-6]),
     ("a log without its last line", SCRIPT, lines(ITEMS)),
     ("a line after the last one", SCRIPT, LOG + b"8 begin 2\n"),
-    ("another version", SCRIPT.replace(b"ftrace 1", b"ftrace 3"), LOG),
+    ("another version", SCRIPT.replace(b"ftrace 1", b"ftrace 4"), LOG),
     ("a log in place of the script", LOG, LOG),
     ("a script in place of the log", SCRIPT, SCRIPT),
     ("bytes that aren't UTF-8 in a script", b"ftrace 1\nfunc \xff\xfe\n", LOG),
