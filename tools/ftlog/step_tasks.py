@@ -6,6 +6,8 @@ tasks that CPU's loads and stores belong to, and only its marks are given to tas
 """
 from typing import Optional
 
+from ftlog.limits import LIMITS
+
 INTERRUPTS = ("softirq", "irq", "nmi", "iret")
 COMMANDS = 2**33  # what one command that has returned adds to the clock: its two items
 
@@ -13,8 +15,10 @@ COMMANDS = 2**33  # what one command that has returned adds to the clock: its tw
 class Cpu:
     """Goes along the steps of a CPU, and keeps which of its tasks it runs."""
 
-    def __init__(self, quantum, tasks):
+    def __init__(self, quantum, tasks, has_looks=False):
         self.quantum, self.tasks = quantum, tasks  # the tasks by their numbers in the script
+        self.has_looks, self.is_looking = has_looks, False
+        self.polled = dict.fromkeys(tasks, False)  # whether each has had the poll before its present act
         self.order = list(tasks)
         self.done = dict.fromkeys(tasks, 0)  # how many acts each has finished
         self.callbacks = dict.fromkeys(tasks, 0)  # how many of its entry callbacks are open
@@ -41,24 +45,39 @@ class Cpu:
         if not self.is_told:
             return next((task for task in self.order if fields and self.tasks[task].pid == fields["pid"]), None)
         task, must_switch = self.present, False
+        if self.looks(word):
+            return task
         self.count += 1
         if fields is not None:
             self.mark(task, fields["item"])
         elif word == "clock" and self.act()[:1] == ["after"]:
             is_met = value // COMMANDS >= int(self.act()[1])
-            self.done[task] += is_met
+            self.finish(task, is_met)
             must_switch = not is_met
-        elif is_polling is False and self.act() and self.act()[0] in INTERRUPTS:
-            self.done[task] += 1  # it is done with the last step of the poll
+        elif is_polling is False and self.act():
+            self.polled[task] = True
+            if self.act()[0] in INTERRUPTS:
+                self.finish(task)  # it is done with the last step of the poll
         if not is_polling and not word.startswith("head."):
             self.switch(must_switch)
         return task
+
+    def looks(self, word):
+        """Whether a step is one of a look: it comes after the poll of the present task's act. It isn't counted for the quantum."""
+        is_after_poll = self.has_looks and self.present is not None and self.polled[self.present]
+        self.is_looking = is_after_poll and (word == "want" or (self.is_looking and word.startswith("ack.")))
+        return self.is_looking
+
+    def finish(self, task, is_done=True):
+        """The task's act is done, or is tried again; either way a poll comes next."""
+        self.done[task] += is_done
+        self.polled[task] = False
 
     def mark(self, task, item):
         """The task's act is done with the mark of the body or of the return, unless that is of a call in one of its callbacks."""
         self.callbacks[task] += {"back": 1, "back-end": -1}.get(item, 0)
         if item in ("body", "ret") and not self.callbacks[task]:
-            self.done[task] += 1
+            self.finish(task)
 
     def switch(self, must_switch):
         """The CPU goes on to the next task that is left if it has to, or if the present one has ended or its quantum is used up."""
@@ -80,7 +99,8 @@ def tasks_of(trace, script):
     It is None for control, for a CPU's last poll, and for what can't be told.
     """
     quanta, tasks = script.quanta, script.acts
-    cpus = [Cpu(quantum, {at: task for at, task in enumerate(tasks) if task.cpu == number}) for number, quantum in enumerate(quanta)]
+    has_looks = script.version >= LIMITS["LOOKS_SINCE"]
+    cpus = [Cpu(quantum, {at: task for at, task in enumerate(tasks) if task.cpu == number}, has_looks) for number, quantum in enumerate(quanta)]
     names, fields = list(trace.words), iter(trace.fields)
     later = [False] * len(trace.steps)  # whether the next step of the same actor goes on with a poll
     last = {}
