@@ -59,9 +59,3 @@ ROWS = [
     ("so many turns are needed with looks", 3, QUANTUM.format(32), SWITCHED),
     ("so many turns are needed without looks", 2, QUANTUM.format(22), SWITCHED),
 ]
-
-# Scripts of another version, or with a schedule that has an item more, and how they are refused.
-REFUSED = [
-    ("ftrace 4", "line 1: version"),
-    ("ftrace 3; sched i0", "line 2: syntax"),
-]

@@ -18,9 +18,10 @@ REFUSED = {
 1 ftrace 02
 1 ftrace 1 1
 1 ftrace 2 2
-1 ftrace 3; ftrace 2
+1 ftrace 4; ftrace 2
 """,
     "syntax": """
+2 ftrace 3; sched i0
 2 ftrace 1; func .a
 2 ftrace 1; func a-b
 2 ftrace 1; ftrace 1
