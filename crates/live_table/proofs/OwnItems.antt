@@ -253,11 +253,11 @@ mark-own job c me item k e = by me.phase e
     going true any is = (me.present, k.present' any, present-marks me (me.tasks me.present).moment item k.calls is)
     going false none is = absurd cc
 
-    by : (p : Phase) → phase_op job me p ≡ Some (Mark item) → OfCpu job c item
-
     looking : (b : Bool) → cond b (Some (Load Want)) (going_op job me) ≡ Some (Mark item) → OfCpu job c item
     looking true is = absurd cc
     looking false is = going (any_has_more job me) refl is
+
+    by : (p : Phase) → phase_op job me p ≡ Some (Mark item) → OfCpu job c item
     by Going is = looking (looks job me) is
     by Looked is = going (any_has_more job me) refl is
     by (Answering r) is = absurd cc

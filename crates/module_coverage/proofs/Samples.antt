@@ -111,7 +111,7 @@ after_the_return-plays = (refl, refl)
 
 after_the_return-limited : IsLimited after_the_return
 after_the_return-limited = record {
-  version = inl refl;
+  version = (omega arith, omega arith);
   job' = record { commands = search (arith, rules); acts = search (arith, rules); tasks = search (arith, rules) };
   placed = (omega arith, tt);
   waits = search (arith, rules);
@@ -160,7 +160,7 @@ after_the_body-plays = (refl, refl)
 
 after_the_body-limited : IsLimited after_the_body
 after_the_body-limited = record {
-  version = inl refl;
+  version = (omega arith, omega arith);
   job' = record { commands = search (arith, rules); acts = search (arith, rules); tasks = search (arith, rules) };
   placed = (omega arith, tt);
   waits = search (arith, rules);
@@ -233,7 +233,7 @@ act_reaches_in-plays = (refl, refl)
 
 act_reaches_in-limited : IsLimited act_reaches_in
 act_reaches_in-limited = record {
-  version = inl refl;
+  version = (omega arith, omega arith);
   job' = record { commands = search (arith, rules); acts = search (arith, rules); tasks = search (arith, rules) };
   placed = (omega arith, tt);
   waits = search (arith, rules);
@@ -292,7 +292,7 @@ replacement_is_in-plays = (refl, refl)
 
 replacement_is_in-limited : IsLimited replacement_is_in
 replacement_is_in-limited = record {
-  version = inl refl;
+  version = (omega arith, omega arith);
   job' = record { commands = search (arith, rules); acts = search (arith, rules); tasks = search (arith, rules) };
   placed = (omega arith, tt);
   waits = search (arith, rules);

@@ -19,7 +19,7 @@ named = record {
 
 limited : IsLimited the_job
 limited = record {
-  version = inl refl;
+  version = (omega arith, omega arith);
   job' = named;
   placed = (omega arith, tt);
   waits = (tt, (omega arith, (tt, tt)));

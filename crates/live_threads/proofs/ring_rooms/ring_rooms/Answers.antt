@@ -26,7 +26,7 @@ call_bound-bound-requires c =
     let few = (few-largest job.version c.users.ensures.limited.counts).few_users in
     let count = sym (length-map c.specs.result.now spec_of) ∙ ap length c.specs.ensures in
     let most = levels-most job.version in
-    let same = levels-are job c.version.ensures c.of.ensures c.from.ensures in
+    let same = levels-are job c.version.ensures c.of-levels.ensures c.from.ensures in
     record { users = omega (arith, count, few); levels = omega (arith, same, most) }
 
 pub calls_of-requires : goal.calls_of-requires
@@ -43,7 +43,7 @@ calls_of-requires c =
 is-room : (c : After-calls_of) → c.call_bound-bound.result * c.calls_of.result ≡ room_on c.args.job.now c.loop-plan.plan-index
 is-room c =
     let job = c.args.job.now in
-    let same = levels-are job c.version.ensures c.of.ensures c.from.ensures in
+    let same = levels-are job c.version.ensures c.of-levels.ensures c.from.ensures in
     let bound : c.call_bound-bound.result ≡ call_bound_in job =
     c.call_bound-bound.ensures ∙ ap₂ (λ (us : List Spec) n. call_bound_of us n) c.specs.ensures same in
     let plans = c.cpus-plans.result.now in
