@@ -36,9 +36,10 @@ pub fn story(alloc: Global, absent: &[u32], changes: &[Change]) -> Result<Vec<Ch
     Ok(story)
 }
 
-/// The number after that of a function's module.
+/// The number after that of a function's module; 0 if it lies in none.
 fn end_of(owner: Option<u32>) -> usize
-    ensures { (m : ℕ) → owner ≡ Some m → m < result }
+    ensures above { (m : ℕ) → owner ≡ Some m → m < result }
+    ensures least { (k : ℕ) → ((m : ℕ) → owner ≡ Some m → m < k) → result ≤ k }
 {
     match owner {
         Some(owner) => owner as usize + 1,
@@ -46,13 +47,15 @@ fn end_of(owner: Option<u32>) -> usize
     }
 }
 
-/// A number above those of the modules of all functions.
+/// The least number above those of the modules of all functions.
 pub fn modules_of(owners: &[Option<u32>]) -> usize
-    ensures { (f m : ℕ) → owner_in owners.now f ≡ Some m → m < result }
+    ensures above { (f m : ℕ) → owner_in owners.now f ≡ Some m → m < result }
+    ensures least { (k : ℕ) → ((f m : ℕ) → owner_in owners.now f ≡ Some m → m < k) → result ≤ k }
 {
-    let mut end = 0;
+    let mut end: usize = 0;
     for owner in owners.iter() {
-        end = end_of(*owner).max(end);
+        let own = end_of(*owner);
+        end = end.max(own);
     }
     end
 }
