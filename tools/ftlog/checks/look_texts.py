@@ -57,5 +57,7 @@ ROWS = [
     ("looks don't use up a quantum", 3, QUANTUM.format(100), SWITCHED),
     ("the same schedule without looks, two tasks", 2, QUANTUM.format(100), SWITCHED),
     ("so many turns are needed with looks", 3, QUANTUM.format(32), SWITCHED),
+    ("one turn less, with looks", 3, QUANTUM.format(31), SWITCHED.replace("end", "stopped")),
     ("so many turns are needed without looks", 2, QUANTUM.format(22), SWITCHED),
+    ("one turn less, without looks", 2, QUANTUM.format(21), SWITCHED.replace("end", "stopped")),
 ]

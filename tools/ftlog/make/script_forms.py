@@ -1,4 +1,4 @@
-"""Writes a random script of any form, of either version of the language, to standard output. It is accepted.
+"""Writes a random script of any form, of any version of the language, to standard output. It is accepted.
 
     tools/ft make plain --seed N                   a script
     tools/ft make plain --seed N --step < SCRIPT   that script, with a schedule of single steps in place of its own

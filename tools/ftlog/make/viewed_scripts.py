@@ -133,7 +133,7 @@ def below(rng, cpus, tasks, control):
 
 
 def lines_of(rng, is_ringed=False):
-    """The lines of a script, of either version, at times with rings and triggers and on more CPUs."""
+    """The lines of a script, of any version, at times with rings and triggers and on more CPUs."""
     version, functions = rng.choice(forms.VERSIONS), rng.sample(forms.FUNCTIONS, rng.randint(2, 6))
     told = users(rng, functions)
     names, cpus = [words[1] for words in told], rng.choice([1, 2, 2, 3, 5, forms.CPUS] if is_ringed else [1, 1, 2, 3])
