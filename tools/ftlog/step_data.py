@@ -51,14 +51,14 @@ def order_of(script, trace):
 
 def data_of(title, docs, text, script, trace):
     """The data of a page. `docs` is where the pages of docs/ are, as the page is going to reach them."""
-    tasks, untold = step_tasks.tasks_of(trace, script)
-    kinds = step_kinds.kinds_of(trace, tasks)
+    told = step_tasks.tasks_of(trace, script)
+    kinds = step_kinds.kinds_of(trace, told)
     used = column(kind for kind in kinds if kind)
     values = column([*trace.opening, *(step.value for step in trace.steps)])
     return {"format": FORMAT, "version": VERSION, "title": title, "docs": docs, "script": text.decode("utf-8", "replace").splitlines(),
-            **declarations(script), "order": order_of(script, trace), "addresses": ADDRESSES, "untold": untold,
+            **declarations(script), "order": order_of(script, trace), "addresses": ADDRESSES, "untold": told.untold,
             "words": [[name, values[trace.opening[at]]] for name, at in trace.words.items()], "values": [hex(value) for value in values],
-            "steps": steps_of(trace, tasks, kinds, values, used), "items": trace.items,
+            "steps": steps_of(trace, told.tasks, kinds, values, used), "items": trace.items,
             "kinds": [[kind, *step_kinds.KINDS[kind]] for kind in used],
             "rules": {item: list(rule) for item, rule in step_kinds.RULES_OF.items()}, "last": trace.last}
 

@@ -57,8 +57,8 @@ KINDS = {
         LIST),
     "sel-unregister": Kind(
         "switches {owner} off: {value}",
-        "A task that meets the user from now on goes past it, and a frame of an earlier call gives it no exit. Those that have "
-        "loaded the word before are waited for.",
+        "A task that asks whether the user is on goes past it from now on, and a frame of an earlier call gives it no exit. Those that "
+        "have loaded the word before are waited for.",
         LIST),
     "sel-sets": Kind(
         "names the copy of {owner} that was just written: {value}",
@@ -111,7 +111,7 @@ KINDS = {
         SITE),
     "want-first": Kind(
         "asks each CPU to answer request {value}: the first sync",
-        "A task that has loaded the old first byte still loads the old displacement. No CPU polls between the two, so once all have "
+        "A task that has loaded the old first byte still loads the old displacement. No CPU answers between the two, so once all have "
         "answered, no such task is left.",
         SITE),
     "ack-first": Kind(
@@ -183,6 +183,22 @@ KINDS = {
         "looks at the clock how many commands have returned: {value}",
         "This is `after` of the script. If it isn't met, the CPU switches to another task, and the next try has a poll of its own.",
         STEP),
+    # A look, before a step of a task.
+    "look-none": Kind(
+        "looks, and finds no new request",
+        "As a kernel's CPU takes an interrupt between any two instructions, a CPU looks before each step of a task but the second load of a "
+        "fetch. Nothing is new, so the step comes next.",
+        SYNC),
+    "look-want": Kind(
+        "looks, and finds request {value}",
+        "The CPU answers it before the task's next step, also amid a call. Found between the two loads of a fetch, it would let the "
+        "displacement change there.",
+        SYNC),
+    "look-ack": Kind(
+        "answers in a look: {value}",
+        "This answers a sync, and says nothing of tasks: told in a `quiet` word, a command would return while a callback that it waits for "
+        "is running. The CPU looks once more before the task's step.",
+        SYNC),
     # A task in a call.
     "enter": Kind(
         "marks the enter of a call",
@@ -200,7 +216,7 @@ KINDS = {
         SITE),
     "fetch-tail": Kind(
         "loads the displacement of {owner}'s site: {value}",
-        "No CPU polls or switches tasks between the two loads, so both are of one instruction. Switched here, another task would "
+        "No CPU answers or switches tasks between the two loads, so both are of one instruction. Switched here, another task would "
         "answer for the CPU, and the displacement would change.",
         SYNC),
     "fetch-next": Kind(
@@ -211,7 +227,7 @@ KINDS = {
     "own-tramp": Kind(
         "loads whose trampoline {owner} is: {value}",
         "The word isn't cleared, or given to another user, before a task that is in the trampoline has loaded it, and then that "
-        "user's `sel`.",
+        "user's `sel`. From version 3 on a user of the kind `function` isn't asked, and is called back at once.",
         TRAMPOLINES),
     "own-sel": Kind(
         "loads the state of {owner}, whose trampoline it is: {value}",
@@ -225,7 +241,7 @@ KINDS = {
     "walk-sel": Kind(
         "loads the state of {owner}: {value}",
         "One load says whether the user is on and which copy of its sets to read, so all that the walker then reads is of one "
-        "state. If the user is off, the walker goes on to the link.",
+        "state. If the user is off, and is asked, the walker goes on to the link.",
         LIST),
     "walk-bits": Kind(
         "reads 64 bits of {owner}: {value}",
@@ -361,20 +377,32 @@ def store_of_cpu(word, value):
     return "poll-quiet-end" if value % 2**32 == ENDED_QUIET else "poll-quiet"
 
 
-def kinds_of(trace, tasks):
-    """The kind of each step of a trace whose steps belong to these tasks; None if there is no such step on the word machine."""
-    control, before = Control(), {}
+def kind_of_look(word, value, answered):
+    """The kind of a look's step; `answered` is the request that its CPU has answered last."""
+    if word == "ack":
+        return "look-ack"
+    return "look-none" if value == answered else "look-want"
+
+
+def kinds_of(trace, told):
+    """The kind of each step of a trace, by what step_tasks.py tells of them; None if there is no such step on the word machine."""
+    control, before, answered = Control(), {}, {}
     names, fields, found = [name.partition(".") for name in trace.words], iter(trace.fields), []
-    for step, task in zip(trace.steps, tasks):
+    for at, step in enumerate(trace.steps):
         word, _, owner = names[step.word]
         item = next(fields) if step.op == "m" else None
-        whose = (step.actor, task)
+        whose = (step.actor, told.tasks[at])
         if item is not None:
             kind = control.mark(item) if step.actor == "k" else item["item"]
         elif step.actor == "k":
             kind = control.store(word, owner, step.value) if step.op == "s" else control.load(word)
+        elif at in told.looks:
+            kind = kind_of_look(word, step.value, answered.get(step.actor, 0))
         else:
             kind = store_of_cpu(word, step.value) if step.op == "s" else load_of_cpu(word, step.value, before.get(whose))
-        before[whose] = kind
+        if word == "ack" and step.op == "s":
+            answered[step.actor] = step.value
+        if at not in told.looks:  # a look comes between two steps of a task
+            before[whose] = kind
         found.append(kind if kind in KINDS else None)
     return found

@@ -1,15 +1,24 @@
-"""Which task makes each step of a CPU, which a step trace doesn't say.
+"""Which task makes each step of a CPU, and which steps are a look's, neither of which a step trace says.
 
 A mark names its call, and so its task. For the steps between marks it is worked out from the script by the rules of docs/LANGUAGE.md,
 "Switches and the quantum", and each mark is compared with what comes out. If one is another task's, it can't be told from there on which
 tasks that CPU's loads and stores belong to, and only its marks are given to tasks.
 """
-from typing import Optional
+from typing import List, NamedTuple, Optional, Set
 
 from ftlog.limits import LIMITS
 
 INTERRUPTS = ("softirq", "irq", "nmi", "iret")
 COMMANDS = 2**33  # what one command that has returned adds to the clock: its two items
+
+
+class Told(NamedTuple):
+    """Of each step the number of its task, in the order of the script's tasks: None for control, for a CPU's last poll, and for what can't
+    be told. Then the steps of looks by their numbers, and the CPUs of which the tasks can't be told to the end."""
+
+    tasks: List[Optional[int]]
+    looks: Set[int]
+    untold: List[int]
 
 
 class Cpu:
@@ -94,10 +103,7 @@ def is_answer(word):
 
 
 def tasks_of(trace, script):
-    """The number of the task of each step, in the order of the script's tasks, and the CPUs of which it can't be told to the end.
-
-    It is None for control, for a CPU's last poll, and for what can't be told.
-    """
+    """What is told of the steps of a trace."""
     quanta, tasks = script.quanta, script.acts
     has_looks = script.version >= LIMITS["LOOKS_SINCE"]
     cpus = [Cpu(quantum, {at: task for at, task in enumerate(tasks) if task.cpu == number}, has_looks) for number, quantum in enumerate(quanta)]
@@ -108,13 +114,15 @@ def tasks_of(trace, script):
         if step.actor in last:
             later[last[step.actor]] = is_answer(names[step.word])
         last[step.actor] = at
-    found = []
+    found, looks = [], set()
     for at, step in enumerate(trace.steps):
         item = next(fields) if step.op == "m" else None
         if step.actor == "k":
             found.append(None)
             continue
-        word = names[step.word]
+        word, cpu = names[step.word], cpus[int(step.actor)]
         in_poll = later[at] if word == "want" or is_answer(word) else None
-        found.append(cpus[int(step.actor)].step(word, step.value, item, in_poll))
-    return found, [number for number, cpu in enumerate(cpus) if not cpu.is_told]
+        found.append(cpu.step(word, step.value, item, in_poll))
+        if cpu.is_told and cpu.is_looking:
+            looks.add(at)
+    return Told(found, looks, [number for number, cpu in enumerate(cpus) if not cpu.is_told])

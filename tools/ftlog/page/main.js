@@ -93,7 +93,7 @@ function startPage() {
 
   const isMark = (step) => model.steps.op[step] === "m", isStore = (step) => model.steps.op[step] === "s";
   const isCommand = (step) => isMark(step) && model.items[model.itemAt.get(step)].call === null;
-  const isBy = (actor) => (step) => model.steps.actor[step] === actor;
+  const isBy = (actor) => (step) => model.steps.actor[step] === actor && !isPassed(model, step);
 
   async function copy() {
     const lines = now ? scheduleOf(model, now) : [], text = lines.join("\n") + "\n";
@@ -136,14 +136,14 @@ function startPage() {
     if (event.ctrlKey || event.metaKey || event.altKey || at("help").open || isTyped) return;
     const cpu = /^[0-7]$/.test(event.key) && model.actors.includes(event.key) ? () => next(1, isBy(event.key)) : null;
     const many = event.shiftKey ? 10 : 1;
-    const act = { ArrowRight: () => go(now + many), ArrowLeft: () => go(now - many), ...KEYS }[event.key] || cpu;
+    const act = { ArrowRight: () => go(moved(model, now, many)), ArrowLeft: () => go(moved(model, now, -many)), ...KEYS }[event.key] || cpu;
     if (!act) return;
     event.preventDefault();
     tell("");
     act();
   });
 
-  const CLICKS = { "to-first": () => go(0), "to-before": () => go(now - 1), "to-next": () => go(now + 1), "to-last": () => go(model.count),
+  const CLICKS = { "to-first": () => go(0), "to-before": () => go(moved(model, now, -1)), "to-next": () => go(moved(model, now, 1)), "to-last": () => go(model.count),
     "to-mark": () => next(1, isMark), "to-store": () => next(1, isStore), "to-command": () => next(1, isCommand), 
     "search-before": () => search(-1), copy, "help-button": help };
   for (const [id, act] of Object.entries(CLICKS)) at(id).addEventListener("click", act);

@@ -110,9 +110,31 @@ function afterItem(model, task, item) {
   if ((item.kind === "body" || item.kind === "ret") && !task.calls.some((call) => call.phase === "callback")) task.holds = [];
 }
 
-// What a load gives a task to hold. A poll begins another act, and what is loaded in it is held by the CPU.
+// The kind of a step; empty if it has none.
+function kindOf(model, step) {
+  const kind = model.data.kinds[model.steps.kind[step]];
+  return kind ? kind[0] : "";
+}
+
+// Whether a step is of a look that finds nothing: with the step after it, it is one step of the task.
+function isPassed(model, step) {
+  return kindOf(model, step) === "look-none";
+}
+
+// So many steps on or back from a number of steps, if those that are passed aren't counted.
+function moved(model, count, steps) {
+  const direction = Math.sign(steps);
+  let now = count;
+  for (let left = Math.abs(steps); left > 0; left--) {
+    do now += direction; while (now > 0 && now < model.count && isPassed(model, now - 1));
+  }
+  return Math.max(0, Math.min(model.count, now));
+}
+
+// What a load gives a task to hold. A poll begins another act, and what is loaded in it or in a look is held by the CPU.
 function hold(model, task, word, value, at) {
   const kind = model.words[word].kind;
+  if (kindOf(model, at).startsWith("look-")) return;
   if (kind === "want") task.holds = [];
   else if (kind !== "clock") task.holds = [...task.holds.filter((held) => held.word !== word), { word, value, at }];
   const top = task.calls[task.calls.length - 1];
@@ -250,7 +272,7 @@ function searchOf(model, what, text) {
 
 // Whom control waits for: the sync or the wait that it is in, by the kind of its last step.
 function waitOf(model, state) {
-  const kind = state.lastOfControl === null ? "" : model.data.kinds[model.steps.kind[state.lastOfControl]][0];
+  const kind = state.lastOfControl === null ? "" : kindOf(model, state.lastOfControl);
   const sync = /^(want|ack)-(first|second|third)$/.exec(kind);
   if (sync) return { kind: "sync", which: sync[2] };
   if (kind === "want-quiet" || kind === "quiet-load") return { kind: "quiet" };
@@ -258,5 +280,5 @@ function waitOf(model, state) {
 }
 
 if (typeof module !== "undefined") {
-  module.exports = { prepare, stateAt, valueOf, userAt, setNames, listOf, windowOf, scheduleOf, findStep, searchOf, waitOf, isOnAt };
+  module.exports = { prepare, stateAt, valueOf, userAt, setNames, listOf, windowOf, scheduleOf, findStep, searchOf, waitOf, isOnAt, moved };
 }

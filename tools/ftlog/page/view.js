@@ -103,8 +103,9 @@ class View {
 
   upcoming() {
     const next = (actor) => {
-      const step = this.model.steps.actor.indexOf(actor, this.state.at), name = actorText(actor);
-      if (step < 0) return `<span>${name} makes no more steps</span>`;
+      const isNext = (at) => this.model.steps.actor[at] === actor && !isPassed(this.model, at);
+      const step = findStep(this.model, this.state.at, 1, isNext), name = actorText(actor);
+      if (step === null) return `<span>${name} makes no more steps</span>`;
       return `<button data-step="${step + 1}">${name} goes on with: ${safe(stepText(this.model, step))}</button>`;
     };
     return this.model.actors.map(next).join("");

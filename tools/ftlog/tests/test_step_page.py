@@ -130,27 +130,35 @@ class StepPage(Pages):
     def test_each_step_has_a_kind_and_a_task(self):
         for name in NAMES:
             script, trace = self.read(name)
-            tasks, untold = step_tasks.tasks_of(trace, script)
-            self.assertEqual([], untold)
-            self.assertNotIn(None, step_kinds.kinds_of(trace, tasks))
-            alone = [step for step, task in zip(trace.steps, tasks) if task is None and step.actor != "k"]
+            told = step_tasks.tasks_of(trace, script)
+            self.assertEqual([], told.untold)
+            self.assertNotIn(None, step_kinds.kinds_of(trace, told))
+            alone = [step for step, task in zip(trace.steps, told.tasks) if task is None and step.actor != "k"]
             self.assertTrue(all(list(trace.words)[step.word].startswith(("want", "ack", "quiet")) for step in alone), name)
 
     def test_nearly_all_kinds_come(self):
         seen = set()
         for name in NAMES:
             script, trace = self.read(name)
-            seen.update(step_kinds.kinds_of(trace, step_tasks.tasks_of(trace, script)[0]))
+            seen.update(step_kinds.kinds_of(trace, step_tasks.tasks_of(trace, script)))
         self.assertEqual(set(), set(step_kinds.KINDS) - seen - NOT_IN_FIXTURES)
 
     def test_kinds_of_a_patched_site(self):
         script, trace = self.read("first_path")
-        kinds = step_kinds.kinds_of(trace, step_tasks.tasks_of(trace, script)[0])
+        kinds = step_kinds.kinds_of(trace, step_tasks.tasks_of(trace, script))
         control = [kind for kind, step in zip(kinds, trace.steps) if step.actor == "k"]
         again = [kind for at, kind in enumerate(control) if at == 0 or control[at - 1] != kind]
         self.assertEqual(["begin", "tramp-take", "bits", "sel-register", "link", "first", "next-store", "breakpoint", "want-first",
                           "ack-first", "tail-store",
                           "want-second", "ack-second", "head-store", "want-third", "ack-third", "return"], again)
+
+    def test_looks(self):
+        script, trace = self.read("registered_in_call")
+        told = step_tasks.tasks_of(trace, script)
+        kinds = [kind for kind, step in zip(step_kinds.kinds_of(trace, told), trace.steps) if step.actor == "0"]
+        self.assertEqual(["poll-want", "look-none", "enter", *["look-want", "look-ack"] * 3, "look-none", "fetch-head", "fetch-tail", "look-none", "own-tramp",
+                          "look-none", "back"], kinds[:16])
+        self.assertEqual({0}, {told.tasks[at] for at in told.looks})
 
     def test_tasks_that_can_not_be_told(self):
         script = self.write("other.ft", self.files("preempted_in_callback")[0].read_bytes().replace(b"quantum 14", b"quantum 9"))
@@ -318,6 +326,7 @@ class OwnFunctions(Pages):
             self.schedules(page)
         self.some_words()
         self.windows_lists_and_tasks()
+        self.looks()
         self.searches()
         self.fifty_thousand_steps()
         self.run_all()
@@ -403,6 +412,14 @@ class OwnFunctions(Pages):
                  "const frames = (at) => state.stateAt(model, at).tasks[0].calls.filter((call) => call.frame.length); "
                  "return Array.from({length: model.count}, (_, at) => frames(at).length);",
                  lambda frames: self.assertEqual(1, max(frames)))
+
+    def looks(self):
+        """A look that finds nothing is passed, and what a look loads isn't held."""
+        page = self.page(*self.files("registered_in_call"))
+        self.ask(page, "return [state.moved(model, 1, 1), state.moved(model, 3, -1), state.moved(model, 0, -1), state.moved(model, model.count, 10)];",
+                 lambda found: self.assertEqual([3, 1, 0, len(raw(self.files("registered_in_call")[1].read_bytes())[0])], found))
+        self.ask(page, "return Array.from({length: model.count}, (_, at) => state.stateAt(model, at).tasks[0].holds.length);",
+                 lambda held: self.assertEqual(3, max(held)))  # both parts of the site, and the trampoline's word
 
     def searches(self):
         """The steps that a search finds."""
