@@ -18,7 +18,6 @@ import collections.abc
 NONE = 2**32 - 1  # in an array, for what isn't there
 CALL, ENTRY, EXIT, BODY, REFUSAL, MISS = range(6)
 WHAT = ["call", "entry", "exit", "body", "refusal", "miss"]
-OF_USERS = (ENTRY, EXIT, REFUSAL, MISS)
 FUNCTIONS, USERS = 0, 1  # the lists of names
 LIST_OF = [FUNCTIONS, USERS, USERS, FUNCTIONS, USERS, USERS]  # in which of them the name of a box is
 

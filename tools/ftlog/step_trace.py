@@ -130,11 +130,3 @@ def read(name, script, text=None):
     """The step trace in a file, or in this text, which is then called by the name."""
     lines = given_logs.log_lines(name) if text is None else given_logs.lines_in(name, io.BytesIO(text))
     return Reader(name, script).read(lines)
-
-
-def values_after(trace, count):
-    """What each word holds after so many steps, by its name: the plain replay of a trace."""
-    now = list(trace.opening)
-    for step in trace.steps[:count]:
-        now[step.word] = step.value
-    return dict(zip(trace.words, now))

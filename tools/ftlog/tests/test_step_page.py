@@ -120,13 +120,6 @@ class StepPage(Pages):
                 log = (EXAMPLES / f"{name}.log").read_text().splitlines()
                 self.assertEqual([line.split(" ", 1)[1] for line in log[:-1]], data["items"])
 
-    def test_states_are_a_plain_replay(self):
-        for name in NAMES:
-            _, trace = self.read(name)
-            steps, _ = raw(self.files(name)[1].read_bytes())
-            for count in ten_places(len(steps)):
-                self.assertEqual(replayed(steps, count), step_trace.values_after(trace, count))
-
     def test_each_step_has_a_kind_and_a_task(self):
         for name in NAMES:
             script, trace = self.read(name)
