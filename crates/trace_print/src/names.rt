@@ -1,7 +1,8 @@
 //! A job's names, those of its modules among them, and the pid and the CPU of each task, found by number in constant time.
 
-ghost use Rattle.std.specs.Prelude.{◌≡◌, ◌+◌, ◌*◌, ◌≤◌, IfOk};
+ghost use Rattle.std.specs.Prelude.{◌≡◌, ◌+◌, ◌*◌, ◌≤◌, get_or, length, IfOk};
 ghost use Rattle.ft_base.specs.declared.limits.TheConstants.{ACTS};
+ghost use Rattle.ft_base.specs.Job.{no_task};
 ghost use Rattle.ft_base.specs.Versions.{levels};
 ghost use Rattle.history_laws.specs.Bound.{calls_of};
 ghost use Rattle.trace_print.specs.TaskNames.{name_at};
@@ -133,6 +134,7 @@ impl<'a> Named for Names<'a> {
 /// no more can be calls.
 fn acts_of(job: &Job, task: TaskNo) -> u32
     ensures calls { calls_of job.now task.0 ≤ result }
+    ensures acts { result ≡ length (get_or job.now.tasks task.0 no_task).acts }
     ensures few { result ≤ ACTS }
 {
     // A job that tells its shape is within the limits of scripts.

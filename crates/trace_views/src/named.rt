@@ -14,9 +14,9 @@ pub struct TaskName {
 /// A job's names, and the pid and the CPU of each task, found by number. A job is within the limits of
 /// `ft_base::limits`.
 pub trait Named {
-    ghost use Rattle.std.specs.Prelude.{◌≡◌, ◌+◌, ◌*◌, ◌≤◌, length};
+    ghost use Rattle.std.specs.Prelude.{◌≡◌, ◌+◌, ◌*◌, ◌≤◌, get_or, length};
     ghost use Rattle.ft_base.specs.Desk.{spec_at};
-    ghost use Rattle.ft_base.specs.Job.{Job, funcs};
+    ghost use Rattle.ft_base.specs.Job.{Job, funcs, no_task};
     ghost use Rattle.ft_base.specs.Versions.{levels};
     ghost use Rattle.ft_base.specs.WellFormed.{IsWellFormed};
     ghost use Rattle.history_laws.specs.Bound.{calls_of};
@@ -65,8 +65,9 @@ pub trait Named {
     fn tasks(&self) -> u32
         ensures { result ≡ length (job self.now).tasks };
 
-    /// Room for the open calls of a task: one for each call of its script, and one for each level of the
-    /// guards of two contexts. A task that the job doesn't have needs none, whatever this is.
+    /// Room for the open calls of a task: one for each act of its script, of which no more can be calls,
+    /// and one for each level of the guards of two contexts.
     fn deepest(&self, task: TaskNo) -> u32
-        ensures { calls_of (job self.now) task.0 + 2 * levels (job self.now) ≤ result };
+        ensures calls { calls_of (job self.now) task.0 + 2 * levels (job self.now) ≤ result }
+        ensures room { result ≡ length (get_or (job self.now).tasks task.0 no_task).acts + 2 * levels (job self.now) };
 }
