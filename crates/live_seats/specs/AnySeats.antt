@@ -122,6 +122,10 @@ all_of control cpus = Control control ∷ cpus_as_any cpus
 abbrev pub all_traced : ControlPlace → List TracedPlace → List AnySeat
 all_traced control cpus = Control control ∷ map (λ s. Traced s) cpus
 
+-- each is at its end
+abbrev pub AreAtEnd : List AnySeat → Type 0
+AreAtEnd seats = All (λ s. next_of s ≡ None) seats
+
 -- each is one of the tables'
 abbrev pub AreSeatsOf : Tables → List AnySeat → Type 0
 AreSeatsOf t seats = All (IsSeatOf t) seats

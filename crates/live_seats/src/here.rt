@@ -1,12 +1,13 @@
 //! Seats that are stepped here, in turn.
 
-ghost use Rattle.std.specs.Prelude.{◌≡◌};
-ghost use Rattle.live_seats.specs.AnySeats.{AreSameSeats, AreSeatsOf, IsSameSeat, IsSeatOf, tables};
+ghost use Rattle.std.specs.Prelude.{◌≡◌, None};
+ghost use Rattle.live_seats.specs.AnySeats.{AreAtEnd, AreEndedSeats, AreSameSeats, AreSeatsOf, IsSameSeat, IsSeatOf, next_of, tables};
 ghost use Rattle.live_seats.specs.Seatings.{own_seats};
 
 use crate::pace::Pace;
 use crate::passing::Passing;
 use crate::seat::{AnySeat, step_seat};
+use ft_io::OpenGate;
 use live_table::{Going, Live};
 use ring_table::RingTable;
 use std::sync::Wait;
@@ -18,7 +19,7 @@ pub struct HereSeat {
     pub seat: AnySeat,
     /// The number of its steps so far.
     pub steps: u64,
-    /// Whether it is at its end.
+    /// Whether it has come to its end, and has passed the gate before the call that found it.
     pub over: bool,
 }
 
@@ -34,7 +35,8 @@ impl HereSeat {
         }
     }
 
-    /// One step, if the seat isn't at its end.
+    /// One step, if the seat isn't at its end. It passes the gate before each, and once more before the
+    /// call that finds none left.
     pub(crate) fn step<G: Passing>(
         &mut self,
         live: &Live,
@@ -42,10 +44,12 @@ impl HereSeat {
         gate: &G,
     ) -> Going
         requires { IsSeatOf (tables live.now rings.now) self.old.seat }
-        ensures { IsSameSeat self.old.seat self.new.seat }
+        ensures same { IsSameSeat self.old.seat self.new.seat }
+        ensures end { result ≡ Going.End → next_of self.new.seat ≡ None }
     {
         if self.over {
-            return Going::End;
+            // This call finds no step again, and no gate has to hear of it a second time.
+            return step_seat(live, rings, &OpenGate, self.steps, &mut self.seat);
         }
         let going = step_seat(live, rings, gate, self.steps, &mut self.seat);
         match going {
@@ -56,7 +60,7 @@ impl HereSeat {
     }
 }
 
-/// One step of each seat that isn't at its end.
+/// One step of each seat that isn't at its end. `End` tells that all are.
 pub fn step_each<G: Passing>(
     live: &Live,
     rings: &Option<RingTable>,
@@ -64,15 +68,24 @@ pub fn step_each<G: Passing>(
     here: &mut Vec<HereSeat>,
 ) -> Going
     requires { AreSeatsOf (tables live.now rings.now) (own_seats here.old.items) }
-    ensures { AreSameSeats (own_seats here.old.items) (own_seats here.new.items) }
+    ensures same { AreSameSeats (own_seats here.old.items) (own_seats here.new.items) }
+    ensures end { result ≡ Going.End → AreAtEnd (own_seats here.new.items) }
 {
     let mut going = Going::End;
     for i in 0..here.len() {
-        if here[i].step(live, rings, gate) == Going::More {
-            going = Going::More;
-        }
+        going = either(going, here[i].step(live, rings, gate));
     }
     going
+}
+
+/// Whether one of two went on.
+fn either(going: Going, other: Going) -> Going
+    ensures { result ≡ Going.End → (going ≡ Going.End) × (other ≡ Going.End) }
+{
+    match going {
+        Going::More => Going::More,
+        Going::End => other,
+    }
 }
 
 /// How many items the actors of these seats have marked.
@@ -94,7 +107,7 @@ pub(crate) fn step_all<R: Wait, G: Passing>(
     here: &mut Vec<HereSeat>,
 )
     requires { AreSeatsOf (tables live.now rings.now) (own_seats here.old.items) }
-    ensures { AreSameSeats (own_seats here.old.items) (own_seats here.new.items) }
+    ensures { AreEndedSeats (own_seats here.old.items) (own_seats here.new.items) }
 {
     let mut pace = Pace::new();
     for _ in rt.forever() {

@@ -2,14 +2,14 @@
 
 ghost use Rattle.std.specs.Prelude.{List, ◌≡◌, ◌+◌, ◌≤◌, ◌++◌, length, vec_len, vec_capacity};
 ghost use Rattle.live_seats.specs.declared.seat.AnySeat.{AnySeat};
-ghost use Rattle.live_seats.specs.AnySeats.{AreEndedSeats, AreSameSeats, AreSeatsOf, tables};
+ghost use Rattle.live_seats.specs.AnySeats.{AreAtEnd, AreEndedSeats, AreSameSeats, AreSeatsOf, tables};
 ghost use Rattle.live_seats.specs.Rooms.{HasPlaces};
-ghost use Rattle.live_seats.specs.Seatings.{here_in, seats_in};
+ghost use Rattle.live_seats.specs.Seatings.{here_in, own_seats, seats_in};
 
 use crate::here::{HereSeat, step_all};
-use crate::seat::{AnySeat, run_seat};
+use crate::seat::AnySeat;
 use crate::seat_thread::{SeatThread, join_seat, launch};
-use ft_io::{Gate, OpenGate};
+use ft_io::Gate;
 use live_table::Live;
 use ring_table::RingTable;
 use std::sync::Wait;
@@ -69,8 +69,8 @@ pub fn launch_all<'s, E, R: Threads + Wait + Sync, G: Gate>(
     Seating { places, here }
 }
 
-/// Each seat at its end, in order, after those of `ended`. The seats that are here are stepped to their
-/// ends already.
+/// Each seat at its end, in order, after those of `ended`. The seats that are here are at their ends
+/// already.
 fn finish_all<R: Threads + Wait + Sync, G: Gate>(
     rt: &R,
     live: &Live,
@@ -81,6 +81,7 @@ fn finish_all<R: Threads + Wait + Sync, G: Gate>(
 ) -> Vec<AnySeat>
     requires seats { AreSeatsOf (tables live.now rings.now) (seats_in seating.places.items seating.here.items) }
     requires here { here_in seating.places.items ≡ length seating.here.items }
+    requires over { AreAtEnd (own_seats seating.here.items) }
     requires room { vec_len ended + length seating.places.items ≤ vec_capacity ended }
     ensures { (seats : List AnySeat) × (result.items ≡ ended.items ++ seats) × AreEndedSeats (seats_in seating.places.items seating.here.items) seats }
 {
@@ -93,8 +94,7 @@ fn finish_all<R: Threads + Wait + Sync, G: Gate>(
                 let Some(own) = rest.next() else {
                     unreachable!();
                 };
-                // One call, which finds no step, and which no gate has to hear of a second time.
-                ended.push_reserved(run_seat(rt, live, rings, &OpenGate, own.seat));
+                ended.push_reserved(own.seat);
             }
         }
     }

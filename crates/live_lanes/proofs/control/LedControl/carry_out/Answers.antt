@@ -28,5 +28,5 @@ loop-preserved g c =
         split = s.split ∙ i.split;
       };
       here = all_same_then (own_seats c.args.here.now.items) (own_seats c.loop.here.items) (own_seats c.step_each.new.here.items)
-          c.loop.invariant.here c.step_each.ensures;
+          c.loop.invariant.here c.step_each.ensures.same;
     }
