@@ -1,11 +1,9 @@
 -- A CPU's seat at the words, and its seat at the rings.
-use Rattle.std.specs.Prelude.{◌≡◌, ℕ, ◌<◌, ◌≤◌, List, [], ◌∷◌, length, slice_get, slice_index, Some}
+use Rattle.std.specs.Prelude.{◌≡◌, ℕ, ◌≤◌, List, [], ◌∷◌, length, slice_get, Some}
 use Rattle.atomic_table.specs.Seated.{TableId}
-use Rattle.ft_base.specs.declared.limits.TheConstants.{ITEMS}
-use Rattle.ft_base.specs.Job.{Job}
 use Rattle.word_machine.specs.Laws.{room_on}
 use Rattle.ring_rules.specs.Plan.{TracePlan, plan_of}
-use Rattle.ring_table.specs.Seats.{Board, SeatHas, SeatPlace}
+use Rattle.ring_table.specs.Seats.{SeatHas, SeatPlace}
 use Rattle.live_table.specs.Seats.{CpuPlace, IsRising, items_at}
 
 -- the two seats of a CPU
@@ -52,9 +50,3 @@ pub record AreTraced (cpus : List CpuPlace) (rings : List SeatPlace) : Type 0 wh
 pub record AreSameRings (ss ts : List SeatPlace) : Type 0 where
   pub count : length ts ≡ length ss
   pub each : (k : ℕ) (t : SeatPlace) → slice_get ts k ≡ Some t → (s : SeatPlace) × (slice_get ss k ≡ Some s) × (ring_name t ≡ ring_name s)
-
--- for each CPU of a job, room for all items that the calls of its tasks can make
-pub record AreRooms (job : Job) (rooms : List ℕ) : Type 0 where
-  pub count : length rooms ≡ length job.quanta
-  pub enough : (c : ℕ) → c < length job.quanta → room_on job c ≤ slice_index rooms c
-  pub few : (c : ℕ) → slice_index rooms c ≤ ITEMS

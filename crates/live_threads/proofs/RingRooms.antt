@@ -1,10 +1,11 @@
 -- The room of a CPU's ring, by the tasks that its plan declares.
-use Rattle.std.proofs.Common.{cond, ◌≡◌, ℕ, zero, suc, ◌+◌, ◌*◌, ◌<◌, ◌≤◌, Bool, true, false, ◌==◌, List, [], ◌∷◌, length, map, get_or, slice_get, slice_index, sum_by, All, Some, refl, sym, ap, ◌∙◌, subst, arith}
-use Rattle.std.specs.List.{AllByRecursion as Each}
+use Rattle.std.proofs.Common.{cond, ◌≡◌, ℕ, zero, suc, ◌+◌, ◌*◌, ◌<◌, ◌≤◌, Bool, true, false, ◌==◌, List, [], ◌∷◌, length, map, get_or, slice_get, slice_index, sum_by, All, Some, refl, sym, ap, ◌∙◌, arith}
+use Rattle.std.specs.List.{AllByRecursion as Each, range_with_len}
 use Rattle.std.proofs.lemmas.List.{length-map}
 use Rattle.std.proofs.lemmas.List.Elements.{All-cons, All-nil}
+use Rattle.std.proofs.lemmas.List.FromFn.{get_or-map-range_with_len}
 use Rattle.std.proofs.lemmas.List.Sums.{sum_by-cons}
-use Rattle.std.proofs.lemmas.Option.{none-some, same_Some, slice_get-get_or, slice_get_read}
+use Rattle.std.proofs.lemmas.Option.{none-some, same_Some, slice_get_read}
 use Rattle.ft_base.specs.declared.limits.TheConstants.{ACTS, ITEMS, TASKS}
 use Rattle.ft_base.specs.Job.{Job, Task, no_task}
 use Rattle.ft_base.specs.Tasks.{tasks_from}
@@ -17,7 +18,7 @@ use Rattle.word_machine.specs.Laws.{room_on}
 use Rattle.word_machine.specs.Limits.{IsLimited}
 use Rattle.ft_machine.proofs.Plans.{Stands, own-on, room-most, stands-head, stands-tail}
 use Rattle.ft_job.specs.Parts.{tasks_on, cpus_with, cpus_from}
-use Rattle.live_seats.specs.Traced.{AreRooms}
+use Rattle.live_threads.specs.Rooms.{rooms_of}
 
 -- ## the tasks of a CPU among those from a number on
 
@@ -128,19 +129,13 @@ module _ (job : Job) (limited : IsLimited job) (plans : List CpuPlan) (made : ma
 
 -- ## the rooms
 
-few-index : (m : ℕ) (rooms : List ℕ) → ((c x : ℕ) → slice_get rooms c ≡ Some x → x ≤ m) → (c : ℕ) → slice_index rooms c ≤ m
-few-index m [] few c = omega arith
-few-index m (r ∷ rooms) few zero = few 0 r refl
-few-index m (r ∷ rooms) few (suc c) = few-index m rooms (λ k x at. few (suc k) x at) c
+pub room-at : (job : Job) (c : ℕ) → c < length job.quanta → slice_index (rooms_of job) c ≡ room_on job c
+room-at job c lt = get_or-map-range_with_len (room_on job) 0 (length job.quanta) c c 0 lt (omega arith)
 
--- each CPU has its own
-pub rooms-are : (job : Job) (rooms : List ℕ) → IsLimited job → length rooms ≡ length job.quanta
-    → ((c x : ℕ) → slice_get rooms c ≡ Some x → x ≡ room_on job c) → AreRooms job rooms
-rooms-are job rooms limited count own = record {
-  count = count;
-  enough = λ c lt.
-      (let is = own c (get_or rooms c 0) (slice_get-get_or rooms c 0 (omega (arith, lt, count))) in
-      let le : room_on job c ≤ room_on job c = omega arith in
-      subst (λ n. room_on job c ≤ n) (sym is) le);
-  few = few-index ITEMS rooms (λ c x at. subst (λ n. n ≤ ITEMS) (sym (own c x at)) (room-most job c limited));
-}
+few-from : (job : Job) → IsLimited job → (a n c : ℕ) → slice_index (map (room_on job) (range_with_len a n)) c ≤ ITEMS
+few-from job limited a zero c = omega arith
+few-from job limited a (suc n) zero = room-most job a limited
+few-from job limited a (suc n) (suc c) = few-from job limited (a + 1) n c
+
+pub rooms-few : (job : Job) → IsLimited job → (c : ℕ) → slice_index (rooms_of job) c ≤ ITEMS
+rooms-few job limited c = few-from job limited 0 (length job.quanta) c

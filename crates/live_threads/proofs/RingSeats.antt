@@ -20,11 +20,13 @@ use Rattle.ring_table.specs.Seats.{Board as RingBoard, HaveItems, SeatHas, SeatP
 use Rattle.live_table.specs.Seats.{AreNew, AreSeats, Board, ControlPlace, ControlSitsAt, CpuPlace, IsRising, history_of, items_at, lists_at}
 use Rattle.live_seats.specs.AnySeats.{Tables, IsSeatOf, IsEndedSeat, AreSeatsOf, AreEndedSeats, all_traced}
 use Rattle.live_seats.specs.Ends.{IsEndedCpu, IsEndedControl, AreEnded}
-use Rattle.live_seats.specs.Traced.{AreRooms, AreSameRings, AreTraced, IsTraced, TracedPlace, ring_name, traced}
+use Rattle.live_seats.specs.Traced.{AreSameRings, AreTraced, IsTraced, TracedPlace, ring_name, traced}
 use Rattle.live_seats.specs.declared.seat.AnySeat.{AnySeat}
 use Rattle.live_seats.specs.declared.seat.AnySeat.TheVariants.{Control, Cpu, Traced}
 use Rattle.live_seats.proofs.Apart.{all_together, ended_control}
+use Rattle.live_threads.specs.Rooms.{rooms_of}
 use Rattle.live_threads.proofs.OnCpus.{have-items, of-legal}
+use Rattle.live_threads.proofs.RingRooms.{room-at}
 
 -- the two seats of a CPU
 abbrev pub both : CpuPlace → SeatPlace → TracedPlace
@@ -38,7 +40,7 @@ module _ (b : Board) (q : RingBoard) (job : Job) (rooms : List ℕ) (cpus : List
   as_many = fresh.count ∙ ap (λ (p : TracePlan). p.cpus) plan ∙ ap (λ (j : Job). length j.quanta) (sym same) ∙ sym new.count
 
   -- nothing was marked, and nothing offered
-  pub seats_traced : AreRooms job rooms → AreTraced cpus rings
+  pub seats_traced : rooms ≡ rooms_of job → AreTraced cpus rings
   seats_traced room = record { count = as_many; each = each }
     where
       each : (k : ℕ) (s : CpuPlace) (r : SeatPlace) → slice_get cpus k ≡ Some s → slice_get rings k ≡ Some r → IsTraced (both s r)
@@ -49,7 +51,7 @@ module _ (b : Board) (q : RingBoard) (job : Job) (rooms : List ℕ) (cpus : List
           let none : items_at s ≡ [] = λ i. items_at record { table_id = s.table_id; id = s.id; job = s.job; number = s.number; values = n.3 i } in
           let in' = slice_get_within cpus k s at in
           let many = new.count ∙ ap (λ (j : Job). length j.quanta) same in
-          let enough = room.enough k (omega (arith, in', many)) in
+          let enough : slice_index rooms k ≡ room_on job k = ap (λ (l : List ℕ). slice_index l k) room ∙ room-at job k (omega (arith, in', many)) in
           let left = f.left' in
           let had = f.has'.offered in
           record {

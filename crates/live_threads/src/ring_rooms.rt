@@ -1,7 +1,7 @@
 //! How many items each CPU may offer to its ring.
 
-ghost use Rattle.std.specs.Prelude.{IfOk};
-ghost use Rattle.live_seats.specs.Traced.{AreRooms};
+ghost use Rattle.std.specs.Prelude.{◌≡◌, IfOk};
+ghost use Rattle.live_threads.specs.Rooms.{rooms_of};
 
 use ft_base::NoMemory;
 use ft_base::limits::Limits;
@@ -12,7 +12,7 @@ use user_specs::call_bound;
 
 /// For each CPU how many items the calls of its tasks can make. The error says that memory ran out.
 pub(crate) fn ring_rooms(alloc: Global, job: &Job) -> Result<Vec<u32>, NoMemory>
-    ensures { IfOk result (λ v. AreRooms job.now v.items) }
+    ensures { IfOk result (λ v. v.items ≡ rooms_of job.now) }
 {
     // The job is within its limits, and so are the rooms.
     job.users();

@@ -1,17 +1,18 @@
 -- One more ring has the room of its CPU.
-use Rattle.std.proofs.Common.{rules, ◌≡◌, ℕ, ◌*◌, List, length, slice_get, sym, ap, ap₂, ◌∙◌, arith}
+use Rattle.std.proofs.Common.{rules, ◌≡◌, ℕ, ◌*◌, List, [], ◌∷◌, ◌++◌, length, map, sym, ap, ap₂, ◌∙◌, arith}
+use Rattle.std.specs.List.{range_with_len}
 use Rattle.std.proofs.lemmas.List.{length-map}
+use Rattle.std.proofs.lemmas.List.FromFn.{map-range_with_len_more}
 use Rattle.ft_base.specs.declared.limits.Limits.{Limits}
 use Rattle.ft_base.specs.Job.{Job, Spec}
 use Rattle.ft_base.specs.Versions.{levels, limits_of}
 use Rattle.ft_base.proofs.Versions.{few-largest, levels-most}
-use Rattle.ft_base.proofs.Small.{each-pushed}
 use Rattle.user_specs.specs.Bound.{call_bound_in, call_bound_of}
 use Rattle.user_specs.specs.Plain.{cpu_of, spec_of}
 use Rattle.word_machine.specs.Laws.{room_on}
 use Rattle.trace_rings.proofs.Plans.{cpu-count}
 use Rattle.ft_machine.proofs.Plans.{room-most}
-use Rattle.live_threads.proofs.RingRooms.{few-acts, few-tasks, room-is, rooms-are}
+use Rattle.live_threads.proofs.RingRooms.{few-acts, few-tasks, room-is}
 use Rattle.live_threads.proofs.ring_rooms.ring_rooms.Goals.{After-calls_of}
 use Rattle.live_threads.proofs.ring_rooms.ring_rooms.Goals as goal
 
@@ -26,7 +27,7 @@ call_bound-bound-requires c =
     let few = (few-largest job.version c.users.ensures.limited.counts).few_users in
     let count = sym (length-map c.specs.result.now spec_of) ∙ ap length c.specs.ensures in
     let most = levels-most job.version in
-    let same = levels-are job c.version.ensures c.of-levels.ensures c.from.ensures in
+    let same = levels-are job c.version.ensures c.of.ensures c.from.ensures in
     record { users = omega (arith, count, few); levels = omega (arith, same, most) }
 
 pub calls_of-requires : goal.calls_of-requires
@@ -43,7 +44,7 @@ calls_of-requires c =
 is-room : (c : After-calls_of) → c.call_bound-bound.result * c.calls_of.result ≡ room_on c.args.job.now c.loop-plan.plan-index
 is-room c =
     let job = c.args.job.now in
-    let same = levels-are job c.version.ensures c.of-levels.ensures c.from.ensures in
+    let same = levels-are job c.version.ensures c.of.ensures c.from.ensures in
     let bound : c.call_bound-bound.result ≡ call_bound_in job =
     c.call_bound-bound.ensures ∙ ap₂ (λ (us : List Spec) n. call_bound_of us n) c.specs.ensures same in
     let plans = c.cpus-plans.result.now in
@@ -58,18 +59,18 @@ overflow_mul-bound c =
     omega (arith, same, few)
 
 pub loop-plan-preserved : goal.loop-plan-preserved
-loop-plan-preserved c = record {
-  rooms = λ k y at.
-      (let job = c.args.job.now in
-      let had = c.loop-plan.invariant in
-      let x = c.call_bound-bound.result * c.calls_of.result in
-      let own : x ≡ room_on job (length c.loop-plan.rooms.items) =
-      is-room (goal.at.loop-plan-preserved c).After-calls_of ∙ ap (room_on job) (sym had.count) in
-      each-pushed (λ n z. z ≡ room_on job n) c.loop-plan.rooms.items x had.rooms own k y
-      (ap (λ (xs : List ℕ). slice_get xs k) (sym c.push_reserved.ensures.items) ∙ at));
-  count = search rules;
-  room = search rules;
-}
+loop-plan-preserved c =
+    let job = c.args.job.now in
+    let n = c.loop-plan.plan-index in
+    let x = c.call_bound-bound.result * c.calls_of.result in
+    record {
+      rooms = c.push_reserved.ensures.items
+          ∙ ap (λ (xs : List ℕ). xs ++ x ∷ []) c.loop-plan.invariant.rooms
+          ∙ ap (λ (y : ℕ). map (room_on job) (range_with_len 0 n) ++ y ∷ []) (is-room (goal.at.loop-plan-preserved c).After-calls_of)
+          ∙ sym (map-range_with_len_more (room_on job) 0 n n (omega arith));
+      count = search rules;
+      room = search rules;
+    }
 
 pub returns : goal.returns
 returns c =
@@ -77,6 +78,5 @@ returns c =
     let many = cpu-count cpu_of c.cpus-plans.result.now job.quanta c.cpus-plans.ensures.quanta in
     let past = c.loop-plan-test.false in
     let last = c.loop-plan.auto.plan-index-end in
-    let had = c.loop-plan.invariant in
-    let count : length c.loop-plan.rooms.items ≡ length job.quanta = omega (arith, many, past, last, had.count) in
-    rooms-are job c.loop-plan.rooms.items c.users.ensures.limited count had.rooms
+    let all : c.loop-plan.plan-index ≡ length job.quanta = omega (arith, many, past, last) in
+    c.loop-plan.invariant.rooms ∙ ap (λ n. map (room_on job) (range_with_len 0 n)) all
