@@ -14,12 +14,12 @@ use Rattle.ft_words.specs.declared.order.Order.{Order}
 use Rattle.ft_words.specs.declared.order.Order.TheVariants.{Replay, Run, Bulk}
 use Rattle.trace_print.specs.declared.kept.Kept.{Kept}
 use Rattle.trace_print.specs.declared.kept.Kept.TheVariants.{History, Function, Profile, Returned, Nothing, Totals}
-use Rattle.trace_print.specs.Kept.{IsAllAnd, IsEnoughFor, IsKeptOf, ServesForm, ServesSummary, content_of}
+use Rattle.trace_print.specs.Kept.{AllItems, IsAllAnd, IsEnoughFor, IsKeptOf, ServesForm, content_of}
 use Rattle.trace_print.specs.Texts.{text_of}
 use Rattle.ft_app.specs.declared.carried_out.CarriedOut.{CarriedOut}
 use Rattle.ft_app.specs.Main.{IsPlain}
 use Rattle.script_jobs.specs.Merges.{IsMergeOf}
-use Rattle.ft_app.specs.Reply.{IsCarriedOut, IsEnough, IsKeptFor, IsMade, IsReplayOf, IsRunOf, history_of, printed}
+use Rattle.ft_app.specs.Reply.{IsCarriedOut, IsKeptFor, IsMade, IsReplayOf, IsRunOf, content_to_keep, history_of, printed}
 
 -- there are none
 pub none-kept : (order : Order) (led : Job) (items : List Item) (kept : Option Rings) → kept ≡ None → IsKeptFor order led items kept
@@ -40,24 +40,13 @@ printed-without form led items (Some rings) ended other k = absurd (other (form-
     form-of : Run form ≡ Run forms.Rings → form ≡ forms.Rings
     form-of e = cc
 
--- what is kept for an order is still enough for it after items have come
-pub still-enough : (order : Order) → IsPlain order → (first kept : Kept) → content_of first ≡ content_of kept → IsEnough order first → IsEnough order kept
-still-enough (Replay form) plain first kept same enough = subst (ServesForm form) same enough
-still-enough (Run form) plain first kept same enough = absurd plain
-still-enough (Bulk n) plain first kept same enough = subst ServesSummary same enough
-
 -- all items are kept
 pub all-kept : (kept : Kept) (h : Shown) (P : List Item → Type 0) → kept ≡ History h → P h.items → IsAllAnd kept P
 all-kept kept h P is has = subst (λ (k : Kept). IsAllAnd k P) (sym is) has
 
 -- all items are enough for each form
-pub all-enough : (kept : Kept) → IsAllAnd kept (λ items. Unit {0}) → (form : Form) → IsEnoughFor form kept
-all-enough (History h) all form = tt
-all-enough (Function v) all form = absurd all
-all-enough (Profile v) all form = absurd all
-all-enough (Returned n) all form = absurd all
-all-enough Nothing all form = absurd all
-all-enough (Totals t) all form = absurd all
+pub all-enough : (kept : Kept) → content_of kept ≡ AllItems → (form : Form) → IsEnoughFor form kept
+all-enough kept all form = subst (ServesForm form) (sym all) tt
 
 -- a text that was written whole, as the reply says it
 pub replied-all : {A E F : Type 0} (written : Result A E) (reply : Result A F) (x : A) (P : Type 0) → OnOk reply (written ≡ Ok x) → OnOk written P → OnOk reply P
@@ -66,14 +55,14 @@ replied-all written (Err e) x P was given = tt
 
 -- a replay is how an order is carried out without running threads
 pub plain-made : (order : Order) → IsPlain order → (job : Job) (made : Result CarriedOut NoMemory) → IfOk made (λ c. c.job ≡ job)
-    → IfOk made (λ c. IsKeptOf job (history_of job) c.kept) → IfOk made (λ c. IsEnough order c.kept) → IfOk made (λ c. IsReplayOf job (history_of job) c.ended)
+    → IfOk made (λ c. IsKeptOf job (history_of job) c.kept) → IfOk made (λ c. content_of c.kept ≡ content_to_keep order) → IfOk made (λ c. IsReplayOf job (history_of job) c.ended)
     → IfOk made (λ c. c.rings ≡ None) → IfOk made (λ c. (items : List Item) × IsMade order job c items)
-plain-made order plain job (Err fault) same kept enough replay none = tt
-plain-made (Replay form) plain job (Ok c) same kept enough replay none = (
+plain-made order plain job (Err fault) same kept content replay none = tt
+plain-made (Replay form) plain job (Ok c) same kept content replay none = (
   history_of job,
   record {
     kept = subst (λ (j : Job). IsKeptOf j (history_of job) c.kept) (sym same) kept;
-    enough = enough;
+    content = content;
     carried_out = record {
       led' = same;
       history = subst (λ (j : Job). IsReplayOf j (history_of job) c.ended) (sym same) replay;
@@ -81,12 +70,12 @@ plain-made (Replay form) plain job (Ok c) same kept enough replay none = (
     };
   },
 )
-plain-made (Run form) plain job (Ok c) same kept enough replay none = absurd plain
-plain-made (Bulk n) plain job (Ok c) same kept enough replay none = (
+plain-made (Run form) plain job (Ok c) same kept content replay none = absurd plain
+plain-made (Bulk n) plain job (Ok c) same kept content replay none = (
   history_of job,
   record {
     kept = subst (λ (j : Job). IsKeptOf j (history_of job) c.kept) (sym same) kept;
-    enough = enough;
+    content = content;
     carried_out = record {
       led' = same;
       history = subst (λ (j : Job). IsReplayOf j (history_of job) c.ended) (sym same) replay;
@@ -108,7 +97,7 @@ run-made form job (Ok c) led run kept = all c.kept refl run kept
       h.items,
       record {
         kept = subst (IsKeptOf c.job h.items) (sym e) refl;
-        enough = subst (λ (k : Kept). IsAllAnd k (λ items. Unit {0})) (sym e) tt;
+        content = ap content_of e;
         carried_out = record { led' = led; history = run; kept' = kept };
       },
     )

@@ -19,7 +19,7 @@ use Rattle.ring_rules.specs.Legal.{RingsLegal}
 use Rattle.ring_rules.specs.Plan.{plan_of}
 use Rattle.trace_views.specs.RingsText.{rings_text}
 use Rattle.trace_print.specs.declared.kept.Kept.{Kept}
-use Rattle.trace_print.specs.Kept.{IsAllAnd, IsEnoughFor, IsForSummary, IsKeptOf}
+use Rattle.trace_print.specs.Kept.{AllItems, Content, ForSummary, IsKeptOf, content_for, content_of}
 use Rattle.trace_print.specs.Texts.{text_of}
 use Rattle.trace_print.specs.SummaryText.{summary_text}
 use Rattle.ft_app.specs.declared.carried_out.CarriedOut.{CarriedOut}
@@ -94,16 +94,16 @@ FindsModules job items = KeepsLoaded job items × RunsLoaded job items
 
 -- ## what is kept of its history
 
--- it is enough for what an order prints; with `Run` all items are kept, since rings are places among them
-abbrev pub IsEnough : Order → Kept → Type 0
-IsEnough (Replay form) kept = IsEnoughFor form kept
-IsEnough (Run form) kept = IsAllAnd kept (λ items. Unit {0})
-IsEnough (Bulk n) kept = IsForSummary kept
+-- what is kept for an order: what its text needs, and no more; with `Run` all items, since rings are places among them
+abbrev pub content_to_keep : Order → Content
+content_to_keep (Replay form) = content_for form
+content_to_keep (Run form) = AllItems
+content_to_keep (Bulk n) = ForSummary
 
--- the job was carried out, and enough is kept of these items
+-- the job was carried out, and what is kept for the order is of these items
 pub record IsMade (order : Order) (job : Job) (c : CarriedOut) (items : List Item) : Type 0 where
   pub kept : IsKeptOf c.job items c.kept
-  pub enough : IsEnough order c.kept
+  pub content : content_of c.kept ≡ content_to_keep order
   pub carried_out : IsCarriedOut order job c.job items c.rings c.ended
 
 -- whatever is made of a job, it was carried out

@@ -1,9 +1,9 @@
 //! A job that was carried out.
 
 ghost use Rattle.std.specs.Prelude.{◌≡◌, [], None, IfOk};
-ghost use Rattle.trace_print.specs.Kept.{Has, IsKeptOf};
+ghost use Rattle.trace_print.specs.Kept.{Has, IsKeptOf, content_of};
 ghost use Rattle.ft_app.specs.Main.{IsPlain};
-ghost use Rattle.ft_app.specs.Reply.{IsEnough, IsReplayOf, history_of};
+ghost use Rattle.ft_app.specs.Reply.{IsReplayOf, content_to_keep, history_of};
 
 use ft_base::NoMemory;
 use ft_job::Job;
@@ -26,13 +26,13 @@ pub(crate) struct CarriedOut {
     pub(crate) rings: Option<Rings>,
 }
 
-/// Carries a job out by a replay of its schedule, and keeps of the history what the order prints. The
+/// Carries a job out by a replay of its schedule, and keeps of the history what the order needs. The
 /// commands are led in the order of their lines.
 pub(crate) fn replayed(alloc: Global, order: Order, job: Job) -> Result<CarriedOut, NoMemory>
     requires { IsPlain order }
     ensures job { IfOk result (λ c. c.job ≡ job) }
     ensures kept { IfOk result (λ c. IsKeptOf job (history_of job) c.kept) }
-    ensures enough { IfOk result (λ c. IsEnough order c.kept) }
+    ensures content { IfOk result (λ c. content_of c.kept ≡ content_to_keep order) }
     ensures replay { IfOk result (λ c. IsReplayOf job (history_of job) c.ended) }
     ensures rings { IfOk result (λ c. c.rings ≡ None) }
 {
@@ -46,11 +46,11 @@ pub(crate) fn replayed(alloc: Global, order: Order, job: Job) -> Result<CarriedO
     })
 }
 
-/// What an order needs of a history, before its first item. With `Run` no schedule is replayed.
+/// What is kept of a history for an order, before its first item. With `Run` no schedule is replayed.
 fn kept_for(alloc: Global, order: Order, job: &Job) -> Result<Kept, NoMemory>
     requires { IsPlain order }
     ensures none { IfOk result (λ kept. Has job.now [] kept) }
-    ensures enough { IfOk result (λ kept. IsEnough order kept) }
+    ensures content { IfOk result (λ kept. content_of kept ≡ content_to_keep order) }
 {
     match order {
         Order::Replay(form) => Kept::for_form(alloc, job, form),

@@ -5,8 +5,8 @@ ghost use Rattle.std.specs.Io.KnownBytes.{Appends};
 ghost use Rattle.ft_base.specs.declared.item.Item.{Item};
 ghost use Rattle.ft_hist.specs.Rules.{IsLegal};
 ghost use Rattle.ft_io.specs.Causes.{Rose, AppendsFront};
-ghost use Rattle.trace_print.specs.Kept.{IsKeptOf};
-ghost use Rattle.ft_app.specs.Reply.{IsEnough, IsKeptFor, printed};
+ghost use Rattle.trace_print.specs.Kept.{IsKeptOf, content_of};
+ghost use Rattle.ft_app.specs.Reply.{IsKeptFor, content_to_keep, printed};
 
 use crate::carried_out::CarriedOut;
 use crate::reply::ReplyFail;
@@ -24,7 +24,7 @@ pub(crate) fn write_printed<K: Sink>(
     carried_out: &CarriedOut,
     sink: &mut K,
 ) -> Result<(), ReplyFail>
-    requires enough { IsEnough order carried_out.now.kept }
+    requires content { content_of carried_out.now.kept ≡ content_to_keep order }
     requires items { (items : List Item) × IsKeptOf carried_out.now.job items carried_out.now.kept × IsLegal carried_out.now.job items
         × IsKeptFor order carried_out.now.job items carried_out.now.rings }
     ensures all { (items : List Item) → IsKeptOf carried_out.now.job items carried_out.now.kept → OnOk result (Appends (K.holds sink.old) (K.holds sink.new)

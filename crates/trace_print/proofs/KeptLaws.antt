@@ -1,5 +1,5 @@
 -- What is kept of a history, item by item.
-use Rattle.std.proofs.Common.{◌≡◌, ℕ, ◌+◌, ◌<◌, ◌^◌, Bool, List, ◌∷◌, ◌++◌, [], length, reverse, sym, ap, ap₂, ◌∙◌, subst, arith, append_assoc}
+use Rattle.std.proofs.Common.{◌≡◌, ℕ, ◌+◌, ◌<◌, ◌^◌, Bool, List, ◌∷◌, ◌++◌, [], length, reverse, refl, sym, ap, ap₂, ◌∙◌, subst, arith, append_assoc}
 use Rattle.std.proofs.lemmas.List.{length-reverse, reverse-append, reverse-reverse}
 use Rattle.ft_base.specs.declared.item.Item.{Item}
 use Rattle.ft_base.specs.Desk.{desk}
@@ -24,7 +24,7 @@ use Rattle.trace_views.specs.Words.{item_texts, last_line, lines_text, numbered_
 use Rattle.trace_views.proofs.ReturnedLaws.{done-more}
 use Rattle.trace_print.specs.declared.kept.Kept.{Kept}
 use Rattle.trace_print.specs.declared.kept.Kept.TheVariants.{History, Function, Profile, Returned, Nothing, Totals}
-use Rattle.trace_print.specs.Kept.{Has, IsKeptOf}
+use Rattle.trace_print.specs.Kept.{Has, IsEnoughFor, IsKeptOf, ServesForm, content_for, content_of}
 use Rattle.trace_print.specs.Texts.{text_of}
 
 -- one more item
@@ -52,6 +52,19 @@ has-kept job past (Profile v) has = subst (λ (xs : List Item). HasProfile job x
 has-kept job past (Returned n) has = has ∙ ap done (sym (reverse-reverse past))
 has-kept job past Nothing has = tt
 has-kept job past (Totals t) has = has
+
+-- what is kept for a form is enough for it
+pub own-enough : (form : Form) (kept : Kept) → content_of kept ≡ content_for form → IsEnoughFor form kept
+own-enough form kept is = subst (ServesForm form) (sym is) (own form)
+  where
+    own : (f : Form) → ServesForm f (content_for f)
+    own forms.Log = tt
+    own forms.Function = refl
+    own forms.Graph = tt
+    own forms.Profile = refl
+    own forms.Enabled = refl
+    own forms.Modules = refl
+    own forms.Rings = tt
 
 -- ## texts, of what is kept for a form
 

@@ -58,6 +58,16 @@ content_of (Returned n) = ForForm forms.Enabled
 content_of Nothing = ForForm forms.Modules
 content_of (Totals t) = ForSummary
 
+-- what is kept for the text of a form: no more than it needs
+abbrev pub content_for : Form → Content
+content_for forms.Log = AllItems
+content_for forms.Function = ForForm forms.Function
+content_for forms.Graph = AllItems
+content_for forms.Profile = ForForm forms.Profile
+content_for forms.Enabled = ForForm forms.Enabled
+content_for forms.Modules = ForForm forms.Modules
+content_for forms.Rings = AllItems
+
 -- the text of a form can be made of it
 abbrev pub ServesForm : Form → Content → Type 0
 ServesForm form AllItems = Unit {0}

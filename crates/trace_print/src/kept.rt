@@ -1,8 +1,8 @@
 //! What is kept of a history for a text.
 
-ghost use Rattle.std.specs.Prelude.{IfOk, []};
+ghost use Rattle.std.specs.Prelude.{◌≡◌, IfOk, []};
 ghost use Rattle.ft_base.specs.Job.{Job as PlainJob};
-ghost use Rattle.trace_print.specs.Kept.{Has, IsEnoughFor, IsForSummary};
+ghost use Rattle.trace_print.specs.Kept.{ForSummary, Has, content_for, content_of};
 
 use crate::names::Names;
 use ft_base::{Item, NoMemory};
@@ -31,10 +31,11 @@ pub enum Kept {
 }
 
 impl Kept {
-    /// What the text of a form needs, before the first item of a job. The error says that memory ran out.
+    /// What the text of a form needs, and no more, before the first item of a job. The error says that
+    /// memory ran out.
     pub fn for_form(alloc: Global, job: &Job, form: Form) -> Result<Kept, NoMemory>
         ensures none { IfOk result (λ kept. Has job.now [] kept) }
-        ensures form { IfOk result (λ kept. IsEnoughFor form kept) }
+        ensures form { IfOk result (λ kept. content_of kept ≡ content_for form) }
     {
         match form {
             Form::Log | Form::Graph | Form::Rings => {
@@ -56,7 +57,7 @@ impl Kept {
     /// What the summary needs, before the first item of a job.
     pub fn for_summary() -> Kept
         ensures none { (job : PlainJob) → Has job [] result }
-        ensures form { IsForSummary result }
+        ensures form { content_of result ≡ ForSummary }
     {
         Kept::Totals(Totals::none())
     }

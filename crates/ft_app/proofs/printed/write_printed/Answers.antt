@@ -3,11 +3,23 @@ use Rattle.ft_base.specs.declared.item.Item.{Item}
 use Rattle.ring_rules.specs.Legal.{RingsLegal}
 use Rattle.ring_rules.specs.Plan.{plan_of}
 use Rattle.trace_print.specs.declared.kept.Kept.{Kept}
-use Rattle.trace_print.specs.Kept.{IsKeptOf}
+use Rattle.trace_print.specs.Kept.{ForSummary, IsKeptOf, ServesSummary, content_of}
 use Rattle.trace_views.specs.RingLines.{HasEntries}
 use Rattle.trace_views.proofs.RingEntries.{has-entries}
-use Rattle.ft_app.proofs.KeptRings.{replied-all}
+use Rattle.trace_print.proofs.KeptLaws.{own-enough}
+use Rattle.ft_app.proofs.KeptRings.{all-enough, replied-all}
 use Rattle.ft_app.proofs.printed.write_printed.Goals as goal
+
+pub write_kept-requires-clause-enough : goal.write_kept-requires-clause-enough
+write_kept-requires-clause-enough g c = own-enough c.in-Replay.form c.args.carried_out.now.kept (rw c.in-Replay.is at c.requires.content)
+
+pub write_kept-requires-in-None-clause-enough : goal.write_kept-requires-in-None-clause-enough
+write_kept-requires-in-None-clause-enough g c = all-enough c.args.carried_out.now.kept (rw c.in-Run.is at c.requires.content) c.in-Run.form
+
+pub summary_kept-requires : goal.summary_kept-requires
+summary_kept-requires g c =
+    let content : content_of c.args.carried_out.now.kept ≡ ForSummary = rw c.in-Bulk.is at c.requires.content in
+    subst ServesSummary (sym content) tt
 
 pub write_rings-requires-clause-entries : goal.write_rings-requires-clause-entries
 write_rings-requires-clause-entries g c =

@@ -6,8 +6,8 @@ use Rattle.ft_app.proofs.reply.write_reply.Goals as goal
 
 -- ## the text of a history
 
-pub write_printed-requires-clause-enough : goal.write_printed-requires-clause-enough
-write_printed-requires-clause-enough g c = (c.requires.serves _ _ c.in-Ok-carry_out.ensures).1.enough
+pub write_printed-requires-clause-content : goal.write_printed-requires-clause-content
+write_printed-requires-clause-content g c = (c.requires.serves _ _ c.in-Ok-carry_out.ensures).1.content
 
 pub write_printed-requires-clause-items : goal.write_printed-requires-clause-items
 write_printed-requires-clause-items g c =
