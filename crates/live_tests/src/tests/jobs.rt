@@ -1,9 +1,10 @@
 //! The jobs of the tests, which are read from scripts.
 
+use ft_base::limits;
 use ft_base::limits::INPUT_BYTES;
 use ft_job::Job;
 use ft_script::read_script;
-use std::alloc::Global;
+use std::alloc::{AllocError, Global};
 use std::test::Fail;
 
 /// Commands that change call sites, and no CPU.
@@ -71,7 +72,19 @@ ret
 ";
 
 /// Two users of which one is registered and unregistered by one lane, and the other registered by
-/// another, and a call on each of two CPUs. One of them waits until two commands have returned.
+/// another. There is no CPU.
+pub const LANES: &str = "ftrace 1
+func a
+user t function
+user s function
+lane 0
+ctl register t
+ctl unregister t
+lane 1
+ctl register s
+";
+
+/// The same, and a call on each of two CPUs. One of them waits until two commands have returned.
 pub const LANES_AND_CALLS: &str = "ftrace 1
 func a
 user t function
@@ -106,4 +119,29 @@ pub fn job_of(alloc: Global, text: &str) -> Result<Job, Fail> {
         Some(job) => Ok(job),
         None => Err("refused")?,
     }
+}
+
+/// These two commands again and again: half of all that there may be.
+fn add_pairs(text: &mut String, pair: &str) -> Result<(), AllocError> {
+    for _ in 0..limits::COMMANDS / 4 {
+        text.push_str(pair)?;
+    }
+    Ok(())
+}
+
+/// Two lanes that each register and unregister a user of their own, again and again: as many commands
+/// as there may be.
+fn two_full_lanes(alloc: Global) -> Result<String, AllocError> {
+    let mut text = String::new(alloc);
+    text.push_str("ftrace 1\nfunc a\nuser t function\nuser s function\nlane 0\n")?;
+    add_pairs(&mut text, "ctl register t\nctl unregister t\n")?;
+    text.push_str("lane 1\n")?;
+    add_pairs(&mut text, "ctl register s\nctl unregister s\n")?;
+    Ok(text)
+}
+
+/// The job of as many commands as there may be, in two lanes.
+pub fn lanes_with_most_commands(alloc: Global) -> Result<Job, Fail> {
+    let text = two_full_lanes(alloc)?;
+    job_of(alloc, text.as_str())
 }

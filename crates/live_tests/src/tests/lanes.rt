@@ -1,8 +1,11 @@
 //! Lanes in threads of their own, beside those of CPUs.
 
-use super::jobs::{LANES_AND_CALLS, job_of};
+use super::jobs::{LANES, LANES_AND_CALLS, job_of, lanes_with_most_commands};
 use super::meeting::Meeting;
 use super::tally::Tally;
+use super::threads::steps_and_one;
+use ft_base::Actor;
+use ft_base::limits::COMMANDS;
 use ft_io::Gate;
 use ft_job::Job;
 use live_lanes::{LaneRun, run_lanes};
@@ -51,20 +54,38 @@ fn lanes_pass_together(rt: HostRuntime) -> Result<(), Fail> {
     Ok(())
 }
 
-/// How often the two lanes pass, if each actor passes with the numbers from 0 on.
-fn lane_passes<R: Threads + Wait + Sync>(rt: &R, alloc: Global) -> Result<[u64; 2], Fail> {
-    let job = job_of(alloc, LANES_AND_CALLS)?;
+/// How many items a run of as many commands as there may be has.
+fn items_of_most_commands<R: Threads + Wait + Sync>(
+    rt: &R,
+    alloc: Global,
+    meeting: &Meeting,
+) -> Result<u32, Fail> {
+    let job = lanes_with_most_commands(alloc)?;
+    let run = run(rt, alloc, job, meeting).ok_or("no run")?;
+    Ok(run.history.len())
+}
+
+#[test]
+fn lanes_with_most_commands_pass_together(rt: HostRuntime) -> Result<(), Fail> {
+    let meeting = Meeting::of_lanes();
+    assert!(rt; items_of_most_commands(&rt, rt.alloc(), &meeting)? == 2 * COMMANDS);
+    assert!(rt; meeting.came() == 2 && !meeting.failed());
+    Ok(())
+}
+
+/// Whether two lanes of three commands, and control, pass as often as they have to: each with the
+/// numbers from 0 on, a lane once a turn and once more, and control once a step and once more, by a
+/// machine that steps it alone.
+fn pass_as_often<R: Threads + Wait + Sync>(rt: &R, alloc: Global) -> Result<bool, Fail> {
+    let job = job_of(alloc, LANES)?;
     let tally = Tally::new();
-    if run(rt, alloc, job, &tally).is_none() || tally.is_broken() {
-        Err("no run, or another number")?;
-    }
-    let [_, _, _, lane, other] = tally.passes();
-    Ok([lane, other])
+    let run = run(rt, alloc, job, &tally).ok_or("no run")?;
+    let control = steps_and_one(alloc, &run.job, Actor::Control)?;
+    Ok(!tally.is_broken() && tally.passes() == [control, 0, 0, 3, 2])
 }
 
 #[test]
 fn lanes_pass_once_a_turn(rt: HostRuntime) -> Result<(), Fail> {
-    // Once for each command, and once more.
-    assert!(rt; lane_passes(&rt, rt.alloc())? == [3, 2]);
+    assert!(rt; pass_as_often(&rt, rt.alloc())?);
     Ok(())
 }

@@ -102,7 +102,7 @@ fn steps_alone(alloc: Global, job: &Job, actor: Actor) -> Result<Option<u64>, No
 
 /// The steps of an actor, and one more, in a replay that steps it alone. The actors of these jobs come
 /// to their ends alone.
-fn steps_and_one(alloc: Global, job: &Job, actor: Actor) -> Result<u64, Fail> {
+pub fn steps_and_one(alloc: Global, job: &Job, actor: Actor) -> Result<u64, Fail> {
     Ok(steps_alone(alloc, job, actor)?.ok_or("no end")?)
 }
 
