@@ -117,9 +117,9 @@ def take_memory():
     resource.setrlimit(resource.RLIMIT_DATA, (2**20, 2**20))
 
 
-def check_memory(rows, program):
+def check_memory(rows, program, top):
     """In one MiB of memory there is room for a small script, but not for the most bytes, acts or arguments, nor for a thread: a run then
-    makes the steps of all actors in turn. And with any address space the program does all or nothing."""
+    makes the steps of all actors in turn, with lanes too. And with any address space the program does all or nothing."""
     most = one_comment(forms.INPUT_BYTES)
     tries = [("a small script", 0, LOG, SCRIPT, ["replay"]), ("the most bytes", 6, b"", most, ["replay"])]
     tries += [("the most acts", 6, b"", acts(forms.ACTS), ["replay"]), ("the most bytes, other words", 2, b"", most, ["frob"])]
@@ -129,6 +129,10 @@ def check_memory(rows, program):
     for what, status, out, text, words in tries:
         came = runs.answer([program, *words], text, preexec_fn=take_memory)
         rows.row(f"memory: {what}", runs.faults(came, status, out), came.seconds)
+    for name in LANED:
+        text = (top / "examples" / f"{name}.ft").read_bytes()
+        came = runs.answer([program, "run"], text, RUN_SECONDS, preexec_fn=take_memory)
+        rows.row(f"memory: {name}, run", command_words.run_faults(came, "log", text), came.seconds)
     for what, words, text, status, out in orders_of_memory(program):
         memory_limits.check(rows, f"{what}: {' '.join(words)}", memory_limits.Order(program, words, text, status, out))
 
@@ -491,7 +495,7 @@ def run(options):
     module_lines.check(rows, options.program)
     command_answers.check(rows, options.program)
     check_streams(rows, options.program)
-    check_memory(rows, options.program)
+    check_memory(rows, options.program, options.top)
     check_limits(rows, options.program)
     full_scripts.check(rows, options.program)
     check_forms(rows, options.program)
