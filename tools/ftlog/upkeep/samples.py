@@ -3,7 +3,7 @@
 Each script becomes a job, and its log, which `./ftcore replay` prints, a list of items; the proof says by computation that the definition of
 the word machine gives that history and that end. samples.txt, beside this file, has the scripts of `rows`, which are worked examples, and of
 `runs`, in which a machine goes wrong that leaves something out: the name says what. Those of `waits` take longer on a
-machine that waits for more. Those of `random` are `ft make plain`'s with a schedule of single steps, from the seed FIRST on. Passed over are those that have what no sample has (version 2, lanes, modules that come and go, a
+machine that waits for more, and those of `quanta` switch elsewhere on one that counts other steps of a quantum. Those of `random` are `ft make plain`'s with a schedule of single steps, from the seed FIRST on. Passed over are those that have what no sample has (version 2, lanes, modules that come and go, a
 ring or a trigger), and those whose histories are shorter or longer than samples are.
 
 The first two are files of crates/word_machine/proofs, the others of crates/word_samples/proofs. Those that stand there have the histories
@@ -13,6 +13,7 @@ of a job changes, and then the crates are proved anew.
     tools/ft samples rows > RowSamples.antt
     tools/ft samples runs > RunSamples.antt
     tools/ft samples waits > WaitSamples.antt
+    tools/ft samples quanta > QuantumSamples.antt
     tools/ft samples random 1 50 > RandomSamples1.antt
 """
 import random
@@ -25,6 +26,7 @@ from ftlog.make import script_forms as forms
 SCRIPTS = runs.TOP / "tools" / "ftlog" / "upkeep" / "samples.txt"
 WHAT = {"rows": "worked examples", "runs": "runs in which a machine goes wrong that leaves something out",
         "waits": "runs that take longer on a machine that waits for more",
+        "quanta": "runs that switch elsewhere on a machine that counts other steps of a quantum",
         "random": "random jobs under schedules of single steps"}
 FULL_TURNS = "all*300"  # enough to end each script
 ITEMS = range(11, 80)  # of a random history
@@ -141,7 +143,7 @@ class Job:
         functions = [f'named (codes "{name}") ' + (f'(Some (codes "{module}"))' if module else "None") for name, module in it.functions]
         tasks = [record(pid=task.pid, cpu=task.cpu, acts=listed(map(self.act_text, task.acts))) for task in it.acts]
         turns = [record(who=sign(who) if who in ("k", "all") else f"OfCpu {number(who)}", count=count) for who, count in it.turns]
-        return record(version=1, functions=listed(functions), users=listed(map(self.user_text, it.users.values())), frames=it.frames,
+        return record(version=it.version, functions=listed(functions), users=listed(map(self.user_text, it.users.values())), frames=it.frames,
                       tramps=it.slots, quanta=listed(map(str, it.quanta)), tasks=listed(tasks), ctls=listed(map(self.control_text, it.control)),
                       lines="usual_lines", rings="usual_rings", schedule=listed(turns))
 
@@ -223,7 +225,7 @@ def imports_of(body):
 
 def add_words(parser):
     """Adds the words of `ft samples`."""
-    parser.add_argument("kind", choices=list(WHAT), metavar="KIND", help="rows, runs or random")
+    parser.add_argument("kind", choices=list(WHAT), metavar="KIND", help="rows, runs, waits, quanta or random")
     parser.add_argument("range", nargs="*", type=int, metavar="N", help="of `random` the first seed, and how many jobs")
 
 
