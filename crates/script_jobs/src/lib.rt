@@ -53,18 +53,27 @@ pub fn every_history_of_a_script_is_legal()
 {}
 
 /// The functions of an accepted script have names that differ, its users too, and the pids of its
-/// tasks differ.
+/// tasks differ; so they do in whatever order the commands of its lanes go.
 pub fn accepted_jobs_are_named_apart()
-    ensures { (text : List ℕ) (job : Job) → IsJobOf text job → IsNamedApart job }
+    ensures named { (text : List ℕ) (job : Job) → IsJobOf text job → IsNamedApart job }
+    ensures ordered { (text : List ℕ) (job : Job) (order : List ℕ) → IsJobOf text job → HasLanes job → IsNamedApart (in_order job order) }
+{}
+
+/// In an accepted script in lanes control has commands alone, and each has the number of a lane.
+pub fn each_command_in_lanes_has_one()
+    ensures { (text : List ℕ) (job : Job) → IsJobOf text job → job.lines.lanes ≢ [] → HasLanes job }
 {}
 
 /// Each item of a legal history of an accepted script has numbers that the job has: tasks, functions
-/// and users. There are fewer than 2^32 of them.
+/// and users. There are fewer than 2^32 of them. So it is in whatever order of the lanes its commands go.
 pub fn legal_items_are_the_jobs()
     ensures items { (text : List ℕ) (job : Job) (items : List Item) → IsJobOf text job
         → IsLegal job items → Each (IsItemOf job) items }
     ensures count { (text : List ℕ) (job : Job) (items : List Item) → IsJobOf text job
         → IsLegal job items → length items < 2 ^ 32 }
+    ensures ordered { (text : List ℕ) (job : Job) (order : List ℕ) (items : List Item) → IsJobOf text job
+        → HasLanes job → IsLaneOrder job.lines.lanes order → IsLegal (in_order job order) items
+        → Each (IsItemOf (in_order job order)) items × (length items < 2 ^ 32) }
 {}
 
 /// And the numbers of commands, calls and places in it have 32 bits, as those of an item in memory;
