@@ -55,7 +55,7 @@ module _ {S K : Type 0} (remaining : S → Option (List ℕ)) (read_faults : S �
   module _ (source source' : S) (sink sink' : K) (order : Order) (got : List ℕ) (gets : Gets order (remaining source) (remaining source') got) where
     says-reply : (status : Status) (text : List ℕ) → IsReplyTo order got status text → Appends (holds sink) (holds sink') text
         → Says {S = S} {K = K} remaining read_faults holds write_faults (Only order) status source source' sink sink'
-    says-reply _ _ (of_history job accepted led items kept ended carried_out) written = (
+    says-reply _ _ (of_history job accepted led items kept ended carried_out there) written = (
       order,
       refl,
       record {
@@ -64,7 +64,7 @@ module _ {S K : Type 0} (remaining : S → Option (List ℕ)) (read_faults : S �
         played = record {
           job = job;
           accepted = accepted;
-          written = has_printed order (holds sink) (holds sink') got job led items kept ended accepted carried_out written;
+          written = has_printed order (holds sink) (holds sink') job led items kept ended carried_out there written;
         };
       },
     )

@@ -114,8 +114,8 @@ Serves order makes =
 -- ## the reply
 
 -- what an order writes for a script, and the status once it is written in full: what it prints of a history of the script's job
--- as it was carried out, or the line of the refusal
+-- as it was carried out, in which each call finds its module, or the line of the refusal
 pub data IsReplyTo (order : Order) (script : List ℕ) : Status → List ℕ → Type 0 where
   of_history : (job : Job) → IsJobOf script job → (led : Job) (items : List Item) (kept : Option Rings) (ended : Bool)
-      → IsCarriedOut order job led items kept ended → IsReplyTo order script Done (printed order led items kept ended)
+      → IsCarriedOut order job led items kept ended → FindsModules led items → IsReplyTo order script Done (printed order led items kept ended)
   of_refusal : (fault : ScriptFault) → IsRefusalOf script fault → IsReplyTo order script Refused (refusal_text fault)
