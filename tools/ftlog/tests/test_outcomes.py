@@ -18,7 +18,7 @@ PROGRAM = str(outcomes.PROGRAM)
 IS_BUILT = os.access(PROGRAM, os.X_OK)
 HAS_REPLAY = os.access(runs.PROGRAM, os.X_OK)
 MANY = 1_000_000
-ROW = re.compile(r"\| `([^`]+)` \| (yes|no) \| \S.* \|")
+ROW = re.compile(r"\| `([^`]+)` \| (yes|no) \| (yes|no) \| \S.* \|")
 EXAMPLES = ("ipmodify", "contexts", "refused_pid", "missed_exit", "until")
 HEAD = b"ftrace 1\nfunc a\nuser t function\ncpu 0 quantum 100\n"
 TINY = HEAD + b"task 10 cpu 0\ncall a\nret\nctl register t\n"
@@ -76,12 +76,16 @@ def random_outcomes(script):
 
 
 def sections():
-    """Each litmus test of the page: the script's file, and the outcomes that may be and those that may not."""
+    """Each litmus test of the page: the script's file, and the rows: an outcome, and whether it may be in versions 1 and 2, and in 3."""
     for part in PAGE.read_text().split("\n## ")[1:]:
         rows = ROW.findall(part)
         if rows:
-            name = re.search(r"\]\(\.\./examples/litmus/(\w+\.ft)\)", part)[1]
-            yield LITMUS / name, {text for text, may in rows if may == "yes"}, {text for text, may in rows if may == "no"}
+            yield LITMUS / re.search(r"\]\(\.\./examples/litmus/(\w+\.ft)\)", part)[1], rows
+
+
+def with_looks(script):
+    """The same script in version 3, where CPUs look for requests."""
+    return script.replace(b"ftrace 1\n", b"ftrace 3\n", 1)
 
 
 def fake(room, text, status=0):
@@ -138,16 +142,20 @@ class Page(unittest.TestCase):
     """The tables of the page."""
 
     def test_each_litmus_test_has_a_table(self):
-        names = [path.name for path, _, _ in sections()]
-        self.assertEqual(len(names), 5)
-        self.assertEqual(set(names) | {"two_users_swapped_with_a_gap.ft"}, {path.name for path in LITMUS.iterdir()})
-        for path, may, may_not in sections():
-            self.assertTrue(may and may_not and not may & may_not, path.name)
+        self.assertEqual(sorted(path for path, _ in sections()), sorted(LITMUS.iterdir()))
+        for path, rows in sections():
+            self.assertEqual(len({text for text, *_ in rows}), len(rows), path.name)
+            for column in (1, 2):
+                self.assertEqual({row[column] for row in rows}, {"yes", "no"}, path.name)
 
     @unittest.skipUnless(IS_BUILT, "ftoutcomes isn't built")
     def test_tables_have_every_outcome(self):
-        for path, may, may_not in sections():
-            self.assertEqual(full_search(path.read_bytes()), may, path.name)
+        for path, rows in sections():
+            script = path.read_bytes()
+            for column, made in ((1, script), (2, with_looks(script))):
+                may = {row[0] for row in rows if row[column] == "yes"}
+                self.assertEqual(full_search(made), may, path.name)
+                self.assertLessEqual(random_outcomes(made), may, path.name)
 
 
 @unittest.skipUnless(IS_BUILT, "ftoutcomes isn't built")
@@ -163,12 +171,14 @@ class Searches(unittest.TestCase):
 
     def test_full_search_has_every_random_outcome_of_a_small_script(self):
         for name, script in SMALL.items():
-            self.assertLessEqual(random_outcomes(script), full_search(script), name)
+            for made in (script, with_looks(script)):
+                self.assertLessEqual(random_outcomes(made), full_search(made), name)
 
     def test_search_with_some_switches_has_every_random_outcome(self):
         for name, script in LARGE.items():
-            found = outcome_runs.find(PROGRAM, script, 1, 0, 3, MANY)
-            self.assertLessEqual(random_outcomes(script), {it.text for it in found.outcomes}, name)
+            for made in (script, with_looks(script)):
+                found = outcome_runs.find(PROGRAM, made, 1, 0, 3, MANY)
+                self.assertLessEqual(random_outcomes(made), {it.text for it in found.outcomes}, name)
 
     def test_more_switches_find_no_less(self):
         for script in (TINY, TWO_CPUS):
@@ -217,7 +227,7 @@ class Replays(unittest.TestCase):
     def test_schedules_show_their_outcomes(self):
         scripts = [path.read_bytes() for path in sorted(LITMUS.iterdir())] + [*SMALL.values(), *LARGE.values()]
         scripts += [(runs.TOP / "examples" / f"{name}.ft").read_bytes() for name in EXAMPLES]
-        for script in scripts:
+        for script in scripts + [with_looks(script) for script in scripts]:
             for it in outcome_runs.find(PROGRAM, script, 1, 64, 1, 100).outcomes:
                 self.assertEqual(replayed(script, it.shown.line), it.text)
 
