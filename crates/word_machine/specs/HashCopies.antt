@@ -1,12 +1,12 @@
 -- The rule of users' states and of the two copies of their sets: which copy has the sets, and what a reader of a copy has found.
-use Rattle.std.specs.Prelude.{ℕ, suc, ◌≡◌, ◌<◌, ◌⊎◌, true, false, ◌||◌, ◌%◌}
+use Rattle.std.specs.Prelude.{ℕ, zero, suc, ◌≡◌, ◌<◌, ◌⊎◌, true, false, ◌||◌, ◌&&◌, ◌==◌, ◌%◌, if◌then◌else◌}
 use Rattle.ft_base.specs.Marks.{holds, is_empty}
 use Rattle.ft_base.specs.Job.{Job}
 use Rattle.ft_base.specs.Desk.{UserState}
 use Rattle.word_map.specs.Contents.{high, sel_of, set_word, other_copy}
 use Rattle.word_machine.specs.Commands.{Effect, Removes, effect, subject, state_of, set_words}
 use Rattle.word_machine.specs.Control.{Position, Copy, Select}
-use Rattle.word_machine.specs.Progress.{selected, desk_by, SeenAt, writes_copy}
+use Rattle.word_machine.specs.Progress.{selected, desk_by, selects, SeenAt, writes_copy}
 
 -- a copy has the user's sets
 abbrev pub HasSets : Job → UserState → (ℕ → ℕ → ℕ) → Type 0
@@ -17,6 +17,11 @@ HasSets job s copy = (h w : ℕ) → h < 2 → w < set_words job → copy h w �
 abbrev pub SelIs : Job → UserState → ℕ → ℕ → (ℕ → ℕ → ℕ → ℕ) → Type 0
 SelIs job s v copy bits =
     (s.registered ≡ true → (v ≡ sel_of s copy) × HasSets job s (bits copy)) × (s.registered ≡ false → (high v ≡ s.reg) × (v % 2 ≡ 0))
+
+-- the state of a user as control stored it last in the first k commands, with this copy in use: 0 before its first store
+abbrev pub stored_last : Job → (u copy k : ℕ) → ℕ
+stored_last job u copy zero = 0
+stored_last job u copy (suc k) = if selects (effect job k) && (u == subject job k) then sel_of (state_of job (suc k) u) copy else stored_last job u copy k
 
 -- how far the copy that is being written is; it has all of the new sets before the state that names it is stored. Otherwise a reader
 -- would find half of a filter
@@ -33,11 +38,13 @@ LeftAt job d u v copy sets = (v ≡ sel_of (state_of job (suc d) u) copy) × Has
 -- The states and the copies.
 --   small     there are two copies
 --   sels      each state is that of the desk, and names a copy that has the user's sets
+--   last      each is what control stored last; so that of a user that is off still has the other bits of the command that took it off
 --   written   the other copy is written in its order
 --   left      a user that is being taken off can still be read
 pub record HashCopies (job : Job) (d : ℕ) (p : Position) (copies : ℕ → ℕ) (sel : ℕ → ℕ) (bits : ℕ → ℕ → ℕ → ℕ → ℕ) : Type 0 where
   pub small : (u : ℕ) → copies u < 2
   pub sels : (u : ℕ) → SelIs job (state_of job (desk_by (selected p) d) u) (sel u) (copies u) (bits u)
+  pub last : (u : ℕ) → sel u ≡ stored_last job u (copies u) (desk_by (selected p) d)
   pub written : WrittenAt job (state_of job (suc d) (subject job d)) (bits (subject job d) (other_copy (copies (subject job d)))) (effect job d) p
   pub left : effect job d ≡ Removes → selected p ≡ true → LeftAt job d (subject job d) (sel (subject job d)) (copies (subject job d)) (bits (subject job d) (copies (subject job d)))
 

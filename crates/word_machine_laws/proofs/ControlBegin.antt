@@ -26,7 +26,7 @@ use Rattle.word_machine.specs.Machine.{control_row}
 use Rattle.word_machine.specs.Progress.{SeenAt, selected, listed, took, gave, pids_stored, depth_stored, desk_by, underway, quiet_reached, relinks, patches, selects, is_adds, is_lists, is_levels, writes_copy, comes_to}
 use Rattle.word_machine.specs.Sites.{PositionAt, stage_in, asks, reached}
 use Rattle.word_machine.specs.UserList.{since_of, list_desk, PushedAt, UserList}
-use Rattle.word_machine.specs.HashCopies.{SelIs, WrittenAt, HashCopies}
+use Rattle.word_machine.specs.HashCopies.{SelIs, stored_last, WrittenAt, HashCopies}
 use Rattle.word_machine.specs.Trampolines.{HasSlot, TrampolinesHeld, PidsAndDepth}
 use Rattle.word_machine.specs.Rule.{MachineRule}
 use Rattle.word_machine_laws.proofs.Carried.{cpu_carried}
@@ -122,7 +122,7 @@ module _ (job : Job) (ok : IsWellFormed job) (d : ℕ) where
         by_list true e = (rest_same job ok d (b.list e) v).1
 
     sets_begin : (copies sel : ℕ → ℕ) (bits : ℕ → ℕ → ℕ → ℕ → ℕ) → HashCopies job d Line copies sel bits → HashCopies job d p' copies sel bits
-    sets_begin copies sel bits k = record { small = k.small; sels = λ u. by_state u (selected p') refl; written = b.written _; left = λ e out. false_true (sym (b.user out) ∙ ap selects e) }
+    sets_begin copies sel bits k = record { small = k.small; sels = λ u. by_state u (selected p') refl; last = λ u. k.last u ∙ stays u (selected p') refl; written = b.written _; left = λ e out. false_true (sym (b.user out) ∙ ap selects e) }
       where
         by_state : (u : ℕ) (x : Bool) → selected p' ≡ x → SelIs job (state_of job (desk_by x d) u) (sel u) (copies u) (bits u)
         by_state u false e = k.sels u
@@ -132,6 +132,10 @@ module _ (job : Job) (ok : IsWellFormed job) (d : ℕ) where
                   subst (λ (y : UserState). SelIs job y (sel u) (copies u) (bits u)) (sym (s.0 o)) (k.sels u)).0 r),
               (λ r. (let x = (k.sels u).1 (sym s.1 ∙ r) in (x.0 ∙ sym s.2, x.1))),
             )
+
+        stays : (u : ℕ) (x : Bool) → selected p' ≡ x → stored_last job u (copies u) d ≡ stored_last job u (copies u) (desk_by x d)
+        stays u false e = refl
+        stays u true e = rw (b.user e) refl
 
     tramps_begin : (tramp : ℕ → ℕ) → TrampolinesHeld job d Line tramp → TrampolinesHeld job d p' tramp
     tramps_begin tramp k = record {

@@ -230,7 +230,7 @@ module _ (job : Job) (ok : IsWordJob job) (ws : Words) (d : ℕ) (remaining : Li
         lines = subst (λ (x : List Ctl). ControlLines job (suc d) Line x (λ t. (task_in job cpus t).gone)) (ap rest_lines (sym u.2)) l.1;
         sites = pass.sites;
         list = record { order' = k.list.order'; leads = k.list.leads; pushed = tt };
-        sets = record { small = k.sets.small; sels = k.sets.sels; written = tt; left = λ e out. false_true out };
+        sets = record { small = k.sets.small; sels = k.sets.sels; last = k.sets.last; written = tt; left = λ e out. false_true out };
         tramps = tramps_close job ok.job' d ws.tramp k.tramps;
         limits = record { tasks = k.limits.tasks; level = k.limits.level };
         cpus = λ c within.

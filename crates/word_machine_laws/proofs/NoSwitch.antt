@@ -14,7 +14,7 @@ use Rattle.word_machine.specs.Cpu.{Cpu}
 use Rattle.word_machine.specs.Machine.{World}
 use Rattle.word_machine.specs.Progress.{SeenAt, HoldsAt, selected, listed, took, gave, pids_stored, depth_stored, desk_by, underway, quiet_reached}
 use Rattle.word_machine.specs.UserList.{since_of, list_desk, PushedAt, UserList, ListWalk, Unlinked}
-use Rattle.word_machine.specs.HashCopies.{ReaderAt, SelIs, WrittenAt, HashCopies}
+use Rattle.word_machine.specs.HashCopies.{ReaderAt, SelIs, stored_last, WrittenAt, HashCopies}
 use Rattle.word_machine.specs.Trampolines.{TrampolinesHeld, PidsAndDepth}
 use Rattle.word_machine.specs.Verdicts.{Here}
 use Rattle.word_machine.specs.Rule.{MachineRule, UnderAt, Counts, ControlLines}
@@ -133,6 +133,7 @@ pub sets_on : (job : Job) (d : ℕ) (p p' : Position) (copies sel : ℕ → ℕ)
 sets_on job d p p' copies sel bits same written k = record {
   small = k.small;
   sels = λ u. subst (λ b. SelIs job (state_of job (desk_by b d) u) (sel u) (copies u) (bits u)) (sym same) (k.sels u);
+  last = λ u. k.last u ∙ ap (λ b. stored_last job u (copies u) (desk_by b d)) (sym same);
   written = written;
   left = λ e out. k.left e (sym same ∙ out);
 }

@@ -17,7 +17,7 @@ use Rattle.word_machine.specs.Machine.{control_row}
 use Rattle.word_machine.specs.Progress.{SeenAt, selected, took, gave, underway, quiet_reached, desk_by, comes_to}
 use Rattle.word_machine.specs.Sites.{PositionAt, stage_in, asks, reached}
 use Rattle.word_machine.specs.UserList.{PushedAt}
-use Rattle.word_machine.specs.HashCopies.{HasSets, SelIs, WrittenAt, HashCopies}
+use Rattle.word_machine.specs.HashCopies.{HasSets, SelIs, stored_last, WrittenAt, HashCopies}
 use Rattle.word_machine.specs.Rule.{MachineRule}
 use Rattle.word_machine.proofs.Small.{if_case, flip_other}
 use Rattle.word_machine_laws.proofs.Sites.{Fetches, passed_same}
@@ -79,6 +79,7 @@ module _ (job : Job) (d h w : ℕ) (copies : ℕ → ℕ) (bits : ℕ → ℕ �
         bits_other bits s0 c0 h w (set_word new h w) u (copies u) (λ e c. flip_other (copies s0) (k.small s0) (sym (ap copies e) ∙ c)) in
         subst (λ y. SelIs job (state_of job (desk_by y d) u) (sel u) (copies u) (bits' u)) (sym out)
         ((λ r. (((k.sels u).0 r).0, subst (λ y. HasSets job (state_of job d u) y) (sym same) ((k.sels u).0 r).1)), (k.sels u).1);
+    last = λ u. k.last u ∙ ap (λ y. stored_last job u (copies u) (desk_by y d)) (sym out);
     written = written;
     left = λ e s. false_true (sym out ∙ s);
   }

@@ -1,6 +1,8 @@
 -- The row that stores a user's state.
-use Rattle.std.proofs.Common.{◌≡◌, ◌⊎◌, ℕ, suc, ◌+◌, ◌%◌, ◌<◌, Bool, true, false, List, inl, inr, refl, sym, ap, ◌∙◌, subst, arith}
-use Rattle.std.proofs.lemmas.Bool.{cases_eq}
+use Rattle.std.proofs.Common.{◌≡◌, ◌≢◌, ◌⊎◌, ℕ, suc, ◌+◌, ◌%◌, ◌<◌, Bool, true, false, ◌&&◌, cond, List, inl, inr, refl, sym, ap, ◌∙◌, subst, arith}
+use Rattle.std.specs.Prelude.{◌==◌}
+use Rattle.std.proofs.lemmas.Bool.{eq-eqb, cases_eq}
+use Rattle.std.proofs.lemmas.Bool.Decides.{nat_tests}
 use Rattle.ft_base.specs.declared.item.Item.{Item}
 use Rattle.ft_base.specs.Marks.{is_empty}
 use Rattle.ft_base.specs.Job.{Job, Ctl}
@@ -17,7 +19,7 @@ use Rattle.word_machine.specs.Cpu.{Cpu}
 use Rattle.word_machine.specs.Machine.{control_row}
 use Rattle.word_machine.specs.Progress.{SeenAt, selected, listed, pids_stored, depth_stored, desk_by, waits, writes_copy, selects, relinks, patches, is_adds, comes_to}
 use Rattle.word_machine.specs.UserList.{since_of, list_desk, PushedAt, UserList}
-use Rattle.word_machine.specs.HashCopies.{HasSets, SelIs, WrittenAt, HashCopies}
+use Rattle.word_machine.specs.HashCopies.{HasSets, SelIs, stored_last, WrittenAt, HashCopies}
 use Rattle.word_machine.specs.Sites.{PositionAt, stage_in, asks, reached}
 use Rattle.word_machine.specs.Rule.{MachineRule}
 use Rattle.word_machine_laws.proofs.DeskChanges.{SubjectBy, between}
@@ -121,6 +123,7 @@ module _ (job : Job) (ok : IsWellFormed job) (d : ℕ) (copies : ℕ → ℕ) wh
           ))
               (subst (λ t. SelIs job t (sel u) (copies u) (bits u)) (sym (others_same job ok d u ne)) (k.sels u))
         ]);
+    last = λ u. put_case sel s0 (sel_of new x) (λ i v. v ≡ stored_last job i (Copies i) (desk_by (selected p') d)) u (λ e. sym here ∙ sym (at_desk s0)) (λ ne. there u ne ∙ sym (at_desk u));
     written = written new (bits s0 (other_copy (Copies s0)));
     left = λ e on.
         let c = subst (λ z. SubjectBy job (desk job d) (suc d) z (state_of job d s0) new) e (between job ok d).subject in (
@@ -139,6 +142,21 @@ module _ (job : Job) (ok : IsWellFormed job) (d : ℕ) (copies : ℕ → ℕ) wh
       copied Nothing e t c r = false_true t
       copied _ e t c r = subst (λ y. HasSets job new (bits s0 (copy_after y (copies s0)))) (sym e)
           (subst (λ y. HasSets job y (bits s0 (copies s0))) (sym c.1) ((k.sels s0).0 c.0).1)
+
+      at_desk : (u : ℕ) → stored_last job u (Copies u) (desk_by (selected p') d) ≡ stored_last job u (Copies u) (suc d)
+      at_desk u = ap (λ y. stored_last job u (Copies u) (desk_by y d)) out
+
+      here : stored_last job s0 (Copies s0) (suc d) ≡ sel_of new x
+      here =
+          let both : (selects (effect job d) && (s0 == s0)) ≡ true = rw (some, eq-eqb s0 s0 refl) refl in
+          ap (λ b. cond b (sel_of new (Copies s0)) (stored_last job s0 (Copies s0) d)) both ∙ ap (λ y. sel_of new y) (put_same copies s0 x)
+
+      there : (u : ℕ) → u ≢ s0 → sel u ≡ stored_last job u (Copies u) (suc d)
+      there u ne =
+          let other : (u == s0) ≡ false = grind (arith, nat_tests) in
+          let none : (selects (effect job d) && (u == s0)) ≡ false = rw (some, other) refl in
+          k.last u ∙ ap (λ y. stored_last job u y d) (sym (put_other copies s0 x u ne))
+          ∙ ap (λ b. cond b (sel_of (state_of job (suc d) u) (Copies u)) (stored_last job u (Copies u) d)) (sym none)
 
       own : SelIs job new (sel_of new x) x (bits s0)
       own = (

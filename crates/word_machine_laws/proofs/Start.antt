@@ -110,7 +110,7 @@ module _ (job : Job) (ok : IsWordJob job) where
       leads = refl;
       pushed = tt;
     };
-    sets = record { small = λ u. omega arith; sels = λ u. ((λ r. nobody_is job u r), (λ r. (sym (reg_at_start job u), refl))); written = tt; left = λ e out. false_true out };
+    sets = record { small = λ u. omega arith; sels = λ u. ((λ r. nobody_is job u r), (λ r. (sym (reg_at_start job u), refl))); last = λ u. refl; written = tt; left = λ e out. false_true out };
     tramps = record { before = λ u t h free. nobody_is job u h.0; after = λ t. false_true t; free = λ t within old new. refl };
     limits = record { tasks = refl; level = refl };
     cpus = λ c within. cpu_kept c;
