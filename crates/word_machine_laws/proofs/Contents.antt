@@ -10,14 +10,14 @@ use Rattle.std.proofs.lemmas.List.FromFn.{length-range_with_len, get_or-range_wi
 use Rattle.ft_base.specs.Marks.{holds, is_empty}
 use Rattle.ft_base.specs.Job.{Job}
 use Rattle.ft_base.specs.Desk.{Desk, UserState, is_allowed, is_matching}
-use Rattle.ft_base.proofs.Small.{false_true}
+use Rattle.ft_base.proofs.Small.{false_true, and-false, or-true}
 use Rattle.site_set.proofs.MarksLemmas.{bit_at-number_with_bits}
 use Rattle.word_map.specs.Contents.{high, half_size, sel_word, sel_on, sel_copy, sel_empty, stands, is_marked, mask_of, low}
 use Rattle.word_map.specs.Instructions.{head_of, tail_of, decode}
 use Rattle.word_map.proofs.ContentLaws.{marked-is, told}
 use Rattle.word_machine.specs.Commands.{set_words}
 use Rattle.word_machine.specs.HashCopies.{SelIs, Reader}
-use Rattle.word_machine.proofs.Small.{and-false, or-right, digit-one}
+use Rattle.word_machine.proofs.Small.{digit-one}
 
 -- ## a user's state
 
@@ -105,7 +105,7 @@ module _ (job : Job) (s : UserState) (copy : ℕ → ℕ → ℕ) (reg f : ℕ) 
   notrace-word inside r = ap (λ v. is_marked v f) (r.copied 1 (f / 64) (omega arith) inside) ∙ marked-is s.notrace f
 
   pub filter_in : f / 64 < set_words job → Reader job s copy reg → is_marked (copy 0 (f / 64)) f ≡ true → (is_empty s.filter || holds s.filter f) ≡ true
-  filter_in inside r e = (let h : holds s.filter f ≡ true = sym (filter-word inside r) ∙ e in rw h (or-right (is_empty s.filter)))
+  filter_in inside r e = (let h : holds s.filter f ≡ true = sym (filter-word inside r) ∙ e in rw h (or-true (is_empty s.filter)))
 
   pub filter_out : f / 64 < set_words job → Reader job s copy reg → is_empty s.filter ≡ false → is_marked (copy 0 (f / 64)) f ≡ false → on_by s f ≡ false
   filter_out inside r empty e = (let h : holds s.filter f ≡ false = sym (filter-word inside r) ∙ e in rw (h, empty, r.registered) refl)
