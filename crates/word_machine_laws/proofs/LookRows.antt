@@ -5,9 +5,8 @@ use Rattle.ft_base.specs.declared.item.Item.{Item}
 use Rattle.ft_base.specs.Job.{Job}
 use Rattle.ft_base.proofs.Small.{false_true, and_both}
 use Rattle.word_map.specs.Contents.{greatest_half}
-use Rattle.word_machine.specs.Task.{TaskState, Moment, Polling, GotHead, GotBreak, is_fetching, is_open_to_requests}
+use Rattle.word_machine.specs.Task.{TaskState, Moment, GotHead, GotBreak, is_fetching, is_open_to_requests}
 use Rattle.word_machine.specs.Cpu.{Cpu, Phase, Going, Looked, Answering, has_more, any_has_more, takes_looks, is_looked_before, looks, looked}
-use Rattle.word_machine.specs.Sites.{reached}
 use Rattle.word_machine.specs.Verdicts.{Here}
 use Rattle.word_machine.specs.Rule.{CpuRule, IsOn, PollAt, WordsBelow}
 use Rattle.word_machine_laws.proofs.PollTasks.{task_ack}

@@ -1,7 +1,7 @@
 -- Plain users, which version 3 calls back without asking whether they are on: in their own trampoline, and in a walk that comes to one that the
 -- command under way takes off.
 use Rattle.std.proofs.Common.{cond, ◌≡◌, ℕ, zero, suc, ◌≤◌, Bool, true, false, not, ◌||◌, ◌&&◌, List, Option, Some, None, inl, inr, refl, sym, ap, ◌∙◌, subst, arith}
-use Rattle.std.specs.Prelude.{nat_le, slice_get}
+use Rattle.std.specs.Prelude.{slice_get}
 use Rattle.std.proofs.lemmas.Bool.{cases_eq}
 use Rattle.ft_base.specs.declared.item.Ran.TheVariants.{List as ByList, Own}
 use Rattle.ft_base.specs.declared.item.Item.{Item}
@@ -10,17 +10,17 @@ use Rattle.ft_base.specs.declared.user.Kind.TheVariants.{Function, Graph, Fprobe
 use Rattle.ft_base.specs.Marks.{is_empty}
 use Rattle.ft_base.specs.Kinds.{is_function, is_fprobe}
 use Rattle.ft_base.specs.Job.{Job, Command, Register, Unregister, Filter, Notrace, Pid, NoPid, Enable, Disable, MaxDepth, commands}
-use Rattle.ft_base.specs.Desk.{UserState, desk, spec_at, is_on, is_sited, is_matching, answer_on, is_accepted}
+use Rattle.ft_base.specs.Desk.{UserState, desk, spec_at, is_on, is_sited, answer_on, is_accepted}
 use Rattle.ft_base.specs.Versions.{has_looks}
 use Rattle.ft_base.specs.WellFormed.{IsWellFormed}
-use Rattle.ft_base.proofs.Small.{false_true, and_both}
+use Rattle.ft_base.proofs.Small.{false_true}
 use Rattle.ft_hist.specs.Past.{visits}
-use Rattle.word_map.specs.Contents.{high, tramp_user, sel_of, sel_on, sel_copy, sel_empty}
+use Rattle.word_map.specs.Contents.{high, tramp_user, sel_on, sel_copy, sel_empty}
 use Rattle.word_machine.specs.Commands.{Effect, Adds, Removes, Edits, Enables, Disables, Lists, Levels, Nothing, effect, effect_by, effect_in, edits_or, command, subject, state_of}
-use Rattle.word_machine.specs.Control.{Position, Line, Take, Copy, Select, Push, Relink, StorePids, StoreDepth, Patch, Ask, Await, Release, Close}
+use Rattle.word_machine.specs.Control.{Position, Line, Take, Copy, Select, Await, Release, Close}
 use Rattle.word_machine.specs.Task.{OpenCall, Moment, InTramp, OwnSel, TestFilter, TestNotrace, is_asked, owned_in, tests_in, begin_call}
 use Rattle.word_machine.specs.Progress.{SeenAt, HoldsAt, waits, selected, listed, desk_by, quiet_reached}
-use Rattle.word_machine.specs.UserList.{UserList, list_desk}
+use Rattle.word_machine.specs.UserList.{UserList}
 use Rattle.word_machine.specs.HashCopies.{HasSets, HashCopies, LeftAt, Reader, ReaderAt, InFilter, InNotrace}
 use Rattle.word_machine.specs.Trampolines.{TrampolinesHeld}
 use Rattle.word_machine.specs.Verdicts.{Here, Dispatches, RanIs, BeforeVisit, Walks, may_come_before}
