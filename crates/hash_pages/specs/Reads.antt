@@ -36,6 +36,7 @@ sets_read s = if s.empty then AtNotrace s.copy s.reg else AtFilter s.copy s.reg
 abbrev pub state_by : Bool → ℕ → ReadPhase
 state_by asked v = if not asked || sel_on v then sets_read (sel_parts v) else Ended Off
 
+-- the same of a user that is asked
 abbrev pub state_read : ℕ → ReadPhase
 state_read v = state_by true v
 
