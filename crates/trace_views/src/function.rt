@@ -146,22 +146,22 @@ fn tracers<N: Named>(alloc: Global, names: &N) -> Result<Vec<bool>, NoMemory>
     Ok(tracers)
 }
 
-/// The line of the entry callback of a user in a call, which is at a place. `open` has the calls that are
+/// The line of the entry callback of a user in a call, which is at a place. `stacks` has the calls that are
 /// open there.
-fn back_line(open: &OpenCalls, place: u32, call: CallNo, user: UserNo) -> FunctionLine
-    requires { (job : PlainJob) × (past : List Item) × IsFollowed job past open.now × IsLegalPast job (Back call user ∷ past) }
+fn back_line(stacks: &OpenCalls, place: u32, call: CallNo, user: UserNo) -> FunctionLine
+    requires { (job : PlainJob) × (past : List Item) × IsFollowed job past stacks.now × IsLegalPast job (Back call user ∷ past) }
     ensures place { result.place ≡ place }
     ensures user { result.user ≡ user }
-    ensures text { (job : PlainJob) (past : List Item) → IsFollowed job past open.now → IsLegalPast job (Back call user ∷ past)
+    ensures text { (job : PlainJob) (past : List Item) → IsFollowed job past stacks.now → IsLegalPast job (Back call user ∷ past)
         → place ≡ length past → function_line_text job result ≡ function_line job past call user.0 }
 {
-    let top = open.top(call.task);
+    let top = stacks.top(call.task);
     FunctionLine {
         place,
         task: call.task,
         ctx: top.ctx,
         func: top.func,
-        parent: open.parent(call.task),
+        parent: stacks.parent(call.task),
         user,
     }
 }
@@ -184,25 +184,25 @@ pub fn function_lines<N: Named>(
     Ok(view.lines)
 }
 
-/// Adds the line of the item at a place, if it is an entry callback. `open` has the calls that are
+/// Adds the line of the item at a place, if it is an entry callback. `stacks` has the calls that are
 /// open there.
 fn push_back(
     lines: &mut Vec<FunctionLine>,
     history: &History,
     place: u32,
-    open: &OpenCalls,
+    stacks: &OpenCalls,
 ) -> Result<(), NoMemory>
     requires within { place < length history.now.items }
     requires calls { (job : PlainJob) × IsLegal job history.now.items
-        × IsFollowed job (past_at place history.now.items) open.now }
+        × IsFollowed job (past_at place history.now.items) stacks.now }
     ensures { OnOk result ((job : PlainJob) → IsLegal job history.now.items
-        → IsFollowed job (past_at place history.now.items) open.now
+        → IsFollowed job (past_at place history.now.items) stacks.now
         → AreBackLines job history.now.items place lines.old.items
         → AreBackLines job history.now.items (place + 1) lines.new.items) }
 {
     match *history.item(place) {
         Item::Back { call, user } => {
-            let line = back_line(open, place, call, user);
+            let line = back_line(stacks, place, call, user);
             lines.push(line).map_err(|_| NoMemory)
         }
         _ => Ok(()),
