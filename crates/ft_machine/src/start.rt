@@ -1,7 +1,9 @@
 //! The words, control and the CPUs of a job before the first step, and a history with room for its items.
 
-ghost use Rattle.std.specs.Prelude.{◌≡◌, ◌≤◌, [], IfOk};
+ghost use Rattle.std.specs.Prelude.{◌≡◌, ◌≤◌, ◌+◌, ◌*◌, [], length, IfOk};
 ghost use Rattle.control_core.specs.Seated.{IsOpening, LeadsAll};
+ghost use Rattle.history_laws.specs.Bound.{all_calls};
+ghost use Rattle.user_specs.specs.Bound.{call_bound_in};
 ghost use Rattle.word_machine.specs.Limits.{IsLimited};
 ghost use Rattle.word_machine.specs.Machine.{start};
 ghost use Rattle.ft_machine.specs.Starts.{AreFirst};
@@ -26,7 +28,8 @@ pub(crate) fn new_history(alloc: Global, job: &Job) -> Result<History, NoMemory>
 
 /// For how many items there has to be room: the job makes no more.
 fn most_items(job: &Job) -> u32
-    ensures { most_items job.now ≤ result }
+    ensures least { most_items job.now ≤ result }
+    ensures most { result ≤ 2 * length job.now.ctls + call_bound_in job.now * all_calls job.now.tasks }
 {
     // Called for its contract alone: the job is within the limits of scripts.
     let _shape = job.shape();

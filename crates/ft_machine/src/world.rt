@@ -236,11 +236,13 @@ impl World {
 }
 
 /// For how many items there has to be room: two for each line of control, and what the calls of all tasks
-/// can make. No job makes more.
+/// can make. No job makes more, and there is room for no more than that of lines that may be commands.
 pub(crate) fn most_items(ctls: &[Ctl], plans: &[CpuPlan], specs: &[Spec], limits: TaskLimits) -> u32
     requires { (job : Job) × AreListsOf job ctls.now plans.now specs.now limits }
-    ensures { (job : Job) → AreListsOf job ctls.now plans.now specs.now limits
+    ensures least { (job : Job) → AreListsOf job ctls.now plans.now specs.now limits
         → 2 * length (commands job) + call_bound_in job * all_calls job.tasks ≤ result }
+    ensures most { (job : Job) → AreListsOf job ctls.now plans.now specs.now limits
+        → result ≤ 2 * length job.ctls + call_bound_in job * all_calls job.tasks }
 {
     2 * ctls.len() as u32 + all_rooms(plans, specs, limits)
 }

@@ -26,5 +26,8 @@ lists c =
 pub most_items-requires : goal.most_items-requires
 most_items-requires c = (c.args.job.now, lists (goal.at.most_items-requires c).After-task_limits)
 
-pub returns : goal.returns
-returns c = c.most_items.ensures c.args.job.now (lists (goal.at.returns c).After-task_limits)
+pub returns-clause-least : goal.returns-clause-least
+returns-clause-least c = c.most_items.ensures.least c.args.job.now (lists (goal.at.returns-clause-least c).After-task_limits)
+
+pub returns-clause-most : goal.returns-clause-most
+returns-clause-most c = c.most_items.ensures.most c.args.job.now (lists (goal.at.returns-clause-most c).After-task_limits)
