@@ -190,7 +190,7 @@ module _ (job : Job) (me : Cpu) where
       (λ more. ap (present_op me) (k.between more)) (λ none. refl)
 
   -- and goes on with it
-  pub asked : (v : ℕ) → IsBeforePoll job me → cpu_got job me v ≡ polling job (ticked me) v
+  asked : (v : ℕ) → IsBeforePoll job me → cpu_got job me v ≡ polling job (ticked me) v
   unfolding cpu_got
   asked v k =
       ap (λ p. phase_got job me p v) k.going
