@@ -79,7 +79,7 @@ pub record SeatSits {S : Type 0} (me : Me S View) (known : Known) (c : ℕ) (rin
   pub view' : me ≡ (cpu_view me.0.job c known, [])
   pub good : SeatGood me.0.job known ring fired next room left
 
--- These are the items that were offered to a seat.
+-- A seat has made of its items what it would have made of these, and was offered as many.
 --   made      it has made of them what a CPU has to
 --   offered   they and those that may still be offered fill its room
 pub record SeatHas (plan : TracePlan) (items : List Stamped) (s : SeatPlace) : Type 0 where
