@@ -1,7 +1,6 @@
 -- Samples of lines where modules come and go: the answer of each, what it leaves, and the commands that carry it out.
 use Rattle.std.proofs.Common.{◌≡◌, ℕ, true, false, List, [], ◌∷◌, Option, Some, None, refl}
 use Rattle.std.specs.Prelude.{codes}
-use Rattle.ft_base.specs.declared.item.Answer.{Answer}
 use Rattle.ft_base.specs.declared.item.Answer.TheVariants.{Accepted, Already, NotThere, NoMatch, Busy}
 use Rattle.ft_base.specs.Desk.{plain_spec}
 use Rattle.ft_base.specs.Job.{Func, Spec, Edit, Register, Filter, Notrace, MaxDepth}
