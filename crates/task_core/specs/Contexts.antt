@@ -29,5 +29,6 @@ open_at t First = not (masks_interrupts (act_context t (present t)))
 open_at t (Mark (Acting u f x)) = not (masks_interrupts x)
 open_at t m = not (is_fetching m) && not (masks_interrupts (call_context t))
 
+-- the same before the task's next step
 abbrev pub is_open_to_requests : Task → Bool
 is_open_to_requests t = open_at t t.moment
