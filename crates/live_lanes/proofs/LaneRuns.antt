@@ -2,7 +2,7 @@
 use Rattle.std.proofs.Common.{◌≡◌, ◌+◌, ◌≤◌, ℕ, true, List, [], ◌∷◌, ◌++◌, length, sum, None, sym, ap, ◌∙◌, subst, arith}
 use Rattle.std.proofs.lemmas.List.{length-map}
 use Rattle.std.proofs.lemmas.Slice.Zip.{AllZip-long}
-use Rattle.ft_base.specs.declared.limits.TheConstants.{COMMANDS, LANES, UNTILS}
+use Rattle.ft_base.specs.declared.limits.TheConstants.{LANES}
 use Rattle.ft_base.specs.Job.{Job}
 use Rattle.desk_lock.specs.Journals.{IsMerge}
 use Rattle.word_machine_laws.specs.Orders.{AreAllLed, AreLed, IsLaneOrder}

@@ -1,9 +1,8 @@
 -- The next item of a lane is a command that wasn't led, and once it is led the items are in order again.
-use Rattle.std.proofs.Common.{◌≡◌, inl, inr, ℕ, ◌+◌, ◌<◌, Bool, true, false, List, [], ◌∷◌, ◌++◌, length, map, refl, sym, ap, ◌∙◌, subst, arith}
+use Rattle.std.proofs.Common.{◌≡◌, inl, inr, ℕ, ◌+◌, ◌<◌, true, List, [], ◌∷◌, ◌++◌, length, map, sym, ap, ◌∙◌, subst, arith}
 use Rattle.std.specs.Prelude.{slice_index, eqb}
 use Rattle.std.specs.List.{list_any, range_with_len}
 use Rattle.std.proofs.lemmas.List.{map-append}
-use Rattle.desk_lock.specs.declared.served.Served1.{Served1}
 use Rattle.desk_lock.specs.Journals.{IsInOrder, done_of, pair}
 use Rattle.desk_lock.proofs.Keeping.{in_order}
 use Rattle.word_machine_laws.specs.Orders.{IsLed, in_lane, lane_of}

@@ -1,6 +1,5 @@
 -- What lanes take turns at: control, to which their commands are led, and the CPUs' seats that are stepped in turn with it.
 use Rattle.std.specs.Prelude.{ℕ, ◌≡◌, ◌+◌, ◌≤◌, List, [], ◌∷◌, length, map, sum, None}
-use Rattle.atomic_table.specs.Seated.{TableId}
 use Rattle.ft_base.specs.declared.limits.TheConstants.{COMMANDS, LANES, UNTILS}
 use Rattle.desk_lock.specs.Journals.{IsInOrder, IsMerge}
 use Rattle.word_machine.specs.Control.{control_next}

@@ -1,5 +1,5 @@
 -- The item of a CPU's last step.
-use Rattle.std.proofs.Common.{◌≡◌, ◌⊎◌, inl, inr, ℕ, ◌+◌, ◌<◌, ◌≤◌, nat_lt, List, [], ◌∷◌, ◌++◌, length, Option, Some, None, IsSome, refl, sym, ap, ◌∙◌, subst, arith}
+use Rattle.std.proofs.Common.{◌≡◌, ◌⊎◌, inl, inr, ℕ, ◌+◌, ◌<◌, ◌≤◌, nat_lt, List, [], ◌∷◌, ◌++◌, length, Option, Some, None, IsSome, refl, ap, ◌∙◌, arith}
 use Rattle.std.specs.Prelude.{slice_get}
 use Rattle.std.proofs.lemmas.Bool.{ltb-false, ltb-true}
 use Rattle.std.proofs.lemmas.List.{append-nil, length-append}
@@ -9,7 +9,7 @@ use Rattle.word_map.specs.Ops.{WordOp, Load, Store, Mark}
 use Rattle.word_machine.specs.Cpu.{Cpu, cpu_got, cpu_next, cpu_start}
 use Rattle.cpu_core.specs.CpuSteps.{marks_in}
 use Rattle.task_core.specs.TaskOps.{item_in}
-use Rattle.ft_machine.specs.Fed.{cpu_after, cpu_fed, cpu_items}
+use Rattle.ft_machine.specs.Fed.{cpu_after, cpu_fed}
 use Rattle.live_table.specs.Seats.{CpuPlace, IsLast, items_at, last_at, last_mark}
 use Rattle.live_table.specs.Steps.{with_value}
 use Rattle.live_table.proofs.Values.{cpu_marks-snoc}

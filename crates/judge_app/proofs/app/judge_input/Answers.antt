@@ -1,7 +1,7 @@
 use Rattle.std.proofs.Common.{Err, refl, ap, ◌∙◌, subst, rules}
 use Rattle.std.specs.Io.KnownBytes.{Appends}
 use Rattle.judge_app.specs.Reply.{IsLong, IsReplyTo}
-use Rattle.judge_app.proofs.Ending.{gave-more, long-script, no-memory, no-memory-for-it, read-failed, replied, spoken, write-failed}
+use Rattle.judge_app.proofs.Ending.{gave-more, long-script, no-memory, no-memory-for-it, read-failed, replied}
 use Rattle.judge_app.proofs.app.judge_input.Goals as goal
 
 -- ## there is no input

@@ -1,5 +1,5 @@
 use denote.Param.Send.{sendable}
-use Rattle.std.proofs.Common.{List, ℕ, ◌≡◌, ◌∙◌, length, ap, sym, arith}
+use Rattle.std.proofs.Common.{List, ℕ, ◌∙◌, length, ap, arith}
 use Rattle.desk_lock.proofs.Keeping.{seats_count}
 use Rattle.live_lanes.proofs.Conducting.{same_actors}
 use Rattle.live_lanes.proofs.Sent.{conductor_send}

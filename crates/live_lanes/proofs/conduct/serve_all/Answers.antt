@@ -1,4 +1,4 @@
-use Rattle.std.proofs.Common.{inl, inr, List, ℕ, ◌≡◌, ◌+◌, ◌<◌, ◌≤◌, ◌∙◌, length, ap, sym, slice_index, arith}
+use Rattle.std.proofs.Common.{inl, inr, List, ℕ, ◌∙◌, length, ap, sym, slice_index, arith}
 use Rattle.desk_lock.specs.Journals.{done_of}
 use Rattle.desk_lock.proofs.Keeping.{merged, same_or_not}
 use Rattle.live_lanes.specs.LaneItems.{as_items}

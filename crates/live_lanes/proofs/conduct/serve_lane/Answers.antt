@@ -1,4 +1,4 @@
-use Rattle.std.proofs.Common.{ℕ, ◌≡◌, ◌≢◌, ◌+◌, ◌==◌, ◌∙◌, false, ap, sym, arith}
+use Rattle.std.proofs.Common.{ℕ, ◌+◌, ◌∙◌, ap, sym}
 use Rattle.desk_lock.specs.Journals.{done_of}
 use Rattle.desk_lock.proofs.Keeping.{done_more, done_same}
 use Rattle.live_lanes.specs.LaneItems.{as_items}

@@ -1,7 +1,4 @@
-use Rattle.std.proofs.Common.{◌≡◌, ◌+◌, ℕ, cond, take, arith}
-use Rattle.std.proofs.lemmas.Bool.Decides.{nat_tests}
-use Rattle.word_machine_laws.specs.Orders.{lane_of}
-use Rattle.live_lanes.specs.LaneItems.{count_in}
+use Rattle.std.proofs.Common.{arith}
 use Rattle.live_lanes.proofs.Orders.{count_one, count_other}
 use Rattle.live_lanes.proofs.counts.command_of.Goals as goal
 

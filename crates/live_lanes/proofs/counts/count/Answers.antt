@@ -1,4 +1,4 @@
-use Rattle.std.proofs.Common.{◌≡◌, ◌∙◌, sym, ap, ℕ, ◌+◌, arith}
+use Rattle.std.proofs.Common.{◌∙◌, sym, ap, ℕ, ◌+◌, arith}
 use Rattle.live_lanes.proofs.Orders.{count_one, count_other}
 use Rattle.live_lanes.proofs.counts.count.Goals as goal
 

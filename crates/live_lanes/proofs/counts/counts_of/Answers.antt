@@ -1,4 +1,4 @@
-use Rattle.std.proofs.Common.{rules, ◌≡◌, ◌≤◌, List, ℕ, subst, arith}
+use Rattle.std.proofs.Common.{rules, ◌≡◌, ℕ, subst, arith}
 use Rattle.live_lanes.proofs.Counting.{are_counts, counts_from, counts_next}
 use Rattle.live_lanes.proofs.counts.counts_of.Goals as goal
 

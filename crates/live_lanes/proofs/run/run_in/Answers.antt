@@ -1,8 +1,6 @@
-use Rattle.std.proofs.Common.{ℕ, List, ◌≡◌, ◌+◌, length, rules, sym, ap, subst, ◌∙◌, arith}
+use Rattle.std.proofs.Common.{◌≡◌, length, rules, sym, ap, subst, ◌∙◌, arith}
 use Rattle.std.proofs.lemmas.List.{length-map}
-use Rattle.live_table.specs.Seats.{CpuPlace}
 use Rattle.live_seats.specs.AnySeats.{AreSeatsOf, cpus_as_any, without_rings}
-use Rattle.live_seats.specs.Rooms.{HasPlaces}
 use Rattle.live_seats.specs.declared.seat.AnySeat.TheVariants.{Cpu}
 use Rattle.live_seats.proofs.Apart.{seats_sit}
 use Rattle.live_lanes.proofs.LaneRuns.{back_count, both_kinds, control_back, cpus_back, launched, merge_back}

@@ -1,6 +1,6 @@
-use Rattle.std.proofs.Common.{ℕ, List, ◌≡◌, ◌+◌, ◌<◌, ◌≤◌, length, ap, sym, subst, arith}
+use Rattle.std.proofs.Common.{ℕ, List, ◌<◌, length, ap, sym, subst, arith}
 use Rattle.std.specs.List.{AllByRecursion as Each}
-use Rattle.ft_base.specs.declared.limits.TheConstants.{COMMANDS, LANES, UNTILS}
+use Rattle.ft_base.specs.declared.limits.TheConstants.{LANES}
 use Rattle.live_seats.proofs.StartToEnd.{seats_ended, seats_started}
 use Rattle.live_lanes.proofs.Conducting.{lane_each}
 use Rattle.live_lanes.proofs.LaneRuns.{all_ready, all_served}

@@ -1,4 +1,4 @@
-use Rattle.std.proofs.Common.{◌≡◌, ◌+◌, List, length, sym, ap, subst, ◌∙◌, arith}
+use Rattle.std.proofs.Common.{List, sym, subst, arith}
 use Rattle.std.proofs.lemmas.Slice.Zip.{AllZip-long}
 use Rattle.live_seats.specs.AnySeats.{AreEndedSeats, IsEndedSeat, all_traced}
 use Rattle.live_seats.specs.Rooms.{HasPlaces}

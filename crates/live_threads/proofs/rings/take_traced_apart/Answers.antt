@@ -1,4 +1,4 @@
-use Rattle.std.proofs.Common.{◌≡◌, inl, inr, List, ◌++◌, ◌∷◌, [], length, ap, sym, ◌∙◌, arith, append_assoc, length-append}
+use Rattle.std.proofs.Common.{◌≡◌, inl, inr, List, ◌++◌, ◌∷◌, [], ap, sym, ◌∙◌, arith, append_assoc, length-append}
 use Rattle.std.specs.Vec.Iter.{into_iter_items}
 use Rattle.live_seats.specs.Traced.{TracedPlace, traced}
 use Rattle.live_seats.specs.declared.seat.AnySeat.{AnySeat}

@@ -1,4 +1,4 @@
-use Rattle.std.proofs.Common.{ℕ, ◌≡◌, ◌+◌, length, rules, sym, ap, subst, ◌∙◌, arith}
+use Rattle.std.proofs.Common.{◌≡◌, ◌+◌, length, sym, subst, arith}
 use Rattle.live_seats.specs.AnySeats.{all_of, cpus_as_any}
 use Rattle.live_seats.specs.Rooms.{HasPlaces}
 use Rattle.live_seats.proofs.Apart.{all_count, all_over, all_sit, all_together, ended_apart, kinds_again, over_count}

@@ -1,4 +1,4 @@
-use Rattle.std.proofs.Common.{◌≡◌, ◌∙◌, sym, ap, ℕ, arith}
+use Rattle.std.proofs.Common.{◌∙◌, sym, ap}
 use Rattle.desk_lock.specs.Journals.{done_of}
 use Rattle.live_seats.specs.Seatings.{own_seats}
 use Rattle.live_lanes.specs.Conducted.{Conducted, actors_of}
