@@ -1,60 +1,20 @@
--- What is so of a CPU's tasks after one of them has told, or after a step at which a poll sees them as before.
-use Rattle.std.proofs.Common.{cond, ◌≡◌, ℕ, zero, suc, ◌+◌, ◌<◌, Bool, true, false, not, ◌||◌, nat_le, List, [], ◌∷◌, get_or, length, set, slice_get, Option, Some, None, IsSomeAnd, length-set, refl, sym, ap, ◌∙◌, subst, arith}
-use Rattle.std.proofs.lemmas.Bool.{lt-leb, ltb-true}
-use Rattle.std.proofs.lemmas.Option.{same_Some, slice_get_read}
-use Rattle.ft_base.proofs.Small.{false_true}
+-- What is so of a CPU's tasks after one of them has told, or has made a step.
+use Rattle.std.proofs.Common.{cond, ◌≡◌, ℕ, zero, suc, ◌+◌, ◌<◌, ◌≤◌, ◌⊎◌, inl, inr, ◌==◌, eqb-true, Bool, true, false, ◌||◌, List, [], ◌∷◌, length, set, slice_get, Option, Some, None, IsSomeAnd, length-set, refl, sym, ap, ◌∙◌, subst, arith}
+use Rattle.std.proofs.lemmas.Option.{same_Some}
 use Rattle.ft_base.specs.declared.task.TaskAct.{TaskAct}
-use Rattle.ft_base.specs.declared.task.TaskAct.TheVariants.{Raise, Lower, After}
-use Rattle.grace_core.specs.declared.view.TaskView.{TaskView}
-use Rattle.grace_core.specs.Views.{told_word}
-use Rattle.word_map.specs.Contents.{returned_at}
-use Rattle.task_core.specs.declared.moment.Moment.{Moment}
-use Rattle.task_core.specs.declared.moment.Moment.TheVariants.{Polling, First}
+use Rattle.ft_base.specs.declared.task.TaskAct.TheVariants.{Raise, Lower}
+use Rattle.grace_core.specs.Views.{has_told, told_word}
 use Rattle.task_core.specs.declared.task.Task.{Task}
 use Rattle.task_core.specs.Fits.{CanBegin, HasAct}
-use Rattle.task_core.specs.Leads.{is_quiet}
-use Rattle.task_core.specs.Setups.{PlainSetup}
-use Rattle.task_core.specs.Starts.{is_left, is_unmet, is_unmet_at, view_of}
-use Rattle.task_core.specs.States.{is_polling}
+use Rattle.task_core.specs.Starts.{is_left, view_of}
 use Rattle.task_core.specs.TaskOps.{present}
-use Rattle.task_core.specs.TaskSteps.{after_at, after_first, at, begun, finished, task_after}
 use Rattle.cpu_core.specs.declared.parts.Parts.{Parts}
+use Rattle.cpu_core.specs.declared.tasks.Span.{Span}
 use Rattle.cpu_core.specs.CpuFits.{CanBeginAct}
 use Rattle.cpu_core.specs.CpuSteps.{told_by, with_told}
 use Rattle.cpu_core.specs.KeptTasks.{AreTold}
-use Rattle.cpu_core.specs.Turns.{HaveTold, any_left, first_untold, told_task}
-use Rattle.cpu_core.proofs.Untold.{told-next, untold-set}
-
--- ## a task that a poll sees as before
-
--- the same at another moment at which it is quiet
-quiet-same : (t : Task) (m : Moment) → is_quiet m ≡ is_quiet t.moment → view_of (at t m) ≡ view_of t
-quiet-same t m e = ap (λ q. let x : TaskView = record (view_of t) { quiet = q } in x) e
-
--- a wait that isn't met
-first-same : (t : Task) (s : PlainSetup) (v : ℕ) (act : Option TaskAct) → t.moment ≡ First → is_unmet_at First act v ≡ true
-    → view_of (after_first t s act v) ≡ view_of t
-first-same t s v (Some (After n)) is e =
-    let late : nat_le n (returned_at v) ≡ false = lt-leb n (returned_at v) (ltb-true (returned_at v) n e) in
-    ap (λ b. view_of (cond b (finished t) (at t Polling))) late ∙ quiet-same t Polling (ap is_quiet (sym is))
-first-same t s v _ is e = false_true e
-
-unmet-same : (t : Task) (s : PlainSetup) (v : ℕ) → is_unmet t v ≡ true → view_of (task_after t s v) ≡ view_of t
-unmet-same t s v e = by t.moment refl e
-  where
-    by : (m : Moment) → t.moment ≡ m → is_unmet_at m (present t) v ≡ true → view_of (after_at t s m v) ≡ view_of t
-    by First is h = first-same t s v (present t) is h
-    by _ is h = false_true h
-
--- an act that begins
-polling-quiet : (m : Moment) → is_polling m ≡ true → true ≡ is_quiet m
-polling-quiet Polling e = refl
-polling-quiet _ e = false_true e
-
-begun-view : (t : Task) (act : Option TaskAct) → is_polling t.moment ≡ true → is_polling (begun t act).moment ≡ false → view_of (begun t act) ≡ view_of t
-begun-view t (Some (Raise x)) e apart = false_true (sym apart)
-begun-view t (Some Lower) e apart = false_true (sym apart)
-begun-view t _ e apart = quiet-same t First (polling-quiet t.moment e)
+use Rattle.cpu_core.specs.Turns.{HaveTold, RestTold, any_left, first_untold, told_task}
+use Rattle.cpu_core.proofs.Untold.{has-told, have-all, have-fewer, have-set, have-told, rest-fewer, rest-none, rest-set, rest-told, told-next}
 
 -- there is a task
 pub some-within : (ts : List Task) (i : ℕ) (P : Task → Type 0) → IsSomeAnd (slice_get ts i) P → i < length ts
@@ -64,33 +24,39 @@ some-within (t ∷ ts) (suc i) P h = let lt : i < length ts = some-within ts i P
 
 -- ## what is known of all tasks
 
-module _ (o : Option ℕ) (ts : List Task) (i : ℕ) (x u : Task) (lt : i < length ts) (here : x ≡ get_or ts i x) (told : AreTold o ts) where
-  there : slice_get ts i ≡ Some x
-  there = slice_get_read ts (length ts) i x refl lt here
+module _ (r : ℕ) (ts : List Task) (i : ℕ) (u : Task) where
+  -- after a step of a task: that one has changed, too
+  pub told-changed : (c d : Span) → i < length ts → (d.from ≤ c.from) × (c.to ≤ d.to) → (d.from ≤ i) × (i < d.to) → (d.to ≡ c.to) ⊎ (d.to ≡ suc i)
+      → AreTold r c ts → AreTold r d (set ts i u)
+  told-changed c d lt old one least told = record {
+    before = have-set r ts d.from i u one.0 (have-fewer r ts d.from c.from old.0 told.before);
+    after = rest-set r ts d.to i u one.1 (rest-fewer r ts c.to d.to old.1 told.after);
+    within = rw (length-set ts i u) (elim least [
+      | inl e ↦ omega (arith, e, told.within)
+      | inr e ↦ omega (arith, e, lt)
+    ]);
+  }
 
-  told-set : view_of u ≡ view_of x → AreTold o (set ts i u)
-  told-set same = by o told
-    where
-      by : (q : Option ℕ) → AreTold q ts → AreTold q (set ts i u)
-      by None h = tt
-      by (Some r) h = untold-set r ts i x u there same ∙ h
+-- after the store of a word: what was known still holds if it was of the same request
+pub told-stored : (r q : ℕ) (b : Bool) (c : Span) (ts : List Task) (i n : ℕ) (x u : Task) → b ≡ (r == q) → n ≡ length ts → u ≡ told_task q x → AreTold r c ts
+    → AreTold r (cond b c (record { from = 0; to = n })) (set ts i u)
+told-stored r q true c ts i n x u same count is told =
+    let same-request : r ≡ q = eqb-true r q (sym same) in
+    let now : has_told r (view_of u) ≡ true = subst (λ k. has_told k (view_of u) ≡ true) (sym same-request) (ap (λ t. has_told q (view_of t)) is ∙ has-told q x) in
+    record {
+      before = have-told r ts c.from i u now told.before;
+      after = rest-told r ts c.to i u now told.after;
+      within = rw (length-set ts i u) told.within;
+    }
+told-stored r q false c ts i n x u same count is told = record {
+  before = tt;
+  after = subst (λ k. RestTold r k (set ts i u)) (length-set ts i u ∙ sym count) (rest-none r (set ts i u));
+  within = omega (arith, count, length-set ts i u);
+}
 
-  -- after an operation: what is known still holds if that was a test of a wait that isn't met
-  pub told-unmet : (s : PlainSetup) (v : ℕ) (b : Bool) → IsSomeAnd (slice_get ts i) (λ t. b ≡ is_unmet t v) → u ≡ task_after x s v
-      → AreTold (cond b o None) (set ts i u)
-  told-unmet s v b waits is = by b (subst (λ q. IsSomeAnd q (λ t. b ≡ is_unmet t v)) there waits)
-    where
-      by : (met : Bool) → met ≡ is_unmet x v → AreTold (cond met o None) (set ts i u)
-      by true e = told-set (ap view_of is ∙ unmet-same x s v (sym e))
-      by false e = tt
-
-  -- when an act begins: it still holds if an operation of the act comes next
-  pub told-begun : (b d : Bool) → b ≡ is_polling x.moment → d ≡ is_polling u.moment → u ≡ begun x (present x)
-      → AreTold (cond (not d) (cond b o None) None) (set ts i u)
-  told-begun true false e f is =
-      told-set (ap view_of is ∙ begun-view x (present x) (sym e) (ap (λ (y : Task). is_polling y.moment) (sym is) ∙ sym f))
-  told-begun _ true e f is = tt
-  told-begun false false e f is = tt
+-- all have told
+pub told-all : (r n : ℕ) (ts : List Task) → first_untold r ts ≡ None → AreTold r (record { from = n; to = 0 }) ts
+told-all r n ts none = record { before = have-all r ts n none; after = none; within = (omega arith) }
 
 -- ## a task has told
 

@@ -1,12 +1,13 @@
 -- The first task of a CPU whose word is to change, and which have told.
-use Rattle.std.proofs.Common.{cond, ◌≡◌, ℕ, zero, suc, ◌+◌, ◌≤◌, Bool, true, false, not, List, [], ◌∷◌, drop, position, set, slice_get, Option, Some, None, option_map, eq-eqb, refl, sym, ap, ◌∙◌, subst, arith}
+use Rattle.std.proofs.Common.{cond, ◌≡◌, ℕ, zero, suc, ◌+◌, ◌<◌, ◌≤◌, Bool, true, false, not, List, [], ◌∷◌, drop, length, position, set, slice_get, Option, Some, None, option_map, eq-eqb, refl, sym, ap, ◌∙◌, subst, arith}
+use Rattle.std.proofs.lemmas.List.{drop-set-lt, drop_all}
 use Rattle.std.proofs.lemmas.Option.{none-some, same_Some}
 use Rattle.grace_core.specs.declared.view.TaskView.{TaskView}
 use Rattle.grace_core.specs.Views.{has_told, told_low, told_word}
 use Rattle.word_map.specs.Contents.{greatest_half, halves, low}
 use Rattle.task_core.specs.declared.task.Task.{Task}
 use Rattle.task_core.specs.Starts.{view_of}
-use Rattle.cpu_core.specs.Turns.{HaveTold, first_untold, is_untold, told_task, untold_from}
+use Rattle.cpu_core.specs.Turns.{HaveTold, RestTold, first_untold, is_untold, told_task, untold_from}
 use Rattle.cpu_core.proofs.Places.{first-case, place-more}
 
 -- ## a task that has told
@@ -54,18 +55,18 @@ module _ (r : ℕ) where
   more t ts = place-more (is_untold r) t ts
 
   -- if those before an index have told, the first from there on is the first of all
-  pub from-told : (ts : List Task) (n : ℕ) → HaveTold r n ts → untold_from r ts n ≡ first_untold r ts
-  from-told ts zero told = from-zero (first_untold r ts)
-  from-told [] (suc n) told = refl
-  from-told (t ∷ ts) (suc n) told =
+  pub from_told : (ts : List Task) (n : ℕ) → HaveTold r n ts → untold_from r ts n ≡ first_untold r ts
+  from_told ts zero told = from-zero (first_untold r ts)
+  from_told [] (suc n) told = refl
+  from_told (t ∷ ts) (suc n) told =
       sym (from-more n (position (is_untold r) (drop n ts)))
-      ∙ ap (λ o. first-by true o) (from-told ts n told.1)
+      ∙ ap (λ o. first-by true o) (from_told ts n told.1)
       ∙ ap (λ b. first-by b (first_untold r ts)) (sym told.0)
       ∙ sym (more t ts)
 
   -- and it is none of those
   pub told-before : (ts : List Task) (n j : ℕ) → HaveTold r n ts → first_untold r ts ≡ Some j → n ≤ j
-  told-before ts n j told first = by (position (is_untold r) (drop n ts)) (from-told ts n told ∙ first)
+  told-before ts n j told first = by (position (is_untold r) (drop n ts)) (from_told ts n told ∙ first)
     where
       by : (o : Option ℕ) → option_map (λ k. n + k) o ≡ Some j → n ≤ j
       by None e = absurd (none-some j e)
@@ -99,14 +100,72 @@ module _ (r : ℕ) where
       (λ k t at is e. (t, subst (λ n. slice_get ts n ≡ Some t) (same_Some k i e) at)) in
       there first
 
-  -- a task that a poll sees as before makes no difference
-  pub untold-set : (ts : List Task) (i : ℕ) (t u : Task) → slice_get ts i ≡ Some t → view_of u ≡ view_of t → first_untold r (set ts i u) ≡ first_untold r ts
-  untold-set [] i t u at same = refl
-  untold-set (x ∷ ts) zero t u at same =
-      more u ts
-      ∙ ap (λ v. first-by (has_told r v) (first_untold r ts)) (same ∙ ap view_of (sym (same_Some x t at)))
-      ∙ sym (more x ts)
-  untold-set (x ∷ ts) (suc i) t u at same =
-      more x (set ts i u)
-      ∙ ap (λ o. first-by (has_told r (view_of x)) o) (untold-set ts i t u at same)
-      ∙ sym (more x ts)
+  -- ## the tasks before an index have told, and those from one on
+
+  first-none : (b : Bool) (o : Option ℕ) → first-by b o ≡ None → (b ≡ true) × (o ≡ None)
+  first-none true None e = (refl, refl)
+  first-none true (Some k) e = absurd (none-some (suc k) (sym e))
+  first-none false o e = absurd (none-some 0 (sym e))
+
+  none-parts : (t : Task) (ts : List Task) → first_untold r (t ∷ ts) ≡ None → (has_told r (view_of t) ≡ true) × (first_untold r ts ≡ None)
+  none-parts t ts e = first-none (has_told r (view_of t)) (first_untold r ts) (sym (more t ts) ∙ e)
+
+  none-cons : (t : Task) (ts : List Task) → has_told r (view_of t) ≡ true → first_untold r ts ≡ None → first_untold r (t ∷ ts) ≡ None
+  none-cons t ts now e = more t ts ∙ ap (λ b. first-by b (first_untold r ts)) now ∙ ap (λ o. first-by true o) e
+
+  -- where all have told
+  pub have-all : (ts : List Task) (n : ℕ) → first_untold r ts ≡ None → HaveTold r n ts
+  have-all ts zero e = tt
+  have-all [] (suc n) e = tt
+  have-all (t ∷ ts) (suc n) e = let parts = none-parts t ts e in (parts.0, have-all ts n parts.1)
+
+  rest-all : (ts : List Task) (n : ℕ) → first_untold r ts ≡ None → RestTold r n ts
+  rest-all ts zero e = e
+  rest-all [] (suc n) e = refl
+  rest-all (t ∷ ts) (suc n) e = rest-all ts n (none-parts t ts e).1
+
+  -- fewer of them
+  pub have-fewer : (ts : List Task) (m n : ℕ) → m ≤ n → HaveTold r n ts → HaveTold r m ts
+  have-fewer ts zero n le h = tt
+  have-fewer [] (suc m) n le h = tt
+  have-fewer (t ∷ ts) (suc m) zero le h = absurd (omega arith)
+  have-fewer (t ∷ ts) (suc m) (suc n) le h = (h.0, have-fewer ts m n (omega arith) h.1)
+
+  pub rest-fewer : (ts : List Task) (m n : ℕ) → m ≤ n → RestTold r m ts → RestTold r n ts
+  rest-fewer ts zero n le h = rest-all ts n h
+  rest-fewer [] (suc m) zero le h = absurd (omega arith)
+  rest-fewer [] (suc m) (suc n) le h = refl
+  rest-fewer (t ∷ ts) (suc m) zero le h = absurd (omega arith)
+  rest-fewer (t ∷ ts) (suc m) (suc n) le h = rest-fewer ts m n (omega arith) h
+
+  -- none is after the last
+  pub rest-none : (ts : List Task) → RestTold r (length ts) ts
+  rest-none ts = let past : length ts ≤ length ts = omega arith in ap (λ us. first_untold r us) (drop_all (length ts) ts past)
+
+  -- another task in the place of one that isn't among them
+  pub have-set : (ts : List Task) (n i : ℕ) (u : Task) → n ≤ i → HaveTold r n ts → HaveTold r n (set ts i u)
+  have-set ts zero i u le h = tt
+  have-set [] (suc n) i u le h = tt
+  have-set (t ∷ ts) (suc n) zero u le h = absurd (omega arith)
+  have-set (t ∷ ts) (suc n) (suc i) u le h = (h.0, have-set ts n i u (omega arith) h.1)
+
+  pub rest-set : (ts : List Task) (n i : ℕ) (u : Task) → i < n → RestTold r n ts → RestTold r n (set ts i u)
+  rest-set ts n i u lt h = ap (λ us. first_untold r us) (drop-set-lt n ts i u lt) ∙ h
+
+  -- a task that has told, in any place
+  pub have-told : (ts : List Task) (n i : ℕ) (u : Task) → has_told r (view_of u) ≡ true → HaveTold r n ts → HaveTold r n (set ts i u)
+  have-told ts zero i u now h = tt
+  have-told [] (suc n) i u now h = tt
+  have-told (t ∷ ts) (suc n) zero u now h = (now, h.1)
+  have-told (t ∷ ts) (suc n) (suc i) u now h = (h.0, have-told ts n i u now h.1)
+
+  none-told : (ts : List Task) (i : ℕ) (u : Task) → has_told r (view_of u) ≡ true → first_untold r ts ≡ None → first_untold r (set ts i u) ≡ None
+  none-told [] i u now e = refl
+  none-told (t ∷ ts) zero u now e = none-cons u ts now (none-parts t ts e).1
+  none-told (t ∷ ts) (suc i) u now e = let parts = none-parts t ts e in none-cons t (set ts i u) parts.0 (none-told ts i u now parts.1)
+
+  pub rest-told : (ts : List Task) (n i : ℕ) (u : Task) → has_told r (view_of u) ≡ true → RestTold r n ts → RestTold r n (set ts i u)
+  rest-told ts zero i u now h = none-told ts i u now h
+  rest-told [] (suc n) i u now h = refl
+  rest-told (t ∷ ts) (suc n) zero u now h = h
+  rest-told (t ∷ ts) (suc n) (suc i) u now h = rest-told ts n i u now h

@@ -61,6 +61,10 @@ HaveTold r zero ts = Unit {0}
 HaveTold r (suc n) [] = Unit {0}
 HaveTold r (suc n) (t ∷ ts) = (has_told r (view_of t) ≡ true) × HaveTold r n ts
 
+-- the tasks from an index on have told
+abbrev pub RestTold : ℕ → ℕ → List Task → Type 0
+RestTold r n ts = first_untold r (drop n ts) ≡ None
+
 -- a task that tells: its word is stored
 abbrev pub told_task : ℕ → Task → Task
 told_task r t = record t { word = told_word r (view_of t) }

@@ -76,7 +76,7 @@ impl Parts {
             Phase::Going | Phase::Looked => self.going_op(),
             Phase::Answering(request) => Some(self.ack_store(u64::from(request))),
             Phase::StoringAck(request) => {
-                Some(self.ack_store(acknowledged(self.tasks.is_any_left(), request)))
+                Some(self.ack_store(acknowledged(self.tasks.is_any_left(self.present), request)))
             }
             Phase::StoringQuiet(request, i) => {
                 let task = self.tasks.task(i);
@@ -226,7 +226,7 @@ impl Parts {
         ensures item { result ≡ item_in (op_by (present_task self.old)) }
     {
         let unmet = self.tasks.task(self.present).is_unmet(value);
-        let item = self.tasks.got(self.present, &self.setup, value, unmet);
+        let item = self.tasks.got(self.present, &self.setup, value);
         // Never between the two loads of a fetch: the next task's poll would acknowledge a request for
         // the CPU, control would change the site, and this task would load the rest of another
         // instruction.
@@ -257,7 +257,7 @@ impl Parts {
         // once, and control would change a call site between the two loads by which a task of this CPU
         // reads it.
         let request = value as u32;
-        if self.ack == acknowledged(self.tasks.is_any_left(), request) {
+        if self.ack == acknowledged(self.tasks.is_any_left(self.present), request) {
             self.tell(request, 0);
         } else {
             self.phase = Phase::StoringAck(request);
@@ -271,7 +271,7 @@ impl Parts {
         ensures { self.new ≡ poll_on (acked (ticked self.old) request) request }
     {
         self.count += 1;
-        self.ack = acknowledged(self.tasks.is_any_left(), request);
+        self.ack = acknowledged(self.tasks.is_any_left(self.present), request);
         self.tell(request, 0);
     }
 
@@ -308,7 +308,7 @@ impl Parts {
         requires { CanGoOn self.old }
         ensures { self.new ≡ after_poll self.old }
     {
-        if self.tasks.is_any_left() {
+        if self.tasks.is_any_left(self.present) {
             self.phase = Phase::Going;
             self.tasks.begin_act(self.present);
             self.switch(false);

@@ -1,13 +1,12 @@
 //! The tasks of a CPU, and which of them runs.
 
-ghost use Rattle.std.specs.Prelude.{◌≡◌, ◌<◌, ◌≤◌, true, if◌then◌else◌, length, set, slice_get, Some, None, All, IfOk, IsSomeAnd};
+ghost use Rattle.std.specs.Prelude.{◌≡◌, ◌<◌, ◌≤◌, ◌⊎◌, if◌then◌else◌, suc, length, set, slice_get, Some, None, All, IfOk, IsSomeAnd};
 ghost use Rattle.ft_base.specs.declared.limits.TheConstants.{ACTS, FRAMES, GUARD_LEVELS, TASKS};
 ghost use Rattle.user_specs.specs.declared.plan.TaskPlan.{TaskPlan as DeclaredPlan};
 ghost use Rattle.task_core.specs.Fits.{CanBegin, HasAct, TaskFits};
-ghost use Rattle.task_core.specs.Starts.{is_unmet};
 ghost use Rattle.task_core.specs.TaskOps.{item_in, op_of, present};
 ghost use Rattle.task_core.specs.TaskSteps.{begun, task_after};
-ghost use Rattle.cpu_core.specs.Turns.{AreStarted, HaveTold, any_left, first_left, first_untold, is_untold, left_from, next_left, told_task, untold_from};
+ghost use Rattle.cpu_core.specs.Turns.{AreStarted, HaveTold, RestTold, any_left, first_left, first_untold, is_untold, left_from, next_left, told_task, untold_from};
 
 use ft_base::{Item, NoMemory};
 use std::alloc::Global;
@@ -19,8 +18,12 @@ use user_specs::TaskPlan;
 #[derive(Drop)]
 pub(crate) struct Tasks {
     tasks: Vec<Task>,
-    /// A request that each task's word tells, as far as a poll is to tell it; none if that isn't known.
-    told: Option<u32>,
+    /// A request that the word of each task tells, as far as a poll is to tell it, but for those that may
+    /// have changed since.
+    told: u32,
+    /// Between two polls only the tasks that step change. A poll that loads the same request again looks
+    /// at them alone. With 64 tasks, to look at each of them is most of what a poll costs.
+    changed: Span,
 }
 
 impl Model for Tasks {
@@ -55,7 +58,15 @@ impl Tasks {
         for plan in plans {
             tasks.push_reserved(Task::new(alloc, plan, frames, levels)?);
         }
-        Ok(Tasks { tasks, told: None })
+        let changed = Span {
+            from: 0,
+            to: tasks.len() as u32,
+        };
+        Ok(Tasks {
+            tasks,
+            told: 0,
+            changed,
+        })
     }
 
     /// How many there are.
@@ -74,11 +85,14 @@ impl Tasks {
         &self.tasks[i as usize]
     }
 
-    /// Whether a task has an act left.
-    pub(crate) fn is_any_left(&self) -> bool
+    /// Whether a task has an act left. If one has, then mostly the present one.
+    pub(crate) fn is_any_left(&self, present: u32) -> bool
         ensures { result ≡ any_left self.now }
     {
-        self.tasks.iter().any(|task| task.has_act())
+        match self.tasks.get(present as usize) {
+            Some(task) if task.has_act() => true,
+            _ => self.tasks.iter().any(|task| task.has_act()),
+        }
     }
 
     /// The first task that has an act left, or the number of tasks if none has.
@@ -112,19 +126,16 @@ impl Tasks {
         None
     }
 
-    /// The operation of the task at this index gave this value, which is the clock of a wait that isn't
-    /// met if `unmet` says so. If the operation was a mark, the answer is its item.
+    /// The operation of the task at this index gave this value. If the operation was a mark, the answer
+    /// is its item.
     #[inline(always)]
-    pub(crate) fn got(&mut self, i: u32, setup: &Setup, value: u64, unmet: bool) -> Option<Item>
-        requires fits { IsSomeAnd (slice_get self.old i) (λ t. TaskFits setup.now t value) }
-        requires waits { IsSomeAnd (slice_get self.old i) (λ t. unmet ≡ is_unmet t value) }
+    pub(crate) fn got(&mut self, i: u32, setup: &Setup, value: u64) -> Option<Item>
+        requires { IsSomeAnd (slice_get self.old i) (λ t. TaskFits setup.now t value) }
         ensures tasks { IsSomeAnd (slice_get self.old i) (λ t. self.new ≡ set self.old i (task_after t setup.now value)) }
         ensures item { IsSomeAnd (slice_get self.old i) (λ t. result ≡ item_in (op_of t)) }
     {
-        let item = self.tasks[i as usize].got(setup, value);
-        // A wait that isn't met changes nothing that a poll looks at.
-        self.told = known_if(unmet, self.told);
-        item
+        self.changed = self.changed.with(i);
+        self.tasks[i as usize].got(setup, value)
     }
 
     /// The poll of the present act of the task at this index is over.
@@ -132,32 +143,30 @@ impl Tasks {
         requires { IsSomeAnd (slice_get self.old i) (λ t. HasAct t × CanBegin t (present t)) }
         ensures { IsSomeAnd (slice_get self.old i) (λ t. self.new ≡ set self.old i (begun t (present t))) }
     {
-        let task = &mut self.tasks[i as usize];
-        // A task is quiet before its act and at the act's first operation. An interrupt that comes or
-        // goes is an act that has ended.
-        let told = known_if(task.is_polling(), self.told);
-        task.begin_act();
-        self.told = known_if(!task.is_polling(), told);
+        self.changed = self.changed.with(i);
+        self.tasks[i as usize].begin_act();
     }
 
     /// The first task whose word is to change. It isn't one before this index: those have told.
+    #[tactic(auto, using(crate::proofs::Untold::from_told))]
     pub(crate) fn first_untold(&self, request: u32, from: u32) -> Option<u32>
         requires { HaveTold request from self.now }
         ensures { result ≡ first_untold request self.now }
     {
-        // Most polls of a task that waits load the same request again. With eight such tasks, to look at
-        // each of them is most of what a turn costs.
-        if self.have_told(request) {
-            return None;
+        if self.told == request {
+            self.untold_from(request, self.changed.from, self.changed.to)
+        } else {
+            self.untold_from(request, from, self.len())
         }
-        self.untold_from(request, from as usize)
     }
 
-    /// The first task from an index on whose word is to change.
-    fn untold_from(&self, request: u32, from: usize) -> Option<u32>
+    /// The first task from an index on whose word is to change. It isn't one from the other index on.
+    fn untold_from(&self, request: u32, from: u32, to: u32) -> Option<u32>
+        requires told { RestTold request to self.now }
+        requires within { to ≤ length self.now }
         ensures { result ≡ untold_from request self.now from }
     {
-        for n in from..self.tasks.len() {
+        for n in from as usize..to as usize {
             if is_untold(&self.tasks[n], request) {
                 return Some(n as u32);
             }
@@ -171,9 +180,10 @@ impl Tasks {
         ensures tasks { IsSomeAnd (slice_get self.old i) (λ t. self.new ≡ set self.old i (told_task request t)) }
         ensures few { i < TASKS }
     {
-        let word = self.tasks[i as usize].view().told_word(request);
-        self.tasks[i as usize].told(word);
-        self.told = None;
+        self.changed = known_if(self.told == request, self.changed, self.len());
+        let task = &mut self.tasks[i as usize];
+        let word = task.view().told_word(request);
+        task.told(word);
     }
 
     /// Each task's word tells this request. That is known until one of them changes.
@@ -181,17 +191,11 @@ impl Tasks {
         requires { first_untold request self.old ≡ None }
         ensures { self.new ≡ self.old }
     {
-        self.told = Some(request);
-    }
-
-    /// Whether it is known that each task's word tells this request, so that a poll has none to store.
-    fn have_told(&self, request: u32) -> bool
-        ensures { result ≡ true → first_untold request self.now ≡ None }
-    {
-        match self.told {
-            Some(told) => told == request,
-            None => false,
-        }
+        self.changed = Span {
+            from: self.len(),
+            to: 0,
+        };
+        self.told = request;
     }
 }
 
@@ -204,9 +208,36 @@ fn is_untold(task: &Task, request: u32) -> bool
     !task.view().has_told(request)
 }
 
-/// What was known, if it still holds.
-fn known_if(holds: bool, known: Option<u32>) -> Option<u32>
-    ensures { result ≡ (if holds then known else None) }
+/// The tasks that may have changed, if that is known, or else all of so many.
+fn known_if(holds: bool, known: Span, len: u32) -> Span
+    ensures { result ≡ (if holds then known else record { from = 0; to = len }) }
 {
-    if holds { known } else { None }
+    if holds {
+        known
+    } else {
+        Span { from: 0, to: len }
+    }
+}
+
+/// The tasks from one index to before another.
+#[derive(Clone, Copy)]
+struct Span {
+    from: u32,
+    to: u32,
+}
+
+impl Span {
+    /// These and the task at this index, and what lies between.
+    #[inline(always)]
+    fn with(self, i: u32) -> Span
+        requires { i < TASKS }
+        ensures old { result.from ≤ self.from × self.to ≤ result.to }
+        ensures one { result.from ≤ i × i < result.to }
+        ensures least { result.to ≡ self.to ⊎ result.to ≡ suc i }
+    {
+        Span {
+            from: self.from.min(i),
+            to: self.to.max(i + 1),
+        }
+    }
 }
