@@ -10,11 +10,13 @@
 //! mean is left to the crates above.
 #![tactic(auto)]
 
+mod few;
 mod lines;
 mod names;
 mod numbers;
 mod word;
 
+pub use few::few_words;
 pub use lines::{first_line, is_skipped, plain_text};
 pub use names::name;
 pub use numbers::number;

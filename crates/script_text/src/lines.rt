@@ -26,7 +26,7 @@ pub fn first_line(text: &[u8]) -> (&[u8], bool, &[u8])
 }
 
 /// Whether a byte is a space or a tab.
-fn is_blank(byte: u8) -> bool
+pub(crate) fn is_blank(byte: u8) -> bool
     ensures { result ≡ is_blank byte }
 {
     byte == b' ' || byte == b'\t'
