@@ -1,14 +1,14 @@
 //! What a line says.
 
-ghost use Rattle.std.specs.Prelude.{◌≡◌, map, option_map, false, IfOk, IfErr, IfSome};
-ghost use Rattle.script_text.specs.Lines.{words_of, is_skipped};
+ghost use Rattle.std.specs.Prelude.{◌≡◌, map, option_map, false, true, IfOk, IfErr, IfSome};
+ghost use Rattle.script_text.specs.Lines.{words_of, is_plain, is_skipped};
 ghost use Rattle.script_form.specs.Lines.{form_of, line_form};
 ghost use Rattle.script_form.specs.Names.{IsWellNamed};
 ghost use Rattle.script_form.specs.Read.{form_read};
 
 use crate::form::LineForm;
 use crate::keyed::read_keyed;
-use script_text::{is_skipped, plain_text, words};
+use script_text::{few_words, is_skipped, plain_text, words};
 use std::alloc::{AllocError, Global};
 
 /// What a line of these words says, if it has a form.
@@ -23,8 +23,13 @@ fn read_words<'a>(alloc: Global, words: &[&'a str]) -> Result<Option<LineForm<'a
 
 /// What a plain line says, if it has a form.
 fn read_text(alloc: Global, text: &str) -> Result<Option<LineForm<'_>>, AllocError>
+    requires { is_plain text.now ≡ true }
     ensures { IfOk result (λ r. option_map form_read r ≡ form_of (words_of text.entry.now)) }
 {
+    if let Some(found) = few_words(text) {
+        let few = found.0;
+        return read_words(alloc, &few[..found.1]);
+    }
     let words = words(alloc, text)?;
     read_words(alloc, words.as_slice())
 }
