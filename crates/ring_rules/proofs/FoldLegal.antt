@@ -396,3 +396,15 @@ fold-legal plan history =
           };
       fired = k.fired;
     }
+
+-- each trigger was hit as often as items hit it
+pub fold-hits : (plan : TracePlan) (history : List Item) (i : ℕ) → i < length plan.triggers
+    → slice_index (after_items plan 0 history (at_start plan)).hits i ≡ hits_in (trigger plan i) history
+fold-hits plan history i lt = (goes-on-kept plan [] history (at_start plan) (start-kept plan)).hits i lt
+
+-- there are hits and a list for each trigger, and a ring for each CPU
+pub fold-lengths : (plan : TracePlan) (history : List Item)
+    → (length (after_items plan 0 history (at_start plan)).hits ≡ length plan.triggers)
+    × (length (after_items plan 0 history (at_start plan)).rings.fired ≡ length plan.triggers)
+    × (length (after_items plan 0 history (at_start plan)).rings.cpus ≡ plan.cpus)
+fold-lengths plan history = (goes-on-kept plan [] history (at_start plan) (start-kept plan)).lengths

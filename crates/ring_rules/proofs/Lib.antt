@@ -10,4 +10,5 @@ pub mod Alone
 pub mod FiredPlaces
 pub mod HitAll
 pub mod FoldLegal
+pub mod FoldSteps
 pub mod Parts

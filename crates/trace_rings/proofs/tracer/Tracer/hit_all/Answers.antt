@@ -1,7 +1,8 @@
 use Rattle.std.proofs.Common.{ap, arith}
 use Rattle.std.specs.Prelude.{slice_index}
 use Rattle.trace_rings.specs.Traced.{Traced}
-use Rattle.trace_rings.proofs.Folds.{all-later, for-all}
+use Rattle.ring_rules.proofs.FoldSteps.{all-later}
+use Rattle.trace_rings.proofs.Folds.{for-all}
 use Rattle.trace_rings.proofs.tracer.Tracer.hit_all.Goals as goal
 
 pub hit-requires-clause-plan : goal.hit-requires-clause-plan

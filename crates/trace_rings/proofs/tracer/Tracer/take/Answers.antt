@@ -1,6 +1,7 @@
 use Rattle.std.proofs.Common.{length, ap, ◌∙◌}
 use Rattle.trace_rings.specs.Traced.{Traced}
-use Rattle.trace_rings.proofs.Folds.{all-cpus, few-as}
+use Rattle.ring_rules.proofs.FoldSteps.{all-cpus}
+use Rattle.trace_rings.proofs.Folds.{few-as}
 use Rattle.trace_rings.proofs.tracer.Tracer.take.Goals as goal
 
 pub write-requires : goal.write-requires
