@@ -26,3 +26,6 @@ pub mod ProfileLines
 pub mod LineLaws
 pub mod BackLines
 pub mod RingEntries
+pub mod Switches
+pub mod RingTakes
+pub mod RingBodies

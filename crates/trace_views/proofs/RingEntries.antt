@@ -18,7 +18,7 @@ use Rattle.trace_views.specs.ItemCounts.{is_back}
 use Rattle.trace_views.specs.RingLines.{HasEntries, is_back_at, is_entry}
 
 -- what holds of each holds of those from a place on
-each-drop : {A : Type 0} (P : A → Type 0) (n : ℕ) (xs : List A) → Each P xs → Each P (drop n xs)
+pub each-drop : {A : Type 0} (P : A → Type 0) (n : ℕ) (xs : List A) → Each P xs → Each P (drop n xs)
 each-drop P zero xs all = all
 each-drop P (suc n) [] all = tt
 each-drop P (suc n) (x ∷ xs) all = each-drop P n xs all.1

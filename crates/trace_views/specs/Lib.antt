@@ -16,6 +16,8 @@ pub mod EnabledText
 pub mod ModulesText
 pub mod RingsText
 pub mod RingLines
+pub mod LineRings
+pub mod RingViews
 pub mod ItemCounts
 pub mod Counted
 pub mod Returned

@@ -148,7 +148,7 @@ fn tracers<N: Named>(alloc: Global, names: &N) -> Result<Vec<bool>, NoMemory>
 
 /// The line of the entry callback of a user in a call, which is at a place. `stacks` has the calls that are
 /// open there.
-fn back_line(stacks: &OpenCalls, place: u32, call: CallNo, user: UserNo) -> FunctionLine
+pub(crate) fn back_line(stacks: &OpenCalls, place: u32, call: CallNo, user: UserNo) -> FunctionLine
     requires { (job : PlainJob) × (past : List Item) × IsFollowed job past stacks.now × IsLegalPast job (Back call user ∷ past) }
     ensures place { result.place ≡ place }
     ensures user { result.user ≡ user }

@@ -14,9 +14,9 @@
 //! Promised: [`function_lines`], [`graph_lines`] and [`profile_lines`] give, for each legal history of a
 //! job, [`enabled_lines`] for the desk that it leaves, and [`rings_lines`] for rings whose entries are
 //! entry callbacks of it, lines whose texts are exactly those of the view. What they need of a job is
-//! [`Named`]. [`FunctionView`] and [`ProfileView`] take the items one after the other, each when it is
-//! marked. A function view takes room for an item's line before, and a profile view has all memory from
-//! its making. Only tested, in `trace_print_tests`: that memory is found.
+//! [`Named`]. [`FunctionView`], [`ProfileView`] and [`RingsView`] take the items one after the other, each
+//! when it is marked. A function view takes room for an item's line before, and the others have all memory
+//! from their making. Only tested, in `trace_print_tests`: that memory is found.
 #![tactic(auto)]
 
 mod counts;
@@ -25,12 +25,15 @@ mod function;
 mod graph;
 mod graph_line;
 mod leaves;
+mod line_ring;
 mod modules;
 mod named;
 mod open_calls;
 mod profile;
+mod ring_view;
 mod rings;
 mod stacks;
+mod switch;
 
 pub use counts::{Counts, Totals, counted};
 pub use enabled::{EnabledLine, enabled_lines, returned, returned_with};
@@ -40,4 +43,5 @@ pub use graph_line::{GraphLine, Shown};
 pub use modules::ModuleLine;
 pub use named::{Named, TaskName};
 pub use profile::{ProfileLine, ProfileView, profile_lines};
+pub use ring_view::RingsView;
 pub use rings::{RingsLine, rings_lines};

@@ -54,7 +54,7 @@ fn line_of(lines: &[FunctionLine], place: u32) -> FunctionLine
 }
 
 /// Adds a line.
-fn push_line(lines: &mut Vec<RingsLine>, line: RingsLine) -> Result<(), NoMemory>
+pub(crate) fn push_line(lines: &mut Vec<RingsLine>, line: RingsLine) -> Result<(), NoMemory>
     ensures { OnOk result ((job : PlainJob) → lines_text (rings_line_text job) lines.new.items
         ≡ lines_text (rings_line_text job) lines.old.items ++ rings_line_text job line) }
 {
