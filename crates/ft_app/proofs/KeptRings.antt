@@ -13,6 +13,7 @@ use Rattle.ft_words.specs.declared.order.Form.TheVariants as forms
 use Rattle.ft_words.specs.declared.order.Order.{Order}
 use Rattle.ft_words.specs.declared.order.Order.TheVariants.{Replay, Run, Bulk}
 use Rattle.trace_print.specs.declared.kept.Kept.{Kept}
+use Rattle.trace_print.specs.declared.kept.Kept.TheVariants as keeps
 use Rattle.trace_print.specs.declared.kept.Kept.TheVariants.{History, Function, Profile, Returned, Nothing, Totals}
 use Rattle.trace_print.specs.Kept.{AllItems, IsAllAnd, IsEnoughFor, IsKeptOf, ServesForm, content_of}
 use Rattle.trace_print.specs.Texts.{text_of}
@@ -105,4 +106,5 @@ run-made form job (Ok c) led run kept = all c.kept refl run kept
     all (Profile v) e run kept = absurd run
     all (Returned n) e run kept = absurd run
     all Nothing e run kept = absurd run
+    all (keeps.Rings v) e run kept = absurd run
     all (Totals t) e run kept = absurd run

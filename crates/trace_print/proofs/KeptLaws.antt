@@ -11,6 +11,8 @@ use Rattle.word_machine.specs.Limits.{IsLimited}
 use Rattle.ft_words.specs.declared.order.Form.{Form}
 use Rattle.ft_words.specs.declared.order.Form.TheVariants as forms
 use Rattle.ft_machine.proofs.Bounds.{past-few}
+use Rattle.ring_rules.specs.Fold.{fold}
+use Rattle.ring_rules.specs.Plan.{plan_of}
 use Rattle.trace_views.specs.Counted.{AreTotals}
 use Rattle.trace_views.specs.declared.counts.Totals.{Totals as Counted}
 use Rattle.trace_views.specs.EnabledText.{enabled_lines, enabled_text}
@@ -20,10 +22,12 @@ use Rattle.trace_views.specs.ModulesText.{module_line, modules_text}
 use Rattle.trace_views.specs.ProfileText.{fprobe_line, profile_text, user_profile}
 use Rattle.trace_views.specs.ProfileViews.{HasProfile}
 use Rattle.trace_views.specs.Returned.{done_with}
+use Rattle.trace_views.specs.RingViews.{HasRings}
+use Rattle.trace_views.specs.RingsText.{rings_body, rings_text}
 use Rattle.trace_views.specs.Words.{item_texts, last_line, lines_text, numbered_texts}
 use Rattle.trace_views.proofs.ReturnedLaws.{done-more}
 use Rattle.trace_print.specs.declared.kept.Kept.{Kept}
-use Rattle.trace_print.specs.declared.kept.Kept.TheVariants.{History, Function, Profile, Returned, Nothing, Totals}
+use Rattle.trace_print.specs.declared.kept.Kept.TheVariants.{History, Function, Profile, Returned, Nothing, Rings, Totals}
 use Rattle.trace_print.specs.Kept.{Has, IsEnoughFor, IsKeptOf, ServesForm, content_for, content_of}
 use Rattle.trace_print.specs.Texts.{text_of}
 
@@ -51,6 +55,7 @@ has-kept job past (Function v) has = subst (λ (xs : List Item). HasFunction job
 has-kept job past (Profile v) has = subst (λ (xs : List Item). HasProfile job xs v) (sym (reverse-reverse past)) has
 has-kept job past (Returned n) has = has ∙ ap done (sym (reverse-reverse past))
 has-kept job past Nothing has = tt
+has-kept job past (Rings v) has = subst (λ (xs : List Item). HasRings job xs v) (sym (reverse-reverse past)) has
 has-kept job past (Totals t) has = has
 
 -- what is kept for a form is enough for it
@@ -64,7 +69,7 @@ own-enough form kept is = subst (ServesForm form) (sym is) (own form)
     own forms.Profile = refl
     own forms.Enabled = refl
     own forms.Modules = refl
-    own forms.Rings = tt
+    own forms.Rings = refl
 
 -- ## texts, of what is kept for a form
 
@@ -102,3 +107,10 @@ module _ (job : Job) (form : Form) (items : List Item) (ended : Bool) where
       → text ++ last_line ended ≡ text_of form job items ended
   unfolding modules_text
   modules-is is text same = ap (λ (t : List ℕ). t ++ last_line ended) same ∙ ap (λ (f : Form). text_of f job items ended) (sym is)
+
+  pub rings-is : form ≡ forms.Rings → (text : List ℕ) → text ≡ rings_body job (reverse (reverse items)) (fold (plan_of job) (reverse (reverse items)))
+      → text ++ last_line ended ≡ text_of form job items ended
+  unfolding rings_text
+  rings-is is text same =
+      ap (λ (t : List ℕ). t ++ last_line ended) (same ∙ ap (λ (xs : List Item). rings_body job xs (fold (plan_of job) xs)) (reverse-reverse items))
+      ∙ ap (λ (f : Form). text_of f job items ended) (sym is)

@@ -9,8 +9,9 @@ use Rattle.ft_words.specs.declared.order.Form.TheVariants as forms
 use Rattle.trace_views.specs.Counted.{AreTotals}
 use Rattle.trace_views.specs.FunctionViews.{HasFunction, HasRoom as HasRoomForLine}
 use Rattle.trace_views.specs.ProfileViews.{HasProfile}
+use Rattle.trace_views.specs.RingViews.{HasRings}
 use Rattle.trace_print.specs.declared.kept.Kept.{Kept}
-use Rattle.trace_print.specs.declared.kept.Kept.TheVariants.{History, Function, Profile, Returned, Nothing, Totals}
+use Rattle.trace_print.specs.declared.kept.Kept.TheVariants.{History, Function, Profile, Returned, Nothing, Rings, Totals}
 
 -- ## of which items
 
@@ -21,6 +22,7 @@ Has job past (Function v) = HasFunction job past v
 Has job past (Profile v) = HasProfile job past v
 Has job past (Returned n) = n ≡ done past
 Has job past Nothing = Unit {0}
+Has job past (Rings v) = HasRings job past v
 Has job past (Totals t) = AreTotals (reverse past) t
 
 -- it is kept of these items of a job, in order
@@ -30,6 +32,7 @@ IsKeptOf job items (Function v) = HasFunction job (reverse items) v
 IsKeptOf job items (Profile v) = HasProfile job (reverse items) v
 IsKeptOf job items (Returned n) = n ≡ done (reverse items)
 IsKeptOf job items Nothing = Unit {0}
+IsKeptOf job items (Rings v) = HasRings job (reverse items) v
 IsKeptOf job items (Totals t) = AreTotals items t
 
 -- all items are kept, and this holds of them
@@ -39,6 +42,7 @@ IsAllAnd (Function v) P = ⊥
 IsAllAnd (Profile v) P = ⊥
 IsAllAnd (Returned n) P = ⊥
 IsAllAnd Nothing P = ⊥
+IsAllAnd (Rings v) P = ⊥
 IsAllAnd (Totals t) P = ⊥
 
 -- ## for what
@@ -56,6 +60,7 @@ content_of (Function v) = ForForm forms.Function
 content_of (Profile v) = ForForm forms.Profile
 content_of (Returned n) = ForForm forms.Enabled
 content_of Nothing = ForForm forms.Modules
+content_of (Rings v) = ForForm forms.Rings
 content_of (Totals t) = ForSummary
 
 -- what is kept for the text of a form: no more than it needs
@@ -66,7 +71,7 @@ content_for forms.Graph = AllItems
 content_for forms.Profile = ForForm forms.Profile
 content_for forms.Enabled = ForForm forms.Enabled
 content_for forms.Modules = ForForm forms.Modules
-content_for forms.Rings = AllItems
+content_for forms.Rings = ForForm forms.Rings
 
 -- the text of a form can be made of it
 abbrev pub ServesForm : Form → Content → Type 0
@@ -97,6 +102,7 @@ HasRoom (Function v) = HasRoomForLine v
 HasRoom (Profile v) = Unit {0}
 HasRoom (Returned n) = Unit {0}
 HasRoom Nothing = Unit {0}
+HasRoom (Rings v) = Unit {0}
 HasRoom (Totals t) = Unit {0}
 
 -- it has taken these items of a job, the latest first, and is for what it was for when it had taken none

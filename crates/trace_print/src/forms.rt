@@ -319,6 +319,12 @@ pub fn write_kept<K: Sink>(
             };
             send_lines(alloc, &names, lines.as_slice(), ended, sink)
         }
+        Kept::Rings(view) => {
+            let Ok(lines) = view.lines(alloc) else {
+                return Err(TextFail::NoMemory);
+            };
+            send_lines(alloc, &names, lines.as_slice(), ended, sink)
+        }
         Kept::Totals(_) => unreachable!(),
     }
 }

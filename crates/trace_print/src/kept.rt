@@ -11,7 +11,8 @@ use ft_job::Job;
 use ft_machine::Taker;
 use ft_words::Form;
 use std::alloc::Global;
-use trace_views::{FunctionView, ProfileView, Totals, returned_with};
+use trace_rings::trace_plan;
+use trace_views::{FunctionView, ProfileView, RingsView, Totals, returned_with};
 
 /// What a text needs of the items that a job has made: all of them, or what they come to.
 #[derive(Drop)]
@@ -26,6 +27,8 @@ pub enum Kept {
     Returned(u32),
     /// Nothing, for the form modules: its text is of the job's lines alone.
     Nothing,
+    /// What the rings hold, for the form rings.
+    Rings(RingsView),
     /// How many items there are, and how many of some kinds, for the summary.
     Totals(Totals),
 }
@@ -38,9 +41,7 @@ impl Kept {
         ensures form { IfOk result (λ kept. content_of kept ≡ content_for form) }
     {
         match form {
-            Form::Log | Form::Graph | Form::Rings => {
-                Ok(Kept::History(History::with_room(alloc, 0)?))
-            }
+            Form::Log | Form::Graph => Ok(Kept::History(History::with_room(alloc, 0)?)),
             Form::Function => {
                 let names = Names::new(alloc, job)?;
                 Ok(Kept::Function(FunctionView::new(alloc, &names)?))
@@ -51,6 +52,11 @@ impl Kept {
             }
             Form::Enabled => Ok(Kept::Returned(0)),
             Form::Modules => Ok(Kept::Nothing),
+            Form::Rings => {
+                let names = Names::new(alloc, job)?;
+                let plan = trace_plan(alloc, job)?;
+                Ok(Kept::Rings(RingsView::new(alloc, &names, plan)?))
+            }
         }
     }
 
@@ -75,7 +81,11 @@ impl Taker for Kept {
         match self {
             Kept::History(history) => history.make_room(),
             Kept::Function(view) => view.make_room(),
-            Kept::Profile(_) | Kept::Returned(_) | Kept::Nothing | Kept::Totals(_) => Ok(()),
+            Kept::Profile(_)
+            | Kept::Returned(_)
+            | Kept::Nothing
+            | Kept::Rings(_)
+            | Kept::Totals(_) => Ok(()),
         }
     }
 
@@ -86,6 +96,7 @@ impl Taker for Kept {
             Kept::Profile(view) => view.take(&item),
             Kept::Returned(returned) => *returned = returned_with(*returned, &item),
             Kept::Nothing => {}
+            Kept::Rings(view) => view.take(&item),
             Kept::Totals(totals) => totals.add(&item),
         }
     }

@@ -8,11 +8,13 @@ use Rattle.trace_views.specs.KeptCalls.{function_line_text}
 use Rattle.trace_views.specs.ModulesText.{module_line, module_line_text, row_of_line}
 use Rattle.trace_views.specs.ProfileText.{profile_line_text}
 use Rattle.trace_views.specs.ProfileViews.{HasProfile}
+use Rattle.trace_views.specs.RingLines.{rings_line_text}
+use Rattle.trace_views.specs.RingViews.{HasRings}
 use Rattle.trace_views.specs.Words.{lines_text}
 use Rattle.trace_views.proofs.LineTexts.{lines-read}
 use Rattle.trace_print.specs.declared.kept.Kept.{Kept}
 use Rattle.trace_print.specs.Kept.{IsEnoughFor, IsKeptOf}
-use Rattle.trace_print.proofs.KeptLaws.{as-sent, enabled-is, function-is, modules-is, profile-is}
+use Rattle.trace_print.proofs.KeptLaws.{as-sent, enabled-is, function-is, modules-is, profile-is, rings-is}
 use Rattle.trace_print.proofs.forms.write_kept.Goals as goal
 
 -- ## the form function
@@ -110,3 +112,32 @@ returns-in-Nothing-clause-front g c = λ items kept.
     let same = as-sent module_line_text c.in-Ok.names job c.as_slice-in-Nothing.result.now lines c.args.ended own c.as_slice-in-Nothing.ensures.value
     ∙ modules-is job c.args.form items c.args.ended form _ told in
     rw (← same) c.send_lines-in-Nothing.ensures.front)
+
+-- ## the form rings
+
+pub lines-requires-in-Rings : goal.lines-requires-in-Rings
+lines-requires-in-Rings g c =
+    let legal = c.requires.legal in
+    (c.args.job.now, reverse legal.0, subst (λ (k : Kept). IsKeptOf c.args.job.now legal.0 k) c.in-Rings.is legal.1)
+
+pub returns-in-Rings-clause-all : goal.returns-in-Rings-clause-all
+returns-in-Rings-clause-all g c = λ items kept.
+    (let job = c.args.job.now in
+    let own = c.in-Ok.ensures in
+    let has : HasRings job (reverse items) c.in-Rings.view = subst (λ (k : Kept). IsKeptOf job items k) c.in-Rings.is kept in
+    let form : c.args.form ≡ forms.Rings = subst (λ (k : Kept). IsEnoughFor c.args.form k) c.in-Rings.is c.requires.enough in
+    let told = c.in-Ok-lines-2.ensures job (reverse items) has in
+    let same = as-sent rings_line_text c.in-Ok.names job c.as_slice-in-Rings.result.now c.in-Ok-lines-2.lines.items c.args.ended own c.as_slice-in-Rings.ensures.value
+    ∙ rings-is job c.args.form items c.args.ended form _ told in
+    rw (← same) c.send_lines-in-Rings.ensures.all)
+
+pub returns-in-Rings-clause-front : goal.returns-in-Rings-clause-front
+returns-in-Rings-clause-front g c = λ items kept.
+    (let job = c.args.job.now in
+    let own = c.in-Ok.ensures in
+    let has : HasRings job (reverse items) c.in-Rings.view = subst (λ (k : Kept). IsKeptOf job items k) c.in-Rings.is kept in
+    let form : c.args.form ≡ forms.Rings = subst (λ (k : Kept). IsEnoughFor c.args.form k) c.in-Rings.is c.requires.enough in
+    let told = c.in-Ok-lines-2.ensures job (reverse items) has in
+    let same = as-sent rings_line_text c.in-Ok.names job c.as_slice-in-Rings.result.now c.in-Ok-lines-2.lines.items c.args.ended own c.as_slice-in-Rings.ensures.value
+    ∙ rings-is job c.args.form items c.args.ended form _ told in
+    rw (← same) c.send_lines-in-Rings.ensures.front)

@@ -23,6 +23,11 @@ take-requires-in-Profile c =
     let r = c.requires.next in
     (r.0, r.1, subst (λ (k : Kept). Has r.0 r.1 k) c.in-Profile.is r.4.has, r.5, past-room r.0 r.3 r.1 c.args.item r.5)
 
+pub take-requires-in-Rings : goal.take-requires-in-Rings
+take-requires-in-Rings c =
+    let r = c.requires.next in
+    (r.0, r.1, subst (λ (k : Kept). Has r.0 r.1 k) c.in-Rings.is r.4.has, r.5, past-room r.0 r.3 r.1 c.args.item r.5)
+
 pub returned_with-requires : goal.returned_with-requires
 returned_with-requires c =
     let r = c.requires.next in
@@ -63,6 +68,12 @@ pub returns-in-Nothing : goal.returns-in-Nothing
 returns-in-Nothing c = λ job past first limited took legal. record {
   content = took.content;
   has = subst (λ (k : Kept). Has job (c.args.item ∷ past) k) (sym c.in-Nothing.is) (tt {0});
+}
+
+pub returns-in-Rings : goal.returns-in-Rings
+returns-in-Rings c = λ job past first limited took legal. record {
+  content = took.content ∙ ap content_of c.in-Rings.is;
+  has = c.take-in-Rings.ensures job past (subst (λ (k : Kept). Has job past k) c.in-Rings.is took.has) legal;
 }
 
 pub returns-in-Totals : goal.returns-in-Totals
