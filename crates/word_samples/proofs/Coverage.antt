@@ -19,7 +19,7 @@ use Rattle.word_machine.specs.Machine.{World, start, step, run}
 use Rattle.word_machine.proofs.RowSamples.{breakpoint_is_read, cleared_set, disabled_fprobe, enabled_again, excluded_pids, fetch_held_between_loads, fprobe_misses, full_shadow_stack, further_words, hash_changed_in_walk_new, hash_changed_in_walk_old, invalid_commands, list_then_own, max_depth, no_match, no_trampolines, pids, preempted_in_callback, profile_user, recursion, recursion_in_irq, registered_again, repeated_commands, silent_acts, task_without_acts, two_ipmodify_users, unregistered_in_call}
 use Rattle.word_machine.proofs.RunSamples.{link_cleared, no_next, no_quiet_for_a_walker, no_state_at_unregistration, present_copy_written, switched_in_a_fetch}
 use Rattle.word_samples.proofs.RandomSamples1.{job_3, job_82, job_93}
-use Rattle.word_samples.proofs.RandomSamples4.{job_3010, job_3053}
+use Rattle.word_samples.proofs.RandomSamples2.{job_3010, job_3053}
 
 -- where an actor stands: control, with its lines left, and in a batch with how many moves come after this one; or a CPU, with its present
 -- task, and how many acts that has finished
