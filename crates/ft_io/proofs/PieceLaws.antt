@@ -42,17 +42,17 @@ module _ {K : Type 0} {holds : K → Option (List ℕ)} {faults : K → ℕ} whe
   pub puts-equal : {a b : List ℕ} {k l : K} {p q : OnTheWay} → a ≡ b → Puts holds faults a k p l q → Puts holds faults b k p l q
   puts-equal {a} {b} {k} {l} {p} {q} e puts = subst (λ (t : List ℕ). Puts holds faults t k p l q) e puts
 
-  -- the bytes are held
-  pub puts-held : (bytes : List ℕ) (sink : K) (p q : OnTheWay) → p.failed ≡ false → q.failed ≡ false → q.held ≡ p.held ++ bytes → Puts holds faults bytes sink p sink q
-  puts-held bytes sink p q well still held = record {
+  -- the bytes are held; if the sink has failed, what is held is dropped
+  pub puts-held : (bytes : List ℕ) (sink : K) (p q : OnTheWay) → q.failed ≡ p.failed → q.held ≡ p.held ++ bytes → Puts holds faults bytes sink p sink q
+  puts-held bytes sink p q still held = record {
     adds = λ text begin before u. record {
-      sent = λ _. (
-        (u.sent well).0,
-        (u.sent well).1,
-        ap (λ (t : List ℕ). t ++ bytes) (u.sent well).2 ∙ append_assoc (u.sent well).0 p.held bytes ∙ ap (λ (t : List ℕ). (u.sent well).0 ++ t) (sym held),
+      sent = λ well. let s = u.sent (sym still ∙ well) in (
+        s.0,
+        s.1,
+        ap (λ (t : List ℕ). t ++ bytes) s.2 ∙ append_assoc s.0 p.held bytes ∙ ap (λ (t : List ℕ). s.0 ++ t) (sym held),
       );
-      front = λ failed. absurd cc;
-      fault = λ failed. absurd cc;
+      front = λ failed. front-more begin (holds sink) text bytes (u.front (sym still ∙ failed));
+      fault = λ failed. u.fault (sym still ∙ failed);
       later = u.later;
     };
   }

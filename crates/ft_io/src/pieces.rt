@@ -1,6 +1,6 @@
 //! Bytes on their way to a sink, which gets them in pieces.
 
-ghost use Rattle.std.specs.Prelude.{◌≡◌, ◌≤◌, [], IfOk};
+ghost use Rattle.std.specs.Prelude.{◌≡◌, ◌≤◌, [], take, IfOk};
 ghost use Rattle.ft_io.specs.Pieces.{nothing, Puts, Ends};
 
 use crate::sink::{Sink, WriteFail, write_all};
@@ -53,8 +53,25 @@ impl Pieces {
     {
         if bytes.len() > PIECE_BYTES - self.held.len() {
             self.put_after_piece(sink, bytes);
-        } else if !self.failed {
+        } else {
+            // What is held after the sink has failed is dropped with the rest: this saves the question.
             self.held.extend_reserved(bytes);
+        }
+    }
+
+    /// Puts the first `len` of 16 bytes. It takes no memory.
+    // All 16 are copied, by two stores: a copy of a few bytes whose number isn't known is a call.
+    #[inline(always)]
+    pub fn put_first<K: Sink>(&mut self, sink: &mut K, bytes: &[u8; 16], len: usize)
+        requires { len ≤ 16 }
+        ensures { Puts K.holds K.faults (take len bytes.now) sink.old self.old sink.new self.new }
+    {
+        let held = self.held.len();
+        if bytes.len() > PIECE_BYTES - held {
+            self.put_after_piece(sink, &bytes[..len]);
+        } else {
+            self.held.extend_reserved(bytes);
+            self.held.truncate(held + len);
         }
     }
 

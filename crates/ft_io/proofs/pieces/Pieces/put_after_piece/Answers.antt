@@ -1,4 +1,4 @@
-use Rattle.std.proofs.Common.{◌≡◌, [], refl, ap, ◌∙◌}
+use Rattle.std.proofs.Common.{◌≡◌, [], refl, sym, ap, ◌∙◌}
 use Rattle.ft_io.specs.Pieces.{OnTheWay}
 use Rattle.ft_io.proofs.PieceLaws.{puts-then, puts-written, puts-held, puts-dropped}
 use Rattle.ft_io.proofs.pieces.Pieces.put_after_piece.Goals as goal
@@ -15,4 +15,4 @@ returns-then-bytes-gt-PIECE_BYTES g c =
 
 pub returns-else-bytes-gt-PIECE_BYTES : goal.returns-else-bytes-gt-PIECE_BYTES
 returns-else-bytes-gt-PIECE_BYTES g c =
-    puts-then c.flush.ensures.puts (rw (← c.self.view_is) (puts-held c.args.bytes.now c.flush.new.sink _ _ c.if-self.false c.if-self.false c.extend_reserved.ensures.items))
+    puts-then c.flush.ensures.puts (rw (← c.self.view_is) (puts-held c.args.bytes.now c.flush.new.sink _ _ (c.if-self.false ∙ sym c.if-self.false) c.extend_reserved.ensures.items))
