@@ -19,6 +19,9 @@
 //! that does nothing would meet each clause, since `finish` serves what is left; the test
 //! `the_turns_make_the_order` refuses it, which compares the journal with the order of its turns.
 //!
+//! [`run_turns`] has each lane take its turns in a thread of its own, which passes a gate before each. Of
+//! what it does nothing is promised, since `finish` serves what it leaves.
+//!
 //! A lane that finds the lock taken looks a hundred times at most, and then sleeps until it is free.
 //! Nothing is said of who gets the lock next, nor that a lane gets it at all.
 #![tactic(auto)]
@@ -28,9 +31,11 @@ pub mod laws;
 mod locked;
 mod seat;
 mod served;
+mod threads;
 mod turns;
 
 pub use locked::Locked;
 pub use seat::LaneSeat;
 pub use served::{LaneNames, Served, Served1};
+pub use threads::{FIRST_LANE, run_turns};
 pub use turns::{Finished, TurnStart, Turns};

@@ -12,8 +12,7 @@ ghost use Rattle.live_lanes.specs.LaneItems.{as_items};
 
 use crate::conductor::{Conductor, TableNames};
 use crate::control::LedControl;
-use crate::turns::{FIRST_LANE, run_turns};
-use desk_lock::{Served, TurnStart, Turns};
+use desk_lock::{FIRST_LANE, Served, TurnStart, Turns, run_turns};
 use ft_base::limits::COMMANDS;
 use ft_io::Gate;
 use live_seats::{HereSeat, make_flags};

@@ -17,6 +17,5 @@ mod conductor;
 mod control;
 mod counts;
 mod run;
-mod turns;
 
 pub use run::{LaneRun, run_lanes};

@@ -2,7 +2,9 @@
 
 ghost use Rattle.std.specs.Prelude.{◌≡◌, ◌≤◌, [], length, vec_capacity};
 
-use desk_lock::{LaneNames, LaneSeat, Served, Turns};
+use crate::seat::LaneSeat;
+use crate::served::{LaneNames, Served};
+use crate::turns::Turns;
 use ft_io::Gate;
 use std::sync::Wait;
 use std::sync::atomic::{AtomicBool, Ordering};
@@ -10,7 +12,7 @@ use std::thread;
 use std::thread::{Scope, Threads};
 
 /// The number of lane 0, as gates number actors. Those of the others follow.
-pub(crate) const FIRST_LANE: u32 = 100;
+pub const FIRST_LANE: u32 = 100;
 
 /// All turns of a lane. It passes the gate before each, and once more before the call that finds none
 /// left.
@@ -134,12 +136,7 @@ fn make_turns<
 }
 
 /// All turns of all lanes, each lane in a thread of its own. They have ended when it returns.
-pub(crate) fn run_turns<
-    T: Served + Send,
-    N: LaneNames + Send + Sync,
-    R: Threads + Wait + Sync,
-    G: Gate,
->(
+pub fn run_turns<T: Served + Send, N: LaneNames + Send + Sync, R: Threads + Wait + Sync, G: Gate>(
     rt: &R,
     gate: &G,
     turns: &Turns<T, N>,
