@@ -3,5 +3,6 @@ pub mod KeptRings
 pub mod Replies
 pub mod Orders
 pub mod WrittenLogs
+pub mod OneText
 pub mod Ends
 pub mod Merges

@@ -7,7 +7,7 @@ ghost use Rattle.ft_base.specs.Job.{Job};
 ghost use Rattle.ft_base.specs.Schedule.{actors_in};
 ghost use Rattle.ft_words.specs.declared.order.Order.{Order};
 ghost use Rattle.word_machine.specs.Machine.{run, start};
-ghost use Rattle.ft_app.specs.Main.{IsLogged, HasRun};
+ghost use Rattle.ft_app.specs.Main.{IsLogged, IsPlain, HasRun};
 ghost use Rattle.ft_app.specs.Reply.{IsRunOf};
 
 /// A written log tells its history. The order asks for the form log, and the source and the sink tell
@@ -21,6 +21,14 @@ pub fn a_written_log_tells_its_history()
         × (a.played.written.led ≡ b.played.written.led)
         × (a.played.written.items ≡ b.played.written.items)
         × (a.played.written.ended ≡ b.played.written.ended) }
+{}
+
+/// What is written without running threads is told by the script: two calls with status 0 that have read
+/// the same bytes for one order have written the same.
+pub fn a_replay_has_one_text()
+    ensures { (order : Order) (given left before after after' : List ℕ) → IsPlain order
+        → HasRun order (Some given) (Some left) (Some before) (Some after)
+        → HasRun order (Some given) (Some left) (Some before) (Some after') → after ≡ after' }
 {}
 
 /// Each history of running threads is the history of a replay: the word machine makes it of the job by
