@@ -1,5 +1,5 @@
 -- The job that running threads have carried out: the script's own if it has no lanes, else that in an order of its lanes.
-use Rattle.std.proofs.Common.{◌≡◌, ◌≢◌, ℕ, Bool, true, false, List, [], length}
+use Rattle.std.proofs.Common.{◌≡◌, ℕ, Bool, true, false, List, length}
 use Rattle.std.specs.Prelude.{◌==◌}
 use Rattle.ft_base.specs.declared.item.Item.{Item}
 use Rattle.ft_base.specs.Job.{Job}

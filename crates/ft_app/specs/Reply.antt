@@ -18,7 +18,6 @@ use Rattle.ring_rules.specs.Fold.{Rings}
 use Rattle.ring_rules.specs.Legal.{RingsLegal}
 use Rattle.ring_rules.specs.Plan.{plan_of}
 use Rattle.trace_views.specs.RingsText.{rings_text}
-use Rattle.trace_print.specs.declared.kept.Kept.{Kept}
 use Rattle.trace_print.specs.Kept.{AllItems, Content, ForSummary, IsKeptOf, content_for, content_of}
 use Rattle.trace_print.specs.Texts.{text_of}
 use Rattle.trace_print.specs.SummaryText.{summary_text}

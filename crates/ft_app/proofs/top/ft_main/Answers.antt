@@ -1,6 +1,5 @@
-use Rattle.std.proofs.Common.{ap, map, List, subst, sym, Err, ◌∙◌, rules}
+use Rattle.std.proofs.Common.{ap, map, subst, Err, ◌∙◌, rules}
 use Rattle.std.specs.Prelude.{IfOk}
-use Rattle.ft_base.specs.declared.item.Item.{Item}
 use Rattle.ft_words.specs.declared.order.Order.TheVariants.{Run}
 use Rattle.ft_words.specs.Language.{Gives}
 use Rattle.trace_print.specs.Kept.{IsAllAnd}
