@@ -5,5 +5,6 @@ pub mod LogWords
 pub mod LogReads
 pub mod LogTells
 pub mod InColumns
+pub mod CountedUp
 pub mod GraphFronts
 pub mod ModuleLines

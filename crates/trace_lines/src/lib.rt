@@ -8,6 +8,7 @@
 #![tactic(auto)]
 
 mod columns;
+mod decimal;
 mod enabled;
 mod function;
 mod graph;

@@ -9,12 +9,15 @@ ghost use Rattle.trace_views.specs.LogText.{context_word, reason_word, ran_words
 ghost use Rattle.trace_views.specs.LogText.{item_words, log_line, log_lines};
 
 use crate::columns::put_number;
+use crate::decimal::Decimal;
 use ft_base::{Answer, CallNo, Ctx, Item, Ran, Reason, UserNo};
 use ft_hist::History;
 use ft_io::{Pieces, Sink};
 use trace_views::Named;
 
 /// Puts a call: the pid of its task, a dot and its number.
+// In place: nearly each line has one.
+#[inline(always)]
 fn put_call<K: Sink, N: Named>(pieces: &mut Pieces, sink: &mut K, names: &N, call: CallNo)
     ensures { Puts K.holds K.faults (call_word (N.job names.now) call)
         sink.old pieces.old sink.new pieces.new }
@@ -219,10 +222,14 @@ pub fn put_log<K: Sink, N: Named>(pieces: &mut Pieces, sink: &mut K, names: &N, 
     ensures { Puts K.holds K.faults (log_lines (N.job names.now) 0 history.now.items)
         sink.old pieces.old sink.new pieces.new }
 {
+    let mut digits = Decimal::of(0);
     for place in 0..history.len() {
         if pieces.has_failed() {
             return;
         }
-        put_line(pieces, sink, names, place, history.item(place));
+        digits.put(pieces, sink);
+        put_item(pieces, sink, names, history.item(place));
+        pieces.put(sink, b"\n");
+        digits.count();
     }
 }
