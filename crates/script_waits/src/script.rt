@@ -3,7 +3,7 @@
 use ft_base::{TaskAct, TaskNo};
 
 /// An act of a task.
-#[derive(Clone, Copy, PartialEq, Eq)]
+#[derive(Clone, Copy)]
 pub struct LinedAct {
     pub act: TaskAct,
     /// Its line in the script, from 1.
@@ -11,7 +11,7 @@ pub struct LinedAct {
 }
 
 /// What a line of control is to the tasks.
-#[derive(Clone, Copy, PartialEq, Eq)]
+#[derive(Clone, Copy)]
 pub enum Wait {
     /// A command. Control waits for nobody before it.
     Command,
@@ -20,7 +20,7 @@ pub enum Wait {
 }
 
 /// A line of control.
-#[derive(Clone, Copy, PartialEq, Eq)]
+#[derive(Clone, Copy)]
 pub struct ControlLine {
     pub wait: Wait,
     /// Its line in the script, from 1.
