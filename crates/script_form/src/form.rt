@@ -4,7 +4,7 @@ use ft_base::{Ctx, Half, Kind};
 use ft_schedule::SchedItem;
 
 /// What a user does at its entry callbacks.
-#[derive(Clone, Copy, PartialEq, Eq)]
+#[derive(Clone, Copy)]
 pub enum UserAct<'a> {
     /// It calls the function of this name.
     Call { function: &'a str },
@@ -13,7 +13,7 @@ pub enum UserAct<'a> {
 }
 
 /// The line of a user (`ftrace-uses.rst`, "The ftrace FLAGS").
-#[derive(Clone, Copy, PartialEq, Eq)]
+#[derive(Clone, Copy)]
 pub struct UserLine<'a> {
     pub name: &'a str,
     pub kind: Kind,
@@ -28,7 +28,7 @@ pub struct UserLine<'a> {
 
 /// What a line says. A name is letters, digits, `_` and `.`, and may be too long; a number has up to
 /// 10 digits, and may be too large.
-#[derive(PartialEq, Eq, Drop)]
+#[derive(Drop)]
 pub enum LineForm<'a> {
     /// Nothing: a blank line, or a comment.
     Skip,
