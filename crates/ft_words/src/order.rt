@@ -55,7 +55,7 @@ pub enum Order {
 }
 
 /// Why the words give no order.
-#[derive(Clone, Copy, Debug, PartialEq, Eq, Drop, Error)]
+#[derive(Clone, Copy, Debug, Drop, Error)]
 pub enum WordsFault {
     /// The words aren't in the command's language.
     #[error("the words are not in the command's language")]
