@@ -136,6 +136,8 @@ fn put_begin<K: Sink>(pieces: &mut Pieces, sink: &mut K, k: u32, lane: Option<u3
 }
 
 /// Puts a space, and what an item says after its place.
+// In place: else its calls save more than they do.
+#[inline(always)]
 fn put_item<K: Sink, N: Named>(pieces: &mut Pieces, sink: &mut K, names: &N, item: &Item)
     ensures { Puts K.holds K.faults (codes " " ++ joined (item_words (N.job names.now) item.now))
         sink.old pieces.old sink.new pieces.new }
