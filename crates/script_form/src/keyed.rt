@@ -69,6 +69,8 @@ pub fn read_keyed<'a>(
     ensures { IfOk result (λ r. option_map form_read r ≡ keyed_form key.now (map (λ w. w.now) args.now)) }
 {
     match key {
+        // Most lines that have arguments are calls, and each key that is tried costs a comparison.
+        "call" => Ok(read_act(key, args)),
         "ctl" => read_ctl(alloc, args),
         "sched" => read_sched(alloc, args),
         _ => Ok(read_unlisted(key, args)),
