@@ -78,48 +78,53 @@ fn read_call_item(
         fourth.now }
 {
     match kind {
-        "enter" => Some(Item::Enter {
-            call,
-            ctx: read_context(second)?,
-            func: numbers.function(third)?,
-            caller: read_caller(numbers, fourth)?,
-        }),
-        "back" => Some(Item::Back {
-            call,
-            user: numbers.user(second)?,
-        }),
-        "back-end" => Some(Item::BackEnd {
-            call,
-            user: numbers.user(second)?,
-        }),
-        "refuse" => Some(Item::Refuse {
-            call,
-            user: numbers.user(second)?,
-            reason: read_reason(third)?,
-        }),
-        "miss" => Some(Item::Miss {
-            call,
-            user: numbers.user(second)?,
-        }),
-        "body" => Some(Item::Body {
-            call,
-            func: numbers.function(second)?,
-            ran: read_ran(numbers, third, fourth)?,
-        }),
+        "enter" => {
+            let ctx = read_context(second)?;
+            let func = numbers.function(third)?;
+            let caller = read_caller(numbers, fourth)?;
+            Some(Item::Enter {
+                call,
+                ctx,
+                func,
+                caller,
+            })
+        }
+        "back" => {
+            let user = numbers.user(second)?;
+            Some(Item::Back { call, user })
+        }
+        "back-end" => {
+            let user = numbers.user(second)?;
+            Some(Item::BackEnd { call, user })
+        }
+        "refuse" => {
+            let user = numbers.user(second)?;
+            let reason = read_reason(third)?;
+            Some(Item::Refuse { call, user, reason })
+        }
+        "miss" => {
+            let user = numbers.user(second)?;
+            Some(Item::Miss { call, user })
+        }
+        "body" => {
+            let func = numbers.function(second)?;
+            let ran = read_ran(numbers, third, fourth)?;
+            Some(Item::Body { call, func, ran })
+        }
         "leave" => Some(Item::Leave { call }),
-        "exit" => Some(Item::Exit {
-            call,
-            user: numbers.user(second)?,
-            entry: read_number(third)?,
-        }),
-        "exit-end" => Some(Item::ExitEnd {
-            call,
-            user: numbers.user(second)?,
-        }),
-        "ret" => Some(Item::Ret {
-            call,
-            to: read_caller(numbers, second)?,
-        }),
+        "exit" => {
+            let user = numbers.user(second)?;
+            let entry = read_number(third)?;
+            Some(Item::Exit { call, user, entry })
+        }
+        "exit-end" => {
+            let user = numbers.user(second)?;
+            Some(Item::ExitEnd { call, user })
+        }
+        "ret" => {
+            let to = read_caller(numbers, second)?;
+            Some(Item::Ret { call, to })
+        }
         _ => None,
     }
 }
