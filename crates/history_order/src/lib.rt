@@ -1,7 +1,7 @@
 //! What the order of a legal history's items tells, and what it doesn't: what has to come before a
 //! call, a return or a command that waits ([`waits`](acts_wait_for_their_commands)), and which items
 //! may change places ([`places`](neighbours_of_two_tasks_change_places)). They are laws; there is no
-//! code. Nothing stands on this crate.
+//! code.
 #![tactic(auto)]
 
 mod places;

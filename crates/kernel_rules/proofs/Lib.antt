@@ -1,0 +1,3 @@
+pub mod Weaker
+pub mod Reading
+pub mod Guards

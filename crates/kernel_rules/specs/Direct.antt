@@ -1,0 +1,77 @@
+-- Which logs are legal, said of their lines without a history that they tell: where a log may lack items, a rule asks whether some could have been
+-- there. The lines are taken as items, each at the place of its line; a body that is marked `?` is as one by the list caller, which is asked
+-- for nowhere.
+use Rattle.std.specs.Prelude.{ℕ, ◌≡◌, ◌<◌, ◌≤◌, ◌⊎◌, false, IsSome, List, [], ◌∷◌, ◌++◌, length, map}
+use Rattle.std.specs.List.{list_any, AllByRecursion as Each}
+use Rattle.ft_base.specs.declared.number.CallNo.{CallNo}
+use Rattle.ft_base.specs.declared.item.Item.{Item}
+use Rattle.ft_base.specs.declared.item.Item.TheVariants.{Miss, Body, Exit, Ret}
+use Rattle.ft_base.specs.declared.item.Ran.TheVariants.{List as ByList}
+use Rattle.ft_base.specs.declared.item.Reason.{Reason}
+use Rattle.ft_base.specs.Same.{same_call}
+use Rattle.ft_base.specs.Job.{Job}
+use Rattle.ft_base.specs.Desk.{desk, is_on, target}
+use Rattle.ft_hist.specs.Past.{callbacks, entered, entry_of, since_now, visits}
+use Rattle.ft_hist.specs.Rules.{AreExitsDone, InWindow, IsUnvisited, KeepsCommands, KeepsFetches, KeepsPlainRun, KeepsRefusals, MayMiss, MayRefuse, OneReplaces, OnlyThose, backs_with_replacement, replacement}
+use Rattle.kernel_rules.specs.declared.line.ExitOrder.{ExitOrder}
+use Rattle.kernel_rules.specs.declared.line.Line.{Line}
+use Rattle.kernel_rules.specs.declared.line.Line.TheVariants.{Seen, Unfetched}
+use Rattle.kernel_rules.specs.Rules.{KeepsCallbacks, MayExit, MayVisit}
+
+-- the item of a line
+abbrev pub item_of : Line → Item
+item_of (Seen item) = item
+item_of (Unfetched call func) = Body call func ByList
+
+-- a refusal that the log lacks: of this user in the call, at a place of its dispatch before which these items stand. The user may be visited
+-- there, and for a reason be refused, and it was registered later than those that the call visits from there on
+pub record CouldRefuse (job : Job) (past : List Item) (call : CallNo) (u : ℕ) : Type 0 where
+  pub before : List Item
+  pub since : List Item
+  pub cut : since ++ before ≡ past
+  pub entered' : IsSome (entered call before)
+  pub between : list_any (λ b. same_call b.call call) (callbacks before) ≡ false
+  pub may : MayVisit job before call u
+  pub why : (reason : Reason) × MayRefuse job before call u reason
+  pub order : Each (λ m. length before ≤ m.place → m.since < since_now job call u before) (visits job call past)
+
+-- whoever was not visited was off at some command of the window, or could be refused
+abbrev pub IsSilent : Job → List Item → CallNo → Type 0
+IsSilent job past call = (u : ℕ) → u < length job.users → IsUnvisited job call u past
+    → InWindow call past (λ k. is_on (desk job k) u (entry_of call past).func ≡ false) ⊎ CouldRefuse job past call u
+
+abbrev pub KeepsSilence : Job → List Item → Item → Type 0
+KeepsSilence job past (Body call g ran) = IsSilent job past call
+KeepsSilence job past _ = Unit {0}
+
+-- a miss that is due may lack
+abbrev pub KeepsExits : ExitOrder → Job → List Item → Item → Type 0
+KeepsExits by job past (Miss call u) = MayMiss job past call u.0
+KeepsExits by job past (Exit call u entry) = MayExit by job past call u.0 entry
+KeepsExits by job past (Ret call to) = AreExitsDone job past call
+KeepsExits by job past _ = Unit {0}
+
+-- a body that is marked `?`: some target of the window lets in those who were visited, and what runs is as ever
+pub record CouldFetch (job : Job) (past : List Item) (call : CallNo) (g : ℕ) : Type 0 where
+  pub only : InWindow call past (λ k. OnlyThose (target (desk job k) (entry_of call past).func) (visits job call past))
+  pub one : OneReplaces (backs_with_replacement job (visits job call past))
+  pub runs : g ≡ replacement job (entry_of call past).func (backs_with_replacement job (visits job call past))
+
+abbrev pub LineFetches : Job → List Item → Line → Type 0
+LineFetches job past (Seen item) = KeepsFetches job past item
+LineFetches job past (Unfetched call func) = CouldFetch job past call func.0
+
+-- a line may come after others, whose items these are
+pub record MayFollow (by : ExitOrder) (job : Job) (past : List Item) (line : Line) : Type 0 where
+  pub run : KeepsPlainRun job past (item_of line)
+  pub callbacks' : KeepsCallbacks job past (item_of line)
+  pub silence : KeepsSilence job past (item_of line)
+  pub refusals : KeepsRefusals job past (item_of line)
+  pub exits : KeepsExits by job past (item_of line)
+  pub fetches : LineFetches job past line
+  pub commands : KeepsCommands job past (item_of line)
+
+-- each line may come after those before it, the latest first
+unfoldable pub AreLegal : ExitOrder → Job → List Line → Type 0
+AreLegal by job [] = Unit {0}
+AreLegal by job (line ∷ lines) = MayFollow by job (map item_of lines) line × AreLegal by job lines

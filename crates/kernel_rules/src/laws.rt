@@ -1,0 +1,23 @@
+//! The laws of the profile.
+//!
+//! None of the functions does anything: a law is proved where a contract names it.
+
+ghost use Rattle.std.specs.Prelude.{List};
+ghost use Rattle.ft_base.specs.Job.{Job as PlainJob};
+ghost use Rattle.ft_base.specs.declared.item.Item.{Item};
+ghost use Rattle.ft_hist.specs.Rules as strict;
+ghost use Rattle.kernel_rules.specs.declared.line.ExitOrder.TheVariants.{AsEntered};
+ghost use Rattle.kernel_rules.specs.Recorded.{IsLegalLog, IsWholeLog, seen_lines};
+ghost use Rattle.kernel_rules.specs.Rules.{IsLegal, IsWhole};
+
+/// Each legal history is legal under the profile, and each whole one whole.
+pub fn legal_histories_are_legal_under_the_profile()
+    ensures legal { (job : PlainJob) (items : List Item) → strict.IsLegal job items → IsLegal AsEntered job items }
+    ensures whole { (job : PlainJob) (items : List Item) → strict.IsWhole job items → IsWhole AsEntered job items }
+{}
+
+/// So its log is legal if nothing is left out, and that of a whole one whole.
+pub fn logs_of_legal_histories_are_legal()
+    ensures legal { (job : PlainJob) (items : List Item) → strict.IsLegal job items → IsLegalLog AsEntered job (seen_lines items) }
+    ensures whole { (job : PlainJob) (items : List Item) → strict.IsWhole job items → IsWholeLog AsEntered job (seen_lines items) }
+{}
