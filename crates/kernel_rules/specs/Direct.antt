@@ -1,6 +1,6 @@
 -- Which logs are legal, said of their lines without a history that they tell: where a log may lack items, a rule asks whether some could have been
 -- there. The lines are taken as items, each at the place of its line; a body that is marked `?` is as one by the list caller, which is asked
--- for nowhere.
+-- for nowhere. That these are the logs of Recorded is tested outside of this repository, and not proved yet.
 use Rattle.std.specs.Prelude.{ℕ, ◌≡◌, ◌<◌, ◌≤◌, ◌⊎◌, false, IsSome, List, [], ◌∷◌, ◌++◌, length, map}
 use Rattle.std.specs.List.{list_any, AllByRecursion as Each}
 use Rattle.ft_base.specs.declared.number.CallNo.{CallNo}
