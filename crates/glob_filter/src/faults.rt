@@ -9,7 +9,7 @@ use thiserror::Error;
 
 /// Why a text is refused as a pattern. If several causes hold, the first of them in this order is
 /// the answer.
-#[derive(Clone, Copy, Debug, PartialEq, Eq, Drop, Error)]
+#[derive(Clone, Copy, Debug, Drop, Error)]
 pub enum PatternFault {
     /// The text is empty.
     #[error("the pattern is empty")]
