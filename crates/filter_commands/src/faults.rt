@@ -4,7 +4,7 @@ use thiserror::Error;
 
 /// Why a filter text is refused. If several causes hold, the first of `Command`, `Index` and
 /// `Pattern` is the answer, unless memory runs out before.
-#[derive(Clone, Copy, Debug, PartialEq, Eq, Drop, Error)]
+#[derive(Clone, Copy, Debug, Drop, Error)]
 pub enum EditFault {
     /// A glob of the text is no pattern, or the text is empty and the edit appends.
     #[error("a glob isn't a pattern")]
@@ -21,7 +21,7 @@ pub enum EditFault {
 }
 
 /// Why a trigger's text is refused.
-#[derive(Clone, Copy, Debug, PartialEq, Eq, Drop, Error)]
+#[derive(Clone, Copy, Debug, Drop, Error)]
 pub enum TriggerFault {
     /// The text isn't GLOB, `:traceon` or `:traceoff`, and an optional `:` and limit.
     #[error("the text isn't a known trigger")]
