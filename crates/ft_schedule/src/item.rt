@@ -9,7 +9,7 @@ use script_text::{all_read, number};
 use std::alloc::{AllocError, Global};
 
 /// An item as it is written.
-#[derive(Clone, Copy, PartialEq, Eq)]
+#[derive(Clone, Copy)]
 pub struct SchedItem {
     /// Whose turn it is. It may be a CPU that doesn't exist.
     pub who: Who,

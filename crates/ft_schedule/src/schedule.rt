@@ -15,7 +15,7 @@ use script_text::words;
 use std::alloc::{AllocError, Global};
 
 /// Whose turn it is: the turns, one after the other.
-#[derive(PartialEq, Eq, Drop)]
+#[derive(Drop)]
 pub struct Schedule {
     pub turns: Vec<Turn>,
 }
