@@ -8,7 +8,7 @@ use func_table::FuncTable;
 use user_specs::{CpuPlan, Spec};
 
 /// A line of a script that loads or unloads a module.
-#[derive(Clone, Copy, PartialEq, Eq)]
+#[derive(Clone, Copy)]
 pub struct ModRow {
     /// It loads the module, and doesn't unload it.
     pub load: bool,
