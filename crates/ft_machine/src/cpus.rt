@@ -22,7 +22,7 @@ use user_specs::{CpuPlan, Spec, call_bound};
 use word_map::WordMap;
 
 /// What each task has room for.
-#[derive(Clone, Copy, Debug, PartialEq, Eq)]
+#[derive(Clone, Copy)]
 pub struct TaskLimits {
     /// Frames of its shadow stack.
     pub frames: u32,
@@ -32,7 +32,7 @@ pub struct TaskLimits {
 }
 
 /// How many items each CPU has room for.
-#[derive(Clone, Copy, Debug, PartialEq, Eq)]
+#[derive(Clone, Copy)]
 pub enum CpuRoom {
     /// One: a history takes each over at once.
     ForOne,
