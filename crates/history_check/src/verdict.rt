@@ -1,7 +1,7 @@
 //! What a history is judged to be.
 
 /// A part of legality, in the order in which they are judged.
-#[derive(Clone, Copy, PartialEq, Eq)]
+#[derive(Clone, Copy)]
 pub enum Rule {
     /// The items of a task are a run of its acts on an ordinary stack of calls.
     PlainRun,
@@ -21,7 +21,7 @@ pub enum Rule {
 }
 
 /// What a history is judged to be.
-#[derive(Clone, Copy, PartialEq, Eq)]
+#[derive(Clone, Copy)]
 pub enum Verdict {
     /// It is legal, all commands have returned, and each task is at the end of its run.
     Whole,
