@@ -48,9 +48,12 @@ fn functions(alloc: Global) -> Result<FuncTable, AllocError>
     ensures { IfOk result (λ table. table.functions ≡ the_functions) }
 {
     let mut table = FuncTable::new(alloc, 2);
-    table.add(alloc, "vfs_open", None).map_err(|_| AllocError)?;
-    table.add(alloc, "vfs_read", None).map_err(|_| AllocError)?;
-    Ok(table)
+    let open = table.add(alloc, "vfs_open", None);
+    let read = table.add(alloc, "vfs_read", None);
+    match (open, read) {
+        (Ok(_), Ok(_)) => Ok(table),
+        _ => Err(AllocError),
+    }
 }
 
 /// The users: a function tracer.
@@ -141,7 +144,10 @@ fn start(alloc: Global) -> Result<Machine, AllocError>
     ensures { IfOk result (IsOf the_job) }
 {
     let job = make_job(alloc)?;
-    Machine::start(alloc, &job).map_err(|_| AllocError)
+    match Machine::start(alloc, &job) {
+        Ok(machine) => Ok(machine),
+        Err(_) => Err(AllocError),
+    }
 }
 
 /// Prints the bytes of a call site.
@@ -194,15 +200,22 @@ fn callbacks(machine: &Machine) -> u32
     machine.history().backs(TRACER)
 }
 
-fn main(rt: HostRuntime) -> io::Result<()> {
-    let mut machine = start(rt.alloc())?;
-    print_site(&rt, 0, machine.site(OPEN))?;
+/// Lets control and the CPU step in turn, up to the end.
+fn run<R: Print>(rt: &R, machine: &mut Machine) -> io::Result<()>
+    requires { IsOf the_job machine.old }
+{
+    print_site(rt, 0, machine.site(OPEN))?;
     for turn in 1..=TURNS {
-        step(&rt, turn, &mut machine, Actor::Control)?;
-        step(&rt, turn, &mut machine, Actor::Cpu(CpuNo(0)))?;
+        step(rt, turn, machine, Actor::Control)?;
+        step(rt, turn, machine, Actor::Cpu(CpuNo(0)))?;
         if machine.all_end() {
-            return println!(rt; "{turn:>3}  end, after {} callbacks", callbacks(&machine));
+            return println!(rt; "{turn:>3}  end, after {} callbacks", callbacks(machine));
         }
     }
     println!(rt; "stopped")
+}
+
+fn main(rt: HostRuntime) -> io::Result<()> {
+    let mut machine = start(rt.alloc())?;
+    run(&rt, &mut machine)
 }

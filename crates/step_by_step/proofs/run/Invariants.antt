@@ -1,6 +1,6 @@
 use Rattle.ft_machine.specs.Machines.{IsOf}
 use Rattle.step_by_step.specs.TheJob.{the_job}
-use Rattle.step_by_step.proofs.main.Given as goal
+use Rattle.step_by_step.proofs.run.Given as goal
 
 abbrev pub invariant-loop-turn : goal.invariant-loop-turn
-invariant-loop-turn l = IsOf the_job l.machine
+invariant-loop-turn g l = IsOf the_job l.machine
