@@ -1,6 +1,6 @@
 //! The summary of a history: how many items of each kind it has.
 
-ghost use Rattle.std.specs.Prelude.{◌≡◌, ◌++◌, List, IfOk, OnOk, string_bytes};
+ghost use Rattle.std.specs.Prelude.{◌≡◌, ◌++◌, [], List, IfOk, OnOk, string_bytes};
 ghost use Rattle.ft_base.specs.declared.item.Item.{Item};
 ghost use Rattle.ft_base.specs.Job.{Job as PlainJob};
 ghost use Rattle.trace_views.specs.Counted.{AreTotals};
@@ -22,20 +22,29 @@ fn push_number(text: &mut String, word: &str, n: u32) -> Result<(), AllocError>
     writeln!(text, "{word} {n}")
 }
 
+/// Writes the text into an empty one, or gives the error of an allocation.
+fn write_totals(text: &mut String, n: u32, totals: Totals, ended: bool) -> Result<(), AllocError>
+    requires { string_bytes text.old ≡ [] }
+    ensures { (items : List Item) → AreTotals items totals → OnOk result (string_bytes text.new ≡ summary_text n items ended) }
+{
+    let counts = totals.counts;
+    push_number(text, "seed", n)?;
+    push_number(text, "items", totals.items)?;
+    push_number(text, "calls", counts.calls)?;
+    push_number(text, "backs", counts.backs)?;
+    push_number(text, "refused", counts.refused)?;
+    push_number(text, "exits", counts.exits)?;
+    push_number(text, "missed", counts.missed)?;
+    text.push_str(last_line(ended))?;
+    Ok(())
+}
+
 /// The text, or the error of an allocation.
 fn write_summary(alloc: Global, n: u32, totals: Totals, ended: bool) -> Result<String, AllocError>
     ensures { (items : List Item) → AreTotals items totals → IfOk result (λ text. string_bytes text ≡ summary_text n items ended) }
 {
     let mut text = String::new(alloc);
-    let counts = totals.counts;
-    push_number(&mut text, "seed", n)?;
-    push_number(&mut text, "items", totals.items)?;
-    push_number(&mut text, "calls", counts.calls)?;
-    push_number(&mut text, "backs", counts.backs)?;
-    push_number(&mut text, "refused", counts.refused)?;
-    push_number(&mut text, "exits", counts.exits)?;
-    push_number(&mut text, "missed", counts.missed)?;
-    text.push_str(last_line(ended))?;
+    write_totals(&mut text, n, totals, ended)?;
     Ok(text)
 }
 
