@@ -15,9 +15,10 @@ ghost use Rattle.ring_rules.specs.Plan.{plan_of};
 
 use ft_base::NoMemory;
 use ft_base::limits::INPUT_BYTES;
-use ft_io::{OpenGate, Sink, Source, StdSink, StdSource, read_all, write_all};
+use ft_io::{OpenGate, Pieces, Sink, Source, StdSink, StdSource, read_all};
 use ft_job::Job;
 use ft_script::read_script;
+use itoa::Buffer;
 use live_threads::{RingRun, run_rings};
 use ring_rules::Rings;
 use std::alloc::Global;
@@ -38,23 +39,45 @@ fn rings_text(alloc: Global, job: &Job, run: &RingRun) -> Result<Vec<u8>, NoMemo
     print_rings(alloc, job, &run.history, true, &run.rings)
 }
 
-/// Writes the places at which a trigger fired, in one line.
-fn write_fired<K: Sink>(
-    alloc: Global,
-    rings: &Rings,
-    trigger: u32,
-    sink: &mut K,
-) -> Result<(), Stopped>
+/// Puts a number, in decimal.
+fn put_number<K: Sink>(pieces: &mut Pieces, sink: &mut K, n: u32) {
+    let mut buffer = Buffer::new();
+    pieces.put(sink, buffer.format(n).as_bytes());
+}
+
+/// Puts the places at which a trigger fired, in one line.
+fn put_fired<K: Sink>(pieces: &mut Pieces, sink: &mut K, rings: &Rings, trigger: u32)
     requires { trigger < length rings.now.fired }
 {
-    let head = format!(in alloc; "# trigger {trigger} at").map_err(|_| Stopped)?;
-    write_all(sink, head.as_bytes()).map_err(|_| Stopped)?;
+    pieces.put(sink, b"# trigger ");
+    put_number(pieces, sink, trigger);
+    pieces.put(sink, b" at");
     for i in 0..rings.fired(trigger) {
-        let place = rings.fired_at(trigger, i);
-        let word = format!(in alloc; " {place}").map_err(|_| Stopped)?;
-        write_all(sink, word.as_bytes()).map_err(|_| Stopped)?;
+        pieces.put(sink, b" ");
+        put_number(pieces, sink, rings.fired_at(trigger, i));
     }
-    write_all(sink, b"\n").map_err(|_| Stopped)
+    pieces.put(sink, b"\n");
+}
+
+/// Writes the text of rings, and the places at which each trigger fired.
+fn write_rings<K: Sink>(
+    alloc: Global,
+    text: &[u8],
+    rings: &Rings,
+    sink: &mut K,
+) -> Result<(), Stopped> {
+    let Ok(mut pieces) = Pieces::new(alloc) else {
+        return Err(Stopped);
+    };
+    pieces.put(sink, b"rings\n");
+    pieces.put(sink, text);
+    for trigger in 0..rings.triggers() {
+        put_fired(&mut pieces, sink, rings, trigger);
+    }
+    match pieces.finish(sink) {
+        Ok(()) => Ok(()),
+        Err(_) => Err(Stopped),
+    }
 }
 
 /// Writes the log of a run of this job, its rings, and the places at which each trigger fired.
@@ -62,14 +85,13 @@ fn write_run<K: Sink>(alloc: Global, job: &Job, run: &RingRun, sink: &mut K) -> 
     requires whole { IsWhole job.now run.now.history.items }
     requires legal { RingsLegal (plan_of job.now) run.now.history.items run.now.rings }
 {
-    let text = rings_text(alloc, job, run).map_err(|_| Stopped)?;
-    write_log(alloc, job, &run.history, true, sink).map_err(|_| Stopped)?;
-    write_all(sink, b"rings\n").map_err(|_| Stopped)?;
-    write_all(sink, text.as_slice()).map_err(|_| Stopped)?;
-    for trigger in 0..run.rings.triggers() {
-        write_fired(alloc, &run.rings, trigger, sink)?;
+    let Ok(text) = rings_text(alloc, job, run) else {
+        return Err(Stopped);
+    };
+    match write_log(alloc, job, &run.history, true, sink) {
+        Ok(()) => write_rings(alloc, text.as_slice(), &run.rings, sink),
+        Err(_) => Err(Stopped),
     }
-    Ok(())
 }
 
 /// Runs a job by threads, and writes all to the sink.
@@ -86,8 +108,13 @@ fn run_job<R: AllocGlobal + Threads + Wait + Sync, K: Sink>(
 
 /// The job of the script that the source gives.
 fn read_job<S: Source>(alloc: Global, source: &mut S) -> Result<Job, Stopped> {
-    let script = read_all(alloc, source, INPUT_BYTES).map_err(|_| Stopped)?;
-    read_script(alloc, script.as_slice()).map_err(|_| Stopped)
+    let Ok(script) = read_all(alloc, source, INPUT_BYTES) else {
+        return Err(Stopped);
+    };
+    match read_script(alloc, script.as_slice()) {
+        Ok(job) => Ok(job),
+        Err(_) => Err(Stopped),
+    }
 }
 
 /// Runs the script that the source gives, and writes all to the sink.
@@ -96,8 +123,10 @@ fn run_script<R: AllocGlobal + Threads + Wait + Sync, S: Source, K: Sink>(
     source: &mut S,
     sink: &mut K,
 ) -> Result<(), Stopped> {
-    let job = read_job(rt.alloc(), source)?;
-    run_job(rt, &job, sink)
+    match read_job(rt.alloc(), source) {
+        Ok(job) => run_job(rt, &job, sink),
+        Err(Stopped) => Err(Stopped),
+    }
 }
 
 fn main(rt: HostRuntime) -> ExitCode {
