@@ -9,16 +9,18 @@ const LINE: &[u8] = b"log\n";
 
 /// A script and a log.
 #[derive(Clone, Copy, Drop)]
-pub(crate) struct Parts<'a> {
-    pub(crate) script: &'a [u8],
-    pub(crate) log: &'a [u8],
+pub struct Parts<'a> {
+    /// The script.
+    pub script: &'a [u8],
+    /// The log.
+    pub log: &'a [u8],
     /// The number of the log's first line in the input, from 1.
-    pub(crate) first: u32,
+    pub first: u32,
 }
 
 /// Cuts an input at its first line `log`. The error is the number of the line after its last, if there is
 /// no such line.
-pub(crate) fn cut(input: &[u8]) -> Result<Parts<'_>, u32>
+pub fn cut_input(input: &[u8]) -> Result<Parts<'_>, u32>
     requires { length input.now + 2 < 2 ^ 32 }
     ensures some { IfOk result (λ p. IsCut input.entry.now p.script.now p.log.now p.first) }
     ensures none { IfErr result (λ next. IsUncut input.entry.now next) }

@@ -12,7 +12,7 @@ use std::alloc::Global;
 
 /// The job of which a log is read and judged: with lanes the one whose commands are in the order that the log
 /// tells.
-pub(crate) fn led_by(alloc: Global, job: Job, log: &[u8]) -> Result<Job, NoMemory>
+pub fn led_by(alloc: Global, job: Job, log: &[u8]) -> Result<Job, NoMemory>
     requires { length log.now < 2 ^ 32 }
     ensures { IfOk result (λ led. led ≡ led_by log.now job) }
 {

@@ -21,6 +21,8 @@ mod program;
 mod reply;
 
 pub use app::{JUDGED_BYTES, judge_input, judge_main};
+pub use cut::{Parts, cut_input};
 pub use ft_io::Status;
+pub use lanes::led_by;
 pub use program::run_program;
 pub use reply::{Reply, ReplyFail, answer};

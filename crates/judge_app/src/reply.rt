@@ -10,7 +10,7 @@ ghost use Rattle.judge_app.specs.Cut.{IsCut};
 ghost use Rattle.judge_app.specs.Lanes.{led_by};
 ghost use Rattle.judge_app.specs.Reply.{IsLong, IsReplyTo, IsWithin, line_text, refusal_text, rule_word, status_of, syntax_at, verdict_text};
 
-use crate::cut::{Parts, cut};
+use crate::cut::{Parts, cut_input};
 use crate::lanes::led_by;
 use ft_base::NoMemory;
 use ft_base::limits::INPUT_BYTES;
@@ -45,7 +45,7 @@ pub fn answer(alloc: Global, input: &[u8]) -> Result<Reply, ReplyFail>
     ensures fits { IfOk result (λ r. ¬ IsLong input.now) }
     ensures long { result ≡ Err ReplyFail.TooLong → IsLong input.now }
 {
-    match cut(input) {
+    match cut_input(input) {
         Ok(parts) => reply_below(alloc, &parts),
         Err(next) => or_memory(refused(alloc, syntax_at(next))),
     }

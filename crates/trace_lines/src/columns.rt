@@ -30,7 +30,7 @@ fn decimal_digits(room: &mut [u8; DIGITS_OF_U32], n: u32) -> &[u8]
 /// Puts a number, in decimal.
 // In place: a line of the log has three or four.
 #[inline(always)]
-pub(crate) fn put_number<K: Sink>(pieces: &mut Pieces, sink: &mut K, n: u32)
+pub fn put_number<K: Sink>(pieces: &mut Pieces, sink: &mut K, n: u32)
     ensures { Puts K.holds K.faults (decimal n) sink.old pieces.old sink.new pieces.new }
 {
     let mut room = [0; DIGITS_OF_U32];

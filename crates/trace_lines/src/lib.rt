@@ -20,7 +20,7 @@ mod modules;
 mod profile;
 mod rings;
 
-pub use columns::last_line;
+pub use columns::{last_line, put_number};
 pub use grown::GrownText;
 pub use lines::{Line, put_lines};
-pub use log::{put_line, put_log};
+pub use log::{context_name, put_call, put_line, put_log, reason_name};

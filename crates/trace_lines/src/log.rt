@@ -18,7 +18,7 @@ use trace_views::Named;
 /// Puts a call: the pid of its task, a dot and its number.
 // In place: nearly each line has one.
 #[inline(always)]
-fn put_call<K: Sink, N: Named>(pieces: &mut Pieces, sink: &mut K, names: &N, call: CallNo)
+pub fn put_call<K: Sink, N: Named>(pieces: &mut Pieces, sink: &mut K, names: &N, call: CallNo)
     ensures { Puts K.holds K.faults (call_word (N.job names.now) call)
         sink.old pieces.old sink.new pieces.new }
 {
@@ -43,7 +43,8 @@ fn put_caller<K: Sink, N: Named>(
     }
 }
 
-fn context_name(ctx: Ctx) -> &'static str
+/// A context's name.
+pub fn context_name(ctx: Ctx) -> &'static str
     ensures { result.now ≡ context_word ctx }
 {
     match ctx {
@@ -54,7 +55,8 @@ fn context_name(ctx: Ctx) -> &'static str
     }
 }
 
-fn reason_name(reason: Reason) -> &'static str
+/// The name of a refusal's reason.
+pub fn reason_name(reason: Reason) -> &'static str
     ensures { result.now ≡ reason_word reason }
 {
     match reason {

@@ -34,6 +34,7 @@ pub use forms::{TextFail, print, print_rings, write_kept, write_log, write_rings
 pub use ft_words::Form;
 pub use kept::Kept;
 pub use log_reader::{Log, ReadFail};
+pub use names::Names;
 pub use read::read_log;
 pub use totals::{summary, summary_kept};
 pub use trace_lines::laws;

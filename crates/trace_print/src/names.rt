@@ -19,7 +19,7 @@ use trace_views::{Named, TaskName};
 /// The names of a job's functions, modules and users, and its tasks by number. Contracts see the job. A job
 /// keeps each task at its CPU, so that one would have to be looked for at each line.
 #[derive(Drop)]
-pub(crate) struct Names<'a> {
+pub struct Names<'a> {
     job: &'a Job,
     modules: ModuleNames,
     tasks: Vec<TaskName>,
@@ -40,7 +40,7 @@ impl<'a> Model for Names<'a> {
 
 impl<'a> Names<'a> {
     /// The names of a job. The error says that memory ran out.
-    pub(crate) fn new(alloc: Global, job: &'a Job) -> Result<Names<'a>, NoMemory>
+    pub fn new(alloc: Global, job: &'a Job) -> Result<Names<'a>, NoMemory>
         ensures { IfOk result (λ names. names ≡ job.entry.now) }
     {
         let modules = ModuleNames::new(alloc, job.table())?;
@@ -56,7 +56,7 @@ impl<'a> Names<'a> {
     }
 
     /// The job.
-    pub(crate) fn job(&self) -> &Job
+    pub fn job(&self) -> &Job
         ensures { result.now ≡ self.now }
     {
         self.job

@@ -2,7 +2,7 @@ use Rattle.std.proofs.Common.{◌≡◌, ◌∙◌, sym, Some, None}
 use Rattle.std.specs.List.{position}
 use Rattle.judge_app.specs.Cut.{IsNoLog, is_feed}
 use Rattle.judge_app.proofs.CutLaws.{at-rest, below, none-left}
-use Rattle.judge_app.proofs.cut.cut.Goals as goal
+use Rattle.judge_app.proofs.cut.cut_input.Goals as goal
 
 pub returns-in-None-clause-none : goal.returns-in-None-clause-none
 returns-in-None-clause-none c = none-left _ _ _ _ c.loop-log.invariant.1 (at-rest IsNoLog c.args.input.now c.loop-log.at c.in_default.ensures.none)
